@@ -85,7 +85,7 @@ module _ (p : ProgramText) (s : SettingsValue) (journal : List EntryValue) (e : 
   abbrev l' : Ledger
   l' = after p s l e
 
-  S : SoundLedger l
+  abbrev S : SoundLedger l
   S = legal_sound p s journal legal
 
   H : HoldsTasks l

@@ -2,7 +2,6 @@
 -- and no task runs.
 use Rattle.std.proofs.Common.{◌≡◌, ◌⊎◌, ℕ, zero, suc, ◌+◌, Bool, true, false, cond, Option, Some, None, is_none, List, [], ◌∷◌, ◌++◌, ◌&&◌, nat_lt, slice_get, inl, inr, refl, ap, sym, subst, ◌∙◌}
 use Rattle.std.proofs.lemmas.Bool.{cases_eq}
-use Rattle.listed.proofs.Options.{none_of}
 use Rattle.hh_lang.specs.Form.{IsProgram, ProgramText}
 use Rattle.hh_model.specs.declared.data.End.{End}
 use Rattle.hh_model.specs.declared.data.End.TheVariants.{Done}
@@ -21,7 +20,7 @@ use Rattle.run_ledger.specs.Heaps.{in_use, let_go, or_fresh, with_heap}
 use Rattle.run_ledger.specs.Steps.{allocated_in, settled, stepped_to, task_step, task_steps}
 use Rattle.run_ledger.specs.Entries.{after, chunk_units, refusal, with_chunk}
 use Rattle.run_ledger.specs.Journals.{is_legal, ledger_of}
-use Rattle.run_ledger.proofs.Journals.{entry_tells}
+use Rattle.run_ledger.proofs.Journals.{accepted_on}
 use Rattle.run_ledger.proofs.Cuts.{journals_can_be_cut, legal_then}
 use Rattle.run_ledger.proofs.Machine.{stepped_machine, heap_machine}
 use Rattle.run_ledger.proofs.Holders.{allocated_end, heap_end, moved_to_end}
@@ -166,7 +165,7 @@ journal_idles p s journal I legal = elim (last_of journal) [
     by before e h =
         let cut = (journals_can_be_cut p s before (e ∷ [])).legal.0 h in
         let free : refusal p s (ledger_of p s before) e ≡ None = first (refusal p s (ledger_of p s before) e) cut.1 in
-        let on : (ledger_of p s before).end ≡ None = none_of (ledger_of p s before).end (entry_tells p s (ledger_of p s before) e (ap is_none free)).0 in
+        let on : (ledger_of p s before).end ≡ None = accepted_on p s (ledger_of p s before) e free in
         subst Idles (sym (accounts_then p s before e)) (entry_idle p s before I cut.0 on e.worker e.kind free)
       where
         first : (o : Option Refused) → (is_none o && true) ≡ true → o ≡ None

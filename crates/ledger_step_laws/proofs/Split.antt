@@ -2,7 +2,6 @@
 use Rattle.std.proofs.Common.{◌≡◌, ℕ, zero, suc, ◌+◌, ◌-◌, ◌≤◌, ◌||◌, min, nat_le, arith, Bool, true, false, cond, Option, Some, None, List, ◌++◌, length, slice_get, replicate, inl, inr, refl, ap, sym, subst, ◌∙◌, is_none}
 use Rattle.std.proofs.lemmas.Bool.{false≢true, both_ways, and_parts, cond-true, leb-true}
 use Rattle.std.proofs.Math.Nat.{min-le_right}
-use Rattle.listed.proofs.Options.{none_of}
 use Rattle.hh_lang.specs.declared.program.Line.{Line}
 use Rattle.hh_lang.specs.Form.{ProgramText, IsProgram}
 use Rattle.run_trace.specs.declared.entry.Kind.TheVariants.{Ran}
@@ -24,7 +23,7 @@ use Rattle.listed.specs.Options.{option_is}
 use Rattle.run_ledger.specs.Journals.{ledger_of, is_legal, tasks_of}
 use Rattle.run_ledger.proofs.Going.{machine_goes_on}
 use Rattle.run_ledger.proofs.Booked.{task_steps_booked}
-use Rattle.run_ledger.proofs.Journals.{none_unless, out_tells, entry_tells, entry_sound}
+use Rattle.run_ledger.proofs.Journals.{none_unless, out_tells, entry_tells, entry_sound, accepted_on}
 use Rattle.run_ledger.proofs.Space.{legal_booked}
 use Rattle.run_ledger.proofs.Stocks.{legal_stocked}
 use Rattle.run_ledger.proofs.Holders.{tasks_are_held_once, placed_worker}
@@ -128,7 +127,7 @@ module _ (p : ProgramText) (s : SettingsValue) (journal : List EntryValue) (w t 
   lj = task_steps p l t k
 
   on : l.end ≡ None
-  on = none_of l.end (entry_tells p s l (record { worker = w; kind = Ran t (suc k) }) (ap is_none accepted)).0
+  on = accepted_on p s l (record { worker = w; kind = Ran t (suc k) }) accepted
 
   allowed : is_none (kind_refusal p s l w (Ran t (suc k))) ≡ true
   allowed = (entry_tells p s l (record { worker = w; kind = Ran t (suc k) }) (ap is_none accepted)).2

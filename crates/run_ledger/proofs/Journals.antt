@@ -3,6 +3,7 @@ use Rattle.std.proofs.Common.{◌≡◌, ℕ, zero, suc, ◌+◌, ◌&&◌, Bool
 use Rattle.std.proofs.lemmas.Bool.{cases_eq, both_ways, false≢true, and_parts}
 use Rattle.std.proofs.lemmas.Option.{same_Some}
 use Rattle.listed.proofs.Members.{In, in_from_contains, contains_from_in}
+use Rattle.listed.proofs.Options.{none_of}
 use Rattle.hh_lang.specs.Form.{ProgramText}
 use Rattle.hh_model.specs.declared.data.Name.{Name}
 use Rattle.hh_model.specs.declared.data.Task.{Task}
@@ -169,6 +170,10 @@ entry_tells p s l e h =
     let b = none_where (nat_le s.fuel l.steps && not (is_fuel e.kind)) _ _ a.1 in
     let c = none_unless (nat_lt e.worker s.workers) _ _ b.1 in
     (a.0, b.0, c.1)
+
+-- it is entered while the run goes on
+pub accepted_on : (p : ProgramText) (s : SettingsValue) (l : Ledger) (e : EntryValue) → refusal p s l e ≡ None → l.end ≡ None
+accepted_on p s l e accepted = none_of l.end (entry_tells p s l e (ap is_none accepted)).0
 
 pub entry_sound : (p : ProgramText) (s : SettingsValue) (l : Ledger) (e : EntryValue) → SoundLedger l → is_none (refusal p s l e) ≡ true → SoundLedger (after p s l e)
 entry_sound p s l e S h = kind_sound p s l e.worker e.kind S (entry_tells p s l e h).2

@@ -14,10 +14,10 @@ use Rattle.task_frames.specs.declared.frames.Frame.{Frame}
 use Rattle.ledger_step_laws.specs.Accounts.{Rests, StepsAlone, rested}
 use Rattle.ledger_step_laws.specs.Kinds.{EndsTask}
 use Rattle.ledger_step_laws.specs.Last.{WritesOther, LastKind, Private, Reading, Writing, Printing, Forking, Ending, Joining, Finishing, Halting, IsOfKind, GoesOn, Splits, Runs}
-use Rattle.ledger_step_laws.proofs.Ahead.{private_alone, steps_alone_all, with_off}
-use Rattle.ledger_step_laws.proofs.Along.{steps_know}
+use Rattle.ledger_step_laws.proofs.Ahead.{private_alone, with_off}
 use Rattle.ledger_step_laws.proofs.Rested.{rested_view}
 use Rattle.ledger_step_laws.proofs.Split.{worker_step}
+use Rattle.ledger_step_laws.proofs.BeforeLast as before_last
 use Rattle.core_relation.specs.Memory.{Belongings, Memory}
 use Rattle.core_relation.specs.Fits.{with_belongings}
 use Rattle.core_relation.specs.Changes.{EndsBelongings}
@@ -40,11 +40,8 @@ module _ (p : ProgramText) (s : SettingsValue) (v v' : Memory) (l l' : Ledger) (
   abbrev Idle : Ledger → Type 0
   Idle n = (u : ℕ) → Rests n u → ((heap_of n u).begun ≡ None) × ((v'.belongings u).begun ≡ None)
 
-  alone : StepsAlone l m t
-  alone = steps_alone_all p s t k l (E.knows.sound, E.collects) S.private
-
   other : (u : ℕ) → (u ≡ t → ⊥) → Rests m u → (v.belongings u).begun ≡ None
-  other u ne r = resting u (ap (λ (z : Heap). z.worker) (sym (alone.heaps u ne)) ∙ r)
+  other u ne r = resting u (ap (λ (z : Heap). z.worker) (sym ((before_last.alone p s l l' t w k E).heaps u ne)) ∙ r)
 
   -- with the part's belongings
   before : (u : ℕ) → Rests (rested m t) u → (vt.belongings u).begun ≡ None
@@ -105,7 +102,7 @@ module _ (p : ProgramText) (s : SettingsValue) (v v' : Memory) (l l' : Ledger) (
 
   by : (kind : LastKind) (K : IsOfKind p m l' t S.task S.line kind) → (GoesOn kind → l'.machine.end ≡ None) → Makes p v v' m l' t h S.task S.line kind K → Idle (handed l')
   by Private K on C =
-      let A : StepsAlone m l' t = subst (λ (z : Ledger). StepsAlone m z t) (sym S.after) (private_alone p m t K (steps_know p s t k l E.task E.knows (inr E.collects) E.at E.runs E.can S.private).sound) in
+      let A : StepsAlone m l' t = subst (λ (z : Ledger). StepsAlone m z t) (sym S.after) (private_alone p m t K (before_last.known p s l l' t w k E).sound) in
       goes (on tt) (stays C (ap (λ (z : Ledger). (heap_of z t).worker) S.after ∙ (worker_step p s t m K ∙ E.held)) A.heaps)
   by Reading K on C = goes (on tt) (stays C (ap (λ (z : Ledger). (heap_of z t).worker) K.goes ∙ E.held) K.alone.heaps)
   by Writing K on C = goes (on tt) (held (ap (λ (z : Ledger). (heap_of z t).worker) K.goes ∙ E.held) (λ u ne. ap (λ (z : Ledger). heap_of z u) K.goes) (writes K S.line.instr C))

@@ -1,5 +1,5 @@
 -- An entry of steps leaves the accounts alike for each other task that is out.
-use Rattle.std.proofs.Common.{◌≡◌, ℕ, ◌+◌, true, false, Some, None, ◌∷◌, length, slice_get, inl, inr, refl, ap, sym, subst, ◌∙◌}
+use Rattle.std.proofs.Common.{◌≡◌, ℕ, ◌+◌, true, false, Some, None, ◌∷◌, length, slice_get, inl, refl, ap, sym, subst, ◌∙◌}
 use Rattle.hh_lang.specs.declared.instr.Instr.{Instr}
 use Rattle.hh_lang.specs.declared.instr.Instr.TheVariants.{Set, Mov, Movr, Nil as NilOf, Calc, Same, Jmp, Jz, Newm, Pack, Getr, Geti, Putr, Puti, Cntr, Cnti, Freeze, Cas, Call, Par, Ret, Out}
 use Rattle.hh_lang.specs.Form.{ProgramText}
@@ -22,9 +22,9 @@ use Rattle.run_ledger.specs.Steps.{task_steps, touched}
 use Rattle.run_ledger.proofs.Machine.{heap_machine}
 use Rattle.ledger_step_laws.specs.Accounts.{StepsAlone, AlikeFor, Leaves, own, rested}
 use Rattle.ledger_step_laws.specs.Last.{Wrote, WritesOther, LastKind, Private, Reading, Writing, Printing, Forking, Ending, Joining, Finishing, Halting, IsOfKind, GoesOn, Splits, Runs}
-use Rattle.ledger_step_laws.proofs.Ahead.{private_alone, alone_along, steps_alone_all, with_off}
-use Rattle.ledger_step_laws.proofs.Along.{steps_know}
+use Rattle.ledger_step_laws.proofs.Ahead.{private_alone, alone_along, with_off}
 use Rattle.ledger_step_laws.proofs.Tree.{leaf_alone}
+use Rattle.ledger_step_laws.proofs.BeforeLast as before_last
 use Rattle.core_relation.specs.Memory.{Belongings, Memory, In}
 use Rattle.core_relation.specs.Makes.{taken_by}
 use Rattle.core_relation.specs.Fits.{Part, FitsAt, ahead, part_for}
@@ -140,15 +140,15 @@ module _ (p : ProgramText) (s : SettingsValue) (v : Memory) (l l' : Ledger) (t w
     off : r.task ≡ t → ⊥
     off e = ne (sym e)
 
-    idle : is_waiting (slice_get l.machine.tasks t) ≡ false
-    idle = ap is_waiting E.at ∙ (running_tells E.task.status E.runs).1
+    abbrev idle : is_waiting (slice_get l.machine.tasks t) ≡ false
+    idle = before_last.idle_first p s l l' t w k E
 
     live : is_joined (slice_get l.machine.tasks r.task) ≡ false
     live = ap is_joined P.task ∙ (running_tells y.status P.runs).0
 
     lone : StepsAlone m l' t → AlikeFor r.task l l'
     lone A =
-        alike_alone p s r l l' t ne (λ z. ne (leaf_alone l E.knows.sound t r.task idle live z)) (alone_along p s t l m l' (steps_alone_all p s t k l (E.knows.sound, E.collects) S.private) A) (ran.limit p s v v l l' t w k h E on r y P ne G) (ran.end p s v v l l' t w k h E on r y P ne G) (ran.heap p s v v l l' t w k h E on r y P ne G)
+        alike_alone p s r l l' t ne (λ z. ne (leaf_alone l E.knows.sound t r.task idle live z)) (alone_along p s t l m l' (before_last.alone p s l l' t w k E) A) (ran.limit p s v v l l' t w k h E on r y P ne G) (ran.end p s v v l l' t w k h E on r y P ne G) (ran.heap p s v v l l' t w k h E on r y P ne G)
 
     module _ (F : FitsAt p s q v l) where
       N : StepsAlone l lq t
@@ -173,7 +173,7 @@ module _ (p : ProgramText) (s : SettingsValue) (v : Memory) (l l' : Ledger) (t w
           (alike_writes lq (rested l' t) r.task t W.name W.object W.written off other (mutable_is S.task W.object W.written W.frame S.line.instr W.wrote) (ap (λ (z : State). z.field_limit) e ∙ left.limit) (ap (λ (z : State). z.end) e ∙ left.end) (with_off l' t r.task let_go off ∙ left.heap) W.writes))
 
     pub alike_by : (kind : LastKind) → IsOfKind p m l' t S.task S.line kind → FitsAt p s (part_for s t h (taken_by kind k)) v l → GoesOn kind → AlikeFor r.task l l'
-    alike_by Private private F g = lone (subst (λ (z : Ledger). StepsAlone m z t) (sym S.after) (private_alone p m t private (steps_know p s t k l E.task E.knows (inr E.collects) E.at E.runs E.can S.private).sound))
+    alike_by Private private F g = lone (subst (λ (z : Ledger). StepsAlone m z t) (sym S.after) (private_alone p m t private (before_last.known p s l l' t w k E).sound))
     alike_by Reading reads F g = lone reads.alone
     alike_by Writing W F g = writes F W
     alike_by Printing prints F g = lone prints.alone

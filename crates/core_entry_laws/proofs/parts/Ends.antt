@@ -38,9 +38,6 @@ module _ (p : ProgramText) (s : SettingsValue) (t : ℕ) (g g' : Belongings) (r 
     abbrev lt' : Ledger
     lt' = rested l' t
 
-    off : r.task ≡ t → ⊥
-    off e = ne (sym e)
-
     B : Beside lt (ahead p r l) (ahead p r lt) t r.task
     B = beside p s q r v l x y K F G O P ne
 
@@ -48,7 +45,7 @@ module _ (p : ProgramText) (s : SettingsValue) (t : ℕ) (g g' : Belongings) (r 
     E = record { machine = L.machine; heap = same }
 
     to_rest : (k : Ledger) → SameOf r.task k (rested k t)
-    to_rest k = record { machine = heap_machine k t let_go; heap = with_off k t r.task let_go off }
+    to_rest k = record { machine = heap_machine k t let_go; heap = with_off k t r.task let_go (λ e. ne (sym e)) }
 
     -- the steps of r's part by all four accounts
     at_l' : ArePrivate p s l' r.task r.fresh × SameOf r.task (ahead p r l) (ahead p r l')

@@ -63,7 +63,7 @@ module _ (p : ProgramText) (s : SettingsValue) (q r : Part) (v : Memory) (l l' :
   off : r.task ≡ q.task → ⊥
   off e = ne (sym e)
 
-  BB : Beside lq (ahead p r l) both q.task r.task
+  abbrev BB : Beside lq (ahead p r l) both q.task r.task
   BB = beside p s q r v l x y K F G O P ne
 
   K2 : Knows lt'
@@ -81,7 +81,7 @@ module _ (p : ProgramText) (s : SettingsValue) (q r : Part) (v : Memory) (l l' :
   rests_both : Rests both q.task
   rests_both = ap (λ (h : Heap). h.worker) (BB.steps_t.heaps q.task ne) ∙ rested_worker (task_steps p l q.task q.fresh) q.task
 
-  before : Stands (with_belongings (with_belongings v q.task q.belongings) r.task r.belongings) both
+  abbrev before : Stands (with_belongings (with_belongings v q.task q.belongings) r.task r.belongings) both
   before = pair.fit_together p s q r v l x y K F G O P ne
 
   -- the part fits what is given back

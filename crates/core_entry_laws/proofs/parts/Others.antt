@@ -60,7 +60,7 @@ module _ (p : ProgramText) (s : SettingsValue) (q r : Part) (v : Memory) (l l' :
   abbrev lr' : Ledger
   lr' = ahead p r l'
 
-  pub B : Beside lq (ahead p r l) both q.task r.task
+  abbrev B : Beside lq (ahead p r l) both q.task r.task
   B = beside p s q r v l x y K F G O P ne
 
   abbrev N : StepsAlone l lq q.task

@@ -10,7 +10,7 @@ use Rattle.hh_model.proofs.Steps.{runs_is}
 use Rattle.run_ledger.specs.declared.data.Ledger.{Ledger}
 use Rattle.run_ledger.specs.Entries.{after, is_out}
 use Rattle.run_ledger.specs.Journals.{ledger_of}
-use Rattle.run_ledger.proofs.Journals.{none_unless, entry_tells, legal_sound}
+use Rattle.run_ledger.proofs.Journals.{none_unless, entry_tells, legal_sound, accepted_on}
 use Rattle.run_ledger.proofs.Steps.{heap_of_task, running_at}
 use Rattle.ledger_step_laws.proofs.Entries.{end_changes}
 use Rattle.ledger_step_laws.proofs.Split.{legal_alive}
@@ -27,7 +27,7 @@ pub quiet_fits_then : QuietFits
 quiet_fits_then p s journal legal v v' e t h g accepted quiet Q C B =
     let l : Ledger = ledger_of p s journal in
     let l' : Ledger = after p s l e in
-    let alive : l.machine.end ≡ None = legal_alive p s journal legal (none_of l.end (entry_tells p s l e (ap is_none accepted)).0) in
+    let alive : l.machine.end ≡ None = legal_alive p s journal legal (accepted_on p s l e accepted) in
     let same = (quiet_by p s l e.worker e.kind quiet).0 in
     let on : l'.machine.end ≡ None = ap (λ (z : State). z.end) same.machine ∙ alive in
     let part : PartFits p s (part_for s t g 0) v' l' = record { fits = quiet_fits p s t h g v v' l l' same C (part_now p s (part_for s t h 0) v l alive Q).fits; begun = B } in

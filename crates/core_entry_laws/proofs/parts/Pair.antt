@@ -38,11 +38,8 @@ module _ (p : ProgramText) (s : SettingsValue) (q r : Part) (v : Memory) (l : Le
   abbrev both : Ledger
   both = ahead p r lq
 
-  pub off : r.task ≡ q.task → ⊥
-  off e = ne (sym e)
-
   pub knows : Knows lq
-  knows = rested_knows (task_steps p l q.task q.fresh) q.task (steps_know p s q.task q.fresh l x K O.steady O.task O.runs O.can F.private)
+  knows = knows_ahead p s q v l x K F O
 
   pub N : StepsAlone l lq q.task
   N = ahead_alone p s q l K.sound O.steady F.private
@@ -52,7 +49,7 @@ module _ (p : ProgramText) (s : SettingsValue) (q r : Part) (v : Memory) (l : Le
       let e = heap_machine (task_steps p l q.task q.fresh) q.task let_go in
       alike_alone p s r l lq q.task ne
       (λ h. ne (leaf_alone l K.sound q.task r.task (ap is_waiting O.task ∙ (running_tells x.status O.runs).1) (ap is_joined P.task ∙ (running_tells y.status P.runs).0) h)) N (ap (λ (m : State). m.field_limit) e ∙ steps_limit p s q.task q.fresh l F.private) (ap (λ (m : State). m.end) e ∙ steps_end p s q.task q.fresh l F.private)
-      (with_off (task_steps p l q.task q.fresh) q.task r.task let_go off ∙ steps_off p s q.task q.fresh l r.task off F.private)
+      (with_off (task_steps p l q.task q.fresh) q.task r.task let_go (λ h. ne (sym h)) ∙ steps_off p s q.task q.fresh l r.task (λ h. ne (sym h)) F.private)
 
   pub then_ : ArePrivate p s lq r.task r.fresh × AlikeFor r.task (task_steps p l r.task r.fresh) (task_steps p lq r.task r.fresh)
   then_ = alike_steps p s r.task r.fresh l lq y K knows P.steady alike P.task P.runs P.can G.private

@@ -1,5 +1,5 @@
 -- An entry of steps leaves the parts of others fitting.
-use Rattle.std.proofs.Common.{◌≡◌, ℕ, ℤ, pos, ◌+◌, Option, Some, None, length, slice_get, inl, inr, refl, ap, sym, subst, ◌∙◌, false}
+use Rattle.std.proofs.Common.{◌≡◌, ℕ, ℤ, pos, ◌+◌, Option, Some, None, length, slice_get, inl, inr, refl, ap, sym, subst, ◌∙◌}
 use Rattle.std.proofs.lemmas.Option.{same_Some}
 use Rattle.hh_lang.specs.declared.instr.Instr.{Instr}
 use Rattle.hh_lang.specs.declared.instr.Instr.TheVariants.{Set, Mov, Movr, Nil as NilOf, Calc, Same, Jmp, Jz, Newm, Pack, Getr, Geti, Putr, Puti, Cntr, Cnti, Freeze, Cas, Call, Par, Ret, Out}
@@ -9,16 +9,15 @@ use Rattle.hh_model.specs.declared.data.End.{End}
 use Rattle.hh_model.specs.declared.data.Task.{Task}
 use Rattle.hh_model.specs.declared.data.State.{State}
 use Rattle.hh_model.specs.Effect.{place_in, int_in}
-use Rattle.hh_model.specs.Step.{runs, is_running, is_waiting}
-use Rattle.hh_model.proofs.Runs.{running_tells}
+use Rattle.hh_model.specs.Step.{runs, is_running}
 use Rattle.run_ledger.specs.declared.data.Ledger.{Ledger}
 use Rattle.run_ledger.specs.Heaps.{heap_of, let_go}
 use Rattle.run_ledger.specs.Steps.{task_steps}
 use Rattle.ledger_step_laws.specs.Accounts.{StepsAlone, Knows, Leaves, rested}
 use Rattle.ledger_step_laws.specs.Kinds.{StoresOne}
 use Rattle.ledger_step_laws.specs.Last.{WritesOther, Halts, LastKind, Private, Reading, Writing, Printing, Forking, Ending, Joining, Finishing, Halting, IsOfKind, GoesOn, Splits, Runs}
-use Rattle.ledger_step_laws.proofs.Ahead.{private_alone, alone_along, steps_alone_all, with_off}
-use Rattle.ledger_step_laws.proofs.Along.{steps_limit, steps_end, steps_off, steps_know}
+use Rattle.ledger_step_laws.proofs.Ahead.{private_alone, alone_along, with_off}
+use Rattle.ledger_step_laws.proofs.Along.{steps_limit, steps_end, steps_off}
 use Rattle.ledger_step_laws.proofs.Split.{worker_step, steps_worker}
 use Rattle.ledger_step_laws.proofs.Wrote.{is_store, is_swap, is_number}
 use Rattle.core_relation.specs.Memory.{Belongings, Memory}
@@ -31,9 +30,9 @@ use Rattle.core_entry_laws.proofs.parts.Leave as leave
 use Rattle.core_entry_laws.proofs.parts.Quiet.{aside_is, fits_halt}
 use Rattle.core_relation.proofs.changes.Takes.{ran_fits}
 use Rattle.ledger_step_laws.proofs.Root.{root_alone}
+use Rattle.ledger_step_laws.proofs.BeforeLast as before_last
 use Rattle.run_ledger.specs.Sound.{collecting}
 use Rattle.run_ledger.proofs.Machine.{heap_machine}
-use Rattle.path_laws.proofs.Leaves.{can_going}
 
 module _ (p : ProgramText) (s : SettingsValue) (v v' : Memory) (l l' : Ledger) (t w k : ℕ) (h : Belongings) (E : Runs p s l l' t w k) (on : l'.machine.end ≡ None) where
   abbrev q : Part
@@ -52,12 +51,6 @@ module _ (p : ProgramText) (s : SettingsValue) (v v' : Memory) (l l' : Ledger) (
     pub left : Leaves r.task (ahead p q l) l'
     left = E.leaves r.task (λ e. ne (sym e)) (ap is_running P.task ∙ P.runs) on
 
-    alone_m : StepsAlone l m t
-    alone_m = steps_alone_all p s t k l (E.knows.sound, E.collects) S.private
-
-    idle : is_waiting (slice_get l.machine.tasks t) ≡ false
-    idle = ap is_waiting E.at ∙ (running_tells E.task.status E.runs).1
-
     -- the accounts by l' and l
     pub limit : l'.machine.field_limit ≡ l.machine.field_limit
     limit = left.limit ∙ (ap (λ (z : State). z.field_limit) (heap_machine m t let_go) ∙ steps_limit p s t k l S.private)
@@ -72,7 +65,7 @@ module _ (p : ProgramText) (s : SettingsValue) (v v' : Memory) (l l' : Ledger) (
     stays : v' ≡ v → StepsAlone m l' t → (heap_of l' t).worker ≡ Some w → FitsAt p s r v' l'
     stays same A out' =
         subst (λ (z : Memory). FitsAt p s r z l') (sym same)
-        (fits_alone p s r v l l' t w y ne (alone_along p s t l m l' alone_m A) limit end heap (sym (steps_worker p s t k l S.private) ∙ E.held) out' idle E.knows E.knows_then P.steady P.task P.runs P.can G)
+        (fits_alone p s r v l l' t w y ne (alone_along p s t l m l' (before_last.alone p s l l' t w k E) A) limit end heap (sym (steps_worker p s t k l S.private) ∙ E.held) out' (before_last.idle_first p s l l' t w k E) E.knows E.knows_then P.steady P.task P.runs P.can G)
 
     stores : FitsAt p s q v l → (W : WritesOther m l' t S.task S.line) (o i b : ℕ) (c : Option (ℕ × ℤ)) (L : (j : ℕ) × (place_in (length W.object.refs) (int_in S.task.top i) ≡ Some j) × StoresOne (rested m t) (rested l' t) t S.task W.name W.object o b j c)
         → StoresInto v v' m t h S.task W.object o i b c → FitsAt p s r v' l'
@@ -118,7 +111,7 @@ module _ (p : ProgramText) (s : SettingsValue) (v v' : Memory) (l l' : Ledger) (
 
     by : (kind : LastKind) (K : IsOfKind p m l' t S.task S.line kind) → FitsAt p s (part_for s t h (taken_by kind k)) v l → Makes p v v' m l' t h S.task S.line kind K → FitsAt p s r v' l'
     by Private private F C =
-        stays C (subst (λ (z : Ledger). StepsAlone m z t) (sym S.after) (private_alone p m t private (steps_know p s t k l E.task E.knows (inr E.collects) E.at E.runs E.can S.private).sound))
+        stays C (subst (λ (z : Ledger). StepsAlone m z t) (sym S.after) (private_alone p m t private (before_last.known p s l l' t w k E).sound))
         (ap (λ (z : Ledger). (heap_of z t).worker) S.after ∙ (worker_step p s t m private ∙ E.held))
     by Reading reads F C = stays C reads.alone (ap (λ (z : Ledger). (heap_of z t).worker) reads.goes ∙ E.held)
     by Writing W F C = writes F W S.line.instr refl C
@@ -143,34 +136,31 @@ module _ (p : ProgramText) (s : SettingsValue) (v v' : Memory) (l l' : Ledger) (
   abbrev T : Splits p s l l' t k
   T = E.splits
 
-  going : mk.machine.end ≡ None
-  going = steps_end p s t k l T.private ∙ can_going l.machine t E.can
+  abbrev going : mk.machine.end ≡ None
+  going = before_last.going p s l l' t w k E
 
-  known : Knows mk
-  known = steps_know p s t k l E.task E.knows (inr E.collects) E.at E.runs E.can T.private
+  abbrev known : Knows mk
+  known = before_last.known p s l l' t w k E
 
   module _ (r : Part) (y : Task) (P : IsOut l r y) (ne : t ≡ r.task → ⊥) (G : FitsAt p s r v l) where
     aside_fits : l'.machine.end ≡ None → FitsAt p s r v' l' → StillFits p s r v' l'
     aside_fits on fit = subst (FitsAt p s r v') (sym (aside_is l' on)) fit
 
-    off : r.task ≡ t → ⊥
-    off e = ne (sym e)
-
-    alone : StepsAlone l mk t
-    alone = steps_alone_all p s t k l (E.knows.sound, E.collects) T.private
+    abbrev alone : StepsAlone l mk t
+    alone = before_last.alone p s l l' t w k E
 
     steady : IsSteady r mk
     steady = by P.steady
       where
         by : IsSteady r l → IsSteady r mk
         by (inl e) = inl e
-        by (inr e) = inr (ap collecting (steps_off p s t k l r.task off T.private) ∙ e)
+        by (inr e) = inr (ap collecting (steps_off p s t k l r.task (λ i. ne (sym i)) T.private) ∙ e)
 
     -- it fits before the last step
     fits_then : FitsAt p s r v mk
     fits_then =
-        fits_alone p s r v l mk t w y ne alone (steps_limit p s t k l T.private) (steps_end p s t k l T.private) (steps_off p s t k l r.task off T.private) (sym (steps_worker p s t k l T.private) ∙ E.held) E.held
-        (ap is_waiting E.at ∙ (running_tells E.task.status E.runs).1) E.knows known P.steady P.task P.runs P.can G
+        fits_alone p s r v l mk t w y ne alone (steps_limit p s t k l T.private) (steps_end p s t k l T.private) (steps_off p s t k l r.task (λ e. ne (sym e)) T.private) (sym (steps_worker p s t k l T.private) ∙ E.held) E.held
+        (before_last.idle_first p s l l' t w k E) E.knows known P.steady P.task P.runs P.can G
 
     all : (kind : LastKind) (K : IsOfKind p mk l' t T.task T.line kind) → (GoesOn kind → l'.machine.end ≡ None) → FitsAt p s (part_for s t h (taken_by kind k)) v l → Makes p v v' mk l' t h T.task T.line kind K → StillFits p s r v' l'
     all Private K on F C = aside_fits (on tt) (by p s v v' l l' t w k h E (on tt) r y P ne G Private K F C)
@@ -182,7 +172,7 @@ module _ (p : ProgramText) (s : SettingsValue) (v v' : Memory) (l l' : Ledger) (
     all Joining K on F C = aside_fits (on tt) (by p s v v' l l' t w k h E (on tt) r y P ne G Joining K F C)
     -- where the root ends nobody else runs
     all Finishing d on F C =
-        absurd (off (root_alone mk known.sound E.root t r.task T.task y T.at.task (ap runs T.at.runs) d.root (alone.tasks r.task off ∙ P.task) P.runs))
+        absurd (ne (sym (root_alone mk known.sound E.root t r.task T.task y T.at.task (ap runs T.at.runs) d.root (alone.tasks r.task (λ e. ne (sym e)) ∙ P.task) P.runs)))
     all Halting n on F C =
         subst (λ (z : Memory). StillFits p s r z l') (sym C) (fits_halt p s v mk l' known.sound going n r steady fits_then)
 

@@ -1,5 +1,5 @@
 -- After an entry of steps what its worker holds fits, where it goes on with the task or the run halts.
-use Rattle.std.proofs.Common.{◌≡◌, ℕ, suc, pos, ℤ, true, false, Option, Some, None, is_some, slice_get, slice_set, length, inl, inr, refl, ap, sym, subst, ◌∙◌}
+use Rattle.std.proofs.Common.{◌≡◌, ℕ, suc, pos, ℤ, true, false, Option, Some, None, slice_get, slice_set, length, inl, refl, ap, sym, subst, ◌∙◌}
 use Rattle.std.proofs.lemmas.Option.{same_Some}
 use Rattle.listed.proofs.Members.{got_same}
 use Rattle.hh_lang.specs.declared.instr.Instr.{Instr}
@@ -8,23 +8,22 @@ use Rattle.hh_lang.specs.Form.{ProgramText}
 use Rattle.run_trace.specs.Settings.{SettingsValue}
 use Rattle.hh_model.specs.declared.data.State.{State}
 use Rattle.hh_model.specs.declared.data.Task.{Task}
-use Rattle.hh_model.specs.Effect.{int_in, object_at, onward, place_in, row_of}
-use Rattle.hh_model.specs.Step.{is_running, is_waiting, is_joined, is_on_path, owner_of, runs}
+use Rattle.hh_model.specs.Effect.{int_in, onward, place_in}
+use Rattle.hh_model.specs.Step.{is_running, is_waiting, runs}
 use Rattle.run_ledger.specs.declared.data.Ledger.{Ledger}
-use Rattle.run_ledger.specs.Heaps.{heap_of, or_fresh, let_go}
+use Rattle.run_ledger.specs.Heaps.{heap_of, or_fresh}
 use Rattle.run_ledger.specs.Steps.{task_steps}
-use Rattle.run_ledger.proofs.Machine.{task_step_machine, heap_machine}
+use Rattle.run_ledger.proofs.Machine.{task_step_machine}
 use Rattle.run_ledger.specs.Sound.{SoundLedger}
 use Rattle.run_ledger.proofs.Steps.{steps_last, task_steps_sound}
 use Rattle.ledger_step_laws.specs.Accounts.{StepsAlone, aside, rested}
 use Rattle.ledger_step_laws.specs.Kinds.{StoresOne}
 use Rattle.ledger_step_laws.specs.Last.{WritesOther, LastKind, Private, Reading, Writing, Printing, Forking, Ending, Joining, Finishing, Halting, IsOfKind, GoesOn, Runs, Splits, stepped_by}
-use Rattle.ledger_step_laws.proofs.Ahead.{with_off}
-use Rattle.ledger_step_laws.proofs.Along.{steps_end, steps_know}
 use Rattle.ledger_step_laws.proofs.Private.{private_on}
-use Rattle.ledger_step_laws.proofs.Rested.{rested_sound, rested_view}
+use Rattle.ledger_step_laws.proofs.Rested.{rested_sound, rested_view, both_rested}
 use Rattle.ledger_step_laws.proofs.Split.{steps_go, worker_step}
 use Rattle.ledger_step_laws.proofs.Wrote.{is_store, is_swap, is_number}
+use Rattle.ledger_step_laws.proofs.BeforeLast as before_last
 use Rattle.core_relation.specs.Memory.{Belongings, Memory}
 use Rattle.core_relation.specs.Fits.{Part, FitsAt, part_for, ahead, with_belongings}
 use Rattle.core_relation.specs.Copies.{PartFits}
@@ -44,28 +43,6 @@ use Rattle.core_entry_laws.proofs.whole.Together.{none_begun}
 use Rattle.core_relation.proofs.changes.With.{at_belongings}
 use Rattle.core_entry_laws.proofs.parts.Workers.{part_now}
 
--- let go of before and after
-both_rested : (l l' : Ledger) (t : ℕ) → StepsAlone l l' t → StepsAlone (rested l t) (rested l' t) t
-both_rested l l' t A = record {
-  tree = record {
-    made = λ u. ap (λ (z : State). is_some (slice_get z.tasks u)) el ∙ (A.tree.made u ∙ sym (ap (λ (z : State). is_some (slice_get z.tasks u)) em));
-    owners = λ a. ap (λ (z : State). owner_of z.tasks a) el ∙ (A.tree.owners a ∙ sym (ap (λ (z : State). owner_of z.tasks a) em));
-    paths = λ a u. ap (λ (z : State). is_on_path z.tasks a u) el ∙ (A.tree.paths a u ∙ sym (ap (λ (z : State). is_on_path z.tasks a u) em));
-    waits = λ u. ap (λ (z : State). is_waiting (slice_get z.tasks u)) el ∙ (A.tree.waits u ∙ sym (ap (λ (z : State). is_waiting (slice_get z.tasks u)) em));
-    joins = λ u. ap (λ (z : State). is_joined (slice_get z.tasks u)) el ∙ (A.tree.joins u ∙ sym (ap (λ (z : State). is_joined (slice_get z.tasks u)) em));
-  };
-  tasks = λ u ne. ap (λ (z : State). slice_get z.tasks u) el ∙ (A.tasks u ne ∙ sym (ap (λ (z : State). slice_get z.tasks u) em));
-  heaps = λ u ne. ap or_fresh (with_off l' t u let_go ne) ∙ (A.heaps u ne ∙ sym (ap or_fresh (with_off l t u let_go ne)));
-  rows = λ u ne. ap (λ (z : State). length (row_of (slice_get z.store u))) el ∙ (A.rows u ne ∙ sym (ap (λ (z : State). length (row_of (slice_get z.store u))) em));
-  store = λ n ne. ap (λ (z : State). object_at z.store n) el ∙ (A.store n (λ e. ne (ap (λ (z : State). owner_of z.tasks n.task) em ∙ e)) ∙ sym (ap (λ (z : State). object_at z.store n) em));
-}
-  where
-    em : (rested l t).machine ≡ l.machine
-    em = heap_machine l t let_go
-
-    el : (rested l' t).machine ≡ l'.machine
-    el = heap_machine l' t let_go
-
 module _ (p : ProgramText) (s : SettingsValue) (v v' : Memory) (l l' : Ledger) (t w k : ℕ) (h g : Belongings) (E : Runs p s l l' t w k) where
   abbrev m : Ledger
   m = task_steps p l t k
@@ -75,9 +52,6 @@ module _ (p : ProgramText) (s : SettingsValue) (v v' : Memory) (l l' : Ledger) (
 
   abbrev q : Part
   q = part_for s t h k
-
-  alive_m : m.machine.end ≡ None
-  alive_m = steps_end p s t k l S.private ∙ alive_machine p s l l' t w k E
 
   -- the heap begins no collection meanwhile
   still : (j : ℕ) → (heap_of (task_steps p l t j) t).begun ≡ None
@@ -114,11 +88,11 @@ module _ (p : ProgramText) (s : SettingsValue) (v v' : Memory) (l l' : Ledger) (
   held : (m' : State) → l' ≡ stepped_by m m' → (heap_of l' t).worker ≡ Some w
   held m' e = ap (λ (z : Ledger). (heap_of z t).worker) e ∙ E.held
 
-  idle : is_waiting (slice_get (rested m t).machine.tasks t) ≡ false
-  idle = ap (λ (z : State). is_waiting (slice_get z.tasks t)) (heap_machine m t let_go) ∙ (ap is_waiting S.at.task ∙ ap (λ st. is_waiting (Some (record S.task { status = st }))) S.at.runs)
+  abbrev idle : is_waiting (slice_get (rested m t).machine.tasks t) ≡ false
+  idle = before_last.idle_rested p s l l' t w k E
 
-  sound : SoundLedger (rested m t)
-  sound = rested_sound m t (steps_know p s t k l E.task E.knows (inr E.collects) E.at E.runs E.can S.private).sound
+  abbrev sound : SoundLedger (rested m t)
+  sound = before_last.rested_stays_sound p s l l' t w k E
 
   -- a read or an output
   steps : FitsAt p s q v l → v' ≡ v → (m' : State) → l' ≡ stepped_by m m' → StepsAlone m l' t → StepsTo v l' t h g → FitsAt p s (part_for s t g 0) v' l'

@@ -1,5 +1,5 @@
 -- A step that goes on and sets at most a number register: the part of its worker fits after it.
-use Rattle.std.proofs.Common.{is_some, ◌≡◌, ℕ, ℤ, false, Some, List, ◌∷◌, length, slice_get, slice_set, inr, refl, ap, sym, subst, ◌∙◌}
+use Rattle.std.proofs.Common.{◌≡◌, ℕ, ℤ, false, Some, List, ◌∷◌, length, slice_get, slice_set, refl, ap, sym, subst, ◌∙◌}
 use Rattle.std.proofs.lemmas.Option.{same_Some}
 use Rattle.listed.proofs.Members.{got_same}
 use Rattle.object_layout.specs.declared.word.Addr.{Addr}
@@ -12,7 +12,7 @@ use Rattle.hh_model.specs.declared.data.Status.TheVariants.{Running}
 use Rattle.hh_model.specs.declared.data.Task.{Task}
 use Rattle.hh_model.specs.declared.data.State.{State}
 use Rattle.hh_model.specs.Effect.{object_at, row_of}
-use Rattle.hh_model.specs.Step.{owner_of, is_on_path, is_waiting, is_joined}
+use Rattle.hh_model.specs.Step.{is_waiting}
 use Rattle.run_ledger.specs.declared.data.Ledger.{Ledger}
 use Rattle.run_ledger.specs.Heaps.{heap_of, or_fresh, let_go}
 use Rattle.run_ledger.specs.Steps.{task_steps}
@@ -20,9 +20,8 @@ use Rattle.run_ledger.specs.Sound.{SoundLedger}
 use Rattle.ledger_step_laws.specs.Accounts.{Rests, StepsAlone, rested}
 use Rattle.ledger_step_laws.specs.Kinds.{onward_with}
 use Rattle.ledger_step_laws.specs.Last.{stepped_by}
-use Rattle.ledger_step_laws.proofs.Ahead.{with_off}
 use Rattle.ledger_step_laws.proofs.Last.{rest_heaps}
-use Rattle.ledger_step_laws.proofs.Rested.{rested_worker, rested_sound}
+use Rattle.ledger_step_laws.proofs.Rested.{rested_worker, rested_sound, both_rested}
 use Rattle.core_relation.specs.Memory.{Belongings, Memory, In, object_name, objects, objects_in, Lies}
 use Rattle.core_relation.specs.Reads.{IsRead, FrameIsRead, FramesAreRead, HoldsRead, TaskIsRead}
 use Rattle.core_relation.specs.Stands.{Place}
@@ -37,7 +36,7 @@ use Rattle.core_entry_laws.specs.WorkerLaws.{FramesGo, NumbersGo}
 use Rattle.hh_model.specs.declared.data.Frame.{Frame as ModelFrame}
 use Rattle.run_ledger.proofs.Machine.{heap_machine}
 use Rattle.task_frames.specs.declared.frames.Frame.{Frame}
-use Rattle.ledger_step_laws.proofs.Along.{steps_know}
+use Rattle.ledger_step_laws.proofs.BeforeLast as before_last
 use Rattle.core_relation.proofs.changes.Own.{place_own}
 use Rattle.core_relation.proofs.changes.Store.{goes_on}
 use Rattle.core_relation.proofs.changes.With.{at_belongings, off_belongings}
@@ -64,29 +63,17 @@ module _ (p : ProgramText) (s : SettingsValue) (t k : ℕ) (h : Belongings) (v :
   abbrev lt' : Ledger
   lt' = rested l' t
 
-  em : lt.machine ≡ m.machine
+  abbrev em : lt.machine ≡ m.machine
   em = heap_machine m t let_go
 
-  el : lt'.machine ≡ l'.machine
+  abbrev el : lt'.machine ≡ l'.machine
   el = heap_machine l' t let_go
 
   store_same : (n : Name) → object_at lt'.machine.store n ≡ object_at lt.machine.store n
   store_same n = ap (λ (z : State). object_at z.store n) el ∙ (ap (λ (z : Ledger). object_at z.machine.store n) goes ∙ sym (ap (λ (z : State). object_at z.store n) em))
 
-  alone : StepsAlone lt lt' t
-  alone = record {
-    tree = record {
-      made = λ u. ap (λ (z : State). is_some (slice_get z.tasks u)) el ∙ (A.tree.made u ∙ sym (ap (λ (z : State). is_some (slice_get z.tasks u)) em));
-      owners = λ a. ap (λ (z : State). owner_of z.tasks a) el ∙ (A.tree.owners a ∙ sym (ap (λ (z : State). owner_of z.tasks a) em));
-      paths = λ a u. ap (λ (z : State). is_on_path z.tasks a u) el ∙ (A.tree.paths a u ∙ sym (ap (λ (z : State). is_on_path z.tasks a u) em));
-      waits = λ u. ap (λ (z : State). is_waiting (slice_get z.tasks u)) el ∙ (A.tree.waits u ∙ sym (ap (λ (z : State). is_waiting (slice_get z.tasks u)) em));
-      joins = λ u. ap (λ (z : State). is_joined (slice_get z.tasks u)) el ∙ (A.tree.joins u ∙ sym (ap (λ (z : State). is_joined (slice_get z.tasks u)) em));
-    };
-    tasks = λ u ne. ap (λ (z : State). slice_get z.tasks u) el ∙ (A.tasks u ne ∙ sym (ap (λ (z : State). slice_get z.tasks u) em));
-    heaps = λ u ne. ap or_fresh (with_off l' t u let_go ne) ∙ (A.heaps u ne ∙ sym (ap or_fresh (with_off m t u let_go ne)));
-    rows = λ u ne. ap (λ (z : State). length (row_of (slice_get z.store u))) el ∙ (A.rows u ne ∙ sym (ap (λ (z : State). length (row_of (slice_get z.store u))) em));
-    store = λ n ne. store_same n;
-  }
+  abbrev alone : StepsAlone lt lt' t
+  alone = both_rested m l' t A
 
   row_same : length (row_of (slice_get lt'.machine.store t)) ≡ length (row_of (slice_get lt.machine.store t))
   row_same = ap (λ (z : State). length (row_of (slice_get z.store t))) el ∙ (ap (λ (z : Ledger). length (row_of (slice_get z.machine.store t))) goes ∙ sym (ap (λ (z : State). length (row_of (slice_get z.store t))) em))
@@ -154,7 +141,7 @@ module _ (p : ProgramText) (s : SettingsValue) (t k : ℕ) (h : Belongings) (v :
 
 pub frames_go : FramesGo
 frames_go p s v l l' t w k h E Q f g fs top outs A goes frames reads =
-    let known = steps_know p s t k l E.task E.knows (inr E.collects) E.at E.runs E.can E.splits.private in
+    let known = before_last.known p s l l' t w k E in
     let F = (part_now p s (part_for s t h k) v l (alive_machine p s l l' t w k E) Q).fits in
     frames_step p s t k h v l l' w E.splits.task top outs f g fs known.sound E.knows_then.sound F E.held E.splits.at.task E.splits.at.runs A goes frames reads
 

@@ -1,7 +1,7 @@
 -- The belongings of a task that a worker takes fit.
 use Rattle.std.proofs.Common.{length, ◌≡◌, ℕ, Some, None, is_none, slice_get, inl, inr, refl, ap, sym, subst, ◌∙◌}
 use Rattle.std.proofs.lemmas.Bool.{and_parts, cases_eq}
-use Rattle.listed.proofs.Options.{none_is, none_of}
+use Rattle.listed.proofs.Options.{none_is}
 use Rattle.hh_lang.specs.Form.{ProgramText}
 use Rattle.run_trace.specs.Entry.{EntryValue}
 use Rattle.run_trace.specs.Settings.{SettingsValue}
@@ -13,7 +13,7 @@ use Rattle.run_ledger.specs.declared.data.Ledger.{Ledger}
 use Rattle.run_ledger.specs.Heaps.{heap_of, or_fresh}
 use Rattle.run_ledger.specs.Entries.{after, is_ready}
 use Rattle.run_ledger.specs.Journals.{ledger_of}
-use Rattle.run_ledger.proofs.Journals.{none_unless, entry_tells, legal_sound}
+use Rattle.run_ledger.proofs.Journals.{none_unless, entry_tells, legal_sound, accepted_on}
 use Rattle.run_ledger.proofs.Steps.{heap_of_task, running_at}
 use Rattle.ledger_step_laws.specs.Accounts.{Rests, rested}
 use Rattle.ledger_step_laws.proofs.Ahead.{heap_then, with_at}
@@ -73,14 +73,14 @@ took_fits_then p s journal legal v v' c w t accepted handed C =
     let l : Ledger = ledger_of p s journal in
     let l' : Ledger = after p s l e in
     let q : Part = part_for s t (v.belongings t) 0 in
-    let W : StandsFor v c l = subst (StandsFor v c) (handed_on l (none_of l.end (entry_tells p s l e (ap is_none accepted)).0)) handed in
+    let W : StandsFor v c l = subst (StandsFor v c) (handed_on l (accepted_on p s l e accepted)) handed in
     let ready = (none_unless (is_ready l t) _ _ (entry_tells p s l e (ap is_none accepted)).2).0 in
     let both = and_parts (is_running (slice_get l.machine.tasks t)) _ ready in
     let g = heap_of_task l t (legal_sound p s journal legal) both.0 in
     let x = running_at l.machine.tasks t (slice_get l.machine.tasks t) refl both.0 in
     let rests : Rests l t = none_is (heap_of l t).worker both.1 in
     let L = took_takes l t w g.0 g.1 in
-    let on : l'.machine.end ≡ None = ap (λ (z : State). z.end) L.machine ∙ legal_alive p s journal legal (none_of l.end (entry_tells p s l e (ap is_none accepted)).0) in
+    let on : l'.machine.end ≡ None = ap (λ (z : State). z.end) L.machine ∙ legal_alive p s journal legal (accepted_on p s l e accepted) in
     let none = legal_rests p s journal legal t rests in
     let own : (v.belongings t).begun ≡ None = none_begun_by_ledger v l t (v.belongings t).begun (W.begun t rests) none in
     let heap : (heap_of l' t).begun ≡ None = ap (λ o. (or_fresh o).begun) (with_at l t (λ h. record h { worker = Some w }) ∙ ap (heap_then (λ h. record h { worker = Some w })) g.1) ∙ (ap (λ o. (or_fresh o).begun) (sym g.1) ∙ none) in

@@ -5,7 +5,7 @@ use Rattle.hh_lang.specs.declared.instr.Instr.TheVariants.{Set, Mov, Movr, Nil a
 use Rattle.hh_lang.specs.Form.{ProgramText}
 use Rattle.run_trace.specs.Settings.{SettingsValue}
 use Rattle.hh_model.specs.declared.data.State.{State}
-use Rattle.hh_model.specs.Step.{can_step, goes_on, is_joined, is_running, is_waiting, runs}
+use Rattle.hh_model.specs.Step.{can_step, goes_on, is_joined, is_running, runs}
 use Rattle.hh_model.proofs.Runs.{running_tells}
 use Rattle.ledger_step_laws.proofs.Tree.{leaf_alone}
 use Rattle.run_ledger.specs.declared.data.Ledger.{Ledger}
@@ -14,8 +14,8 @@ use Rattle.run_ledger.specs.Steps.{task_steps}
 use Rattle.run_ledger.specs.Sound.{collecting}
 use Rattle.ledger_step_laws.specs.Accounts.{AlikeFor, ArePrivate, Knows, aside}
 use Rattle.ledger_step_laws.specs.Last.{WritesOther, LastKind, Private, Reading, Writing, Printing, Forking, Ending, Joining, Finishing, Halting, IsOfKind, GoesOn, Halts, Runs, Splits}
-use Rattle.ledger_step_laws.proofs.Ahead.{SameOf, steps_alone_all}
-use Rattle.ledger_step_laws.proofs.Along.{alike_steps, steps_know, steps_limit, steps_end, steps_off}
+use Rattle.ledger_step_laws.proofs.Ahead.{SameOf}
+use Rattle.ledger_step_laws.proofs.Along.{alike_steps, steps_limit, steps_end, steps_off}
 use Rattle.core_relation.specs.Memory.{Belongings, Memory}
 use Rattle.core_relation.specs.Fits.{Part, FitsAt, part_for, ahead}
 use Rattle.core_relation.specs.Frames.{AreOut, IsOut, IsSteady}
@@ -32,6 +32,7 @@ use Rattle.core_entry_laws.proofs.parts.Parts.{ahead_same}
 use Rattle.core_entry_laws.proofs.parts.Quiet.{aside_is}
 use Rattle.core_entry_laws.proofs.parts.Ran as ran
 use Rattle.ledger_step_laws.proofs.Root.{root_alone}
+use Rattle.ledger_step_laws.proofs.BeforeLast as before_last
 
 module _ (p : ProgramText) (s : SettingsValue) (r : Part) (v : Memory) (l : Ledger) (on : l.machine.end ≡ None) (F : WorkerFits p s r v l) where
   -- by the accounts as they are
@@ -81,18 +82,15 @@ module _ (p : ProgramText) (s : SettingsValue) (v v' : Memory) (l l' : Ledger) (
   abbrev P : IsOut l r R.task
   P = out p s r v l alive R
 
-  off : r.task ≡ t → ⊥
-  off e = ne (sym e)
-
   -- before the last step
   alike_m : AlikeFor r.task l m
   alike_m =
       alike_alone p s r l m t ne
-      (λ z. ne (leaf_alone l E.knows.sound t r.task (ap is_waiting E.at ∙ (running_tells E.task.status E.runs).1) (ap is_joined R.is ∙ (running_tells R.task.status R.runs).0) z))
-      (steps_alone_all p s t k l (E.knows.sound, E.collects) S.private) (steps_limit p s t k l S.private) (steps_end p s t k l S.private) (steps_off p s t k l r.task off S.private)
+      (λ z. ne (leaf_alone l E.knows.sound t r.task (before_last.idle_first p s l l' t w k E) (ap is_joined R.is ∙ (running_tells R.task.status R.runs).0) z))
+      (before_last.alone p s l l' t w k E) (steps_limit p s t k l S.private) (steps_end p s t k l S.private) (steps_off p s t k l r.task (λ e. ne (sym e)) S.private)
 
-  know_m : Knows m
-  know_m = steps_know p s t k l E.task E.knows (inr E.collects) E.at E.runs E.can S.private
+  abbrev know_m : Knows m
+  know_m = before_last.known p s l l' t w k E
 
   -- the heap's account after the part's steps, where the accounts are alike for it
   ahead_alike : (n : Ledger) → Knows n → AlikeFor r.task l n → ArePrivate p s n r.task r.fresh × (heap_of (ahead p r n) r.task ≡ heap_of (ahead p r l) r.task)
@@ -158,7 +156,7 @@ module _ (p : ProgramText) (s : SettingsValue) (v v' : Memory) (l l' : Ledger) (
   by Ending K on F C V = goes (on tt) (alike.alike_by p s v l l' t w k h E (on tt) r R.task P ne G Ending K F tt) (owner_by Ending K F C) V
   by Joining K on F C V = goes (on tt) (alike.alike_by p s v l l' t w k h E (on tt) r R.task P ne G Joining K F tt) (owner_by Joining K F C) V
   -- where the root ends nobody else runs
-  by Finishing K on F C V = absurd (off (root_alone m know_m.sound E.root t r.task S.task R.task S.at.task (ap runs S.at.runs) K.root (alike_m.task ∙ R.is) R.runs))
+  by Finishing K on F C V = absurd (ne (sym (root_alone m know_m.sound E.root t r.task S.task R.task S.at.task (ap runs S.at.runs) K.root (alike_m.task ∙ R.is) R.runs)))
   by Halting K on F C V =
       let same = ahead_same p s r m (aside l') (halted K) (ahead_alike m know_m alike_m).0 in
       to p s r v l alive R v' l' (ap (λ (z : State). slice_get z.tasks r.task) K.machine ∙ (alike_m.task ∙ R.is)) (steady_too p s r v l alive R l' (ap (λ hs. slice_get hs r.task) K.heaps ∙ alike_m.heap)) (owner_by Halting K F C)

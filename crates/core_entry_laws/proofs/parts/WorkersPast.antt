@@ -2,7 +2,7 @@
 use Rattle.std.proofs.Common.{◌≡◌, ℕ, true, false, Some, None, is_none, slice_get, List, refl, ap, sym, subst, ◌∙◌}
 use Rattle.std.proofs.lemmas.Bool.{and_parts}
 use Rattle.std.proofs.Common.{length}
-use Rattle.listed.proofs.Options.{none_is, none_of, none_some}
+use Rattle.listed.proofs.Options.{none_is, none_some}
 use Rattle.hh_lang.specs.Form.{ProgramText}
 use Rattle.run_trace.specs.Entry.{EntryValue}
 use Rattle.run_trace.specs.Settings.{SettingsValue}
@@ -18,7 +18,7 @@ use Rattle.run_ledger.specs.declared.data.Ledger.{Ledger}
 use Rattle.run_ledger.specs.Heaps.{heap_of, collected, swept_heap}
 use Rattle.run_ledger.specs.Entries.{refusal, after, is_ready, is_out}
 use Rattle.run_ledger.specs.Journals.{ledger_of, is_legal}
-use Rattle.run_ledger.proofs.Journals.{none_unless, entry_sound, entry_tells, wait_tells, legal_sound}
+use Rattle.run_ledger.proofs.Journals.{none_unless, entry_sound, entry_tells, wait_tells, legal_sound, accepted_on}
 use Rattle.run_ledger.specs.Sound.{SoundLedger}
 use Rattle.run_ledger.proofs.Steps.{heap_of_task, running_at}
 use Rattle.ledger_step_laws.specs.Accounts.{Rests, Knows}
@@ -48,17 +48,14 @@ module _ (p : ProgramText) (s : SettingsValue) (journal : List EntryValue) (lega
   abbrev l : Ledger
   l = ledger_of p s journal
 
-  S : SoundLedger l
+  abbrev S : SoundLedger l
   S = legal_sound p s journal legal
 
   S' : SoundLedger (after p s l e)
   S' = entry_sound p s l e S (ap is_none accepted)
 
-  on : l.end ≡ None
-  on = none_of l.end (entry_tells p s l e (ap is_none accepted)).0
-
   alive : l.machine.end ≡ None
-  alive = legal_alive p s journal legal on
+  alive = legal_alive p s journal legal (accepted_on p s l e accepted)
 
   module _ (v : Memory) (r : Part) (R : WorkerFits p s r v l) where
     abbrev G : FitsAt p s r v l
@@ -102,7 +99,7 @@ sweeps_leave p s journal legal v v' w t given accepted C r R =
     let l : Ledger = ledger_of p s journal in
     let alive = alive p s journal legal e accepted in
     let wait = (wait_tells l t _ (entry_tells p s l e (ap is_none accepted)).2).0 in
-    let rests : Rests l t = legal_idle p s journal legal (on p s journal legal e accepted) t (waiting_stops (slice_get l.machine.tasks t) wait) in
+    let rests : Rests l t = legal_idle p s journal legal (accepted_on p s l e accepted) t (waiting_stops (slice_get l.machine.tasks t) wait) in
     let ne = apart p s journal legal e accepted v r R t rests in
     let L = sweep_changes l t in
     let heap = with_off l t r.task swept_heap (λ q. ne (sym q)) in

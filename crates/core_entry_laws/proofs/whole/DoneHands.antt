@@ -15,9 +15,9 @@ use Rattle.run_ledger.specs.Steps.{task_steps}
 use Rattle.ledger_step_laws.specs.Accounts.{Rests, rested}
 use Rattle.ledger_step_laws.specs.Last.{EndsDone, LastKind, Private, Reading, Writing, Printing, Forking, Ending, Joining, Finishing, Halting, IsOfKind, GoesOn, Runs}
 use Rattle.ledger_step_laws.proofs.Ahead.{with_off}
-use Rattle.ledger_step_laws.proofs.Along.{steps_know}
 use Rattle.ledger_step_laws.proofs.Rested.{rested_worker}
 use Rattle.ledger_step_laws.proofs.Root.{root_alone}
+use Rattle.ledger_step_laws.proofs.BeforeLast as before_last
 use Rattle.core_relation.specs.Whole.{handed}
 use Rattle.core_entry_laws.specs.EntryLaws.{DoneHandsAll}
 use Rattle.core_entry_laws.proofs.whole.HandedBack.{handed_done}
@@ -33,7 +33,7 @@ module _ (p : ProgramText) (s : SettingsValue) (l l' : Ledger) (t w k : ℕ) (E 
       by_runs : (y : Task) → slice_get m.machine.tasks u ≡ Some y → (b : Bool) → is_running (Some y) ≡ b → b ≡ false
       by_runs y is false q = refl
       by_runs y is true q =
-          absurd (ne (root_alone m (steps_know p s t k l E.task E.knows (inr E.collects) E.at E.runs E.can E.splits.private).sound E.root t u E.splits.task y E.splits.at.task (ap runs E.splits.at.runs) D.root is q))
+          absurd (ne (root_alone m (before_last.known p s l l' t w k E).sound E.root t u E.splits.task y E.splits.at.task (ap runs E.splits.at.runs) D.root is q))
 
       by : (o : Option Task) → slice_get m.machine.tasks u ≡ o → is_running o ≡ false
       by None is = refl

@@ -1,7 +1,6 @@
 -- The whole relation past each accepted entry that isn't of steps, from whole to whole: none of them makes the run
 -- done.
-use Rattle.std.proofs.Common.{◌≡◌, ◌+◌, List, ℕ, Bool, true, false, cond, None, Some, is_none, nat_lt, refl, ap, sym, subst, ◌∙◌}
-use Rattle.listed.proofs.Options.{none_of}
+use Rattle.std.proofs.Common.{◌≡◌, ◌+◌, List, ℕ, Bool, true, false, cond, None, Some, nat_lt, refl, sym, subst, ◌∙◌}
 use Rattle.hh_lang.specs.Form.{ProgramText}
 use Rattle.run_trace.specs.Settings.{SettingsValue}
 use Rattle.run_trace.specs.Entry.{EntryValue}
@@ -14,7 +13,7 @@ use Rattle.run_ledger.specs.declared.data.RunEnd.TheVariants.{Pool}
 use Rattle.run_ledger.specs.Heaps.{in_use, with_heap}
 use Rattle.run_ledger.specs.Entries.{refusal, after_kind, chunk_units, with_chunk}
 use Rattle.run_ledger.specs.Journals.{ledger_of}
-use Rattle.run_ledger.proofs.Journals.{entry_tells}
+use Rattle.run_ledger.proofs.Journals.{accepted_on}
 use Rattle.core_relation.specs.Memory.{Memory}
 use Rattle.core_relation.specs.Counts.{IsQuiet}
 use Rattle.core_relation.specs.Whole.{TreeCounts, StandsFor, StandsForAll, handed}
@@ -45,27 +44,24 @@ module _ (p : ProgramText) (s : SettingsValue) (l : Ledger) (on : l.end ≡ None
   quiet_on w Fuel q = refl
 
 module _ (p : ProgramText) (s : SettingsValue) (journal : List EntryValue) (e : EntryValue) (accepted : refusal p s (ledger_of p s journal) e ≡ None) where
-  on : (ledger_of p s journal).end ≡ None
-  on = none_of (ledger_of p s journal).end (entry_tells p s (ledger_of p s journal) e (ap is_none accepted)).0
-
   before : (v : Memory) (c : TreeCounts) → StandsForAll v c (ledger_of p s journal) → StandsFor v c (ledger_of p s journal)
-  before v c W = subst (StandsFor v c) (handed_on (ledger_of p s journal) on) W
+  before v c W = subst (StandsFor v c) (handed_on (ledger_of p s journal) (accepted_on p s (ledger_of p s journal) e accepted)) W
 
 pub took_stands_for : TookStandsFor
 took_stands_for p s journal program legal v v' c c' w t accepted W B N C =
     let e : EntryValue = record { worker = w; kind = Took t } in
-    subst (StandsFor v' c') (sym (heap_on p s (ledger_of p s journal) (on p s journal e accepted) t _)) (past.took_stands_for p s journal program legal v v' c c' w t accepted (before p s journal e accepted v c W) B N C)
+    subst (StandsFor v' c') (sym (heap_on p s (ledger_of p s journal) (accepted_on p s (ledger_of p s journal) e accepted) t _)) (past.took_stands_for p s journal program legal v v' c c' w t accepted (before p s journal e accepted v c W) B N C)
 
 pub quiet_stands_for : QuietStandsFor
 quiet_stands_for p s journal program legal v v' c c' e accepted quiet W B N M C =
-    subst (StandsFor v' c') (sym (quiet_on p s (ledger_of p s journal) (on p s journal e accepted) e.worker e.kind quiet)) (past.quiet_stands_for p s journal program legal v v' c c' e accepted quiet (before p s journal e accepted v c W) B N M C)
+    subst (StandsFor v' c') (sym (quiet_on p s (ledger_of p s journal) (accepted_on p s (ledger_of p s journal) e accepted) e.worker e.kind quiet)) (past.quiet_stands_for p s journal program legal v v' c c' e accepted quiet (before p s journal e accepted v c W) B N M C)
 
 pub sweeps_stand_for : SweepsStandFor
 sweeps_stand_for p s journal program legal v v' c c' w t given accepted W B N begun C =
     let e : EntryValue = record { worker = w; kind = Sweep t given } in
-    subst (StandsFor v' c') (sym (heap_on p s (ledger_of p s journal) (on p s journal e accepted) t _)) (past.sweeps_stand_for p s journal program legal v v' c c' w t given accepted (before p s journal e accepted v c W) B N begun C)
+    subst (StandsFor v' c') (sym (heap_on p s (ledger_of p s journal) (accepted_on p s (ledger_of p s journal) e accepted) t _)) (past.sweeps_stand_for p s journal program legal v v' c c' w t given accepted (before p s journal e accepted v c W) B N begun C)
 
 pub ends_stand_for : EndsStandFor
 ends_stand_for p s journal program legal v v' c c' w t taken given left h h' f accepted W K E none N C =
     let e : EntryValue = record { worker = w; kind = EndOf t taken given left } in
-    subst (StandsFor v' c') (sym (heap_on p s (ledger_of p s journal) (on p s journal e accepted) t _)) (past.ends_stand_for p s journal program legal v v' c c' w t taken given left h h' f accepted (before p s journal e accepted v c W) K E none N C)
+    subst (StandsFor v' c') (sym (heap_on p s (ledger_of p s journal) (accepted_on p s (ledger_of p s journal) e accepted) t _)) (past.ends_stand_for p s journal program legal v v' c c' w t taken given left h h' f accepted (before p s journal e accepted v c W) K E none N C)

@@ -19,7 +19,7 @@ use Rattle.run_ledger.specs.Heaps.{heap_of, or_fresh, with_heap, collected, swep
 use Rattle.run_ledger.specs.Entries.{refusal, after, is_ready, is_out}
 use Rattle.run_ledger.specs.Journals.{ledger_of, is_legal, is_legal_from, after_all, opening}
 use Rattle.run_ledger.proofs.Holders.{tasks_are_held_once}
-use Rattle.run_ledger.proofs.Journals.{none_unless, entry_tells, wait_tells, legal_sound}
+use Rattle.run_ledger.proofs.Journals.{none_unless, entry_tells, wait_tells, legal_sound, accepted_on}
 use Rattle.run_ledger.specs.Sound.{SoundLedger}
 use Rattle.run_ledger.proofs.Steps.{heap_of_task, running_at}
 use Rattle.run_ledger.proofs.Frames.{heap_view}
@@ -97,7 +97,7 @@ module _ (p : ProgramText) (s : SettingsValue) (journal : List EntryValue) (prog
   abbrev l : Ledger
   l = ledger_of p s journal
 
-  S : SoundLedger l
+  abbrev S : SoundLedger l
   S = legal_sound p s journal legal
 
   pub rests_then : (e : EntryValue) → refusal p s l e ≡ None → (t : ℕ) → Rests (after p s l e) t → (heap_of (after p s l e) t).begun ≡ None
@@ -145,7 +145,7 @@ module _ (p : ProgramText) (s : SettingsValue) (journal : List EntryValue) (prog
       let marked = (none_unless (is_some (heap_of l t).marked) _ _ (wait_tells l t _ (entry_tells p s l e (ap is_none accepted)).2).2).0 in
       let L = sweep_changes l t in
       let l' : Ledger = with_heap l t swept_heap in
-      let on : l.end ≡ None = none_of l.end (entry_tells p s l e (ap is_none accepted)).0 in
+      let on : l.end ≡ None = accepted_on p s l e accepted in
       let rests : Rests l t = legal_idle p s journal legal on t (waiting_stops (slice_get l.machine.tasks t) wait) in
       let swept_then : (heap_of l' t).swept ≡ true = swept_heap_at t (marked_heap l.heaps t (slice_get l.heaps t) refl marked).0 (marked_heap l.heaps t (slice_get l.heaps t) refl marked).1 in
       let back : (u : ℕ) → Rests l' u → Rests l u = λ u r. sym (heap_view (λ h. h.worker) l t swept_heap (λ h. refl) u) ∙ r in

@@ -26,12 +26,12 @@ use Rattle.heap_tree.specs.Node.{Node}
 use Rattle.ledger_step_laws.specs.Accounts.{StepsAlone, rested}
 use Rattle.ledger_step_laws.specs.Kinds.{ForksTask, EndsTask}
 use Rattle.ledger_step_laws.specs.Last.{LastKind, Private, Reading, Writing, Printing, Forking, Ending, Joining, Finishing, Halting, IsOfKind, GoesOn, EndsLast, Halts, Splits, Runs, stepped_by}
-use Rattle.ledger_step_laws.proofs.Ahead.{private_alone, steps_alone_all, with_off}
-use Rattle.ledger_step_laws.proofs.Along.{steps_know}
+use Rattle.ledger_step_laws.proofs.Ahead.{private_alone, with_off}
 use Rattle.ledger_step_laws.proofs.Kin.{private_kin, steps_kin}
 use Rattle.ledger_step_laws.proofs.Private.{private_on}
 use Rattle.ledger_step_laws.proofs.Rested.{rested_worker}
 use Rattle.ledger_step_laws.proofs.Split.{worker_step, steps_worker, steps_go}
+use Rattle.ledger_step_laws.proofs.BeforeLast as before_last
 use Rattle.core_relation.specs.Whole.{TreeCounts, TreeCountsStand, state_by, handed}
 use Rattle.core_relation.specs.RanCounts.{node_then, NodesStay, NodeGoes, NodesFork, NodesJoin, TasksOutStay, LetsGo, RanCounts}
 use Rattle.core_entry_laws.proofs.whole.Counts.{node_of, with_steps}
@@ -70,8 +70,8 @@ module _ (p : ProgramText) (s : SettingsValue) (l l' : Ledger) (t w k : ℕ) (E 
   abbrev x : Task
   x = S.task
 
-  alone : StepsAlone l m t
-  alone = steps_alone_all p s t k l (E.knows.sound, E.collects) S.private
+  abbrev alone : StepsAlone l m t
+  alone = before_last.alone p s l l' t w k E
 
   worker : (heap_of l t).worker ≡ Some w
   worker = sym (steps_worker p s t k l S.private) ∙ E.held
@@ -105,7 +105,7 @@ module _ (p : ProgramText) (s : SettingsValue) (l l' : Ledger) (t w k : ℕ) (E 
   privately h N =
       let go = steps_go p s t k l E.task E.knows E.collects E.at E.runs E.can S.private in
       let g = private_on p m.machine t x go.3 S.at.task h in
-      let A : StepsAlone m l' t = subst (λ (z : Ledger). StepsAlone m z t) (sym S.after) (private_alone p m t h (steps_know p s t k l E.task E.knows (inr E.collects) E.at E.runs E.can S.private).sound) in
+      let A : StepsAlone m l' t = subst (λ (z : Ledger). StepsAlone m z t) (sym S.after) (private_alone p m t h (before_last.known p s l l' t w k E).sound) in
       let e : l'.machine ≡ record m.machine { tasks = slice_set m.machine.tasks t g.task; store = g.store } = ap (λ (z : Ledger). z.machine) S.after ∙ (task_step_machine p m t ∙ g.is) in
       stays g.task (ap (λ (z : State). slice_get z.tasks t) e ∙ got_same m.machine.tasks t x g.task S.at.task) g.parent (g.status ∙ S.at.runs) (ap (λ (z : Ledger). (heap_of z t).worker) S.after ∙ (worker_step p s t m h ∙ E.held))
       A.tasks (λ u ne. ap (λ (h : Heap). h.worker) (A.heaps u ne)) N
@@ -296,7 +296,7 @@ module _ (p : ProgramText) (s : SettingsValue) (l l' : Ledger) (t w k : ℕ) (E 
     same_outputs e o = e ∙ (outputs_m ∙ (sym T.outputs ∙ sym o))
 
     private_then : is_private p m.machine t ≡ true → StepsAlone m l' t
-    private_then h = subst (λ (z : Ledger). StepsAlone m z t) (sym S.after) (private_alone p m t h (steps_know p s t k l E.task E.knows (inr E.collects) E.at E.runs E.can S.private).sound)
+    private_then h = subst (λ (z : Ledger). StepsAlone m z t) (sym S.after) (private_alone p m t h (before_last.known p s l l' t w k E).sound)
 
     set_task_out : (m' : State) → l' ≡ stepped_by m m' → TasksOutStay c c' → (u z : ℕ) → c'.task_out u ≡ Some z ↔ (heap_of l' z).worker ≡ Some u
     set_task_out m' e = task_out_same l' (workers_on l' (ap (λ (z : Ledger). (heap_of z t).worker) e ∙ E.held) (λ z ne. ap (λ (y : Ledger). (heap_of y z).worker) e))

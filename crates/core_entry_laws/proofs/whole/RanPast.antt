@@ -8,20 +8,19 @@ use Rattle.run_trace.specs.Settings.{SettingsValue}
 use Rattle.hh_model.specs.declared.data.State.{State}
 use Rattle.hh_model.specs.Effect.{place_in, int_in, object_at, row_of}
 use Rattle.hh_model.specs.Step.{is_waiting, is_joined, is_on_path, owner_of}
-use Rattle.hh_model.proofs.Runs.{running_tells}
 use Rattle.run_ledger.specs.declared.data.Ledger.{Ledger}
 use Rattle.run_ledger.specs.Heaps.{heap_of, or_fresh, let_go}
 use Rattle.run_ledger.specs.Steps.{task_steps}
 use Rattle.run_ledger.specs.Sound.{SoundLedger}
 use Rattle.run_ledger.proofs.Machine.{heap_machine}
-use Rattle.ledger_step_laws.specs.Accounts.{StepsAlone, Knows, rested}
+use Rattle.ledger_step_laws.specs.Accounts.{StepsAlone, rested}
 use Rattle.ledger_step_laws.specs.Kinds.{StoresOne}
 use Rattle.ledger_step_laws.specs.Last.{WritesOther, Halts, LastKind, Private, Reading, Writing, Printing, Forking, Ending, Joining, Finishing, Halting, IsOfKind, GoesOn, Splits, Runs}
-use Rattle.ledger_step_laws.proofs.Ahead.{private_alone, alone_along, steps_alone_all}
-use Rattle.ledger_step_laws.proofs.Along.{steps_know}
+use Rattle.ledger_step_laws.proofs.Ahead.{private_alone, alone_along}
 use Rattle.ledger_step_laws.proofs.Rested.{rested_worker, rested_sound}
 use Rattle.ledger_step_laws.proofs.Split.{worker_step, steps_worker}
 use Rattle.ledger_step_laws.proofs.Wrote.{is_store, is_swap, is_number, waits_rest}
+use Rattle.ledger_step_laws.proofs.BeforeLast as before_last
 use Rattle.core_relation.specs.Memory.{Belongings, Memory}
 use Rattle.core_relation.specs.Stands.{Stands}
 use Rattle.core_relation.specs.Fits.{Part, FitsAt, with_belongings, part_for}
@@ -60,26 +59,17 @@ module _ (p : ProgramText) (s : SettingsValue) (v v' : Memory) (l l' : Ledger) (
   abbrev lt : Ledger
   lt = rested m t
 
-  known : Knows m
-  known = steps_know p s t k l E.task E.knows (inr E.collects) E.at E.runs E.can S.private
-
-  sound : SoundLedger lt
-  sound = rested_sound m t known.sound
+  abbrev sound : SoundLedger lt
+  sound = before_last.rested_stays_sound p s l l' t w k E
 
   rests : (heap_of lt t).worker ≡ None
   rests = rested_worker m t
 
-  idle : is_waiting (slice_get l.machine.tasks t) ≡ false
-  idle = ap is_waiting E.at ∙ (running_tells E.task.status E.runs).1
+  abbrev idle : is_waiting (slice_get l.machine.tasks t) ≡ false
+  idle = before_last.idle_first p s l l' t w k E
 
-  idle_m : is_waiting (slice_get m.machine.tasks t) ≡ false
-  idle_m = ap is_waiting S.at.task ∙ ap (λ st. is_waiting (Some (record S.task { status = st }))) S.at.runs
-
-  idle_t : is_waiting (slice_get lt.machine.tasks t) ≡ false
-  idle_t = ap (λ (z : State). is_waiting (slice_get z.tasks t)) (heap_machine m t let_go) ∙ idle_m
-
-  alone_m : StepsAlone l m t
-  alone_m = steps_alone_all p s t k l (E.knows.sound, E.collects) S.private
+  abbrev idle_t : is_waiting (slice_get lt.machine.tasks t) ≡ false
+  idle_t = before_last.idle_rested p s l l' t w k E
 
   abbrev Both : Type 0
   Both = Stands v' l' × AllNoted v' l'
@@ -90,7 +80,7 @@ module _ (p : ProgramText) (s : SettingsValue) (v v' : Memory) (l l' : Ledger) (
   -- the memory stays, and the last step changes what t owns alone
   stays : v' ≡ v → StepsAlone m l' t → (heap_of l' t).worker ≡ Some w → Both
   stays same A out' =
-      let AA = alone_along p s t l m l' alone_m A in
+      let AA = alone_along p s t l m l' (before_last.alone p s l l' t w k E) A in
       subst (λ (z : Memory). Stands z l' × AllNoted z l') (sym same) (
         steps_alone v l l' t w E.knows.sound V AA (sym (steps_worker p s t k l S.private) ∙ E.held) out' idle,
         steps_note v v l l' t idle AA (λ u ne. refl) (λ i. refl) (λ u. refl) (root_apart v l V t idle) (record { none = (N t).keeps ∙ ap (λ b. b && not (heap_of l t).swept) idle; others = λ u ne. record { keeps = refl; kept = refl; marked = refl } }) N,
@@ -168,7 +158,7 @@ module _ (p : ProgramText) (s : SettingsValue) (v v' : Memory) (l l' : Ledger) (
   }
 
   by : (kind : LastKind) (K : IsOfKind p m l' t S.task S.line kind) → (GoesOn kind → l'.machine.end ≡ None) → FitsAt p s (part_for s t h (taken_by kind k)) v l → (C : Makes p v v' m l' t h S.task S.line kind K) → Marks p v v' m l' t h S.task S.line kind K C → Handed
-  by Private K on F C M = goes (on tt) (stays C (subst (λ (z : Ledger). StepsAlone m z t) (sym S.after) (private_alone p m t K known.sound)) (ap (λ (z : Ledger). (heap_of z t).worker) S.after ∙ (worker_step p s t m K ∙ E.held)))
+  by Private K on F C M = goes (on tt) (stays C (subst (λ (z : Ledger). StepsAlone m z t) (sym S.after) (private_alone p m t K (before_last.known p s l l' t w k E).sound)) (ap (λ (z : Ledger). (heap_of z t).worker) S.after ∙ (worker_step p s t m K ∙ E.held)))
   by Reading K on F C M = goes (on tt) (stays C K.alone (ap (λ (z : Ledger). (heap_of z t).worker) K.goes ∙ E.held))
   by Writing K on F C M = goes (on tt) (writes F K S.line.instr refl C M)
   by Printing K on F C M = goes (on tt) (stays C K.alone (ap (λ (z : Ledger). (heap_of z t).worker) K.goes ∙ E.held))

@@ -1,5 +1,5 @@
 -- The whole relation past an entry of steps.
-use Rattle.std.proofs.Common.{suc, ◌≡◌, ℕ, false, Option, Some, None, is_none, slice_get, refl, ap, subst, ◌∙◌}
+use Rattle.std.proofs.Common.{suc, ◌≡◌, ℕ, false, Option, Some, None, slice_get, refl, subst, ◌∙◌}
 use Rattle.listed.proofs.Options.{none_of}
 use Rattle.run_trace.specs.Entry.{EntryValue}
 use Rattle.run_trace.specs.declared.entry.Kind.TheVariants.{Ran}
@@ -9,7 +9,7 @@ use Rattle.run_ledger.specs.Heaps.{heap_of, or_fresh}
 use Rattle.run_ledger.specs.Steps.{task_steps}
 use Rattle.run_ledger.specs.Entries.{after}
 use Rattle.run_ledger.specs.Journals.{ledger_of}
-use Rattle.run_ledger.proofs.Journals.{entry_tells}
+use Rattle.run_ledger.proofs.Journals.{accepted_on}
 use Rattle.run_ledger.specs.Sound.{collecting}
 use Rattle.ledger_step_laws.proofs.Rested.{rested_view}
 use Rattle.run_ledger.proofs.Use.{entries_use}
@@ -35,7 +35,7 @@ pub ran_stands_for : RanStandsFor
 ran_stands_for p s journal program legal v v' c c' w t k h accepted E handed Q C M N =
     let l : Ledger = ledger_of p s journal in
     let e : EntryValue = record { worker = w; kind = Ran t (suc k) } in
-    let alive : l.end ≡ None = none_of l.end (entry_tells p s l e (ap is_none accepted)).0 in
+    let alive : l.end ≡ None = accepted_on p s l e accepted in
     let W : StandsFor v c l = subst (StandsFor v c) (handed_on l alive) handed in
     let F = part_now p s (part_for s t h (taken_by E.splits.kind k)) v l (alive_machine p s l (after p s l e) t w k E) Q in
     let both = ran_keeps p s v v' l (after p s l e) t w k h E alive W.belongings (whole_notes v c l W) F.fits C M in
