@@ -119,7 +119,7 @@ module _ (h : LeafHeapValue) (from : List (Option Addr)) (ss : List Survivor) (n
   abbrev y : Laying
   y = laying_of h.chunks ss (reverse news)
 
-  told : Told m L
+  abbrev told : Told m L
   told = naming.told h from ss news S T m a O
 
   -- ---- EACH CHUNK

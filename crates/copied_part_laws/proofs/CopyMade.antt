@@ -105,9 +105,6 @@ module _ (p : ProgramText) (st : SettingsValue) (t : ℕ) (h : LeafHeapValue) (v
   pub began : BegunStands V lt t b
   began = B.fits.begun
 
-  pub machine : lt.machine ≡ l.machine
-  machine = heap_machine l t let_go
-
   pub there : (o : Located) → In (objects_in (chunks_of h.chunks)) o → In (objects_in (V.belongings t).chunks) o
   there o i = subst (λ (z : Belongings). In (objects_in z.chunks) o) (sym here) i
 
@@ -126,7 +123,7 @@ module _ (p : ProgramText) (st : SettingsValue) (t : ℕ) (h : LeafHeapValue) (v
   read_words o i =
       let c = stands.contents t o (rested_worker l t) (there o i) in
       let x : Object = c.0 in
-      let e : words_at l.machine (object_name o) ≡ words_of (Some c.0) = ap (λ (m : State). words_of (object_at m.store (object_name o))) (sym machine) ∙ ap words_of c.1 in
+      let e : words_at l.machine (object_name o) ≡ words_of (Some c.0) = ap (λ (m : State). words_of (object_at m.store (object_name o))) (sym (heap_machine l t let_go)) ∙ ap words_of c.1 in
       let r : length c.0.refs ≡ length o.refs = sym (refs_long (Place V lt) o.refs c.0.refs c.2.refs) in
       let n : length c.0.ints ≡ length o.ints = ap (λ zs. length zs) (sym c.2.ints) in
       e ∙ (let q : 2 + length c.0.refs + length c.0.ints ≡ 2 + length o.refs + length o.ints = omega (arith, r, n) in q)

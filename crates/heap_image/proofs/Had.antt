@@ -1,6 +1,7 @@
 -- What the whole text of a picture has.
 use Rattle.std.proofs.Common.{◌≡◌, ◌≤◌, ℕ, Bool, true, false, List, [], ◌∷◌, ◌++◌, length, map, refl, ap, sym, ◌∙◌, inl, inr, arith, subst}
-use Rattle.std.specs.Prelude.{Option, Some, None, ◌==◌, nat_eq}
+use Rattle.std.specs.Prelude.{Option, Some, None, nat_eq}
+use Rattle.std.proofs.lemmas.Bool.{eq-eqb}
 use Rattle.listed.specs.Members.{In}
 use Rattle.listed.proofs.Members.{in_append_left, in_append_right}
 use Rattle.listed.proofs.Places.{in_map}
@@ -28,11 +29,8 @@ behind_title p =
     ++ (map OfRemembered p.fields
     ++ (OfEnd (length p.objects) ∷ Nothing ∷ []))))
 
-same : (n : ℕ) → (n == n) ≡ true
-same n = grind arith
-
 same_fields : (f : Remembered) → same_field (f.task, f.address, f.place) (f.task, f.address, f.place) ≡ true
-same_fields f = rw (same f.task, same f.address, same f.place) refl
+same_fields f = rw (eq-eqb f.task f.task refl, eq-eqb f.address f.address refl, eq-eqb f.place f.place refl) refl
 
 -- OBJECTS
 

@@ -1,9 +1,9 @@
 -- No line of a sound picture's text has a fault.
 use Rattle.std.proofs.Common.{◌≡◌, ◌<◌, ◌≤◌, ℕ, true, false, List, [], cond, length, map, refl, ap, sym, ◌∙◌, inl, inr, ◌⊎◌, arith}
-use Rattle.std.specs.Prelude.{Option, Some, None, ◌==◌, not, is_some}
+use Rattle.std.specs.Prelude.{Option, Some, None, not, is_some}
 use Rattle.std.specs.List.{list_any}
 use Rattle.std.proofs.lemmas.List.{length-map}
-use Rattle.std.proofs.lemmas.Bool.{lt-ltb}
+use Rattle.std.proofs.lemmas.Bool.{eq-eqb, lt-ltb}
 use Rattle.listed.specs.Members.{In}
 use Rattle.image_check.specs.declared.line.Task.{Task}
 use Rattle.image_check.specs.declared.line.Chunk.{Chunk}
@@ -192,11 +192,8 @@ module _ (p : Picture) (s : IsSoundPicture p) (w : Whole) (all : HasAll p w) whe
 
   -- THE END
 
-  same : (n : ℕ) → (n == n) ≡ true
-  same n = grind arith
-
   pub end_clear : cause_on w (fields_read p p.fields) false (OfEnd (length p.objects)) ≡ None
   end_clear =
       formed w (fields_read p p.fields) (OfEnd (length p.objects)) (behind_fields p p.fields) (position 5 0 0 0) refl refl refl
       (lower (behind_fields p p.fields) (position 5 0 0 0) (fields_low p p.fields))
-      (rw (length-map {B = ℕ × ℕ} p.objects (λ (o : Picked). (o.address, length o.references)), same (length p.objects)) refl)
+      (rw (length-map {B = ℕ × ℕ} p.objects (λ (o : Picked). (o.address, length o.references)), eq-eqb (length p.objects) (length p.objects) refl) refl)

@@ -90,7 +90,7 @@ module _ (p : ProgramText) (l : Ledger) (t : ℕ) (S : SoundAt t l) (can : can_s
   abbrev k : Ledger
   k = stepped_to (allocated_in p l t) t (step p l.machine t)
 
-  machine_is : k.machine ≡ step p l.machine t
+  abbrev machine_is : k.machine ≡ step p l.machine t
   machine_is = stepped_machine (allocated_in p l t) t (step p l.machine t)
 
   heap_stays : (u : ℕ) (x : Task) → slice_get l.machine.tasks u ≡ Some x → waits x.status ≡ true → slice_get k.machine.tasks u ≡ Some x → slice_get k.heaps u ≡ slice_get l.heaps u

@@ -61,7 +61,7 @@ module _ (w : SharedValue) (I : IsSharedValue w) (on : (accounts w).end ≡ None
   abbrev l : Ledger
   l = accounts w
 
-  S : StandsFor (value_of w) (tree_counts_of w) l
+  abbrev S : StandsFor (value_of w) (tree_counts_of w) l
   S = stands_now w I on
 
   pub joined_is : (t : ℕ) → is_state_joined (state_in w.tree t) ≡ joined l.machine.tasks t

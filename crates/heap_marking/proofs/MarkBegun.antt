@@ -3,7 +3,6 @@
 use Rattle.std.proofs.Common.{◌≡◌, ◌⊎◌, ◌↔◌, ℕ, suc, ◌+◌, ◌<◌, ◌≤◌, ◌++◌, true, Some, None, List, [], ◌∷◌, length, slice_get, inl, inr, refl, ap, sym, subst, ◌∙◌}
 use Rattle.listed.proofs.Members.{contains_from_in, in_append_cases, in_append_left, in_append_right, in_from_contains}
 use Rattle.walk_laws.proofs.Reached.{reached_more, reached_start, reached_within}
-use Rattle.hh_model.specs.declared.data.Task.{Task}
 use Rattle.hh_model.specs.Step.{is_waiting}
 use Rattle.path_laws.proofs.Leaves.{wait_there, waiting_stops}
 use Rattle.run_ledger.specs.declared.data.Ledger.{Ledger}
@@ -24,11 +23,10 @@ use Rattle.core_relation.specs.Begins.{IsAt, IsRoot, LeadsAt}
 use Rattle.core_relation.specs.Marking.{GoesOn}
 use Rattle.core_entry_laws.specs.Now.{IsReachedNow, StartsNow}
 use Rattle.core_relation.specs.Since.{kept}
-use Rattle.core_relation.specs.Whole.{StandsFor}
 use Rattle.core_entry_laws.proofs.notes.SnapshotNow.{snapshot_now}
 use Rattle.task_homes.specs.declared.task_at_rest.Rest.{Rest}
 use Rattle.shared_value.specs.Objects.{chunks_of}
-use Rattle.shared_value.specs.SharedValue.{SharedValue, accounts, belongings_in, rest_at, tree_counts_of, value_of}
+use Rattle.shared_value.specs.SharedValue.{SharedValue, accounts, belongings_in, rest_at, value_of}
 use Rattle.shared_value.specs.Stands.{HeapForm, IsSharedValue}
 use Rattle.shared_value.proofs.BeforeTheEnd.{stands_now}
 use Rattle.shared_value.proofs.ObjectCounts.{objects_counted}
@@ -40,6 +38,14 @@ pub length_chunks : (cs : List ChunkValue) → length (chunks_of cs) ≡ length 
 length_chunks [] = refl
 length_chunks (c ∷ cs) = ap suc (length_chunks cs)
 
+-- a task that waits is held by no worker
+pub waiting_rests : (w : SharedValue) → IsSharedValue w → (accounts w).end ≡ None → (t : ℕ) → is_waiting (slice_get (accounts w).machine.tasks t) ≡ true → Rests (accounts w) t
+waiting_rests w I on t wait = legal_idle w.program w.settings w.journal.items I.legal on t (waiting_stops (slice_get (accounts w).machine.tasks t) wait)
+
+-- the chunks of a heap at rest
+pub chunks_at_rest : (w : SharedValue) (t : ℕ) (r : Rest) → rest_at w.rests t ≡ Some r → ((value_of w).belongings t).chunks ≡ chunks_of r.heap.chunks
+chunks_at_rest w t r there = ap (λ o. (belongings_in o).chunks) there ∙ belongings_chunks r
+
 module _ (w : SharedValue) (I : IsSharedValue w) (on : (accounts w).end ≡ None) (t : ℕ) (r : Rest) (there : rest_at w.rests t ≡ Some r) (wait : is_waiting (slice_get (accounts w).machine.tasks t) ≡ true) (keeps : ((value_of w).noted t).keeps ≡ true) where
   abbrev l : Ledger
   l = accounts w
@@ -50,17 +56,11 @@ module _ (w : SharedValue) (I : IsSharedValue w) (on : (accounts w).end ≡ None
   abbrev ks : List ChunkValue
   ks = r.heap.chunks
 
-  stands : StandsFor v (tree_counts_of w) l
-  stands = stands_now w I on
-
-  pub rests : Rests l t
-  rests = legal_idle w.program w.settings w.journal.items I.legal on t (waiting_stops (slice_get l.machine.tasks t) wait)
-
-  form : HeapForm r.heap
+  abbrev form : HeapForm r.heap
   form = I.heaps t r there
 
-  pub chunks_are : (v.belongings t).chunks ≡ chunks_of ks
-  chunks_are = ap (λ o. (belongings_in o).chunks) there ∙ belongings_chunks r
+  abbrev chunks_are : (v.belongings t).chunks ≡ chunks_of ks
+  chunks_are = chunks_at_rest w t r there
 
   pub to_belongings : (o : Located) → In (objects_in (chunks_of ks)) o → In (objects v t) o
   to_belongings o i = subst (λ cs. In (objects_in cs) o) (sym chunks_are) i
@@ -130,12 +130,11 @@ module _ (w : SharedValue) (I : IsSharedValue w) (on : (accounts w).end ≡ None
     from_now : (a : Addr) → IsReachedNow v l t a → IsInSnapshot f (kept v t) a
     from_now a g = reached_within (StartsNow v l t) (LeadsAt (v.belongings t)) (IsInSnapshot f (kept v t)) start_then more_then a g
 
-    task : (x : Task) × (slice_get l.machine.tasks t ≡ Some x)
-    task = wait_there (slice_get l.machine.tasks t) wait
-
     pub snapshot_is : (o : Located) → In (objects v t) o → IsInSnapshot f (kept v t) o.at ↔ In (heap_of l t).snapshot (object_name o)
     snapshot_is o i =
-        let s = snapshot_now v l t task.0 (legal_sound w.program w.settings w.journal.items I.legal) stands.belongings task.1 wait rests (stands.since t keeps) o i in
+        let x = wait_there (slice_get l.machine.tasks t) wait in
+        let S = stands_now w I on in
+        let s = snapshot_now v l t x.0 (legal_sound w.program w.settings w.journal.items I.legal) S.belongings x.1 wait (waiting_rests w I on t wait) (S.since t keeps) o i in
         ((λ g. s.0 (to_now o.at g)), (λ n. from_now o.at (s.1 n)))
 
     -- what the marking has then

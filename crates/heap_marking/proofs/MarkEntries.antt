@@ -6,7 +6,6 @@ use Rattle.std.proofs.lemmas.Bool.{cases_lt}
 use Rattle.listed.proofs.Members.{got_other, got_same, got_within}
 use Rattle.listed.proofs.Options.{none_of}
 use Rattle.listed.proofs.Places.{got_set}
-use Rattle.path_laws.proofs.Leaves.{waiting_stops}
 use Rattle.run_trace.specs.declared.entry.Kind.TheVariants.{Mark, More}
 use Rattle.run_trace.specs.Entry.{EntryValue}
 use Rattle.run_trace.specs.Settings.{SettingsValue}
@@ -28,7 +27,6 @@ use Rattle.write_barrier.specs.declared.sets.SetOf.{SetOf}
 use Rattle.inner_mark_gc.specs.MarkingValue.{IsAllMarked, IsMarking, IsOf, MarkingValue, marked_of}
 use Rattle.inner_mark_gc.specs.Snapshot.{Fork, IsSince}
 use Rattle.ledger_step_laws.proofs.Ahead.{heap_then, with_at}
-use Rattle.ledger_step_laws.proofs.Split.{legal_idle}
 use Rattle.core_relation.specs.Marking.{GoesOn}
 use Rattle.core_relation.specs.Since.{kept}
 use Rattle.task_homes.specs.HomesValue.{kept_of}
@@ -38,18 +36,17 @@ use Rattle.shared_value.specs.Entered.{refused}
 use Rattle.shared_value.specs.Fits.{AllFit}
 use Rattle.task_homes.specs.RestingHeaps.{refs_in}
 use Rattle.shared_value.specs.Roots.{heaps_of, sources_of}
-use Rattle.shared_value.specs.SharedValue.{SharedValue, accounts, belongings_in, marks_at, noted_in, rest_at, value_of}
+use Rattle.shared_value.specs.SharedValue.{SharedValue, accounts, marks_at, noted_in, rest_at, value_of}
 use Rattle.shared_value.specs.Stands.{IsSharedValue}
 use Rattle.shared_value.proofs.HeapWords.{words_are}
 use Rattle.shared_value.proofs.EntryMade.{entry_on}
 use Rattle.shared_value.proofs.FirstCauses.{found_first, nothing_first}
 use Rattle.shared_value.proofs.BeforeTheEnd.{stands_now}
 use Rattle.shared_value.proofs.CausesTold.{on_is, refused_is}
-use Rattle.shared_value.proofs.FieldsLed.{belongings_chunks}
 use Rattle.heap_marking.specs.MarkCauses.{marking_cause, waiting_cause, words_cause}
 use Rattle.heap_marking.specs.Marking.{marked_more}
 use Rattle.heap_marking.specs.Starts.{IsBegun, starts_by, starts_in, starts_of}
-use Rattle.heap_marking.proofs.MarkBegun.{marks_begin}
+use Rattle.heap_marking.proofs.MarkBegun.{chunks_at_rest, marks_begin, waiting_rests}
 use Rattle.heap_marking.proofs.MarkCauses.{marks_refuse}
 use Rattle.heap_marking.proofs.MarkCounts.{marks_count}
 use Rattle.heap_marking.proofs.MarkedHeap.{further, keeps, wait}
@@ -141,8 +138,8 @@ pub words_now : (w : SharedValue) (I : IsSharedValue w) (t : ℕ) (on : (account
 words_now w I t on free r there =
     let l : Ledger = accounts w in
     let wait = homes.wait w I on t free in
-    words_are (value_of w) l t r.heap.chunks (stands_now w I on).belongings (legal_idle w.program w.settings w.journal.items I.legal on t (waiting_stops (slice_get l.machine.tasks t) wait))
-    (ap (λ o. (belongings_in o).chunks) there ∙ belongings_chunks r) (I.heaps t r there).tidy
+    words_are (value_of w) l t r.heap.chunks (stands_now w I on).belongings (waiting_rests w I on t wait)
+    (chunks_at_rest w t r there) (I.heaps t r there).tidy
 
 -- what it keeps
 pub kept_noted : (o : Option SetOf) → kept_of o ≡ (noted_in o).kept

@@ -3,7 +3,6 @@ use Rattle.std.proofs.Common.{◌≡◌, ◌⊎◌, ◌↔◌, ℕ, ◌+◌, ◌
 use Rattle.listed.proofs.Members.{contains_from_in, in_from_contains}
 use Rattle.listed.proofs.Places.{all_from}
 use Rattle.walk_laws.proofs.Reached.{reached_more, reached_within}
-use Rattle.hh_model.specs.declared.data.Task.{Task}
 use Rattle.hh_model.specs.Step.{is_waiting}
 use Rattle.path_laws.proofs.Leaves.{wait_there}
 use Rattle.run_ledger.specs.declared.data.Ledger.{Ledger}
@@ -46,17 +45,16 @@ module _ (w : SharedValue) (I : IsSharedValue w) (on : (accounts w).end ≡ None
   abbrev ks : List ChunkValue
   ks = r.heap.chunks
 
-  stands : StandsFor v (tree_counts_of w) l
+  abbrev stands : StandsFor v (tree_counts_of w) l
   stands = stands_now w I on
 
-  form : HeapForm r.heap
+  abbrev form : HeapForm r.heap
   form = I.heaps t r there
 
-  task : (x : Task) × (slice_get l.machine.tasks t ≡ Some x)
-  task = wait_there (slice_get l.machine.tasks t) wait
-
   now : (q : Located) → In (objects v t) q → IsReachedNow v l t q.at ↔ In (heap_of l t).snapshot (object_name q)
-  now = snapshot_now v l t task.0 (legal_sound w.program w.settings w.journal.items I.legal) stands.belongings task.1 wait (begun.rests w I on t r there wait keeps) (stands.since t keeps)
+  now =
+      let x = wait_there (slice_get l.machine.tasks t) wait in
+      snapshot_now v l t x.0 (legal_sound w.program w.settings w.journal.items I.legal) stands.belongings x.1 wait (begun.waiting_rests w I on t wait) (stands.since t keeps)
 
   reached_held : (a : Addr) → IsInSnapshot G.fork (kept v t) a → HasObjectAt G.fork.heap a
   reached_held a g = reached_within (Starts G.fork (kept v t)) (Leads G.fork.heap) (HasObjectAt G.fork.heap) (λ x s. s.0) (λ b x h d. d.1) a g
@@ -77,7 +75,7 @@ module _ (w : SharedValue) (I : IsSharedValue w) (on : (accounts w).end ≡ None
       let q = G.were a d.1 in
       let from : HasObjectAt ks b = subst (HasObjectAt ks) o.2 (begun.is_held w I on t r there wait keeps o.0 o.1) in
       let to : HasObjectAt ks a = subst (HasObjectAt ks) q.2 (begun.is_held w I on t r there wait keeps q.0 q.1) in
-      let mine : v.owner a.chunk ≡ Some t = ap (λ (z : Addr). v.owner z.chunk) (sym q.2) ∙ lies_in v l stands.belongings t q.0 (begun.rests w I on t r there wait keeps) q.1 in
+      let mine : v.owner a.chunk ≡ Some t = ap (λ (z : Addr). v.owner z.chunk) (sym q.2) ∙ lies_in v l stands.belongings t q.0 (begun.waiting_rests w I on t wait) q.1 in
       let refs : (cell_of ks b).refs ≡ o.0.refs = ap (λ x. (cell_of ks x).refs) (sym o.2) ∙ begun.refs_are w I on t r there wait keeps o.0 o.1 in
       elim (G.overwritten o.0 a o.1 mine (subst (λ z. Leads G.fork.heap z a) (sym o.2) d)) [
         | inl i ↦ inl (from, to, contains_from_in (cell_of ks b).refs (Some a) (subst (λ rs. In rs (Some a)) (sym refs) i))
@@ -97,8 +95,8 @@ module _ (w : SharedValue) (I : IsSharedValue w) (on : (accounts w).end ≡ None
   -- what was marked further can go on
   pub goes_further : (m' : MarkingValue) → IsOf ks (kept v t) m' → ((f : Fork) → IsSince f (kept v t) ks → IsMarking f (kept v t) m → IsMarking f (kept v t) m') → GoesOn v t (heap_of l t).snapshot m'
   goes_further m' own marks =
-      let count : object_count ks ≡ length (objects v t) = objects_counted ks form.tidy ∙ ap (λ cs. length (objects_in cs)) (sym (begun.chunks_are w I on t r there wait keeps)) in
-      let chunks : length ks ≡ length (v.belongings t).chunks = sym (begun.length_chunks ks) ∙ ap (λ cs. length cs) (sym (begun.chunks_are w I on t r there wait keeps)) in
+      let count : object_count ks ≡ length (objects v t) = objects_counted ks form.tidy ∙ ap (λ cs. length (objects_in cs)) (sym (begun.chunks_at_rest w t r there)) in
+      let chunks : length ks ≡ length (v.belongings t).chunks = sym (begun.length_chunks ks) ∙ ap (λ cs. length cs) (sym (begun.chunks_at_rest w t r there)) in
       record {
         fork = G.fork;
         marks = marks G.fork is_since G.marks;
@@ -117,8 +115,8 @@ module _ (w : SharedValue) (I : IsSharedValue w) (on : (accounts w).end ≡ None
   -- WHAT IT ASKS: what it has found lies in the heap
   pub own : IsOf ks (kept v t) m
   own =
-      let count : object_count ks ≡ length (objects v t) = objects_counted ks form.tidy ∙ ap (λ cs. length (objects_in cs)) (sym (begun.chunks_are w I on t r there wait keeps)) in
-      let chunks : length ks ≡ length (v.belongings t).chunks = sym (begun.length_chunks ks) ∙ ap (λ cs. length cs) (sym (begun.chunks_are w I on t r there wait keeps)) in
+      let count : object_count ks ≡ length (objects v t) = objects_counted ks form.tidy ∙ ap (λ cs. length (objects_in cs)) (sym (begun.chunks_at_rest w t r there)) in
+      let chunks : length ks ≡ length (v.belongings t).chunks = sym (begun.length_chunks ks) ∙ ap (λ cs. length cs) (sym (begun.chunks_at_rest w t r there)) in
       record {
         room = record {
           each = λ a c. (is_since.objects a).0 (reached_held a (G.marks.each a c));
@@ -137,13 +135,13 @@ module _ (w : SharedValue) (I : IsSharedValue w) (on : (accounts w).end ≡ None
 
   -- and each reference into a chunk of the heap leads to an object
   pub closed : IsClosed ks
-  closed = is_closed v l stands.belongings t (begun.rests w I on t r there wait keeps) ks (begun.chunks_are w I on t r there wait keeps) form.shaped.apart form.near
+  closed = is_closed v l stands.belongings t (begun.waiting_rests w I on t wait) ks (begun.chunks_at_rest w t r there) form.shaped.apart form.near
 
   -- WHEN NOTHING IS LEFT
   pub left_is : MarksStand v l t (marked_of m) → IsAllMarked G.fork (kept v t) m ↔ (left_in (heap_of l t) ≡ 0)
   left_is M =
       let S = snapshots_are_held w.program w.settings w.journal.items t I.legal wait in
-      let all = marks_are_all v l t (marked_of m) stands.belongings (begun.rests w I on t r there wait keeps) S.once
+      let all = marks_are_all v l t (marked_of m) stands.belongings (begun.waiting_rests w I on t wait) S.once
       (λ n i. in_from_contains (held_in (heap_of l t)) n (S.held n (contains_from_in (heap_of l t).snapshot n i))) M in (
         (λ a. all.1 (λ q i n. in_from_contains (marked_of m) q.at (a q.at ((G.snapshot q i).1 n)))),
         (λ e a g.

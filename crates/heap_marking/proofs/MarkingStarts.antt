@@ -8,7 +8,7 @@ use Rattle.hh_model.specs.declared.data.Status.TheVariants.{Running, Waiting, En
 use Rattle.hh_model.specs.declared.data.Task.{Task}
 use Rattle.hh_model.specs.declared.data.Name.{Name}
 use Rattle.hh_model.specs.Step.{is_waiting, waits}
-use Rattle.path_laws.proofs.Leaves.{wait_there, waiting_stops}
+use Rattle.path_laws.proofs.Leaves.{wait_there}
 use Rattle.run_ledger.specs.declared.data.Ledger.{Ledger}
 use Rattle.object_layout.specs.declared.word.Addr.{Addr}
 use Rattle.object_layout.specs.Chunks.{has_chunk}
@@ -21,7 +21,6 @@ use Rattle.remembered_set.specs.declared.remembered.Source.{Source}
 use Rattle.remembered_set.specs.Moved.{AreFields, into, targets_of}
 use Rattle.leaf_copy_gc.specs.Survivors.{references_in}
 use Rattle.ledger_step_laws.specs.Accounts.{Rests}
-use Rattle.ledger_step_laws.proofs.Split.{legal_idle}
 use Rattle.core_relation.specs.Begins.{AreRoots, IsAt}
 use Rattle.core_relation.specs.Reads.{FramesAreRead, HoldsRead}
 use Rattle.core_relation.specs.Stands.{Place, Stands}
@@ -40,7 +39,6 @@ use Rattle.shared_value.proofs.BeforeTheEnd.{stands_now}
 use Rattle.shared_value.proofs.RootsHeld as held
 use Rattle.shared_value.proofs.RootsHeld.{into_tells, into_there}
 use Rattle.shared_value.proofs.RootsByAccounts.{read_at_rest}
-use Rattle.shared_value.proofs.FieldsLed.{belongings_chunks}
 use Rattle.shared_value.proofs.FieldsNoted.{noted_sources}
 use Rattle.heap_marking.specs.Marking.{IsStart}
 use Rattle.heap_marking.specs.Starts.{registers_of, starts_by, starts_in, starts_of}
@@ -95,11 +93,11 @@ module _ (w : SharedValue) (I : IsSharedValue w) (on : (accounts w).end ≡ None
   W : Stands v l
   W = (stands_now w I on).belongings
 
-  rests : Rests l t
-  rests = legal_idle w.program w.settings w.journal.items I.legal on t (waiting_stops (slice_get l.machine.tasks t) wait)
+  abbrev rests : Rests l t
+  rests = begun.waiting_rests w I on t wait
 
-  here : (v.belongings t).chunks ≡ chunks_of ks
-  here = ap (λ o. (belongings_in o).chunks) there ∙ belongings_chunks r
+  abbrev here : (v.belongings t).chunks ≡ chunks_of ks
+  here = begun.chunks_at_rest w t r there
 
   frames_are : (v.belongings t).frames ≡ seen_frames r.work
   frames_are = ap (λ o. (belongings_in o).frames) there ∙ belongings_frames r

@@ -40,7 +40,7 @@ tree_same ts = record {
 
 -- a running task is written, and still has neither forked nor joined
 module _ (ts : List Task) (t : ℕ) (z y : Task) (is : slice_get ts t ≡ Some z) (run : is_running (Some z) ≡ true) (pp : y.parent ≡ z.parent) (oy : is_over y.status ≡ false) (wy : waits y.status ≡ false) where
-  tells : (is_over z.status ≡ false) × (waits z.status ≡ false)
+  abbrev tells : (is_over z.status ≡ false) × (waits z.status ≡ false)
   tells = running_tells z.status run
 
   ts' : List Task
@@ -69,7 +69,7 @@ module _ (ts : List Task) (t : ℕ) (z y : Task) (is : slice_get ts t ≡ Some z
 
 -- a fork
 module _ (ts : List Task) (edges : List Edge) (K : TreeOf ts edges) (t g h : ℕ) (z : Task) (is : slice_get ts t ≡ Some z) (run : is_running (Some z) ≡ true) where
-  over : (is_over z.status ≡ false) × (waits z.status ≡ false)
+  abbrev over : (is_over z.status ≡ false) × (waits z.status ≡ false)
   over = running_tells z.status run
 
   abbrev w : Task

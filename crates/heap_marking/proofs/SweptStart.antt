@@ -36,7 +36,6 @@ use Rattle.shared_value.specs.SharedValue.{SharedValue, accounts, belongings_by,
 use Rattle.shared_value.specs.Stands.{HeapForm, IsSharedValue}
 use Rattle.shared_value.proofs.HeapCounts.{counted_from}
 use Rattle.shared_value.proofs.HeapForms.{reserved_none}
-use Rattle.shared_value.proofs.FieldsLed.{belongings_chunks}
 use Rattle.shared_value.proofs.BeforeTheEnd.{stands_now}
 use Rattle.heap_marking.specs.MarkCauses.{marking_cause}
 use Rattle.heap_marking.specs.MarkStand.{StandsMarked}
@@ -83,11 +82,11 @@ module _ (w : SharedValue) (I : IsSharedValue w) (on : (accounts w).end ≡ None
   pub Z : StandsMarked w t
   Z = marks_stand w t I on free
 
-  pub S : StandsFor v (tree_counts_of w) l
+  abbrev pub S : StandsFor v (tree_counts_of w) l
   S = stands_now w I on
 
   pub rests : Rests l t
-  rests = begun.rests w I on t Z.rest Z.there Z.wait Z.keeps
+  rests = begun.waiting_rests w I on t Z.wait
 
   pub M : MarkedBy v l t (Some Z.marks)
   M = subst (MarkedBy v l t) Z.at (S.marks t Z.keeps)
@@ -102,7 +101,7 @@ module _ (w : SharedValue) (I : IsSharedValue w) (on : (accounts w).end ≡ None
   here = ap belongings_in Z.there
 
   pub chunks_here : (v.belongings t).chunks ≡ chunks_of Z.rest.heap.chunks
-  chunks_here = ap (λ (h : Belongings). h.chunks) here ∙ belongings_chunks Z.rest
+  chunks_here = begun.chunks_at_rest w t Z.rest Z.there
 
   pub laid : AreLaidOut (chunks_of Z.rest.heap.chunks) a.reserved
   laid = subst (λ cs. AreLaidOut cs a.reserved) chunks_here H.laid

@@ -37,7 +37,7 @@ module _ (w : SharedValue) (I : IsSharedValue w) (on : (accounts w).end ≡ None
   abbrev v : Memory
   v = value_of w
 
-  S : StandsFor v (tree_counts_of w) l
+  abbrev S : StandsFor v (tree_counts_of w) l
   S = stands_now w I on
 
   tells : (is_state_waiting (option_map (λ m. m.state) (slice_get w.tree t)) ≡ true) × ((noted_in (slice_get w.sets t)).keeps ≡ true)

@@ -111,9 +111,6 @@ module _ (w : SharedValue) (I : IsSharedValue w) (t : ℕ) where
   abbrev l : Ledger
   l = accounts w
 
-  same_machine : (handed l).machine ≡ l.machine
-  same_machine = (goes_by l l.end).machine
-
   pub runs_is : is_state_running (option_map (λ m. m.state) (slice_get w.tree t)) ≡ is_running (slice_get l.machine.tasks t)
   runs_is = node_now w I (λ n x. is_state_running (option_map (λ (m : Node). m.state) n) ≡ is_running x) refl (λ x worker. by_status x.status worker) t
 
@@ -143,7 +140,7 @@ module _ (w : SharedValue) (I : IsSharedValue w) (t : ℕ) where
     pub words_kept : (r : Rest) → rest_at w.rests t ≡ Some r → held_words r.heap.chunks ≡ words_sum l.machine (held_unless_running l t)
     words_kept r there =
         sym (words_are (value_of w) (handed l) t r.heap.chunks I.stands.belongings rests (here_by (Some r) there ∙ belongings_chunks r) (I.heaps t r there).tidy)
-        ∙ ap₂ (λ (m : State) ns. words_sum m ns) same_machine (handed_held l t ∙ sym kept_is)
+        ∙ ap₂ (λ (m : State) ns. words_sum m ns) (goes_by l l.end).machine (handed_held l t ∙ sym kept_is)
 
     -- without a home it holds nothing
     pub nothing_kept : rest_at w.rests t ≡ None → held_unless_running l t ≡ []

@@ -87,13 +87,10 @@ module _ (w : SharedValue) (k : ℕ) (p : Private) (I : IsSharedValue w) (F : Fi
   abbrev pub x : Task
   x = (link.A w k p I F on).task
 
-  here : v'.belongings t ≡ h
-  here = at_belongings v t h
-
   -- ITS REGISTERS
   frames : FramesAreRead (Place v' L) (frames_down p.frames) (x.top ∷ x.below)
   frames =
-      subst (λ (z : Belongings). FramesAreRead (Place v' L) z.frames (x.top ∷ x.below)) here
+      subst (λ (z : Belongings). FramesAreRead (Place v' L) z.frames (x.top ∷ x.below)) (at_belongings v t h)
       (subst (HoldsRead (Place v' L) (v'.belongings t) x) (link.run_status w k p I F on) ((link.W w k p I F on).tasks t x (link.at_rest w k p I F on) (link.is w k p I F on)))
 
   pub frame : FrameIsRead (Place v' L) p.frames.top x.top

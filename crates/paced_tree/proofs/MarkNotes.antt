@@ -37,9 +37,6 @@ module _ (w w' : SharedValue) (k t : ℕ) (I : IsSharedValue w) (E : Enters w w'
   waited : is_waiting (slice_get l.machine.tasks t) ≡ true
   waited = (wait_tells l t _ (entry_tells w.program w.settings l (record { worker = k; kind = Mark t }) (ap is_none free)).2).0
 
-  sound : SoundLedger l
-  sound = legal_sound w.program w.settings w.journal.items I.legal
-
   pub mark_goes : (accounts w').end ≡ None
   mark_goes = ap (λ (m : Ledger). m.end) is ∙ (heap_end l t begins ∙ entry_on w (record { worker = k; kind = Mark t }) free)
 
@@ -49,5 +46,6 @@ module _ (w w' : SharedValue) (k t : ℕ) (I : IsSharedValue w) (E : Enters w w'
   pub mark_marked : is_some (heap_of (accounts w') t).marked ≡ true
   mark_marked =
       let lt : t < length l.machine.tasks = made_by l.machine.tasks t (slice_get l.machine.tasks t) refl waited in
+      let sound : SoundLedger l = legal_sound w.program w.settings w.journal.items I.legal in
       let h = got_some l.heaps t (omega (arith, sound.lengths, lt)) in
       ap (λ (m : Ledger). is_some (heap_of m t).marked) is ∙ ap (λ o. is_some (or_fresh o).marked) (with_at l t begins ∙ ap (heap_then begins) h.1)

@@ -16,7 +16,7 @@ use Rattle.hh_model.specs.declared.data.State.{State}
 use Rattle.hh_model.specs.Effect.{Goes, Stops, object_at, onward, or_trap, read_effect, with_ref, ref_in}
 use Rattle.hh_model.specs.Names.{task_names, refs_at, refs_of}
 use Rattle.hh_model.specs.Precedence.{Precedes, precedes}
-use Rattle.hh_model.specs.Step.{ended_by, is_running, is_waiting, is_joined, joined, parents, path_in, is_on_path, owner_of, run, run_from, start, setting, step, strand_of, child, ended_task, result_of}
+use Rattle.hh_model.specs.Step.{ended_by, is_running, is_waiting, joined, parents, path_in, is_on_path, owner_of, run, run_from, start, setting, step, strand_of, child, ended_task, result_of}
 use Rattle.path_laws.specs.ReadLaws.{ReadsFreely, OwnReadsGo, IsStop, StopsNameOwners}
 use Rattle.hh_model.specs.Store.{IsStored}
 use Rattle.hh_model.proofs.Paths.{path_itself}
@@ -37,9 +37,6 @@ pub run_disentangled : (p : ProgramText) (limit : ℕ) (ts : List ℕ) → Disen
 run_disentangled p limit ts = disentangled_from p (start p limit) ts (start_is_fork_join_state p limit) (start_disentangled p limit)
 
 module _ (m : State) (K : IsForkJoinState m) (t : ℕ) (x : Task) (is : slice_get m.tasks t ≡ Some x) (run' : is_running (Some x) ≡ true) where
-  live : joined m.tasks t ≡ false
-  live = ap is_joined is ∙ (running_tells x.status run').0
-
   idle : waiting m.tasks t ≡ false
   idle = ap is_waiting is ∙ (running_tells x.status run').1
 

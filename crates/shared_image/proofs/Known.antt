@@ -57,7 +57,7 @@ module _ (w : SharedValue) (I : IsSharedValue w) where
   pub tree : TreeOf T k.machine.edges
   tree = subst (λ (m : State). TreeOf m.tasks m.edges) (sym same) (tree_of w I)
 
-  ran : l.machine ≡ run w.program (field_limit w.settings.version) (tasks_of w.journal.items)
+  abbrev ran : l.machine ≡ run w.program (field_limit w.settings.version) (tasks_of w.journal.items)
   ran = machine_is_run w.program w.settings w.journal.items
 
   pub root : HasOneRoot T

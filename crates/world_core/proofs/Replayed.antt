@@ -1,6 +1,7 @@
 -- A replay takes entries one by one: what is left of them is refused where the whole is.
-use Rattle.std.proofs.Common.{◌≡◌, ℕ, suc, ◌+◌, ◌<◌, true, false, List, [], ◌∷◌, ◌++◌, drop, get_or, length, take, refl, ap, sym, subst, ◌∙◌, add-one, append_assoc}
-use Rattle.std.proofs.Math.Seq.{drop-cons, take-suc}
+use Rattle.std.proofs.Common.{◌≡◌, ℕ, ◌+◌, ◌<◌, true, false, List, [], ◌∷◌, ◌++◌, drop, get_or, length, take, refl, ap, sym, subst, ◌∙◌, add-one, append_assoc}
+use Rattle.std.proofs.Math.Seq.{take-suc}
+use Rattle.std.proofs.lemmas.List.{drop_more}
 use Rattle.hh_lang.specs.Form.{ProgramText}
 use Rattle.run_trace.specs.Entry.{EntryValue}
 use Rattle.run_trace.specs.Settings.{SettingsValue}
@@ -79,14 +80,11 @@ module _ (p : ProgramText) (s : SettingsValue) (entries : List EntryValue) (k in
   got : get_or entries k e ≡ e
   got = sym is
 
-  dropped : drop k entries ≡ e ∷ drop (k + 1) entries
-  dropped = drop-cons entries k e within ∙ (ap (λ z. z ∷ drop (suc k) entries) got ∙ ap (λ n. e ∷ drop n entries) (sym (add-one k)))
-
   taken : take (k + 1) entries ≡ take k entries ++ e ∷ []
   taken = ap (λ n. take n entries) (add-one k) ∙ (take-suc entries k e within ∙ ap (λ z. take k entries ++ z ∷ []) got)
 
   at : Came p s entries (take k entries) (e ∷ drop (k + 1) entries) index x
-  at = subst (λ rest. Came p s entries (take k entries) rest index x) dropped C
+  at = subst (λ rest. Came p s entries (take k entries) rest index x) (drop_more entries k e within ∙ ap (λ z. z ∷ drop (k + 1) entries) got) C
 
   pub came_more : Applies x y e → CameTo p s entries (k + 1) (index + 1) y
   came_more A = subst (λ done. Came p s entries done (drop (k + 1) entries) (index + 1) y) (sym taken) (came_on p s entries (take k entries) (drop (k + 1) entries) e index x y at A)
