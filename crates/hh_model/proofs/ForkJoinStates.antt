@@ -80,7 +80,7 @@ or_same_is_fork_join_state m None go k each = k
 or_same_is_fork_join_state m (Some x) go k each = each x refl
 
 module _ (m : State) (t : ℕ) (x : Task) (is : slice_get m.tasks t ≡ Some x) (run : is_running (Some x) ≡ true) (K : IsForkJoinState m) where
-  tells : (is_over x.status ≡ false) × (waits x.status ≡ false)
+  abbrev tells : (is_over x.status ≡ false) × (waits x.status ≡ false)
   tells = running_tells x.status run
 
   abbrev y : Task

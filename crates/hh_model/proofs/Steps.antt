@@ -143,7 +143,7 @@ module _ (p : ProgramText) (m : State) (t : ℕ) (K : IsForkJoinState m) (C : St
     running : x.status ≡ Running
     running = runs_is x.status run
 
-    tells : (is_over x.status ≡ false) × (waits x.status ≡ false)
+    abbrev tells : (is_over x.status ≡ false) × (waits x.status ≡ false)
     tells = running_tells x.status run
 
     top_names : (r : Name) → In x.top.refs (Some r) → In (task_names x) r

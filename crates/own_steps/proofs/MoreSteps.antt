@@ -22,14 +22,11 @@ module _ (w : SharedValue) (text : ProgramText) (same : w.program ≡ text) (k :
   R : Runs w.program old n new
   R = subst (λ (p : ProgramText). Runs p old n new) (sym same) runs
 
-  kept : KeepsAccounts w.program old n new
-  kept = subst (λ (p : ProgramText). KeepsAccounts p old n new) (sym same) accounts_kept
-
   pub ran : Ran w.program old (machine_after w old) (above_of (value_of w) (accounts w) old.task) n new
   ran = R (machine_after w old) _ F
 
   pub fits_on : Fits w k new
-  fits_on = parts_fit_again w k old new n I fits on idle R kept rest few
+  fits_on = parts_fit_again w k old new n I fits on idle R (subst (λ (p : ProgramText). KeepsAccounts p old n new) (sym same) accounts_kept) rest few
 
   pub few_more : new.allocations ≤ old.allocations + n
   few_more = ran.allocations

@@ -46,7 +46,7 @@ module _ (p : ProgramText) (s : SettingsValue) (l : Ledger) (t : ℕ) (S : Sound
     abbrev heap : (h : Heap) × (slice_get l.heaps t ≡ Some h)
     heap = booked.heap p s l t S I B can fine
 
-    leaves : StepLeaves t l (allocated_in p l t) (stepped_to (allocated_in p l t) t (step p l.machine t))
+    abbrev leaves : StepLeaves t l (allocated_in p l t) (stepped_to (allocated_in p l t) t (step p l.machine t))
     leaves = L p l t S I can
 
     abbrev next : Name

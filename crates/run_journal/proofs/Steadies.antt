@@ -25,7 +25,7 @@ use Rattle.run_ledger.proofs.Moves.{Moves}
 use Rattle.run_ledger.proofs.Held.{placed_since}
 use Rattle.run_ledger.proofs.Steps.{SoundAt, heap_of_task, can_tells, task_step_sound}
 use Rattle.run_ledger.proofs.Weights.{weight, weight_additive, total, total_set, moves_total, collected_weight, swept_weight}
-use Rattle.run_ledger.proofs.Stocks.{StockedLedger, G, L, with_heap_any, chunk_lighter, allocated_total, task_step_stocked, legal_stocked}
+use Rattle.run_ledger.proofs.Stocks.{StockedLedger, G, L, with_heap_any, same_weight, chunk_lighter, allocated_total, task_step_stocked, legal_stocked}
 use Rattle.run_ledger.proofs.Booked.{BookedLedger, task_steps_booked}
 use Rattle.run_ledger.proofs.Chunks.{heap_words}
 use Rattle.run_ledger.proofs.Space.{legal_booked}
@@ -66,7 +66,7 @@ module _ (p : ProgramText) (s : SettingsValue) (A : AreLimits s) (l : Ledger) (t
   abbrev k : Ledger
   k = stepped_to (allocated_in p l t) t (step p l.machine t)
 
-  heap : (h : Heap) × (slice_get l.heaps t ≡ Some h)
+  abbrev heap : (h : Heap) × (slice_get l.heaps t ≡ Some h)
   heap = heap_of_task l t S.0 (can_tells l.machine t can).1
 
   reserved_few : heap.0.reserved < 2 ^ 20
@@ -253,9 +253,6 @@ module _ (p : ProgramText) (s : SettingsValue) (A : AreLimits s) where
 
   ended_light : (l : Ledger) (n : ℕ) → Light l → Light (record l { end = Some (Pool n) })
   ended_light l n X = record { names = X.names; snapshots = X.snapshots; since = X.since; heaps = X.heaps; store = X.store }
-
-  same_weight : (h : Heap) (g : Name → ℕ) → weight g h ≤ weight g h
-  same_weight h g = omega arith
 
   kind_light : (l : Ledger) (w : ℕ) (kind : Kind) → SoundLedger l → StockedLedger l → BookedLedger p s l → is_none (refusal p s l (record { worker = w; kind = kind })) ≡ true → Light l → Light (after_kind p s l w kind)
   kind_light l w (Took t) S I B h X = lighter l t _ (λ h g. same_weight h g) (λ h. omega arith) (λ h. omega arith) X

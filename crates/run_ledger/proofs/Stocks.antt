@@ -132,7 +132,7 @@ lighter l t f less I = with_heap_any StockedLedger l t f I (λ h e. shrunk l.mac
     let b = less h (hit n) in
     omega arith))
 
-same_weight : (h : Heap) (g : Name → ℕ) → weight g h ≤ weight g h
+pub same_weight : (h : Heap) (g : Name → ℕ) → weight g h ≤ weight g h
 same_weight h g = omega arith
 
 pub chunk_lighter : (next : Option ℕ) (h : Heap) (g : Name → ℕ) (b : Bool) → weight g (cond b (record h { chunks = h.chunks ++ [] ∷ []; room = chunk_words }) (record h { reserved = chunk_units next })) ≤ weight g h
