@@ -65,7 +65,7 @@ module _ (p : ProgramText) (l : Ledger) (t : ℕ) (S : SoundAt t l) (I : Stocked
   heap : (h : Heap) × (slice_get l.heaps t ≡ Some h)
   heap = heap_of_task l t S.0 (can_tells l.machine t can).1
 
-  machine_is : k.machine ≡ step p l.machine t
+  abbrev machine_is : k.machine ≡ step p l.machine t
   machine_is = stepped_machine (allocated_in p l t) t (step p l.machine t)
 
   grown : Grown p l.machine t

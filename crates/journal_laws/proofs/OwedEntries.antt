@@ -132,7 +132,7 @@ module _ (p : ProgramText) (l : Ledger) (t : ℕ) (S : SoundAt t l) (can : can_s
   abbrev k : Ledger
   k = stepped_to (allocated_in p l t) t (step p l.machine t)
 
-  machine_is : k.machine ≡ step p l.machine t
+  abbrev machine_is : k.machine ≡ step p l.machine t
   machine_is = stepped_machine (allocated_in p l t) t (step p l.machine t)
 
   past_step : (fork : Strand) (x : Task) → slice_get l.machine.tasks fork.task ≡ Some x → fork.joins < x.joins → Known k fork

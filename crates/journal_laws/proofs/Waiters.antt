@@ -41,7 +41,7 @@ module _ (p : ProgramText) (l : Ledger) (t : ℕ) (S : SoundAt t l) (I : Free l)
   alone : WaitsAlone p l.machine t
   alone = waits_alone p l.machine t S.0.fork_join
 
-  machine_is : k.machine ≡ step p l.machine t
+  abbrev machine_is : k.machine ≡ step p l.machine t
   machine_is = stepped_machine (allocated_in p l t) t (step p l.machine t)
 
   waits_now : (u : ℕ) → waiting k.machine.tasks u ≡ true → waiting (step p l.machine t).tasks u ≡ true

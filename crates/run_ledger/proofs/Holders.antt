@@ -168,7 +168,7 @@ module _ (p : ProgramText) (l : Ledger) (t : ℕ) (S : SoundAt t l) (I : MannedL
       moves_each Goes t l.machine.tasks b.heaps k.heaps leaves.2 goes_b (λ h q ne c. absurd (ne refl)) (λ u ne c. absurd (false≢true c)) (λ ns h q ne c. absurd (ne refl))
       (λ u h x y v z is wait none q qx qy ne c. absurd (both_ways (is_some h.begun) none c)) (λ u h none q ne c. absurd (both_ways (is_some h.begun) none c))
 
-  machine_is : k.machine ≡ step p l.machine t
+  abbrev machine_is : k.machine ≡ step p l.machine t
   machine_is = stepped_machine b t (step p l.machine t)
 
   runs_k : k.end ≡ None → (u w : ℕ) → worker_at (slice_get k.heaps u) ≡ Some w → is_running (slice_get k.machine.tasks u) ≡ true
