@@ -1,14 +1,17 @@
 -- Calculations are private steps.
-use Rattle.std.proofs.Common.{◌≡◌, ℕ, zero, suc, ◌+◌, Option, Some, None, IsSomeAnd, refl, ap, sym, subst, ◌∙◌, arith}
+use Rattle.std.proofs.Common.{◌≡◌, ℕ, zero, suc, ◌+◌, true, cond, Option, Some, None, IsSomeAnd, refl, ap, sym, subst, ◌∙◌, arith}
+use Rattle.std.proofs.lemmas.Bool.{false≢true}
+use Rattle.hh_lang.specs.declared.instr.Instr.{Instr}
+use Rattle.hh_lang.specs.declared.instr.Instr.TheVariants.{Pack}
 use Rattle.hh_lang.specs.declared.program.Line.{Line}
 use Rattle.hh_lang.specs.Form.{ProgramText, line_at}
 use Rattle.task_frames.specs.declared.frames.Frame.{Frame}
 use Rattle.task_machine.specs.declared.part.Private.{Private}
 use Rattle.task_machine.specs.declared.plan.Plan.{Plan}
-use Rattle.task_machine.specs.declared.plan.Plan.TheVariants.{Pause, SetInt, SetReference, Jump, Call, Return, New, Pack, WriteReference, WriteInt, Swap, Freeze}
-use Rattle.task_machine.specs.Calculations.{IsCalculation, Leads, Makes, with_top}
-use Rattle.task_machine.specs.Plan.{planned}
-use Rattle.task_machine.specs.Ready.{FitsSome, IsReady}
+use Rattle.task_machine.specs.declared.plan.Plan.TheVariants.{Calculate}
+use Rattle.task_machine.specs.Calculations.{is_calculation, Leads, Makes}
+use Rattle.task_machine.specs.Plan.{planned, planned_other, taken, with_top}
+use Rattle.task_machine.specs.Ready.{FitsSome, IsReady, IsWide}
 use Rattle.task_machine.specs.Run.{IsStepPlan, KeepsRest, Runs}
 use Rattle.task_machine.proofs.Agreement.{line_agrees}
 use Rattle.task_machine.proofs.Ends.{is_step, runs_more}
@@ -23,49 +26,30 @@ leads_more p f h g k line L e M =
 abbrev with_top_after : Private → Frame → ℕ → Private
 with_top_after part f n = record (with_top part f) { fresh = part.fresh + n }
 
-step_plan : (plan : Plan) → IsCalculation plan → IsStepPlan plan
-step_plan (Pause why) h = absurd h
-step_plan (SetInt d x) h = tt
-step_plan (SetReference d r) h = tt
-step_plan (Jump to) h = tt
-step_plan (Call g) h = tt
-step_plan Return h = tt
-step_plan (New d r i) h = tt
-step_plan (Pack d r i) h = tt
-step_plan (WriteReference s at r) h = tt
-step_plan (WriteInt s at x) h = tt
-step_plan (Swap d s at r) h = tt
-step_plan (Freeze s) h = tt
+-- a calculation is the plan
+calculation_planned : (part : Private) (i : Instr) → is_calculation part.frames.top i ≡ true → planned part i ≡ Calculate i
+calculation_planned part i e = ap (λ b. cond b (Calculate i) (planned_other part i)) e
 
-ready_plan : (part : Private) (plan : Plan) → IsCalculation plan → IsReady part plan
-ready_plan part (Pause why) h = absurd h
-ready_plan part (SetInt d x) h = tt
-ready_plan part (SetReference d r) h = tt
-ready_plan part (Jump to) h = tt
-ready_plan part (Call g) h = absurd h
-ready_plan part Return h = absurd h
-ready_plan part (New d r i) h = absurd h
-ready_plan part (Pack d r i) h = absurd h
-ready_plan part (WriteReference s at r) h = absurd h
-ready_plan part (WriteInt s at x) h = absurd h
-ready_plan part (Swap d s at r) h = absurd h
-ready_plan part (Freeze s) h = absurd h
+calculation_wide : (part : Private) (i : Instr) → is_calculation part.frames.top i ≡ true → IsWide part i
+calculation_wide part (Pack d r i) e = absurd (false≢true e)
+calculation_wide part i e = tt
 
 module _ (p : ProgramText) (old : Private) (k : ℕ) (mid : Private) (S : FitsSome p old) (R : Runs p old k mid) where
   one_runs : (n : ℕ) (h g : Frame) (o : Option Line) → line_at p h.function h.next ≡ o → IsSomeAnd o (λ line. Makes line.instr h g)
       → Runs p old (k + n) (with_top_after mid h n) → Runs p old (k + suc n) (with_top_after mid g (suc n))
   one_runs n h g None e M before = absurd M
   one_runs n h g (Some line) e M before =
-      let behind : Private = record mid { fresh = mid.fresh + n } in
       let here : Private = with_top_after mid h n in
       let plan : Plan = planned here line.instr in
-      let does = M behind in
+      let calculates : plan ≡ Calculate line.instr = calculation_planned here line.instr M.0 in
       let fresh : mid.fresh + suc n ≡ (mid.fresh + n) + 1 = omega arith in
-      let is = ap (λ z. let w : Private = record (with_top mid g) { fresh = z } in w) fresh ∙ sym does.2 in
+      let is : with_top_after mid g (suc n) ≡ taken here (Calculate line.instr) =
+      ap (λ z. let w : Private = record (with_top mid g) { fresh = z } in w) fresh
+      ∙ ap (λ (f : Frame). let w : Private = record (with_top mid f) { fresh = (mid.fresh + n) + 1 } in w) M.1 in
       let count : (k + n) + 1 ≡ k + suc n = omega arith in
       subst (λ z. Runs p old z (with_top_after mid g (suc n))) count
-      (runs_more p old (k + n) here S before plan (is_step plan (step_plan plan does.1)) (λ m above F. line_agrees p here m above F line e does.0)
-      (ready_plan here plan does.1) (with_top_after mid g (suc n)) is)
+      (runs_more p old (k + n) here S before plan (is_step plan (subst (λ q. IsStepPlan q) (sym calculates) tt)) (λ m above F. line_agrees p here m above F line e (calculation_wide here line.instr M.0))
+      (subst (λ q. IsReady here q) (sym calculates) tt) (with_top_after mid g (suc n)) (is ∙ ap (taken here) (sym calculates)))
 
   all_run : (n : ℕ) (g : Frame) → Leads p mid.frames.top n g → Runs p old (k + n) (with_top_after mid g n)
   all_run zero g L =

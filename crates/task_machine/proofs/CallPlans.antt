@@ -8,13 +8,14 @@ use Rattle.hh_lang.specs.declared.instr.Instr.{Instr}
 use Rattle.hh_lang.specs.declared.instr.Instr.TheVariants.{Set, Mov, Movr, Nil, Calc, Same, Jmp, Jz, Newm, Pack as PackOf, Getr, Geti, Putr, Puti, Cntr, Cnti, Freeze as FreezeOf, Cas, Call as CallOf, Par, Ret, Out}
 use Rattle.hh_lang.specs.declared.program.Line.{Line}
 use Rattle.hh_lang.specs.Form.{ProgramText, line_at}
-use Rattle.hh_model.specs.Effect.{calculated, counts_in, place_in as field_in}
+use Rattle.hh_model.specs.Effect.{counts_in, place_in as field_in}
 use Rattle.task_machine.specs.declared.part.Private.{Private}
 use Rattle.task_machine.specs.declared.part.Paused.TheVariants.{Shared, Due, NeedChunk}
 use Rattle.task_machine.specs.declared.plan.Plan.{Plan}
-use Rattle.task_machine.specs.declared.plan.Plan.TheVariants.{Pause, SetInt, SetReference, Return, New, Pack, WriteReference, WriteInt, Swap, Freeze}
+use Rattle.task_machine.specs.declared.plan.Plan.TheVariants.{Pause, Calculate, SetInt, SetReference, Return, New, Pack, WriteReference, WriteInt, Swap, Freeze}
 use Rattle.task_machine.specs.declared.plan.Spot.{Spot}
 use Rattle.object_layout.specs.References.{same_reference}
+use Rattle.task_machine.specs.Calculations.{is_calculation}
 use Rattle.task_machine.specs.Plan.{counts_ints, counts_refs, own_or_shown, reads_int, reads_ref, shown_of, allocating, or_shared, own_in, planned, unless_frozen}
 use Rattle.task_frames.specs.FramesValue.{int_of, ref_of}
 use Rattle.task_machine.specs.Run.{next_plan, planned_line, IsCall, IsCallLine, IsCallPlan, StandsAtCall}
@@ -56,7 +57,7 @@ module _ (part : Private) where
   call_planned (Mov d a) h = h
   call_planned (Movr d a) h = h
   call_planned (Nil d) h = h
-  call_planned (Calc op d a b) h = shared (calculated op (int_of part.frames.top a) (int_of part.frames.top b)) (λ x. SetInt d x) (λ x h. h) h
+  call_planned (Calc op d a b) h = either (is_calculation part.frames.top (Calc op d a b)) (Calculate (Calc op d a b)) (Pause Shared) (λ h. h) (λ h. h) h
   call_planned (Same d a b) h = h
   call_planned (Jmp to) h = h
   call_planned (Jz a to) h = h

@@ -5,8 +5,8 @@ use Rattle.hh_lang.specs.declared.program.Line.{Line}
 use Rattle.hh_lang.specs.Form.{IsProgram, ProgramText, line_at}
 use Rattle.task_machine.specs.declared.part.Private.{Private}
 use Rattle.task_machine.specs.declared.plan.Plan.{Plan}
-use Rattle.task_machine.specs.Calculations.{Leads, with_top}
-use Rattle.task_machine.specs.Plan.{planned, taken}
+use Rattle.task_machine.specs.Calculations.{Leads}
+use Rattle.task_machine.specs.Plan.{planned, taken, with_top}
 use Rattle.task_machine.specs.Ready.{FitsSome, IsReady, IsSafe, IsWide}
 use Rattle.task_machine.specs.Run.{IsCallPlan, IsStepPlan, KeepsRest, Runs, StandsAtCall, planned_line}
 use Rattle.task_machine.proofs.Agreement.{line_agrees, some_line, some_next, some_safe}

@@ -1,11 +1,12 @@
 // Steps that only calculate: one after the other, with the top frame at hand.
 
-ghost use Rattle.std.specs.Prelude.{◌≡◌, ◌≤◌, ◌<◌, ◌+◌, ◌^◌, true, false, None, option_copied};
+ghost use Rattle.std.specs.Prelude.{◌≡◌, ◌≤◌, ◌<◌, ◌+◌, ◌^◌, false, None, option_copied};
 ghost use Rattle.hh_lang.specs.Form.{line_at};
-ghost use Rattle.task_frames.specs.FramesValue.{int_written, ref_written};
-ghost use Rattle.task_machine.specs.Calculations.{Leads, Makes, with_top};
+ghost use Rattle.task_machine.specs.Calculations.{calculates_next, calculation, is_calculation, next_with_int, next_with_ref, Leads};
+ghost use Rattle.task_machine.specs.Plan.{taken, with_top};
 
 use crate::part::Private;
+use crate::plan::Plan;
 use hh_lang::{Instr, IntReg, Line, Operator, Program, RefReg};
 use hh_model::calculate;
 use object_layout::{Addr, is_same_reference};
@@ -15,7 +16,7 @@ use task_frames::Frame;
 #[inline(always)]
 fn set_int(frame: &mut Frame, target: IntReg, value: i64)
     requires { frame.old.next + 1 < 2 ^ 32 }
-    ensures { frame.new ≡ record (int_written frame.old target value) { next = frame.old.next + 1 } }
+    ensures { frame.new ≡ next_with_int frame.old target value }
 {
     frame.set_int(target, value);
     frame.next += 1;
@@ -25,7 +26,7 @@ fn set_int(frame: &mut Frame, target: IntReg, value: i64)
 #[inline(always)]
 fn set_reference(frame: &mut Frame, target: RefReg, value: Option<Addr>)
     requires { frame.old.next + 1 < 2 ^ 32 }
-    ensures { frame.new ≡ record (ref_written frame.old target value) { next = frame.old.next + 1 } }
+    ensures { frame.new ≡ next_with_ref frame.old target value }
 {
     frame.set_reference(target, value);
     frame.next += 1;
@@ -36,7 +37,8 @@ fn set_reference(frame: &mut Frame, target: RefReg, value: Option<Addr>)
 #[inline(always)]
 fn calc(frame: &mut Frame, operator: Operator, target: IntReg, left: IntReg, right: IntReg) -> bool
     requires { frame.old.next + 1 < 2 ^ 32 }
-    ensures makes { result ≡ true → Makes (Instr.Calc operator target left right) frame.old frame.new }
+    ensures only { result ≡ is_calculation frame.old (Instr.Calc operator target left right) }
+    ensures makes { frame.new ≡ calculation (Instr.Calc operator target left right) frame.old }
     ensures stays { result ≡ false → frame.new ≡ frame.old }
     ensures function { frame.new.function ≡ frame.old.function }
 {
@@ -53,7 +55,7 @@ fn calc(frame: &mut Frame, operator: Operator, target: IntReg, left: IntReg, rig
 #[inline(always)]
 fn jump_at_zero(frame: &mut Frame, tested: IntReg, to: u32)
     requires { frame.old.next + 1 < 2 ^ 32 }
-    ensures makes { Makes (Instr.Jz tested to) frame.old frame.new }
+    ensures makes { frame.new ≡ calculation (Instr.Jz tested to) frame.old }
     ensures function { frame.new.function ≡ frame.old.function }
 {
     if frame.int(tested) == 0 {
@@ -67,7 +69,8 @@ fn jump_at_zero(frame: &mut Frame, tested: IntReg, to: u32)
 #[inline(always)]
 fn calculate_once(frame: &mut Frame, instr: &Instr) -> bool
     requires { frame.old.next + 1 < 2 ^ 32 }
-    ensures makes { result ≡ true → Makes instr.now frame.old frame.new }
+    ensures only { result ≡ is_calculation frame.old instr.now }
+    ensures makes { frame.new ≡ calculation instr.now frame.old }
     ensures stays { result ≡ false → frame.new ≡ frame.old }
     ensures function { frame.new.function ≡ frame.old.function }
 {
@@ -90,12 +93,22 @@ fn calculate_once(frame: &mut Frame, instr: &Instr) -> bool
     true
 }
 
+/// Whether an instruction only calculates, tried on a copy of the frame.
+pub(crate) fn calculates(frame: &Frame, instr: &Instr) -> bool
+    requires { frame.now.next + 1 < 2 ^ 32 }
+    ensures { result ≡ is_calculation frame.now instr.now }
+{
+    let mut tried = *frame;
+    calculate_once(&mut tried, instr)
+}
+
 // Calculates as long as what comes next is a calculation, at most so many times: how many times, and then the line that
 // comes next, unless so many are spent.
 fn calculate_on<'a>(frame: &mut Frame, program: &'a Program, most: u32) -> (u32, Option<&'a Line>)
     ensures most { result.0 ≤ most }
     ensures leads { Leads program.now frame.old result.0 frame.new }
     ensures line { result.0 < most → option_copied result.1 ≡ line_at program.now frame.new.function frame.new.next }
+    ensures all { result.0 < most → calculates_next program.now frame.new ≡ false }
     ensures spent { result.0 ≡ most → result.1 ≡ None }
 {
     program.form();
@@ -114,6 +127,16 @@ fn calculate_on<'a>(frame: &mut Frame, program: &'a Program, most: u32) -> (u32,
 }
 
 impl Private {
+    /// Takes a step that only calculates.
+    pub(crate) fn calculate_one(&mut self, instr: &Instr)
+        requires next { self.old.frames.top.next + 1 < 2 ^ 32 }
+        requires fresh { self.old.fresh + 1 < 2 ^ 32 }
+        ensures { self.new ≡ taken self.old (Plan.Calculate instr.now) }
+    {
+        calculate_once(self.frames.top_mut(), instr);
+        self.fresh += 1;
+    }
+
     /// Takes steps as long as they only calculate, at most so many: how many it took, and then the line that comes
     /// next, unless so many are spent.
     pub(crate) fn calculate<'a>(
@@ -126,6 +149,7 @@ impl Private {
         ensures leads { Leads program.now self.old.frames.top result.0 self.new.frames.top }
         ensures rest { self.new ≡ record (with_top self.old self.new.frames.top) { fresh = self.old.fresh + result.0 } }
         ensures line { result.0 < most → option_copied result.1 ≡ line_at program.now self.new.frames.top.function self.new.frames.top.next }
+        ensures all { result.0 < most → calculates_next program.now self.new.frames.top ≡ false }
         ensures spent { result.0 ≡ most → result.1 ≡ None }
     {
         let (done, line) = calculate_on(self.frames.top_mut(), program, most);

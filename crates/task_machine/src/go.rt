@@ -21,9 +21,9 @@ impl Private {
     {
         match plan {
             Plan::Pause(why) => return Came::Stopped(why),
+            Plan::Calculate(instr) => self.calculate_one(&instr),
             Plan::SetInt(target, value) => self.set_int(target, value),
             Plan::SetReference(target, value) => self.set_reference(target, value),
-            Plan::Jump(to) => self.jump(to),
             Plan::Call(function) => return self.take_call(function),
             Plan::Return => self.come_back(),
             Plan::New(target, refs, ints) => self.make_new(target, refs, ints),
