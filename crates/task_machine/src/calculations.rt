@@ -12,9 +12,9 @@ use hh_model::calculate;
 use object_layout::{Addr, is_same_reference};
 use task_frames::Frame;
 
-// Sets a number register, and goes on with the next instruction.
+/// Sets a number register, and goes on with the next instruction.
 #[inline(always)]
-fn set_int(frame: &mut Frame, target: IntReg, value: i64)
+pub(crate) fn set_int(frame: &mut Frame, target: IntReg, value: i64)
     requires { frame.old.next + 1 < 2 ^ 32 }
     ensures { frame.new ≡ next_with_int frame.old target value }
 {
@@ -22,9 +22,9 @@ fn set_int(frame: &mut Frame, target: IntReg, value: i64)
     frame.next += 1;
 }
 
-// Sets a reference register, and goes on with the next instruction.
+/// Sets a reference register, and goes on with the next instruction.
 #[inline(always)]
-fn set_reference(frame: &mut Frame, target: RefReg, value: Option<Addr>)
+pub(crate) fn set_reference(frame: &mut Frame, target: RefReg, value: Option<Addr>)
     requires { frame.old.next + 1 < 2 ^ 32 }
     ensures { frame.new ≡ next_with_ref frame.old target value }
 {
