@@ -93,13 +93,23 @@ fn calculate_once(frame: &mut Frame, instr: &Instr) -> bool
     true
 }
 
-/// Whether an instruction only calculates, tried on a copy of the frame.
+/// Whether an instruction only calculates.
 pub(crate) fn calculates(frame: &Frame, instr: &Instr) -> bool
-    requires { frame.now.next + 1 < 2 ^ 32 }
     ensures { result ≡ is_calculation frame.now instr.now }
 {
-    let mut tried = *frame;
-    calculate_once(&mut tried, instr)
+    match instr {
+        Instr::Calc(operator, _, left, right) => {
+            calculate(*operator, frame.int(*left), frame.int(*right)).is_some()
+        }
+        Instr::Set(_, _)
+        | Instr::Mov(_, _)
+        | Instr::Movr(_, _)
+        | Instr::Nil(_)
+        | Instr::Same(_, _, _)
+        | Instr::Jmp(_)
+        | Instr::Jz(_, _) => true,
+        _ => false,
+    }
 }
 
 // Calculates as long as what comes next is a calculation, at most so many times: how many times, and then the line that
