@@ -1,5 +1,5 @@
 -- A child's last frame returns, and its sibling goes on.
-use Rattle.std.proofs.Common.{◌≡◌, ℕ, suc, ◌+◌, ◌++◌, arith, false, Some, None, [], ◌∷◌, slice_get, slice_set, refl, ap, sym, subst, ◌∙◌, if◌then◌else◌}
+use Rattle.std.proofs.Common.{◌≡◌, ℕ, ◌+◌, ◌++◌, false, Some, None, [], ◌∷◌, slice_get, slice_set, refl, ap, sym, subst, ◌∙◌, if◌then◌else◌}
 use Rattle.listed.proofs.Members.{got_other, got_same}
 use Rattle.listed.specs.RoomyValue.{RoomyValue}
 use Rattle.hh_model.specs.declared.data.State.{State}
@@ -22,10 +22,12 @@ use Rattle.shared_value.specs.Stands.{IsSharedValue}
 use Rattle.shared_value.specs.Fits.{Fits, OthersFit, belongings_of_part}
 use Rattle.shared_value.specs.Entered.{refused}
 use Rattle.shared_value.proofs.BeforeTheEnd.{end_now}
+use Rattle.shared_value.proofs.TaskTaken.{lets_go}
 use Rattle.own_steps.specs.Alone.{IsShared, alone_event, ended_rest}
 use Rattle.own_steps.proofs.LastStepEntry as last
 use Rattle.own_steps.proofs.LastStepEntry.{last_event}
 use Rattle.own_steps.proofs.TaskEnds as ending
+use Rattle.own_steps.proofs.LastSteps.{one_added}
 use Rattle.child_tasks.specs.ChildEnds.{EndsChild, IsAtEnd, running_parent, where_running}
 use Rattle.child_tasks.proofs.ChildReturns as steps
 use Rattle.child_tasks.proofs.LastReturnKinds.{ends}
@@ -101,7 +103,7 @@ module _ (w : SharedValue) (k : ℕ) (p : Private) (I : IsSharedValue w) (F : Fi
     w' = ending.w' w k p I F shared free_last w.end j.room
 
     counts : RanCounts w.program (tree_counts_of w) (tree_counts_of w') M L t k p.fresh S.task S.line Ending D
-    counts = record { tree = ending.node_ends w k p I F shared free_last w.end j.room; task_out = ending.lets_go w k p I F shared free_last w.end j.room; outputs = refl; end = refl; used = refl; steps = refl }
+    counts = record { tree = ending.node_ends w k p I F shared free_last w.end j.room; task_out = lets_go w w' (last_event k p) I free_last refl; outputs = refl; end = refl; used = refl; steps = refl }
 
     ended_world : IsSharedValue w'
     ended_world =
@@ -118,9 +120,6 @@ module _ (w : SharedValue) (k : ℕ) (p : Private) (I : IsSharedValue w) (F : Fi
     ended_others = ending.others_fit w k p I F shared free_last w.end j.room E own (ending.makes w k p I F shared free_last w.end j.room) ended_world
 
     -- ---- AS THE CALL HAS IT
-    more : suc p.fresh ≡ p.fresh + 1
-    more = omega arith
-
     -- the shared value then, with this many steps entered
     abbrev with_steps : ℕ → SharedValue
     with_steps n = record w {
@@ -135,7 +134,7 @@ module _ (w : SharedValue) (k : ℕ) (p : Private) (I : IsSharedValue w) (F : Fi
     ended_alone = with_steps (p.fresh + 1)
 
     ended_is : w' ≡ ended_alone
-    ended_is = ap with_steps more
+    ended_is = ap with_steps (one_added p.fresh)
 
     pub alone_world : IsSharedValue ended_alone
     alone_world = subst IsSharedValue ended_is ended_world

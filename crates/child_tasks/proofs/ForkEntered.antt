@@ -5,7 +5,7 @@ use Rattle.std.proofs.lemmas.Bool.{cases_eq, cases_lt, cond-true, lt-ltb}
 use Rattle.std.proofs.lemmas.Option.{same_Some}
 use Rattle.listed.proofs.Members.{got_back, got_front, got_other, got_past}
 use Rattle.listed.specs.RoomyValue.{RoomyValue}
-use Rattle.listed.proofs.Places.{got_set, got_some}
+use Rattle.listed.proofs.Places.{got_some}
 use Rattle.hh_lang.specs.declared.instr.Instr.{Instr}
 use Rattle.hh_lang.specs.declared.instr.Instr.TheVariants.{Par}
 use Rattle.hh_model.specs.declared.data.State.{State}
@@ -50,7 +50,7 @@ use Rattle.shared_value.proofs.EntryMade.{entered_marks, marked_fits, marked_wor
 use Rattle.shared_value.proofs.Levels.{level_is}
 use Rattle.shared_value.proofs.PartFitsMachine as link
 use Rattle.shared_value.proofs.BeforeTheEnd.{end_now, tree_long}
-use Rattle.shared_value.proofs.TaskTaken.{made_by, node_by, node_off, worker_there}
+use Rattle.shared_value.proofs.TaskTaken.{made_by, node_by, node_off, lets_go}
 use Rattle.own_steps.specs.Alone.{IsShared, alone_event}
 use Rattle.own_steps.proofs.AloneEntries.{node_there}
 use Rattle.own_steps.proofs.LastStepEntry as last
@@ -180,12 +180,6 @@ module _ (w : SharedValue) (k : ℕ) (p : Private) (I : IsSharedValue w) (F : Fi
     abbrev v' : Memory
     v' = value_of w'
 
-    noted_then : (u : ℕ) → noted_in (slice_get sets u) ≡ noted_of (content_at sets u)
-    noted_then u = noted_by sets u
-
-    noted_now : (u : ℕ) → noted_in (slice_get w.sets u) ≡ noted_of (content_at w.sets u)
-    noted_now u = noted_by w.sets u
-
     left_set : content_at sets a ≡ Some (record { sources = []; kept = []; keeps = false })
     left_set = ap (content_at sets) set_is ∙ N.left_set
 
@@ -196,13 +190,13 @@ module _ (w : SharedValue) (k : ℕ) (p : Private) (I : IsSharedValue w) (F : Fi
     other_set u nt na nb = N.others u nt (λ e. na (e ∙ sym set_is)) (λ e. nb (e ∙ ap (λ n. n + 1) (sym set_is)))
 
     same_noted : (u : ℕ) → (u ≡ t → ⊥) → (u ≡ a → ⊥) → (u ≡ a + 1 → ⊥) → noted_in (slice_get sets u) ≡ noted_in (slice_get w.sets u)
-    same_noted u nt na nb = noted_then u ∙ (ap noted_of (other_set u nt na nb) ∙ sym (noted_now u))
+    same_noted u nt na nb = noted_by sets u ∙ (ap noted_of (other_set u nt na nb) ∙ sym (noted_by w.sets u))
 
     source_same : (u : ℕ) → (u ≡ a → ⊥) → (u ≡ a + 1 → ⊥) → sources v' u ≡ sources v u
     source_same u na nb = elim (cases_eq u t) [
       | inl e ↦
           ap (sources v') e
-          ∙ (ap (λ (z : Noted). z.sources) (noted_then t) ∙ (ap (λ o. (noted_of o).sources) N.parent ∙ (keeping_sources (content_at w.sets t) ∙ (ap (λ (z : Noted). z.sources) (sym (noted_now t)) ∙ ap (sources v) (sym e)))))
+          ∙ (ap (λ (z : Noted). z.sources) (noted_by sets t) ∙ (ap (λ o. (noted_of o).sources) N.parent ∙ (keeping_sources (content_at w.sets t) ∙ (ap (λ (z : Noted). z.sources) (sym (noted_by w.sets t)) ∙ ap (sources v) (sym e)))))
       | inr nt ↦ ap (λ (z : Noted). z.sources) (same_noted u nt na nb)
     ]
 
@@ -217,8 +211,8 @@ module _ (w : SharedValue) (k : ℕ) (p : Private) (I : IsSharedValue w) (F : Fi
       right = ap (λ n. v'.belongings (n + 1)) home_is ∙ (ap belongings_in H.right_home.2 ∙ (begun_belongings right ∙ ap₂ (λ g (z : Belongings). child_belongings g z) (sym right_is) (sym here)));
       others = λ u nt na nb. ap belongings_in (H.others u nt (λ e. na (e ∙ sym home_is)) (λ e. nb (e ∙ ap (λ n. n + 1) (sym home_is)))) ∙ sym (off_belongings v t h u nt);
       owner = λ c. refl;
-      left_noted = ap (λ (z : Noted). z.sources) (noted_then a ∙ ap noted_of left_set);
-      right_noted = ap (λ (z : Noted). z.sources) (noted_then (a + 1) ∙ ap noted_of right_set);
+      left_noted = ap (λ (z : Noted). z.sources) (noted_by sets a ∙ ap noted_of left_set);
+      right_noted = ap (λ (z : Noted). z.sources) (noted_by sets (a + 1) ∙ ap noted_of right_set);
       sources = λ u na nb. source_same u na nb;
     }
 
@@ -227,15 +221,15 @@ module _ (w : SharedValue) (k : ℕ) (p : Private) (I : IsSharedValue w) (F : Fi
     set_there = got_some w.sets t (subst (λ n. t < n) (sym I.noted) has_node)
 
     keeps_now : (v'.noted t).keeps ≡ true
-    keeps_now = ap (λ (z : Noted). z.keeps) (noted_then t ∙ ap noted_of (N.parent ∙ ap (λ o. option_map (keeping true) (option_map content_of o)) set_there.1))
+    keeps_now = ap (λ (z : Noted). z.keeps) (noted_by sets t ∙ ap noted_of (N.parent ∙ ap (λ o. option_map (keeping true) (option_map content_of o)) set_there.1))
 
     forks_notes : ForksNotes vt v' t a (a + 1)
     forks_notes = record {
       keeps = keeps_now;
-      kept = ap (λ (z : Noted). z.kept) (noted_then t) ∙ (ap (λ o. (noted_of o).kept) N.parent ∙ keeping_kept (content_at w.sets t));
+      kept = ap (λ (z : Noted). z.kept) (noted_by sets t) ∙ (ap (λ o. (noted_of o).kept) N.parent ∙ keeping_kept (content_at w.sets t));
       marked = unmarked t ∙ none_left w.marks t;
-      left = ap (λ (z : Noted). z.keeps) (noted_then a ∙ ap noted_of left_set);
-      right = ap (λ (z : Noted). z.keeps) (noted_then (a + 1) ∙ ap noted_of right_set);
+      left = ap (λ (z : Noted). z.keeps) (noted_by sets a ∙ ap noted_of left_set);
+      right = ap (λ (z : Noted). z.keeps) (noted_by sets (a + 1) ∙ ap noted_of right_set);
       others = λ u nt na nb. let e = same_noted u nt na nb in record { keeps = ap (λ (z : Noted). z.keeps) e; kept = ap (λ (z : Noted). z.kept) e; marked = unmarked u ∙ ap option_flatten (got_other w.marks t u None nt) };
     }
 
@@ -275,7 +269,7 @@ module _ (w : SharedValue) (k : ℕ) (p : Private) (I : IsSharedValue w) (F : Fi
     counts : RanCounts w.program (tree_counts_of w) (tree_counts_of w') M L t k p.fresh S.task S.line Forking Q
     counts = record {
       tree = nodes_fork;
-      task_out = record { task_out = ap option_flatten (got_set w.tasks_out k None (worker_there w (last_event k p) I free_last)); others = λ u ne. ap option_flatten (got_other w.tasks_out k u None ne) };
+      task_out = lets_go w w' (last_event k p) I free_last refl;
       outputs = refl;
       end = refl;
       used = refl;

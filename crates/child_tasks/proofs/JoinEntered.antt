@@ -4,7 +4,6 @@ use Rattle.std.specs.Option.{option_flatten}
 use Rattle.std.proofs.lemmas.Bool.{cases_eq}
 use Rattle.listed.proofs.Members.{got_other}
 use Rattle.listed.specs.RoomyValue.{RoomyValue}
-use Rattle.listed.proofs.Places.{got_set}
 use Rattle.listed.proofs.Options.{none_some}
 use Rattle.hh_model.specs.declared.data.Task.{Task}
 use Rattle.run_trace.specs.declared.entry.Kind.TheVariants.{Ran}
@@ -43,10 +42,11 @@ use Rattle.shared_value.specs.Entered.{refused}
 use Rattle.shared_value.proofs.FieldsNoted.{noted_of}
 use Rattle.shared_value.proofs.EntryMade.{entered_marks, held_apart, marked_accounts, marked_fits, marked_world}
 use Rattle.shared_value.proofs.BeforeTheEnd.{end_now}
-use Rattle.shared_value.proofs.TaskTaken.{worker_there}
+use Rattle.shared_value.proofs.TaskTaken.{lets_go}
 use Rattle.own_steps.specs.Alone.{alone_event}
 use Rattle.own_steps.proofs.LastStepEntry as last
 use Rattle.own_steps.proofs.LastStepEntry.{last_event}
+use Rattle.own_steps.proofs.LastSteps.{one_added}
 use Rattle.child_tasks.specs.ChildEnds.{EndsChild, IsAtEnd, running_parent}
 use Rattle.child_tasks.specs.Joins.{AreSides, RestsJoin, IsRestOf, SetsJoin, sources_at}
 use Rattle.child_tasks.proofs.ChildReturns as steps
@@ -94,12 +94,6 @@ module _ (w : SharedValue) (k : ℕ) (p : Private) (I : IsSharedValue w) (F : Fi
 
   abbrev Q : EndsLast M L t x
   Q = before.Q w k p I F at_end free ended
-
-  here : vt.belongings t ≡ h
-  here = before.here w k p I F at_end free ended
-
-  off : (u : ℕ) → (u ≡ t → ⊥) → vt.belongings u ≡ v.belongings u
-  off u ne = before.off w k p I F at_end free ended u ne
 
   abbrev l : Ledger
   l = accounts w
@@ -188,7 +182,7 @@ module _ (w : SharedValue) (k : ℕ) (p : Private) (I : IsSharedValue w) (F : Fi
         heap_is = heap_is;
         room_is = room_is;
         small = (both.small w k p I F at_end free ended above beside frames above_is calls beside_is c lh rh al ar side);
-        others = λ u nq nc nd. let e = both.apart_of w k p I F at_end free ended above beside frames above_is calls beside_is c lh rh al ar side u nc nd in ap belongings_in (H.others u nq e.0 e.1) ∙ sym (off u e.0);
+        others = λ u nq nc nd. let e = both.apart_of w k p I F at_end free ended above beside frames above_is calls beside_is c lh rh al ar side u nc nd in ap belongings_in (H.others u nq e.0 e.1) ∙ sym (before.off w k p I F at_end free ended u e.0);
         owner = λ n. refl;
         owner_then = λ n. refl;
         relabelled = relabelled;
@@ -236,7 +230,7 @@ module _ (w : SharedValue) (k : ℕ) (p : Private) (I : IsSharedValue w) (F : Fi
       counts : RanCounts w.program (tree_counts_of w) (tree_counts_of w') M L t k p.fresh x S.line Joining Q
       counts = record {
         tree = nodes_so;
-        task_out = record { task_out = ap option_flatten (got_set w.tasks_out k None (worker_there w (last_event k p) I free_last)); others = λ u ne. ap option_flatten (got_other w.tasks_out k u None ne) };
+        task_out = lets_go w w' (last_event k p) I free_last refl;
         outputs = refl;
         end = refl;
         used = relabelled.units;
@@ -285,15 +279,12 @@ module _ (w : SharedValue) (k : ℕ) (p : Private) (I : IsSharedValue w) (F : Fi
           (ran_leaves w.program w.settings v v' l L t k p.fresh h E own made (part_of w.settings i) (held_apart w k u p i F G ne) G.fits)
 
       -- ---- AS THE CALL HAS IT
-      more : suc p.fresh ≡ p.fresh + 1
-      more = omega arith
-
       abbrev pub joined_alone : SharedValue
       joined_alone = record w { tree = tree; pool = pool; rests = rests; sets = sets; marks = marks; tasks_out = tasks_out; steps = w.steps + (p.fresh + 1); journal = record { items = w.journal.items ++ alone_event k p ∷ []; room = j.room } }
 
       joined_is : w' ≡ joined_alone
       joined_is =
-          ap (λ n. let i : SharedValue = record w { tree = tree; pool = pool; rests = rests; sets = sets; marks = marks; tasks_out = tasks_out; steps = w.steps + n; journal = record { items = w.journal.items ++ record { worker = k; kind = Ran p.task n } ∷ []; room = j.room } } in i) more
+          ap (λ n. let i : SharedValue = record w { tree = tree; pool = pool; rests = rests; sets = sets; marks = marks; tasks_out = tasks_out; steps = w.steps + n; journal = record { items = w.journal.items ++ record { worker = k; kind = Ran p.task n } ∷ []; room = j.room } } in i) (one_added p.fresh)
 
       pub alone_world : IsSharedValue joined_alone
       alone_world = subst IsSharedValue joined_is joined_world

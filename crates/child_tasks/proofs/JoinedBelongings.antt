@@ -90,12 +90,6 @@ module _ (w : SharedValue) (k : ℕ) (p : Private) (I : IsSharedValue w) (F : Fi
   abbrev Q : EndsLast M L t x
   Q = before.Q w k p I F at_end free ended
 
-  here : vt.belongings t ≡ h
-  here = before.here w k p I F at_end free ended
-
-  off : (u : ℕ) → (u ≡ t → ⊥) → vt.belongings u ≡ v.belongings u
-  off u ne = before.off w k p I F at_end free ended u ne
-
   abbrev pub HasBelongings : ℕ → LeafHeapValue → Type 0
   HasBelongings u g = (n : ℕ) × (z : Work) × (view : List Level) × (vt.belongings u ≡ belongings_by g view n z)
 
@@ -117,14 +111,14 @@ module _ (w : SharedValue) (k : ℕ) (p : Private) (I : IsSharedValue w) (F : Fi
 
   module _ (above beside : Rest) (frames : FramesValue) (above_is : rest_at w.rests q ≡ Some above) (calls : above.work ≡ Calls frames) (beside_is : IsRestOf (rest_at w.rests s) beside) (c : ℕ) (lh rh : LeafHeapValue) (al ar : ℤ × Option Addr) (side : AreSides p s beside c lh rh al ar) where
     pub belongings_above : vt.belongings q ≡ belongings_by above.heap above.view above.allocations (Calls frames)
-    belongings_above = off q (steps.parent_apart w k p I F at_end free) ∙ (ap belongings_in above_is ∙ ap (belongings_by above.heap above.view above.allocations) calls)
+    belongings_above = before.off w k p I F at_end free ended q (steps.parent_apart w k p I F at_end free) ∙ (ap belongings_in above_is ∙ ap (belongings_by above.heap above.view above.allocations) calls)
 
     beside_belongings : (o : Option Rest) → IsRestOf o beside → belongings_in o ≡ belongings_of beside
     beside_belongings None e = ap belongings_of (sym e.2)
     beside_belongings (Some z) e = ap belongings_of (sym e)
 
     pub belongings_beside : vt.belongings s ≡ belongings_by beside.heap beside.view beside.allocations beside.work
-    belongings_beside = off s (steps.other_apart w k p I F at_end free) ∙ beside_belongings (rest_at w.rests s) beside_is
+    belongings_beside = before.off w k p I F at_end free ended s (steps.other_apart w k p I F at_end free) ∙ beside_belongings (rest_at w.rests s) beside_is
 
     beside_form : (o : Option Rest) → rest_at w.rests s ≡ o → IsRestOf o beside → HeapForm beside.heap
     beside_form None f e = subst (λ (z : Rest). HeapForm z.heap) (sym e.2) (empty_form e.0 e.1)
@@ -153,7 +147,7 @@ module _ (w : SharedValue) (k : ℕ) (p : Private) (I : IsSharedValue w) (F : Fi
       returns = e;
       frame = p.frames.top;
       below = p.frames.below;
-      frames = ap (λ (i : Belongings). i.frames) here;
+      frames = ap (λ (i : Belongings). i.frames) (before.here w k p I F at_end free ended);
       result = refl;
     })
 

@@ -1,5 +1,5 @@
 -- Entries of a part's fresh steps and one that works on an object of another task, as the calls have them.
-use Rattle.std.proofs.Common.{◌≡◌, ℕ, ℤ, suc, ◌+◌, ◌++◌, arith, Option, Some, None, ◌∷◌, [], refl, ap, sym, subst, ◌∙◌}
+use Rattle.std.proofs.Common.{◌≡◌, ℕ, ℤ, suc, ◌+◌, ◌++◌, Option, Some, None, ◌∷◌, [], refl, ap, sym, subst, ◌∙◌}
 use Rattle.std.proofs.lemmas.Option.{same_Some}
 use Rattle.listed.specs.RoomyValue.{RoomyValue}
 use Rattle.hh_lang.specs.declared.program.Line.{Line}
@@ -28,15 +28,13 @@ use Rattle.own_steps.specs.Alone.{GoesAlone, IsShared, alone_event}
 use Rattle.own_steps.proofs.AloneEntries.{last_free}
 use Rattle.own_steps.proofs.LastStepEntry as last
 use Rattle.own_steps.proofs.LastStepEntry.{last_event}
+use Rattle.own_steps.proofs.LastSteps.{one_added}
 use Rattle.others_objects.specs.declared.other.OtherStep.{OtherStep}
 use Rattle.others_objects.specs.declared.other.OtherStep.TheVariants.{SetsNumber, SetsReference}
 use Rattle.others_objects.specs.Other.{ReadsTo, SaysOther, TellsOther, then_places}
 use Rattle.others_objects.proofs.ReadEntered.{read_goes, read_others, read_part, read_world}
 
 module _ (w : SharedValue) (k : ℕ) (p : Private) (I : IsSharedValue w) (F : Fits w k p) (shared : IsShared w p) (free : refused w (alone_event k p) ≡ None) where
-  more : suc p.fresh ≡ p.fresh + 1
-  more = omega arith
-
   abbrev pub free_so : refused w (last_event k p) ≡ None
   free_so = last_free w k p I F shared free
 
@@ -70,7 +68,7 @@ module _ (w : SharedValue) (k : ℕ) (p : Private) (I : IsSharedValue w) (F : Fi
     read_to = record p { frames = record { below = p.frames.below; top = g }; fresh = 0 }
 
     read_is : record w { steps = w.steps + suc p.fresh; journal = record { items = w.journal.items ++ last_event k p ∷ []; room = j.room } } ≡ read_entered
-    read_is = ap (λ n. let z : SharedValue = record w { steps = w.steps + n; journal = record { items = w.journal.items ++ record { worker = k; kind = Ran p.task n } ∷ []; room = j.room } } in z) more
+    read_is = ap (λ n. let z : SharedValue = record w { steps = w.steps + n; journal = record { items = w.journal.items ++ record { worker = k; kind = Ran p.task n } ∷ []; room = j.room } } in z) (one_added p.fresh)
 
     read_world_so : IsSharedValue read_entered
     read_world_so = subst IsSharedValue read_is (read_world w k p I F shared free_so top T g read j)

@@ -1,5 +1,5 @@
 -- Stores into objects of other tasks, as the calls have them.
-use Rattle.std.proofs.Common.{◌≡◌, ℕ, ℤ, suc, ◌+◌, ◌<◌, ◌++◌, arith, Option, Some, None, List, [], ◌∷◌, length, slice_get, slice_set, option_map, refl, ap, sym, subst, ◌∙◌}
+use Rattle.std.proofs.Common.{◌≡◌, ℕ, ℤ, suc, ◌+◌, ◌<◌, ◌++◌, Option, Some, None, List, [], ◌∷◌, length, slice_get, slice_set, option_map, refl, ap, sym, subst, ◌∙◌}
 use Rattle.std.specs.Prelude.{slice_index_or}
 use Rattle.std.proofs.lemmas.Option.{same_Some, slice_get-get_or}
 use Rattle.listed.proofs.Members.{got_same}
@@ -45,6 +45,7 @@ use Rattle.own_steps.specs.Alone.{GoesAlone, IsShared}
 use Rattle.own_steps.proofs.LastStepEntry as last
 use Rattle.own_steps.proofs.LastStepEntry.{last_event}
 use Rattle.own_steps.proofs.OtherStepKinds.{same_object, writing}
+use Rattle.own_steps.proofs.LastSteps.{one_added}
 use Rattle.others_objects.specs.Other.{put_rest}
 use Rattle.others_objects.proofs.ForeignObject.{IsForeign, in_register, x}
 use Rattle.others_objects.proofs.ObjectWritten as other
@@ -76,9 +77,6 @@ module _ (w : SharedValue) (k : ℕ) (p : Private) (I : IsSharedValue w) (F : Fi
 
   abbrev pub X : Task
   X = x w k p I F on
-
-  more : suc p.fresh ≡ p.fresh + 1
-  more = omega arith
 
   -- the value once so many steps are entered
   abbrev pub entered_by : List (Option Rest) → List SetOf → ℕ → RoomyValue EntryValue → SharedValue
@@ -200,7 +198,7 @@ module _ (w : SharedValue) (k : ℕ) (p : Private) (I : IsSharedValue w) (F : Fi
             stored = entered_by rests sets (p.fresh + 1) space
 
             stored_is : entered_by rests sets (suc p.fresh) space ≡ stored
-            stored_is = ap (λ m. entered_by rests sets m space) more
+            stored_is = ap (λ m. entered_by rests sets m space) (one_added p.fresh)
 
             pub reference_world : IsSharedValue stored
             reference_world =
@@ -269,7 +267,7 @@ module _ (w : SharedValue) (k : ℕ) (p : Private) (I : IsSharedValue w) (F : Fi
           stored_n = entered_by homes_n w.sets (p.fresh + 1) space
 
           stored_is_n : entered_by homes_n w.sets (suc p.fresh) space ≡ stored_n
-          stored_is_n = ap (λ m. entered_by homes_n w.sets m space) more
+          stored_is_n = ap (λ m. entered_by homes_n w.sets m space) (one_added p.fresh)
 
           pub number_world : IsSharedValue stored_n
           number_world =

@@ -36,7 +36,7 @@ use Rattle.own_steps.proofs.RunDone.{done_ends, done_others, done_rests, done_wo
 use Rattle.own_steps.proofs.RunHalted.{halted_ends, halted_others, halted_part, halted_world}
 use Rattle.own_steps.proofs.LastStepEntry as last
 use Rattle.own_steps.proofs.LastStepEntry.{last_event}
-use Rattle.own_steps.proofs.LastSteps.{event_is, fits_machine, machine_same}
+use Rattle.own_steps.proofs.LastSteps.{event_is, fits_machine, machine_same, one_added}
 use Rattle.own_steps.proofs.OutputEntered.{output_goes, output_others, output_part, output_world}
 use Rattle.own_steps.proofs.TaskEnds.{has_home, has_node}
 
@@ -47,9 +47,6 @@ trap_is w p kind number T = T.says ∙ ap (λ n. ended_by (then_accounts w p).ma
 module _ (w : SharedValue) (k : ℕ) (p : Private) (I : IsSharedValue w) (F : Fits w k p) (shared : IsShared w p) (free : refused w (alone_event k p) ≡ None) where
   pub last_free : refused w (last_event k p) ≡ None
   last_free = ap (refused w) (sym (event_is k p)) ∙ free
-
-  more : suc p.fresh ≡ p.fresh + 1
-  more = omega arith
 
   pub runs_on : (accounts w).end ≡ None
   runs_on = last.on w k p I F shared last_free
@@ -89,7 +86,7 @@ module _ (w : SharedValue) (k : ℕ) (p : Private) (I : IsSharedValue w) (F : Fi
 
     printed_is : record w { outputs = w.outputs ++ value ∷ []; steps = w.steps + suc p.fresh; journal = record { items = w.journal.items ++ last_event k p ∷ []; room = j.room } } ≡ printed
     printed_is =
-        ap (λ n. let z : SharedValue = record w { outputs = w.outputs ++ value ∷ []; steps = w.steps + n; journal = record { items = w.journal.items ++ record { worker = k; kind = Ran p.task n } ∷ []; room = j.room } } in z) more
+        ap (λ n. let z : SharedValue = record w { outputs = w.outputs ++ value ∷ []; steps = w.steps + n; journal = record { items = w.journal.items ++ record { worker = k; kind = Ran p.task n } ∷ []; room = j.room } } in z) (one_added p.fresh)
 
     pub printed_world : IsSharedValue printed
     printed_world = subst IsSharedValue printed_is (output_world w k p I F shared last_free value line T j)
@@ -110,7 +107,7 @@ module _ (w : SharedValue) (k : ℕ) (p : Private) (I : IsSharedValue w) (F : Fi
 
     halted_is : record w { steps = w.steps + suc p.fresh; journal = record { items = w.journal.items ++ last_event k p ∷ []; room = j.room }; end = Some (Machine x) } ≡ halted
     halted_is =
-        ap (λ n. let z : SharedValue = record w { steps = w.steps + n; journal = record { items = w.journal.items ++ record { worker = k; kind = Ran p.task n } ∷ []; room = j.room }; end = Some (Machine x) } in z) more
+        ap (λ n. let z : SharedValue = record w { steps = w.steps + n; journal = record { items = w.journal.items ++ record { worker = k; kind = Ran p.task n } ∷ []; room = j.room }; end = Some (Machine x) } in z) (one_added p.fresh)
 
     pub halt_world : IsSharedValue halted
     halt_world = subst IsSharedValue halted_is (halted_world w k p I F shared last_free x other is j)
@@ -152,7 +149,7 @@ module _ (w : SharedValue) (k : ℕ) (p : Private) (I : IsSharedValue w) (F : Fi
           steps = w.steps + n;
           journal = record { items = w.journal.items ++ record { worker = k; kind = Ran p.task n } ∷ []; room = j.room };
           end = Some (Machine Done);
-        } in z) more
+        } in z) (one_added p.fresh)
 
     pub finished_world : IsSharedValue finished
     finished_world = subst IsSharedValue finished_is (done_world w k p I F shared last_free line T root j)

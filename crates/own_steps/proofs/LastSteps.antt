@@ -110,8 +110,12 @@ module _ (w : SharedValue) (k : ℕ) (p : Private) (I : IsSharedValue w) (F : Fi
 
 -- WHY IT IS REFUSED
 
+-- so many steps and one more
+pub one_added : (n : ℕ) → suc n ≡ n + 1
+one_added n = omega arith
+
 pub event_is : (k : ℕ) (p : Private) → alone_event k p ≡ record { worker = k; kind = Ran p.task (suc p.fresh) }
-event_is k p = ap (λ n. let e : EntryValue = record { worker = k; kind = Ran p.task n } in e) (let q : p.fresh + 1 ≡ suc p.fresh = omega arith in q)
+event_is k p = ap (λ n. let e : EntryValue = record { worker = k; kind = Ran p.task n } in e) (sym (one_added p.fresh))
 
 else_same : (o rest other : Option Refused) → (o ≡ None → rest ≡ other) → or_else o rest ≡ or_else o other
 else_same None rest other h = h refl

@@ -30,6 +30,7 @@ use Rattle.shared_value.specs.Stands.{IsSharedValue}
 use Rattle.shared_value.specs.Fits.{Fits, OthersFit, belongings_of_part}
 use Rattle.shared_value.specs.Entered.{refused}
 use Rattle.shared_value.proofs.BeforeTheEnd.{end_now}
+use Rattle.shared_value.proofs.TaskTaken.{lets_go}
 use Rattle.own_steps.specs.Alone.{IsShared, Tells}
 use Rattle.own_steps.proofs.LastKinds.{done}
 use Rattle.own_steps.proofs.LastStepEntry as last
@@ -103,7 +104,7 @@ module _ (w : SharedValue) (k : ℕ) (p : Private) (I : IsSharedValue w) (F : Fi
     w' = ending.w' w k p I F shared free end j.room
 
     counts : RanCounts w.program (tree_counts_of w) (tree_counts_of w') M L t k p.fresh S.task S.line Finishing D
-    counts = record { tree = ending.node_ends w k p I F shared free end j.room; task_out = ending.lets_go w k p I F shared free end j.room; outputs = refl; end = refl; used = refl; steps = refl }
+    counts = record { tree = ending.node_ends w k p I F shared free end j.room; task_out = lets_go w w' (last_event k p) I free refl; outputs = refl; end = refl; used = refl; steps = refl }
 
     pub done_world : IsSharedValue w'
     done_world = ending.ended_world w k p I F shared free end j.room E own (ending.makes w k p I F shared free end j.room) (ending.notes w k p I F shared free end j.room) counts

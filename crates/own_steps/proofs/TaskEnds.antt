@@ -19,7 +19,7 @@ use Rattle.core_relation.specs.Changes.{EndsBelongings}
 use Rattle.core_relation.specs.Fits.{part_for, with_belongings}
 use Rattle.core_relation.specs.Makes.{Makes, taken_by}
 use Rattle.core_relation.specs.Marks.{Marks}
-use Rattle.core_relation.specs.RanCounts.{LetsGo, NodeGoes, RanCounts}
+use Rattle.core_relation.specs.RanCounts.{NodeGoes, RanCounts}
 use Rattle.core_relation.specs.Since.{OthersNotes}
 use Rattle.core_relation.specs.Whole.{StandsFor, as_node}
 use Rattle.core_relation.specs.Worker.{WorkerFits}
@@ -35,7 +35,7 @@ use Rattle.shared_value.specs.Fits.{Fits, OthersFit, belongings_of_part, part_of
 use Rattle.shared_value.specs.Entered.{refused}
 use Rattle.shared_value.proofs.EntryMade.{accounts_are, entered, entered_world, task_is_out, held_apart, part_fits, unheld_before}
 use Rattle.shared_value.proofs.BeforeTheEnd.{stands_now}
-use Rattle.shared_value.proofs.TaskTaken.{made_by, node_by, node_off, worker_there}
+use Rattle.shared_value.proofs.TaskTaken.{made_by, node_by, node_off}
 use Rattle.own_steps.specs.Alone.{IsShared, ended_rest}
 use Rattle.own_steps.proofs.LastStepEntry as last
 use Rattle.own_steps.proofs.LastStepEntry.{last_event}
@@ -132,9 +132,6 @@ module _ (w : SharedValue) (k : ℕ) (p : Private) (I : IsSharedValue w) (F : Fi
 
     pub node_ends : NodeGoes (tree_counts_of w) (tree_counts_of w') t Ended
     node_ends = record { node = node_by w.tree t Ended (slice_get w.tree t) refl; others = λ u ne. node_off w.tree t Ended (slice_get w.tree t) u ne }
-
-    pub lets_go : LetsGo (tree_counts_of w) (tree_counts_of w') k
-    lets_go = record { task_out = ap option_flatten (got_set w.tasks_out k None (worker_there w (last_event k p) I free)); others = λ u ne. ap option_flatten (got_other w.tasks_out k u None ne) }
 
     heaps_then : (u : ℕ) (r : Rest) → rest_at rests u ≡ Some r → HeapForm r.heap
     heaps_then u r is = elim (cases_eq u t) [

@@ -30,6 +30,7 @@ use Rattle.ledger_step_laws.specs.Accounts.{Rests}
 use Rattle.core_relation.specs.Memory.{Belongings, Memory}
 use Rattle.core_relation.specs.Changes.{SameBut}
 use Rattle.core_relation.specs.Counts.{TakesNode}
+use Rattle.core_relation.specs.RanCounts.{LetsGo}
 use Rattle.core_relation.specs.Reads.{FramesAreRead, HoldsRead}
 use Rattle.core_relation.specs.Stands.{Place}
 use Rattle.core_relation.specs.Fits.{part_for}
@@ -92,6 +93,13 @@ worker_there w e I free =
     let lt : e.worker < w.settings.workers =
     ltb-true e.worker w.settings.workers (worker_free (is_some (accounts w).end) (nat_le w.settings.fuel (accounts w).steps && not (is_fuel e.kind)) (nat_lt e.worker w.settings.workers) Over (Spent (accounts w).steps) NoWorker (kind_refusal w.program w.settings (accounts w) e.worker e.kind) free) in
     omega (arith, lt, I.workers)
+
+-- and it may let go of its task
+pub lets_go : (w after : SharedValue) (e : EntryValue) → IsSharedValue w → refused w e ≡ None → after.tasks_out ≡ slice_set w.tasks_out e.worker None → LetsGo (tree_counts_of w) (tree_counts_of after) e.worker
+lets_go w after e I free same = record {
+  task_out = ap (λ (ts : List (Option ℕ)). option_flatten (slice_get ts e.worker)) same ∙ ap option_flatten (got_set w.tasks_out e.worker None (worker_there w e I free));
+  others = λ u ne. ap (λ (ts : List (Option ℕ)). option_flatten (slice_get ts u)) same ∙ ap option_flatten (got_other w.tasks_out e.worker u None ne);
+}
 
 pub made_by : (xs : List Node) (t : ℕ) (s : State) (o : Option Node) → length (set_at xs t s o) ≡ length xs
 made_by xs t s None = refl
