@@ -28,7 +28,7 @@ use Rattle.object_layout.specs.Objects.{Located}
 use Rattle.chunk_pool.specs.declared.pool.Slot.{Slot}
 use Rattle.chunk_pool.specs.PoolValue.{PoolValue, Takes as PoolTakes, units_in_use}
 use Rattle.alloc_path.specs.LeafHeapValue.{LeafHeapValue, IsFresh, added, with_places}
-use Rattle.ledger_step_laws.specs.Accounts.{Rests, rested}
+use Rattle.ledger_step_laws.specs.Accounts.{rested}
 use Rattle.ledger_step_laws.proofs.Ahead.{heap_then, with_at, with_off}
 use Rattle.ledger_step_laws.proofs.Rested.{rested_view}
 use Rattle.core_relation.specs.Memory.{Chunk, Belongings, In, Memory, object_name, objects, objects_in}
@@ -37,9 +37,8 @@ use Rattle.core_relation.specs.Stands.{HasNames, BelongingsStand, large_chunks}
 use Rattle.core_relation.specs.Changes.{SameObjects}
 use Rattle.core_relation.specs.Counts.{AsksUnits, CountsGo}
 use Rattle.core_relation.specs.Since.{NotesStay}
-use Rattle.core_relation.specs.Whole.{BegunBy, StandsFor}
+use Rattle.core_relation.specs.Whole.{BegunBy}
 use Rattle.core_relation.specs.Fits.{with_belongings}
-use Rattle.core_relation.proofs.changes.Alone.{belongings_kept}
 use Rattle.core_relation.proofs.changes.With.{at_belongings, off_belongings}
 use Rattle.task_machine.specs.declared.part.Private.{Private}
 use Rattle.task_machine.specs.Accounts.{AreReserved, IsCounted}
@@ -53,7 +52,7 @@ use Rattle.shared_value.specs.Fits.{Fits, OthersFit, belongings_of_part}
 use Rattle.shared_value.specs.Next.{part_asks}
 use Rattle.shared_value.specs.Causes.{need_cause}
 use Rattle.shared_value.specs.Entered.{refused}
-use Rattle.shared_value.proofs.NextStepAsks.{account_is, asks_is, counted_is}
+use Rattle.shared_value.proofs.NextStepAsks.{asks_is, counted_is}
 use Rattle.shared_value.proofs.CollectionUnderWay.{account_idle, none_begun}
 use Rattle.shared_value.proofs.HeapCounts.{small_names}
 use Rattle.shared_value.proofs.EntryMade.{entered, entry_on, held_apart}
@@ -65,6 +64,7 @@ use Rattle.shared_value.proofs.BeforeTheEnd.{part_idle, stands_now, used_now}
 use Rattle.shared_value.proofs.StepsEntered.{fits_now, belongings_stand}
 use Rattle.shared_value.proofs.HeapForms.{places_form}
 use Rattle.shared_value.proofs.HeapLaidOut.{some_units}
+use Rattle.leaf_collections.proofs.AccountChanges as change
 use Rattle.leaf_collections.proofs.MoreChunksRead.{units_some, chunk_begun, chunk_held, chunk_large, chunk_since, chunk_with, grown_counted, in_more, large_more, none_in, objects_more}
 use Rattle.leaf_collections.proofs.MoreChunksLaid.{form_more, laid_more}
 use Rattle.leaf_collections.proofs.WhyNoChunk.{at_work, chunk_is}
@@ -131,26 +131,11 @@ module _ (w : SharedValue) (k : ℕ) (p : Private) (I : IsSharedValue w) (F : Fi
       (lt-ltb w.settings.chunks (units_in_use w.pool + chunk_units (Some words)) (let q : w.pool.limit ≡ w.settings.chunks = I.limit in omega (arith, full, q))))
 
   -- ---- WHERE IT IS GIVEN
-  there : (z : Heap) × (slice_get l.heaps t ≡ Some z)
-  there = account_is w k P I F on
+  abbrev there : (z : Heap) × (slice_get l.heaps t ≡ Some z)
+  there = change.there w k p I F on more (chunk_held words)
 
   heap_then_is : slice_get L.heaps t ≡ Some (more there.0)
-  heap_then_is = with_at l t more ∙ ap (heap_then more) there.1
-
-  heap_off : (u : ℕ) → (u ≡ t → ⊥) → slice_get L.heaps u ≡ slice_get l.heaps u
-  heap_off u ne = with_off l t u more ne
-
-  held_then : (heap_of L t).worker ≡ Some k
-  held_then = ap (λ o. (or_fresh o).worker) heap_then_is ∙ (chunk_held words there.0 ∙ (ap (λ o. (or_fresh o).worker) (sym there.1) ∙ F.held))
-
-  not_t : (u : ℕ) → Rests L u → u ≡ t → ⊥
-  not_t u r q = let a : (heap_of L u).worker ≡ Some k = ap (λ z. (heap_of L z).worker) q ∙ held_then in absurd cc
-
-  rested_before : (u : ℕ) → Rests L u → Rests l u
-  rested_before u r = ap (λ o. (or_fresh o).worker) (sym (heap_off u (not_t u r))) ∙ r
-
-  same_machine : L.machine ≡ l.machine
-  same_machine = heap_machine l t more
+  heap_then_is = change.heap_then_is w k p I F on more (chunk_held words)
 
   -- the part is amid no leaf collection
   abbrev by_need : Option Refused
@@ -233,22 +218,8 @@ module _ (w : SharedValue) (k : ℕ) (p : Private) (I : IsSharedValue w) (F : Fi
     ]
 
     -- nothing moves
-    abbrev S : StandsFor v (tree_counts_of w) l
-    S = stands_now w I on
-
     objects_same : SameObjects v v' l L
-    objects_same = record {
-      belongings = λ u r. belongings_kept v v' l L u refl (λ c e. owner_kept c u e) (ap or_fresh (heap_off u (not_t u r))) (ap (λ (m : State). length (row_of (slice_get m.store u))) same_machine) (ap (λ (m : State). is_joined (slice_get m.tasks u)) same_machine) (S.belongings.belongings u (rested_before u r));
-      objects = λ u. refl;
-      chunks = λ u e. refl;
-      frames = λ u. refl;
-      result = λ u. refl;
-      view = λ u. refl;
-      owner = owner_kept;
-      taken = owner_taken;
-      begun = λ u e. refl;
-      sources = λ u. refl;
-    }
+    objects_same = change.same_objects w k p I F on more (chunk_held words) pool owner_kept owner_taken
 
     notes : (u : ℕ) → NotesStay v v' u
     notes u = record { keeps = refl; kept = refl; marked = refl }
@@ -379,7 +350,7 @@ module _ (w : SharedValue) (k : ℕ) (p : Private) (I : IsSharedValue w) (F : Fi
     form_then = form_more p.heap F.form number u slots spare (omega (arith, size_least)) none_reserved shaped_then chunks_are counted_then.last counted_then.last_large
 
     rested_same : (rested l t).machine ≡ (rested L t).machine
-    rested_same = heap_machine l t let_go ∙ (sym same_machine ∙ sym (heap_machine L t let_go))
+    rested_same = change.rested_same w k p I F on more (chunk_held words)
 
     belongings_then : BelongingsStand after_ (rested L t) t
     belongings_then = record {
@@ -409,7 +380,7 @@ module _ (w : SharedValue) (k : ℕ) (p : Private) (I : IsSharedValue w) (F : Fi
 
     part_same : SameObjects before after_ (rested l t) (rested L t)
     part_same = record {
-      belongings = belongings_at;
+      belongings = change.all_stand w k p I F on more (chunk_held words) pool owner_kept (belongings_of_part Q) belongings_then;
       objects = λ u. seen (λ (z : Belongings). objects_in z.chunks) objects_then u;
       chunks = λ u e. elim (cases_eq u t) [
         | inl q ↦ absurd (both_ways (is_waiting (slice_get l.machine.tasks t)) idle (ap (λ z. is_waiting (slice_get l.machine.tasks z)) (sym q) ∙ (ap (λ (m : State). is_waiting (slice_get m.tasks u)) (sym (heap_machine l t let_go)) ∙ e)))
@@ -428,22 +399,7 @@ module _ (w : SharedValue) (k : ℕ) (p : Private) (I : IsSharedValue w) (F : Fi
     }
       where
         seen : {A : Type 0} (view : Belongings → A) → view (belongings_of_part Q) ≡ view (belongings_of_part P) → (u : ℕ) → view (after_.belongings u) ≡ view (before.belongings u)
-        seen view e u = elim (cases_eq u t) [
-          | inl q ↦ ap (λ z. view (after_.belongings z)) q ∙ (ap view here' ∙ (e ∙ (ap view (sym here) ∙ ap (λ z. view (before.belongings z)) (sym q))))
-          | inr ne ↦ ap view (off_belongings v' t (belongings_of_part Q) u ne ∙ sym (off_belongings v t (belongings_of_part P) u ne))
-        ]
-
-        belongings_at : (u : ℕ) → Rests (rested L t) u → BelongingsStand after_ (rested L t) u
-        belongings_at u r = elim (cases_eq u t) [
-          | inl q ↦ subst (BelongingsStand after_ (rested L t)) (sym q) belongings_then
-          | inr ne ↦
-              let same : heap_of (rested L t) u ≡ heap_of (rested l t) u = ap or_fresh (with_off L t u let_go ne ∙ (heap_off u ne ∙ sym (with_off l t u let_go ne))) in
-              let rests : Rests (rested l t) u = ap (λ (z : Heap). z.worker) (sym same) ∙ r in
-              belongings_kept before after_ (rested l t) (rested L t) u (off_belongings v' t (belongings_of_part Q) u ne ∙ sym (off_belongings v t (belongings_of_part P) u ne)) (λ c e. owner_kept c u e) same
-              (ap (λ (m : State). length (row_of (slice_get m.store u))) (heap_machine L t let_go ∙ (same_machine ∙ sym (heap_machine l t let_go))))
-              (ap (λ (m : State). is_joined (slice_get m.tasks u)) (heap_machine L t let_go ∙ (same_machine ∙ sym (heap_machine l t let_go))))
-              ((fits_now w k P I F on).stands.belongings u rests)
-        ]
+        seen view e u = change.seen w k p I F on more (chunk_held words) pool owner_kept (belongings_of_part Q) view e u
 
     none_then : (heap_of (rested L t) t).begun ≡ None
     none_then = ap (λ (z : Heap). z.begun) account_then ∙ (chunk_begun words there.0 ∙ (ap (λ o. (or_fresh o).begun) (sym there.1) ∙ account_idle w k P F on idle_part))

@@ -1,31 +1,24 @@
 -- A leaf collection of a part begins: the shared value and the parts of others.
-use Rattle.std.proofs.Common.{◌≡◌, ℕ, ◌+◌, true, false, Some, None, List, [], length, map, slice_get, option_map, is_some, ◌⊎◌, inl, inr, refl, ap, sym, ◌∙◌}
+use Rattle.std.proofs.Common.{◌≡◌, ℕ, ◌+◌, true, false, Some, None, List, [], map, slice_get, option_map, is_some, ◌⊎◌, inl, inr, refl, ap, sym, ◌∙◌}
 use Rattle.std.proofs.lemmas.Bool.{cases_Bool}
 use Rattle.std.proofs.lemmas.Option.{same_Some}
 use Rattle.listed.specs.RoomyValue.{RoomyValue}
 use Rattle.listed.proofs.Places.{read_in}
-use Rattle.hh_model.specs.declared.data.State.{State}
-use Rattle.hh_model.specs.Effect.{row_of}
-use Rattle.hh_model.specs.Step.{is_joined, is_waiting}
+use Rattle.hh_model.specs.Step.{is_waiting}
 use Rattle.run_trace.specs.declared.entry.Kind.TheVariants.{Begin}
 use Rattle.run_trace.specs.Entry.{EntryValue}
 use Rattle.run_ledger.specs.declared.data.Heap.{Heap}
 use Rattle.run_ledger.specs.declared.data.Ledger.{Ledger}
-use Rattle.run_ledger.specs.Heaps.{heap_of, or_fresh, take_of, with_heap, within}
-use Rattle.run_ledger.proofs.Machine.{heap_machine}
+use Rattle.run_ledger.specs.Heaps.{take_of, with_heap, within}
 use Rattle.object_layout.specs.Chunks.{has_chunk, small_words}
 use Rattle.object_layout.specs.ChunkValue.{ChunkValue, number_of}
 use Rattle.chunk_pool.specs.PoolValue.{PoolValue, TakesAll, slot_in, units_in_use}
 use Rattle.chunk_pool.proofs.OwnerLaws.{taken_are_owned}
 use Rattle.alloc_path.specs.LeafHeapValue.{LeafHeapValue, with_places}
-use Rattle.ledger_step_laws.specs.Accounts.{Rests}
-use Rattle.ledger_step_laws.proofs.Ahead.{heap_then, with_at, with_off}
 use Rattle.core_relation.specs.Changes.{SameObjects}
 use Rattle.core_relation.specs.Counts.{CountsGo}
 use Rattle.core_relation.specs.Since.{NotesStay}
 use Rattle.core_relation.specs.Memory.{In, Memory}
-use Rattle.core_relation.specs.Whole.{StandsFor}
-use Rattle.core_relation.proofs.changes.Alone.{belongings_kept}
 use Rattle.task_machine.specs.declared.part.Begun.{Begun}
 use Rattle.task_machine.specs.declared.part.Private.{Private}
 use Rattle.shared_value.specs.SharedValue.{SharedValue, accounts, tree_counts_of, value_of}
@@ -35,13 +28,13 @@ use Rattle.shared_value.specs.Fits.{Fits, OthersFit}
 use Rattle.shared_value.specs.Due.{take_by}
 use Rattle.shared_value.specs.Entered.{refused}
 use Rattle.shared_value.specs.Roots.{roots_of}
-use Rattle.shared_value.proofs.NextStepAsks.{account_is}
 use Rattle.shared_value.proofs.EntryMade.{entered, entry_on, held_apart}
 use Rattle.shared_value.proofs.FreeChunks.{take_is}
 use Rattle.shared_value.proofs.NothingMoves.{quiet_others, quiet_world}
 use Rattle.shared_value.proofs.UnitsMeasured.{all_taken_keep}
-use Rattle.shared_value.proofs.BeforeTheEnd.{part_idle, stands_now}
+use Rattle.shared_value.proofs.BeforeTheEnd.{part_idle}
 use Rattle.shared_value.proofs.RootsHeld.{chunk_in}
+use Rattle.leaf_collections.proofs.AccountChanges as change
 
 module _ (w : SharedValue) (k : ℕ) (p : Private) (I : IsSharedValue w) (F : Fits w k (record p { fresh = 0 })) (free : refused w (record { worker = k; kind = Begin p.task }) ≡ None) where
   abbrev P : Private
@@ -67,27 +60,6 @@ module _ (w : SharedValue) (k : ℕ) (p : Private) (I : IsSharedValue w) (F : Fi
 
   on : l.end ≡ None
   on = entry_on w e free
-
-  pub there : (z : Heap) × (slice_get l.heaps t ≡ Some z)
-  there = account_is w k P I F on
-
-  pub heap_then_is : slice_get L.heaps t ≡ Some (begun_with there.0)
-  heap_then_is = with_at l t begun_with ∙ ap (heap_then begun_with) there.1
-
-  pub heap_off : (u : ℕ) → (u ≡ t → ⊥) → slice_get L.heaps u ≡ slice_get l.heaps u
-  heap_off u ne = with_off l t u begun_with ne
-
-  held_then : (heap_of L t).worker ≡ Some k
-  held_then = ap (λ o. (or_fresh o).worker) heap_then_is ∙ (ap (λ o. (or_fresh o).worker) (sym there.1) ∙ F.held)
-
-  not_t : (u : ℕ) → Rests L u → u ≡ t → ⊥
-  not_t u r q = let a : (heap_of L u).worker ≡ Some k = ap (λ z. (heap_of L z).worker) q ∙ held_then in absurd cc
-
-  rested_before : (u : ℕ) → Rests L u → Rests l u
-  rested_before u r = ap (λ o. (or_fresh o).worker) (sym (heap_off u (not_t u r))) ∙ r
-
-  pub same_machine : L.machine ≡ l.machine
-  same_machine = heap_machine l t begun_with
 
   idle : is_waiting (slice_get l.machine.tasks t) ≡ false
   idle = part_idle w k P F on
@@ -137,22 +109,8 @@ module _ (w : SharedValue) (k : ℕ) (p : Private) (I : IsSharedValue w) (F : Fi
     ]
 
     -- NOTHING MOVES
-    abbrev S : StandsFor v (tree_counts_of w) l
-    S = stands_now w I on
-
     pub same : SameObjects v v' l L
-    same = record {
-      belongings = λ u r. belongings_kept v v' l L u refl (λ c q. owner_kept c u q) (ap or_fresh (heap_off u (not_t u r))) (ap (λ (m : State). length (row_of (slice_get m.store u))) same_machine) (ap (λ (m : State). is_joined (slice_get m.tasks u)) same_machine) (S.belongings.belongings u (rested_before u r));
-      objects = λ u. refl;
-      chunks = λ u e. refl;
-      frames = λ u. refl;
-      result = λ u. refl;
-      view = λ u. refl;
-      owner = owner_kept;
-      taken = owner_taken;
-      begun = λ u q. refl;
-      sources = λ u. refl;
-    }
+    same = change.same_objects w k p I F on begun_with (λ z. refl) pool owner_kept owner_taken
 
     pub notes : (u : ℕ) → NotesStay v v' u
     notes u = record { keeps = refl; kept = refl; marked = refl }

@@ -1,6 +1,5 @@
 -- A leaf collection of a part is put off.
-use Rattle.std.proofs.Common.{◌≡◌, ℕ, arith, false, Some, None, [], ◌∷◌, ◌++◌, length, slice_get, is_none, is_some, inl, inr, refl, ap, sym, subst, ◌∙◌}
-use Rattle.std.proofs.lemmas.Bool.{cases_eq}
+use Rattle.std.proofs.Common.{◌≡◌, ℕ, arith, false, Some, None, [], ◌∷◌, ◌++◌, length, slice_get, is_none, is_some, inl, refl, ap, sym, subst, ◌∙◌}
 use Rattle.listed.specs.RoomyValue.{RoomyValue}
 use Rattle.hh_model.specs.declared.data.State.{State}
 use Rattle.hh_model.specs.Effect.{row_of}
@@ -13,11 +12,10 @@ use Rattle.run_ledger.specs.declared.data.Refused.TheVariants.{PoolEnough}
 use Rattle.run_ledger.specs.Heaps.{heap_of, in_use, let_go, or_fresh, with_heap}
 use Rattle.run_ledger.specs.Entries.{is_pool_enough, on_due, refused_if}
 use Rattle.run_ledger.proofs.Journals.{entry_tells}
-use Rattle.run_ledger.proofs.Machine.{heap_machine}
 use Rattle.chunk_pool.specs.PoolValue.{units_in_use}
 use Rattle.alloc_path.specs.LeafHeapValue.{LeafHeapValue}
-use Rattle.ledger_step_laws.specs.Accounts.{Rests, rested}
-use Rattle.ledger_step_laws.proofs.Ahead.{heap_then, with_at, with_off}
+use Rattle.ledger_step_laws.specs.Accounts.{rested}
+use Rattle.ledger_step_laws.proofs.Ahead.{heap_then, with_at}
 use Rattle.ledger_step_laws.proofs.Rested.{rested_view}
 use Rattle.core_relation.specs.Changes.{SameObjects}
 use Rattle.core_relation.specs.Counts.{CountsGo}
@@ -27,9 +25,8 @@ use Rattle.core_relation.specs.Since.{NotesStay}
 use Rattle.core_relation.specs.Stands.{HasNames, BelongingsStand}
 use Rattle.object_layout.specs.Objects.{Located}
 use Rattle.core_relation.specs.Memory.{Chunk, Belongings, In, Memory, objects, objects_in}
-use Rattle.core_relation.specs.Whole.{BegunBy, StandsFor}
-use Rattle.core_relation.proofs.changes.Alone.{belongings_kept}
-use Rattle.core_relation.proofs.changes.With.{at_belongings, off_belongings}
+use Rattle.core_relation.specs.Whole.{BegunBy}
+use Rattle.core_relation.proofs.changes.With.{at_belongings}
 use Rattle.task_machine.specs.declared.part.Private.{Private}
 use Rattle.shared_value.specs.SharedValue.{SharedValue, accounts, tree_counts_of, value_of}
 use Rattle.shared_value.specs.Stands.{HeapForm, IsSharedValue}
@@ -38,13 +35,12 @@ use Rattle.shared_value.specs.Causes.{first_cause, or_else}
 use Rattle.shared_value.specs.Due.{due_cause}
 use Rattle.shared_value.specs.Entered.{refused}
 use Rattle.shared_value.specs.Next.{part_asks}
-use Rattle.shared_value.proofs.NextStepAsks.{account_is}
 use Rattle.shared_value.proofs.CollectionUnderWay.{account_idle, none_begun}
 use Rattle.shared_value.proofs.EntryMade.{entered, entry_on, held_apart}
 use Rattle.shared_value.proofs.NothingMoves.{quiet_others, quiet_own, quiet_world}
 use Rattle.shared_value.proofs.UnitsMeasured.{all_kept}
-use Rattle.shared_value.proofs.BeforeTheEnd.{stands_now}
-use Rattle.shared_value.proofs.StepsEntered.{fits_now, belongings_stand}
+use Rattle.shared_value.proofs.StepsEntered.{belongings_stand}
+use Rattle.leaf_collections.proofs.AccountChanges as change
 use Rattle.leaf_collections.proofs.WhyNotDue.{due_answer}
 
 -- WHY IT IS REFUSED
@@ -103,43 +99,14 @@ module _ (w : SharedValue) (k : ℕ) (p : Private) (I : IsSharedValue w) (F : Fi
   on : l.end ≡ None
   on = entry_on w e free
 
-  there : (z : Heap) × (slice_get l.heaps t ≡ Some z)
-  there = account_is w k P I F on
+  abbrev there : (z : Heap) × (slice_get l.heaps t ≡ Some z)
+  there = change.there w k p I F on counted_anew (λ z. refl)
 
   heap_then_is : slice_get L.heaps t ≡ Some (counted_anew there.0)
-  heap_then_is = with_at l t counted_anew ∙ ap (heap_then counted_anew) there.1
-
-  heap_off : (u : ℕ) → (u ≡ t → ⊥) → slice_get L.heaps u ≡ slice_get l.heaps u
-  heap_off u ne = with_off l t u counted_anew ne
-
-  held_then : (heap_of L t).worker ≡ Some k
-  held_then = ap (λ o. (or_fresh o).worker) heap_then_is ∙ (ap (λ o. (or_fresh o).worker) (sym there.1) ∙ F.held)
-
-  not_t : (u : ℕ) → Rests L u → u ≡ t → ⊥
-  not_t u r q = let a : (heap_of L u).worker ≡ Some k = ap (λ z. (heap_of L z).worker) q ∙ held_then in absurd cc
-
-  rested_before : (u : ℕ) → Rests L u → Rests l u
-  rested_before u r = ap (λ o. (or_fresh o).worker) (sym (heap_off u (not_t u r))) ∙ r
-
-  same_machine : L.machine ≡ l.machine
-  same_machine = heap_machine l t counted_anew
-
-  abbrev S : StandsFor v (tree_counts_of w) l
-  S = stands_now w I on
+  heap_then_is = change.heap_then_is w k p I F on counted_anew (λ z. refl)
 
   same : SameObjects v v l L
-  same = record {
-    belongings = λ u r. belongings_kept v v l L u refl (λ c e. e) (ap or_fresh (heap_off u (not_t u r))) (ap (λ (m : State). length (row_of (slice_get m.store u))) same_machine) (ap (λ (m : State). is_joined (slice_get m.tasks u)) same_machine) (S.belongings.belongings u (rested_before u r));
-    objects = λ u. refl;
-    chunks = λ u e. refl;
-    frames = λ u. refl;
-    result = λ u. refl;
-    view = λ u. refl;
-    owner = λ c u e. e;
-    taken = λ c u e. inl e;
-    begun = λ u e. refl;
-    sources = λ u. refl;
-  }
+  same = change.same_objects w k p I F on counted_anew (λ z. refl) w.pool (λ c u e. e) (λ c u e. inl e)
 
   notes : (u : ℕ) → NotesStay v v u
   notes u = record { keeps = refl; kept = refl; marked = refl }
@@ -181,7 +148,7 @@ module _ (w : SharedValue) (k : ℕ) (p : Private) (I : IsSharedValue w) (F : Fi
   object_was o i = subst (λ (z : Belongings). In (objects_in z.chunks) o) (sym here) (subst (λ (z : Belongings). In (objects_in z.chunks) o) here' i)
 
   rested_same : (rested l t).machine ≡ (rested L t).machine
-  rested_same = heap_machine l t let_go ∙ (sym same_machine ∙ sym (heap_machine L t let_go))
+  rested_same = change.rested_same w k p I F on counted_anew (λ z. refl)
 
   belongings_then : BelongingsStand after_ (rested L t) t
   belongings_then = record {
@@ -200,7 +167,7 @@ module _ (w : SharedValue) (k : ℕ) (p : Private) (I : IsSharedValue w) (F : Fi
 
   part_same : SameObjects before after_ (rested l t) (rested L t)
   part_same = record {
-    belongings = belongings_at;
+    belongings = change.all_stand w k p I F on counted_anew (λ z. refl) w.pool (λ c u e. e) (belongings_of_part Q) belongings_then;
     objects = λ u. seen (λ (z : Belongings). objects_in z.chunks) refl u;
     chunks = λ u e. seen (λ (z : Belongings). length z.chunks) refl u;
     frames = λ u. seen (λ (z : Belongings). z.frames) refl u;
@@ -213,22 +180,7 @@ module _ (w : SharedValue) (k : ℕ) (p : Private) (I : IsSharedValue w) (F : Fi
   }
     where
       seen : {A : Type 0} (view : Belongings → A) → view (belongings_of_part Q) ≡ view (belongings_of_part P) → (u : ℕ) → view (after_.belongings u) ≡ view (before.belongings u)
-      seen view e u = elim (cases_eq u t) [
-        | inl q ↦ ap (λ z. view (after_.belongings z)) q ∙ (ap view here' ∙ (e ∙ (ap view (sym here) ∙ ap (λ z. view (before.belongings z)) (sym q))))
-        | inr ne ↦ ap view (off_belongings v t (belongings_of_part Q) u ne ∙ sym (off_belongings v t (belongings_of_part P) u ne))
-      ]
-
-      belongings_at : (u : ℕ) → Rests (rested L t) u → BelongingsStand after_ (rested L t) u
-      belongings_at u r = elim (cases_eq u t) [
-        | inl q ↦ subst (BelongingsStand after_ (rested L t)) (sym q) belongings_then
-        | inr ne ↦
-            let same : heap_of (rested L t) u ≡ heap_of (rested l t) u = ap or_fresh (with_off L t u let_go ne ∙ (heap_off u ne ∙ sym (with_off l t u let_go ne))) in
-            let rests : Rests (rested l t) u = ap (λ (z : Heap). z.worker) (sym same) ∙ r in
-            belongings_kept before after_ (rested l t) (rested L t) u (off_belongings v t (belongings_of_part Q) u ne ∙ sym (off_belongings v t (belongings_of_part P) u ne)) (λ c e. e) same
-            (ap (λ (m : State). length (row_of (slice_get m.store u))) (heap_machine L t let_go ∙ (same_machine ∙ sym (heap_machine l t let_go))))
-            (ap (λ (m : State). is_joined (slice_get m.tasks u)) (heap_machine L t let_go ∙ (same_machine ∙ sym (heap_machine l t let_go))))
-            ((fits_now w k P I F on).stands.belongings u rests)
-      ]
+      seen view e u = change.seen w k p I F on counted_anew (λ z. refl) w.pool (λ c u e. e) (belongings_of_part Q) view e u
 
   -- the part is amid no leaf collection
   idle_part : p.begun ≡ None

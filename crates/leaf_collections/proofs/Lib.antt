@@ -1,5 +1,6 @@
 pub mod WhyNoChunk
 pub mod WhyNotDue
+pub mod AccountChanges
 pub mod CollectionPutOff
 pub mod WhyNoCollection
 pub mod NewChunks

@@ -19,8 +19,8 @@ use Rattle.object_layout.specs.Objects.{Located}
 use Rattle.object_layout.proofs.ObjectLemmas.{has_own}
 use Rattle.chunk_pool.specs.PoolValue.{PoolValue, TakesAll}
 use Rattle.alloc_path.specs.LeafHeapValue.{LeafHeapValue, IsFresh, with_places}
-use Rattle.ledger_step_laws.specs.Accounts.{Rests, rested}
-use Rattle.ledger_step_laws.proofs.Ahead.{heap_then, with_at, with_off}
+use Rattle.ledger_step_laws.specs.Accounts.{rested}
+use Rattle.ledger_step_laws.proofs.Ahead.{heap_then, with_at}
 use Rattle.ledger_step_laws.proofs.Entries.{within_rested}
 use Rattle.ledger_step_laws.proofs.Known.{legal_knows}
 use Rattle.ledger_step_laws.proofs.Rested.{rested_sound, rested_view, rested_worker}
@@ -31,7 +31,6 @@ use Rattle.core_relation.specs.Layout.{AreLaidOut}
 use Rattle.core_relation.specs.Stands.{HasNames, BelongingsStand}
 use Rattle.core_relation.specs.Memory.{Chunk, Belongings, In, Memory, objects, objects_in}
 use Rattle.core_relation.specs.Whole.{BegunStands, Begins}
-use Rattle.core_relation.proofs.changes.Alone.{belongings_kept}
 use Rattle.core_entry_laws.proofs.notes.Begun.{begins}
 use Rattle.core_relation.proofs.changes.With.{at_belongings, off_belongings}
 use Rattle.task_machine.specs.declared.part.Begun.{Begun}
@@ -53,6 +52,7 @@ use Rattle.shared_value.proofs.PartFitsMachine as link
 use Rattle.shared_value.proofs.UnitsMeasured.{all_taken_units, measured_kept}
 use Rattle.shared_value.proofs.StepsEntered.{fits_now, belongings_stand, status}
 use Rattle.shared_value.proofs.RootsByAccounts.{are_roots}
+use Rattle.leaf_collections.proofs.AccountChanges as change
 use Rattle.leaf_collections.proofs.WhyNoCollection.{begin_idle}
 use Rattle.leaf_collections.proofs.CollectionBegins as first
 use Rattle.leaf_collections.proofs.NewChunks.{distinct_numbers, idle_rest}
@@ -83,16 +83,10 @@ module _ (w : SharedValue) (k : ℕ) (p : Private) (I : IsSharedValue w) (F : Fi
   on = entry_on w e free
 
   abbrev there : (z : Heap) × (slice_get l.heaps t ≡ Some z)
-  there = first.there w k p I F free
+  there = change.there w k p I F on begun_with (λ z. refl)
 
   heap_then_is : slice_get L.heaps t ≡ Some (begun_with there.0)
-  heap_then_is = first.heap_then_is w k p I F free
-
-  heap_off : (u : ℕ) → (u ≡ t → ⊥) → slice_get L.heaps u ≡ slice_get l.heaps u
-  heap_off = first.heap_off w k p I F free
-
-  same_machine : L.machine ≡ l.machine
-  same_machine = first.same_machine w k p I F free
+  heap_then_is = change.heap_then_is w k p I F on begun_with (λ z. refl)
 
   module _ (pool : PoolValue) (news : List ChunkValue) (slots spare : ℕ) (T : TakesAll w.pool pool p.task (take_by (small_words p.heap.chunks)) [] news) (j : RoomyValue EntryValue) where
     abbrev ks : List ChunkValue
@@ -158,7 +152,7 @@ module _ (w : SharedValue) (k : ℕ) (p : Private) (I : IsSharedValue w) (F : Fi
     object_was o i = subst (λ (z : Belongings). In (objects_in z.chunks) o) (sym here) (subst (λ (z : Belongings). In (objects_in z.chunks) o) here' i)
 
     rested_same : (rested l t).machine ≡ (rested L t).machine
-    rested_same = heap_machine l t let_go ∙ (sym same_machine ∙ sym (heap_machine L t let_go))
+    rested_same = change.rested_same w k p I F on begun_with (λ z. refl)
 
     belongings_then : BelongingsStand after_ (rested L t) t
     belongings_then = record {
@@ -180,7 +174,7 @@ module _ (w : SharedValue) (k : ℕ) (p : Private) (I : IsSharedValue w) (F : Fi
 
     part_same : SameObjects before after_ (rested l t) (rested L t)
     part_same = record {
-      belongings = belongings_at;
+      belongings = change.all_stand w k p I F on begun_with (λ z. refl) pool owner_kept (belongings_of_part Q) belongings_then;
       objects = λ u. seen (λ (z : Belongings). objects_in z.chunks) refl u;
       chunks = λ u e. seen (λ (z : Belongings). length z.chunks) refl u;
       frames = λ u. seen (λ (z : Belongings). z.frames) refl u;
@@ -196,10 +190,7 @@ module _ (w : SharedValue) (k : ℕ) (p : Private) (I : IsSharedValue w) (F : Fi
     }
       where
         seen : {A : Type 0} (view : Belongings → A) → view (belongings_of_part Q) ≡ view (belongings_of_part P) → (u : ℕ) → view (after_.belongings u) ≡ view (before.belongings u)
-        seen view q u = elim (cases_eq u t) [
-          | inl z ↦ ap (λ y. view (after_.belongings y)) z ∙ (ap view here' ∙ (q ∙ (ap view (sym here) ∙ ap (λ y. view (before.belongings y)) (sym z))))
-          | inr ne ↦ ap view (off_belongings v' t (belongings_of_part Q) u ne ∙ sym (off_belongings v t (belongings_of_part P) u ne))
-        ]
+        seen view q u = change.seen w k p I F on begun_with (λ z. refl) pool owner_kept (belongings_of_part Q) view q u
 
         none_some : {A : Type 0} (o : Option ℕ) (n : ℕ) → o ≡ None → Some n ≡ o → A
         none_some o n a q = by (q ∙ a)
@@ -213,18 +204,6 @@ module _ (w : SharedValue) (k : ℕ) (p : Private) (I : IsSharedValue w) (F : Fi
               none_some (heap_of (rested l t) t).begun (take_of l.machine (heap_of (rested l t) t)) idle_before
               (sym (ap (λ (y : Heap). y.begun) account_same) ∙ (ap (λ y. (heap_of (rested L t) y).begun) (sym z) ∙ (q ∙ ap (λ y. (heap_of (rested l t) y).begun) z)))
           | inr ne ↦ ap (λ (y : Belongings). y.begun) (off_belongings v' t (belongings_of_part Q) u ne ∙ sym (off_belongings v t (belongings_of_part P) u ne))
-        ]
-
-        belongings_at : (u : ℕ) → Rests (rested L t) u → BelongingsStand after_ (rested L t) u
-        belongings_at u r = elim (cases_eq u t) [
-          | inl q ↦ subst (BelongingsStand after_ (rested L t)) (sym q) belongings_then
-          | inr ne ↦
-              let same : heap_of (rested L t) u ≡ heap_of (rested l t) u = ap or_fresh (with_off L t u let_go ne ∙ (heap_off u ne ∙ sym (with_off l t u let_go ne))) in
-              let rests : Rests (rested l t) u = ap (λ (z : Heap). z.worker) (sym same) ∙ r in
-              belongings_kept before after_ (rested l t) (rested L t) u (off_belongings v' t (belongings_of_part Q) u ne ∙ sym (off_belongings v t (belongings_of_part P) u ne)) (λ c q. owner_kept c u q) same
-              (ap (λ (m : State). length (row_of (slice_get m.store u))) (heap_machine L t let_go ∙ (same_machine ∙ sym (heap_machine l t let_go))))
-              (ap (λ (m : State). is_joined (slice_get m.tasks u)) (heap_machine L t let_go ∙ (same_machine ∙ sym (heap_machine l t let_go))))
-              ((fits_now w k P I F on).stands.belongings u rests)
         ]
 
     -- THE COLLECTION

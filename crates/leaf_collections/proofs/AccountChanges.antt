@@ -1,0 +1,110 @@
+-- An entry changes the account of one heap, whose task's part a worker holds: what stays of the accounts, and that nothing
+-- moves.
+use Rattle.std.proofs.Common.{◌≡◌, ◌⊎◌, ℕ, true, false, Some, None, length, slice_get, is_some, inl, inr, refl, ap, sym, subst, ◌∙◌}
+use Rattle.std.proofs.lemmas.Bool.{cases_eq}
+use Rattle.hh_model.specs.declared.data.State.{State}
+use Rattle.hh_model.specs.Effect.{row_of}
+use Rattle.hh_model.specs.Step.{is_joined, is_waiting}
+use Rattle.run_ledger.specs.declared.data.Heap.{Heap}
+use Rattle.run_ledger.specs.declared.data.Ledger.{Ledger}
+use Rattle.run_ledger.specs.Heaps.{heap_of, let_go, or_fresh, with_heap}
+use Rattle.run_ledger.proofs.Machine.{heap_machine}
+use Rattle.chunk_pool.specs.PoolValue.{PoolValue, owner_of}
+use Rattle.ledger_step_laws.specs.Accounts.{Rests, rested}
+use Rattle.ledger_step_laws.proofs.Ahead.{heap_then, with_at, with_off}
+use Rattle.core_relation.specs.Changes.{SameObjects}
+use Rattle.core_relation.specs.Fits.{with_belongings}
+use Rattle.core_relation.specs.Memory.{Belongings, Memory}
+use Rattle.core_relation.specs.Stands.{BelongingsStand}
+use Rattle.core_relation.proofs.changes.Alone.{belongings_kept}
+use Rattle.core_relation.proofs.changes.With.{at_belongings, off_belongings}
+use Rattle.task_machine.specs.declared.part.Private.{Private}
+use Rattle.shared_value.specs.SharedValue.{SharedValue, accounts, value_by, value_of, with_marks}
+use Rattle.shared_value.specs.Stands.{IsSharedValue}
+use Rattle.shared_value.specs.Fits.{Fits, belongings_of_part}
+use Rattle.shared_value.proofs.NextStepAsks.{account_is}
+use Rattle.shared_value.proofs.BeforeTheEnd.{stands_now}
+use Rattle.shared_value.proofs.StepsEntered.{fits_now}
+
+module _ (w : SharedValue) (k : ℕ) (p : Private) (I : IsSharedValue w) (F : Fits w k (record p { fresh = 0 })) (on : (accounts w).end ≡ None) (f : Heap → Heap) (holds : (h : Heap) → (f h).worker ≡ h.worker) where
+  abbrev P : Private
+  P = record p { fresh = 0 }
+
+  abbrev t : ℕ
+  t = p.task
+
+  abbrev l : Ledger
+  l = accounts w
+
+  abbrev L : Ledger
+  L = with_heap l t f
+
+  abbrev v : Memory
+  v = value_of w
+
+  pub there : (z : Heap) × (slice_get l.heaps t ≡ Some z)
+  there = account_is w k P I F on
+
+  pub heap_then_is : slice_get L.heaps t ≡ Some (f there.0)
+  heap_then_is = with_at l t f ∙ ap (heap_then f) there.1
+
+  heap_off : (u : ℕ) → (u ≡ t → ⊥) → slice_get L.heaps u ≡ slice_get l.heaps u
+  heap_off u ne = with_off l t u f ne
+
+  held_then : (heap_of L t).worker ≡ Some k
+  held_then = ap (λ o. (or_fresh o).worker) heap_then_is ∙ (holds there.0 ∙ (ap (λ o. (or_fresh o).worker) (sym there.1) ∙ F.held))
+
+  not_t : (u : ℕ) → Rests L u → u ≡ t → ⊥
+  not_t u r q = let a : (heap_of L u).worker ≡ Some k = ap (λ z. (heap_of L z).worker) q ∙ held_then in absurd cc
+
+  rested_before : (u : ℕ) → Rests L u → Rests l u
+  rested_before u r = ap (λ o. (or_fresh o).worker) (sym (heap_off u (not_t u r))) ∙ r
+
+  same_machine : L.machine ≡ l.machine
+  same_machine = heap_machine l t f
+
+  pub rested_same : (rested l t).machine ≡ (rested L t).machine
+  rested_same = heap_machine l t let_go ∙ (sym same_machine ∙ sym (heap_machine L t let_go))
+
+  -- with another pool, in which each chunk has the owner that it had
+  module _ (pool : PoolValue) (kept : (c u : ℕ) → v.owner c ≡ Some u → owner_of pool c ≡ Some u) where
+    abbrev v' : Memory
+    v' = with_marks w.marks (value_by w.rests w.sets pool)
+
+    pub same_objects : ((c u : ℕ) → v'.owner c ≡ Some u → (v.owner c ≡ Some u) ⊎ ((is_waiting (slice_get l.machine.tasks u) ≡ false) × (is_some (slice_get l.machine.tasks u) ≡ true))) → SameObjects v v' l L
+    same_objects taken = record {
+      belongings = λ u r. belongings_kept v v' l L u refl (λ c e. kept c u e) (ap or_fresh (heap_off u (not_t u r))) (ap (λ (m : State). length (row_of (slice_get m.store u))) same_machine) (ap (λ (m : State). is_joined (slice_get m.tasks u)) same_machine) ((stands_now w I on).belongings.belongings u (rested_before u r));
+      objects = λ u. refl;
+      chunks = λ u e. refl;
+      frames = λ u. refl;
+      result = λ u. refl;
+      view = λ u. refl;
+      owner = kept;
+      taken = taken;
+      begun = λ u e. refl;
+      sources = λ u. refl;
+    }
+
+    -- and with other belongings of the part
+    module _ (g : Belongings) where
+      abbrev before : Memory
+      before = with_belongings v t (belongings_of_part P)
+
+      abbrev after_ : Memory
+      after_ = with_belongings v' t g
+
+      pub seen : {A : Type 0} (view : Belongings → A) → view g ≡ view (belongings_of_part P) → (u : ℕ) → view (after_.belongings u) ≡ view (before.belongings u)
+      seen view e u = elim (cases_eq u t) [
+        | inl q ↦ ap (λ z. view (after_.belongings z)) q ∙ (ap view (at_belongings v' t g) ∙ (e ∙ (ap view (sym (at_belongings v t (belongings_of_part P))) ∙ ap (λ z. view (before.belongings z)) (sym q))))
+        | inr ne ↦ ap view (off_belongings v' t g u ne ∙ sym (off_belongings v t (belongings_of_part P) u ne))
+      ]
+
+      pub all_stand : BelongingsStand after_ (rested L t) t → (u : ℕ) → Rests (rested L t) u → BelongingsStand after_ (rested L t) u
+      all_stand mine u r = elim (cases_eq u t) [
+        | inl q ↦ subst (BelongingsStand after_ (rested L t)) (sym q) mine
+        | inr ne ↦
+            let same : heap_of (rested L t) u ≡ heap_of (rested l t) u = ap or_fresh (with_off L t u let_go ne ∙ (heap_off u ne ∙ sym (with_off l t u let_go ne))) in
+            let rests : Rests (rested l t) u = ap (λ (z : Heap). z.worker) (sym same) ∙ r in
+            belongings_kept before after_ (rested l t) (rested L t) u (off_belongings v' t g u ne ∙ sym (off_belongings v t (belongings_of_part P) u ne)) (λ c e. kept c u e) same
+            (ap (λ (m : State). length (row_of (slice_get m.store u))) (sym rested_same)) (ap (λ (m : State). is_joined (slice_get m.tasks u)) (sym rested_same)) ((fits_now w k P I F on).stands.belongings u rests)
+      ]
