@@ -18,7 +18,7 @@ use Rattle.task_frames.specs.FramesValue.{with_int as with_number, with_next, wi
 use Rattle.ledger_step_laws.specs.Last.{Splits}
 use Rattle.core_relation.specs.Reads.{FrameIsRead}
 use Rattle.core_relation.proofs.objects.Carry.{all_set}
-use Rattle.core_relation.proofs.changes.Store.{goes_on}
+use Rattle.core_relation.proofs.changes.Target.{goes_on}
 use Rattle.task_machine.specs.declared.part.Private.{Private}
 use Rattle.shared_value.specs.SharedValue.{SharedValue, accounts}
 use Rattle.shared_value.specs.Stands.{IsSharedValue}

@@ -12,7 +12,6 @@ use Rattle.hh_model.specs.Effect.{object_at}
 use Rattle.hh_model.specs.Step.{is_waiting, is_joined, is_on_path}
 use Rattle.run_ledger.specs.declared.data.Heap.{Heap}
 use Rattle.run_ledger.specs.declared.data.Ledger.{Ledger}
-use Rattle.run_ledger.specs.Heaps.{heap_of}
 use Rattle.run_ledger.specs.Sound.{SoundLedger}
 use Rattle.remembered_set.specs.declared.remembered.Source.{Source}
 use Rattle.core_relation.specs.Memory.{Belongings, Memory, In, object_name, objects, objects_in, sources, Lies, shown_at}
@@ -25,6 +24,7 @@ use Rattle.core_relation.proofs.changes.Alone.{belongings_own, belongings_kept}
 use Rattle.core_relation.proofs.changes.Sweep.{refers}
 use Rattle.core_relation.proofs.changes.Giving.{gives_kept}
 use Rattle.ledger_step_laws.proofs.Tree.{leaf_alone}
+use Rattle.core_relation.proofs.changes.Same.{source_alone}
 
 -- v1 has t's belongings, v2 has u's, and v has both; l1 and l2 are the accounts for them. What the tasks own is apart:
 -- from l1 to l only what u owns changes, from l2 to l only what t owns.
@@ -188,20 +188,7 @@ module _ (v v1 v2 : Memory) (l l1 l2 : Ledger) (t u : ℕ) (apart : t ≡ u → 
       let e : own l k.name ≡ own l1 k.name = own1 k.name in
       let ne : own l1 k.name ≡ u → ⊥ = λ f. both_ways _ (sym (A1.tree.waits u) ∙ idle_u) (ap (λ y. is_waiting (slice_get l1.machine.tasks y)) (sym f) ∙ k.waits) in
       let ne' : own l k.name ≡ u → ⊥ = λ f. ne (sym e ∙ f) in
-      record {
-        name = k.name;
-        object = k.object;
-        mutable = k.mutable;
-        is = A1.store k.name ne ∙ k.is;
-        place = place1 k.name s.object ne' k.place;
-        field = k.field;
-        waits = ap (λ y. is_waiting (slice_get l.machine.tasks y)) e ∙ (A1.tree.waits (own l1 k.name) ∙ k.waits);
-        rests = ap (λ y. (heap_of l y).worker) e ∙ (ap (λ (h : Heap). h.worker) (A1.heaps (own l1 k.name) ne) ∙ k.rests);
-        above = ap (λ y. is_on_path l.machine.tasks y z) e ∙ (path1 (own l1 k.name) z ∙ k.above);
-        below = λ f. k.below (sym e ∙ f);
-        live = A1.tree.joins z ∙ k.live;
-        kept = subst (λ y. In (heap_of l y).snapshot k.name) (sym e) (subst (λ (h : Heap). In h.snapshot k.name) (sym (A1.heaps (own l1 k.name) ne)) k.kept);
-      }
+      source_alone v1 v l1 l u z s k A1 ne (place1 k.name s.object ne' k.place)
 
   view : (z : ℕ) → Rests l z → is_joined (slice_get l.machine.tasks z) ≡ false → IsShown v l z
   view z r j w o up ne rw i = elim (cases_eq z u) [

@@ -38,7 +38,7 @@ use Rattle.run_ledger.proofs.Machine.{heap_machine}
 use Rattle.task_frames.specs.declared.frames.Frame.{Frame}
 use Rattle.ledger_step_laws.proofs.BeforeLast as before_last
 use Rattle.core_relation.proofs.changes.Own.{place_own}
-use Rattle.core_relation.proofs.changes.Store.{goes_on}
+use Rattle.core_relation.proofs.changes.Target.{goes_on}
 use Rattle.core_relation.proofs.changes.With.{at_belongings, off_belongings}
 
 module _ (p : ProgramText) (s : SettingsValue) (t k : ℕ) (h : Belongings) (v : Memory) (l l' : Ledger) (w : ℕ) (x : Task) (top : ModelFrame) (outs : List ℤ) (f gone : Frame) (fs : List Frame) (S : SoundLedger (task_steps p l t k)) (S' : SoundLedger l')

@@ -16,6 +16,7 @@ use Rattle.core_relation.specs.Layout.{AreLaidOut}
 use Rattle.core_relation.specs.Stands.{Place, HasNames, BelongingsStand, Stands}
 use Rattle.core_relation.proofs.objects.Carry.{object_kept, task_kept}
 use Rattle.core_relation.proofs.objects.Members.{object_held}
+use Rattle.core_relation.proofs.changes.Same.{source_alone}
 
 -- the objects among a task's belongings are its own
 pub belongings_own : (v : Memory) (l : Ledger) → SoundLedger l → (t : ℕ) → BelongingsStand v l t → (o : Located) → In (objects v t) o → own l (object_name o) ≡ t
@@ -71,20 +72,6 @@ module _ (v : Memory) (l l' : Ledger) (t w : ℕ) (S : SoundLedger l) (V : Stand
         ];
     sources = λ u s i.
         let k = V.sources u s i in
-        let e : own l' k.name ≡ own l k.name = A.tree.owners k.name.task in
         let ne : own l k.name ≡ t → ⊥ = λ e. both_ways (is_waiting (slice_get l.machine.tasks t)) runs (ap (λ z. is_waiting (slice_get l.machine.tasks z)) (sym e) ∙ k.waits) in
-        record {
-          name = k.name;
-          object = k.object;
-          mutable = k.mutable;
-          is = A.store k.name ne ∙ k.is;
-          place = place k.name s.object k.place;
-          field = k.field;
-          waits = ap (λ z. is_waiting (slice_get l'.machine.tasks z)) e ∙ (A.tree.waits (own l k.name) ∙ k.waits);
-          rests = ap (λ z. (heap_of l' z).worker) e ∙ (ap (λ (h : Heap). h.worker) (A.heaps (own l k.name) ne) ∙ k.rests);
-          above = ap (λ z. is_on_path l'.machine.tasks z u) e ∙ (A.tree.paths (own l k.name) u ∙ k.above);
-          below = λ z. k.below (sym e ∙ z);
-          live = A.tree.joins u ∙ k.live;
-          kept = subst (λ z. In (heap_of l' z).snapshot k.name) (sym e) (subst (λ (h : Heap). In h.snapshot k.name) (sym (A.heaps (own l k.name) ne)) k.kept);
-        };
+        source_alone v v l l' t u s k A ne (place k.name s.object k.place);
   }

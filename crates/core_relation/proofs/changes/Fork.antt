@@ -28,6 +28,7 @@ use Rattle.core_relation.specs.Changes.{ForksBelongings, advanced, entered, chil
 use Rattle.core_relation.proofs.objects.Carry.{object_kept, task_kept, frames_kept}
 use Rattle.core_relation.proofs.objects.LaidOut.{none_laid}
 use Rattle.core_relation.proofs.changes.Alone.{belongings_kept}
+use Rattle.core_relation.proofs.changes.Same.{source_kept}
 use Rattle.core_relation.proofs.changes.Giving.{fork_gives}
 use Rattle.core_relation.proofs.changes.Shown.{left_shown, right_shown, rest_shown}
 use Rattle.core_relation.proofs.objects.Members.{none_in}
@@ -205,20 +206,8 @@ module _ (v v' : Memory) (l l' : Ledger) (t a b g h : ℕ) (x : Task) (S : Sound
         let nt : own l k.name ≡ t → ⊥ = λ f. both_ways (is_waiting (slice_get l.machine.tasks t)) (runs_idle x F.task runs) (ap (λ u. is_waiting (slice_get l.machine.tasks u)) (sym f) ∙ k.waits) in
         let oa : own l k.name ≡ a → ⊥ = λ f. unowned s.object.chunk (own l k.name) (inl f) k.place.chunk in
         let ob : own l k.name ≡ b → ⊥ = λ f. unowned s.object.chunk (own l k.name) (inr f) k.place.chunk in
-        record {
-          name = k.name;
-          object = k.object;
-          mutable = k.mutable;
-          is = F.store k.name ∙ k.is;
-          place = place k.name s.object k.place;
-          field = k.field;
-          waits = ap (λ u. is_waiting (slice_get l'.machine.tasks u)) e ∙ (ap is_waiting (F.tasks (own l k.name) nt oa ob) ∙ k.waits);
-          rests = ap (λ u. (heap_of l' u).worker) e ∙ (ap (λ (i : Heap). i.worker) (F.heaps (own l k.name) nt oa ob) ∙ k.rests);
-          above = ap (λ u. is_on_path l'.machine.tasks u z) e ∙ (F.paths (own l k.name) z na nb ∙ k.above);
-          below = λ f. k.below (sym e ∙ f);
-          live = live z na nb k.live;
-          kept = subst (λ u. In (heap_of l' u).snapshot k.name) (sym e) (subst (λ (i : Heap). In i.snapshot k.name) (sym (F.heaps (own l k.name) nt oa ob)) k.kept);
-        }
+        source_kept v v' l l' z z s k e (F.store k.name) (place k.name s.object k.place) (ap is_waiting (F.tasks (own l k.name) nt oa ob)) (ap (λ (i : Heap). i.worker) (F.heaps (own l k.name) nt oa ob)) (F.paths (own l k.name) z na nb ∙ k.above) k.below (live z na nb k.live)
+        (subst (λ (i : Heap). In i.snapshot k.name) (sym (F.heaps (own l k.name) nt oa ob)) k.kept)
       where
         live : (z : ℕ) → (z ≡ a → ⊥) → (z ≡ b → ⊥) → is_joined (slice_get l.machine.tasks z) ≡ false → is_joined (slice_get l'.machine.tasks z) ≡ false
         live z na nb k = elim (cases_eq z t) [

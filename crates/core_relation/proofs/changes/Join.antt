@@ -34,6 +34,7 @@ use Rattle.core_relation.proofs.objects.Members.{in_chunk, in_objects, lies_in a
 use Rattle.core_relation.proofs.objects.LaidOut.{none_laid, laid_both}
 use Rattle.core_relation.proofs.objects.Merged.{small_both, large_both}
 use Rattle.core_relation.proofs.changes.Alone.{belongings_own, belongings_kept}
+use Rattle.core_relation.proofs.changes.Same.{source_kept}
 use Rattle.ledger_step_laws.proofs.Tree.{leaf_alone}
 use Rattle.core_relation.proofs.changes.Shown.{join_shown}
 use Rattle.core_relation.proofs.changes.Giving.{gives_kept, waits_live}
@@ -439,20 +440,8 @@ module _ (v v' : Memory) (l l' : Ledger) (p c d : ℕ) (x : Task) (rl rr : ℤ �
       let nc : (own l k.name ≡ c → ⊥) = λ e. both_ways _ T.left_idle (ap (λ u. is_waiting (slice_get l.machine.tasks u)) (sym e) ∙ k.waits) in
       let nd : (own l k.name ≡ d → ⊥) = λ e. both_ways _ T.right_idle (ap (λ u. is_waiting (slice_get l.machine.tasks u)) (sym e) ∙ k.waits) in
       let e : own l' k.name ≡ own l k.name = owner_stays k.name nc nd in
-      record {
-        name = k.name;
-        object = k.object;
-        mutable = k.mutable;
-        is = store_same k.name ∙ k.is;
-        place = place k.name s.object k.place;
-        field = k.field;
-        waits = ap (λ u. is_waiting (slice_get l'.machine.tasks u)) e ∙ (ap is_waiting (J.tasks (own l k.name) np nc nd) ∙ k.waits);
-        rests = ap (λ u. (heap_of l' u).worker) e ∙ (ap (λ (h : Heap). h.worker) (J.heaps (own l k.name) np nc nd) ∙ k.rests);
-        above = ap (λ u. is_on_path l'.machine.tasks u z) e ∙ (J.paths (own l k.name) z ∙ path);
-        below = λ f. apart (sym e ∙ f);
-        live = live;
-        kept = subst (λ u. In (heap_of l' u).snapshot k.name) (sym e) (subst (λ (h : Heap). In h.snapshot k.name) (sym (J.heaps (own l k.name) np nc nd)) k.kept);
-      }
+      source_kept v v' l l' y z s k e (store_same k.name) (place k.name s.object k.place) (ap is_waiting (J.tasks (own l k.name) np nc nd)) (ap (λ (h : Heap). h.worker) (J.heaps (own l k.name) np nc nd)) (J.paths (own l k.name) z ∙ path) apart live
+      (subst (λ (h : Heap). In h.snapshot k.name) (sym (J.heaps (own l k.name) np nc nd)) k.kept)
     where
       owner_stays : (n : Name) → (own l n ≡ c → ⊥) → (own l n ≡ d → ⊥) → own l' n ≡ own l n
       owner_stays n nc nd = elim (J.owners n.task) [

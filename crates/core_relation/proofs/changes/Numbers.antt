@@ -1,18 +1,17 @@
 -- A store of a number, into an object of the task or of one above it.
-use Rattle.std.proofs.Common.{◌≡◌, ℕ, ◌+◌, pos, true, unwrap_or, Some, List, ◌∷◌, slice_get, slice_set, ◌⊎◌, inl, inr, ap, ap₂, sym, subst, ◌∙◌}
-use Rattle.std.proofs.lemmas.Option.{same_Some}
+use Rattle.std.proofs.Common.{◌≡◌, ℕ, pos, true, unwrap_or, Some, None, List, ◌∷◌, slice_get, slice_set, ◌⊎◌, inl, inr, ap, ap₂}
 use Rattle.object_layout.specs.declared.word.Addr.{Addr}
 use Rattle.hh_model.specs.declared.data.Name.{Name}
 use Rattle.hh_model.specs.declared.data.Object.{Object}
 use Rattle.hh_model.specs.declared.data.Task.{Task}
-use Rattle.hh_model.specs.Effect.{ref_in, int_in, onward}
+use Rattle.hh_model.specs.Effect.{ref_in, int_in}
 use Rattle.hh_model.specs.Names.{task_names}
 use Rattle.hh_model.specs.Step.{is_on_path}
 use Rattle.run_ledger.specs.declared.data.Ledger.{Ledger}
 use Rattle.run_ledger.specs.Sound.{SoundLedger}
 use Rattle.task_frames.specs.declared.frames.Frame.{Frame}
 use Rattle.core_relation.specs.Memory.{Memory, In, sources}
-use Rattle.core_relation.specs.Reads.{FramesAreRead, HoldsRead, TaskIsRead}
+use Rattle.core_relation.specs.Reads.{FramesAreRead, TaskIsRead}
 use Rattle.ledger_step_laws.specs.Accounts.{own, Rests}
 use Rattle.core_relation.specs.Stands.{Place, Stands}
 use Rattle.ledger_step_laws.specs.Kinds.{StoresNumber}
@@ -42,11 +41,7 @@ module _ (v v' : Memory) (l l' : Ledger) (t : ℕ) (x : Task) (n : Name) (y : Ob
   minds j r e = elim (target.minded v l t x n o f fs a S V rests L.task L.runs L.object L.waits C.frames at_a y j r L.writes.was e) [ inl p ↦ inl p | inr s ↦ inr (C.writes.noted (own l r) (record { object = a; field = j }) s) ]
 
   task : (z : Task) → Rests l t → slice_get l'.machine.tasks t ≡ Some z → TaskIsRead (Place v l) (v'.belongings t) z
-  task z r e =
-      subst (λ (k : Task). TaskIsRead (Place v l) (v'.belongings t) k) (same_Some (record x { top = onward x.top }) z (sym L.goes ∙ e))
-      (subst (HoldsRead (Place v l) (v'.belongings t) (record x { top = onward x.top })) (sym L.runs)
-      (subst (λ gs. FramesAreRead (Place v l) gs (onward x.top ∷ x.below)) (sym C.goes)
-      (record { function = frames.0.function; next = ap (λ k. k + 1) frames.0.next; ints = frames.0.ints; refs = frames.0.refs }, frames.1)))
+  task z r e = target.task_on v l t x n o f fs a S V rests L.task L.runs L.object L.waits C.frames at_a v' l' None L.goes C.goes z e
 
   pub numbered : Stands v' l'
   numbered = written v v' l l' t n a y y' (with_number i (int_of f w)) S V L.writes C.writes (record {

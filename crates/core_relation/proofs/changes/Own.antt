@@ -25,6 +25,7 @@ use Rattle.core_relation.proofs.objects.Members.{in_chunk}
 use Rattle.core_relation.proofs.changes.Alone.{belongings_own, belongings_kept}
 use Rattle.core_relation.proofs.changes.Sweep.{refers}
 use Rattle.core_relation.proofs.changes.Giving.{gives_kept}
+use Rattle.core_relation.proofs.changes.Same.{source_alone}
 use Rattle.ledger_step_laws.proofs.Tree.{own_live, leaf_alone}
 
 module _ (v v' : Memory) (l l' : Ledger) (t : ℕ) (S : SoundLedger l) (S' : SoundLedger l') (V : Stands v l) (A : StepsAlone l l' t) (rests : Rests l t) (rests' : Rests l' t)
@@ -98,22 +99,8 @@ module _ (v v' : Memory) (l l' : Ledger) (t : ℕ) (S : SoundLedger l) (S' : Sou
     source : (u : ℕ) (s : Source) → In (sources v' u) s → IsSource v' l' u s
     source u s i =
         let k = V.sources u s (subst (λ ss. In ss s) (C.sources u) i) in
-        let e : own l' k.name ≡ own l k.name = A.tree.owners k.name.task in
         let ne : own l k.name ≡ t → ⊥ = λ f. both_ways _ idle (ap (λ z. is_waiting (slice_get l.machine.tasks z)) (sym f) ∙ k.waits) in
-        record {
-          name = k.name;
-          object = k.object;
-          mutable = k.mutable;
-          is = A.store k.name ne ∙ k.is;
-          place = place_own k.name s.object k.place;
-          field = k.field;
-          waits = ap (λ z. is_waiting (slice_get l'.machine.tasks z)) e ∙ (A.tree.waits (own l k.name) ∙ k.waits);
-          rests = ap (λ z. (heap_of l' z).worker) e ∙ (ap (λ (h : Heap). h.worker) (A.heaps (own l k.name) ne) ∙ k.rests);
-          above = ap (λ z. is_on_path l'.machine.tasks z u) e ∙ (A.tree.paths (own l k.name) u ∙ k.above);
-          below = λ z. k.below (sym e ∙ z);
-          live = A.tree.joins u ∙ k.live;
-          kept = subst (λ z. In (heap_of l' z).snapshot k.name) (sym e) (subst (λ (h : Heap). In h.snapshot k.name) (sym (A.heaps (own l k.name) ne)) k.kept);
-        }
+        source_alone v v' l l' t u s k A ne (place_own k.name s.object k.place)
 
     view_same : (z : ℕ) → (v'.belongings z).view ≡ (v.belongings z).view
     view_same z = elim (cases_eq z t) [

@@ -1,12 +1,12 @@
 -- A worker takes a task, with its belongings: the memory stands without them.
-use Rattle.std.proofs.Common.{is_some, ◌≡◌, ℕ, false, Some, length, slice_get, inl, inr, ap, sym, subst, ◌∙◌}
+use Rattle.std.proofs.Common.{is_some, ◌≡◌, ℕ, false, Some, length, slice_get, ap, sym, subst, ◌∙◌}
 use Rattle.std.proofs.lemmas.Bool.{both_ways}
 use Rattle.object_layout.specs.declared.word.Addr.{Addr}
 use Rattle.object_layout.specs.Objects.{Located}
 use Rattle.hh_model.specs.declared.data.Name.{Name}
 use Rattle.hh_model.specs.declared.data.State.{State}
 use Rattle.hh_model.specs.Effect.{row_of}
-use Rattle.hh_model.specs.Step.{is_joined, is_waiting, is_on_path}
+use Rattle.hh_model.specs.Step.{is_joined, is_waiting}
 use Rattle.run_ledger.specs.declared.data.Heap.{Heap}
 use Rattle.run_ledger.specs.declared.data.Ledger.{Ledger}
 use Rattle.run_ledger.specs.Heaps.{heap_of}
@@ -15,7 +15,7 @@ use Rattle.core_relation.specs.Reads.{TaskIsRead}
 use Rattle.ledger_step_laws.specs.Accounts.{own, Rests, Takes}
 use Rattle.core_relation.specs.Stands.{Place, Stands}
 use Rattle.core_relation.specs.Changes.{SameBut}
-use Rattle.core_relation.proofs.changes.Same.{own_same, path_same, store_same, source_same}
+use Rattle.core_relation.proofs.changes.Same.{own_same, path_same, store_same, source_same, remembered_same}
 use Rattle.core_relation.proofs.objects.Carry.{object_kept, task_kept}
 use Rattle.core_relation.proofs.changes.Alone.{belongings_kept}
 use Rattle.core_relation.proofs.changes.Giving.{gives_kept}
@@ -54,11 +54,7 @@ module _ (v v' : Memory) (l l' : Ledger) (t w : ℕ) (V : Stands v l) (idle : is
     tasks = λ u x r is.
         subst (λ (h : Belongings). TaskIsRead (Place v' l') h x) (sym (C.belongings u (other u r)))
         (task_kept (Place v l) (Place v' l') (v.belongings u) x (λ n j. place n) (V.tasks u x (rest u r) (sym (ap (λ (m : State). slice_get m.tasks u) L.machine) ∙ is)));
-    remembered = λ u o x i n r j is at.
-        elim (V.remembered u o x i n (rest u r) (was u o r j) (sym (store_same l l' L.machine (object_name o)) ∙ is) at) [
-          | inl h ↦ inl (ap (λ k. is_on_path l'.machine.tasks k u) (own_same l l' L.machine n) ∙ (path_same l l' L.machine (own l n) u ∙ h))
-          | inr s ↦ inr (subst (λ k. In (sources v' k) (record { object = o.at; field = i })) (sym (own_same l l' L.machine n)) (subst (λ ss. In ss (record { object = o.at; field = i })) (sym (C.sources (own l n))) s))
-        ];
+    remembered = λ u o x i n r j is at. remembered_same l l' L.machine v v' u n (record { object = o.at; field = i }) (C.sources (own l n)) (V.remembered u o x i n (rest u r) (was u o r j) (sym (store_same l l' L.machine (object_name o)) ∙ is) at);
     sources = λ u s i.
         let k = V.sources u s (subst (λ ss. In ss s) (C.sources u) i) in
         let ne : own l k.name ≡ t → ⊥ = λ e. both_ways (is_waiting (slice_get l.machine.tasks t)) idle (ap (λ z. is_waiting (slice_get l.machine.tasks z)) (sym e) ∙ k.waits) in

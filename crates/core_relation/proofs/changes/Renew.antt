@@ -5,13 +5,13 @@ use Rattle.object_layout.specs.declared.word.Addr.{Addr}
 use Rattle.object_layout.specs.Objects.{Located}
 use Rattle.hh_model.specs.declared.data.Name.{Name}
 use Rattle.hh_model.specs.declared.data.State.{State}
-use Rattle.hh_model.specs.Step.{is_joined, is_on_path, is_waiting}
+use Rattle.hh_model.specs.Step.{is_joined, is_waiting}
 use Rattle.run_ledger.specs.declared.data.Ledger.{Ledger}
 use Rattle.core_relation.specs.Memory.{Memory, In, object_name, objects, sources, Lies, shown_at}
 use Rattle.ledger_step_laws.specs.Accounts.{own, Rests, SameTasks}
 use Rattle.core_relation.specs.Stands.{Place, Stands}
 use Rattle.core_relation.specs.Changes.{SameObjects}
-use Rattle.core_relation.proofs.changes.Same.{own_same, path_same, store_same, source_same}
+use Rattle.core_relation.proofs.changes.Same.{own_same, path_same, store_same, source_same, remembered_same}
 use Rattle.core_relation.proofs.objects.Carry.{object_kept, task_kept, same_holding}
 use Rattle.core_relation.proofs.changes.Giving.{gives_kept}
 
@@ -47,11 +47,7 @@ module _ (v v' : Memory) (l l' : Ledger) (V : Stands v l) (L : SameTasks l l') (
     tasks = λ u x r is.
         same_holding (Place v' l') (v.belongings u) (v'.belongings u) x (C.frames u) (C.result u)
         (task_kept (Place v l) (Place v' l') (v.belongings u) x (λ n j. place n) (V.tasks u x (rest u r) (sym (ap (λ (m : State). slice_get m.tasks u) L.machine) ∙ is)));
-    remembered = λ u o x i n r j is at.
-        elim (V.remembered u o x i n (rest u r) (was u o j) (sym (store_same l l' L.machine (object_name o)) ∙ is) at) [
-          | inl h ↦ inl (ap (λ k. is_on_path l'.machine.tasks k u) (own_same l l' L.machine n) ∙ (path_same l l' L.machine (own l n) u ∙ h))
-          | inr s ↦ inr (subst (λ k. In (sources v' k) (record { object = o.at; field = i })) (sym (own_same l l' L.machine n)) (subst (λ ss. In ss (record { object = o.at; field = i })) (sym (C.sources (own l n))) s))
-        ];
+    remembered = λ u o x i n r j is at. remembered_same l l' L.machine v v' u n (record { object = o.at; field = i }) (C.sources (own l n)) (V.remembered u o x i n (rest u r) (was u o j) (sym (store_same l l' L.machine (object_name o)) ∙ is) at);
     sources = λ u s i.
         let k = V.sources u s (subst (λ ss. In ss s) (C.sources u) i) in
         source_same l l' L.machine v v' u s k (place k.name s.object k.place) (L.worker (own l k.name))

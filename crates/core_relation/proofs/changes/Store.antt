@@ -1,11 +1,10 @@
 -- A store of a reference, into an object of the task or of one above it: the write barrier's work.
-use Rattle.std.proofs.Common.{◌≡◌, ℕ, ℤ, ◌+◌, Bool, true, false, Option, Some, None, List, ◌∷◌, slice_get, slice_set, ◌⊎◌, inl, inr, refl, ap, sym, subst, ◌∙◌}
+use Rattle.std.proofs.Common.{◌≡◌, ℕ, ℤ, Bool, true, false, Option, Some, None, List, slice_get, slice_set, ◌⊎◌, inl, inr, refl, ap, sym, subst, ◌∙◌}
 use Rattle.std.proofs.lemmas.Bool.{both_ways}
 use Rattle.std.proofs.lemmas.Option.{same_Some}
 use Rattle.listed.proofs.Members.{got_cases}
 use Rattle.object_layout.specs.declared.word.Addr.{Addr}
 use Rattle.hh_model.specs.declared.data.Name.{Name}
-use Rattle.hh_model.specs.declared.data.Frame.{Frame as ModelFrame}
 use Rattle.hh_model.specs.declared.data.Object.{Object}
 use Rattle.hh_model.specs.declared.data.Task.{Task}
 use Rattle.hh_model.specs.Effect.{ref_in}
@@ -18,11 +17,11 @@ use Rattle.run_ledger.specs.Sound.{SoundLedger, InHeaps}
 use Rattle.task_frames.specs.declared.frames.Frame.{Frame}
 use Rattle.remembered_set.specs.declared.remembered.Source.{Source}
 use Rattle.core_relation.specs.Memory.{Memory, In, sources}
-use Rattle.core_relation.specs.Reads.{Reads, FrameIsRead, FramesAreRead, HoldsRead, TaskIsRead}
+use Rattle.core_relation.specs.Reads.{Reads, TaskIsRead}
 use Rattle.ledger_step_laws.specs.Accounts.{own, Rests}
 use Rattle.core_relation.specs.Stands.{Place, IsSource, Stands}
-use Rattle.ledger_step_laws.specs.Kinds.{StoresOne, onward_with}
-use Rattle.core_relation.specs.Changes.{StoresAt, with_field, gone_on}
+use Rattle.ledger_step_laws.specs.Kinds.{StoresOne}
+use Rattle.core_relation.specs.Changes.{StoresAt, with_field}
 use Rattle.task_frames.specs.FramesValue.{ref_of}
 use Rattle.core_relation.proofs.objects.Carry.{all_set}
 use Rattle.core_relation.proofs.changes.Sweep.{snapshot_is}
@@ -55,16 +54,8 @@ module _ (l : Ledger) (S : SoundLedger l) (t : ℕ) (x : Task) (is : slice_get l
       let o : own l n ≡ k.0.0 = (S.owners k.0.0 n k.0.1).1 in
       subst (λ ns. In ns n) (snapshot_is (slice_get l.heaps (own l n))) (k.1 (subst (λ u. InHeaps l.heaps u n) (sym o) k.0.1))
 
--- a frame that goes on is read as before, but for the register that is set
-pub goes_on : (at : Name → Addr → Type 0) (c : Option (ℕ × ℤ)) (f : Frame) (z : ModelFrame) → FrameIsRead at f z → FrameIsRead at (gone_on c f) (onward_with c z)
-goes_on at None f z R = record { function = R.function; next = ap (λ k. k + 1) R.next; ints = R.ints; refs = R.refs }
-goes_on at (Some c) f z R = record { function = R.function; next = ap (λ k. k + 1) R.next; ints = ap (λ ns. slice_set ns c.0 c.1) R.ints; refs = R.refs }
-
 module _ (v v' : Memory) (l l' : Ledger) (t : ℕ) (x : Task) (n : Name) (y : Object) (o w i : ℕ) (c : Option (ℕ × ℤ)) (f : Frame) (fs : List Frame) (a : Addr) (S : SoundLedger l) (V : Stands v l) (rests : Rests l t)
     (L : StoresOne l l' t x n y o w i c) (C : StoresAt v v' l t f fs a w i c) (at_a : ref_of f o ≡ Some a) where
-  frames : FramesAreRead (Place v l) (f ∷ fs) (x.top ∷ x.below)
-  frames = target.frames v l t x n o f fs a S V rests L.task L.runs L.object L.waits C.frames at_a
-
   pub holds : (j : ℕ) (m : Name) → ref_in x.top j ≡ Some m → In (task_names x) m
   holds = target.holds v l t x n o f fs a S V rests L.task L.runs L.object L.waits C.frames at_a
 
@@ -136,12 +127,7 @@ module _ (v v' : Memory) (l l' : Ledger) (t : ℕ) (x : Task) (n : Name) (y : Ob
           }))
 
   task : (z : Task) → Rests l t → slice_get l'.machine.tasks t ≡ Some z → TaskIsRead (Place v l) (v'.belongings t) z
-  task z r e =
-      let z' : Task = record x { top = onward_with c x.top } in
-      subst (λ (k : Task). TaskIsRead (Place v l) (v'.belongings t) k) (same_Some z' z (sym L.goes ∙ e))
-      (subst (HoldsRead (Place v l) (v'.belongings t) z') (sym L.runs)
-      (subst (λ gs. FramesAreRead (Place v l) gs (onward_with c x.top ∷ x.below)) (sym C.goes)
-      (goes_on (Place v l) c f x.top frames.0, frames.1)))
+  task z r e = target.task_on v l t x n o f fs a S V rests L.task L.runs L.object L.waits C.frames at_a v' l' c L.goes C.goes z e
 
   pub stored : Stands v' l'
   stored = written v v' l l' t n a y y' (with_field i (ref_of f w)) S V L.writes C.writes (record {

@@ -10,7 +10,7 @@ use Rattle.hh_model.specs.declared.data.Task.{Task}
 use Rattle.hh_model.specs.declared.data.State.{State}
 use Rattle.hh_model.specs.Effect.{object_at, row_of}
 use Rattle.hh_model.specs.Names.{refs_at, refs_of, task_names}
-use Rattle.hh_model.specs.Step.{is_joined, is_waiting, is_on_path}
+use Rattle.hh_model.specs.Step.{is_joined, is_waiting}
 use Rattle.hh_model.proofs.Carried.{named_from_in}
 use Rattle.run_ledger.specs.declared.data.Heap.{Heap}
 use Rattle.run_ledger.specs.declared.data.Ledger.{Ledger}
@@ -22,7 +22,7 @@ use Rattle.core_relation.specs.Reads.{TaskIsRead}
 use Rattle.ledger_step_laws.specs.Accounts.{own, Rests, ChangesHeap}
 use Rattle.core_relation.specs.Stands.{Place, BelongingsStand, IsSource, Stands}
 use Rattle.core_relation.specs.Changes.{KeepsJust}
-use Rattle.core_relation.proofs.changes.Same.{own_same, path_same, store_same, source_same, rests_before, worker_same}
+use Rattle.core_relation.proofs.changes.Same.{own_same, path_same, store_same, source_same, remembered_same, rests_before, worker_same}
 use Rattle.core_relation.proofs.objects.Carry.{object_kept, task_kept, same_holding}
 use Rattle.core_relation.proofs.objects.Members.{object_held, in_chunk}
 use Rattle.core_relation.proofs.changes.Alone.{belongings_own, belongings_kept}
@@ -144,10 +144,6 @@ module _ (v v' : Memory) (l l' : Ledger) (t : ℕ) (names : List Name) (S : Soun
           object_kept (Place v l) (Place v' l') o c.0 (λ n j a. place n a (live_ref l t S snapshot spares (object_name o) n c.0 c.1 (is_kept v l u (V.belongings u (rests_before l l' t L u r)) o w.0) (live_object u o r i) j)) c.2,
         );
     tasks = task;
-    remembered = λ u o x i n r j is at.
-        elim (V.remembered u o x i n (rests_before l l' t L u r) (was u o j).0 (sym (store_same l l' L.machine (object_name o)) ∙ is) at) [
-          | inl h ↦ inl (ap (λ k. is_on_path l'.machine.tasks k u) (own_same l l' L.machine n) ∙ (path_same l l' L.machine (own l n) u ∙ h))
-          | inr s ↦ inr (subst (λ k. In (sources v' k) (record { object = o.at; field = i })) (sym (own_same l l' L.machine n)) (subst (λ ss. In ss (record { object = o.at; field = i })) (sym (C.sources (own l n))) s))
-        ];
+    remembered = λ u o x i n r j is at. remembered_same l l' L.machine v v' u n (record { object = o.at; field = i }) (C.sources (own l n)) (V.remembered u o x i n (rests_before l l' t L u r) (was u o j).0 (sym (store_same l l' L.machine (object_name o)) ∙ is) at);
     sources = source;
   }

@@ -1,8 +1,10 @@
 -- What a store finds: the object that a register of the running task holds.
-use Rattle.std.proofs.Common.{◌≡◌, ℕ, Bool, true, false, Some, List, ◌∷◌, slice_get, ◌⊎◌, inl, inr, refl, ap, subst, ◌∙◌}
+use Rattle.std.proofs.Common.{◌≡◌, ℕ, ℤ, ◌+◌, Bool, true, false, Option, Some, None, List, ◌∷◌, slice_get, slice_set, ◌⊎◌, inl, inr, refl, ap, sym, subst, ◌∙◌}
 use Rattle.std.proofs.lemmas.Bool.{cases_eq}
+use Rattle.std.proofs.lemmas.Option.{same_Some}
 use Rattle.object_layout.specs.declared.word.Addr.{Addr}
 use Rattle.hh_model.specs.declared.data.Name.{Name}
+use Rattle.hh_model.specs.declared.data.Frame.{Frame as ModelFrame}
 use Rattle.hh_model.specs.declared.data.Object.{Object}
 use Rattle.hh_model.specs.declared.data.Status.TheVariants.{Running}
 use Rattle.hh_model.specs.declared.data.Task.{Task}
@@ -17,12 +19,19 @@ use Rattle.run_ledger.specs.Heaps.{heap_of}
 use Rattle.run_ledger.specs.Sound.{SoundLedger}
 use Rattle.task_frames.specs.declared.frames.Frame.{Frame}
 use Rattle.core_relation.specs.Memory.{Memory, In, sources, Lies}
-use Rattle.core_relation.specs.Reads.{Reads, FramesAreRead, HoldsRead}
+use Rattle.core_relation.specs.Reads.{Reads, FrameIsRead, FramesAreRead, HoldsRead, TaskIsRead}
 use Rattle.ledger_step_laws.specs.Accounts.{own, Rests}
 use Rattle.core_relation.specs.Stands.{Place, Stands}
+use Rattle.ledger_step_laws.specs.Kinds.{onward_with}
+use Rattle.core_relation.specs.Changes.{gone_on}
 use Rattle.task_frames.specs.FramesValue.{ref_of}
 use Rattle.core_relation.proofs.objects.Carry.{field_of}
 use Rattle.ledger_step_laws.proofs.Tree.{leaf_alone}
+
+-- a frame that goes on is read as before, but for the register that is set
+pub goes_on : (at : Name → Addr → Type 0) (c : Option (ℕ × ℤ)) (f : Frame) (z : ModelFrame) → FrameIsRead at f z → FrameIsRead at (gone_on c f) (onward_with c z)
+goes_on at None f z R = record { function = R.function; next = ap (λ k. k + 1) R.next; ints = R.ints; refs = R.refs }
+goes_on at (Some c) f z R = record { function = R.function; next = ap (λ k. k + 1) R.next; ints = ap (λ ns. slice_set ns c.0 c.1) R.ints; refs = R.refs }
 
 module _ (v : Memory) (l : Ledger) (t : ℕ) (x : Task) (n : Name) (o : ℕ) (f : Frame) (fs : List Frame) (a : Addr) (S : SoundLedger l) (V : Stands v l) (rests : Rests l t)
     (is : slice_get l.machine.tasks t ≡ Some x) (runs : x.status ≡ Running) (held : ref_in x.top o ≡ Some n) (waiters : (u : ℕ) → is_waiting (slice_get l.machine.tasks u) ≡ true → Rests l u)
@@ -65,3 +74,12 @@ module _ (v : Memory) (l : Ledger) (t : ℕ) (x : Task) (n : Name) (o : ℕ) (f 
       at_old q =
           subst (λ (c : Addr). (is_on_path l.machine.tasks (own l r) (own l n) ≡ true) ⊎ In (sources v (own l r)) (record { object = c; field = j })) q.2.at
           (V.remembered (own l n) q.0 y j r rests_n q.1 (ap (object_at l.machine.store) q.2.name ∙ was) e)
+
+  -- the task goes on, with a number in one of its registers where the step sets one
+  pub task_on : (v' : Memory) (l' : Ledger) (c : Option (ℕ × ℤ)) → slice_get l'.machine.tasks t ≡ Some (record x { top = onward_with c x.top }) → (v'.belongings t).frames ≡ gone_on c f ∷ fs → (z : Task) → slice_get l'.machine.tasks t ≡ Some z → TaskIsRead (Place v l) (v'.belongings t) z
+  task_on v' l' c goes gone z e =
+      let z' : Task = record x { top = onward_with c x.top } in
+      subst (λ (k : Task). TaskIsRead (Place v l) (v'.belongings t) k) (same_Some z' z (sym goes ∙ e))
+      (subst (HoldsRead (Place v l) (v'.belongings t) z') (sym runs)
+      (subst (λ gs. FramesAreRead (Place v l) gs (onward_with c x.top ∷ x.below)) (sym gone)
+      (goes_on (Place v l) c f x.top frames.0, frames.1)))
