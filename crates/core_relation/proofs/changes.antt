@@ -14,6 +14,7 @@ pub mod Store
 pub mod Lifts
 pub mod Takes
 pub mod Same
+pub mod Steady
 pub mod Numbers
 pub mod Finish
 pub mod Shown

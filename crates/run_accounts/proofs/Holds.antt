@@ -3,6 +3,7 @@ use Rattle.std.proofs.Common.{◌≡◌, ℕ, zero, suc, ◌+◌, ◌-◌, ◌<�
 use Rattle.std.proofs.lemmas.Bool.{both_ways, cases_eq}
 use Rattle.std.proofs.lemmas.Option.{same_Some, none-some}
 use Rattle.listed.proofs.Members.{got_same, got_other}
+use Rattle.listed.proofs.Places.{got_set}
 use Rattle.run_trace.specs.declared.entry.Kind.{Kind}
 use Rattle.run_trace.specs.declared.entry.Kind.TheVariants.{Took, Ran, Chunk, Begin, End as EndOf, PutOff, Mark, More, Sweep, Fuel}
 use Rattle.run_trace.specs.Settings.{SettingsValue}
@@ -153,7 +154,7 @@ module _ (p : ProgramText) (s : SettingsValue) (l : Ledger) (taken : List (Optio
         | inl q ↦
             let here : slice_get (slice_set l.heaps t (record h { worker = Some w })) u ≡ Some (record h { worker = Some w }) = ap (slice_get (slice_set l.heaps t (record h { worker = Some w }))) q ∙ got_same l.heaps t h (record h { worker = Some w }) is in
             let at : w ≡ v = same_Some w v (sym (ap (λ o. (or_fresh o).worker) here) ∙ e) in
-            ap (slice_get (slice_set taken w (Some t))) (sym at) ∙ (set_there taken w (Some t) there ∙ ap (λ x. Some (Some x)) (sym q))
+            ap (slice_get (slice_set taken w (Some t))) (sym at) ∙ (got_set taken w (Some t) there ∙ ap (λ x. Some (Some x)) (sym q))
         | inr ne ↦ other u v (ap (λ o. (or_fresh o).worker) (sym (got_other l.heaps t u (record h { worker = Some w }) ne)) ∙ e)
       ])
     where
@@ -166,11 +167,6 @@ module _ (p : ProgramText) (s : SettingsValue) (l : Ledger) (taken : List (Optio
         | inl q ↦ absurd (free_of (found w 0 l.heaps) u (e ∙ ap Some q))
         | inr ne ↦ got_other taken w v (Some t) ne ∙ A u v e
       ]
-
-      set_there : {A : Type 0} (xs : List A) (k : ℕ) (x : A) → k < length xs → slice_get (slice_set xs k x) k ≡ Some x
-      set_there [] k x lt = absurd (omega arith)
-      set_there (y ∷ xs) zero x lt = refl
-      set_there (y ∷ xs) (suc k) x lt = set_there xs k x (omega arith)
 
   kept : (w : ℕ) (kind : Kind) → Held l (after_kind p s l w kind) → (u v : ℕ) → worker_of (after_kind p s l w kind) u ≡ Some v → slice_get taken v ≡ Some (Some u)
   kept w kind held u v e = A u v (held u v e)

@@ -12,7 +12,6 @@ use Rattle.run_ledger.specs.declared.data.Heap.{Heap}
 use Rattle.run_ledger.specs.declared.data.Ledger.{Ledger}
 use Rattle.run_ledger.specs.Heaps.{heap_of, or_fresh, let_go}
 use Rattle.run_ledger.specs.Steps.{task_steps}
-use Rattle.run_ledger.specs.Sound.{collecting}
 use Rattle.run_ledger.proofs.Machine.{heap_machine}
 use Rattle.core_relation.specs.Memory.{Memory}
 use Rattle.ledger_step_laws.specs.Accounts.{own, rested, StepsAlone, AlikeFor, Knows}
@@ -23,6 +22,7 @@ use Rattle.core_entry_laws.proofs.parts.Parts.{ahead_alone, ahead_sound}
 use Rattle.core_entry_laws.proofs.parts.Frame.{step_frame}
 use Rattle.ledger_step_laws.proofs.Along.{alike_steps}
 use Rattle.ledger_step_laws.proofs.Tree.{leaf_alone}
+use Rattle.core_relation.proofs.changes.Steady.{steady_same}
 
 -- THE FRAME LAW FOR PRIVATE STEPS: t steps from l to l', and the part of u has taken its steps by either account
 module _ (p : ProgramText) (s : SettingsValue) (q : Part) where
@@ -102,7 +102,7 @@ module _ (p : ProgramText) (s : SettingsValue) (q : Part) where
       let A : AlikeFor q.task l l' = alike_alone l l' t ne (λ h. ne (leaf_alone l K.sound t q.task idle live h)) B limit end heap in
       let a = alike_steps p s q.task q.fresh l l' x K K' c A is run can F.private in
       let E : AlikeFor q.task (ahead p q l) (ahead p q l') = rested_alike (task_steps p l q.task q.fresh) (task_steps p l' q.task q.fresh) a.1 in
-      let c' : IsSteady q l' = steady c in
+      let c' : IsSteady q l' = steady_same q l l' heap c in
       let N = ahead_alone p s q l K.sound c F.private in
       let N' = ahead_alone p s q l' K'.sound c' a.0 in
       record {
@@ -114,7 +114,3 @@ module _ (p : ProgramText) (s : SettingsValue) (q : Part) where
             step_frame v (ahead p q l) (ahead p q l') t w q.task q.belongings (ahead_sound p s q l K.sound c) (alone_ahead l l' (ahead p q l) (ahead p q l') t B N N' E)
             (ap (λ (i : Heap). i.worker) (N.heaps t ne) ∙ out) (ap (λ (i : Heap). i.worker) (N'.heaps t ne) ∙ out') (N.tree.waits t ∙ idle) F.stands;
       }
-    where
-      steady : IsSteady q l → IsSteady q l'
-      steady (inl e) = inl e
-      steady (inr e) = inr (ap collecting heap ∙ e)

@@ -11,7 +11,6 @@ use Rattle.run_ledger.specs.declared.data.Heap.{Heap}
 use Rattle.run_ledger.specs.declared.data.Ledger.{Ledger}
 use Rattle.run_ledger.specs.Heaps.{heap_of, or_fresh, let_go}
 use Rattle.run_ledger.specs.Steps.{task_steps}
-use Rattle.run_ledger.specs.Sound.{collecting}
 use Rattle.run_ledger.proofs.Machine.{heap_machine}
 use Rattle.core_relation.specs.Memory.{Belongings, Memory}
 use Rattle.ledger_step_laws.specs.Accounts.{ArePrivate, rested, StepsAlone, ChangesHeap, Knows}
@@ -23,6 +22,7 @@ use Rattle.core_entry_laws.proofs.parts.Parts.{ahead_alone, ahead_same}
 use Rattle.ledger_step_laws.proofs.Rested.{rested_changes, rested_sound, rested_worker, rested_view}
 use Rattle.core_entry_laws.proofs.parts.Pair.{beside}
 use Rattle.core_entry_laws.proofs.parts.Frame.{collect_frame}
+use Rattle.core_relation.proofs.changes.Steady.{steady_same}
 
 module _ (p : ProgramText) (s : SettingsValue) (t : ℕ) (g g' : Belongings) (r : Part) (v v' : Memory) (l l' : Ledger) (w : ℕ) (x y : Task) (f : Addr → Addr) (K : Knows l) (K' : Knows l') where
   -- the part of t, that has begun its collection
@@ -58,11 +58,7 @@ module _ (p : ProgramText) (s : SettingsValue) (t : ℕ) (g g' : Belongings) (r 
     at_lt' = ahead_same p s r l' lt' (to_rest l') at_l'.0
 
     steady' : (k : Ledger) → slice_get k.heaps r.task ≡ slice_get l.heaps r.task → IsSteady r k
-    steady' k e = by P.steady
-      where
-        by : IsSteady r l → IsSteady r k
-        by (inl h) = inl h
-        by (inr h) = inr (ap collecting e ∙ h)
+    steady' k e = steady_same r l k e P.steady
 
     N : StepsAlone lt (ahead p r lt) r.task
     N = B.steps_t

@@ -18,7 +18,6 @@ use Rattle.run_ledger.specs.declared.data.Heap.{Heap}
 use Rattle.run_ledger.specs.declared.data.Ledger.{Ledger}
 use Rattle.run_ledger.specs.Heaps.{heap_of, or_fresh, let_go}
 use Rattle.run_ledger.specs.Steps.{task_steps}
-use Rattle.run_ledger.specs.Sound.{collecting}
 use Rattle.run_ledger.proofs.Machine.{heap_machine}
 use Rattle.task_frames.specs.declared.frames.Frame.{Frame}
 use Rattle.core_relation.specs.Memory.{Belongings, Memory, In, objects, objects_in}
@@ -43,6 +42,7 @@ use Rattle.core_entry_laws.proofs.parts.Others.{private', out', alone', alike'}
 use Rattle.core_relation.proofs.changes.Numbers as numbers
 use Rattle.core_entry_laws.proofs.parts.Pair as pair
 use Rattle.core_relation.proofs.changes.Store as store
+use Rattle.core_relation.proofs.changes.Steady.{steady_same}
 
 -- q's worker goes on with the task: its belongings are g' then, and the memory stands for the accounts in which it
 -- rests
@@ -90,11 +90,7 @@ module _ (p : ProgramText) (s : SettingsValue) (q r : Part) (v : Memory) (l l' :
     at_l' = ahead_same p s r lt' l' (record { machine = sym (heap_machine l' q.task let_go); heap = sym (with_off l' q.task r.task let_go off) }) (private' p s q r v l lt' x y K K2 F G O P ne E)
 
     steady_l' : IsSteady r l'
-    steady_l' = by P.steady
-      where
-        by : IsSteady r l → IsSteady r l'
-        by (inl e) = inl e
-        by (inr e) = inr (ap collecting (heap ∙ (pair.alike p s q r v l x y K F G O P ne).heap) ∙ e)
+    steady_l' = steady_same r l l' (heap ∙ (pair.alike p s q r v l x y K F G O P ne).heap) P.steady
 
     N0 : StepsAlone l' (ahead p r l') r.task
     N0 = ahead_alone p s r l' K'.sound steady_l' at_l'.0

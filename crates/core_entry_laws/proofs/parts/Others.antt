@@ -11,7 +11,6 @@ use Rattle.run_ledger.specs.declared.data.Heap.{Heap}
 use Rattle.run_ledger.specs.declared.data.Ledger.{Ledger}
 use Rattle.run_ledger.specs.Heaps.{heap_of, or_fresh}
 use Rattle.run_ledger.specs.Steps.{task_steps}
-use Rattle.run_ledger.specs.Sound.{collecting}
 use Rattle.task_frames.specs.declared.frames.Frame.{Frame}
 use Rattle.core_relation.specs.Memory.{Belongings, Memory}
 use Rattle.core_relation.specs.Reads.{Reads, FramesAreRead, HoldsRead}
@@ -34,6 +33,7 @@ use Rattle.core_entry_laws.proofs.parts.Parts.{ahead_alone, ahead_sound}
 use Rattle.core_relation.proofs.changes.With.{off_belongings}
 use Rattle.core_entry_laws.proofs.parts.Pair as pair
 use Rattle.listed.proofs.Options.{none_some}
+use Rattle.core_relation.proofs.changes.Steady.{steady_same}
 
 -- RESULTS
 
@@ -82,11 +82,7 @@ module _ (p : ProgramText) (s : SettingsValue) (q r : Part) (v : Memory) (l l' :
   heap' = E.heap ∙ Q.heap
 
   steady' : IsSteady r l'
-  steady' = by P.steady
-    where
-      by : IsSteady r l → IsSteady r l'
-      by (inl e) = inl e
-      by (inr e) = inr (ap collecting heap' ∙ e)
+  steady' = steady_same r l l' heap' P.steady
 
   pub alone' : StepsAlone l' lr' r.task
   alone' = ahead_alone p s r l' K'.sound steady' then'.0

@@ -1,5 +1,5 @@
 -- Two parts that fit a memory fit it together.
-use Rattle.std.proofs.Common.{◌≡◌, inl, inr, ap, sym, ◌∙◌}
+use Rattle.std.proofs.Common.{◌≡◌, ap, sym, ◌∙◌}
 use Rattle.hh_lang.specs.Form.{ProgramText}
 use Rattle.run_trace.specs.Settings.{SettingsValue}
 use Rattle.hh_model.specs.declared.data.Task.{Task}
@@ -9,7 +9,6 @@ use Rattle.hh_model.proofs.Runs.{running_tells}
 use Rattle.run_ledger.specs.declared.data.Ledger.{Ledger}
 use Rattle.run_ledger.specs.Heaps.{let_go}
 use Rattle.run_ledger.specs.Steps.{task_steps}
-use Rattle.run_ledger.specs.Sound.{collecting}
 use Rattle.run_ledger.proofs.Machine.{heap_machine}
 use Rattle.core_relation.specs.Memory.{Memory}
 use Rattle.core_relation.specs.Stands.{Stands}
@@ -23,6 +22,7 @@ use Rattle.core_entry_laws.proofs.parts.Beside.{together}
 use Rattle.core_entry_laws.proofs.parts.Parts.{ahead_alone, ahead_sound}
 use Rattle.ledger_step_laws.proofs.Rested.{rested_knows}
 use Rattle.ledger_step_laws.proofs.Tree.{leaf_alone}
+use Rattle.core_relation.proofs.changes.Steady.{steady_same}
 
 pub knows_ahead : (p : ProgramText) (s : SettingsValue) (q : Part) (v : Memory) (l : Ledger) (x : Task) → Knows l → FitsAt p s q v l → IsOut l q x → Knows (ahead p q l)
 knows_ahead p s q v l x K F O = rested_knows (task_steps p l q.task q.fresh) q.task (steps_know p s q.task q.fresh l x K O.steady O.task O.runs O.can F.private)
@@ -55,11 +55,7 @@ module _ (p : ProgramText) (s : SettingsValue) (q r : Part) (v : Memory) (l : Le
   then_ = alike_steps p s r.task r.fresh l lq y K knows P.steady alike P.task P.runs P.can G.private
 
   pub steady : IsSteady r lq
-  steady = by P.steady
-    where
-      by : IsSteady r l → IsSteady r lq
-      by (inl e) = inl e
-      by (inr e) = inr (ap collecting alike.heap ∙ e)
+  steady = steady_same r l lq alike.heap P.steady
 
   pub more : StepsAlone lq both r.task
   more = ahead_alone p s r lq knows.sound steady then_.0

@@ -17,6 +17,7 @@ use Rattle.core_relation.specs.Frames.{IsSteady}
 use Rattle.ledger_step_laws.proofs.Ahead.{SameOf, steps_alone_all, steps_same, rested_alone, rested_same}
 use Rattle.core_entry_laws.proofs.parts.Frame.{sweep_frame}
 use Rattle.ledger_step_laws.proofs.Rested.{rested_sound}
+use Rattle.core_relation.proofs.changes.Steady.{steady_same}
 
 module _ (p : ProgramText) (s : SettingsValue) (q : Part) where
   many_alone : (k : ℕ) (l : Ledger) → SoundLedger l → (k ≡ 0) ⊎ (collecting (slice_get l.heaps q.task) ≡ false) → ArePrivate p s l q.task k → StepsAlone l (task_steps p l q.task k) q.task
@@ -50,7 +51,7 @@ module _ (p : ProgramText) (s : SettingsValue) (q : Part) where
   fits_sweep v v' l l' t S S' c apart waits rests L same C F =
       let E : SameOf q.task l l' = record { machine = L.machine; heap = same } in
       let a = ahead_same l l' E F.private in
-      let c' : IsSteady q l' = steady c in
+      let c' : IsSteady q l' = steady_same q l l' same c in
       record {
         worker = F.worker;
         out = ap (λ o. (or_fresh o).worker) same ∙ F.out;
@@ -58,7 +59,3 @@ module _ (p : ProgramText) (s : SettingsValue) (q : Part) where
         private = a.0;
         stands = sweep_frame v v' l l' (ahead p q l) (ahead p q l') t q.task q.belongings apart (ahead_alone l S c F.private) (ahead_alone l' S' c' a.0) a.1.machine (ap or_fresh a.1.heap) (ahead_sound l S c) waits rests L C F.stands;
       }
-    where
-      steady : IsSteady q l → IsSteady q l'
-      steady (inl e) = inl e
-      steady (inr e) = inr (ap collecting same ∙ e)

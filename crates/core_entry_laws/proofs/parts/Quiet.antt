@@ -11,7 +11,7 @@ use Rattle.run_ledger.specs.declared.data.Heap.{Heap}
 use Rattle.run_ledger.specs.declared.data.Ledger.{Ledger}
 use Rattle.run_ledger.specs.Heaps.{heap_of, or_fresh}
 use Rattle.run_ledger.specs.Steps.{task_steps}
-use Rattle.run_ledger.specs.Sound.{Sound, SoundLedger, collecting}
+use Rattle.run_ledger.specs.Sound.{Sound, SoundLedger}
 use Rattle.core_relation.specs.Memory.{Belongings, Memory, objects_in}
 use Rattle.ledger_step_laws.specs.Accounts.{Rests, aside, ArePrivate, StepsAlone, Takes, SameTasks}
 use Rattle.core_relation.specs.Stands.{BelongingsStand}
@@ -26,6 +26,7 @@ use Rattle.core_entry_laws.proofs.parts.Parts.{ahead_alone, ahead_same}
 use Rattle.core_relation.proofs.changes.Release.{released}
 use Rattle.core_relation.proofs.changes.Renew.{renewed}
 use Rattle.core_relation.proofs.changes.With.{at_belongings, off_belongings}
+use Rattle.core_relation.proofs.changes.Steady.{steady_same}
 
 module _ (p : ProgramText) (s : SettingsValue) (q : Part) (v : Memory) (l l' : Ledger) (S : SoundLedger l) (S' : SoundLedger l') (c : IsSteady q l) (E : SameOf q.task l l') (F : FitsAt p s q v l) where
   abbrev u : ℕ
@@ -41,11 +42,7 @@ module _ (p : ProgramText) (s : SettingsValue) (q : Part) (v : Memory) (l l' : L
   then_ = ahead_same p s q l l' E F.private
 
   steady' : IsSteady q l'
-  steady' = by c
-    where
-      by : IsSteady q l → IsSteady q l'
-      by (inl e) = inl e
-      by (inr e) = inr (ap collecting E.heap ∙ e)
+  steady' = steady_same q l l' E.heap c
 
   N : StepsAlone l k u
   N = ahead_alone p s q l S c F.private

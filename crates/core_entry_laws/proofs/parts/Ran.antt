@@ -31,8 +31,8 @@ use Rattle.core_entry_laws.proofs.parts.Quiet.{aside_is, fits_halt}
 use Rattle.core_relation.proofs.changes.Takes.{ran_fits}
 use Rattle.ledger_step_laws.proofs.Root.{root_alone}
 use Rattle.ledger_step_laws.proofs.BeforeLast as before_last
-use Rattle.run_ledger.specs.Sound.{collecting}
 use Rattle.run_ledger.proofs.Machine.{heap_machine}
+use Rattle.core_relation.proofs.changes.Steady.{steady_same}
 
 module _ (p : ProgramText) (s : SettingsValue) (v v' : Memory) (l l' : Ledger) (t w k : ℕ) (h : Belongings) (E : Runs p s l l' t w k) (on : l'.machine.end ≡ None) where
   abbrev q : Part
@@ -150,11 +150,7 @@ module _ (p : ProgramText) (s : SettingsValue) (v v' : Memory) (l l' : Ledger) (
     alone = before_last.alone p s l l' t w k E
 
     steady : IsSteady r mk
-    steady = by P.steady
-      where
-        by : IsSteady r l → IsSteady r mk
-        by (inl e) = inl e
-        by (inr e) = inr (ap collecting (steps_off p s t k l r.task (λ i. ne (sym i)) T.private) ∙ e)
+    steady = steady_same r l mk (steps_off p s t k l r.task (λ i. ne (sym i)) T.private) P.steady
 
     -- it fits before the last step
     fits_then : FitsAt p s r v mk

@@ -1,5 +1,5 @@
 -- An entry of one worker leaves what every other holds fitting.
-use Rattle.std.proofs.Common.{◌≡◌, ℕ, true, Some, None, slice_get, inl, inr, ap, ap₂, sym, subst, ◌∙◌, ◌+◌}
+use Rattle.std.proofs.Common.{◌≡◌, ℕ, true, Some, None, slice_get, inr, ap, ap₂, sym, subst, ◌∙◌, ◌+◌}
 use Rattle.hh_lang.specs.declared.instr.Instr.{Instr}
 use Rattle.hh_lang.specs.declared.instr.Instr.TheVariants.{Set, Mov, Movr, Nil as NilOf, Calc, Same, Jmp, Jz, Newm, Pack, Getr, Geti, Putr, Puti, Cntr, Cnti, Freeze, Cas, Call, Par, Ret, Out}
 use Rattle.hh_lang.specs.Form.{ProgramText}
@@ -11,7 +11,6 @@ use Rattle.ledger_step_laws.proofs.Tree.{leaf_alone}
 use Rattle.run_ledger.specs.declared.data.Ledger.{Ledger}
 use Rattle.run_ledger.specs.Heaps.{heap_of, or_fresh}
 use Rattle.run_ledger.specs.Steps.{task_steps}
-use Rattle.run_ledger.specs.Sound.{collecting}
 use Rattle.ledger_step_laws.specs.Accounts.{AlikeFor, ArePrivate, Knows, aside}
 use Rattle.ledger_step_laws.specs.Last.{WritesOther, LastKind, Private, Reading, Writing, Printing, Forking, Ending, Joining, Finishing, Halting, IsOfKind, GoesOn, Halts, Runs, Splits}
 use Rattle.ledger_step_laws.proofs.Ahead.{SameOf}
@@ -33,6 +32,7 @@ use Rattle.core_entry_laws.proofs.parts.Quiet.{aside_is}
 use Rattle.core_entry_laws.proofs.parts.Ran as ran
 use Rattle.ledger_step_laws.proofs.Root.{root_alone}
 use Rattle.ledger_step_laws.proofs.BeforeLast as before_last
+use Rattle.core_relation.proofs.changes.Steady.{steady_same}
 
 module _ (p : ProgramText) (s : SettingsValue) (r : Part) (v : Memory) (l : Ledger) (on : l.machine.end ≡ None) (F : WorkerFits p s r v l) where
   -- by the accounts as they are
@@ -50,11 +50,7 @@ module _ (p : ProgramText) (s : SettingsValue) (r : Part) (v : Memory) (l : Ledg
   to v' l' is steady owner heap fits = record { task = F.task; is = is; runs = F.runs; steady = steady; part = part_stays p s r v v' l (aside l') owner heap fits part_now; leaf = F.leaf; fields = F.fields }
 
   steady_too : (l' : Ledger) → slice_get l'.heaps r.task ≡ slice_get l.heaps r.task → IsSteady r l'
-  steady_too l' e = by F.steady
-    where
-      by : IsSteady r l → IsSteady r l'
-      by (inl z) = inl z
-      by (inr c) = inr (ap collecting e ∙ c)
+  steady_too l' e = steady_same r l l' e F.steady
 
   -- where the machine and the account of its heap stay
   pub to_same : (v' : Memory) (l' : Ledger) → l'.machine ≡ l.machine → slice_get l'.heaps r.task ≡ slice_get l.heaps r.task → ((k : ℕ) → v.owner k ≡ Some r.task → v'.owner k ≡ Some r.task) → FitsAt p s r v' l' → WorkerFits p s r v' l'
