@@ -11,13 +11,13 @@ use Rattle.hh_model.specs.declared.data.Status.TheVariants.{Running}
 use Rattle.hh_model.specs.declared.data.Task.{Task}
 use Rattle.hh_model.specs.declared.data.State.{State}
 use Rattle.hh_model.specs.Effect.{object_at, put_object, row_of}
-use Rattle.hh_model.specs.Step.{step, can_step, is_running, is_waiting, is_joined, is_over, waits, is_on_path, path_in, owner_of, owner_in, parents, joined, parent_of, asked}
+use Rattle.hh_model.specs.Step.{step, can_step, is_running, is_waiting, is_joined, is_over, waits, path_in, owner_of, owner_in, parents, joined, parent_of, asked}
 use Rattle.hh_model.proofs.Steps.{runs_is}
 use Rattle.hh_model.proofs.Taken.{can_runs}
 use Rattle.hh_model.proofs.Climbs.{owner_here}
 use Rattle.run_ledger.specs.declared.data.Heap.{Heap}
 use Rattle.run_ledger.specs.declared.data.Ledger.{Ledger}
-use Rattle.run_ledger.specs.Heaps.{heap_of, or_fresh, with_heap, with_heap_at, placed, let_go, lacks_room}
+use Rattle.run_ledger.specs.Heaps.{or_fresh, with_heap, with_heap_at, placed, let_go, lacks_room}
 use Rattle.run_ledger.specs.Steps.{allocated_by, allocated_in, moved_on, moved_to, settled, stepped_to, task_step, task_steps, on_asked, is_private, is_due, is_in_need}
 use Rattle.run_ledger.proofs.Machine.{task_step_machine, heap_machine}
 use Rattle.run_ledger.specs.Sound.{SoundLedger}
@@ -26,6 +26,7 @@ use Rattle.ledger_step_laws.specs.Accounts.{own, rested, ArePrivate, StepsAlone}
 use Rattle.ledger_step_laws.proofs.Private.{GoesOn, StoreBy, private_on}
 use Rattle.path_laws.proofs.Leaves.{can_going}
 use Rattle.path_laws.proofs.Objects.{put_rows}
+use Rattle.ledger_step_laws.proofs.Alone.{alone_along, machine_alone}
 
 -- ROWS AND OBJECTS
 
@@ -108,13 +109,7 @@ module _ (p : ProgramText) (l : Ledger) (t : ℕ) (private : is_private p l.mach
   stays_same h = cond-false (can_step l.machine t) (stepped_to b t (step p l.machine t)) (record l { steps = l.steps + 1 }) h
 
   nothing : (n : ℕ) → StepsAlone l (record l { steps = n }) t
-  nothing n = record {
-    tree = record { made = λ u. refl; owners = λ a. refl; paths = λ a u. refl; waits = λ u. refl; joins = λ u. refl };
-    tasks = λ u ne. refl;
-    heaps = λ u ne. refl;
-    rows = λ u ne. refl;
-    store = λ n ne. refl;
-  }
+  nothing n = machine_alone l (record l { steps = n }) t refl (λ u ne. refl)
 
   module _ (S : SoundLedger l) (can : can_step l.machine t ≡ true) (x : Task) (is : slice_get l.machine.tasks t ≡ Some x) where
     abbrev G : GoesOn l.machine t x (step p l.machine t)
@@ -226,31 +221,10 @@ module _ (p : ProgramText) (s : SettingsValue) (t : ℕ) where
 
   -- SO MANY STEPS
 
-  pub alone_along : (l k m : Ledger) → StepsAlone l k t → StepsAlone k m t → StepsAlone l m t
-  alone_along l k m A B = record {
-    tree = record {
-      made = λ u. B.tree.made u ∙ A.tree.made u;
-      owners = λ a. B.tree.owners a ∙ A.tree.owners a;
-      paths = λ a u. B.tree.paths a u ∙ A.tree.paths a u;
-      waits = λ u. B.tree.waits u ∙ A.tree.waits u;
-      joins = λ u. B.tree.joins u ∙ A.tree.joins u;
-    };
-    tasks = λ u ne. B.tasks u ne ∙ A.tasks u ne;
-    heaps = λ u ne. B.heaps u ne ∙ A.heaps u ne;
-    rows = λ u ne. B.rows u ne ∙ A.rows u ne;
-    store = λ n ne. B.store n (λ e. ne (sym (A.tree.owners n.task) ∙ e)) ∙ A.store n ne;
-  }
-
   pub steps_alone_all : (k : ℕ) (l : Ledger) → SoundAt t l → ArePrivate p s l t k → StepsAlone l (task_steps p l t k) t
-  steps_alone_all zero l S h = record {
-    tree = record { made = λ u. refl; owners = λ a. refl; paths = λ a u. refl; waits = λ u. refl; joins = λ u. refl };
-    tasks = λ u ne. refl;
-    heaps = λ u ne. refl;
-    rows = λ u ne. refl;
-    store = λ n ne. refl;
-  }
+  steps_alone_all zero l S h = machine_alone l l t refl (λ u ne. refl)
   steps_alone_all (suc k) l S h =
-      alone_along l (task_step p l t) (task_steps p (task_step p l t) t k) (private_alone p l t h.2 S.0) (steps_alone_all k (task_step p l t) (task_step_sound p l t S) h.3)
+      alone_along t l (task_step p l t) (task_steps p (task_step p l t) t k) (private_alone p l t h.2 S.0) (steps_alone_all k (task_step p l t) (task_step_sound p l t S) h.3)
 
   -- the same steps are private by either account, and come to the same
   pub steps_same : (k : ℕ) (l l' : Ledger) → SameOf t l l' → ArePrivate p s l t k → ArePrivate p s l' t k × SameOf t (task_steps p l t k) (task_steps p l' t k)
@@ -263,22 +237,11 @@ module _ (p : ProgramText) (s : SettingsValue) (t : ℕ) where
 -- AT REST
 
 pub rested_alone : (l k : Ledger) (t : ℕ) → StepsAlone l k t → StepsAlone l (rested k t) t
-rested_alone l k t A = by (rested k t) (heap_machine k t let_go) (λ u ne. ap or_fresh (with_off k t u let_go ne))
-  where
-    by : (m : Ledger) → m.machine ≡ k.machine → ((u : ℕ) → (u ≡ t → ⊥) → heap_of m u ≡ heap_of k u) → StepsAlone l m t
-    by m e off = record {
-      tree = record {
-        made = λ u. ap (λ (z : State). is_some (slice_get z.tasks u)) e ∙ A.tree.made u;
-        owners = λ a. ap (λ (z : State). owner_of z.tasks a) e ∙ A.tree.owners a;
-        paths = λ a u. ap (λ (z : State). is_on_path z.tasks a u) e ∙ A.tree.paths a u;
-        waits = λ u. ap (λ (z : State). is_waiting (slice_get z.tasks u)) e ∙ A.tree.waits u;
-        joins = λ u. ap (λ (z : State). is_joined (slice_get z.tasks u)) e ∙ A.tree.joins u;
-      };
-      tasks = λ u ne. ap (λ (z : State). slice_get z.tasks u) e ∙ A.tasks u ne;
-      heaps = λ u ne. off u ne ∙ A.heaps u ne;
-      rows = λ u ne. ap (λ (z : State). length (row_of (slice_get z.store u))) e ∙ A.rows u ne;
-      store = λ n ne. ap (λ (z : State). object_at z.store n) e ∙ A.store n ne;
-    }
+rested_alone l k t A = alone_along t l k (rested k t) A (machine_alone k (rested k t) t (heap_machine k t let_go) (λ u ne. ap or_fresh (with_off k t u let_go ne)))
+
+-- with the task at rest before it and after it
+pub both_rested : (l l' : Ledger) (t : ℕ) → StepsAlone l l' t → StepsAlone (rested l t) (rested l' t) t
+both_rested l l' t A = alone_along t (rested l t) l (rested l' t) (machine_alone (rested l t) l t (sym (heap_machine l t let_go)) (λ u ne. ap or_fresh (sym (with_off l t u let_go ne)))) (rested_alone l l' t A)
 
 pub rested_same : (l l' : Ledger) (t : ℕ) → SameOf t l l' → SameOf t (rested l t) (rested l' t)
 rested_same l l' t E = record {

@@ -1,5 +1,5 @@
 -- A task is let go of.
-use Rattle.std.proofs.Common.{is_some, ◌≡◌, ℕ, Some, length, slice_get, ◌⊎◌, inl, inr, refl, ap, sym, subst, ◌∙◌, Option, None}
+use Rattle.std.proofs.Common.{◌≡◌, ℕ, Some, length, slice_get, ◌⊎◌, inl, inr, refl, ap, sym, subst, ◌∙◌, Option, None}
 use Rattle.std.proofs.lemmas.Bool.{cases_eq}
 use Rattle.hh_model.specs.declared.data.Name.{Name}
 use Rattle.run_ledger.specs.declared.data.Heap.{Heap}
@@ -7,10 +7,8 @@ use Rattle.run_ledger.specs.declared.data.Ledger.{Ledger}
 use Rattle.run_ledger.specs.Heaps.{heap_of, or_fresh, let_go, with_heap_at}
 use Rattle.run_ledger.specs.Sound.{SoundLedger}
 use Rattle.run_ledger.proofs.Sound.{renewed}
-use Rattle.ledger_step_laws.specs.Accounts.{ChangesHeap, Rests, rested, Knows, StepsAlone}
+use Rattle.ledger_step_laws.specs.Accounts.{ChangesHeap, Rests, rested, Knows}
 use Rattle.hh_model.specs.declared.data.State.{State}
-use Rattle.hh_model.specs.Effect.{object_at, row_of}
-use Rattle.hh_model.specs.Step.{owner_of, is_on_path, is_waiting, is_joined}
 use Rattle.ledger_step_laws.proofs.Ahead.{heap_then, with_at, with_off}
 use Rattle.hh_model.specs.Store.{IsStored}
 use Rattle.hh_model.specs.Closed.{Closed}
@@ -58,25 +56,3 @@ rested_knows l t K = record {
   stored = subst (λ (m : State). Closed m.tasks m.store (IsStored m)) (sym (heap_machine l t let_go)) K.stored;
   rows = subst (λ (m : State). length m.store ≡ length m.tasks) (sym (heap_machine l t let_go)) K.rows;
 }
-
--- let go of before and after
-pub both_rested : (l l' : Ledger) (t : ℕ) → StepsAlone l l' t → StepsAlone (rested l t) (rested l' t) t
-both_rested l l' t A = record {
-  tree = record {
-    made = λ u. ap (λ (z : State). is_some (slice_get z.tasks u)) el ∙ (A.tree.made u ∙ sym (ap (λ (z : State). is_some (slice_get z.tasks u)) em));
-    owners = λ a. ap (λ (z : State). owner_of z.tasks a) el ∙ (A.tree.owners a ∙ sym (ap (λ (z : State). owner_of z.tasks a) em));
-    paths = λ a u. ap (λ (z : State). is_on_path z.tasks a u) el ∙ (A.tree.paths a u ∙ sym (ap (λ (z : State). is_on_path z.tasks a u) em));
-    waits = λ u. ap (λ (z : State). is_waiting (slice_get z.tasks u)) el ∙ (A.tree.waits u ∙ sym (ap (λ (z : State). is_waiting (slice_get z.tasks u)) em));
-    joins = λ u. ap (λ (z : State). is_joined (slice_get z.tasks u)) el ∙ (A.tree.joins u ∙ sym (ap (λ (z : State). is_joined (slice_get z.tasks u)) em));
-  };
-  tasks = λ u ne. ap (λ (z : State). slice_get z.tasks u) el ∙ (A.tasks u ne ∙ sym (ap (λ (z : State). slice_get z.tasks u) em));
-  heaps = λ u ne. ap or_fresh (with_off l' t u let_go ne) ∙ (A.heaps u ne ∙ sym (ap or_fresh (with_off l t u let_go ne)));
-  rows = λ u ne. ap (λ (z : State). length (row_of (slice_get z.store u))) el ∙ (A.rows u ne ∙ sym (ap (λ (z : State). length (row_of (slice_get z.store u))) em));
-  store = λ n ne. ap (λ (z : State). object_at z.store n) el ∙ (A.store n (λ e. ne (ap (λ (z : State). owner_of z.tasks n.task) em ∙ e)) ∙ sym (ap (λ (z : State). object_at z.store n) em));
-}
-  where
-    em : (rested l t).machine ≡ l.machine
-    em = heap_machine l t let_go
-
-    el : (rested l' t).machine ≡ l'.machine
-    el = heap_machine l' t let_go

@@ -22,7 +22,7 @@ use Rattle.run_ledger.specs.Steps.{task_steps, touched}
 use Rattle.run_ledger.proofs.Machine.{heap_machine}
 use Rattle.ledger_step_laws.specs.Accounts.{StepsAlone, AlikeFor, Leaves, own, rested}
 use Rattle.ledger_step_laws.specs.Last.{Wrote, WritesOther, LastKind, Private, Reading, Writing, Printing, Forking, Ending, Joining, Finishing, Halting, IsOfKind, GoesOn, Splits, Runs}
-use Rattle.ledger_step_laws.proofs.Ahead.{private_alone, alone_along, with_off}
+use Rattle.ledger_step_laws.proofs.Ahead.{private_alone, with_off}
 use Rattle.ledger_step_laws.proofs.Tree.{leaf_alone}
 use Rattle.ledger_step_laws.proofs.BeforeLast as before_last
 use Rattle.core_relation.specs.Memory.{Belongings, Memory, In}
@@ -35,6 +35,7 @@ use Rattle.core_entry_laws.proofs.parts.Goes.{not_own}
 use Rattle.core_entry_laws.proofs.parts.Leave.{held, held_then}
 use Rattle.core_entry_laws.proofs.parts.Pair as pair
 use Rattle.core_entry_laws.proofs.parts.Ran as ran
+use Rattle.ledger_step_laws.proofs.Alone.{alone_along}
 
 pub alike_then : (u : ℕ) (a b c : Ledger) → AlikeFor u a b → AlikeFor u b c → AlikeFor u a c
 alike_then u a b c A B = record {
@@ -148,7 +149,7 @@ module _ (p : ProgramText) (s : SettingsValue) (v : Memory) (l l' : Ledger) (t w
 
     lone : StepsAlone m l' t → AlikeFor r.task l l'
     lone A =
-        alike_alone p s r l l' t ne (λ z. ne (leaf_alone l E.knows.sound t r.task idle live z)) (alone_along p s t l m l' (before_last.alone p s l l' t w k E) A) (ran.limit p s v v l l' t w k h E on r y P ne G) (ran.end p s v v l l' t w k h E on r y P ne G) (ran.heap p s v v l l' t w k h E on r y P ne G)
+        alike_alone p s r l l' t ne (λ z. ne (leaf_alone l E.knows.sound t r.task idle live z)) (alone_along t l m l' (before_last.alone p s l l' t w k E) A) (ran.limit p s v v l l' t w k h E on r y P ne G) (ran.end p s v v l l' t w k h E on r y P ne G) (ran.heap p s v v l l' t w k h E on r y P ne G)
 
     module _ (F : FitsAt p s q v l) where
       N : StepsAlone l lq t

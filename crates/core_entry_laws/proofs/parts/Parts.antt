@@ -18,17 +18,12 @@ use Rattle.ledger_step_laws.proofs.Ahead.{SameOf, steps_alone_all, steps_same, r
 use Rattle.core_entry_laws.proofs.parts.Frame.{sweep_frame}
 use Rattle.ledger_step_laws.proofs.Rested.{rested_sound}
 use Rattle.core_relation.proofs.changes.Steady.{steady_same}
+use Rattle.ledger_step_laws.proofs.Alone.{machine_alone}
 
 module _ (p : ProgramText) (s : SettingsValue) (q : Part) where
   many_alone : (k : ℕ) (l : Ledger) → SoundLedger l → (k ≡ 0) ⊎ (collecting (slice_get l.heaps q.task) ≡ false) → ArePrivate p s l q.task k → StepsAlone l (task_steps p l q.task k) q.task
   many_alone k l S (inr c) h = steps_alone_all p s q.task k l (S, c) h
-  many_alone k l S (inl e) h = subst (λ j. StepsAlone l (task_steps p l q.task j) q.task) (sym e) (record {
-    tree = record { made = λ u. refl; owners = λ a. refl; paths = λ a u. refl; waits = λ u. refl; joins = λ u. refl };
-    tasks = λ u ne. refl;
-    heaps = λ u ne. refl;
-    rows = λ u ne. refl;
-    store = λ n ne. refl;
-  })
+  many_alone k l S (inl e) h = subst (λ j. StepsAlone l (task_steps p l q.task j) q.task) (sym e) (machine_alone l l q.task refl (λ u ne. refl))
 
   many_sound : (k : ℕ) (l : Ledger) → SoundLedger l → (k ≡ 0) ⊎ (collecting (slice_get l.heaps q.task) ≡ false) → SoundLedger (task_steps p l q.task k)
   many_sound k l S (inr c) = (task_steps_sound p k l q.task (S, c)).0

@@ -16,7 +16,7 @@ use Rattle.run_ledger.specs.Steps.{task_steps}
 use Rattle.ledger_step_laws.specs.Accounts.{StepsAlone, Knows, Leaves, rested}
 use Rattle.ledger_step_laws.specs.Kinds.{StoresOne}
 use Rattle.ledger_step_laws.specs.Last.{WritesOther, Halts, LastKind, Private, Reading, Writing, Printing, Forking, Ending, Joining, Finishing, Halting, IsOfKind, GoesOn, Splits, Runs}
-use Rattle.ledger_step_laws.proofs.Ahead.{private_alone, alone_along, with_off}
+use Rattle.ledger_step_laws.proofs.Ahead.{private_alone, with_off}
 use Rattle.ledger_step_laws.proofs.Along.{steps_limit, steps_end, steps_off}
 use Rattle.ledger_step_laws.proofs.Split.{worker_step, steps_worker}
 use Rattle.ledger_step_laws.proofs.Wrote.{is_store, is_swap, is_number}
@@ -33,6 +33,7 @@ use Rattle.ledger_step_laws.proofs.Root.{root_alone}
 use Rattle.ledger_step_laws.proofs.BeforeLast as before_last
 use Rattle.run_ledger.proofs.Machine.{heap_machine}
 use Rattle.core_relation.proofs.changes.Steady.{steady_same}
+use Rattle.ledger_step_laws.proofs.Alone.{alone_along}
 
 module _ (p : ProgramText) (s : SettingsValue) (v v' : Memory) (l l' : Ledger) (t w k : ℕ) (h : Belongings) (E : Runs p s l l' t w k) (on : l'.machine.end ≡ None) where
   abbrev q : Part
@@ -65,7 +66,7 @@ module _ (p : ProgramText) (s : SettingsValue) (v v' : Memory) (l l' : Ledger) (
     stays : v' ≡ v → StepsAlone m l' t → (heap_of l' t).worker ≡ Some w → FitsAt p s r v' l'
     stays same A out' =
         subst (λ (z : Memory). FitsAt p s r z l') (sym same)
-        (fits_alone p s r v l l' t w y ne (alone_along p s t l m l' (before_last.alone p s l l' t w k E) A) limit end heap (sym (steps_worker p s t k l S.private) ∙ E.held) out' (before_last.idle_first p s l l' t w k E) E.knows E.knows_then P.steady P.task P.runs P.can G)
+        (fits_alone p s r v l l' t w y ne (alone_along t l m l' (before_last.alone p s l l' t w k E) A) limit end heap (sym (steps_worker p s t k l S.private) ∙ E.held) out' (before_last.idle_first p s l l' t w k E) E.knows E.knows_then P.steady P.task P.runs P.can G)
 
     stores : FitsAt p s q v l → (W : WritesOther m l' t S.task S.line) (o i b : ℕ) (c : Option (ℕ × ℤ)) (L : (j : ℕ) × (place_in (length W.object.refs) (int_in S.task.top i) ≡ Some j) × StoresOne (rested m t) (rested l' t) t S.task W.name W.object o b j c)
         → StoresInto v v' m t h S.task W.object o i b c → FitsAt p s r v' l'

@@ -19,8 +19,9 @@ use Rattle.run_ledger.proofs.Steps.{steps_last, task_steps_sound}
 use Rattle.ledger_step_laws.specs.Accounts.{StepsAlone, aside, rested}
 use Rattle.ledger_step_laws.specs.Kinds.{StoresOne}
 use Rattle.ledger_step_laws.specs.Last.{WritesOther, LastKind, Private, Reading, Writing, Printing, Forking, Ending, Joining, Finishing, Halting, IsOfKind, GoesOn, Runs, Splits, stepped_by}
+use Rattle.ledger_step_laws.proofs.Ahead.{both_rested}
 use Rattle.ledger_step_laws.proofs.Private.{private_on}
-use Rattle.ledger_step_laws.proofs.Rested.{rested_sound, rested_view, both_rested}
+use Rattle.ledger_step_laws.proofs.Rested.{rested_sound, rested_view}
 use Rattle.ledger_step_laws.proofs.Split.{steps_go, worker_step}
 use Rattle.ledger_step_laws.proofs.Wrote.{is_store, is_swap, is_number}
 use Rattle.ledger_step_laws.proofs.BeforeLast as before_last

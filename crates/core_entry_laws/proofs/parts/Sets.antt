@@ -20,8 +20,9 @@ use Rattle.run_ledger.specs.Sound.{SoundLedger}
 use Rattle.ledger_step_laws.specs.Accounts.{Rests, StepsAlone, rested}
 use Rattle.ledger_step_laws.specs.Kinds.{onward_with}
 use Rattle.ledger_step_laws.specs.Last.{stepped_by}
+use Rattle.ledger_step_laws.proofs.Ahead.{both_rested}
 use Rattle.ledger_step_laws.proofs.Last.{rest_heaps}
-use Rattle.ledger_step_laws.proofs.Rested.{rested_worker, rested_sound, both_rested}
+use Rattle.ledger_step_laws.proofs.Rested.{rested_worker, rested_sound}
 use Rattle.core_relation.specs.Memory.{Belongings, Memory, In, object_name, objects, objects_in, Lies}
 use Rattle.core_relation.specs.Reads.{IsRead, FrameIsRead, FramesAreRead, HoldsRead, TaskIsRead}
 use Rattle.core_relation.specs.Stands.{Place}

@@ -1,5 +1,5 @@
 -- The whole relation past each accepted entry that isn't of steps.
-use Rattle.std.proofs.Common.{◌≡◌, ◌&&◌, not, ℕ, true, false, Option, Some, None, List, [], ◌∷◌, ◌++◌, length, slice_get, is_none, is_some, inl, inr, refl, ap, ap₂, sym, subst, ◌∙◌}
+use Rattle.std.proofs.Common.{◌≡◌, ◌&&◌, not, ℕ, true, false, Option, Some, None, List, [], ◌∷◌, ◌++◌, slice_get, is_none, is_some, inl, inr, refl, ap, ap₂, sym, subst, ◌∙◌}
 use Rattle.std.proofs.lemmas.Bool.{false≢true, cases_eq, and_parts, and_from}
 use Rattle.listed.proofs.Options.{none_of, none_some}
 use Rattle.object_layout.specs.declared.word.Addr.{Addr}
@@ -8,8 +8,7 @@ use Rattle.run_trace.specs.Settings.{SettingsValue}
 use Rattle.run_trace.specs.Entry.{EntryValue}
 use Rattle.run_trace.specs.declared.entry.Kind.TheVariants.{Took, End as EndOf, Sweep}
 use Rattle.hh_model.specs.declared.data.State.{State}
-use Rattle.hh_model.specs.Effect.{object_at, row_of}
-use Rattle.hh_model.specs.Step.{owner_of, is_on_path, is_running, is_waiting, is_joined, runs, waits, can_step, goes_on}
+use Rattle.hh_model.specs.Step.{is_running, is_waiting, runs, can_step, goes_on}
 use Rattle.hh_model.proofs.Steps.{runs_is}
 use Rattle.hh_model.proofs.Root.{runs_tell}
 use Rattle.path_laws.proofs.Leaves.{waiting_stops}
@@ -49,6 +48,7 @@ use Rattle.core_relation.proofs.changes.Release.{released}
 use Rattle.core_relation.proofs.changes.Renew.{renewed}
 use Rattle.core_relation.proofs.changes.Sweep.{swept}
 use Rattle.core_entry_laws.proofs.whole.Together.{whole_stands, whole_notes, copies_end}
+use Rattle.ledger_step_laws.proofs.Alone.{machine_alone}
 
 -- ONE ENTRY MORE is legal
 
@@ -79,19 +79,7 @@ marked_heap hs t None e h = absurd (false≢true h)
 marked_heap hs t (Some h) e q = (h, e)
 
 takes_alone : (l l' : Ledger) (t w : ℕ) → Takes l l' t w → StepsAlone l l' t
-takes_alone l l' t w L = record {
-  tree = record {
-    made = λ u. ap (λ (m : State). is_some (slice_get m.tasks u)) L.machine;
-    owners = λ a. ap (λ (m : State). owner_of m.tasks a) L.machine;
-    paths = λ a u. ap (λ (m : State). is_on_path m.tasks a u) L.machine;
-    waits = λ u. ap (λ (m : State). is_waiting (slice_get m.tasks u)) L.machine;
-    joins = λ u. ap (λ (m : State). is_joined (slice_get m.tasks u)) L.machine;
-  };
-  tasks = λ u ne. ap (λ (m : State). slice_get m.tasks u) L.machine;
-  heaps = L.heaps;
-  rows = λ u ne. ap (λ (m : State). length (row_of (slice_get m.store u))) L.machine;
-  store = λ n ne. ap (λ (m : State). object_at m.store n) L.machine;
-}
+takes_alone l l' t w L = machine_alone l l' t L.machine L.heaps
 
 module _ (p : ProgramText) (s : SettingsValue) (journal : List EntryValue) (program : IsProgram p) (legal : is_legal p s journal ≡ true) (v v' : Memory) (c c' : TreeCounts) where
   abbrev l : Ledger

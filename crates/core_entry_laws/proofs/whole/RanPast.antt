@@ -1,13 +1,13 @@
 -- An entry of steps keeps the relation and what is noted.
-use Rattle.std.proofs.Common.{is_some, ◌≡◌, ℕ, ℤ, pos, ◌+◌, ◌&&◌, not, false, Option, Some, None, length, slice_get, inr, refl, ap, sym, subst, ◌∙◌}
+use Rattle.std.proofs.Common.{◌≡◌, ℕ, ℤ, pos, ◌+◌, ◌&&◌, not, false, Option, Some, None, length, slice_get, inr, refl, ap, sym, subst, ◌∙◌}
 use Rattle.std.proofs.lemmas.Option.{same_Some}
 use Rattle.hh_lang.specs.declared.instr.Instr.{Instr}
 use Rattle.hh_lang.specs.declared.instr.Instr.TheVariants.{Set, Mov, Movr, Nil as NilOf, Calc, Same, Jmp, Jz, Newm, Pack, Getr, Geti, Putr, Puti, Cntr, Cnti, Freeze, Cas, Call, Par, Ret, Out}
 use Rattle.hh_lang.specs.Form.{ProgramText}
 use Rattle.run_trace.specs.Settings.{SettingsValue}
 use Rattle.hh_model.specs.declared.data.State.{State}
-use Rattle.hh_model.specs.Effect.{place_in, int_in, object_at, row_of}
-use Rattle.hh_model.specs.Step.{is_waiting, is_joined, is_on_path, owner_of}
+use Rattle.hh_model.specs.Effect.{place_in, int_in}
+use Rattle.hh_model.specs.Step.{is_waiting}
 use Rattle.run_ledger.specs.declared.data.Ledger.{Ledger}
 use Rattle.run_ledger.specs.Heaps.{heap_of, or_fresh, let_go}
 use Rattle.run_ledger.specs.Steps.{task_steps}
@@ -16,7 +16,7 @@ use Rattle.run_ledger.proofs.Machine.{heap_machine}
 use Rattle.ledger_step_laws.specs.Accounts.{StepsAlone, rested}
 use Rattle.ledger_step_laws.specs.Kinds.{StoresOne}
 use Rattle.ledger_step_laws.specs.Last.{WritesOther, Halts, LastKind, Private, Reading, Writing, Printing, Forking, Ending, Joining, Finishing, Halting, IsOfKind, GoesOn, Splits, Runs}
-use Rattle.ledger_step_laws.proofs.Ahead.{private_alone, alone_along}
+use Rattle.ledger_step_laws.proofs.Ahead.{private_alone}
 use Rattle.ledger_step_laws.proofs.Rested.{rested_worker, rested_sound}
 use Rattle.ledger_step_laws.proofs.Split.{worker_step, steps_worker}
 use Rattle.ledger_step_laws.proofs.Wrote.{is_store, is_swap, is_number, waits_rest}
@@ -41,6 +41,7 @@ use Rattle.core_entry_laws.proofs.notes.NotesAhead.{notes_ahead, notes_back}
 use Rattle.core_entry_laws.proofs.parts.Others.{result_read}
 use Rattle.core_relation.proofs.notes.Rooted.{root_apart}
 use Rattle.core_relation.proofs.changes.Takes.{ran_stands}
+use Rattle.ledger_step_laws.proofs.Alone.{alone_along, machine_alone}
 
 module _ (p : ProgramText) (s : SettingsValue) (v v' : Memory) (l l' : Ledger) (t w k : ℕ) (h : Belongings) (E : Runs p s l l' t w k) (alive : l.end ≡ None) (V : Stands v l) (N : AllNoted v l) where
   abbrev q : Part
@@ -80,7 +81,7 @@ module _ (p : ProgramText) (s : SettingsValue) (v v' : Memory) (l l' : Ledger) (
   -- the memory stays, and the last step changes what t owns alone
   stays : v' ≡ v → StepsAlone m l' t → (heap_of l' t).worker ≡ Some w → Both
   stays same A out' =
-      let AA = alone_along p s t l m l' (before_last.alone p s l l' t w k E) A in
+      let AA = alone_along t l m l' (before_last.alone p s l l' t w k E) A in
       subst (λ (z : Memory). Stands z l' × AllNoted z l') (sym same) (
         steps_alone v l l' t w E.knows.sound V AA (sym (steps_worker p s t k l S.private) ∙ E.held) out' idle,
         steps_note v v l l' t idle AA (λ u ne. refl) (λ i. refl) (λ u. refl) (root_apart v l V t idle) (record { none = (N t).keeps ∙ ap (λ b. b && not (heap_of l t).swept) idle; others = λ u ne. record { keeps = refl; kept = refl; marked = refl } }) N,
@@ -143,19 +144,7 @@ module _ (p : ProgramText) (s : SettingsValue) (v v' : Memory) (l l' : Ledger) (
 
   -- a halt changes nothing but the end
   halt_alone : Halts m l' → StepsAlone m l' t
-  halt_alone H = record {
-    tree = record {
-      made = λ u. ap (λ (z : State). is_some (slice_get z.tasks u)) H.machine;
-      owners = λ a. ap (λ (z : State). owner_of z.tasks a) H.machine;
-      paths = λ a u. ap (λ (z : State). is_on_path z.tasks a u) H.machine;
-      waits = λ u. ap (λ (z : State). is_waiting (slice_get z.tasks u)) H.machine;
-      joins = λ u. ap (λ (z : State). is_joined (slice_get z.tasks u)) H.machine;
-    };
-    tasks = λ u ne. ap (λ (z : State). slice_get z.tasks u) H.machine;
-    heaps = λ u ne. ap (λ hs. or_fresh (slice_get hs u)) H.heaps;
-    rows = λ u ne. ap (λ (z : State). length (row_of (slice_get z.store u))) H.machine;
-    store = λ n ne. ap (λ (z : State). object_at z.store n) H.machine;
-  }
+  halt_alone H = machine_alone m l' t H.machine (λ u ne. ap (λ hs. or_fresh (slice_get hs u)) H.heaps)
 
   by : (kind : LastKind) (K : IsOfKind p m l' t S.task S.line kind) → (GoesOn kind → l'.machine.end ≡ None) → FitsAt p s (part_for s t h (taken_by kind k)) v l → (C : Makes p v v' m l' t h S.task S.line kind K) → Marks p v v' m l' t h S.task S.line kind K C → Handed
   by Private K on F C M = goes (on tt) (stays C (subst (λ (z : Ledger). StepsAlone m z t) (sym S.after) (private_alone p m t K (before_last.known p s l l' t w k E).sound)) (ap (λ (z : Ledger). (heap_of z t).worker) S.after ∙ (worker_step p s t m K ∙ E.held)))

@@ -1,0 +1,41 @@
+-- What changes alone: where the machine stays, and from one change to the next.
+use Rattle.std.proofs.Common.{is_some, ◌≡◌, ℕ, length, slice_get, ap, sym, ◌∙◌}
+use Rattle.hh_model.specs.declared.data.State.{State}
+use Rattle.hh_model.specs.Effect.{object_at, row_of}
+use Rattle.hh_model.specs.Step.{is_waiting, is_joined, is_on_path, owner_of}
+use Rattle.run_ledger.specs.declared.data.Ledger.{Ledger}
+use Rattle.run_ledger.specs.Heaps.{heap_of}
+use Rattle.ledger_step_laws.specs.Accounts.{SameTree, StepsAlone}
+
+pub machine_tree : (l l' : Ledger) → l'.machine ≡ l.machine → SameTree l l'
+machine_tree l l' e = record {
+  made = λ u. ap (λ (m : State). is_some (slice_get m.tasks u)) e;
+  owners = λ a. ap (λ (m : State). owner_of m.tasks a) e;
+  paths = λ a u. ap (λ (m : State). is_on_path m.tasks a u) e;
+  waits = λ u. ap (λ (m : State). is_waiting (slice_get m.tasks u)) e;
+  joins = λ u. ap (λ (m : State). is_joined (slice_get m.tasks u)) e;
+}
+
+pub machine_alone : (l l' : Ledger) (t : ℕ) → l'.machine ≡ l.machine → ((u : ℕ) → (u ≡ t → ⊥) → heap_of l' u ≡ heap_of l u) → StepsAlone l l' t
+machine_alone l l' t e heaps = record {
+  tree = machine_tree l l' e;
+  tasks = λ u ne. ap (λ (m : State). slice_get m.tasks u) e;
+  heaps = heaps;
+  rows = λ u ne. ap (λ (m : State). length (row_of (slice_get m.store u))) e;
+  store = λ n ne. ap (λ (m : State). object_at m.store n) e;
+}
+
+pub alone_along : (t : ℕ) (l k m : Ledger) → StepsAlone l k t → StepsAlone k m t → StepsAlone l m t
+alone_along t l k m A B = record {
+  tree = record {
+    made = λ u. B.tree.made u ∙ A.tree.made u;
+    owners = λ a. B.tree.owners a ∙ A.tree.owners a;
+    paths = λ a u. B.tree.paths a u ∙ A.tree.paths a u;
+    waits = λ u. B.tree.waits u ∙ A.tree.waits u;
+    joins = λ u. B.tree.joins u ∙ A.tree.joins u;
+  };
+  tasks = λ u ne. B.tasks u ne ∙ A.tasks u ne;
+  heaps = λ u ne. B.heaps u ne ∙ A.heaps u ne;
+  rows = λ u ne. B.rows u ne ∙ A.rows u ne;
+  store = λ n ne. B.store n (λ e. ne (sym (A.tree.owners n.task) ∙ e)) ∙ A.store n ne;
+}
