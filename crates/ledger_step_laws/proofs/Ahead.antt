@@ -239,9 +239,13 @@ module _ (p : ProgramText) (s : SettingsValue) (t : ℕ) where
 pub rested_alone : (l k : Ledger) (t : ℕ) → StepsAlone l k t → StepsAlone l (rested k t) t
 rested_alone l k t A = alone_along t l k (rested k t) A (machine_alone k (rested k t) t (heap_machine k t let_go) (λ u ne. ap or_fresh (with_off k t u let_go ne)))
 
+-- from rest
+pub rested_back : (l : Ledger) (t : ℕ) → StepsAlone (rested l t) l t
+rested_back l t = machine_alone (rested l t) l t (sym (heap_machine l t let_go)) (λ u ne. ap or_fresh (sym (with_off l t u let_go ne)))
+
 -- with the task at rest before it and after it
 pub both_rested : (l l' : Ledger) (t : ℕ) → StepsAlone l l' t → StepsAlone (rested l t) (rested l' t) t
-both_rested l l' t A = alone_along t (rested l t) l (rested l' t) (machine_alone (rested l t) l t (sym (heap_machine l t let_go)) (λ u ne. ap or_fresh (sym (with_off l t u let_go ne)))) (rested_alone l l' t A)
+both_rested l l' t A = alone_along t (rested l t) l (rested l' t) (rested_back l t) (rested_alone l l' t A)
 
 pub rested_same : (l l' : Ledger) (t : ℕ) → SameOf t l l' → SameOf t (rested l t) (rested l' t)
 rested_same l l' t E = record {

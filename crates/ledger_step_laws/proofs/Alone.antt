@@ -7,7 +7,7 @@ use Rattle.run_ledger.specs.declared.data.Ledger.{Ledger}
 use Rattle.run_ledger.specs.Heaps.{heap_of}
 use Rattle.ledger_step_laws.specs.Accounts.{SameTree, StepsAlone}
 
-pub machine_tree : (l l' : Ledger) → l'.machine ≡ l.machine → SameTree l l'
+machine_tree : (l l' : Ledger) → l'.machine ≡ l.machine → SameTree l l'
 machine_tree l l' e = record {
   made = λ u. ap (λ (m : State). is_some (slice_get m.tasks u)) e;
   owners = λ a. ap (λ (m : State). owner_of m.tasks a) e;
@@ -25,17 +25,42 @@ machine_alone l l' t e heaps = record {
   store = λ n ne. ap (λ (m : State). object_at m.store n) e;
 }
 
+tree_along : (l k m : Ledger) → SameTree l k → SameTree k m → SameTree l m
+tree_along l k m A B = record {
+  made = λ u. B.made u ∙ A.made u;
+  owners = λ a. B.owners a ∙ A.owners a;
+  paths = λ a u. B.paths a u ∙ A.paths a u;
+  waits = λ u. B.waits u ∙ A.waits u;
+  joins = λ u. B.joins u ∙ A.joins u;
+}
+
+tree_back : (l k : Ledger) → SameTree l k → SameTree k l
+tree_back l k A = record {
+  made = λ u. sym (A.made u);
+  owners = λ a. sym (A.owners a);
+  paths = λ a u. sym (A.paths a u);
+  waits = λ u. sym (A.waits u);
+  joins = λ u. sym (A.joins u);
+}
+
+-- from k to k', each past the steps of another task
+pub tree_beside : (l l' k k' : Ledger) → SameTree l l' → SameTree l k → SameTree l' k' → SameTree k k'
+tree_beside l l' k k' B A A' = tree_along k l k' (tree_back l k A) (tree_along l l' k' B A')
+
 pub alone_along : (t : ℕ) (l k m : Ledger) → StepsAlone l k t → StepsAlone k m t → StepsAlone l m t
 alone_along t l k m A B = record {
-  tree = record {
-    made = λ u. B.tree.made u ∙ A.tree.made u;
-    owners = λ a. B.tree.owners a ∙ A.tree.owners a;
-    paths = λ a u. B.tree.paths a u ∙ A.tree.paths a u;
-    waits = λ u. B.tree.waits u ∙ A.tree.waits u;
-    joins = λ u. B.tree.joins u ∙ A.tree.joins u;
-  };
+  tree = tree_along l k m A.tree B.tree;
   tasks = λ u ne. B.tasks u ne ∙ A.tasks u ne;
   heaps = λ u ne. B.heaps u ne ∙ A.heaps u ne;
   rows = λ u ne. B.rows u ne ∙ A.rows u ne;
   store = λ n ne. B.store n (λ e. ne (sym (A.tree.owners n.task) ∙ e)) ∙ A.store n ne;
+}
+
+pub alone_back : (t : ℕ) (l k : Ledger) → StepsAlone l k t → StepsAlone k l t
+alone_back t l k A = record {
+  tree = tree_back l k A.tree;
+  tasks = λ u ne. sym (A.tasks u ne);
+  heaps = λ u ne. sym (A.heaps u ne);
+  rows = λ u ne. sym (A.rows u ne);
+  store = λ n ne. sym (A.store n (λ e. ne (A.tree.owners n.task ∙ e)));
 }

@@ -37,24 +37,13 @@ use Rattle.shared_value.proofs.StepAccounts.{After, hold_same}
 use Rattle.own_steps.proofs.WordsFew.{asks_few, since_after}
 use Rattle.own_steps.proofs.NextPrivateSteps.{Follows, follows, private_more, ran_machine, ran_private}
 use Rattle.own_steps.proofs.LastSteps.{fits_machine}
+use Rattle.ledger_step_laws.proofs.Alone.{alone_along, alone_back}
 
 -- ---- ACCOUNTS
 
 -- from one to the other of two accounts after steps of one task
 alone_between : (l a b : Ledger) (t : ℕ) → StepsAlone l a t → StepsAlone l b t → StepsAlone a b t
-alone_between l a b t A B = record {
-  tree = record {
-    made = λ u. B.tree.made u ∙ sym (A.tree.made u);
-    owners = λ z. B.tree.owners z ∙ sym (A.tree.owners z);
-    paths = λ z u. B.tree.paths z u ∙ sym (A.tree.paths z u);
-    waits = λ u. B.tree.waits u ∙ sym (A.tree.waits u);
-    joins = λ u. B.tree.joins u ∙ sym (A.tree.joins u);
-  };
-  tasks = λ u ne. B.tasks u ne ∙ sym (A.tasks u ne);
-  heaps = λ u ne. B.heaps u ne ∙ sym (A.heaps u ne);
-  rows = λ u ne. B.rows u ne ∙ sym (A.rows u ne);
-  store = λ n ne. let off : own l n ≡ t → ⊥ = λ e. ne (A.tree.owners n.task ∙ e) in B.store n off ∙ sym (A.store n off);
-}
+alone_between l a b t A B = alone_along t a l b (alone_back t l a A) B
 
 rested_counts : (h : HeapOfCode) (a g : Heap) → a ≡ let_go g → IsCounted h g → IsCounted h a
 rested_counts h a g e C =

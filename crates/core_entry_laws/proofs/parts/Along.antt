@@ -1,6 +1,5 @@
 -- Any number of private steps, and the frame law for the private steps of another task.
-use Rattle.std.proofs.Common.{◌≡◌, ℕ, true, false, Some, length, slice_get, inl, inr, ap, sym, ◌∙◌}
-use Rattle.std.proofs.lemmas.Bool.{cases_eq}
+use Rattle.std.proofs.Common.{◌≡◌, ℕ, true, false, Some, length, slice_get, ap, sym, ◌∙◌}
 use Rattle.hh_lang.specs.Form.{ProgramText}
 use Rattle.run_trace.specs.Settings.{SettingsValue}
 use Rattle.hh_model.specs.declared.data.Task.{Task}
@@ -23,6 +22,7 @@ use Rattle.core_entry_laws.proofs.parts.Frame.{step_frame}
 use Rattle.ledger_step_laws.proofs.Along.{alike_steps}
 use Rattle.ledger_step_laws.proofs.Tree.{leaf_alone}
 use Rattle.core_relation.proofs.changes.Steady.{steady_same}
+use Rattle.core_relation.proofs.changes.Lifts.{alone_too}
 
 -- THE FRAME LAW FOR PRIVATE STEPS: t steps from l to l', and the part of u has taken its steps by either account
 module _ (p : ProgramText) (s : SettingsValue) (q : Part) where
@@ -47,34 +47,7 @@ module _ (p : ProgramText) (s : SettingsValue) (q : Part) where
 
   -- what changes from l to l' alone is what t owns, and so it is from k to k'
   pub alone_ahead : (l l' k k' : Ledger) (t : ℕ) → StepsAlone l l' t → StepsAlone l k q.task → StepsAlone l' k' q.task → AlikeFor q.task k k' → StepsAlone k k' t
-  alone_ahead l l' k k' t B A A' E = record {
-    tree = record {
-      made = λ z. A'.tree.made z ∙ (B.tree.made z ∙ sym (A.tree.made z));
-      owners = λ a. A'.tree.owners a ∙ (B.tree.owners a ∙ sym (A.tree.owners a));
-      paths = λ a z. A'.tree.paths a z ∙ (B.tree.paths a z ∙ sym (A.tree.paths a z));
-      waits = λ z. A'.tree.waits z ∙ (B.tree.waits z ∙ sym (A.tree.waits z));
-      joins = λ z. A'.tree.joins z ∙ (B.tree.joins z ∙ sym (A.tree.joins z));
-    };
-    tasks = λ z ne. elim (cases_eq z q.task) [
-      | inl e ↦ ap (slice_get k'.machine.tasks) e ∙ (E.task ∙ ap (slice_get k.machine.tasks) (sym e))
-      | inr off ↦ A'.tasks z off ∙ (B.tasks z ne ∙ sym (A.tasks z off))
-    ];
-    heaps = λ z ne. elim (cases_eq z q.task) [
-      | inl e ↦ ap (heap_of k') e ∙ (ap or_fresh E.heap ∙ ap (heap_of k) (sym e))
-      | inr off ↦ A'.heaps z off ∙ (B.heaps z ne ∙ sym (A.heaps z off))
-    ];
-    rows = λ z ne. elim (cases_eq z q.task) [
-      | inl e ↦ ap (λ y. length (row_of (slice_get k'.machine.store y))) e ∙ (E.count ∙ ap (λ y. length (row_of (slice_get k.machine.store y))) (sym e))
-      | inr off ↦ A'.rows z off ∙ (B.rows z ne ∙ sym (A.rows z off))
-    ];
-    store = λ n ne. elim (cases_eq (own k n) q.task) [
-      | inl e ↦ E.store n e
-      | inr off ↦
-          let e : own k n ≡ own l n = A.tree.owners n.task in
-          let e' : own l' n ≡ own l n = B.tree.owners n.task in
-          A'.store n (λ h. off (e ∙ (sym e' ∙ h))) ∙ (B.store n (λ h. ne (e ∙ h)) ∙ sym (A.store n (λ h. off (e ∙ h))))
-    ];
-  }
+  alone_ahead l l' k k' t B A A' E = alone_too l l' k k' q.task A A' E t B
 
   -- t, which isn't above u, steps alone: so the two accounts are alike for u
   pub alike_alone : (l l' : Ledger) (t : ℕ) → (t ≡ q.task → ⊥) → (is_on_path l.machine.tasks t q.task ≡ true → ⊥) → StepsAlone l l' t → l'.machine.field_limit ≡ l.machine.field_limit → l'.machine.end ≡ l.machine.end → slice_get l'.heaps q.task ≡ slice_get l.heaps q.task → AlikeFor q.task l l'

@@ -20,6 +20,7 @@ use Rattle.ledger_step_laws.specs.Kinds.{ForksTask, JoinsTasks, CanJoin, StoresO
 use Rattle.core_relation.specs.Changes.{ForksBelongings, JoinsBelongings, WritesAt, StoresAt, StoresNumberAt, EndsBelongings, child_belongings, advanced, top_with_results}
 use Rattle.core_relation.proofs.objects.Untouched.{chunks_unwritten}
 use Rattle.core_relation.proofs.changes.With.{at_belongings, off_belongings}
+use Rattle.ledger_step_laws.proofs.Alone.{tree_beside}
 
 -- l and l' before and after the step of another task, k and k' with the private steps of u
 module _ (l l' k k' : Ledger) (u : ℕ) (A : StepsAlone l k u) (A' : StepsAlone l' k' u) (E : AlikeFor u k k') where
@@ -56,6 +57,16 @@ module _ (l l' k k' : Ledger) (u : ℕ) (A : StepsAlone l k u) (A' : StepsAlone 
 
   paths_too : (a z : ℕ) → is_on_path l'.machine.tasks a z ≡ is_on_path l.machine.tasks a z → is_on_path k'.machine.tasks a z ≡ is_on_path k.machine.tasks a z
   paths_too a z e = A'.tree.paths a z ∙ (e ∙ sym (A.tree.paths a z))
+
+  -- what changes from l to l' alone is what t owns, and so it is from k to k'
+  pub alone_too : (t : ℕ) → StepsAlone l l' t → StepsAlone k k' t
+  alone_too t B = record {
+    tree = tree_beside l l' k k' B.tree A.tree A'.tree;
+    tasks = λ z ne. tasks_too z (B.tasks z ne);
+    heaps = λ z ne. heaps_too z (B.heaps z ne);
+    rows = λ z ne. rows_too z (B.rows z ne);
+    store = λ n ne. store_too n (B.store n (λ h. ne (A.tree.owners n.task ∙ h)));
+  }
 
   pub forks_too : (t a b g h : ℕ) (x : Task) → (t ≡ u → ⊥) → (a ≡ u → ⊥) → (b ≡ u → ⊥) → ForksTask l l' t a b g h x → ForksTask k k' t a b g h x
   forks_too t a b g h x nt na nb F = record {
@@ -111,13 +122,7 @@ module _ (l l' k k' : Ledger) (u : ℕ) (A : StepsAlone l k u) (A' : StepsAlone 
 
   pub writes_too : (t : ℕ) (n : Name) (x x' : Object) → (own l n ≡ u → ⊥) → WritesOne l l' t n x x' → WritesOne k k' t n x x'
   writes_too t n x x' ne W = record {
-    tree = record {
-      made = λ z. A'.tree.made z ∙ (W.tree.made z ∙ sym (A.tree.made z));
-      owners = λ a. A'.tree.owners a ∙ (W.tree.owners a ∙ sym (A.tree.owners a));
-      paths = λ a z. paths_too a z (W.tree.paths a z);
-      waits = λ z. A'.tree.waits z ∙ (W.tree.waits z ∙ sym (A.tree.waits z));
-      joins = λ z. A'.tree.joins z ∙ (W.tree.joins z ∙ sym (A.tree.joins z));
-    };
+    tree = tree_beside l l' k k' W.tree A.tree A'.tree;
     tasks = λ z zt. tasks_too z (W.tasks z zt);
     heaps = λ z. heaps_too z (W.heaps z);
     rows = λ z. rows_too z (W.rows z);
