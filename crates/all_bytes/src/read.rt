@@ -20,6 +20,17 @@ pub enum ReadError {
     NoMemory,
 }
 
+impl From<Failed> for ReadError {
+    ghost use Rattle.std.specs.Prelude.{◌≡◌};
+    ghost use Rattle.all_bytes.specs.declared.read.ReadError.TheVariants.{Fault};
+
+    ghost from_gives = { λ _ e. e ≡ Fault };
+
+    fn from(_: Failed) -> ReadError {
+        ReadError::Fault
+    }
+}
+
 impl From<AllocError> for ReadError {
     ghost use Rattle.std.specs.Prelude.{◌≡◌};
     ghost use Rattle.all_bytes.specs.declared.read.ReadError.TheVariants.{NoMemory};
@@ -46,13 +57,9 @@ fn take_more<S: Source>(
 {
     let mut piece = [0u8; PIECE];
     let room = PIECE.min(limit + 1 - input.len());
-    match source.take(&mut piece[..room]) {
-        Err(Failed) => Err(ReadError::Fault),
-        Ok(count) => {
-            input.extend_from_slice(&piece[..count])?;
-            Ok(count)
-        }
-    }
+    let count = source.take(&mut piece[..room])?;
+    input.extend_from_slice(&piece[..count])?;
+    Ok(count)
 }
 
 // Reads all that a source has left, or one byte more than the limit.
@@ -79,13 +86,10 @@ fn open<S: Source>(source: &mut S, file: Option<&str>) -> Result<(), ReadError>
     ensures failed { IfErr result (λ e. HasRisen (S.faults source.old) (S.faults source.new)) }
     ensures never_falls { S.faults source.old ≤ S.faults source.new }
 {
-    match file {
-        None => Ok(()),
-        Some(name) => match source.find(name) {
-            Ok(()) => Ok(()),
-            Err(Failed) => Err(ReadError::Fault),
-        },
+    if let Some(name) = file {
+        source.find(name)?;
     }
+    Ok(())
 }
 
 /// Reads a file, or, where none is named, what is left of the source; as far as one byte past the limit.
