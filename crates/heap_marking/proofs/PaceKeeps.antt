@@ -8,7 +8,7 @@ use Rattle.hh_model.specs.Step.{is_waiting, joined, parents, strand_of, waits}
 use Rattle.path_laws.proofs.Leaves.{wait_task}
 use Rattle.run_ledger.specs.declared.data.Heap.{Heap}
 use Rattle.run_ledger.specs.declared.data.Ledger.{Ledger}
-use Rattle.run_ledger.specs.declared.data.Previous.{Previous as PreviousEntry}
+use Rattle.run_ledger.specs.declared.data.Previous.{Previous}
 use Rattle.run_ledger.specs.declared.data.Previous.TheVariants.{Other as OtherEntry, Ran as RanEntry, Forked as ForkedEntry}
 use Rattle.run_ledger.specs.declared.data.WorkerPace.{WorkerPace}
 use Rattle.run_ledger.specs.Heaps.{heap_of}
@@ -17,8 +17,8 @@ use Rattle.journal_laws.proofs.OwedEntries.{waits_tells as since_tells}
 use Rattle.journal_laws.proofs.OwedEntries.{Touched}
 use Rattle.heap_marking.specs.declared.pace.Fork.{Fork}
 use Rattle.heap_marking.specs.declared.pace.Pace.{Pace}
-use Rattle.heap_marking.specs.declared.pace.Previous.{Previous}
-use Rattle.heap_marking.specs.declared.pace.Previous.TheVariants.{Other, Ran, Forked}
+use Rattle.heap_marking.specs.declared.pace.KeptEntry.{KeptEntry}
+use Rattle.heap_marking.specs.declared.pace.KeptEntry.TheVariants.{Other, Ran, Forked}
 use Rattle.heap_marking.specs.Pace.{HasGoneOn, IsForkOf, IsOver, KeepsMarks, KeepsPace, KeepsPrevious, TellsFork, TellsMark, previous_of}
 use Rattle.listed.specs.Options.{option_is}
 use Rattle.run_ledger.proofs.Frames.{held_is}
@@ -108,7 +108,7 @@ module _ (l l' : Ledger) (M : Moves l l') where
   marks_move forks (s ∷ ss) (inl k) = inl (over_moves s k.0, marks_move forks ss k.1)
   marks_move forks (s ∷ ss) (inr k) = inr (k.0, k.1, k.2, mark_moves k.1 s k.3, marks_move k.0 ss k.4)
 
-  pub previous_moves : (a : Previous) (b : PreviousEntry) → KeepsPrevious l a b → KeepsPrevious l' a b
+  pub previous_moves : (a : KeptEntry) (b : Previous) → KeepsPrevious l a b → KeepsPrevious l' a b
   previous_moves Other OtherEntry k = k
   previous_moves Other RanEntry k = absurd k
   previous_moves Other (ForkedEntry s) k = absurd k
