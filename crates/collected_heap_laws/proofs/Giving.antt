@@ -39,13 +39,9 @@ labels_placed [] c = refl
 labels_placed (k ∷ []) c = refl
 labels_placed (k ∷ (l ∷ ks)) c = ap (λ (ns : List Label). (k.number, k.size) ∷ ns) (labels_placed (l ∷ ks) c)
 
-move_over : (xs : List Label) (n : Label) (ys : List Label) → (xs ++ n ∷ []) ++ ys ≡ xs ++ n ∷ ys
-move_over [] n ys = refl
-move_over (x ∷ xs) n ys = ap (λ (ns : List Label). x ∷ ns) (move_over xs n ys)
-
 labels_open : (laid spare : List ChunkValue) → labels (open_next laid spare).laid ++ labels (open_next laid spare).spare ≡ labels laid ++ labels spare
 labels_open laid [] = refl
-labels_open laid (k ∷ ks) = ap (λ (ns : List Label). ns ++ labels ks) (labels_append laid (k ∷ [])) ∙ move_over (labels laid) (k.number, k.size) (labels ks)
+labels_open laid (k ∷ ks) = ap (λ (ns : List Label). ns ++ labels ks) (labels_append laid (k ∷ [])) ∙ append_assoc (labels laid) ((k.number, k.size) ∷ []) (labels ks)
 
 labels_opened : (y : Laying) (b : Bool) → labels (cond b (open_next y.laid y.spare) y).laid ++ labels (cond b (open_next y.laid y.spare) y).spare ≡ labels y.laid ++ labels y.spare
 labels_opened y true = labels_open y.laid y.spare

@@ -1,5 +1,5 @@
 -- The numbers of the reserved chunk and of new ones.
-use Rattle.std.proofs.Common.{◌≡◌, ℕ, ◌<◌, Bool, true, false, cond, List, [], ◌∷◌, ◌++◌, length, map, refl, sym, ap, ◌∙◌, subst, arith, inl, inr, Option, Some, None}
+use Rattle.std.proofs.Common.{◌≡◌, ℕ, ◌<◌, Bool, true, false, cond, List, [], ◌∷◌, ◌++◌, length, map, refl, sym, ap, ◌∙◌, subst, arith, inl, inr, Option, Some, None, append_assoc}
 use Rattle.std.specs.Prelude.{remove, nat_lt, reverse}
 use Rattle.object_layout.specs.declared.word.Addr.{Addr}
 use Rattle.object_layout.specs.Cell.{Cell, size_of}
@@ -50,13 +50,9 @@ numbers_placed [] c = refl
 numbers_placed (k ∷ []) c = refl
 numbers_placed (k ∷ (l ∷ ks)) c = ap (λ (ns : List ℕ). k.number ∷ ns) (numbers_placed (l ∷ ks) c)
 
-move_over : (xs : List ℕ) (n : ℕ) (ys : List ℕ) → (xs ++ n ∷ []) ++ ys ≡ xs ++ n ∷ ys
-move_over [] n ys = refl
-move_over (x ∷ xs) n ys = ap (λ (ns : List ℕ). x ∷ ns) (move_over xs n ys)
-
 open_numbers : (laid spare : List ChunkValue) → numbers (open_next laid spare).laid ++ numbers (open_next laid spare).spare ≡ numbers laid ++ numbers spare
 open_numbers laid [] = refl
-open_numbers laid (k ∷ ks) = ap (λ (ns : List ℕ). ns ++ numbers ks) (numbers_append laid (k ∷ [])) ∙ move_over (numbers laid) k.number (numbers ks)
+open_numbers laid (k ∷ ks) = ap (λ (ns : List ℕ). ns ++ numbers ks) (numbers_append laid (k ∷ [])) ∙ append_assoc (numbers laid) (k.number ∷ []) (numbers ks)
 
 pub opened_numbers : (y : Laying) (b : Bool) → numbers (cond b (open_next y.laid y.spare) y).laid ++ numbers (cond b (open_next y.laid y.spare) y).spare ≡ numbers y.laid ++ numbers y.spare
 opened_numbers y true = open_numbers y.laid y.spare
