@@ -13,22 +13,13 @@ ghost use Rattle.child_tasks.specs.Joins.{chunk_count, left_of, other_child, own
 
 use alloc_path::{LeafHeap, View};
 use chunk_pool::Pool;
-use fork_join::{EndedChild, Side, join, places};
+use fork_join::{EndedChild, Side, join, places, sibling_of};
 use heap_tree::{State, Tree};
 use object_layout::Addr;
 use remembered_set::Remembered;
 use std::alloc::{AllocError, Global};
 use task_homes::{Home, Homes, Rest, Work};
 use task_machine::Private;
-
-/// The other child of the same fork.
-pub fn sibling_of(t: u32) -> u32
-    requires child { 0 < t }
-    requires few { t < 2 ^ 31 }
-    ensures { result ≡ sibling t }
-{
-    if t % 2 == 1 { t + 1 } else { t - 1 }
-}
 
 /// Whether a task that is at this has ended, and hasn't joined.
 pub fn is_ended(state: Option<State>) -> bool

@@ -7,6 +7,4 @@ mod join;
 
 pub use first::{first_homes, none_out};
 pub use fork::{ForkBlocks, Forking, fork_homes, grow};
-pub use join::{
-    in_order, is_ended, join_children, make_places, other_child, own_child, sibling_of,
-};
+pub use join::{in_order, is_ended, join_children, make_places, other_child, own_child};

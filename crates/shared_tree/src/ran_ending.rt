@@ -12,9 +12,8 @@ ghost use Rattle.shared_tree.specs.Ran.{MayBeEntered};
 
 use crate::shared::Shared;
 use crate::steps_entered::enter_alone;
-use child_tasks::{
-    in_order, is_ended, join_children, make_places, other_child, own_child, sibling_of,
-};
+use child_tasks::{in_order, is_ended, join_children, make_places, other_child, own_child};
+use fork_join::sibling_of;
 use heap_tree::State;
 use own_steps::at_end;
 use shared_value::{NotEntered, NotRan};
