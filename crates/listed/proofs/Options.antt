@@ -1,5 +1,5 @@
 -- Options and Booleans: what their tests tell.
-use Rattle.std.proofs.Common.{◌≡◌, Bool, true, false, ◌&&◌, ◌||◌, not, Option, Some, None, is_none, is_some, option_map, refl, sym, ◌∙◌}
+use Rattle.std.proofs.Common.{◌≡◌, Bool, true, false, ◌&&◌, ◌||◌, not, Option, Some, None, is_none, is_some, option_map, IfNone, refl, sym, ◌∙◌}
 use Rattle.std.proofs.lemmas.Bool.{false≢true}
 
 pub none_of : {A : Type 0} (o : Option A) → is_some o ≡ false → o ≡ None
@@ -22,6 +22,10 @@ some_apart o x e n = some_none (sym e ∙ n)
 pub some_map : {A B : Type 0} (f : A → B) (o : Option A) → is_some (option_map f o) ≡ is_some o
 some_map f None = refl
 some_map f (Some x) = refl
+
+pub if_none : {A : Type 0} (o : Option A) (P Q : Type 0) → (P → Q) → IfNone o P → IfNone o Q
+if_none None P Q f h = f h
+if_none (Some x) P Q f h = h
 
 pub same_truth : (b c : Bool) → (b ≡ true → c ≡ true) → (c ≡ true → b ≡ true) → b ≡ c
 same_truth true c f g = sym (f refl)

@@ -1,5 +1,5 @@
 -- Relations between the places of two lists, and one theft among a hand's.
-use Rattle.std.proofs.Common.{◌≡◌, ⊎_elim, ◌⊎◌, ◌++◌, ℕ, List, [], ◌∷◌, length, set, slice_get, Option, Some, None, IfNone, length-append, sym, ◌∙◌, subst, arith}
+use Rattle.std.proofs.Common.{◌≡◌, ⊎_elim, ◌⊎◌, ◌++◌, ℕ, List, [], ◌∷◌, length, set, slice_get, Some, length-append, sym, ◌∙◌, subst, arith}
 use Rattle.std.proofs.lemmas.Option.{same_Some}
 use Rattle.listed.proofs.Members.{got_within, got_same, got_other}
 use Rattle.listed.proofs.Options.{none_some}
@@ -15,10 +15,6 @@ changes_at l i t u Then at same did = record {
   at_victim = λ a b ea eb. let was : t ≡ a = same_Some t a (sym at ∙ ea) in let is : u ≡ b = same_Some u b (sym (got_same l i t u at) ∙ eb) in
       subst (λ z. SameTheft z b × Then z b) was (subst (λ z. SameTheft t z × Then t z) is (same, did));
 }
-
-pub if_none : {A : Type 0} (o : Option A) (P Q : Type 0) → (P → Q) → IfNone o P → IfNone o Q
-if_none None P Q f h = f h
-if_none (Some x) P Q f h = h
 
 pub no_place : {A B : Type 0} (R : A → B → Type 0) (ys : List B) → EachPlace R [] ys
 no_place R ys k a b ea eb = none_some ea

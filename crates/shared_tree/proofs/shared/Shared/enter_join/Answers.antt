@@ -1,6 +1,7 @@
-use Rattle.std.proofs.Common.{◌≡◌, ◌<◌, ℕ, ◌+◌, ◌-◌, arith, Option, Some, None, List, [], length, length-set, slice_get, slice_set, refl, ap, sym, subst, ◌∙◌}
-use Rattle.std.specs.Prelude.{IfNone, IsSome}
+use Rattle.std.proofs.Common.{◌≡◌, ◌<◌, ℕ, ◌+◌, ◌-◌, arith, Some, None, List, [], length, length-set, slice_get, slice_set, refl, ap, sym, subst, ◌∙◌}
+use Rattle.std.specs.Prelude.{IsSome}
 use Rattle.listed.specs.RoomyValue.{RoomyValue}
+use Rattle.listed.proofs.Options.{if_none}
 use Rattle.run_trace.specs.Entry.{EntryValue}
 use Rattle.chunk_pool.specs.PoolValue.{PoolValue}
 use Rattle.heap_tree.specs.declared.state.State.TheVariants.{Ended}
@@ -225,10 +226,6 @@ join_children-rest-requires-clause-can c =
     } in
     subst (λ (ns : List Node). CanJoin ns w.pool (parent_side c.args.parent above notes) left right) (sym c.set_state.ensures)
     (can_join w k p I F at free ended c.args.parent c.sibling_of-other.result par o h h1 h2 h3 h4 home beside above set notes own oth left right T places).1
-
-if_none : {A : Type 0} (o : Option A) (P Q : Type 0) → (P → Q) → IfNone o P → IfNone o Q
-if_none None P Q f h = f h
-if_none (Some x) P Q f h = h
 
 pub remembering-set-requires : goal.remembering-set-requires
 remembering-set-requires c =

@@ -1,7 +1,8 @@
 use Rattle.std.proofs.lemmas.Option.{IfSome_then}
+use Rattle.listed.proofs.Options.{if_none}
 use Rattle.listed.proofs.Places.{got_item}
 use Rattle.steal_scheduler.specs.Thefts.{Stole, StoleNone}
-use Rattle.steal_scheduler.proofs.Lists.{changes_at, if_none}
+use Rattle.steal_scheduler.proofs.Lists.{changes_at}
 use Rattle.steal_scheduler.proofs.hand.Hand.steal_from.Goals as goal
 
 pub returns-clause-some : goal.returns-clause-some
