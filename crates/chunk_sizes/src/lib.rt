@@ -1,7 +1,7 @@
 // How many words a chunk has, and how many units hold so many words.
 #![tactic(auto)]
 
-ghost use Rattle.std.specs.Prelude.{◌≡◌, ◌<◌, ◌^◌};
+ghost use Rattle.std.specs.Prelude.{◌≡◌};
 ghost use Rattle.chunk_sizes.specs.Sizes.{units};
 
 /// The words of a unit, by which chunks are counted. A chunk has one unit, but for that of a large object.
@@ -9,8 +9,7 @@ pub const CHUNK_WORDS: u64 = 1024;
 
 /// How many units hold so many words.
 pub fn units(words: u64) -> u64
-    requires { words < 2 ^ 63 }
     ensures { result ≡ units words }
 {
-    (words + (CHUNK_WORDS - 1)) / CHUNK_WORDS
+    words.div_ceil(CHUNK_WORDS)
 }

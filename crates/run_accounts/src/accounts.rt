@@ -1,7 +1,7 @@
 // The accounts of a run as a value, and what is looked up in them.
 
 ghost use Rattle.std.specs.Prelude.{◌≡◌, ◌<◌, ◌^◌, IfOk, None, slice_get, option_copied, is_some, unwrap_or, replicate};
-ghost use Rattle.run_ledger.specs.Heaps.{heap_at, heap_of, marked_in, left_in, words_in, take_of, in_use, units};
+ghost use Rattle.run_ledger.specs.Heaps.{heap_at, heap_of, marked_in, left_in, words_in, take_of, in_use};
 ghost use Rattle.run_ledger.specs.Steps.{is_due, is_in_need};
 ghost use Rattle.run_ledger.specs.Entries.{is_ready, is_out, held_from};
 ghost use Rattle.run_ledger.specs.Journals.{opening};
@@ -9,6 +9,7 @@ ghost use Rattle.hh_model.specs.Step.{is_running, is_waiting, asked};
 ghost use Rattle.run_trace.specs.Settings.{AreLimits};
 ghost use Rattle.run_accounts.specs.Accounts.{AccountsValue, Steady, Agrees};
 
+use chunk_sizes::units;
 use hh_lang::Program;
 use hh_model::{Machine, State, Status};
 use ledger_heaps::{CHUNK_WORDS, fresh, take_of, words_in};
@@ -49,19 +50,6 @@ impl<'p> Model for Accounts<'p> {
     } };
 
     ghost invariant = { λ a. (a.machine.steps ≤ a.steps) × (a.machine.program ≡ a.program.now) };
-}
-
-/// How many units hold so many words.
-pub(crate) fn units_of(words: usize) -> usize
-    ensures value { result ≡ units words }
-    ensures fits { result < 2 ^ 55 }
-{
-    let whole = words / CHUNK_WORDS;
-    if words % CHUNK_WORDS == 0 {
-        whole
-    } else {
-        whole + 1
-    }
 }
 
 impl<'p> Accounts<'p> {
@@ -281,7 +269,7 @@ impl<'p> Accounts<'p> {
     {
         match words {
             Some(words) if words <= CHUNK_WORDS => (self.room(task) as usize) < words,
-            Some(words) => self.reserved(task) as usize != units_of(words),
+            Some(words) => self.reserved(task) as u64 != units(words as u64),
             None => false,
         }
     }

@@ -9,7 +9,8 @@ ghost use Rattle.run_ledger.specs.Heaps.{is_small, heap_of, with_heap, collected
 ghost use Rattle.ledger_heaps.specs.Parts.{with_collected, with_swept};
 ghost use Rattle.run_accounts.specs.Accounts.{Steady, Agrees};
 
-use crate::accounts::{Accounts, units_of};
+use crate::accounts::Accounts;
+use chunk_sizes::units;
 use ledger_heaps::{CHUNK_WORDS, Collected, Swept, collect, fresh, sweep, within};
 use listed::Listed;
 use run_ledger::RunEnd;
@@ -49,12 +50,12 @@ impl<'p> Accounts<'p> {
     }
 
     // How many units the chunk has that the task's next step needs.
-    fn chunk_units(&self, task: u32) -> usize
+    fn chunk_units(&self, task: u32) -> u64
         ensures value { result ≡ chunk_units (asked self.now.program self.now.ledger.machine task) }
         ensures fits { result < 2 ^ 55 }
     {
         match self.asked(task) {
-            Some(words) if CHUNK_WORDS < words => units_of(words),
+            Some(words) if CHUNK_WORDS < words => units(words as u64),
             _ => 1,
         }
     }
@@ -80,7 +81,7 @@ impl<'p> Accounts<'p> {
         let units = self.chunk_units(task);
         let in_use = self.in_use();
         let small = self.needs_small(task);
-        if in_use + units as u64 > self.settings.chunks() as u64 {
+        if in_use + units > self.settings.chunks() as u64 {
             self.end = Some(RunEnd::Pool(in_use as u32));
             return Ok(());
         }

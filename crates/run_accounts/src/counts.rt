@@ -4,7 +4,8 @@ ghost use Rattle.std.specs.Prelude.{◌≡◌, ◌+◌, ◌-◌, ◌<◌, ◌^�
 ghost use Rattle.run_ledger.specs.Heaps.{heap_of, begun_in};
 ghost use Rattle.run_accounts.specs.Accounts.{places_in, used_by};
 
-use crate::accounts::{Accounts, units_of};
+use crate::accounts::Accounts;
+use chunk_sizes::units;
 use hh_model::Name;
 use ledger_heaps::{Collected, Swept, words_at};
 
@@ -38,8 +39,8 @@ impl<'p> Accounts<'p> {
         ensures { self.new ≡ record self.old { used = used_by self.old.used reserved self.old.ledger.machine large } }
     {
         if let Some(name) = large {
-            let units = units_of(words_at(self.machine.state(), name));
-            self.used = self.used.saturating_sub(reserved as u64) + units as u64;
+            let units = units(words_at(self.machine.state(), name) as u64);
+            self.used = self.used.saturating_sub(reserved as u64) + units;
         }
     }
 
