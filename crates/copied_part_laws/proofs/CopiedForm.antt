@@ -4,6 +4,7 @@ use Rattle.std.specs.Option.{option_map}
 use Rattle.std.specs.Prelude.{reverse}
 use Rattle.std.proofs.lemmas.Bool.{cases_lt, cond-false, cond-true, false≢true}
 use Rattle.std.proofs.lemmas.List.{length-map}
+use Rattle.listed.specs.Members.{is_empty}
 use Rattle.listed.proofs.Members.{in_append_cases}
 use Rattle.listed.proofs.Places.{all_from, in_map, map_in, read_in}
 use Rattle.hh_model.specs.declared.data.State.{State}
@@ -31,7 +32,7 @@ use Rattle.collected_heap_laws.proofs.Reading as reading
 use Rattle.leaf_copy_gc.proofs.Tidied.{all_tidy}
 use Rattle.leaf_copy_gc.proofs.Packing.{used_led}
 use Rattle.core_relation.specs.Memory.{Chunk, In, objects_in}
-use Rattle.core_relation.specs.Layout.{AreLaidOut, HoldsLarge, has_none, reserved_chunks, reserved_units, words}
+use Rattle.core_relation.specs.Layout.{AreLaidOut, HoldsLarge, reserved_chunks, reserved_units, words}
 use Rattle.task_machine.specs.Accounts.{AreReserved, IsCounted}
 use Rattle.shared_value.specs.Objects.{chunk_of, chunks_of}
 use Rattle.shared_value.specs.Stands.{HeapForm}
@@ -95,7 +96,7 @@ units_reserved h u None w r = ap reserved_units (sym r)
 units_reserved h u (Some i) w r =
     let k : ChunkValue = chunk_at h i in
     let big : 1024 < (chunk_at h i).size = w.1.0 in
-    let spare : is_spare (chunk_of (chunk_at h i)) ≡ true = ap₂ (λ b os. not b && has_none os) (ne_eqb (chunk_at h i).size 1024 (λ q. omega (arith, q, big))) (ap (objects_from (chunk_at h i).number 0) w.1.1) in
+    let spare : is_spare (chunk_of (chunk_at h i)) ≡ true = ap₂ (λ b (os : List Located). not b && is_empty os) (ne_eqb (chunk_at h i).size 1024 (λ q. omega (arith, q, big))) (ap (objects_from (chunk_at h i).number 0) w.1.1) in
     ap (map (λ (c : Chunk). c.units)) (cond-true (is_spare (chunk_of (chunk_at h i))) (chunk_of (chunk_at h i) ∷ []) [] spare)
     ∙ by u r big
   where
@@ -229,14 +230,14 @@ module _ (h : LeafHeapValue) (from : List (Option Addr)) (ss : List Survivor) (n
 
   pub laid_now : AreLaidOut (chunks_of (L ++ (K ++ R))) a.reserved
   laid_now = laid_out (L ++ (K ++ R)) a.reserved (moving.apart_now h from ss news S T (naming.settled h from ss news S T m a O) (naming.reserved h from ss news S T m a O)) within_each whole_each holds_each
-      (ap (map (λ (c : Chunk). c.units)) (none_spare L (K ++ R) (λ k i. ap (λ b. not b && has_none (chunk_of k).objects) (eq-eqb k.size 1024 (told_in m L k told i))))
+      (ap (map (λ (c : Chunk). c.units)) (none_spare L (K ++ R) (λ k i. ap (λ b. not b && is_empty (chunk_of k).objects) (eq-eqb k.size 1024 (told_in m L k told i))))
       ∙ (ap (map (λ (c : Chunk). c.units)) (none_spare K R (λ k i. spare_not k (kept_full k i)))
       ∙ units_reserved h.chunks a.reserved h.reserved O.form.shaped.reserved counted.reserved))
     where
       spare_not : (k : ChunkValue) → ((chunk_of k).objects ≡ [] → ⊥) → is_spare (chunk_of k) ≡ false
       spare_not k f = by (chunk_of k).large (chunk_of k).objects refl
         where
-          by : (b : Bool) (os : List Located) → (chunk_of k).objects ≡ os → (b && has_none os) ≡ false
+          by : (b : Bool) (os : List Located) → (chunk_of k).objects ≡ os → (b && is_empty os) ≡ false
           by true [] e = absurd (f e)
           by true (o ∷ os) e = refl
           by false os e = refl

@@ -1,6 +1,7 @@
 -- How the objects of a heap are laid out in its chunks.
-use Rattle.std.specs.Prelude.{◌≡◌, ◌⊎◌, ◌&&◌, ◌==◌, ◌+◌, ◌*◌, ◌≤◌, ℕ, zero, suc, Bool, true, false, List, [], ◌∷◌, length, map, filter}
+use Rattle.std.specs.Prelude.{◌≡◌, ◌⊎◌, ◌&&◌, ◌==◌, ◌+◌, ◌*◌, ◌≤◌, ℕ, zero, suc, true, false, List, [], ◌∷◌, length, map, filter}
 use Rattle.std.specs.List.{IsDistinct}
+use Rattle.listed.specs.Members.{is_empty}
 use Rattle.run_ledger.specs.Heaps.{units}
 use Rattle.object_layout.specs.Objects.{Located}
 use Rattle.object_layout.specs.Cell.{chunk_words}
@@ -19,12 +20,8 @@ abbrev pub HoldsLarge : Chunk → Type 0
 HoldsLarge k = (k.objects ≡ []) ⊎ ((o : Located) × (k.objects ≡ o ∷ []) × (o.at.offset ≡ 0) × (k.units ≡ units (words o)))
 
 -- the large chunks that hold nothing yet
-abbrev pub has_none : List Located → Bool
-has_none [] = true
-has_none (o ∷ os) = false
-
 abbrev pub reserved_chunks : List Chunk → List Chunk
-reserved_chunks ks = filter (λ k. k.large && has_none k.objects) ks
+reserved_chunks ks = filter (λ k. k.large && is_empty k.objects) ks
 
 -- one of so many units, or none
 abbrev pub reserved_units : ℕ → List ℕ

@@ -1,6 +1,7 @@
 -- What a sweep leaves of the objects of one chunk.
 use Rattle.std.proofs.Common.{◌≡◌, ℕ, suc, ◌+◌, arith, Bool, true, false, cond, not, None, List, [], ◌∷◌, All, filter, inl, inr, refl, ap, ap₂, sym, ◌∙◌}
 use Rattle.std.specs.Prelude.{◌||◌}
+use Rattle.listed.specs.Members.{is_empty}
 use Rattle.object_layout.specs.declared.word.Addr.{Addr}
 use Rattle.object_layout.specs.Cell.{Born, Cell, Hole, Mark, Moved, moved_to, size_of}
 use Rattle.object_layout.specs.ChunkValue.{ChunkValue}
@@ -10,7 +11,7 @@ use Rattle.object_layout.proofs.ObjectChanges.{sifted_are_kept}
 use Rattle.inner_mark_gc.specs.MarkingValue.{has_address}
 use Rattle.inner_mark_gc.specs.Swept.{has_object, is_object, swept_cell, swept_cells, swept_chunk}
 use Rattle.inner_mark_gc.proofs.Sweeping.{size_swept}
-use Rattle.core_relation.specs.Layout.{HoldsLarge, has_none}
+use Rattle.core_relation.specs.Layout.{HoldsLarge}
 use Rattle.shared_value.specs.Objects.{chunk_of}
 
 -- the object stays where its address is kept
@@ -22,20 +23,20 @@ module _ (kept : List Addr) (number : ℕ) where
   place base = record { chunk = number; offset = base }
 
   -- an object is left where one is kept
-  pub object_left : (cs : List Cell) (base : ℕ) → All (λ c. moved_to c.mark ≡ None) cs → has_object (swept_cells kept number base cs) ≡ not (has_none (filter (is_there kept) (objects_from number base cs)))
+  pub object_left : (cs : List Cell) (base : ℕ) → All (λ c. moved_to c.mark ≡ None) cs → has_object (swept_cells kept number base cs) ≡ not (is_empty (filter (is_there kept) (objects_from number base cs)))
   object_left [] base tidy = refl
   object_left (c ∷ cs) base tidy = by (has_address kept (place base)) refl c.mark refl (tidy 0 c (omega arith)) (object_left cs (base + size_of c) (λ i d lt. tidy (suc i) d (omega (arith, lt))))
     where
       by : (v : Bool) → has_address kept (place base) ≡ v → (m : Mark) → c.mark ≡ m → moved_to m ≡ None
-          → has_object (swept_cells kept number (base + size_of c) cs) ≡ not (has_none (filter (is_there kept) (objects_from number (base + size_of c) cs)))
-          → (is_object (swept_cell v c).mark || has_object (swept_cells kept number (base + size_of c) cs)) ≡ not (has_none (filter (is_there kept) (located_by number base c m (objects_from number (base + size_of c) cs))))
+          → has_object (swept_cells kept number (base + size_of c) cs) ≡ not (is_empty (filter (is_there kept) (objects_from number (base + size_of c) cs)))
+          → (is_object (swept_cell v c).mark || has_object (swept_cells kept number (base + size_of c) cs)) ≡ not (is_empty (filter (is_there kept) (located_by number base c m (objects_from number (base + size_of c) cs))))
       by true q (Born b) e u go =
           ap (λ z. is_object z || has_object (swept_cells kept number (base + size_of c) cs)) e
-          ∙ sym (ap (λ z. not (has_none (cond z (located number base b c ∷ filter (is_there kept) (objects_from number (base + size_of c) cs)) (filter (is_there kept) (objects_from number (base + size_of c) cs))))) q)
+          ∙ sym (ap (λ z. not (is_empty (cond z (located number base b c ∷ filter (is_there kept) (objects_from number (base + size_of c) cs)) (filter (is_there kept) (objects_from number (base + size_of c) cs))))) q)
       by true q (Moved to) e u go = absurd cc
       by true q Hole e u go = ap (λ z. is_object z || has_object (swept_cells kept number (base + size_of c) cs)) e ∙ go
       by false q (Born b) e u go =
-          go ∙ sym (ap (λ z. not (has_none (cond z (located number base b c ∷ filter (is_there kept) (objects_from number (base + size_of c) cs)) (filter (is_there kept) (objects_from number (base + size_of c) cs))))) q)
+          go ∙ sym (ap (λ z. not (is_empty (cond z (located number base b c ∷ filter (is_there kept) (objects_from number (base + size_of c) cs)) (filter (is_there kept) (objects_from number (base + size_of c) cs))))) q)
       by false q (Moved to) e u go = absurd cc
       by false q Hole e u go = go
 

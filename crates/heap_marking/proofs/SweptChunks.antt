@@ -4,10 +4,11 @@ use Rattle.std.proofs.lemmas.Bool.{eqb-true, false≢true}
 use Rattle.std.proofs.lemmas.List.Sums.{sum_by-append, sum_by-cons}
 use Rattle.std.proofs.lemmas.List.{map-append}
 use Rattle.std.proofs.lemmas.List.Elements.{filter-append}
+use Rattle.listed.specs.Members.{is_empty}
 use Rattle.listed.proofs.Members.{in_append_left, in_append_right}
 use Rattle.hh_model.specs.declared.data.Name.{Name}
 use Rattle.hh_model.specs.declared.data.State.{State}
-use Rattle.run_ledger.specs.Heaps.{is_empty, units_sum, without_empty, words_at}
+use Rattle.run_ledger.specs.Heaps.{units_sum, without_empty, words_at}
 use Rattle.object_layout.specs.declared.word.Addr.{Addr}
 use Rattle.object_layout.specs.Cell.{moved_to}
 use Rattle.object_layout.specs.ChunkValue.{ChunkValue}
@@ -17,7 +18,7 @@ use Rattle.alloc_path.specs.LeafHeapValue.{units}
 use Rattle.alloc_path.specs.Units.{unit_count}
 use Rattle.inner_mark_gc.specs.MarkingValue.{has_address}
 use Rattle.inner_mark_gc.specs.Swept.{goes, has_object, stays, swept_chunk}
-use Rattle.core_relation.specs.Layout.{HoldsLarge, has_none, words}
+use Rattle.core_relation.specs.Layout.{HoldsLarge, words}
 use Rattle.core_relation.specs.Stands.{large_chunks, names_of, small_chunks}
 use Rattle.core_relation.specs.Memory.{In, object_name, objects_in}
 use Rattle.shared_value.specs.Objects.{chunk_of, chunks_of}
@@ -34,7 +35,7 @@ pub record IsFilled (k : ChunkValue) : Type 0 where
 abbrev pub AreFilled : List ChunkValue → Type 0
 AreFilled ks = (k : ChunkValue) → In ks k → IsFilled k
 
-none_is : (os : List Located) → false ≡ not (has_none os) → os ≡ []
+none_is : (os : List Located) → false ≡ not (is_empty os) → os ≡ []
 none_is [] e = refl
 none_is (o ∷ os) e = absurd (false≢true e)
 
@@ -53,7 +54,7 @@ module _ (kept : List Addr) where
   abbrev pub has : ChunkValue → Bool
   has k = has_object (swept_chunk kept k).cells
 
-  pub has_is : (k : ChunkValue) → IsFilled k → has k ≡ not (has_none (kept_in k))
+  pub has_is : (k : ChunkValue) → IsFilled k → has k ≡ not (is_empty (kept_in k))
   has_is k F = object_left kept k.number k.cells 0 F.unmoved
 
   pub swept_is : (k : ChunkValue) → (chunk_of (swept_chunk kept k)).objects ≡ kept_in k
@@ -82,7 +83,7 @@ module _ (kept : List Addr) where
         by true e go = ap (λ b. map object_name (cond b (o ∷ filter (is_there kept) os) (filter (is_there kept) os))) e ∙ ap (λ ns. object_name o ∷ ns) go
         by false e go = ap (λ b. map object_name (cond b (o ∷ filter (is_there kept) os) (filter (is_there kept) os))) e ∙ go
 
-    empty_is : (os : List Located) → has_none os ≡ is_empty (map object_name os)
+    empty_is : (os : List Located) → is_empty os ≡ is_empty (map object_name os)
     empty_is [] = refl
     empty_is (o ∷ os) = refl
 
@@ -93,7 +94,7 @@ module _ (kept : List Addr) where
     names_are k A = ap (map object_name) (swept_is k) ∙ names_kept (chunk_of k).objects A
 
     pub has_names : (k : ChunkValue) → IsFilled k → Agrees (chunk_of k).objects → has k ≡ not (is_empty (names k))
-    has_names k F A = has_is k F ∙ (ap not (empty_is (kept_in k)) ∙ ap (λ ns. not (is_empty ns)) (names_kept (chunk_of k).objects A))
+    has_names k F A = has_is k F ∙ (ap not (empty_is (kept_in k)) ∙ ap (λ (ns : List Name). not (is_empty ns)) (names_kept (chunk_of k).objects A))
 
     no_names : (k : ChunkValue) → IsFilled k → Agrees (chunk_of k).objects → has k ≡ false → names k ≡ []
     no_names k F A e = by (names k) (sym e ∙ has_names k F A)
@@ -218,7 +219,7 @@ module _ (kept : List Addr) where
           plus a b = omega arith
       counts true e false q G =
           let o = one_large k F q own in
-          let stays : (chunk_of (swept_chunk kept k)).objects ≡ (chunk_of k).objects = swept_is k ∙ (ap (filter (is_there kept)) o.1 ∙ (whole_by o.0 (sym e ∙ (has_is k F ∙ ap (λ os. not (has_none (filter (is_there kept) os))) o.1)) ∙ sym o.1)) in record {
+          let stays : (chunk_of (swept_chunk kept k)).objects ≡ (chunk_of k).objects = swept_is k ∙ (ap (filter (is_there kept)) o.1 ∙ (whole_by o.0 (sym e ∙ (has_is k F ∙ ap (λ (os : List Located). not (is_empty (filter (is_there kept) os))) o.1)) ∙ sym o.1)) in record {
             small = G.small;
             large = G.large;
             smalls = G.smalls ∙ sym (ap (λ z. length (cond (not (not z)) (chunk_of (swept_chunk kept k) ∷ small_chunks (chunks_of (left ks))) (small_chunks (chunks_of (left ks)))) + G.small) q);
@@ -230,10 +231,10 @@ module _ (kept : List Addr) where
             all = G.all;
           }
         where
-          whole_by : (o : Located) → true ≡ not (has_none (filter (is_there kept) (o ∷ []))) → filter (is_there kept) (o ∷ []) ≡ o ∷ []
+          whole_by : (o : Located) → true ≡ not (is_empty (filter (is_there kept) (o ∷ []))) → filter (is_there kept) (o ∷ []) ≡ o ∷ []
           whole_by o h = one (is_there kept o) h
             where
-              one : (b : Bool) → true ≡ not (has_none (cond b (o ∷ []) [])) → cond b (o ∷ []) [] ≡ o ∷ []
+              one : (b : Bool) → true ≡ not (is_empty (cond b (o ∷ []) [])) → cond b (o ∷ []) [] ≡ o ∷ []
               one true h = refl
               one false h = absurd (false≢true (sym h))
 

@@ -2,11 +2,12 @@
 use Rattle.std.proofs.Common.{◌≡◌, ℕ, ◌-◌, ◌*◌, ◌/◌, ◌≤◌, ◌==◌, arith, Bool, true, false, cond, not, Option, Some, None, List, [], map, refl, ap, sym, subst, ◌∙◌, ne_eqb}
 use Rattle.std.proofs.lemmas.Bool.{false≢true}
 use Rattle.std.proofs.lemmas.List.Elements.{All-get_or}
+use Rattle.listed.specs.Members.{is_empty}
 use Rattle.listed.proofs.Members.{in_from_kept}
 use Rattle.listed.proofs.Places.{all_from, in_map, read_in}
 use Rattle.listed.proofs.Options.{none_some}
 use Rattle.run_ledger.specs.declared.data.Heap.{Heap}
-use Rattle.run_ledger.specs.Heaps.{in_snapshot, is_empty, is_last_empty, swept_heap}
+use Rattle.run_ledger.specs.Heaps.{in_snapshot, is_last_empty, swept_heap}
 use Rattle.run_ledger.specs.Reachable.{holds_name}
 use Rattle.object_layout.specs.declared.word.Addr.{Addr}
 use Rattle.object_layout.specs.Chunks.{chunk_at, no_chunk, place_in}
@@ -18,7 +19,7 @@ use Rattle.alloc_path.specs.LeafHeapValue.{AreWithin, LeafHeapValue, IsCurrent, 
 use Rattle.alloc_path.proofs.HeapLemmas as heap
 use Rattle.inner_mark_gc.specs.Swept.{gone_of, number_at, place_at, swept}
 use Rattle.inner_mark_gc.proofs.Kept as kept_chunks
-use Rattle.core_relation.specs.Layout.{HoldsLarge, has_none}
+use Rattle.core_relation.specs.Layout.{HoldsLarge}
 use Rattle.core_relation.specs.Memory.{In, objects_in}
 use Rattle.core_relation.proofs.objects.Members.{in_objects}
 use Rattle.task_machine.specs.Accounts.{IsLastSmall}
@@ -81,7 +82,7 @@ module _ (kept : List Addr) (h : LeafHeapValue) (F : HeapForm h) (none : h.reser
   some_left k i e =
       let x = left_was kept h.chunks k i in
       let empty : kept_in kept x.0 ≡ [] = sym (swept_is kept x.0) ∙ (ap (λ (z : ChunkValue). (chunk_of z).objects) x.3 ∙ e) in
-      false≢true (sym (sym x.2 ∙ (has_is kept x.0 (filled x.0 x.1) ∙ ap (λ os. not (has_none os)) empty)))
+      false≢true (sym (sym x.2 ∙ (has_is kept x.0 (filled x.0 x.1) ∙ ap (λ (os : List Located). not (is_empty os)) empty)))
 
   last_left : (o : Option ℕ) → IsCurrent h.chunks o → IsLastSmall h.chunks o → IsLastSmall (left kept h.chunks) (place_at (left kept h.chunks) (number_at h.chunks o))
   last_left None C last = tt

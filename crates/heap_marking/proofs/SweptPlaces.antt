@@ -1,10 +1,11 @@
 -- Where the chunks stand that a sweep leaves: in the order in which they stood.
 use Rattle.std.proofs.Common.{◌≡◌, ℕ, zero, suc, ◌+◌, ◌<◌, ◌==◌, arith, Bool, true, false, cond, not, Some, None, List, [], ◌∷◌, filter, length, map, refl, ap, sym, subst, ◌∙◌, eq-eqb, ne_eqb}
 use Rattle.std.proofs.lemmas.Bool.{cond-false, cond-true, eqb-true, false≢true}
+use Rattle.listed.specs.Members.{is_empty}
 use Rattle.listed.proofs.Members.{in_from_kept}
 use Rattle.listed.proofs.Places.{map_in}
 use Rattle.hh_model.specs.declared.data.Name.{Name}
-use Rattle.run_ledger.specs.Heaps.{is_empty, is_last_empty}
+use Rattle.run_ledger.specs.Heaps.{is_last_empty}
 use Rattle.object_layout.specs.declared.word.Addr.{Addr}
 use Rattle.object_layout.specs.Chunks.{chunk_at, place_of}
 use Rattle.object_layout.specs.ChunkValue.{ChunkValue}

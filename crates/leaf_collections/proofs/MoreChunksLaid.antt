@@ -2,13 +2,14 @@
 use Rattle.std.proofs.Common.{◌≡◌, ◌⊎◌, ℕ, ◌*◌, ◌/◌, ◌<◌, ◌≤◌, ◌==◌, ◌&&◌, ◌++◌, not, arith, Bool, true, false, cond, Option, Some, None, List, [], ◌∷◌, length, length-append, inl, inr, refl, ap, sym, subst, ◌∙◌, ne_eqb}
 use Rattle.std.specs.List.{AllByRecursion, IsDistinct}
 use Rattle.std.proofs.lemmas.Bool.{cases_lt, cond-true, cond-false, eqb-true}
+use Rattle.listed.specs.Members.{is_empty}
 use Rattle.listed.proofs.Places.{map_in}
 use Rattle.object_layout.specs.Chunks.{chunk_at}
 use Rattle.object_layout.specs.ChunkValue.{ChunkValue}
 use Rattle.object_layout.specs.Place.{words_in}
 use Rattle.alloc_path.specs.LeafHeapValue.{AreTidy, AreWithin, LeafHeapValue, IsFresh, IsTidy, added, with_places}
 use Rattle.alloc_path.proofs.HeapLemmas.{at_push, at_last}
-use Rattle.core_relation.specs.Layout.{AreLaidOut, has_none, reserved_chunks, reserved_units}
+use Rattle.core_relation.specs.Layout.{AreLaidOut, reserved_chunks, reserved_units}
 use Rattle.core_relation.specs.Memory.{Chunk, In}
 use Rattle.core_relation.proofs.objects.LaidOut.{numbers, units_of}
 use Rattle.task_machine.specs.Accounts.{IsLastLarge, IsLastSmall}
@@ -33,7 +34,7 @@ numbers_more (x ∷ xs) k = ap (λ ns. x.number ∷ ns) (numbers_more xs k)
 
 reserved_more : (ks : List ChunkValue) (k : ChunkValue) → units_of (reserved_chunks (chunks_of (ks ++ k ∷ []))) ≡ units_of (reserved_chunks (chunks_of ks)) ++ units_of (reserved_chunks (chunk_of k ∷ []))
 reserved_more [] k = refl
-reserved_more (x ∷ xs) k = by ((chunk_of x).large && has_none (chunk_of x).objects) (reserved_more xs k)
+reserved_more (x ∷ xs) k = by ((chunk_of x).large && is_empty (chunk_of x).objects) (reserved_more xs k)
   where
     by : (b : Bool) → units_of (reserved_chunks (chunks_of (xs ++ k ∷ []))) ≡ units_of (reserved_chunks (chunks_of xs)) ++ units_of (reserved_chunks (chunk_of k ∷ []))
         → units_of (cond b (chunk_of x ∷ reserved_chunks (chunks_of (xs ++ k ∷ []))) (reserved_chunks (chunks_of (xs ++ k ∷ [])))) ≡ units_of (cond b (chunk_of x ∷ reserved_chunks (chunks_of xs)) (reserved_chunks (chunks_of xs))) ++ units_of (reserved_chunks (chunk_of k ∷ []))

@@ -1,10 +1,11 @@
 -- Lists without a name, and whether the last list is one.
 use Rattle.std.proofs.Common.{◌≡◌, Bool, true, false, not, List, [], ◌∷◌, ◌++◌, filter, refl, ap, sym, ◌∙◌, ℕ, ◌<◌, ◌+◌, length, drop, map, get_or, cond, append_assoc, append-nil}
 use Rattle.std.proofs.lemmas.List.{drop_more}
+use Rattle.listed.specs.Members.{is_empty}
 use Rattle.hh_model.specs.declared.data.Name.{Name}
 use Rattle.run_ledger.specs.declared.data.Heap.{Heap}
 use Rattle.run_ledger.specs.Reachable.{holds_name}
-use Rattle.run_ledger.specs.Heaps.{in_snapshot, is_empty, is_last_empty, without_empty}
+use Rattle.run_ledger.specs.Heaps.{in_snapshot, is_last_empty, without_empty}
 
 -- whether the last of some lists has no name, or what it was before where there are none
 abbrev pub ends_empty : Bool → List (List Name) → Bool

@@ -9,9 +9,9 @@ use Rattle.run_ledger.proofs.Weights.{kept_weight, survivors_weight, weight_part
 use Rattle.run_ledger.proofs.Held.{laid_flat}
 use Rattle.run_ledger.proofs.Reached.{length_kept}
 use Rattle.std.proofs.Common.{not}
-use Rattle.run_ledger.specs.Heaps.{is_empty}
 use Rattle.std.proofs.lemmas.List.{length-map}
 use Rattle.std.proofs.lemmas.List.Sums.{sum_by-cons}
+use Rattle.listed.specs.Members.{is_empty}
 
 pub survivors_units : (m : State) (h : Heap) (ns : List Name) → ns ≡ large_survivors h → units_sum m ns ≤ units_sum m h.large
 survivors_units m h ns e = subst (λ k. units_sum m k ≤ units_sum m h.large) (sym e) (kept_weight (λ n. units (words_at m n)) (holds_name h.survivors) h.large)

@@ -4,7 +4,8 @@ ghost use Rattle.std.specs.Prelude.{◌≡◌, ◌<◌, ◌^◌, IfOk, OnOk, map
 ghost use Rattle.std.specs.HashSet.{contains};
 ghost use Rattle.hh_model.specs.declared.data.Name.{Name};
 ghost use Rattle.run_ledger.specs.Reachable.{holds_name, is_name};
-ghost use Rattle.run_ledger.specs.Heaps.{in_snapshot, is_empty, is_last_empty, sweep_number, swept_heap, without_empty, words_in};
+ghost use Rattle.listed.specs.Members.{is_empty};
+ghost use Rattle.run_ledger.specs.Heaps.{in_snapshot, is_last_empty, sweep_number, swept_heap, without_empty, words_in};
 ghost use Rattle.ledger_heaps.specs.Parts.{with_swept};
 
 use crate::names::{kept, table_of};

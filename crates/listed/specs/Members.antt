@@ -1,7 +1,11 @@
 -- What a list has, by cases on the list.
-use Rattle.std.specs.Prelude.{◌≡◌, ◌⊎◌, List, [], ◌∷◌}
+use Rattle.std.specs.Prelude.{◌≡◌, ◌⊎◌, Bool, true, false, List, [], ◌∷◌}
 
 -- the list has this item
 abbrev pub In : {A : Type 0} → List A → A → Type 0
 In [] x = ⊥
 In (y ∷ ys) x = (y ≡ x) ⊎ In ys x
+
+abbrev pub is_empty : {A : Type 0} → List A → Bool
+is_empty [] = true
+is_empty (x ∷ xs) = false

@@ -3,11 +3,12 @@ use Rattle.std.proofs.Common.{◌≡◌, ℕ, ◌+◌, ◌*◌, ◌<◌, ◌≤�
 use Rattle.std.specs.List.{flat_map}
 use Rattle.std.proofs.lemmas.Bool.{false≢true, leb-true}
 use Rattle.std.proofs.lemmas.List.Sums.{sum_by-append, sum_by-cons}
+use Rattle.listed.specs.Members.{is_empty}
 use Rattle.listed.proofs.Members.{In, in_append_left, in_append_right, in_append_cases}
 use Rattle.hh_model.specs.declared.data.Name.{Name}
 use Rattle.hh_model.specs.declared.data.State.{State}
 use Rattle.run_ledger.specs.declared.data.Heap.{Heap}
-use Rattle.run_ledger.specs.Heaps.{chunk_words, units, words_at, words_sum, units_sum, small_in, words_in, put_last, lay, laid_onto, room_behind, is_empty, without_empty, is_last_empty, in_snapshot}
+use Rattle.run_ledger.specs.Heaps.{chunk_words, units, words_at, words_sum, units_sum, small_in, words_in, put_last, lay, laid_onto, room_behind, without_empty, is_last_empty, in_snapshot}
 use Rattle.run_ledger.specs.Space.{last_words}
 use Rattle.run_ledger.proofs.Weights.{kept_weight}
 

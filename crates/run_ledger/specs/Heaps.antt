@@ -2,6 +2,7 @@
 -- reached within a heap.
 use Rattle.std.specs.Prelude.{ℕ, ◌+◌, ◌-◌, ◌*◌, ◌==◌, ◌&&◌, ◌||◌, not, Bool, true, false, Option, Some, None, List, [], ◌∷◌, ◌++◌, slice_get, slice_set, length, if◌then◌else◌, nat_lt, nat_le, filter, map, sum_by, max, unwrap_or}
 use Rattle.std.specs.List.{flat_map}
+use Rattle.listed.specs.Members.{is_empty}
 pub use Rattle.chunk_sizes.specs.Sizes.{chunk_words, units}
 use Rattle.hh_model.specs.declared.data.Name.{Name}
 use Rattle.hh_model.specs.declared.data.Object.{Object}
@@ -236,10 +237,6 @@ left_in h = length h.snapshot - marked_in h
 -- of these names, those of the snapshot
 abbrev pub in_snapshot : Heap → List Name → List Name
 in_snapshot h ns = filter (holds_name h.snapshot) ns
-
-abbrev pub is_empty : List Name → Bool
-is_empty [] = true
-is_empty (n ∷ ns) = false
 
 abbrev pub without_empty : List (List Name) → List (List Name)
 without_empty lists = filter (λ ns. not (is_empty ns)) lists

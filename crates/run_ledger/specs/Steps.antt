@@ -1,5 +1,6 @@
 -- The accounts of a task's steps: allocations, forks, ends and joins; and which steps are private, due or in need.
 use Rattle.std.specs.Prelude.{ℕ, zero, suc, ◌+◌, ◌-◌, ◌==◌, ◌&&◌, ◌||◌, not, Bool, true, false, Option, Some, None, List, [], ◌∷◌, ◌++◌, slice_get, length, if◌then◌else◌, nat_le, is_none}
+use Rattle.listed.specs.Members.{is_empty}
 use Rattle.run_trace.specs.Entry.{private_limit}
 use Rattle.run_trace.specs.Settings.{SettingsValue}
 use Rattle.hh_lang.specs.declared.instr.Instr.{Instr}
@@ -90,8 +91,7 @@ touched f (Cas d o k e v) = ref_in f o
 touched f _ = None
 
 abbrev pub has_no_caller : List Frame → Bool
-has_no_caller [] = true
-has_no_caller (f ∷ fs) = false
+has_no_caller fs = is_empty fs
 
 -- an output, a fork and the return that ends the task
 abbrev pub is_open : Task → Instr → Bool

@@ -9,13 +9,14 @@ use Rattle.object_layout.specs.ChunkValue.{ChunkValue}
 use Rattle.object_layout.specs.Objects.{Located, located_by, objects_from}
 use Rattle.object_layout.proofs.ObjectLemmas.{chunk_there}
 use Rattle.alloc_path.specs.LeafHeapValue.{LeafHeapValue, IsReserved, room_of}
-use Rattle.core_relation.specs.Layout.{has_none, reserved_chunks, reserved_units}
+use Rattle.core_relation.specs.Layout.{reserved_chunks, reserved_units}
 use Rattle.core_relation.specs.Stands.{HasNames, large_chunks, names_of, small_chunks}
 use Rattle.core_relation.specs.Memory.{Chunk, In, object_name, objects_in}
 use Rattle.task_machine.specs.Accounts.{AreReserved, IsCounted, large_names, named_by, names_in, small_lists}
 use Rattle.task_machine.specs.Place.{name_of}
 use Rattle.shared_value.specs.Objects.{chunk_of, chunks_of}
 use Rattle.shared_value.specs.Stands.{HeapForm}
+use Rattle.listed.specs.Members.{is_empty}
 use Rattle.listed.proofs.Options.{none_some}
 
 -- ---- NAMES
@@ -52,7 +53,7 @@ large_are (k ∷ ks) = by (k.size == 1024) (large_are ks)
 -- ---- THE RESERVED CHUNK
 
 abbrev pub is_spare : Chunk → Bool
-is_spare k = k.large && has_none k.objects
+is_spare k = k.large && is_empty k.objects
 
 -- a chunk that is reserved stands among those that are
 units_among : (ks : List ChunkValue) (i : ℕ) → i < length ks → is_spare (chunk_of (chunk_at ks i)) ≡ true → In (map (λ (c : Chunk). c.units) (reserved_chunks (chunks_of ks))) (chunk_of (chunk_at ks i)).units
@@ -85,7 +86,7 @@ in_units (suc n) u (inr i) = absurd i
 pub spare_tells : (k : ChunkValue) → is_spare (chunk_of k) ≡ true → ((k.size ≡ 1024 → ⊥) × ((chunk_of k).objects ≡ []))
 spare_tells k h = by (k.size == 1024) refl (chunk_of k).objects refl h
   where
-    by : (b : Bool) → (k.size == 1024) ≡ b → (os : List Located) → (chunk_of k).objects ≡ os → (not b && has_none os) ≡ true → ((k.size ≡ 1024 → ⊥) × ((chunk_of k).objects ≡ []))
+    by : (b : Bool) → (k.size == 1024) ≡ b → (os : List Located) → (chunk_of k).objects ≡ os → (not b && is_empty os) ≡ true → ((k.size ≡ 1024 → ⊥) × ((chunk_of k).objects ≡ []))
     by true q os e g = absurd (false≢true g)
     by false q [] e g = ((λ s. false≢true (sym q ∙ ap (λ n. n == 1024) s)), e)
     by false q (o ∷ os) e g = absurd (false≢true g)
@@ -106,7 +107,7 @@ module _ (h : LeafHeapValue) (F : HeapForm h) (units : ℕ) (laid : map (λ (c :
   some_reserved i e =
       let R : IsReserved h.chunks (Some i) = subst (IsReserved h.chunks) e F.shaped.reserved in
       let k : ChunkValue = chunk_at h.chunks i in
-      let spare : is_spare (chunk_of k) ≡ true = ap₂ (λ a os. not a && has_none os) (ne_eqb k.size 1024 (λ q. omega (arith, q, R.1.0))) (ap (objects_from k.number 0) R.1.1) in
+      let spare : is_spare (chunk_of k) ≡ true = ap₂ (λ a (os : List Located). not a && is_empty os) (ne_eqb k.size 1024 (λ q. omega (arith, q, R.1.0))) (ap (objects_from k.number 0) R.1.1) in
       let u : k.size / 1024 ≡ units = in_units units (k.size / 1024) (subst (λ ns. In ns (k.size / 1024)) laid (units_among h.chunks i R.0 spare)) in
       F.whole k (chunk_there h.chunks i R.0) ∙ ap (λ n. 1024 * n) u
 

@@ -3,6 +3,7 @@ use Rattle.std.proofs.Common.{◌≡◌, ◌⊎◌, ℕ, zero, suc, ◌+◌, ◌
 use Rattle.std.specs.List.{AllByRecursion, IsDistinct}
 use Rattle.std.proofs.lemmas.Bool.{cases_eq, cond-true, cond-false, eqb-true, false≢true, false_from_ne_true}
 use Rattle.std.proofs.lemmas.Option.{same_Some}
+use Rattle.listed.specs.Members.{is_empty}
 use Rattle.listed.proofs.Places.{map_in}
 use Rattle.object_layout.specs.declared.word.Birth.{Birth}
 use Rattle.object_layout.specs.Cell.{Born, Cell, Hole, Mark, Moved, size_of}
@@ -12,7 +13,7 @@ use Rattle.object_layout.specs.Place.{words_in}
 use Rattle.object_layout.specs.Objects.{Located, located, located_by, objects_from}
 use Rattle.alloc_path.specs.LeafHeapValue.{AreApart as HaveNumbersApart, LeafHeapValue, IsReserved}
 use Rattle.core_relation.specs.Memory.{Chunk, In, objects_in}
-use Rattle.core_relation.specs.Layout.{AreApart, AreLaidOut, HoldsLarge, has_none, reserved_chunks, reserved_units, words}
+use Rattle.core_relation.specs.Layout.{AreApart, AreLaidOut, HoldsLarge, reserved_chunks, reserved_units, words}
 use Rattle.core_relation.proofs.objects.Members.{in_chunk}
 use Rattle.task_machine.specs.Accounts.{AreReserved}
 use Rattle.shared_value.specs.Objects.{chunk_of, chunks_of}
@@ -123,7 +124,7 @@ module _ (h : LeafHeapValue) (F : Formed h) where
       let k : ChunkValue = chunk_at h.chunks i in
       let big : 1024 < k.size = R.1.0 in
       let size : k.size ≡ 1024 * n = r in
-      let spare : is_spare (chunk_of k) ≡ true = ap₂ (λ a os. not a && has_none os) (ne_eqb k.size 1024 (λ q. omega (arith, q, big))) (ap (objects_from k.number 0) R.1.1) in
+      let spare : is_spare (chunk_of k) ≡ true = ap₂ (λ a (os : List Located). not a && is_empty os) (ne_eqb k.size 1024 (λ q. omega (arith, q, big))) (ap (objects_from k.number 0) R.1.1) in
       ap (map (λ (k : Chunk). k.units)) (one_spare h.chunks i R.0 spare (λ j lt s. same_Some i j (sym e ∙ spare_is j lt s)))
       ∙ (ap (λ u. u ∷ []) (let u : k.size / 1024 ≡ n = omega (arith, size) in u) ∙ some_units n (omega (arith, big, size)))
 

@@ -1,6 +1,7 @@
 -- The layout of chunks whose objects are changed in place, and of the chunks of two heaps together.
 use Rattle.std.proofs.Common.{◌≡◌, ◌⊎◌, ◌&&◌, ◌==◌, ◌+◌, ◌*◌, ◌≤◌, ℕ, suc, Bool, true, false, cond, Option, List, [], ◌∷◌, ◌++◌, length, map, inl, inr, refl, ap, ap₂, sym, subst, ◌∙◌, ne_eqb}
 use Rattle.std.specs.List.{AllByRecursion, IsDistinct}
+use Rattle.listed.specs.Members.{is_empty}
 use Rattle.listed.proofs.Members.{in_append_cases}
 use Rattle.listed.proofs.Places.{map_in}
 use Rattle.object_layout.specs.declared.word.Addr.{Addr}
@@ -8,7 +9,7 @@ use Rattle.object_layout.specs.Objects.{Located}
 use Rattle.run_ledger.specs.Heaps.{units}
 use Rattle.remembered_set.specs.declared.remembered.Source.{Source}
 use Rattle.core_relation.specs.Memory.{Chunk, In, objects_in, mapped_chunk, rewritten, rewritten_refs}
-use Rattle.core_relation.specs.Layout.{words, AreApart, HoldsLarge, has_none, reserved_chunks, AreLaidOut}
+use Rattle.core_relation.specs.Layout.{words, AreApart, HoldsLarge, reserved_chunks, AreLaidOut}
 use Rattle.core_relation.proofs.objects.Members.{in_chunk, in_objects}
 
 abbrev pub numbers : List Chunk → List ℕ
@@ -40,14 +41,14 @@ module _ (one : Located → Located) (same_at : (o : Located) → (one o).at ≡
   numbers_mapped [] = refl
   numbers_mapped (k ∷ ks) = ap (λ ns. k.number ∷ ns) (numbers_mapped ks)
 
-  none_mapped : (os : List Located) → has_none (map one os) ≡ has_none os
+  none_mapped : (os : List Located) → is_empty (map one os) ≡ is_empty os
   none_mapped [] = refl
   none_mapped (o ∷ os) = refl
 
   reserved_mapped : (ks : List Chunk) → units_of (reserved_chunks (map chunk ks)) ≡ units_of (reserved_chunks ks)
   reserved_mapped [] = refl
   reserved_mapped (k ∷ ks) =
-      ap (λ b. units_of (cond (k.large && b) (chunk k ∷ reserved_chunks (map chunk ks)) (reserved_chunks (map chunk ks)))) (none_mapped k.objects) ∙ by (k.large && has_none k.objects) (reserved_mapped ks)
+      ap (λ b. units_of (cond (k.large && b) (chunk k ∷ reserved_chunks (map chunk ks)) (reserved_chunks (map chunk ks)))) (none_mapped k.objects) ∙ by (k.large && is_empty k.objects) (reserved_mapped ks)
     where
       by : (b : Bool) → units_of (reserved_chunks (map chunk ks)) ≡ units_of (reserved_chunks ks) → units_of (cond b (chunk k ∷ reserved_chunks (map chunk ks)) (reserved_chunks (map chunk ks))) ≡ units_of (cond b (k ∷ reserved_chunks ks) (reserved_chunks ks))
       by true e = ap (λ ns. k.units ∷ ns) e
@@ -132,7 +133,7 @@ numbers_both (j ∷ js) ks = ap (λ ns. j.number ∷ ns) (numbers_both js ks)
 
 reserved_both : (js ks : List Chunk) → map (λ (k : Chunk). k.units) (reserved_chunks (js ++ ks)) ≡ map (λ (k : Chunk). k.units) (reserved_chunks js) ++ map (λ (k : Chunk). k.units) (reserved_chunks ks)
 reserved_both [] ks = refl
-reserved_both (j ∷ js) ks = by (j.large && has_none j.objects) (reserved_both js ks)
+reserved_both (j ∷ js) ks = by (j.large && is_empty j.objects) (reserved_both js ks)
   where
     by : (b : Bool) → units_of (reserved_chunks (js ++ ks)) ≡ units_of (reserved_chunks js) ++ units_of (reserved_chunks ks) → units_of (cond b (j ∷ reserved_chunks (js ++ ks)) (reserved_chunks (js ++ ks))) ≡ units_of (cond b (j ∷ reserved_chunks js) (reserved_chunks js)) ++ units_of (reserved_chunks ks)
     by true e = ap (λ ns. j.units ∷ ns) e

@@ -1,6 +1,8 @@
-use Rattle.std.proofs.Common.{rules, ◌≡◌, ◌∙◌, ◌+◌, ◌++◌, ◌∷◌, not, ap, sym, drop, map}
+use Rattle.std.proofs.Common.{rules, ◌≡◌, ◌∙◌, ◌+◌, List, ◌++◌, ◌∷◌, not, ap, sym, drop, map}
 use Rattle.std.proofs.Math.Bool.{not-not}
-use Rattle.run_ledger.specs.Heaps.{in_snapshot, is_empty, without_empty}
+use Rattle.listed.specs.Members.{is_empty}
+use Rattle.hh_model.specs.declared.data.Name.{Name}
+use Rattle.run_ledger.specs.Heaps.{in_snapshot, without_empty}
 use Rattle.ledger_heaps.proofs.Cleared.{chunks_more, ends_empty, filled_more, snapshot_kept}
 use Rattle.ledger_heaps.proofs.sweeping.clear.Goals as goal
 
@@ -21,7 +23,7 @@ loop-names-preserved c =
       last =
           ap (λ b. ends_empty (not b) rest) c.in_ok-is_last_empty.ensures.filled
           ∙ ap (λ b. ends_empty b rest) (not-not (is_empty c.in_ok-left.left))
-          ∙ ap (λ ns. ends_empty (is_empty ns) rest) left
+          ∙ ap (λ (ns : List Name). ends_empty (is_empty ns) rest) left
           ∙ ap (ends_empty c.loop-names.is_last_empty) (sym more)
           ∙ c.loop-names.invariant.last;
     }
