@@ -24,6 +24,17 @@ impl From<AllocError> for NotEntered {
     }
 }
 
+impl From<Refused> for NotEntered {
+    ghost use Rattle.std.specs.Prelude.{◌≡◌};
+    ghost use Rattle.shared_value.specs.declared.answer.NotEntered.TheVariants.{Refuses};
+
+    ghost from_gives = { λ cause e. e ≡ Refuses cause };
+
+    fn from(cause: Refused) -> NotEntered {
+        NotEntered::Refuses(cause)
+    }
+}
+
 /// Why a part's steps weren't entered, and the part.
 #[derive(Drop)]
 pub struct NotRan {

@@ -14,10 +14,8 @@ fn mark_more(shared: &mut Counted, worker: u32, t: u32, n: u32) -> Result<(), No
     requires kind { IsKind (Kind.More t n) }
     ensures { AnswersApart shared.old shared.new (record { worker = worker; kind = Kind.More t n }) result }
 {
-    match shared.some(worker, t, n) {
-        Ok(_) => Ok(()),
-        Err(cause) => Err(NotEntered::Refuses(cause)),
-    }
+    shared.some(worker, t, n)?;
+    Ok(())
 }
 
 // A heap is swept.
@@ -25,10 +23,7 @@ fn sweep(shared: &mut Counted, worker: u32, t: u32, given: u32) -> Result<(), No
     requires room { 0 < shared.old.journal.room }
     ensures { AnswersApart shared.old shared.new (record { worker = worker; kind = Kind.Sweep t given }) result }
 {
-    match shared.sweep(worker, t, given) {
-        Ok(()) => Ok(()),
-        Err(cause) => Err(NotEntered::Refuses(cause)),
-    }
+    Ok(shared.sweep(worker, t, given)?)
 }
 
 // The run ends for spent fuel.
@@ -36,10 +31,7 @@ fn end_for_fuel(shared: &mut Counted, worker: u32) -> Result<(), NotEntered>
     requires room { 0 < shared.old.journal.room }
     ensures { AnswersApart shared.old shared.new (record { worker = worker; kind = Kind.Fuel }) result }
 {
-    match shared.fuel(worker) {
-        Ok(()) => Ok(()),
-        Err(cause) => Err(NotEntered::Refuses(cause)),
-    }
+    Ok(shared.fuel(worker)?)
 }
 
 // The marking of a heap begins.
