@@ -1,14 +1,19 @@
 // A task's own heap: its chunks, and the objects that it places in them.
 #![tactic(auto)]
 
-mod counts;
+// A heap's chunks, and where the next object goes.
 mod exchange;
+mod heap;
+mod space;
+
+// Its objects, placed, read and written.
 mod fields;
 mod filled;
-mod heap;
-mod laws;
 mod own;
-mod space;
+
+// What is told of it: its counts, what the children of its task see, and laws.
+mod counts;
+mod laws;
 mod view;
 
 pub use chunk_rows::View;

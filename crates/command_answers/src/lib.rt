@@ -2,19 +2,24 @@
 // all answers.
 #![tactic(auto)]
 
-mod answer;
+// The answers of the commands.
 mod check;
-mod delivery;
-mod ended;
 mod image;
-mod input;
-mod laws;
 mod model;
 mod races;
-mod refusals;
 mod replay;
 mod verify;
+
+// What they are made of: the input, the end of a run, and the answers that are bytes alone.
+mod answer;
+mod ended;
+mod input;
+mod refusals;
 mod wanted;
+
+// How an answer is written, and the laws of all answers.
+mod delivery;
+mod laws;
 
 pub use answer::{Answer, Ran, Status};
 pub use check::answer_check;

@@ -2,15 +2,20 @@
 // each reference; or, of a large image, a box for each heap, and an edge for all references from a heap to a heap.
 #![tactic(auto)]
 
+// The graph of an image, object by object or heap by heap.
 mod draw;
-mod edges;
 mod graph;
-mod held;
 mod laws;
-mod links;
-mod names;
-mod objects;
 mod overview;
+
+// What it draws: objects, references, and heaps with the links between them.
+mod edges;
+mod held;
+mod links;
+mod objects;
+
+// What stands in it: names, and the words of the lines read.
+mod names;
 mod words;
 
 pub use graph::graph_text;

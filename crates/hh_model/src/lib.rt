@@ -2,20 +2,25 @@
 // What holds of its runs is told by the laws of `path_laws` and `model_laws`.
 #![tactic(auto)]
 
-mod arithmetic;
-mod calculations;
-mod change;
+// The machine, its plain data, and what a step reads of them.
 mod data;
-mod fields;
-mod fork;
 mod found;
-mod frame;
-mod frames;
 mod lookup;
 mod machine;
+
+// The steps of tasks.
+mod calculations;
+mod change;
+mod fields;
+mod fork;
 mod returns;
-mod store;
 mod take;
+
+// What steps are made of: numbers, and what happens to frames and the store.
+mod arithmetic;
+mod frame;
+mod frames;
+mod store;
 
 pub use arithmetic::{calculate, field_counts, field_index, is_same};
 pub use data::{Edge, End, Frame, Name, Object, State, Status, Strand, Task, Trap};

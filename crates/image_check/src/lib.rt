@@ -1,18 +1,25 @@
 // Checks the text of an image: tasks, chunks, objects with their references, and remembered fields.
 #![tactic(auto)]
 
-mod cause;
+// The check of a whole text, and what holds of images.
 mod check;
-mod faults;
 mod laws;
+mod read;
+mod whole;
+
+// Its lines.
 mod line;
 mod number;
+
+// What has been read: chunks with their owners, tasks, and what the text has once.
 mod owners;
-mod read;
 mod sets;
 mod table;
 mod tasks;
-mod whole;
+
+// Why an image is refused.
+mod cause;
+mod faults;
 
 pub use cause::{Cause, Fault};
 pub use check::{VerifyError, read_image, verify};

@@ -2,15 +2,20 @@
 // leaf collection and a sweep leave.
 #![tactic(auto)]
 
+// What changes a heap's account.
 mod collection;
 mod joined;
-mod names;
-mod owners;
 mod placed;
+mod sweeping;
+
+// What is reached within a heap.
+mod names;
 mod reachable;
 mod search;
+
+// Sizes and owners.
+mod owners;
 mod sizes;
-mod sweeping;
 
 pub use collection::{Collected, collect};
 pub use joined::{fresh, join, merge};

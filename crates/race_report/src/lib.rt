@@ -1,16 +1,21 @@
 // The races of a journal: accesses to one field that no fork and no join puts in order.
 #![tactic(auto)]
 
-mod access;
-mod bounds;
+// The report of a journal's races: data, text and laws.
 mod data;
-mod firsts;
-mod label;
 mod laws;
 mod report;
+mod text;
+
+// The access of a step, and the label of the strand that makes it.
+mod access;
+mod bounds;
+mod label;
+
+// What is kept while the steps of a journal go by.
+mod firsts;
 mod scan;
 mod sight;
-mod text;
 mod watch;
 
 pub use data::{Access, Field, Race, Sight};

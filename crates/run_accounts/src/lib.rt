@@ -1,14 +1,19 @@
 // The accounts of a run, kept along with the machine that never collects: an entry is entered into them, or refused.
 #![tactic(auto)]
 
+// The accounts, and what is read of them.
 mod accounts;
-mod causes;
-mod changes;
 mod counts;
-mod enter;
-mod ran;
 mod reads;
 mod shown;
+
+// An entry is entered, or refused.
+mod causes;
+mod changes;
+mod enter;
+
+// The steps of tasks.
+mod ran;
 mod steps;
 
 pub use accounts::Accounts;

@@ -1,21 +1,26 @@
 // Tests of texts, command lines and the outside. It has no code of its own.
 #![tactic(auto)]
 
-#[cfg(test)]
-mod command_lines;
+// Programs: their words, lines and faults.
 #[cfg(test)]
 mod faults;
 #[cfg(test)]
-mod images;
-#[cfg(test)]
 mod instructions;
-#[cfg(test)]
-mod lists;
 #[cfg(test)]
 mod made;
 #[cfg(test)]
-mod outside;
+mod words;
+
+// Other texts: command lines, images and traces.
+#[cfg(test)]
+mod command_lines;
+#[cfg(test)]
+mod images;
 #[cfg(test)]
 mod traces;
+
+// Lists, sources and sinks.
 #[cfg(test)]
-mod words;
+mod lists;
+#[cfg(test)]
+mod outside;

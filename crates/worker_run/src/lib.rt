@@ -2,14 +2,19 @@
 //! steps and copies heaps outside it.
 #![tactic(auto)]
 
-mod bell;
-mod desk;
+// The workers in threads, and what a run leaves.
 mod end;
+mod workers;
+mod working;
+
+// What a worker does: in a turn, outside of it, and to find a task.
 mod local;
 mod tasks;
 mod turn;
-mod workers;
-mod working;
+
+// What the workers use.
+mod bell;
+mod desk;
 mod workshop;
 
 pub use bell::Bell;

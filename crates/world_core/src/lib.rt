@@ -1,6 +1,12 @@
 // The whole as one value, to which the entries of a journal are applied.
 #![tactic(auto)]
 
+// The whole as a value, and its replay.
+mod held;
+mod replaying;
+mod world;
+
+// Its entries.
 mod apply;
 mod apply_apart;
 mod apply_begin;
@@ -9,9 +15,6 @@ mod apply_end;
 mod apply_put_off;
 mod apply_ran;
 mod apply_took;
-mod held;
-mod replaying;
-mod world;
 
 pub use replaying::{ReplayStop, replay};
 pub use world::{NotApplied, World};
