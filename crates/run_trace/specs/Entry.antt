@@ -2,6 +2,7 @@
 use Rattle.std.specs.Prelude.{ℕ, ◌+◌, ◌<◌, ◌≤◌, ◌^◌}
 use Rattle.run_trace.specs.declared.entry.Kind.{Kind}
 use Rattle.run_trace.specs.declared.entry.Kind.TheVariants.{Took, Ran, Chunk, Begin, End, PutOff, Mark, More, Sweep, Fuel}
+use Rattle.run_trace.specs.Settings.{worker_limit}
 
 -- an entry: the worker that made it, and what it says
 pub record EntryValue : Type 0 where
@@ -39,6 +40,6 @@ IsKind (More t n) = IsWord t × IsMarkCount n
 IsKind (Sweep t given) = IsWord t × IsWord given
 IsKind Fuel = Unit {0}
 
--- workers are numbered from 0 to 63 at most
+-- workers are numbered from 0 on
 abbrev pub IsEvent : EntryValue → Type 0
-IsEvent e = (e.worker < 64) × IsKind e.kind
+IsEvent e = (e.worker < worker_limit) × IsKind e.kind

@@ -11,6 +11,7 @@ use Rattle.run_trace.specs.declared.entry.Kind.TheVariants.{Took, Ran, Chunk, Be
 use Rattle.run_trace.specs.declared.line.Said.{Said}
 use Rattle.run_trace.specs.declared.line.Said.TheVariants.{Nothing, Says, Wrong}
 use Rattle.run_trace.specs.Entry.{EntryValue, private_limit, mark_limit}
+use Rattle.run_trace.specs.Settings.{worker_limit}
 
 -- READING
 
@@ -58,7 +59,7 @@ kind_by verb None = None
 kind_by verb (Some ns) = kind_of verb ns
 
 abbrev pub entry_by : Option ℕ → Option Kind → Said
-entry_by (Some w) (Some kind) = if nat_lt w 64 then Says (record { worker = w; kind = kind }) else Wrong
+entry_by (Some w) (Some kind) = if nat_lt w worker_limit then Says (record { worker = w; kind = kind }) else Wrong
 entry_by _ _ = Wrong
 
 -- what words say: nothing where there are none; an entry where they are a worker's number, a word and its numbers

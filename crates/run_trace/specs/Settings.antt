@@ -3,7 +3,11 @@ use Rattle.std.specs.Prelude.{ℕ, ◌≤◌}
 use Rattle.run_trace.specs.declared.settings.Version.{Version}
 use Rattle.run_trace.specs.declared.settings.Version.TheVariants.{One, Two}
 
--- the most steps, the most chunks, and the most words from which on a collection is due, that a run may ask for
+-- the most workers, the most steps, the most chunks, and the most words from which on a collection is due, that a run may ask
+-- for
+abbrev pub worker_limit : ℕ
+worker_limit = 64
+
 abbrev pub fuel_limit : ℕ
 fuel_limit = 1000000000
 
@@ -27,7 +31,7 @@ pub record SettingsValue : Type 0 where
   pub inner : ℕ
 
 pub record AreLimits (l : SettingsValue) : Type 0 where
-  pub workers : (1 ≤ l.workers) × (l.workers ≤ 64)
+  pub workers : (1 ≤ l.workers) × (l.workers ≤ worker_limit)
   pub fuel : (1 ≤ l.fuel) × (l.fuel ≤ fuel_limit)
   pub chunks : (2 ≤ l.chunks) × (l.chunks ≤ chunk_limit)
   pub leaf : (16 ≤ l.leaf) × (l.leaf ≤ words_limit)

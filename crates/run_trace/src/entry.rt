@@ -2,6 +2,7 @@
 
 ghost use Rattle.std.specs.Prelude.{◌≡◌, ◌<◌};
 ghost use Rattle.run_trace.specs.Entry.{IsKind};
+ghost use Rattle.run_trace.specs.Settings.{worker_limit};
 
 use std::marker::Model;
 
@@ -36,7 +37,7 @@ pub enum Kind {
     Fuel,
 }
 
-/// One atomic step of a run, and the worker that made it: 0 to 63.
+/// One atomic step of a run, and the worker that made it, whose number is below `WORKER_LIMIT`.
 #[derive(Clone, Copy, PartialEq, Eq)]
 pub struct Entry {
     worker: u32,
@@ -57,7 +58,7 @@ impl Model for Entry {
 
 impl Entry {
     pub fn new(worker: u32, kind: Kind) -> Entry
-        requires worker { worker < 64 }
+        requires worker { worker < worker_limit }
         requires kind { IsKind kind }
         ensures { result ≡ record { worker = worker; kind = kind } }
     {
@@ -67,7 +68,7 @@ impl Entry {
     /// The number of the worker.
     pub fn worker(self) -> u32
         ensures value { result ≡ self.worker }
-        ensures below { result < 64 }
+        ensures below { result < worker_limit }
     {
         self.worker
     }

@@ -6,6 +6,7 @@ ghost use Rattle.run_trace.specs.Line.{unsigned_number, numbers_in, kind_of, kin
 ghost use Rattle.text_lines.specs.Lines.{words_of};
 
 use crate::entry::{Entry, Kind, MARK_LIMIT, PRIVATE_LIMIT};
+use crate::settings::WORKER_LIMIT;
 use hh_lang::read_u32;
 use std::alloc::{AllocError, Global};
 use text_lines::next_word;
@@ -111,7 +112,7 @@ fn entry_of(worker: Option<u32>, kind: Option<Kind>) -> Said
     ensures { result ≡ entry_by worker kind }
 {
     match (worker, kind) {
-        (Some(worker), Some(kind)) if worker < 64 => Said::Says(Entry::new(worker, kind)),
+        (Some(worker), Some(kind)) if worker < WORKER_LIMIT => Said::Says(Entry::new(worker, kind)),
         _ => Said::Wrong,
     }
 }

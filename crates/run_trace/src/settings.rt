@@ -35,6 +35,9 @@ impl Version {
     }
 }
 
+/// The most workers that a run may ask for.
+pub const WORKER_LIMIT: u32 = 64;
+
 /// The most steps that a run may ask for.
 pub const FUEL_LIMIT: u64 = 1_000_000_000;
 
@@ -44,8 +47,9 @@ pub const CHUNK_LIMIT: u32 = 65_536;
 /// The most words from which on a run may make a collection due.
 pub const WORDS_LIMIT: u32 = 1_000_000;
 
-/// The limits of a run: 1 to 64 workers; fuel in steps, 1 to `FUEL_LIMIT`; the most chunks in use, 2 to `CHUNK_LIMIT`; the
-/// words that make a leaf heap due for a collection and those that let a waiting heap be marked, both 16 to `WORDS_LIMIT`.
+/// The limits of a run: 1 to `WORKER_LIMIT` workers; fuel in steps, 1 to `FUEL_LIMIT`; the most chunks in use, 2 to
+/// `CHUNK_LIMIT`; the words that make a leaf heap due for a collection and those that let a waiting heap be marked, both 16 to
+/// `WORDS_LIMIT`.
 #[derive(Clone, Copy, PartialEq, Eq)]
 pub struct Settings {
     version: Version,
