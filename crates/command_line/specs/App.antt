@@ -1,7 +1,7 @@
 -- The command line, as the parser's definition of a simple command speaks of it.
 use Rattle.std.specs.Prelude.{ℕ, [], ◌∷◌, Some, codes, true, false}
 use Rattle.program_make.specs.Text.{size_limit}
-use Rattle.run_trace.specs.Settings.{chunk_limit, fuel_limit, words_limit}
+use Rattle.run_trace.specs.Settings.{chunk_limit, fuel_limit, words_limit, worker_limit}
 use Rattle.clap.specs.Words.{App, Rule, Shape, Text, new_rule}
 use Rattle.clap.specs.Simple.{new_shape}
 use Rattle.clap.specs.declared.builder.action.ArgAction.TheVariants.{SetTrue}
@@ -29,7 +29,7 @@ flag name = record (new_rule name) { long = Some name; action = Some SetTrue }
 
 -- the limits of a run
 abbrev pub workers : Rule
-workers = option (codes "workers") 1 64 (codes "1")
+workers = option (codes "workers") 1 worker_limit (codes "1")
 
 abbrev pub fuel : Rule
 fuel = option (codes "fuel") 1 fuel_limit (codes "1000000")

@@ -5,7 +5,7 @@ use Rattle.clap.specs.Lexer.{strip_byte}
 use Rattle.clap.specs.ValueTests.{is_unsigned_in}
 use Rattle.clap.specs.Words.{Text}
 use Rattle.program_make.specs.Text.{size_limit}
-use Rattle.run_trace.specs.Settings.{SettingsValue, chunk_limit, fuel_limit, usual_limits, words_limit}
+use Rattle.run_trace.specs.Settings.{SettingsValue, chunk_limit, fuel_limit, usual_limits, words_limit, worker_limit}
 use Rattle.command_line.specs.CommandLine.{command_line}
 use Rattle.command_line.specs.Examples.{usual_options}
 use Rattle.command_line.specs.declared.line.CommandLine.{CommandLine}
@@ -50,7 +50,7 @@ Sets command line flag least most limits = (word : Text) → IsOperand word
 -- so each option of a command that runs a program
 abbrev pub SetsEach : Text → (Option Text → Options → CommandLine) → Type 0
 SetsEach command line =
-    Sets command line (codes "--workers") 1 64 (λ n. record usual_limits { workers = n })
+    Sets command line (codes "--workers") 1 worker_limit (λ n. record usual_limits { workers = n })
     × Sets command line (codes "--fuel") 1 fuel_limit (λ n. record usual_limits { fuel = n })
     × Sets command line (codes "--chunks") 2 chunk_limit (λ n. record usual_limits { chunks = n })
     × Sets command line (codes "--leaf") 16 words_limit (λ n. record usual_limits { leaf = n })

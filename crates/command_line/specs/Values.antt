@@ -1,7 +1,7 @@
 -- Which values the matches of a command have.
 use Rattle.std.specs.Prelude.{◌≡◌, ◌⊎◌, ℕ, List, Option, Some, None, ⊤, codes}
 use Rattle.program_make.specs.Text.{size_limit}
-use Rattle.run_trace.specs.Settings.{chunk_limit, fuel_limit, words_limit}
+use Rattle.run_trace.specs.Settings.{chunk_limit, fuel_limit, words_limit, worker_limit}
 use Rattle.clap.specs.Words.{IsUnsignedIn, Row, Text, one_of}
 
 -- the argument gives a number from `least` to `most`
@@ -14,7 +14,7 @@ HasFlag id rows = (one_of id rows ≡ Some (codes "true")) ⊎ (one_of id rows �
 
 -- the matches of `races` and `image` have all numbers in their ranges
 pub record HasLimits (rows : List Row) : Type 0 where
-  pub workers : HasNumber (codes "workers") 1 64 rows
+  pub workers : HasNumber (codes "workers") 1 worker_limit rows
   pub fuel : HasNumber (codes "fuel") 1 fuel_limit rows
   pub chunks : HasNumber (codes "chunks") 2 chunk_limit rows
   pub leaf : HasNumber (codes "leaf") 16 words_limit rows

@@ -8,7 +8,7 @@ ghost use Rattle.command_line.specs.App.{app, check, runner, limited, run, repla
 use clap::builder::ValueParser;
 use clap::{Arg, ArgAction, Command};
 use program_make::SIZE_LIMIT;
-use run_trace::{CHUNK_LIMIT, FUEL_LIMIT, WORDS_LIMIT};
+use run_trace::{CHUNK_LIMIT, FUEL_LIMIT, WORDS_LIMIT, WORKER_LIMIT};
 use std::alloc::{AllocError, Global};
 
 // A file's name, which may be left out.
@@ -45,7 +45,7 @@ fn workers<'w>(alloc: Global) -> Arg<'w>
     ensures rule { rule_of result ≡ workers }
     ensures own { result.global ≡ false }
 {
-    option(alloc, "workers", 1, 64, "1")
+    option(alloc, "workers", 1, WORKER_LIMIT as u64, "1")
 }
 
 // The most steps.

@@ -1,6 +1,6 @@
 -- What contracts see of accounts that are kept entry by entry.
 use Rattle.std.specs.Prelude.{◌≡◌, ℕ, ◌+◌, ◌-◌, ◌<◌, ◌≤◌, ◌^◌, ◌&&◌, ◌||◌, not, if◌then◌else◌, false, Option, Some, None, List, [], ◌∷◌, ◌++◌, nat_le, nat_lt, is_some, length, slice_get, slice_set}
-use Rattle.run_trace.specs.Settings.{SettingsValue}
+use Rattle.run_trace.specs.Settings.{SettingsValue, worker_limit}
 use Rattle.run_trace.specs.declared.entry.Kind.{Kind}
 use Rattle.run_trace.specs.declared.entry.Kind.TheVariants.{Took}
 use Rattle.run_ledger.specs.declared.data.Refused.{Refused as Cause}
@@ -34,7 +34,7 @@ pub record AccountsValue : Type 0 where
 -- There is a place for each worker that there can be
 pub record Agrees (s : AccountsValue) : Type 0 where
   pub used : s.used ≡ in_use s.ledger
-  pub places : length s.taken ≡ 64
+  pub places : length s.taken ≡ worker_limit
   pub taken : (t w : ℕ) → (heap_of s.ledger t).worker ≡ Some w → slice_get s.taken w ≡ Some (Some t)
 
 -- the accounts become these, and the count of the chunks in use theirs

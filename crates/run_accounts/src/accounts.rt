@@ -6,7 +6,7 @@ ghost use Rattle.run_ledger.specs.Steps.{is_due, is_in_need};
 ghost use Rattle.run_ledger.specs.Entries.{is_ready, is_out, held_from};
 ghost use Rattle.run_ledger.specs.Journals.{opening};
 ghost use Rattle.hh_model.specs.Step.{is_running, is_waiting, asked};
-ghost use Rattle.run_trace.specs.Settings.{AreLimits};
+ghost use Rattle.run_trace.specs.Settings.{AreLimits, worker_limit};
 ghost use Rattle.run_accounts.specs.Accounts.{AccountsValue, Steady, Agrees};
 
 use chunk_sizes::units;
@@ -15,9 +15,12 @@ use hh_model::{Machine, State, Status};
 use ledger_heaps::{CHUNK_WORDS, fresh, take_of, words_in};
 use listed::Listed;
 use run_ledger::{Heap, RunEnd};
-use run_trace::Settings;
+use run_trace::{Settings, WORKER_LIMIT};
 use std::alloc::{AllocError, Global};
 use std::marker::Model;
+
+// A place for each worker that there can be.
+const PLACES: usize = WORKER_LIMIT as usize;
 
 /// The accounts of a run, with the machine that never collects.
 #[derive(Drop)]
@@ -32,7 +35,7 @@ pub struct Accounts<'p> {
     /// The chunks in use, in units.
     pub(crate) used: u64,
     /// For each worker the task that it took last.
-    pub(crate) taken: [Option<u32>; 64],
+    pub(crate) taken: [Option<u32>; PLACES],
 }
 
 impl<'p> Model for Accounts<'p> {
@@ -59,7 +62,7 @@ impl<'p> Accounts<'p> {
         program: &'p Program,
         settings: Settings,
     ) -> Result<Accounts<'p>, AllocError>
-        ensures { IfOk result (λ a. a ≡ record { program = program.entry.now; settings = settings; ledger = opening program.entry.now settings; used = 0; taken = replicate 64 None }) }
+        ensures { IfOk result (λ a. a ≡ record { program = program.entry.now; settings = settings; ledger = opening program.entry.now settings; used = 0; taken = replicate worker_limit None }) }
     {
         let machine = Machine::start(alloc, program, settings.version().field_limit())?;
         let mut heaps = Listed::new(alloc);
@@ -73,7 +76,7 @@ impl<'p> Accounts<'p> {
             steps: 0,
             end: None,
             used: 0,
-            taken: [None; 64],
+            taken: [None; PLACES],
         })
     }
 

@@ -2,6 +2,7 @@
 
 ghost use Rattle.std.specs.Prelude.{◌≡◌, ℕ, Some, ◌+◌, ◌<◌, ◌^◌, OnOk, OnErr, IfOk, slice_set, min};
 ghost use Rattle.run_trace.specs.declared.entry.Kind.TheVariants.{Took, Chunk, Begin, PutOff, Mark, More, Fuel};
+ghost use Rattle.run_trace.specs.Settings.{worker_limit};
 ghost use Rattle.run_ledger.specs.Entries.{after_kind, chunk_units};
 ghost use Rattle.hh_model.specs.Step.{asked};
 ghost use Rattle.run_ledger.specs.Steps.{on_asked};
@@ -18,7 +19,7 @@ use std::alloc::AllocError;
 
 impl<'p> Accounts<'p> {
     pub(crate) fn took(&mut self, worker: u32, task: u32)
-        requires { worker < 64 }
+        requires { worker < worker_limit }
         ensures { self.new ≡ record self.old { ledger = after_kind self.old.program self.old.settings self.old.ledger worker (Took task); taken = slice_set self.old.taken worker (Some task) } }
     {
         if (task as usize) < self.heaps.len() {

@@ -3,6 +3,7 @@
 ghost use Rattle.std.specs.Prelude.{◌≡◌, ℕ, ◌<◌, ◌≤◌, Some, None, false, OnOk, IfErr, is_some, slice_set};
 ghost use Rattle.run_trace.specs.declared.entry.Kind.TheVariants.{Took, Ran, Chunk, Begin, End, PutOff, Mark, More, Sweep, Fuel};
 ghost use Rattle.run_trace.specs.Entry.{IsKind};
+ghost use Rattle.run_trace.specs.Settings.{worker_limit};
 ghost use Rattle.run_ledger.specs.Heaps.{heap_of};
 ghost use Rattle.run_ledger.specs.Steps.{most_steps};
 ghost use Rattle.run_ledger.specs.Entries.{refusal, after, kind_refusal, after_kind};
@@ -36,7 +37,7 @@ impl From<AllocError> for ApplyError {
 
 impl<'p> Accounts<'p> {
     fn enter_took(&mut self, worker: u32, task: u32) -> Result<(), ApplyError>
-        requires worker { worker < 64 }
+        requires worker { worker < worker_limit }
         requires agrees { Agrees self.old }
         ensures none { OnOk result (kind_refusal self.old.program self.old.settings self.old.ledger worker (Took task) ≡ None) }
         ensures ok { OnOk result (self.new ≡ record (went_on self.old (after_kind self.old.program self.old.settings self.old.ledger worker (Took task))) { taken = slice_set self.old.taken worker (Some task) }) }
@@ -195,7 +196,7 @@ impl<'p> Accounts<'p> {
 
     fn enter_kind(&mut self, worker: u32, kind: Kind) -> Result<(), ApplyError>
         requires range { IsKind kind }
-        requires worker { worker < 64 }
+        requires worker { worker < worker_limit }
         requires steady { Steady self.old.ledger }
         requires agrees { Agrees self.old }
         requires stays { (t k : ℕ) → kind ≡ Ran t k → is_some (heap_of self.old.ledger t).begun ≡ false → StaysSteady self.old.settings self.old.program self.old.ledger t k }

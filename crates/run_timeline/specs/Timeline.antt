@@ -1,7 +1,7 @@
 -- A run as a timeline.
 use Rattle.std.specs.Prelude.{ℕ, zero, suc, ◌+◌, List, [], ◌∷◌, ◌++◌, codes, get_or, slice_set, replicate}
 use Rattle.run_trace.specs.Entry.{EntryValue}
-use Rattle.run_trace.specs.Settings.{SettingsValue}
+use Rattle.run_trace.specs.Settings.{SettingsValue, worker_limit}
 use Rattle.hh_lang.specs.Form.{ProgramText}
 use Rattle.run_ledger.specs.declared.data.Ledger.{Ledger}
 use Rattle.run_ledger.specs.Entries.{after}
@@ -20,7 +20,7 @@ events_from p s l seats n (e ∷ es) =
 
 -- no worker has made an entry
 abbrev pub no_entry : List ℕ
-no_entry = replicate 64 0
+no_entry = replicate worker_limit 0
 
 abbrev pub events_of : ProgramText → SettingsValue → List EntryValue → List Json
 events_of p s journal = events_from p s (opening p s) no_entry 1 journal

@@ -21,11 +21,14 @@ use hh_lang::Program;
 use run_journal::{ApplyError, Book, ReplayError};
 use run_ledger::{Refused, RefusedAt};
 use run_report::cleared_words;
-use run_trace::{Entry, Settings};
+use run_trace::{Entry, Settings, WORKER_LIMIT};
 use std::alloc::{AllocError, Global};
 
 /// A text of so many entries has no place in memory.
 const ENTRY_LIMIT: usize = 4294967295;
+
+/// A seat for each worker that there can be.
+const SEATS: usize = WORKER_LIMIT as usize;
 
 // Adds the events of an entry that was entered, in front of which the accounts had these counts, and behind which so
 // many words are held.
@@ -161,7 +164,7 @@ fn enter_all(
     ensures legal { OnOk result (first_refused book.old.program book.old.settings journal.now ≡ None) }
     ensures fails { IfErr result (ReplayFails (first_refused book.old.program book.old.settings journal.now)) }
 {
-    let mut seats = [0u32; 64];
+    let mut seats = [0u32; SEATS];
     let mut held: u64 = 0;
     let mut index: u32 = 1;
     for entry in journal {

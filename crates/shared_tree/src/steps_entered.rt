@@ -2,7 +2,7 @@
 
 ghost use Rattle.std.specs.Prelude.{◌≡◌, ◌≤◌, ◌<◌, ◌+◌, ◌-◌, ◌++◌, ◌∷◌, []};
 ghost use Rattle.run_trace.specs.Entry.{private_limit};
-ghost use Rattle.run_trace.specs.Settings.{fuel_limit};
+ghost use Rattle.run_trace.specs.Settings.{fuel_limit, worker_limit};
 ghost use Rattle.own_steps.specs.Alone.{alone_event};
 
 use listed::Roomy;
@@ -12,7 +12,7 @@ use task_machine::Private;
 /// Counts the fresh steps of a part and its next one, and makes the one entry of all of them.
 pub(crate) fn enter_alone(steps: &mut u64, journal: &mut Roomy<Entry>, worker: u32, part: &Private)
     requires room { 0 < journal.old.room }
-    requires worker { worker < 64 }
+    requires worker { worker < worker_limit }
     requires small { (steps.old < fuel_limit) × (part.now.fresh ≤ private_limit) }
     ensures steps { steps.new ≡ steps.old + (part.now.fresh + 1) }
     ensures journal { journal.new ≡ record { items = journal.old.items ++ alone_event worker part.now ∷ []; room = journal.old.room - 1 } }
