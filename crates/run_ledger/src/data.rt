@@ -164,12 +164,15 @@ pub struct WorkerPace {
     pub marks: Listed<Strand>,
 }
 
+/// How many objects are marked at once.
+pub const MARKED_AT_ONCE: u32 = 64;
+
 /// What the pace of inner collections demands of a worker's next entry.
 #[derive(Clone, Copy)]
 pub enum Owed {
     /// The marking of this task's heap is to begin.
     Mark(u32),
-    /// 64 objects more of this task's heap are to be marked.
+    /// `MARKED_AT_ONCE` objects more of this task's heap are to be marked.
     More(u32),
     /// This task's heap is to be swept.
     Sweep(u32),

@@ -4,4 +4,6 @@
 
 mod data;
 
-pub use data::{Heap, Ledger, Owed, Previous, Refused, RefusedAt, Report, RunEnd, WorkerPace};
+pub use data::{
+    Heap, Ledger, MARKED_AT_ONCE, Owed, Previous, Refused, RefusedAt, Report, RunEnd, WorkerPace,
+};

@@ -8,7 +8,7 @@ ghost use Rattle.run_ledger.specs.Pace.{pace_opening, pace_of, pace_after, is_ma
 use hh_lang::Program;
 use listed::Listed;
 use run_journal::Book;
-use run_ledger::{Owed, Previous, WorkerPace};
+use run_ledger::{MARKED_AT_ONCE, Owed, Previous, WorkerPace};
 use run_trace::{Entry, Kind, Settings};
 use std::alloc::{AllocError, Global};
 
@@ -25,7 +25,7 @@ fn is_more_of(task: u32, kind: Kind) -> bool
     ensures { result ≡ is_more_of task kind }
 {
     match kind {
-        Kind::More(marked, count) => marked == task && count == 64,
+        Kind::More(marked, count) => marked == task && count == MARKED_AT_ONCE,
         _ => false,
     }
 }

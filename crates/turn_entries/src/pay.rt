@@ -14,9 +14,7 @@ ghost use Rattle.turn_entries.specs.Values.{MayEnter};
 use crate::act::Acted;
 use crate::held::{Next, Ready};
 use crate::run::Run;
-
-// How many objects are marked at once.
-const MARKED_AT_ONCE: u32 = 64;
+use run_ledger::MARKED_AT_ONCE;
 
 // How a worker goes on that came with this, once it has paid what it owed.
 fn next_after(ready: Ready) -> Next
