@@ -1,4 +1,4 @@
--- How long programs are, and how deep they go.
+-- How long programs are, how deep they go, and how large their objects are.
 use Rattle.std.specs.Prelude.{ℕ}
 
 -- the text of a program has at most so many bytes
@@ -11,3 +11,7 @@ frame_limit = 1000
 
 abbrev pub depth_limit : ℕ
 depth_limit = 1000
+
+-- an object has at most so many fields
+abbrev pub most_fields : ℕ
+most_fields = 1000000

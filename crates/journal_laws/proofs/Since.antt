@@ -6,6 +6,7 @@ use Rattle.run_trace.specs.declared.entry.Kind.TheVariants.{Took, Ran, Chunk, Be
 use Rattle.run_trace.specs.Entry.{EntryValue}
 use Rattle.run_trace.specs.Settings.{SettingsValue, field_limit}
 use Rattle.hh_lang.specs.Form.{ProgramText}
+use Rattle.hh_lang.specs.Limits.{most_fields}
 use Rattle.hh_model.specs.declared.data.State.{State}
 use Rattle.hh_model.specs.Step.{step, can_step, asked}
 use Rattle.hh_model.proofs.Carried.{next_name}
@@ -136,7 +137,7 @@ limit_small Two = omega arith
 counts_few : (s : SettingsValue) (l : Ledger) → total since_in l.heaps ≤ (field_limit s.version + 34) * l.steps → CountsFew s l
 counts_few s l le = record {
   by_steps = by;
-  below = λ t. more (field_limit s.version + 34) 1000034 l.steps (heap_of l t).since (let z = limit_small s.version in omega arith) (by t);
+  below = λ t. more (field_limit s.version + 34) (most_fields + 34) l.steps (heap_of l t).since (let z = limit_small s.version in omega arith) (by t);
 }
   where
     by : (t : ℕ) → (heap_of l t).since ≤ (field_limit s.version + 34) * l.steps

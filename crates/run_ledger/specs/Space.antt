@@ -4,6 +4,7 @@ use Rattle.run_trace.specs.declared.entry.Kind.TheVariants.{Ran, End, Sweep}
 use Rattle.run_trace.specs.Entry.{EntryValue, private_limit}
 use Rattle.run_trace.specs.Settings.{SettingsValue, field_limit}
 use Rattle.hh_lang.specs.Form.{ProgramText, IsProgram}
+use Rattle.hh_lang.specs.Limits.{most_fields}
 use Rattle.hh_model.specs.declared.data.Name.{Name}
 use Rattle.hh_model.specs.declared.data.Object.{Object}
 use Rattle.hh_model.specs.declared.data.State.{State}
@@ -84,7 +85,7 @@ ProgramsAskFew = (p : ProgramText) → IsProgram p → (limit : ℕ) → AsksAtM
 -- the trace
 pub record CountsFew (s : SettingsValue) (l : Ledger) : Type 0 where
   pub by_steps : (t : ℕ) → (heap_of l t).since ≤ (field_limit s.version + 34) * l.steps
-  pub below : (t : ℕ) → (heap_of l t).since ≤ 1000034 * l.steps
+  pub below : (t : ℕ) → (heap_of l t).since ≤ (most_fields + 34) * l.steps
 
 -- after a legal journal, and after any steps of a task then that isn't amid a leaf collection
 abbrev pub SinceIsBounded : Type 0

@@ -1,5 +1,6 @@
 -- The limits of a run, in their ranges.
 use Rattle.std.specs.Prelude.{ℕ, ◌≤◌}
+use Rattle.hh_lang.specs.Limits.{most_fields}
 use Rattle.run_trace.specs.declared.settings.Version.{Version}
 use Rattle.run_trace.specs.declared.settings.Version.TheVariants.{One, Two}
 
@@ -44,7 +45,7 @@ usual_limits = record { version = Two; workers = 1; fuel = 1000000; chunks = 409
 -- the most fields of an object: one chunk holds it in the first version, and in the second an object may be large
 abbrev pub field_limit : Version → ℕ
 field_limit One = 1022
-field_limit Two = 1000000
+field_limit Two = most_fields
 
 -- the number that a trace text bears
 abbrev pub version_number : Version → ℕ

@@ -3,6 +3,7 @@
 ghost use Rattle.std.specs.Prelude.{◌≡◌};
 ghost use Rattle.run_trace.specs.Settings.{AreLimits, usual_limits, field_limit, version_number};
 
+use hh_lang::MOST_FIELDS;
 use std::marker::Model;
 
 /// The version of a run's trace: under the first one an object has at most 1,022 fields, and `freeze`, `cas` and parallel
@@ -20,7 +21,7 @@ impl Version {
     {
         match self {
             Version::One => 1022,
-            Version::Two => 1_000_000,
+            Version::Two => MOST_FIELDS,
         }
     }
 
