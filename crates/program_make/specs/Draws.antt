@@ -18,9 +18,13 @@ abbrev pub value_after : ℕ → ℕ → ℕ
 value_after seed zero = seed
 value_after seed (suc k) = after_three (value_after seed k)
 
+-- a function adds an amount below this one
+abbrev pub amount_limit : ℕ
+amount_limit = 1000
+
 -- what a function that finds the value x draws: first the amount that it adds,
 abbrev pub amount : ℕ → ℕ
-amount x = drawn (next_value x) 1000
+amount x = drawn (next_value x) amount_limit
 
 -- then the size of the objects that it makes in a loop,
 abbrev pub garbage : ℕ → ℕ

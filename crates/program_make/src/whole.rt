@@ -11,6 +11,9 @@ use std::alloc::{AllocError, Global};
 /// A made program has at most so many functions.
 pub const SIZE_LIMIT: u32 = 1000;
 
+// A function adds an amount below this one.
+const AMOUNT_LIMIT: u32 = 1000;
+
 // Draws the three numbers of a function, and adds its text.
 fn add_function(
     alloc: Global,
@@ -23,7 +26,7 @@ fn add_function(
     ensures moved { value.new ≡ after_three value.old }
     ensures added { OnOk result (bytes.new.items ≡ bytes.old.items ++ function_text size number value.old) }
 {
-    let amount = draw(value, 1000);
+    let amount = draw(value, AMOUNT_LIMIT);
     let garbage = 1 + draw(value, 60);
     let rounds = 1 + draw(value, 40);
     add_first_lines(alloc, bytes, number, amount)?;

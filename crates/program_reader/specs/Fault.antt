@@ -86,10 +86,17 @@ names_no_label _ = false
 abbrev pub lacks_main : Outline → Spot → Bool
 lacks_main o s = s.last && not (is_noted o.functions (codes "main"))
 
--- function 1,025 begins, or it holds instruction 65,537
+-- a text has at most so many functions, and so many instructions
+abbrev pub function_limit : ℕ
+function_limit = 1024
+
+abbrev pub order_limit : ℕ
+order_limit = 65536
+
+-- the line begins one function too many, or holds one instruction too many
 abbrev pub is_too_many : Spot → Head → Bool
-is_too_many s Begin = nat_le 1024 s.begun
-is_too_many s (Order v) = nat_le 65536 s.orders
+is_too_many s Begin = nat_le function_limit s.begun
+is_too_many s (Order v) = nat_le order_limit s.orders
 is_too_many s _ = false
 
 -- ---- the first cause on a line, and the first line with one
