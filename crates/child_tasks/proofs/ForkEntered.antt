@@ -46,7 +46,7 @@ use Rattle.shared_value.specs.Stands.{HeapForm, IsSharedValue}
 use Rattle.shared_value.specs.Fits.{Fits, OthersFit, belongings_of_part, part_of}
 use Rattle.shared_value.specs.Entered.{refused}
 use Rattle.shared_value.proofs.FieldsNoted.{noted_of}
-use Rattle.shared_value.proofs.EntryMade.{entered_marks, marked_fits, marked_world, task_is_out, held_apart, unheld_before}
+use Rattle.shared_value.proofs.EntryMade.{entered_marks, marked_fits, marked_world, task_is_out, tasks_apart, free_before}
 use Rattle.shared_value.proofs.Levels.{level_is}
 use Rattle.shared_value.proofs.PartFitsMachine as link
 use Rattle.shared_value.proofs.BeforeTheEnd.{end_now, tree_long}
@@ -298,7 +298,7 @@ module _ (w : SharedValue) (k : ℕ) (p : Private) (I : IsSharedValue w) (F : Fi
         | inl e ↦ measured_at u r _ is (ap (rest_at rests) e ∙ H.left_home.2) (λ c i. absurd i)
         | inr na ↦ elim (cases_eq u (length w.rests + 1)) [
           | inl e ↦ measured_at u r _ is (ap (rest_at rests) e ∙ H.right_home.2) (λ c i. absurd i)
-          | inr nb ↦ I.measured u r (sym (H.others u nt na nb) ∙ is) (unheld_before w.tasks_out k None u f (λ h. nt (same_Some u t (sym h ∙ task_is_out w k p I (steps.on w k p I F at_fork free) F))))
+          | inr nb ↦ I.measured u r (sym (H.others u nt na nb) ∙ is) (free_before w.tasks_out k None u f (λ h. nt (same_Some u t (sym h ∙ task_is_out w k p I (steps.on w k p I F at_fork free) F))))
         ]
       ]
     ]
@@ -318,4 +318,4 @@ module _ (w : SharedValue) (k : ℕ) (p : Private) (I : IsSharedValue w) (F : Fi
     pub forked_others : OthersFit w w' k
     forked_others u r ne G =
         marked_fits w (last_event k p) I free_last tree w.pool rests sets tasks_out w.outputs all_steps w.end j.room marks forked_world u r r (ap option_flatten (got_other w.tasks_out k u None ne)) G refl refl refl G.form G.measured
-        (ran_leaves w.program w.settings v v' l L t k p.fresh h E own forks_belongings (part_of w.settings r) (held_apart w k u p r F G ne) G.fits)
+        (ran_leaves w.program w.settings v v' l L t k p.fresh h E own forks_belongings (part_of w.settings r) (tasks_apart w k u p r F G ne) G.fits)

@@ -40,7 +40,7 @@ use Rattle.shared_value.specs.Stands.{HeapForm, IsSharedValue}
 use Rattle.shared_value.specs.Fits.{Fits, OthersFit, belongings_of_part, part_of}
 use Rattle.shared_value.specs.Entered.{refused}
 use Rattle.shared_value.proofs.FieldsNoted.{noted_of}
-use Rattle.shared_value.proofs.EntryMade.{entered_marks, held_apart, marked_accounts, marked_fits, marked_world}
+use Rattle.shared_value.proofs.EntryMade.{entered_marks, tasks_apart, marked_accounts, marked_fits, marked_world}
 use Rattle.shared_value.proofs.BeforeTheEnd.{end_now}
 use Rattle.shared_value.proofs.TaskTaken.{lets_go}
 use Rattle.own_steps.specs.Alone.{alone_event}
@@ -276,7 +276,7 @@ module _ (w : SharedValue) (k : ℕ) (p : Private) (I : IsSharedValue w) (F : Fi
       joined_others : OthersFit w w' k
       joined_others u i ne G =
           marked_fits w (last_event k p) I free_last tree pool rests sets tasks_out w.outputs all_steps w.end j.room marks joined_world u i i (ap option_flatten (got_other w.tasks_out k u None ne)) G refl refl refl G.form (others_measured w k p I F at_end free ended above beside frames above_is calls beside_is c lh rh al ar side rests pool heap H relabelled heap_is u i ne G)
-          (ran_leaves w.program w.settings v v' l L t k p.fresh h E own made (part_of w.settings i) (held_apart w k u p i F G ne) G.fits)
+          (ran_leaves w.program w.settings v v' l L t k p.fresh h E own made (part_of w.settings i) (tasks_apart w k u p i F G ne) G.fits)
 
       -- ---- AS THE CALL HAS IT
       abbrev pub joined_alone : SharedValue

@@ -18,7 +18,7 @@ use Rattle.task_homes.specs.declared.task_at_rest.Rest.{Rest}
 use Rattle.task_homes.specs.declared.task_at_rest.Work.{Work}
 use Rattle.task_homes.specs.declared.task_at_rest.Work.TheVariants.{Calls, Result}
 use Rattle.shared_value.specs.SharedValue.{SharedValue, accounts, marks_at, belongings_by, belongings_in, rest_at, tree_counts_of, value_of}
-use Rattle.shared_value.specs.Measured.{AreMeasured, IsUnheld}
+use Rattle.shared_value.specs.Measured.{AreMeasured, IsFree}
 use Rattle.shared_value.specs.Stands.{HeapForm, IsSharedValue}
 use Rattle.shared_value.specs.Fits.{Fits, part_of}
 use Rattle.shared_value.proofs.FieldsNoted.{noted_of}
@@ -53,7 +53,7 @@ module _ (w : SharedValue) (rests : List (Option Rest)) (sets : List SetOf) (man
     form_then u r None e S is = none_some (sym S ∙ is)
     form_then u r (Some z) e S is = subst (λ (y : Rest). HeapForm y.heap) (same_Some _ r (sym S.2 ∙ is)) (places_form z.heap S.0 S.1 (I.heaps u z e))
 
-    measured_then : (u : ℕ) (r : Rest) (o : Option Rest) → rest_at w.rests u ≡ o → IsSameRest o (rest_at rests u) → rest_at rests u ≡ Some r → IsUnheld w.tasks_out u → AreMeasured w.pool u r.heap.chunks
+    measured_then : (u : ℕ) (r : Rest) (o : Option Rest) → rest_at w.rests u ≡ o → IsSameRest o (rest_at rests u) → rest_at rests u ≡ Some r → IsFree w.tasks_out u → AreMeasured w.pool u r.heap.chunks
     measured_then u r None e S is f = none_some (sym S ∙ is)
     measured_then u r (Some z) e S is f = subst (λ (y : Rest). AreMeasured w.pool u y.heap.chunks) (same_Some _ r (sym S.2 ∙ is)) (I.measured u z e f)
 
@@ -73,7 +73,7 @@ module _ (w : SharedValue) (rests : List (Option Rest)) (sets : List SetOf) (man
 
   places_fit_by : (k : ℕ) (p : Private) → Fits w k p → Fits w' k p
   places_fit_by k p F = record {
-    held = F.held;
+    out = F.out;
     fits = subst (λ (v : Memory). WorkerFits w.program w.settings (part_of w.settings p) v (accounts w)) (sym value_same) F.fits;
     form = F.form;
     measured = F.measured;

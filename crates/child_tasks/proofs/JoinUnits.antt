@@ -21,11 +21,11 @@ use Rattle.task_machine.specs.declared.part.Private.{Private}
 use Rattle.task_homes.specs.declared.task_at_rest.Rest.{Rest}
 use Rattle.task_homes.specs.declared.task_at_rest.Work.TheVariants.{Calls}
 use Rattle.shared_value.specs.SharedValue.{SharedValue, accounts, rest_at}
-use Rattle.shared_value.specs.Measured.{AreMeasured, IsMeasured, IsUnheld, KeepsUnits, RestsAreMeasured}
+use Rattle.shared_value.specs.Measured.{AreMeasured, IsMeasured, IsFree, KeepsUnits, RestsAreMeasured}
 use Rattle.shared_value.specs.Stands.{IsSharedValue}
 use Rattle.shared_value.specs.Fits.{Fits}
 use Rattle.shared_value.specs.Entered.{refused}
-use Rattle.shared_value.proofs.EntryMade.{task_is_out, held_apart, unheld_at_rest, unheld_before}
+use Rattle.shared_value.proofs.EntryMade.{task_is_out, tasks_apart, free_at_rest, free_before}
 use Rattle.shared_value.proofs.PartFitsMachine as link
 use Rattle.shared_value.proofs.UnitsMeasured.{measured_both, measured_kept, part_kept, relabelled_keeps, relabelled_measured, relabelled_own}
 use Rattle.shared_value.proofs.RootsHeld.{chunk_in}
@@ -53,8 +53,8 @@ module _ (w : SharedValue) (k : ℕ) (p : Private) (I : IsSharedValue w) (F : Fi
   on = steps.on w k p I F at_end free
 
   -- no worker holds the others that join
-  unheld : (u : ℕ) → (u ≡ t → ⊥) → Rests R u → IsUnheld w.tasks_out u
-  unheld u ne rests = unheld_at_rest w u I on (sym (ap (λ (z : Heap). z.worker) ((link.alone w k p I F on).heaps u ne)) ∙ rests)
+  unheld : (u : ℕ) → (u ≡ t → ⊥) → Rests R u → IsFree w.tasks_out u
+  unheld u ne rests = free_at_rest w u I on (sym (ap (λ (z : Heap). z.worker) ((link.alone w k p I F on).heaps u ne)) ∙ rests)
 
   module _ (above beside : Rest) (frames : FramesValue) (above_is : rest_at w.rests q ≡ Some above) (calls : above.work ≡ Calls frames) (beside_is : IsRestOf (rest_at w.rests s) beside) (c : ℕ) (lh rh : LeafHeapValue) (al ar : ℤ × Option Addr) (side : AreSides p s beside c lh rh al ar) where
     rests_s : Rests R s
@@ -64,7 +64,7 @@ module _ (w : SharedValue) (k : ℕ) (p : Private) (I : IsSharedValue w) (F : Fi
         by (inl m) = subst (Rests R) (sym m.1) (both.rests_d w k p I F at_end free ended above beside frames above_is calls beside_is c lh rh al ar side)
         by (inr m) = subst (Rests R) (sym m.0) (both.rests_c w k p I F at_end free ended above beside frames above_is calls beside_is c lh rh al ar side)
 
-    unheld_s : IsUnheld w.tasks_out s
+    unheld_s : IsFree w.tasks_out s
     unheld_s = unheld s (steps.other_apart w k p I F at_end free) rests_s
 
     -- both are the two, and no other is
@@ -128,7 +128,7 @@ module _ (w : SharedValue) (k : ℕ) (p : Private) (I : IsSharedValue w) (F : Fi
             | inr ns ↦
                 let apart = other_apart u nt ns in
                 measured_kept w.pool pool u i.heap.chunks (units_stay u apart.0 apart.1)
-                (I.measured u i (sym (H.others u nq nt ns) ∙ is) (unheld_before w.tasks_out k None u none (λ h. nt (same_Some u t (sym h ∙ task_is_out w k p I on F)))))
+                (I.measured u i (sym (H.others u nq nt ns) ∙ is) (free_before w.tasks_out k None u none (λ h. nt (same_Some u t (sym h ∙ task_is_out w k p I on F)))))
           ]
         ]
       ]
@@ -136,5 +136,5 @@ module _ (w : SharedValue) (k : ℕ) (p : Private) (I : IsSharedValue w) (F : Fi
       -- THE PARTS OF OTHERS
       pub others_measured : (u : ℕ) (i : Private) → (u ≡ k → ⊥) → Fits w u i → IsMeasured pool i
       others_measured u i ne G =
-          let apart = other_apart i.task (λ e. held_apart w k u p i F G ne (sym e)) (λ e. unheld_s u (task_is_out w u i I on G ∙ ap (λ n. Some n) e)) in
+          let apart = other_apart i.task (λ e. tasks_apart w k u p i F G ne (sym e)) (λ e. unheld_s u (task_is_out w u i I on G ∙ ap (λ n. Some n) e)) in
           part_kept w.pool pool i (units_stay i.task apart.0 apart.1) G.measured

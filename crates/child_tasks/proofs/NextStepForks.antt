@@ -90,7 +90,7 @@ module _ (w : SharedValue) (I : IsSharedValue w) (on : (accounts w).end ≡ None
     node_out : (n : Node) × (slice_get w.tree p.task ≡ Some n) × (n.state ≡ Out)
     node_out =
         let is : slice_get w.tree p.task ≡ Some (as_node (heap_of (accounts w) p.task).worker F.fits.task) = S0.tree_counts.node p.task ∙ ap (option_map (as_node (heap_of (accounts w) p.task).worker)) F.fits.is in
-        (as_node (heap_of (accounts w) p.task).worker F.fits.task, is, ap₂ state_by (status w k p I F on) F.held)
+        (as_node (heap_of (accounts w) p.task).worker F.fits.task, is, ap₂ state_by (status w k p I F on) F.out)
 
     pub tree_out : state_in_tree w.tree p.task ≡ Some Out
     tree_out = ap (option_map (λ (n : Node). n.state)) node_out.1 ∙ ap Some node_out.2

@@ -130,7 +130,7 @@ module _ (w : SharedValue) (k : ℕ) (p : Private) (b : Begun) (news : List Chun
         let made = copies_fit w.program w.settings p.task p.heap p.view p.allocations p.frames b news (value_of w) (aside (accounts w)) begun h' s' out D in
         record {
           belongings = H;
-          held = C.fits.held;
+          out = C.fits.out;
           copy = made.0;
           form = made.1;
           measured = measured;

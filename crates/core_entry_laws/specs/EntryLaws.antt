@@ -7,7 +7,7 @@ use Rattle.core_relation.specs.RanCounts.{RanCounts}
 use Rattle.run_trace.specs.Entry.{EntryValue}
 use Rattle.run_trace.specs.declared.entry.Kind.TheVariants.{Took, Ran, Sweep, End}
 use Rattle.run_ledger.specs.Journals.{ledger_of, is_legal, opening}
-use Rattle.run_ledger.specs.Entries.{refusal, after, held_from}
+use Rattle.run_ledger.specs.Entries.{refusal, after, out_from}
 use Rattle.run_ledger.specs.Steps.{task_steps}
 use Rattle.core_relation.specs.Since.{AllNoted, MarksOn, NotesStay, OthersNotes}
 use Rattle.core_relation.specs.Whole.{StandsForAll, handed, TreeCounts, TreeCountsStand, StandsFor}
@@ -90,5 +90,5 @@ CountsStand =
     → (e : EntryValue) → refusal p s l e ≡ None → CountsGo p s l c c' e.worker e.kind → TreeCountsStand c' (after p s l e)
 
 -- the task that a worker holds is the first that the accounts say it holds
-abbrev pub TasksOutAreHeld : Type 0
-TasksOutAreHeld = (c : TreeCounts) (l : Ledger) → TreeCountsStand c l → (w : ℕ) → c.task_out w ≡ held_from w 0 l.heaps
+abbrev pub TasksOutAreTold : Type 0
+TasksOutAreTold = (c : TreeCounts) (l : Ledger) → TreeCountsStand c l → (w : ℕ) → c.task_out w ≡ out_from w 0 l.heaps

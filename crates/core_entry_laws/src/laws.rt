@@ -1,6 +1,6 @@
 // The laws of entries and of what workers hold, each the clause of a function that does nothing.
 
-ghost use Rattle.core_entry_laws.specs.EntryLaws.{FirstStandsFor, DoneHandsAll, WholeStands, WholeNotes, CountsStand, TookStandsFor, QuietStandsFor, SweepsStandFor, EndsStandFor, RanStandsFor, TasksOutAreHeld};
+ghost use Rattle.core_entry_laws.specs.EntryLaws.{FirstStandsFor, DoneHandsAll, WholeStands, WholeNotes, CountsStand, TookStandsFor, QuietStandsFor, SweepsStandFor, EndsStandFor, RanStandsFor, TasksOutAreTold};
 ghost use Rattle.core_entry_laws.specs.WorkerLaws.{AllFitTogether, RanLeaves, TookLeaves, QuietLeaves, SweepsLeave, EndsLeave, TookFits, RanFits, QuietFits, EndsFit, FramesGo, NumbersGo, RanAlike};
 ghost use Rattle.core_entry_laws.specs.CopyLaws.{MarksAreAll, CollectionsBegin, BegunStays, CopiesStay, CopiesEnd};
 ghost use Rattle.core_entry_laws.specs.Now.{SnapshotsAreNow};
@@ -111,8 +111,8 @@ pub fn ran_fits()
 {}
 
 /// The task that a worker holds is the one that the accounts say it holds.
-pub fn tasks_out_are_held()
-    ensures { TasksOutAreHeld }
+pub fn tasks_out_are_told()
+    ensures { TasksOutAreTold }
 {}
 
 /// After an entry of its own that moves nothing what its worker holds fits.

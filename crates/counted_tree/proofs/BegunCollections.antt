@@ -23,11 +23,11 @@ use Rattle.run_ledger.specs.Entries.{after, after_kind, chunk_units, ends_as, is
 use Rattle.listed.specs.Options.{option_is}
 use Rattle.listed.proofs.Options.{none_some}
 use Rattle.run_ledger.specs.Journals.{is_legal, ledger_of}
-use Rattle.run_ledger.specs.Laws.{HoldsOnce, HoldsTasks, LeavesTask}
+use Rattle.run_ledger.specs.Laws.{HoldsOnce, TasksAreOut, LeavesTask}
 use Rattle.run_ledger.specs.Sound.{SoundAt, SoundLedger, collecting}
 use Rattle.run_ledger.proofs.Cuts.{legal_then, none_is}
 use Rattle.run_ledger.proofs.Frames.{entries_leave_others, held_is, left_step, heap_off, heap_view}
-use Rattle.run_ledger.proofs.Holders.{tasks_are_held_once}
+use Rattle.run_ledger.proofs.Holders.{tasks_are_out_once}
 use Rattle.run_ledger.proofs.Journals.{collecting_is, entry_tells, legal_sound, none_unless, none_where, out_tells, wait_tells}
 use Rattle.run_ledger.proofs.Steps.{task_step_sound, task_steps_sound}
 use Rattle.run_ledger.proofs.Stocks.{names_are_held_once}
@@ -88,8 +88,8 @@ module _ (p : ProgramText) (s : SettingsValue) (journal : List EntryValue) (e : 
   abbrev S : SoundLedger l
   S = legal_sound p s journal legal
 
-  H : HoldsTasks l
-  H = tasks_are_held_once p s journal legal
+  H : TasksAreOut l
+  H = tasks_are_out_once p s journal legal
 
   module _ (t k : ℕ) where
     abbrev Went : Ledger → Type 0

@@ -38,7 +38,7 @@ pub length_chunks : (cs : List ChunkValue) → length (chunks_of cs) ≡ length 
 length_chunks [] = refl
 length_chunks (c ∷ cs) = ap suc (length_chunks cs)
 
--- a task that waits is held by no worker
+-- no worker holds a task that waits
 pub waiting_rests : (w : SharedValue) → IsSharedValue w → (accounts w).end ≡ None → (t : ℕ) → is_waiting (slice_get (accounts w).machine.tasks t) ≡ true → Rests (accounts w) t
 waiting_rests w I on t wait = legal_idle w.program w.settings w.journal.items I.legal on t (waiting_stops (slice_get (accounts w).machine.tasks t) wait)
 

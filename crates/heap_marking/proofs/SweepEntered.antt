@@ -209,7 +209,7 @@ module _ (w : SharedValue) (k t given : ℕ) (I : IsSharedValue w) (free : refus
 
     -- a task that a worker holds is another one
     apart : (u : ℕ) (q : Private) → Fits w u q → q.task ≡ t → ⊥
-    apart u q F s = none_some (sym (start.rests w I on t T.cause) ∙ (ap (λ z. (heap_of l z).worker) (sym s) ∙ F.held))
+    apart u q F s = none_some (sym (start.rests w I on t T.cause) ∙ (ap (λ z. (heap_of l z).worker) (sym s) ∙ F.out))
 
     pub swept_fits : AllFit w w'
     swept_fits u q F =

@@ -34,7 +34,7 @@ use Rattle.shared_value.specs.Objects.{chunk_of, chunks_of}
 use Rattle.shared_value.specs.Stands.{HeapForm, IsSharedValue}
 use Rattle.shared_value.specs.SharedValue.{SharedValue, accounts, belongings_by, belongings_of, value_of}
 use Rattle.shared_value.proofs.HeapForms.{places_form}
-use Rattle.shared_value.proofs.EntryMade.{unheld_at_rest}
+use Rattle.shared_value.proofs.EntryMade.{free_at_rest}
 use Rattle.shared_value.proofs.HeapLaidOut.{inside_from, laid_from, same_chunk}
 use Rattle.shared_value.proofs.FieldsLed.{belongings_chunks}
 use Rattle.shared_value.proofs.FieldsNoted.{fresh_by, owned_before}
@@ -127,7 +127,7 @@ module _ (w : SharedValue) (I : IsSharedValue w) (on : (accounts w).end ≡ None
   owned_was c i = (start.H w I on t free).owned (chunk_of c) (subst (λ cs. In cs (chunk_of c)) (sym (start.chunks_here w I on t free)) (in_map chunk_of ks c i))
 
   pub measured_was : AreMeasured w.pool t ks
-  measured_was = I.measured t r (start.Z w I on t free).there (unheld_at_rest w t I on (start.rests w I on t free))
+  measured_was = I.measured t r (start.Z w I on t free).there (free_at_rest w t I on (start.rests w I on t free))
 
   -- as the pool counts it
   pub units_go : units_kept w.pool (gone_of r.heap kept) ≡ unit_count (gone_of r.heap kept)

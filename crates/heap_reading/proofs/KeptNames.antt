@@ -17,7 +17,7 @@ use Rattle.run_ledger.specs.declared.data.RunEnd.{RunEnd}
 use Rattle.run_ledger.specs.declared.data.RunEnd.TheVariants.{Fuel, Machine as MachineEnd, Pool}
 use Rattle.run_ledger.specs.Heaps.{heap_of, held, held_in, in_use, let_go, or_fresh, small_in, words_at, words_sum}
 use Rattle.run_ledger.specs.Report.{held_not_running, held_not_running_from}
-use Rattle.run_ledger.proofs.Holders.{tasks_are_held_once}
+use Rattle.run_ledger.proofs.Holders.{tasks_are_out_once}
 use Rattle.run_ledger.proofs.Bounds.{steps_are_bounded}
 use Rattle.journal_laws.proofs.Counted.{journals_are_counted}
 use Rattle.run_ledger.proofs.Space.{heaps_fit, use_is_bounded}
@@ -221,7 +221,7 @@ module _ (w : SharedValue) (I : IsSharedValue w) where
       omega (arith, c, s, d, h)
 
   pub kept_homes : kept_before k (length w.rests) ≡ held_not_running k
-  kept_homes = ap (kept_before k) (homes_long ∙ sym (tasks_are_held_once w.program w.settings w.journal.items I.legal).as_many) ∙ kept_all k
+  kept_homes = ap (kept_before k) (homes_long ∙ sym (tasks_are_out_once w.program w.settings w.journal.items I.legal).as_many) ∙ kept_all k
 
 -- one more task counted
 pub counted_more : (a b c d : ℕ) → a ≡ counted c → b ≡ counted d → min (a + b) (2 ^ 64 - 1) ≡ counted (c + d)

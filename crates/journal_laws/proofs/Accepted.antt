@@ -13,7 +13,7 @@ use Rattle.run_ledger.specs.declared.data.Ledger.{Ledger}
 use Rattle.run_ledger.specs.declared.data.Refused.{Refused}
 use Rattle.run_ledger.specs.Heaps.{end_numbers, heap_of, in_use, left_in, take_of, words_in}
 use Rattle.run_ledger.specs.Steps.{is_due, is_in_need, most_steps, standing}
-use Rattle.run_ledger.specs.Entries.{counted, held_from, is_fuel, is_out, is_pool_enough, is_ready, kind_refusal, long_at, on_due, on_running, on_waiting, refused_holding, refused_if, refused_unless}
+use Rattle.run_ledger.specs.Entries.{counted, out_from, is_fuel, is_out, is_pool_enough, is_ready, kind_refusal, long_at, on_due, on_running, on_waiting, refused_holding, refused_if, refused_unless}
 use Rattle.listed.specs.Options.{option_is}
 use Rattle.journal_laws.specs.Accepted.{Allows, AcceptedIsAllowed, IsAt, IsOut, IsUnswept}
 use Rattle.run_ledger.proofs.Frames.{held_is, is_held}
@@ -46,10 +46,10 @@ unless_of b c rest e h = ap (λ v. refused_unless v c rest) e ∙ h
 out_in : (l : Ledger) (w t : ℕ) → is_out l w t ≡ true → IsOut l w t
 out_in l w t h =
     let both = and_parts (is_running (slice_get l.machine.tasks t)) (option_is (heap_of l t).worker w) h in
-    record { runs = both.0; held = held_is (heap_of l t).worker w both.1 }
+    record { runs = both.0; out = held_is (heap_of l t).worker w both.1 }
 
 out_of : (l : Ledger) (w t : ℕ) → IsOut l w t → is_out l w t ≡ true
-out_of l w t O = and_from (is_running (slice_get l.machine.tasks t)) (option_is (heap_of l t).worker w) O.runs (is_held (heap_of l t).worker w O.held)
+out_of l w t O = and_from (is_running (slice_get l.machine.tasks t)) (option_is (heap_of l t).worker w) O.runs (is_held (heap_of l t).worker w O.out)
 
 at_in : (l : Ledger) (w t : ℕ) (rest : Option Refused) → on_running l w t rest ≡ None → IsAt l w t × (rest ≡ None)
 at_in l w t rest h =
@@ -70,22 +70,22 @@ waits_of : (l : Ledger) (t : ℕ) (rest : Option Refused) → IsUnswept l t → 
 waits_of l t rest U h = unless_of (is_waiting (slice_get l.machine.tasks t)) _ _ U.waits (if_of (heap_of l t).swept _ _ U.unswept h)
 
 -- whoever holds none isn't found holding one
-none_held : (w t : ℕ) (heaps : List Heap) → ((u : ℕ) → worker_at (slice_get heaps u) ≡ Some w → ⊥) → held_from w t heaps ≡ None
+none_held : (w t : ℕ) (heaps : List Heap) → ((u : ℕ) → worker_at (slice_get heaps u) ≡ Some w → ⊥) → out_from w t heaps ≡ None
 none_held w t [] h = refl
 none_held w t (g ∷ heaps) h = by (option_is g.worker w) refl (none_held w (t + 1) heaps (λ u. h (suc u)))
   where
-    by : (v : Bool) → option_is g.worker w ≡ v → held_from w (t + 1) heaps ≡ None → cond v (Some t) (held_from w (t + 1) heaps) ≡ None
+    by : (v : Bool) → option_is g.worker w ≡ v → out_from w (t + 1) heaps ≡ None → cond v (Some t) (out_from w (t + 1) heaps) ≡ None
     by true e rest = absurd (h zero (held_is g.worker w e))
     by false e rest = rest
 
-free_in : (l : Ledger) (w : ℕ) → refused_holding (held_from w 0 l.heaps) None ≡ None → (u : ℕ) → (heap_of l u).worker ≡ Some w → ⊥
-free_in l w h u e = holding_none w 0 l.heaps (by (held_from w 0 l.heaps) h) u (sym (worker_of l u) ∙ e)
+free_in : (l : Ledger) (w : ℕ) → refused_holding (out_from w 0 l.heaps) None ≡ None → (u : ℕ) → (heap_of l u).worker ≡ Some w → ⊥
+free_in l w h u e = holding_none w 0 l.heaps (by (out_from w 0 l.heaps) h) u (sym (worker_of l u) ∙ e)
   where
     by : (o : Option ℕ) → refused_holding o None ≡ None → o ≡ None
     by None q = refl
     by (Some t) q = some_none q
 
-free_out : (l : Ledger) (w : ℕ) → ((u : ℕ) → (heap_of l u).worker ≡ Some w → ⊥) → refused_holding (held_from w 0 l.heaps) None ≡ None
+free_out : (l : Ledger) (w : ℕ) → ((u : ℕ) → (heap_of l u).worker ≡ Some w → ⊥) → refused_holding (out_from w 0 l.heaps) None ≡ None
 free_out l w h = ap (λ o. refused_holding o None) (none_held w 0 l.heaps (λ u e. h u (worker_of l u ∙ e)))
 
 -- NUMBERS

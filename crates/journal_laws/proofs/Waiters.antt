@@ -1,4 +1,4 @@
--- A task that waits is held by nobody.
+-- No worker holds a task that waits.
 use Rattle.std.proofs.Common.{◌≡◌, ℕ, zero, suc, ◌+◌, Bool, true, false, cond, Option, Some, None, slice_get, slice_set, nat_lt, inl, inr, refl, ap, sym, ◌∙◌, is_none, is_some}
 use Rattle.std.proofs.lemmas.Bool.{false≢true, cases_eq, and_parts}
 use Rattle.listed.proofs.Members.{got_same, got_other}

@@ -14,7 +14,7 @@ use Rattle.run_ledger.specs.Entries.{is_fuel, refusal}
 -- the worker is at the task t
 pub record IsOut (l : Ledger) (w t : ℕ) : Type 0 where
   pub runs : is_running (slice_get l.machine.tasks t) ≡ true
-  pub held : (heap_of l t).worker ≡ Some w
+  pub out : (heap_of l t).worker ≡ Some w
 
 -- the same, and no leaf collection of t goes on
 pub record IsAt (l : Ledger) (w t : ℕ) : Type 0 where

@@ -1,6 +1,6 @@
 // The laws of journals, each the clause of a function that does nothing.
 
-ghost use Rattle.run_ledger.specs.Laws.{ReachedIsWalks, MachineIsRun, NothingReachableIsFreed, NamesAreHeldOnce, CollectionsKeepJust, TasksAreHeldOnce, EntriesLeaveOthers, HeldIsUndropped, WithinIsOwned, MachineGoesOn, WithinIsOfNames, WaitersAreFree, StepsRunOn, StepsMoveMachine, EntriesMoveMachine, StepsLeaveHeaps};
+ghost use Rattle.run_ledger.specs.Laws.{ReachedIsWalks, MachineIsRun, NothingReachableIsFreed, NamesAreHeldOnce, CollectionsKeepJust, TasksAreOutOnce, EntriesLeaveOthers, HeldIsUndropped, WithinIsOwned, MachineGoesOn, WithinIsOfNames, WaitersAreFree, StepsRunOn, StepsMoveMachine, EntriesMoveMachine, StepsLeaveHeaps};
 ghost use Rattle.journal_laws.specs.Accepted.{AcceptedIsAllowed};
 ghost use Rattle.journal_laws.specs.Frozen.{SurvivorsAreWithin, SnapshotsAreWithin, SnapshotsAreHeld, ForksSetDown};
 ghost use Rattle.run_ledger.specs.Cuts.{LegalIsUnrefused, JournalsCanBeCut, FirstRefusedIsFirst, PacedIsMeant, OwedCanBeGiven, PaceGoesOn, FewerStepsAreLegal};
@@ -35,8 +35,8 @@ pub fn names_are_held_once()
 {}
 
 /// After a legal journal a task that a worker holds runs, unless the run has ended, and no worker holds two.
-pub fn tasks_are_held_once()
-    ensures { TasksAreHeldOnce }
+pub fn tasks_are_out_once()
+    ensures { TasksAreOutOnce }
 {}
 
 /// An entry of one worker leaves a task that another worker holds as it is, and the account of its heap.
@@ -193,7 +193,7 @@ pub fn fewer_steps_are_legal()
     ensures { FewerStepsAreLegal }
 {}
 
-/// After a legal journal a task that waits is held by nobody, whether or not the run has ended.
+/// After a legal journal no worker holds a task that waits, whether or not the run has ended.
 pub fn waiters_are_free()
     ensures { WaitersAreFree }
 {}

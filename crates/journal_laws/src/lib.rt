@@ -13,6 +13,6 @@ pub use laws::{
     pace_is_of_entries, paced_is_meant, paced_keeps_the_pace, programs_ask_few, reached_is_walks,
     since_is_bounded, snapshots_are_held, snapshots_are_within, steps_are_bounded,
     steps_keep_sound, steps_leave_heaps, steps_move_machine, steps_run_on, steps_use_none,
-    survivors_are_within, sweeps_are_bounded, tasks_are_held_once, use_is_bounded,
-    waiters_are_free, within_is_of_names, within_is_owned, words_are_accounted,
+    survivors_are_within, sweeps_are_bounded, tasks_are_out_once, use_is_bounded, waiters_are_free,
+    within_is_of_names, within_is_owned, words_are_accounted,
 };

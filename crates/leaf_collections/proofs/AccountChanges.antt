@@ -52,7 +52,7 @@ module _ (w : SharedValue) (k : ℕ) (p : Private) (I : IsSharedValue w) (F : Fi
   heap_off u ne = with_off l t u f ne
 
   held_then : (heap_of L t).worker ≡ Some k
-  held_then = ap (λ o. (or_fresh o).worker) heap_then_is ∙ (holds there.0 ∙ (ap (λ o. (or_fresh o).worker) (sym there.1) ∙ F.held))
+  held_then = ap (λ o. (or_fresh o).worker) heap_then_is ∙ (holds there.0 ∙ (ap (λ o. (or_fresh o).worker) (sym there.1) ∙ F.out))
 
   not_t : (u : ℕ) → Rests L u → u ≡ t → ⊥
   not_t u r q = let a : (heap_of L u).worker ≡ Some k = ap (λ z. (heap_of L z).worker) q ∙ held_then in absurd cc

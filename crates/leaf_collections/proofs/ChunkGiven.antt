@@ -55,7 +55,7 @@ use Rattle.shared_value.specs.Entered.{refused}
 use Rattle.shared_value.proofs.NextStepAsks.{asks_is, counted_is}
 use Rattle.shared_value.proofs.CollectionUnderWay.{account_idle, none_begun}
 use Rattle.shared_value.proofs.HeapCounts.{small_names}
-use Rattle.shared_value.proofs.EntryMade.{entered, entry_on, held_apart}
+use Rattle.shared_value.proofs.EntryMade.{entered, entry_on, tasks_apart}
 use Rattle.shared_value.proofs.NothingMoves.{quiet_others, quiet_own, quiet_world, same_value}
 use Rattle.shared_value.proofs.HeapForms.{reserved_none}
 use Rattle.shared_value.proofs.PartFitsMachine as link
@@ -412,7 +412,7 @@ module _ (w : SharedValue) (k : ℕ) (p : Private) (I : IsSharedValue w) (F : Fi
 
     -- ---- THE PARTS OF OTHERS
     pub chunk_others : OthersFit w w' k
-    chunk_others o q ne G = quiet_others w e I free tt (λ u m. m) pool w.end j.room same notes counts T.rest.limit units_stay o q (held_apart w k o P q F G ne) G
+    chunk_others o q ne G = quiet_others w e I free tt (λ u m. m) pool w.end j.room same notes counts T.rest.limit units_stay o q (tasks_apart w k o P q F G ne) G
 
 -- ---- WHERE TOO FEW ARE FREE
 module _ (w : SharedValue) (k : ℕ) (p : Private) (I : IsSharedValue w) (F : Fits w k (record p { fresh = 0 })) (on : (accounts w).end ≡ None) (free : refused w (record { worker = k; kind = ChunkOf p.task }) ≡ None)
@@ -452,7 +452,7 @@ module _ (w : SharedValue) (k : ℕ) (p : Private) (I : IsSharedValue w) (F : Fi
   full_world = quiet_world w full_event I free tt (λ u m. m) w.pool full_end j.room full_same full_notes full_counts refl (all_kept w.pool)
 
   pub full_others : OthersFit w ended k
-  full_others o q ne G = quiet_others w full_event I free tt (λ u m. m) w.pool full_end j.room full_same full_notes full_counts refl (all_kept w.pool) o q (held_apart w k o (record p { fresh = 0 }) q F G ne) G
+  full_others o q ne G = quiet_others w full_event I free tt (λ u m. m) w.pool full_end j.room full_same full_notes full_counts refl (all_kept w.pool) o q (tasks_apart w k o (record p { fresh = 0 }) q F G ne) G
 
   abbrev full_belongings : Memory
   full_belongings = with_belongings (value_of w) p.task (belongings_of_part (record p { fresh = 0 }))
@@ -503,7 +503,7 @@ places_added h K a b c d = by (K.size == 1024)
     by false = refl
 
 pub places_fit : (w : SharedValue) (k : ℕ) (p : Private) (a b : ℕ) → Fits w k p → Fits w k (record p { heap = with_places p.heap a b })
-places_fit w k p a b F = record { held = F.held; fits = F.fits; form = places_form p.heap a b F.form; measured = F.measured; leaf_limit = F.leaf_limit; field_limit = F.field_limit }
+places_fit w k p a b F = record { out = F.out; fits = F.fits; form = places_form p.heap a b F.form; measured = F.measured; leaf_limit = F.leaf_limit; field_limit = F.field_limit }
 
 module _ (w : SharedValue) (k : ℕ) (p : Private) (I : IsSharedValue w) (F : Fits w k p) (none : p.fresh ≡ 0) (free : refused w (record { worker = k; kind = ChunkOf p.task }) ≡ None) where
   part_is : p ≡ record p { fresh = 0 }

@@ -28,7 +28,7 @@ use Rattle.shared_value.specs.Fits.{Fits, OthersFit}
 use Rattle.shared_value.specs.Due.{take_by}
 use Rattle.shared_value.specs.Entered.{refused}
 use Rattle.shared_value.specs.Roots.{roots_of}
-use Rattle.shared_value.proofs.EntryMade.{entered, entry_on, held_apart}
+use Rattle.shared_value.proofs.EntryMade.{entered, entry_on, tasks_apart}
 use Rattle.shared_value.proofs.FreeChunks.{take_is}
 use Rattle.shared_value.proofs.NothingMoves.{quiet_others, quiet_world}
 use Rattle.shared_value.proofs.UnitsMeasured.{all_taken_keep}
@@ -130,4 +130,4 @@ module _ (w : SharedValue) (k : ℕ) (p : Private) (I : IsSharedValue w) (F : Fi
 
     -- THE PARTS OF OTHERS
     pub begin_others : OthersFit w w' k
-    begin_others o q ne G = quiet_others w e I free tt (λ u m. m) pool w.end j.room same notes counts T.limit units_stay o q (held_apart w k o P q F G ne) G
+    begin_others o q ne G = quiet_others w e I free tt (λ u m. m) pool w.end j.room same notes counts T.limit units_stay o q (tasks_apart w k o P q F G ne) G

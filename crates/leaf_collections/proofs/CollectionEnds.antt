@@ -18,7 +18,7 @@ use Rattle.run_ledger.specs.declared.data.Ledger.{Ledger}
 use Rattle.run_ledger.specs.Heaps.{collected, heap_of, or_fresh, with_heap, with_heap_at}
 use Rattle.run_ledger.specs.Journals.{is_legal}
 use Rattle.run_ledger.specs.Sound.{SoundLedger}
-use Rattle.run_ledger.proofs.Holders.{tasks_are_held_once}
+use Rattle.run_ledger.proofs.Holders.{tasks_are_out_once}
 use Rattle.run_ledger.proofs.Journals.{legal_sound}
 use Rattle.journal_laws.proofs.Waiters.{waiters_are_free}
 use Rattle.run_ledger.proofs.Going.{machine_goes_on}
@@ -65,7 +65,7 @@ use Rattle.task_homes.specs.RestingHeaps.{Resting, refs_for, refs_in, with_ref_i
 use Rattle.shared_value.specs.Roots.{heaps_of, sources_of}
 use Rattle.shared_value.specs.Entered.{refused}
 use Rattle.shared_value.proofs.CellsRead.{fresh_off, seen_object}
-use Rattle.shared_value.proofs.EntryMade.{accounts_are, entered, entered_world, entry_on, held_on, part_fits, unheld_at_rest, unheld_rests}
+use Rattle.shared_value.proofs.EntryMade.{accounts_are, entered, entered_world, entry_on, worker_on, part_fits, free_at_rest, free_rests}
 use Rattle.shared_value.proofs.FreeChunks.{refs_long}
 use Rattle.shared_value.proofs.HeldTasks.{fits_held, stands_for_held}
 use Rattle.shared_value.proofs.FieldsNoted.{are_once, fresh_by, noted_sources, owned_before}
@@ -114,7 +114,7 @@ module _ (w : SharedValue) (k : ℕ) (p : Private) (moved : Moved) (I : IsShared
   pub has_home : p.task < length w.rests
   has_home =
       let T : SoundLedger l = legal_sound w.program w.settings w.journal.items I.legal in
-      let held : t < length l.heaps = held_there l.heaps t k F.held in
+      let held : t < length l.heaps = held_there l.heaps t k F.out in
       let many : length l.heaps ≡ length l.machine.tasks = T.lengths in
       let x = got_some l.machine.tasks t (omega (arith, held, many)) in
       subst (λ n. t < n) (sym I.made) (got_within w.tree t (as_node (heap_of l t).worker x.0) (S.tree_counts.node t ∙ ap (option_map (as_node (heap_of l t).worker)) x.1))
@@ -161,7 +161,7 @@ module _ (w : SharedValue) (k : ℕ) (p : Private) (moved : Moved) (I : IsShared
   formed : AreFormed (heaps_of w) Good
   formed = record {
     form = I.heaps;
-    measured = λ u r good q. I.measured u r q (unheld_at_rest w u I on good);
+    measured = λ u r good q. I.measured u r q (free_at_rest w u I on good);
     owned = λ u r good q c i. (S.belongings.belongings u good).owned (chunk_of c) (subst (λ (h : Belongings). In h.chunks (chunk_of c)) (sym (ap belongings_in q)) (subst (λ cs. In cs (chunk_of c)) (sym (belongings_chunks r)) (in_map chunk_of r.heap.chunks c i)));
   }
 
@@ -197,7 +197,7 @@ module _ (w : SharedValue) (k : ℕ) (p : Private) (moved : Moved) (I : IsShared
     v'' = record v' { belongings = λ u. rewritten_belongings f (sources v t) (v.belongings u) }
 
     held_then : (heap_of L t).worker ≡ Some k
-    held_then = ap (λ o. (or_fresh o).worker) (with_at l t (collected l.machine)) ∙ (by (slice_get l.heaps t) ∙ F.held)
+    held_then = ap (λ o. (or_fresh o).worker) (with_at l t (collected l.machine)) ∙ (by (slice_get l.heaps t) ∙ F.out)
       where
         by : (o : Option Heap) → (or_fresh (heap_then (collected l.machine) o)).worker ≡ (or_fresh o).worker
         by None = refl
@@ -236,7 +236,7 @@ module _ (w : SharedValue) (k : ℕ) (p : Private) (moved : Moved) (I : IsShared
 
     -- NOTES AND COUNTS
     running : is_running (slice_get l.machine.tasks t) ≡ true
-    running = (tasks_are_held_once w.program w.settings w.journal.items I.legal).runs on t k F.held
+    running = (tasks_are_out_once w.program w.settings w.journal.items I.legal).runs on t k F.out
 
     idle : is_waiting (slice_get l.machine.tasks t) ≡ false
     idle = (runs_tell (slice_get l.machine.tasks t) running).3
@@ -297,7 +297,7 @@ module _ (w : SharedValue) (k : ℕ) (p : Private) (moved : Moved) (I : IsShared
     units_stay u ne = given_keeps w.pool pool moved.back.items t u G F.back.owned ne
 
     measured_then : RestsAreMeasured pool H'.rests w.tasks_out
-    measured_then u r is none = measured_kept w.pool pool u r.heap.chunks (units_stay u (λ q. none k ((S.tree_counts.task_out k u).1 (ap (λ z. (heap_of l z).worker) q ∙ F.held)))) (led.measured u r (unheld_rests w u I on none) is)
+    measured_then u r is none = measured_kept w.pool pool u r.heap.chunks (units_stay u (λ q. none k ((S.tree_counts.task_out k u).1 (ap (λ z. (heap_of l z).worker) q ∙ F.out)))) (led.measured u r (free_rests w u I on none) is)
 
     pub end_world : IsSharedValue w'
     end_world = entered_world w e I free w.tree pool H'.rests w.sets w.tasks_out w.outputs w.steps w.end room (led.count ∙ I.made) I.noted refl G.limit stands_then led.form measured_then
@@ -308,7 +308,7 @@ module _ (w : SharedValue) (k : ℕ) (p : Private) (moved : Moved) (I : IsShared
 
     pub end_fits : Fits w' k (ended p)
     end_fits = record {
-      held = held_on w e I free w.tree pool H'.rests w.sets w.tasks_out w.outputs w.steps w.end room end_world k t refl F.held;
+      out = worker_on w e I free w.tree pool H'.rests w.sets w.tasks_out w.outputs w.steps w.end room end_world k t refl F.out;
       fits = subst (WorkerFits w.program w.settings (part_of w.settings (ended p)) v') (sym accounts')
           (held_value (part_of w.settings (ended p))
           (subst (λ n. WorkerFits w.program w.settings (part_for w.settings t (belongings_of_part (ended p)) n) v'' L) (sym F.fresh)
@@ -320,7 +320,7 @@ module _ (w : SharedValue) (k : ℕ) (p : Private) (moved : Moved) (I : IsShared
     }
 
     apart : (u : ℕ) (q : Private) → (u ≡ k → ⊥) → Fits w u q → q.task ≡ t → ⊥
-    apart u q ne Q same = ne (same_Some u k (sym Q.held ∙ (ap (λ z. (heap_of l z).worker) same ∙ F.held)))
+    apart u q ne Q same = ne (same_Some u k (sym Q.out ∙ (ap (λ z. (heap_of l z).worker) same ∙ F.out)))
 
     pub end_others : OthersFit w w' k
     end_others u q ne Q =

@@ -36,7 +36,7 @@ use Rattle.shared_value.specs.Due.{due_cause}
 use Rattle.shared_value.specs.Entered.{refused}
 use Rattle.shared_value.specs.Next.{part_asks}
 use Rattle.shared_value.proofs.CollectionUnderWay.{account_idle, none_begun}
-use Rattle.shared_value.proofs.EntryMade.{entered, entry_on, held_apart}
+use Rattle.shared_value.proofs.EntryMade.{entered, entry_on, tasks_apart}
 use Rattle.shared_value.proofs.NothingMoves.{quiet_others, quiet_own, quiet_world}
 use Rattle.shared_value.proofs.UnitsMeasured.{all_kept}
 use Rattle.shared_value.proofs.StepsEntered.{belongings_stand}
@@ -196,7 +196,7 @@ module _ (w : SharedValue) (k : ℕ) (p : Private) (I : IsSharedValue w) (F : Fi
 
   -- THE PARTS OF OTHERS
   pub put_off_others : OthersFit w w' k
-  put_off_others o q ne G = quiet_others w e I free tt (λ u m. m) w.pool w.end j.room same notes counts refl (all_kept w.pool) o q (held_apart w k o P q F G ne) G
+  put_off_others o q ne G = quiet_others w e I free tt (λ u m. m) w.pool w.end j.room same notes counts refl (all_kept w.pool) o q (tasks_apart w k o P q F G ne) G
 
 -- AS THE CALL HAS IT
 module _ (w : SharedValue) (k : ℕ) (p : Private) (F : Fits w k p) (none : p.fresh ≡ 0) where

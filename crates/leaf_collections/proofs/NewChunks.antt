@@ -5,7 +5,7 @@ use Rattle.std.proofs.lemmas.Bool.{false≢true}
 use Rattle.hh_model.specs.declared.data.Task.{Task}
 use Rattle.hh_model.specs.Step.{is_running}
 use Rattle.run_ledger.specs.Heaps.{heap_of}
-use Rattle.run_ledger.proofs.Holders.{tasks_are_held_once}
+use Rattle.run_ledger.proofs.Holders.{tasks_are_out_once}
 use Rattle.object_layout.specs.ChunkValue.{ChunkValue, number_of}
 use Rattle.chunk_pool.specs.PoolValue.{IsBlank}
 use Rattle.alloc_path.specs.LeafHeapValue.{AreApart}
@@ -42,4 +42,4 @@ idle_rest w I on u stops = by (heap_of (accounts w) u).worker refl
   where
     by : (o : Option ℕ) → (heap_of (accounts w) u).worker ≡ o → Rests (accounts w) u
     by None e = e
-    by (Some k) e = absurd (idle_by (slice_get (accounts w).machine.tasks u) stops ((tasks_are_held_once w.program w.settings w.journal.items I.legal).runs on u k e))
+    by (Some k) e = absurd (idle_by (slice_get (accounts w).machine.tasks u) stops ((tasks_are_out_once w.program w.settings w.journal.items I.legal).runs on u k e))

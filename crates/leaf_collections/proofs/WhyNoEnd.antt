@@ -9,7 +9,7 @@ use Rattle.run_ledger.specs.declared.data.Refused.TheVariants.{Count, NotCollect
 use Rattle.run_ledger.specs.Entries.{counted, ends_as, is_out, kind_refusal, refused_unless}
 use Rattle.listed.specs.Options.{option_is}
 use Rattle.run_ledger.specs.Heaps.{end_numbers, heap_of}
-use Rattle.run_ledger.proofs.Holders.{tasks_are_held_once}
+use Rattle.run_ledger.proofs.Holders.{tasks_are_out_once}
 use Rattle.leaf_copy_gc.specs.declared.lists.Moved.{Moved}
 use Rattle.task_machine.specs.declared.part.Private.{Private}
 use Rattle.shared_value.specs.SharedValue.{SharedValue, accounts}
@@ -44,8 +44,8 @@ end_answer w k p moved I F = by (is_some (first_cause w.end w.steps w.settings k
     by true h = first_answer w I (end_event k p moved) h
     by false h =
         let on : (accounts w).end ≡ None = on_is w I k false h in
-        let runs' : is_running (slice_get (accounts w).machine.tasks p.task) ≡ true = (tasks_are_held_once w.program w.settings w.journal.items I.legal).runs on p.task k F.held in
-        let held' : option_is (heap_of (accounts w) p.task).worker k ≡ true = ap (λ o. option_is o k) F.held ∙ eq-eqb k k refl in
+        let runs' : is_running (slice_get (accounts w).machine.tasks p.task) ≡ true = (tasks_are_out_once w.program w.settings w.journal.items I.legal).runs on p.task k F.out in
+        let held' : option_is (heap_of (accounts w) p.task).worker k ≡ true = ap (λ o. option_is o k) F.out ∙ eq-eqb k k refl in
         let begun : is_some (heap_of (accounts w) p.task).begun ≡ true = F.copy.collects in
         refused_is w I (end_event k p moved)
         ∙ behind (first_cause w.end w.steps w.settings k false) (kind_refusal w.program w.settings (accounts w) k (End p.task moved.taken moved.given moved.left))

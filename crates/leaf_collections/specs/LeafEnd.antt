@@ -39,7 +39,7 @@ pub record AreBack (w : SharedValue) (p : Private) (ks : List ChunkValue) (given
 pub record FitsCopied (w : SharedValue) (worker : ℕ) (p : Private) (moved : Moved) : Type 0 where
   -- its belongings before
   pub belongings : Belongings
-  pub held : (heap_of (accounts w) p.task).worker ≡ Some worker
+  pub out : (heap_of (accounts w) p.task).worker ≡ Some worker
   pub copy : CopyFits w.program w.settings p.task belongings (belongings_of_part (ended p)) (new_address moved.moved.items) (value_of w) (aside (accounts w))
   pub form : HeapForm p.heap
   pub measured : AreMeasured w.pool p.task p.heap.chunks

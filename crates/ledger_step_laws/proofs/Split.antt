@@ -26,7 +26,7 @@ use Rattle.run_ledger.proofs.Booked.{task_steps_booked}
 use Rattle.run_ledger.proofs.Journals.{none_unless, out_tells, entry_tells, entry_sound, accepted_on}
 use Rattle.run_ledger.proofs.Space.{legal_booked}
 use Rattle.run_ledger.proofs.Stocks.{legal_stocked}
-use Rattle.run_ledger.proofs.Holders.{tasks_are_held_once, placed_worker}
+use Rattle.run_ledger.proofs.Holders.{tasks_are_out_once, placed_worker}
 use Rattle.run_ledger.proofs.Machine.{machine_is_run, kind_machine, task_step_machine, heap_machine}
 use Rattle.run_ledger.proofs.Steps.{step_leaves, steps_last, task_steps_sound}
 use Rattle.run_ledger.specs.Sound.{collecting}
@@ -117,7 +117,7 @@ legal_idle p s journal legal on u h = by (heap_of (ledger_of p s journal) u).wor
   where
     by : (o : Option ℕ) → (heap_of (ledger_of p s journal) u).worker ≡ o → o ≡ None
     by None e = refl
-    by (Some w) e = absurd (both_ways (is_running (slice_get (ledger_of p s journal).machine.tasks u)) h ((tasks_are_held_once p s journal legal).runs on u w e))
+    by (Some w) e = absurd (both_ways (is_running (slice_get (ledger_of p s journal).machine.tasks u)) h ((tasks_are_out_once p s journal legal).runs on u w e))
 
 module _ (p : ProgramText) (s : SettingsValue) (journal : List EntryValue) (w t k : ℕ) (I : IsProgram p) (legal : is_legal p s journal ≡ true) (accepted : refusal p s (ledger_of p s journal) (record { worker = w; kind = Ran t (suc k) }) ≡ None) where
   abbrev l : Ledger
@@ -241,7 +241,7 @@ module _ (p : ProgramText) (s : SettingsValue) (journal : List EntryValue) (w t 
     can = can;
     collects = out.1;
     splits = split;
-    held = steps_worker p s t k l stand.0 ∙ holds;
+    out = steps_worker p s t k l stand.0 ∙ holds;
     idle = idle;
     root = subst (λ (m : State). (u : ℕ) (x : Task) → slice_get m.tasks u ≡ Some x → x.parent ≡ None → u ≡ 0) (sym machine_run) (run_root p (field_limit s.version) (tasks_of journal ++ replicate k t));
     leaves = leaves;

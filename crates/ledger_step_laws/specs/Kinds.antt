@@ -98,7 +98,7 @@ pub record StoresOne (l l' : Ledger) (t : ℕ) (x : Task) (n : Name) (y : Object
   pub mutable : y.mutable ≡ true
   pub goes : slice_get l'.machine.tasks t ≡ Some (record x { top = onward_with c x.top })
   pub writes : WritesOne l l' t n y (record y { refs = slice_set y.refs i (ref_in x.top w) })
-  -- a task that waits is held by no worker
+  -- no worker holds a task that waits
   pub waits : (u : ℕ) → is_waiting (slice_get l.machine.tasks u) ≡ true → Rests l u
 
 -- of the accounts

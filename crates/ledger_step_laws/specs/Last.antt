@@ -217,7 +217,7 @@ pub record Runs (p : ProgramText) (s : SettingsValue) (l l' : Ledger) (t w k : �
   pub can : can_step l.machine t ≡ true
   pub collects : collecting (slice_get l.heaps t) ≡ false
   pub splits : Splits p s l l' t k
-  pub held : (heap_of (task_steps p l t k) t).worker ≡ Some w
+  pub out : (heap_of (task_steps p l t k) t).worker ≡ Some w
   pub idle : IdleRest (task_steps p l t k)
   -- a running task without a parent is the first, and runs alone
   pub root : (u : ℕ) (x : Task) → slice_get (task_steps p l t k).machine.tasks u ≡ Some x → x.parent ≡ None → u ≡ 0

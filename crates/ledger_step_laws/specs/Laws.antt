@@ -65,7 +65,7 @@ abbrev pub KindsExclude : Type 0
 KindsExclude =
     (p : ProgramText) (l l' : Ledger) (t : ℕ) (x : Task) (line : Line) → IsAt p l t x line → l.machine.end ≡ None → (a b : LastKind) → IsOfKind p l l' t x line a → IsApart p l t a → IsOfKind p l l' t x line b → IsApart p l t b → a ≡ b
 
--- the task that it speaks of is held by its worker all along, and what runs beside it is left alone
+-- its worker holds the task that it speaks of all along, and what runs beside it is left alone
 abbrev pub SplitsLeave : Type 0
 SplitsLeave =
     (p : ProgramText) (s : SettingsValue) (journal : List EntryValue) (w t k : ℕ) → IsProgram p → is_legal p s journal ≡ true → let l : Ledger = ledger_of p s journal in let e : EntryValue = record { worker = w; kind = Ran t (suc k) } in

@@ -38,7 +38,7 @@ module _ (w : SharedValue) (sets : List SetOf) (many : length sets ≡ length w.
 
   pub roomier_fit : (k : ℕ) (p : Private) → Fits w k p → Fits roomier k p
   roomier_fit k p F = record {
-    held = F.held;
+    out = F.out;
     fits = subst (λ (v : Memory). WorkerFits w.program w.settings (part_of w.settings p) v (accounts w)) value_same F.fits;
     form = F.form;
     measured = F.measured;

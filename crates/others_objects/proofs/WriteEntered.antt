@@ -13,7 +13,7 @@ use Rattle.run_ledger.specs.declared.data.Heap.{Heap}
 use Rattle.run_ledger.specs.declared.data.Ledger.{Ledger}
 use Rattle.run_ledger.specs.Heaps.{heap_of, or_fresh}
 use Rattle.run_ledger.specs.Steps.{task_steps}
-use Rattle.run_ledger.proofs.Holders.{tasks_are_held_once}
+use Rattle.run_ledger.proofs.Holders.{tasks_are_out_once}
 use Rattle.object_layout.specs.declared.word.Addr.{Addr}
 use Rattle.object_layout.specs.declared.word.Birth.{Birth}
 use Rattle.object_layout.specs.Cell.{Cell, size_of}
@@ -38,7 +38,7 @@ use Rattle.shared_value.specs.SharedValue.{SharedValue, accounts, tree_counts_of
 use Rattle.shared_value.specs.Stands.{IsSharedValue}
 use Rattle.shared_value.specs.Fits.{Fits, OthersFit, belongings_of_part, part_of}
 use Rattle.shared_value.specs.Entered.{refused}
-use Rattle.shared_value.proofs.EntryMade.{entered, entered_world, held_apart, part_fits}
+use Rattle.shared_value.proofs.EntryMade.{entered, entered_world, tasks_apart, part_fits}
 use Rattle.shared_value.proofs.HeldTasks.{fits_held, stands_for_held}
 use Rattle.shared_value.proofs.BeforeTheEnd.{end_now, stands_now}
 use Rattle.own_steps.specs.Alone.{IsShared}
@@ -83,7 +83,7 @@ module _ (w : SharedValue) (k : ℕ) (p : Private) (I : IsSharedValue w) (F : Fi
     where
       by : (o : Option ℕ) → (heap_of l u).worker ≡ o → Rests l u
       by None e = e
-      by (Some x) e = running_not (slice_get l.machine.tasks u) h' ((tasks_are_held_once w.program w.settings w.journal.items I.legal).runs on u x e)
+      by (Some x) e = running_not (slice_get l.machine.tasks u) h' ((tasks_are_out_once w.program w.settings w.journal.items I.legal).runs on u x e)
 
   stands_0 : StandsFor v0 (tree_counts_of w) l
   stands_0 = stands_for_held (value_of w) v0.belongings l (λ u r. resting_is l (value_of w).belongings u r) waits_l (tree_counts_of w) (stands_now w I on)
@@ -189,5 +189,5 @@ module _ (w : SharedValue) (k : ℕ) (p : Private) (I : IsSharedValue w) (F : Fi
         written_others u r ne G =
             part_fits w (last_event k p) I free w.tree w.pool rests sets w.tasks_out w.outputs steps w.end j.room written_world u r r refl G refl refl refl G.form G.measured
             (fits_held v1 v'.belongings L same_then w.program w.settings (part_of w.settings r) R.knows_then.sound goes_then
-            (ran_leaves w.program w.settings v0 v1 l L t k p.fresh h E own_0 C (part_of w.settings r) (held_apart w k u p r F G ne)
+            (ran_leaves w.program w.settings v0 v1 l L t k p.fresh h E own_0 C (part_of w.settings r) (tasks_apart w k u p r F G ne)
             (fits_held (value_of w) v0.belongings l (λ z y. resting_is l (value_of w).belongings z y) w.program w.settings (part_of w.settings r) R.knows.sound (last.before_goes w k p I F shared free) G.fits)))

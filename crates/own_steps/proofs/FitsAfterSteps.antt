@@ -194,14 +194,14 @@ module _ (w : SharedValue) (k : ℕ) (p q : Private) (n : ℕ) (I : IsSharedValu
 
   again : Fits w k Q
   again = record {
-    held = F.held;
+    out = F.out;
     fits = record {
       task = F.fits.task;
       is = F.fits.is;
       runs = F.fits.runs;
       steady = inr (steady w k p F on idle);
       part = subst (PartFits w.program w.settings (part_of w.settings Q) v) (sym (aside_is l (link.goes w k p I F on)))
-          (record { fits = record { worker = k; out = F.held; few = few; private = run.private_then w k p q n I F on idle R C; stands = stands_then }; begun = subst (λ o. BegunBy after L' t o) (sym idle) (run.begun_then w k p q n I F on idle R C) });
+          (record { fits = record { worker = k; out = F.out; few = few; private = run.private_then w k p q n I F on idle R C; stands = stands_then }; begun = subst (λ o. BegunBy after L' t o) (sym idle) (run.begun_then w k p q n I F on idle R C) });
       leaf = refl;
       fields = refl;
     };

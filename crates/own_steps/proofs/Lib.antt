@@ -15,5 +15,5 @@ pub mod PartBelongings
 pub mod StepsCounted
 pub mod FitsAfterSteps
 pub mod MoreSteps
-pub mod TaskNotHeld
+pub mod TaskNotOut
 pub mod OtherStepKinds

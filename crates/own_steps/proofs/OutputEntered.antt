@@ -28,7 +28,7 @@ use Rattle.shared_value.specs.SharedValue.{SharedValue, accounts, tree_counts_of
 use Rattle.shared_value.specs.Stands.{IsSharedValue}
 use Rattle.shared_value.specs.Fits.{Fits, OthersFit, belongings_of_part, part_of}
 use Rattle.shared_value.specs.Entered.{refused}
-use Rattle.shared_value.proofs.EntryMade.{entered, entered_world, held_apart, part_fits}
+use Rattle.shared_value.proofs.EntryMade.{entered, entered_world, tasks_apart, part_fits}
 use Rattle.shared_value.proofs.BeforeTheEnd.{end_now}
 use Rattle.own_steps.specs.Alone.{IsShared, Tells}
 use Rattle.own_steps.proofs.LastKinds.{prints}
@@ -141,4 +141,4 @@ module _ (w : SharedValue) (k : ℕ) (p : Private) (I : IsSharedValue w) (F : Fi
     pub output_others : OthersFit w w' k
     output_others u r ne G =
         part_fits w (last_event k p) I free w.tree w.pool w.rests w.sets w.tasks_out outputs steps w.end j.room output_world u r r refl G refl refl refl G.form G.measured
-        (ran_leaves w.program w.settings v v l L t k p.fresh h E own refl (part_of w.settings r) (held_apart w k u p r F G ne) G.fits)
+        (ran_leaves w.program w.settings v v l L t k p.fresh h E own refl (part_of w.settings r) (tasks_apart w k u p r F G ne) G.fits)

@@ -33,7 +33,7 @@ use Rattle.shared_value.specs.Measured.{AreMeasured, RestsAreMeasured}
 use Rattle.shared_value.specs.Stands.{HeapForm, IsSharedValue}
 use Rattle.shared_value.specs.Fits.{Fits, OthersFit, belongings_of_part, part_of}
 use Rattle.shared_value.specs.Entered.{refused}
-use Rattle.shared_value.proofs.EntryMade.{accounts_are, entered, entered_world, task_is_out, held_apart, part_fits, unheld_before}
+use Rattle.shared_value.proofs.EntryMade.{accounts_are, entered, entered_world, task_is_out, tasks_apart, part_fits, free_before}
 use Rattle.shared_value.proofs.BeforeTheEnd.{stands_now}
 use Rattle.shared_value.proofs.TaskTaken.{made_by, node_by, node_off}
 use Rattle.own_steps.specs.Alone.{IsShared, ended_rest}
@@ -142,7 +142,7 @@ module _ (w : SharedValue) (k : ℕ) (p : Private) (I : IsSharedValue w) (F : Fi
     measured_then : RestsAreMeasured w.pool rests tasks_out
     measured_then u r is f = elim (cases_eq u t) [
       | inl q ↦ subst (λ z. AreMeasured w.pool z r.heap.chunks) (sym q) (subst (λ (z : Rest). AreMeasured w.pool t z.heap.chunks) (same_Some rest r (sym rest_now ∙ (ap (rest_at rests) (sym q) ∙ is))) F.measured.0)
-      | inr ne ↦ I.measured u r (sym (rest_off u ne) ∙ is) (unheld_before w.tasks_out k None u f (λ h. ne (same_Some u t (sym h ∙ task_is_out w k p I (last.on w k p I F shared free) F))))
+      | inr ne ↦ I.measured u r (sym (rest_off u ne) ∙ is) (free_before w.tasks_out k None u f (λ h. ne (same_Some u t (sym h ∙ task_is_out w k p I (last.on w k p I F shared free) F))))
     ]
 
     pub accounts_then : accounts w' ≡ L
@@ -160,4 +160,4 @@ module _ (w : SharedValue) (k : ℕ) (p : Private) (I : IsSharedValue w) (F : Fi
         pub others_fit : OthersFit w w' k
         others_fit u r ne G =
             part_fits w (last_event k p) I free tree w.pool rests w.sets tasks_out w.outputs steps end room after u r r (ap option_flatten (got_other w.tasks_out k u None ne)) G refl refl refl G.form G.measured
-            (ran_leaves w.program w.settings v v' l L t k p.fresh h E own C (part_of w.settings r) (held_apart w k u p r F G ne) G.fits)
+            (ran_leaves w.program w.settings v v' l L t k p.fresh h E own C (part_of w.settings r) (tasks_apart w k u p r F G ne) G.fits)

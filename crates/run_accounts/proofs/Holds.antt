@@ -15,7 +15,7 @@ use Rattle.run_ledger.specs.declared.data.Ledger.{Ledger}
 use Rattle.run_ledger.specs.declared.data.RunEnd.TheVariants.{Pool}
 use Rattle.run_ledger.specs.Heaps.{heap_of, or_fresh, with_heap, placed, is_small, in_use, chunk_words, collected, swept_heap}
 use Rattle.run_ledger.specs.Steps.{allocated_by, allocated_in, stepped_to, task_step, task_steps, on_asked}
-use Rattle.run_ledger.specs.Entries.{kind_refusal, after_kind, held_from, is_ready, with_chunk, chunk_units}
+use Rattle.run_ledger.specs.Entries.{kind_refusal, after_kind, out_from, is_ready, with_chunk, chunk_units}
 use Rattle.listed.specs.Options.{option_is}
 use Rattle.run_ledger.proofs.Moves.{moves_each}
 use Rattle.run_ledger.proofs.Sound.{SoundLedger}
@@ -35,16 +35,16 @@ worker_of l t = (heap_of l t).worker
 -- the first task that a worker holds, or none is
 abbrev Found : ℕ → ℕ → List Heap → Type 0
 Found w base heaps =
-    ((held_from w base heaps ≡ None) × ((u : ℕ) → (or_fresh (slice_get heaps u)).worker ≡ Some w → ⊥))
-    ⊎ ((u : ℕ) × (held_from w base heaps ≡ Some (base + u)) × ((or_fresh (slice_get heaps u)).worker ≡ Some w))
+    ((out_from w base heaps ≡ None) × ((u : ℕ) → (or_fresh (slice_get heaps u)).worker ≡ Some w → ⊥))
+    ⊎ ((u : ℕ) × (out_from w base heaps ≡ Some (base + u)) × ((or_fresh (slice_get heaps u)).worker ≡ Some w))
 
 found : (w base : ℕ) (heaps : List Heap) → Found w base heaps
 found w base [] = inl (refl, λ u e. absurd (none-some _ e))
 found w base (h ∷ heaps) = by (option_is h.worker w) refl (found w (base + 1) heaps)
   where
     by : (v : Bool) → option_is h.worker w ≡ v → Found w (base + 1) heaps
-        → ((cond v (Some base) (held_from w (base + 1) heaps) ≡ None) × ((u : ℕ) → (or_fresh (slice_get (h ∷ heaps) u)).worker ≡ Some w → ⊥))
-        ⊎ ((u : ℕ) × (cond v (Some base) (held_from w (base + 1) heaps) ≡ Some (base + u)) × ((or_fresh (slice_get (h ∷ heaps) u)).worker ≡ Some w))
+        → ((cond v (Some base) (out_from w (base + 1) heaps) ≡ None) × ((u : ℕ) → (or_fresh (slice_get (h ∷ heaps) u)).worker ≡ Some w → ⊥))
+        ⊎ ((u : ℕ) × (cond v (Some base) (out_from w (base + 1) heaps) ≡ Some (base + u)) × ((or_fresh (slice_get (h ∷ heaps) u)).worker ≡ Some w))
     by true e rest = inr (zero, ap Some (let q : base ≡ base + 0 = omega arith in q), held_is h.worker w e)
     by false e (inl none) = inl (none.0, go)
       where
@@ -58,26 +58,26 @@ module _ (s : AccountsValue) (A : Agrees s) (w : ℕ) where
   last t e = ap (λ o. unwrap_or o None) (A.taken t w e)
 
   -- who took nothing holds nothing
-  pub holds_none : unwrap_or (slice_get s.taken w) None ≡ None → held_from w 0 s.ledger.heaps ≡ None
+  pub holds_none : unwrap_or (slice_get s.taken w) None ≡ None → out_from w 0 s.ledger.heaps ≡ None
   holds_none none = by (found w 0 s.ledger.heaps)
     where
-      by : Found w 0 s.ledger.heaps → held_from w 0 s.ledger.heaps ≡ None
+      by : Found w 0 s.ledger.heaps → out_from w 0 s.ledger.heaps ≡ None
       by (inl f) = f.0
       by (inr f) = absurd (none-some _ (sym none ∙ last f.0 f.2))
 
   -- who holds a task holds the one that was taken last
-  pub holds_last : (t : ℕ) → unwrap_or (slice_get s.taken w) None ≡ Some t → worker_of s.ledger t ≡ Some w → held_from w 0 s.ledger.heaps ≡ Some t
+  pub holds_last : (t : ℕ) → unwrap_or (slice_get s.taken w) None ≡ Some t → worker_of s.ledger t ≡ Some w → out_from w 0 s.ledger.heaps ≡ Some t
   holds_last t is e = by (found w 0 s.ledger.heaps)
     where
-      by : Found w 0 s.ledger.heaps → held_from w 0 s.ledger.heaps ≡ Some t
+      by : Found w 0 s.ledger.heaps → out_from w 0 s.ledger.heaps ≡ Some t
       by (inl f) = absurd (f.1 t e)
       by (inr f) = f.1 ∙ (ap Some (let q : 0 + f.0 ≡ f.0 = omega arith in q) ∙ (sym (last f.0 f.2) ∙ is))
 
   -- and nothing, once that is held no more
-  pub holds_no_more : (t : ℕ) → unwrap_or (slice_get s.taken w) None ≡ Some t → (worker_of s.ledger t ≡ Some w → ⊥) → held_from w 0 s.ledger.heaps ≡ None
+  pub holds_no_more : (t : ℕ) → unwrap_or (slice_get s.taken w) None ≡ Some t → (worker_of s.ledger t ≡ Some w → ⊥) → out_from w 0 s.ledger.heaps ≡ None
   holds_no_more t is other = by (found w 0 s.ledger.heaps)
     where
-      by : Found w 0 s.ledger.heaps → held_from w 0 s.ledger.heaps ≡ None
+      by : Found w 0 s.ledger.heaps → out_from w 0 s.ledger.heaps ≡ None
       by (inl f) = f.0
       by (inr f) = absurd (other (subst (λ v. worker_of s.ledger v ≡ Some w) (same_Some f.0 t (sym (last f.0 f.2) ∙ is)) f.2))
 
@@ -148,7 +148,7 @@ module _ (p : ProgramText) (s : SettingsValue) (l : Ledger) (taken : List (Optio
   abbrev Tells : ℕ → Kind → Type 0
   Tells w kind = (u v : ℕ) → worker_of (after_kind p s l w kind) u ≡ Some v → slice_get (taken_after taken w kind) v ≡ Some (Some u)
 
-  took_tells : (w t : ℕ) → w < length taken → held_from w 0 l.heaps ≡ None → Tells w (Took t)
+  took_tells : (w t : ℕ) → w < length taken → out_from w 0 l.heaps ≡ None → Tells w (Took t)
   took_tells w t there free =
       with_heap_any (λ k. (u v : ℕ) → worker_of k u ≡ Some v → slice_get (slice_set taken w (Some t)) v ≡ Some (Some u)) l t (λ h. record h { worker = Some w }) other (λ h is u v e. elim (cases_eq u t) [
         | inl q ↦
@@ -172,7 +172,7 @@ module _ (p : ProgramText) (s : SettingsValue) (l : Ledger) (taken : List (Optio
   kept w kind held u v e = A u v (held u v e)
 
   pub kind_tells : (w : ℕ) (kind : Kind) → w < length taken → is_none (kind_refusal p s l w kind) ≡ true → Tells w kind
-  kind_tells w (Took t) there h = took_tells w t there (none_holding (held_from w 0 l.heaps) (none_unless (is_ready l t) _ _ h).1)
+  kind_tells w (Took t) there h = took_tells w t there (none_holding (out_from w 0 l.heaps) (none_unless (is_ready l t) _ _ h).1)
   kind_tells w (Ran t n) there h = kept w (Ran t n) (held_steps p n l t (S, (out_tells l w t _ h).1))
   kind_tells w (Chunk t) there h = kept w (Chunk t) (held_chunk l t (asked p l.machine t) (nat_lt s.chunks (in_use l + chunk_units (asked p l.machine t))))
   kind_tells w (Begin t) there h = kept w (Begin t) (held_set l t _ (λ g. refl))

@@ -3,7 +3,7 @@
 ghost use Rattle.std.specs.Prelude.{◌≡◌, ◌<◌, ◌^◌, IfOk, None, slice_get, option_copied, is_some, unwrap_or, replicate};
 ghost use Rattle.run_ledger.specs.Heaps.{heap_at, heap_of, marked_in, left_in, words_in, take_of, in_use};
 ghost use Rattle.run_ledger.specs.Steps.{is_due, is_in_need};
-ghost use Rattle.run_ledger.specs.Entries.{is_ready, is_out, held_from};
+ghost use Rattle.run_ledger.specs.Entries.{is_ready, is_out, out_from};
 ghost use Rattle.run_ledger.specs.Journals.{opening};
 ghost use Rattle.hh_model.specs.Step.{is_running, is_waiting, asked};
 ghost use Rattle.run_trace.specs.Settings.{AreLimits, worker_limit};
@@ -223,7 +223,7 @@ impl<'p> Accounts<'p> {
     /// The task that the worker holds.
     pub(crate) fn holding(&self, worker: u32) -> Option<u32>
         requires { Agrees self.now }
-        ensures { result ≡ held_from worker 0 self.now.ledger.heaps }
+        ensures { result ≡ out_from worker 0 self.now.ledger.heaps }
     {
         let task = self.last_taken(worker)?;
         if self.worker(task) == Some(worker) {

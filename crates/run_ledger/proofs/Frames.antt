@@ -28,7 +28,7 @@ use Rattle.path_laws.proofs.Leaves.{leaves_owner, same_owner}
 use Rattle.run_ledger.proofs.Booked.{wait_run}
 use Rattle.run_ledger.proofs.Stocks.{with_heap_any}
 use Rattle.run_ledger.proofs.Cuts.{cut_legal}
-use Rattle.run_ledger.proofs.Holders.{tasks_are_held_once}
+use Rattle.run_ledger.proofs.Holders.{tasks_are_out_once}
 use Rattle.run_ledger.proofs.Journals.{none_unless, out_tells, wait_tells, entry_tells, legal_sound}
 
 -- the task u is as it was, with what it owns, and the account of its heap
@@ -117,6 +117,6 @@ entries_leave_others p s before rest e u v legal held other =
     let c = cut_legal p s before (e ∷ rest) (opening p s) legal in
     let now = (and_parts (is_none (refusal p s l e)) (is_legal_from p s (after p s l e) rest) c.1).0 in
     let tells = entry_tells p s l e now in
-    let run = (tasks_are_held_once p s before c.0).runs (none_of l.end tells.0) u v held in
+    let run = (tasks_are_out_once p s before c.0).runs (none_of l.end tells.0) u v held in
     let q = left_kind p s l e.worker u v (legal_sound p s before c.0) other held run e.kind tells.2 in
     record { owner = q.0; heap = ap or_fresh q.1 }

@@ -21,10 +21,10 @@ use Rattle.run_ledger.specs.declared.data.RunEnd.{RunEnd}
 use Rattle.run_ledger.specs.declared.data.RunEnd.TheVariants.{Pool}
 use Rattle.run_ledger.specs.Heaps.{heap_at, heap_of, or_fresh, with_heap, with_heap_at, placed, is_small, fresh, forked_heap, emptied, let_go, within, in_use, collected, swept_heap, put_last, chunk_words}
 use Rattle.run_ledger.specs.Steps.{allocated_by, allocated_in, settled, moved_on, moved_to, join_heaps, stepped_to, task_step, task_steps, on_asked}
-use Rattle.run_ledger.specs.Entries.{kind_refusal, after_kind, is_ready, is_out, held_from, refused_holding, with_chunk, chunk_units}
+use Rattle.run_ledger.specs.Entries.{kind_refusal, after_kind, is_ready, is_out, out_from, refused_holding, with_chunk, chunk_units}
 use Rattle.listed.specs.Options.{option_is}
 use Rattle.run_ledger.specs.Journals.{opening, ledger_of}
-use Rattle.run_ledger.specs.Laws.{TasksAreHeldOnce}
+use Rattle.run_ledger.specs.Laws.{TasksAreOutOnce}
 use Rattle.run_ledger.proofs.Machine.{stepped_machine}
 use Rattle.run_ledger.proofs.Sound.{SoundLedger, collecting}
 use Rattle.run_ledger.proofs.Moves.{moves_each}
@@ -154,7 +154,7 @@ module _ (p : ProgramText) (l : Ledger) (t : ℕ) (S : SoundAt t l) (I : MannedL
       by None e r = none_some r
       by (Some h) e r = was_k u h e w r
 
-  -- a leaf collection goes on in a task that was held before
+  -- a leaf collection goes on in a task that a worker held before
   abbrev Goes : ℕ → Heap → Type 0
   Goes u h = (u ≡ t → ⊥) → is_some h.begun ≡ true → is_some h.worker ≡ true
 
@@ -211,7 +211,7 @@ task_steps_manned p k l t S I = steps_keep MannedLedger p t (λ m R J. task_step
 -- ENTRIES
 
 -- who isn't found holding a task holds none
-pub holding_none : (w t : ℕ) (heaps : List Heap) → held_from w t heaps ≡ None → (u : ℕ) → worker_at (slice_get heaps u) ≡ Some w → ⊥
+pub holding_none : (w t : ℕ) (heaps : List Heap) → out_from w t heaps ≡ None → (u : ℕ) → worker_at (slice_get heaps u) ≡ Some w → ⊥
 holding_none w t [] h u q = none_some q
 holding_none w t (g ∷ heaps) h u q = by (option_is g.worker w) refl h (λ v free r. holding_none w (t + 1) heaps free v r) u q
   where
@@ -221,8 +221,8 @@ holding_none w t (g ∷ heaps) h u q = by (option_is g.worker w) refl h (λ v fr
     none_task : {A : Type 0} → ◌≡◌ {A = Option ℕ} (Some t) None → A
     none_task q' = absurd cc
 
-    by : (v : Bool) → option_is g.worker w ≡ v → cond v (Some t) (held_from w (t + 1) heaps) ≡ None
-        → ((u' : ℕ) → held_from w (t + 1) heaps ≡ None → worker_at (slice_get heaps u') ≡ Some w → ⊥) → (u' : ℕ) → worker_at (slice_get (g ∷ heaps) u') ≡ Some w → ⊥
+    by : (v : Bool) → option_is g.worker w ≡ v → cond v (Some t) (out_from w (t + 1) heaps) ≡ None
+        → ((u' : ℕ) → out_from w (t + 1) heaps ≡ None → worker_at (slice_get heaps u') ≡ Some w → ⊥) → (u' : ℕ) → worker_at (slice_get (g ∷ heaps) u') ≡ Some w → ⊥
     by true e free more u' q' = none_task free
     by false e free more zero q' = both_ways (option_is g.worker w) e (held_is q')
     by false e free more (suc u') q' = more u' free q'
@@ -231,7 +231,7 @@ pub none_holding : (o : Option ℕ) → is_none (refused_holding o None) ≡ tru
 none_holding None h = refl
 none_holding (Some t) h = absurd (false≢true h)
 
-took_manned : (l : Ledger) (w t : ℕ) → MannedLedger l → is_running (slice_get l.machine.tasks t) ≡ true → held_from w 0 l.heaps ≡ None → MannedLedger (with_heap l t (λ h. record h { worker = Some w }))
+took_manned : (l : Ledger) (w t : ℕ) → MannedLedger l → is_running (slice_get l.machine.tasks t) ≡ true → out_from w 0 l.heaps ≡ None → MannedLedger (with_heap l t (λ h. record h { worker = Some w }))
 took_manned l w t I run free = with_heap_any MannedLedger l t (λ h. record h { worker = Some w }) I (λ h e.
     let h' : Heap = record h { worker = Some w } in
     let heaps' : List Heap = slice_set l.heaps t h' in
@@ -281,7 +281,7 @@ out_held l w t h = held_some (heap_of l t).worker w (and_parts (is_running (slic
 kind_manned : (p : ProgramText) (s : SettingsValue) (l : Ledger) (w : ℕ) (kind : Kind) → SoundLedger l → is_none (kind_refusal p s l w kind) ≡ true → MannedLedger l → MannedLedger (after_kind p s l w kind)
 kind_manned p s l w (Took t) S h I =
     let a = none_unless (is_ready l t) _ _ h in
-    took_manned l w t I (and_parts (is_running (slice_get l.machine.tasks t)) (is_none (heap_of l t).worker) a.0).0 (none_holding (held_from w 0 l.heaps) a.1)
+    took_manned l w t I (and_parts (is_running (slice_get l.machine.tasks t)) (is_none (heap_of l t).worker) a.0).0 (none_holding (out_from w 0 l.heaps) a.1)
 kind_manned p s l w (Ran t k) S h I = task_steps_manned p k l t (S, (out_tells l w t _ h).1) I
 kind_manned p s l w (Chunk t) S h I = chunk_manned l t (asked p l.machine t) (nat_lt s.chunks (in_use l + chunk_units (asked p l.machine t))) (Pool (in_use l)) I
 kind_manned p s l w (Begin t) S h I =
@@ -315,8 +315,8 @@ begun_of l t = by (slice_get l.heaps t)
     by None = refl
     by (Some h) = refl
 
-pub tasks_are_held_once : TasksAreHeldOnce
-tasks_are_held_once p s journal legal =
+pub tasks_are_out_once : TasksAreOutOnce
+tasks_are_out_once p s journal legal =
     let l : Ledger = ledger_of p s journal in
     let S = legal_sound p s journal legal in
     let I = journal_keeps MannedLedger p s (kind_manned p s) journal (opening p s) (opening_sound p s) (opening_manned p s) legal in

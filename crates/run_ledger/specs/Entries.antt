@@ -26,9 +26,9 @@ abbrev pub is_out : Ledger → ℕ → ℕ → Bool
 is_out l w t = is_running (slice_get l.machine.tasks t) && option_is (heap_of l t).worker w
 
 -- the first task, from the task t on, that the worker holds
-abbrev pub held_from : ℕ → ℕ → List Heap → Option ℕ
-held_from w t [] = None
-held_from w t (h ∷ hs) = if option_is h.worker w then Some t else held_from w (t + 1) hs
+abbrev pub out_from : ℕ → ℕ → List Heap → Option ℕ
+out_from w t [] = None
+out_from w t (h ∷ hs) = if option_is h.worker w then Some t else out_from w (t + 1) hs
 
 -- CAUSES IN THEIR ORDER
 
@@ -78,7 +78,7 @@ ends_as said is = counted said.0 is.0 (counted said.1 is.1 (counted said.2 is.2 
 
 -- why an entry is refused for what it says, or none
 abbrev pub kind_refusal : ProgramText → SettingsValue → Ledger → ℕ → Kind → Option Refused
-kind_refusal p s l w (Took t) = refused_unless (is_ready l t) NotReady (refused_holding (held_from w 0 l.heaps) None)
+kind_refusal p s l w (Took t) = refused_unless (is_ready l t) NotReady (refused_holding (out_from w 0 l.heaps) None)
 kind_refusal p s l w (Ran t k) = on_running l w t (long_at k (min most_steps (standing s p l t k)))
 kind_refusal p s l w (Chunk t) =
     on_running l w t (refused_if (is_due s p l t) (Due (heap_of l t).since) (refused_unless (is_in_need p l t) (NotNeeded (heap_of l t).room) None))

@@ -126,17 +126,17 @@ CollectionsKeepJust = (m : State) (h : Heap) → KeepsJust m h
 -- WHO HOLDS A TASK
 
 -- each task has a heap; a task that a worker holds runs, unless the run has ended; no worker holds two; and a leaf
--- collection goes on in a held task alone
-pub record HoldsTasks (l : Ledger) : Type 0 where
+-- collection goes on only in a task that a worker holds
+pub record TasksAreOut (l : Ledger) : Type 0 where
   pub as_many : length l.heaps ≡ length l.machine.tasks
   pub runs : l.end ≡ None → (t w : ℕ) → (heap_of l t).worker ≡ Some w → is_running (slice_get l.machine.tasks t) ≡ true
   pub one : (t u w : ℕ) → (heap_of l t).worker ≡ Some w → (heap_of l u).worker ≡ Some w → t ≡ u
   pub collecting : (t : ℕ) → is_some (heap_of l t).begun ≡ true → is_some (heap_of l t).worker ≡ true
 
-abbrev pub TasksAreHeldOnce : Type 0
-TasksAreHeldOnce = (p : ProgramText) (s : SettingsValue) (journal : List EntryValue) → is_legal p s journal ≡ true → HoldsTasks (ledger_of p s journal)
+abbrev pub TasksAreOutOnce : Type 0
+TasksAreOutOnce = (p : ProgramText) (s : SettingsValue) (journal : List EntryValue) → is_legal p s journal ≡ true → TasksAreOut (ledger_of p s journal)
 
--- a task that waits is held by nobody, whether or not the run has ended
+-- no worker holds a task that waits, whether or not the run has ended
 abbrev pub WaitersAreFree : Type 0
 WaitersAreFree =
     (p : ProgramText) (s : SettingsValue) (journal : List EntryValue) → is_legal p s journal ≡ true

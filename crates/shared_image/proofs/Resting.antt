@@ -16,7 +16,7 @@ use Rattle.core_relation.specs.Stands.{BelongingsStand, Place, Stands}
 use Rattle.core_relation.specs.Memory.{Chunk as ChunkOf, In, Memory, object_name, objects, objects_in}
 use Rattle.core_relation.proofs.objects.Members.{in_chunk, object_held}
 use Rattle.task_homes.specs.declared.task_at_rest.Rest.{Rest}
-use Rattle.shared_value.specs.Measured.{IsUnheld}
+use Rattle.shared_value.specs.Measured.{IsFree}
 use Rattle.shared_value.specs.Objects.{chunk_of}
 use Rattle.shared_value.specs.Stands.{IsSharedValue}
 use Rattle.shared_value.specs.SharedValue.{SharedValue, belongings_in, rest_at, value_of}
@@ -48,7 +48,7 @@ module _ (w : SharedValue) (I : IsSharedValue w) where
   near_by t None e o i = absurd i
   near_by t (Some r) e o i = (I.heaps t r e).near o (subst (λ ks. In (objects_in ks) o) (belongings_chunks r) i)
 
-  measured_by : (t : ℕ) → IsUnheld w.tasks_out t → (r : Option Rest) → rest_at w.rests t ≡ r → (c : ChunkOf) → In (belongings_in r).chunks c → slot_at w.pool c.number ≡ Some (record { owner = t; units = c.units })
+  measured_by : (t : ℕ) → IsFree w.tasks_out t → (r : Option Rest) → rest_at w.rests t ≡ r → (c : ChunkOf) → In (belongings_in r).chunks c → slot_at w.pool c.number ≡ Some (record { owner = t; units = c.units })
   measured_by t un None e c i = absurd i
   measured_by t un (Some r) e c i =
       let q = map_in chunk_of r.heap.chunks c (subst (λ ks. In ks c) (belongings_chunks r) i) in
@@ -80,7 +80,7 @@ module _ (w : SharedValue) (I : IsSharedValue w) where
     pub near : o.at.offset < 1024
     near = near_by t (rest_at w.rests t) refl o i
 
-    unheld : IsUnheld w.tasks_out t
+    unheld : IsFree w.tasks_out t
     unheld j h =
         let a : (heap_of (k w I) t).worker ≡ None = R in
         let b : (heap_of (k w I) t).worker ≡ Some j = (I.stands.tree_counts.task_out j t).0 h in

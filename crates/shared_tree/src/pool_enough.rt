@@ -2,7 +2,7 @@
 
 ghost use Rattle.std.specs.Prelude.{◌≡◌};
 ghost use Rattle.run_ledger.specs.Entries.{is_pool_enough};
-ghost use Rattle.shared_value.specs.Due.{IsHeld};
+ghost use Rattle.shared_value.specs.Due.{IsOutPart};
 ghost use Rattle.shared_value.specs.SharedValue.{accounts};
 
 use crate::shared::Shared;
@@ -12,7 +12,7 @@ use task_machine::Private;
 impl Shared {
     /// Whether the free chunks are enough for a leaf collection of a part.
     pub fn pool_enough(&self, part: &Private) -> bool
-        requires held { IsHeld self.now part.now }
+        requires held { IsOutPart self.now part.now }
         requires fresh { part.now.fresh ≡ 0 }
         ensures { result ≡ is_pool_enough self.now.settings (accounts self.now) part.now.task }
     {

@@ -13,14 +13,14 @@ use Rattle.run_ledger.specs.declared.data.Ledger.{Ledger}
 use Rattle.run_ledger.specs.declared.data.RunEnd.{RunEnd}
 use Rattle.run_ledger.specs.declared.data.RunEnd.TheVariants.{Fuel, Machine, Pool}
 use Rattle.run_ledger.specs.Heaps.{heap_at, heap_of, in_use, let_go, units_in, with_heap_at}
-use Rattle.run_ledger.specs.Entries.{held_from}
+use Rattle.run_ledger.specs.Entries.{out_from}
 use Rattle.run_ledger.proofs.Going.{machine_goes_on}
 use Rattle.chunk_pool.specs.PoolValue.{units_in_use}
 use Rattle.heap_tree.specs.Node.{Node}
 use Rattle.core_relation.specs.Copies.{PartFits}
 use Rattle.core_relation.specs.Fits.{FitsAt}
 use Rattle.core_relation.specs.Whole.{StandsFor, as_node, by_end, handed}
-use Rattle.core_entry_laws.proofs.whole.TasksOut.{tasks_out_are_held}
+use Rattle.core_entry_laws.proofs.whole.TasksOut.{tasks_out_are_told}
 use Rattle.core_entry_laws.proofs.parts.Workers as workers
 use Rattle.task_machine.specs.declared.part.Private.{Private}
 use Rattle.shared_value.specs.SharedValue.{SharedValue, accounts, tree_counts_of, value_of}
@@ -93,8 +93,8 @@ module _ (w : SharedValue) (I : IsSharedValue w) where
   pub stands_now : (accounts w).end ≡ None → StandsFor (value_of w) (tree_counts_of w) (accounts w)
   stands_now on = subst (λ o. StandsFor (value_of w) (tree_counts_of w) (by_end (accounts w) o)) on I.stands
 
-  pub task_out_now : (accounts w).end ≡ None → (k : ℕ) → option_flatten (slice_get w.tasks_out k) ≡ held_from k 0 (accounts w).heaps
-  task_out_now on k = tasks_out_are_held (tree_counts_of w) (accounts w) (stands_now on).tree_counts k
+  pub task_out_now : (accounts w).end ≡ None → (k : ℕ) → option_flatten (slice_get w.tasks_out k) ≡ out_from k 0 (accounts w).heaps
+  task_out_now on k = tasks_out_are_told (tree_counts_of w) (accounts w) (stands_now on).tree_counts k
 
 -- A PART THAT FITS, before the run's end
 module _ (w : SharedValue) (k : ℕ) (p : Private) (F : Fits w k p) (on : (accounts w).end ≡ None) where

@@ -73,7 +73,7 @@ module _ (w : SharedValue) (k : ℕ) (p : Private) (F : Fits w k p) (on : (accou
   pub at_part : (rest : Option Refused) → on_running l k t rest ≡ refused_if (is_some p.begun) Collecting rest
   at_part rest =
       out_by (is_out l k t) (is_some (heap_of l t).begun) (is_some p.begun) rest
-      (and_from (is_running (slice_get l.machine.tasks t)) (option_is (heap_of l t).worker k) (ap is_running F.fits.is ∙ F.fits.runs) (ap (λ o. option_is o k) F.held ∙ eq-eqb k k refl))
+      (and_from (is_running (slice_get l.machine.tasks t)) (option_is (heap_of l t).worker k) (ap is_running F.fits.is ∙ F.fits.runs) (ap (λ o. option_is o k) F.out ∙ eq-eqb k k refl))
       begun_is
 
   -- where an entry of the task isn't refused, it isn't

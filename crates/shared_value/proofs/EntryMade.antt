@@ -26,7 +26,7 @@ use Rattle.core_relation.specs.Worker.{WorkerFits}
 use Rattle.task_machine.specs.declared.part.Private.{Private}
 use Rattle.task_homes.specs.declared.task_at_rest.Rest.{Rest}
 use Rattle.shared_value.specs.SharedValue.{SharedValue, accounts, rest_at, tree_counts_of, value_of}
-use Rattle.shared_value.specs.Measured.{IsMeasured, IsUnheld, RestsAreMeasured}
+use Rattle.shared_value.specs.Measured.{IsMeasured, IsFree, RestsAreMeasured}
 use Rattle.shared_value.specs.Stands.{HeapForm, IsSharedValue}
 use Rattle.shared_value.specs.Fits.{Fits, part_of}
 use Rattle.shared_value.specs.Entered.{refused}
@@ -44,39 +44,39 @@ held_rested l t u e = elim (cases_eq t 0) [
   | inr ne ↦ sym (ap (λ o. (or_fresh o).worker) (with_off l 0 t let_go ne)) ∙ e
 ]
 
-pub held_by_end : (l : Ledger) (o : Option RunEnd) (t u : ℕ) → (heap_of (by_end l o) t).worker ≡ Some u → (heap_of l t).worker ≡ Some u
-held_by_end l None t u e = e
-held_by_end l (Some (Fuel n)) t u e = e
-held_by_end l (Some (Pool n)) t u e = e
-held_by_end l (Some (Machine Done)) t u e = held_rested l t u e
-held_by_end l (Some (Machine (Trapped kind a line))) t u e = e
-held_by_end l (Some (Machine (Entangled a b))) t u e = e
+pub worker_by_end : (l : Ledger) (o : Option RunEnd) (t u : ℕ) → (heap_of (by_end l o) t).worker ≡ Some u → (heap_of l t).worker ≡ Some u
+worker_by_end l None t u e = e
+worker_by_end l (Some (Fuel n)) t u e = e
+worker_by_end l (Some (Pool n)) t u e = e
+worker_by_end l (Some (Machine Done)) t u e = held_rested l t u e
+worker_by_end l (Some (Machine (Trapped kind a line))) t u e = e
+worker_by_end l (Some (Machine (Entangled a b))) t u e = e
 
 -- two workers hold two tasks
-pub held_apart : (w : SharedValue) (k u : ℕ) (p q : Private) → Fits w k p → Fits w u q → (u ≡ k → ⊥) → p.task ≡ q.task → ⊥
-held_apart w k u p q F G ne e = ne (same_Some u k (sym G.held ∙ (ap (λ t. (heap_of (accounts w) t).worker) (sym e) ∙ F.held)))
+pub tasks_apart : (w : SharedValue) (k u : ℕ) (p q : Private) → Fits w k p → Fits w u q → (u ≡ k → ⊥) → p.task ≡ q.task → ⊥
+tasks_apart w k u p q F G ne e = ne (same_Some u k (sym G.out ∙ (ap (λ t. (heap_of (accounts w) t).worker) (sym e) ∙ F.out)))
 
 -- the task of a part that a worker holds is out with it
 pub task_is_out : (w : SharedValue) (k : ℕ) (p : Private) → IsSharedValue w → (accounts w).end ≡ None → Fits w k p → option_flatten (slice_get w.tasks_out k) ≡ Some p.task
-task_is_out w k p I on F = ((stands_now w I on).tree_counts.task_out k p.task).1 F.held
+task_is_out w k p I on F = ((stands_now w I on).tree_counts.task_out k p.task).1 F.out
 
 -- no task at rest is out with a worker, and one that is out with none is at rest
-pub unheld_at_rest : (w : SharedValue) (u : ℕ) → IsSharedValue w → (accounts w).end ≡ None → Rests (accounts w) u → IsUnheld w.tasks_out u
-unheld_at_rest w u I on rests j h =
+pub free_at_rest : (w : SharedValue) (u : ℕ) → IsSharedValue w → (accounts w).end ≡ None → Rests (accounts w) u → IsFree w.tasks_out u
+free_at_rest w u I on rests j h =
     let a : (heap_of (accounts w) u).worker ≡ None = rests in
     let b : (heap_of (accounts w) u).worker ≡ Some j = ((stands_now w I on).tree_counts.task_out j u).0 h in
     absurd cc
 
-pub unheld_rests : (w : SharedValue) (u : ℕ) → IsSharedValue w → (accounts w).end ≡ None → IsUnheld w.tasks_out u → Rests (accounts w) u
-unheld_rests w u I on none = by (heap_of (accounts w) u).worker refl
+pub free_rests : (w : SharedValue) (u : ℕ) → IsSharedValue w → (accounts w).end ≡ None → IsFree w.tasks_out u → Rests (accounts w) u
+free_rests w u I on none = by (heap_of (accounts w) u).worker refl
   where
     by : (o : Option ℕ) → (heap_of (accounts w) u).worker ≡ o → Rests (accounts w) u
     by None e = e
     by (Some j) e = absurd (none j (((stands_now w I on).tree_counts.task_out j u).1 e))
 
 -- whom no worker holds once one worker's task has changed, none held before
-pub unheld_before : (tasks_out : List (Option ℕ)) (k : ℕ) (x : Option ℕ) (u : ℕ) → IsUnheld (slice_set tasks_out k x) u → (option_flatten (slice_get tasks_out k) ≡ Some u → ⊥) → IsUnheld tasks_out u
-unheld_before tasks_out k x u none other j e = elim (cases_eq j k) [
+pub free_before : (tasks_out : List (Option ℕ)) (k : ℕ) (x : Option ℕ) (u : ℕ) → IsFree (slice_set tasks_out k x) u → (option_flatten (slice_get tasks_out k) ≡ Some u → ⊥) → IsFree tasks_out u
+free_before tasks_out k x u none other j e = elim (cases_eq j k) [
   | inl q ↦ other (ap (λ z. option_flatten (slice_get tasks_out z)) (sym q) ∙ e)
   | inr ne ↦ none j (ap option_flatten (got_other tasks_out k j x ne) ∙ e)
 ]
@@ -114,7 +114,7 @@ module _ (w : SharedValue) (e : EntryValue) (I : IsSharedValue w) (free : refuse
   module _ (I' : IsSharedValue marked') where
     -- a worker holds the task that is out with it
     marked_out : (u t : ℕ) → option_flatten (slice_get tasks_out u) ≡ Some t → (heap_of (accounts marked') t).worker ≡ Some u
-    marked_out u t e = held_by_end (accounts marked') (accounts marked').end t u ((I'.stands.tree_counts.task_out u t).0 e)
+    marked_out u t e = worker_by_end (accounts marked') (accounts marked').end t u ((I'.stands.tree_counts.task_out u t).0 e)
 
     marked_held : (u t : ℕ) → option_flatten (slice_get tasks_out u) ≡ option_flatten (slice_get w.tasks_out u) → (heap_of (accounts w) t).worker ≡ Some u → (heap_of (accounts marked') t).worker ≡ Some u
     marked_held u t same held = marked_out u t (same ∙ ((stands_now w I (entry_on w e free)).tree_counts.task_out u t).1 held)
@@ -123,7 +123,7 @@ module _ (w : SharedValue) (e : EntryValue) (I : IsSharedValue w) (free : refuse
     pub marked_fits : (u : ℕ) (p q : Private) → option_flatten (slice_get tasks_out u) ≡ option_flatten (slice_get w.tasks_out u) → Fits w u p → q.task ≡ p.task → q.leaf_limit ≡ p.leaf_limit → q.field_limit ≡ p.field_limit → HeapForm q.heap → IsMeasured pool q
         → WorkerFits w.program w.settings (part_of w.settings q) (value_of marked') (after w.program w.settings (accounts w) e) → Fits marked' u q
     marked_fits u p q same F et el ef form measured fits = record {
-      held = ap (λ z. (heap_of (accounts marked') z).worker) et ∙ marked_held u p.task same F.held;
+      out = ap (λ z. (heap_of (accounts marked') z).worker) et ∙ marked_held u p.task same F.out;
       fits = subst (WorkerFits w.program w.settings (part_of w.settings q) (value_of marked')) (sym marked_accounts) fits;
       form = form;
       measured = measured;
@@ -144,11 +144,11 @@ module _ (w : SharedValue) (e : EntryValue) (I : IsSharedValue w) (free : refuse
   entered_world = marked_world w e I free tree pool rests sets tasks_out outputs steps end room w.marks
 
   module _ (I' : IsSharedValue w') where
-    pub held_when_out : (u t : ℕ) → option_flatten (slice_get tasks_out u) ≡ Some t → (heap_of (accounts w') t).worker ≡ Some u
-    held_when_out = marked_out w e I free tree pool rests sets tasks_out outputs steps end room w.marks I'
+    pub worker_when_out : (u t : ℕ) → option_flatten (slice_get tasks_out u) ≡ Some t → (heap_of (accounts w') t).worker ≡ Some u
+    worker_when_out = marked_out w e I free tree pool rests sets tasks_out outputs steps end room w.marks I'
 
-    pub held_on : (u t : ℕ) → option_flatten (slice_get tasks_out u) ≡ option_flatten (slice_get w.tasks_out u) → (heap_of (accounts w) t).worker ≡ Some u → (heap_of (accounts w') t).worker ≡ Some u
-    held_on = marked_held w e I free tree pool rests sets tasks_out outputs steps end room w.marks I'
+    pub worker_on : (u t : ℕ) → option_flatten (slice_get tasks_out u) ≡ option_flatten (slice_get w.tasks_out u) → (heap_of (accounts w) t).worker ≡ Some u → (heap_of (accounts w') t).worker ≡ Some u
+    worker_on = marked_held w e I free tree pool rests sets tasks_out outputs steps end room w.marks I'
 
     pub part_fits : (u : ℕ) (p q : Private) → option_flatten (slice_get tasks_out u) ≡ option_flatten (slice_get w.tasks_out u) → Fits w u p → q.task ≡ p.task → q.leaf_limit ≡ p.leaf_limit → q.field_limit ≡ p.field_limit → HeapForm q.heap → IsMeasured pool q
         → WorkerFits w.program w.settings (part_of w.settings q) (value_of w') (after w.program w.settings (accounts w) e) → Fits w' u q

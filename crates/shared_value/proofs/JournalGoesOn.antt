@@ -40,8 +40,8 @@ room_world w j e I =
 pub room_fit : (w : SharedValue) (j : RoomyValue EntryValue) → j.items ≡ w.journal.items → (k : ℕ) (p : Private) → Fits w k p → Fits (record w { journal = j }) k p
 room_fit w j e k p F =
     subst (λ (x : List EntryValue). Fits (record w { journal = record { items = x; room = j.room } }) k p) (sym e)
-    (record { held = F.held; fits = F.fits; form = F.form; measured = F.measured; leaf_limit = F.leaf_limit; field_limit = F.field_limit })
+    (record { out = F.out; fits = F.fits; form = F.form; measured = F.measured; leaf_limit = F.leaf_limit; field_limit = F.field_limit })
 
 -- and where the run is halted
 pub halted_fit : (w : SharedValue) (k : ℕ) (p : Private) → Fits w k p → Fits (record w { halted = true }) k p
-halted_fit w k p F = record { held = F.held; fits = F.fits; form = F.form; measured = F.measured; leaf_limit = F.leaf_limit; field_limit = F.field_limit }
+halted_fit w k p F = record { out = F.out; fits = F.fits; form = F.form; measured = F.measured; leaf_limit = F.leaf_limit; field_limit = F.field_limit }

@@ -24,7 +24,7 @@ use Rattle.run_ledger.specs.Heaps.{heap_of, let_go}
 use Rattle.run_ledger.specs.Journals.{tasks_of}
 use Rattle.run_ledger.specs.Reachable.{is_name}
 use Rattle.run_ledger.specs.Steps.{task_steps}
-use Rattle.run_ledger.proofs.Holders.{tasks_are_held_once}
+use Rattle.run_ledger.proofs.Holders.{tasks_are_out_once}
 use Rattle.run_ledger.proofs.Machine.{kind_machine, machine_is_run, heap_machine}
 use Rattle.run_ledger.proofs.Members.{is_name_itself, same_from_is_name}
 use Rattle.run_ledger.proofs.Sound.{SoundLedger}
@@ -228,7 +228,7 @@ module _ (w : SharedValue) (k : ℕ) (p : Private) (I : IsSharedValue w) (F : Fi
 
   -- the worker holds it still
   pub worker_then : (heap_of then_ t).worker ≡ Some k
-  worker_then = ap (λ (x : Option ℕ × Option ℕ × List Name × Bool). x.0) (hold_same (slice_get l.heaps t) (slice_get then_.heaps t) A.heap) ∙ F.held
+  worker_then = ap (λ (x : Option ℕ × Option ℕ × List Name × Bool). x.0) (hold_same (slice_get l.heaps t) (slice_get then_.heaps t) A.heap) ∙ F.out
 
   -- a task above waits, so no worker holds it
   pub rests_above : (a : ℕ) → (a ≡ t → ⊥) → is_on_path L.machine.tasks a t ≡ true → Rests l a
@@ -241,7 +241,7 @@ module _ (w : SharedValue) (k : ℕ) (p : Private) (I : IsSharedValue w) (F : Fi
       by : (o : Option ℕ) → (heap_of l a).worker ≡ o → Rests l a
       by None e = e
       by (Some u) e =
-          absurd (wait_run l.machine a (waiting (is_waiting (slice_get L.machine.tasks a)) refl) ((tasks_are_held_once w.program w.settings w.journal.items I.legal).runs on a u e))
+          absurd (wait_run l.machine a (waiting (is_waiting (slice_get L.machine.tasks a)) refl) ((tasks_are_out_once w.program w.settings w.journal.items I.legal).runs on a u e))
 
   pub rests_then : (a : ℕ) → (a ≡ t → ⊥) → Rests l a → Rests L a
   rests_then a ne r = ap (λ (z : Heap). z.worker) (alone.heaps a ne) ∙ r

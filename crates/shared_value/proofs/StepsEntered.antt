@@ -47,7 +47,7 @@ use Rattle.shared_value.specs.Fits.{Fits, OthersFit, beyond, belongings_of_part,
 use Rattle.shared_value.specs.Entered.{refused}
 use Rattle.shared_value.specs.Causes.{first_cause, or_else}
 use Rattle.shared_value.proofs.HeapCounts.{counted_from}
-use Rattle.shared_value.proofs.EntryMade.{entered, entered_world, entry_on, held_apart, part_fits}
+use Rattle.shared_value.proofs.EntryMade.{entered, entered_world, entry_on, tasks_apart, part_fits}
 use Rattle.shared_value.proofs.BeforeTheEnd as now
 use Rattle.shared_value.proofs.BeforeTheEnd.{end_now, steps_now}
 use Rattle.shared_value.proofs.CausesTold.{refused_is}
@@ -115,7 +115,7 @@ module _ (w : SharedValue) (k : ℕ) (p : Private) (I : IsSharedValue w) (F : Fi
       let few : p.fresh ≤ 257 = V.few in
       let fits : nat_le p.fresh (min most_steps (standing w.settings w.program l p.task p.fresh)) ≡ true = le-leb p.fresh (min most_steps (standing w.settings w.program l p.task p.fresh)) (omega (arith, stand, few)) in
       free_by (is_out l k p.task) (is_some (heap_of l p.task).begun) (nat_le p.fresh (min most_steps (standing w.settings w.program l p.task p.fresh))) (min most_steps (standing w.settings w.program l p.task p.fresh))
-      (and_from (is_running (slice_get l.machine.tasks p.task)) (option_is (heap_of l p.task).worker k) (ap is_running F.fits.is ∙ F.fits.runs) (ap (λ o. option_is o k) F.held ∙ eq-eqb k k refl))
+      (and_from (is_running (slice_get l.machine.tasks p.task)) (option_is (heap_of l p.task).worker k) (ap is_running F.fits.is ∙ F.fits.runs) (ap (λ o. option_is o k) F.out ∙ eq-eqb k k refl))
       (collecting_is (slice_get l.heaps p.task) ∙ steady_by F.fits.steady)
       fits
     where
@@ -203,7 +203,7 @@ module _ (w : SharedValue) (k : ℕ) (p : Private) (I : IsSharedValue w) (F : Fi
   ran_others_by : OthersFit w w' k
   ran_others_by u q ne H =
       part_fits w e I free w.tree w.pool w.rests w.sets w.tasks_out w.outputs (w.steps + suc n) w.end room ran_world_by u q q refl H refl refl refl H.form H.measured
-      (ran_leaves w.program w.settings v v l L t k n h E own refl (part_of w.settings q) (held_apart w k u p q F H ne) H.fits)
+      (ran_leaves w.program w.settings v v l L t k n h E own refl (part_of w.settings q) (tasks_apart w k u p q F H ne) H.fits)
 
 module _ (w : SharedValue) (k : ℕ) (p : Private) (I : IsSharedValue w) (F : Fits w k p) (pos : 0 < p.fresh) (free : refused w (record { worker = k; kind = Ran p.task p.fresh }) ≡ None) (j : RoomyValue EntryValue) where
   abbrev n : ℕ

@@ -19,7 +19,7 @@ use Rattle.run_ledger.specs.declared.data.Ledger.{Ledger}
 use Rattle.run_ledger.specs.Heaps.{heap_of}
 use Rattle.run_ledger.specs.declared.data.Refused.{Refused}
 use Rattle.run_ledger.specs.declared.data.Refused.TheVariants.{NoWorker, Over, Spent}
-use Rattle.run_ledger.specs.Entries.{after, held_from, is_fuel, is_ready, kind_refusal, refused_holding, refused_if, refused_unless}
+use Rattle.run_ledger.specs.Entries.{after, out_from, is_fuel, is_ready, kind_refusal, refused_holding, refused_if, refused_unless}
 use Rattle.run_ledger.proofs.Journals.{entry_tells, none_unless}
 use Rattle.object_layout.specs.declared.word.Addr.{Addr}
 use Rattle.task_frames.specs.FramesValue.{FramesValue}
@@ -48,7 +48,7 @@ use Rattle.shared_value.specs.Measured.{RestsAreMeasured}
 use Rattle.shared_value.specs.Stands.{HeapForm, IsSharedValue}
 use Rattle.shared_value.specs.Fits.{Fits, IsAtWork, OthersFit, belongings_of_part, part_of, taken_part}
 use Rattle.shared_value.specs.Entered.{refused}
-use Rattle.shared_value.proofs.EntryMade.{accounts_are, entered, entered_world, entry_on, held_when_out, part_fits, unheld_at_rest, unheld_before}
+use Rattle.shared_value.proofs.EntryMade.{accounts_are, entered, entered_world, entry_on, worker_when_out, part_fits, free_at_rest, free_before}
 use Rattle.shared_value.proofs.BeforeTheEnd.{node_now, task_out_now, stands_now}
 
 -- the tree and the machine tell the same parent, whether or not the run has ended
@@ -144,7 +144,7 @@ module _ (w : SharedValue) (k t : ℕ) (I : IsSharedValue w) (free : refused w (
   rests = none_is (heap_of l t).worker (and_parts (is_running (slice_get l.machine.tasks t)) (is_none (heap_of l t).worker) ready).1
 
   -- the worker holds nothing
-  free_of_tasks : is_none (refused_holding (held_from k 0 l.heaps) None) ≡ true
+  free_of_tasks : is_none (refused_holding (out_from k 0 l.heaps) None) ≡ true
   free_of_tasks = (none_unless (is_ready l t) _ _ (entry_tells w.program w.settings l e (ap is_none free)).2).1
 
   there : (x : Task) × (slice_get l.machine.tasks t ≡ Some x) × (x.status ≡ Running)
@@ -212,7 +212,7 @@ module _ (w : SharedValue) (k t : ℕ) (I : IsSharedValue w) (free : refused w (
     measured_then : RestsAreMeasured w.pool w'.rests w'.tasks_out
     measured_then u r is f = elim (cases_eq u t) [
       | inl q ↦ gone (sym (ap (rest_at w'.rests) q ∙ ap option_flatten (got_set w.rests t None has_home)) ∙ is)
-      | inr ne ↦ I.measured u r (sym (homes_off u ne) ∙ is) (unheld_before w.tasks_out k (Some t) u f (λ h. none_holds (held_from k 0 l.heaps) (sym (task_out_now w I on k) ∙ h) free_of_tasks))
+      | inr ne ↦ I.measured u r (sym (homes_off u ne) ∙ is) (free_before w.tasks_out k (Some t) u f (λ h. none_holds (out_from k 0 l.heaps) (sym (task_out_now w I on k) ∙ h) free_of_tasks))
     ]
       where
         gone : {A : Type 0} → ◌≡◌ {A = Option Rest} None (Some r) → A
@@ -234,11 +234,11 @@ module _ (w : SharedValue) (k t : ℕ) (I : IsSharedValue w) (free : refused w (
 
       pub took_part : Fits w' k p
       took_part = record {
-        held = held_when_out w e I free w'.tree w.pool w'.rests w.sets w'.tasks_out w.outputs w.steps w.end room took_world k t counts.task_out;
+        out = worker_when_out w e I free w'.tree w.pool w'.rests w.sets w'.tasks_out w.outputs w.steps w.end room took_world k t counts.task_out;
         fits = subst (WorkerFits w.program w.settings (part_of w.settings p) v') (sym (accounts_are w e I free w'.tree w.pool w'.rests w.sets w'.tasks_out w.outputs w.steps w.end room))
             (subst (λ (g : Belongings). WorkerFits w.program w.settings (part_for w.settings t g 0) v' L) belongings_are (took_fits_then w.program w.settings w.journal.items I.legal v v' (tree_counts_of w) k t free I.stands but));
         form = I.heaps t r rest_is;
-        measured = (I.measured t r rest_is (unheld_at_rest w t I on rests), λ n i. absurd i);
+        measured = (I.measured t r rest_is (free_at_rest w t I on rests), λ n i. absurd i);
         leaf_limit = refl;
         field_limit = refl;
       }

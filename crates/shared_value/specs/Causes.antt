@@ -49,14 +49,14 @@ abbrev pub chunk_cause : Private → Option ℕ → Option Refused
 chunk_cause p asks = refused_if (is_some p.begun) Collecting (need_cause p asks)
 
 -- the task that an entry's worker has to hold, where it has to hold one
-abbrev pub task_held : Kind → Option ℕ
-task_held (Took t) = None
-task_held (Ran t k) = Some t
-task_held (Chunk t) = Some t
-task_held (Begin t) = Some t
-task_held (End t taken given left) = Some t
-task_held (PutOff t) = Some t
-task_held (Mark t) = None
-task_held (More t n) = None
-task_held (Sweep t given) = None
-task_held Fuel = None
+abbrev pub task_asked : Kind → Option ℕ
+task_asked (Took t) = None
+task_asked (Ran t k) = Some t
+task_asked (Chunk t) = Some t
+task_asked (Begin t) = Some t
+task_asked (End t taken given left) = Some t
+task_asked (PutOff t) = Some t
+task_asked (Mark t) = None
+task_asked (More t n) = None
+task_asked (Sweep t given) = None
+task_asked Fuel = None

@@ -10,8 +10,8 @@ use Rattle.shared_value.specs.SharedValue.{SharedValue}
 use Rattle.shared_value.specs.Fits.{Fits}
 
 -- the part is one that a worker holds
-abbrev pub IsHeld : SharedValue → Private → Type 0
-IsHeld w p = (worker : ℕ) × Fits w worker p
+abbrev pub IsOutPart : SharedValue → Private → Type 0
+IsOutPart w p = (worker : ℕ) × Fits w worker p
 
 -- for small objects of so many words: one chunk less than twice those that would just hold them
 abbrev pub take_by : ℕ → ℕ

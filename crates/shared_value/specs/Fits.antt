@@ -33,7 +33,7 @@ beyond program l p = rested (task_steps program (aside l) p.task p.fresh) p.task
 -- the part fits the value with these accounts: the worker holds its task, and what it holds fits, with the
 -- limits of the settings
 pub record FitsFor (w : SharedValue) (l : Ledger) (worker : ℕ) (p : Private) : Type 0 where
-  pub held : (heap_of l p.task).worker ≡ Some worker
+  pub out : (heap_of l p.task).worker ≡ Some worker
   pub fits : WorkerFits w.program w.settings (part_of w.settings p) (value_of w) l
   pub form : HeapForm p.heap
   pub measured : IsMeasured w.pool p

@@ -15,12 +15,12 @@ abbrev pub AreMeasured : PoolValue → ℕ → List ChunkValue → Type 0
 AreMeasured pool t ks = (k : ChunkValue) → In ks k → slot_at pool k.number ≡ Some (record { owner = t; units = k.size / chunk_words })
 
 -- no worker holds the task
-abbrev pub IsUnheld : List (Option ℕ) → ℕ → Type 0
-IsUnheld tasks_out t = (k : ℕ) → option_flatten (slice_get tasks_out k) ≢ Some t
+abbrev pub IsFree : List (Option ℕ) → ℕ → Type 0
+IsFree tasks_out t = (k : ℕ) → option_flatten (slice_get tasks_out k) ≢ Some t
 
 -- it has the chunks of each task that no worker holds
 abbrev pub RestsAreMeasured : PoolValue → List (Option Rest) → List (Option ℕ) → Type 0
-RestsAreMeasured pool rests tasks_out = (t : ℕ) (r : Rest) → rest_at rests t ≡ Some r → IsUnheld tasks_out t → AreMeasured pool t r.heap.chunks
+RestsAreMeasured pool rests tasks_out = (t : ℕ) (r : Rest) → rest_at rests t ≡ Some r → IsFree tasks_out t → AreMeasured pool t r.heap.chunks
 
 -- it has a chunk of one unit for the task at each of these numbers
 abbrev pub AreUnits : PoolValue → ℕ → List ℕ → Type 0

@@ -2,7 +2,7 @@
 use Rattle.std.specs.Borrow.{Fml, Lends, MutBor}
 use Rattle.task_machine.specs.declared.part.Private.{Private}
 use Rattle.task_machine.specs.contracts.part.Private.{the_row as part_row}
-use Rattle.turn_entries.specs.contracts.held_part.HeldPart.{the_row}
+use Rattle.turn_entries.specs.contracts.part_block.PartInBlock.{the_row}
 
 -- once the borrow r ends, the part is the last one written through r
 abbrev pub lends_part : MutBor Private → MutBor Private → Fml

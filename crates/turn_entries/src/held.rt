@@ -2,7 +2,7 @@
 ghost use Rattle.std.specs.Prelude.{◌≡◌};
 ghost use Rattle.turn_entries.specs.Next.{is_wanting};
 
-use crate::held_part::HeldPart;
+use crate::part_block::PartInBlock;
 use leaf_copy_gc::{Moved, ToChunks};
 use object_layout::Addr;
 use out_of_line::Apart;
@@ -12,7 +12,7 @@ use task_machine::{Paused, Private};
 /// A part whose leaf collection has begun, with its roots, and the new chunks with all that copying needs.
 #[derive(Drop)]
 pub struct Collecting {
-    pub part: HeldPart,
+    pub part: PartInBlock,
     pub roots: Vec<Addr>,
     pub to_chunks: Apart<ToChunks>,
 }
@@ -20,7 +20,7 @@ pub struct Collecting {
 /// A part whose heap was copied, with what the copying came to.
 #[derive(Drop)]
 pub struct Copied {
-    pub part: HeldPart,
+    pub part: PartInBlock,
     pub moved: Moved,
     /// The part as it was when its collection had begun.
     pub begun: Snapshot<Private>,
@@ -30,7 +30,7 @@ pub struct Copied {
 #[derive(Drop)]
 pub enum Ready {
     /// A part, and why its steps paused.
-    Paused(HeldPart, Paused),
+    Paused(PartInBlock, Paused),
     /// A part whose collection may end.
     Copied(Copied),
     /// A task that it has found, or none.
@@ -55,7 +55,7 @@ impl Ready {
 #[derive(Drop)]
 pub enum Next {
     /// It takes steps of this part.
-    Running(HeldPart),
+    Running(PartInBlock),
     /// It copies the heap of this part.
     Collecting(Collecting),
     /// It ends the collection of this part.

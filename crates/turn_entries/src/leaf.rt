@@ -12,7 +12,7 @@ ghost use Rattle.turn_entries.specs.Values.{MayEnter};
 
 use crate::act::Acted;
 use crate::held::{Collecting, Copied, Next};
-use crate::held_part::HeldPart;
+use crate::part_block::PartInBlock;
 use crate::run::Run;
 use leaf_copy_gc::{Moved, ToChunks};
 use out_of_line::Apart;
@@ -39,7 +39,7 @@ fn chunks_block(alloc: Global) -> Result<Apart<ToChunks>, AllocError> {
 
 impl Run {
     // The collection of the part begins. There is a block for the new chunks.
-    fn begin_in(self, worker: u32, part: HeldPart, block: Apart<ToChunks>) -> Acted
+    fn begin_in(self, worker: u32, part: PartInBlock, block: Apart<ToChunks>) -> Acted
         requires enter { MayEnter self.paced worker OwedOf.Nothing }
         requires paused { IsPaused self.paced worker part Paused.Due }
         requires enough { is_pool_enough self.paced.settings (accounts self.paced) part.task ≡ true }
@@ -60,7 +60,7 @@ impl Run {
     }
 
     // The collection of the part begins, where there is memory for what it takes along.
-    fn begin_leaf(self, alloc: Global, worker: u32, part: HeldPart) -> Acted
+    fn begin_leaf(self, alloc: Global, worker: u32, part: PartInBlock) -> Acted
         requires enter { MayEnter self.paced worker OwedOf.Nothing }
         requires paused { IsPaused self.paced worker part Paused.Due }
         requires enough { is_pool_enough self.paced.settings (accounts self.paced) part.task ≡ true }
@@ -74,7 +74,7 @@ impl Run {
     }
 
     // The collection of the part is put off.
-    fn put_off_leaf(self, worker: u32, part: HeldPart) -> Acted
+    fn put_off_leaf(self, worker: u32, part: PartInBlock) -> Acted
         requires enter { MayEnter self.paced worker OwedOf.Nothing }
         requires paused { IsPaused self.paced worker part Paused.Due }
         requires short { is_pool_enough self.paced.settings (accounts self.paced) part.task ≡ false }
@@ -91,7 +91,7 @@ impl Run {
     }
 
     /// The due collection of the part begins, or is put off where too few chunks are free.
-    pub(crate) fn collect(self, alloc: Global, worker: u32, part: HeldPart) -> Acted
+    pub(crate) fn collect(self, alloc: Global, worker: u32, part: PartInBlock) -> Acted
         requires enter { MayEnter self.paced worker OwedOf.Nothing }
         requires paused { IsPaused self.paced worker part Paused.Due }
         requires fresh { part.fresh ≡ 0 }

@@ -4,14 +4,14 @@
 
 mod act;
 mod held;
-mod held_part;
 mod leaf;
+mod part_block;
 mod pay;
 mod run;
 mod steps;
 
 pub use act::Acted;
 pub use held::{Collecting, Copied, Next, Ready};
-pub use held_part::{HeldPart, PartBlock};
 pub use paced_tree::{Counted, Paced};
+pub use part_block::{PartBlock, PartInBlock};
 pub use run::{Run, Setup};

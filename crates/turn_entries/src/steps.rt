@@ -10,7 +10,7 @@ ghost use Rattle.turn_entries.specs.Values.{MayEnter};
 
 use crate::act::Acted;
 use crate::held::{Next, Ready};
-use crate::held_part::{HeldPart, PartBlock};
+use crate::part_block::{PartBlock, PartInBlock};
 use crate::run::Run;
 use paced_tree::{Leaving, Lent, Ran};
 use std::alloc::Global;
@@ -62,7 +62,7 @@ impl Run {
     }
 
     // The fresh steps of the part are entered.
-    fn enter_private(self, worker: u32, part: HeldPart) -> Acted
+    fn enter_private(self, worker: u32, part: PartInBlock) -> Acted
         requires enter { MayEnter self.paced worker OwedOf.Nothing }
         requires may { MayRun self.paced worker part }
         requires fresh { 0 < part.fresh }
@@ -96,7 +96,7 @@ impl Run {
     }
 
     // The same, where the part is taken out of its block.
-    fn enter_leaving(self, worker: u32, part: HeldPart, leaving: Leaving) -> Acted
+    fn enter_leaving(self, worker: u32, part: PartInBlock, leaving: Leaving) -> Acted
         requires enter { MayEnter self.paced worker OwedOf.Nothing }
         requires paused { IsPaused self.paced worker part Paused.Shared }
         requires leaves { LeavesBy self.paced part leaving }
@@ -109,7 +109,7 @@ impl Run {
 
     // The fresh steps of the part are entered with its next one, which isn't private. The part stays in its block, but
     // where that step gives it up.
-    fn enter_shared(self, worker: u32, part: HeldPart) -> Acted
+    fn enter_shared(self, worker: u32, part: PartInBlock) -> Acted
         requires enter { MayEnter self.paced worker OwedOf.Nothing }
         requires paused { IsPaused self.paced worker part Paused.Shared }
         ensures { ActsFor self worker (Ready.Paused part Paused.Shared) (Some (KindOf.Ran part.task (part.fresh + 1))) result }
@@ -126,7 +126,7 @@ impl Run {
     }
 
     // The part gets a chunk.
-    fn enter_chunk(self, worker: u32, part: HeldPart) -> Acted
+    fn enter_chunk(self, worker: u32, part: PartInBlock) -> Acted
         requires enter { MayEnter self.paced worker OwedOf.Nothing }
         requires paused { IsPaused self.paced worker part Paused.NeedChunk }
         requires fresh { part.fresh ≡ 0 }
@@ -142,7 +142,7 @@ impl Run {
     }
 
     // The entry that the part's steps have paused for; its fresh steps come before a chunk or a collection.
-    fn enter_part(self, alloc: Global, worker: u32, part: HeldPart, why: Paused) -> Acted
+    fn enter_part(self, alloc: Global, worker: u32, part: PartInBlock, why: Paused) -> Acted
         requires enter { MayEnter self.paced worker OwedOf.Nothing }
         requires paused { IsPaused self.paced worker part why }
         ensures { ActsFor self worker (Ready.Paused part why) (Some (paused_kind self.paced part why)) result }

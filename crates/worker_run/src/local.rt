@@ -10,7 +10,7 @@ use run_trace::PRIVATE_LIMIT;
 use std::alloc::AllocError;
 use std::snapshot::Snapshot;
 use task_machine::{Paused, Private, run_local};
-use turn_entries::{Collecting, Copied, HeldPart, Ready};
+use turn_entries::{Collecting, Copied, PartInBlock, Ready};
 
 // Takes steps of a part until they pause, at most as many as one entry holds, and settles its heap where a fork comes
 // next.
@@ -30,7 +30,7 @@ fn take_steps<G: Gate>(
 }
 
 /// Takes steps of a part until they pause, at most as many as one entry holds.
-pub fn run_part<G: Gate>(part: HeldPart, program: &Program, gate: &G, worker: u32) -> Ready
+pub fn run_part<G: Gate>(part: PartInBlock, program: &Program, gate: &G, worker: u32) -> Ready
     requires { AtSome program.now (λ w. MayRun w worker part) }
     ensures { GrowsTo program.now worker part result }
 {

@@ -14,7 +14,7 @@ use Rattle.task_machine.specs.declared.part.Private.{Private}
 use Rattle.shared_value.specs.Entered.{Enters, refused}
 use Rattle.shared_value.specs.Fits.{AllFit, Fits, OthersFit}
 use Rattle.shared_value.specs.SharedValue.{SharedValue, accounts}
-use Rattle.shared_value.proofs.EntryMade.{entry_on, held_by_end}
+use Rattle.shared_value.proofs.EntryMade.{entry_on, worker_by_end}
 use Rattle.heap_marking.proofs.ForksTold.{entered_accounts}
 use Rattle.child_tasks.specs.NoTask.{HoldsNone}
 use Rattle.child_tasks.specs.Joins.{SameButPlaces}
@@ -42,7 +42,7 @@ module _ (w w' : SharedValue) (e : EntryValue) (E : Enters w w' e) where
   module _ (free : refused w e ≡ None) where
     -- who holds a task then, and before it, since the run went on
     holder : (t k : ℕ) → (heap_of (handed (accounts w')) t).worker ≡ Some k → (heap_of (after w.program w.settings (accounts w) e) t).worker ≡ Some k
-    holder t k h = ap (λ (l : Ledger). (heap_of l t).worker) (sym (entered_accounts w w' e E)) ∙ held_by_end (accounts w') (accounts w').end t k h
+    holder t k h = ap (λ (l : Ledger). (heap_of l t).worker) (sym (entered_accounts w w' e E)) ∙ worker_by_end (accounts w') (accounts w').end t k h
 
     held : (t k : ℕ) → (heap_of (accounts w) t).worker ≡ Some k → (heap_of (handed (accounts w)) t).worker ≡ Some k
     held t k h = ap (λ (l : Ledger). (heap_of l t).worker) (handed_on (accounts w) (entry_on w e free)) ∙ h

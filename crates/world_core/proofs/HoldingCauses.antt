@@ -4,7 +4,7 @@ use Rattle.std.proofs.lemmas.Bool.{and_from, eqb-true, false≢true}
 use Rattle.hh_model.specs.Step.{is_running}
 use Rattle.run_trace.specs.declared.entry.Kind.{Kind}
 use Rattle.run_trace.specs.declared.entry.Kind.TheVariants.{Begin, Chunk, End, PutOff, Ran}
-use Rattle.run_ledger.specs.Laws.{HoldsTasks}
+use Rattle.run_ledger.specs.Laws.{TasksAreOut}
 use Rattle.run_ledger.specs.declared.data.Ledger.{Ledger}
 use Rattle.run_ledger.specs.declared.data.Refused.{Refused}
 use Rattle.run_ledger.specs.declared.data.Refused.TheVariants.{Collecting, Count, Due, NotCollecting, NotNeeded, NotOut, PoolEnough, PoolShort}
@@ -12,19 +12,19 @@ use Rattle.run_ledger.specs.Entries.{ends_as, is_fuel, is_out, is_pool_enough, k
 use Rattle.listed.specs.Options.{option_is}
 use Rattle.run_ledger.specs.Heaps.{end_numbers, heap_of, in_use}
 use Rattle.run_ledger.specs.Steps.{is_due, is_in_need, most_steps, standing}
-use Rattle.run_ledger.proofs.Holders.{tasks_are_held_once}
+use Rattle.run_ledger.proofs.Holders.{tasks_are_out_once}
 use Rattle.leaf_copy_gc.specs.declared.lists.Moved.{Moved}
 use Rattle.core_entry_laws.proofs.whole.HandedBack.{handed_on}
 use Rattle.task_machine.specs.declared.part.Begun.{Begun}
 use Rattle.task_machine.specs.declared.part.Private.{Private}
-use Rattle.shared_value.specs.Causes.{first_cause, or_else, task_held}
+use Rattle.shared_value.specs.Causes.{first_cause, or_else, task_asked}
 use Rattle.shared_value.specs.Entered.{refused}
 use Rattle.shared_value.specs.Fits.{Fits}
 use Rattle.shared_value.specs.Stands.{IsSharedValue}
 use Rattle.shared_value.specs.SharedValue.{SharedValue, accounts}
 use Rattle.shared_value.proofs.CollectionUnderWay.{at_part, begun_is}
 use Rattle.shared_value.proofs.CausesTold.{on_is, refused_is}
-use Rattle.own_steps.proofs.TaskNotHeld.{apart_cause, unless_false}
+use Rattle.own_steps.proofs.TaskNotOut.{apart_cause, unless_false}
 use Rattle.child_tasks.specs.NoTask.{HoldsNone}
 use Rattle.leaf_collections.specs.LeafEnd.{FitsCopied}
 use Rattle.leaf_collections.proofs.WhyNoEnd.{unless_true}
@@ -59,8 +59,8 @@ module _ (w : SharedValue) (k : ℕ) (I : IsSharedValue w) (first : first_cause 
   none : HoldsNone w k → (t : ℕ) → (heap_of l t).worker ≢ Some k
   none H t h = H t (ap (λ (z : Ledger). (heap_of z t).worker) (handed_on l on) ∙ h)
 
-  holders : HoldsTasks l
-  holders = tasks_are_held_once w.program w.settings w.journal.items I.legal
+  holders : TasksAreOut l
+  holders = tasks_are_out_once w.program w.settings w.journal.items I.legal
 
   -- no cause comes before what it says
   pub behind : (kind : Kind) → is_fuel kind ≡ false → refused w (record { worker = k; kind = kind }) ≡ kind_refusal w.program w.settings l k kind
@@ -70,7 +70,7 @@ module _ (w : SharedValue) (k : ℕ) (I : IsSharedValue w) (first : first_cause 
       ∙ ap (λ o. or_else o (kind_refusal w.program w.settings l k kind)) first)
 
   -- it doesn't hold the task
-  apart : (t : ℕ) (kind : Kind) (cause : Refused) → task_held kind ≡ Some t → Some NotOut ≡ Some cause → (heap_of l t).worker ≢ Some k → refused w (record { worker = k; kind = kind }) ≡ Some cause
+  apart : (t : ℕ) (kind : Kind) (cause : Refused) → task_asked kind ≡ Some t → Some NotOut ≡ Some cause → (heap_of l t).worker ≢ Some k → refused w (record { worker = k; kind = kind }) ≡ Some cause
   apart t kind cause held is ne = apart_cause w I k t kind held (λ e. ne) ∙ (ap (λ o. or_else o (Some NotOut)) first ∙ is)
 
   -- since it holds another
@@ -86,7 +86,7 @@ module _ (w : SharedValue) (k : ℕ) (I : IsSharedValue w) (first : first_cause 
   amid p b rest F begun = at_part w k p F on rest ∙ ap (λ o. refused_if (is_some o) Collecting rest) begun
 
   -- AN ENTRY FOR A TASK WHOSE COLLECTION HASN'T BEGUN
-  module _ (t : ℕ) (kind : Kind) (rest : Option Refused) (cause : Refused) (held : task_held kind ≡ Some t) (not_fuel : is_fuel kind ≡ false) (runs : kind_refusal w.program w.settings l k kind ≡ on_running l k t rest) where
+  module _ (t : ℕ) (kind : Kind) (rest : Option Refused) (cause : Refused) (held : task_asked kind ≡ Some t) (not_fuel : is_fuel kind ≡ false) (runs : kind_refusal w.program w.settings l k kind ≡ on_running l k t rest) where
     by_part : (p : Private) (b : Bool) → (p.task == t) ≡ b → (heap_of l p.task).worker ≡ Some k → cond b None (Some NotOut) ≡ Some cause → refused w (record { worker = k; kind = kind }) ≡ Some cause
     by_part p true e at is = absurd cc
     by_part p false e at is = apart t kind cause held is (other t p.task at e)
@@ -95,14 +95,14 @@ module _ (w : SharedValue) (k : ℕ) (I : IsSharedValue w) (first : first_cause 
     by_copy p q b true e task F begun is =
         let at : t ≡ q.task = sym (eqb-true p.task t e) ∙ task in
         behind kind not_fuel ∙ (runs ∙ (ap (λ u. on_running l k u rest) at ∙ (amid q b rest F begun ∙ is)))
-    by_copy p q b false e task F begun is = apart t kind cause held is (other t q.task F.held (ap (λ u. u == t) (sym task) ∙ e))
+    by_copy p q b false e task F begun is = apart t kind cause held is (other t q.task F.out (ap (λ u. u == t) (sym task) ∙ e))
 
     by_holding : (h : Held) → Holds w false k h → idle_cause h t ≡ Some cause → refused w (record { worker = k; kind = kind }) ≡ Some cause
     by_holding Nothing H is = apart t kind cause held is (none H t)
-    by_holding (Part p) H is = by_part p (p.task == t) refl H.fits.held is
+    by_holding (Part p) H is = by_part p (p.task == t) refl H.fits.out is
     by_holding (Copied p moved) H is = by_copy p H.before H.begun (p.task == t) refl (ap (λ (q : Private). q.task) H.part) H.fits H.amid is
 
-  pub idle_refused : (t : ℕ) (h : Held) (cause : Refused) (kind : Kind) (rest : Option Refused) → Holds w false k h → idle_cause h t ≡ Some cause → task_held kind ≡ Some t → is_fuel kind ≡ false → kind_refusal w.program w.settings l k kind ≡ on_running l k t rest
+  pub idle_refused : (t : ℕ) (h : Held) (cause : Refused) (kind : Kind) (rest : Option Refused) → Holds w false k h → idle_cause h t ≡ Some cause → task_asked kind ≡ Some t → is_fuel kind ≡ false → kind_refusal w.program w.settings l k kind ≡ on_running l k t rest
       → refused w (record { worker = k; kind = kind }) ≡ Some cause
   idle_refused t h cause kind rest H is held not_fuel runs = by_holding t kind rest cause held not_fuel runs h H is
 
@@ -116,13 +116,13 @@ module _ (w : SharedValue) (k : ℕ) (I : IsSharedValue w) (first : first_cause 
         let at : t ≡ p.task = sym (eqb-true p.task t e) in
         behind (End t a g n) refl
         ∙ (ap (λ u. refused_unless (is_out l k u) NotOut (refused_unless (is_some (heap_of l u).begun) NotCollecting (rest_of u))) at
-        ∙ (unless_true (is_out l k p.task) NotOut (refused_unless (is_some (heap_of l p.task).begun) NotCollecting (rest_of p.task)) (out p.task H.fits.held)
+        ∙ (unless_true (is_out l k p.task) NotOut (refused_unless (is_some (heap_of l p.task).begun) NotCollecting (rest_of p.task)) (out p.task H.fits.out)
         ∙ (unless_false (is_some (heap_of l p.task).begun) NotCollecting (rest_of p.task) (begun_is w k p H.fits on ∙ ap is_some H.idle) ∙ is)))
-    by_other p false cause e H is = apart t (End t a g n) cause refl is (other t p.task H.fits.held e)
+    by_other p false cause e H is = apart t (End t a g n) cause refl is (other t p.task H.fits.out e)
 
     by_same : (p q : Private) (b : Bool) (cause : Refused) → (p.task == t) ≡ b → p.task ≡ q.task → Fits w k q → cond b None (Some NotOut) ≡ Some cause → refused w (record { worker = k; kind = End t a g n }) ≡ Some cause
     by_same p q true cause e task F is = absurd cc
-    by_same p q false cause e task F is = apart t (End t a g n) cause refl is (other t q.task F.held (ap (λ u. u == t) (sym task) ∙ e))
+    by_same p q false cause e task F is = apart t (End t a g n) cause refl is (other t q.task F.out (ap (λ u. u == t) (sym task) ∙ e))
 
     pub copied_refused : (h : Held) (cause : Refused) → Holds w false k h → copied_cause h t ≡ Some cause → refused w (record { worker = k; kind = End t a g n }) ≡ Some cause
     copied_refused Nothing cause H is = apart t (End t a g n) cause refl is (none H t)
@@ -133,7 +133,7 @@ module _ (w : SharedValue) (k : ℕ) (I : IsSharedValue w) (first : first_cause 
   pub said : (p : Private) (moved : Moved) (a g n : ℕ) → FitsCopied w k p moved → refused w (record { worker = k; kind = End p.task a g n }) ≡ ends_as (a, g, n) (moved.taken, moved.given, moved.left)
   said p moved a g n F =
       behind (End p.task a g n) refl
-      ∙ (unless_true (is_out l k p.task) NotOut (refused_unless (is_some (heap_of l p.task).begun) NotCollecting (rest_of p.task a g n p.task)) (out p.task F.held)
+      ∙ (unless_true (is_out l k p.task) NotOut (refused_unless (is_some (heap_of l p.task).begun) NotCollecting (rest_of p.task a g n p.task)) (out p.task F.out)
       ∙ (unless_true (is_some (heap_of l p.task).begun) NotCollecting (rest_of p.task a g n p.task) F.copy.collects ∙ ap (ends_as (a, g, n)) (sym F.numbers)))
 
 -- numbers that aren't wrong are those

@@ -9,10 +9,10 @@ use Rattle.hh_lang.specs.Form.{ProgramText}
 use Rattle.hh_model.specs.Step.{is_running}
 use Rattle.hh_model.specs.declared.data.End.TheVariants.{Done, Entangled, Trapped}
 use Rattle.run_ledger.specs.Heaps.{heap_of, let_go}
-use Rattle.run_ledger.specs.Laws.{HoldsTasks}
+use Rattle.run_ledger.specs.Laws.{TasksAreOut}
 use Rattle.run_ledger.specs.Steps.{task_steps}
 use Rattle.run_ledger.specs.declared.data.Ledger.{Ledger}
-use Rattle.run_ledger.proofs.Holders.{tasks_are_held_once}
+use Rattle.run_ledger.proofs.Holders.{tasks_are_out_once}
 use Rattle.run_ledger.specs.declared.data.RunEnd.{RunEnd}
 use Rattle.run_ledger.specs.declared.data.RunEnd.TheVariants.{Fuel, Machine, Pool}
 use Rattle.ledger_step_laws.specs.Accounts.{Knows, Rests, aside}
@@ -27,7 +27,7 @@ use Rattle.core_relation.specs.Whole.{by_end, handed}
 use Rattle.shared_value.specs.Fits.{part_of}
 use Rattle.shared_value.specs.Stands.{IsSharedValue}
 use Rattle.shared_value.specs.SharedValue.{SharedValue, accounts, value_of}
-use Rattle.shared_value.proofs.EntryMade.{held_by_end}
+use Rattle.shared_value.proofs.EntryMade.{worker_by_end}
 use Rattle.shared_value.proofs.TaskTaken.{some_flat}
 use Rattle.heap_reading.proofs.IdleTasks.{done_idles}
 use Rattle.world_core.specs.declared.held.Held.{Held}
@@ -61,7 +61,7 @@ here w k Nothing qs q i = tt
 here w k (Part p) qs q i = (q, inl refl, i)
 here w k (Copied p moved) qs q i = (q, inl refl, i)
 
-module _ (w : SharedValue) (holders : HoldsTasks (accounts w)) where
+module _ (w : SharedValue) (holders : TasksAreOut (accounts w)) where
   -- a holding of a part, before others
   with_part : (of : ℕ → ℕ) → ((i j : ℕ) → of i ≡ of j → i ≡ j) → (h : Held) (hs : List Held) (q : PartOf) → IsPartIn w (of 0) h q → WorkerFits w.program w.settings q (value_of w) (accounts w) → (heap_of (accounts w) q.task).worker ≡ Some (of 0)
       → Found w (λ j. of (suc j)) hs → Found w of (h ∷ hs)
@@ -108,8 +108,8 @@ module _ (w : SharedValue) (holders : HoldsTasks (accounts w)) where
     where
       by : (h : Held) → Holds w stopped (of 0) h → Found w (λ j. of (suc j)) hs → Found w of (h ∷ hs)
       by Nothing K R = with_none of hs R
-      by (Part p) K R = with_part of inj (Part p) hs (part_of w.settings p) refl K.fits.fits K.fits.held R
-      by (Copied p moved) K R = with_part of inj (Copied p moved) hs (part_of w.settings K.before) (K, refl) K.fits.fits K.fits.held R
+      by (Part p) K R = with_part of inj (Part p) hs (part_of w.settings p) refl K.fits.fits K.fits.out R
+      by (Copied p moved) K R = with_part of inj (Copied p moved) hs (part_of w.settings K.before) (K, refl) K.fits.fits K.fits.out R
 
 -- ---- NO TASK IS HELD in the accounts with all parts at rest
 
@@ -142,8 +142,8 @@ module _ (x : WorldValue) (I : IsSharedValue x.shared) (W : IsWhole x) where
   abbrev w : SharedValue
   w = x.shared
 
-  holds_tasks : HoldsTasks (accounts w)
-  holds_tasks = tasks_are_held_once w.program w.settings w.journal.items I.legal
+  holds_tasks : TasksAreOut (accounts w)
+  holds_tasks = tasks_are_out_once w.program w.settings w.journal.items I.legal
 
   abbrev l : Ledger
   l = accounts w
@@ -202,12 +202,12 @@ module _ (x : WorldValue) (I : IsSharedValue x.shared) (W : IsWhole x) where
       holding = got_some x.holdings k (let a = got_within w.tasks_out k (Some t) listed in let b = I.workers in let c = W.count in omega (arith, a, b, c))
 
       at : (q : PartOf) (u : ℕ) → q.task ≡ u → In R.parts q → (heap_of l u).worker ≡ Some k → Rests (with_parts w R.parts) t
-      at q u is m held = freed w.program R.parts L t q m (is ∙ holds_tasks.one u t k held (held_by_end l l.end t k e))
+      at q u is m held = freed w.program R.parts L t q m (is ∙ holds_tasks.one u t k held (worker_by_end l l.end t k e))
 
       by : (h : Held) → Holds w x.stopped k h → HoldsOneOf w k h R.parts → Rests (with_parts w R.parts) t
       by Nothing H O = absurd (H t e)
-      by (Part p) H O = at O.0 p.task (ap (λ (z : PartOf). z.task) O.2) O.1 H.fits.held
-      by (Copied p moved) H O = at O.0 O.2.0.before.task (ap (λ (z : PartOf). z.task) O.2.1) O.1 O.2.0.fits.held
+      by (Part p) H O = at O.0 p.task (ap (λ (z : PartOf). z.task) O.2) O.1 H.fits.out
+      by (Copied p moved) H O = at O.0 O.2.0.before.task (ap (λ (z : PartOf). z.task) O.2.1) O.1 O.2.0.fits.out
 
   rest : (t : ℕ) → Rests (with_parts w R.parts) t
   rest t = by (heap_of L t).worker refl

@@ -24,7 +24,7 @@ IsPartIn w k (Part p) q = q ≡ part_of w.settings p
 IsPartIn w k (Copied p moved) q = (H : HoldsCopy w k p moved) × (q ≡ part_of w.settings H.before)
 
 -- a worker holds it
-pub record IsHeldBy (x : WorldValue) (k : ℕ) (q : PartOf) : Type 0 where
+pub record IsWith (x : WorldValue) (k : ℕ) (q : PartOf) : Type 0 where
   pub holding : Held
   pub is : slice_get x.holdings k ≡ Some holding
   pub part : IsPartIn x.shared k holding q
@@ -36,7 +36,7 @@ HoldsOneOf w k h qs = (q : PartOf) × In qs q × IsPartIn w k h q
 
 -- these are the parts that workers hold
 pub record AreParts (x : WorldValue) (qs : List PartOf) : Type 0 where
-  pub each : (q : PartOf) → In qs q → (k : ℕ) × IsHeldBy x k q
+  pub each : (q : PartOf) → In qs q → (k : ℕ) × IsWith x k q
   pub all : (k : ℕ) (h : Held) → slice_get x.holdings k ≡ Some h → HoldsOneOf x.shared k h qs
 
 -- the accounts with the fresh steps of all parts, their tasks at rest: the machine's end is left aside, and once the run is done the

@@ -103,10 +103,10 @@ module _ (p : ProgramText) (s : SettingsValue) (v v' : Memory) (l l' : Ledger) (
   by : (kind : LastKind) (K : IsOfKind p m l' t S.task S.line kind) → (GoesOn kind → l'.machine.end ≡ None) → Makes p v v' m l' t h S.task S.line kind K → Idle (handed l')
   by Private K on C =
       let A : StepsAlone m l' t = subst (λ (z : Ledger). StepsAlone m z t) (sym S.after) (private_alone p m t K (before_last.known p s l l' t w k E).sound) in
-      goes (on tt) (stays C (ap (λ (z : Ledger). (heap_of z t).worker) S.after ∙ (worker_step p s t m K ∙ E.held)) A.heaps)
-  by Reading K on C = goes (on tt) (stays C (ap (λ (z : Ledger). (heap_of z t).worker) K.goes ∙ E.held) K.alone.heaps)
-  by Writing K on C = goes (on tt) (held (ap (λ (z : Ledger). (heap_of z t).worker) K.goes ∙ E.held) (λ u ne. ap (λ (z : Ledger). heap_of z u) K.goes) (writes K S.line.instr C))
-  by Printing K on C = goes (on tt) (stays C (ap (λ (z : Ledger). (heap_of z t).worker) K.goes ∙ E.held) K.alone.heaps)
+      goes (on tt) (stays C (ap (λ (z : Ledger). (heap_of z t).worker) S.after ∙ (worker_step p s t m K ∙ E.out)) A.heaps)
+  by Reading K on C = goes (on tt) (stays C (ap (λ (z : Ledger). (heap_of z t).worker) K.goes ∙ E.out) K.alone.heaps)
+  by Writing K on C = goes (on tt) (held (ap (λ (z : Ledger). (heap_of z t).worker) K.goes ∙ E.out) (λ u ne. ap (λ (z : Ledger). heap_of z u) K.goes) (writes K S.line.instr C))
+  by Printing K on C = goes (on tt) (stays C (ap (λ (z : Ledger). (heap_of z t).worker) K.goes ∙ E.out) K.alone.heaps)
   by Forking K on C = goes (on tt) (λ u r. (accounts u r, forked u r))
     where
       forked : (u : ℕ) → Rests l' u → (v'.belongings u).begun ≡ None
@@ -144,7 +144,7 @@ module _ (p : ProgramText) (s : SettingsValue) (v v' : Memory) (l l' : Ledger) (
         | inr ne ↦ ap (λ o. (or_fresh o).begun) (with_off l' t u let_go ne) ∙ accounts u (ap (λ o. (or_fresh o).worker) (sym (with_off l' t u let_go ne)) ∙ r)
       ]
   by Halting K on C =
-      subst Idle (sym (handed_halt m l' K)) (stays C (ap (λ hs. (or_fresh (slice_get hs t)).worker) K.heaps ∙ E.held) (λ u ne. ap (λ hs. or_fresh (slice_get hs u)) K.heaps))
+      subst Idle (sym (handed_halt m l' K)) (stays C (ap (λ hs. (or_fresh (slice_get hs t)).worker) K.heaps ∙ E.out) (λ u ne. ap (λ hs. or_fresh (slice_get hs u)) K.heaps))
 
   pub ran_idle : Makes p v v' m l' t h S.task S.line S.kind S.last → Idle (handed l')
   ran_idle = by S.kind S.last S.on

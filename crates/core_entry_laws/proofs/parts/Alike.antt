@@ -167,7 +167,7 @@ module _ (p : ProgramText) (s : SettingsValue) (v : Memory) (l l' : Ledger) (t w
           let o = names_it S.task W.name W.object W.written W.frame S.line.instr W.wrote W.touches in
           let holds : In (task_names S.task) W.name = names_run S.task W.name S.at.runs (in_registers (S.task.top ∷ S.task.below) S.task.top W.name (inl refl) (at_in S.task.top.refs o.0 W.name o.1)) in
           let is : slice_get lq.machine.tasks t ≡ Some S.task = ap (λ (z : State). slice_get z.tasks t) (heap_machine m t let_go) ∙ S.at.task in
-          let held_t : (heap_of l' t).worker ≡ Some w = ap (λ (z : Ledger). (heap_of z t).worker) W.goes ∙ E.held in
+          let held_t : (heap_of l' t).worker ≡ Some w = ap (λ (z : Ledger). (heap_of z t).worker) W.goes ∙ E.out in
           let other : own lq W.name ≡ r.task → ⊥ = not_own p s q r v l l' E.task y E.knows E.knows_then F G out.first P ne w held_t left.limit left.end left.heap S.task W.name is S.at.runs holds in
           let e : (rested l' t).machine ≡ l'.machine = heap_machine l' t let_go in
           then_ (alike_held r.task t lq l' off

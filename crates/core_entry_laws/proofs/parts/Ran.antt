@@ -66,13 +66,13 @@ module _ (p : ProgramText) (s : SettingsValue) (v v' : Memory) (l l' : Ledger) (
     stays : v' ≡ v → StepsAlone m l' t → (heap_of l' t).worker ≡ Some w → FitsAt p s r v' l'
     stays same A out' =
         subst (λ (z : Memory). FitsAt p s r z l') (sym same)
-        (fits_alone p s r v l l' t w y ne (alone_along t l m l' (before_last.alone p s l l' t w k E) A) limit end heap (sym (steps_worker p s t k l S.private) ∙ E.held) out' (before_last.idle_first p s l l' t w k E) E.knows E.knows_then P.steady P.task P.runs P.can G)
+        (fits_alone p s r v l l' t w y ne (alone_along t l m l' (before_last.alone p s l l' t w k E) A) limit end heap (sym (steps_worker p s t k l S.private) ∙ E.out) out' (before_last.idle_first p s l l' t w k E) E.knows E.knows_then P.steady P.task P.runs P.can G)
 
     stores : FitsAt p s q v l → (W : WritesOther m l' t S.task S.line) (o i b : ℕ) (c : Option (ℕ × ℤ)) (L : (j : ℕ) × (place_in (length W.object.refs) (int_in S.task.top i) ≡ Some j) × StoresOne (rested m t) (rested l' t) t S.task W.name W.object o b j c)
         → StoresInto v v' m t h S.task W.object o i b c → FitsAt p s r v' l'
     stores F W o i b c L C =
         let same : C.1 ≡ L.0 = same_Some C.1 L.0 (sym C.5 ∙ L.1) in
-        let held : (heap_of l' t).worker ≡ Some w = ap (λ (z : Ledger). (heap_of z t).worker) W.goes ∙ E.held in
+        let held : (heap_of l' t).worker ≡ Some w = ap (λ (z : Ledger). (heap_of z t).worker) W.goes ∙ E.out in
         leave.stores p s q v v' l l' C.0 w S.task W.name W.object o b L.0 c C.2 C.3 C.4 E.knows E.knows_then F held L.2
         (subst (λ j. StoresAt (with_belongings v t h) (with_belongings v' t C.0) (rested m t) t C.2 C.3 C.4 b j c) same C.6) C.7 r E.task y out left G
 
@@ -84,7 +84,7 @@ module _ (p : ProgramText) (s : SettingsValue) (v v' : Memory) (l l' : Ledger) (
     writes F W (Puti o i b) is C =
         let L = is_number p m l' t S.task S.line E.idle S.at W o i b is in
         let same : C.1 ≡ L.0 = same_Some C.1 L.0 (sym C.5 ∙ L.1) in
-        let held : (heap_of l' t).worker ≡ Some w = ap (λ (z : Ledger). (heap_of z t).worker) W.goes ∙ E.held in
+        let held : (heap_of l' t).worker ≡ Some w = ap (λ (z : Ledger). (heap_of z t).worker) W.goes ∙ E.out in
         leave.numbers p s q v v' l l' C.0 w S.task W.name W.object o b L.0 C.2 C.3 C.4 E.knows E.knows_then F held L.2
         (subst (StoresNumberAt (with_belongings v t h) (with_belongings v' t C.0) t C.2 C.3 C.4 b) same C.6) C.7 r E.task y out left G
     writes F W (Set d a) is C = absurd C
@@ -113,10 +113,10 @@ module _ (p : ProgramText) (s : SettingsValue) (v v' : Memory) (l l' : Ledger) (
     by : (kind : LastKind) (K : IsOfKind p m l' t S.task S.line kind) → FitsAt p s (part_for s t h (taken_by kind k)) v l → Makes p v v' m l' t h S.task S.line kind K → FitsAt p s r v' l'
     by Private private F C =
         stays C (subst (λ (z : Ledger). StepsAlone m z t) (sym S.after) (private_alone p m t private (before_last.known p s l l' t w k E).sound))
-        (ap (λ (z : Ledger). (heap_of z t).worker) S.after ∙ (worker_step p s t m private ∙ E.held))
-    by Reading reads F C = stays C reads.alone (ap (λ (z : Ledger). (heap_of z t).worker) reads.goes ∙ E.held)
+        (ap (λ (z : Ledger). (heap_of z t).worker) S.after ∙ (worker_step p s t m private ∙ E.out))
+    by Reading reads F C = stays C reads.alone (ap (λ (z : Ledger). (heap_of z t).worker) reads.goes ∙ E.out)
     by Writing W F C = writes F W S.line.instr refl C
-    by Printing prints F C = stays C prints.alone (ap (λ (z : Ledger). (heap_of z t).worker) prints.goes ∙ E.held)
+    by Printing prints F C = stays C prints.alone (ap (λ (z : Ledger). (heap_of z t).worker) prints.goes ∙ E.out)
     by Forking f F C =
         leave.forks p s q v v' l l' (length m.machine.tasks) (length m.machine.tasks + 1) f.left f.right S.task E.knows E.knows_then F S.at.runs f.forks C r E.task y out left G
     by Ending e F C = leave.finishes p s q v v' l l' S.task C.0 C.1 E.knows E.knows_then F e.ends C.2 r E.task y out left G
@@ -156,7 +156,7 @@ module _ (p : ProgramText) (s : SettingsValue) (v v' : Memory) (l l' : Ledger) (
     -- it fits before the last step
     fits_then : FitsAt p s r v mk
     fits_then =
-        fits_alone p s r v l mk t w y ne alone (steps_limit p s t k l T.private) (steps_end p s t k l T.private) (steps_off p s t k l r.task (λ e. ne (sym e)) T.private) (sym (steps_worker p s t k l T.private) ∙ E.held) E.held
+        fits_alone p s r v l mk t w y ne alone (steps_limit p s t k l T.private) (steps_end p s t k l T.private) (steps_off p s t k l r.task (λ e. ne (sym e)) T.private) (sym (steps_worker p s t k l T.private) ∙ E.out) E.out
         (before_last.idle_first p s l l' t w k E) E.knows known P.steady P.task P.runs P.can G
 
     all : (kind : LastKind) (K : IsOfKind p mk l' t T.task T.line kind) → (GoesOn kind → l'.machine.end ≡ None) → FitsAt p s (part_for s t h (taken_by kind k)) v l → Makes p v v' mk l' t h T.task T.line kind K → StillFits p s r v' l'
@@ -178,4 +178,4 @@ module _ (p : ProgramText) (s : SettingsValue) (v v' : Memory) (l l' : Ledger) (
 
   -- and the part of the task itself, where the run halts
   pub halt_fits : FitsAt p s (part_for s t h k) v l → Halts mk l' → StillFits p s (part_for s t h 0) v l'
-  halt_fits F H = fits_halt p s v mk l' known.sound going H (part_for s t h 0) (inl refl) (ran_fits p s (part_for s t h k) v l w F E.held)
+  halt_fits F H = fits_halt p s v mk l' known.sound going H (part_for s t h 0) (inl refl) (ran_fits p s (part_for s t h k) v l w F E.out)

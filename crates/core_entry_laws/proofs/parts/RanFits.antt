@@ -87,7 +87,7 @@ module _ (p : ProgramText) (s : SettingsValue) (v v' : Memory) (l l' : Ledger) (
   set_task y m' e ts = ap (λ (z : Ledger). slice_get z.machine.tasks t) e ∙ (ap (λ xs. slice_get xs t) ts ∙ got_same m.machine.tasks t S.task y S.at.task)
 
   held : (m' : State) → l' ≡ stepped_by m m' → (heap_of l' t).worker ≡ Some w
-  held m' e = ap (λ (z : Ledger). (heap_of z t).worker) e ∙ E.held
+  held m' e = ap (λ (z : Ledger). (heap_of z t).worker) e ∙ E.out
 
   abbrev idle : is_waiting (slice_get (rested m t).machine.tasks t) ≡ false
   idle = before_last.idle_rested p s l l' t w k E
@@ -163,7 +163,7 @@ module _ (p : ProgramText) (s : SettingsValue) (v v' : Memory) (l l' : Ledger) (
       let x = private_on p m.machine t S.task go.3 S.at.task K in
       let is : slice_get l'.machine.tasks t ≡ Some x.task =
       ap (λ (z : State). slice_get z.tasks t) (ap (λ (z : Ledger). z.machine) S.after ∙ (task_step_machine p m t ∙ x.is)) ∙ got_same m.machine.tasks t S.task x.task S.at.task in
-      let out : (heap_of (task_steps p l t (suc k)) t).worker ≡ Some w = ap (λ (z : Ledger). (heap_of z t).worker) (steps_last p l t k) ∙ (worker_step p s t m K ∙ E.held) in
+      let out : (heap_of (task_steps p l t (suc k)) t).worker ≡ Some w = ap (λ (z : Ledger). (heap_of z t).worker) (steps_last p l t k) ∙ (worker_step p s t m K ∙ E.out) in
       let V : FitsAt p s (part_for s t h 0) v l' = subst (FitsAt p s (part_for s t h 0) v) last (ran_fits p s (part_for s t h (suc k)) v l w F.fits out) in
       goes (on tt) x.task is (ap runs (x.status ∙ S.at.runs)) (ap (λ (z : Belongings). z.begun) G ∙ own (suc k) F)
       (subst (λ (z : Memory). FitsAt p s (part_for s t g 0) z l') (sym C) (subst (λ (j : Belongings). FitsAt p s (part_for s t j 0) v l') (sym G) V))

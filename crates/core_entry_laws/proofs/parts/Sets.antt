@@ -144,7 +144,7 @@ pub frames_go : FramesGo
 frames_go p s v l l' t w k h E Q f g fs top outs A goes frames reads =
     let known = before_last.known p s l l' t w k E in
     let F = (part_now p s (part_for s t h k) v l (alive_machine p s l l' t w k E) Q).fits in
-    frames_step p s t k h v l l' w E.splits.task top outs f g fs known.sound E.knows_then.sound F E.held E.splits.at.task E.splits.at.runs A goes frames reads
+    frames_step p s t k h v l l' w E.splits.task top outs f g fs known.sound E.knows_then.sound F E.out E.splits.at.task E.splits.at.runs A goes frames reads
 
 -- the frame is read as before, but for the number register that is set
 pub numbers_go : NumbersGo

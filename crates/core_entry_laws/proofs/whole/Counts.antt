@@ -16,7 +16,7 @@ use Rattle.run_ledger.specs.declared.data.Ledger.{Ledger}
 use Rattle.run_ledger.specs.declared.data.RunEnd.TheVariants.{Pool, Fuel as FuelEnd}
 use Rattle.run_ledger.specs.Heaps.{chunk_words, is_small, take_of, heap_of, heap_at, with_heap, with_heap_at, in_use, collected, swept_heap}
 use Rattle.run_ledger.specs.Steps.{on_asked}
-use Rattle.run_ledger.specs.Entries.{refusal, after, after_kind, chunk_units, with_chunk, is_ready, held_from}
+use Rattle.run_ledger.specs.Entries.{refusal, after, after_kind, chunk_units, with_chunk, is_ready, out_from}
 use Rattle.run_ledger.specs.Journals.{ledger_of, is_legal}
 use Rattle.run_ledger.proofs.Journals.{none_unless, entry_tells, legal_sound}
 use Rattle.run_ledger.proofs.Steps.{heap_of_task}
@@ -34,7 +34,7 @@ use Rattle.heap_tree.specs.Node.{Node}
 use Rattle.core_relation.specs.Whole.{TreeCounts, TreeCountsStand, state_by}
 use Rattle.core_relation.specs.Counts.{SameCounts, TakesNode, AsksUnits, CountsGo}
 
--- as the accounts have the node of a task that is held so
+-- as the accounts have the node of a task that is with this worker, or with none
 abbrev pub node_of : Option ℕ → Option Task → Option Node
 node_of w o = option_map (λ (x : Task). record { parent = x.parent; state = state_by x.status w }) o
 
@@ -148,7 +148,7 @@ module _ (p : ProgramText) (s : SettingsValue) (journal : List EntryValue) (prog
       let r = none_unless (is_ready l t) _ _ (entry_tells p s l (record { worker = w; kind = Took t }) h).2 in
       let run = (and_parts (is_running (slice_get l.machine.tasks t)) _ r.0).0 in
       let g = heap_of_task l t (legal_sound p s journal legal) run in
-      took_totals c c' l t w g.0 g.1 run (none_is (heap_of l t).worker (and_parts (is_running (slice_get l.machine.tasks t)) _ r.0).1) (none_held l w (none_holding (held_from w 0 l.heaps) r.1)) U C T
+      took_totals c c' l t w g.0 g.1 run (none_is (heap_of l t).worker (and_parts (is_running (slice_get l.machine.tasks t)) _ r.0).1) (none_held l w (none_holding (out_from w 0 l.heaps) r.1)) U C T
   by_kind w (Ran t k) h U C = absurd C
   by_kind w (Chunk t) h U C =
       chunk_totals (chunk_units (asked p l.machine t)) (after_kind p s l w (Chunk t)) (nat_lt s.chunks (in_use l + chunk_units (asked p l.machine t)))

@@ -17,7 +17,7 @@ use Rattle.run_ledger.specs.declared.data.Ledger.{Ledger}
 use Rattle.run_ledger.specs.Heaps.{heap_of, or_fresh, with_heap, collected, swept_heap, let_go}
 use Rattle.run_ledger.specs.Entries.{refusal, after, is_ready, is_out}
 use Rattle.run_ledger.specs.Journals.{ledger_of, is_legal, is_legal_from, after_all, opening}
-use Rattle.run_ledger.proofs.Holders.{tasks_are_held_once}
+use Rattle.run_ledger.proofs.Holders.{tasks_are_out_once}
 use Rattle.run_ledger.proofs.Journals.{none_unless, entry_tells, wait_tells, legal_sound, accepted_on}
 use Rattle.run_ledger.specs.Sound.{SoundLedger}
 use Rattle.run_ledger.proofs.Steps.{heap_of_task, running_at}
@@ -68,7 +68,7 @@ idle_by None k f e = refl
 idle_by (Some b) k f e = absurd (false≢true (ap is_some (sym e) ∙ f refl))
 
 pub legal_rests : (p : ProgramText) (s : SettingsValue) (journal : List EntryValue) → is_legal p s journal ≡ true → (t : ℕ) → Rests (ledger_of p s journal) t → (heap_of (ledger_of p s journal) t).begun ≡ None
-legal_rests p s journal legal t r = idle_by (heap_of (ledger_of p s journal) t).begun (heap_of (ledger_of p s journal) t).worker ((tasks_are_held_once p s journal legal).collecting t) r
+legal_rests p s journal legal t r = idle_by (heap_of (ledger_of p s journal) t).begun (heap_of (ledger_of p s journal) t).worker ((tasks_are_out_once p s journal legal).collecting t) r
 
 pub none_begun_by_ledger : (v : Memory) (l : Ledger) (t : ℕ) (o : Option Begun) → BegunBy v l t o → (heap_of l t).begun ≡ None → o ≡ None
 none_begun_by_ledger v l t None B e = refl

@@ -74,7 +74,7 @@ module _ (p : ProgramText) (s : SettingsValue) (l l' : Ledger) (t w k : ℕ) (E 
   alone = before_last.alone p s l l' t w k E
 
   worker : (heap_of l t).worker ≡ Some w
-  worker = sym (steps_worker p s t k l S.private) ∙ E.held
+  worker = sym (steps_worker p s t k l S.private) ∙ E.out
 
   kin : E.task.parent ≡ x.parent
   kin = ap parent_of (sym E.at) ∙ (sym ((steps_kin p s t k l S.private).parents t) ∙ ap parent_of S.at.task)
@@ -97,7 +97,7 @@ module _ (p : ProgramText) (s : SettingsValue) (l l' : Ledger) (t w k : ℕ) (E 
   -- a step that sets the task's frame, and leaves the accounts of heaps
   sets : (y : Task) (m' : State) → l' ≡ stepped_by m m' → m'.tasks ≡ slice_set m.machine.tasks t y → y.parent ≡ x.parent → y.status ≡ x.status → NodesStay c c' → (u : ℕ) → c'.node u ≡ node_at l' u
   sets y m' e ts par st N =
-      stays y (ap (λ (z : Ledger). slice_get z.machine.tasks t) e ∙ (ap (λ xs. slice_get xs t) ts ∙ got_same m.machine.tasks t x y S.at.task)) par (st ∙ S.at.runs) (ap (λ (z : Ledger). (heap_of z t).worker) e ∙ E.held)
+      stays y (ap (λ (z : Ledger). slice_get z.machine.tasks t) e ∙ (ap (λ xs. slice_get xs t) ts ∙ got_same m.machine.tasks t x y S.at.task)) par (st ∙ S.at.runs) (ap (λ (z : Ledger). (heap_of z t).worker) e ∙ E.out)
       (λ u ne. ap (λ (z : Ledger). slice_get z.machine.tasks u) e ∙ (ap (λ xs. slice_get xs u) ts ∙ got_other m.machine.tasks t u y ne)) (λ u ne. ap (λ (z : Ledger). (heap_of z u).worker) e) N
 
   -- a private step
@@ -107,7 +107,7 @@ module _ (p : ProgramText) (s : SettingsValue) (l l' : Ledger) (t w k : ℕ) (E 
       let g = private_on p m.machine t x go.3 S.at.task h in
       let A : StepsAlone m l' t = subst (λ (z : Ledger). StepsAlone m z t) (sym S.after) (private_alone p m t h (before_last.known p s l l' t w k E).sound) in
       let e : l'.machine ≡ record m.machine { tasks = slice_set m.machine.tasks t g.task; store = g.store } = ap (λ (z : Ledger). z.machine) S.after ∙ (task_step_machine p m t ∙ g.is) in
-      stays g.task (ap (λ (z : State). slice_get z.tasks t) e ∙ got_same m.machine.tasks t x g.task S.at.task) g.parent (g.status ∙ S.at.runs) (ap (λ (z : Ledger). (heap_of z t).worker) S.after ∙ (worker_step p s t m h ∙ E.held))
+      stays g.task (ap (λ (z : State). slice_get z.tasks t) e ∙ got_same m.machine.tasks t x g.task S.at.task) g.parent (g.status ∙ S.at.runs) (ap (λ (z : Ledger). (heap_of z t).worker) S.after ∙ (worker_step p s t m h ∙ E.out))
       A.tasks (λ u ne. ap (λ (h : Heap). h.worker) (A.heaps u ne)) N
 
   -- let go of, the accounts of the other tasks are as before
@@ -182,7 +182,7 @@ module _ (p : ProgramText) (s : SettingsValue) (l l' : Ledger) (t w k : ℕ) (E 
 
       at : (z : ℕ) → c.node z ≡ node_of (worker_at z) (slice_get m.machine.tasks z)
       at z = elim (cases_eq z t) [
-        | inl e ↦ subst (λ y. c.node y ≡ node_of (worker_at y) (slice_get m.machine.tasks y)) (sym e) (mine ∙ sym (node_is m t x Running (Some w) S.at.task S.at.runs E.held))
+        | inl e ↦ subst (λ y. c.node y ≡ node_of (worker_at y) (slice_get m.machine.tasks y)) (sym e) (mine ∙ sym (node_is m t x Running (Some w) S.at.task S.at.runs E.out))
         | inr ne ↦ others z ne
       ]
 
@@ -195,7 +195,7 @@ module _ (p : ProgramText) (s : SettingsValue) (l l' : Ledger) (t w k : ℕ) (E 
   -- before the last step
   workers_m : (z : ℕ) → (heap_of m z).worker ≡ (heap_of l z).worker
   workers_m z = elim (cases_eq z t) [
-    | inl e ↦ subst (λ y. (heap_of m y).worker ≡ (heap_of l y).worker) (sym e) (E.held ∙ sym worker)
+    | inl e ↦ subst (λ y. (heap_of m y).worker ≡ (heap_of l y).worker) (sym e) (E.out ∙ sym worker)
     | inr ne ↦ ap (λ (h : Heap). h.worker) (alone.heaps z ne)
   ]
 
@@ -205,7 +205,7 @@ module _ (p : ProgramText) (s : SettingsValue) (l l' : Ledger) (t w k : ℕ) (E 
     | inr ne ↦ others z ne ∙ workers_m z
   ]
 
-  -- the worker lets go of its task, and of the others each is held as before
+  -- the worker lets go of its task, and each of the others is with whom it was before
   task_out_goes : (n : Ledger) → ((z : ℕ) → (heap_of n z).worker ≡ (heap_of (rested m t) z).worker) → LetsGo c c' w → (u z : ℕ) → c'.task_out u ≡ Some z ↔ (heap_of n z).worker ≡ Some u
   task_out_goes n same C u z = elim (cases_eq z t) [
     | inl e ↦ subst (λ y. c'.task_out u ≡ Some y ↔ (heap_of n y).worker ≡ Some u) (sym e) (elim (cases_eq u w) [
@@ -299,10 +299,10 @@ module _ (p : ProgramText) (s : SettingsValue) (l l' : Ledger) (t w k : ℕ) (E 
     private_then h = subst (λ (z : Ledger). StepsAlone m z t) (sym S.after) (private_alone p m t h (before_last.known p s l l' t w k E).sound)
 
     set_task_out : (m' : State) → l' ≡ stepped_by m m' → TasksOutStay c c' → (u z : ℕ) → c'.task_out u ≡ Some z ↔ (heap_of l' z).worker ≡ Some u
-    set_task_out m' e = task_out_same l' (workers_on l' (ap (λ (z : Ledger). (heap_of z t).worker) e ∙ E.held) (λ z ne. ap (λ (y : Ledger). (heap_of y z).worker) e))
+    set_task_out m' e = task_out_same l' (workers_on l' (ap (λ (z : Ledger). (heap_of z t).worker) e ∙ E.out) (λ z ne. ap (λ (y : Ledger). (heap_of y z).worker) e))
 
     by : (kind : LastKind) (K : IsOfKind p m l' t x S.line kind) → (GoesOn kind → l'.machine.end ≡ None) → RanCounts p c c' m l' t w k x S.line kind K → TreeCountsStand c' (handed l')
-    by Private K on N = goes (on tt) (same_outputs (ap (λ (z : Ledger). z.machine.outputs) S.after ∙ (private_kin p m t K).outputs) N.outputs) N.end N.used N.steps (task_out_same l' (workers_on l' (ap (λ (z : Ledger). (heap_of z t).worker) S.after ∙ (worker_step p s t m K ∙ E.held)) (λ z ne. ap (λ (h : Heap). h.worker) ((private_then K).heaps z ne))) N.task_out) (privately K N.tree)
+    by Private K on N = goes (on tt) (same_outputs (ap (λ (z : Ledger). z.machine.outputs) S.after ∙ (private_kin p m t K).outputs) N.outputs) N.end N.used N.steps (task_out_same l' (workers_on l' (ap (λ (z : Ledger). (heap_of z t).worker) S.after ∙ (worker_step p s t m K ∙ E.out)) (λ z ne. ap (λ (h : Heap). h.worker) ((private_then K).heaps z ne))) N.task_out) (privately K N.tree)
     by Reading K on N =
         goes (on tt) (same_outputs (ap (λ (z : Ledger). z.machine.outputs) K.goes) N.outputs) N.end N.used N.steps (set_task_out _ K.goes N.task_out) (sets (record x { top = K.frame }) _ K.goes refl refl refl N.tree)
     by Writing K on N =
@@ -319,13 +319,13 @@ module _ (p : ProgramText) (s : SettingsValue) (l l' : Ledger) (t w k : ℕ) (E 
         (totals (rested l' t) with.0 (same_use l' t let_go (λ h. refl) ∙ same_use_then) (ap (λ (z : State). z.outputs) (heap_machine l' t let_go) ∙ same_outputs K.outputs N.outputs) (with.1 ∙ (K.is ∙ sym N.end)) N.used N.steps (task_out_goes (rested l' t) (ended_workers (rested l' t) K.ends) N.task_out) (ended (rested l' t) K.ends N.tree))
     by Halting K on N =
         subst (TreeCountsStand c') (sym (handed_halt m l' K))
-        (totals l' refl same_use_then (same_outputs (ap (λ (z : State). z.outputs) K.machine) N.outputs) (K.is ∙ sym N.end) N.used N.steps (task_out_same l' (workers_on l' (ap (λ hs. (or_fresh (slice_get hs t)).worker) K.heaps ∙ E.held) (λ z ne. ap (λ hs. (or_fresh (slice_get hs z)).worker) K.heaps)) N.task_out) (halted K N.tree))
+        (totals l' refl same_use_then (same_outputs (ap (λ (z : State). z.outputs) K.machine) N.outputs) (K.is ∙ sym N.end) N.used N.steps (task_out_same l' (workers_on l' (ap (λ hs. (or_fresh (slice_get hs t)).worker) K.heaps ∙ E.out) (λ z ne. ap (λ hs. (or_fresh (slice_get hs z)).worker) K.heaps)) N.task_out) (halted K N.tree))
       where
         halted : Halts m l' → NodesStay c c' → (u : ℕ) → c'.node u ≡ node_at l' u
         halted H N =
             let is : slice_get l'.machine.tasks t ≡ Some x = ap (λ (z : State). slice_get z.tasks t) H.machine ∙ S.at.task in
             let heaps : (u : ℕ) → (heap_of l' u).worker ≡ (heap_of m u).worker = λ u. ap (λ hs. (or_fresh (slice_get hs u)).worker) H.heaps in
-            stays x is refl S.at.runs (heaps t ∙ E.held) (λ u ne. ap (λ (z : State). slice_get z.tasks u) H.machine) (λ u ne. heaps u) N
+            stays x is refl S.at.runs (heaps t ∙ E.out) (λ u ne. ap (λ (z : State). slice_get z.tasks u) H.machine) (λ u ne. heaps u) N
 
     pub ran_counts : RanCounts p c c' m l' t w k x S.line S.kind S.last → TreeCountsStand c' (handed l')
     ran_counts = by S.kind S.last S.on

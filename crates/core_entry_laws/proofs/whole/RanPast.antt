@@ -83,7 +83,7 @@ module _ (p : ProgramText) (s : SettingsValue) (v v' : Memory) (l l' : Ledger) (
   stays same A out' =
       let AA = alone_along t l m l' (before_last.alone p s l l' t w k E) A in
       subst (λ (z : Memory). Stands z l' × AllNoted z l') (sym same) (
-        steps_alone v l l' t w E.knows.sound V AA (sym (steps_worker p s t k l S.private) ∙ E.held) out' idle,
+        steps_alone v l l' t w E.knows.sound V AA (sym (steps_worker p s t k l S.private) ∙ E.out) out' idle,
         steps_note v v l l' t idle AA (λ u ne. refl) (λ i. refl) (λ u. refl) (root_apart v l V t idle) (record { none = (N t).keeps ∙ ap (λ b. b && not (heap_of l t).swept) idle; others = λ u ne. record { keeps = refl; kept = refl; marked = refl } }) N,
       )
 
@@ -96,7 +96,7 @@ module _ (p : ProgramText) (s : SettingsValue) (v v' : Memory) (l l' : Ledger) (
     stores W o i b c L C M =
         let same : L.0 ≡ C.1 = same_Some L.0 C.1 (sym L.1 ∙ C.5) in
         let L' : StoresOne lt (rested l' t) t S.task W.name W.object o b C.1 c = subst (λ j. StoresOne lt (rested l' t) t S.task W.name W.object o b j c) same L.2 in
-        let held : (heap_of l' t).worker ≡ Some w = ap (λ (z : Ledger). (heap_of z t).worker) W.goes ∙ E.held in
+        let held : (heap_of l' t).worker ≡ Some w = ap (λ (z : Ledger). (heap_of z t).worker) W.goes ∙ E.out in
         let idle' : is_waiting (slice_get l'.machine.tasks t) ≡ false = ap (λ (z : State). is_waiting (slice_get z.tasks t)) (sym (heap_machine l' t let_go)) ∙ (L'.writes.tree.waits t ∙ idle_t) in
         let fits : FitsAt p s (part_for s t C.0 0) v' l' = stores_fit p s q v v' l l' C.0 w S.task W.name W.object o b C.1 c C.2 C.3 C.4 sound F held L' C.6 C.7 in (
           ran_stands p s (part_for s t C.0 0) v' l' w fits held idle',
@@ -112,7 +112,7 @@ module _ (p : ProgramText) (s : SettingsValue) (v v' : Memory) (l l' : Ledger) (
         let L = is_number p m l' t S.task S.line E.idle S.at W o i b is in
         let same : C.1 ≡ L.0 = same_Some C.1 L.0 (sym C.5 ∙ L.1) in
         let C' : StoresNumberAt vt (with_belongings v' t C.0) t C.2 C.3 C.4 b L.0 = subst (StoresNumberAt vt (with_belongings v' t C.0) t C.2 C.3 C.4 b) same C.6 in
-        let held : (heap_of l' t).worker ≡ Some w = ap (λ (z : Ledger). (heap_of z t).worker) W.goes ∙ E.held in
+        let held : (heap_of l' t).worker ≡ Some w = ap (λ (z : Ledger). (heap_of z t).worker) W.goes ∙ E.out in
         let idle' : is_waiting (slice_get l'.machine.tasks t) ≡ false = ap (λ (z : State). is_waiting (slice_get z.tasks t)) (sym (heap_machine l' t let_go)) ∙ (L.2.writes.tree.waits t ∙ idle_t) in
         let fits : FitsAt p s (part_for s t C.0 0) v' l' = numbers_fit p s q v v' l l' C.0 w S.task W.name W.object o b L.0 C.2 C.3 C.4 sound F held L.2 C' C.7 in (
           ran_stands p s (part_for s t C.0 0) v' l' w fits held idle',
@@ -147,10 +147,10 @@ module _ (p : ProgramText) (s : SettingsValue) (v v' : Memory) (l l' : Ledger) (
   halt_alone H = machine_alone m l' t H.machine (λ u ne. ap (λ hs. or_fresh (slice_get hs u)) H.heaps)
 
   by : (kind : LastKind) (K : IsOfKind p m l' t S.task S.line kind) → (GoesOn kind → l'.machine.end ≡ None) → FitsAt p s (part_for s t h (taken_by kind k)) v l → (C : Makes p v v' m l' t h S.task S.line kind K) → Marks p v v' m l' t h S.task S.line kind K C → Handed
-  by Private K on F C M = goes (on tt) (stays C (subst (λ (z : Ledger). StepsAlone m z t) (sym S.after) (private_alone p m t K (before_last.known p s l l' t w k E).sound)) (ap (λ (z : Ledger). (heap_of z t).worker) S.after ∙ (worker_step p s t m K ∙ E.held)))
-  by Reading K on F C M = goes (on tt) (stays C K.alone (ap (λ (z : Ledger). (heap_of z t).worker) K.goes ∙ E.held))
+  by Private K on F C M = goes (on tt) (stays C (subst (λ (z : Ledger). StepsAlone m z t) (sym S.after) (private_alone p m t K (before_last.known p s l l' t w k E).sound)) (ap (λ (z : Ledger). (heap_of z t).worker) S.after ∙ (worker_step p s t m K ∙ E.out)))
+  by Reading K on F C M = goes (on tt) (stays C K.alone (ap (λ (z : Ledger). (heap_of z t).worker) K.goes ∙ E.out))
   by Writing K on F C M = goes (on tt) (writes F K S.line.instr refl C M)
-  by Printing K on F C M = goes (on tt) (stays C K.alone (ap (λ (z : Ledger). (heap_of z t).worker) K.goes ∙ E.held))
+  by Printing K on F C M = goes (on tt) (stays C K.alone (ap (λ (z : Ledger). (heap_of z t).worker) K.goes ∙ E.out))
   by Forking K on F C M = goes (on tt) (
     forked_stands vt v' lt l' t (length m.machine.tasks) (length m.machine.tasks + 1) K.left K.right S.task sound F.stands S.at.runs rests K.forks C,
     forks_note vt v' lt l' t (length m.machine.tasks) (length m.machine.tasks + 1) K.left K.right S.task M.0 sound F.stands S.at.runs rests (waits_rest m t E.idle) K.forks C M.1 K.names M.2 (notes_t F),
@@ -171,7 +171,7 @@ module _ (p : ProgramText) (s : SettingsValue) (v v' : Memory) (l l' : Ledger) (
         steps_note vt v' lt (rested l' t) t idle_t K.ends.alone C.2.others C.2.owner C.2.sources (root_apart vt lt F.stands t idle_t) M (notes_t F),
       )
   by Halting K on F C M =
-      subst (λ (z : Ledger). Stands v' z × AllNoted v' z) (sym (handed_halt m l' K)) (stays C (halt_alone K) (ap (λ hs. (or_fresh (slice_get hs t)).worker) K.heaps ∙ E.held))
+      subst (λ (z : Ledger). Stands v' z × AllNoted v' z) (sym (handed_halt m l' K)) (stays C (halt_alone K) (ap (λ hs. (or_fresh (slice_get hs t)).worker) K.heaps ∙ E.out))
 
   pub ran_keeps : FitsAt p s (part_for s t h (taken_by S.kind k)) v l → (C : Makes p v v' m l' t h S.task S.line S.kind S.last) → Marks p v v' m l' t h S.task S.line S.kind S.last C → Handed
   ran_keeps = by S.kind S.last S.on

@@ -6,41 +6,41 @@ use Rattle.listed.proofs.Options.{none_some}
 use Rattle.run_ledger.specs.declared.data.Heap.{Heap}
 use Rattle.run_ledger.specs.declared.data.Ledger.{Ledger}
 use Rattle.run_ledger.specs.Heaps.{heap_of, or_fresh}
-use Rattle.run_ledger.specs.Entries.{held_from}
+use Rattle.run_ledger.specs.Entries.{out_from}
 use Rattle.listed.specs.Options.{option_is}
 use Rattle.run_ledger.proofs.Frames.{held_is, is_held}
-use Rattle.core_entry_laws.specs.EntryLaws.{TasksOutAreHeld}
+use Rattle.core_entry_laws.specs.EntryLaws.{TasksOutAreTold}
 
 -- where no heap is found, the worker holds none
-none_from : (w k : ℕ) (hs : List Heap) → held_from w k hs ≡ None → (u : ℕ) → (or_fresh (slice_get hs u)).worker ≡ Some w → ⊥
+none_from : (w k : ℕ) (hs : List Heap) → out_from w k hs ≡ None → (u : ℕ) → (or_fresh (slice_get hs u)).worker ≡ Some w → ⊥
 none_from w k [] e u h = none_some h
 none_from w k (x ∷ hs) e u h = by (λ q i. none_from w (k + 1) hs q i) u (option_is x.worker w) refl h e
   where
-    by : (held_from w (k + 1) hs ≡ None → (i : ℕ) → (or_fresh (slice_get hs i)).worker ≡ Some w → ⊥) → (u : ℕ) (b : Bool) → option_is x.worker w ≡ b → (or_fresh (slice_get (x ∷ hs) u)).worker ≡ Some w → cond b (Some k) (held_from w (k + 1) hs) ≡ None → ⊥
+    by : (out_from w (k + 1) hs ≡ None → (i : ℕ) → (or_fresh (slice_get hs i)).worker ≡ Some w → ⊥) → (u : ℕ) (b : Bool) → option_is x.worker w ≡ b → (or_fresh (slice_get (x ∷ hs) u)).worker ≡ Some w → cond b (Some k) (out_from w (k + 1) hs) ≡ None → ⊥
     by more u true q h e = none_some (sym e)
     by more zero false q h e = false≢true (sym q ∙ is_held x.worker w h)
     by more (suc u) false q h e = more e u h
 
-pub none_held : (l : Ledger) (w : ℕ) → held_from w 0 l.heaps ≡ None → (u : ℕ) → (heap_of l u).worker ≡ Some w → ⊥
+pub none_held : (l : Ledger) (w : ℕ) → out_from w 0 l.heaps ≡ None → (u : ℕ) → (heap_of l u).worker ≡ Some w → ⊥
 none_held l w e u h = none_from w 0 l.heaps e u h
 
 -- where one is found, the worker holds that
-some_from : (w k t : ℕ) (hs : List Heap) → held_from w k hs ≡ Some t → (u : ℕ) × (t ≡ k + u) × ((or_fresh (slice_get hs u)).worker ≡ Some w)
+some_from : (w k t : ℕ) (hs : List Heap) → out_from w k hs ≡ Some t → (u : ℕ) × (t ≡ k + u) × ((or_fresh (slice_get hs u)).worker ≡ Some w)
 some_from w k t [] e = none_some e
 some_from w k t (x ∷ hs) e = by (λ q. some_from w (k + 1) t hs q) (option_is x.worker w) refl e
   where
-    by : (held_from w (k + 1) hs ≡ Some t → (u : ℕ) × (t ≡ k + 1 + u) × ((or_fresh (slice_get hs u)).worker ≡ Some w)) → (b : Bool) → option_is x.worker w ≡ b → cond b (Some k) (held_from w (k + 1) hs) ≡ Some t → (u : ℕ) × (t ≡ k + u) × ((or_fresh (slice_get (x ∷ hs) u)).worker ≡ Some w)
+    by : (out_from w (k + 1) hs ≡ Some t → (u : ℕ) × (t ≡ k + 1 + u) × ((or_fresh (slice_get hs u)).worker ≡ Some w)) → (b : Bool) → option_is x.worker w ≡ b → cond b (Some k) (out_from w (k + 1) hs) ≡ Some t → (u : ℕ) × (t ≡ k + u) × ((or_fresh (slice_get (x ∷ hs) u)).worker ≡ Some w)
     by more true q e = (0, (let a : k ≡ t = same_Some k t e in omega (arith, a)), held_is x.worker w q)
     by more false q e = let r = more e in (suc r.0, (let a : t ≡ k + 1 + r.0 = r.1 in omega (arith, a)), r.2)
 
-pub tasks_out_are_held : TasksOutAreHeld
-tasks_out_are_held c l T w = by (held_from w 0 l.heaps) refl
+pub tasks_out_are_told : TasksOutAreTold
+tasks_out_are_told c l T w = by (out_from w 0 l.heaps) refl
   where
-    none_in : (o : Option ℕ) → c.task_out w ≡ o → held_from w 0 l.heaps ≡ None → o ≡ None
+    none_in : (o : Option ℕ) → c.task_out w ≡ o → out_from w 0 l.heaps ≡ None → o ≡ None
     none_in None q e = refl
     none_in (Some t) q e = absurd (none_held l w e t ((T.task_out w t).0 q))
 
-    by : (o : Option ℕ) → held_from w 0 l.heaps ≡ o → c.task_out w ≡ o
+    by : (o : Option ℕ) → out_from w 0 l.heaps ≡ o → c.task_out w ≡ o
     by None e = none_in (c.task_out w) refl e
     by (Some t) e =
         let r = some_from w 0 t l.heaps e in

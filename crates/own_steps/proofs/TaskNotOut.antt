@@ -14,7 +14,7 @@ use Rattle.listed.specs.Options.{option_is}
 use Rattle.run_ledger.proofs.Frames.{held_is}
 use Rattle.shared_value.specs.SharedValue.{SharedValue, accounts}
 use Rattle.shared_value.specs.Stands.{IsSharedValue}
-use Rattle.shared_value.specs.Causes.{first_cause, or_else, task_held}
+use Rattle.shared_value.specs.Causes.{first_cause, or_else, task_asked}
 use Rattle.shared_value.specs.Entered.{refused}
 use Rattle.shared_value.proofs.CausesTold.{refused_is}
 
@@ -30,7 +30,7 @@ module _ (w : SharedValue) (I : IsSharedValue w) (k t : ℕ) where
       by false e = refl
       by true e = absurd (apart (held_is (heap_of (accounts w) t).worker k e))
 
-  kind_is : (kind : Kind) → task_held kind ≡ Some t → is_out (accounts w) k t ≡ false → kind_refusal w.program w.settings (accounts w) k kind ≡ Some NotOut
+  kind_is : (kind : Kind) → task_asked kind ≡ Some t → is_out (accounts w) k t ≡ false → kind_refusal w.program w.settings (accounts w) k kind ≡ Some NotOut
   kind_is (Took u) e out = absurd cc
   kind_is (Ran u n) e out = unless_false (is_out (accounts w) k u) NotOut _ (ap (is_out (accounts w) k) (same_Some u t e) ∙ out)
   kind_is (Chunk u) e out = unless_false (is_out (accounts w) k u) NotOut _ (ap (is_out (accounts w) k) (same_Some u t e) ∙ out)
@@ -42,7 +42,7 @@ module _ (w : SharedValue) (I : IsSharedValue w) (k t : ℕ) where
   kind_is (Sweep u n) e out = absurd cc
   kind_is Fuel e out = absurd cc
 
-  no_fuel : (kind : Kind) → task_held kind ≡ Some t → is_fuel kind ≡ false
+  no_fuel : (kind : Kind) → task_asked kind ≡ Some t → is_fuel kind ≡ false
   no_fuel (Took u) e = refl
   no_fuel (Ran u n) e = refl
   no_fuel (Chunk u) e = refl
@@ -65,7 +65,7 @@ module _ (w : SharedValue) (I : IsSharedValue w) (k t : ℕ) where
           over q = cc
 
   -- the causes that come before come first
-  pub apart_cause : (kind : Kind) → task_held kind ≡ Some t → (w.end ≡ None → (heap_of (accounts w) t).worker ≢ Some k) → refused w (record { worker = k; kind = kind }) ≡ or_else (first_cause w.end w.steps w.settings k false) (Some NotOut)
+  pub apart_cause : (kind : Kind) → task_asked kind ≡ Some t → (w.end ≡ None → (heap_of (accounts w) t).worker ≢ Some k) → refused w (record { worker = k; kind = kind }) ≡ or_else (first_cause w.end w.steps w.settings k false) (Some NotOut)
   apart_cause kind held apart =
       refused_is w I (record { worker = k; kind = kind })
       ∙ (ap (λ b. or_else (first_cause w.end w.steps w.settings k b) (kind_refusal w.program w.settings (accounts w) k kind)) (no_fuel kind held)

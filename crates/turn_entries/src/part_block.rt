@@ -15,11 +15,11 @@ pub struct PartBlock {
 
 /// A part in its block. Contracts see the part.
 #[derive(Drop)]
-pub struct HeldPart {
+pub struct PartInBlock {
     inner: Box<Option<Private>>,
 }
 
-impl Model for HeldPart {
+impl Model for PartInBlock {
     ghost use Rattle.std.specs.Prelude.{◌≡◌, is_some, true};
     ghost use Rattle.task_machine.specs.declared.part.Private.{Private};
     ghost use Rattle.turn_entries.specs.Blocks.{part_in};
@@ -39,16 +39,16 @@ impl PartBlock {
     }
 
     /// Puts a part into it. It takes no memory.
-    pub fn fill(self, part: Private) -> HeldPart
+    pub fn fill(self, part: Private) -> PartInBlock
         ensures { result ≡ part }
     {
         let mut inner = self.inner;
         *inner = Some(part);
-        HeldPart { inner }
+        PartInBlock { inner }
     }
 }
 
-impl HeldPart {
+impl PartInBlock {
     ghost use Rattle.std.specs.Prelude.{◌≡◌};
     ghost use Rattle.std.specs.Borrow.{sem};
     ghost use Rattle.turn_entries.specs.PartLends.{lends_part};
