@@ -29,7 +29,7 @@ use Rattle.run_ledger.specs.Steps.{on_asked}
 use Rattle.run_ledger.specs.Entries.{kind_refusal, refusal, refused_unless, refused_if, is_out, on_running, on_waiting, after_kind, after, chunk_units, is_fuel}
 use Rattle.listed.specs.Options.{option_is}
 use Rattle.run_ledger.specs.Journals.{opening, after_all, ledger_of, is_legal_from, is_legal}
-use Rattle.run_ledger.specs.Laws.{IsHeldByTask, Refers, KeepsReachable, NothingReachableIsFreed}
+use Rattle.run_ledger.specs.Laws.{IsNamedByTask, Refers, KeepsReachable, NothingReachableIsFreed}
 use Rattle.run_ledger.proofs.Held.{chunk_down, chunk_up, collected_down, collected_up, swept_down, swept_up}
 use Rattle.run_ledger.specs.Sound.{ChangesKeepSound, EntriesKeepSound}
 use Rattle.run_ledger.proofs.Sound.{InHeaps, Keeps, Spares, collecting, snapshot_at, survivors_at, Sound, SoundLedger, closed_same, frozen, renewed, changed, cut, spares_kept, up_with, down, in_held, held_keeps}
@@ -229,7 +229,7 @@ opening_sound p s = record {
 
 pub sound_keeps : (l : Ledger) → SoundLedger l → KeepsReachable l
 sound_keeps l S = record {
-  reachable = λ n w. contains_from_in (held l) n (in_held l n (reached_within (IsHeldByTask l.machine) (Refers l.machine) (Keeps l.heaps)
+  reachable = λ n w. contains_from_in (held l) n (in_held l n (reached_within (IsNamedByTask l.machine) (Refers l.machine) (Keeps l.heaps)
       (λ r i. S.all.of_task i.0 i.1 r i.2 (in_from_contains (task_names i.1) r i.3))
       (λ o r k i. S.all.of_object o r k (in_from_contains (refs_at l.machine.store o) r i)) n w));
   references = λ n r c f. contains_from_in (held l) r (in_held l r (S.all.of_object n r (held_keeps l n (in_from_contains (held l) n c)) (in_from_contains (refs_at l.machine.store n) r f)));

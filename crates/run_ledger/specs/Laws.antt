@@ -48,17 +48,17 @@ MachineGoesOn =
 
 -- NOTHING REACHABLE IS FREED
 
--- a task holds the name: in the registers of its frames while it runs or waits, or as its result once it has ended
-abbrev pub IsHeldByTask : State → Name → Type 0
-IsHeldByTask m n = (t : ℕ) × (x : Task) × (slice_get m.tasks t ≡ Some x) × Contains (task_names x) n
+-- a task has the name: in the registers of its frames while it runs or waits, or as its result once it has ended
+abbrev pub IsNamedByTask : State → Name → Type 0
+IsNamedByTask m n = (t : ℕ) × (x : Task) × (slice_get m.tasks t ≡ Some x) × Contains (task_names x) n
 
 -- the object of one name refers to the other
 abbrev pub Refers : State → Name → Name → Type 0
 Refers m n r = Contains (refs_at m.store n) r
 
--- a walk along references leads to the name from one that a task holds
+-- a walk along references leads to the name from one that a task has
 abbrev pub IsReachable : State → Name → Type 0
-IsReachable m n = IsReached (IsHeldByTask m) (Refers m) n
+IsReachable m n = IsReached (IsNamedByTask m) (Refers m) n
 
 -- all that is reachable is held, and so is each reference of what is held
 pub record KeepsReachable (l : Ledger) : Type 0 where
