@@ -161,7 +161,7 @@ module _ (w : SharedValue) (k : ℕ) (p : Private) (I : IsSharedValue w) (F : Fi
   abbrev vt : Memory
   vt = with_belongings v t h
 
-  here : vt.belongings t ≡ h
+  abbrev here : vt.belongings t ≡ h
   here = at_belongings v t h
 
   module _ (rests : List (Option Rest)) (sets : List SetOf) (H : RestsFork w.rests rests p left right) (N : SetsFork w.sets sets t) (marks : List (Option MarkingValue)) (unmarked : (u : ℕ) → marks_at marks u ≡ marks_at (slice_set w.marks t None) u) (j : RoomyValue EntryValue) where

@@ -49,7 +49,7 @@ module _ (w : SharedValue) (k : ℕ) (p : Private) (I : IsSharedValue w) (F : Fi
   abbrev R : Ledger
   R = rested (steps.M w k p I F at_end free) t
 
-  on : (accounts w).end ≡ None
+  abbrev on : (accounts w).end ≡ None
   on = steps.on w k p I F at_end free
 
   -- no worker holds the others that join

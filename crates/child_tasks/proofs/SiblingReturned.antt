@@ -238,15 +238,15 @@ module _ (w : SharedValue) (k : ℕ) (p : Private) (I : IsSharedValue w) (F : Fi
       ] in
       omega (arith, b, c, e)
 
-  pub here : vt.belongings t ≡ h
+  abbrev pub here : vt.belongings t ≡ h
   here = at_belongings v t h
 
   -- it is amid no collection
   pub own_here : vt.belongings t ≡ belongings_by p.heap p.view p.allocations (Calls p.frames)
   own_here = here ∙ ap (λ o. let z : Belongings = record (belongings_by p.heap p.view p.allocations (Calls p.frames)) { begun = o } in z) (last.none w k p I F shared free_last)
 
-  pub off : (u : ℕ) → (u ≡ t → ⊥) → vt.belongings u ≡ v.belongings u
-  off u ne = off_belongings v t h u ne
+  abbrev pub off : (u : ℕ) → (u ≡ t → ⊥) → vt.belongings u ≡ v.belongings u
+  off = off_belongings v t h
 
   -- a heap is counted as its account says
   pub counted_belongings : (u n : ℕ) (g : LeafHeapValue) (view : List Level) (z : Work) → vt.belongings u ≡ belongings_by g view n z → Rests R u → HeapForm g → IsCounted g (heap_of R u)

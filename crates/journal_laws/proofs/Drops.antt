@@ -62,13 +62,13 @@ module _ (p : ProgramText) (l : Ledger) (t : ℕ) (S : SoundAt t l) (I : Stocked
   abbrev k : Ledger
   k = stepped_to (allocated_in p l t) t (step p l.machine t)
 
-  heap : (h : Heap) × (slice_get l.heaps t ≡ Some h)
+  abbrev heap : (h : Heap) × (slice_get l.heaps t ≡ Some h)
   heap = heap_of_task l t S.0 (can_tells l.machine t can).1
 
   abbrev machine_is : k.machine ≡ step p l.machine t
   machine_is = stepped_machine (allocated_in p l t) t (step p l.machine t)
 
-  grown : Grown p l.machine t
+  abbrev grown : Grown p l.machine t
   grown = G p l t S I can
 
   up_to : (o : Option ℕ) (n : Name) → copies n l.heaps ≤ copies n (allocated_by l t o).heaps

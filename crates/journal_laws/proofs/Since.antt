@@ -53,7 +53,7 @@ module _ (p : ProgramText) (limit most : ℕ) (asks : AsksAtMost p limit most) w
     abbrev k : Ledger
     k = stepped_to (allocated_in p l t) t (step p l.machine t)
 
-    heap : (h : Heap) × (slice_get l.heaps t ≡ Some h)
+    abbrev heap : (h : Heap) × (slice_get l.heaps t ≡ Some h)
     heap = heap_of_task l t S.0 (can_tells l.machine t can).1
 
     asked_by : (o : Option ℕ) → asked p l.machine t ≡ o → total since_in (allocated_by l t o).heaps ≤ total since_in l.heaps + most

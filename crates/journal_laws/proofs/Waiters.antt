@@ -35,7 +35,7 @@ module _ (p : ProgramText) (l : Ledger) (t : ℕ) (S : SoundAt t l) (I : Free l)
   abbrev k : Ledger
   k = stepped_to (allocated_in p l t) t (step p l.machine t)
 
-  leaves : StepLeaves t l (allocated_in p l t) k
+  abbrev leaves : StepLeaves t l (allocated_in p l t) k
   leaves = step_leaves p l t S can
 
   alone : WaitsAlone p l.machine t

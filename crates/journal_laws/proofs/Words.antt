@@ -55,10 +55,10 @@ module _ (p : ProgramText) (l : Ledger) (t : ℕ) (S : SoundAt t l) (I : Stocked
   abbrev k : Ledger
   k = stepped_to (allocated_in p l t) t (step p l.machine t)
 
-  heap : (h : Heap) × (slice_get l.heaps t ≡ Some h)
+  abbrev heap : (h : Heap) × (slice_get l.heaps t ≡ Some h)
   heap = heap_of_task l t S.0 (can_tells l.machine t can).1
 
-  grown : Grown p l.machine t
+  abbrev grown : Grown p l.machine t
   grown = G p l t S I can
 
   same_words : total (words_in m') l.heaps ≡ total (words_in l.machine) l.heaps

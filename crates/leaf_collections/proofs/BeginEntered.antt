@@ -37,7 +37,7 @@ use Rattle.leaf_collections.proofs.PartCollecting.{begin_part, new_fresh}
 use Rattle.leaf_collections.proofs.NewChunks.{new_of}
 
 module _ (w : SharedValue) (k : ℕ) (p : Private) (I : IsSharedValue w) (F : Fits w k p) (none : p.fresh ≡ 0) (free : refused w (record { worker = k; kind = Begin p.task }) ≡ None) where
-  F0 : Fits w k (record p { fresh = 0 })
+  abbrev F0 : Fits w k (record p { fresh = 0 })
   F0 = without_fresh w k p F none
 
   goes : (accounts w).end ≡ None

@@ -58,7 +58,7 @@ module _ (w : SharedValue) (k : ℕ) (p : Private) (I : IsSharedValue w) (F : Fi
   abbrev L : Ledger
   L = with_heap l t begun_with
 
-  on : l.end ≡ None
+  abbrev on : l.end ≡ None
   on = entry_on w e free
 
   idle : is_waiting (slice_get l.machine.tasks t) ≡ false

@@ -124,10 +124,10 @@ module _ (w : SharedValue) (k : ℕ) (p : Private) (I : IsSharedValue w) (F : Fi
   abbrev after_ : Memory
   after_ = with_belongings v t (belongings_of_part Q)
 
-  here : before.belongings t ≡ belongings_of_part P
+  abbrev here : before.belongings t ≡ belongings_of_part P
   here = at_belongings v t (belongings_of_part P)
 
-  here' : after_.belongings t ≡ belongings_of_part Q
+  abbrev here' : after_.belongings t ≡ belongings_of_part Q
   here' = at_belongings v t (belongings_of_part Q)
 
   H : BelongingsStand before (rested l t) t

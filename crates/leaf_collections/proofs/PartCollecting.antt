@@ -79,7 +79,7 @@ module _ (w : SharedValue) (k : ℕ) (p : Private) (I : IsSharedValue w) (F : Fi
   abbrev L : Ledger
   L = with_heap l t begun_with
 
-  on : l.end ≡ None
+  abbrev on : l.end ≡ None
   on = entry_on w e free
 
   abbrev there : (z : Heap) × (slice_get l.heaps t ≡ Some z)
@@ -123,10 +123,10 @@ module _ (w : SharedValue) (k : ℕ) (p : Private) (I : IsSharedValue w) (F : Fi
     abbrev after_ : Memory
     after_ = with_belongings v' t (belongings_of_part Q)
 
-    here : before.belongings t ≡ belongings_of_part P
+    abbrev here : before.belongings t ≡ belongings_of_part P
     here = at_belongings v t (belongings_of_part P)
 
-    here' : after_.belongings t ≡ belongings_of_part Q
+    abbrev here' : after_.belongings t ≡ belongings_of_part Q
     here' = at_belongings v' t (belongings_of_part Q)
 
     H : BelongingsStand before (rested l t) t

@@ -47,7 +47,7 @@ module _ (w : SharedValue) (k : ℕ) (p : Private) (I : IsSharedValue w) (F : Fi
   abbrev l : Ledger
   l = accounts w
 
-  on : l.end ≡ None
+  abbrev on : l.end ≡ None
   on = entry_on w e free
 
   -- the part is amid no leaf collection, and the free chunks are enough

@@ -91,10 +91,10 @@ module _ (w : SharedValue) (k : ℕ) (p q : Private) (n : ℕ) (I : IsSharedValu
   abbrev after : Memory
   after = with_belongings v t (belongings_of_part Q)
 
-  was : before.belongings t ≡ belongings_of_part p
+  abbrev was : before.belongings t ≡ belongings_of_part p
   was = at_belongings v t (belongings_of_part p)
 
-  here : after.belongings t ≡ belongings_of_part Q
+  abbrev here : after.belongings t ≡ belongings_of_part Q
   here = at_belongings v t (belongings_of_part Q)
 
   old : BelongingsStand before L t

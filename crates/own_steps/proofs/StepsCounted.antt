@@ -89,7 +89,7 @@ module _ (w : SharedValue) (k : ℕ) (p q : Private) (n : ℕ) (I : IsSharedValu
   pub goes : l.machine.end ≡ None
   goes = link.goes w k p I F on
 
-  A : After l M t F.fits.task
+  abbrev A : After l M t F.fits.task
   A = link.A w k p I F on
 
   run : A.task.status ≡ Running
@@ -98,7 +98,7 @@ module _ (w : SharedValue) (k : ℕ) (p q : Private) (n : ℕ) (I : IsSharedValu
   now_goes : M.machine.end ≡ None
   now_goes = A.goes ∙ goes
 
-  there : (h : Heap) × (slice_get M.heaps t ≡ Some h)
+  abbrev there : (h : Heap) × (slice_get M.heaps t ≡ Some h)
   there = ask.account_is w k p I F on
 
   account_was : heap_of M t ≡ there.0

@@ -78,7 +78,7 @@ module _ (w : SharedValue) (k : ℕ) (p : Private) (I : IsSharedValue w) (F : Fi
   abbrev vt : Memory
   vt = with_belongings v t h
 
-  here : vt.belongings t ≡ h
+  abbrev here : vt.belongings t ≡ h
   here = at_belongings v t h
 
   module _ (end : Option RunEnd) (room : ℕ) where

@@ -135,10 +135,10 @@ module _ (p : ProgramText) (s : SettingsValue) (l : Ledger) (t : ℕ) (S : Sound
   abbrev k : Ledger
   k = stepped_to (allocated_in p l t) t (step p l.machine t)
 
-  pub heap : (h : Heap) × (slice_get l.heaps t ≡ Some h)
+  abbrev pub heap : (h : Heap) × (slice_get l.heaps t ≡ Some h)
   heap = heap_of_task l t S.0 (can_tells l.machine t can).1
 
-  grown : Grown p l.machine t
+  abbrev grown : Grown p l.machine t
   grown = G p l t S I can
 
   leaves : StepLeaves t l (allocated_in p l t) (stepped_to (allocated_in p l t) t (step p l.machine t))

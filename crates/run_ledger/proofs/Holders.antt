@@ -114,10 +114,10 @@ module _ (p : ProgramText) (l : Ledger) (t : ℕ) (S : SoundAt t l) (I : MannedL
   abbrev k : Ledger
   k = stepped_to (allocated_in p l t) t (step p l.machine t)
 
-  leaves : StepLeaves t l b k
+  abbrev leaves : StepLeaves t l b k
   leaves = step_leaves p l t S can
 
-  heap : (h : Heap) × (slice_get l.heaps t ≡ Some h)
+  abbrev heap : (h : Heap) × (slice_get l.heaps t ≡ Some h)
   heap = heap_of_task l t S.0 (can_tells l.machine t can).1
 
   worker_b : (o : Option ℕ) (u : ℕ) → worker_at (slice_get (allocated_by l t o).heaps u) ≡ worker_at (slice_get l.heaps u)

@@ -88,7 +88,7 @@ module _ (w : SharedValue) (k : ℕ) (p : Private) (I : IsSharedValue w) (F : Fi
   pub belongings_stand : BelongingsStand (with_belongings (value_of w) t h) L t
   belongings_stand = (link.V w k p I F on).stands.belongings t (rested_worker M t)
 
-  here : (with_belongings (value_of w) t h).belongings t ≡ h
+  abbrev here : (with_belongings (value_of w) t h).belongings t ≡ h
   here = at_belongings (value_of w) t h
 
   -- its next step allocates as many words as that of its task then

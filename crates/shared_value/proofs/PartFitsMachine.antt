@@ -193,7 +193,7 @@ module _ (w : SharedValue) (k : ℕ) (p : Private) (I : IsSharedValue w) (F : Fi
   pub alone : StepsAlone l L t
   alone = ahead_alone w.program w.settings (part_of w.settings p) l knows.sound F.fits.steady V.private
 
-  pub goes : l.machine.end ≡ None
+  abbrev pub goes : l.machine.end ≡ None
   goes = machine_goes_on w.program w.settings w.journal.items on
 
   pub A : After l then_ t F.fits.task
@@ -217,7 +217,7 @@ module _ (w : SharedValue) (k : ℕ) (p : Private) (I : IsSharedValue w) (F : Fi
   pub at_rest : Rests L t
   at_rest = rested_worker then_ t
 
-  here : v'.belongings t ≡ h
+  abbrev here : v'.belongings t ≡ h
   here = at_belongings v t h
 
   pub off : (u : ℕ) → (u ≡ t → ⊥) → v'.belongings u ≡ v.belongings u

@@ -78,7 +78,7 @@ module _ (w : SharedValue) (k : ℕ) (p : Private) (I : IsSharedValue w) (F : Fi
   abbrev M : Ledger
   M = ahead w.program (part_of w.settings p) (accounts w)
 
-  here : vp.belongings p.task ≡ belongings_of_part p
+  abbrev here : vp.belongings p.task ≡ belongings_of_part p
   here = at_belongings (value_of w) p.task (belongings_of_part p)
 
   pub belongings_stand : BelongingsStand vp M p.task

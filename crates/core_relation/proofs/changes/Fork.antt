@@ -62,7 +62,7 @@ module _ (v v' : Memory) (l l' : Ledger) (t a b g h : ℕ) (x : Task) (S : Sound
   ]
 
   -- a new one has no object
-  none_new : (z : ℕ) (o : Located) → (z ≡ a) ⊎ (z ≡ b) → In (objects v' z) o → ⊥
+  abbrev none_new : (z : ℕ) (o : Located) → (z ≡ a) ⊎ (z ≡ b) → In (objects v' z) o → ⊥
   none_new = none_in v' a b (ap (λ (k : Belongings). k.chunks) C.left) (ap (λ (k : Belongings). k.chunks) C.right)
 
   rest : (z : ℕ) → (z ≡ a → ⊥) → (z ≡ b → ⊥) → Rests l' z → Rests l z

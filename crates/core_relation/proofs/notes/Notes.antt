@@ -222,10 +222,10 @@ fork_notes v v' l l' t a b g h x roots S V runs rests at_rest F C R names none u
 
 module _ (v v' : Memory) (l l' : Ledger) (t : ℕ) (x : Task) (n : Name) (y : Object) (o w i : ℕ) (c : Option (ℕ × ℤ)) (f : Frame) (fs : List Frame) (a : Addr) (S : SoundLedger l) (V : Stands v l) (rests : Rests l t)
     (L : StoresOne l l' t x n y o w i c) (C : StoresAt v v' l t f fs a w i c) (at_a : ref_of f o ≡ Some a) (u : ℕ) (wait : is_waiting (slice_get l.machine.tasks u) ≡ true) where
-  place : Place v l n a
+  abbrev place : Place v l n a
   place = store.place v v' l l' t x n y o w i c f fs a S V rests L C at_a
 
-  rests_n : Rests l (own l n)
+  abbrev rests_n : Rests l (own l n)
   rests_n = store.rests_n v v' l l' t x n y o w i c f fs a S V rests L C at_a
 
   holds : In (task_names x) n
