@@ -201,7 +201,7 @@ module _ (w : SharedValue) (k : ℕ) (p : Private) (I : IsSharedValue w) (F : Fi
       joins_so : JoinsBelongings vt v' Q.parent Q.left (Q.left + 1) al ar
       joins_so =
           subst (λ n. JoinsBelongings vt v' Q.parent n (n + 1) al ar) (sym (both.left_is w k p I F at_end free ended above beside frames above_is calls beside_is c lh rh al ar side))
-          (subst (λ n. JoinsBelongings vt v' n c (c + 1) al ar) (sym (before.parent_same w k p I F at_end free ended)) (joins_belongings vt v' R W w.pool pool q c (c + 1) al ar (both.rests_q w k p I F at_end free ended above beside frames above_is calls beside_is c lh rh al ar side) (both.rests_c w k p I F at_end free ended above beside frames above_is calls beside_is c lh rh al ar side) (both.rests_d w k p I F at_end free ended above beside frames above_is calls beside_is c lh rh al ar side) merges))
+          (subst (λ n. JoinsBelongings vt v' n c (c + 1) al ar) (sym (before.parent_same w k p I F at_end free ended)) (joins_belongings vt v' R W w.pool pool q c (c + 1) al ar (before.rests_parent w k p I F at_end free ended) (both.rests_c w k p I F at_end free ended above beside frames above_is calls beside_is c lh rh al ar side) (both.rests_d w k p I F at_end free ended above beside frames above_is calls beside_is c lh rh al ar side) merges))
 
       notes_so : JoinsNotes vt v' Q.parent Q.left (Q.left + 1)
       notes_so = subst (λ n. JoinsNotes vt v' Q.parent n (n + 1)) (sym (both.left_is w k p I F at_end free ended above beside frames above_is calls beside_is c lh rh al ar side)) (subst (λ n. JoinsNotes vt v' n c (c + 1)) (sym (before.parent_same w k p I F at_end free ended)) notes)

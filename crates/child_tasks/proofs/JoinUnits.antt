@@ -35,6 +35,7 @@ use Rattle.child_tasks.specs.Joins.{AreSides, RestsJoin, IsRestOf}
 use Rattle.child_tasks.proofs.ChildReturns as steps
 use Rattle.child_tasks.proofs.JoinBelongings.{in_has}
 use Rattle.child_tasks.proofs.JoinedBelongings as both
+use Rattle.child_tasks.proofs.SiblingReturned as before
 
 module _ (w : SharedValue) (k : ℕ) (p : Private) (I : IsSharedValue w) (F : Fits w k p) (at_end : IsAtEnd w p) (free : refused w (alone_event k p) ≡ None) (ended : state_in_tree w.tree (steps.other w k p I F at_end free) ≡ Some Ended) where
   abbrev t : ℕ
@@ -87,7 +88,7 @@ module _ (w : SharedValue) (k : ℕ) (p : Private) (I : IsSharedValue w) (F : Fi
     above_measured : AreMeasured w.pool q above.heap.chunks
     above_measured =
         I.measured q above above_is
-        (unheld q (steps.parent_apart w k p I F at_end free) (both.rests_q w k p I F at_end free ended above beside frames above_is calls beside_is c lh rh al ar side))
+        (unheld q (steps.parent_apart w k p I F at_end free) (before.rests_parent w k p I F at_end free ended))
 
     module _ (rests : List (Option Rest)) (pool : PoolValue) (heap : LeafHeapValue) (H : RestsJoin w.rests rests p q s (with_results frames al ar) heap above) (relabelled : AreRelabelled w.pool pool (lh.chunks ++ rh.chunks) q)
         (heap_is : heap ≡ with_places (merged above.heap lh rh) heap.slots heap.spare) where

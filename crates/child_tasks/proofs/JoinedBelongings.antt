@@ -176,8 +176,8 @@ module _ (w : SharedValue) (k : ℕ) (p : Private) (I : IsSharedValue w) (F : Fi
           subst (λ u. HasResult vt R u Q.right_result ar) z.0 (subst (λ a. HasResult vt R t Q.right_result a) (sym m.5) (own_has Q.right_result z.2)),
         )
 
-    pub rests_q : Rests R q
-    rests_q = subst (Rests R) (before.parent_same w k p I F at_end free ended) Q.can.rests
+    abbrev rests_q : Rests R q
+    rests_q = before.rests_parent w k p I F at_end free ended
 
     pub rests_c : Rests R c
     rests_c = subst (Rests R) left_is Q.can.left_rests

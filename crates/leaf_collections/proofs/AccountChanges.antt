@@ -23,8 +23,7 @@ use Rattle.shared_value.specs.SharedValue.{SharedValue, accounts, value_by, valu
 use Rattle.shared_value.specs.Stands.{IsSharedValue}
 use Rattle.shared_value.specs.Fits.{Fits, belongings_of_part}
 use Rattle.shared_value.proofs.NextStepAsks.{account_is}
-use Rattle.shared_value.proofs.BeforeTheEnd.{stands_now}
-use Rattle.shared_value.proofs.StepsEntered.{fits_now}
+use Rattle.shared_value.proofs.BeforeTheEnd.{fits_now, stands_now}
 
 module _ (w : SharedValue) (k : ℕ) (p : Private) (I : IsSharedValue w) (F : Fits w k (record p { fresh = 0 })) (on : (accounts w).end ≡ None) (f : Heap → Heap) (holds : (h : Heap) → (f h).worker ≡ h.worker) where
   abbrev P : Private
@@ -106,5 +105,5 @@ module _ (w : SharedValue) (k : ℕ) (p : Private) (I : IsSharedValue w) (F : Fi
             let same : heap_of (rested L t) u ≡ heap_of (rested l t) u = ap or_fresh (with_off L t u let_go ne ∙ (heap_off u ne ∙ sym (with_off l t u let_go ne))) in
             let rests : Rests (rested l t) u = ap (λ (z : Heap). z.worker) (sym same) ∙ r in
             belongings_kept before after_ (rested l t) (rested L t) u (off_belongings v' t g u ne ∙ sym (off_belongings v t (belongings_of_part P) u ne)) (λ c e. kept c u e) same
-            (ap (λ (m : State). length (row_of (slice_get m.store u))) (sym rested_same)) (ap (λ (m : State). is_joined (slice_get m.tasks u)) (sym rested_same)) ((fits_now w k P I F on).stands.belongings u rests)
+            (ap (λ (m : State). length (row_of (slice_get m.store u))) (sym rested_same)) (ap (λ (m : State). is_joined (slice_get m.tasks u)) (sym rested_same)) ((fits_now w k P F on).stands.belongings u rests)
       ]

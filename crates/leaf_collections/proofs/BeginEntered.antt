@@ -20,7 +20,7 @@ use Rattle.leaf_copy_gc.proofs.FoundLemmas.{born_live}
 use Rattle.core_relation.specs.Memory.{In}
 use Rattle.task_machine.specs.declared.part.Private.{Private}
 use Rattle.task_machine.specs.declared.part.Begun.{Begun}
-use Rattle.shared_value.specs.SharedValue.{SharedValue, accounts}
+use Rattle.shared_value.specs.SharedValue.{SharedValue}
 use Rattle.shared_value.specs.Stands.{IsSharedValue}
 use Rattle.shared_value.specs.Fits.{Fits, OthersFit}
 use Rattle.shared_value.specs.Due.{take_by}
@@ -39,9 +39,6 @@ use Rattle.leaf_collections.proofs.NewChunks.{new_of}
 module _ (w : SharedValue) (k : ℕ) (p : Private) (I : IsSharedValue w) (F : Fits w k p) (none : p.fresh ≡ 0) (free : refused w (record { worker = k; kind = Begin p.task }) ≡ None) where
   abbrev F0 : Fits w k (record p { fresh = 0 })
   F0 = without_fresh w k p F none
-
-  goes : (accounts w).end ≡ None
-  goes = entry_on w (record { worker = k; kind = Begin p.task }) free
 
   pub begins_idle : p.begun ≡ None
   begins_idle = begin_idle w k p I F0 free
@@ -99,7 +96,7 @@ module _ (w : SharedValue) (k : ℕ) (p : Private) (I : IsSharedValue w) (F : Fi
     -- the roots are objects of the heap
     sound_root : (a : Addr) → In roots a → IsSound p.heap.chunks (Some a)
     sound_root a i = λ lt.
-        let q = root_here w k p I F0 goes a (subst (λ rs. In rs a) er i) in
+        let q = root_here w k p I F0 (entry_on w (record { worker = k; kind = Begin p.task }) free) a (subst (λ rs. In rs a) er i) in
         let y = seen_object p.heap.chunks q.0 F.form.shaped.apart q.1 in
         (subst (λ z. IsBorn (cell_of p.heap.chunks z).mark) q.2 (born_live (cell_of p.heap.chunks q.0.at).mark q.0.birth y.mark), subst (λ (z : Addr). z.offset < 1024) q.2 (F.form.near q.0 q.1))
 

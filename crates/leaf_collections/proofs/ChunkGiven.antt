@@ -56,12 +56,12 @@ use Rattle.shared_value.proofs.NextStepAsks.{asks_is, counted_is}
 use Rattle.shared_value.proofs.CollectionUnderWay.{account_idle, none_begun}
 use Rattle.shared_value.proofs.HeapCounts.{small_names}
 use Rattle.shared_value.proofs.EntryMade.{entered, entry_on, tasks_apart}
-use Rattle.shared_value.proofs.NothingMoves.{quiet_others, quiet_own, quiet_world, same_value}
+use Rattle.shared_value.proofs.NothingMoves.{notes_unchanged, quiet_others, quiet_own, quiet_world, same_value}
 use Rattle.shared_value.proofs.HeapForms.{reserved_none}
 use Rattle.shared_value.proofs.PartFitsMachine as link
 use Rattle.shared_value.proofs.UnitsMeasured.{all_kept, measured_both, measured_new, part_kept, taken_keeps}
-use Rattle.shared_value.proofs.BeforeTheEnd.{part_idle, stands_now, used_now}
-use Rattle.shared_value.proofs.StepsEntered.{fits_now, belongings_stand}
+use Rattle.shared_value.proofs.BeforeTheEnd.{fits_now, part_idle, stands_now, used_now}
+use Rattle.shared_value.proofs.StepsEntered.{belongings_stand}
 use Rattle.shared_value.proofs.HeapForms.{places_form}
 use Rattle.shared_value.proofs.HeapLaidOut.{some_units}
 use Rattle.leaf_collections.proofs.AccountChanges as change
@@ -435,9 +435,6 @@ module _ (w : SharedValue) (k : ℕ) (p : Private) (I : IsSharedValue w) (F : Fi
   full_same : SameObjects (value_of w) (value_of w) (accounts w) (after w.program w.settings (accounts w) full_event)
   full_same = subst (SameObjects (value_of w) (value_of w) (accounts w)) (sym ends_so) (same_value (value_of w) (accounts w) full_ledger refl (λ u. refl) (stands_now w I on).belongings.belongings)
 
-  full_notes : (u : ℕ) → NotesStay (value_of w) (value_of w) u
-  full_notes u = record { keeps = refl; kept = refl; marked = refl }
-
   full_units : AsksUnits (nat_lt w.settings.chunks (units_in_use w.pool + chunk_units (asked w.program (accounts w).machine p.task))) (tree_counts_of w) (tree_counts_of ended) (chunk_units (asked w.program (accounts w).machine p.task))
   full_units =
       let limit : w.pool.limit ≡ w.settings.chunks = I.limit in
@@ -449,10 +446,10 @@ module _ (w : SharedValue) (k : ℕ) (p : Private) (I : IsSharedValue w) (F : Fi
   full_counts = (record { node = λ u. refl; task_out = λ u. refl; steps = refl; outputs = refl }, full_units)
 
   pub full_world : IsSharedValue ended
-  full_world = quiet_world w full_event I free tt (λ u m. m) w.pool full_end j.room full_same full_notes full_counts refl (all_kept w.pool)
+  full_world = quiet_world w full_event I free tt (λ u m. m) w.pool full_end j.room full_same (notes_unchanged (value_of w)) full_counts refl (all_kept w.pool)
 
   pub full_others : OthersFit w ended k
-  full_others o q ne G = quiet_others w full_event I free tt (λ u m. m) w.pool full_end j.room full_same full_notes full_counts refl (all_kept w.pool) o q (tasks_apart w k o (record p { fresh = 0 }) q F G ne) G
+  full_others o q ne G = quiet_others w full_event I free tt (λ u m. m) w.pool full_end j.room full_same (notes_unchanged (value_of w)) full_counts refl (all_kept w.pool) o q (tasks_apart w k o (record p { fresh = 0 }) q F G ne) G
 
   abbrev full_belongings : Memory
   full_belongings = with_belongings (value_of w) p.task (belongings_of_part (record p { fresh = 0 }))
@@ -476,9 +473,9 @@ module _ (w : SharedValue) (k : ℕ) (p : Private) (I : IsSharedValue w) (F : Fi
   -- the part, whose heap may have places for other numbers of chunks
   pub full_part : (a b : ℕ) → Fits ended k (record p { fresh = 0; heap = with_places p.heap a b })
   full_part a b =
-      quiet_own w full_event I free tt (λ u m. m) w.pool full_end j.room full_same full_notes full_counts refl (all_kept w.pool) k p (with_places p.heap a b) p.begun F (places_form p.heap a b F.form) F.measured
+      quiet_own w full_event I free tt (λ u m. m) w.pool full_end j.room full_same (notes_unchanged (value_of w)) full_counts refl (all_kept w.pool) k p (with_places p.heap a b) p.begun F (places_form p.heap a b F.form) F.measured
       (subst (λ (z : Ledger). SameObjects full_belongings full_belongings (rested (accounts w) p.task) (rested z p.task)) (sym ends_so)
-      (same_value full_belongings (rested (accounts w) p.task) (rested full_ledger p.task) (heap_machine full_ledger p.task let_go ∙ sym (heap_machine (accounts w) p.task let_go)) heaps_rested (fits_now w k (record p { fresh = 0 }) I F on).stands.belongings))
+      (same_value full_belongings (rested (accounts w) p.task) (rested full_ledger p.task) (heap_machine full_ledger p.task let_go ∙ sym (heap_machine (accounts w) p.task let_go)) heaps_rested (fits_now w k (record p { fresh = 0 }) F on).stands.belongings))
       (subst (λ (z : Ledger). BegunBy full_belongings (rested z p.task) p.task p.begun) (sym ends_so) (subst (λ o. BegunBy full_belongings (rested full_ledger p.task) p.task o) (sym full_idle) none_full))
 
 -- ---- AS THE CALL HAS IT

@@ -21,7 +21,6 @@ use Rattle.core_relation.specs.Changes.{SameObjects}
 use Rattle.core_relation.specs.Counts.{CountsGo}
 use Rattle.core_relation.specs.Fits.{with_belongings}
 use Rattle.core_relation.specs.Layout.{AreLaidOut}
-use Rattle.core_relation.specs.Since.{NotesStay}
 use Rattle.core_relation.specs.Stands.{HasNames, BelongingsStand}
 use Rattle.object_layout.specs.Objects.{Located}
 use Rattle.core_relation.specs.Memory.{Chunk, Belongings, In, Memory, objects, objects_in}
@@ -37,7 +36,7 @@ use Rattle.shared_value.specs.Entered.{refused}
 use Rattle.shared_value.specs.Next.{part_asks}
 use Rattle.shared_value.proofs.CollectionUnderWay.{account_idle, none_begun}
 use Rattle.shared_value.proofs.EntryMade.{entered, entry_on, tasks_apart}
-use Rattle.shared_value.proofs.NothingMoves.{quiet_others, quiet_own, quiet_world}
+use Rattle.shared_value.proofs.NothingMoves.{notes_unchanged, quiet_others, quiet_own, quiet_world}
 use Rattle.shared_value.proofs.UnitsMeasured.{all_kept}
 use Rattle.shared_value.proofs.StepsEntered.{belongings_stand}
 use Rattle.leaf_collections.proofs.AccountChanges as change
@@ -108,14 +107,11 @@ module _ (w : SharedValue) (k : ℕ) (p : Private) (I : IsSharedValue w) (F : Fi
   same : SameObjects v v l L
   same = change.same_objects w k p I F on counted_anew (λ z. refl) w.pool (λ c u e. e) (λ c u e. inl e)
 
-  notes : (u : ℕ) → NotesStay v v u
-  notes u = record { keeps = refl; kept = refl; marked = refl }
-
   counts : CountsGo w.program w.settings l (tree_counts_of w) (tree_counts_of w') k (PutOff t)
   counts = (record { node = λ u. refl; task_out = λ u. refl; steps = refl; outputs = refl }, refl, refl)
 
   pub put_off_world : IsSharedValue w'
-  put_off_world = quiet_world w e I free tt (λ u m. m) w.pool w.end j.room same notes counts refl (all_kept w.pool)
+  put_off_world = quiet_world w e I free tt (λ u m. m) w.pool w.end j.room same (notes_unchanged v) counts refl (all_kept w.pool)
 
   -- THE PART
   abbrev before : Memory
@@ -191,12 +187,12 @@ module _ (w : SharedValue) (k : ℕ) (p : Private) (I : IsSharedValue w) (F : Fi
   none_then = ap (λ (z : Heap). z.begun) account_same ∙ (rested_view (λ (z : Heap). z.begun) (λ z. refl) l t ∙ account_idle w k P F on idle_part)
 
   pub put_off_part : Fits w' k Q
-  put_off_part = quiet_own w e I free tt (λ u m. m) w.pool w.end j.room same notes counts refl (all_kept w.pool) k p (reset p.heap) p.begun F (reset_form p.heap F.form) F.measured part_same
+  put_off_part = quiet_own w e I free tt (λ u m. m) w.pool w.end j.room same (notes_unchanged v) counts refl (all_kept w.pool) k p (reset p.heap) p.begun F (reset_form p.heap F.form) F.measured part_same
       (subst (λ o. BegunBy after_ (rested L t) t o) (sym idle_part) none_then)
 
   -- THE PARTS OF OTHERS
   pub put_off_others : OthersFit w w' k
-  put_off_others o q ne G = quiet_others w e I free tt (λ u m. m) w.pool w.end j.room same notes counts refl (all_kept w.pool) o q (tasks_apart w k o P q F G ne) G
+  put_off_others o q ne G = quiet_others w e I free tt (λ u m. m) w.pool w.end j.room same (notes_unchanged v) counts refl (all_kept w.pool) o q (tasks_apart w k o P q F G ne) G
 
 -- AS THE CALL HAS IT
 module _ (w : SharedValue) (k : ℕ) (p : Private) (F : Fits w k p) (none : p.fresh ≡ 0) where

@@ -50,7 +50,8 @@ use Rattle.shared_value.proofs.FreeChunks.{take_is}
 use Rattle.shared_value.proofs.NothingMoves.{quiet_own}
 use Rattle.shared_value.proofs.PartFitsMachine as link
 use Rattle.shared_value.proofs.UnitsMeasured.{all_taken_units, measured_kept}
-use Rattle.shared_value.proofs.StepsEntered.{fits_now, belongings_stand, status}
+use Rattle.shared_value.proofs.BeforeTheEnd.{fits_now}
+use Rattle.shared_value.proofs.StepsEntered.{belongings_stand, status}
 use Rattle.shared_value.proofs.RootsByAccounts.{are_roots}
 use Rattle.leaf_collections.proofs.AccountChanges as change
 use Rattle.leaf_collections.proofs.WhyNoCollection.{begin_idle}
@@ -229,7 +230,7 @@ module _ (w : SharedValue) (k : ℕ) (p : Private) (I : IsSharedValue w) (F : Fi
 
     begun_stands : BegunStands after_ (rested L t) t b
     begun_stands =
-        begins before after_ (rested l t) (rested L t) t F.fits.task b (rested_sound l t (legal_knows w.program w.settings w.journal.items I.legal).sound) (fits_now w k P I F on).stands
+        begins before after_ (rested l t) (rested L t) t F.fits.task b (rested_sound l t (legal_knows w.program w.settings w.journal.items I.legal).sound) (fits_now w k P F on).stands
         (ap (λ (m : State). slice_get m.tasks t) (heap_machine l t let_go) ∙ F.fits.is) (status w k P I F on) (rested_worker l t) (waits_rest l t (idle_rest w I on)) (are_roots w k p I F on) begins_so
 
     measured_then : IsMeasured pool Q

@@ -8,7 +8,6 @@ use Rattle.object_layout.specs.declared.word.Addr.{Addr}
 use Rattle.object_layout.specs.Cell.{Cell, IsObject, size_of}
 use Rattle.object_layout.specs.ChunkValue.{ChunkValue}
 use Rattle.object_layout.specs.Chunks.{cell_of, chunk_at, object_words_in, held_size, held_words, no_chunk, one_each, small_part, sum_in, sum_of}
-use Rattle.object_layout.specs.Graph.{HasObjectAt}
 use Rattle.object_layout.specs.Place.{words_in}
 use Rattle.object_layout.proofs.ChunkLaws as laws
 use Rattle.object_layout.proofs.Distinct.{Once}
@@ -20,7 +19,7 @@ use Rattle.alloc_path.specs.declared.counts.Counts.{Counts}
 use Rattle.alloc_path.proofs.HeapLemmas as heap
 use Rattle.leaf_copy_gc.specs.declared.lists.Survivor.{Survivor}
 use Rattle.leaf_copy_gc.specs.Survivors.{olds, HaveNames}
-use Rattle.leaf_copy_gc.specs.Laid.{before, is_small, laid_all, laid_one, open_next, opened, placed, relocations, room_in, small_words, smalls, AreNew, HaveRoom, Laying}
+use Rattle.leaf_copy_gc.specs.Laid.{before, laid_all, laid_one, open_next, opened, placed, relocations, room_in, small_words, smalls, AreNew, HaveRoom, Laying}
 use Rattle.leaf_copy_gc.specs.Packed.{used_words, ArePacked}
 use Rattle.leaf_copy_gc.specs.Redirected.{led_cell, led_chunk}
 use Rattle.leaf_copy_gc.specs.Collected.{laying_of, moves_of}
@@ -150,9 +149,6 @@ module _ (f : Option Addr → Option Addr) where
 
 module _ (h : List ChunkValue) (ss : List Survivor) (spare : List ChunkValue) (names : HaveNames h ss) (once : Once (olds ss)) (new : AreNew spare)
     (enough : 2 * ((small_words h + 1023) / 1024) ≤ length spare + 1) where
-  small : (a : Addr) → In (smalls h (olds ss)) a → HasObjectAt h a × (is_small h a ≡ true)
-  small = small_lives h ss names
-
   room : HaveRoom (before spare) h (smalls h (olds ss))
   room = small_room h ss names spare once new enough
 
@@ -160,7 +156,7 @@ module _ (h : List ChunkValue) (ss : List Survivor) (spare : List ChunkValue) (n
   packed f laid is n count =
       let none : ArePacked [] 0 = record { full = refl; small = refl; count = refl } in
       let all : ArePacked (laying_of h ss spare).laid (0 + length (smalls h (olds ss))) =
-      all_packed (before spare) h (smalls h (olds ss)) 0 (λ a i. (laws.born_object h a (small a i).0, leb-true (size_of (cell_of h a)) 1024 (small a i).1)) room new none in
+      all_packed (before spare) h (smalls h (olds ss)) 0 (λ a i. let lives = small_lives h ss names a i in (laws.born_object h a lives.0, leb-true (size_of (cell_of h a)) 1024 lives.1)) room new none in
       let many : length (moves_of h ss spare) ≡ length (smalls h (olds ss)) = length_moves (before spare) h (smalls h (olds ss)) in
       let e : 0 + length (smalls h (olds ss)) ≡ n = omega arith in
       subst (λ (ks : List ChunkValue). ArePacked ks n) (sym is) (packed_led f (laying_of h ss spare).laid n (subst (λ (m : ℕ). ArePacked (laying_of h ss spare).laid m) e all))

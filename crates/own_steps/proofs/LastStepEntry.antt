@@ -19,7 +19,6 @@ use Rattle.run_ledger.proofs.Machine.{task_step_machine}
 use Rattle.ledger_step_laws.specs.Accounts.{Knows}
 use Rattle.ledger_step_laws.specs.Last.{Runs, Splits}
 use Rattle.ledger_step_laws.proofs.Along.{steps_know}
-use Rattle.ledger_step_laws.proofs.Known.{legal_knows}
 use Rattle.ledger_step_laws.proofs.Split.{entry_runs}
 use Rattle.core_relation.specs.Worker.{WorkerFits}
 use Rattle.task_machine.specs.declared.part.Private.{Private}
@@ -70,9 +69,6 @@ module _ (w : SharedValue) (k : ℕ) (p : Private) (I : IsSharedValue w) (F : Fi
 
   pub A : After l M t F.fits.task
   A = link.A w k p I F on
-
-  pub knows : Knows l
-  knows = legal_knows w.program w.settings w.journal.items I.legal
 
   pub knows_mid : Knows M
   knows_mid = steps_know w.program w.settings t p.fresh l runs_so.task runs_so.knows (inr runs_so.collects) runs_so.at runs_so.runs runs_so.can S.private

@@ -16,7 +16,7 @@ use Rattle.run_ledger.specs.Heaps.{heap_of, lacks_room}
 use Rattle.run_ledger.specs.Steps.{is_due, is_in_need, is_private, most_steps, on_asked, standing, task_step, task_steps}
 use Rattle.run_ledger.specs.Entries.{kind_refusal, refused_if, refused_unless}
 use Rattle.ledger_step_laws.specs.Accounts.{ArePrivate}
-use Rattle.core_relation.specs.Fits.{FitsAt, ahead}
+use Rattle.core_relation.specs.Fits.{ahead}
 use Rattle.core_entry_laws.proofs.parts.Quiet.{aside_is}
 use Rattle.task_machine.specs.declared.part.Private.{Private}
 use Rattle.task_machine.specs.Fits.{FitsNow as FitsMachine}
@@ -32,9 +32,9 @@ use Rattle.shared_value.specs.Entered.{refused}
 use Rattle.shared_value.proofs.NextStepAsks.{asks_is}
 use Rattle.shared_value.proofs.PartFitsMachine as link
 use Rattle.shared_value.proofs.CollectionUnderWay.{at_part}
-use Rattle.shared_value.proofs.BeforeTheEnd.{end_now}
+use Rattle.shared_value.proofs.BeforeTheEnd.{end_now, fits_now}
 use Rattle.shared_value.proofs.CausesTold.{refused_is}
-use Rattle.shared_value.proofs.StepsEntered.{end_by, fits_now, goes}
+use Rattle.shared_value.proofs.StepsEntered.{end_by, goes}
 use Rattle.own_steps.specs.Alone.{IsShared, Tells, alone_event, machine_after}
 use Rattle.own_steps.proofs.NextStepEnds.{asks_none, ending_tells}
 
@@ -67,9 +67,6 @@ module _ (w : SharedValue) (k : ℕ) (p : Private) (I : IsSharedValue w) (F : Fi
   abbrev M : Ledger
   M = task_steps w.program l t p.fresh
 
-  V : FitsAt w.program w.settings (part_of w.settings p) (value_of w) l
-  V = fits_now w k p I F on
-
   abbrev above : Places
   above = above_of (value_of w) l t
 
@@ -99,7 +96,7 @@ module _ (w : SharedValue) (k : ℕ) (p : Private) (I : IsSharedValue w) (F : Fi
 
   -- one step more than the fresh ones can stand in the entry
   stands_so : standing w.settings w.program l t (suc p.fresh) ≡ suc p.fresh
-  stands_so = standing_last w.program w.settings t p.fresh l V.private not_due not_in_need shared_now
+  stands_so = standing_last w.program w.settings t p.fresh l (fits_now w k p F on).private not_due not_in_need shared_now
 
   pub last_kind : kind_refusal w.program w.settings l k (Ran t (suc p.fresh)) ≡ refused_if (is_some p.begun) Collecting None
   last_kind =

@@ -1,5 +1,5 @@
 -- The accounts after a part's private steps, and how its heap is counted then.
-use Rattle.std.proofs.Common.{arith, ◌≡◌, ℕ, ◌+◌, ◌<◌, ◌≤◌, ◌^◌, Bool, false, Option, Some, None, List, slice_get, refl, ap, sym, subst, ◌∙◌}
+use Rattle.std.proofs.Common.{arith, ◌≡◌, ℕ, ◌+◌, ◌<◌, ◌≤◌, ◌^◌, Bool, Option, Some, None, List, slice_get, refl, ap, sym, subst, ◌∙◌}
 use Rattle.hh_model.specs.declared.data.Name.{Name}
 use Rattle.hh_model.specs.declared.data.State.{State}
 use Rattle.hh_model.specs.declared.data.Status.TheVariants.{Running}
@@ -7,7 +7,6 @@ use Rattle.run_trace.specs.Settings.{field_limit}
 use Rattle.run_ledger.specs.declared.data.Heap.{Heap}
 use Rattle.run_ledger.specs.declared.data.Ledger.{Ledger}
 use Rattle.run_ledger.specs.Heaps.{heap_of, let_go, or_fresh}
-use Rattle.run_ledger.specs.Sound.{collecting}
 use Rattle.run_ledger.specs.Steps.{task_steps}
 use Rattle.run_ledger.proofs.Sound.{SoundLedger}
 use Rattle.journal_laws.proofs.Since.{limit_small}
@@ -107,9 +106,6 @@ module _ (w : SharedValue) (k : ℕ) (p q : Private) (n : ℕ) (I : IsSharedValu
   counts : IsCounted p.heap there.0
   counts = subst (IsCounted p.heap) account_was (ask.counted_is w k p I F on)
 
-  calm : collecting (slice_get l.heaps t) ≡ false
-  calm = steady w k p F on idle
-
   -- ---- THE STEPS
   pub ran : Ran w.program p M.machine above n q
   ran = R M.machine above (fits_machine w k p I F on)
@@ -175,13 +171,13 @@ module _ (w : SharedValue) (k : ℕ) (p q : Private) (n : ℕ) (I : IsSharedValu
   account_few = subst (λ (h : Heap). h.since < 2 ^ 64) (sym is_rested) later_few
 
   sound_at : SoundLedger N
-  sound_at = (task_steps_sound w.program (p.fresh + n) l t ((link.knows w k p I F on).sound, calm)).0
+  sound_at = (task_steps_sound w.program (p.fresh + n) l t ((link.knows w k p I F on).sound, steady w k p F on idle)).0
 
   pub sound_then : SoundLedger L'
   sound_then = rested_sound N t sound_at
 
   all_alone : StepsAlone l L' t
-  all_alone = rested_alone l N t (steps_alone_all w.program w.settings t (p.fresh + n) l ((link.knows w k p I F on).sound, calm) private_then)
+  all_alone = rested_alone l N t (steps_alone_all w.program w.settings t (p.fresh + n) l ((link.knows w k p I F on).sound, steady w k p F on idle) private_then)
 
   pub alone_then : StepsAlone L L' t
   alone_then = alone_between l L L' t (link.alone w k p I F on) all_alone

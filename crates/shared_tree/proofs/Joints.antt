@@ -50,9 +50,6 @@ other_by tasks t x Ret par ret e = absurd (ret refl)
 other_by tasks t x _ par ret e = e
 
 module _ (w : SharedValue) (k : ℕ) (p : Private) (I : IsSharedValue w) (F : Fits w k p) (shared : IsShared w p) (free : refused w (alone_event k p) ≡ None) (joint : IsJoint w p) (line : Line) (next : next_line w.program p ≡ Some line) where
-  on : (accounts w).end ≡ None
-  on = runs_on w k p I F shared free
-
   abbrev t : ℕ
   t = p.task
 
@@ -63,10 +60,10 @@ module _ (w : SharedValue) (k : ℕ) (p : Private) (I : IsSharedValue w) (F : Fi
   above = above_of (value_of w) (accounts w) t
 
   abbrev G : FitsMachine w.program p M.machine above
-  G = fits_machine w k p I F on
+  G = fits_machine w k p I F (runs_on w k p I F shared free)
 
   machine_is : machine_after w p ≡ M.machine
-  machine_is = machine_same w k p I F on
+  machine_is = machine_same w k p I F (runs_on w k p I F shared free)
 
   at : fetched w.program G.task.top ≡ Some line
   at = sym (same_line w.program p M.machine above G) ∙ next

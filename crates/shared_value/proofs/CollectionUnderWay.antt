@@ -15,14 +15,13 @@ use Rattle.listed.specs.Options.{option_is}
 use Rattle.run_ledger.specs.Sound.{collecting}
 use Rattle.ledger_step_laws.specs.Accounts.{rested}
 use Rattle.ledger_step_laws.proofs.Rested.{rested_view}
-use Rattle.core_relation.specs.Copies.{PartFits}
 use Rattle.core_relation.specs.Fits.{with_belongings}
 use Rattle.core_relation.specs.Memory.{Memory}
 use Rattle.core_relation.specs.Whole.{BegunBy}
 use Rattle.task_machine.specs.declared.part.Begun.{Begun}
 use Rattle.task_machine.specs.declared.part.Private.{Private}
 use Rattle.shared_value.specs.SharedValue.{SharedValue, accounts, value_of}
-use Rattle.shared_value.specs.Fits.{Fits, belongings_of_part, part_of}
+use Rattle.shared_value.specs.Fits.{Fits, belongings_of_part}
 use Rattle.shared_value.proofs.BeforeTheEnd.{alive, part_now, status}
 use Rattle.shared_value.proofs.StepAccounts.{After, after_all, hold_same}
 
@@ -51,11 +50,8 @@ module _ (w : SharedValue) (k : ℕ) (p : Private) (F : Fits w k p) (on : (accou
   abbrev v' : Memory
   v' = with_belongings (value_of w) t (belongings_of_part p)
 
-  V : PartFits w.program w.settings (part_of w.settings p) (value_of w) l
-  V = part_now w k p F on
-
   A : After l M t F.fits.task
-  A = after_all w.program w.settings t p.fresh l F.fits.task (alive w k p F on) F.fits.is (status w k p F on) V.fits.private
+  A = after_all w.program w.settings t p.fresh l F.fits.task (alive w k p F on) F.fits.is (status w k p F on) (part_now w k p F on).fits.private
 
   account_same : (heap_of L t).begun ≡ (heap_of l t).begun
   account_same =
@@ -67,7 +63,7 @@ module _ (w : SharedValue) (k : ℕ) (p : Private) (F : Fits w k p) (on : (accou
   by_part (Some b) B = ap is_some B.few
 
   pub begun_is : is_some (heap_of l t).begun ≡ is_some p.begun
-  begun_is = ap is_some (sym account_same) ∙ by_part p.begun V.begun
+  begun_is = ap is_some (sym account_same) ∙ by_part p.begun (part_now w k p F on).begun
 
   -- the worker is at the task, which is amid a leaf collection where the part is
   pub at_part : (rest : Option Refused) → on_running l k t rest ≡ refused_if (is_some p.begun) Collecting rest

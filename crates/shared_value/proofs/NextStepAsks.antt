@@ -118,8 +118,5 @@ module _ (w : SharedValue) (k : ℕ) (p : Private) (I : IsSharedValue w) (F : Fi
   }
 
   -- the worker holds the task, which has an account
-  pub held_is : (heap_of M t).worker ≡ Some k
-  held_is = link.worker_then w k p I F on
-
   pub account_is : (z : Heap) × (slice_get M.heaps t ≡ Some z)
-  account_is = some_account (slice_get M.heaps t) k held_is
+  account_is = some_account (slice_get M.heaps t) k (link.worker_then w k p I F on)

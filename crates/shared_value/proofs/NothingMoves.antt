@@ -96,6 +96,10 @@ same_value v l L m heaps belongings = record {
   sources = λ u. refl;
 }
 
+-- within one memory the notes stay as they are
+pub notes_unchanged : (v : Memory) (u : ℕ) → NotesStay v v u
+notes_unchanged v u = record { keeps = refl; kept = refl; marked = refl }
+
 -- FUEL
 module _ (w : SharedValue) (k : ℕ) (I : IsSharedValue w) (free : refused w (record { worker = k; kind = Fuel }) ≡ None) (j : RoomyValue EntryValue) where
   abbrev room : ℕ
@@ -113,11 +117,8 @@ module _ (w : SharedValue) (k : ℕ) (I : IsSharedValue w) (free : refused w (re
   counts : CountsGo w.program w.settings (accounts w) (tree_counts_of w) (tree_counts_of fueled) k Fuel
   counts = (record { node = λ u. refl; task_out = λ u. refl; steps = refl; outputs = refl }, refl, refl)
 
-  notes : (u : ℕ) → NotesStay (value_of w) (value_of w) u
-  notes u = record { keeps = refl; kept = refl; marked = refl }
-
   pub fuel_world : IsSharedValue fueled
-  fuel_world = quiet_world w e I free tt (λ u m. m) w.pool (Some (FuelEnd w.steps)) room same notes counts refl (all_kept w.pool)
+  fuel_world = quiet_world w e I free tt (λ u m. m) w.pool (Some (FuelEnd w.steps)) room same (notes_unchanged (value_of w)) counts refl (all_kept w.pool)
 
   pub fuel_all : AllFit w fueled
-  fuel_all u q F = quiet_others w e I free tt (λ b m. m) w.pool (Some (FuelEnd w.steps)) room same notes counts refl (all_kept w.pool) u q (λ b. b) F
+  fuel_all u q F = quiet_others w e I free tt (λ b m. m) w.pool (Some (FuelEnd w.steps)) room same (notes_unchanged (value_of w)) counts refl (all_kept w.pool) u q (λ b. b) F

@@ -68,7 +68,8 @@ use Rattle.shared_value.specs.Fits.{Fits, belongings_of_part, part_of}
 use Rattle.shared_value.specs.Links.{FitsFirst, above_of, find_at}
 use Rattle.shared_value.proofs.CellsRead.{object_seen, seen_object}
 use Rattle.shared_value.proofs.Levels.{shown_found, shown_there}
-use Rattle.shared_value.proofs.StepsEntered.{fits_now, status}
+use Rattle.shared_value.proofs.BeforeTheEnd.{fits_now}
+use Rattle.shared_value.proofs.StepsEntered.{status}
 use Rattle.shared_value.proofs.StepAccounts.{After, after_all, hold_same}
 
 -- ---- LOOKING NAMES UP
@@ -178,8 +179,8 @@ module _ (w : SharedValue) (k : ℕ) (p : Private) (I : IsSharedValue w) (F : Fi
   abbrev L : Ledger
   L = ahead w.program (part_of w.settings p) l
 
-  pub V : FitsAt w.program w.settings (part_of w.settings p) v l
-  V = fits_now w k p I F on
+  abbrev pub V : FitsAt w.program w.settings (part_of w.settings p) v l
+  V = fits_now w k p F on
 
   pub W : Stands v' L
   W = V.stands

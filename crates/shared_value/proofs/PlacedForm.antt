@@ -14,10 +14,10 @@ use Rattle.object_layout.proofs.ObjectChanges.{appended_is_last}
 use Rattle.object_layout.proofs.PlaceLemmas.{words_in-push}
 use Rattle.alloc_path.specs.LeafHeapValue.{AreTidy, LeafHeapValue, AgreesWithChunks, IsTidy, counted, place_for, placed_at, units}
 use Rattle.alloc_path.proofs.HeapLemmas as heap
-use Rattle.alloc_path.proofs.HeapLemmas.{part-set}
 use Rattle.alloc_path.proofs.Settled.{settled_placed}
 use Rattle.core_relation.specs.Layout.{HoldsLarge}
 use Rattle.task_machine.specs.Fits.{IsShaped}
+use Rattle.task_machine.proofs.Counted.{size_pushed}
 use Rattle.task_machine.proofs.Placed.{shape_placed}
 use Rattle.shared_value.specs.Objects.{chunk_of}
 
@@ -86,9 +86,6 @@ module _ (h : LeafHeapValue) (F : Formed h) (i : ℕ) (c : Cell) (b : Birth) (bo
   other : (j : ℕ) → (j ≡ i → ⊥) → chunk_at pushed j ≡ chunk_at h.chunks j
   other j ne = get_or-set_other h.chunks i j fuller no_chunk ne
 
-  size_same : (j : ℕ) → (chunk_at pushed j).size ≡ (chunk_at h.chunks j).size
-  size_same j = part-set (λ (k : ChunkValue). k.size) h.chunks i j fuller no_chunk refl
-
   as_long : length pushed ≡ length h.chunks
   as_long = length-set h.chunks i fuller
 
@@ -145,7 +142,7 @@ module _ (h : LeafHeapValue) (F : Formed h) (i : ℕ) (c : Cell) (b : Birth) (bo
         absurd (not_empty (chunk_of K).objects (located K.number (words_in K.cells) b c) (sym objects_then ∙ (ap (λ (k : ChunkValue). (chunk_of k).objects) (sym at) ∙ empty)))
     | inr ne ↦
         reserved_still j ne
-        (F.spare j (omega (arith, lt, as_long)) (λ z. big (size_same j ∙ z)) (ap (λ (k : ChunkValue). (chunk_of k).objects) (sym (other j ne)) ∙ empty))
+        (F.spare j (omega (arith, lt, as_long)) (λ z. big (size_pushed h.chunks i c j ∙ z)) (ap (λ (k : ChunkValue). (chunk_of k).objects) (sym (other j ne)) ∙ empty))
   ]
 
   pub formed_placed : Formed (placed_at h i c)

@@ -26,7 +26,7 @@ use Rattle.task_homes.specs.RestingHeaps.{refs_for, refs_in}
 use Rattle.shared_value.specs.Roots.{heaps_of, roots_of, sources_of}
 use Rattle.shared_value.proofs.CellsRead.{seen_object}
 use Rattle.shared_value.proofs.RootsHeld as held
-use Rattle.shared_value.proofs.StepsEntered.{fits_now}
+use Rattle.shared_value.proofs.BeforeTheEnd.{fits_now}
 use Rattle.shared_value.proofs.FieldsLed.{belongings_chunks}
 use Rattle.shared_value.proofs.FieldsNoted.{noted_sources}
 
@@ -74,7 +74,7 @@ module _ (w : SharedValue) (k : ℕ) (p : Private) (I : IsSharedValue w) (F : Fi
   ss = sources_of (slice_get w.sets t)
 
   W : Stands v' L
-  W = (fits_now w k P I F on).stands
+  W = (fits_now w k P F on).stands
 
   at_rest : Rests L t
   at_rest = rested_worker (accounts w) t

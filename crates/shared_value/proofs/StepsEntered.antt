@@ -28,7 +28,7 @@ use Rattle.ledger_step_laws.proofs.Rested.{rested_worker}
 use Rattle.ledger_step_laws.proofs.Split.{entry_runs}
 use Rattle.core_relation.specs.Layout.{reserved_chunks, reserved_units}
 use Rattle.core_relation.specs.Memory.{Chunk, Belongings, Memory}
-use Rattle.core_relation.specs.Fits.{FitsAt, ahead, part_for, with_belongings}
+use Rattle.core_relation.specs.Fits.{ahead, part_for, with_belongings}
 use Rattle.core_relation.specs.Frames.{IsSteady}
 use Rattle.core_relation.specs.RanCounts.{RanCounts}
 use Rattle.core_relation.specs.Stands.{HasNames, BelongingsStand}
@@ -49,7 +49,7 @@ use Rattle.shared_value.specs.Causes.{first_cause, or_else}
 use Rattle.shared_value.proofs.HeapCounts.{counted_from}
 use Rattle.shared_value.proofs.EntryMade.{entered, entered_world, entry_on, tasks_apart, part_fits}
 use Rattle.shared_value.proofs.BeforeTheEnd as now
-use Rattle.shared_value.proofs.BeforeTheEnd.{end_now, steps_now}
+use Rattle.shared_value.proofs.BeforeTheEnd.{end_now, fits_now, steps_now}
 use Rattle.shared_value.proofs.CausesTold.{refused_is}
 use Rattle.shared_value.proofs.StepAccounts.{After, after_all, all_stand}
 
@@ -66,9 +66,6 @@ module _ (w : SharedValue) (k : ℕ) (p : Private) (I : IsSharedValue w) (F : Fi
   pub goes : (accounts w).machine.end ≡ None
   goes = now.alive w k p F on
 
-  pub fits_now : FitsAt w.program w.settings (part_of w.settings p) (value_of w) (accounts w)
-  fits_now = now.fits_now w k p F on
-
   pub status : F.fits.task.status ≡ Running
   status = now.status w k p F on
 
@@ -82,7 +79,7 @@ module _ (w : SharedValue) (k : ℕ) (p : Private) (I : IsSharedValue w) (F : Fi
   here = at_belongings (value_of w) p.task (belongings_of_part p)
 
   pub belongings_stand : BelongingsStand vp M p.task
-  belongings_stand = fits_now.stands.belongings p.task (rested_worker (task_steps w.program (accounts w) p.task p.fresh) p.task)
+  belongings_stand = (fits_now w k p F on).stands.belongings p.task (rested_worker (task_steps w.program (accounts w) p.task p.fresh) p.task)
 
   -- its heap is as its account then says
   pub counted_now : IsCounted p.heap (heap_of M p.task)
@@ -110,7 +107,7 @@ module _ (w : SharedValue) (k : ℕ) (p : Private) (I : IsSharedValue w) (F : Fi
   free_kind : (accounts w).end ≡ None → kind_refusal w.program w.settings (accounts w) k (Ran p.task p.fresh) ≡ None
   free_kind on =
       let l : Ledger = accounts w in
-      let V = fits_now w k p I F on in
+      let V = fits_now w k p F on in
       let stand : standing w.settings w.program l p.task p.fresh ≡ p.fresh = all_stand w.program w.settings p.task p.fresh l V.private in
       let few : p.fresh ≤ 257 = V.few in
       let fits : nat_le p.fresh (min most_steps (standing w.settings w.program l p.task p.fresh)) ≡ true = le-leb p.fresh (min most_steps (standing w.settings w.program l p.task p.fresh)) (omega (arith, stand, few)) in
@@ -169,7 +166,7 @@ module _ (w : SharedValue) (k : ℕ) (p : Private) (I : IsSharedValue w) (F : Fi
   on = entry_on w e free
 
   private : ArePrivate w.program w.settings l t (suc n)
-  private = subst (ArePrivate w.program w.settings l t) is (fits_now w k p I F on).private
+  private = subst (ArePrivate w.program w.settings l t) is (fits_now w k p F on).private
 
   A : After l L t F.fits.task
   A = after_all w.program w.settings t (suc n) l F.fits.task (goes w k p I F on) F.fits.is (status w k p I F on) private

@@ -13,7 +13,6 @@ use Rattle.run_ledger.specs.Entries.{long_at, refused_if}
 use Rattle.run_ledger.specs.Heaps.{heap_of, lacks_room}
 use Rattle.run_ledger.specs.Steps.{is_due, is_in_need, is_private, most_steps, on_asked, standing, task_step, task_steps}
 use Rattle.ledger_step_laws.specs.Accounts.{ArePrivate}
-use Rattle.core_relation.specs.Fits.{FitsAt}
 use Rattle.task_machine.specs.declared.part.Paused.{Paused}
 use Rattle.task_machine.specs.declared.part.Paused.TheVariants.{Shared, Due, NeedChunk, Spent}
 use Rattle.task_machine.specs.declared.part.Private.{Private}
@@ -21,13 +20,13 @@ use Rattle.task_machine.specs.Steps.{is_part_due, is_part_in_need, lacks_place}
 use Rattle.task_machine.proofs.Counted.{lacks_same}
 use Rattle.shared_value.specs.Causes.{first_cause}
 use Rattle.shared_value.specs.Entered.{refused}
-use Rattle.shared_value.specs.Fits.{Fits, part_of}
+use Rattle.shared_value.specs.Fits.{Fits}
 use Rattle.shared_value.specs.Next.{next_line}
 use Rattle.shared_value.specs.Stands.{IsSharedValue}
-use Rattle.shared_value.specs.SharedValue.{SharedValue, accounts, value_of}
+use Rattle.shared_value.specs.SharedValue.{SharedValue, accounts}
 use Rattle.shared_value.proofs.NextStepAsks.{asks_is, asks_two, counted_is, since_is}
 use Rattle.shared_value.proofs.CollectionUnderWay.{at_part}
-use Rattle.shared_value.proofs.StepsEntered.{fits_now}
+use Rattle.shared_value.proofs.BeforeTheEnd.{fits_now}
 use Rattle.own_steps.specs.Alone.{IsShared, machine_after}
 use Rattle.own_steps.proofs.LastSteps as last
 use Rattle.world_core.specs.Next.{IsNext, standing_by}
@@ -67,9 +66,6 @@ module _ (w : SharedValue) (k : ℕ) (p : Private) (I : IsSharedValue w) (F : Fi
   abbrev M : Ledger
   M = task_steps w.program l t p.fresh
 
-  V : FitsAt w.program w.settings (part_of w.settings p) (value_of w) l
-  V = fits_now w k p I F going
-
   due_by : is_part_due p (asked w.program (machine_after w p) t) ≡ true → is_due w.settings w.program M t ≡ true
   due_by h =
       ap₂ (λ a n. on_asked (asked w.program M.machine t) (λ words. nat_le a n)) (sym F.leaf_limit) (sym (since_is w k p I F going))
@@ -87,7 +83,7 @@ module _ (w : SharedValue) (k : ℕ) (p : Private) (I : IsSharedValue w) (F : Fi
 
   -- how many of more steps stand
   stands : (why : Paused) → IsNext w p why → why ≢ Spent → (m : ℕ) → p.fresh ≤ private_limit → standing w.settings w.program l t (p.fresh + suc m) ≡ standing_by p why
-  stands why next more m few = standing_then w.program w.settings t p.fresh (p.fresh + suc m) (suc m) l refl V.private ∙ by why next more
+  stands why next more m few = standing_then w.program w.settings t p.fresh (p.fresh + suc m) (suc m) l refl (fits_now w k p F going).private ∙ by why next more
     where
       by : (why : Paused) → IsNext w p why → why ≢ Spent → p.fresh + standing w.settings w.program M t (suc m) ≡ standing_by p why
       by Shared next more =
