@@ -23,16 +23,16 @@ use Rattle.shared_value.specs.Fits.{Fits, OthersFit, belongings_of_part}
 use Rattle.shared_value.specs.Entered.{refused}
 use Rattle.shared_value.proofs.BeforeTheEnd.{end_now}
 use Rattle.shared_value.proofs.TaskTaken.{lets_go}
-use Rattle.own_steps.specs.Alone.{IsShared, alone_event, ended_rest}
+use Rattle.own_steps.specs.Alone.{IsShared, alone_entry, ended_rest}
 use Rattle.own_steps.proofs.LastStepEntry as last
-use Rattle.own_steps.proofs.LastStepEntry.{last_event}
+use Rattle.own_steps.proofs.LastStepEntry.{last_entry}
 use Rattle.own_steps.proofs.TaskEnds as ending
 use Rattle.own_steps.proofs.LastSteps.{one_added}
 use Rattle.child_tasks.specs.ChildEnds.{EndsChild, IsAtEnd, running_parent, where_running}
 use Rattle.child_tasks.proofs.ChildReturns as steps
 use Rattle.child_tasks.proofs.LastReturnKinds.{ends}
 
-module _ (w : SharedValue) (k : ℕ) (p : Private) (I : IsSharedValue w) (F : Fits w k p) (at_end : IsAtEnd w p) (free : refused w (alone_event k p) ≡ None) (open_ : state_in_tree w.tree (steps.other w k p I F at_end free) ≡ Some Ended → ⊥) where
+module _ (w : SharedValue) (k : ℕ) (p : Private) (I : IsSharedValue w) (F : Fits w k p) (at_end : IsAtEnd w p) (free : refused w (alone_entry k p) ≡ None) (open_ : state_in_tree w.tree (steps.other w k p I F at_end free) ≡ Some Ended → ⊥) where
   abbrev t : ℕ
   t = p.task
 
@@ -45,7 +45,7 @@ module _ (w : SharedValue) (k : ℕ) (p : Private) (I : IsSharedValue w) (F : Fi
   abbrev shared : IsShared w p
   shared = steps.shared w k p I F at_end free
 
-  abbrev free_last : refused w (last_event k p) ≡ None
+  abbrev free_last : refused w (last_entry k p) ≡ None
   free_last = steps.free_last w k p I F at_end free
 
   abbrev L : Ledger
@@ -103,7 +103,7 @@ module _ (w : SharedValue) (k : ℕ) (p : Private) (I : IsSharedValue w) (F : Fi
     w' = ending.w' w k p I F shared free_last w.end j.room
 
     counts : RanCounts w.program (tree_counts_of w) (tree_counts_of w') M L t k p.fresh S.task S.line Ending D
-    counts = record { tree = ending.node_ends w k p I F shared free_last w.end j.room; task_out = lets_go w w' (last_event k p) I free_last refl; outputs = refl; end = refl; used = refl; steps = refl }
+    counts = record { tree = ending.node_ends w k p I F shared free_last w.end j.room; task_out = lets_go w w' (last_entry k p) I free_last refl; outputs = refl; end = refl; used = refl; steps = refl }
 
     ended_world : IsSharedValue w'
     ended_world =

@@ -32,7 +32,7 @@ use Rattle.shared_value.proofs.PartFitsMachine as link
 use Rattle.shared_value.proofs.BeforeTheEnd.{node_now}
 use Rattle.shared_value.proofs.StepAccounts.{After}
 use Rattle.shared_value.proofs.TaskTaken.{parent_is as tree_parent_is}
-use Rattle.own_steps.specs.Alone.{IsShared, alone_event, machine_after}
+use Rattle.own_steps.specs.Alone.{IsShared, alone_entry, machine_after}
 use Rattle.own_steps.proofs.AloneEntries.{last_free, node_there, runs_on}
 use Rattle.own_steps.proofs.LastStepEntry as last
 use Rattle.own_steps.proofs.LastSteps.{machine_same}
@@ -102,14 +102,14 @@ sibling_by t false e pos same = let s : sibling t ≡ t - 1 = cond-false (is_lef
 
 -- ---- THE NEXT STEP
 
-module _ (w : SharedValue) (k : ℕ) (p : Private) (I : IsSharedValue w) (F : Fits w k p) (at_end : IsAtEnd w p) (free : refused w (alone_event k p) ≡ None) where
+module _ (w : SharedValue) (k : ℕ) (p : Private) (I : IsSharedValue w) (F : Fits w k p) (at_end : IsAtEnd w p) (free : refused w (alone_entry k p) ≡ None) where
   abbrev pub shared : IsShared w p
   shared = end_shared w p at_end
 
   pub on : (accounts w).end ≡ None
   on = runs_on w k p I F shared free
 
-  abbrev pub free_last : refused w (last.last_event k p) ≡ None
+  abbrev pub free_last : refused w (last.last_entry k p) ≡ None
   free_last = last_free w k p I F shared free
 
   abbrev pub t : ℕ

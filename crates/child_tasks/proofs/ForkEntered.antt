@@ -51,10 +51,10 @@ use Rattle.shared_value.proofs.Levels.{level_is}
 use Rattle.shared_value.proofs.PartFitsMachine as link
 use Rattle.shared_value.proofs.BeforeTheEnd.{end_now, tree_long}
 use Rattle.shared_value.proofs.TaskTaken.{made_by, node_by, node_off, lets_go}
-use Rattle.own_steps.specs.Alone.{IsShared, alone_event}
+use Rattle.own_steps.specs.Alone.{IsShared, alone_entry}
 use Rattle.own_steps.proofs.AloneEntries.{node_there}
 use Rattle.own_steps.proofs.LastStepEntry as last
-use Rattle.own_steps.proofs.LastStepEntry.{last_event}
+use Rattle.own_steps.proofs.LastStepEntry.{last_entry}
 use Rattle.child_tasks.specs.Forks.{ForksTo, RestsFork, IsAtFork, SetsFork, waiting_rest}
 use Rattle.child_tasks.proofs.NextStepForks as steps
 use Rattle.child_tasks.proofs.LastForkKinds.{forks}
@@ -74,7 +74,7 @@ none_left [] t = refl
 none_left (m ∷ marks) zero = refl
 none_left (m ∷ marks) (suc t) = none_left marks t
 
-module _ (w : SharedValue) (k : ℕ) (p : Private) (I : IsSharedValue w) (F : Fits w k p) (at_fork : IsAtFork w p) (free : refused w (alone_event k p) ≡ None) (left right number : ℕ) (B : ForksTo w p left right number) (shallow : depth_of w.tree p.task < 1000) where
+module _ (w : SharedValue) (k : ℕ) (p : Private) (I : IsSharedValue w) (F : Fits w k p) (at_fork : IsAtFork w p) (free : refused w (alone_entry k p) ≡ None) (left right number : ℕ) (B : ForksTo w p left right number) (shallow : depth_of w.tree p.task < 1000) where
   abbrev t : ℕ
   t = p.task
 
@@ -87,7 +87,7 @@ module _ (w : SharedValue) (k : ℕ) (p : Private) (I : IsSharedValue w) (F : Fi
   abbrev shared : IsShared w p
   shared = steps.shared w k p I F at_fork free
 
-  abbrev free_last : refused w (last_event k p) ≡ None
+  abbrev free_last : refused w (last_entry k p) ≡ None
   free_last = steps.free_last w k p I F at_fork free
 
   abbrev L : Ledger
@@ -175,7 +175,7 @@ module _ (w : SharedValue) (k : ℕ) (p : Private) (I : IsSharedValue w) (F : Fi
     all_steps = w.steps + suc p.fresh
 
     abbrev pub w' : SharedValue
-    w' = entered_marks w (last_event k p) tree w.pool rests sets tasks_out w.outputs all_steps w.end j.room marks
+    w' = entered_marks w (last_entry k p) tree w.pool rests sets tasks_out w.outputs all_steps w.end j.room marks
 
     abbrev v' : Memory
     v' = value_of w'
@@ -269,7 +269,7 @@ module _ (w : SharedValue) (k : ℕ) (p : Private) (I : IsSharedValue w) (F : Fi
     counts : RanCounts w.program (tree_counts_of w) (tree_counts_of w') M L t k p.fresh S.task S.line Forking Q
     counts = record {
       tree = nodes_fork;
-      task_out = lets_go w w' (last_event k p) I free_last refl;
+      task_out = lets_go w w' (last_entry k p) I free_last refl;
       outputs = refl;
       end = refl;
       used = refl;
@@ -306,7 +306,7 @@ module _ (w : SharedValue) (k : ℕ) (p : Private) (I : IsSharedValue w) (F : Fi
     pub forked_world : IsSharedValue w'
     forked_world =
         let n = all w.tree t in
-        marked_world w (last_event k p) I free_last tree w.pool rests sets tasks_out w.outputs all_steps w.end j.room marks
+        marked_world w (last_entry k p) I free_last tree w.pool rests sets tasks_out w.outputs all_steps w.end j.room marks
         (H.count ∙ (ap (λ n. n + 2) I.made ∙ sym n)) (N.count ∙ (ap (λ n. n + 2) I.noted ∙ sym n)) (length-set w.tasks_out k None) refl
         (ran_stands_for w.program w.settings w.journal.items I.form I.legal v v' (tree_counts_of w) (tree_counts_of w') k t p.fresh h free_last E I.stands own forks_belongings (roots.0, roots.1, forks_notes) counts)
         heaps_then measured_then
@@ -317,5 +317,5 @@ module _ (w : SharedValue) (k : ℕ) (p : Private) (I : IsSharedValue w) (F : Fi
     -- THE PARTS OF OTHERS
     pub forked_others : OthersFit w w' k
     forked_others u r ne G =
-        marked_fits w (last_event k p) I free_last tree w.pool rests sets tasks_out w.outputs all_steps w.end j.room marks forked_world u r r (ap option_flatten (got_other w.tasks_out k u None ne)) G refl refl refl G.form G.measured
+        marked_fits w (last_entry k p) I free_last tree w.pool rests sets tasks_out w.outputs all_steps w.end j.room marks forked_world u r r (ap option_flatten (got_other w.tasks_out k u None ne)) G refl refl refl G.form G.measured
         (ran_leaves w.program w.settings v v' l L t k p.fresh h E own forks_belongings (part_of w.settings r) (tasks_apart w k u p r F G ne) G.fits)

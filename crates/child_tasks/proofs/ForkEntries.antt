@@ -21,8 +21,8 @@ use Rattle.shared_value.specs.Stands.{IsSharedValue}
 use Rattle.shared_value.specs.Fits.{Fits, OthersFit}
 use Rattle.shared_value.specs.Entered.{refused}
 use Rattle.shared_value.proofs.BeforeTheEnd.{tree_long}
-use Rattle.own_steps.specs.Alone.{alone_event}
-use Rattle.own_steps.proofs.LastStepEntry.{last_event}
+use Rattle.own_steps.specs.Alone.{alone_entry}
+use Rattle.own_steps.proofs.LastStepEntry.{last_entry}
 use Rattle.own_steps.proofs.LastSteps.{one_added}
 use Rattle.child_tasks.specs.Forks.{ForksOn, ForksTo, RestsFork, IsAtFork, SetsFork, begun_rest, part_child, waiting_rest}
 use Rattle.child_tasks.proofs.ForkEntered.{forked_goes, forked_others, forked_world}
@@ -88,7 +88,7 @@ unmarked_more [] (suc (suc u)) = refl
 unmarked_more (m ∷ marks) zero = refl
 unmarked_more (m ∷ marks) (suc u) = unmarked_more marks u
 
-module _ (w : SharedValue) (k : ℕ) (p : Private) (I : IsSharedValue w) (F : Fits w k p) (at_fork : IsAtFork w p) (free : refused w (alone_event k p) ≡ None) (left right number : ℕ) (B : ForksTo w p left right number) (shallow : depth_of w.tree p.task < 1000) where
+module _ (w : SharedValue) (k : ℕ) (p : Private) (I : IsSharedValue w) (F : Fits w k p) (at_fork : IsAtFork w p) (free : refused w (alone_entry k p) ≡ None) (left right number : ℕ) (B : ForksTo w p left right number) (shallow : depth_of w.tree p.task < 1000) where
   module _ (rests : List (Option Rest)) (sets : List SetOf) (H : RestsFork w.rests rests p left right) (N : SetsFork w.sets sets p.task) (marks : List (Option MarkingValue)) (unmarked : marks ≡ slice_set w.marks p.task None ++ None ∷ (None ∷ [])) (j : RoomyValue EntryValue) where
     unmarked_at : (u : ℕ) → marks_at marks u ≡ marks_at (slice_set w.marks p.task None) u
     unmarked_at u = ap (λ ms. marks_at ms u) unmarked ∙ unmarked_more (slice_set w.marks p.task None) u
@@ -101,10 +101,10 @@ module _ (w : SharedValue) (k : ℕ) (p : Private) (I : IsSharedValue w) (F : Fi
       marks = marks;
       tasks_out = slice_set w.tasks_out k None;
       steps = w.steps + (p.fresh + 1);
-      journal = record { items = w.journal.items ++ alone_event k p ∷ []; room = j.room };
+      journal = record { items = w.journal.items ++ alone_entry k p ∷ []; room = j.room };
     }
 
-    forked_is : record w { tree = forked w.tree p.task; rests = rests; sets = sets; marks = marks; tasks_out = slice_set w.tasks_out k None; steps = w.steps + suc p.fresh; journal = record { items = w.journal.items ++ last_event k p ∷ []; room = j.room } } ≡ forked_alone
+    forked_is : record w { tree = forked w.tree p.task; rests = rests; sets = sets; marks = marks; tasks_out = slice_set w.tasks_out k None; steps = w.steps + suc p.fresh; journal = record { items = w.journal.items ++ last_entry k p ∷ []; room = j.room } } ≡ forked_alone
     forked_is =
         ap (λ n. let z : SharedValue = record w {
           tree = forked w.tree p.task;

@@ -43,9 +43,9 @@ use Rattle.shared_value.proofs.FieldsNoted.{noted_of}
 use Rattle.shared_value.proofs.EntryMade.{entered_marks, tasks_apart, marked_accounts, marked_fits, marked_world}
 use Rattle.shared_value.proofs.BeforeTheEnd.{end_now}
 use Rattle.shared_value.proofs.TaskTaken.{lets_go}
-use Rattle.own_steps.specs.Alone.{alone_event}
+use Rattle.own_steps.specs.Alone.{alone_entry}
 use Rattle.own_steps.proofs.LastStepEntry as last
-use Rattle.own_steps.proofs.LastStepEntry.{last_event}
+use Rattle.own_steps.proofs.LastStepEntry.{last_entry}
 use Rattle.own_steps.proofs.LastSteps.{one_added}
 use Rattle.child_tasks.specs.ChildEnds.{EndsChild, IsAtEnd, running_parent}
 use Rattle.child_tasks.specs.Joins.{AreSides, RestsJoin, IsRestOf, SetsJoin, sources_at}
@@ -58,7 +58,7 @@ use Rattle.child_tasks.proofs.MergedHeapForm.{merged_form}
 use Rattle.child_tasks.proofs.SiblingReturned as before
 use Rattle.child_tasks.proofs.JoinedBelongings as both
 
-module _ (w : SharedValue) (k : ℕ) (p : Private) (I : IsSharedValue w) (F : Fits w k p) (at_end : IsAtEnd w p) (free : refused w (alone_event k p) ≡ None) (ended : state_in_tree w.tree (steps.other w k p I F at_end free) ≡ Some Ended) where
+module _ (w : SharedValue) (k : ℕ) (p : Private) (I : IsSharedValue w) (F : Fits w k p) (at_end : IsAtEnd w p) (free : refused w (alone_entry k p) ≡ None) (ended : state_in_tree w.tree (steps.other w k p I F at_end free) ≡ Some Ended) where
   abbrev t : ℕ
   t = p.task
 
@@ -98,7 +98,7 @@ module _ (w : SharedValue) (k : ℕ) (p : Private) (I : IsSharedValue w) (F : Fi
   abbrev l : Ledger
   l = accounts w
 
-  abbrev free_last : refused w (last_event k p) ≡ None
+  abbrev free_last : refused w (last_entry k p) ≡ None
   free_last = steps.free_last w k p I F at_end free
 
   abbrev S : Splits w.program w.settings l L t p.fresh
@@ -123,7 +123,7 @@ module _ (w : SharedValue) (k : ℕ) (p : Private) (I : IsSharedValue w) (F : Fi
       all_steps = w.steps + suc p.fresh
 
       abbrev w' : SharedValue
-      w' = entered_marks w (last_event k p) tree pool rests sets tasks_out w.outputs all_steps w.end j.room marks
+      w' = entered_marks w (last_entry k p) tree pool rests sets tasks_out w.outputs all_steps w.end j.room marks
 
       abbrev v' : Memory
       v' = value_of w'
@@ -230,7 +230,7 @@ module _ (w : SharedValue) (k : ℕ) (p : Private) (I : IsSharedValue w) (F : Fi
       counts : RanCounts w.program (tree_counts_of w) (tree_counts_of w') M L t k p.fresh x S.line Joining Q
       counts = record {
         tree = nodes_so;
-        task_out = lets_go w w' (last_event k p) I free_last refl;
+        task_out = lets_go w w' (last_entry k p) I free_last refl;
         outputs = refl;
         end = refl;
         used = relabelled.units;
@@ -261,7 +261,7 @@ module _ (w : SharedValue) (k : ℕ) (p : Private) (I : IsSharedValue w) (F : Fi
       joined_world : IsSharedValue w'
       joined_world =
           let n = joined_long w.tree t q c (c + 1) (both.child_of_two w k p I F at_end free ended above beside frames above_is calls beside_is c lh rh al ar side) q_c q_d c_d in
-          marked_world w (last_event k p) I free_last tree pool rests sets tasks_out w.outputs all_steps w.end j.room marks (H.many ∙ (I.made ∙ sym n)) (N.many ∙ (I.noted ∙ sym n)) (length-set w.tasks_out k None) relabelled.limit
+          marked_world w (last_entry k p) I free_last tree pool rests sets tasks_out w.outputs all_steps w.end j.room marks (H.many ∙ (I.made ∙ sym n)) (N.many ∙ (I.noted ∙ sym n)) (length-set w.tasks_out k None) relabelled.limit
           (ran_stands_for w.program w.settings w.journal.items I.form I.legal v v' (tree_counts_of w) (tree_counts_of w') k t p.fresh h free_last E I.stands own made notes_so counts)
           heaps_then (joined_measured w k p I F at_end free ended above beside frames above_is calls beside_is c lh rh al ar side rests pool heap H relabelled heap_is)
 
@@ -270,17 +270,17 @@ module _ (w : SharedValue) (k : ℕ) (p : Private) (I : IsSharedValue w) (F : Fi
 
       joined_resumed : Some q ≡ running_parent (accounts w').machine.tasks t
       joined_resumed =
-          sym (ap (λ (i : Ledger). running_parent i.machine.tasks t) (marked_accounts w (last_event k p) I free_last tree pool rests sets tasks_out w.outputs all_steps w.end j.room marks) ∙ (before.parent_then w k p I F at_end free ended))
+          sym (ap (λ (i : Ledger). running_parent i.machine.tasks t) (marked_accounts w (last_entry k p) I free_last tree pool rests sets tasks_out w.outputs all_steps w.end j.room marks) ∙ (before.parent_then w k p I F at_end free ended))
 
       -- THE PARTS OF OTHERS
       joined_others : OthersFit w w' k
       joined_others u i ne G =
-          marked_fits w (last_event k p) I free_last tree pool rests sets tasks_out w.outputs all_steps w.end j.room marks joined_world u i i (ap option_flatten (got_other w.tasks_out k u None ne)) G refl refl refl G.form (others_measured w k p I F at_end free ended above beside frames above_is calls beside_is c lh rh al ar side rests pool heap H relabelled heap_is u i ne G)
+          marked_fits w (last_entry k p) I free_last tree pool rests sets tasks_out w.outputs all_steps w.end j.room marks joined_world u i i (ap option_flatten (got_other w.tasks_out k u None ne)) G refl refl refl G.form (others_measured w k p I F at_end free ended above beside frames above_is calls beside_is c lh rh al ar side rests pool heap H relabelled heap_is u i ne G)
           (ran_leaves w.program w.settings v v' l L t k p.fresh h E own made (part_of w.settings i) (tasks_apart w k u p i F G ne) G.fits)
 
       -- ---- AS THE CALL HAS IT
       abbrev pub joined_alone : SharedValue
-      joined_alone = record w { tree = tree; pool = pool; rests = rests; sets = sets; marks = marks; tasks_out = tasks_out; steps = w.steps + (p.fresh + 1); journal = record { items = w.journal.items ++ alone_event k p ∷ []; room = j.room } }
+      joined_alone = record w { tree = tree; pool = pool; rests = rests; sets = sets; marks = marks; tasks_out = tasks_out; steps = w.steps + (p.fresh + 1); journal = record { items = w.journal.items ++ alone_entry k p ∷ []; room = j.room } }
 
       joined_is : w' ≡ joined_alone
       joined_is =

@@ -33,7 +33,7 @@ use Rattle.shared_value.specs.Entered.{refused}
 use Rattle.shared_value.proofs.BeforeTheEnd.{stands_now}
 use Rattle.shared_value.proofs.TaskTaken.{HasCalls, parent_is as tree_parent_is, some_calls}
 use Rattle.core_relation.specs.Whole.{as_node}
-use Rattle.own_steps.specs.Alone.{alone_event}
+use Rattle.own_steps.specs.Alone.{alone_entry}
 use Rattle.own_steps.proofs.LastStepEntry as last
 use Rattle.child_tasks.specs.ChildEnds.{EndsChild, IsAtEnd}
 use Rattle.child_tasks.specs.Forks.{nothing_noted}
@@ -44,7 +44,7 @@ use Rattle.child_tasks.proofs.SiblingReturned as before
 use Rattle.child_tasks.proofs.JoinEntered as joined
 use Rattle.child_tasks.proofs.TwoChildren.{both, count_of, each, in_pairs, right_next, sides, waits_in}
 
-module _ (w : SharedValue) (k : ℕ) (p : Private) (I : IsSharedValue w) (F : Fits w k p) (at_end : IsAtEnd w p) (free : refused w (alone_event k p) ≡ None) (ended : state_in_tree w.tree (sibling p.task) ≡ Some Ended) where
+module _ (w : SharedValue) (k : ℕ) (p : Private) (I : IsSharedValue w) (F : Fits w k p) (at_end : IsAtEnd w p) (free : refused w (alone_entry k p) ≡ None) (ended : state_in_tree w.tree (sibling p.task) ≡ Some Ended) where
   abbrev pub q : ℕ
   q = steps.parent w k p I F at_end free
 
@@ -258,7 +258,7 @@ module _ (w : SharedValue) (k : ℕ) (p : Private) (I : IsSharedValue w) (F : Fi
         marks = marks;
         tasks_out = slice_set w.tasks_out k None;
         steps = w.steps + (p.fresh + 1);
-        journal = record { items = w.journal.items ++ alone_event k p ∷ []; room = j.room };
+        journal = record { items = w.journal.items ++ alone_entry k p ∷ []; room = j.room };
       }
 
       same_tree : record then_ { tree = joined_nodes nodes q L.side.task (L.side.task + 1) } ≡ then_

@@ -23,7 +23,7 @@ use Rattle.shared_value.specs.Stands.{HeapForm, IsSharedValue}
 use Rattle.shared_value.specs.Fits.{Fits, part_of}
 use Rattle.shared_value.proofs.FieldsNoted.{noted_of}
 use Rattle.shared_value.proofs.HeapForms.{places_form}
-use Rattle.own_steps.specs.Alone.{alone_event}
+use Rattle.own_steps.specs.Alone.{alone_entry}
 use Rattle.child_tasks.specs.ChildEnds.{EndsChild}
 use Rattle.child_tasks.specs.Joins.{HasPlaces, IsSameRest, SameButPlaces, chunk_count, sources_at, sources_by}
 use Rattle.child_tasks.proofs.SetsNoted.{noted_by}
@@ -95,7 +95,7 @@ module _ (w after : SharedValue) (P : SameButPlaces w after) where
   -- an entry made after it is one made before it
   pub places_ends : (then_ : SharedValue) (k : ℕ) (p : Private) (answer : Option ℕ) → EndsChild after then_ k p answer → EndsChild w then_ k p answer
   places_ends then_ k p answer E = record {
-    enters = record { journal = E.enters.journal ∙ ap (λ (z : SharedValue). z.journal.items ++ alone_event k p ∷ []) P.rest; program = E.enters.program ∙ ap (λ (z : SharedValue). z.program) P.rest; settings = E.enters.settings ∙ ap (λ (z : SharedValue). z.settings) P.rest; halted = E.enters.halted ∙ ap (λ (z : SharedValue). z.halted) P.rest };
+    enters = record { journal = E.enters.journal ∙ ap (λ (z : SharedValue). z.journal.items ++ alone_entry k p ∷ []) P.rest; program = E.enters.program ∙ ap (λ (z : SharedValue). z.program) P.rest; settings = E.enters.settings ∙ ap (λ (z : SharedValue). z.settings) P.rest; halted = E.enters.halted ∙ ap (λ (z : SharedValue). z.halted) P.rest };
     goes = E.goes;
     resumed = E.resumed;
     others = λ u r ne G. E.others u r ne (places_fit u r G);

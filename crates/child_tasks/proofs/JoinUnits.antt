@@ -29,7 +29,7 @@ use Rattle.shared_value.proofs.EntryMade.{task_is_out, tasks_apart, free_at_rest
 use Rattle.shared_value.proofs.PartFitsMachine as link
 use Rattle.shared_value.proofs.UnitsMeasured.{measured_both, measured_kept, part_kept, relabelled_keeps, relabelled_measured, relabelled_own}
 use Rattle.shared_value.proofs.RootsHeld.{chunk_in}
-use Rattle.own_steps.specs.Alone.{alone_event}
+use Rattle.own_steps.specs.Alone.{alone_entry}
 use Rattle.child_tasks.specs.ChildEnds.{IsAtEnd}
 use Rattle.child_tasks.specs.Joins.{AreSides, RestsJoin, IsRestOf}
 use Rattle.child_tasks.proofs.ChildReturns as steps
@@ -37,7 +37,7 @@ use Rattle.child_tasks.proofs.JoinBelongings.{in_has}
 use Rattle.child_tasks.proofs.JoinedBelongings as both
 use Rattle.child_tasks.proofs.SiblingReturned as before
 
-module _ (w : SharedValue) (k : ℕ) (p : Private) (I : IsSharedValue w) (F : Fits w k p) (at_end : IsAtEnd w p) (free : refused w (alone_event k p) ≡ None) (ended : state_in_tree w.tree (steps.other w k p I F at_end free) ≡ Some Ended) where
+module _ (w : SharedValue) (k : ℕ) (p : Private) (I : IsSharedValue w) (F : Fits w k p) (at_end : IsAtEnd w p) (free : refused w (alone_entry k p) ≡ None) (ended : state_in_tree w.tree (steps.other w k p I F at_end free) ≡ Some Ended) where
   abbrev t : ℕ
   t = p.task
 

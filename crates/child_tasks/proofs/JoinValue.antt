@@ -22,7 +22,7 @@ use Rattle.shared_value.specs.SharedValue.{SharedValue, marks_at, rest_at}
 use Rattle.shared_value.specs.Stands.{IsSharedValue}
 use Rattle.shared_value.specs.Fits.{Fits, IsAtWork}
 use Rattle.shared_value.specs.Entered.{refused}
-use Rattle.own_steps.specs.Alone.{alone_event}
+use Rattle.own_steps.specs.Alone.{alone_entry}
 use Rattle.child_tasks.specs.ChildEnds.{EndsChild, IsAtEnd}
 use Rattle.child_tasks.specs.Joins.{CanJoin, HasPlaces, RestsJoin, IsRestOf, SetsJoin, left_of, other_child, own_child, parent_side, right_of, sources_at}
 use Rattle.child_tasks.proofs.JoinEntries as entry
@@ -50,7 +50,7 @@ pub record Put (w : SharedValue) (parent : ℕ) (h4 h5 h6 : HomesValue) (notes :
   pub homes : HomesPut h4 h5 h6 parent rest put
   pub put_is : content_of put ≡ record { sources = noted.sources; kept = []; keeps = false }
 
-module _ (w : SharedValue) (k : ℕ) (p : Private) (I : IsSharedValue w) (F : Fits w k p) (at_end : IsAtEnd w p) (free : refused w (alone_event k p) ≡ None) (ended : state_in_tree w.tree (sibling p.task) ≡ Some Ended) (h h1 h2 h3 h4 : HomesValue) (home beside_home : Home) (above : Rest) (set : SetOf) (notes : RememberedValue)
+module _ (w : SharedValue) (k : ℕ) (p : Private) (I : IsSharedValue w) (F : Fits w k p) (at_end : IsAtEnd w p) (free : refused w (alone_entry k p) ≡ None) (ended : state_in_tree w.tree (sibling p.task) ≡ Some Ended) (h h1 h2 h3 h4 : HomesValue) (home beside_home : Home) (above : Rest) (set : SetOf) (notes : RememberedValue)
     (own oth left right : EndedChild) where
   abbrev q : ℕ
   q = entry.q w k p I F at_end free ended
@@ -160,7 +160,7 @@ module _ (w : SharedValue) (k : ℕ) (p : Private) (I : IsSharedValue w) (F : Fi
         marks = h6.marks;
         tasks_out = slice_set w.tasks_out k None;
         steps = w.steps + (p.fresh + 1);
-        journal = record { items = w.journal.items ++ alone_event k p ∷ []; room = j.room };
+        journal = record { items = w.journal.items ++ alone_entry k p ∷ []; room = j.room };
       }
 
       made_world_q : IsSharedValue (made_of q L R)
@@ -181,7 +181,7 @@ module _ (w : SharedValue) (k : ℕ) (p : Private) (I : IsSharedValue w) (F : Fi
           subst (λ a. G a right) (sym left_so) (subst (λ b. G L b) (sym right_so) (made_world_q pool rest noted h5 h6 put P' j, made_joins_q pool rest noted h5 h6 put P' j))
 
 -- ---- THE SAME, of the parent and the sibling as the code has them
-module _ (w : SharedValue) (k : ℕ) (p : Private) (I : IsSharedValue w) (F : Fits w k p) (at_end : IsAtEnd w p) (free : refused w (alone_event k p) ≡ None) (ended : state_in_tree w.tree (sibling p.task) ≡ Some Ended) (parent other : ℕ) (parent_is : parent_in_tree w.tree p.task ≡ Some parent) (other_is : other ≡ sibling p.task) (h h1 h2 h3 h4 : HomesValue) (home beside : Home)
+module _ (w : SharedValue) (k : ℕ) (p : Private) (I : IsSharedValue w) (F : Fits w k p) (at_end : IsAtEnd w p) (free : refused w (alone_entry k p) ≡ None) (ended : state_in_tree w.tree (sibling p.task) ≡ Some Ended) (parent other : ℕ) (parent_is : parent_in_tree w.tree p.task ≡ Some parent) (other_is : other ≡ sibling p.task) (h h1 h2 h3 h4 : HomesValue) (home beside : Home)
     (above : Rest) (set : SetOf) (notes : RememberedValue) (own oth left right : EndedChild) where
   abbrev z : ℕ
   z = entry.q w k p I F at_end free ended
@@ -214,7 +214,7 @@ module _ (w : SharedValue) (k : ℕ) (p : Private) (I : IsSharedValue w) (F : Fi
       marks = h6.marks;
       tasks_out = slice_set w.tasks_out k None;
       steps = w.steps + (p.fresh + 1);
-      journal = record { items = w.journal.items ++ alone_event k p ∷ []; room = j.room };
+      journal = record { items = w.journal.items ++ alone_entry k p ∷ []; room = j.room };
     }
 
     pub both_made : K parent other → Put w parent h4 h5 h6 notes above left right pool rest noted put → IsSharedValue (made parent) × EndsChild w (made parent) k p (Some parent)

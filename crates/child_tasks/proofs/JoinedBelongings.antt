@@ -37,7 +37,7 @@ use Rattle.shared_value.specs.Stands.{HeapForm, IsSharedValue}
 use Rattle.shared_value.specs.Fits.{Fits, belongings_of_part}
 use Rattle.shared_value.specs.Entered.{refused}
 use Rattle.shared_value.proofs.RootsHeld.{chunk_in}
-use Rattle.own_steps.specs.Alone.{alone_event}
+use Rattle.own_steps.specs.Alone.{alone_entry}
 use Rattle.own_steps.proofs.LastStepEntry as last
 use Rattle.child_tasks.specs.ChildEnds.{IsAtEnd}
 use Rattle.child_tasks.specs.Joins.{AreSides, IsRestOf, part_result, work_result}
@@ -50,7 +50,7 @@ use Rattle.child_tasks.proofs.JoinTree.{kept_is}
 use Rattle.child_tasks.proofs.MergedHeapForm.{none_reserved}
 use Rattle.child_tasks.proofs.SiblingReturned as before
 
-module _ (w : SharedValue) (k : ℕ) (p : Private) (I : IsSharedValue w) (F : Fits w k p) (at_end : IsAtEnd w p) (free : refused w (alone_event k p) ≡ None) (ended : state_in_tree w.tree (steps.other w k p I F at_end free) ≡ Some Ended) where
+module _ (w : SharedValue) (k : ℕ) (p : Private) (I : IsSharedValue w) (F : Fits w k p) (at_end : IsAtEnd w p) (free : refused w (alone_entry k p) ≡ None) (ended : state_in_tree w.tree (steps.other w k p I F at_end free) ≡ Some Ended) where
   abbrev t : ℕ
   t = p.task
 

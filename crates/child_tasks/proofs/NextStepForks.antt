@@ -38,7 +38,7 @@ use Rattle.shared_value.proofs.StepsEntered.{status}
 use Rattle.shared_value.proofs.StepAccounts.{After}
 use Rattle.shared_value.proofs.SameLength.{same_length}
 use Rattle.shared_value.proofs.TaskTaken.{parent_is}
-use Rattle.own_steps.specs.Alone.{IsShared, Tells, alone_event, machine_after}
+use Rattle.own_steps.specs.Alone.{IsShared, Tells, alone_entry, machine_after}
 use Rattle.own_steps.proofs.AloneEntries.{last_free, runs_on}
 use Rattle.own_steps.proofs.TaskDepths.{AreDeep, deep_in, run_deep}
 use Rattle.own_steps.proofs.LastStepEntry as last
@@ -97,14 +97,14 @@ module _ (w : SharedValue) (I : IsSharedValue w) (on : (accounts w).end ≡ None
 
 -- ---- THE NEXT STEP
 
-module _ (w : SharedValue) (k : ℕ) (p : Private) (I : IsSharedValue w) (F : Fits w k p) (at_fork : IsAtFork w p) (free : refused w (alone_event k p) ≡ None) where
+module _ (w : SharedValue) (k : ℕ) (p : Private) (I : IsSharedValue w) (F : Fits w k p) (at_fork : IsAtFork w p) (free : refused w (alone_entry k p) ≡ None) where
   abbrev pub shared : IsShared w p
   shared = fork_shared w p at_fork
 
   pub on : (accounts w).end ≡ None
   on = runs_on w k p I F shared free
 
-  abbrev pub free_last : refused w (last.last_event k p) ≡ None
+  abbrev pub free_last : refused w (last.last_entry k p) ≡ None
   free_last = last_free w k p I F shared free
 
   abbrev pub t : ℕ

@@ -43,9 +43,9 @@ use Rattle.shared_value.specs.Entered.{refused}
 use Rattle.shared_value.proofs.HeapCounts.{counted_from}
 use Rattle.shared_value.proofs.PartFitsMachine as link
 use Rattle.shared_value.proofs.TaskTaken.{HasCalls, has_calls}
-use Rattle.own_steps.specs.Alone.{IsShared, alone_event}
+use Rattle.own_steps.specs.Alone.{IsShared, alone_entry}
 use Rattle.own_steps.proofs.LastStepEntry as last
-use Rattle.own_steps.proofs.LastStepEntry.{last_event}
+use Rattle.own_steps.proofs.LastStepEntry.{last_entry}
 use Rattle.child_tasks.specs.ChildEnds.{IsAtEnd, running_parent, where_running}
 use Rattle.child_tasks.proofs.ChildReturns as steps
 use Rattle.shared_value.proofs.FieldsLed.{by_chunks}
@@ -53,7 +53,7 @@ use Rattle.child_tasks.proofs.JoinBelongings.{by_since}
 use Rattle.child_tasks.proofs.JoinTree.{IsOver, by_room, kept_is}
 use Rattle.child_tasks.proofs.LastReturnKinds.{joins}
 
-module _ (w : SharedValue) (k : ℕ) (p : Private) (I : IsSharedValue w) (F : Fits w k p) (at_end : IsAtEnd w p) (free : refused w (alone_event k p) ≡ None) (ended : state_in_tree w.tree (steps.other w k p I F at_end free) ≡ Some Ended) where
+module _ (w : SharedValue) (k : ℕ) (p : Private) (I : IsSharedValue w) (F : Fits w k p) (at_end : IsAtEnd w p) (free : refused w (alone_entry k p) ≡ None) (ended : state_in_tree w.tree (steps.other w k p I F at_end free) ≡ Some Ended) where
   abbrev pub t : ℕ
   t = p.task
 
@@ -69,7 +69,7 @@ module _ (w : SharedValue) (k : ℕ) (p : Private) (I : IsSharedValue w) (F : Fi
   abbrev pub shared : IsShared w p
   shared = steps.shared w k p I F at_end free
 
-  abbrev pub free_last : refused w (last_event k p) ≡ None
+  abbrev pub free_last : refused w (last_entry k p) ≡ None
   free_last = steps.free_last w k p I F at_end free
 
   abbrev pub L : Ledger

@@ -12,7 +12,7 @@ use Rattle.task_machine.specs.declared.part.Private.{Private}
 use Rattle.shared_value.specs.SharedValue.{SharedValue, accounts}
 use Rattle.shared_value.specs.Fits.{OthersFit}
 use Rattle.shared_value.specs.Entered.{Enters}
-use Rattle.own_steps.specs.Alone.{alone_event, machine_after}
+use Rattle.own_steps.specs.Alone.{alone_entry, machine_after}
 
 -- ---- WHEN IT COMES
 
@@ -47,7 +47,7 @@ running_parent tasks t = where_running tasks (parents tasks t)
 -- the run goes on, and the answer is the parent of the task exactly where that runs again,
 -- since both its children have ended
 pub record EndsChild (w after : SharedValue) (k : ℕ) (p : Private) (answer : Option ℕ) : Type 0 where
-  pub enters : Enters w after (alone_event k p)
+  pub enters : Enters w after (alone_entry k p)
   pub goes : (accounts after).end ≡ None
   pub resumed : answer ≡ running_parent (accounts after).machine.tasks p.task
   pub others : OthersFit w after k

@@ -21,7 +21,7 @@ use Rattle.task_homes.specs.declared.task_at_rest.Work.TheVariants.{Calls}
 use Rattle.shared_value.specs.SharedValue.{SharedValue, accounts, rest_at}
 use Rattle.shared_value.specs.Fits.{OthersFit}
 use Rattle.shared_value.specs.Entered.{Enters}
-use Rattle.own_steps.specs.Alone.{HaltsAlone, alone_event, machine_after}
+use Rattle.own_steps.specs.Alone.{HaltsAlone, alone_entry, machine_after}
 use Rattle.child_tasks.specs.declared.fork.Forking.{Forking}
 use Rattle.child_tasks.specs.declared.fork.Forking.TheVariants.{Forked, Over}
 
@@ -49,7 +49,7 @@ pub record ForksTo (w : SharedValue) (p : Private) (left right number : ℕ) : T
 
 -- the task waits for two children, whose numbers are the next two, and the run goes on
 pub record ForksOn (w after : SharedValue) (k : ℕ) (p : Private) (left right : ℕ) : Type 0 where
-  pub enters : Enters w after (alone_event k p)
+  pub enters : Enters w after (alone_entry k p)
   pub left_is : left ≡ length (accounts w).machine.tasks
   pub right_is : right ≡ length (accounts w).machine.tasks + 1
   pub goes : (accounts after).end ≡ None

@@ -11,7 +11,7 @@ use Rattle.run_trace.specs.declared.trace.Trace.{Trace}
 use Rattle.trace_input.specs.declared.input.InputFault.{InputFault}
 use Rattle.trace_input.specs.declared.input.TraceInput.{TraceInput}
 use Rattle.trace_input.specs.Cut.{trace_lines}
-use Rattle.trace_input.specs.Input.{IsInput, input_fault, limits_for}
+use Rattle.trace_input.specs.Input.{IsInput, input_fault, settings_for}
 use Rattle.run_ledger.specs.declared.data.RefusedAt.{RefusedAt}
 use Rattle.run_ledger.specs.declared.data.RunEnd.{RunEnd}
 use Rattle.run_ledger.specs.Journals.{end_of, refused_as_run}
@@ -56,7 +56,7 @@ module _ (o : Options) (a b : Answer) where
   traces input (Some f) h k = texts_alike _ _ a b h k
   traces input None h k =
       let t = h.0 in
-      let l = limits_for o.settings t in
+      let l = settings_for o.settings t in
       wholes t.program l t.trace.entries (refused_as_run t.program l t.trace.entries) h.2
       (subst (λ (u : TraceInput). AnswersTrace (IsModelled o) o.settings u b) (same_input input k.0 t k.1 h.1) k.2)
 

@@ -9,7 +9,7 @@ use Rattle.run_trace.specs.Entry.{EntryValue}
 use Rattle.run_trace.specs.Settings.{SettingsValue}
 use Rattle.trace_input.specs.declared.input.InputFault.{InputFault}
 use Rattle.trace_input.specs.declared.input.TraceInput.{TraceInput}
-use Rattle.trace_input.specs.Input.{input_fault, limits_for}
+use Rattle.trace_input.specs.Input.{input_fault, settings_for}
 use Rattle.run_ledger.specs.declared.data.RunEnd.{RunEnd}
 use Rattle.run_ledger.specs.declared.data.RunEnd.TheVariants.{Machine, Fuel, Pool}
 use Rattle.run_ledger.specs.declared.data.RefusedAt.{RefusedAt}
@@ -79,7 +79,7 @@ of_trace : (P : ProgramText → SettingsValue → List EntryValue → Answer →
     → ((p : ProgramText) (l : SettingsValue) (entries : List EntryValue) → P p l entries a → IsAnswered a.status) → AnswersTraced P s input a → IsAnswered a.status
 of_trace P s input a f h =
     traced (AnswersTrace P s) input (input_fault input) a
-    (λ t. where_whole (P t.program (limits_for s t) t.trace.entries) (refused_as_run t.program (limits_for s t) t.trace.entries) a (f t.program (limits_for s t) t.trace.entries)) h
+    (λ t. where_whole (P t.program (settings_for s t) t.trace.entries) (refused_as_run t.program (settings_for s t) t.trace.entries) a (f t.program (settings_for s t) t.trace.entries)) h
 
 races_are : (races : List Race) → IsAnswered (races_status races)
 races_are [] = tt

@@ -8,7 +8,7 @@ use Rattle.run_trace.specs.Settings.{SettingsValue}
 use Rattle.trace_input.specs.declared.input.InputFault.{InputFault}
 use Rattle.trace_input.specs.declared.input.InputFault.TheVariants.{Source, BadLine}
 use Rattle.trace_input.specs.declared.input.TraceInput.{TraceInput}
-use Rattle.trace_input.specs.Input.{input_fault, limits_for}
+use Rattle.trace_input.specs.Input.{input_fault, settings_for}
 use Rattle.hh_model.specs.declared.data.End.TheVariants.{Done as Finished, Trapped, Entangled}
 use Rattle.run_ledger.specs.declared.data.RunEnd.{RunEnd}
 use Rattle.run_ledger.specs.declared.data.RunEnd.TheVariants.{Machine, Fuel, Pool}
@@ -86,7 +86,7 @@ module _ (E : Status → Type 0) where
       → ((p : ProgramText) (l : SettingsValue) (entries : List EntryValue) → P p l entries a → E a.status) → HasProgram input → AnswersTraced P s input a → SaysOrRefuses a
   traced_end P s input a f has h =
       input_end (AnswersTrace P s) input (input_fault input) a
-      (λ t. whole_end (P t.program (limits_for s t) t.trace.entries) (refused_as_run t.program (limits_for s t) t.trace.entries) a (f t.program (limits_for s t) t.trace.entries))
+      (λ t. whole_end (P t.program (settings_for s t) t.trace.entries) (refused_as_run t.program (settings_for s t) t.trace.entries) a (f t.program (settings_for s t) t.trace.entries))
       has h
 
   given_end : (P : Answer → Type 0) (r : Ran) (before after : Option (List ℕ)) → ((a : Answer) → P a → SaysOrRefuses a) → GivesAll P r before after → (r.status ≡ NoMemory) ⊎ ((r.status ≡ Trace) ⊎ E r.status)

@@ -59,10 +59,10 @@ frees p s journal first legal f =
 
 held : (p : ProgramText) (s : SettingsValue) (journal : List EntryValue) (shared : Option SharedValue) → HandsBack p s journal shared → HeapsAreHeld shared (ledger_of p s journal)
 held p s journal shared B =
-    let items = B.held.journal.items in
-    let same : accounts B.held ≡ ledger_of p s journal =
-    ap (λ q. ledger_of q B.held.settings items) B.program ∙ (ap (λ z. ledger_of p z items) B.settings ∙ ap (ledger_of p s) (sym B.moved)) in
-    subst (λ z. HeapsAreHeld z (ledger_of p s journal)) (sym B.left) (subst (HeapsAreHeld (Some (without_journal B.held))) same (heaps_are_held B.held B.stands))
+    let items = B.whole.journal.items in
+    let same : accounts B.whole ≡ ledger_of p s journal =
+    ap (λ q. ledger_of q B.whole.settings items) B.program ∙ (ap (λ z. ledger_of p z items) B.settings ∙ ap (ledger_of p s) (sym B.moved)) in
+    subst (λ z. HeapsAreHeld z (ledger_of p s journal)) (sym B.left) (subst (HeapsAreHeld (Some (without_journal B.whole))) same (heaps_are_held B.whole B.stands))
 
 -- THE STEPS
 stops : (p : ProgramText) (s : SettingsValue) (journal : List EntryValue) (shared : Option SharedValue) → HandsBack p s journal shared → (before later : List ℕ) (t : ℕ) → tasks_of journal ≡ before ++ t ∷ later → StopsUnordered p (run p (field_limit s.version) before) t

@@ -8,7 +8,7 @@ use Rattle.run_trace.specs.Settings.{SettingsValue}
 use Rattle.trace_input.specs.declared.input.InputFault.{InputFault}
 use Rattle.trace_input.specs.declared.input.InputFault.TheVariants.{Source as SourceFault, BadLine}
 use Rattle.trace_input.specs.declared.input.TraceInput.{TraceInput}
-use Rattle.trace_input.specs.Input.{input_fault, limits_for}
+use Rattle.trace_input.specs.Input.{input_fault, settings_for}
 use Rattle.run_ledger.specs.declared.data.RunEnd.{RunEnd}
 use Rattle.run_ledger.specs.declared.data.RefusedAt.{RefusedAt}
 use Rattle.run_ledger.specs.Journals.{refused_as_run}
@@ -36,7 +36,7 @@ pub image_ended : (w : SharedValue) (end : RunEnd) (image : List ℕ) (a : Answe
 image_ended w end image a stands ended shows h =
     subst (λ (r : Option RefusedAt). WhereWhole (IsImaged w.program w.settings w.journal.items) r a)
     (sym (whole_journal w.program w.settings w.journal.items end stands.legal ended))
-    (record { held = w; stands = stands; program = refl; settings = refl; journal = refl; image = image; shows = shows; text = h })
+    (record { whole = w; stands = stands; program = refl; settings = refl; journal = refl; image = image; shows = shows; text = h })
 
 pub image_short : (w : SharedValue) (a : Answer) → IsSharedValue w → (accounts w).end ≡ None → Refuses (Entry (short_of w.journal.items)) a → OfShared w a
 image_short w a stands none h =
@@ -44,7 +44,7 @@ image_short w a stands none h =
     (sym (short_journal w.program w.settings w.journal.items stands.legal none)) h
 
 -- where all entries are made
-pub imaged : (l : SettingsValue) (t : TraceInput) (s : SettingsValue) (entries : List EntryValue) (w : SharedValue) (a : Answer) → s ≡ limits_for l t → entries ≡ t.trace.entries
+pub imaged : (l : SettingsValue) (t : TraceInput) (s : SettingsValue) (entries : List EntryValue) (w : SharedValue) (a : Answer) → s ≡ settings_for l t → entries ≡ t.trace.entries
     → w.program ≡ t.program → w.settings ≡ s → w.journal.items ≡ entries → OfShared w a → AnswersTrace IsImaged l t a
 imaged l t s entries w a limits is program settings journal h =
     trace_told IsImaged l t s entries (refused_as_run t.program s entries) a limits is refl
@@ -75,7 +75,7 @@ module _ (Q : Type 0) (s : SettingsValue) (a : Answer) (done : a.status ≡ Done
   traced input (Some f) h = fault f h
   traced input None h =
       let t = h.0 in
-      let l = limits_for s t in
+      let l = settings_for s t in
       whole t.program l t.trace.entries (refused_as_run t.program l t.trace.entries) h.2
 
 verified : (p : ProgramText) (l : SettingsValue) (entries : List EntryValue) (a b : Answer) → length a.bytes ≤ most_bytes → AnswersImage (image_fault a.bytes) (objects_in a.bytes) b → IsImaged p l entries a → b.status ≡ Done

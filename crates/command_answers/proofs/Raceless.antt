@@ -9,7 +9,7 @@ use Rattle.run_trace.specs.Settings.{SettingsValue, field_limit}
 use Rattle.trace_input.specs.declared.input.InputFault.{InputFault}
 use Rattle.trace_input.specs.declared.input.InputFault.TheVariants.{Source as InProgram, BadLine}
 use Rattle.trace_input.specs.declared.input.TraceInput.{TraceInput}
-use Rattle.trace_input.specs.Input.{input_fault, limits_for}
+use Rattle.trace_input.specs.Input.{input_fault, settings_for}
 use Rattle.run_ledger.specs.declared.data.RefusedAt.{RefusedAt}
 use Rattle.run_ledger.specs.declared.data.RunEnd.{RunEnd}
 use Rattle.run_ledger.specs.declared.data.RunEnd.TheVariants.{Machine, Fuel as FuelEnd, Pool as PoolEnd}
@@ -65,7 +65,7 @@ module _ (o : Options) (a b : Answer) (done : a.status ≡ Done) (stopped : b.st
   traces input (Some f) h k = no_fault f a h done
   traces input None h k =
       let t = h.0 in
-      let l = limits_for o.settings t in
+      let l = settings_for o.settings t in
       wholes t.program l t.trace.entries (refused_as_run t.program l t.trace.entries) h.2
       (subst (λ (u : TraceInput). AnswersTrace (IsReplay o) o.settings u b) (same_input input k.0 t k.1 h.1) k.2)
 

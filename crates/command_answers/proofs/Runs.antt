@@ -5,7 +5,7 @@ use Rattle.hh_lang.specs.Form.{ProgramText}
 use Rattle.run_trace.specs.Entry.{EntryValue}
 use Rattle.run_trace.specs.Settings.{SettingsValue}
 use Rattle.trace_input.specs.declared.input.TraceInput.{TraceInput}
-use Rattle.trace_input.specs.Input.{limits_for}
+use Rattle.trace_input.specs.Input.{settings_for}
 use Rattle.run_ledger.specs.declared.data.RunEnd.{RunEnd}
 use Rattle.run_ledger.specs.declared.data.RefusedAt.{RefusedAt}
 use Rattle.run_ledger.specs.Journals.{IsPrefix, end_of, first_refused, is_legal, or_short, refused_as_run}
@@ -48,7 +48,7 @@ refused_first p s journal r is = ap (λ (o : Option RefusedAt). or_short o (end_
 pub handed : (p : ProgramText) (s : SettingsValue) (w : SharedValue) (journal : List EntryValue) (shared : Option SharedValue) → IsSharedValue w → w.program ≡ p → w.settings ≡ s
     → journal ≡ w.journal.items → shared ≡ Some (without_journal w) → HandsBack p s journal shared
 handed p s w journal shared stands program settings moved left = record {
-  held = w;
+  whole = w;
   stands = stands;
   program = program;
   settings = settings;
@@ -89,7 +89,7 @@ made_short w extras a stands none h =
     (sym (short_journal w.program w.settings w.journal.items stands.legal none)) h
 
 -- where all entries are made
-pub made_told : (o : Options) (t : TraceInput) (s : SettingsValue) (entries : List EntryValue) (w : SharedValue) (a : Answer) → s ≡ limits_for o.settings t → entries ≡ t.trace.entries
+pub made_told : (o : Options) (t : TraceInput) (s : SettingsValue) (entries : List EntryValue) (w : SharedValue) (a : Answer) → s ≡ settings_for o.settings t → entries ≡ t.trace.entries
     → w.program ≡ t.program → w.settings ≡ s → w.journal.items ≡ entries
     → WhereWhole (IsReplayedRun w.program w.settings (extras_of o) w.journal.items) (refused_as_run w.program w.settings w.journal.items) a → AnswersTrace (IsReplay o) o.settings t a
 made_told o t s entries w a limits is program settings journal h =
@@ -99,12 +99,12 @@ made_told o t s entries w a limits is program settings journal h =
     (subst (λ q. WhereWhole (IsReplayedRun q w.settings (extras_of o) w.journal.items) (refused_as_run q w.settings w.journal.items) a) program h)))
 
 -- memory was wanting amid them
-pub entries_left : (o : Options) (t : TraceInput) (s : SettingsValue) (entries : List EntryValue) (w : SharedValue) (found : Wanted) → s ≡ limits_for o.settings t → entries ≡ t.trace.entries
+pub entries_left : (o : Options) (t : TraceInput) (s : SettingsValue) (entries : List EntryValue) (w : SharedValue) (found : Wanted) → s ≡ settings_for o.settings t → entries ≡ t.trace.entries
     → IsSharedValue w → w.program ≡ t.program → w.settings ≡ s → IsPrefix w.journal.items entries → found ≡ Amid w.journal.items (without_journal w)
-    → IsWanted (LeavesPrefix t.program (limits_for o.settings t) t.trace.entries) found
+    → IsWanted (LeavesPrefix t.program (settings_for o.settings t) t.trace.entries) found
 entries_left o t s entries w found limits is stands program settings prefix found_is =
-    subst (IsWanted (LeavesPrefix t.program (limits_for o.settings t) t.trace.entries)) (sym found_is)
-    (handed t.program (limits_for o.settings t) w w.journal.items (Some (without_journal w)) stands program (settings ∙ limits) refl refl, subst (IsPrefix w.journal.items) is prefix)
+    subst (IsWanted (LeavesPrefix t.program (settings_for o.settings t) t.trace.entries)) (sym found_is)
+    (handed t.program (settings_for o.settings t) w w.journal.items (Some (without_journal w)) stands program (settings ∙ limits) refl refl, subst (IsPrefix w.journal.items) is prefix)
 
 -- all of them are a first part
 pub all_prefix : (journal entries : List EntryValue) → journal ≡ entries → IsPrefix journal entries
@@ -112,16 +112,16 @@ all_prefix journal entries is = ([], sym is ∙ sym (append-nil journal))
 
 -- A REPLAY that has come so far
 
-pub replayed_told : (o : Options) (t : TraceInput) (s : SettingsValue) (entries : List EntryValue) (r : Result WorldValue ReplayStop) (a : Answer) → s ≡ limits_for o.settings t → entries ≡ t.trace.entries
+pub replayed_told : (o : Options) (t : TraceInput) (s : SettingsValue) (entries : List EntryValue) (r : Result WorldValue ReplayStop) (a : Answer) → s ≡ settings_for o.settings t → entries ≡ t.trace.entries
     → IfOk r (HasReplayed t.program s entries) → IfErr r (IsStop t.program s entries) → AnswersReplayed (extras_of o) r a → AnswersTrace (IsReplay o) o.settings t a
 replayed_told o t s entries (Ok x) a limits is has stop h = made_told o t s entries x.shared a limits is has.program has.settings has.journal h
 replayed_told o t s entries (Err (Stops r)) a limits is has stop h = trace_told (IsReplay o) o.settings t s entries (Some r) a limits is (refused_first t.program s entries r stop) h
 replayed_told o t s entries (Err (WantsMemory x)) a limits is has stop h = absurd h
 
-pub replayed_left : (o : Options) (t : TraceInput) (s : SettingsValue) (entries : List EntryValue) (r : Result WorldValue ReplayStop) (found : Wanted) → s ≡ limits_for o.settings t → entries ≡ t.trace.entries
-    → IfOk r (HasReplayed t.program s entries) → IfErr r (IsStop t.program s entries) → StandsReplayed r → found ≡ remains_by r → IsWanted (LeavesPrefix t.program (limits_for o.settings t) t.trace.entries) found
+pub replayed_left : (o : Options) (t : TraceInput) (s : SettingsValue) (entries : List EntryValue) (r : Result WorldValue ReplayStop) (found : Wanted) → s ≡ settings_for o.settings t → entries ≡ t.trace.entries
+    → IfOk r (HasReplayed t.program s entries) → IfErr r (IsStop t.program s entries) → StandsReplayed r → found ≡ remains_by r → IsWanted (LeavesPrefix t.program (settings_for o.settings t) t.trace.entries) found
 replayed_left o t s entries (Ok x) found limits is has stop stands e =
     entries_left o t s entries x.shared found limits is stands has.program has.settings (all_prefix x.shared.journal.items entries has.journal) e
-replayed_left o t s entries (Err (Stops r)) found limits is has stop stands e = subst (IsWanted (LeavesPrefix t.program (limits_for o.settings t) t.trace.entries)) (sym e) tt
-replayed_left o t s entries (Err (WantsMemory None)) found limits is has stop stands e = subst (IsWanted (LeavesPrefix t.program (limits_for o.settings t) t.trace.entries)) (sym e) tt
+replayed_left o t s entries (Err (Stops r)) found limits is has stop stands e = subst (IsWanted (LeavesPrefix t.program (settings_for o.settings t) t.trace.entries)) (sym e) tt
+replayed_left o t s entries (Err (WantsMemory None)) found limits is has stop stands e = subst (IsWanted (LeavesPrefix t.program (settings_for o.settings t) t.trace.entries)) (sym e) tt
 replayed_left o t s entries (Err (WantsMemory (Some x))) found limits is has stop stands e = entries_left o t s entries x.shared found limits is stands stop.program stop.settings stop.prefix e

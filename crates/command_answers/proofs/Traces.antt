@@ -8,9 +8,9 @@ use Rattle.program_make.specs.Text.{made_text}
 use Rattle.program_make.proofs.Lengths.{made_are_short}
 use Rattle.made_program_laws.proofs.Made.{made_are_programs}
 use Rattle.run_trace.specs.Entry.{EntryValue}
-use Rattle.run_trace.specs.Settings.{SettingsValue, usual_limits}
+use Rattle.run_trace.specs.Settings.{SettingsValue, usual_settings}
 use Rattle.trace_input.specs.declared.input.TraceInput.{TraceInput}
-use Rattle.trace_input.specs.Input.{limits_for}
+use Rattle.trace_input.specs.Input.{settings_for}
 use Rattle.run_ledger.specs.declared.data.RunEnd.{RunEnd}
 use Rattle.run_ledger.specs.declared.data.RefusedAt.{RefusedAt}
 use Rattle.run_ledger.specs.Journals.{end_of, refused_as_run}
@@ -29,9 +29,9 @@ use Rattle.command_answers.specs.Delivery.{IsWanted}
 use Rattle.command_answers.specs.Laws.{MadeAreRead}
 use Rattle.command_answers.specs.Runs.{LeavesPaced}
 
--- what is answered of a journal, which is the trace's, within its limits
+-- what is answered of a journal, which is the trace's, with its settings
 pub trace_told : (P : ProgramText → SettingsValue → List EntryValue → Answer → Type 0) (l : SettingsValue) (t : TraceInput) (s : SettingsValue) (journal : List EntryValue) (r : Option RefusedAt) (a : Answer)
-    → s ≡ limits_for l t → journal ≡ t.trace.entries → refused_as_run t.program s journal ≡ r → WhereWhole (P t.program s journal) r a → AnswersTrace P l t a
+    → s ≡ settings_for l t → journal ≡ t.trace.entries → refused_as_run t.program s journal ≡ r → WhereWhole (P t.program s journal) r a → AnswersTrace P l t a
 trace_told P l t s journal r a settings entries is h =
     subst (λ x. WhereWhole (P t.program x t.trace.entries) (refused_as_run t.program x t.trace.entries) a) settings
     (subst (λ j. WhereWhole (P t.program s j) (refused_as_run t.program s j) a) entries
@@ -57,7 +57,7 @@ made_are_read = λ seed size some most.
     (le-leb (length (made_text seed size)) program_limit (made_are_short seed size most)) (made_are_programs seed size some most)
 
 -- a text that was made, and is run
-pub made_run : (seed size : ℕ) (run : Bool) (s : SettingsValue) (bytes : List ℕ) (a : Answer) → 1 ≤ size → size ≤ 1000 → run ≡ true → s ≡ usual_limits → bytes ≡ made_text seed size
+pub made_run : (seed size : ℕ) (run : Bool) (s : SettingsValue) (bytes : List ℕ) (a : Answer) → 1 ≤ size → size ≤ 1000 → run ≡ true → s ≡ usual_settings → bytes ≡ made_text seed size
     → AnswersRun (record { settings = s; report = true; trace = false }) bytes a → AnswersMake seed size run a
 made_run seed size run s bytes a some most runs usual is h =
     let whole : AnswersRun summary (made_text seed size) a = subst (λ l. AnswersRun (record { settings = l; report = true; trace = false }) (made_text seed size) a) usual (subst (λ x. AnswersRun (record { settings = s; report = true; trace = false }) x a) is h) in
@@ -70,14 +70,14 @@ one_program : {X : Type 0} (r : Result ProgramText X) (p q : ProgramText) → r 
 one_program r p q e f = let g : Ok p ≡ Ok q = sym e ∙ f in cc
 
 -- what is left of its run
-pub made_left : (seed size : ℕ) (run : Bool) (s : SettingsValue) (bytes : List ℕ) (w : Wanted) → 1 ≤ size → size ≤ 1000 → run ≡ true → s ≡ usual_limits → bytes ≡ made_text seed size
+pub made_left : (seed size : ℕ) (run : Bool) (s : SettingsValue) (bytes : List ℕ) (w : Wanted) → 1 ≤ size → size ≤ 1000 → run ≡ true → s ≡ usual_settings → bytes ≡ made_text seed size
     → IsWanted (LeavesRun (record { settings = s; report = true; trace = false }) bytes) w → IsWanted (LeavesMake seed size run) w
 made_left seed size run s bytes Before some most runs usual is h = tt
 made_left seed size run s bytes (Amid journal left) some most runs usual is h =
     let program = h.0 in
     let same : program ≡ program_of (made_text seed size) = one_program (program_in bytes) program (program_of (made_text seed size)) h.1 (ap program_in is ∙ made_are_read seed size some most) in
     subst (λ b. LeavesMake seed size b journal (Some left)) (sym runs)
-    (subst (λ p. LeavesPaced p usual_limits journal (Some left)) same
+    (subst (λ p. LeavesPaced p usual_settings journal (Some left)) same
     (subst (λ l. LeavesPaced program l journal (Some left)) usual h.2))
 
 -- a text that was made

@@ -5,11 +5,11 @@ use Rattle.hh_lang.specs.Form.{ProgramText}
 use Rattle.program_reader.specs.declared.cause.Refused.{Refused}
 use Rattle.program_reader.specs.Program.{program_of}
 use Rattle.program_make.specs.Text.{made_text}
-use Rattle.run_trace.specs.Settings.{SettingsValue, field_limit, usual_limits}
+use Rattle.run_trace.specs.Settings.{SettingsValue, field_limit, usual_settings}
 use Rattle.run_trace.specs.Entry.{EntryValue}
 use Rattle.trace_input.specs.declared.input.InputFault.{InputFault}
 use Rattle.trace_input.specs.declared.input.TraceInput.{TraceInput}
-use Rattle.trace_input.specs.Input.{input_fault, limits_for, IsInput}
+use Rattle.trace_input.specs.Input.{input_fault, settings_for, IsInput}
 use Rattle.run_ledger.specs.declared.data.RunEnd.{RunEnd}
 use Rattle.run_ledger.specs.declared.data.Refused.TheVariants.{Short}
 use Rattle.run_ledger.specs.declared.data.RefusedAt.{RefusedAt}
@@ -100,7 +100,7 @@ WhereWhole P None = P
 WhereWhole P (Some r) = Refuses (Entry r)
 
 abbrev pub AnswersTrace : (ProgramText → SettingsValue → List EntryValue → Answer → Type 0) → SettingsValue → TraceInput → Answer → Type 0
-AnswersTrace P s t = WhereWhole (P t.program (limits_for s t) t.trace.entries) (refused_as_run t.program (limits_for s t) t.trace.entries)
+AnswersTrace P s t = WhereWhole (P t.program (settings_for s t) t.trace.entries) (refused_as_run t.program (settings_for s t) t.trace.entries)
 
 abbrev pub WhereTraced : (TraceInput → Answer → Type 0) → List ℕ → Option InputFault → Answer → Type 0
 WhereTraced P input None a = (t : TraceInput) × IsInput input t × P t a
@@ -167,13 +167,13 @@ pub record IsImageOf (w : SharedValue) (text : List ℕ) : Type 0 where
 
 -- the image of a shared value that stands, by a run of these entries
 pub record IsImaged (p : ProgramText) (s : SettingsValue) (entries : List EntryValue) (a : Answer) : Type 0 where
-  pub held : SharedValue
-  pub stands : IsSharedValue held
-  pub program : held.program ≡ p
-  pub settings : held.settings ≡ s
-  pub journal : held.journal.items ≡ entries
+  pub whole : SharedValue
+  pub stands : IsSharedValue whole
+  pub program : whole.program ≡ p
+  pub settings : whole.settings ≡ s
+  pub journal : whole.journal.items ≡ entries
   pub image : List ℕ
-  pub shows : IsImageOf held image
+  pub shows : IsImageOf whole image
   pub text : IsText Done image a
 
 abbrev pub AnswersImaging : SettingsValue → List ℕ → Answer → Type 0
@@ -190,9 +190,9 @@ AnswersVerify input = AnswersImage (image_fault input) (objects_in input)
 
 -- MAKE
 
--- the report is asked for, with the usual limits
+-- the report is asked for, with the usual settings
 abbrev pub summary : Options
-summary = record { settings = usual_limits; report = true; trace = false }
+summary = record { settings = usual_settings; report = true; trace = false }
 
 -- the text, or a whole run of its program: no text that is made is refused
 abbrev pub AnswersMake : ℕ → ℕ → Bool → Answer → Type 0
@@ -222,7 +222,7 @@ LeavesRun o input journal shared = (p : ProgramText) × IsProgramInput input p �
 
 abbrev pub LeavesReplay : Options → List ℕ → List EntryValue → Option SharedValue → Type 0
 LeavesReplay o input journal shared =
-    (t : TraceInput) × IsInput input t × LeavesPrefix t.program (limits_for o.settings t) t.trace.entries journal shared
+    (t : TraceInput) × IsInput input t × LeavesPrefix t.program (settings_for o.settings t) t.trace.entries journal shared
 
 -- nothing is left by what doesn't run a program
 abbrev pub LeavesNone : List EntryValue → Option SharedValue → Type 0
@@ -230,7 +230,7 @@ LeavesNone journal shared = ⊥
 
 abbrev pub LeavesMake : ℕ → ℕ → Bool → List EntryValue → Option SharedValue → Type 0
 LeavesMake seed size false = LeavesNone
-LeavesMake seed size true = LeavesPaced (program_of (made_text seed size)) usual_limits
+LeavesMake seed size true = LeavesPaced (program_of (made_text seed size)) usual_settings
 
 abbrev pub LeavesLine : CommandLine → List ℕ → List EntryValue → Option SharedValue → Type 0
 LeavesLine (Run file options) input = LeavesRun options input

@@ -13,16 +13,16 @@ use Rattle.shared_value.specs.Stands.{IsSharedValue}
 use Rattle.command_answers.specs.declared.answer.Answer.{Answer}
 use Rattle.command_answers.specs.Status.{status_of_end}
 
--- the journal of a run of the program within the limits, which is legal, and the shared value that stands for it, from which
+-- the journal of a run of the program with the settings, which is legal, and the shared value that stands for it, from which
 -- it was moved out
 pub record HandsBack (p : ProgramText) (s : SettingsValue) (journal : List EntryValue) (shared : Option SharedValue) : Type 0 where
-  pub held : SharedValue
-  pub stands : IsSharedValue held
-  pub program : held.program ≡ p
-  pub settings : held.settings ≡ s
+  pub whole : SharedValue
+  pub stands : IsSharedValue whole
+  pub program : whole.program ≡ p
+  pub settings : whole.settings ≡ s
   pub legal : is_legal p s journal ≡ true
-  pub moved : journal ≡ held.journal.items
-  pub left : shared ≡ Some (without_journal held)
+  pub moved : journal ≡ whole.journal.items
+  pub left : shared ≡ Some (without_journal whole)
 
 -- A WHOLE RUN: the journal handed back has an end; the bytes and the status are those of this journal, by the definitions alone
 pub record IsWholeRun (p : ProgramText) (s : SettingsValue) (extras : Extras) (a : Answer) : Type 0 where

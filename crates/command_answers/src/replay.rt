@@ -4,7 +4,7 @@ ghost use Rattle.std.specs.Prelude.{◌≡◌, IfOk, IfErr};
 ghost use Rattle.run_ledger.specs.Journals.{refused_as_run};
 ghost use Rattle.shared_value.specs.Stands.{IsSharedValue};
 ghost use Rattle.shared_value.specs.SharedValue.{without_journal};
-ghost use Rattle.trace_input.specs.Input.{limits_for};
+ghost use Rattle.trace_input.specs.Input.{settings_for};
 ghost use Rattle.command_answers.specs.Answers.{AnswersReplay, AnswersReplayed, AnswersTrace, IsReplay, LeavesReplay, Refuses, StandsReplayed, WhereWhole, short_of};
 ghost use Rattle.command_answers.specs.Delivery.{IsWanted, remains_by};
 ghost use Rattle.command_answers.specs.Runs.{IsReplayedRun, LeavesPrefix};
@@ -66,7 +66,7 @@ fn answer_replayed(
 // Makes the entries of a trace.
 fn answer_trace(alloc: Global, options: Options, read: &TraceInput) -> Result<Answer, Wanted>
     ensures answer { IfOk result (AnswersTrace (IsReplay options) options.settings read.now) }
-    ensures wanted { IfErr result (IsWanted (LeavesPrefix read.now.program (limits_for options.settings read.now) read.now.trace.entries)) }
+    ensures wanted { IfErr result (IsWanted (LeavesPrefix read.now.program (settings_for options.settings read.now) read.now.trace.entries)) }
 {
     let TraceInput { program, trace } = read;
     let settings = options.settings.with_version(trace.version);

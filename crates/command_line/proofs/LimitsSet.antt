@@ -7,7 +7,7 @@ use Rattle.clap.specs.Kinds.{Kinds, or_else}
 use Rattle.clap.specs.Faults.{bundle_fault, flag_word_fault, level_fault, step_fault, turn_fault, walk_fault, word_fault}
 use Rattle.clap.specs.ValueTests.{is_unsigned_in}
 use Rattle.clap.proofs.OnLiterals.{clap_on_literals}
-use Rattle.run_trace.specs.Settings.{SettingsValue, usual_limits}
+use Rattle.run_trace.specs.Settings.{SettingsValue, usual_settings}
 use Rattle.command_line.specs.CommandLine.{file_in, options_in}
 use Rattle.command_line.specs.Examples.{usual_options}
 use Rattle.command_line.specs.Operands.{IsOperand, OptionsSet, Sets, SetsEach}
@@ -85,33 +85,33 @@ sets flag id least most limits is name line runner word h =
     (runner.asks (finished rules (taken_at id word).held) ∙ ap₂ (λ f o. Some (line f o)) (is.file word) (is.options word))
     ∙ by_value (is_unsigned_in least most word) (Some (line None given))
 
-workers_is : IsLimit (codes "--workers") (codes "workers") 1 64 (λ n. record usual_limits { workers = n })
+workers_is : IsLimit (codes "--workers") (codes "workers") 1 64 (λ n. record usual_settings { workers = n })
 unfolding clap_on_literals
 workers_is = record { waits = refl; none = λ name. refl; kinds = λ name word. refl; file = λ word. refl; options = λ word. refl }
 
-fuel_is : IsLimit (codes "--fuel") (codes "fuel") 1 1000000000 (λ n. record usual_limits { fuel = n })
+fuel_is : IsLimit (codes "--fuel") (codes "fuel") 1 1000000000 (λ n. record usual_settings { fuel = n })
 unfolding clap_on_literals
 fuel_is = record { waits = refl; none = λ name. refl; kinds = λ name word. refl; file = λ word. refl; options = λ word. refl }
 
-chunks_is : IsLimit (codes "--chunks") (codes "chunks") 2 65536 (λ n. record usual_limits { chunks = n })
+chunks_is : IsLimit (codes "--chunks") (codes "chunks") 2 65536 (λ n. record usual_settings { chunks = n })
 unfolding clap_on_literals
 chunks_is = record { waits = refl; none = λ name. refl; kinds = λ name word. refl; file = λ word. refl; options = λ word. refl }
 
-leaf_is : IsLimit (codes "--leaf") (codes "leaf") 16 1000000 (λ n. record usual_limits { leaf = n })
+leaf_is : IsLimit (codes "--leaf") (codes "leaf") 16 1000000 (λ n. record usual_settings { leaf = n })
 unfolding clap_on_literals
 leaf_is = record { waits = refl; none = λ name. refl; kinds = λ name word. refl; file = λ word. refl; options = λ word. refl }
 
-inner_is : IsLimit (codes "--inner") (codes "inner") 16 1000000 (λ n. record usual_limits { inner = n })
+inner_is : IsLimit (codes "--inner") (codes "inner") 16 1000000 (λ n. record usual_settings { inner = n })
 unfolding clap_on_literals
 inner_is = record { waits = refl; none = λ name. refl; kinds = λ name word. refl; file = λ word. refl; options = λ word. refl }
 
 sets_each : (name : Text) (line : Option Text → Options → CommandLine) → IsRunner name line → SetsEach name line
 sets_each name line is = (
-  sets (codes "--workers") (codes "workers") 1 64 (λ n. record usual_limits { workers = n }) workers_is name line is,
-  sets (codes "--fuel") (codes "fuel") 1 1000000000 (λ n. record usual_limits { fuel = n }) fuel_is name line is,
-  sets (codes "--chunks") (codes "chunks") 2 65536 (λ n. record usual_limits { chunks = n }) chunks_is name line is,
-  sets (codes "--leaf") (codes "leaf") 16 1000000 (λ n. record usual_limits { leaf = n }) leaf_is name line is,
-  sets (codes "--inner") (codes "inner") 16 1000000 (λ n. record usual_limits { inner = n }) inner_is name line is,
+  sets (codes "--workers") (codes "workers") 1 64 (λ n. record usual_settings { workers = n }) workers_is name line is,
+  sets (codes "--fuel") (codes "fuel") 1 1000000000 (λ n. record usual_settings { fuel = n }) fuel_is name line is,
+  sets (codes "--chunks") (codes "chunks") 2 65536 (λ n. record usual_settings { chunks = n }) chunks_is name line is,
+  sets (codes "--leaf") (codes "leaf") 16 1000000 (λ n. record usual_settings { leaf = n }) leaf_is name line is,
+  sets (codes "--inner") (codes "inner") 16 1000000 (λ n. record usual_settings { inner = n }) inner_is name line is,
 )
 
 pub options_set : OptionsSet

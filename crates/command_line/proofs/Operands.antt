@@ -13,7 +13,7 @@ use Rattle.clap.specs.ValueTests.{is_unsigned_in}
 use Rattle.clap.specs.declared.error.kind.ErrorKind.TheVariants as kind
 use Rattle.clap.proofs.OnLiterals.{clap_on_literals}
 use Rattle.run_trace.specs.Settings.{SettingsValue}
-use Rattle.command_line.specs.CommandLine.{asked, command_line, file_in, limits_in, options_in}
+use Rattle.command_line.specs.CommandLine.{asked, command_line, file_in, options_in, settings_in}
 use Rattle.command_line.specs.Examples.{usual_options}
 use Rattle.command_line.specs.Operands.{IsOperand, Makes, OperandsMake, OperandsNameFiles}
 use Rattle.command_line.specs.declared.line.CommandLine.{CommandLine}
@@ -107,7 +107,7 @@ unfolding clap_on_literals
 model_is = record { one = λ word. refl; two = λ first second. refl; asks = λ rows. refl }
 
 abbrev IsLimited : Text → (Option Text → SettingsValue → CommandLine) → Type 0
-IsLimited name line = IsCommand name (limited_shape name) (λ rows. line (file_in rows) (limits_in rows))
+IsLimited name line = IsCommand name (limited_shape name) (λ rows. line (file_in rows) (settings_in rows))
 
 races_is : IsLimited (codes "races") Races
 unfolding clap_on_literals

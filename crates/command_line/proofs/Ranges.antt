@@ -5,9 +5,9 @@ use Rattle.std.specs.Str.{bytes_eq}
 use Rattle.std.specs.Str.Parse.{digits_value, without_leading_plus}
 use Rattle.std.proofs.lemmas.Slice.Eq.{bytes_eq-Decides}
 use Rattle.clap.specs.Words.{Row, Text}
-use Rattle.run_trace.specs.Settings.{AreLimits}
-use Rattle.command_line.specs.CommandLine.{HasSize, asked, file_in, flag_in, number_in, limits_in, options_in}
-use Rattle.command_line.specs.Values.{FitsCommand, FitsFound, HasLimits, HasNumber}
+use Rattle.run_trace.specs.Settings.{AreSettings}
+use Rattle.command_line.specs.CommandLine.{HasSize, asked, file_in, flag_in, number_in, settings_in, options_in}
+use Rattle.command_line.specs.Values.{FitsCommand, FitsFound, HasNumber, HasSettings}
 use Rattle.command_line.specs.declared.line.CommandLine.{CommandLine}
 use Rattle.command_line.specs.declared.line.CommandLine.TheVariants.{Check, Run, Replay, Model, Races, Image, Make, Verify}
 
@@ -19,7 +19,7 @@ in_range id least most rows h =
     let is : number_in id rows ≡ digits_value 10 (without_leading_plus h.0) = ap (λ (o : Option Text). option_map_or (λ t. digits_value 10 (without_leading_plus t)) o 0) h.1 in
     rw is (h.2.2, h.2.3)
 
-pub limits : (rows : List Row) → HasLimits rows → AreLimits (limits_in rows)
+pub limits : (rows : List Row) → HasSettings rows → AreSettings (settings_in rows)
 limits rows h = record {
   workers = in_range (codes "workers") 1 64 rows h.workers;
   fuel = in_range (codes "fuel") 1 1000000000 rows h.fuel;
@@ -37,10 +37,10 @@ module _ (name : Text) (rows : List Row) (h : FitsCommand name rows) where
   or_make = cond (bytes_eq name (codes "make")) (Some (Make (number_in (codes "SEED") rows) (number_in (codes "SIZE") rows) (flag_in (codes "run") rows))) or_verify
 
   abbrev or_image : Option CommandLine
-  or_image = cond (bytes_eq name (codes "image")) (Some (Image (file_in rows) (limits_in rows))) or_make
+  or_image = cond (bytes_eq name (codes "image")) (Some (Image (file_in rows) (settings_in rows))) or_make
 
   abbrev or_races : Option CommandLine
-  or_races = cond (bytes_eq name (codes "races")) (Some (Races (file_in rows) (limits_in rows))) or_image
+  or_races = cond (bytes_eq name (codes "races")) (Some (Races (file_in rows) (settings_in rows))) or_image
 
   abbrev or_model : Option CommandLine
   or_model = cond (bytes_eq name (codes "model")) (Some (Model (file_in rows) (options_in rows))) or_races
@@ -59,11 +59,11 @@ module _ (name : Text) (rows : List Row) (h : FitsCommand name rows) where
   by_make true e = in_range (codes "SIZE") 1 1000 rows (h.make ((bytes_eq-Decides name (codes "make")).0 e)).size
   by_make false e = by_verify (bytes_eq name (codes "verify"))
 
-  by_image : (b : Bool) → HasSize (cond b (Some (Image (file_in rows) (limits_in rows))) or_make)
+  by_image : (b : Bool) → HasSize (cond b (Some (Image (file_in rows) (settings_in rows))) or_make)
   by_image true = tt
   by_image false = by_make (bytes_eq name (codes "make")) refl
 
-  by_races : (b : Bool) → HasSize (cond b (Some (Races (file_in rows) (limits_in rows))) or_image)
+  by_races : (b : Bool) → HasSize (cond b (Some (Races (file_in rows) (settings_in rows))) or_image)
   by_races true = tt
   by_races false = by_image (bytes_eq name (codes "image"))
 

@@ -17,7 +17,7 @@ use Rattle.clap.specs.ValueTests.{accepts}
 use Rattle.command_line.specs.App.{app}
 use Rattle.command_line.specs.CommandLine.{asked, command_line}
 use Rattle.command_line.specs.declared.line.CommandLine.{CommandLine}
-use Rattle.command_line.specs.Values.{FitsCommand, FitsFound, HasFlag, HasLimits, HasNumber, HasOptions}
+use Rattle.command_line.specs.Values.{FitsCommand, FitsFound, HasFlag, HasNumber, HasOptions, HasSettings}
 use Rattle.command_line.proofs.Shapes.{check_shape, limited_shape, make_shape, plain_limited, plain_make, plain_runner, runner_shape, verify_shape, whole}
 use Rattle.command_line.proofs.Rows.{IsPassed, Passes, default_row, each, found, given_row, level_passed, never_zero, text_in, some_kind}
 
@@ -122,7 +122,7 @@ fits_runner name none make known words e =
     }
 
 -- the matches of a command that has limits alone
-limited_limits : (name : Text) (words : List Text) → level_fault (limited_shape name) [] nothing_held words false [] ≡ [] → HasLimits (rows_after (limited_shape name).rules [] words)
+limited_limits : (name : Text) (words : List Text) → level_fault (limited_shape name) [] nothing_held words false [] ≡ [] → HasSettings (rows_after (limited_shape name).rules [] words)
 limited_limits name words e =
     let s = limited_shape name in
     let held = (walk s.rules [] nothing_held words).held in

@@ -28,8 +28,8 @@ number_in id rows = option_map_or (λ t. digits_value 10 (without_leading_plus t
 abbrev pub flag_in : Text → List Row → Bool
 flag_in id rows = option_map_or (λ t. bytes_eq t (codes "true")) (one_of id rows) false
 
-abbrev pub limits_in : List Row → SettingsValue
-limits_in rows = record {
+abbrev pub settings_in : List Row → SettingsValue
+settings_in rows = record {
   version = Two;
   workers = number_in (codes "workers") rows;
   fuel = number_in (codes "fuel") rows;
@@ -40,7 +40,7 @@ limits_in rows = record {
 
 abbrev pub options_in : List Row → Options
 options_in rows = record {
-  settings = limits_in rows;
+  settings = settings_in rows;
   report = flag_in (codes "report") rows;
   trace = flag_in (codes "trace") rows;
 }
@@ -52,8 +52,8 @@ asked name rows =
     else (if bytes_eq name (codes "run") then Some (Run (file_in rows) (options_in rows))
     else (if bytes_eq name (codes "replay") then Some (Replay (file_in rows) (options_in rows))
     else (if bytes_eq name (codes "model") then Some (Model (file_in rows) (options_in rows))
-    else (if bytes_eq name (codes "races") then Some (Races (file_in rows) (limits_in rows))
-    else (if bytes_eq name (codes "image") then Some (Image (file_in rows) (limits_in rows))
+    else (if bytes_eq name (codes "races") then Some (Races (file_in rows) (settings_in rows))
+    else (if bytes_eq name (codes "image") then Some (Image (file_in rows) (settings_in rows))
     else (if bytes_eq name (codes "make")
     then Some (Make (number_in (codes "SEED") rows) (number_in (codes "SIZE") rows) (flag_in (codes "run") rows))
     else (if bytes_eq name (codes "verify") then Some (Verify (file_in rows))

@@ -1,7 +1,7 @@
 -- What some words ask for.
 use Rattle.std.specs.Prelude.{◌≡◌, List, [], ◌∷◌, Some, None, codes, true, false}
 use Rattle.clap.specs.Words.{Text}
-use Rattle.run_trace.specs.Settings.{usual_limits}
+use Rattle.run_trace.specs.Settings.{usual_settings}
 use Rattle.command_line.specs.CommandLine.{command_line}
 use Rattle.command_line.specs.declared.line.CommandLine.{CommandLine}
 use Rattle.command_line.specs.declared.line.Options.{Options}
@@ -17,7 +17,7 @@ AreRefused words = command_line words ≡ None
 
 -- the options where none are given
 abbrev pub usual_options : Options
-usual_options = record { settings = usual_limits; report = false; trace = false }
+usual_options = record { settings = usual_settings; report = false; trace = false }
 
 -- a file may be left out, and an empty word is a name
 abbrev pub FilesAreNamed : Type 0
@@ -34,18 +34,18 @@ abbrev pub OptionsAreRead : Type 0
 OptionsAreRead =
     AskFor (codes "run" ∷ []) (Run None usual_options)
     × AskFor (codes "run" ∷ codes "--workers=4" ∷ codes "a.hh" ∷ codes "--trace" ∷ [])
-    (Run (Some (codes "a.hh")) (record { settings = record usual_limits { workers = 4 }; report = false; trace = true }))
+    (Run (Some (codes "a.hh")) (record { settings = record usual_settings { workers = 4 }; report = false; trace = true }))
     × AskFor (codes "replay" ∷ []) (Replay None usual_options)
     × AskFor (codes "replay" ∷ codes "--chunks" ∷ codes "2" ∷ codes "--report" ∷ [])
-    (Replay None (record { settings = record usual_limits { chunks = 2 }; report = true; trace = false }))
+    (Replay None (record { settings = record usual_settings { chunks = 2 }; report = true; trace = false }))
     × AskFor (codes "model" ∷ []) (Model None usual_options)
     × AskFor (codes "model" ∷ codes "a.hh" ∷ codes "--report" ∷ []) (Model (Some (codes "a.hh")) (record usual_options { report = true }))
     × AskFor (codes "model" ∷ codes "--workers" ∷ codes "64" ∷ codes "--inner=16" ∷ codes "--trace" ∷ [])
-    (Model None (record { settings = record usual_limits { workers = 64; inner = 16 }; report = false; trace = true }))
-    × AskFor (codes "races" ∷ []) (Races None usual_limits)
-    × AskFor (codes "races" ∷ codes "a.hh" ∷ codes "--workers=2" ∷ []) (Races (Some (codes "a.hh")) (record usual_limits { workers = 2 }))
-    × AskFor (codes "image" ∷ []) (Image None usual_limits)
-    × AskFor (codes "image" ∷ codes "--leaf" ∷ codes "16" ∷ codes "a.hh" ∷ []) (Image (Some (codes "a.hh")) (record usual_limits { leaf = 16 }))
+    (Model None (record { settings = record usual_settings { workers = 64; inner = 16 }; report = false; trace = true }))
+    × AskFor (codes "races" ∷ []) (Races None usual_settings)
+    × AskFor (codes "races" ∷ codes "a.hh" ∷ codes "--workers=2" ∷ []) (Races (Some (codes "a.hh")) (record usual_settings { workers = 2 }))
+    × AskFor (codes "image" ∷ []) (Image None usual_settings)
+    × AskFor (codes "image" ∷ codes "--leaf" ∷ codes "16" ∷ codes "a.hh" ∷ []) (Image (Some (codes "a.hh")) (record usual_settings { leaf = 16 }))
     × AskFor (codes "make" ∷ codes "1" ∷ codes "2" ∷ codes "--run" ∷ []) (Make 1 2 true)
     × AskFor (codes "make" ∷ codes "--run" ∷ codes "1" ∷ codes "2" ∷ []) (Make 1 2 true)
 

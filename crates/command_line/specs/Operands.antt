@@ -5,7 +5,7 @@ use Rattle.clap.specs.Lexer.{strip_byte}
 use Rattle.clap.specs.ValueTests.{is_unsigned_in}
 use Rattle.clap.specs.Words.{Text}
 use Rattle.program_make.specs.Text.{size_limit}
-use Rattle.run_trace.specs.Settings.{SettingsValue, chunk_limit, fuel_limit, usual_limits, words_limit, worker_limit}
+use Rattle.run_trace.specs.Settings.{SettingsValue, chunk_limit, fuel_limit, usual_settings, words_limit, worker_limit}
 use Rattle.command_line.specs.CommandLine.{command_line}
 use Rattle.command_line.specs.Examples.{usual_options}
 use Rattle.command_line.specs.declared.line.CommandLine.{CommandLine}
@@ -23,8 +23,8 @@ OperandsNameFiles = (file : Text) → IsOperand file
     × (command_line (codes "run" ∷ file ∷ []) ≡ Some (Run (Some file) usual_options))
     × (command_line (codes "replay" ∷ file ∷ []) ≡ Some (Replay (Some file) usual_options))
     × (command_line (codes "model" ∷ file ∷ []) ≡ Some (Model (Some file) usual_options))
-    × (command_line (codes "races" ∷ file ∷ []) ≡ Some (Races (Some file) usual_limits))
-    × (command_line (codes "image" ∷ file ∷ []) ≡ Some (Image (Some file) usual_limits))
+    × (command_line (codes "races" ∷ file ∷ []) ≡ Some (Races (Some file) usual_settings))
+    × (command_line (codes "image" ∷ file ∷ []) ≡ Some (Image (Some file) usual_settings))
     × (command_line (codes "verify" ∷ file ∷ []) ≡ Some (Verify (Some file)))
 
 -- two such words behind `make` ask for a program exactly where both are numbers in their ranges, and for its run where the flag
@@ -39,7 +39,7 @@ Makes flags run = (seed size : Text) → IsOperand seed → IsOperand size
 abbrev pub OperandsMake : Type 0
 OperandsMake = Makes [] false × Makes (codes "--run" ∷ []) true
 
--- the option alone sets this number of the usual limits, exactly where the word behind it is a number in the range
+-- the option alone sets this number of the usual settings, exactly where the word behind it is a number in the range
 abbrev pub Sets : Text → (Option Text → Options → CommandLine) → Text → ℕ → ℕ → (ℕ → SettingsValue) → Type 0
 Sets command line flag least most limits = (word : Text) → IsOperand word
     → command_line (command ∷ flag ∷ word ∷ [])
@@ -50,11 +50,11 @@ Sets command line flag least most limits = (word : Text) → IsOperand word
 -- so each option of a command that runs a program
 abbrev pub SetsEach : Text → (Option Text → Options → CommandLine) → Type 0
 SetsEach command line =
-    Sets command line (codes "--workers") 1 worker_limit (λ n. record usual_limits { workers = n })
-    × Sets command line (codes "--fuel") 1 fuel_limit (λ n. record usual_limits { fuel = n })
-    × Sets command line (codes "--chunks") 2 chunk_limit (λ n. record usual_limits { chunks = n })
-    × Sets command line (codes "--leaf") 16 words_limit (λ n. record usual_limits { leaf = n })
-    × Sets command line (codes "--inner") 16 words_limit (λ n. record usual_limits { inner = n })
+    Sets command line (codes "--workers") 1 worker_limit (λ n. record usual_settings { workers = n })
+    × Sets command line (codes "--fuel") 1 fuel_limit (λ n. record usual_settings { fuel = n })
+    × Sets command line (codes "--chunks") 2 chunk_limit (λ n. record usual_settings { chunks = n })
+    × Sets command line (codes "--leaf") 16 words_limit (λ n. record usual_settings { leaf = n })
+    × Sets command line (codes "--inner") 16 words_limit (λ n. record usual_settings { inner = n })
 
 abbrev pub OptionsSet : Type 0
 OptionsSet = SetsEach (codes "run") Run × SetsEach (codes "replay") Replay × SetsEach (codes "model") Model

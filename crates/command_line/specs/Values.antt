@@ -13,7 +13,7 @@ abbrev pub HasFlag : Text → List Row → Type 0
 HasFlag id rows = (one_of id rows ≡ Some (codes "true")) ⊎ (one_of id rows ≡ Some (codes "false"))
 
 -- the matches of `races` and `image` have all numbers in their ranges
-pub record HasLimits (rows : List Row) : Type 0 where
+pub record HasSettings (rows : List Row) : Type 0 where
   pub workers : HasNumber (codes "workers") 1 worker_limit rows
   pub fuel : HasNumber (codes "fuel") 1 fuel_limit rows
   pub chunks : HasNumber (codes "chunks") 2 chunk_limit rows
@@ -22,7 +22,7 @@ pub record HasLimits (rows : List Row) : Type 0 where
 
 -- those of a command that runs a program have these and both flags
 pub record HasOptions (rows : List Row) : Type 0 where
-  pub limits : HasLimits rows
+  pub limits : HasSettings rows
   pub report : HasFlag (codes "report") rows
   pub trace : HasFlag (codes "trace") rows
 
@@ -37,8 +37,8 @@ pub record FitsCommand (name : Text) (rows : List Row) : Type 0 where
   pub run : name ≡ codes "run" → HasOptions rows
   pub replay : name ≡ codes "replay" → HasOptions rows
   pub model : name ≡ codes "model" → HasOptions rows
-  pub races : name ≡ codes "races" → HasLimits rows
-  pub image : name ≡ codes "image" → HasLimits rows
+  pub races : name ≡ codes "races" → HasSettings rows
+  pub image : name ≡ codes "image" → HasSettings rows
   pub make : name ≡ codes "make" → FitsMake rows
 
 -- the same of the command that was met, if one was

@@ -4,8 +4,8 @@ ghost use Rattle.std.specs.Prelude.{◌≡◌, ◌≢◌, IfOk, None, map, is_so
 ghost use Rattle.clap.specs.Words.{found_of, rows_of, fault_of, subcommand_rows_of};
 ghost use Rattle.clap.specs.Walk.{is_empty};
 ghost use Rattle.command_line.specs.App.{app};
-ghost use Rattle.command_line.specs.CommandLine.{HasSize, asked, command_line, file_in, flag_in, number_in, limits_in, options_in};
-ghost use Rattle.command_line.specs.Values.{FitsCommand, FitsFound, HasFlag, HasLimits, HasNumber, HasOptions};
+ghost use Rattle.command_line.specs.CommandLine.{HasSize, asked, command_line, file_in, flag_in, number_in, settings_in, options_in};
+ghost use Rattle.command_line.specs.Values.{FitsCommand, FitsFound, HasFlag, HasNumber, HasOptions, HasSettings};
 
 use crate::command::command;
 use crate::line::{CommandLine, FileName, Options};
@@ -40,8 +40,8 @@ fn file<'w>(matches: &ArgMatches<'w>) -> Option<FileName<'w>>
 }
 
 fn settings(matches: &ArgMatches) -> Settings
-    requires { HasLimits (rows_of (found_of matches.now)) }
-    ensures { result ≡ limits_in (rows_of (found_of matches.now)) }
+    requires { HasSettings (rows_of (found_of matches.now)) }
+    ensures { result ≡ settings_in (rows_of (found_of matches.now)) }
 {
     Settings::new(
         Version::Two,

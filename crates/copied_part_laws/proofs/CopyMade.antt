@@ -229,7 +229,7 @@ module _ (p : ProgramText) (st : SettingsValue) (t : ℕ) (h : LeafHeapValue) (v
       named = named_now;
       laid = forming.laid_now h (outside s b.roots) C.survivors news C.are B.new l.machine a O;
       owned = λ c i. (let k = map_in chunk_of (L ++ (K ++ R)) c i in ap (λ (z : Chunk). v.owner z.number) (sym k.2) ∙ owned_each k.0 k.1);
-      kept = λ o i j. moving.kept h (outside s b.roots) C.survivors news C.are B.new (naming.settled h (outside s b.roots) C.survivors news C.are B.new l.machine a O) (naming.reserved h (outside s b.roots) C.survivors news C.are B.new l.machine a O) o i (dies C.survivors C.are o i j);
+      copied = λ o i j. moving.copied h (outside s b.roots) C.survivors news C.are B.new (naming.settled h (outside s b.roots) C.survivors news C.are B.new l.machine a O) (naming.reserved h (outside s b.roots) C.survivors news C.are B.new l.machine a O) o i (dies C.survivors C.are o i j);
       only = came;
       frames = frames_led to s s' (C.frames ∙ ap (λ (w : Option Addr → Option Addr). map (led_frame w) (frames_of s)) (moving.g_is h (outside s b.roots) C.survivors news C.are B.new (naming.settled h (outside s b.roots) C.survivors news C.are B.new l.machine a O) (naming.reserved h (outside s b.roots) C.survivors news C.are B.new l.machine a O)));
       same = same_out;

@@ -126,8 +126,8 @@ module _ (h : LeafHeapValue) (from : List (Option Addr)) (ss : List Survivor) (n
       let d : copied_object to (located o.at.chunk o.at.offset b (cell_of h.chunks o.at)) ≡ located a.chunk a.offset b (led_cell (option_map to) (cell_of h.chunks o.at)) = λ k. record (copied_object to (located o.at.chunk o.at.offset b (cell_of h.chunks o.at))) { at = leads k } in
       subst (In (objects_in (chunks_of ks'))) (e ∙ sym (ap (copied_object to) is ∙ d)) i
 
-  pub kept : (o : Located) → In (objects_in (chunks_of h.chunks)) o → In (olds ss) o.at → In (objects_in (chunks_of ks')) (copied_object to o)
-  kept o i j = elim (cases_Bool (is_small h.chunks o.at)) [
+  pub copied : (o : Located) → In (objects_in (chunks_of h.chunks)) o → In (olds ss) o.at → In (objects_in (chunks_of ks')) (copied_object to o)
+  copied o i j = elim (cases_Bool (is_small h.chunks o.at)) [
     | inl small ↦
         let l = seen_object h.chunks o settled.apart i in
         let x : In xs o.at = moves.to_smalls h.chunks (olds ss) o.at j small in

@@ -31,7 +31,7 @@ use Rattle.shared_value.specs.Entered.{Enters, refused}
 use Rattle.shared_value.specs.Fits.{Fits}
 use Rattle.shared_value.specs.Stands.{IsSharedValue}
 use Rattle.shared_value.specs.SharedValue.{SharedValue, accounts}
-use Rattle.own_steps.specs.Alone.{alone_event}
+use Rattle.own_steps.specs.Alone.{alone_entry}
 use Rattle.child_tasks.specs.Joins.{IsUnchanged}
 use Rattle.shared_tree.specs.declared.ran.Ran.{Ran as RanOf}
 use Rattle.shared_tree.specs.declared.ran.Ran.TheVariants.{Forked as ForksInto, Ended as EndsWith, Over as IsOver, Done as IsDone}
@@ -88,14 +88,14 @@ unchanged_kept w v (Refuses why) c same K = subst (λ (z : SharedValue). KeepsCo
 unchanged_kept w v NoMemory c S K = same_kept w v c (ap (λ (z : SharedValue). z.program) S.rest) (ap (λ (z : SharedValue). z.settings) S.rest) (ap (λ (z : SharedValue). z.journal.items) S.rest) K
 
 -- steps that were entered, whatever they come to
-pub ran_enters : (w v : SharedValue) (k : ℕ) (q : Private) (r : RanOf) → RanTo w v k q r → Enters w v (alone_event k q)
+pub ran_enters : (w v : SharedValue) (k : ℕ) (q : Private) (r : RanOf) → RanTo w v k q r → Enters w v (alone_entry k q)
 ran_enters w v k q (ForksInto left right) a = a.0.enters
 ran_enters w v k q (EndsWith resumed) a = a.0.enters
 ran_enters w v k q (IsOver x) a = a.enters
 ran_enters w v k q IsDone a = a.enters
 
 -- and those of a part that stays
-pub lent_enters : (w v : SharedValue) (k : ℕ) (p q : Private) (l : Lent) → ((x : Leaving) → l ≡ Leaves x → ⊥) → LentTo w v k p q l → Enters w v (alone_event k p)
+pub lent_enters : (w v : SharedValue) (k : ℕ) (p q : Private) (l : Lent) → ((x : Leaving) → l ≡ Leaves x → ⊥) → LentTo w v k p q l → Enters w v (alone_entry k p)
 lent_enters w v k p q GoesOn stays a = a.enters
 lent_enters w v k p q HasEnded stays a = a.enters
 lent_enters w v k p q (Leaves x) stays a = absurd (stays x refl)

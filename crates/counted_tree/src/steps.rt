@@ -3,7 +3,7 @@
 ghost use Rattle.std.specs.Prelude.{◌≡◌, ◌<◌, None};
 ghost use Rattle.shared_value.specs.Entered.{refused};
 ghost use Rattle.shared_value.specs.Fits.{Fits};
-ghost use Rattle.own_steps.specs.Alone.{alone_event, IsShared};
+ghost use Rattle.own_steps.specs.Alone.{alone_entry, IsShared};
 ghost use Rattle.shared_tree.specs.Calls.{EndsForFuel, EntersLeaving, EntersLent, EntersSteps, TakesTask};
 ghost use Rattle.shared_tree.specs.Ran.{LeavesBy};
 
@@ -67,7 +67,7 @@ impl Counted {
         requires room { 0 < self.old.journal.room }
         requires fits { Fits self.old worker part }
         requires shared { IsShared self.old part }
-        requires free { refused self.old (alone_event worker part) ≡ None }
+        requires free { refused self.old (alone_entry worker part) ≡ None }
         requires leaves { LeavesBy self.old part leaving }
         ensures { EntersLeaving self.old self.new worker part result }
     {

@@ -91,10 +91,10 @@ module _ (nodes : List Node) (old new : PoolValue) (sources after : ℕ → List
   placed_after f placed = λ from into ea er.
       let s : Source = record { object = f.object; field = f.number } in
       let u = moved old new sources after p c d ks ls rs op oc od J f.object.chunk from ea in
-      let z = moved old new sources after p c d ks ls rs op oc od J f.held.chunk into er in
+      let z = moved old new sources after p c d ks ls rs op oc od J f.target.chunk into er in
       to_new s from into (elim (placed u.0 z.0 u.1.0 z.1.0) [
-        | inl up ↦ inl (up_after f.object.chunk f.held.chunk from into u.0 z.0 u.1 z.1 up)
-        | inr noted ↦ noted_after s f.held.chunk from into u.0 z.0 u.1 z.1 noted
+        | inl up ↦ inl (up_after f.object.chunk f.target.chunk from into u.0 z.0 u.1 z.1 up)
+        | inr noted ↦ noted_after s f.target.chunk from into u.0 z.0 u.1 z.1 noted
       ])
 
 pub joins_keep_placement : JoinsKeepPlacement

@@ -13,11 +13,11 @@ use Rattle.remembered_set.specs.declared.remembered.Source.{Source}
 pub record Field : Type 0 where
   pub object : Addr
   pub number : ℕ
-  pub held : Addr
+  pub target : Addr
 
 -- the owners of both chunks, where they are in use, agree with this; the sources are by heap
 abbrev pub IsPlaced : List Node → PoolValue → (ℕ → List Source) → Field → Type 0
-IsPlaced nodes pool sources f = (from into : ℕ) → owner_of pool f.object.chunk ≡ Some from → owner_of pool f.held.chunk ≡ Some into →
+IsPlaced nodes pool sources f = (from into : ℕ) → owner_of pool f.object.chunk ≡ Some from → owner_of pool f.target.chunk ≡ Some into →
     IsUpFrom (parent_of nodes) from into ⊎ Contains (sources into) (record { object = f.object; field = f.number })
 
 abbrev pub Placement : List Field → List Node → PoolValue → (ℕ → List Source) → Type 0

@@ -10,11 +10,11 @@ use Rattle.image_check.specs.declared.line.Task.{Task}
 use Rattle.image_check.specs.declared.tasks.Relation.TheVariants.{Own, Above, Below}
 use Rattle.image_check.specs.Table.{found, has}
 use Rattle.image_check.specs.Tasks.{Tasks, parent_in, parent_of, is_above, relation_of, runs, is_running, is_running_state}
-use Rattle.image_check.specs.Tasks.{LinksLead as TableLeads, IsAncestor as IsTableAncestor}
+use Rattle.image_check.specs.Tasks.{LinksLead, IsAncestor}
 use Rattle.image_check.specs.Links.{StandsAt}
 use Rattle.image_check.proofs.Paths.{AreOrdered, met_ancestor, related}
 use Rattle.heap_image.specs.declared.picture.Picture.{Picture}
-use Rattle.heap_image.specs.Picture.{TaskBefore, IsParent, LinksLead, IsAncestor, HasTask, IsRunning, KeepsToPath, IsSoundPicture}
+use Rattle.heap_image.specs.Picture.{TaskBefore, IsParent, ParentsLead, IsAbove, HasTask, IsRunning, KeepsToPath, IsSoundPicture}
 use Rattle.heap_image.proofs.Splits.{comes_first, one_place, same_item}
 use Rattle.heap_image.proofs.Tables.{table, found_in, found_from}
 
@@ -66,22 +66,22 @@ module _ (p : Picture) (s : IsSoundPicture p) where
   parent_found : (t q : ℕ) → IsParent p.tasks t q → parent_of es t ≡ Some q
   parent_found t q h = ap parent_in (ap (found es) (sym h.2) ∙ task_found h.0 h.1) ∙ h.3
 
-  leads_up : (n t a : ℕ) → LinksLead n p.tasks t a → TableLeads n es t a
+  leads_up : (n t a : ℕ) → ParentsLead n p.tasks t a → LinksLead n es t a
   leads_up zero t a h = parent_found t a h
   leads_up (suc n) t a h = (h.0, parent_found t h.0 h.1, leads_up n h.0 a h.2)
 
-  in_table : (a t : ℕ) → IsAncestor p.tasks a t → IsTableAncestor es a t
+  in_table : (a t : ℕ) → IsAbove p.tasks a t → IsAncestor es a t
   in_table a t h = (h.0, leads_up h.0 t a h.1)
 
-  pub ancestor_met : (a t : ℕ) → IsAncestor p.tasks a t → is_above es a t ≡ true
+  pub ancestor_met : (a t : ℕ) → IsAbove p.tasks a t → is_above es a t ≡ true
   ancestor_met a t h = met_ancestor es ordered a t (in_table a t h)
 
-  first_task : (n t a : ℕ) → LinksLead n p.tasks t a → HasTask p t
+  first_task : (n t a : ℕ) → ParentsLead n p.tasks t a → HasTask p t
   first_task zero t a h = (h.0, h.1, h.2)
   first_task (suc n) t a h = (h.1.0, h.1.1, h.1.2)
 
   -- who has an ancestor is a task of the picture
-  pub has_ancestor : (a t : ℕ) → IsAncestor p.tasks a t → HasTask p t
+  pub has_ancestor : (a t : ℕ) → IsAbove p.tasks a t → HasTask p t
   has_ancestor a t h = first_task h.0 t a h.1
 
   -- how the owner of what a field leads to stands to the object's own

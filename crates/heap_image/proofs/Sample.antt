@@ -10,7 +10,7 @@ use Rattle.image_check.specs.Place.{chunk_number}
 use Rattle.heap_image.specs.declared.picture.Picked.{Picked}
 use Rattle.heap_image.specs.declared.picture.Picture.{Picture}
 use Rattle.heap_image.specs.Form.{IsTaskForm, IsChunkForm, IsObjectForm, IsFieldForm, IsInForm}
-use Rattle.heap_image.specs.Picture.{Rises, TaskBefore, ChunkBefore, ObjectBefore, FieldBefore, IsAncestor, HasTask, IsRunning, IsOwned, IsPlaced, LeadsSomewhere, KeepsToPath, IsFit, IsSoundPicture}
+use Rattle.heap_image.specs.Picture.{Rises, TaskBefore, ChunkBefore, ObjectBefore, FieldBefore, IsAbove, HasTask, IsRunning, IsOwned, IsPlaced, LeadsSomewhere, KeepsToPath, IsFit, IsSoundPicture}
 use Rattle.heap_image.specs.Told.{SomePictureIsSound}
 
 -- LISTS OF ONE AND OF TWO
@@ -86,7 +86,7 @@ has_parent = (parent, inl refl, refl)
 has_child : HasTask sample 1
 has_child = (child, inr (inl refl), refl)
 
-above : IsAncestor sample.tasks 0 1
+above : IsAbove sample.tasks 0 1
 above = (0, (child, inr (inl refl), refl, refl))
 
 waits_and_runs : Waiting ≡ Running → ⊥

@@ -39,13 +39,13 @@ abbrev pub IsParent : List Task → ℕ → ℕ → Type 0
 IsParent tasks t p = (k : Task) × In tasks k × (k.number ≡ t) × (k.parent ≡ Some p)
 
 -- links from a task to its parent lead to a: one, and so many more
-abbrev pub LinksLead : ℕ → List Task → ℕ → ℕ → Type 0
-LinksLead zero tasks t a = IsParent tasks t a
-LinksLead (suc n) tasks t a = (p : ℕ) × IsParent tasks t p × LinksLead n tasks p a
+abbrev pub ParentsLead : ℕ → List Task → ℕ → ℕ → Type 0
+ParentsLead zero tasks t a = IsParent tasks t a
+ParentsLead (suc n) tasks t a = (p : ℕ) × IsParent tasks t p × ParentsLead n tasks p a
 
 -- a is a proper ancestor of t
-abbrev pub IsAncestor : List Task → ℕ → ℕ → Type 0
-IsAncestor tasks a t = (n : ℕ) × LinksLead n tasks t a
+abbrev pub IsAbove : List Task → ℕ → ℕ → Type 0
+IsAbove tasks a t = (n : ℕ) × ParentsLead n tasks t a
 
 abbrev pub HasTask : Picture → ℕ → Type 0
 HasTask p t = (k : Task) × In p.tasks k × (k.number ≡ t)
@@ -91,8 +91,8 @@ LeadsSomewhere p v = (v ≡ 0) ⊎ (HasObject p v ⊎ ((u : ℕ) × IsOwned p v 
 abbrev pub KeepsToPath : Picture → ℕ → ℕ → ℕ → ℕ → Type 0
 KeepsToPath p a k t u =
     (u ≡ t)
-    ⊎ (IsAncestor p.tasks u t
-    ⊎ (IsAncestor p.tasks t u × In p.fields (record { task = u; address = a; place = k })))
+    ⊎ (IsAbove p.tasks u t
+    ⊎ (IsAbove p.tasks t u × In p.fields (record { task = u; address = a; place = k })))
 
 -- REMEMBERED FIELDS
 
@@ -104,7 +104,7 @@ pub record IsFit (p : Picture) (f : Remembered) : Type 0 where
   pub place : f.place < length object.references
   pub owner : ℕ
   pub owned : IsOwned p f.address owner
-  pub above : IsAncestor p.tasks owner f.task
+  pub above : IsAbove p.tasks owner f.task
 
 -- THE WHOLE
 

@@ -220,7 +220,7 @@ module _ (w : SharedValue) (I : IsSharedValue w) (on : (accounts w).end ≡ None
       pub keeps_just : ((u : ℕ) → (u ≡ t → ⊥) → v'.belongings u ≡ v.belongings u) → ((u : ℕ) → sources v' u ≡ sources v u) → KeepsJust v v' l L t a.snapshot
       keeps_just off noted = record {
         belongings = belongings_then;
-        kept = λ o i n.
+        stays = λ o i n.
             let j : In (objects_in (chunks_of ks)) o = subst (λ os. In os o) objects_before i in
             subst (λ os. In os o) (sym objects_then) (in_kept (is_there kept) (objects_in (chunks_of ks)) o j (start.agree w I on t free none_left o j ∙ holds_from_in a.snapshot (object_name o) n));
         only = λ o i.

@@ -48,7 +48,7 @@ live_once tree x y a b e =
 
 pub chunk_once : (w : SharedValue) (c d : InUse) → IsInUse w c → IsInUse w d → c.number ≡ d.number → c ≡ d
 chunk_once w c d a b e =
-    let same : a.held ≡ b.held = same_Some a.held b.held (sym a.is ∙ (ap (slot_at w.pool) e ∙ b.is)) in
+    let same : a.slot ≡ b.slot = same_Some a.slot b.slot (sym a.is ∙ (ap (slot_at w.pool) e ∙ b.is)) in
     let o : c.owner ≡ d.owner = a.owner ∙ (ap (λ (h : Slot). owner_of (accounts w).machine.tasks h.owner) same ∙ sym b.owner) in
     let n : c.words ≡ d.words = a.words ∙ (ap (λ (h : Slot). 1024 * h.units) same ∙ sym b.words) in
     λ i. record { number = e i; owner = o i; words = n i }

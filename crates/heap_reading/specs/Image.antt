@@ -46,15 +46,15 @@ IsLive w x = IsLiveIn w.tree x
 
 -- CHUNKS
 
-abbrev pub ChunkBefore : InUse → InUse → Type 0
-ChunkBefore c d = c.number < d.number
+abbrev pub InUseBefore : InUse → InUse → Type 0
+InUseBefore c d = c.number < d.number
 
 -- a chunk in use: its owner is the task that it was given to, followed to its parent as long as that has joined
 pub record IsInUse (w : SharedValue) (c : InUse) : Type 0 where
-  pub held : Slot
-  pub is : slot_at w.pool c.number ≡ Some held
-  pub owner : c.owner ≡ owner_of (accounts w).machine.tasks held.owner
-  pub words : c.words ≡ chunk_words * held.units
+  pub slot : Slot
+  pub is : slot_at w.pool c.number ≡ Some slot
+  pub owner : c.owner ≡ owner_of (accounts w).machine.tasks slot.owner
+  pub words : c.words ≡ chunk_words * slot.units
 
 -- OBJECTS
 

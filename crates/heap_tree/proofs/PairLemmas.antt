@@ -3,7 +3,7 @@ use Rattle.std.proofs.Common.{◌≡◌, ◌⊎◌, ◌==◌, ℕ, zero, suc, �
 use Rattle.std.specs.Prelude.{IfSome}
 use Rattle.std.proofs.lemmas.List.{set-append_left}
 use Rattle.heap_tree.specs.declared.state.State.{State}
-use Rattle.heap_tree.specs.declared.links.Entry.{Entry}
+use Rattle.heap_tree.specs.declared.links.Linked.{Linked}
 use Rattle.heap_tree.specs.declared.entries.Pair.{Pair}
 use Rattle.heap_tree.specs.Paired.{child_entry, entries_of, root_entry, unpaired, with_child}
 use Rattle.listed.proofs.Members.{got_front}
@@ -100,7 +100,7 @@ got_child s ps zero ne = absurd (ne refl)
 got_child s ps (suc n) ne = subst (λ m. slice_get (unpaired ps) n ≡ option_map (λ p. child_entry p (m % 2 == 0)) (slice_get ps (m / 2))) (before n) (got_next ps n)
 
 -- two children more
-pub two_more : (s : State) (ps qs : List Pair) (p : Pair) (child : Entry) (es : List Entry) → child_entry p true ≡ child → child_entry p false ≡ child → qs ≡ ps ++ p ∷ [] → entries_of s ps ≡ es → entries_of s qs ≡ es ++ child ∷ (child ∷ [])
+pub two_more : (s : State) (ps qs : List Pair) (p : Pair) (child : Linked) (es : List Linked) → child_entry p true ≡ child → child_entry p false ≡ child → qs ≡ ps ++ p ∷ [] → entries_of s ps ≡ es → entries_of s qs ≡ es ++ child ∷ (child ∷ [])
 two_more s ps qs p child es a b more is =
     ap (entries_of s) more
     ∙ (ap (λ xs. root_entry s ∷ xs) (unpaired_append ps (p ∷ []))
@@ -127,12 +127,12 @@ next_set ps qs n x p at is = elim (parity n) [
     odd e = omega (arith, e)
 
 -- a task that isn't the root in another state
-pub child_set : (s : State) (ps qs : List Pair) (t : ℕ) (x : State) (es : List Entry) → (t ≡ 0 → ⊥) → IfSome (slice_get ps ((t - 1) / 2)) (λ p. qs ≡ slice_set ps ((t - 1) / 2) (with_child p ((t - 1) % 2 == 0) x)) → entries_of s ps ≡ es
+pub child_set : (s : State) (ps qs : List Pair) (t : ℕ) (x : State) (es : List Linked) → (t ≡ 0 → ⊥) → IfSome (slice_get ps ((t - 1) / 2)) (λ p. qs ≡ slice_set ps ((t - 1) / 2) (with_child p ((t - 1) % 2 == 0) x)) → entries_of s ps ≡ es
     → IfSome (slice_get es t) (λ e. entries_of s qs ≡ slice_set es t (record e { state = x }))
 child_set s ps qs zero x es ne put is = absurd (ne refl)
 child_set s ps qs (suc n) x es ne put is =
-    subst (λ (ys : List Entry). IfSome (slice_get ys (suc n)) (λ e. entries_of s qs ≡ slice_set ys (suc n) (record e { state = x }))) is
-    (subst (λ (o : Option Entry). IfSome o (λ e. entries_of s qs ≡ slice_set (entries_of s ps) (suc n) (record e { state = x }))) (sym (got_next ps n)) (by (slice_get ps (n / 2)) refl (subst (λ m. IfSome (slice_get ps (m / 2)) (λ p. qs ≡ slice_set ps (m / 2) (with_child p (m % 2 == 0) x))) (sym (before n)) put)))
+    subst (λ (ys : List Linked). IfSome (slice_get ys (suc n)) (λ e. entries_of s qs ≡ slice_set ys (suc n) (record e { state = x }))) is
+    (subst (λ (o : Option Linked). IfSome o (λ e. entries_of s qs ≡ slice_set (entries_of s ps) (suc n) (record e { state = x }))) (sym (got_next ps n)) (by (slice_get ps (n / 2)) refl (subst (λ m. IfSome (slice_get ps (m / 2)) (λ p. qs ≡ slice_set ps (m / 2) (with_child p (m % 2 == 0) x))) (sym (before n)) put)))
   where
     by : (o : Option Pair) → slice_get ps (n / 2) ≡ o → IfSome o (λ p. qs ≡ slice_set ps (n / 2) (with_child p (n % 2 == 0) x))
         → IfSome (option_map (λ p. child_entry p (n % 2 == 0)) o) (λ e. entries_of s qs ≡ slice_set (entries_of s ps) (suc n) (record e { state = x }))
@@ -140,12 +140,12 @@ child_set s ps qs (suc n) x es ne put is =
     by (Some p) at f = ap (λ xs. root_entry s ∷ xs) (next_set ps qs n x p at f)
 
 -- an entry before those that were added
-pub front_set : (xs ys mid new : List Entry) (t : ℕ) (x : State) → t < length xs → mid ≡ xs ++ ys → IfSome (slice_get mid t) (λ e. new ≡ slice_set mid t (record e { state = x })) → IfSome (slice_get xs t) (λ e. new ≡ slice_set xs t (record e { state = x }) ++ ys)
+pub front_set : (xs ys mid new : List Linked) (t : ℕ) (x : State) → t < length xs → mid ≡ xs ++ ys → IfSome (slice_get mid t) (λ e. new ≡ slice_set mid t (record e { state = x })) → IfSome (slice_get xs t) (λ e. new ≡ slice_set xs t (record e { state = x }) ++ ys)
 front_set xs ys mid new t x lt is put =
     by (slice_get xs t)
-    (subst (λ (o : Option Entry). IfSome o (λ e. new ≡ slice_set (xs ++ ys) t (record e { state = x }))) (got_front xs ys t lt)
-    (subst (λ (zs : List Entry). IfSome (slice_get zs t) (λ e. new ≡ slice_set zs t (record e { state = x }))) is put))
+    (subst (λ (o : Option Linked). IfSome o (λ e. new ≡ slice_set (xs ++ ys) t (record e { state = x }))) (got_front xs ys t lt)
+    (subst (λ (zs : List Linked). IfSome (slice_get zs t) (λ e. new ≡ slice_set zs t (record e { state = x }))) is put))
   where
-    by : (o : Option Entry) → IfSome o (λ e. new ≡ slice_set (xs ++ ys) t (record e { state = x })) → IfSome o (λ e. new ≡ slice_set xs t (record e { state = x }) ++ ys)
+    by : (o : Option Linked) → IfSome o (λ e. new ≡ slice_set (xs ++ ys) t (record e { state = x })) → IfSome o (λ e. new ≡ slice_set xs t (record e { state = x }) ++ ys)
     by None f = tt
     by (Some e) f = f ∙ set-append_left xs ys t (record e { state = x }) lt

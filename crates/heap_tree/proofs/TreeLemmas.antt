@@ -10,32 +10,32 @@ use Rattle.far_links.proofs.Lists.{linked_more}
 use Rattle.hh_model.specs.Step.{depth_limit}
 use Rattle.heap_tree.specs.declared.state.State.{State}
 use Rattle.heap_tree.specs.declared.state.State.TheVariants.{Ready, Waiting}
-use Rattle.heap_tree.specs.declared.links.Entry.{Entry}
+use Rattle.heap_tree.specs.declared.links.Linked.{Linked}
 use Rattle.heap_tree.specs.Walk.{ancestor, IsUpFrom, depth_in, path_in}
 use Rattle.heap_tree.specs.Node.{Node, parent_in, parent_of, state_of, depth_of, is_on_path, set_at, with_state, child_of, forked, IsTree}
-use Rattle.heap_tree.specs.Links.{node_of, parent_kept, depth_kept, far_kept, parent_at, depth_at, far_at, IsLinked}
+use Rattle.heap_tree.specs.Links.{node_of, linked_parent, linked_depth, linked_far, parent_at, depth_at, far_at, IsLinked}
 use Rattle.listed.proofs.Members.{got_front, view_step}
 use Rattle.listed.proofs.Options.{same_truth}
 use Rattle.listed.proofs.Places.{got_last, got_some}
 use Rattle.heap_tree.proofs.WalkLemmas.{depth_in_is, walk_from_path, path_from_walk}
 
-parent_in_map : (o : Option Entry) → parent_in (option_map node_of o) ≡ parent_kept o
+parent_in_map : (o : Option Linked) → parent_in (option_map node_of o) ≡ linked_parent o
 parent_in_map None = refl
 parent_in_map (Some e) = refl
 
-pub parent_seen : (es : List Entry) (t : ℕ) → parent_of (map node_of es) t ≡ parent_at es t
+pub parent_seen : (es : List Linked) (t : ℕ) → parent_of (map node_of es) t ≡ parent_at es t
 parent_seen es t = ap parent_in (slice_get-map node_of es t) ∙ parent_in_map (slice_get es t)
 
 -- callers see the parents that are kept
-pub parents_seen : (es : List Entry) → ◌≡◌ {A = ℕ → Option ℕ} (parent_of (map node_of es)) (parent_at es)
+pub parents_seen : (es : List Linked) → ◌≡◌ {A = ℕ → Option ℕ} (parent_of (map node_of es)) (parent_at es)
 parents_seen es = λ i t. parent_seen es t i
 
-pub depth_seen : (es : List Entry) (t : ℕ) → IsLinked es → t < length es → depth_of (map node_of es) t ≡ depth_at es t
+pub depth_seen : (es : List Linked) (t : ℕ) → IsLinked es → t < length es → depth_of (map node_of es) t ≡ depth_at es t
 depth_seen es t linked made =
     ap (λ (par : ℕ → Option ℕ). depth_in par t) (parents_seen es)
     ∙ depth_in_is (length es) (parent_at es) (depth_at es) (far_at es) linked.links t made
 
-pub tree_seen : (es : List Entry) → IsLinked es → IsTree (map node_of es)
+pub tree_seen : (es : List Linked) → IsLinked es → IsTree (map node_of es)
 tree_seen es linked =
     let len : length (map node_of es) ≡ length es = length-map es node_of in
     record {
@@ -44,12 +44,12 @@ tree_seen es linked =
       low = λ t p e. linked.links.low t p (sym (parent_seen es t) ∙ e);
     }
 
-pub up_seen : (es : List Entry) (t d r : ℕ) → IsLinked es → t < length es → ancestor (parent_at es) (depth_at es t - d) t ≡ Some r → ancestor (parent_of (map node_of es)) (depth_of (map node_of es) t - d) t ≡ Some r
+pub up_seen : (es : List Linked) (t d r : ℕ) → IsLinked es → t < length es → ancestor (parent_at es) (depth_at es t - d) t ≡ Some r → ancestor (parent_of (map node_of es)) (depth_of (map node_of es) t - d) t ≡ Some r
 up_seen es t d r linked made up = rw (depth_seen es t linked made, parents_seen es) up
 
 -- ---- the test of a path
 
-module _ (es : List Entry) (linked : IsLinked es) where
+module _ (es : List Linked) (linked : IsLinked es) where
   path_walks : (a t : ℕ) → IsUpFrom (parent_at es) t a → path_in (parent_at es) a t ≡ true
   path_walks = path_from_walk (length es) (parent_at es) (depth_at es) (far_at es) linked.links
 
@@ -91,20 +91,20 @@ module _ (es : List Entry) (linked : IsLinked es) where
 
 -- ---- another state
 
-module _ (es : List Entry) (t : ℕ) (e : Entry) (state : State) (is : slice_get es t ≡ Some e) where
-  abbrev changed : List Entry
+module _ (es : List Linked) (t : ℕ) (e : Linked) (state : State) (is : slice_get es t ≡ Some e) where
+  abbrev changed : List Linked
   changed = set es t (record e { state = state })
 
   pub state_linked : IsLinked es → IsLinked changed
   state_linked linked =
       let len : length changed ≡ length es = length-set es t (record e { state = state }) in
-      let p : ◌≡◌ {A = ℕ → Option ℕ} (parent_at changed) (parent_at es) = λ i u. view_step parent_kept es t e (record e { state = state }) is refl u i in
-      let d : ◌≡◌ {A = ℕ → ℕ} (depth_at changed) (depth_at es) = λ i u. view_step depth_kept es t e (record e { state = state }) is refl u i in
-      let j : ◌≡◌ {A = ℕ → ℕ} (far_at changed) (far_at es) = λ i u. view_step far_kept es t e (record e { state = state }) is refl u i in
+      let p : ◌≡◌ {A = ℕ → Option ℕ} (parent_at changed) (parent_at es) = λ i u. view_step linked_parent es t e (record e { state = state }) is refl u i in
+      let d : ◌≡◌ {A = ℕ → ℕ} (depth_at changed) (depth_at es) = λ i u. view_step linked_depth es t e (record e { state = state }) is refl u i in
+      let j : ◌≡◌ {A = ℕ → ℕ} (far_at changed) (far_at es) = λ i u. view_step linked_far es t e (record e { state = state }) is refl u i in
       record {
         few = rw len linked.few;
         rooted = rw len linked.rooted;
-        root = λ u made none. linked.root u (rw len at made) (sym (view_step parent_kept es t e (record e { state = state }) is refl u) ∙ none);
+        root = λ u made none. linked.root u (rw len at made) (sym (view_step linked_parent es t e (record e { state = state }) is refl u) ∙ none);
         links = subst (λ (w : ℕ × (ℕ → Option ℕ) × (ℕ → ℕ) × (ℕ → ℕ)). AreLinked w.0 w.1 w.2 w.3) (λ i. (sym len i, sym p i, sym d i, sym j i)) linked.links;
       }
 
@@ -115,31 +115,31 @@ module _ (es : List Entry) (t : ℕ) (e : Entry) (state : State) (is : slice_get
 
 -- ---- one child more
 
-module _ (es : List Entry) (t : ℕ) (c : Entry) (made : t < length es) (its_par : c.parent ≡ Some t) (its_dep : c.depth ≡ depth_at es t + 1) (its_far : c.far ≡ next_far (depth_at es) (far_at es) t) where
-  abbrev grown : List Entry
+module _ (es : List Linked) (t : ℕ) (c : Linked) (made : t < length es) (its_par : c.parent ≡ Some t) (its_dep : c.depth ≡ depth_at es t + 1) (its_far : c.far ≡ next_far (depth_at es) (far_at es) t) where
+  abbrev grown : List Linked
   grown = es ++ c ∷ []
 
   pub child_linked : AreLinked (length es) (parent_at es) (depth_at es) (far_at es) → AreLinked (length grown) (parent_at grown) (depth_at grown) (far_at grown)
   child_linked links =
-      linked_more parent_kept depth_kept far_kept refl es c links
+      linked_more linked_parent linked_depth linked_far refl es c links
       (subst (λ (o : Option ℕ). IsNewLink (length es) (depth_at es) (far_at es) o c.depth c.far) (sym its_par) (made, its_dep, its_far))
 
   pub child_root : ((u : ℕ) → u < length es → parent_at es u ≡ None → u ≡ 0) → (u : ℕ) → u < length grown → parent_at grown u ≡ None → u ≡ 0
   child_root root u lt none =
       let len : length grown ≡ length es + 1 = length-append es (c ∷ []) in
       elim (cases_lt u (length es)) [
-        | inl l ↦ root u l (sym (ap parent_kept (got_front es (c ∷ []) u l)) ∙ none)
+        | inl l ↦ root u l (sym (ap linked_parent (got_front es (c ∷ []) u l)) ∙ none)
         | inr g ↦
             let is : u ≡ length es = omega arith in
-            let h : Some t ≡ None = sym (ap parent_kept (got_last es c) ∙ its_par) ∙ (ap (parent_at grown) (sym is) ∙ none) in
+            let h : Some t ≡ None = sym (ap linked_parent (got_last es c) ∙ its_par) ∙ (ap (parent_at grown) (sym is) ∙ none) in
             absurd cc
       ]
 
   grown_depth : (u : ℕ) → u < length es → depth_at grown u ≡ depth_at es u
-  grown_depth u lt = ap depth_kept (got_front es (c ∷ []) u lt)
+  grown_depth u lt = ap linked_depth (got_front es (c ∷ []) u lt)
 
   grown_far : (u : ℕ) → u < length es → far_at grown u ≡ far_at es u
-  grown_far u lt = ap far_kept (got_front es (c ∷ []) u lt)
+  grown_far u lt = ap linked_far (got_front es (c ∷ []) u lt)
 
   -- a sibling's far link leads where the child's does
   pub same_far : AreLinked (length es) (parent_at es) (depth_at es) (far_at es) → next_far (depth_at grown) (far_at grown) t ≡ next_far (depth_at es) (far_at es) t
@@ -155,7 +155,7 @@ module _ (es : List Entry) (t : ℕ) (c : Entry) (made : t < length es) (its_par
 
 -- ---- a fork
 
-module _ (es : List Entry) (t : ℕ) (c : Entry) (linked : IsLinked es) (made : t < length es) (few : length es < 2 ^ 31) (its_par : c.parent ≡ Some t) (its_dep : c.depth ≡ depth_at es t + 1) (its_far : c.far ≡ next_far (depth_at es) (far_at es) t) where
+module _ (es : List Linked) (t : ℕ) (c : Linked) (linked : IsLinked es) (made : t < length es) (few : length es < 2 ^ 31) (its_par : c.parent ≡ Some t) (its_dep : c.depth ≡ depth_at es t + 1) (its_far : c.far ≡ next_far (depth_at es) (far_at es) t) where
   pub two_linked : IsLinked ((es ++ c ∷ []) ++ c ∷ [])
   two_linked =
       let grown = es ++ c ∷ [] in
@@ -170,15 +170,15 @@ module _ (es : List Entry) (t : ℕ) (c : Entry) (linked : IsLinked es) (made : 
         links = child_linked (es ++ c ∷ []) t c (omega arith) its_par dep2 far2 (child_linked es t c made its_par its_dep its_far linked.links);
       }
 
-module _ (es : List Entry) (t : ℕ) (e c : Entry) (is : slice_get es t ≡ Some e) where
-  abbrev waits : List Entry
+module _ (es : List Linked) (t : ℕ) (e c : Linked) (is : slice_get es t ≡ Some e) where
+  abbrev waits : List Linked
   waits = set es t (record e { state = Waiting })
 
   pub fork_linked : IsLinked es → length es < 2 ^ 31 → c.parent ≡ Some t → c.depth ≡ depth_at es t + 1 → c.far ≡ next_far (depth_at es) (far_at es) t → IsLinked (waits ++ c ∷ (c ∷ []))
   fork_linked linked few its_par its_dep its_far =
       let len : length waits ≡ length es = length-set es t (record e { state = Waiting }) in
-      let d : ◌≡◌ {A = ℕ → ℕ} (depth_at waits) (depth_at es) = λ i u. view_step depth_kept es t e (record e { state = Waiting }) is refl u i in
-      let j : ◌≡◌ {A = ℕ → ℕ} (far_at waits) (far_at es) = λ i u. view_step far_kept es t e (record e { state = Waiting }) is refl u i in
+      let d : ◌≡◌ {A = ℕ → ℕ} (depth_at waits) (depth_at es) = λ i u. view_step linked_depth es t e (record e { state = Waiting }) is refl u i in
+      let j : ◌≡◌ {A = ℕ → ℕ} (far_at waits) (far_at es) = λ i u. view_step linked_far es t e (record e { state = Waiting }) is refl u i in
       let within : t < length es = slice_get_within es t e is in
       let two = two_linked waits t c (state_linked es t e Waiting is linked) (omega arith) (omega arith) its_par
       (its_dep ∙ ap (λ (f : ℕ → ℕ). f t + 1) (sym d))
@@ -194,7 +194,7 @@ module _ (es : List Entry) (t : ℕ) (e c : Entry) (is : slice_get es t ≡ Some
 
 -- ---- the same, of a value that is the view of the entries
 
-module _ (v : List Node) (es : List Entry) (view_is : map node_of es ≡ v) (linked : IsLinked es) where
+module _ (v : List Node) (es : List Linked) (view_is : map node_of es ≡ v) (linked : IsLinked es) where
   -- a task was made where there is an entry of it
   pub made_entry : (t : ℕ) → t < length v → t < length es
   made_entry t made =
@@ -202,9 +202,9 @@ module _ (v : List Node) (es : List Entry) (view_is : map node_of es ≡ v) (lin
       let same : length (map node_of es) ≡ length v = ap length view_is in
       omega arith
 
-  pub depth_answer : (t : ℕ) (e : Entry) → t < length v → slice_get es t ≡ Some e → e.depth ≡ depth_of v t
+  pub depth_answer : (t : ℕ) (e : Linked) → t < length v → slice_get es t ≡ Some e → e.depth ≡ depth_of v t
   depth_answer t e made got =
-      sym (ap (λ (w : List Node). depth_of w t) (sym view_is) ∙ (depth_seen es t linked (made_entry t made) ∙ ap depth_kept got))
+      sym (ap (λ (w : List Node). depth_of w t) (sym view_is) ∙ (depth_seen es t linked (made_entry t made) ∙ ap linked_depth got))
 
   pub path_within : (t d : ℕ) → t < length v → d ≤ depth_of v t → d ≤ depth_at es t
   path_within t d made le =
@@ -230,16 +230,16 @@ module _ (v : List Node) (es : List Entry) (view_is : map node_of es ≡ v) (lin
       let same : length (map node_of es) ≡ length v = ap length view_is in
       omega arith
 
-  pub on_path_answer : (t a r d : ℕ) (x : Entry) → slice_get es a ≡ Some x → x.depth ≡ d → ancestor (parent_at es) (depth_at es t - d) t ≡ Some r → (r == a) ≡ is_on_path v a t
+  pub on_path_answer : (t a r d : ℕ) (x : Linked) → slice_get es a ≡ Some x → x.depth ≡ d → ancestor (parent_at es) (depth_at es t - d) t ≡ Some r → (r == a) ≡ is_on_path v a t
   on_path_answer t a r d x got is up =
-      let same : d ≡ depth_at es a = sym (ap depth_kept got ∙ is) in
+      let same : d ≡ depth_at es a = sym (ap linked_depth got ∙ is) in
       on_path_here es linked t a r (subst (λ (m : ℕ). ancestor (parent_at es) (depth_at es t - m) t ≡ Some r) same up)
       ∙ ap (λ (w : List Node). is_on_path w a t) view_is
 
-  pub off_path_answer : (t a : ℕ) (x y : Entry) → slice_get es a ≡ Some x → slice_get es t ≡ Some y → y.depth < x.depth → is_on_path v a t ≡ false
+  pub off_path_answer : (t a : ℕ) (x y : Linked) → slice_get es a ≡ Some x → slice_get es t ≡ Some y → y.depth < x.depth → is_on_path v a t ≡ false
   off_path_answer t a x y got_a got_t lt =
-      let da : depth_at es a ≡ x.depth = ap depth_kept got_a in
-      let dt : depth_at es t ≡ y.depth = ap depth_kept got_t in
+      let da : depth_at es a ≡ x.depth = ap linked_depth got_a in
+      let dt : depth_at es t ≡ y.depth = ap linked_depth got_t in
       ap (λ (w : List Node). is_on_path w a t) (sym view_is) ∙ on_path_deeper es linked t a (omega arith)
 
   pub walk_answer : (t a : ℕ) (b : Bool) → b ≡ is_on_path v a t → (IsTrue b → IsUpFrom (parent_of v) t a) × (IsUpFrom (parent_of v) t a → IsTrue b)
@@ -247,13 +247,13 @@ module _ (v : List Node) (es : List Entry) (view_is : map node_of es ≡ v) (lin
       let both = subst (λ (w : List Node). (IsTrue (is_on_path w a t) → IsUpFrom (parent_of w) t a) × (IsUpFrom (parent_of w) t a → IsTrue (is_on_path w a t))) view_is (on_path_walks es linked t a) in
       rw is both
 
-  pub fork_shallow : (t : ℕ) (e : Entry) → t < length v → slice_get es t ≡ Some e → depth_of v t < depth_limit → e.depth < depth_limit
+  pub fork_shallow : (t : ℕ) (e : Linked) → t < length v → slice_get es t ≡ Some e → depth_of v t < depth_limit → e.depth < depth_limit
   fork_shallow t e made got lt =
       let same : e.depth ≡ depth_of v t = depth_answer t e made got in
       omega arith
 
 -- callers see the state that is kept
-pub entry_state : (v : List Node) (es : List Entry) → map node_of es ≡ v → (t : ℕ) (e : Entry) → slice_get es t ≡ Some e → Some e.state ≡ state_of v t
+pub entry_state : (v : List Node) (es : List Linked) → map node_of es ≡ v → (t : ℕ) (e : Linked) → slice_get es t ≡ Some e → Some e.state ≡ state_of v t
 entry_state v es view_is t e got =
     sym (ap (λ (w : List Node). state_of w t) (sym view_is) ∙ ap (option_map (λ (n : Node). n.state)) (slice_get-map node_of es t ∙ ap (option_map node_of) got))
 
@@ -266,26 +266,26 @@ made_from_state (x ∷ v) (suc t) s h =
     omega arith
 
 -- what another state leaves of the entries, and of what callers see
-pub state_answer : (v : List Node) (es new : List Entry) (t : ℕ) (state : State) → map node_of es ≡ v → IsLinked es → t < length v
+pub state_answer : (v : List Node) (es new : List Linked) (t : ℕ) (state : State) → map node_of es ≡ v → IsLinked es → t < length v
     → IfSome (slice_get es t) (λ e. new ≡ slice_set es t (record e { state = state })) → IsLinked new × (map node_of new ≡ with_state v t state)
 state_answer v es new t state view_is linked made put =
     let got = got_some es t (made_entry v es view_is linked t made) in
-    let is : new ≡ slice_set es t (record got.0 { state = state }) = let P : Option Entry → Type 0 = λ o. IfSome o (λ e. new ≡ slice_set es t (record e { state = state })) in subst P got.1 put in (
+    let is : new ≡ slice_set es t (record got.0 { state = state }) = let P : Option Linked → Type 0 = λ o. IfSome o (λ e. new ≡ slice_set es t (record e { state = state })) in subst P got.1 put in (
       subst IsLinked (sym is) (state_linked es t got.0 state got.1 linked),
       ap (map node_of) is ∙ (state_seen es t got.0 state got.1 ∙ ap (λ (w : List Node). with_state w t state) view_is),
     )
 
 -- and a fork
-pub fork_answer : (v : List Node) (es new : List Entry) (t : ℕ) (c : Entry) → map node_of es ≡ v → IsLinked es → t < length v → length v < 2 ^ 31
+pub fork_answer : (v : List Node) (es new : List Linked) (t : ℕ) (c : Linked) → map node_of es ≡ v → IsLinked es → t < length v → length v < 2 ^ 31
     → c.parent ≡ Some t → c.depth ≡ depth_of v t + 1 → c.far ≡ next_far (depth_at es) (far_at es) t → c.state ≡ Ready
     → IfSome (slice_get es t) (λ e. new ≡ slice_set es t (record e { state = Waiting }) ++ c ∷ (c ∷ [])) → IsLinked new × (map node_of new ≡ forked v t)
 fork_answer v es new t c view_is linked made few its_par its_dep its_far its_state put =
     let within = made_entry v es view_is linked t made in
     let got = got_some es t within in
-    let is : new ≡ slice_set es t (record got.0 { state = Waiting }) ++ c ∷ (c ∷ []) = let P : Option Entry → Type 0 = λ o. IfSome o (λ e. new ≡ slice_set es t (record e { state = Waiting }) ++ c ∷ (c ∷ [])) in subst P got.1 put in
+    let is : new ≡ slice_set es t (record got.0 { state = Waiting }) ++ c ∷ (c ∷ []) = let P : Option Linked → Type 0 = λ o. IfSome o (λ e. new ≡ slice_set es t (record e { state = Waiting }) ++ c ∷ (c ∷ [])) in subst P got.1 put in
     let len : length (map node_of es) ≡ length es = length-map es node_of in
     let same : length (map node_of es) ≡ length v = ap length view_is in
-    let deep : depth_at es t ≡ depth_of v t = ap depth_kept got.1 ∙ depth_answer v es view_is linked t got.0 made got.1 in (
+    let deep : depth_at es t ≡ depth_of v t = ap linked_depth got.1 ∙ depth_answer v es view_is linked t got.0 made got.1 in (
       subst IsLinked (sym is) (fork_linked es t got.0 c got.1 linked (omega arith) its_par (its_dep ∙ ap (λ (m : ℕ). m + 1) (sym deep)) its_far),
       ap (map node_of) is ∙ (fork_seen es t got.0 c got.1 its_par its_state ∙ ap (λ (w : List Node). forked w t) view_is),
     )

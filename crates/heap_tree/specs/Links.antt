@@ -1,36 +1,36 @@
 -- What the tree keeps beside what callers see: depths, and the far links.
 use Rattle.std.specs.Prelude.{◌≡◌, ◌+◌, ◌<◌, ◌≤◌, ◌^◌, ℕ, Option, Some, None, List, length, slice_get}
 use Rattle.far_links.specs.Links.{AreLinked}
-use Rattle.heap_tree.specs.declared.links.Entry.{Entry}
+use Rattle.heap_tree.specs.declared.links.Linked.{Linked}
 use Rattle.heap_tree.specs.Node.{Node}
 
 -- what callers see of an entry
-abbrev pub node_of : Entry → Node
+abbrev pub node_of : Linked → Node
 node_of e = record { parent = e.parent; state = e.state }
 
-abbrev pub parent_kept : Option Entry → Option ℕ
-parent_kept None = None
-parent_kept (Some e) = e.parent
+abbrev pub linked_parent : Option Linked → Option ℕ
+linked_parent None = None
+linked_parent (Some e) = e.parent
 
-abbrev pub depth_kept : Option Entry → ℕ
-depth_kept None = 0
-depth_kept (Some e) = e.depth
+abbrev pub linked_depth : Option Linked → ℕ
+linked_depth None = 0
+linked_depth (Some e) = e.depth
 
-abbrev pub far_kept : Option Entry → ℕ
-far_kept None = 0
-far_kept (Some e) = e.far
+abbrev pub linked_far : Option Linked → ℕ
+linked_far None = 0
+linked_far (Some e) = e.far
 
-abbrev pub parent_at : List Entry → ℕ → Option ℕ
-parent_at entries t = parent_kept (slice_get entries t)
+abbrev pub parent_at : List Linked → ℕ → Option ℕ
+parent_at entries t = linked_parent (slice_get entries t)
 
-abbrev pub depth_at : List Entry → ℕ → ℕ
-depth_at entries t = depth_kept (slice_get entries t)
+abbrev pub depth_at : List Linked → ℕ → ℕ
+depth_at entries t = linked_depth (slice_get entries t)
 
-abbrev pub far_at : List Entry → ℕ → ℕ
-far_at entries t = far_kept (slice_get entries t)
+abbrev pub far_at : List Linked → ℕ → ℕ
+far_at entries t = linked_far (slice_get entries t)
 
 -- task 0 alone has no parent, and the links are as they should be
-pub record IsLinked (entries : List Entry) : Type 0 where
+pub record IsLinked (entries : List Linked) : Type 0 where
   pub few : length entries ≤ 2 ^ 31 + 1
   pub rooted : 0 < length entries
   pub root : (t : ℕ) → t < length entries → parent_at entries t ≡ None → t ≡ 0

@@ -1,23 +1,23 @@
 -- The entries of the root and of the pairs of children, as the tree keeps them.
 use Rattle.std.specs.Prelude.{Bool, if◌then◌else◌, Some, None, List, [], ◌∷◌, true, false}
 use Rattle.heap_tree.specs.declared.state.State.{State}
-use Rattle.heap_tree.specs.declared.links.Entry.{Entry}
+use Rattle.heap_tree.specs.declared.links.Linked.{Linked}
 use Rattle.heap_tree.specs.declared.entries.Pair.{Pair}
 
-abbrev pub root_entry : State → Entry
+abbrev pub root_entry : State → Linked
 root_entry s = record { parent = None; depth = 0; far = 0; state = s }
 
 -- of the left one or the right one of two children
-abbrev pub child_entry : Pair → Bool → Entry
+abbrev pub child_entry : Pair → Bool → Linked
 child_entry p left = record { parent = Some p.parent; depth = p.depth; far = p.far; state = if left then p.left else p.right }
 
 -- one of the two in another state
 abbrev pub with_child : Pair → Bool → State → Pair
 with_child p left s = if left then record p { left = s } else record p { right = s }
 
-abbrev pub unpaired : List Pair → List Entry
+abbrev pub unpaired : List Pair → List Linked
 unpaired [] = []
 unpaired (p ∷ ps) = child_entry p true ∷ (child_entry p false ∷ unpaired ps)
 
-abbrev pub entries_of : State → List Pair → List Entry
+abbrev pub entries_of : State → List Pair → List Linked
 entries_of s ps = root_entry s ∷ unpaired ps

@@ -3,7 +3,7 @@
 ghost use Rattle.std.specs.Prelude.{◌≡◌, ◌^◌, ◌<◌, ◌++◌, ◌∷◌, [], length, slice_get, slice_set, IfSome, OnErr, OnOk, Some};
 ghost use Rattle.heap_tree.specs.Paired.{child_entry, root_entry, with_child};
 
-use crate::links::Entry;
+use crate::links::Linked;
 use crate::state::State;
 use std::alloc::{AllocError, Global};
 use std::marker::Model;
@@ -27,19 +27,19 @@ pub struct Entries {
 
 impl Model for Entries {
     ghost use Rattle.std.specs.Prelude.{List};
-    ghost use Rattle.heap_tree.specs.declared.links.Entry.{Entry};
+    ghost use Rattle.heap_tree.specs.declared.links.Linked.{Linked};
     ghost use Rattle.heap_tree.specs.Paired.{entries_of};
 
-    ghost Value = { List Entry };
+    ghost Value = { List Linked };
 
     ghost view = { λ e. entries_of e.root e.pairs.items };
 }
 
 // The entry of one of two children.
-fn child_entry(pair: Pair, left: bool) -> Entry
+fn child_entry(pair: Pair, left: bool) -> Linked
     ensures { result ≡ child_entry pair left }
 {
-    Entry {
+    Linked {
         parent: Some(pair.parent),
         depth: pair.depth as u32,
         far: pair.far,
@@ -90,11 +90,11 @@ impl Entries {
     }
 
     /// The entry of a task, if it was made.
-    pub fn get(&self, t: usize) -> Option<Entry>
+    pub fn get(&self, t: usize) -> Option<Linked>
         ensures { result ≡ slice_get self.now t }
     {
         if t == 0 {
-            return Some(Entry {
+            return Some(Linked {
                 parent: None,
                 depth: 0,
                 far: 0,
@@ -122,7 +122,7 @@ impl Entries {
     }
 
     /// Puts two children behind the others, or none.
-    pub fn push_two(&mut self, child: Entry, parent: u32) -> Result<(), AllocError>
+    pub fn push_two(&mut self, child: Linked, parent: u32) -> Result<(), AllocError>
         requires parent { child.parent ≡ Some parent }
         requires shallow { child.depth < 2 ^ 16 }
         ensures ok { OnOk result (self.new ≡ self.old ++ child ∷ (child ∷ [])) }

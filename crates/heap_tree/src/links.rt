@@ -9,7 +9,7 @@ use far_links::{FarLinks, Link};
 
 /// A task in the tree: beside the link to its parent it keeps one to an ancestor farther up.
 #[derive(Clone, Copy)]
-pub struct Entry {
+pub struct Linked {
     pub parent: Option<u32>,
     pub depth: u32,
     pub far: u32,
@@ -17,7 +17,7 @@ pub struct Entry {
 }
 
 /// The entry of a task.
-pub fn entry_at(entries: &Entries, t: usize) -> Entry
+pub fn entry_at(entries: &Entries, t: usize) -> Linked
     requires { t < length entries.now }
     ensures { slice_get entries.now t ≡ Some result }
 {

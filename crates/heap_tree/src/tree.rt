@@ -6,7 +6,7 @@ ghost use Rattle.heap_tree.specs.Walk.{ancestor, IsUpFrom};
 ghost use Rattle.heap_tree.specs.Node.{root_node, parent_of, state_of, depth_of, is_on_path, with_state, forked, IsTree};
 
 use crate::entries::Entries;
-use crate::links::{Entry, entry_at};
+use crate::links::{Linked, entry_at};
 use crate::state::State;
 use far_links::{LinkCount, climb, climb_to, far_below};
 use std::alloc::{AllocError, Global};
@@ -32,7 +32,7 @@ impl Model for Tree {
 }
 
 // Puts two children behind the others, and lets the task wait that forks them. For want of memory nothing changes.
-fn put_children(entries: &mut Entries, t: u32, child: Entry) -> Result<(), AllocError>
+fn put_children(entries: &mut Entries, t: u32, child: Linked) -> Result<(), AllocError>
     requires made { t < length entries.old }
     requires parent { child.parent ≡ Some t }
     requires shallow { child.depth < 2 ^ 16 }
@@ -73,7 +73,7 @@ impl Tree {
         ensures err { OnErr result (self.new ≡ self.old) }
     {
         let left = self.entries.len();
-        let child = Entry {
+        let child = Linked {
             parent: Some(t),
             depth: entry_at(&self.entries, t as usize).depth + 1,
             far: far_below(&self.entries, t as usize) as u32,

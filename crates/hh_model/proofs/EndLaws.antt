@@ -64,14 +64,14 @@ module _ (p : ProgramText) (limit : ℕ) (all : List ℕ) (e : End) where
   abbrev At : List ℕ → State
   At ts = run p limit ts
 
-  kept_at : (ts : List ℕ) → IsForkJoinState (At ts)
-  kept_at ts = run_is_fork_join_state p (start p limit) ts (start_is_fork_join_state p limit)
+  fork_join_at : (ts : List ℕ) → IsForkJoinState (At ts)
+  fork_join_at ts = run_is_fork_join_state p (start p limit) ts (start_is_fork_join_state p limit)
 
   ends_here : (before : List ℕ) (t : ℕ) (rest : List ℕ) (q : End) → all ≡ before ++ t ∷ rest → (At before).end ≡ None → (step p (At before) t).end ≡ Some q → run_from p (step p (At before) t) rest ≡ At all
       → (At all).end ≡ Some e → IsEnded p limit all e
   ends_here before t rest q is going ends whole h =
       let last : At all ≡ step p (At before) t = sym whole ∙ ended_stays p (step p (At before) t) rest q ends in
-      let changes = last_step p (At before) t (kept_at before) (run_root p limit before) going e (ap (λ (m : State). m.end) (sym last) ∙ h) in
+      let changes = last_step p (At before) t (fork_join_at before) (run_root p limit before) going e (ap (λ (m : State). m.end) (sym last) ∙ h) in
       record {
         before = before;
         last = t;

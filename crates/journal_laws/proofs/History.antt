@@ -373,7 +373,7 @@ module _ (p : ProgramText) (s : SettingsValue) where
     began_by : (t : ℕ) → is_some (heap_of (At all) t).begun ≡ true → (v : Bool) → begins t e.kind ≡ v → BeganWith p s all t
     began_by t c true b =
         let kind = begins_is t e.kind b in
-        let event : e ≡ record { worker = e.worker; kind = Begin t } = λ i. record { worker = e.worker; kind = kind i } in
+        let entry : e ≡ record { worker = e.worker; kind = Begin t } = λ i. record { worker = e.worker; kind = kind i } in
         let begun = subst (λ k. is_none (kind_refusal p s l e.worker k) ≡ true) kind allowed in
         let h = heap_of_task l t S (out_tells l e.worker t _ begun).0 in
         let h' : Heap = record h.0 { begun = Some (take_of l.machine h.0); survivors = within l t } in
@@ -383,7 +383,7 @@ module _ (p : ProgramText) (s : SettingsValue) where
           before = done;
           worker = e.worker;
           rest = [];
-          is = ap (λ f. done ++ f ∷ []) event;
+          is = ap (λ f. done ++ f ∷ []) entry;
           last = none_yet (begins t);
           survivors = ap (λ (k : Ledger). (heap_of k t).survivors) (next ∙ ap (after_kind p s l e.worker) kind) ∙ ap (λ (g : Heap). g.survivors) now;
         }
@@ -411,15 +411,15 @@ module _ (p : ProgramText) (s : SettingsValue) where
     forked_by : (t : ℕ) → waiting (At all).machine.tasks t ≡ true → (v : Bool) → is_of_steps t e.kind ≡ v → ForkedWith p s all t
     forked_by t w true b =
         let k = steps_is t e.kind b in
-        let event : e ≡ record { worker = e.worker; kind = Ran t k.0 } = λ i. record { worker = e.worker; kind = k.1 i } in
+        let entry : e ≡ record { worker = e.worker; kind = Ran t k.0 } = λ i. record { worker = e.worker; kind = k.1 i } in
         record {
           before = done;
           worker = e.worker;
           steps = k.0;
           rest = [];
-          is = ap (λ f. done ++ f ∷ []) event;
+          is = ap (λ f. done ++ f ∷ []) entry;
           last = none_yet (is_of_steps t);
-          snapshot = snapped t k.0 k.1 w ∙ ap (λ f. within (At (done ++ f ∷ [])) t) event;
+          snapshot = snapped t k.0 k.1 w ∙ ap (λ f. within (At (done ++ f ∷ [])) t) entry;
         }
     forked_by t w false b =
         let on = wait_kind p s l t e.worker e.kind S allowed b (waits_now t w) in
@@ -495,10 +495,10 @@ snapshots_are_held p s journal t legal w =
     let l : Ledger = ledger_of p s journal in
     let K = known p s journal legal in
     let F = K.forked t w in
-    let event : EntryValue = record { worker = F.worker; kind = Ran t F.steps } in
-    let whole : is_legal_from p s (opening p s) ((F.before ++ event ∷ []) ++ F.rest) ≡ true = subst (λ j. is_legal_from p s (opening p s) j ≡ true) (F.is ∙ sym (append_assoc F.before (event ∷ []) F.rest)) legal in
-    let first = (cut_legal p s (F.before ++ event ∷ []) F.rest (opening p s) whole).0 in
+    let entry : EntryValue = record { worker = F.worker; kind = Ran t F.steps } in
+    let whole : is_legal_from p s (opening p s) ((F.before ++ entry ∷ []) ++ F.rest) ≡ true = subst (λ j. is_legal_from p s (opening p s) j ≡ true) (F.is ∙ sym (append_assoc F.before (entry ∷ []) F.rest)) legal in
+    let first = (cut_legal p s (F.before ++ entry ∷ []) F.rest (opening p s) whole).0 in
     record {
-      once = distinct (heap_of l t).snapshot (λ n. subst (λ ns. sum_by (hit n) ns ≤ 1) (sym F.snapshot) (within_once p s (F.before ++ event ∷ []) t first n));
+      once = distinct (heap_of l t).snapshot (λ n. subst (λ ns. sum_by (hit n) ns ≤ 1) (sym F.snapshot) (within_once p s (F.before ++ entry ∷ []) t first n));
       held = λ n c. contains_from_in (held_in (heap_of l t)) n (K.holds t w n (in_from_contains (heap_of l t).snapshot n c));
     }

@@ -57,7 +57,7 @@ known_before xs m known n = sym (among_both xs (m ∷ []) n ∙ same)
 -- all is let go, where there was no place
 pub none_left : (p q : PiecesValue) (m : ℕ) → q.lost ≡ true → p.places ≡ 0 → NotesChanges p q (m ∷ [])
 none_left p q m gone none = record {
-  kept = λ l. cc;
+  before = λ l. cc;
   layers = λ l. cc;
   stale = λ l n. cc;
   enough = λ l few. absurd (omega arith);
@@ -67,12 +67,12 @@ none_left p q m gone none = record {
 -- one after the other
 pub changes_both : (p q r : PiecesValue) (xs ys : List ℕ) → NotesChanges p q xs → NotesChanges q r ys → NotesChanges p r (xs ++ ys)
 changes_both p q r xs ys f g = record {
-  kept = λ l. f.kept (g.kept l);
-  layers = λ l. g.layers l ∙ f.layers (g.kept l);
+  before = λ l. f.before (g.before l);
+  layers = λ l. g.layers l ∙ f.layers (g.before l);
   stale = λ l n.
       g.stale l n
       ∙ (among_both q.stale ys n
-      ∙ (ap (λ (b : Bool). cond b true (is_among ys n)) (f.stale (g.kept l) n ∙ among_both p.stale xs n)
+      ∙ (ap (λ (b : Bool). cond b true (is_among ys n)) (f.stale (g.before l) n ∙ among_both p.stale xs n)
       ∙ (three (is_among p.stale n) (is_among xs n) (is_among ys n)
       ∙ (ap (λ (b : Bool). cond (is_among p.stale n) true b) (sym (among_both xs ys n)) ∙ sym (among_both p.stale (xs ++ ys) n)))));
   enough = λ l few.
@@ -84,7 +84,7 @@ changes_both p q r xs ys f g = record {
       g.enough still second;
   places = λ l.
       let both = length-append xs ys in
-      let first = f.places (g.kept l) in
+      let first = f.places (g.before l) in
       let second = g.places l in
       omega arith;
 }
@@ -102,8 +102,8 @@ pub still_shows : (p q : PiecesValue) (ks new : List ChunkValue) (ns : List ℕ)
 still_shows p q ks new ns f same none h = record {
   same = λ l n a.
       let both = in_neither p.stale ns n (sym (f.stale l n) ∙ a) in
-      ap (λ (ls : List Level). nearest ls n) (f.layers l) ∙ (h.same (f.kept l) n both.0 ∙ sym (same n both.1));
-  no_other = λ l n a. ap (λ (ls : List Level). nearest ls n) (f.layers l) ∙ h.no_other (f.kept l) n (none n a);
+      ap (λ (ls : List Level). nearest ls n) (f.layers l) ∙ (h.same (f.before l) n both.0 ∙ sym (same n both.1));
+  no_other = λ l n a. ap (λ (ls : List Level). nearest ls n) (f.layers l) ∙ h.no_other (f.before l) n (none n a);
 }
 
 -- one chunk changes, and keeps its number

@@ -43,7 +43,7 @@ pub record Shows (p : PiecesValue) (ks : List ChunkValue) : Type 0 where
 
 -- the chunks of these numbers count as changed, and others as before; or all is let go, which happens only where places for the numbers were missing
 pub record NotesChanges (old new : PiecesValue) (numbers : List ℕ) : Type 0 where
-  pub kept : new.lost ≡ false → old.lost ≡ false
+  pub before : new.lost ≡ false → old.lost ≡ false
   pub layers : new.lost ≡ false → new.layers ≡ old.layers
   pub stale : new.lost ≡ false → (n : ℕ) → is_among new.stale n ≡ is_among (old.stale ++ numbers) n
   pub enough : old.lost ≡ false → length numbers ≤ old.places → new.lost ≡ false

@@ -417,22 +417,22 @@ module _ (w : SharedValue) (k : ℕ) (p : Private) (I : IsSharedValue w) (F : Fi
 -- ---- WHERE TOO FEW ARE FREE
 module _ (w : SharedValue) (k : ℕ) (p : Private) (I : IsSharedValue w) (F : Fits w k (record p { fresh = 0 })) (on : (accounts w).end ≡ None) (free : refused w (record { worker = k; kind = ChunkOf p.task }) ≡ None)
     (words : ℕ) (asks : part_asks w.program p ≡ Some words) (full : w.pool.limit < units_in_use w.pool + chunk_units (Some words)) (j : RoomyValue EntryValue) where
-  abbrev full_event : EntryValue
-  full_event = record { worker = k; kind = ChunkOf p.task }
+  abbrev full_entry : EntryValue
+  full_entry = record { worker = k; kind = ChunkOf p.task }
 
   abbrev full_end : Option RunEnd
   full_end = Some (PoolOf (units_in_use w.pool))
 
   abbrev ended : SharedValue
-  ended = entered w full_event w.tree w.pool w.rests w.sets w.tasks_out w.outputs w.steps full_end j.room
+  ended = entered w full_entry w.tree w.pool w.rests w.sets w.tasks_out w.outputs w.steps full_end j.room
 
   abbrev full_ledger : Ledger
   full_ledger = record (accounts w) { end = full_end }
 
-  ends_so : after w.program w.settings (accounts w) full_event ≡ full_ledger
+  ends_so : after w.program w.settings (accounts w) full_entry ≡ full_ledger
   ends_so = full_then w k p I F on free words asks full
 
-  full_same : SameObjects (value_of w) (value_of w) (accounts w) (after w.program w.settings (accounts w) full_event)
+  full_same : SameObjects (value_of w) (value_of w) (accounts w) (after w.program w.settings (accounts w) full_entry)
   full_same = subst (SameObjects (value_of w) (value_of w) (accounts w)) (sym ends_so) (same_value (value_of w) (accounts w) full_ledger refl (λ u. refl) (stands_now w I on).belongings.belongings)
 
   full_units : AsksUnits (nat_lt w.settings.chunks (units_in_use w.pool + chunk_units (asked w.program (accounts w).machine p.task))) (tree_counts_of w) (tree_counts_of ended) (chunk_units (asked w.program (accounts w).machine p.task))
@@ -446,10 +446,10 @@ module _ (w : SharedValue) (k : ℕ) (p : Private) (I : IsSharedValue w) (F : Fi
   full_counts = (record { node = λ u. refl; task_out = λ u. refl; steps = refl; outputs = refl }, full_units)
 
   pub full_world : IsSharedValue ended
-  full_world = quiet_world w full_event I free tt (λ u m. m) w.pool full_end j.room full_same (notes_unchanged (value_of w)) full_counts refl (all_kept w.pool)
+  full_world = quiet_world w full_entry I free tt (λ u m. m) w.pool full_end j.room full_same (notes_unchanged (value_of w)) full_counts refl (all_kept w.pool)
 
   pub full_others : OthersFit w ended k
-  full_others o q ne G = quiet_others w full_event I free tt (λ u m. m) w.pool full_end j.room full_same (notes_unchanged (value_of w)) full_counts refl (all_kept w.pool) o q (tasks_apart w k o (record p { fresh = 0 }) q F G ne) G
+  full_others o q ne G = quiet_others w full_entry I free tt (λ u m. m) w.pool full_end j.room full_same (notes_unchanged (value_of w)) full_counts refl (all_kept w.pool) o q (tasks_apart w k o (record p { fresh = 0 }) q F G ne) G
 
   abbrev full_belongings : Memory
   full_belongings = with_belongings (value_of w) p.task (belongings_of_part (record p { fresh = 0 }))
@@ -473,7 +473,7 @@ module _ (w : SharedValue) (k : ℕ) (p : Private) (I : IsSharedValue w) (F : Fi
   -- the part, whose heap may have places for other numbers of chunks
   pub full_part : (a b : ℕ) → Fits ended k (record p { fresh = 0; heap = with_places p.heap a b })
   full_part a b =
-      quiet_own w full_event I free tt (λ u m. m) w.pool full_end j.room full_same (notes_unchanged (value_of w)) full_counts refl (all_kept w.pool) k p (with_places p.heap a b) p.begun F (places_form p.heap a b F.form) F.measured
+      quiet_own w full_entry I free tt (λ u m. m) w.pool full_end j.room full_same (notes_unchanged (value_of w)) full_counts refl (all_kept w.pool) k p (with_places p.heap a b) p.begun F (places_form p.heap a b F.form) F.measured
       (subst (λ (z : Ledger). SameObjects full_belongings full_belongings (rested (accounts w) p.task) (rested z p.task)) (sym ends_so)
       (same_value full_belongings (rested (accounts w) p.task) (rested full_ledger p.task) (heap_machine full_ledger p.task let_go ∙ sym (heap_machine (accounts w) p.task let_go)) heaps_rested (fits_now w k (record p { fresh = 0 }) F on).stands.belongings))
       (subst (λ (z : Ledger). BegunBy full_belongings (rested z p.task) p.task p.begun) (sym ends_so) (subst (λ o. BegunBy full_belongings (rested full_ledger p.task) p.task o) (sym full_idle) none_full))

@@ -72,7 +72,7 @@ use Rattle.shared_value.proofs.FieldsNoted.{are_once, fresh_by, noted_sources, o
 use Rattle.shared_value.proofs.FieldsLed.{AreFormed, Led, SourceThere, belongings_chunks, lead_all}
 use Rattle.shared_value.proofs.UnitsMeasured.{given_keeps, measured_given, measured_kept, part_kept}
 use Rattle.shared_value.proofs.BeforeTheEnd.{stands_now}
-use Rattle.leaf_collections.specs.LeafEnd.{FitsCopied, end_event, ended}
+use Rattle.leaf_collections.specs.LeafEnd.{FitsCopied, end_entry, ended}
 
 -- a heap that a worker holds is there
 held_there : (hs : List Heap) (t k : ℕ) → (or_fresh (slice_get hs t)).worker ≡ Some k → t < length hs
@@ -82,9 +82,9 @@ held_there hs t k = by (slice_get hs t) refl
     by None e h = absurd cc
     by (Some x) e h = got_within hs t x e
 
-module _ (w : SharedValue) (k : ℕ) (p : Private) (moved : Moved) (I : IsSharedValue w) (F : FitsCopied w k p moved) (free : refused w (end_event k p moved) ≡ None) where
+module _ (w : SharedValue) (k : ℕ) (p : Private) (moved : Moved) (I : IsSharedValue w) (F : FitsCopied w k p moved) (free : refused w (end_entry k p moved) ≡ None) where
   abbrev e : EntryValue
-  e = end_event k p moved
+  e = end_entry k p moved
 
   abbrev t : ℕ
   t = p.task

@@ -17,7 +17,7 @@ use Rattle.shared_value.specs.Stands.{IsSharedValue}
 use Rattle.shared_value.specs.Causes.{first_cause, or_else}
 use Rattle.shared_value.specs.Entered.{refused}
 use Rattle.shared_value.proofs.CausesTold.{on_is, refused_is}
-use Rattle.leaf_collections.specs.LeafEnd.{FitsCopied, end_event}
+use Rattle.leaf_collections.specs.LeafEnd.{FitsCopied, end_entry}
 use Rattle.leaf_collections.proofs.WhyNoChunk.{first_answer}
 
 -- WHY IT IS REFUSED
@@ -30,7 +30,7 @@ said_so n m q =
     unless_true (n == n) (Count n n) (counted m m (counted q q None)) (eq-eqb n n refl)
     ∙ (unless_true (m == m) (Count m m) (counted q q None) (eq-eqb m m refl) ∙ unless_true (q == q) (Count q q) None (eq-eqb q q refl))
 
-pub end_answer : (w : SharedValue) (k : ℕ) (p : Private) (moved : Moved) → IsSharedValue w → FitsCopied w k p moved → refused w (end_event k p moved) ≡ first_cause w.end w.steps w.settings k false
+pub end_answer : (w : SharedValue) (k : ℕ) (p : Private) (moved : Moved) → IsSharedValue w → FitsCopied w k p moved → refused w (end_entry k p moved) ≡ first_cause w.end w.steps w.settings k false
 end_answer w k p moved I F = by (is_some (first_cause w.end w.steps w.settings k false)) refl
   where
     l : Ledger
@@ -40,14 +40,14 @@ end_answer w k p moved I F = by (is_some (first_cause w.end w.steps w.settings k
     behind None rest e = e
     behind (Some c) rest e = refl
 
-    by : (b : Bool) → is_some (first_cause w.end w.steps w.settings k false) ≡ b → refused w (end_event k p moved) ≡ first_cause w.end w.steps w.settings k false
-    by true h = first_answer w I (end_event k p moved) h
+    by : (b : Bool) → is_some (first_cause w.end w.steps w.settings k false) ≡ b → refused w (end_entry k p moved) ≡ first_cause w.end w.steps w.settings k false
+    by true h = first_answer w I (end_entry k p moved) h
     by false h =
         let on : (accounts w).end ≡ None = on_is w I k false h in
         let runs' : is_running (slice_get (accounts w).machine.tasks p.task) ≡ true = (tasks_are_out_once w.program w.settings w.journal.items I.legal).runs on p.task k F.out in
         let held' : option_is (heap_of (accounts w) p.task).worker k ≡ true = ap (λ o. option_is o k) F.out ∙ eq-eqb k k refl in
         let begun : is_some (heap_of (accounts w) p.task).begun ≡ true = F.copy.collects in
-        refused_is w I (end_event k p moved)
+        refused_is w I (end_entry k p moved)
         ∙ behind (first_cause w.end w.steps w.settings k false) (kind_refusal w.program w.settings (accounts w) k (End p.task moved.taken moved.given moved.left))
         (unless_true (is_out (accounts w) k p.task) NotOut (refused_unless (is_some (heap_of (accounts w) p.task).begun) NotCollecting (ends_as (moved.taken, moved.given, moved.left) (end_numbers (accounts w).machine (heap_of (accounts w) p.task))))
         (ap₂ (λ x y. x && y) runs' held')
@@ -55,5 +55,5 @@ end_answer w k p moved I F = by (is_some (first_cause w.end w.steps w.settings k
         ∙ (ap (λ z. ends_as (moved.taken, moved.given, moved.left) z) (sym F.numbers) ∙ said_so moved.taken moved.given moved.left)))
 
 -- where nothing comes before it, nothing refuses it
-pub end_free : (w : SharedValue) (k : ℕ) (p : Private) (moved : Moved) → IsSharedValue w → first_cause w.end w.steps w.settings k false ≡ None → FitsCopied w k p moved → refused w (end_event k p moved) ≡ None
+pub end_free : (w : SharedValue) (k : ℕ) (p : Private) (moved : Moved) → IsSharedValue w → first_cause w.end w.steps w.settings k false ≡ None → FitsCopied w k p moved → refused w (end_entry k p moved) ≡ None
 end_free w k p moved I free F = end_answer w k p moved I F ∙ free

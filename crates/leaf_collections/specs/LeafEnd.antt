@@ -25,8 +25,8 @@ abbrev pub ended : Private → Private
 ended p = record p { begun = None }
 
 -- the entry that ends its collection
-abbrev pub end_event : ℕ → Private → Moved → EntryValue
-end_event worker p moved = record { worker = worker; kind = End p.task moved.taken moved.given moved.left }
+abbrev pub end_entry : ℕ → Private → Moved → EntryValue
+end_entry worker p moved = record { worker = worker; kind = End p.task moved.taken moved.given moved.left }
 
 -- the chunks that are given back: they are the task's, none is in the heap, and they have so many units
 pub record AreBack (w : SharedValue) (p : Private) (ks : List ChunkValue) (given : ℕ) : Type 0 where

@@ -149,7 +149,7 @@ module _ (b : CollectorValue) (fs : FramesValue) (roots : List Addr) (closed : I
     frames = g_is ∙ (led_frames ∙ ap (λ (xs : List Survivor). map (led_frame (redirection b.heap.chunks xs b.laying.spare)) (frames_of fs)) (sym found_e));
     left = subst (λ (xs : List Survivor). IsLeftBehind b.heap.chunks e.heap.chunks (olds xs) (redirection b.heap.chunks xs b.laying.spare)) (sym found_e)
         (subst (λ (g : List ChunkValue). IsLeftBehind b.heap.chunks g (olds s.found) (redirection b.heap.chunks s.found b.laying.spare)) (sym chunks_e) (left_is b (outside fs roots) closed sound d s are t is));
-    kept = ap (λ (z : CollectorValue). z.heap) e_is
+    heap = ap (λ (z : CollectorValue). z.heap) e_is
         ∙ (ap (λ (g : LeafHeapValue). with_chunks g (fold followed_large u.heap.chunks u.found)) (heap_u ∙ copying_kept b (outside fs roots) closed sound d s are t is)
         ∙ ap (with_chunks b.heap) (sym (ap (λ (z : CollectorValue). z.heap.chunks) e_is)));
   }

@@ -26,4 +26,4 @@ pub record IsEvacuated (c : CollectorValue) (s : FramesValue) (roots : List Addr
   pub spare : d.laying.spare ≡ (laying_of c.heap.chunks d.found c.laying.spare).spare
   pub frames : frames_of t ≡ map (led_frame (redirection c.heap.chunks d.found c.laying.spare)) (frames_of s)
   pub left : IsLeftBehind c.heap.chunks d.heap.chunks (olds d.found) (redirection c.heap.chunks d.found c.laying.spare)
-  pub kept : d.heap ≡ with_chunks c.heap d.heap.chunks
+  pub heap : d.heap ≡ with_chunks c.heap d.heap.chunks

@@ -16,7 +16,7 @@ use Rattle.run_trace.proofs.Words.{AreProper, words_spaced}
 use Rattle.run_trace.proofs.Said.{spaced_utf8}
 use Rattle.program_make.specs.Draws.{amount, garbage, rounds, value_after}
 use Rattle.program_make.specs.Text.{side}
-use Rattle.program_reader.specs.Names.{Entry, entry_of, is_name, is_noted, place_of}
+use Rattle.program_reader.specs.Names.{NotedName, entry_of, is_name, is_noted, place_of}
 use Rattle.program_reader.specs.Operands.{int_register}
 use Rattle.program_reader.specs.Sense.{fork, plain, sense_of, two}
 use Rattle.program_reader.specs.Head.{operands_of}
@@ -35,7 +35,7 @@ three_hold : (a b c : Bool) → a ≡ true → b ≡ true → c ≡ true → (a 
 three_hold a b c ea eb ec = rw (ea, eb, ec) refl
 
 -- a proper line's words
-reads : (text : List ℕ) (labels : List Entry) (ws : Lines) → AreProper ws → is_order (head_of_line (spaced ws)) ≡ true → is_instr (sense_of (outline_of text) labels (head_of_line (spaced ws)) (operands_of ws)) ≡ true → is_read (outline_of text) labels (spaced ws) ≡ true
+reads : (text : List ℕ) (labels : List NotedName) (ws : Lines) → AreProper ws → is_order (head_of_line (spaced ws)) ≡ true → is_instr (sense_of (outline_of text) labels (head_of_line (spaced ws)) (operands_of ws)) ≡ true → is_read (outline_of text) labels (spaced ws) ≡ true
 reads text labels ws h order instr =
     let e : is_instr (sense_of (outline_of text) labels (head_of_line (spaced ws)) (operands_of_line (spaced ws))) ≡ true =
     ap (λ vs. is_instr (sense_of (outline_of text) labels (head_of_line (spaced ws)) (operands_of vs))) (words_spaced ws h) ∙ instr in
@@ -44,22 +44,22 @@ reads text labels ws h order instr =
 sets : (register : Option ℕ) (number : Option ℤ) → (r : ℕ) → register ≡ Some r → (n : ℤ) → number ≡ Some n → is_instr (plain (two register number (λ d k. does.Set d k))) ≡ true
 sets register number r e n f = rw (e, f) refl
 
-set_reads_i5 : (text : List ℕ) (labels : List Entry) (n : ℕ) → n < 1000 → is_read (outline_of text) labels (spaced (set_words (codes "i5") n)) ≡ true
+set_reads_i5 : (text : List ℕ) (labels : List NotedName) (n : ℕ) → n < 1000 → is_read (outline_of text) labels (spaced (set_words (codes "i5") n)) ≡ true
 set_reads_i5 text labels n lt = reads text labels (set_words (codes "i5") n) (proper_set (codes "i5") n i5 lt) refl (sets (int_register (codes "i5")) (signed_number (decimal n)) 5 refl (pos n) (number_again n lt))
 
-set_reads_i3 : (text : List ℕ) (labels : List Entry) (n : ℕ) → n < 1000 → is_read (outline_of text) labels (spaced (set_words (codes "i3") n)) ≡ true
+set_reads_i3 : (text : List ℕ) (labels : List NotedName) (n : ℕ) → n < 1000 → is_read (outline_of text) labels (spaced (set_words (codes "i3") n)) ≡ true
 set_reads_i3 text labels n lt = reads text labels (set_words (codes "i3") n) (proper_set (codes "i3") n i3 lt) refl (sets (int_register (codes "i3")) (signed_number (decimal n)) 3 refl (pos n) (number_again n lt))
 
-set_reads_i7 : (text : List ℕ) (labels : List Entry) (n : ℕ) → n < 1000 → is_read (outline_of text) labels (spaced (set_words (codes "i7") n)) ≡ true
+set_reads_i7 : (text : List ℕ) (labels : List NotedName) (n : ℕ) → n < 1000 → is_read (outline_of text) labels (spaced (set_words (codes "i7") n)) ≡ true
 set_reads_i7 text labels n lt = reads text labels (set_words (codes "i7") n) (proper_set (codes "i7") n i7 lt) refl (sets (int_register (codes "i7")) (signed_number (decimal n)) 7 refl (pos n) (number_again n lt))
 
-set_reads_i4 : (text : List ℕ) (labels : List Entry) (n : ℕ) → n < 1000 → is_read (outline_of text) labels (spaced (set_words (codes "i4") n)) ≡ true
+set_reads_i4 : (text : List ℕ) (labels : List NotedName) (n : ℕ) → n < 1000 → is_read (outline_of text) labels (spaced (set_words (codes "i4") n)) ≡ true
 set_reads_i4 text labels n lt = reads text labels (set_words (codes "i4") n) (proper_set (codes "i4") n i4 lt) refl (sets (int_register (codes "i4")) (signed_number (decimal n)) 4 refl (pos n) (number_again n lt))
 
 forks : (text : List ℕ) (a b : List ℕ) (f g : ℕ) → is_name a ≡ true → is_name b ≡ true → place_of (outline_of text).functions a ≡ Some f → place_of (outline_of text).functions b ≡ Some g → is_instr (fork (outline_of text) a b) ≡ true
 forks text a b f g na nb ea eb = rw (na, nb, ea, eb) refl
 
-par_reads : (text : List ℕ) (labels : List Entry) (left right : ℕ) → left < 1000 → right < 1000 → is_noted (outline_of text).functions (name_of left) ≡ true → is_noted (outline_of text).functions (name_of right) ≡ true → is_read (outline_of text) labels (spaced (par_words left right)) ≡ true
+par_reads : (text : List ℕ) (labels : List NotedName) (left right : ℕ) → left < 1000 → right < 1000 → is_noted (outline_of text).functions (name_of left) ≡ true → is_noted (outline_of text).functions (name_of right) ≡ true → is_read (outline_of text) labels (spaced (par_words left right)) ≡ true
 par_reads text labels left right ll lr el er =
     let l = has_place (outline_of text).functions (name_of left) el in
     let r = has_place (outline_of text).functions (name_of right) er in
@@ -68,16 +68,16 @@ par_reads text labels left right ll lr el er =
 -- THE PARTS OF A FUNCTION
 
 -- its labels, where these many instructions stand before them
-abbrev two_labels : ℕ → ℕ → List Entry
+abbrev two_labels : ℕ → ℕ → List NotedName
 two_labels a b = entry_of (codes "a") a ∷ entry_of (codes "b") b ∷ []
 
-pub both_read : (text : List ℕ) (labels : List Entry) (ls ms : Lines) → list_all (is_read (outline_of text) labels) ls ≡ true → list_all (is_read (outline_of text) labels) ms ≡ true → list_all (is_read (outline_of text) labels) (ls ++ ms) ≡ true
+pub both_read : (text : List ℕ) (labels : List NotedName) (ls ms : Lines) → list_all (is_read (outline_of text) labels) ls ≡ true → list_all (is_read (outline_of text) labels) ms ≡ true → list_all (is_read (outline_of text) labels) (ls ++ ms) ≡ true
 both_read text labels [] ms e f = f
 both_read text labels (l ∷ ls) ms e f =
     let both = and_parts (is_read (outline_of text) labels l) (list_all (is_read (outline_of text) labels) ls) e in
     and_from (is_read (outline_of text) labels l) (list_all (is_read (outline_of text) labels) (ls ++ ms)) both.0 (both_read text labels ls ms both.1 f)
 
-pub one_read : (text : List ℕ) (labels : List Entry) (l : List ℕ) → is_read (outline_of text) labels l ≡ true → list_all (is_read (outline_of text) labels) (l ∷ []) ≡ true
+pub one_read : (text : List ℕ) (labels : List NotedName) (l : List ℕ) → is_read (outline_of text) labels l ≡ true → list_all (is_read (outline_of text) labels) (l ∷ []) ≡ true
 one_read text labels l e = and_from (is_read (outline_of text) labels l) true e refl
 
 -- bytes of ASCII are UTF-8
@@ -89,21 +89,21 @@ pub ascii_utf8 : (l : List ℕ) → list_all (λ b. nat_lt b 128) l ≡ true →
 ascii_utf8 l e = is_utf8-from_IsUtf8 l (IsUtf8-from_ascii l (IsAscii-from_all l (All-from_recursion (λ b. b < 128) l (ascii l e))))
 
 -- a line of ASCII is read as an instruction
-abbrev pub is_read_ascii : List ℕ → List Entry → List ℕ → Bool
+abbrev pub is_read_ascii : List ℕ → List NotedName → List ℕ → Bool
 is_read_ascii text labels l = list_all (λ b. nat_lt b 128) l && (is_order (head_of_line l) && is_instr (sense_of (outline_of text) labels (head_of_line l) (operands_of_line l)))
 
-as_read : (text : List ℕ) (labels : List Entry) (l : List ℕ) → is_read_ascii text labels l ≡ true → is_read (outline_of text) labels l ≡ true
+as_read : (text : List ℕ) (labels : List NotedName) (l : List ℕ) → is_read_ascii text labels l ≡ true → is_read (outline_of text) labels l ≡ true
 as_read text labels l e =
     let both = and_parts (list_all (λ b. nat_lt b 128) l) (is_order (head_of_line l) && is_instr (sense_of (outline_of text) labels (head_of_line l) (operands_of_line l))) e in
     and_from (is_utf8 l) (is_order (head_of_line l) && is_instr (sense_of (outline_of text) labels (head_of_line l) (operands_of_line l))) (ascii_utf8 l both.0) both.1
 
-pub all_read : (text : List ℕ) (labels : List Entry) (ls : Lines) → list_all (is_read_ascii text labels) ls ≡ true → list_all (is_read (outline_of text) labels) ls ≡ true
+pub all_read : (text : List ℕ) (labels : List NotedName) (ls : Lines) → list_all (is_read_ascii text labels) ls ≡ true → list_all (is_read (outline_of text) labels) ls ≡ true
 all_read text labels [] e = refl
 all_read text labels (l ∷ ls) e =
     let both = and_parts (is_read_ascii text labels l) (list_all (is_read_ascii text labels) ls) e in
     and_from (is_read (outline_of text) labels l) (list_all (is_read (outline_of text) labels) ls) (as_read text labels l both.0) (all_read text labels ls both.1)
 
-module _ (text : List ℕ) (labels : List Entry) where
+module _ (text : List ℕ) (labels : List NotedName) where
   first_read : (added : ℕ) → added < 1000 → list_all (is_read (outline_of text) labels) (first_rows added) ≡ true
   first_read added lt = both_read text labels cell_rows (spaced (set_words (codes "i5") added) ∷ []) (all_read text labels cell_rows refl) (one_read text labels (spaced (set_words (codes "i5") added)) (set_reads_i5 text labels added lt))
 

@@ -6,7 +6,7 @@ use Rattle.std.specs.Str.{is_utf8}
 use Rattle.std.proofs.lemmas.Fmt.{decimal_digit}
 use Rattle.text_lines.specs.Lines.{lines_of}
 use Rattle.program_make.specs.Text.{made_text, main_text}
-use Rattle.program_reader.specs.Names.{Entry, is_noted, place_of}
+use Rattle.program_reader.specs.Names.{NotedName, is_noted, place_of}
 use Rattle.program_reader.specs.Sense.{call}
 use Rattle.program_reader.specs.Around.{orders_above, outline_of}
 use Rattle.program_reader.specs.Fault.{fault_from, first_fault, spot_of}
@@ -27,7 +27,7 @@ calls text f e = rw e refl
 first_name : name_of 0 ≡ codes "f0"
 first_name = ap (λ ds. codes "f" ++ ds) (decimal_digit 0 (omega arith))
 
-call_reads : (text : List ℕ) (labels : List Entry) → is_noted (outline_of text).functions (name_of 0) ≡ true → is_read (outline_of text) labels (codes "call f0") ≡ true
+call_reads : (text : List ℕ) (labels : List NotedName) → is_noted (outline_of text).functions (name_of 0) ≡ true → is_read (outline_of text) labels (codes "call f0") ≡ true
 call_reads text labels h =
     let at = has_place (outline_of text).functions (codes "f0") (ap (is_noted (outline_of text).functions) (sym first_name) ∙ h) in
     as_call (ascii_utf8 (codes "call f0") refl) (calls text at.0 at.1)
@@ -35,7 +35,7 @@ call_reads text labels h =
     as_call : is_utf8 (codes "call f0") ≡ true → is_instr (call (outline_of text) (codes "f0")) ≡ true → is_read (outline_of text) labels (codes "call f0") ≡ true
     as_call e f = rw (e, f) refl
 
-main_read : (text : List ℕ) (labels : List Entry) → is_noted (outline_of text).functions (name_of 0) ≡ true → list_all (is_read (outline_of text) labels) main_order_rows ≡ true
+main_read : (text : List ℕ) (labels : List NotedName) → is_noted (outline_of text).functions (name_of 0) ≡ true → list_all (is_read (outline_of text) labels) main_order_rows ≡ true
 main_read text labels h =
     both_read text labels (codes "set i2 2" ∷ codes "set i3 0" ∷ codes "newm r0 i2 i3" ∷ codes "movr r9 r0" ∷ codes "call f0" ∷ []) (codes "set i4 0" ∷ codes "getr r4 r9 i4" ∷ codes "geti i6 r4 i4" ∷ codes "out i6" ∷ codes "ret" ∷ [])
     (both_read text labels (codes "set i2 2" ∷ codes "set i3 0" ∷ codes "newm r0 i2 i3" ∷ codes "movr r9 r0" ∷ []) (codes "call f0" ∷ []) (all_read text labels (codes "set i2 2" ∷ codes "set i3 0" ∷ codes "newm r0 i2 i3" ∷ codes "movr r9 r0" ∷ []) refl) (one_read text labels (codes "call f0") (call_reads text labels h)))

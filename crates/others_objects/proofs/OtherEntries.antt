@@ -24,18 +24,18 @@ use Rattle.shared_value.specs.SharedValue.{SharedValue, accounts}
 use Rattle.shared_value.specs.Stands.{IsSharedValue}
 use Rattle.shared_value.specs.Fits.{Fits, OthersFit}
 use Rattle.shared_value.specs.Entered.{refused}
-use Rattle.own_steps.specs.Alone.{GoesAlone, IsShared, alone_event}
+use Rattle.own_steps.specs.Alone.{GoesAlone, IsShared, alone_entry}
 use Rattle.own_steps.proofs.AloneEntries.{last_free}
 use Rattle.own_steps.proofs.LastStepEntry as last
-use Rattle.own_steps.proofs.LastStepEntry.{last_event}
+use Rattle.own_steps.proofs.LastStepEntry.{last_entry}
 use Rattle.own_steps.proofs.LastSteps.{one_added}
 use Rattle.others_objects.specs.declared.other.OtherStep.{OtherStep}
 use Rattle.others_objects.specs.declared.other.OtherStep.TheVariants.{SetsNumber, SetsReference}
 use Rattle.others_objects.specs.Other.{ReadsTo, SaysOther, TellsOther, then_places}
 use Rattle.others_objects.proofs.ReadEntered.{read_goes, read_others, read_part, read_world}
 
-module _ (w : SharedValue) (k : ℕ) (p : Private) (I : IsSharedValue w) (F : Fits w k p) (shared : IsShared w p) (free : refused w (alone_event k p) ≡ None) where
-  abbrev pub free_so : refused w (last_event k p) ≡ None
+module _ (w : SharedValue) (k : ℕ) (p : Private) (I : IsSharedValue w) (F : Fits w k p) (shared : IsShared w p) (free : refused w (alone_entry k p) ≡ None) where
+  abbrev pub free_so : refused w (last_entry k p) ≡ None
   free_so = last_free w k p I F shared free
 
   abbrev pub t : ℕ
@@ -62,12 +62,12 @@ module _ (w : SharedValue) (k : ℕ) (p : Private) (I : IsSharedValue w) (F : Fi
   -- A READ
   module _ (top : ModelFrame) (T : ReadsTo M.machine t S.task S.line top) (g : Frame) (read : FrameIsRead (then_places w p) p.frames.top S.task.top → FrameIsRead (then_places w p) g top) (j : RoomyValue EntryValue) where
     abbrev read_entered : SharedValue
-    read_entered = record w { steps = w.steps + (p.fresh + 1); journal = record { items = w.journal.items ++ alone_event k p ∷ []; room = j.room } }
+    read_entered = record w { steps = w.steps + (p.fresh + 1); journal = record { items = w.journal.items ++ alone_entry k p ∷ []; room = j.room } }
 
     abbrev read_to : Private
     read_to = record p { frames = record { below = p.frames.below; top = g }; fresh = 0 }
 
-    read_is : record w { steps = w.steps + suc p.fresh; journal = record { items = w.journal.items ++ last_event k p ∷ []; room = j.room } } ≡ read_entered
+    read_is : record w { steps = w.steps + suc p.fresh; journal = record { items = w.journal.items ++ last_entry k p ∷ []; room = j.room } } ≡ read_entered
     read_is = ap (λ n. let z : SharedValue = record w { steps = w.steps + n; journal = record { items = w.journal.items ++ record { worker = k; kind = Ran p.task n } ∷ []; room = j.room } } in z) (one_added p.fresh)
 
     read_world_so : IsSharedValue read_entered
@@ -91,7 +91,7 @@ module _ (w : SharedValue) (k : ℕ) (p : Private) (I : IsSharedValue w) (F : Fi
     number_part = record p { frames = with_next (with_number p.frames d z) (p.frames.top.next + 1); fresh = 0 }
 
     abbrev number_after : SharedValue
-    number_after = record w { steps = w.steps + (p.fresh + 1); journal = record { items = w.journal.items ++ alone_event k p ∷ []; room = j.room } }
+    number_after = record w { steps = w.steps + (p.fresh + 1); journal = record { items = w.journal.items ++ alone_entry k p ∷ []; room = j.room } }
 
     pub number_world : IsSharedValue number_after
     number_world = read_world_so (onward (with_int S.task.top d z)) (said (SetsNumber d z) line T).1 (with_next (with_number p.frames d z) (p.frames.top.next + 1)).top number_read j
@@ -116,7 +116,7 @@ module _ (w : SharedValue) (k : ℕ) (p : Private) (I : IsSharedValue w) (F : Fi
     reference_part = record p { frames = with_next (with_reference p.frames d r) (p.frames.top.next + 1); fresh = 0 }
 
     abbrev reference_after : SharedValue
-    reference_after = record w { steps = w.steps + (p.fresh + 1); journal = record { items = w.journal.items ++ alone_event k p ∷ []; room = j.room } }
+    reference_after = record w { steps = w.steps + (p.fresh + 1); journal = record { items = w.journal.items ++ alone_entry k p ∷ []; room = j.room } }
 
     pub reference_world : IsSharedValue reference_after
     reference_world = read_world_so (onward (with_ref S.task.top d name)) (said (SetsReference d r) line T).1.1 (with_next (with_reference p.frames d r) (p.frames.top.next + 1)).top reference_read j

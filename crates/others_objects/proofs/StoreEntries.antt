@@ -37,10 +37,10 @@ use Rattle.shared_value.specs.Fits.{Fits, belongings_of_part}
 use Rattle.shared_value.specs.Entered.{refused}
 use Rattle.shared_value.proofs.PartFitsMachine as link
 use Rattle.shared_value.proofs.UnitsMeasured.{owner_held}
-use Rattle.own_steps.specs.Alone.{GoesAlone, IsShared, alone_event}
+use Rattle.own_steps.specs.Alone.{GoesAlone, IsShared, alone_entry}
 use Rattle.own_steps.proofs.AloneEntries.{is_safe, last_free}
 use Rattle.own_steps.proofs.LastStepEntry as last
-use Rattle.own_steps.proofs.LastStepEntry.{last_event}
+use Rattle.own_steps.proofs.LastStepEntry.{last_entry}
 use Rattle.others_objects.specs.declared.other.OtherStep.TheVariants.{StoresNumber}
 use Rattle.others_objects.specs.Other.{IsWritable, SaysOther, TellsOther, WritesNumber, WritesReference, put_rest, store_frames, store_of, then_places}
 use Rattle.others_objects.proofs.ForeignObject.{IsForeign, register_at, x}
@@ -61,7 +61,7 @@ store_below : (swap : Option ℕ) (s : FramesValue) → record { below = s.below
 store_below None s = refl
 store_below (Some d) s = refl
 
-module _ (w : SharedValue) (k : ℕ) (p : Private) (I : IsSharedValue w) (F : Fits w k p) (shared : IsShared w p) (free : refused w (alone_event k p) ≡ None) where
+module _ (w : SharedValue) (k : ℕ) (p : Private) (I : IsSharedValue w) (F : Fits w k p) (shared : IsShared w p) (free : refused w (alone_entry k p) ≡ None) where
   abbrev pub t : ℕ
   t = p.task
 
@@ -74,7 +74,7 @@ module _ (w : SharedValue) (k : ℕ) (p : Private) (I : IsSharedValue w) (F : Fi
   abbrev pub h : Belongings
   h = belongings_of_part p
 
-  abbrev pub free_so : refused w (last_event k p) ≡ None
+  abbrev pub free_so : refused w (last_entry k p) ≡ None
   free_so = last_free w k p I F shared free
 
   abbrev pub on : l.end ≡ None
@@ -206,7 +206,7 @@ module _ (w : SharedValue) (k : ℕ) (p : Private) (I : IsSharedValue w) (F : Fi
       rests = slice_set w.rests owner (Some (put_rest foreign.rest a (cell_ref cell i q)));
       sets = sets;
       steps = w.steps + (p.fresh + 1);
-      journal = record { items = w.journal.items ++ alone_event k p ∷ []; room = space.room };
+      journal = record { items = w.journal.items ++ alone_entry k p ∷ []; room = space.room };
     }
 
     module _ (sets : List SetOf) (many : length sets ≡ length w.sets) (C : IsNoted sets r) (space : RoomyValue EntryValue) where
@@ -272,7 +272,7 @@ module _ (w : SharedValue) (k : ℕ) (p : Private) (I : IsSharedValue w) (F : Fi
     after_number q space = record w {
       rests = slice_set w.rests owner_number (Some (put_rest foreign_number.rest a (cell_int (cell_of foreign_number.rest.heap.chunks a) i q)));
       steps = w.steps + (p.fresh + 1);
-      journal = record { items = w.journal.items ++ alone_event k p ∷ []; room = space.room };
+      journal = record { items = w.journal.items ++ alone_entry k p ∷ []; room = space.room };
     }
 
     pub number_world : (space : RoomyValue EntryValue) → IsSharedValue (after_number value space)

@@ -43,7 +43,7 @@ use Rattle.shared_value.proofs.PartFitsMachine as link
 use Rattle.shared_value.proofs.FreeChunks.{refs_long}
 use Rattle.own_steps.specs.Alone.{GoesAlone, IsShared}
 use Rattle.own_steps.proofs.LastStepEntry as last
-use Rattle.own_steps.proofs.LastStepEntry.{last_event}
+use Rattle.own_steps.proofs.LastStepEntry.{last_entry}
 use Rattle.own_steps.proofs.OtherStepKinds.{same_object, writing}
 use Rattle.own_steps.proofs.LastSteps.{one_added}
 use Rattle.others_objects.specs.Other.{put_rest}
@@ -53,7 +53,7 @@ use Rattle.others_objects.proofs.StoreValue as stores
 use Rattle.others_objects.proofs.WriteEntered as written
 use Rattle.others_objects.proofs.StoreKinds.{Made}
 
-module _ (w : SharedValue) (k : ℕ) (p : Private) (I : IsSharedValue w) (F : Fits w k p) (shared : IsShared w p) (free : refused w (last_event k p) ≡ None) where
+module _ (w : SharedValue) (k : ℕ) (p : Private) (I : IsSharedValue w) (F : Fits w k p) (shared : IsShared w p) (free : refused w (last_entry k p) ≡ None) where
   abbrev pub t : ℕ
   t = p.task
 

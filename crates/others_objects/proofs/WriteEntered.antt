@@ -43,7 +43,7 @@ use Rattle.shared_value.proofs.HeldTasks.{fits_held, stands_for_held}
 use Rattle.shared_value.proofs.BeforeTheEnd.{end_now, stands_now}
 use Rattle.own_steps.specs.Alone.{IsShared}
 use Rattle.own_steps.proofs.LastStepEntry as last
-use Rattle.own_steps.proofs.LastStepEntry.{last_event}
+use Rattle.own_steps.proofs.LastStepEntry.{last_entry}
 use Rattle.others_objects.proofs.ForeignObject.{IsForeign}
 use Rattle.others_objects.proofs.ObjectWritten as other
 use Rattle.others_objects.proofs.ObjectWritten.{resting_is}
@@ -52,7 +52,7 @@ use Rattle.others_objects.proofs.ObjectWritten.{resting_is}
 running_not : {A : Type 0} (o : Option Task) → is_waiting o ≡ true → is_running o ≡ true → A
 running_not o h r = absurd (false≢true (sym (waiting_stops o h) ∙ r))
 
-module _ (w : SharedValue) (k : ℕ) (p : Private) (I : IsSharedValue w) (F : Fits w k p) (shared : IsShared w p) (free : refused w (last_event k p) ≡ None) where
+module _ (w : SharedValue) (k : ℕ) (p : Private) (I : IsSharedValue w) (F : Fits w k p) (shared : IsShared w p) (free : refused w (last_entry k p) ≡ None) where
   abbrev pub t : ℕ
   t = p.task
 
@@ -156,7 +156,7 @@ module _ (w : SharedValue) (k : ℕ) (p : Private) (I : IsSharedValue w) (F : Fi
         steps = w.steps + suc p.fresh
 
         abbrev w' : SharedValue
-        w' = entered w (last_event k p) w.tree w.pool rests sets w.tasks_out w.outputs steps w.end j.room
+        w' = entered w (last_entry k p) w.tree w.pool rests sets w.tasks_out w.outputs steps w.end j.room
 
         counts : RanCounts w.program (tree_counts_of w) (tree_counts_of w') M L t k p.fresh S.task S.line Writing K
         counts = record { tree = λ u. refl; task_out = λ u. refl; outputs = refl; end = refl; used = refl; steps = refl }
@@ -171,7 +171,7 @@ module _ (w : SharedValue) (k : ℕ) (p : Private) (I : IsSharedValue w) (F : Fi
 
         pub written_world : IsSharedValue w'
         written_world =
-            entered_world w (last_event k p) I free w.tree w.pool rests sets w.tasks_out w.outputs steps w.end j.room
+            entered_world w (last_entry k p) I free w.tree w.pool rests sets w.tasks_out w.outputs steps w.end j.room
             (length-set w.rests (other.u w k p I F on n a O) _ ∙ I.made) (many ∙ I.noted) refl refl all_then
             (other.forms w k p I F on n a O d mark size f fields sets top) (other.measures w k p I F on n a O d mark size f fields sets top)
 
@@ -180,14 +180,14 @@ module _ (w : SharedValue) (k : ℕ) (p : Private) (I : IsSharedValue w) (F : Fi
 
         pub written_part : Fits w' k q
         written_part =
-            part_fits w (last_event k p) I free w.tree w.pool rests sets w.tasks_out w.outputs steps w.end j.room written_world k p q refl F refl refl refl F.form F.measured
+            part_fits w (last_entry k p) I free w.tree w.pool rests sets w.tasks_out w.outputs steps w.end j.room written_world k p q refl F refl refl refl F.form F.measured
             (fits_held v1 v'.belongings L same_then w.program w.settings (part_of w.settings q) R.knows_then.sound goes_then
             (ran_fits_then w.program w.settings v0 v1 l L t k p.fresh h g E own_0 C gh))
 
         -- THE PARTS OF OTHERS
         pub written_others : OthersFit w w' k
         written_others u r ne G =
-            part_fits w (last_event k p) I free w.tree w.pool rests sets w.tasks_out w.outputs steps w.end j.room written_world u r r refl G refl refl refl G.form G.measured
+            part_fits w (last_entry k p) I free w.tree w.pool rests sets w.tasks_out w.outputs steps w.end j.room written_world u r r refl G refl refl refl G.form G.measured
             (fits_held v1 v'.belongings L same_then w.program w.settings (part_of w.settings r) R.knows_then.sound goes_then
             (ran_leaves w.program w.settings v0 v1 l L t k p.fresh h E own_0 C (part_of w.settings r) (tasks_apart w k u p r F G ne)
             (fits_held (value_of w) v0.belongings l (λ z y. resting_is l (value_of w).belongings z y) w.program w.settings (part_of w.settings r) R.knows.sound (last.before_goes w k p I F shared free) G.fits)))

@@ -31,12 +31,12 @@ use Rattle.shared_value.specs.Fits.{Fits, OthersFit}
 use Rattle.shared_value.specs.Next.{is_beyond, is_beyond_by, is_beyond_line, is_joint}
 use Rattle.shared_value.specs.Entered.{refused}
 use Rattle.shared_value.proofs.BeforeTheEnd.{steps_now}
-use Rattle.own_steps.specs.Alone.{FinishesAlone, GoesAlone, HaltsAlone, IsShared, Tells, alone_event, ended_rest, machine_after, then_accounts}
+use Rattle.own_steps.specs.Alone.{FinishesAlone, GoesAlone, HaltsAlone, IsShared, Tells, alone_entry, ended_rest, machine_after, then_accounts}
 use Rattle.own_steps.proofs.RunDone.{done_ends, done_others, done_rests, done_world}
 use Rattle.own_steps.proofs.RunHalted.{halted_ends, halted_others, halted_part, halted_world}
 use Rattle.own_steps.proofs.LastStepEntry as last
-use Rattle.own_steps.proofs.LastStepEntry.{last_event}
-use Rattle.own_steps.proofs.LastSteps.{event_is, fits_machine, machine_same, one_added}
+use Rattle.own_steps.proofs.LastStepEntry.{last_entry}
+use Rattle.own_steps.proofs.LastSteps.{entry_is, fits_machine, machine_same, one_added}
 use Rattle.own_steps.proofs.OutputEntered.{output_goes, output_others, output_part, output_world}
 use Rattle.own_steps.proofs.TaskEnds.{has_home, has_node}
 
@@ -44,9 +44,9 @@ use Rattle.own_steps.proofs.TaskEnds.{has_home, has_node}
 pub trap_is : (w : SharedValue) (p : Private) (kind : Trap) (number : ℕ) → Tells w p (Traps kind) number → step w.program (then_accounts w p).machine p.task ≡ ended_by (then_accounts w p).machine (Trapped kind p.task number)
 trap_is w p kind number T = T.says ∙ ap (λ n. ended_by (then_accounts w p).machine (Trapped kind p.task n)) T.number_is
 
-module _ (w : SharedValue) (k : ℕ) (p : Private) (I : IsSharedValue w) (F : Fits w k p) (shared : IsShared w p) (free : refused w (alone_event k p) ≡ None) where
-  pub last_free : refused w (last_event k p) ≡ None
-  last_free = ap (refused w) (sym (event_is k p)) ∙ free
+module _ (w : SharedValue) (k : ℕ) (p : Private) (I : IsSharedValue w) (F : Fits w k p) (shared : IsShared w p) (free : refused w (alone_entry k p) ≡ None) where
+  pub last_free : refused w (last_entry k p) ≡ None
+  last_free = ap (refused w) (sym (entry_is k p)) ∙ free
 
   pub runs_on : (accounts w).end ≡ None
   runs_on = last.on w k p I F shared last_free
@@ -82,9 +82,9 @@ module _ (w : SharedValue) (k : ℕ) (p : Private) (I : IsSharedValue w) (F : Fi
   -- AN OUTPUT
   module _ (value : ℤ) (line : ℕ) (T : Tells w p (Prints value) line) (j : RoomyValue EntryValue) where
     abbrev printed : SharedValue
-    printed = record w { outputs = w.outputs ++ value ∷ []; steps = w.steps + (p.fresh + 1); journal = record { items = w.journal.items ++ alone_event k p ∷ []; room = j.room } }
+    printed = record w { outputs = w.outputs ++ value ∷ []; steps = w.steps + (p.fresh + 1); journal = record { items = w.journal.items ++ alone_entry k p ∷ []; room = j.room } }
 
-    printed_is : record w { outputs = w.outputs ++ value ∷ []; steps = w.steps + suc p.fresh; journal = record { items = w.journal.items ++ last_event k p ∷ []; room = j.room } } ≡ printed
+    printed_is : record w { outputs = w.outputs ++ value ∷ []; steps = w.steps + suc p.fresh; journal = record { items = w.journal.items ++ last_entry k p ∷ []; room = j.room } } ≡ printed
     printed_is =
         ap (λ n. let z : SharedValue = record w { outputs = w.outputs ++ value ∷ []; steps = w.steps + n; journal = record { items = w.journal.items ++ record { worker = k; kind = Ran p.task n } ∷ []; room = j.room } } in z) (one_added p.fresh)
 
@@ -103,9 +103,9 @@ module _ (w : SharedValue) (k : ℕ) (p : Private) (I : IsSharedValue w) (F : Fi
   -- THE RUN ENDS, and all else is as it was
   module _ (x : End) (other : x ≡ Done → ⊥) (is : step w.program (then_accounts w p).machine p.task ≡ ended_by (then_accounts w p).machine x) (j : RoomyValue EntryValue) where
     abbrev halted : SharedValue
-    halted = record w { steps = w.steps + (p.fresh + 1); journal = record { items = w.journal.items ++ alone_event k p ∷ []; room = j.room }; end = Some (Machine x) }
+    halted = record w { steps = w.steps + (p.fresh + 1); journal = record { items = w.journal.items ++ alone_entry k p ∷ []; room = j.room }; end = Some (Machine x) }
 
-    halted_is : record w { steps = w.steps + suc p.fresh; journal = record { items = w.journal.items ++ last_event k p ∷ []; room = j.room }; end = Some (Machine x) } ≡ halted
+    halted_is : record w { steps = w.steps + suc p.fresh; journal = record { items = w.journal.items ++ last_entry k p ∷ []; room = j.room }; end = Some (Machine x) } ≡ halted
     halted_is =
         ap (λ n. let z : SharedValue = record w { steps = w.steps + n; journal = record { items = w.journal.items ++ record { worker = k; kind = Ran p.task n } ∷ []; room = j.room }; end = Some (Machine x) } in z) (one_added p.fresh)
 
@@ -129,7 +129,7 @@ module _ (w : SharedValue) (k : ℕ) (p : Private) (I : IsSharedValue w) (F : Fi
       rests = slice_set w.rests p.task (Some (ended_rest p));
       tasks_out = slice_set w.tasks_out k None;
       steps = w.steps + (p.fresh + 1);
-      journal = record { items = w.journal.items ++ alone_event k p ∷ []; room = j.room };
+      journal = record { items = w.journal.items ++ alone_entry k p ∷ []; room = j.room };
       end = Some (Machine Done);
     }
 
@@ -138,7 +138,7 @@ module _ (w : SharedValue) (k : ℕ) (p : Private) (I : IsSharedValue w) (F : Fi
       rests = slice_set w.rests p.task (Some (ended_rest p));
       tasks_out = slice_set w.tasks_out k None;
       steps = w.steps + suc p.fresh;
-      journal = record { items = w.journal.items ++ last_event k p ∷ []; room = j.room };
+      journal = record { items = w.journal.items ++ last_entry k p ∷ []; room = j.room };
       end = Some (Machine Done);
     } ≡ finished
     finished_is =

@@ -35,10 +35,10 @@ use Rattle.shared_value.proofs.StepAccounts.{After}
 use Rattle.own_steps.specs.Alone.{IsShared, SaysOf, Tells}
 use Rattle.own_steps.proofs.LastSteps.{shared_now}
 
-abbrev pub last_event : ℕ → Private → EntryValue
-last_event k p = record { worker = k; kind = Ran p.task (suc p.fresh) }
+abbrev pub last_entry : ℕ → Private → EntryValue
+last_entry k p = record { worker = k; kind = Ran p.task (suc p.fresh) }
 
-module _ (w : SharedValue) (k : ℕ) (p : Private) (I : IsSharedValue w) (F : Fits w k p) (shared : IsShared w p) (free : refused w (last_event k p) ≡ None) where
+module _ (w : SharedValue) (k : ℕ) (p : Private) (I : IsSharedValue w) (F : Fits w k p) (shared : IsShared w p) (free : refused w (last_entry k p) ≡ None) where
   abbrev pub t : ℕ
   t = p.task
 
@@ -50,10 +50,10 @@ module _ (w : SharedValue) (k : ℕ) (p : Private) (I : IsSharedValue w) (F : Fi
 
   -- the accounts after it
   abbrev pub L : Ledger
-  L = after w.program w.settings l (last_event k p)
+  L = after w.program w.settings l (last_entry k p)
 
   pub on : l.end ≡ None
-  on = none_of l.end (entry_tells w.program w.settings l (last_event k p) (ap is_none free)).0
+  on = none_of l.end (entry_tells w.program w.settings l (last_entry k p) (ap is_none free)).0
 
   pub runs_so : Runs w.program w.settings l L t k p.fresh
   runs_so = entry_runs w.program w.settings w.journal.items k t p.fresh I.form I.legal free
@@ -120,4 +120,4 @@ module _ (w : SharedValue) (k : ℕ) (p : Private) (I : IsSharedValue w) (F : Fi
 
   -- the part is amid no leaf collection
   pub none : p.begun ≡ None
-  none = none_begun w k p F on (long_at (suc p.fresh) (min most_steps (standing w.settings w.program l t (suc p.fresh)))) (entry_tells w.program w.settings l (last_event k p) (ap is_none free)).2
+  none = none_begun w k p F on (long_at (suc p.fresh) (min most_steps (standing w.settings w.program l t (suc p.fresh)))) (entry_tells w.program w.settings l (last_entry k p) (ap is_none free)).2

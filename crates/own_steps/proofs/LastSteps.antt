@@ -35,7 +35,7 @@ use Rattle.shared_value.proofs.CollectionUnderWay.{at_part}
 use Rattle.shared_value.proofs.BeforeTheEnd.{end_now, fits_now}
 use Rattle.shared_value.proofs.CausesTold.{refused_is}
 use Rattle.shared_value.proofs.StepsEntered.{end_by, goes}
-use Rattle.own_steps.specs.Alone.{IsShared, Tells, alone_event, machine_after}
+use Rattle.own_steps.specs.Alone.{IsShared, Tells, alone_entry, machine_after}
 use Rattle.own_steps.proofs.NextStepEnds.{asks_none, ending_tells}
 
 -- private steps and one more, which isn't
@@ -111,21 +111,21 @@ module _ (w : SharedValue) (k : ℕ) (p : Private) (I : IsSharedValue w) (F : Fi
 pub one_added : (n : ℕ) → suc n ≡ n + 1
 one_added n = omega arith
 
-pub event_is : (k : ℕ) (p : Private) → alone_event k p ≡ record { worker = k; kind = Ran p.task (suc p.fresh) }
-event_is k p = ap (λ n. let e : EntryValue = record { worker = k; kind = Ran p.task n } in e) (sym (one_added p.fresh))
+pub entry_is : (k : ℕ) (p : Private) → alone_entry k p ≡ record { worker = k; kind = Ran p.task (suc p.fresh) }
+entry_is k p = ap (λ n. let e : EntryValue = record { worker = k; kind = Ran p.task n } in e) (sym (one_added p.fresh))
 
 else_same : (o rest other : Option Refused) → (o ≡ None → rest ≡ other) → or_else o rest ≡ or_else o other
 else_same None rest other h = h refl
 else_same (Some c) rest other h = refl
 
-pub alone_answer : (w : SharedValue) (k : ℕ) (p : Private) → IsSharedValue w → Fits w k p → IsShared w p → refused w (alone_event k p) ≡ or_else (first_cause w.end w.steps w.settings k false) (refused_if (is_some p.begun) Collecting None)
+pub alone_answer : (w : SharedValue) (k : ℕ) (p : Private) → IsSharedValue w → Fits w k p → IsShared w p → refused w (alone_entry k p) ≡ or_else (first_cause w.end w.steps w.settings k false) (refused_if (is_some p.begun) Collecting None)
 alone_answer w k p I F shared =
-    ap (refused w) (event_is k p)
+    ap (refused w) (entry_is k p)
     ∙ (refused_is w I (record { worker = k; kind = Ran p.task (suc p.fresh) })
     ∙ else_same (first_cause w.end w.steps w.settings k false) (kind_refusal w.program w.settings (accounts w) k (Ran p.task (suc p.fresh))) (refused_if (is_some p.begun) Collecting None)
     (λ h. last_kind w k p I F shared (sym (end_now w I) ∙ none_of w.end (end_by (is_some w.end) _ _ _ _ _ h))))
 
 -- behind the causes that come first nothing refuses it
-pub alone_free : (w : SharedValue) (k : ℕ) (p : Private) → IsSharedValue w → Fits w k p → IsShared w p → p.begun ≡ None → first_cause w.end w.steps w.settings k false ≡ None → refused w (alone_event k p) ≡ None
+pub alone_free : (w : SharedValue) (k : ℕ) (p : Private) → IsSharedValue w → Fits w k p → IsShared w p → p.begun ≡ None → first_cause w.end w.steps w.settings k false ≡ None → refused w (alone_entry k p) ≡ None
 alone_free w k p I F shared idle first =
     alone_answer w k p I F shared ∙ (ap (λ o. or_else o (refused_if (is_some p.begun) Collecting None)) first ∙ ap (λ o. refused_if (is_some o) Collecting None) idle)

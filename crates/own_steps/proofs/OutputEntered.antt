@@ -33,13 +33,13 @@ use Rattle.shared_value.proofs.BeforeTheEnd.{end_now}
 use Rattle.own_steps.specs.Alone.{IsShared, Tells}
 use Rattle.own_steps.proofs.LastKinds.{prints}
 use Rattle.own_steps.proofs.LastStepEntry as last
-use Rattle.own_steps.proofs.LastStepEntry.{last_event}
+use Rattle.own_steps.proofs.LastStepEntry.{last_entry}
 
 abbrev register_of : Instr → ℕ
 register_of (Out a) = a
 register_of _ = 0
 
-module _ (w : SharedValue) (k : ℕ) (p : Private) (I : IsSharedValue w) (F : Fits w k p) (shared : IsShared w p) (free : refused w (last_event k p) ≡ None) (value : ℤ) (number : ℕ) (T : Tells w p (PrintsOf value) number) where
+module _ (w : SharedValue) (k : ℕ) (p : Private) (I : IsSharedValue w) (F : Fits w k p) (shared : IsShared w p) (free : refused w (last_entry k p) ≡ None) (value : ℤ) (number : ℕ) (T : Tells w p (PrintsOf value) number) where
   abbrev t : ℕ
   t = p.task
 
@@ -110,14 +110,14 @@ module _ (w : SharedValue) (k : ℕ) (p : Private) (I : IsSharedValue w) (F : Fi
     steps = w.steps + suc p.fresh
 
     abbrev w' : SharedValue
-    w' = entered w (last_event k p) w.tree w.pool w.rests w.sets w.tasks_out outputs steps w.end j.room
+    w' = entered w (last_entry k p) w.tree w.pool w.rests w.sets w.tasks_out outputs steps w.end j.room
 
     counts : RanCounts w.program (tree_counts_of w) (tree_counts_of w') M L t k p.fresh S.task S.line Printing Q
     counts = record { tree = λ u. refl; task_out = λ u. refl; outputs = ap (λ x. w.outputs ++ x ∷ []) value_is; end = refl; used = refl; steps = refl }
 
     pub output_world : IsSharedValue w'
     output_world =
-        entered_world w (last_event k p) I free w.tree w.pool w.rests w.sets w.tasks_out outputs steps w.end j.room I.made I.noted refl refl
+        entered_world w (last_entry k p) I free w.tree w.pool w.rests w.sets w.tasks_out outputs steps w.end j.room I.made I.noted refl refl
         (ran_stands_for w.program w.settings w.journal.items I.form I.legal v v (tree_counts_of w) (tree_counts_of w') k t p.fresh h free E I.stands own refl tt counts)
         I.heaps I.measured
 
@@ -134,11 +134,11 @@ module _ (w : SharedValue) (k : ℕ) (p : Private) (I : IsSharedValue w) (F : Fi
 
     pub output_part : Fits w' k q
     output_part =
-        part_fits w (last_event k p) I free w.tree w.pool w.rests w.sets w.tasks_out outputs steps w.end j.room output_world k p q refl F refl refl refl F.form F.measured
+        part_fits w (last_entry k p) I free w.tree w.pool w.rests w.sets w.tasks_out outputs steps w.end j.room output_world k p q refl F refl refl refl F.form F.measured
         (ran_fits_then w.program w.settings v v l L t k p.fresh h (belongings_of_part q) E own refl belongings_go_on)
 
     -- THE PARTS OF OTHERS
     pub output_others : OthersFit w w' k
     output_others u r ne G =
-        part_fits w (last_event k p) I free w.tree w.pool w.rests w.sets w.tasks_out outputs steps w.end j.room output_world u r r refl G refl refl refl G.form G.measured
+        part_fits w (last_entry k p) I free w.tree w.pool w.rests w.sets w.tasks_out outputs steps w.end j.room output_world u r r refl G refl refl refl G.form G.measured
         (ran_leaves w.program w.settings v v l L t k p.fresh h E own refl (part_of w.settings r) (tasks_apart w k u p r F G ne) G.fits)

@@ -34,14 +34,14 @@ use Rattle.shared_value.proofs.TaskTaken.{lets_go}
 use Rattle.own_steps.specs.Alone.{IsShared, Tells}
 use Rattle.own_steps.proofs.LastKinds.{done}
 use Rattle.own_steps.proofs.LastStepEntry as last
-use Rattle.own_steps.proofs.LastStepEntry.{last_event}
+use Rattle.own_steps.proofs.LastStepEntry.{last_entry}
 use Rattle.own_steps.proofs.TaskEnds as ending
 
 no_parent : (par : ℕ → Option ℕ) → ((t p : ℕ) → par t ≡ Some p → p < t) → (t : ℕ) → t ≡ 0 → (o : Option ℕ) → par t ≡ o → o ≡ None
 no_parent par low t z None e = refl
 no_parent par low t z (Some q) e = let lt : q < t = low t q e in absurd (omega (arith, z, lt))
 
-module _ (w : SharedValue) (k : ℕ) (p : Private) (I : IsSharedValue w) (F : Fits w k p) (shared : IsShared w p) (free : refused w (last_event k p) ≡ None) (number : ℕ) (T : Tells w p Returns number) (root : p.task ≡ 0) where
+module _ (w : SharedValue) (k : ℕ) (p : Private) (I : IsSharedValue w) (F : Fits w k p) (shared : IsShared w p) (free : refused w (last_entry k p) ≡ None) (number : ℕ) (T : Tells w p Returns number) (root : p.task ≡ 0) where
   abbrev t : ℕ
   t = p.task
 
@@ -104,7 +104,7 @@ module _ (w : SharedValue) (k : ℕ) (p : Private) (I : IsSharedValue w) (F : Fi
     w' = ending.w' w k p I F shared free end j.room
 
     counts : RanCounts w.program (tree_counts_of w) (tree_counts_of w') M L t k p.fresh S.task S.line Finishing D
-    counts = record { tree = ending.node_ends w k p I F shared free end j.room; task_out = lets_go w w' (last_event k p) I free refl; outputs = refl; end = refl; used = refl; steps = refl }
+    counts = record { tree = ending.node_ends w k p I F shared free end j.room; task_out = lets_go w w' (last_entry k p) I free refl; outputs = refl; end = refl; used = refl; steps = refl }
 
     pub done_world : IsSharedValue w'
     done_world = ending.ended_world w k p I F shared free end j.room E own (ending.makes w k p I F shared free end j.room) (ending.notes w k p I F shared free end j.room) counts

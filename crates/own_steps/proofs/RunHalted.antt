@@ -27,10 +27,10 @@ use Rattle.shared_value.proofs.EntryMade.{entered, entered_world, tasks_apart, p
 use Rattle.shared_value.proofs.BeforeTheEnd.{end_now}
 use Rattle.own_steps.specs.Alone.{IsShared}
 use Rattle.own_steps.proofs.LastStepEntry as last
-use Rattle.own_steps.proofs.LastStepEntry.{last_event}
+use Rattle.own_steps.proofs.LastStepEntry.{last_entry}
 use Rattle.own_steps.proofs.OtherStepKinds.{halts_by}
 
-module _ (w : SharedValue) (k : ℕ) (p : Private) (I : IsSharedValue w) (F : Fits w k p) (shared : IsShared w p) (free : refused w (last_event k p) ≡ None) (x : End) (other : x ≡ Done → ⊥) (is : step w.program (task_steps w.program (accounts w) p.task p.fresh).machine p.task ≡ ended_by (task_steps w.program (accounts w) p.task p.fresh).machine x) where
+module _ (w : SharedValue) (k : ℕ) (p : Private) (I : IsSharedValue w) (F : Fits w k p) (shared : IsShared w p) (free : refused w (last_entry k p) ≡ None) (x : End) (other : x ≡ Done → ⊥) (is : step w.program (task_steps w.program (accounts w) p.task p.fresh).machine p.task ≡ ended_by (task_steps w.program (accounts w) p.task p.fresh).machine x) where
   abbrev t : ℕ
   t = p.task
 
@@ -73,14 +73,14 @@ module _ (w : SharedValue) (k : ℕ) (p : Private) (I : IsSharedValue w) (F : Fi
     steps = w.steps + suc p.fresh
 
     abbrev w' : SharedValue
-    w' = entered w (last_event k p) w.tree w.pool w.rests w.sets w.tasks_out w.outputs steps (Some (Machine x)) j.room
+    w' = entered w (last_entry k p) w.tree w.pool w.rests w.sets w.tasks_out w.outputs steps (Some (Machine x)) j.room
 
     counts : RanCounts w.program (tree_counts_of w) (tree_counts_of w') M L t k p.fresh S.task S.line Halting H
     counts = record { tree = λ u. refl; task_out = λ u. refl; outputs = refl; end = ap (λ y. Some (Machine y)) end_same; used = refl; steps = refl }
 
     pub halted_world : IsSharedValue w'
     halted_world =
-        entered_world w (last_event k p) I free w.tree w.pool w.rests w.sets w.tasks_out w.outputs steps (Some (Machine x)) j.room I.made I.noted refl refl
+        entered_world w (last_entry k p) I free w.tree w.pool w.rests w.sets w.tasks_out w.outputs steps (Some (Machine x)) j.room I.made I.noted refl refl
         (ran_stands_for w.program w.settings w.journal.items I.form I.legal v v (tree_counts_of w) (tree_counts_of w') k t p.fresh h free E I.stands own refl tt counts)
         I.heaps I.measured
 
@@ -90,11 +90,11 @@ module _ (w : SharedValue) (k : ℕ) (p : Private) (I : IsSharedValue w) (F : Fi
     -- THE PART, which is as before the step, without fresh steps
     pub halted_part : Fits w' k (record p { fresh = 0 })
     halted_part =
-        part_fits w (last_event k p) I free w.tree w.pool w.rests w.sets w.tasks_out w.outputs steps (Some (Machine x)) j.room halted_world k p (record p { fresh = 0 }) refl F refl refl refl F.form F.measured
+        part_fits w (last_entry k p) I free w.tree w.pool w.rests w.sets w.tasks_out w.outputs steps (Some (Machine x)) j.room halted_world k p (record p { fresh = 0 }) refl F refl refl refl F.form F.measured
         (ran_fits_then w.program w.settings v v l L t k p.fresh h h E own refl refl)
 
     -- THE PARTS OF OTHERS
     pub halted_others : OthersFit w w' k
     halted_others u r ne G =
-        part_fits w (last_event k p) I free w.tree w.pool w.rests w.sets w.tasks_out w.outputs steps (Some (Machine x)) j.room halted_world u r r refl G refl refl refl G.form G.measured
+        part_fits w (last_entry k p) I free w.tree w.pool w.rests w.sets w.tasks_out w.outputs steps (Some (Machine x)) j.room halted_world u r r refl G refl refl refl G.form G.measured
         (ran_leaves w.program w.settings v v l L t k p.fresh h E own refl (part_of w.settings r) (tasks_apart w k u p r F G ne) G.fits)

@@ -38,9 +38,9 @@ use Rattle.shared_value.proofs.BeforeTheEnd.{stands_now}
 use Rattle.shared_value.proofs.TaskTaken.{made_by, node_by, node_off}
 use Rattle.own_steps.specs.Alone.{IsShared, ended_rest}
 use Rattle.own_steps.proofs.LastStepEntry as last
-use Rattle.own_steps.proofs.LastStepEntry.{last_event}
+use Rattle.own_steps.proofs.LastStepEntry.{last_entry}
 
-module _ (w : SharedValue) (k : ℕ) (p : Private) (I : IsSharedValue w) (F : Fits w k p) (shared : IsShared w p) (free : refused w (last_event k p) ≡ None) where
+module _ (w : SharedValue) (k : ℕ) (p : Private) (I : IsSharedValue w) (F : Fits w k p) (shared : IsShared w p) (free : refused w (last_entry k p) ≡ None) where
   abbrev t : ℕ
   t = p.task
 
@@ -95,7 +95,7 @@ module _ (w : SharedValue) (k : ℕ) (p : Private) (I : IsSharedValue w) (F : Fi
     steps = w.steps + suc p.fresh
 
     abbrev pub w' : SharedValue
-    w' = entered w (last_event k p) tree w.pool rests w.sets tasks_out w.outputs steps end room
+    w' = entered w (last_entry k p) tree w.pool rests w.sets tasks_out w.outputs steps end room
 
     abbrev v' : Memory
     v' = value_of w'
@@ -146,18 +146,18 @@ module _ (w : SharedValue) (k : ℕ) (p : Private) (I : IsSharedValue w) (F : Fi
     ]
 
     pub accounts_then : accounts w' ≡ L
-    accounts_then = accounts_are w (last_event k p) I free tree w.pool rests w.sets tasks_out w.outputs steps end room
+    accounts_then = accounts_are w (last_entry k p) I free tree w.pool rests w.sets tasks_out w.outputs steps end room
 
     -- by how the entry splits, and what its last step makes of the memory
     module _ (E : Runs w.program w.settings l L t k p.fresh) (own : WorkerFits w.program w.settings (part_for w.settings t h (taken_by E.splits.kind p.fresh)) v l) (C : Makes w.program v v' M L t h E.splits.task E.splits.line E.splits.kind E.splits.last) where
       pub ended_world : Marks w.program v v' M L t h E.splits.task E.splits.line E.splits.kind E.splits.last C → RanCounts w.program (tree_counts_of w) (tree_counts_of w') M L t k p.fresh E.splits.task E.splits.line E.splits.kind E.splits.last → IsSharedValue w'
       ended_world N counts =
-          entered_world w (last_event k p) I free tree w.pool rests w.sets tasks_out w.outputs steps end room (length-set w.rests t (Some rest) ∙ (I.made ∙ sym (made_by w.tree t Ended (slice_get w.tree t)))) (I.noted ∙ sym (made_by w.tree t Ended (slice_get w.tree t))) (length-set w.tasks_out k None) refl
+          entered_world w (last_entry k p) I free tree w.pool rests w.sets tasks_out w.outputs steps end room (length-set w.rests t (Some rest) ∙ (I.made ∙ sym (made_by w.tree t Ended (slice_get w.tree t)))) (I.noted ∙ sym (made_by w.tree t Ended (slice_get w.tree t))) (length-set w.tasks_out k None) refl
           (ran_stands_for w.program w.settings w.journal.items I.form I.legal v v' (tree_counts_of w) (tree_counts_of w') k t p.fresh h free E I.stands own C N counts) heaps_then measured_then
 
       -- THE PARTS OF OTHERS
       module _ (after : IsSharedValue w') where
         pub others_fit : OthersFit w w' k
         others_fit u r ne G =
-            part_fits w (last_event k p) I free tree w.pool rests w.sets tasks_out w.outputs steps end room after u r r (ap option_flatten (got_other w.tasks_out k u None ne)) G refl refl refl G.form G.measured
+            part_fits w (last_entry k p) I free tree w.pool rests w.sets tasks_out w.outputs steps end room after u r r (ap option_flatten (got_other w.tasks_out k u None ne)) G refl refl refl G.form G.measured
             (ran_leaves w.program w.settings v v' l L t k p.fresh h E own C (part_of w.settings r) (tasks_apart w k u p r F G ne) G.fits)

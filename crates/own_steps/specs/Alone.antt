@@ -29,8 +29,8 @@ use Rattle.shared_value.specs.Next.{is_beyond, is_joint}
 use Rattle.shared_value.specs.Entered.{Enters}
 
 -- its entry
-abbrev pub alone_event : ℕ → Private → EntryValue
-alone_event worker p = record { worker = worker; kind = Ran p.task (p.fresh + 1) }
+abbrev pub alone_entry : ℕ → Private → EntryValue
+alone_entry worker p = record { worker = worker; kind = Ran p.task (p.fresh + 1) }
 
 -- the machine after the part's fresh steps
 abbrev pub machine_after : SharedValue → Private → State
@@ -47,7 +47,7 @@ pub record IsShared (w : SharedValue) (p : Private) : Type 0 where
 
 -- the steps are entered, and the part goes on
 pub record GoesAlone (w after : SharedValue) (k : ℕ) (p q : Private) : Type 0 where
-  pub enters : Enters w after (alone_event k p)
+  pub enters : Enters w after (alone_entry k p)
   pub goes : (accounts after).end ≡ None
   pub fits : Fits after k q
   -- its frames alone are others, and no step is fresh
@@ -60,7 +60,7 @@ HasHalted end = (e : End) × (end ≡ Some (Machine e)) × (e ≢ Done)
 
 -- the steps are entered, and the last of them ended the run and left all else as it was: the part is as before it
 pub record HaltsAlone (w after : SharedValue) (k : ℕ) (p q : Private) : Type 0 where
-  pub enters : Enters w after (alone_event k p)
+  pub enters : Enters w after (alone_entry k p)
   pub halts : HasHalted (accounts after).end
   pub fits : Fits after k q
   -- no step is fresh
@@ -69,7 +69,7 @@ pub record HaltsAlone (w after : SharedValue) (k : ℕ) (p q : Private) : Type 0
 
 -- the steps are entered, the last of them is the root's last return, and the run is done
 pub record FinishesAlone (w after : SharedValue) (k : ℕ) (p : Private) : Type 0 where
-  pub enters : Enters w after (alone_event k p)
+  pub enters : Enters w after (alone_entry k p)
   pub done : (accounts after).end ≡ Some (Machine Done)
   -- every heap is handed back
   pub rest : (t : ℕ) → Rests (handed (accounts after)) t

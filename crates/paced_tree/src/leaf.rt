@@ -2,7 +2,7 @@
 
 ghost use Rattle.std.specs.Prelude.{◌≡◌, ◌<◌};
 ghost use Rattle.shared_value.specs.Fits.{Fits};
-ghost use Rattle.leaf_collections.specs.LeafEnd.{end_event, FitsCopied};
+ghost use Rattle.leaf_collections.specs.LeafEnd.{end_entry, FitsCopied};
 ghost use Rattle.shared_tree.specs.Calls.{BeginsLeaf, EndsLeaf, GetsChunk, PutsOff};
 ghost use Rattle.paced_tree.specs.Owed.{Pays};
 
@@ -60,7 +60,7 @@ impl Paced {
     ) -> Result<(), NotEnded>
         requires room { 0 < self.old.journal.room }
         requires fits { FitsCopied self.old worker part.old moved }
-        requires pays { Pays self.old (end_event worker part.old moved) }
+        requires pays { Pays self.old (end_entry worker part.old moved) }
         ensures { EndsLeaf self.old self.new worker part.old part.new moved result }
     {
         let shared = self.shared.get_mut();

@@ -3,7 +3,7 @@
 ghost use Rattle.std.specs.Prelude.{◌≡◌, ◌<◌, None};
 ghost use Rattle.shared_value.specs.Entered.{refused};
 ghost use Rattle.shared_value.specs.Fits.{Fits};
-ghost use Rattle.own_steps.specs.Alone.{alone_event, IsShared};
+ghost use Rattle.own_steps.specs.Alone.{alone_entry, IsShared};
 ghost use Rattle.shared_tree.specs.Calls.{EndsForFuel, EntersLeaving, EntersLent, EntersSteps, TakesTask};
 ghost use Rattle.shared_tree.specs.Ran.{LeavesBy};
 ghost use Rattle.paced_tree.specs.Owed.{Pays};
@@ -59,7 +59,7 @@ impl Paced {
         requires room { 0 < self.old.journal.room }
         requires fits { Fits self.old worker part.old }
         requires shared { IsShared self.old part.old }
-        requires pays { Pays self.old (alone_event worker part.old) }
+        requires pays { Pays self.old (alone_entry worker part.old) }
         ensures { EntersLent self.old self.new worker part.old part.new result }
     {
         let shared = self.shared.get_mut();
@@ -86,9 +86,9 @@ impl Paced {
         requires room { 0 < self.old.journal.room }
         requires fits { Fits self.old worker part }
         requires shared { IsShared self.old part }
-        requires free { refused self.old (alone_event worker part) ≡ None }
+        requires free { refused self.old (alone_entry worker part) ≡ None }
         requires leaves { LeavesBy self.old part leaving }
-        requires pays { Pays self.old (alone_event worker part) }
+        requires pays { Pays self.old (alone_entry worker part) }
         ensures { EntersLeaving self.old self.new worker part result }
     {
         let shared = self.shared.get_mut();

@@ -20,7 +20,7 @@ use Rattle.program_reader.specs.declared.head.Head.TheVariants.{Begin}
 use Rattle.program_reader.specs.declared.sense.Sense.TheVariants.{WrongOperand}
 use Rattle.program_reader.specs.declared.sense.Outline.{Outline}
 use Rattle.text_lines.specs.Lines.{lines_of}
-use Rattle.program_reader.specs.Names.{Entry, is_noted, noted, place_of}
+use Rattle.program_reader.specs.Names.{NotedName, is_noted, noted, place_of}
 use Rattle.program_reader.specs.Sense.{sense_of, loop_function, looping, only_name}
 use Rattle.program_reader.specs.Around.{head_of_line, operands_of_line, begun_name, noted_if, outline_line, outline_above, outline_onto, outline_of, no_labels, labels_onto}
 use Rattle.program_reader.specs.Fault.{spot_of, is_misplaced, has_wrong_operand, leaves_open, is_named_in, is_second, names_no_function, names_no_label, lacks_main, is_too_many, first_cause, fault_by, fault_on, or_later, fault_from}
@@ -55,10 +55,10 @@ abbrev one_if : Option (List ℕ) → ℕ
 one_if None = 0
 one_if (Some name) = 1
 
-noted_new : (es : List Entry) (name : List ℕ) (number : ℕ) → is_noted es name ≡ false → length (noted es name number) ≡ length es + 1
+noted_new : (es : List NotedName) (name : List ℕ) (number : ℕ) → is_noted es name ≡ false → length (noted es name number) ≡ length es + 1
 noted_new es name number new = ap (λ b. length (cond b es (es ++ record { name = name; number = number } ∷ []))) new ∙ length-append es (record { name = name; number = number } ∷ [])
 
-noted_if_new : (es : List Entry) (name : Option (List ℕ)) (number : ℕ) → is_named_in es name ≡ false → length (noted_if es name number) ≡ length es + one_if name
+noted_if_new : (es : List NotedName) (name : Option (List ℕ)) (number : ℕ) → is_named_in es name ≡ false → length (noted_if es name number) ≡ length es + one_if name
 noted_if_new es None number new = omega arith
 noted_if_new es (Some name) number new = noted_new es name number new
 
@@ -106,7 +106,7 @@ triple k = omega arith
 
 module _ (o : Outline) where
   -- the three functions of the loop at a place
-  loop_at : (j : ℕ) (es : List Entry) (k : ℕ) (e : Entry) → slice_get es k ≡ Some e → (s : ℕ) (fun : Fun) → slice_get (loop_functions o (loop_function o (j + k)) e) s ≡ Some fun → s < 3 → slice_get (loops_from o j es) (3 * k + s) ≡ Some fun
+  loop_at : (j : ℕ) (es : List NotedName) (k : ℕ) (e : NotedName) → slice_get es k ≡ Some e → (s : ℕ) (fun : Fun) → slice_get (loop_functions o (loop_function o (j + k)) e) s ≡ Some fun → s < 3 → slice_get (loops_from o j es) (3 * k + s) ≡ Some fun
   loop_at j [] k e is s fun at lt = absurd cc
   loop_at j (x ∷ es) zero e is s fun at lt =
       let same : x ≡ e = cc in
@@ -119,7 +119,7 @@ module _ (o : Outline) where
       ∙ loop_at (j + 1) es k e is s fun (ap (λ n. slice_get (loop_functions o (loop_function o n) e) s) (let h : j + 1 + k ≡ j + suc k = omega arith in h) ∙ at) lt
 
   -- a function of the program, by its place behind the text's functions
-  instrs_at : (fs : List Fun) (main : ℕ) → length fs ≡ length o.functions → (k : ℕ) (e : Entry) → slice_get o.loops k ≡ Some e → (s : ℕ) (name : List ℕ) (code : List Instr) → slice_get (loop_functions o (loop_function o k) e) s ≡ Some (function_of name e.number code) → s < 3
+  instrs_at : (fs : List Fun) (main : ℕ) → length fs ≡ length o.functions → (k : ℕ) (e : NotedName) → slice_get o.loops k ≡ Some e → (s : ℕ) (name : List ℕ) (code : List Instr) → slice_get (loop_functions o (loop_function o k) e) s ≡ Some (function_of name e.number code) → s < 3
       → (q : ℕ) → q ≡ loop_function o k + s → instrs_of (record { functions = fs ++ loops_from o 0 o.loops; main = main }) q ≡ code
   instrs_at fs main long k e is s name code at lt q place =
       ap (λ f. map (λ (l : Line). l.instr) (code_of f))
@@ -130,14 +130,14 @@ module _ (o : Outline) where
 
 -- THE LAW
 
-place_names : (es : List Entry) (name : List ℕ) (k : ℕ) → place_of es name ≡ Some k → (e : Entry) × (slice_get es k ≡ Some e) × (e.name ≡ name)
+place_names : (es : List NotedName) (name : List ℕ) (k : ℕ) → place_of es name ≡ Some k → (e : NotedName) × (slice_get es k ≡ Some e) × (e.name ≡ name)
 place_names es name k place =
-    let d : Entry = record { name = []; number = 0 } in
-    let within = position-Some (λ (e : Entry). bytes_eq name e.name) es k d place in
+    let d : NotedName = record { name = []; number = 0 } in
+    let within = position-Some (λ (e : NotedName). bytes_eq name e.name) es k d place in
     let e = got_some es k within.0 in
-    let at = position-Some (λ (e : Entry). bytes_eq name e.name) es k e.0 place in
+    let at = position-Some (λ (e : NotedName). bytes_eq name e.name) es k e.0 place in
     let same : get_or es k e.0 ≡ e.0 = get_or_from_slice_get es k e.0 e.0 e.1 in
-    (e.0, e.1, sym ((bytes_eq-Decides name e.0.name).0 (ap (λ (z : Entry). bytes_eq name z.name) (sym same) ∙ at.1)))
+    (e.0, e.1, sym ((bytes_eq-Decides name e.0.name).0 (ap (λ (z : NotedName). bytes_eq name z.name) (sym same) ∙ at.1)))
 
 pub loops_are_read : LoopsAreRead
 loops_are_read text name f k none is_name_of is_f is_k =
@@ -147,8 +147,8 @@ loops_are_read text name f k none is_name_of is_f is_k =
     let e = place_names o.loops name k is_k in
     let body : number_of o e.0.name ≡ f = ap (λ n. number_of o n) e.2 ∙ ap (λ z. unwrap_or z 0) is_f in
     let first = loop_function o k in
-    let d : Entry = record { name = []; number = 0 } in
-    let within = position-Some (λ (e : Entry). bytes_eq name e.name) o.functions f d is_f in
+    let d : NotedName = record { name = []; number = 0 } in
+    let within = position-Some (λ (e : NotedName). bytes_eq name e.name) o.functions f d is_f in
     let few : f < length o.functions = within.0 in
     let main = number_of o (codes "main") in (
       loop_from f first,

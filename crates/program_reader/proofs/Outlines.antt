@@ -4,7 +4,7 @@ use Rattle.std.specs.Prelude.{◌==◌, Option, Some, None}
 use Rattle.std.specs.List.{position_or_len}
 use Rattle.program_reader.specs.declared.sense.Outline.{Outline}
 use Rattle.text_lines.specs.Lines.{lines_of}
-use Rattle.program_reader.specs.Names.{Entry, is_noted}
+use Rattle.program_reader.specs.Names.{NotedName, is_noted}
 use Rattle.program_reader.specs.Sense.{IsSmall}
 use Rattle.program_reader.specs.Around.{head_of_line, operands_of_line, begun_name, looped_name, noted_if, outline_line, outline_onto}
 use Rattle.program_reader.proofs.Lines.{lines_first, lines_last}
@@ -15,11 +15,11 @@ outline_more o n end rest e lt = ap (outline_onto n o) (sym (lines_first rest en
 pub outline_last : (o : Outline) (n end : ℕ) (rest : List ℕ) → end ≡ position_or_len (λ c. c == 10) rest → end ≡ length rest → outline_line n o (take end rest) ≡ outline_onto n o (lines_of rest)
 outline_last o n end rest e z = ap (outline_onto n o) (sym (lines_last rest end e z))
 
-one_more : (es : List Entry) (e : Entry) (b : Bool) → length (cond b es (es ++ e ∷ [])) ≤ length es + 1
+one_more : (es : List NotedName) (e : NotedName) (b : Bool) → length (cond b es (es ++ e ∷ [])) ≤ length es + 1
 one_more es e true = omega arith
 one_more es e false = grind (arith, length-append)
 
-noted_length : (es : List Entry) (name : Option (List ℕ)) (n : ℕ) → length (noted_if es name n) ≤ length es + 1
+noted_length : (es : List NotedName) (name : Option (List ℕ)) (n : ℕ) → length (noted_if es name n) ≤ length es + 1
 noted_length es None n = omega arith
 noted_length es (Some name) n = one_more es (record { name = name; number = n }) (is_noted es name)
 

@@ -14,7 +14,7 @@ use Rattle.program_reader.specs.declared.sense.Sense.{Sense}
 use Rattle.program_reader.specs.declared.sense.Sense.TheVariants.{Fits, Does, WrongOperand, NoSuchFunction, NoSuchLabel}
 use Rattle.program_reader.specs.declared.sense.Outline.{Outline}
 use Rattle.program_reader.specs.declared.labels.Labels.{Labels}
-use Rattle.program_reader.specs.Names.{Entry, entry_of, is_noted, noted, place_of}
+use Rattle.program_reader.specs.Names.{NotedName, entry_of, is_noted, noted, place_of}
 use Rattle.program_reader.specs.Sense.{sense_of, only_name, named}
 use Rattle.program_reader.specs.Around.{head_of_line, operands_of_line, is_inside, is_open_after, ends_body, label_line, labels_above, labels_after, labels_onto, noted_if, begins, begun_above, begun_name, orders, orders_above, outline_above}
 use Rattle.program_reader.specs.Fault.{Spot, spot_of, is_named_in, is_begin, is_misplaced, fault_by, fault_on, fault_from, or_later}
@@ -97,7 +97,7 @@ is_instr (Does i) = true
 is_instr _ = false
 
 -- a line is read as an instruction, where these are the labels of its function
-abbrev pub is_read : Outline → List Entry → List ℕ → Bool
+abbrev pub is_read : Outline → List NotedName → List ℕ → Bool
 is_read o labels l = is_utf8 l && (is_order (head_of_line l) && is_instr (sense_of o labels (head_of_line l) (operands_of_line l)))
 
 some_order : (h : Head) → is_order h ≡ true → (v : Verb) × (h ≡ Order v)
@@ -115,14 +115,14 @@ some_instr WrongOperand e = absurd (true≢false (sym e))
 some_instr NoSuchFunction e = absurd (true≢false (sym e))
 some_instr NoSuchLabel e = absurd (true≢false (sym e))
 
-record IsInstruction (o : Outline) (labels : List Entry) (l : List ℕ) : Type 0 where
+record IsInstruction (o : Outline) (labels : List NotedName) (l : List ℕ) : Type 0 where
   utf8 : is_utf8 l ≡ true
   verb : Verb
   head : head_of_line l ≡ Order verb
   instr : Instr
   sense : sense_of o labels (Order verb) (operands_of_line l) ≡ Does instr
 
-instruction : (o : Outline) (labels : List Entry) (l : List ℕ) → is_read o labels l ≡ true → IsInstruction o labels l
+instruction : (o : Outline) (labels : List NotedName) (l : List ℕ) → is_read o labels l ≡ true → IsInstruction o labels l
 instruction o labels l e =
     let a = and_parts (is_utf8 l) (is_order (head_of_line l) && is_instr (sense_of o labels (head_of_line l) (operands_of_line l))) e in
     let b = and_parts (is_order (head_of_line l)) (is_instr (sense_of o labels (head_of_line l) (operands_of_line l))) a.1 in
@@ -131,7 +131,7 @@ instruction o labels l e =
     record { utf8 = a.0; verb = v.0; head = v.1; instr = i.0; sense = ap (λ h. sense_of o labels h (operands_of_line l)) (sym v.1) ∙ i.1 }
 
 -- the lines above leave a function open, of which these are all labels, and these are those above
-pub record Within (labels passed : List Entry) (above rest : Lines) : Type 0 where
+pub record Within (labels passed : List NotedName) (above rest : Lines) : Type 0 where
   pub inside : is_inside above ≡ true
   pub known : (labels_onto (labels_above above) rest).entries ≡ labels
   pub behind : (labels_above above).entries ≡ passed
@@ -144,7 +144,7 @@ labels_go_on Label ws s ls e = refl
 labels_go_on (Order v) ws s ls e = refl
 labels_go_on Unknown ws s ls e = refl
 
-order_more : (labels passed : List Entry) (above : Lines) (l : List ℕ) (ls : Lines) (v : Verb) → head_of_line l ≡ Order v → Within labels passed above (l ∷ ls) → Within labels passed (l ∷ above) ls
+order_more : (labels passed : List NotedName) (above : Lines) (l : List ℕ) (ls : Lines) (v : Verb) → head_of_line l ≡ Order v → Within labels passed above (l ∷ ls) → Within labels passed (l ∷ above) ls
 order_more labels passed above l ls v e w = record {
   inside = ap (λ h. is_open_after h (is_inside above)) e ∙ w.inside;
   known = ap (λ s. s.entries) (labels_go_on (head_of_line l) (operands_of_line l) (labels_above above) ls (ap ends_body e)) ∙ w.known;
@@ -162,12 +162,12 @@ not_last [] rest e = e
 not_last (l ∷ ls) rest e = refl
 
 -- so many instructions, behind which the function is still open
-pub record Passed (o : Outline) (labels passed : List Entry) (above ls rest : Lines) (most : ℕ) : Type 0 where
+pub record Passed (o : Outline) (labels passed : List NotedName) (above ls rest : Lines) (most : ℕ) : Type 0 where
   pub within : Within labels passed (turned above ls) rest
   pub orders : orders_above (turned above ls) ≤ most
   pub faults : fault_from o above (ls ++ rest) ≡ fault_from o (turned above ls) rest
 
-pub orders_pass : (o : Outline) (labels passed : List Entry) (ls above rest : Lines) (most : ℕ) → list_all (is_read o labels) ls ≡ true → Within labels passed above (ls ++ rest) → orders_above above + length ls ≤ most → most ≤ 65536
+pub orders_pass : (o : Outline) (labels passed : List NotedName) (ls above rest : Lines) (most : ℕ) → list_all (is_read o labels) ls ≡ true → Within labels passed above (ls ++ rest) → orders_above above + length ls ≤ most → most ≤ 65536
     → is_last rest ≡ false → Passed o labels passed above ls rest most
 orders_pass o labels passed [] above rest most all w few le last = record { within = w; orders = omega (arith, few); faults = refl }
 orders_pass o labels passed (l ∷ ls) above rest most all w few le last =
@@ -182,13 +182,13 @@ orders_pass o labels passed (l ∷ ls) above rest most all w few le last =
 
 -- A LABEL
 
-pub record Marked (o : Outline) (labels passed : List Entry) (name : List ℕ) (above : Lines) (l : List ℕ) (rest : Lines) : Type 0 where
+pub record Marked (o : Outline) (labels passed : List NotedName) (name : List ℕ) (above : Lines) (l : List ℕ) (rest : Lines) : Type 0 where
   pub number : ℕ
   pub within : Within labels (noted passed name number) (l ∷ above) rest
   pub orders : orders_above (l ∷ above) ≤ orders_above above
   pub faults : fault_from o above (l ∷ rest) ≡ fault_from o (l ∷ above) rest
 
-pub label_passes : (o : Outline) (labels passed : List Entry) (name : List ℕ) (above : Lines) (l : List ℕ) (rest : Lines) → is_utf8 l ≡ true → head_of_line l ≡ Label → only_name (operands_of_line l) ≡ Some name
+pub label_passes : (o : Outline) (labels passed : List NotedName) (name : List ℕ) (above : Lines) (l : List ℕ) (rest : Lines) → is_utf8 l ≡ true → head_of_line l ≡ Label → only_name (operands_of_line l) ≡ Some name
     → Within labels passed above (l ∷ rest) → is_noted passed name ≡ false → is_last rest ≡ false → Marked o labels passed name above l rest
 label_passes o labels passed name above l rest utf8 eh en w new last = record {
   number = (labels_above above).next;
@@ -258,10 +258,10 @@ pub some_place : (r : Option ℕ) (n : ℕ) → comes_before r n ≡ true → (k
 some_place None n e = absurd (true≢false (sym e))
 some_place (Some k) n e = (k, refl)
 
-pub has_place : (es : List Entry) (name : List ℕ) → is_noted es name ≡ true → (k : ℕ) × (place_of es name ≡ Some k)
+pub has_place : (es : List NotedName) (name : List ℕ) → is_noted es name ≡ true → (k : ℕ) × (place_of es name ≡ Some k)
 has_place es name h =
     some_place (place_of es name) (length es) (noted_before es name (length es) ∙ ap (λ xs. is_noted xs name) (take_all (length es) es (omega arith)) ∙ h)
 
 -- a name that isn't noted yet is noted behind the others
-pub new_entry : (es : List Entry) (name : List ℕ) (number : ℕ) → is_noted es name ≡ false → noted es name number ≡ es ++ entry_of name number ∷ []
+pub new_entry : (es : List NotedName) (name : List ℕ) (number : ℕ) → is_noted es name ≡ false → noted es name number ≡ es ++ entry_of name number ∷ []
 new_entry es name number e = new_name es name number e

@@ -6,25 +6,25 @@ use Rattle.program_reader.specs.declared.head.Head.{Head}
 use Rattle.program_reader.specs.declared.head.Head.TheVariants.{Label}
 use Rattle.program_reader.specs.declared.sense.Outline.{Outline}
 use Rattle.program_reader.specs.declared.labels.Labels.{Labels}
-use Rattle.program_reader.specs.Names.{Entry, is_noted}
+use Rattle.program_reader.specs.Names.{NotedName, is_noted}
 use Rattle.program_reader.specs.Sense.{only_name}
 use Rattle.program_reader.specs.Around.{head_of_line, operands_of_line, begun_name, noted_if, outline_line, outline_onto, label_line, labels_onto, ends_body}
 
 -- ys begins with xs
-abbrev pub BeginsWith : List Entry → List Entry → Type 0
-BeginsWith xs ys = (more : List Entry) × (ys ≡ xs ++ more)
+abbrev pub BeginsWith : List NotedName → List NotedName → Type 0
+BeginsWith xs ys = (more : List NotedName) × (ys ≡ xs ++ more)
 
-same : (xs : List Entry) → BeginsWith xs xs
+same : (xs : List NotedName) → BeginsWith xs xs
 same xs = ([], sym (append-nil xs))
 
-through : (xs ys zs : List Entry) → BeginsWith xs ys → BeginsWith ys zs → BeginsWith xs zs
+through : (xs ys zs : List NotedName) → BeginsWith xs ys → BeginsWith ys zs → BeginsWith xs zs
 through xs ys zs h k = (h.0 ++ k.0, k.1 ∙ ap (λ l. l ++ k.0) h.1 ∙ append_assoc xs h.0 k.0)
 
-noted_on : (es : List Entry) (e : Entry) (b : Bool) → BeginsWith es (cond b es (es ++ e ∷ []))
+noted_on : (es : List NotedName) (e : NotedName) (b : Bool) → BeginsWith es (cond b es (es ++ e ∷ []))
 noted_on es e true = same es
 noted_on es e false = (e ∷ [], refl)
 
-noted_if_on : (es : List Entry) (name : Option (List ℕ)) (n : ℕ) → BeginsWith es (noted_if es name n)
+noted_if_on : (es : List NotedName) (name : Option (List ℕ)) (n : ℕ) → BeginsWith es (noted_if es name n)
 noted_if_on es None n = same es
 noted_if_on es (Some name) n = noted_on es (record { name = name; number = n }) (is_noted es name)
 
@@ -46,9 +46,9 @@ labels_on s (l ∷ ls) =
     let next = label_line (head_of_line l) (operands_of_line l) s in
     labels_by (ends_body (head_of_line l)) s (labels_onto next ls) (through s.entries next.entries (labels_onto next ls).entries (label_line_on (head_of_line l) (operands_of_line l) s) (labels_on next ls))
 
-take_front : (xs more : List Entry) → take (length xs) (xs ++ more) ≡ xs
+take_front : (xs more : List NotedName) → take (length xs) (xs ++ more) ≡ xs
 take_front [] more = refl
 take_front (x ∷ xs) more = ap (λ l. x ∷ l) (take_front xs more)
 
-pub first_are : (xs ys : List Entry) (n : ℕ) → BeginsWith xs ys → length xs ≡ n → take n ys ≡ xs
+pub first_are : (xs ys : List NotedName) (n : ℕ) → BeginsWith xs ys → length xs ≡ n → take n ys ≡ xs
 first_are xs ys n h e = ap (λ k. take k ys) (sym e) ∙ ap (take (length xs)) h.1 ∙ take_front xs h.0

@@ -17,7 +17,7 @@ use Rattle.program_reader.specs.declared.sense.Sense.{Sense}
 use Rattle.program_reader.specs.declared.sense.Sense.TheVariants.{Fits, Does, WrongOperand}
 use Rattle.program_reader.specs.declared.sense.Outline.{Outline}
 use Rattle.program_reader.specs.declared.labels.Labels.{Labels}
-use Rattle.program_reader.specs.Names.{Entry, is_name, is_noted, place_of, numbered_of}
+use Rattle.program_reader.specs.Names.{NotedName, is_name, is_noted, place_of, numbered_of}
 use Rattle.program_reader.specs.Operands.{int_register, ref_register, field_count}
 use Rattle.program_reader.specs.Sense.{one, two, three, five, plain, plain_one, plain_two, plain_three, plain_five, at_label, jump_on_zero, calling, forking, looping, order_alone, order_one, order_two, order_of, only_name}
 use Rattle.program_reader.specs.Around.{head_of_line, operands_of_line, noted_if, label_line, labels_after, labels_above, labels_onto, ends_body}
@@ -33,7 +33,7 @@ IsInRange f p Fits = ⊥
 IsInRange f p _ = Unit {0}
 
 -- all numbers are at most this
-abbrev pub AreAtMost : ℕ → List Entry → Type 0
+abbrev pub AreAtMost : ℕ → List NotedName → Type 0
 AreAtMost b [] = Unit {0}
 AreAtMost b (e ∷ es) = (e.number ≤ b) × AreAtMost b es
 
@@ -44,18 +44,18 @@ at_most_by : (b p n : ℕ) (rest : Option ℕ) (t : Bool) → n ≤ b → (rest 
 at_most_by b p n rest true le h e = let k = some_is n p e in omega (arith, k, le)
 at_most_by b p n rest false le h e = h e
 
-numbered_at_most : (b : ℕ) (es : List Entry) (name : List ℕ) (p : ℕ) → AreAtMost b es → numbered_of es name ≡ Some p → p ≤ b
+numbered_at_most : (b : ℕ) (es : List NotedName) (name : List ℕ) (p : ℕ) → AreAtMost b es → numbered_of es name ≡ Some p → p ≤ b
 numbered_at_most b [] name p h e = absurd (cc)
 numbered_at_most b (e ∷ es) name p h eq = at_most_by b p e.number (numbered_of es name) (bytes_eq name e.name) h.0 (numbered_at_most b es name p h.1) eq
 
-pub place_below : (es : List Entry) (name : List ℕ) (k : ℕ) → place_of es name ≡ Some k → k < length es
+pub place_below : (es : List NotedName) (name : List ℕ) (k : ℕ) → place_of es name ≡ Some k → k < length es
 place_below es name k e = (position-Some (λ x. bytes_eq name x.name) es k (record { name = []; number = 0 }) e).0
 
 either : (f p : ℕ) (b : Bool) (s t : Sense) → IsInRange f p s → IsInRange f p t → IsInRange f p (cond b s t)
 either f p true s t h k = h
 either f p false s t h k = k
 
-module _ (o : Outline) (labels : List Entry) (p : ℕ) (b : AreAtMost p labels) where
+module _ (o : Outline) (labels : List NotedName) (p : ℕ) (b : AreAtMost p labels) where
   abbrev In : Sense → Type 0
   In x = IsInRange (all_functions o) (p + 1) x
 
@@ -193,19 +193,19 @@ module _ (o : Outline) (labels : List Entry) (p : ℕ) (b : AreAtMost p labels) 
 
 -- THE NUMBERS OF LABELS
 
-more_at_most : (b c : ℕ) (es : List Entry) → b ≤ c → AreAtMost b es → AreAtMost c es
+more_at_most : (b c : ℕ) (es : List NotedName) → b ≤ c → AreAtMost b es → AreAtMost c es
 more_at_most b c [] le h = tt
 more_at_most b c (e ∷ es) le h = (omega (arith, le, h.0), more_at_most b c es le h.1)
 
-one_at_most : (b : ℕ) (es : List Entry) (e : Entry) → AreAtMost b es → e.number ≤ b → AreAtMost b (es ++ e ∷ [])
+one_at_most : (b : ℕ) (es : List NotedName) (e : NotedName) → AreAtMost b es → e.number ≤ b → AreAtMost b (es ++ e ∷ [])
 one_at_most b [] e h le = (le, tt)
 one_at_most b (x ∷ es) e h le = (h.0, one_at_most b es e h.1 le)
 
-noted_at_most : (b : ℕ) (es : List Entry) (e : Entry) (t : Bool) → AreAtMost b es → e.number ≤ b → AreAtMost b (cond t es (es ++ e ∷ []))
+noted_at_most : (b : ℕ) (es : List NotedName) (e : NotedName) (t : Bool) → AreAtMost b es → e.number ≤ b → AreAtMost b (cond t es (es ++ e ∷ []))
 noted_at_most b es e true h le = h
 noted_at_most b es e false h le = one_at_most b es e h le
 
-noted_if_at_most : (b : ℕ) (es : List Entry) (name : Option (List ℕ)) → AreAtMost b es → AreAtMost b (noted_if es name b)
+noted_if_at_most : (b : ℕ) (es : List NotedName) (name : Option (List ℕ)) → AreAtMost b es → AreAtMost b (noted_if es name b)
 noted_if_at_most b es None h = h
 noted_if_at_most b es (Some name) h = noted_at_most b es (record { name = name; number = b }) (is_noted es name) h (omega arith)
 

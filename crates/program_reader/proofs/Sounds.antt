@@ -15,7 +15,7 @@ use Rattle.program_reader.specs.declared.sense.Sense.{Sense}
 use Rattle.program_reader.specs.declared.sense.Sense.TheVariants.{Fits, Does, WrongOperand, NoSuchFunction, NoSuchLabel}
 use Rattle.program_reader.specs.declared.sense.Outline.{Outline}
 use Rattle.program_reader.specs.declared.reader.Reader.{Reader}
-use Rattle.program_reader.specs.Names.{Entry, is_noted}
+use Rattle.program_reader.specs.Names.{NotedName, is_noted}
 use Rattle.program_reader.specs.Sense.{only_name, named}
 use Rattle.program_reader.specs.Around.{noted_if, begun_name, outline_above, labels_after, labels_above, labels_onto, ends_body}
 use Rattle.program_reader.specs.Fault.{is_named_in, has_wrong_operand, names_no_function, names_no_label}
@@ -29,7 +29,7 @@ use Rattle.program_reader.proofs.Steps.{Told, wrong_none, outside_begin, inside_
 abbrev pub fun_names : List Fun → List (List ℕ)
 fun_names fs = map (λ f. f.name) fs
 
-abbrev pub entry_names : List Entry → List (List ℕ)
+abbrev pub entry_names : List NotedName → List (List ℕ)
 entry_names es = map (λ e. e.name) es
 
 -- the names of the functions so far, the open one included
@@ -40,7 +40,7 @@ names_so_far r = cond r.inside (fun_names r.done ++ r.name ∷ []) (fun_names r.
 abbrev pub InRange : Outline → Reader → Line → Type 0
 InRange o r l = NamesExist (all_functions o) (r.labels.next + 1) l.instr
 
-pub record Sound (o : Outline) (r : Reader) (es : List Entry) (next : ℕ) (lines : ℕ) : Type 0 where
+pub record Sound (o : Outline) (r : Reader) (es : List NotedName) (next : ℕ) (lines : ℕ) : Type 0 where
   pub names : names_so_far r ≡ entry_names es
   pub done : All (IsFunction (all_functions o)) r.done
   pub code : r.inside ≡ true → All (InRange o r) r.code
@@ -63,10 +63,10 @@ module _ (o : Outline) (r : Reader) (above : List (List ℕ)) (l : List ℕ) (ls
   begin_sound None i e w a = absurd (wrong_none x e w)
   begin_sound (Some name) i e w a =
       let fresh : is_noted (outline_above above).functions name ≡ false = ap (λ es. is_noted es name) (sym (first_named o r above (l ∷ ls) f)) ∙ a in
-      let entry : Entry = record { name = name; number = length above + 1 } in
+      let entry : NotedName = record { name = name; number = length above + 1 } in
       let before : fun_names r.done ≡ entry_names (outline_above above).functions = ap (λ b. cond b (fun_names r.done ++ r.name ∷ []) (fun_names r.done)) (sym i) ∙ g.names in
       record {
-        names = ap (λ ns. ns ++ name ∷ []) before ∙ sym (map-append (λ (e : Entry). e.name) (outline_above above).functions (entry ∷ [])) ∙ ap entry_names (sym (new_name (outline_above above).functions name (length above + 1) fresh));
+        names = ap (λ ns. ns ++ name ∷ []) before ∙ sym (map-append (λ (e : NotedName). e.name) (outline_above above).functions (entry ∷ [])) ∙ ap entry_names (sym (new_name (outline_above above).functions name (length above + 1) fresh));
         done = g.done;
         code = λ t. All-nil (InRange o (after_begin r (Some name) ls));
         placed = λ t. refl;

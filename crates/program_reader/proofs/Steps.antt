@@ -14,7 +14,7 @@ use Rattle.program_reader.specs.declared.sense.Sense.TheVariants.{Fits, Does, Wr
 use Rattle.program_reader.specs.declared.sense.Outline.{Outline}
 use Rattle.program_reader.specs.declared.labels.Labels.{Labels}
 use Rattle.program_reader.specs.declared.reader.Reader.{Reader}
-use Rattle.program_reader.specs.Names.{Entry, is_noted, noted}
+use Rattle.program_reader.specs.Names.{NotedName, is_noted, noted}
 use Rattle.program_reader.specs.Sense.{only_name, named, alone}
 use Rattle.program_reader.specs.Around.{is_inside, is_open_after, noted_if, begun_name, outline_above, label_line, labels_after, labels_above, labels_onto, ends_body, begins, begun_above, orders, orders_above}
 use Rattle.program_reader.specs.Fault.{is_misplaced, has_wrong_operand, is_begin, is_named_in, names_no_function, names_no_label}
@@ -50,7 +50,7 @@ unknown_never true e = cc
 unknown_never false e = cc
 
 -- a name that is new is noted behind the others
-pub new_name : (es : List Entry) (name : List ℕ) (n : ℕ) → is_noted es name ≡ false → noted es name n ≡ es ++ record { name = name; number = n } ∷ []
+pub new_name : (es : List NotedName) (name : List ℕ) (n : ℕ) → is_noted es name ≡ false → noted es name n ≡ es ++ record { name = name; number = n } ∷ []
 new_name es name n e = ap (λ b. cond b es (es ++ record { name = name; number = n } ∷ [])) e
 
 -- what a line of this kind says, as far as it matters

@@ -8,12 +8,12 @@ use Rattle.indexmap.specs.IndexMap.{IndexMap, insert_entry}
 use Rattle.indexmap.proofs.CallerLemmas.{insert_entry-new}
 use Rattle.listed.proofs.Options.{none_of}
 use Rattle.listed.proofs.Numbers.{above_zero}
-use Rattle.program_reader.specs.Names.{Entry, entry_of, is_noted, noted, place_of, numbered_of}
+use Rattle.program_reader.specs.Names.{NotedName, entry_of, is_noted, noted, place_of, numbered_of}
 
 abbrev pub Pairs : Type 0
 Pairs = List (Bor (List ℕ) × ℕ)
 
-abbrev pub shown : Pairs → List Entry
+abbrev pub shown : Pairs → List NotedName
 shown es = map (λ e. entry_of e.0.now e.1) es
 
 -- the test by which a map looks a name up
@@ -87,5 +87,5 @@ at_first : (i n l : ℕ) (b : Bool) → nat_lt i l ≡ b → comes_before (cond 
 at_first i n l true e = grind arith
 at_first i n l false e = grind arith
 
-pub noted_before : (es : List Entry) (name : List ℕ) (n : ℕ) → comes_before (place_of es name) n ≡ is_noted (take n es) name
-noted_before es name n = let p : Entry → Bool = λ e. bytes_eq name e.name in at_first (position_or_len p es) n (length es) (nat_lt (position_or_len p es) (length es)) refl ∙ sym (any_first p es n)
+pub noted_before : (es : List NotedName) (name : List ℕ) (n : ℕ) → comes_before (place_of es name) n ≡ is_noted (take n es) name
+noted_before es name n = let p : NotedName → Bool = λ e. bytes_eq name e.name in at_first (position_or_len p es) n (length es) (nat_lt (position_or_len p es) (length es)) refl ∙ sym (any_first p es n)

@@ -12,7 +12,7 @@ use Rattle.hh_lang.specs.declared.program.Fun.{Fun}
 use Rattle.hh_lang.specs.Form.{NamesExist, IsFunction, IsProgram}
 use Rattle.hh_lang.specs.Loop.{whole_code, left_code, right_code}
 use Rattle.program_reader.specs.declared.sense.Outline.{Outline}
-use Rattle.program_reader.specs.Names.{Entry, is_noted, place_of}
+use Rattle.program_reader.specs.Names.{NotedName, is_noted, place_of}
 use Rattle.program_reader.specs.Sense.{IsSmall, loop_function}
 use Rattle.program_reader.specs.Program.{number_of, loop_from, on_line, loop_functions, loops_from}
 use Rattle.program_reader.specs.Reading.{program_in}
@@ -51,7 +51,7 @@ half_in n first all a = (tt, (tt, (tt, (tt, (a, (tt, tt))))))
 other_half_in : (n first all : ℕ) → first < all → Each (λ l. NamesExist all 6 l.instr) (on_line n (right_code first))
 other_half_in n first all a = (tt, (tt, (tt, (tt, (a, (tt, tt))))))
 
-loop_in : (o : Outline) (first : ℕ) (e : Entry) → number_of o e.name < all_functions o → first + 2 < all_functions o → Each (IsFunction (all_functions o)) (loop_functions o first e)
+loop_in : (o : Outline) (first : ℕ) (e : NotedName) → number_of o e.name < all_functions o → first + 2 < all_functions o → Each (IsFunction (all_functions o)) (loop_functions o first e)
 loop_in o first e a b =
     let one : first + 1 < all_functions o = omega (arith, b) in
     let none : first < all_functions o = omega (arith, b) in (
@@ -69,7 +69,7 @@ number_by o name (Some k) h e = place_below o.functions name k e
 number_in_range : (o : Outline) (name : List ℕ) → 0 < length o.functions → number_of o name < all_functions o
 number_in_range o name h = let lt = number_by o name (place_of o.functions name) h refl in omega (arith, lt)
 
-loops_in : (o : Outline) (k : ℕ) (es : List Entry) → 0 < length o.functions → k + length es ≤ length o.loops → All (IsFunction (all_functions o)) (loops_from o k es)
+loops_in : (o : Outline) (k : ℕ) (es : List NotedName) → 0 < length o.functions → k + length es ≤ length o.loops → All (IsFunction (all_functions o)) (loops_from o k es)
 loops_in o k [] h le = All-nil (IsFunction (all_functions o))
 loops_in o k (e ∷ es) h le =
     let here : loop_function o k + 2 < all_functions o = omega (arith, le) in
@@ -78,19 +78,19 @@ loops_in o k (e ∷ es) h le =
     (each_all (IsFunction (all_functions o)) (loop_functions o (loop_function o k) e) (loop_in o (loop_function o k) e (number_in_range o e.name h) here))
     (loops_in o (k + 1) es h more)
 
-loops_length : (o : Outline) (k : ℕ) (es : List Entry) → length (loops_from o k es) ≡ 3 * length es
+loops_length : (o : Outline) (k : ℕ) (es : List NotedName) → length (loops_from o k es) ≡ 3 * length es
 loops_length o k [] = refl
 loops_length o k (e ∷ es) = let i = loops_length o (k + 1) es in omega (arith, i)
 
 -- ---- main
 
-names_length : (fs : List Fun) (es : List Entry) → fun_names fs ≡ entry_names es → length fs ≡ length es
+names_length : (fs : List Fun) (es : List NotedName) → fun_names fs ≡ entry_names es → length fs ≡ length es
 names_length [] [] h = refl
 names_length [] (e ∷ es) h = absurd (cc)
 names_length (f ∷ fs) [] h = absurd (cc)
 names_length (f ∷ fs) (e ∷ es) h = ap suc (names_length fs es (let t : fun_names fs ≡ entry_names es = cc in t))
 
-named_at : (fs more : List Fun) (es : List Entry) (k : ℕ) (d : Entry) → fun_names fs ≡ entry_names es → k < length es → IsSomeAnd (slice_get (fs ++ more) k) (λ f. f.name ≡ (get_or es k d).name)
+named_at : (fs more : List Fun) (es : List NotedName) (k : ℕ) (d : NotedName) → fun_names fs ≡ entry_names es → k < length es → IsSomeAnd (slice_get (fs ++ more) k) (λ f. f.name ≡ (get_or es k d).name)
 named_at fs more [] k d h lt = absurd (let l : k < 0 = lt in omega arith)
 named_at [] more (e ∷ es) k d h lt = absurd (cc)
 named_at (f ∷ fs) more (e ∷ es) zero d h lt = let t : f.name ≡ e.name = cc in t
@@ -111,7 +111,7 @@ same_bytes xs ys e = sym ((bytes_eq-Decides xs ys).0 e)
 pub is_program : (o : Outline) (fs : List Fun) → fun_names fs ≡ entry_names o.functions → All (IsFunction (all_functions o)) fs → is_noted o.functions (codes "main") ≡ true → IsSmall o → IsProgram (program_in o fs)
 is_program o fs names done main small =
     let found = main_place o main in
-    let d : Entry = record { name = []; number = 0 } in
+    let d : NotedName = record { name = []; number = 0 } in
     let at = position-Some (λ e. bytes_eq (codes "main") e.name) o.functions found.0 d found.1 in
     let some : 0 < length o.functions = omega (arith, at.0) in
     let long : length (fs ++ loops_from o 0 o.loops) ≡ all_functions o = omega (arith, length-append fs (loops_from o 0 o.loops), names_length fs o.functions names, loops_length o 0 o.loops) in

@@ -10,7 +10,7 @@ use Rattle.program_reader.specs.declared.sense.Sense.{Sense}
 use Rattle.program_reader.specs.declared.sense.Sense.TheVariants.{WrongOperand, NoSuchFunction, NoSuchLabel}
 use Rattle.program_reader.specs.declared.sense.Outline.{Outline}
 use Rattle.text_lines.specs.Lines.{is_last, lines_of}
-use Rattle.program_reader.specs.Names.{Entry, is_noted}
+use Rattle.program_reader.specs.Names.{NotedName, is_noted}
 use Rattle.program_reader.specs.Sense.{sense_of, only_name}
 use Rattle.program_reader.specs.Around.{head_of_line, operands_of_line, is_inside, is_open_after, outline_above, outline_of, labels_above, labels_onto, begun_above, orders_above}
 
@@ -21,15 +21,15 @@ pub record Spot : Type 0 where
   -- no line follows
   pub last : Bool
   -- the names of functions above
-  pub named : List Entry
+  pub named : List NotedName
   -- how many functions begin above
   pub begun : ℕ
   -- how many instructions stand above
   pub orders : ℕ
   -- the labels above in its function
-  pub labeled : List Entry
+  pub labeled : List NotedName
   -- all labels of its function
-  pub labels : List Entry
+  pub labels : List NotedName
 
 abbrev pub spot_of : List (List ℕ) → List ℕ → List (List ℕ) → Spot
 spot_of above line below = record {
@@ -64,7 +64,7 @@ is_begin _ = false
 abbrev pub leaves_open : Spot → Head → Bool
 leaves_open s h = (s.inside && is_begin h) || (s.last && is_open_after h s.inside)
 
-abbrev pub is_named_in : List Entry → Option (List ℕ) → Bool
+abbrev pub is_named_in : List NotedName → Option (List ℕ) → Bool
 is_named_in es (Some name) = is_noted es name
 is_named_in es None = false
 

@@ -21,25 +21,25 @@ abbrev pub is_name : List ℕ → Bool
 is_name w = begins_name w && (nat_le (length w) 32 && list_all is_name_byte w)
 
 -- a name, and the number that was noted with it
-pub record Entry : Type 0 where
+pub record NotedName : Type 0 where
   pub name : List ℕ
   pub number : ℕ
 
-abbrev pub is_noted : List Entry → List ℕ → Bool
+abbrev pub is_noted : List NotedName → List ℕ → Bool
 is_noted es name = list_any (λ e. bytes_eq name e.name) es
 
 -- a name that isn't there yet is noted behind the others
-abbrev pub noted : List Entry → List ℕ → ℕ → List Entry
+abbrev pub noted : List NotedName → List ℕ → ℕ → List NotedName
 noted es name number = if is_noted es name then es else es ++ record { name = name; number = number } ∷ []
 
 -- at which place a name stands
-abbrev pub place_of : List Entry → List ℕ → Option ℕ
+abbrev pub place_of : List NotedName → List ℕ → Option ℕ
 place_of es name = position (λ e. bytes_eq name e.name) es
 
-abbrev pub entry_of : List ℕ → ℕ → Entry
+abbrev pub entry_of : List ℕ → ℕ → NotedName
 entry_of name number = record { name = name; number = number }
 
 -- the number that was noted with a name
-abbrev pub numbered_of : List Entry → List ℕ → Option ℕ
+abbrev pub numbered_of : List NotedName → List ℕ → Option ℕ
 numbered_of [] name = None
 numbered_of (e ∷ es) name = if bytes_eq name e.name then Some e.number else numbered_of es name

@@ -15,7 +15,7 @@ use Rattle.program_reader.specs.declared.sense.Outline.{Outline}
 use Rattle.program_reader.specs.declared.cause.Refused.{Refused}
 use Rattle.program_reader.specs.Fault.{first_fault}
 use Rattle.text_lines.specs.Lines.{lines_of}
-use Rattle.program_reader.specs.Names.{Entry, place_of}
+use Rattle.program_reader.specs.Names.{NotedName, place_of}
 use Rattle.program_reader.specs.Sense.{sense_of, loop_function}
 use Rattle.program_reader.specs.Around.{head_of_line, operands_of_line, begun_name, no_labels, labels_onto, outline_of}
 
@@ -33,7 +33,7 @@ code_by h (Does instr) number rest = line_of instr number ∷ rest
 code_by h _ number rest = rest
 
 -- the code of a function with these labels, from the line of this number on
-abbrev pub code_from : Outline → List Entry → ℕ → List (List ℕ) → List Line
+abbrev pub code_from : Outline → List NotedName → ℕ → List (List ℕ) → List Line
 code_from o labels number [] = []
 code_from o labels number (l ∷ ls) = code_by (head_of_line l) (sense_of o labels (head_of_line l) (operands_of_line l)) number (code_from o labels (number + 1) ls)
 
@@ -66,14 +66,14 @@ abbrev pub function_of : List ℕ → ℕ → List Instr → Fun
 function_of name number code = record { name = name; code = on_line number code }
 
 -- the three functions of a loop; the first one's number is `first`, and all lines are that of the first `pfor f`
-abbrev pub loop_functions : Outline → ℕ → Entry → List Fun
+abbrev pub loop_functions : Outline → ℕ → NotedName → List Fun
 loop_functions o first e =
     function_of (e.name ++ codes "?") e.number (whole_code (loop_from (number_of o e.name) first)) ∷
     function_of (e.name ++ codes "<") e.number (left_code first) ∷
     function_of (e.name ++ codes ">") e.number (right_code first) ∷ []
 
 -- the functions of the loops from a place on
-abbrev pub loops_from : Outline → ℕ → List Entry → List Fun
+abbrev pub loops_from : Outline → ℕ → List NotedName → List Fun
 loops_from o k [] = []
 loops_from o k (e ∷ es) = loop_functions o (loop_function o k) e ++ loops_from o (k + 1) es
 

@@ -10,7 +10,7 @@ use Rattle.program_reader.specs.declared.head.Head.TheVariants.{Begin, Label, Or
 use Rattle.program_reader.specs.declared.sense.Sense.{Sense}
 use Rattle.program_reader.specs.declared.sense.Sense.TheVariants.{Fits, Does, WrongOperand, NoSuchFunction, NoSuchLabel}
 use Rattle.program_reader.specs.declared.sense.Outline.{Outline}
-use Rattle.program_reader.specs.Names.{Entry, is_name, place_of, numbered_of}
+use Rattle.program_reader.specs.Names.{NotedName, is_name, place_of, numbered_of}
 use Rattle.program_reader.specs.Operands.{int_register, ref_register, field_count}
 
 abbrev pub one : {A : Type 0} → Option A → (A → Instr) → Option Instr
@@ -70,10 +70,10 @@ abbrev pub at_label : Option ℕ → (ℕ → Instr) → Sense
 at_label (Some place) f = Does (f place)
 at_label None f = NoSuchLabel
 
-abbrev pub jump : List Entry → List ℕ → Sense
+abbrev pub jump : List NotedName → List ℕ → Sense
 jump labels a = if is_name a then at_label (numbered_of labels a) (λ p. does.Jmp p) else WrongOperand
 
-abbrev pub jump_on_zero : List Entry → Option ℕ → List ℕ → Sense
+abbrev pub jump_on_zero : List NotedName → Option ℕ → List ℕ → Sense
 jump_on_zero labels None b = WrongOperand
 jump_on_zero labels (Some r) b = if is_name b then at_label (numbered_of labels b) (λ p. does.Jz r p) else WrongOperand
 
@@ -108,18 +108,18 @@ abbrev pub order_alone : Verb → Sense
 order_alone Ret = Does does.Ret
 order_alone _ = WrongOperand
 
-abbrev pub order_one : Outline → List Entry → Verb → List ℕ → Sense
+abbrev pub order_one : Outline → List NotedName → Verb → List ℕ → Sense
 order_one o labels Jmp a = jump labels a
 order_one o labels Call a = call o a
 order_one o labels Pfor a = loop_over o a
 order_one o labels v a = plain (plain_one v a)
 
-abbrev pub order_two : Outline → List Entry → Verb → List ℕ → List ℕ → Sense
+abbrev pub order_two : Outline → List NotedName → Verb → List ℕ → List ℕ → Sense
 order_two o labels Jz a b = jump_on_zero labels (int_register a) b
 order_two o labels Par a b = fork o a b
 order_two o labels v a b = plain (plain_two v a b)
 
-abbrev pub order_of : Outline → List Entry → Verb → List (List ℕ) → Sense
+abbrev pub order_of : Outline → List NotedName → Verb → List (List ℕ) → Sense
 order_of o labels v [] = order_alone v
 order_of o labels v (a ∷ []) = order_one o labels v a
 order_of o labels v (a ∷ b ∷ []) = order_two o labels v a b
@@ -142,7 +142,7 @@ alone [] = Fits
 alone (w ∷ ws) = WrongOperand
 
 -- what the operands of a line of this kind say
-abbrev pub sense_of : Outline → List Entry → Head → List (List ℕ) → Sense
+abbrev pub sense_of : Outline → List NotedName → Head → List (List ℕ) → Sense
 sense_of o labels Begin ws = named (only_name ws)
 sense_of o labels Label ws = named (only_name ws)
 sense_of o labels (Order v) ws = order_of o labels v ws

@@ -51,9 +51,9 @@ pub(crate) struct Table<'a> {
 
 impl<'a> Model for Table<'a> {
     ghost use Rattle.std.specs.Prelude.{List, map};
-    ghost use Rattle.program_reader.specs.Names.{Entry, entry_of};
+    ghost use Rattle.program_reader.specs.Names.{NotedName, entry_of};
 
-    ghost Value = { List Entry };
+    ghost Value = { List NotedName };
 
     ghost view = { λ t. map (λ e. entry_of e.0.now e.1) t.numbers.entries };
 }

@@ -6,7 +6,7 @@ ghost use Rattle.run_ledger.specs.Steps.{is_due, is_in_need};
 ghost use Rattle.run_ledger.specs.Entries.{is_ready, is_out, out_from};
 ghost use Rattle.run_ledger.specs.Journals.{opening};
 ghost use Rattle.hh_model.specs.Step.{is_running, is_waiting, asked};
-ghost use Rattle.run_trace.specs.Settings.{AreLimits, worker_limit};
+ghost use Rattle.run_trace.specs.Settings.{AreSettings, worker_limit};
 ghost use Rattle.run_accounts.specs.Accounts.{AccountsValue, Steady, Agrees};
 
 use chunk_sizes::units;
@@ -82,7 +82,7 @@ impl<'p> Accounts<'p> {
 
     /// The settings are in their ranges.
     pub fn bounds(&self)
-        ensures { AreLimits self.now.settings }
+        ensures { AreSettings self.now.settings }
     {
         let _ = self.settings.workers();
     }

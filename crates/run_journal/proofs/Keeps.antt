@@ -4,7 +4,7 @@ use Rattle.std.specs.List.{flat_map}
 use Rattle.std.proofs.lemmas.List.Sums.{sum_by-append}
 use Rattle.listed.proofs.Members.{contains_from_in}
 use Rattle.run_trace.specs.Entry.{EntryValue}
-use Rattle.run_trace.specs.Settings.{SettingsValue, AreLimits}
+use Rattle.run_trace.specs.Settings.{SettingsValue, AreSettings}
 use Rattle.hh_lang.specs.Form.{ProgramText}
 use Rattle.run_ledger.specs.declared.data.Heap.{Heap}
 use Rattle.run_ledger.specs.declared.data.Ledger.{Ledger}
@@ -28,7 +28,7 @@ one_of_all (h ∷ heaps) zero = let a = length-append (held_in h) (flat_map held
 one_of_all (h ∷ heaps) (suc t) = let a = length-append (held_in h) (flat_map held_in heaps) in let b = one_of_all heaps t in omega arith
 
 -- the accounts of legal journals
-module _ (p : ProgramText) (s : SettingsValue) (A : AreLimits s) where
+module _ (p : ProgramText) (s : SettingsValue) (A : AreSettings s) where
   legal_countable : (journal : List EntryValue) → is_legal p s journal ≡ true → IsCountable (ledger_of p s journal)
   legal_countable journal legal =
       let l : Ledger = ledger_of p s journal in

@@ -4,7 +4,7 @@ use Rattle.std.proofs.lemmas.Bool.{ltb-true}
 use Rattle.run_trace.specs.declared.entry.Kind.{Kind}
 use Rattle.run_trace.specs.declared.entry.Kind.TheVariants.{Took, Ran, Chunk, Begin, End as EndOf, PutOff, Mark, More, Sweep, Fuel}
 use Rattle.run_trace.specs.Entry.{EntryValue, IsKind}
-use Rattle.run_trace.specs.Settings.{SettingsValue, AreLimits}
+use Rattle.run_trace.specs.Settings.{SettingsValue, AreSettings}
 use Rattle.hh_lang.specs.Form.{ProgramText}
 use Rattle.run_ledger.specs.declared.data.Ledger.{Ledger}
 use Rattle.run_ledger.specs.Heaps.{heap_of}
@@ -22,10 +22,10 @@ module _ (p : ProgramText) (s : SettingsValue) where
   pub opening_legal : IsLegalLedger p s (opening p s)
   opening_legal = ([], refl, refl)
 
-  pub ledger_steady : AreLimits s → (l : Ledger) → IsLegalLedger p s l → Steady l
+  pub ledger_steady : AreSettings s → (l : Ledger) → IsLegalLedger p s l → Steady l
   ledger_steady A l L = subst Steady (sym L.2) (legal_steady p s A L.0 L.1)
 
-  pub ledger_stays : AreLimits s → (l : Ledger) → IsLegalLedger p s l → (kind : Kind) → IsKind kind
+  pub ledger_stays : AreSettings s → (l : Ledger) → IsLegalLedger p s l → (kind : Kind) → IsKind kind
       → (t k : ℕ) → kind ≡ Ran t k → is_some (heap_of l t).begun ≡ false → StaysSteady s p l t k
   ledger_stays A l L kind range t k is idle =
       let few : k ≤ 257 = (subst IsKind is range).1.1 in
@@ -40,7 +40,7 @@ module _ (p : ProgramText) (s : SettingsValue) where
       )
 
 -- what is kept beside the accounts, after an entry
-pub accounts_agree : (s : AccountsValue) → AreLimits s.settings → IsLegalLedger s.program s.settings s.ledger → Agrees s → (e : EntryValue) → refusal s.program s.settings s.ledger e ≡ None
+pub accounts_agree : (s : AccountsValue) → AreSettings s.settings → IsLegalLedger s.program s.settings s.ledger → Agrees s → (e : EntryValue) → refusal s.program s.settings s.ledger e ≡ None
     → Agrees (record (went_on s (after s.program s.settings s.ledger e)) { taken = taken_after s.taken e.worker e.kind })
 accounts_agree s limits L A e none =
     let h : is_none (refusal s.program s.settings s.ledger e) ≡ true = ap is_none none in
@@ -68,7 +68,7 @@ accounts_agree s limits L A e none =
     as_long taken w Fuel = refl
 
 -- a book that goes on
-pub opened_after : (s new : AccountsValue) (stopped : Bool) → AreLimits s.settings → IsOpened s stopped → stopped ≡ false → (e : EntryValue) → refusal s.program s.settings s.ledger e ≡ None
+pub opened_after : (s new : AccountsValue) (stopped : Bool) → AreSettings s.settings → IsOpened s stopped → stopped ≡ false → (e : EntryValue) → refusal s.program s.settings s.ledger e ≡ None
     → new ≡ record (went_on s (after s.program s.settings s.ledger e)) { taken = taken_after s.taken e.worker e.kind } → IsOpened new stopped
 opened_after s new stopped limits I going e none is = record {
   legal = λ q. subst (λ (k : AccountsValue). IsLegalLedger k.program k.settings k.ledger) (sym is) (ledger_after s.program s.settings s.ledger (I.legal going) e none);

@@ -5,7 +5,7 @@ use Rattle.listed.proofs.Members.{in_from_contains}
 use Rattle.run_trace.specs.declared.entry.Kind.{Kind}
 use Rattle.run_trace.specs.declared.entry.Kind.TheVariants.{Took, Ran, Chunk, Begin, End as EndOf, PutOff, Mark, More, Sweep, Fuel}
 use Rattle.run_trace.specs.Entry.{EntryValue}
-use Rattle.run_trace.specs.Settings.{SettingsValue, AreLimits}
+use Rattle.run_trace.specs.Settings.{SettingsValue, AreSettings}
 use Rattle.hh_lang.specs.Form.{ProgramText}
 use Rattle.hh_model.specs.declared.data.Name.{Name}
 use Rattle.hh_model.specs.declared.data.State.{State}
@@ -52,7 +52,7 @@ record Light (l : Ledger) : Type 0 where
 
 -- ONE STEP
 
-module _ (p : ProgramText) (s : SettingsValue) (A : AreLimits s) (l : Ledger) (t : ℕ) (S : SoundAt t l) (I : StockedLedger l) (B : BookedLedger p s l) (X : Light l) (can : can_step l.machine t ≡ true)
+module _ (p : ProgramText) (s : SettingsValue) (A : AreSettings s) (l : Ledger) (t : ℕ) (S : SoundAt t l) (I : StockedLedger l) (B : BookedLedger p s l) (X : Light l) (can : can_step l.machine t ≡ true)
     (fine : (is_due s p l t || is_in_need p l t) ≡ false) where
   abbrev m : State
   m = l.machine
@@ -155,7 +155,7 @@ module _ (p : ProgramText) (s : SettingsValue) (A : AreLimits s) (l : Ledger) (t
             subst (λ (z : State). store_words z.store ≤ k.steps * most) (sym (stepped_machine b t m')) (omega arith);
       }
 
-module _ (p : ProgramText) (s : SettingsValue) (A : AreLimits s) where
+module _ (p : ProgramText) (s : SettingsValue) (A : AreSettings s) where
   -- all that is kept from step to step
   record Firm (t : ℕ) (l : Ledger) : Type 0 where
     sound : SoundAt t l

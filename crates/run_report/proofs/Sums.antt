@@ -5,7 +5,7 @@ use Rattle.listed.proofs.Members.{got_same}
 use Rattle.run_trace.specs.declared.entry.Kind.{Kind}
 use Rattle.run_trace.specs.declared.entry.Kind.TheVariants.{Took, Ran, Chunk, Begin, End, PutOff, Mark, More, Sweep, Fuel}
 use Rattle.run_trace.specs.Entry.{EntryValue}
-use Rattle.run_trace.specs.Settings.{SettingsValue, AreLimits}
+use Rattle.run_trace.specs.Settings.{SettingsValue, AreSettings}
 use Rattle.hh_lang.specs.Form.{ProgramText}
 use Rattle.run_ledger.specs.declared.data.Heap.{Heap}
 use Rattle.run_ledger.specs.declared.data.Ledger.{Ledger}
@@ -137,7 +137,7 @@ module _ (p : ProgramText) (s : SettingsValue) where
   one_sweep l (Sweep t given) = omega arith
   one_sweep l Fuel = omega arith
 
-  pub legal_few : AreLimits s → (journal : List EntryValue) → is_legal p s journal ≡ true → length journal < 2 ^ 64 → AreFew (totals_from p s (opening p s) journal)
+  pub legal_few : AreSettings s → (journal : List EntryValue) → is_legal p s journal ≡ true → length journal < 2 ^ 64 → AreFew (totals_from p s (opening p s) journal)
   legal_few A journal legal short =
       let all = words_are_accounted p s journal legal in
       let stored = legal_stored p s A journal legal in
@@ -184,7 +184,7 @@ module _ (journal : List EntryValue) (b : BookValue) (i : ℕ) (e : EntryValue) 
       ∙ (sym (totals_last b.program b.settings (take i journal) (opening b.program b.settings) e)
       ∙ ap (totals_from b.program b.settings (opening b.program b.settings)) (sym (take_next journal i e lt is)))
 
-  pub few_next : AreLimits b.settings → i + 1 < 2 ^ 64 → AreFew (joined sums (entry_totals b.program b.settings b.ledger e))
+  pub few_next : AreSettings b.settings → i + 1 < 2 ^ 64 → AreFew (joined sums (entry_totals b.program b.settings b.ledger e))
   few_next A short =
       let long : length (take (i + 1) journal) ≡ length (take i journal ++ e ∷ []) = ap length (take_next journal i e lt is) in
       let a = length-append (take i journal) (e ∷ []) in

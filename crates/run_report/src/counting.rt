@@ -1,7 +1,7 @@
 // A journal replayed, with the totals of its entries.
 
 ghost use Rattle.std.specs.Prelude.{◌≡◌, None, false, IfOk, OnOk, IfErr};
-ghost use Rattle.run_trace.specs.Settings.{AreLimits};
+ghost use Rattle.run_trace.specs.Settings.{AreSettings};
 ghost use Rattle.run_ledger.specs.Entries.{refusal, after};
 ghost use Rattle.run_ledger.specs.Journals.{opening, ledger_of, first_refused};
 ghost use Rattle.run_accounts.specs.Accounts.{FailsFor};
@@ -52,7 +52,7 @@ fn enter(book: &mut Book, totals: Totals, entry: Entry) -> Result<Totals, ApplyE
 
 // Enters the entries of a journal into the accounts of a run before its first entry, and adds up what they count.
 fn enter_all(book: &mut Book, journal: &[Entry]) -> Result<Totals, ReplayError>
-    requires limits { AreLimits book.old.settings }
+    requires limits { AreSettings book.old.settings }
     requires first { book.old.ledger ≡ opening book.old.program book.old.settings }
     requires open { book.old.stopped ≡ false }
     ensures book { OnOk result (book.new ≡ record book.old { ledger = ledger_of book.old.program book.old.settings journal.now }) }

@@ -3,7 +3,7 @@
 ghost use Rattle.std.specs.Prelude.{◌≡◌, ◌<◌, ◌^◌, ◌-◌, ◌+◌, ◌++◌, None, false, length, OnOk, IfOk, IfErr};
 ghost use Rattle.std.specs.List.{flat_map};
 ghost use Rattle.json_text.specs.Json.{further};
-ghost use Rattle.run_trace.specs.Settings.{AreLimits};
+ghost use Rattle.run_trace.specs.Settings.{AreSettings};
 ghost use Rattle.run_ledger.specs.Entries.{refusal, after};
 ghost use Rattle.run_ledger.specs.Journals.{opening, ledger_of, first_refused, refused_as_run};
 ghost use Rattle.run_accounts.specs.Accounts.{FailsFor};
@@ -155,7 +155,7 @@ fn enter_all(
     journal: &[Entry],
 ) -> Result<(), ReplayError>
     requires few { length journal.now < 2 ^ 32 - 1 }
-    requires limits { AreLimits book.old.settings }
+    requires limits { AreSettings book.old.settings }
     requires first { book.old.ledger ≡ opening book.old.program book.old.settings }
     requires open { book.old.stopped ≡ false }
     requires program { book.old.program ≡ program.now }

@@ -11,7 +11,7 @@ use Rattle.run_trace.specs.declared.settings.Version.{Version}
 use Rattle.run_trace.specs.declared.settings.Version.TheVariants.{One, Two}
 use Rattle.run_trace.specs.declared.line.Said.TheVariants.{Nothing}
 use Rattle.run_trace.specs.declared.trace.Trace.{Trace}
-use Rattle.run_trace.specs.Entry.{EntryValue, IsEvent}
+use Rattle.run_trace.specs.Entry.{EntryValue, IsEntry}
 use Rattle.run_trace.specs.Settings.{version_number}
 use Rattle.run_trace.specs.Line.{said_by, spaced, entry_line}
 use Rattle.run_trace.specs.Trace.{version_of, version_of_words, first_bad, entries_in, fault_in, trace_fault, AreTraceLines, IsTraceText, trace_text}
@@ -26,23 +26,23 @@ abbrev lines_for : List EntryValue → List (List ℕ)
 lines_for [] = [] ∷ []
 lines_for (e ∷ es) = spaced (entry_words e) ∷ lines_for es
 
-lines_are : (es : List EntryValue) → All IsEvent es → lines_of (flat_map entry_line es) ≡ lines_for es
+lines_are : (es : List EntryValue) → All IsEntry es → lines_of (flat_map entry_line es) ≡ lines_for es
 lines_are [] h = refl
 lines_are (e ∷ es) h =
-    line_first (entry_words e) (flat_map entry_line es) (entry_is_proper e (All-head IsEvent e es h))
-    ∙ ap (λ ls. spaced (entry_words e) ∷ ls) (lines_are es (All-tail IsEvent e es h))
+    line_first (entry_words e) (flat_map entry_line es) (entry_is_proper e (All-head IsEntry e es h))
+    ∙ ap (λ ls. spaced (entry_words e) ∷ ls) (lines_are es (All-tail IsEntry e es h))
 
 -- the empty line says nothing
 empty_says : said_by [] ≡ Nothing
 empty_says = rw (is_utf8-from_IsUtf8 [] IsUtf8-nil) refl
 
-no_bad : (n : ℕ) (es : List EntryValue) → All IsEvent es → first_bad n (lines_for es) ≡ None
+no_bad : (n : ℕ) (es : List EntryValue) → All IsEntry es → first_bad n (lines_for es) ≡ None
 no_bad n [] h = rw empty_says refl
-no_bad n (e ∷ es) h = rw (entry_again e (All-head IsEvent e es h)) (no_bad (n + 1) es (All-tail IsEvent e es h))
+no_bad n (e ∷ es) h = rw (entry_again e (All-head IsEntry e es h)) (no_bad (n + 1) es (All-tail IsEntry e es h))
 
-same_entries : (es : List EntryValue) → All IsEvent es → entries_in (lines_for es) ≡ es
+same_entries : (es : List EntryValue) → All IsEntry es → entries_in (lines_for es) ≡ es
 same_entries [] h = rw empty_says refl
-same_entries (e ∷ es) h = rw (entry_again e (All-head IsEvent e es h)) (ap (λ fs. e ∷ fs) (same_entries es (All-tail IsEvent e es h)))
+same_entries (e ∷ es) h = rw (entry_again e (All-head IsEntry e es h)) (ap (λ fs. e ∷ fs) (same_entries es (All-tail IsEntry e es h)))
 
 -- THE VERSION
 
@@ -67,15 +67,15 @@ version_again v =
 
 -- THE TEXT
 
-text_lines : (v : Version) (es : List EntryValue) → All IsEvent es → lines_of (trace_text v es) ≡ spaced (version_words v) ∷ lines_for es
+text_lines : (v : Version) (es : List EntryValue) → All IsEntry es → lines_of (trace_text v es) ≡ spaced (version_words v) ∷ lines_for es
 text_lines v es h =
     line_first (version_words v) (flat_map entry_line es) (version_is_proper v)
     ∙ ap (λ ls. spaced (version_words v) ∷ ls) (lines_are es h)
 
-no_fault : (n : ℕ) (v : Version) (es : List EntryValue) → All IsEvent es → trace_fault n (trace_text v es) ≡ None
+no_fault : (n : ℕ) (v : Version) (es : List EntryValue) → All IsEntry es → trace_fault n (trace_text v es) ≡ None
 no_fault n v es h = ap (fault_in n) (text_lines v es h) ∙ rw (version_again v) (no_bad (n + 1) es h)
 
-said : (v : Version) (es : List EntryValue) → All IsEvent es → AreTraceLines (lines_of (trace_text v es)) (record { version = v; entries = es })
+said : (v : Version) (es : List EntryValue) → All IsEntry es → AreTraceLines (lines_of (trace_text v es)) (record { version = v; entries = es })
 said v es h = rw (text_lines v es h) (version_again v, sym (same_entries es h))
 
 some_same : (v w : Version) → Some v ≡ Some w → v ≡ w
@@ -84,7 +84,7 @@ some_same v w e = cc
 both_same : (t : Trace) (v : Version) (es : List EntryValue) → v ≡ t.version → t.entries ≡ es → t ≡ record { version = v; entries = es }
 both_same t v es e f = rw (e, sym f) refl
 
-unique : (n : ℕ) (v : Version) (es : List EntryValue) → All IsEvent es → (t : Trace) → IsTraceText n (trace_text v es) t → t ≡ record { version = v; entries = es }
+unique : (n : ℕ) (v : Version) (es : List EntryValue) → All IsEntry es → (t : Trace) → IsTraceText n (trace_text v es) t → t ≡ record { version = v; entries = es }
 unique n v es h t is =
     let lines : AreTraceLines (spaced (version_words v) ∷ lines_for es) t = subst (λ ls. AreTraceLines ls t) (text_lines v es h) is.says in
     both_same t v es (some_same v t.version (sym (version_again v) ∙ lines.0)) (lines.1 ∙ same_entries es h)

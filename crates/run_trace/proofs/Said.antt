@@ -11,7 +11,7 @@ use Rattle.std.proofs.lemmas.Str.Ascii.{IsAscii-from_all}
 use Rattle.run_trace.specs.declared.entry.Kind.{Kind}
 use Rattle.run_trace.specs.declared.entry.Kind.TheVariants.{Took, Ran, Chunk, Begin, End, PutOff, Mark, More, Sweep, Fuel}
 use Rattle.run_trace.specs.declared.line.Said.TheVariants.{Says}
-use Rattle.run_trace.specs.Entry.{EntryValue, IsEvent, IsKind}
+use Rattle.run_trace.specs.Entry.{EntryValue, IsEntry, IsKind}
 use Rattle.run_trace.specs.Line.{unsigned_number, numbers_in, kind_of, kind_by, entry_by, said_by_words, said_by, kind_name, kind_words, spaced}
 use Rattle.run_trace.proofs.Numbers.{as_option}
 use Rattle.run_trace.proofs.Words.{ArePlain, AreProper, decimal_is_proper, words_spaced}
@@ -76,7 +76,7 @@ entry_words e = decimal e.worker ∷ kind_words e.kind
 worker_word : (w : ℕ) → w < 64 → w < 2 ^ 32
 worker_word w h = omega (arith, h)
 
-pub entry_is_proper : (e : EntryValue) → IsEvent e → AreProper (entry_words e)
+pub entry_is_proper : (e : EntryValue) → IsEntry e → AreProper (entry_words e)
 entry_is_proper e h = (decimal_is_proper e.worker (worker_word e.worker h.0), kind_is_proper e.kind h.1)
 
 -- WHAT IS SAID
@@ -127,13 +127,13 @@ kind_again Fuel h = refl
 worker_within : (w : ℕ) (kind : Kind) → w < 64 → entry_by (Some w) (Some kind) ≡ Says (record { worker = w; kind = kind })
 worker_within w kind h = let e : nat_lt w 64 ≡ true = grind (arith, h) in rw e refl
 
-words_again : (e : EntryValue) → IsEvent e → said_by_words (entry_words e) ≡ Says e
+words_again : (e : EntryValue) → IsEntry e → said_by_words (entry_words e) ≡ Says e
 words_again e h =
     rw (kind_words_are e.kind)
     rw (number_again e.worker (worker_word e.worker h.0), kind_again e.kind h.1)
     (worker_within e.worker e.kind h.0)
 
-pub entry_again : (e : EntryValue) → IsEvent e → said_by (spaced (entry_words e)) ≡ Says e
+pub entry_again : (e : EntryValue) → IsEntry e → said_by (spaced (entry_words e)) ≡ Says e
 entry_again e h =
     rw (spaced_utf8 (entry_words e) (entry_is_proper e h))
     (ap said_by_words (words_spaced (entry_words e) (entry_is_proper e h)) ∙ words_again e h)

@@ -41,5 +41,5 @@ IsKind (Sweep t given) = IsWord t × IsWord given
 IsKind Fuel = Unit {0}
 
 -- workers are numbered from 0 on
-abbrev pub IsEvent : EntryValue → Type 0
-IsEvent e = (e.worker < worker_limit) × IsKind e.kind
+abbrev pub IsEntry : EntryValue → Type 0
+IsEntry e = (e.worker < worker_limit) × IsKind e.kind

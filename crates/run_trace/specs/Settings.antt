@@ -1,4 +1,4 @@
--- The limits of a run, in their ranges.
+-- The settings of a run, in their ranges.
 use Rattle.std.specs.Prelude.{ℕ, ◌≤◌}
 use Rattle.hh_lang.specs.Limits.{most_fields}
 use Rattle.run_trace.specs.declared.settings.Version.{Version}
@@ -31,16 +31,16 @@ pub record SettingsValue : Type 0 where
   -- the words from which on a waiting heap may be marked
   pub inner : ℕ
 
-pub record AreLimits (l : SettingsValue) : Type 0 where
+pub record AreSettings (l : SettingsValue) : Type 0 where
   pub workers : (1 ≤ l.workers) × (l.workers ≤ worker_limit)
   pub fuel : (1 ≤ l.fuel) × (l.fuel ≤ fuel_limit)
   pub chunks : (2 ≤ l.chunks) × (l.chunks ≤ chunk_limit)
   pub leaf : (16 ≤ l.leaf) × (l.leaf ≤ words_limit)
   pub inner : (16 ≤ l.inner) × (l.inner ≤ words_limit)
 
--- the limits where none are given
-abbrev pub usual_limits : SettingsValue
-usual_limits = record { version = Two; workers = 1; fuel = 1000000; chunks = 4096; leaf = 4096; inner = 8192 }
+-- the settings where none are given
+abbrev pub usual_settings : SettingsValue
+usual_settings = record { version = Two; workers = 1; fuel = 1000000; chunks = 4096; leaf = 4096; inner = 8192 }
 
 -- the most fields of an object: one chunk holds it in the first version, and in the second an object may be large
 abbrev pub field_limit : Version → ℕ

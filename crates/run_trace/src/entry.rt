@@ -45,13 +45,13 @@ pub struct Entry {
 }
 
 impl Model for Entry {
-    ghost use Rattle.run_trace.specs.Entry.{EntryValue, IsEvent};
+    ghost use Rattle.run_trace.specs.Entry.{EntryValue, IsEntry};
 
     ghost Value = { EntryValue };
 
     ghost view = { λ e. record { worker = e.worker; kind = e.kind } };
 
-    ghost invariant = { λ e. IsEvent (record { worker = e.worker; kind = e.kind }) };
+    ghost invariant = { λ e. IsEntry (record { worker = e.worker; kind = e.kind }) };
 
     ghost inverse = { λ v. record { worker = v.worker; kind = v.kind } };
 }

@@ -1,4 +1,4 @@
-// The entries of a run's journal, the limits of a run, and the text of a journal.
+// The entries of a run's journal, the settings of a run, and the text of a journal.
 #![tactic(auto)]
 
 mod entry;

@@ -1,7 +1,7 @@
-// The limits of a run.
+// The settings of a run.
 
 ghost use Rattle.std.specs.Prelude.{◌≡◌};
-ghost use Rattle.run_trace.specs.Settings.{AreLimits, usual_limits, field_limit, version_number};
+ghost use Rattle.run_trace.specs.Settings.{AreSettings, usual_settings, field_limit, version_number};
 
 use hh_lang::MOST_FIELDS;
 use std::marker::Model;
@@ -48,7 +48,7 @@ pub const CHUNK_LIMIT: u32 = 65_536;
 /// The most words from which on a run may make a collection due.
 pub const WORDS_LIMIT: u32 = 1_000_000;
 
-/// The limits of a run: 1 to `WORKER_LIMIT` workers; fuel in steps, 1 to `FUEL_LIMIT`; the most chunks in use, 2 to
+/// The settings of a run: 1 to `WORKER_LIMIT` workers; fuel in steps, 1 to `FUEL_LIMIT`; the most chunks in use, 2 to
 /// `CHUNK_LIMIT`; the words that make a leaf heap due for a collection and those that let a waiting heap be marked, both 16 to
 /// `WORDS_LIMIT`.
 #[derive(Clone, Copy, PartialEq, Eq)]
@@ -62,13 +62,13 @@ pub struct Settings {
 }
 
 impl Model for Settings {
-    ghost use Rattle.run_trace.specs.Settings.{SettingsValue, AreLimits};
+    ghost use Rattle.run_trace.specs.Settings.{SettingsValue, AreSettings};
 
     ghost Value = { SettingsValue };
 
     ghost view = { λ s. record { version = s.version; workers = s.workers; fuel = s.fuel; chunks = s.chunks; leaf = s.leaf; inner = s.inner } };
 
-    ghost invariant = { λ s. AreLimits (record { version = s.version; workers = s.workers; fuel = s.fuel; chunks = s.chunks; leaf = s.leaf; inner = s.inner }) };
+    ghost invariant = { λ s. AreSettings (record { version = s.version; workers = s.workers; fuel = s.fuel; chunks = s.chunks; leaf = s.leaf; inner = s.inner }) };
 
     ghost inverse = { λ l. record { version = l.version; workers = l.workers; fuel = l.fuel; chunks = l.chunks; leaf = l.leaf; inner = l.inner } };
 }
@@ -82,7 +82,7 @@ impl Settings {
         leaf: u32,
         inner: u32,
     ) -> Settings
-        requires { AreLimits (record { version = version; workers = workers; fuel = fuel; chunks = chunks; leaf = leaf; inner = inner }) }
+        requires { AreSettings (record { version = version; workers = workers; fuel = fuel; chunks = chunks; leaf = leaf; inner = inner }) }
         ensures { result ≡ record { version = version; workers = workers; fuel = fuel; chunks = chunks; leaf = leaf; inner = inner } }
     {
         Settings {
@@ -95,9 +95,9 @@ impl Settings {
         }
     }
 
-    /// The limits where none are given.
+    /// The settings where none are given.
     pub fn usual() -> Settings
-        ensures { result ≡ usual_limits }
+        ensures { result ≡ usual_settings }
     {
         Settings {
             version: Version::Two,
@@ -109,7 +109,7 @@ impl Settings {
         }
     }
 
-    /// The same limits under another version of the trace.
+    /// The same settings under another version of the trace.
     pub fn with_version(self, version: Version) -> Settings
         ensures { result ≡ record self { version = version } }
     {
@@ -125,7 +125,7 @@ impl Settings {
     /// How many workers there are.
     pub fn workers(self) -> u32
         ensures value { result ≡ self.workers }
-        ensures range { AreLimits self }
+        ensures range { AreSettings self }
     {
         self.workers
     }
@@ -133,7 +133,7 @@ impl Settings {
     /// The steps after which the run is to end.
     pub fn fuel(self) -> u64
         ensures value { result ≡ self.fuel }
-        ensures range { AreLimits self }
+        ensures range { AreSettings self }
     {
         self.fuel
     }
@@ -141,7 +141,7 @@ impl Settings {
     /// The most chunks in use.
     pub fn chunks(self) -> u32
         ensures value { result ≡ self.chunks }
-        ensures range { AreLimits self }
+        ensures range { AreSettings self }
     {
         self.chunks
     }
@@ -149,7 +149,7 @@ impl Settings {
     /// The words allocated since its last collection at which a leaf heap is due for one.
     pub fn leaf(self) -> u32
         ensures value { result ≡ self.leaf }
-        ensures range { AreLimits self }
+        ensures range { AreSettings self }
     {
         self.leaf
     }
@@ -157,7 +157,7 @@ impl Settings {
     /// The words from which on a waiting heap may be marked.
     pub fn inner(self) -> u32
         ensures value { result ≡ self.inner }
-        ensures range { AreLimits self }
+        ensures range { AreSettings self }
     {
         self.inner
     }

@@ -34,7 +34,7 @@ use Rattle.image_check.specs.declared.line.Remembered.{Remembered}
 use Rattle.image_check.specs.Place.{offset}
 use Rattle.heap_image.specs.declared.picture.Picked.{Picked}
 use Rattle.heap_image.specs.declared.picture.Picture.{Picture}
-use Rattle.heap_image.specs.Picture.{AreApart, IsAncestor, IsFit, IsOwned, IsPlaced, IsRunning, KeepsToPath, LeadsSomewhere, end_of}
+use Rattle.heap_image.specs.Picture.{AreApart, IsAbove, IsFit, IsOwned, IsPlaced, IsRunning, KeepsToPath, LeadsSomewhere, end_of}
 use Rattle.shared_image.specs.Drawn.{AreHeldInWords, IsHandedBack, IsPictureOf, drawn_field, drawn_object}
 use Rattle.shared_image.proofs.Resting.{R as Known_R, H as Known_H, content as Known_content, own_is as Known_own_is, live as Known_live, chunk as Known_chunk, owner as Known_owner, near as Known_near, measured as Known_measured, S, made}
 use Rattle.shared_image.proofs.Known.{T, k, owners, rests, runs, task_live}
@@ -134,7 +134,7 @@ module _ (w : SharedValue) (I : IsSharedValue w) (F : AreHeldInWords w) (p : Pic
         subst (LeadsSomewhere p) r.2 (leads_by n.0 r.0 n.1 (ref_near r.0 r.1))
 
     -- a field that the set of another task's heap has
-    noted : (n u : ℕ) → u < length TT → joined TT u ≡ false → In (sources v u) (record { object = o.at; field = n }) → IsAncestor p.tasks t u × In p.fields (record { task = u; address = q.address; place = n })
+    noted : (n u : ℕ) → u < length TT → joined TT u ≡ false → In (sources v u) (record { object = o.at; field = n }) → IsAbove p.tasks t u × In p.fields (record { task = u; address = q.address; place = n })
     noted n u lt lives j =
         let s : Source = record { object = o.at; field = n } in
         let K : IsSource v (k w I) u s = (S w I).sources u s j in
@@ -142,8 +142,8 @@ module _ (w : SharedValue) (I : IsSharedValue w) (F : AreHeldInWords w) (p : Pic
         let y = got_some TT u lt in
         let x = task_live w I u y.0 y.1 lives in
         let f : Remembered = record { task = u; address = q.address; place = n } in
-        let above : (u ≡ own (k w I) K.name) ⊎ IsAncestor p.tasks (own (k w I) K.name) u = on_path w I p P (own (k w I) K.name) u K.above lives in (
-          elim above [ inl e ↦ absurd (K.below (sym e)) | inr a ↦ subst (λ z. IsAncestor p.tasks z u) mine a ],
+        let above : (u ≡ own (k w I) K.name) ⊎ IsAbove p.tasks (own (k w I) K.name) u = on_path w I p P (own (k w I) K.name) u K.above lives in (
+          elim above [ inl e ↦ absurd (K.below (sym e)) | inr a ↦ subst (λ z. IsAbove p.tasks z u) mine a ],
           (P.fields.each f).1 (x.0, field_of s, x.1, (s, subst (λ z. In (sources v z) s) (sym x.2) j, refl), ap (λ z. drawn_field z (field_of s)) (sym x.2)),
         )
 

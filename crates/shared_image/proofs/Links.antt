@@ -25,7 +25,7 @@ use Rattle.image_check.specs.declared.line.State.TheVariants.{Running}
 use Rattle.image_check.specs.declared.line.Task.{Task as Drawn}
 use Rattle.image_check.specs.declared.line.Chunk.{Chunk}
 use Rattle.heap_image.specs.declared.picture.Picture.{Picture}
-use Rattle.heap_image.specs.Picture.{HasTask, IsAncestor, IsOwned, IsParent, IsRunning}
+use Rattle.heap_image.specs.Picture.{HasTask, IsAbove, IsOwned, IsParent, IsRunning}
 use Rattle.shared_image.specs.Drawn.{IsPictureOf, drawn_chunk, drawn_state, drawn_task}
 use Rattle.shared_image.proofs.Known.{T, owners, paths, same, task_live, tree}
 use Rattle.shared_image.proofs.Numbers.{chunk_of_word, word_some}
@@ -75,7 +75,7 @@ module _ (w : SharedValue) (I : IsSharedValue w) (p : Picture) (P : IsPictureOf 
       let d = task_in t y.0 y.1 live in
       (d.0, d.1, d.2, d.3 ∙ y.2)
 
-  links : (t : ℕ) (ps : List ℕ) (a : ℕ) → IsWalkUp (parents TT) t ps a → joined TT t ≡ false → (t ≡ a) ⊎ IsAncestor p.tasks a t
+  links : (t : ℕ) (ps : List ℕ) (a : ℕ) → IsWalkUp (parents TT) t ps a → joined TT t ≡ false → (t ≡ a) ⊎ IsAbove p.tasks a t
   links t [] a e live = inl e
   links t (q ∷ qs) a e live =
       let here = is_parent t q e.0 live in
@@ -85,7 +85,7 @@ module _ (w : SharedValue) (I : IsSharedValue w) (p : Picture) (P : IsPictureOf 
       ])
 
   -- who stands on a task's path is the task or one of its ancestors in the picture
-  pub on_path : (a t : ℕ) → is_on_path TT a t ≡ true → joined TT t ≡ false → (t ≡ a) ⊎ IsAncestor p.tasks a t
+  pub on_path : (a t : ℕ) → is_on_path TT a t ≡ true → joined TT t ≡ false → (t ≡ a) ⊎ IsAbove p.tasks a t
   on_path a t e live = let z = ((paths w I).walks a t).0 e in links t z.0 a z.1 live
 
   pub not_running : (t : ℕ) → is_state_running (state_of w.tree t) ≡ false → IsRunning p t → ⊥
@@ -110,7 +110,7 @@ module _ (w : SharedValue) (I : IsSharedValue w) (p : Picture) (P : IsPictureOf 
   chunk_in n t e live =
       let h = held_in (slot_at w.pool n) t e in
       let x : InUse = record { number = n; owner = owner_of (accounts w).machine.tasks h.0.owner; words = 1024 * h.0.units } in
-      let X : IsInUse w x = record { held = h.0; is = h.1; owner = refl; words = refl } in
+      let X : IsInUse w x = record { slot = h.0; is = h.1; owner = refl; words = refl } in
       let owner : x.owner ≡ t = owner_now h.0.owner ∙ (ap (owner_of TT) h.2 ∙ (owners w I).own t live) in
       (drawn_chunk x, h.0, (P.chunks.each (drawn_chunk x)).1 (x, X, refl), h.1, refl, owner, refl)
 
@@ -122,5 +122,5 @@ module _ (w : SharedValue) (I : IsSharedValue w) (p : Picture) (P : IsPictureOf 
       let x = (P.chunks.each h.0).0 h.1.0 in
       let number : x.0.number ≡ a.chunk = sym (ap (λ (c : Chunk). c.number) x.2) ∙ (sym h.1.2 ∙ chunk_of_word a near) in
       let holder : option_map (λ (z : Slot). z.owner) (slot_at w.pool x.0.number) ≡ Some t = ap v.owner number ∙ e in
-      let owner : x.1.held.owner ≡ t = same_Some x.1.held.owner t (sym (ap (option_map (λ (z : Slot). z.owner)) x.1.is) ∙ holder) in
-      sym h.2 ∙ (ap (λ (c : Chunk). c.owner) x.2 ∙ (x.1.owner ∙ (owner_now x.1.held.owner ∙ (ap (owner_of TT) owner ∙ (owners w I).own t live))))
+      let owner : x.1.slot.owner ≡ t = same_Some x.1.slot.owner t (sym (ap (option_map (λ (z : Slot). z.owner)) x.1.is) ∙ holder) in
+      sym h.2 ∙ (ap (λ (c : Chunk). c.owner) x.2 ∙ (x.1.owner ∙ (owner_now x.1.slot.owner ∙ (ap (owner_of TT) owner ∙ (owners w I).own t live))))

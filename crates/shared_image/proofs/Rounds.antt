@@ -11,7 +11,7 @@ use Rattle.shared_value.specs.SharedValue.{SharedValue, accounts, value_of}
 use Rattle.heap_reading.specs.declared.live.InUse.{InUse}
 use Rattle.heap_reading.specs.declared.live.Live.{Live}
 use Rattle.heap_reading.specs.declared.noted.Field.{Field}
-use Rattle.heap_reading.specs.Image.{AreAll, AreInWords, ChunkBefore as InUseBefore, FieldBefore as NotedBefore, IsInUse, IsLive, IsNoted, LiveBefore, in_words, objects_of}
+use Rattle.heap_reading.specs.Image.{AreAll, AreInWords, FieldBefore as NotedBefore, InUseBefore, IsInUse, IsLive, IsNoted, LiveBefore, in_words, objects_of}
 use Rattle.heap_reading.proofs.InOrder.{all_same}
 use Rattle.image_check.specs.declared.line.Remembered.{Remembered}
 use Rattle.heap_image.specs.declared.picture.Picked.{Picked}
@@ -62,7 +62,7 @@ module _ (w : SharedValue) (I : IsSharedValue w) where
       by None e f = absurd cc
       by (Some h) e f =
           let c : InUse = record { number = o.at.chunk; owner = owner_of (accounts w).machine.tasks h.owner; words = 1024 * h.units } in
-          (c, (all.each c).1 (record { held = h; is = e; owner = refl; words = refl }), refl)
+          (c, (all.each c).1 (record { slot = h; is = e; owner = refl; words = refl }), refl)
 
   pub words_all : (cs : List InUse) → AreAll InUseBefore (IsInUse w) cs → ((c : InUse) → In cs c → AreInWords (objects_of w c.number)) → AreHeldInWords w
   words_all cs all so t o idle i =

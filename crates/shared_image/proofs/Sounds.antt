@@ -89,7 +89,7 @@ module _ (w : SharedValue) (I : IsSharedValue w) (C : AreChunks w.pool.slots) (F
   chunk_form : (c : Chunk) → In p.chunks c → IsChunkForm c
   chunk_form c i =
       let x = (P.chunks.each c).0 i in
-      let h = x.1.held in
+      let h = x.1.slot in
       let a = C x.0.number h x.1.is in
       let o : x.0.owner < length TT = subst (λ z. z < length TT) (sym x.1.owner) (owner_few h.owner (held_made x.0.number h x.1.is)) in
       let b = few w I in
@@ -173,9 +173,9 @@ module _ (w : SharedValue) (I : IsSharedValue w) (C : AreChunks w.pool.slots) (F
   chunk_owner : (c : Chunk) → In p.chunks c → HasTask p c.owner
   chunk_owner c i =
       let x = (P.chunks.each c).0 i in
-      let o : x.0.owner < length TT = subst (λ z. z < length TT) (sym x.1.owner) (owner_few x.1.held.owner (held_made x.0.number x.1.held x.1.is)) in
-      let now : x.0.owner ≡ owner_of TT x.1.held.owner = x.1.owner ∙ ap (λ (m : State). owner_of m.tasks x.1.held.owner) (sym (same w I)) in
-      let lives : joined TT x.0.owner ≡ false = subst (λ z. joined TT z ≡ false) (sym now) ((owners w I).live x.1.held.owner) in
+      let o : x.0.owner < length TT = subst (λ z. z < length TT) (sym x.1.owner) (owner_few x.1.slot.owner (held_made x.0.number x.1.slot x.1.is)) in
+      let now : x.0.owner ≡ owner_of TT x.1.slot.owner = x.1.owner ∙ ap (λ (m : State). owner_of m.tasks x.1.slot.owner) (sym (same w I)) in
+      let lives : joined TT x.0.owner ≡ false = subst (λ z. joined TT z ≡ false) (sym now) ((owners w I).live x.1.slot.owner) in
       subst (λ (z : Chunk). HasTask p z.owner) (sym x.2) (has_task w I p P x.0.owner o lives)
 
   same_birth : (o q : Picked) → In p.objects o → In p.objects q → o.birth ≡ q.birth → o.address ≡ q.address

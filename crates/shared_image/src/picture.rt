@@ -2,7 +2,7 @@
 
 ghost use Rattle.std.specs.Prelude.{◌≡◌, ◌++◌, IfOk, OnOk, map};
 ghost use Rattle.chunk_pool.specs.PoolValue.{AreChunks};
-ghost use Rattle.heap_reading.specs.Image.{AreAll, ChunkBefore as InUseBefore, IsInUse, IsLive, LiveBefore};
+ghost use Rattle.heap_reading.specs.Image.{AreAll, InUseBefore, IsInUse, IsLive, LiveBefore};
 ghost use Rattle.heap_image.specs.Picture.{FieldBefore, IsSoundPicture, ObjectBefore};
 ghost use Rattle.shared_image.specs.Drawn.{AreHeldInWords, IsPictureOf, drawn_chunk, drawn_field, drawn_object, drawn_state, drawn_task};
 ghost use Rattle.shared_image.specs.Drawing.{AreFieldsOf, AreObjectsOf};

@@ -29,7 +29,7 @@ use Rattle.shared_value.specs.Links.{above_of}
 use Rattle.shared_value.specs.Next.{is_beyond, is_beyond_by, is_beyond_line, is_joint, next_line}
 use Rattle.shared_value.proofs.SameLength.{same_length}
 use Rattle.shared_value.proofs.TaskTaken.{worker_there}
-use Rattle.own_steps.specs.Alone.{IsShared, alone_event, machine_after}
+use Rattle.own_steps.specs.Alone.{IsShared, alone_entry, machine_after}
 use Rattle.own_steps.proofs.AloneEntries.{runs_on}
 use Rattle.own_steps.proofs.LastSteps.{fits_machine, machine_same}
 use Rattle.child_tasks.specs.ChildEnds.{IsAtEnd, is_last, is_last_by, is_last_line}
@@ -49,7 +49,7 @@ other_by tasks t x (Par g h) par ret e = absurd (par g h refl)
 other_by tasks t x Ret par ret e = absurd (ret refl)
 other_by tasks t x _ par ret e = e
 
-module _ (w : SharedValue) (k : ℕ) (p : Private) (I : IsSharedValue w) (F : Fits w k p) (shared : IsShared w p) (free : refused w (alone_event k p) ≡ None) (joint : IsJoint w p) (line : Line) (next : next_line w.program p ≡ Some line) where
+module _ (w : SharedValue) (k : ℕ) (p : Private) (I : IsSharedValue w) (F : Fits w k p) (shared : IsShared w p) (free : refused w (alone_entry k p) ≡ None) (joint : IsJoint w p) (line : Line) (next : next_line w.program p ≡ Some line) where
   abbrev t : ℕ
   t = p.task
 
@@ -99,9 +99,9 @@ module _ (w : SharedValue) (k : ℕ) (p : Private) (I : IsSharedValue w) (F : Fi
 
 -- ---- WHO HOLDS NOTHING
 
-pub holds_none : (w after : SharedValue) (k : ℕ) (p : Private) → IsSharedValue w → IsSharedValue after → refused w (alone_event k p) ≡ None → after.tasks_out ≡ slice_set w.tasks_out k None → HoldsNone after k
+pub holds_none : (w after : SharedValue) (k : ℕ) (p : Private) → IsSharedValue w → IsSharedValue after → refused w (alone_entry k p) ≡ None → after.tasks_out ≡ slice_set w.tasks_out k None → HoldsNone after k
 holds_none w after k p I I' free task_out t held =
-    no_task (sym (ap (λ hs. option_flatten (slice_get hs k)) task_out ∙ ap option_flatten (got_set w.tasks_out k None (worker_there w (alone_event k p) I free))) ∙ (I'.stands.tree_counts.task_out k t).1 held)
+    no_task (sym (ap (λ hs. option_flatten (slice_get hs k)) task_out ∙ ap option_flatten (got_set w.tasks_out k None (worker_there w (alone_entry k p) I free))) ∙ (I'.stands.tree_counts.task_out k t).1 held)
   where
     no_task : ◌≡◌ {A = Option ℕ} None (Some t) → ⊥
     no_task e = cc
@@ -146,7 +146,7 @@ abbrev pub ran_by : Forking → Ran
 ran_by (Forked left right) = RanForked left right
 ran_by (Over q) = RanOver q
 
-pub forks_to : (w after : SharedValue) (k : ℕ) (p : Private) → IsSharedValue w → IsSharedValue after → refused w (alone_event k p) ≡ None → (f : Forking) → ForkAnswered w after k p f → GivesTaskUp w.tasks_out after.tasks_out k f → RanTo w after k p (ran_by f)
+pub forks_to : (w after : SharedValue) (k : ℕ) (p : Private) → IsSharedValue w → IsSharedValue after → refused w (alone_entry k p) ≡ None → (f : Forking) → ForkAnswered w after k p f → GivesTaskUp w.tasks_out after.tasks_out k f → RanTo w after k p (ran_by f)
 forks_to w after k p I I' free (Forked left right) on task_out = (on, holds_none w after k p I I' free task_out)
 forks_to w after k p I I' free (Over q) over task_out = over
 

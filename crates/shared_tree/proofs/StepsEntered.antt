@@ -4,11 +4,11 @@ use Rattle.listed.specs.RoomyValue.{RoomyValue}
 use Rattle.run_trace.specs.Entry.{EntryValue}
 use Rattle.task_machine.specs.declared.part.Private.{Private}
 use Rattle.shared_value.specs.SharedValue.{SharedValue}
-use Rattle.own_steps.specs.Alone.{alone_event}
+use Rattle.own_steps.specs.Alone.{alone_entry}
 
 -- the journal with that entry
 abbrev pub entered : SharedValue → ℕ → Private → RoomyValue EntryValue
-entered w k p = record { items = w.journal.items ++ alone_event k p ∷ []; room = w.journal.room - 1 }
+entered w k p = record { items = w.journal.items ++ alone_entry k p ∷ []; room = w.journal.room - 1 }
 
 -- what is so of the steps and the journal after it is so of what they are equal to
 pub along : (w : SharedValue) (k : ℕ) (p : Private) (n : ℕ) (j : RoomyValue EntryValue) → n ≡ w.steps + (p.fresh + 1) → j ≡ entered w k p → (P : ℕ → RoomyValue EntryValue → Type 0) → P (w.steps + (p.fresh + 1)) (entered w k p) → P n j

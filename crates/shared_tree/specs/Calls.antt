@@ -16,9 +16,9 @@ use Rattle.shared_value.specs.SharedValue.{SharedValue, accounts, rest_at}
 use Rattle.shared_value.specs.Fits.{AllFit, Fits, OthersFit}
 use Rattle.shared_value.specs.Entered.{Answers, Enters, IsSamePart, RanAnswers, cause_of, refused}
 use Rattle.shared_value.specs.LeafBegin.{HasBegun}
-use Rattle.own_steps.specs.Alone.{alone_event}
+use Rattle.own_steps.specs.Alone.{alone_entry}
 use Rattle.child_tasks.specs.Joins.{IsUnchanged}
-use Rattle.leaf_collections.specs.LeafEnd.{end_event, ended}
+use Rattle.leaf_collections.specs.LeafEnd.{end_entry, ended}
 use Rattle.shared_tree.specs.declared.leaf_end.NotEnded.{NotEnded}
 use Rattle.shared_tree.specs.declared.ran.Ran.{Ran as RanOf}
 use Rattle.shared_tree.specs.declared.ran_lent.Lent.{Lent}
@@ -53,7 +53,7 @@ pub record EntersSteps (w after : SharedValue) (k : ℕ) (p q : Private) (answer
 -- they are entered with its next one, which isn't private, where that one doesn't give the part up. Where it does, or memory is
 -- wanting, nothing is, though heaps and sets may have places for more
 pub record EntersLent (w after : SharedValue) (k : ℕ) (p q : Private) (answer : Result Lent NotEntered) : Type 0 where
-  pub refused : Answers answer (refused w (alone_event k p))
+  pub refused : Answers answer (refused w (alone_entry k p))
   pub same : IfErr answer (λ (e : NotEntered). IsUnchanged e w after)
   pub still : OnErr answer (AllFit w after)
   pub back : OnErr answer (q ≡ p)
@@ -98,12 +98,12 @@ pub record BeginsLeaf (w after : SharedValue) (k : ℕ) (p q : Private) (answer 
 
 -- that of the part p ends, whose heap was copied, which came to m: it is q then
 pub record EndsLeaf (w after : SharedValue) (k : ℕ) (p q : Private) (m : Moved) (answer : Result (Unit {0}) NotEnded) : Type 0 where
-  pub refused : end_cause answer ≡ refused w (end_event k p m)
+  pub refused : end_cause answer ≡ refused w (end_entry k p m)
   pub same : OnErr answer (after ≡ w)
   pub back : OnErr answer (q ≡ p)
   pub moved : IfErr answer (λ (e : NotEnded). e.moved ≡ m)
   pub part : OnOk answer (q ≡ ended p)
-  pub enters : OnOk answer (Enters w after (end_event k p m))
+  pub enters : OnOk answer (Enters w after (end_entry k p m))
   pub fits : OnOk answer (Fits after k q)
   pub others : OnOk answer (OthersFit w after k)
 

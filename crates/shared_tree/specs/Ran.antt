@@ -6,7 +6,7 @@ use Rattle.shared_value.specs.SharedValue.{SharedValue}
 use Rattle.shared_value.specs.Fits.{Fits}
 use Rattle.shared_value.specs.Entered.{refused}
 use Rattle.shared_value.specs.Next.{is_beyond}
-use Rattle.own_steps.specs.Alone.{FinishesAlone, GoesAlone, HaltsAlone, IsBeyond, Tells, alone_event, machine_after}
+use Rattle.own_steps.specs.Alone.{FinishesAlone, GoesAlone, HaltsAlone, IsBeyond, Tells, alone_entry, machine_after}
 use Rattle.child_tasks.specs.ChildEnds.{EndsChild, IsAtEnd}
 use Rattle.child_tasks.specs.Forks.{ForksOn, IsAtFork}
 use Rattle.child_tasks.specs.NoTask.{HoldsNone}
@@ -22,7 +22,7 @@ use Rattle.shared_tree.specs.declared.ran_lent.Lent.TheVariants.{Goes, Over as I
 pub record MayBeEntered (w : SharedValue) (p : Private) : Type 0 where
   pub worker : ℕ
   pub fits : Fits w worker p
-  pub free : refused w (alone_event worker p) ≡ None
+  pub free : refused w (alone_entry worker p) ≡ None
 
 -- ---- WHAT THE NEXT STEP IS
 

@@ -3,7 +3,7 @@
 ghost use Rattle.std.specs.Prelude.{◌≡◌, ◌<◌, None};
 ghost use Rattle.shared_value.specs.Entered.{refused, Enters};
 ghost use Rattle.shared_value.specs.Fits.{Fits, OthersFit};
-ghost use Rattle.leaf_collections.specs.LeafEnd.{end_event, ended, FitsCopied};
+ghost use Rattle.leaf_collections.specs.LeafEnd.{end_entry, ended, FitsCopied};
 ghost use Rattle.shared_tree.specs.Calls.{EndsLeaf};
 
 use crate::shared::Shared;
@@ -26,9 +26,9 @@ impl Shared {
     fn enter_leaf_end(&mut self, worker: u32, part: &mut Private, moved: Moved)
         requires room { 0 < self.old.journal.room }
         requires fits { FitsCopied self.old worker part.old moved }
-        requires free { refused self.old (end_event worker part.old moved) ≡ None }
+        requires free { refused self.old (end_entry worker part.old moved) ≡ None }
         ensures part { part.new ≡ ended part.old }
-        ensures enters { Enters self.old self.new (end_event worker part.old moved) }
+        ensures enters { Enters self.old self.new (end_entry worker part.old moved) }
         ensures fits { Fits self.new worker part.new }
         ensures others { OthersFit self.old self.new worker }
     {

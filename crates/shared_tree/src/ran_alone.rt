@@ -4,7 +4,7 @@ ghost use Rattle.std.specs.Prelude.{◌≡◌, ◌≢◌, ◌<◌, ℕ, OnErr, O
 ghost use Rattle.hh_model.specs.Step.{ended_by, step};
 ghost use Rattle.shared_value.specs.Entered.{refused, Answers};
 ghost use Rattle.shared_value.specs.Fits.{Fits};
-ghost use Rattle.own_steps.specs.Alone.{alone_event, then_accounts, GoesAlone, HaltsAlone, IsShared, Tells};
+ghost use Rattle.own_steps.specs.Alone.{alone_entry, then_accounts, GoesAlone, HaltsAlone, IsShared, Tells};
 ghost use Rattle.shared_tree.specs.Calls.{EntersLeaving};
 ghost use Rattle.shared_tree.specs.Ran.{AloneTo, MayBeEntered};
 
@@ -25,7 +25,7 @@ impl Shared {
     pub(crate) fn alone_refused(&self, worker: u32, part: &Private) -> Option<Refused>
         requires fits { Fits self.now worker part.now }
         requires shared { IsShared self.now part.now }
-        ensures { result ≡ refused self.now (alone_event worker part.now) }
+        ensures { result ≡ refused self.now (alone_entry worker part.now) }
     {
         let first = first_cause(self.end, self.steps, self.settings, worker, false);
         if first.is_some() {
@@ -60,7 +60,7 @@ impl Shared {
         requires room { 0 < self.old.journal.room }
         requires fits { Fits self.old worker part.old }
         requires shared { IsShared self.old part.old }
-        requires free { refused self.old (alone_event worker part.old) ≡ None }
+        requires free { refused self.old (alone_entry worker part.old) ≡ None }
         requires prints { (line : ℕ) × Tells self.old part.old (Ending.Prints value) line }
         ensures same { OnErr result (self.new ≡ self.old) }
         ensures back { OnErr result (part.new ≡ part.old) }
@@ -79,7 +79,7 @@ impl Shared {
         requires room { 0 < self.old.journal.room }
         requires fits { Fits self.old worker part.old }
         requires shared { IsShared self.old part.old }
-        requires free { refused self.old (alone_event worker part.old) ≡ None }
+        requires free { refused self.old (alone_entry worker part.old) ≡ None }
         requires other { end ≢ End.Done }
         requires ends { step self.old.program (then_accounts self.old part.old).machine part.old.task ≡ ended_by (then_accounts self.old part.old).machine end }
         ensures { HaltsAlone self.old self.new worker part.old part.new }
@@ -94,7 +94,7 @@ impl Shared {
         requires room { 0 < self.old.journal.room }
         requires fits { Fits self.old worker part }
         requires shared { IsShared self.old part }
-        requires free { refused self.old (alone_event worker part) ≡ None }
+        requires free { refused self.old (alone_entry worker part) ≡ None }
         requires returns { (line : ℕ) × Tells self.old part Ending.Returns line }
         requires root { part.task ≡ 0 }
         ensures { EntersLeaving self.old self.new worker part result }
@@ -124,7 +124,7 @@ impl Shared {
         requires room { 0 < self.old.journal.room }
         requires fits { Fits self.old worker part.old }
         requires shared { IsShared self.old part.old }
-        ensures refused { Answers result (refused self.old (alone_event worker part.old)) }
+        ensures refused { Answers result (refused self.old (alone_entry worker part.old)) }
         ensures same { OnErr result (self.new ≡ self.old) }
         ensures back { OnErr result (part.new ≡ part.old) }
         ensures answered { IfOk result (AloneTo self.old self.new worker part.old part.new) }

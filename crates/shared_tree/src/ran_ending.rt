@@ -5,7 +5,7 @@ ghost use Rattle.heap_tree.specs.Node.{parent_of, state_of};
 ghost use Rattle.heap_tree.specs.Pairs.{sibling};
 ghost use Rattle.shared_value.specs.Entered.{refused, RanAnswers};
 ghost use Rattle.shared_value.specs.Fits.{AllFit, Fits};
-ghost use Rattle.own_steps.specs.Alone.{alone_event};
+ghost use Rattle.own_steps.specs.Alone.{alone_entry};
 ghost use Rattle.child_tasks.specs.ChildEnds.{EndsChild, IsAtEnd};
 ghost use Rattle.child_tasks.specs.Joins.{HasPlaces, IsUnchanged, SameButPlaces};
 ghost use Rattle.shared_tree.specs.Ran.{MayBeEntered};
@@ -27,7 +27,7 @@ impl Shared {
         requires room { 0 < self.old.journal.room }
         requires fits { Fits self.old worker part }
         requires ends { IsAtEnd self.old part }
-        requires free { refused self.old (alone_event worker part) ≡ None }
+        requires free { refused self.old (alone_entry worker part) ≡ None }
         requires alone { state_of self.old.tree (sibling part.task) ≡ Some State.Ended → ⊥ }
         ensures refused { RanAnswers result None }
         ensures same { OnErr result (self.new ≡ self.old) }
@@ -68,7 +68,7 @@ impl Shared {
         requires room { 0 < self.old.journal.room }
         requires fits { Fits self.old worker part }
         requires ends { IsAtEnd self.old part }
-        requires free { refused self.old (alone_event worker part) ≡ None }
+        requires free { refused self.old (alone_entry worker part) ≡ None }
         requires ended { state_of self.old.tree (sibling part.task) ≡ Some State.Ended }
         requires parent { parent_of self.old.tree part.task ≡ Some parent }
         requires places { HasPlaces self.old part parent }
@@ -100,7 +100,7 @@ impl Shared {
         requires room { 0 < self.old.journal.room }
         requires fits { Fits self.old worker part }
         requires ends { IsAtEnd self.old part }
-        ensures refused { RanAnswers result (refused self.old (alone_event worker part)) }
+        ensures refused { RanAnswers result (refused self.old (alone_entry worker part)) }
         ensures same { IfErr result (λ e. IsUnchanged e.cause self.old self.new) }
         ensures still { OnErr result (AllFit self.old self.new) }
         ensures back { IfErr result (λ e. e.part ≡ part) }

@@ -5,7 +5,7 @@ ghost use Rattle.hh_model.specs.Step.{depth_limit};
 ghost use Rattle.heap_tree.specs.Node.{depth_of};
 ghost use Rattle.shared_value.specs.Entered.{refused, RanAnswers};
 ghost use Rattle.shared_value.specs.Fits.{Fits};
-ghost use Rattle.own_steps.specs.Alone.{alone_event};
+ghost use Rattle.own_steps.specs.Alone.{alone_entry};
 ghost use Rattle.child_tasks.specs.NoTask.{GivesTaskUp};
 ghost use Rattle.child_tasks.specs.Forks.{ForkAnswered, ForksTo, IsAtFork};
 ghost use Rattle.shared_tree.specs.Ran.{MayBeEntered};
@@ -56,7 +56,7 @@ impl Shared {
         requires room { 0 < self.old.journal.room }
         requires fits { Fits self.old worker part }
         requires forks { IsAtFork self.old part }
-        requires free { refused self.old (alone_event worker part) ≡ None }
+        requires free { refused self.old (alone_entry worker part) ≡ None }
         requires by { (line : ℕ) × ForksTo self.old part left right line }
         requires shallow { depth_of self.old.tree part.task < depth_limit }
         ensures memory { IfErr result (λ e. e.cause ≡ NotEntered.NoMemory) }
@@ -96,7 +96,7 @@ impl Shared {
         requires room { 0 < self.old.journal.room }
         requires fits { Fits self.old worker part }
         requires forks { IsAtFork self.old part }
-        ensures refused { RanAnswers result (refused self.old (alone_event worker part)) }
+        ensures refused { RanAnswers result (refused self.old (alone_entry worker part)) }
         ensures same { OnErr result (self.new ≡ self.old) }
         ensures back { IfErr result (λ e. e.part ≡ part) }
         ensures answered { IfOk result (ForkAnswered self.old self.new worker part) }

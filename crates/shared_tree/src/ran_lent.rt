@@ -3,7 +3,7 @@
 ghost use Rattle.std.specs.Prelude.{◌≡◌, ◌<◌, OnErr, IfErr, IfOk, None};
 ghost use Rattle.shared_value.specs.Entered.{refused, Answers};
 ghost use Rattle.shared_value.specs.Fits.{AllFit, Fits};
-ghost use Rattle.own_steps.specs.Alone.{alone_event, IsShared};
+ghost use Rattle.own_steps.specs.Alone.{alone_entry, IsShared};
 ghost use Rattle.child_tasks.specs.Joins.{IsUnchanged};
 ghost use Rattle.shared_tree.specs.Calls.{EntersLent};
 ghost use Rattle.shared_tree.specs.Ran.{ComesTo, IsJoint, LentTo, MayBeEntered};
@@ -59,7 +59,7 @@ impl Shared {
         requires room { 0 < self.old.journal.room }
         requires fits { Fits self.old worker part.old }
         requires shared { IsShared self.old part.old }
-        requires free { refused self.old (alone_event worker part.old) ≡ None }
+        requires free { refused self.old (alone_entry worker part.old) ≡ None }
         requires joint { IsJoint self.old part.old }
         ensures refused { Answers result None }
         ensures same { IfErr result (λ e. IsUnchanged e self.old self.new) }

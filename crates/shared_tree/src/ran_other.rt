@@ -3,7 +3,7 @@
 ghost use Rattle.std.specs.Prelude.{◌≡◌, ◌<◌, ℕ, OnErr, IfErr, IfOk, None};
 ghost use Rattle.shared_value.specs.Entered.{refused, Answers};
 ghost use Rattle.shared_value.specs.Fits.{AllFit, Fits};
-ghost use Rattle.own_steps.specs.Alone.{alone_event, GoesAlone, IsShared};
+ghost use Rattle.own_steps.specs.Alone.{alone_entry, GoesAlone, IsShared};
 ghost use Rattle.child_tasks.specs.Joins.{IsUnchanged};
 ghost use Rattle.others_objects.specs.Other.{IsOther, SameButRoom, TellsOther};
 ghost use Rattle.shared_tree.specs.Ran.{LentTo, MayBeEntered};
@@ -52,7 +52,7 @@ impl Shared {
         requires room { 0 < self.old.journal.room }
         requires fits { Fits self.old worker part.old }
         requires shared { IsShared self.old part.old }
-        requires free { refused self.old (alone_event worker part.old) ≡ None }
+        requires free { refused self.old (alone_entry worker part.old) ≡ None }
         requires reads { (line : ℕ) × TellsOther self.old part.old (OtherStep.SetsNumber register value) line }
         ensures { GoesAlone self.old self.new worker part.old part.new }
     {
@@ -74,7 +74,7 @@ impl Shared {
         requires room { 0 < self.old.journal.room }
         requires fits { Fits self.old worker part.old }
         requires shared { IsShared self.old part.old }
-        requires free { refused self.old (alone_event worker part.old) ≡ None }
+        requires free { refused self.old (alone_entry worker part.old) ≡ None }
         requires reads { (line : ℕ) × TellsOther self.old part.old (OtherStep.SetsReference register value) line }
         ensures { GoesAlone self.old self.new worker part.old part.new }
     {
@@ -96,7 +96,7 @@ impl Shared {
         requires room { 0 < self.old.journal.room }
         requires fits { Fits self.old worker part.old }
         requires shared { IsShared self.old part.old }
-        requires free { refused self.old (alone_event worker part.old) ≡ None }
+        requires free { refused self.old (alone_entry worker part.old) ≡ None }
         requires tells { TellsOther self.old part.old does line }
         ensures refused { Answers result None }
         ensures same { OnErr result (SameButRoom self.old self.new) }
@@ -143,7 +143,7 @@ impl Shared {
         requires fits { Fits self.old worker part.old }
         requires shared { IsShared self.old part.old }
         requires other { IsOther self.old part.old }
-        ensures refused { Answers result (refused self.old (alone_event worker part.old)) }
+        ensures refused { Answers result (refused self.old (alone_entry worker part.old)) }
         ensures same { OnErr result (SameButRoom self.old self.new) }
         ensures unchanged { IfErr result (λ e. IsUnchanged e self.old self.new) }
         ensures still { OnErr result (AllFit self.old self.new) }

@@ -3,7 +3,7 @@
 ghost use Rattle.std.specs.Prelude.{◌≡◌, ◌≤◌, ◌<◌, ◌+◌, ◌-◌, ◌++◌, ◌∷◌, []};
 ghost use Rattle.run_trace.specs.Entry.{private_limit};
 ghost use Rattle.run_trace.specs.Settings.{fuel_limit, worker_limit};
-ghost use Rattle.own_steps.specs.Alone.{alone_event};
+ghost use Rattle.own_steps.specs.Alone.{alone_entry};
 
 use listed::Roomy;
 use run_trace::{Entry, Kind};
@@ -15,7 +15,7 @@ pub(crate) fn enter_alone(steps: &mut u64, journal: &mut Roomy<Entry>, worker: u
     requires worker { worker < worker_limit }
     requires small { (steps.old < fuel_limit) × (part.now.fresh ≤ private_limit) }
     ensures steps { steps.new ≡ steps.old + (part.now.fresh + 1) }
-    ensures journal { journal.new ≡ record { items = journal.old.items ++ alone_event worker part.now ∷ []; room = journal.old.room - 1 } }
+    ensures journal { journal.new ≡ record { items = journal.old.items ++ alone_entry worker part.now ∷ []; room = journal.old.room - 1 } }
 {
     *steps += part.fresh as u64 + 1;
     journal.push_reserved(Entry::new(worker, Kind::Ran(part.task, part.fresh + 1)));

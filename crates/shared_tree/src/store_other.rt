@@ -3,7 +3,7 @@
 ghost use Rattle.std.specs.Prelude.{◌≡◌, ◌<◌, ℕ, OnErr, OnOk, IfOk, None};
 ghost use Rattle.shared_value.specs.Entered.{refused, Answers};
 ghost use Rattle.shared_value.specs.Fits.{Fits};
-ghost use Rattle.own_steps.specs.Alone.{alone_event, GoesAlone, IsShared};
+ghost use Rattle.own_steps.specs.Alone.{alone_entry, GoesAlone, IsShared};
 ghost use Rattle.others_objects.specs.Other.{store_of, SameButRoom, TellsOther};
 ghost use Rattle.shared_tree.specs.Ran.{LentTo};
 
@@ -31,7 +31,7 @@ impl Shared {
         requires room { 0 < self.old.journal.room }
         requires fits { Fits self.old worker part.old }
         requires shared { IsShared self.old part.old }
-        requires free { refused self.old (alone_event worker part.old) ≡ None }
+        requires free { refused self.old (alone_entry worker part.old) ≡ None }
         requires stores { (line : ℕ) × TellsOther self.old part.old (store_of swap object field value) line }
         ensures same { OnErr result (SameButRoom self.old self.new) }
         ensures back { OnErr result (part.new ≡ part.old) }
@@ -56,7 +56,7 @@ impl Shared {
         requires room { 0 < self.old.journal.room }
         requires fits { Fits self.old worker part.old }
         requires shared { IsShared self.old part.old }
-        requires free { refused self.old (alone_event worker part.old) ≡ None }
+        requires free { refused self.old (alone_entry worker part.old) ≡ None }
         requires stores { (line : ℕ) × TellsOther self.old part.old (OtherStep.StoresNumber object field value) line }
         ensures { GoesAlone self.old self.new worker part.old part.new }
     {
@@ -79,7 +79,7 @@ impl Shared {
         requires room { 0 < self.old.journal.room }
         requires fits { Fits self.old worker part.old }
         requires shared { IsShared self.old part.old }
-        requires free { refused self.old (alone_event worker part.old) ≡ None }
+        requires free { refused self.old (alone_entry worker part.old) ≡ None }
         requires stores { (line : ℕ) × TellsOther self.old part.old (store_of swap object field value) line }
         ensures refused { Answers result None }
         ensures same { OnErr result (SameButRoom self.old self.new) }

@@ -7,7 +7,7 @@ use Rattle.std.proofs.Math.Path.{fun_ext}
 use Rattle.listed.specs.RoomyValue.{RoomyValue}
 use Rattle.hh_lang.specs.Form.{IsProgram, ProgramText}
 use Rattle.hh_model.specs.Step.{is_waiting}
-use Rattle.run_trace.specs.Settings.{SettingsValue, AreLimits}
+use Rattle.run_trace.specs.Settings.{SettingsValue, AreSettings}
 use Rattle.run_trace.specs.Entry.{EntryValue}
 use Rattle.run_ledger.specs.declared.data.Ledger.{Ledger}
 use Rattle.run_ledger.specs.Heaps.{heap_of}
@@ -48,7 +48,7 @@ first_world_of p s slots spare n set = record {
   halted = false;
 }
 
-module _ (p : ProgramText) (s : SettingsValue) (lims : AreLimits s) (form : IsProgram p) (slots spare n : ℕ) (set : SetOf) (empty : content_of set ≡ record { sources = []; kept = []; keeps = false }) where
+module _ (p : ProgramText) (s : SettingsValue) (lims : AreSettings s) (form : IsProgram p) (slots spare n : ℕ) (set : SetOf) (empty : content_of set ≡ record { sources = []; kept = []; keeps = false }) where
   abbrev w : SharedValue
   w = first_world_of p s slots spare n set
 
@@ -142,7 +142,7 @@ module _ (p : ProgramText) (s : SettingsValue) (lims : AreLimits s) (form : IsPr
 
 -- the same of fields that are these
 pub first_by : (p p' : ProgramText) (s : SettingsValue) (tree : List Node) (pool : PoolValue) (rests : List (Option Rest)) (sets : List SetOf) (marks : List (Option MarkingValue)) (tasks_out : List (Option ℕ)) (outputs : List ℤ) (journal : RoomyValue EntryValue) (r : Rest) (set : SetOf)
-    → AreLimits s → IsProgram p → p' ≡ p → tree ≡ root_node ∷ [] → pool ≡ record { limit = s.chunks; slots = [] } → rests ≡ Some r ∷ [] → r ≡ first_rest p r.heap.slots r.heap.spare → sets ≡ set ∷ [] → content_of set ≡ record { sources = []; kept = []; keeps = false }
+    → AreSettings s → IsProgram p → p' ≡ p → tree ≡ root_node ∷ [] → pool ≡ record { limit = s.chunks; slots = [] } → rests ≡ Some r ∷ [] → r ≡ first_rest p r.heap.slots r.heap.spare → sets ≡ set ∷ [] → content_of set ≡ record { sources = []; kept = []; keeps = false }
     → marks ≡ None ∷ [] → tasks_out ≡ replicate s.workers None → outputs ≡ [] → journal.items ≡ []
     → IsSharedValue (record { program = p'; settings = s; tree = tree; pool = pool; rests = rests; sets = sets; marks = marks; tasks_out = tasks_out; outputs = outputs; journal = journal; steps = 0; end = None; halted = false })
 first_by p p' s tree pool rests sets marks tasks_out outputs journal r set lims form ep et eo eh er es empty em ea eu ej =

@@ -56,7 +56,7 @@ module _ (v : Memory) (hs : ℕ → Belongings) (l : Ledger) (same : (u : ℕ) �
     contents = λ u o r i. (let c = V.contents u o r (was u o r i) in (c.0, c.1, object_kept (Place v l) (Place v' l) o c.0 (λ n j. place n) c.2));
     tasks = λ u x r e. subst (λ (h : Belongings). TaskIsRead (Place v' l) h x) (sym (same u r)) (task_kept (Place v l) (Place v' l) (v.belongings u) x (λ n j. place n) (V.tasks u x r e));
     remembered = λ u o x i n r j e at. V.remembered u o x i n r (was u o r j) e at;
-    sources = λ u s i. (let k = V.sources u s i in source_same l l refl v v' u s k (place k.name s.object k.place) refl k.kept);
+    sources = λ u s i. (let k = V.sources u s i in source_same l l refl v v' u s k (place k.name s.object k.place) refl k.snapshot);
     views = λ u r live z o up ne rz i. ap (λ (h : Belongings). shown_at h.view o.at) (same u r) ∙ V.views u r live z o up ne rz (was z o rz i);
     gives = λ u z r live up ne w rz. gives_kept v v' z u (ap (λ (h : Belongings). h.view) (same u r)) (ap (λ (h : Belongings). h.view) (same z rz)) (λ n o. o) (V.gives u z r live up ne w rz);
   }

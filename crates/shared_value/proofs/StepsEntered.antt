@@ -134,15 +134,15 @@ private_at : (p : ProgramText) (s : SettingsValue) (t n : ℕ) (l : Ledger) → 
 private_at p s t zero l h = h.2
 private_at p s t (suc n) l h = private_at p s t n (task_step p l t) h.3
 
-abbrev ran_event : ℕ → Private → ℕ → EntryValue
-ran_event k p m = record { worker = k; kind = Ran p.task m }
+abbrev ran_entry : ℕ → Private → ℕ → EntryValue
+ran_entry k p m = record { worker = k; kind = Ran p.task m }
 
 abbrev ran_with : SharedValue → ℕ → Private → ℕ → ℕ → SharedValue
-ran_with w k p m room = entered w (ran_event k p m) w.tree w.pool w.rests w.sets w.tasks_out w.outputs (w.steps + m) w.end room
+ran_with w k p m room = entered w (ran_entry k p m) w.tree w.pool w.rests w.sets w.tasks_out w.outputs (w.steps + m) w.end room
 
-module _ (w : SharedValue) (k : ℕ) (p : Private) (I : IsSharedValue w) (F : Fits w k p) (n : ℕ) (is : p.fresh ≡ suc n) (free : refused w (ran_event k p (suc n)) ≡ None) (room : ℕ) where
+module _ (w : SharedValue) (k : ℕ) (p : Private) (I : IsSharedValue w) (F : Fits w k p) (n : ℕ) (is : p.fresh ≡ suc n) (free : refused w (ran_entry k p (suc n)) ≡ None) (room : ℕ) where
   abbrev e : EntryValue
-  e = ran_event k p (suc n)
+  e = ran_entry k p (suc n)
 
   abbrev l : Ledger
   l = accounts w
@@ -209,8 +209,8 @@ module _ (w : SharedValue) (k : ℕ) (p : Private) (I : IsSharedValue w) (F : Fi
   is : p.fresh ≡ suc n
   is = omega (arith, pos)
 
-  free_so : refused w (ran_event k p (suc n)) ≡ None
-  free_so = subst (λ m. refused w (ran_event k p m) ≡ None) is free
+  free_so : refused w (ran_entry k p (suc n)) ≡ None
+  free_so = subst (λ m. refused w (ran_entry k p m) ≡ None) is free
 
   pub ran_world : IsSharedValue (ran_with w k p p.fresh j.room)
   ran_world = subst (λ m. IsSharedValue (ran_with w k p m j.room)) (sym is) (ran_world_by w k p I F n is free_so j.room)

@@ -1,7 +1,7 @@
 -- What every shared value keeps.
 use Rattle.std.specs.Prelude.{◌≡◌, ℕ, ◌<◌, ◌*◌, ◌/◌, ◌^◌, true, Some, [], length}
 use Rattle.hh_lang.specs.Form.{IsProgram}
-use Rattle.run_trace.specs.Settings.{AreLimits}
+use Rattle.run_trace.specs.Settings.{AreSettings}
 use Rattle.run_ledger.specs.Journals.{is_legal}
 use Rattle.object_layout.specs.Chunks.{chunk_at}
 use Rattle.object_layout.specs.ChunkValue.{ChunkValue}
@@ -32,7 +32,7 @@ pub record HeapForm (h : LeafHeapValue) : Type 0 where
 
 -- its journal is legal, and it stands for its journal; the root of a run that is done is handed back
 pub record IsSharedValue (w : SharedValue) : Type 0 where
-  pub limits : AreLimits w.settings
+  pub limits : AreSettings w.settings
   pub form : IsProgram w.program
   pub legal : is_legal w.program w.settings w.journal.items ≡ true
   pub made : length w.rests ≡ length w.tree

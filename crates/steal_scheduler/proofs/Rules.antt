@@ -23,8 +23,8 @@ total-set f views port v w e = let h = at_port views port v e in let s = sum_by-
 pub opens : Dealt [] (opening_view ∷ [])
 opens = record { balanced = λ x. refl; stolen = []; in_order = first }
   where
-    first : (port : ℕ) (v : View) → get_elem? (opening_view ∷ []) port ≡ some v → v.owns ≡ true → (port ≡ 0) × (v.kept ≡ [] ++ [])
-    first zero v e owns = (refl, sym (ap (λ (u : View). u.kept) (some-injective opening_view v e)))
+    first : (port : ℕ) (v : View) → get_elem? (opening_view ∷ []) port ≡ some v → v.owns ≡ true → (port ≡ 0) × (v.outstanding ≡ [] ++ [])
+    first zero v e owns = (refl, sym (ap (λ (u : View). u.outstanding) (some-injective opening_view v e)))
     first (suc port) v e owns = absurd (some-ne-none v (sym e))
 
 pub admits : Admits Dealt guest_view
@@ -37,11 +37,11 @@ admits items views h = record {
 
 module _ (port : ℕ) (v : View) (items before : List ℕ) (views : List View) (h : Dealt before views) (at : get_elem? views port ≡ some v) where
   -- the rule after the owner's view became w
-  owner_moves : (w : View) → v.owns ≡ true → (w.kept ≡ h.stolen ++ items) → ((x : ℕ) → times x w.put + times x before + times x v.taken ≡ times x v.put + times x items + times x w.taken) → Dealt items (set views port w)
+  owner_moves : (w : View) → v.owns ≡ true → (w.outstanding ≡ h.stolen ++ items) → ((x : ℕ) → times x w.put + times x before + times x v.taken ≡ times x v.put + times x items + times x w.taken) → Dealt items (set views port w)
   owner_moves w owns is fair = record {
     balanced = λ x. let b = h.balanced x in let f = fair x in let p = total-set (λ (u : View). times x u.put) views port v w at in let t = total-set (λ (u : View). times x u.taken) views port v w at in omega arith;
     stolen = h.stolen;
-    in_order = λ j u e o. ⊎_elim (λ (t : (j ≡ port) × (w ≡ u)). (t.0 ∙ (h.in_order port v at owns).0, ap (λ (y : View). y.kept) (sym t.1) ∙ is))
+    in_order = λ j u e o. ⊎_elim (λ (t : (j ≡ port) × (w ≡ u)). (t.0 ∙ (h.in_order port v at owns).0, ap (λ (y : View). y.outstanding) (sym t.1) ∙ is))
         (λ (t : (j ≢ port) × (get_elem? views j ≡ some u)). absurd (t.0 ((h.in_order j u t.1 o).0 ∙ sym (h.in_order port v at owns).0))) (at_set views port j w u e);
   }
 
@@ -54,7 +54,7 @@ puts port v xs owns items views h at = (
 )
 
 pub takes_back : (port : ℕ) (v : View) → v.owns ≡ true → Pops Dealt port v (TookBack v)
-takes_back port v owns x items views h at = let w : View = record v { taken = v.taken ++ x ∷ []; kept = h.stolen ++ items } in (
+takes_back port v owns x items views h at = let w : View = record v { taken = v.taken ++ x ∷ []; outstanding = h.stolen ++ items } in (
   w,
   owner_moves port v items (items ++ x ∷ []) views h at w owns refl (λ y. let p = times-append y v.taken (x ∷ []) in let q = times-append y items (x ∷ []) in omega arith),
   record { owns = refl; put = refl; taken = refl; newest = (h.in_order port v at owns).1 ∙ sym (append_assoc h.stolen items (x ∷ [])) },

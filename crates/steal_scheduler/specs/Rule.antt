@@ -10,33 +10,33 @@ times x xs = sum_by (λ y. if y == x then 1 else 0) xs
 
 -- what the owner knows of a new deque
 abbrev pub opening_view : View
-opening_view = record { owns = true; put = []; taken = []; kept = [] }
+opening_view = record { owns = true; put = []; taken = []; outstanding = [] }
 
 -- what a thief knows before its first theft
 abbrev pub guest_view : View
-guest_view = record { owns = false; put = []; taken = []; kept = [] }
+guest_view = record { owns = false; put = []; taken = []; outstanding = [] }
 
 -- after the owner put these
 abbrev pub with_put : View → List ℕ → View
-with_put v xs = record v { put = v.put ++ xs; kept = v.kept ++ xs }
+with_put v xs = record v { put = v.put ++ xs; outstanding = v.outstanding ++ xs }
 
 -- after a thief took these
 abbrev pub with_taken : View → List ℕ → View
 with_taken v xs = record v { taken = v.taken ++ xs }
 
--- the owner took back the newest of what it had kept
+-- the owner took back the newest of what was outstanding
 pub record TookBack (v : View) (xs : List ℕ) (w : View) : Type 0 where
   pub owns : w.owns ≡ v.owns
   pub put : w.put ≡ v.put
   pub taken : w.taken ≡ v.taken ++ xs
-  pub newest : v.kept ≡ w.kept ++ xs
+  pub newest : v.outstanding ≡ w.outstanding ++ xs
 
 -- the numbers put on the deque are those that all hands took from it and those left, each as often;
 -- and what the owner put and has not taken back is, in order, what was stolen and what is left
 pub record Dealt (items : List ℕ) (views : List View) : Type 0 where
   pub balanced : (x : ℕ) → sum_by (λ v. times x v.put) views ≡ sum_by (λ v. times x v.taken) views + times x items
   pub stolen : List ℕ
-  pub in_order : (port : ℕ) (v : View) → get_elem? views port ≡ some v → v.owns ≡ true → (port ≡ 0) × (v.kept ≡ stolen ++ items)
+  pub in_order : (port : ℕ) (v : View) → get_elem? views port ≡ some v → v.owns ≡ true → (port ≡ 0) × (v.outstanding ≡ stolen ++ items)
 
 -- by the rule there is a state of the deque in which it holds at most so many numbers and one of its passes keeps this view
 pub record HeldAtMost (most : ℕ) (v : View) : Type 0 where

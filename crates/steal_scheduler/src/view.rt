@@ -10,5 +10,5 @@ pub struct View {
     /// The numbers that it took from the deque, in order.
     pub taken: LinkedList<u32>,
     /// For the owner what it put and has not taken back, the newest last.
-    pub kept: LinkedList<u32>,
+    pub outstanding: LinkedList<u32>,
 }

@@ -1,7 +1,7 @@
 // The table of the tasks of a run.
 
 ghost use Rattle.std.specs.Prelude.{◌≡◌, ◌++◌, ◌∷◌, [], None, false, slice_get, OnOk, IfOk, IfErr};
-ghost use Rattle.run_trace.specs.Settings.{AreLimits};
+ghost use Rattle.run_trace.specs.Settings.{AreSettings};
 ghost use Rattle.run_ledger.specs.Entries.{refusal, after};
 ghost use Rattle.run_ledger.specs.Journals.{opening, ledger_of, first_refused, refused_as_run};
 ghost use Rattle.run_accounts.specs.Accounts.{FailsFor};
@@ -51,7 +51,7 @@ fn enter_all(
     rows: &mut Listed<Row>,
     journal: &[Entry],
 ) -> Result<(), ReplayError>
-    requires limits { AreLimits book.old.settings }
+    requires limits { AreSettings book.old.settings }
     requires first { book.old.ledger ≡ opening book.old.program book.old.settings }
     requires open { book.old.stopped ≡ false }
     requires program { book.old.program ≡ program.now }

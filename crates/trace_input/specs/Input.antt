@@ -91,9 +91,9 @@ pub record IsInput (input : List ℕ) (t : TraceInput) : Type 0 where
   pub program : t.program ≡ program_of (program_part input)
   pub trace : AreTraceLines (trace_lines (lines_of input)) t.trace
 
--- the limits of its run: these, with the version that the trace names
-abbrev pub limits_for : SettingsValue → TraceInput → SettingsValue
-limits_for s t = record s { version = t.trace.version }
+-- the settings of its run: these, with the version that the trace names
+abbrev pub settings_for : SettingsValue → TraceInput → SettingsValue
+settings_for s t = record s { version = t.trace.version }
 
 -- a reader fails at the first fault, or for want of memory
 abbrev pub FailsAt : Option InputFault → InputError → Type 0

@@ -4,7 +4,7 @@ ghost use Rattle.std.specs.Prelude.{◌≡◌, IfOk, IfSome, None};
 ghost use Rattle.hh_model.specs.Step.{owner_of};
 ghost use Rattle.chunk_pool.specs.PoolValue.{AreChunks};
 ghost use Rattle.shared_value.specs.SharedValue.{accounts};
-ghost use Rattle.heap_reading.specs.Image.{AreAll, ChunkBefore, IsInUse, IsLive, LiveBefore};
+ghost use Rattle.heap_reading.specs.Image.{AreAll, InUseBefore, IsInUse, IsLive, LiveBefore};
 
 use heap_marking::is_joined;
 use heap_reading::{InUse, Live, live_in};
@@ -58,7 +58,7 @@ fn chunk_in_use(shared: &Shared, number: usize) -> Option<InUse>
 
 /// The chunks in use, by rising number. Each has a number of 32 bits, and a unit of 1,024 words at least.
 pub fn chunk_list(alloc: Global, shared: &Shared) -> Result<Listed<InUse>, AllocError>
-    ensures all { IfOk result (λ chunks. AreAll ChunkBefore (IsInUse shared.now) chunks) }
+    ensures all { IfOk result (λ chunks. AreAll InUseBefore (IsInUse shared.now) chunks) }
     ensures sized { AreChunks shared.now.pool.slots }
 {
     let mut chunks = Listed::new(alloc);

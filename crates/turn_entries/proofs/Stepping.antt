@@ -41,8 +41,8 @@ counted_then p m t j (suc n) k e K C =
     let h : suc (n + j) ≡ k = omega (arith, e) in
     (step_is_fork_join_state p (steps p m t n) t b.0, subst (λ i. Counted i (steps p m t (suc n)).tasks (steps p m t (suc n)).store) h (steps_count p (steps p m t n) t (n + j) b.0 b.1))
 
-kept_now : (w : SharedValue) → IsForkJoinState (accounts w).machine
-kept_now w = subst IsForkJoinState (sym (machine_is_run w.program w.settings w.journal.items)) (run_is_fork_join_state w.program _ (tasks_of w.journal.items) (start_is_fork_join_state w.program (field_limit w.settings.version)))
+fork_join_now : (w : SharedValue) → IsForkJoinState (accounts w).machine
+fork_join_now w = subst IsForkJoinState (sym (machine_is_run w.program w.settings w.journal.items)) (run_is_fork_join_state w.program _ (tasks_of w.journal.items) (start_is_fork_join_state w.program (field_limit w.settings.version)))
 
 module _ (w : SharedValue) (k : ℕ) (part : Private) (I : IsSharedValue w) (on : (accounts w).end ≡ None) (F : Fits w k part) where
   pub first : FitsFirst w part
@@ -53,7 +53,7 @@ module _ (w : SharedValue) (k : ℕ) (part : Private) (I : IsSharedValue w) (on 
       let l : Ledger = accounts w in
       let counts = (journals_are_counted w.program w.settings w.journal.items).counts in
       let m : State = unended l.machine in
-      let then : Counted (part.fresh + l.steps) (steps w.program m part.task part.fresh).tasks (steps w.program m part.task part.fresh).store = (counted_then w.program m part.task l.steps part.fresh (part.fresh + l.steps) refl (kept_now w) counts).1 in
+      let then : Counted (part.fresh + l.steps) (steps w.program m part.task part.fresh).tasks (steps w.program m part.task part.fresh).store = (counted_then w.program m part.task l.steps part.fresh (part.fresh + l.steps) refl (fork_join_now w) counts).1 in
       let count : part.allocations ≡ length (row_of (slice_get (steps w.program m part.task part.fresh).store part.task)) =
       first.count ∙ ap (λ (z : State). length (row_of (slice_get z.store part.task))) (beyond_machine w.program l part) in
       let rows : length (row_of (slice_get (steps w.program m part.task part.fresh).store part.task)) ≤ part.fresh + l.steps = then.objects part.task in

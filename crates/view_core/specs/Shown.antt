@@ -10,7 +10,7 @@ use Rattle.image_check.specs.declared.cause.Fault.{Fault}
 use Rattle.image_check.specs.Fault.{image_fault}
 use Rattle.trace_input.specs.declared.input.InputFault.{InputFault}
 use Rattle.trace_input.specs.declared.input.TraceInput.{TraceInput}
-use Rattle.trace_input.specs.Input.{input_fault, limits_for, IsInput}
+use Rattle.trace_input.specs.Input.{input_fault, settings_for, IsInput}
 use Rattle.refusal_lines.specs.declared.refusal.Refusal.{Refusal}
 use Rattle.refusal_lines.specs.declared.refusal.Refusal.TheVariants.{Entry, Image as ImageRefused}
 use Rattle.refusal_lines.specs.Refusals.{refusal_line, refusal_of}
@@ -72,7 +72,7 @@ ShowsWhole P None = P
 ShowsWhole P (Some r) = Refuses (Entry r)
 
 abbrev pub ShowsTrace : RunView → SettingsValue → TraceInput → Shown → Type 0
-ShowsTrace v s t = ShowsWhole (ShowsJournal v t.program (limits_for s t) t.trace.entries) (refused_as_run t.program (limits_for s t) t.trace.entries)
+ShowsTrace v s t = ShowsWhole (ShowsJournal v t.program (settings_for s t) t.trace.entries) (refused_as_run t.program (settings_for s t) t.trace.entries)
 
 -- of a program with a trace, or its first fault
 abbrev pub ShowsInput : RunView → SettingsValue → List ℕ → Option InputFault → Shown → Type 0

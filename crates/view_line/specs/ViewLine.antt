@@ -13,7 +13,7 @@ use Rattle.view_line.specs.declared.line.View.{View}
 use Rattle.view_line.specs.declared.line.View.TheVariants.{Usage, Heaps, Timeline, Tasks, Schedules}
 use Rattle.view_line.specs.App.{heaps_app}
 
--- a program with a trace: the file, if one is named, and the limits of its run
+-- a program with a trace: the file, if one is named, and the settings of its run
 abbrev pub Run : Type 0
 Run = Option Text × SettingsValue
 

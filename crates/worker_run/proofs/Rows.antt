@@ -151,7 +151,7 @@ was_given z p s first desks w last all_first opened all rounds stopped seen each
   of_each = subst (λ (x : SharedValue). HasOfEach x.journal.items desks) (sym same) each;
 }
 
--- a run of this program within these limits
+-- a run of this program with these settings
 pub is_run : (p : ProgramText) (s : SettingsValue) (w : SharedValue) → IsSharedValue w → w.program ≡ p → w.settings ≡ s → is_paced w.program w.settings w.journal.items ≡ true → IsRun p s w
 is_run p s w I program settings paced = record {
   program = program;

@@ -74,7 +74,7 @@ pub record HasStopped (d : Desk) : Type 0 where
 abbrev pub HaveStopped : List Desk → Type 0
 HaveStopped desks = (k : ℕ) (d : Desk) → slice_get desks k ≡ Some d → HasStopped d
 
--- the desks of all workers within these limits, one for each, in their order
+-- the desks of all workers with these settings, one for each, in their order
 pub record AreAllDesks (z : TableId) (p : ProgramText) (s : SettingsValue) (desks : List Desk) : Type 0 where
   pub count : length desks ≡ s.workers
   pub seats : AreAllSeats z (map (λ d. d.seat) desks)
@@ -101,7 +101,7 @@ FewThefts d = length (thefts d.hand) < 2 ^ 32
 abbrev pub AreHands : ℕ → List Hand → Type 0
 AreHands n hands = (length hands ≡ n) × ((k : ℕ) (h : Hand) → slice_get hands k ≡ Some h → length (thefts h) ≡ n)
 
--- a desk for each worker within these limits, in their order; nothing was given back yet
+-- a desk for each worker with these settings, in their order; nothing was given back yet
 abbrev pub AreNewDesks : SettingsValue → List Desk → Type 0
 AreNewDesks s desks = (k : ℕ) (d : Desk) → slice_get desks k ≡ Some d → (d.worker ≡ k) × (d.settings ≡ s) × (d.given ≡ 0) × (length (thefts d.hand) ≡ s.workers)
 

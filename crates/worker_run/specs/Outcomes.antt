@@ -20,7 +20,7 @@ abbrev pub finish_of : Option RunEnd → Finish
 finish_of None = NoMemory
 finish_of (Some end) = Ended end
 
--- a run of this program within these limits: it stands for its journal, which is legal and paced
+-- a run of this program with these settings: it stands for its journal, which is legal and paced
 pub record IsRun (p : ProgramText) (s : SettingsValue) (w : SharedValue) : Type 0 where
   pub program : w.program ≡ p
   pub settings : w.settings ≡ s
@@ -28,7 +28,7 @@ pub record IsRun (p : ProgramText) (s : SettingsValue) (w : SharedValue) : Type 
   pub paced : is_paced p s w.journal.items ≡ true
   pub stands : IsSharedValue w
 
--- WHAT THE WORKERS GAVE BACK: at one turn each worker of a run of this program within these limits had a desk, and the first had
+-- WHAT THE WORKERS GAVE BACK: at one turn each worker of a run of this program with these settings had a desk, and the first had
 -- put the root; there each went round until the run was over; of each the journal has just the entries that its desk gave back, each once
 pub record WasGivenBack (p : ProgramText) (s : SettingsValue) (journal : List EntryValue) : Type 0 where
   pub turn : TableId

@@ -39,7 +39,7 @@ module _ (v : Memory) (l : Ledger) where
     above = S.above;
     below = S.below;
     live = S.live;
-    kept = S.kept;
+    snapshot = S.snapshot;
   }
 
   pub stands_aside : Stands v l → Stands v (aside l)

@@ -16,7 +16,7 @@ use Rattle.shared_value.specs.Entered.{Answers, Enters, IsCaused, IsSamePart, re
 use Rattle.shared_value.specs.Fits.{AllFit, Fits, OthersFit}
 use Rattle.shared_value.specs.Stands.{IsSharedValue}
 use Rattle.shared_value.specs.SharedValue.{SharedValue}
-use Rattle.own_steps.specs.Alone.{GoesAlone, HaltsAlone, alone_event}
+use Rattle.own_steps.specs.Alone.{GoesAlone, HaltsAlone, alone_entry}
 use Rattle.child_tasks.specs.Joins.{IsUnchanged}
 use Rattle.shared_tree.specs.declared.ran.Ran.{Ran}
 use Rattle.shared_tree.specs.declared.ran.Ran.TheVariants.{Done, Ended, Forked, Over}
@@ -63,7 +63,7 @@ begin_fails w after k e p q cause why same back H F =
 -- ---- STEPS
 
 -- a shared step is entered, and the task goes on
-pub goes_made : (w after : SharedValue) (k : ℕ) (p q : Private) → p.begun ≡ None → refused w (alone_event k p) ≡ None → GoesAlone w after k p q → EntersFor w after k (alone_event k p) (Part q)
+pub goes_made : (w after : SharedValue) (k : ℕ) (p q : Private) → p.begun ≡ None → refused w (alone_entry k p) ≡ None → GoesAlone w after k p q → EntersFor w after k (alone_entry k p) (Part q)
 goes_made w after k p q idle free R = record {
   free = free;
   enters = R.enters;
@@ -72,7 +72,7 @@ goes_made w after k p q idle free R = record {
 }
 
 -- or it has ended the run
-pub halts_made : (w after : SharedValue) (k : ℕ) (p q : Private) → p.begun ≡ None → refused w (alone_event k p) ≡ None → HaltsAlone w after k p q → EntersFor w after k (alone_event k p) (Part q)
+pub halts_made : (w after : SharedValue) (k : ℕ) (p q : Private) → p.begun ≡ None → refused w (alone_entry k p) ≡ None → HaltsAlone w after k p q → EntersFor w after k (alone_entry k p) (Part q)
 halts_made w after k p q idle free R = record {
   free = free;
   enters = R.enters;
@@ -81,7 +81,7 @@ halts_made w after k p q idle free R = record {
 }
 
 -- and one that gives the part up
-pub ran_made : (w after : SharedValue) (k : ℕ) (p : Private) (r : Ran) → p.begun ≡ None → refused w (alone_event k p) ≡ None → RanTo w after k p r → EntersFor w after k (alone_event k p) (holding_of r)
+pub ran_made : (w after : SharedValue) (k : ℕ) (p : Private) (r : Ran) → p.begun ≡ None → refused w (alone_entry k p) ≡ None → RanTo w after k p r → EntersFor w after k (alone_entry k p) (holding_of r)
 ran_made w after k p (Forked left right) idle free R = record { free = free; enters = R.0.enters; others = R.0.others; holds = R.1 }
 ran_made w after k p (Ended resumed) idle free R = record { free = free; enters = R.0.enters; others = R.0.others; holds = R.1 }
 ran_made w after k p (Over q) idle free R = halts_made w after k p q idle free R

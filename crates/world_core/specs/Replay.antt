@@ -8,7 +8,7 @@ use Rattle.world_core.specs.declared.replaying.ReplayStop.{ReplayStop}
 use Rattle.world_core.specs.declared.replaying.ReplayStop.TheVariants.{NoMemory, RefusedAt}
 use Rattle.world_core.specs.WorldValue.{WorldValue}
 
--- the world runs this program within these limits, and its journal is legal and begins the entries
+-- the world runs this program with these settings, and its journal is legal and begins the entries
 pub record HasCome (p : ProgramText) (s : SettingsValue) (entries : List EntryValue) (x : WorldValue) : Type 0 where
   pub program : x.shared.program ≡ p
   pub settings : x.shared.settings ≡ s

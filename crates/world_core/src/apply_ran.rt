@@ -4,7 +4,7 @@ ghost use Rattle.std.specs.Prelude.{◌≡◌, ◌<◌, ◌≤◌, ◌+◌, ◌^
 ghost use Rattle.run_ledger.specs.Steps.{most_steps};
 ghost use Rattle.shared_value.specs.Causes.{first_cause};
 ghost use Rattle.shared_value.specs.Fits.{Fits};
-ghost use Rattle.own_steps.specs.Alone.{alone_event, IsShared};
+ghost use Rattle.own_steps.specs.Alone.{alone_entry, IsShared};
 ghost use Rattle.shared_tree.specs.Ran.{LeavesBy};
 ghost use Rattle.world_core.specs.Applied.{holding_of, MakesFor};
 ghost use Rattle.world_core.specs.Next.{standing_by, IsNext};
@@ -113,7 +113,7 @@ fn enter_leaving(shared: &mut Counted, worker: u32, part: Private, leaving: Leav
     requires idle { part.begun ≡ None }
     requires shared { IsShared shared.old part }
     requires leaves { LeavesBy shared.old part leaving }
-    ensures { MakesFor shared.old shared.new worker (alone_event worker part) result }
+    ensures { MakesFor shared.old shared.new worker (alone_entry worker part) result }
 {
     shared.stands();
     match shared.ran_leaving(worker, part, leaving) {
@@ -135,7 +135,7 @@ fn enter_last(shared: &mut Counted, worker: u32, part: Private) -> Made
     requires fits { Fits shared.old worker part }
     requires idle { part.begun ≡ None }
     requires shared { IsShared shared.old part }
-    ensures { MakesFor shared.old shared.new worker (alone_event worker part) result }
+    ensures { MakesFor shared.old shared.new worker (alone_entry worker part) result }
 {
     shared.stands();
     let mut part = part;

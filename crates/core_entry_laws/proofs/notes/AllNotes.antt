@@ -114,7 +114,7 @@ joins_note v v' l l' p c d x rl rr al ar V J K C N H u = elim (cases_eq u p) [
 sweeps_root : (v v' : Memory) (l l' : Ledger) (t : ℕ) → Stands v l → ChangesHeap l l' t → KeepsJust v v' l l' t (heap_of l t).snapshot → (u : ℕ) → (u ≡ t → ⊥) → (b : Addr) → IsRoot v l u b → IsRoot v' l' u b
 sweeps_root v v' l l' t V L C u nt b r = elim (cases_eq r.task t) [
   | inl e ↦
-      let i = C.kept r.object (subst (λ z. In (objects v z) r.object) e r.there) (subst (λ z. In (heap_of l z).snapshot (object_name r.object)) e (root_kept v l V u b r)) in
+      let i = C.stays r.object (subst (λ z. In (objects v z) r.object) e r.there) (subst (λ z. In (heap_of l z).snapshot (object_name r.object)) e (root_kept v l V u b r)) in
       root_by v v' l l' u (noted_by v v' u (C.sources u)) (λ k o. C.owners k u nt o) b r (subst (Rests l') (sym e) (L.worker ∙ subst (Rests l) e r.rests)) r.object (subst (λ z. In (objects v' z) r.object) (sym e) i) refl r.holds
   | inr ne ↦
       root_same v v' l l' u (noted_by v v' u (C.sources u)) (λ k o. C.owners k u nt o) b r (ap (λ (z : Heap). z.worker) (L.others r.task ne) ∙ r.rests) (ap (λ (z : Belongings). objects_in z.chunks) (C.others r.task ne))

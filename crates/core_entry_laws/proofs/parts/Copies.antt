@@ -66,7 +66,7 @@ copy_stays p s t h h' f v v' l l' owner heap same F C =
         named = C.copy.named;
         laid = subst (λ (z : Heap). AreLaidOut h'.chunks z.reserved) (sym e) C.copy.laid;
         owned = λ c i. owner c.number (C.copy.owned c i);
-        kept = λ o i j. C.copy.kept o i (subst (λ (z : Heap). In z.survivors (object_name o)) e j);
+        copied = λ o i j. C.copy.copied o i (subst (λ (z : Heap). In z.survivors (object_name o)) e j);
         only = λ o i. (let r = C.copy.only o i in (r.0, r.1, subst (λ (z : Heap). In z.survivors (object_name r.0)) (sym e) r.2, r.3));
         frames = C.copy.frames;
         view = C.copy.view;
@@ -138,7 +138,7 @@ module _ (p : ProgramText) (s : SettingsValue) (t : ℕ) (h h' : Belongings) (f 
   pub moves : Moves V V' lt lt' t (heap_of lt t).survivors f
   moves = record {
     belongings = belongings;
-    kept = λ o i j. subst (λ (z : Belongings). In (objects_in z.chunks) (copied_object f o)) (sym new_belongings) (C.copy.kept o (subst (λ (z : Belongings). In (objects_in z.chunks) o) old_belongings i) (subst (λ ns. In ns (object_name o)) survivors j));
+    copied = λ o i j. subst (λ (z : Belongings). In (objects_in z.chunks) (copied_object f o)) (sym new_belongings) (C.copy.copied o (subst (λ (z : Belongings). In (objects_in z.chunks) o) old_belongings i) (subst (λ ns. In ns (object_name o)) survivors j));
     only = λ o i.
         let r = C.copy.only o (subst (λ (z : Belongings). In (objects_in z.chunks) o) new_belongings i) in
         (r.0, subst (λ (z : Belongings). In (objects_in z.chunks) r.0) (sym old_belongings) r.1, subst (λ ns. In ns (object_name r.0)) (sym survivors) r.2, r.3);

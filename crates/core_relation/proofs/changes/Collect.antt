@@ -60,7 +60,7 @@ module _ (v v' : Memory) (l l' : Ledger) (t : ℕ) (x : Task) (f : Addr → Addr
   moved : (n : Name) (a : Addr) → own l n ≡ t → Live l t S survivors spares n → Place v l n a → Place v' l' n (f a)
   moved n a e g p =
       let q : Lies (v.belongings t).chunks n a = subst (λ u. Lies (v.belongings u).chunks n a) e (p.here (subst (Rests l) (sym e) B.rests)) in
-      let i : In (objects v' t) (copied_object f q.0) = C.kept q.0 q.1 (subst (In survivors) (sym q.2.name) (g e)) in
+      let i : In (objects v' t) (copied_object f q.0) = C.copied q.0 q.1 (subst (In survivors) (sym q.2.name) (g e)) in
       let q' : Lies (v'.belongings t).chunks n (f a) = (copied_object f q.0, i, record { name = q.2.name; at = ap f q.2.at }) in
       let k = in_chunk (v'.belongings t).chunks (copied_object f q.0) i in
       let at : (f a).chunk ≡ k.0.number = ap (λ (b : Addr). (f b).chunk) (sym q.2.at) ∙ C.belongings.inside k.0 (copied_object f q.0) k.1 k.2 in
@@ -207,7 +207,7 @@ module _ (v v' : Memory) (l l' : Ledger) (t : ℕ) (x : Task) (f : Addr → Addr
       let k = V.sources u s (subst (λ ss. In ss s) (C.sources u) i) in
       let ne : own l k.name ≡ t → ⊥ = λ e. both_ways (is_waiting (slice_get l.machine.tasks t)) idle (ap (λ z. is_waiting (slice_get l.machine.tasks z)) (sym e) ∙ k.waits) in
       source_same l l' L.machine v v' u s k (still k.name s.object ne k.place).0 (worker_same l l' t L (own l k.name))
-      (subst (λ (h : Heap). In h.snapshot k.name) (sym (L.others (own l k.name) ne)) k.kept)
+      (subst (λ (h : Heap). In h.snapshot k.name) (sym (L.others (own l k.name) ne)) k.snapshot)
 
   view_same : (z : ℕ) → (v'.belongings z).view ≡ (v.belongings z).view
   view_same z = elim (cases_eq z t) [ inl e ↦ ap (λ k. (v'.belongings k).view) e ∙ (C.view ∙ ap (λ k. (v.belongings k).view) (sym e)) | inr ne ↦ ap (λ (h : Belongings). h.view) (C.others z ne) ]

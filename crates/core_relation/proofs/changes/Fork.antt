@@ -207,7 +207,7 @@ module _ (v v' : Memory) (l l' : Ledger) (t a b g h : ℕ) (x : Task) (S : Sound
         let oa : own l k.name ≡ a → ⊥ = λ f. unowned s.object.chunk (own l k.name) (inl f) k.place.chunk in
         let ob : own l k.name ≡ b → ⊥ = λ f. unowned s.object.chunk (own l k.name) (inr f) k.place.chunk in
         source_kept v v' l l' z z s k e (F.store k.name) (place k.name s.object k.place) (ap is_waiting (F.tasks (own l k.name) nt oa ob)) (ap (λ (i : Heap). i.worker) (F.heaps (own l k.name) nt oa ob)) (F.paths (own l k.name) z na nb ∙ k.above) k.below (live z na nb k.live)
-        (subst (λ (i : Heap). In i.snapshot k.name) (sym (F.heaps (own l k.name) nt oa ob)) k.kept)
+        (subst (λ (i : Heap). In i.snapshot k.name) (sym (F.heaps (own l k.name) nt oa ob)) k.snapshot)
       where
         live : (z : ℕ) → (z ≡ a → ⊥) → (z ≡ b → ⊥) → is_joined (slice_get l.machine.tasks z) ≡ false → is_joined (slice_get l'.machine.tasks z) ≡ false
         live z na nb k = elim (cases_eq z t) [

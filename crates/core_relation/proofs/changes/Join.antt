@@ -441,7 +441,7 @@ module _ (v v' : Memory) (l l' : Ledger) (p c d : ℕ) (x : Task) (rl rr : ℤ �
       let nd : (own l k.name ≡ d → ⊥) = λ e. both_ways _ T.right_idle (ap (λ u. is_waiting (slice_get l.machine.tasks u)) (sym e) ∙ k.waits) in
       let e : own l' k.name ≡ own l k.name = owner_stays k.name nc nd in
       source_kept v v' l l' y z s k e (store_same k.name) (place k.name s.object k.place) (ap is_waiting (J.tasks (own l k.name) np nc nd)) (ap (λ (h : Heap). h.worker) (J.heaps (own l k.name) np nc nd)) (J.paths (own l k.name) z ∙ path) apart live
-      (subst (λ (h : Heap). In h.snapshot k.name) (sym (J.heaps (own l k.name) np nc nd)) k.kept)
+      (subst (λ (h : Heap). In h.snapshot k.name) (sym (J.heaps (own l k.name) np nc nd)) k.snapshot)
     where
       owner_stays : (n : Name) → (own l n ≡ c → ⊥) → (own l n ≡ d → ⊥) → own l' n ≡ own l n
       owner_stays n nc nd = elim (J.owners n.task) [

@@ -59,5 +59,5 @@ module _ (v v' : Memory) (l l' : Ledger) (t w : ℕ) (V : Stands v l) (idle : is
         let k = V.sources u s (subst (λ ss. In ss s) (C.sources u) i) in
         let ne : own l k.name ≡ t → ⊥ = λ e. both_ways (is_waiting (slice_get l.machine.tasks t)) idle (ap (λ z. is_waiting (slice_get l.machine.tasks z)) (sym e) ∙ k.waits) in
         source_same l l' L.machine v v' u s k (place k.name s.object k.place) (ap (λ (h : Heap). h.worker) (L.heaps (own l k.name) ne))
-        (subst (λ (h : Heap). In h.snapshot k.name) (sym (L.heaps (own l k.name) ne)) k.kept);
+        (subst (λ (h : Heap). In h.snapshot k.name) (sym (L.heaps (own l k.name) ne)) k.snapshot);
   }

@@ -51,5 +51,5 @@ module _ (v v' : Memory) (l l' : Ledger) (V : Stands v l) (L : SameTasks l l') (
     sources = λ u s i.
         let k = V.sources u s (subst (λ ss. In ss s) (C.sources u) i) in
         source_same l l' L.machine v v' u s k (place k.name s.object k.place) (L.worker (own l k.name))
-        (subst (λ ns. In ns k.name) (sym (L.snapshot (own l k.name))) k.kept);
+        (subst (λ ns. In ns k.name) (sym (L.snapshot (own l k.name))) k.snapshot);
   }

@@ -48,8 +48,8 @@ module _ (l : Ledger) (S : SoundLedger l) (t : ℕ) (x : Task) (is : slice_get l
       by true e = refl
       by false e = absurd (apart (leaf_alone l S (own l n) (own l r) e (own_live l S r) above))
 
-  pub kept : In (heap_of l (own l n)).snapshot n
-  kept =
+  pub snapshot : In (heap_of l (own l n)).snapshot n
+  snapshot =
       let k = (S.waits (own l n) waits).of_task t x n is holds_n in
       let o : own l n ≡ k.0.0 = (S.owners k.0.0 n k.0.1).1 in
       subst (λ ns. In ns n) (snapshot_is (slice_get l.heaps (own l n))) (k.1 (subst (λ u. InHeaps l.heaps u n) (sym o) k.0.1))
@@ -123,7 +123,7 @@ module _ (v v' : Memory) (l l' : Ledger) (t : ℕ) (x : Task) (n : Name) (y : Ob
             above = above l S t x L.task n m.0 hn hr off';
             below = apart l S t x L.task n m.0 hn hr off';
             live = own_live l S m.0;
-            kept = kept l S t x L.task n m.0 hn hr off';
+            snapshot = snapshot l S t x L.task n m.0 hn hr off';
           }))
 
   task : (z : Task) → Rests l t → slice_get l'.machine.tasks t ≡ Some z → TaskIsRead (Place v l) (v'.belongings t) z

@@ -82,7 +82,7 @@ module _ (v v' : Memory) (l l' : Ledger) (t : ℕ) (names : List Name) (S : Soun
   at_belongings : (n : Name) (a : Addr) → own l n ≡ t → Live l t S snapshot spares n → Place v l n a → Lies (v'.belongings t).chunks n a
   at_belongings n a e f p =
       let q : Lies (v.belongings t).chunks n a = subst (λ u. Lies (v.belongings u).chunks n a) e (p.here (subst (Rests l) (sym e) rests)) in
-      (q.0, C.kept q.0 q.1 (subst (In snapshot) (sym q.2.name) (f e)), q.2)
+      (q.0, C.stays q.0 q.1 (subst (In snapshot) (sym q.2.name) (f e)), q.2)
 
   place : (n : Name) (a : Addr) → Live l t S snapshot spares n → Place v l n a → Place v' l' n a
   place n a f p = elim (cases_eq (own l n) t) [
@@ -124,8 +124,8 @@ module _ (v v' : Memory) (l l' : Ledger) (t : ℕ) (names : List Name) (S : Soun
   source : (u : ℕ) (s : Source) → In (sources v' u) s → IsSource v' l' u s
   source u s i =
       let k = V.sources u s (subst (λ ss. In ss s) (C.sources u) i) in
-      source_same l l' L.machine v v' u s k (place k.name s.object (λ o. subst (λ z. In (heap_of l z).snapshot k.name) o k.kept) k.place) (worker_same l l' t L (own l k.name))
-      (subst (λ ns. In ns k.name) (sym (snapshot_same (own l k.name))) k.kept)
+      source_same l l' L.machine v v' u s k (place k.name s.object (λ o. subst (λ z. In (heap_of l z).snapshot k.name) o k.snapshot) k.place) (worker_same l l' t L (own l k.name))
+      (subst (λ ns. In ns k.name) (sym (snapshot_same (own l k.name))) k.snapshot)
 
   view_same : (z : ℕ) → (v'.belongings z).view ≡ (v.belongings z).view
   view_same z = elim (cases_eq z t) [ inl e ↦ ap (λ k. (v'.belongings k).view) e ∙ (C.view ∙ ap (λ k. (v.belongings k).view) (sym e)) | inr ne ↦ ap (λ (h : Belongings). h.view) (C.others z ne) ]

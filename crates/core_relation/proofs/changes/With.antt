@@ -57,7 +57,7 @@ module _ (v v' : Memory) (l l' k k' : Ledger) (t u : ℕ) (h : Belongings) (apar
   pub keeps_with : (names : List Name) → KeepsJust v v' l l' t names → KeepsJust w w' k k' t names
   keeps_with names C = record {
     belongings = belongings_kept v' w' l' k' t here' (λ i e. e) (A'.heaps t apart) (A'.rows t apart) (A'.tree.joins t) C.belongings;
-    kept = λ o i j. subst (λ (y : Belongings). In (objects_in y.chunks) o) (sym here') (C.kept o (subst (λ (y : Belongings). In (objects_in y.chunks) o) here i) j);
+    stays = λ o i j. subst (λ (y : Belongings). In (objects_in y.chunks) o) (sym here') (C.stays o (subst (λ (y : Belongings). In (objects_in y.chunks) o) here i) j);
     only = λ o i. let q = C.only o (subst (λ (y : Belongings). In (objects_in y.chunks) o) here' i) in (subst (λ (y : Belongings). In (objects_in y.chunks) o) (sym here) q.0, q.1);
     frames = ap (λ (y : Belongings). y.frames) here' ∙ (C.frames ∙ ap (λ (y : Belongings). y.frames) (sym here));
     result = ap (λ (y : Belongings). y.result) here' ∙ (C.result ∙ ap (λ (y : Belongings). y.result) (sym here));
@@ -91,7 +91,7 @@ moves_with v v' l l' k k' t u h apart A A' names f none C =
     let here' : (with_belongings v' u h).belongings t ≡ v'.belongings t = off_belongings v' u h t apart in
     record {
       belongings = belongings_kept v' (with_belongings v' u h) l' k' t here' (λ i e. e) (A'.heaps t apart) (A'.rows t apart) (A'.tree.joins t) C.belongings;
-      kept = λ o i j. subst (λ (y : Belongings). In (objects_in y.chunks) (copied_object f o)) (sym here') (C.kept o (subst (λ (y : Belongings). In (objects_in y.chunks) o) here i) j);
+      copied = λ o i j. subst (λ (y : Belongings). In (objects_in y.chunks) (copied_object f o)) (sym here') (C.copied o (subst (λ (y : Belongings). In (objects_in y.chunks) o) here i) j);
       only = λ o i. let q = C.only o (subst (λ (y : Belongings). In (objects_in y.chunks) o) here' i) in (q.0, subst (λ (y : Belongings). In (objects_in y.chunks) q.0) (sym here) q.1, q.2, q.3);
       frames = ap (λ (y : Belongings). y.frames) here' ∙ (C.frames ∙ ap (λ (y : Belongings). map (led_frame (option_map f)) y.frames) (sym here));
       view = ap (λ (y : Belongings). y.view) here' ∙ (C.view ∙ ap (λ (y : Belongings). y.view) (sym here));

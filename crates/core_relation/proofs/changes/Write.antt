@@ -167,7 +167,7 @@ module _ (v v' : Memory) (l l' : Ledger) (t : ℕ) (n : Name) (a : Addr) (x x' :
         above = ap (λ z. is_on_path l'.machine.tasks z u) e ∙ (L.tree.paths (own l k.name) u ∙ k.above);
         below = λ z. k.below (sym e ∙ z);
         live = L.tree.joins u ∙ k.live;
-        kept = subst (λ z. In (heap_of l' z).snapshot k.name) (sym e) (subst (λ (h : Heap). In h.snapshot k.name) (sym (L.heaps (own l k.name))) k.kept);
+        snapshot = subst (λ z. In (heap_of l' z).snapshot k.name) (sym e) (subst (λ (h : Heap). In h.snapshot k.name) (sym (L.heaps (own l k.name))) k.snapshot);
       }
     where
       -- what has become of an object

@@ -41,7 +41,7 @@ root_kept v l V u b r =
     let p' : In (objects v r.task) p.0 = subst (λ z. In (objects v z) p.0) own_task p.1 in
     let same : r.object ≡ p.0 = (V.belongings r.task r.rests).once r.object p.0 r.there p' (r.at ∙ sym p.2.at) in
     let name : s.name ≡ object_name r.object = sym p.2.name ∙ ap object_name (sym same) in
-    subst (In (heap_of l r.task).snapshot) name (subst (λ z. In (heap_of l z).snapshot s.name) own_task s.kept)
+    subst (In (heap_of l r.task).snapshot) name (subst (λ z. In (heap_of l z).snapshot s.name) own_task s.snapshot)
 
 -- A ROOT STAYS where its object does, with the field
 module _ (v v' : Memory) (l l' : Ledger) (u : ℕ) (noted : (s : Source) → In (sources v u) s → In (sources v' u) s) (into : (k : ℕ) → v.owner k ≡ Some u → v'.owner k ≡ Some u) where

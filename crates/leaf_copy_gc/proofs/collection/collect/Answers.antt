@@ -128,7 +128,7 @@ exchange-are_large-requires-clause-spare c =
     let same : length laid ≡ length (laying_of h ss (reverse news)).laid = ap (λ (ks : List ChunkValue). length ks) e.laid ∙ length-map (laying_of h ss (reverse news)).laid (led_chunk (redirection h ss (reverse news))) in
     let count = places.count_laid (before (reverse news)) h (smalls h (olds ss)) in
     let turned = length-reverse news in
-    let kept = ap (λ (x : LeafHeapValue). x.spare) e.kept in
+    let kept = ap (λ (x : LeafHeapValue). x.spare) e.heap in
     let room = c.requires.reserved.spare in
     omega arith
 
@@ -199,7 +199,7 @@ returns-clause-collected c =
     let laid : List ChunkValue = c.collector.inside.laid.items in
     let r : Option ℕ = c.reserved-reserved.result in
     let s = e.survivors in
-    let r_is : r ≡ c.args.heap.reserved = c.reserved-reserved.ensures.place ∙ ap (λ (x : LeafHeapValue). x.reserved) e.kept in
+    let r_is : r ≡ c.args.heap.reserved = c.reserved-reserved.ensures.place ∙ ap (λ (x : LeafHeapValue). x.reserved) e.heap in
     let permuted = subst (λ (ms : List (Addr × Addr)). IsPermutation ms c.sort.new.list.items) e.moved c.sort.ensures.permutation in
     record {
       survivors = ss;

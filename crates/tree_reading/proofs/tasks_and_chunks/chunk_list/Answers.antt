@@ -1,7 +1,7 @@
 use Rattle.std.proofs.Common.{ℕ, ◌+◌, ◌<◌, List, refl, subst, sym, ◌∙◌}
 use Rattle.shared_value.specs.SharedValue.{SharedValue}
 use Rattle.heap_reading.specs.declared.live.InUse.{InUse}
-use Rattle.heap_reading.specs.Image.{AreAll, ChunkBefore, IsInUse}
+use Rattle.heap_reading.specs.Image.{AreAll, InUseBefore, IsInUse}
 use Rattle.heap_reading.proofs.LiveRead.{chunk_once, one_below, skip_below}
 use Rattle.tree_reading.proofs.tasks_and_chunks.chunk_list.Goals.{in-Some+in_ok-push, in_default}
 use Rattle.tree_reading.proofs.tasks_and_chunks.chunk_list.Goals as goal
@@ -13,7 +13,7 @@ pub loop-number-preserved : goal.loop-number-preserved
 loop-number-preserved c =
     let w : SharedValue = c.args.shared.now in
     let k = c.loop-number.number in
-    let Next : List InUse → Type 0 = AreAll ChunkBefore (λ x. IsInUse w x × (x.number < k + 1)) in
+    let Next : List InUse → Type 0 = AreAll InUseBefore (λ x. IsInUse w x × (x.number < k + 1)) in
     elim c.match-chunk_in_use.branch [
       | in-Some+in_ok-push b ↦
           subst Next (sym (b.chunks-is ∙ b.in_ok-push.ensures.ok))

@@ -1,6 +1,6 @@
 use Rattle.std.proofs.Common.{◌<◌}
-use Rattle.heap_reading.specs.Image.{AreAll, ChunkBefore, IsInUse}
+use Rattle.heap_reading.specs.Image.{AreAll, InUseBefore, IsInUse}
 use Rattle.tree_reading.proofs.tasks_and_chunks.chunk_list.Given as goal
 
 abbrev pub invariant-loop-number : goal.invariant-loop-number
-invariant-loop-number l = AreAll ChunkBefore (λ c. IsInUse l.shared c × (c.number < l.number)) l.chunks
+invariant-loop-number l = AreAll InUseBefore (λ c. IsInUse l.shared c × (c.number < l.number)) l.chunks

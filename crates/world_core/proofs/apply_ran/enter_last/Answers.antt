@@ -3,7 +3,7 @@ use Rattle.task_machine.specs.declared.part.Private.{Private}
 use Rattle.shared_value.specs.Causes.{first_cause}
 use Rattle.shared_value.specs.Fits.{Fits}
 use Rattle.shared_value.specs.SharedValue.{SharedValue}
-use Rattle.own_steps.specs.Alone.{GoesAlone, HaltsAlone, IsShared, alone_event}
+use Rattle.own_steps.specs.Alone.{GoesAlone, HaltsAlone, IsShared, alone_entry}
 use Rattle.own_steps.proofs.LastSteps.{alone_free}
 use Rattle.shared_tree.specs.Ran.{LeavesBy, LeavesPart, LentTo}
 use Rattle.shared_tree.proofs.Joints.{before_same, then_same}
@@ -99,7 +99,7 @@ returns-in-Ok-Leaves c =
     let p : Private = c.args.part in
     let q : Private = c.ran_lent.new.part in
     let a : LeavesPart w v p q c.in-Ok-Leaves.leaving = subst (LentTo w v k p q) c.in-Ok-Leaves.field-0-is c.in-Ok-Leaves.ensures.answered in
-    before_same w v p q a.same a.part (λ (z : SharedValue) (r : Private). MakesFor z c.enter_leaving.new.shared k (alone_event k r) c.enter_leaving.result) c.enter_leaving.ensures
+    before_same w v p q a.same a.part (λ (z : SharedValue) (r : Private). MakesFor z c.enter_leaving.new.shared k (alone_entry k r) c.enter_leaving.result) c.enter_leaving.ensures
 
 pub returns-in-Err : goal.returns-in-Err
 returns-in-Err c =
@@ -108,5 +108,5 @@ returns-in-Err c =
     let k : ℕ = c.args.worker in
     let p : Private = c.args.part in
     let q : Private = c.ran_lent.new.part in
-    ran_fails w v k (alone_event k p) p q c.in-Err.cause (alone_free w k p c.stands.ensures c.requires.fits c.requires.shared c.requires.idle c.requires.first)
+    ran_fails w v k (alone_entry k p) p q c.in-Err.cause (alone_free w k p c.stands.ensures c.requires.fits c.requires.shared c.requires.idle c.requires.first)
     c.in-Err.ensures.refused c.in-Err.ensures.same c.in-Err.ensures.still c.in-Err.ensures.back c.requires.idle c.requires.fits

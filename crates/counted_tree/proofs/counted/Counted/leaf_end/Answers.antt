@@ -1,6 +1,6 @@
 use Rattle.std.proofs.Common.{Ok, sym, subst}
 use Rattle.shared_value.specs.SharedValue.{SharedValue}
-use Rattle.leaf_collections.specs.LeafEnd.{end_event}
+use Rattle.leaf_collections.specs.LeafEnd.{end_entry}
 use Rattle.shared_tree.specs.Calls.{EndsLeaf}
 use Rattle.shared_tree.proofs.HandedOn.{handed_on}
 use Rattle.counted_tree.specs.Counts.{KeepsCounts}
@@ -15,7 +15,7 @@ returns-in_err-leaf_end c =
     handed_on (λ (z : SharedValue). EndsLeaf z c.leaf_end.new.self c.args.worker c.args.part.now c.leaf_end.new.part c.args.moved) c.self.inside.shared c.args.self.now c.self.view_is c.from_residual.result c.in_err-leaf_end.field-0.0 c.from_residual.ensures.1 c.in_err-leaf_end.ensures
 
 pub count-requires : goal.count-requires
-count-requires c = is_made c.self.inside.shared c.leaf_end.new.self c.self.inside.counts (end_event c.args.worker c.args.part.now c.args.moved) 0 c.stands.ensures c.in_ok-leaf_end.ensures.enters (sym c.in_ok-leaf_end.ensures.refused) c.self.invariant tt
+count-requires c = is_made c.self.inside.shared c.leaf_end.new.self c.self.inside.counts (end_entry c.args.worker c.args.part.now c.args.moved) 0 c.stands.ensures c.in_ok-leaf_end.ensures.enters (sym c.in_ok-leaf_end.ensures.refused) c.self.invariant tt
 
 pub invariant_of-self : goal.invariant_of-self
 invariant_of-self c = subst (λ (z : SharedValue). KeepsCounts z c.self.inside.counts) (sym c.in_err-leaf_end.ensures.same) c.self.invariant

@@ -2,7 +2,7 @@ use Rattle.std.proofs.Common.{◌≡◌, None, Ok, sym, subst}
 use Rattle.shared_value.specs.SharedValue.{SharedValue}
 use Rattle.shared_value.specs.Entered.{refused}
 use Rattle.shared_value.specs.Fits.{Fits}
-use Rattle.own_steps.specs.Alone.{alone_event, IsShared}
+use Rattle.own_steps.specs.Alone.{alone_entry, IsShared}
 use Rattle.shared_tree.specs.Calls.{EntersLeaving}
 use Rattle.shared_tree.specs.Ran.{LeavesBy}
 use Rattle.shared_tree.proofs.HandedOn.{handed_on}
@@ -16,7 +16,7 @@ pub ran_leaving-requires-clause-shared : goal.ran_leaving-requires-clause-shared
 ran_leaving-requires-clause-shared c = subst (λ (z : SharedValue). IsShared z c.args.part) (sym c.self.view_is) c.requires.shared
 
 pub ran_leaving-requires-clause-free : goal.ran_leaving-requires-clause-free
-ran_leaving-requires-clause-free c = subst (λ (z : SharedValue). refused z (alone_event c.args.worker c.args.part) ≡ None) (sym c.self.view_is) c.requires.free
+ran_leaving-requires-clause-free c = subst (λ (z : SharedValue). refused z (alone_entry c.args.worker c.args.part) ≡ None) (sym c.self.view_is) c.requires.free
 
 pub ran_leaving-requires-clause-leaves : goal.ran_leaving-requires-clause-leaves
 ran_leaving-requires-clause-leaves c = subst (λ (z : SharedValue). LeavesBy z c.args.part c.args.leaving) (sym c.self.view_is) c.requires.leaves
@@ -31,8 +31,8 @@ returns-in_err-ran c =
 pub count-requires : goal.count-requires
 count-requires c =
     let w : SharedValue = c.self.inside.shared in
-    let free : refused w (alone_event c.args.worker c.args.part) ≡ None = subst (λ (z : SharedValue). refused z (alone_event c.args.worker c.args.part) ≡ None) (sym c.self.view_is) c.requires.free in
-    is_made w c.ran_leaving.new.self c.self.inside.counts (alone_event c.args.worker c.args.part) 0 c.stands.ensures (ran_enters w c.ran_leaving.new.self c.args.worker c.args.part c.in_ok-ran.ran c.in_ok-ran.ensures.answered) free c.self.invariant tt
+    let free : refused w (alone_entry c.args.worker c.args.part) ≡ None = subst (λ (z : SharedValue). refused z (alone_entry c.args.worker c.args.part) ≡ None) (sym c.self.view_is) c.requires.free in
+    is_made w c.ran_leaving.new.self c.self.inside.counts (alone_entry c.args.worker c.args.part) 0 c.stands.ensures (ran_enters w c.ran_leaving.new.self c.args.worker c.args.part c.in_ok-ran.ran c.in_ok-ran.ensures.answered) free c.self.invariant tt
 
 pub returns : goal.returns
 returns c = subst (λ (z : SharedValue). EntersLeaving z c.ran_leaving.new.self c.args.worker c.args.part (Ok c.in_ok-ran.ran)) c.self.view_is c.in_ok-ran.ensures

@@ -2,7 +2,7 @@ use Rattle.std.proofs.Common.{Ok, sym, subst}
 use Rattle.task_machine.specs.declared.part.Private.{Private}
 use Rattle.shared_value.specs.SharedValue.{SharedValue}
 use Rattle.shared_value.specs.Fits.{Fits}
-use Rattle.own_steps.specs.Alone.{alone_event, IsShared}
+use Rattle.own_steps.specs.Alone.{alone_entry, IsShared}
 use Rattle.shared_tree.specs.Calls.{EntersLent}
 use Rattle.shared_tree.specs.Ran.{LeavesPart, LentTo}
 use Rattle.shared_tree.proofs.HandedOn.{handed_on}
@@ -28,7 +28,7 @@ count-requires c =
     let w : SharedValue = c.self.inside.shared in
     let v : SharedValue = c.ran_lent.new.self in
     let p : Private = c.args.part.now in
-    is_made w v c.self.inside.counts (alone_event c.args.worker p) 0 c.stands.ensures (lent_enters w v c.args.worker p c.ran_lent.new.part c.in_ok-lent.lent c.in_default.not-Leaves c.in_ok-lent.ensures.answered) c.in_ok-lent.ensures.refused c.self.invariant tt
+    is_made w v c.self.inside.counts (alone_entry c.args.worker p) 0 c.stands.ensures (lent_enters w v c.args.worker p c.ran_lent.new.part c.in_ok-lent.lent c.in_default.not-Leaves c.in_ok-lent.ensures.answered) c.in_ok-lent.ensures.refused c.self.invariant tt
 
 pub returns-in_default : goal.returns-in_default
 returns-in_default c = subst (λ (z : SharedValue). EntersLent z c.ran_lent.new.self c.args.worker c.args.part.now c.ran_lent.new.part (Ok c.in_ok-lent.lent)) c.self.view_is c.in_ok-lent.ensures

@@ -1,6 +1,6 @@
 use Rattle.std.proofs.Common.{ℕ, ◌+◌, ◌<◌, Some, refl, ap, arith}
 use Rattle.hh_model.specs.Step.{depth_limit}
-use Rattle.heap_tree.specs.declared.links.Entry.{Entry}
+use Rattle.heap_tree.specs.declared.links.Linked.{Linked}
 use Rattle.heap_tree.specs.declared.state.State.TheVariants.{Ready, Out}
 use Rattle.heap_tree.proofs.TreeLemmas.{made_from_state, made_entry, fork_shallow, depth_answer, fork_answer}
 use Rattle.heap_tree.proofs.tree.Tree.fork.Goals as goal
@@ -39,7 +39,7 @@ invariant_of-self-2 c =
     let deep = depth_answer v es c.self.view_is c.self.invariant t c.entry_at.result made got in
     let far = c.far_below.ensures.value in
     let put = c.in_ok-put_children.ensures.ok in
-    let child : Entry = record { parent = Some t; depth = c.entry_at.result.depth + 1; far = c.far_below.result; state = Ready } in
+    let child : Linked = record { parent = Some t; depth = c.entry_at.result.depth + 1; far = c.far_below.result; state = Ready } in
     (fork_answer v es c.put_children.new.entries t child c.self.view_is c.self.invariant made c.requires.few refl (ap (λ (m : ℕ). m + 1) deep) far refl put).0
 
 pub returns-clause-ok : goal.returns-clause-ok
@@ -52,5 +52,5 @@ returns-clause-ok c =
     let deep = depth_answer v es c.self.view_is c.self.invariant t c.entry_at.result made got in
     let far = c.far_below.ensures.value in
     let put = c.in_ok-put_children.ensures.ok in
-    let child : Entry = record { parent = Some t; depth = c.entry_at.result.depth + 1; far = c.far_below.result; state = Ready } in
+    let child : Linked = record { parent = Some t; depth = c.entry_at.result.depth + 1; far = c.far_below.result; state = Ready } in
     (fork_answer v es c.put_children.new.entries t child c.self.view_is c.self.invariant made c.requires.few refl (ap (λ (m : ℕ). m + 1) deep) far refl put).1

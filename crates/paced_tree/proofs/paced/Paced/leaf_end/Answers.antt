@@ -1,7 +1,7 @@
 use Rattle.std.proofs.Common.{Ok, refl, sym, subst, ◌∙◌}
 use Rattle.run_trace.specs.Entry.{EntryValue}
 use Rattle.shared_value.specs.SharedValue.{SharedValue}
-use Rattle.leaf_collections.specs.LeafEnd.{end_event}
+use Rattle.leaf_collections.specs.LeafEnd.{end_entry}
 use Rattle.shared_tree.specs.Calls.{EndsLeaf}
 use Rattle.shared_tree.proofs.HandedOn.{handed_on}
 use Rattle.paced_tree.specs.Owed.{KeepsPaces, Pays}
@@ -17,7 +17,7 @@ returns-in_err-leaf_end c =
 
 pub invariant_of-self-2 : goal.invariant_of-self-2
 invariant_of-self-2 c =
-    let e : EntryValue = end_event c.args.worker c.args.part.now c.args.moved in
+    let e : EntryValue = end_entry c.args.worker c.args.part.now c.args.moved in
     other_then c.get_mut-shared.result.now c.leaf_end.new.self e c.self.inside.paces c.note_other.new.paces c.stands.ensures (subst (λ (z : SharedValue). KeepsPaces z c.self.inside.paces) (sym c.get_mut-shared.ensures.value) c.self.invariant) c.in_ok-leaf_end.ensures.enters (sym c.in_ok-leaf_end.ensures.refused)
     (subst (λ (z : SharedValue). Pays z e) (sym (c.get_mut-shared.ensures.value ∙ c.self.view_is)) c.requires.pays) (λ x. refl) c.note_other.ensures
 

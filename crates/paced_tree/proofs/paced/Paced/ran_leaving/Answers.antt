@@ -5,7 +5,7 @@ use Rattle.task_machine.specs.declared.part.Private.{Private}
 use Rattle.shared_value.specs.SharedValue.{SharedValue, accounts}
 use Rattle.shared_value.specs.Entered.{refused}
 use Rattle.shared_value.specs.Fits.{Fits}
-use Rattle.own_steps.specs.Alone.{alone_event, IsShared}
+use Rattle.own_steps.specs.Alone.{alone_entry, IsShared}
 use Rattle.shared_tree.specs.Calls.{EntersLeaving}
 use Rattle.shared_tree.specs.Ran.{LeavesBy}
 use Rattle.shared_tree.proofs.HandedOn.{handed_on}
@@ -22,7 +22,7 @@ pub ran_leaving-requires-clause-shared : goal.ran_leaving-requires-clause-shared
 ran_leaving-requires-clause-shared c = subst (λ (z : SharedValue). IsShared z c.args.part) (sym (c.get_mut-shared.ensures.value ∙ c.self.view_is)) c.requires.shared
 
 pub ran_leaving-requires-clause-free : goal.ran_leaving-requires-clause-free
-ran_leaving-requires-clause-free c = subst (λ (z : SharedValue). refused z (alone_event c.args.worker c.args.part) ≡ None) (sym (c.get_mut-shared.ensures.value ∙ c.self.view_is)) c.requires.free
+ran_leaving-requires-clause-free c = subst (λ (z : SharedValue). refused z (alone_entry c.args.worker c.args.part) ≡ None) (sym (c.get_mut-shared.ensures.value ∙ c.self.view_is)) c.requires.free
 
 pub ran_leaving-requires-clause-leaves : goal.ran_leaving-requires-clause-leaves
 ran_leaving-requires-clause-leaves c = subst (λ (z : SharedValue). LeavesBy z c.args.part c.args.leaving) (sym (c.get_mut-shared.ensures.value ∙ c.self.view_is)) c.requires.leaves
@@ -38,7 +38,7 @@ pub invariant_of-self-2 : goal.invariant_of-self-2
 invariant_of-self-2 c =
     let w : SharedValue = c.get_mut-shared.result.now in
     let p : Private = c.args.part in
-    let e : EntryValue = alone_event c.args.worker p in
+    let e : EntryValue = alone_entry c.args.worker p in
     let free : refused w e ≡ None = subst (λ (z : SharedValue). refused z e ≡ None) (sym (c.get_mut-shared.ensures.value ∙ c.self.view_is)) c.requires.free in
     paced_then w c.ran_leaving.new.self e c.self.inside.paces c.note_ran.new.paces c.stands.ensures (subst (λ (z : SharedValue). KeepsPaces z c.self.inside.paces) (sym c.get_mut-shared.ensures.value) c.self.invariant)
     (ran_enters w c.ran_leaving.new.self c.args.worker p c.in_ok-ran.ran c.in_ok-ran.ensures.answered) free

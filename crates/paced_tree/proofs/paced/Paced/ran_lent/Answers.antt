@@ -4,7 +4,7 @@ use Rattle.run_trace.specs.declared.entry.Kind.TheVariants.{Ran}
 use Rattle.task_machine.specs.declared.part.Private.{Private}
 use Rattle.shared_value.specs.SharedValue.{SharedValue, accounts}
 use Rattle.shared_value.specs.Fits.{Fits}
-use Rattle.own_steps.specs.Alone.{alone_event, IsShared}
+use Rattle.own_steps.specs.Alone.{alone_entry, IsShared}
 use Rattle.shared_tree.specs.Calls.{EntersLent}
 use Rattle.shared_tree.specs.Ran.{LeavesPart, LentTo}
 use Rattle.shared_tree.proofs.HandedOn.{handed_on}
@@ -32,7 +32,7 @@ invariant_of-self-in_default c =
     let w : SharedValue = c.get_mut-shared.result.now in
     let v : SharedValue = c.ran_lent.new.self in
     let p : Private = c.args.part.now in
-    let e : EntryValue = alone_event c.args.worker p in
+    let e : EntryValue = alone_entry c.args.worker p in
     paced_then w v e c.self.inside.paces c.note_ran.new.paces c.stands.ensures (subst (λ (z : SharedValue). KeepsPaces z c.self.inside.paces) (sym c.get_mut-shared.ensures.value) c.self.invariant)
     (lent_enters w v c.args.worker p c.ran_lent.new.part c.in_ok-lent.lent c.in_default.not-Leaves c.in_ok-lent.ensures.answered) c.in_ok-lent.ensures.refused
     (inr (subst (λ (z : SharedValue). Pays z e) (sym (c.get_mut-shared.ensures.value ∙ c.self.view_is)) c.requires.pays)) c.note_ran.ensures.many

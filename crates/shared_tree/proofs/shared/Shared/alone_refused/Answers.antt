@@ -8,7 +8,7 @@ use Rattle.shared_value.specs.SharedValue.{SharedValue}
 use Rattle.shared_value.specs.Fits.{Fits}
 use Rattle.shared_value.specs.Entered.{refused}
 use Rattle.shared_value.proofs.FirstCauses.{found_first, nothing_first}
-use Rattle.own_steps.specs.Alone.{IsShared, alone_event}
+use Rattle.own_steps.specs.Alone.{IsShared, alone_entry}
 use Rattle.own_steps.proofs.LastSteps.{alone_answer}
 use Rattle.shared_tree.specs.contracts.shared.Shared.{the_view}
 use Rattle.shared_tree.proofs.shared.Shared.alone_refused.Goals as goal
@@ -27,7 +27,7 @@ returns-then-is_some c =
     let some : is_some (first_cause w.end w.steps w.settings k false) ≡ true = ap is_some (sym c.first_cause-first.ensures) ∙ (sym c.is_some.ensures ∙ c.if-is_some.true) in
     c.first_cause-first.ensures
     ∙ (found_first (first_cause w.end w.steps w.settings k false) (amid p) some
-    ∙ subst (λ (z : SharedValue). or_else (first_cause w.end w.steps w.settings k false) (amid p) ≡ refused z (alone_event k p)) c.self.view_is (sym (alone_answer w k p c.self.invariant F shared)))
+    ∙ subst (λ (z : SharedValue). or_else (first_cause w.end w.steps w.settings k false) (amid p) ≡ refused z (alone_entry k p)) c.self.view_is (sym (alone_answer w k p c.self.invariant F shared)))
 
 pub returns-then-is_some-2 : goal.returns-then-is_some-2
 returns-then-is_some-2 c =
@@ -40,7 +40,7 @@ returns-then-is_some-2 c =
     let begun : is_some p.begun ≡ true = sym c.is_some-2.ensures ∙ c.if-is_some-2.true in
     ap (λ b. refused_if b Collecting None) (sym begun)
     ∙ (nothing_first (first_cause w.end w.steps w.settings k false) (amid p) none
-    ∙ subst (λ (z : SharedValue). or_else (first_cause w.end w.steps w.settings k false) (amid p) ≡ refused z (alone_event k p)) c.self.view_is (sym (alone_answer w k p c.self.invariant F shared)))
+    ∙ subst (λ (z : SharedValue). or_else (first_cause w.end w.steps w.settings k false) (amid p) ≡ refused z (alone_entry k p)) c.self.view_is (sym (alone_answer w k p c.self.invariant F shared)))
 
 pub returns-else-is_some-2 : goal.returns-else-is_some-2
 returns-else-is_some-2 c =
@@ -53,4 +53,4 @@ returns-else-is_some-2 c =
     let idle : is_some p.begun ≡ false = sym c.is_some-2.ensures ∙ c.if-is_some-2.false in
     ap (λ b. refused_if b Collecting None) (sym idle)
     ∙ (nothing_first (first_cause w.end w.steps w.settings k false) (amid p) none
-    ∙ subst (λ (z : SharedValue). or_else (first_cause w.end w.steps w.settings k false) (amid p) ≡ refused z (alone_event k p)) c.self.view_is (sym (alone_answer w k p c.self.invariant F shared)))
+    ∙ subst (λ (z : SharedValue). or_else (first_cause w.end w.steps w.settings k false) (amid p) ≡ refused z (alone_entry k p)) c.self.view_is (sym (alone_answer w k p c.self.invariant F shared)))

@@ -13,7 +13,7 @@ use Rattle.shared_value.specs.SharedValue.{SharedValue}
 use Rattle.shared_value.specs.Fits.{Fits}
 use Rattle.shared_value.specs.Entered.{refused}
 use Rattle.shared_value.proofs.JournalGoesOn.{four_changed}
-use Rattle.own_steps.specs.Alone.{alone_event}
+use Rattle.own_steps.specs.Alone.{alone_entry}
 use Rattle.own_steps.proofs.AloneEntries.{alone_small, home_there, next_small, set_there}
 use Rattle.child_tasks.specs.Forks.{ForksOn, ForksTo, RestsFork, IsAtFork, SetsFork, begun_rest, part_child, waiting_rest}
 use Rattle.child_tasks.proofs.ForkEntries.{alone_forks, alone_world, rests_fork_by}
@@ -30,7 +30,7 @@ grow-grown-requires-clause-out c =
     let I : IsSharedValue w = c.self.invariant in
     let F : Fits w k p = subst (λ (z : SharedValue). Fits z k p) (sym c.self.view_is) c.requires.fits in
     let at : IsAtFork w p = subst (λ (z : SharedValue). IsAtFork z p) (sym c.self.view_is) c.requires.forks in
-    let free : refused w (alone_event k p) ≡ None = subst (λ (z : SharedValue). refused z (alone_event k p) ≡ None) (sym c.self.view_is) c.requires.free in
+    let free : refused w (alone_entry k p) ≡ None = subst (λ (z : SharedValue). refused z (alone_entry k p) ≡ None) (sym c.self.view_is) c.requires.free in
     tree_out w I (on w k p I F at free) k p F
 
 pub grow-grown-requires-clause-few : goal.grow-grown-requires-clause-few
@@ -48,7 +48,7 @@ grow-grown-requires-clause-made c =
     let I : IsSharedValue w = c.self.invariant in
     let F : Fits w k p = subst (λ (z : SharedValue). Fits z k p) (sym c.self.view_is) c.requires.fits in
     let at : IsAtFork w p = subst (λ (z : SharedValue). IsAtFork z p) (sym c.self.view_is) c.requires.forks in
-    let free : refused w (alone_event k p) ≡ None = subst (λ (z : SharedValue). refused z (alone_event k p) ≡ None) (sym c.self.view_is) c.requires.free in
+    let free : refused w (alone_entry k p) ≡ None = subst (λ (z : SharedValue). refused z (alone_entry k p) ≡ None) (sym c.self.view_is) c.requires.free in
     home_there w k p I F (fork_shared w p at) free
 
 pub enter_alone-requires-clause-room : goal.enter_alone-requires-clause-room
@@ -63,7 +63,7 @@ enter_alone-requires-clause-small c =
     let I : IsSharedValue w = c.self.invariant in
     let F : Fits w k p = subst (λ (z : SharedValue). Fits z k p) (sym c.self.view_is) c.requires.fits in
     let at : IsAtFork w p = subst (λ (z : SharedValue). IsAtFork z p) (sym c.self.view_is) c.requires.forks in
-    let free : refused w (alone_event k p) ≡ None = subst (λ (z : SharedValue). refused z (alone_event k p) ≡ None) (sym c.self.view_is) c.requires.free in
+    let free : refused w (alone_entry k p) ≡ None = subst (λ (z : SharedValue). refused z (alone_entry k p) ≡ None) (sym c.self.view_is) c.requires.free in
     alone_small w k p I F (fork_shared w p at) free
 
 pub fork_homes-marked-requires-clause-made : goal.fork_homes-marked-requires-clause-made
@@ -74,7 +74,7 @@ fork_homes-marked-requires-clause-made c =
     let I : IsSharedValue w = c.self.invariant in
     let F : Fits w k p = subst (λ (z : SharedValue). Fits z k p) (sym c.self.view_is) c.requires.fits in
     let at : IsAtFork w p = subst (λ (z : SharedValue). IsAtFork z p) (sym c.self.view_is) c.requires.forks in
-    let free : refused w (alone_event k p) ≡ None = subst (λ (z : SharedValue). refused z (alone_event k p) ≡ None) (sym c.self.view_is) c.requires.free in
+    let free : refused w (alone_entry k p) ≡ None = subst (λ (z : SharedValue). refused z (alone_entry k p) ≡ None) (sym c.self.view_is) c.requires.free in
     subst (λ (z : HomesValue). p.task < length z.rests) (sym c.in-Ok-grown.ensures.homes) (home_there w k p I F (fork_shared w p at) free)
 
 pub fork_homes-marked-requires-clause-noted : goal.fork_homes-marked-requires-clause-noted
@@ -85,7 +85,7 @@ fork_homes-marked-requires-clause-noted c =
     let I : IsSharedValue w = c.self.invariant in
     let F : Fits w k p = subst (λ (z : SharedValue). Fits z k p) (sym c.self.view_is) c.requires.fits in
     let at : IsAtFork w p = subst (λ (z : SharedValue). IsAtFork z p) (sym c.self.view_is) c.requires.forks in
-    let free : refused w (alone_event k p) ≡ None = subst (λ (z : SharedValue). refused z (alone_event k p) ≡ None) (sym c.self.view_is) c.requires.free in
+    let free : refused w (alone_entry k p) ≡ None = subst (λ (z : SharedValue). refused z (alone_entry k p) ≡ None) (sym c.self.view_is) c.requires.free in
     subst (λ (z : HomesValue). p.task < length z.sets) (sym c.in-Ok-grown.ensures.homes) (set_there w k p I F (fork_shared w p at) free)
 
 pub fork_homes-marked-requires-clause-block : goal.fork_homes-marked-requires-clause-block
@@ -104,7 +104,7 @@ fork_homes-marked-requires-clause-next c =
     let I : IsSharedValue w = c.self.invariant in
     let F : Fits w k p = subst (λ (z : SharedValue). Fits z k p) (sym c.self.view_is) c.requires.fits in
     let at : IsAtFork w p = subst (λ (z : SharedValue). IsAtFork z p) (sym c.self.view_is) c.requires.forks in
-    let free : refused w (alone_event k p) ≡ None = subst (λ (z : SharedValue). refused z (alone_event k p) ≡ None) (sym c.self.view_is) c.requires.free in
+    let free : refused w (alone_entry k p) ≡ None = subst (λ (z : SharedValue). refused z (alone_entry k p) ≡ None) (sym c.self.view_is) c.requires.free in
     next_small w k p I F (fork_shared w p at) free
 
 pub invariant_of-self-2 : goal.invariant_of-self-2
@@ -115,7 +115,7 @@ invariant_of-self-2 c =
     let I : IsSharedValue w = c.self.invariant in
     let F : Fits w k p = subst (λ (z : SharedValue). Fits z k p) (sym c.self.view_is) c.requires.fits in
     let at : IsAtFork w p = subst (λ (z : SharedValue). IsAtFork z p) (sym c.self.view_is) c.requires.forks in
-    let free : refused w (alone_event k p) ≡ None = subst (λ (z : SharedValue). refused z (alone_event k p) ≡ None) (sym c.self.view_is) c.requires.free in
+    let free : refused w (alone_entry k p) ≡ None = subst (λ (z : SharedValue). refused z (alone_entry k p) ≡ None) (sym c.self.view_is) c.requires.free in
     let B : (n : ℕ) × ForksTo w p c.args.left c.args.right n = subst (λ (z : SharedValue). (n : ℕ) × ForksTo z p c.args.left c.args.right n) (sym c.self.view_is) c.requires.by in
     let low : depth_of w.tree p.task < 1000 = subst (λ (z : SharedValue). depth_of z.tree p.task < 1000) (sym c.self.view_is) c.requires.shallow in
     let g : HomesValue = c.grow-grown.new.homes in
@@ -143,7 +143,7 @@ returns-clause-answered c =
     let I : IsSharedValue w = c.self.invariant in
     let F : Fits w k p = subst (λ (z : SharedValue). Fits z k p) (sym c.self.view_is) c.requires.fits in
     let at : IsAtFork w p = subst (λ (z : SharedValue). IsAtFork z p) (sym c.self.view_is) c.requires.forks in
-    let free : refused w (alone_event k p) ≡ None = subst (λ (z : SharedValue). refused z (alone_event k p) ≡ None) (sym c.self.view_is) c.requires.free in
+    let free : refused w (alone_entry k p) ≡ None = subst (λ (z : SharedValue). refused z (alone_entry k p) ≡ None) (sym c.self.view_is) c.requires.free in
     let B : (n : ℕ) × ForksTo w p c.args.left c.args.right n = subst (λ (z : SharedValue). (n : ℕ) × ForksTo z p c.args.left c.args.right n) (sym c.self.view_is) c.requires.by in
     let low : depth_of w.tree p.task < 1000 = subst (λ (z : SharedValue). depth_of z.tree p.task < 1000) (sym c.self.view_is) c.requires.shallow in
     let g : HomesValue = c.grow-grown.new.homes in

@@ -18,7 +18,7 @@ use Rattle.shared_value.specs.Entered.{Enters, refused}
 use Rattle.task_homes.specs.RestingHeaps.{Resting, refs_in, with_ref_in, with_resting}
 use Rattle.shared_value.specs.Roots.{heaps_of, sources_of}
 use Rattle.shared_value.proofs.JournalGoesOn.{journal_by}
-use Rattle.leaf_collections.specs.LeafEnd.{FitsCopied, end_event, ended}
+use Rattle.leaf_collections.specs.LeafEnd.{FitsCopied, end_entry, ended}
 use Rattle.leaf_collections.proofs.CollectionEnds.{are_fields, back_in_use, fits_so, has_home, others_so, pool_same, world_so}
 use Rattle.shared_tree.specs.contracts.shared.Shared.{the_view}
 use Rattle.shared_tree.proofs.shared.Shared.enter_leaf_end.Goals as goal
@@ -37,7 +37,7 @@ lead-requires-clause-made c =
     let k : ℕ = c.args.worker in
     let m : Moved = c.args.moved in
     let F : FitsCopied w k p m = subst (λ (z : SharedValue). FitsCopied z k p m) (sym c.self.view_is) c.requires.fits in
-    let free : refused w (end_event k p m) ≡ None = subst (λ (z : SharedValue). refused z (end_event k p m) ≡ None) (sym c.self.view_is) c.requires.free in
+    let free : refused w (end_entry k p m) ≡ None = subst (λ (z : SharedValue). refused z (end_entry k p m) ≡ None) (sym c.self.view_is) c.requires.free in
     has_home w k p m c.self.invariant F free
 
 pub lead-requires-clause-fields : goal.lead-requires-clause-fields
@@ -47,7 +47,7 @@ lead-requires-clause-fields c =
     let k : ℕ = c.args.worker in
     let m : Moved = c.args.moved in
     let F : FitsCopied w k p m = subst (λ (z : SharedValue). FitsCopied z k p m) (sym c.self.view_is) c.requires.fits in
-    let free : refused w (end_event k p m) ≡ None = subst (λ (z : SharedValue). refused z (end_event k p m) ≡ None) (sym c.self.view_is) c.requires.free in
+    let free : refused w (end_entry k p m) ≡ None = subst (λ (z : SharedValue). refused z (end_entry k p m) ≡ None) (sym c.self.view_is) c.requires.free in
     are_fields w k p m c.self.invariant F free
 
 pub give_all-requires-clause-in_use : goal.give_all-requires-clause-in_use
@@ -57,7 +57,7 @@ give_all-requires-clause-in_use c =
     let k : ℕ = c.args.worker in
     let m : Moved = c.args.moved in
     let F : FitsCopied w k p m = subst (λ (z : SharedValue). FitsCopied z k p m) (sym c.self.view_is) c.requires.fits in
-    let free : refused w (end_event k p m) ≡ None = subst (λ (z : SharedValue). refused z (end_event k p m) ≡ None) (sym c.self.view_is) c.requires.free in
+    let free : refused w (end_entry k p m) ≡ None = subst (λ (z : SharedValue). refused z (end_entry k p m) ≡ None) (sym c.self.view_is) c.requires.free in
     let led : c.lead.new.heaps ≡ with_resting c.self.inside.heaps (led_heaps w p m) = c.lead.ensures.led ∙ ap (λ ms. with_resting c.self.inside.heaps (fold (redirected refs_in with_ref_in ms) (heaps_of w) (sources_of (slice_get w.sets p.task)))) c.deref.ensures.value in
     let once : StandOnce (sources_of (slice_get w.sets p.task)) = c.lead.ensures.once in
     let pool : c.lead.new.heaps.pool ≡ w.pool = ap (λ (h : Heaps). h.pool) led in
@@ -70,12 +70,12 @@ invariant_of-self c =
     let k : ℕ = c.args.worker in
     let m : Moved = c.args.moved in
     let F : FitsCopied w k p m = subst (λ (z : SharedValue). FitsCopied z k p m) (sym c.self.view_is) c.requires.fits in
-    let free : refused w (end_event k p m) ≡ None = subst (λ (z : SharedValue). refused z (end_event k p m) ≡ None) (sym c.self.view_is) c.requires.free in
+    let free : refused w (end_entry k p m) ≡ None = subst (λ (z : SharedValue). refused z (end_entry k p m) ≡ None) (sym c.self.view_is) c.requires.free in
     let led : c.lead.new.heaps ≡ with_resting c.self.inside.heaps (led_heaps w p m) = c.lead.ensures.led ∙ ap (λ ms. with_resting c.self.inside.heaps (fold (redirected refs_in with_ref_in ms) (heaps_of w) (sources_of (slice_get w.sets p.task)))) c.deref.ensures.value in
     let once : StandOnce (sources_of (slice_get w.sets p.task)) = c.lead.ensures.once in
     let given : AreGiven (led_heaps w p m).pool c.give_all.new.pool m.back.items = subst (λ (z : PoolValue). AreGiven z c.give_all.new.pool m.back.items) (ap (λ (h : Heaps). h.pool) led ∙ sym (pool_same w k p m c.self.invariant F free (led_heaps w p m) refl once)) c.give_all.ensures in
     subst (λ (h : Heaps). IsSharedValue (record w { pool = c.give_all.new.pool; rests = h.homes.rests; sets = h.homes.sets; marks = h.homes.marks; journal = c.push_reserved.new.self })) (sym led)
-    (world_so w k p m c.self.invariant F free (led_heaps w p m) refl once c.give_all.new.pool given c.push_reserved.new.self (journal_by w.journal _ _ (end_event k p m) c.new.ensures c.push_reserved.ensures))
+    (world_so w k p m c.self.invariant F free (led_heaps w p m) refl once c.give_all.new.pool given c.push_reserved.new.self (journal_by w.journal _ _ (end_entry k p m) c.new.ensures c.push_reserved.ensures))
 
 pub returns-clause-fits : goal.returns-clause-fits
 returns-clause-fits c =
@@ -84,12 +84,12 @@ returns-clause-fits c =
     let k : ℕ = c.args.worker in
     let m : Moved = c.args.moved in
     let F : FitsCopied w k p m = subst (λ (z : SharedValue). FitsCopied z k p m) (sym c.self.view_is) c.requires.fits in
-    let free : refused w (end_event k p m) ≡ None = subst (λ (z : SharedValue). refused z (end_event k p m) ≡ None) (sym c.self.view_is) c.requires.free in
+    let free : refused w (end_entry k p m) ≡ None = subst (λ (z : SharedValue). refused z (end_entry k p m) ≡ None) (sym c.self.view_is) c.requires.free in
     let led : c.lead.new.heaps ≡ with_resting c.self.inside.heaps (led_heaps w p m) = c.lead.ensures.led ∙ ap (λ ms. with_resting c.self.inside.heaps (fold (redirected refs_in with_ref_in ms) (heaps_of w) (sources_of (slice_get w.sets p.task)))) c.deref.ensures.value in
     let once : StandOnce (sources_of (slice_get w.sets p.task)) = c.lead.ensures.once in
     let given : AreGiven (led_heaps w p m).pool c.give_all.new.pool m.back.items = subst (λ (z : PoolValue). AreGiven z c.give_all.new.pool m.back.items) (ap (λ (h : Heaps). h.pool) led ∙ sym (pool_same w k p m c.self.invariant F free (led_heaps w p m) refl once)) c.give_all.ensures in
     subst (λ (h : Heaps). Fits (record w { pool = c.give_all.new.pool; rests = h.homes.rests; sets = h.homes.sets; marks = h.homes.marks; journal = c.push_reserved.new.self }) k (ended p)) (sym led)
-    (fits_so w k p m c.self.invariant F free (led_heaps w p m) refl once c.give_all.new.pool given c.push_reserved.new.self (journal_by w.journal _ _ (end_event k p m) c.new.ensures c.push_reserved.ensures))
+    (fits_so w k p m c.self.invariant F free (led_heaps w p m) refl once c.give_all.new.pool given c.push_reserved.new.self (journal_by w.journal _ _ (end_entry k p m) c.new.ensures c.push_reserved.ensures))
 
 pub returns-clause-others : goal.returns-clause-others
 returns-clause-others c =
@@ -98,18 +98,18 @@ returns-clause-others c =
     let k : ℕ = c.args.worker in
     let m : Moved = c.args.moved in
     let F : FitsCopied w k p m = subst (λ (z : SharedValue). FitsCopied z k p m) (sym c.self.view_is) c.requires.fits in
-    let free : refused w (end_event k p m) ≡ None = subst (λ (z : SharedValue). refused z (end_event k p m) ≡ None) (sym c.self.view_is) c.requires.free in
+    let free : refused w (end_entry k p m) ≡ None = subst (λ (z : SharedValue). refused z (end_entry k p m) ≡ None) (sym c.self.view_is) c.requires.free in
     let led : c.lead.new.heaps ≡ with_resting c.self.inside.heaps (led_heaps w p m) = c.lead.ensures.led ∙ ap (λ ms. with_resting c.self.inside.heaps (fold (redirected refs_in with_ref_in ms) (heaps_of w) (sources_of (slice_get w.sets p.task)))) c.deref.ensures.value in
     let once : StandOnce (sources_of (slice_get w.sets p.task)) = c.lead.ensures.once in
     let given : AreGiven (led_heaps w p m).pool c.give_all.new.pool m.back.items = subst (λ (z : PoolValue). AreGiven z c.give_all.new.pool m.back.items) (ap (λ (h : Heaps). h.pool) led ∙ sym (pool_same w k p m c.self.invariant F free (led_heaps w p m) refl once)) c.give_all.ensures in
     subst (λ (z : SharedValue). OthersFit z (record w { pool = c.give_all.new.pool; rests = c.lead.new.heaps.homes.rests; sets = c.lead.new.heaps.homes.sets; marks = c.lead.new.heaps.homes.marks; journal = c.push_reserved.new.self }) k) c.self.view_is
     (subst (λ (h : Heaps). OthersFit w (record w { pool = c.give_all.new.pool; rests = h.homes.rests; sets = h.homes.sets; marks = h.homes.marks; journal = c.push_reserved.new.self }) k) (sym led)
-    (others_so w k p m c.self.invariant F free (led_heaps w p m) refl once c.give_all.new.pool given c.push_reserved.new.self (journal_by w.journal _ _ (end_event k p m) c.new.ensures c.push_reserved.ensures)))
+    (others_so w k p m c.self.invariant F free (led_heaps w p m) refl once c.give_all.new.pool given c.push_reserved.new.self (journal_by w.journal _ _ (end_entry k p m) c.new.ensures c.push_reserved.ensures)))
 
 pub returns-clause-enters : goal.returns-clause-enters
 returns-clause-enters c =
     let w : SharedValue = the_view c.self.inside in
-    let e : EntryValue = end_event c.args.worker c.args.part.now c.args.moved in
+    let e : EntryValue = end_entry c.args.worker c.args.part.now c.args.moved in
     subst (λ (z : SharedValue). Enters z (record w { pool = c.give_all.new.pool; rests = c.lead.new.heaps.homes.rests; sets = c.lead.new.heaps.homes.sets; marks = c.lead.new.heaps.homes.marks; journal = c.push_reserved.new.self }) e) c.self.view_is
     (record { journal = ap (λ (j : RoomyValue EntryValue). j.items) (journal_by w.journal _ _ e c.new.ensures c.push_reserved.ensures); program = refl; settings = refl; halted = refl })
 

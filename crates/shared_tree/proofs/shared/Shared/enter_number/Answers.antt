@@ -7,7 +7,7 @@ use Rattle.shared_value.specs.Stands.{IsSharedValue}
 use Rattle.shared_value.specs.SharedValue.{SharedValue}
 use Rattle.shared_value.specs.Fits.{Fits}
 use Rattle.shared_value.specs.Entered.{refused}
-use Rattle.own_steps.specs.Alone.{GoesAlone, IsShared, alone_event}
+use Rattle.own_steps.specs.Alone.{GoesAlone, IsShared, alone_entry}
 use Rattle.own_steps.proofs.AloneEntries.{alone_small, next_small}
 use Rattle.others_objects.specs.declared.other.OtherStep.TheVariants.{SetsNumber}
 use Rattle.others_objects.specs.Other.{TellsOther}
@@ -23,7 +23,7 @@ enter_alone-requires-clause-small c =
     let k : ℕ = c.args.worker in
     let F : Fits w k p = subst (λ (z : SharedValue). Fits z k p) (sym c.self.view_is) c.requires.fits in
     let shared : IsShared w p = subst (λ (z : SharedValue). IsShared z p) (sym c.self.view_is) c.requires.shared in
-    let free : refused w (alone_event k p) ≡ None = subst (λ (z : SharedValue). refused z (alone_event k p) ≡ None) (sym c.self.view_is) c.requires.free in
+    let free : refused w (alone_entry k p) ≡ None = subst (λ (z : SharedValue). refused z (alone_entry k p) ≡ None) (sym c.self.view_is) c.requires.free in
     alone_small w k p c.self.invariant F shared free
 
 pub overflow_add-next : goal.overflow_add-next
@@ -33,7 +33,7 @@ overflow_add-next c =
     let k : ℕ = c.args.worker in
     let F : Fits w k p = subst (λ (z : SharedValue). Fits z k p) (sym c.self.view_is) c.requires.fits in
     let shared : IsShared w p = subst (λ (z : SharedValue). IsShared z p) (sym c.self.view_is) c.requires.shared in
-    let free : refused w (alone_event k p) ≡ None = subst (λ (z : SharedValue). refused z (alone_event k p) ≡ None) (sym c.self.view_is) c.requires.free in
+    let free : refused w (alone_entry k p) ≡ None = subst (λ (z : SharedValue). refused z (alone_entry k p) ≡ None) (sym c.self.view_is) c.requires.free in
     let small = next_small w k p c.self.invariant F shared free in
     let e = c.next-next.ensures in
     omega (arith, small, e)
@@ -45,7 +45,7 @@ invariant_of-self c =
     let k : ℕ = c.args.worker in
     let F : Fits w k p = subst (λ (z : SharedValue). Fits z k p) (sym c.self.view_is) c.requires.fits in
     let shared : IsShared w p = subst (λ (z : SharedValue). IsShared z p) (sym c.self.view_is) c.requires.shared in
-    let free : refused w (alone_event k p) ≡ None = subst (λ (z : SharedValue). refused z (alone_event k p) ≡ None) (sym c.self.view_is) c.requires.free in
+    let free : refused w (alone_entry k p) ≡ None = subst (λ (z : SharedValue). refused z (alone_entry k p) ≡ None) (sym c.self.view_is) c.requires.free in
     let T : (n : ℕ) × TellsOther w p (SetsNumber c.args.register c.args.value) n = subst (λ (z : SharedValue). (n : ℕ) × TellsOther z p (SetsNumber c.args.register c.args.value) n) (sym c.self.view_is) c.requires.reads in
     along w k p _ _ c.enter_alone.ensures.steps c.enter_alone.ensures.journal (λ n j. IsSharedValue (record w { steps = n; journal = j }))
     (number_world w k p c.self.invariant F shared free c.args.register c.args.value T.0 T.1 (record { items = []; room = w.journal.room - 1 }))
@@ -57,7 +57,7 @@ returns c =
     let k : ℕ = c.args.worker in
     let F : Fits w k p = subst (λ (z : SharedValue). Fits z k p) (sym c.self.view_is) c.requires.fits in
     let shared : IsShared w p = subst (λ (z : SharedValue). IsShared z p) (sym c.self.view_is) c.requires.shared in
-    let free : refused w (alone_event k p) ≡ None = subst (λ (z : SharedValue). refused z (alone_event k p) ≡ None) (sym c.self.view_is) c.requires.free in
+    let free : refused w (alone_entry k p) ≡ None = subst (λ (z : SharedValue). refused z (alone_entry k p) ≡ None) (sym c.self.view_is) c.requires.free in
     let T : (n : ℕ) × TellsOther w p (SetsNumber c.args.register c.args.value) n = subst (λ (z : SharedValue). (n : ℕ) × TellsOther z p (SetsNumber c.args.register c.args.value) n) (sym c.self.view_is) c.requires.reads in
     let frames : c.set_next.new.self ≡ with_next (with_int p.frames c.args.register c.args.value) (p.frames.top.next + 1) =
     c.set_next.ensures ∙ ap₂ (λ (s : FramesValue) n. with_next s (n + 1)) (c.set_int.ensures ∙ (ap (with_int p.frames c.index.result) (to_z-of_z w64 c.args.value c.ranges.value) ∙ ap (λ i. with_int p.frames i c.args.value) c.index.ensures.value)) c.next-next.ensures in

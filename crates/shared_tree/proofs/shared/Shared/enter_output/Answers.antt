@@ -8,7 +8,7 @@ use Rattle.shared_value.specs.Stands.{IsSharedValue}
 use Rattle.shared_value.specs.SharedValue.{SharedValue}
 use Rattle.shared_value.specs.Fits.{Fits}
 use Rattle.shared_value.specs.Entered.{refused}
-use Rattle.own_steps.specs.Alone.{IsShared, alone_event}
+use Rattle.own_steps.specs.Alone.{IsShared, alone_entry}
 use Rattle.own_steps.specs.Alone.{GoesAlone, Tells}
 use Rattle.own_steps.proofs.AloneEntries.{alone_small, next_small, printed_goes, printed_world}
 use Rattle.shared_tree.specs.contracts.shared.Shared.{the_view}
@@ -22,7 +22,7 @@ enter_alone-requires-clause-small c =
     let k : ℕ = c.args.worker in
     let F : Fits w k p = subst (λ (z : SharedValue). Fits z k p) (sym c.self.view_is) c.requires.fits in
     let shared : IsShared w p = subst (λ (z : SharedValue). IsShared z p) (sym c.self.view_is) c.requires.shared in
-    let free : refused w (alone_event k p) ≡ None = subst (λ (z : SharedValue). refused z (alone_event k p) ≡ None) (sym c.self.view_is) c.requires.free in
+    let free : refused w (alone_entry k p) ≡ None = subst (λ (z : SharedValue). refused z (alone_entry k p) ≡ None) (sym c.self.view_is) c.requires.free in
     alone_small w k p c.self.invariant F shared free
 
 pub overflow_add-next : goal.overflow_add-next
@@ -32,7 +32,7 @@ overflow_add-next c =
     let k : ℕ = c.args.worker in
     let F : Fits w k p = subst (λ (z : SharedValue). Fits z k p) (sym c.self.view_is) c.requires.fits in
     let shared : IsShared w p = subst (λ (z : SharedValue). IsShared z p) (sym c.self.view_is) c.requires.shared in
-    let free : refused w (alone_event k p) ≡ None = subst (λ (z : SharedValue). refused z (alone_event k p) ≡ None) (sym c.self.view_is) c.requires.free in
+    let free : refused w (alone_entry k p) ≡ None = subst (λ (z : SharedValue). refused z (alone_entry k p) ≡ None) (sym c.self.view_is) c.requires.free in
     let small = next_small w k p c.self.invariant F shared free in
     let e = c.next-next.ensures in
     omega (arith, small, e)
@@ -44,7 +44,7 @@ invariant_of-self-2 c =
     let k : ℕ = c.args.worker in
     let F : Fits w k p = subst (λ (z : SharedValue). Fits z k p) (sym c.self.view_is) c.requires.fits in
     let shared : IsShared w p = subst (λ (z : SharedValue). IsShared z p) (sym c.self.view_is) c.requires.shared in
-    let free : refused w (alone_event k p) ≡ None = subst (λ (z : SharedValue). refused z (alone_event k p) ≡ None) (sym c.self.view_is) c.requires.free in
+    let free : refused w (alone_entry k p) ≡ None = subst (λ (z : SharedValue). refused z (alone_entry k p) ≡ None) (sym c.self.view_is) c.requires.free in
     let T : (n : ℕ) × Tells w p (Prints c.args.value) n = subst (λ (z : SharedValue). (n : ℕ) × Tells z p (Prints c.args.value) n) (sym c.self.view_is) c.requires.prints in
     along w k p _ _ c.enter_alone.ensures.steps c.enter_alone.ensures.journal (λ n j. IsSharedValue (record w { outputs = c.push.new.self; steps = n; journal = j }))
     (subst (λ (xs : List ℤ). IsSharedValue (record w { outputs = xs; steps = w.steps + (p.fresh + 1); journal = entered w k p })) (sym (c.in_ok-push.ensures.ok ∙ ap (λ (x : ℤ). w.outputs ++ x ∷ []) (to_z-of_z w64 c.args.value c.ranges.value)))
@@ -57,7 +57,7 @@ returns-clause-goes c =
     let k : ℕ = c.args.worker in
     let F : Fits w k p = subst (λ (z : SharedValue). Fits z k p) (sym c.self.view_is) c.requires.fits in
     let shared : IsShared w p = subst (λ (z : SharedValue). IsShared z p) (sym c.self.view_is) c.requires.shared in
-    let free : refused w (alone_event k p) ≡ None = subst (λ (z : SharedValue). refused z (alone_event k p) ≡ None) (sym c.self.view_is) c.requires.free in
+    let free : refused w (alone_entry k p) ≡ None = subst (λ (z : SharedValue). refused z (alone_entry k p) ≡ None) (sym c.self.view_is) c.requires.free in
     let T : (n : ℕ) × Tells w p (Prints c.args.value) n = subst (λ (z : SharedValue). (n : ℕ) × Tells z p (Prints c.args.value) n) (sym c.self.view_is) c.requires.prints in
     let frames : c.set_next.new.self ≡ with_next p.frames (p.frames.top.next + 1) = c.set_next.ensures ∙ ap (λ n. with_next p.frames (n + 1)) c.next-next.ensures in
     subst (λ (z : SharedValue). GoesAlone z (record w { outputs = c.push.new.self; steps = c.enter_alone.new.steps; journal = c.enter_alone.new.journal }) k p (record p { frames = c.set_next.new.self; fresh = 0 })) c.self.view_is

@@ -13,7 +13,7 @@ use Rattle.shared_value.specs.Stands.{IsSharedValue}
 use Rattle.shared_value.specs.SharedValue.{SharedValue}
 use Rattle.shared_value.specs.Fits.{Fits}
 use Rattle.shared_value.specs.Entered.{refused}
-use Rattle.own_steps.specs.Alone.{GoesAlone, IsShared, alone_event}
+use Rattle.own_steps.specs.Alone.{GoesAlone, IsShared, alone_entry}
 use Rattle.own_steps.proofs.AloneEntries.{alone_small, next_small}
 use Rattle.others_objects.specs.declared.other.OtherStep.{OtherStep}
 use Rattle.others_objects.specs.Other.{SameButRoom, TellsOther, put_rest, store_frames, store_of}
@@ -35,7 +35,7 @@ write_reference-requires-clause-there c =
     let k : ℕ = c.args.worker in
     let F : Fits w k p = subst (λ (z : SharedValue). Fits z k p) (sym c.self.view_is) c.requires.fits in
     let shared : IsShared w p = subst (λ (z : SharedValue). IsShared z p) (sym c.self.view_is) c.requires.shared in
-    let free : refused w (alone_event k p) ≡ None = subst (λ (z : SharedValue). refused z (alone_event k p) ≡ None) (sym c.self.view_is) c.requires.free in
+    let free : refused w (alone_entry k p) ≡ None = subst (λ (z : SharedValue). refused z (alone_entry k p) ≡ None) (sym c.self.view_is) c.requires.free in
     let does : OtherStep = store_of c.args.swap c.args.object c.args.field c.args.value in
     let T : (n : ℕ) × TellsOther w p does n = subst (λ (z : SharedValue). (n : ℕ) × TellsOther z p does n) (sym c.self.view_is) c.requires.stores in
     entries.writable w k p c.self.invariant F shared free c.args.swap c.args.object c.args.field c.args.value T.0 T.1
@@ -47,7 +47,7 @@ write_reference-requires-clause-value c =
     let k : ℕ = c.args.worker in
     let F : Fits w k p = subst (λ (z : SharedValue). Fits z k p) (sym c.self.view_is) c.requires.fits in
     let shared : IsShared w p = subst (λ (z : SharedValue). IsShared z p) (sym c.self.view_is) c.requires.shared in
-    let free : refused w (alone_event k p) ≡ None = subst (λ (z : SharedValue). refused z (alone_event k p) ≡ None) (sym c.self.view_is) c.requires.free in
+    let free : refused w (alone_entry k p) ≡ None = subst (λ (z : SharedValue). refused z (alone_entry k p) ≡ None) (sym c.self.view_is) c.requires.free in
     let does : OtherStep = store_of c.args.swap c.args.object c.args.field c.args.value in
     let T : (n : ℕ) × TellsOther w p does n = subst (λ (z : SharedValue). (n : ℕ) × TellsOther z p does n) (sym c.self.view_is) c.requires.stores in
     entries.value_owned w k p c.self.invariant F shared free c.args.swap c.args.object c.args.field c.args.value T.0 T.1
@@ -59,7 +59,7 @@ write_reference-requires-clause-place c =
     let k : ℕ = c.args.worker in
     let F : Fits w k p = subst (λ (z : SharedValue). Fits z k p) (sym c.self.view_is) c.requires.fits in
     let shared : IsShared w p = subst (λ (z : SharedValue). IsShared z p) (sym c.self.view_is) c.requires.shared in
-    let free : refused w (alone_event k p) ≡ None = subst (λ (z : SharedValue). refused z (alone_event k p) ≡ None) (sym c.self.view_is) c.requires.free in
+    let free : refused w (alone_entry k p) ≡ None = subst (λ (z : SharedValue). refused z (alone_entry k p) ≡ None) (sym c.self.view_is) c.requires.free in
     let does : OtherStep = store_of c.args.swap c.args.object c.args.field c.args.value in
     let T : (n : ℕ) × TellsOther w p does n = subst (λ (z : SharedValue). (n : ℕ) × TellsOther z p does n) (sym c.self.view_is) c.requires.stores in
     entries.value_place w k p c.self.invariant F shared free c.args.swap c.args.object c.args.field c.args.value T.0 T.1
@@ -71,7 +71,7 @@ invariant_of-self c =
     let k : ℕ = c.args.worker in
     let F : Fits w k p = subst (λ (z : SharedValue). Fits z k p) (sym c.self.view_is) c.requires.fits in
     let shared : IsShared w p = subst (λ (z : SharedValue). IsShared z p) (sym c.self.view_is) c.requires.shared in
-    let free : refused w (alone_event k p) ≡ None = subst (λ (z : SharedValue). refused z (alone_event k p) ≡ None) (sym c.self.view_is) c.requires.free in
+    let free : refused w (alone_entry k p) ≡ None = subst (λ (z : SharedValue). refused z (alone_entry k p) ≡ None) (sym c.self.view_is) c.requires.free in
     let h : Heaps = c.write_reference.new.heaps in
     let new : List SetOf = h.homes.sets in
     let many : length new ≡ length w.sets = c.write_reference.ensures.many in
@@ -85,7 +85,7 @@ returns-in_err-write_reference-clause-same c =
     let k : ℕ = c.args.worker in
     let F : Fits w k p = subst (λ (z : SharedValue). Fits z k p) (sym c.self.view_is) c.requires.fits in
     let shared : IsShared w p = subst (λ (z : SharedValue). IsShared z p) (sym c.self.view_is) c.requires.shared in
-    let free : refused w (alone_event k p) ≡ None = subst (λ (z : SharedValue). refused z (alone_event k p) ≡ None) (sym c.self.view_is) c.requires.free in
+    let free : refused w (alone_entry k p) ≡ None = subst (λ (z : SharedValue). refused z (alone_entry k p) ≡ None) (sym c.self.view_is) c.requires.free in
     let h : Heaps = c.write_reference.new.heaps in
     let new : List SetOf = h.homes.sets in
     let many : length new ≡ length w.sets = c.write_reference.ensures.many in
@@ -101,7 +101,7 @@ enter_alone-requires-clause-small c =
     let k : ℕ = c.args.worker in
     let F : Fits w k p = subst (λ (z : SharedValue). Fits z k p) (sym c.self.view_is) c.requires.fits in
     let shared : IsShared w p = subst (λ (z : SharedValue). IsShared z p) (sym c.self.view_is) c.requires.shared in
-    let free : refused w (alone_event k p) ≡ None = subst (λ (z : SharedValue). refused z (alone_event k p) ≡ None) (sym c.self.view_is) c.requires.free in
+    let free : refused w (alone_entry k p) ≡ None = subst (λ (z : SharedValue). refused z (alone_entry k p) ≡ None) (sym c.self.view_is) c.requires.free in
     alone_small w k p c.self.invariant F shared free
 
 pub go_on-requires : goal.go_on-requires
@@ -111,7 +111,7 @@ go_on-requires c =
     let k : ℕ = c.args.worker in
     let F : Fits w k p = subst (λ (z : SharedValue). Fits z k p) (sym c.self.view_is) c.requires.fits in
     let shared : IsShared w p = subst (λ (z : SharedValue). IsShared z p) (sym c.self.view_is) c.requires.shared in
-    let free : refused w (alone_event k p) ≡ None = subst (λ (z : SharedValue). refused z (alone_event k p) ≡ None) (sym c.self.view_is) c.requires.free in
+    let free : refused w (alone_entry k p) ≡ None = subst (λ (z : SharedValue). refused z (alone_entry k p) ≡ None) (sym c.self.view_is) c.requires.free in
     let small = next_small w k p c.self.invariant F shared free in
     omega (arith, small)
 
@@ -122,7 +122,7 @@ invariant_of-self-2 c =
     let k : ℕ = c.args.worker in
     let F : Fits w k p = subst (λ (z : SharedValue). Fits z k p) (sym c.self.view_is) c.requires.fits in
     let shared : IsShared w p = subst (λ (z : SharedValue). IsShared z p) (sym c.self.view_is) c.requires.shared in
-    let free : refused w (alone_event k p) ≡ None = subst (λ (z : SharedValue). refused z (alone_event k p) ≡ None) (sym c.self.view_is) c.requires.free in
+    let free : refused w (alone_entry k p) ≡ None = subst (λ (z : SharedValue). refused z (alone_entry k p) ≡ None) (sym c.self.view_is) c.requires.free in
     let does : OtherStep = store_of c.args.swap c.args.object c.args.field c.args.value in
     let T : (n : ℕ) × TellsOther w p does n = subst (λ (z : SharedValue). (n : ℕ) × TellsOther z p does n) (sym c.self.view_is) c.requires.stores in
     let h : Heaps = c.write_reference.new.heaps in
@@ -143,7 +143,7 @@ returns-clause-goes c =
     let k : ℕ = c.args.worker in
     let F : Fits w k p = subst (λ (z : SharedValue). Fits z k p) (sym c.self.view_is) c.requires.fits in
     let shared : IsShared w p = subst (λ (z : SharedValue). IsShared z p) (sym c.self.view_is) c.requires.shared in
-    let free : refused w (alone_event k p) ≡ None = subst (λ (z : SharedValue). refused z (alone_event k p) ≡ None) (sym c.self.view_is) c.requires.free in
+    let free : refused w (alone_entry k p) ≡ None = subst (λ (z : SharedValue). refused z (alone_entry k p) ≡ None) (sym c.self.view_is) c.requires.free in
     let does : OtherStep = store_of c.args.swap c.args.object c.args.field c.args.value in
     let T : (n : ℕ) × TellsOther w p does n = subst (λ (z : SharedValue). (n : ℕ) × TellsOther z p does n) (sym c.self.view_is) c.requires.stores in
     let h : Heaps = c.write_reference.new.heaps in

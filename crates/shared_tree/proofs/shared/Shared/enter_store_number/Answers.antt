@@ -13,7 +13,7 @@ use Rattle.shared_value.specs.Stands.{IsSharedValue}
 use Rattle.shared_value.specs.SharedValue.{SharedValue}
 use Rattle.shared_value.specs.Fits.{Fits}
 use Rattle.shared_value.specs.Entered.{refused}
-use Rattle.own_steps.specs.Alone.{GoesAlone, IsShared, alone_event}
+use Rattle.own_steps.specs.Alone.{GoesAlone, IsShared, alone_entry}
 use Rattle.own_steps.proofs.AloneEntries.{alone_small, next_small}
 use Rattle.others_objects.specs.declared.other.OtherStep.TheVariants.{StoresNumber}
 use Rattle.others_objects.specs.Other.{TellsOther, put_rest, store_frames}
@@ -33,7 +33,7 @@ write_number-requires-clause-used c =
     let k : ℕ = c.args.worker in
     let F : Fits w k p = subst (λ (z : SharedValue). Fits z k p) (sym c.self.view_is) c.requires.fits in
     let shared : IsShared w p = subst (λ (z : SharedValue). IsShared z p) (sym c.self.view_is) c.requires.shared in
-    let free : refused w (alone_event k p) ≡ None = subst (λ (z : SharedValue). refused z (alone_event k p) ≡ None) (sym c.self.view_is) c.requires.free in
+    let free : refused w (alone_entry k p) ≡ None = subst (λ (z : SharedValue). refused z (alone_entry k p) ≡ None) (sym c.self.view_is) c.requires.free in
     let T : (n : ℕ) × TellsOther w p (StoresNumber c.args.object c.args.field c.args.value) n = subst (λ (z : SharedValue). (n : ℕ) × TellsOther z p (StoresNumber c.args.object c.args.field c.args.value) n) (sym c.self.view_is) c.requires.stores in
     entries.used_number w k p c.self.invariant F shared free c.args.object c.args.field c.args.value T.0 T.1
 
@@ -44,7 +44,7 @@ write_number-requires-clause-there c =
     let k : ℕ = c.args.worker in
     let F : Fits w k p = subst (λ (z : SharedValue). Fits z k p) (sym c.self.view_is) c.requires.fits in
     let shared : IsShared w p = subst (λ (z : SharedValue). IsShared z p) (sym c.self.view_is) c.requires.shared in
-    let free : refused w (alone_event k p) ≡ None = subst (λ (z : SharedValue). refused z (alone_event k p) ≡ None) (sym c.self.view_is) c.requires.free in
+    let free : refused w (alone_entry k p) ≡ None = subst (λ (z : SharedValue). refused z (alone_entry k p) ≡ None) (sym c.self.view_is) c.requires.free in
     let T : (n : ℕ) × TellsOther w p (StoresNumber c.args.object c.args.field c.args.value) n = subst (λ (z : SharedValue). (n : ℕ) × TellsOther z p (StoresNumber c.args.object c.args.field c.args.value) n) (sym c.self.view_is) c.requires.stores in
     entries.there_number w k p c.self.invariant F shared free c.args.object c.args.field c.args.value T.0 T.1
 
@@ -55,7 +55,7 @@ write_number-requires-clause-field c =
     let k : ℕ = c.args.worker in
     let F : Fits w k p = subst (λ (z : SharedValue). Fits z k p) (sym c.self.view_is) c.requires.fits in
     let shared : IsShared w p = subst (λ (z : SharedValue). IsShared z p) (sym c.self.view_is) c.requires.shared in
-    let free : refused w (alone_event k p) ≡ None = subst (λ (z : SharedValue). refused z (alone_event k p) ≡ None) (sym c.self.view_is) c.requires.free in
+    let free : refused w (alone_entry k p) ≡ None = subst (λ (z : SharedValue). refused z (alone_entry k p) ≡ None) (sym c.self.view_is) c.requires.free in
     let T : (n : ℕ) × TellsOther w p (StoresNumber c.args.object c.args.field c.args.value) n = subst (λ (z : SharedValue). (n : ℕ) × TellsOther z p (StoresNumber c.args.object c.args.field c.args.value) n) (sym c.self.view_is) c.requires.stores in
     entries.field_number w k p c.self.invariant F shared free c.args.object c.args.field c.args.value T.0 T.1
 
@@ -66,7 +66,7 @@ enter_alone-requires-clause-small c =
     let k : ℕ = c.args.worker in
     let F : Fits w k p = subst (λ (z : SharedValue). Fits z k p) (sym c.self.view_is) c.requires.fits in
     let shared : IsShared w p = subst (λ (z : SharedValue). IsShared z p) (sym c.self.view_is) c.requires.shared in
-    let free : refused w (alone_event k p) ≡ None = subst (λ (z : SharedValue). refused z (alone_event k p) ≡ None) (sym c.self.view_is) c.requires.free in
+    let free : refused w (alone_entry k p) ≡ None = subst (λ (z : SharedValue). refused z (alone_entry k p) ≡ None) (sym c.self.view_is) c.requires.free in
     alone_small w k p c.self.invariant F shared free
 
 pub go_on-requires : goal.go_on-requires
@@ -76,7 +76,7 @@ go_on-requires c =
     let k : ℕ = c.args.worker in
     let F : Fits w k p = subst (λ (z : SharedValue). Fits z k p) (sym c.self.view_is) c.requires.fits in
     let shared : IsShared w p = subst (λ (z : SharedValue). IsShared z p) (sym c.self.view_is) c.requires.shared in
-    let free : refused w (alone_event k p) ≡ None = subst (λ (z : SharedValue). refused z (alone_event k p) ≡ None) (sym c.self.view_is) c.requires.free in
+    let free : refused w (alone_entry k p) ≡ None = subst (λ (z : SharedValue). refused z (alone_entry k p) ≡ None) (sym c.self.view_is) c.requires.free in
     let small = next_small w k p c.self.invariant F shared free in
     omega (arith, small)
 
@@ -87,7 +87,7 @@ invariant_of-self c =
     let k : ℕ = c.args.worker in
     let F : Fits w k p = subst (λ (z : SharedValue). Fits z k p) (sym c.self.view_is) c.requires.fits in
     let shared : IsShared w p = subst (λ (z : SharedValue). IsShared z p) (sym c.self.view_is) c.requires.shared in
-    let free : refused w (alone_event k p) ≡ None = subst (λ (z : SharedValue). refused z (alone_event k p) ≡ None) (sym c.self.view_is) c.requires.free in
+    let free : refused w (alone_entry k p) ≡ None = subst (λ (z : SharedValue). refused z (alone_entry k p) ≡ None) (sym c.self.view_is) c.requires.free in
     let T : (n : ℕ) × TellsOther w p (StoresNumber c.args.object c.args.field c.args.value) n = subst (λ (z : SharedValue). (n : ℕ) × TellsOther z p (StoresNumber c.args.object c.args.field c.args.value) n) (sym c.self.view_is) c.requires.stores in
     let h : Heaps = c.write_number.new.heaps in
     let homes : h.homes ≡ written c.self.inside.heaps.homes (slice_set w.rests (entries.owner_number w k p c.self.invariant F shared free c.args.object c.args.field c.args.value T.0 T.1) (Some (put_rest (entries.foreign_number w k p c.self.invariant F shared free c.args.object c.args.field c.args.value T.0 T.1).rest c.args.object (with_int (cell_of (entries.foreign_number w k p c.self.invariant F shared free c.args.object c.args.field c.args.value T.0 T.1).rest.heap.chunks c.args.object) c.args.field c.args.value)))) =
@@ -104,7 +104,7 @@ returns c =
     let k : ℕ = c.args.worker in
     let F : Fits w k p = subst (λ (z : SharedValue). Fits z k p) (sym c.self.view_is) c.requires.fits in
     let shared : IsShared w p = subst (λ (z : SharedValue). IsShared z p) (sym c.self.view_is) c.requires.shared in
-    let free : refused w (alone_event k p) ≡ None = subst (λ (z : SharedValue). refused z (alone_event k p) ≡ None) (sym c.self.view_is) c.requires.free in
+    let free : refused w (alone_entry k p) ≡ None = subst (λ (z : SharedValue). refused z (alone_entry k p) ≡ None) (sym c.self.view_is) c.requires.free in
     let T : (n : ℕ) × TellsOther w p (StoresNumber c.args.object c.args.field c.args.value) n = subst (λ (z : SharedValue). (n : ℕ) × TellsOther z p (StoresNumber c.args.object c.args.field c.args.value) n) (sym c.self.view_is) c.requires.stores in
     let h : Heaps = c.write_number.new.heaps in
     let homes : h.homes ≡ written c.self.inside.heaps.homes (slice_set w.rests (entries.owner_number w k p c.self.invariant F shared free c.args.object c.args.field c.args.value T.0 T.1) (Some (put_rest (entries.foreign_number w k p c.self.invariant F shared free c.args.object c.args.field c.args.value T.0 T.1).rest c.args.object (with_int (cell_of (entries.foreign_number w k p c.self.invariant F shared free c.args.object c.args.field c.args.value T.0 T.1).rest.heap.chunks c.args.object) c.args.field c.args.value)))) =

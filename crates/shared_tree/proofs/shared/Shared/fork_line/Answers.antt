@@ -6,7 +6,7 @@ use Rattle.shared_value.specs.SharedValue.{SharedValue}
 use Rattle.shared_value.specs.Fits.{Fits}
 use Rattle.shared_value.specs.Entered.{refused}
 use Rattle.shared_value.specs.Next.{next_line}
-use Rattle.own_steps.specs.Alone.{alone_event}
+use Rattle.own_steps.specs.Alone.{alone_entry}
 use Rattle.own_steps.proofs.AloneEntries.{runs_on}
 use Rattle.own_steps.proofs.LastSteps.{some_line}
 use Rattle.child_tasks.specs.Forks.{ForksTo, IsAtFork}
@@ -26,7 +26,7 @@ unreachable-requires c =
     let k : ℕ = held.worker in
     let F : Fits w k p = held.fits in
     let at : IsAtFork w p = subst (λ (z : SharedValue). IsAtFork z p) (sym c.self.view_is) c.requires.forks in
-    let free : refused w (alone_event k p) ≡ None = held.free in
+    let free : refused w (alone_entry k p) ≡ None = held.free in
     let line = some_line w k p c.self.invariant F (fork_shared w p at) (runs_on w k p c.self.invariant F (fork_shared w p at) free) in
     none_some line.0 (sym c.in_default.is ∙ (c.line.ensures ∙ (ap₂ (line_at w.program) c.fun.ensures c.next.ensures ∙ line.1)))
 
@@ -38,7 +38,7 @@ unreachable-requires-in_default-instr c =
     let k : ℕ = held.worker in
     let F : Fits w k p = held.fits in
     let at : IsAtFork w p = subst (λ (z : SharedValue). IsAtFork z p) (sym c.self.view_is) c.requires.forks in
-    let free : refused w (alone_event k p) ≡ None = held.free in
+    let free : refused w (alone_entry k p) ≡ None = held.free in
     let is : next_line w.program p ≡ Some c.in-Some.line = ap₂ (line_at w.program) (sym c.fun.ensures) (sym c.next.ensures) ∙ (sym c.line.ensures ∙ c.in-Some.is) in
     let par = par_is c.in-Some.line.instr (is_par_line w k p c.self.invariant F at free c.in-Some.line is) in
     c.in_default-instr.not-Par par.0 par.1 par.2
@@ -51,7 +51,7 @@ returns c =
     let k : ℕ = held.worker in
     let F : Fits w k p = held.fits in
     let at : IsAtFork w p = subst (λ (z : SharedValue). IsAtFork z p) (sym c.self.view_is) c.requires.forks in
-    let free : refused w (alone_event k p) ≡ None = held.free in
+    let free : refused w (alone_entry k p) ≡ None = held.free in
     let is : next_line w.program p ≡ Some c.in-Some.line = ap₂ (line_at w.program) (sym c.fun.ensures) (sym c.next.ensures) ∙ (sym c.line.ensures ∙ c.in-Some.is) in
     subst (λ (z : SharedValue). ForksTo z p c.in-Par.left c.in-Par.right c.in-Some.line.number) c.self.view_is
     (forks_to w k p c.self.invariant F at free c.in-Some.line c.in-Par.left c.in-Par.right is c.in-Par.is)

@@ -5,15 +5,15 @@ use Rattle.shared_value.specs.SharedValue.{SharedValue}
 use Rattle.shared_value.specs.Causes.{first_cause}
 use Rattle.shared_value.specs.Entered.{refused}
 use Rattle.shared_value.specs.Stands.{IsSharedValue}
-use Rattle.leaf_collections.specs.LeafEnd.{FitsCopied, end_event}
+use Rattle.leaf_collections.specs.LeafEnd.{FitsCopied, end_entry}
 use Rattle.leaf_collections.proofs.WhyNoEnd.{end_answer}
 use Rattle.shared_tree.specs.contracts.shared.Shared.{the_view}
 use Rattle.shared_tree.proofs.shared.Shared.leaf_end.Goals as goal
 
 -- the first cause is the only one
-first_is : (w z : SharedValue) (k : ℕ) (p : Private) (m : Moved) → IsSharedValue w → w ≡ z → FitsCopied z k p m → first_cause w.end w.steps w.settings k false ≡ refused z (end_event k p m)
+first_is : (w z : SharedValue) (k : ℕ) (p : Private) (m : Moved) → IsSharedValue w → w ≡ z → FitsCopied z k p m → first_cause w.end w.steps w.settings k false ≡ refused z (end_entry k p m)
 first_is w z k p m I e F =
-    subst (λ (y : SharedValue). first_cause w.end w.steps w.settings k false ≡ refused y (end_event k p m)) e (sym (end_answer w k p m I (subst (λ (y : SharedValue). FitsCopied y k p m) (sym e) F)))
+    subst (λ (y : SharedValue). first_cause w.end w.steps w.settings k false ≡ refused y (end_entry k p m)) e (sym (end_answer w k p m I (subst (λ (y : SharedValue). FitsCopied y k p m) (sym e) F)))
 
 pub enter_leaf_end-requires-clause-free : goal.enter_leaf_end-requires-clause-free
 enter_leaf_end-requires-clause-free c =

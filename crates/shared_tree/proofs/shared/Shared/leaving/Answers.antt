@@ -6,7 +6,7 @@ use Rattle.shared_value.specs.SharedValue.{SharedValue}
 use Rattle.shared_value.specs.Fits.{Fits}
 use Rattle.shared_value.specs.Entered.{refused}
 use Rattle.shared_value.specs.Next.{next_line}
-use Rattle.own_steps.specs.Alone.{IsShared, alone_event}
+use Rattle.own_steps.specs.Alone.{IsShared, alone_entry}
 use Rattle.own_steps.proofs.AloneEntries.{runs_on}
 use Rattle.own_steps.proofs.LastSteps.{some_line}
 use Rattle.child_tasks.specs.ChildEnds.{IsAtEnd}
@@ -28,7 +28,7 @@ unreachable-requires c =
     let k : ℕ = held.worker in
     let F : Fits w k p = held.fits in
     let shared : IsShared w p = subst (λ (z : SharedValue). IsShared z p) (sym c.self.view_is) c.requires.shared in
-    let free : refused w (alone_event k p) ≡ None = held.free in
+    let free : refused w (alone_entry k p) ≡ None = held.free in
     let line = some_line w k p c.self.invariant F shared (runs_on w k p c.self.invariant F shared free) in
     none_some line.0 (sym c.in_default.is ∙ (c.line.ensures ∙ (ap₂ (line_at w.program) c.fun.ensures c.next.ensures ∙ line.1)))
 
@@ -40,7 +40,7 @@ returns-in-Par c =
     let k : ℕ = held.worker in
     let F : Fits w k p = held.fits in
     let shared : IsShared w p = subst (λ (z : SharedValue). IsShared z p) (sym c.self.view_is) c.requires.shared in
-    let free : refused w (alone_event k p) ≡ None = held.free in
+    let free : refused w (alone_entry k p) ≡ None = held.free in
     let joint : IsJoint w p = subst (λ (z : SharedValue). IsJoint z p) (sym c.self.view_is) c.requires.joint in
     let is : next_line w.program p ≡ Some c.in-Some.line = ap₂ (line_at w.program) (sym c.fun.ensures) (sym c.next.ensures) ∙ (sym c.line.ensures ∙ c.in-Some.is) in
     subst (λ (z : SharedValue). IsAtFork z p) c.self.view_is (at_fork w k p c.self.invariant F shared free joint c.in-Some.line is c.in-Par.field-0 c.in-Par.field-1 c.in-Par.is)
@@ -53,7 +53,7 @@ returns-in-Ret c =
     let k : ℕ = held.worker in
     let F : Fits w k p = held.fits in
     let shared : IsShared w p = subst (λ (z : SharedValue). IsShared z p) (sym c.self.view_is) c.requires.shared in
-    let free : refused w (alone_event k p) ≡ None = held.free in
+    let free : refused w (alone_entry k p) ≡ None = held.free in
     let joint : IsJoint w p = subst (λ (z : SharedValue). IsJoint z p) (sym c.self.view_is) c.requires.joint in
     let is : next_line w.program p ≡ Some c.in-Some.line = ap₂ (line_at w.program) (sym c.fun.ensures) (sym c.next.ensures) ∙ (sym c.line.ensures ∙ c.in-Some.is) in
     subst (λ (z : SharedValue). IsAtEnd z p) c.self.view_is (at_end w k p c.self.invariant F shared free joint c.in-Some.line is c.in-Ret.is)
@@ -66,7 +66,7 @@ returns-in_default-instr c =
     let k : ℕ = held.worker in
     let F : Fits w k p = held.fits in
     let shared : IsShared w p = subst (λ (z : SharedValue). IsShared z p) (sym c.self.view_is) c.requires.shared in
-    let free : refused w (alone_event k p) ≡ None = held.free in
+    let free : refused w (alone_entry k p) ≡ None = held.free in
     let joint : IsJoint w p = subst (λ (z : SharedValue). IsJoint z p) (sym c.self.view_is) c.requires.joint in
     let is : next_line w.program p ≡ Some c.in-Some.line = ap₂ (line_at w.program) (sym c.fun.ensures) (sym c.next.ensures) ∙ (sym c.line.ensures ∙ c.in-Some.is) in
     subst (λ (z : SharedValue). IsOther z p) c.self.view_is (at_other w k p c.self.invariant F shared free joint c.in-Some.line is c.in_default-instr.not-Par c.in_default-instr.not-Ret)

@@ -10,7 +10,7 @@ use Rattle.shared_value.specs.SharedValue.{SharedValue, rest_at}
 use Rattle.shared_value.specs.Stands.{IsSharedValue}
 use Rattle.shared_value.specs.Fits.{Fits}
 use Rattle.shared_value.specs.Entered.{refused}
-use Rattle.own_steps.specs.Alone.{alone_event}
+use Rattle.own_steps.specs.Alone.{alone_entry}
 use Rattle.child_tasks.specs.ChildEnds.{IsAtEnd}
 use Rattle.child_tasks.specs.Joins.{HasPlaces, SameButPlaces, chunk_count, sources_at}
 use Rattle.child_tasks.proofs.ChildReturns.{own_made, parent_low}
@@ -83,7 +83,7 @@ returns-clause-places c =
     let I : IsSharedValue w = c.self.invariant in
     let F : Fits w k p = held.fits in
     let at : IsAtEnd w p = subst (λ (z : SharedValue). IsAtEnd z p) (sym c.self.view_is) c.requires.ends in
-    let free : refused w (alone_event k p) ≡ None = held.free in
+    let free : refused w (alone_entry k p) ≡ None = held.free in
     let ended : state_of w.tree (sibling p.task) ≡ Some Ended = subst (λ (z : SharedValue). state_of z.tree (sibling p.task) ≡ Some Ended) (sym c.self.view_is) c.requires.ended in
     let par : parent_of w.tree p.task ≡ Some c.args.parent = subst (λ (z : SharedValue). parent_of z.tree p.task ≡ Some c.args.parent) (sym c.self.view_is) c.requires.parent in
     let e = parent_is w k p I F at free ended c.args.parent par in

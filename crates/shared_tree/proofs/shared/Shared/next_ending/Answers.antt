@@ -7,7 +7,7 @@ use Rattle.shared_value.specs.SharedValue.{SharedValue}
 use Rattle.shared_value.specs.Fits.{Fits}
 use Rattle.shared_value.specs.Entered.{refused}
 use Rattle.shared_value.specs.Next.{next_line}
-use Rattle.own_steps.specs.Alone.{IsShared, alone_event}
+use Rattle.own_steps.specs.Alone.{IsShared, alone_entry}
 use Rattle.own_steps.specs.Alone.{Tells}
 use Rattle.own_steps.proofs.AloneEntries.{is_safe, runs_on}
 use Rattle.own_steps.proofs.LastSteps.{some_line, tells}
@@ -26,7 +26,7 @@ last_step-requires c =
     let k : ℕ = held.worker in
     let F : Fits w k p = held.fits in
     let shared : IsShared w p = subst (λ (z : SharedValue). IsShared z p) (sym c.self.view_is) c.requires.shared in
-    let free : refused w (alone_event k p) ≡ None = held.free in
+    let free : refused w (alone_entry k p) ≡ None = held.free in
     is_safe w k p c.self.invariant F shared free
 
 pub unreachable-requires : goal.unreachable-requires
@@ -37,7 +37,7 @@ unreachable-requires c =
     let k : ℕ = held.worker in
     let F : Fits w k p = held.fits in
     let shared : IsShared w p = subst (λ (z : SharedValue). IsShared z p) (sym c.self.view_is) c.requires.shared in
-    let free : refused w (alone_event k p) ≡ None = held.free in
+    let free : refused w (alone_entry k p) ≡ None = held.free in
     let line = some_line w k p c.self.invariant F shared (runs_on w k p c.self.invariant F shared free) in
     none_some line.0 (sym c.in-None.is ∙ (c.line.ensures ∙ (ap₂ (line_at w.program) c.fun.ensures c.next.ensures ∙ line.1)))
 
@@ -49,7 +49,7 @@ returns c =
     let k : ℕ = held.worker in
     let F : Fits w k p = held.fits in
     let shared : IsShared w p = subst (λ (z : SharedValue). IsShared z p) (sym c.self.view_is) c.requires.shared in
-    let free : refused w (alone_event k p) ≡ None = held.free in
+    let free : refused w (alone_entry k p) ≡ None = held.free in
     let is : next_line w.program p ≡ Some c.in-Some.line = ap₂ (line_at w.program) (sym c.fun.ensures) (sym c.next.ensures) ∙ (sym c.line.ensures ∙ c.in-Some.is) in
     subst (λ (z : SharedValue). Tells z p c.last_step.result c.in-Some.line.number) c.self.view_is
     (subst (λ (e : Ending). Tells w p e c.in-Some.line.number) (sym c.last_step.ensures) (tells w k p c.self.invariant F shared (runs_on w k p c.self.invariant F shared free) c.in-Some.line is))

@@ -5,7 +5,7 @@ use Rattle.shared_value.specs.SharedValue.{SharedValue, accounts}
 use Rattle.shared_value.specs.Fits.{Fits}
 use Rattle.shared_value.specs.Entered.{refused}
 use Rattle.shared_value.specs.Next.{next_line}
-use Rattle.own_steps.specs.Alone.{IsShared, alone_event}
+use Rattle.own_steps.specs.Alone.{IsShared, alone_entry}
 use Rattle.own_steps.proofs.AloneEntries.{runs_on}
 use Rattle.own_steps.proofs.LastSteps.{some_line}
 use Rattle.others_objects.specs.declared.other.OtherStep.{OtherStep}
@@ -26,7 +26,7 @@ unreachable-requires c =
     let k : ℕ = held.worker in
     let F : Fits w k p = held.fits in
     let shared : IsShared w p = subst (λ (z : SharedValue). IsShared z p) (sym c.self.view_is) c.requires.shared in
-    let free : refused w (alone_event k p) ≡ None = held.free in
+    let free : refused w (alone_entry k p) ≡ None = held.free in
     let on : (accounts w).end ≡ None = runs_on w k p c.self.invariant F shared free in
     let it = some_line w k p c.self.invariant F shared on in
     none_some (sym c.in_default.is ∙ (c.line.ensures ∙ (ap₂ (line_at w.program) c.fun.ensures c.next.ensures ∙ it.1)))
@@ -39,7 +39,7 @@ unreachable-requires-in_default-named c =
     let k : ℕ = held.worker in
     let F : Fits w k p = held.fits in
     let shared : IsShared w p = subst (λ (z : SharedValue). IsShared z p) (sym c.self.view_is) c.requires.shared in
-    let free : refused w (alone_event k p) ≡ None = held.free in
+    let free : refused w (alone_entry k p) ≡ None = held.free in
     let on : (accounts w).end ≡ None = runs_on w k p c.self.invariant F shared free in
     let other : IsOther w p = subst (λ (z : SharedValue). IsOther z p) (sym c.self.view_is) c.requires.other in
     let next : next_line w.program p ≡ Some c.in-Some.line = ap₂ (line_at w.program) (sym c.fun.ensures) (sym c.next.ensures) ∙ (sym c.line.ensures ∙ c.in-Some.is) in
@@ -53,7 +53,7 @@ owner-owner-requires c =
     let k : ℕ = held.worker in
     let F : Fits w k p = held.fits in
     let shared : IsShared w p = subst (λ (z : SharedValue). IsShared z p) (sym c.self.view_is) c.requires.shared in
-    let free : refused w (alone_event k p) ≡ None = held.free in
+    let free : refused w (alone_entry k p) ≡ None = held.free in
     let on : (accounts w).end ≡ None = runs_on w k p c.self.invariant F shared free in
     let other : IsOther w p = subst (λ (z : SharedValue). IsOther z p) (sym c.self.view_is) c.requires.other in
     let next : next_line w.program p ≡ Some c.in-Some.line = ap₂ (line_at w.program) (sym c.fun.ensures) (sym c.next.ensures) ∙ (sym c.line.ensures ∙ c.in-Some.is) in
@@ -67,7 +67,7 @@ unreachable-requires-in_default-rest c =
     let k : ℕ = held.worker in
     let F : Fits w k p = held.fits in
     let shared : IsShared w p = subst (λ (z : SharedValue). IsShared z p) (sym c.self.view_is) c.requires.shared in
-    let free : refused w (alone_event k p) ≡ None = held.free in
+    let free : refused w (alone_entry k p) ≡ None = held.free in
     let on : (accounts w).end ≡ None = runs_on w k p c.self.invariant F shared free in
     let other : IsOther w p = subst (λ (z : SharedValue). IsOther z p) (sym c.self.view_is) c.requires.other in
     let next : next_line w.program p ≡ Some c.in-Some.line = ap₂ (line_at w.program) (sym c.fun.ensures) (sym c.next.ensures) ∙ (sym c.line.ensures ∙ c.in-Some.is) in
@@ -82,7 +82,7 @@ step_on-does-requires c =
     let k : ℕ = held.worker in
     let F : Fits w k p = held.fits in
     let shared : IsShared w p = subst (λ (z : SharedValue). IsShared z p) (sym c.self.view_is) c.requires.shared in
-    let free : refused w (alone_event k p) ≡ None = held.free in
+    let free : refused w (alone_entry k p) ≡ None = held.free in
     let on : (accounts w).end ≡ None = runs_on w k p c.self.invariant F shared free in
     let other : IsOther w p = subst (λ (z : SharedValue). IsOther z p) (sym c.self.view_is) c.requires.other in
     let next : next_line w.program p ≡ Some c.in-Some.line = ap₂ (line_at w.program) (sym c.fun.ensures) (sym c.next.ensures) ∙ (sym c.line.ensures ∙ c.in-Some.is) in
@@ -96,7 +96,7 @@ returns c =
     let k : ℕ = held.worker in
     let F : Fits w k p = held.fits in
     let shared : IsShared w p = subst (λ (z : SharedValue). IsShared z p) (sym c.self.view_is) c.requires.shared in
-    let free : refused w (alone_event k p) ≡ None = held.free in
+    let free : refused w (alone_entry k p) ≡ None = held.free in
     let on : (accounts w).end ≡ None = runs_on w k p c.self.invariant F shared free in
     let other : IsOther w p = subst (λ (z : SharedValue). IsOther z p) (sym c.self.view_is) c.requires.other in
     let next : next_line w.program p ≡ Some c.in-Some.line = ap₂ (line_at w.program) (sym c.fun.ensures) (sym c.next.ensures) ∙ (sym c.line.ensures ∙ c.in-Some.is) in

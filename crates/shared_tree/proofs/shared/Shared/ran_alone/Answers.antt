@@ -7,7 +7,7 @@ use Rattle.shared_value.specs.declared.next_step.Ending.{Ending}
 use Rattle.shared_value.specs.declared.next_step.Ending.TheVariants.{Beyond, Prints, Returns}
 use Rattle.shared_value.specs.SharedValue.{SharedValue}
 use Rattle.shared_value.specs.Entered.{Answers, refused}
-use Rattle.own_steps.specs.Alone.{Tells, alone_event}
+use Rattle.own_steps.specs.Alone.{Tells, alone_entry}
 use Rattle.own_steps.proofs.AloneEntries.{child_beyond, other_beyond, trap_is}
 use Rattle.shared_tree.specs.declared.ran_lent.Lent.{Lent}
 use Rattle.shared_tree.specs.Ran.{AloneTo}
@@ -19,7 +19,7 @@ returns-else-part-eq0-clause-answered c =
     let w : SharedValue = c.args.self.now in
     let p : Private = c.args.part.now in
     let k : ℕ = c.args.worker in
-    let free : refused w (alone_event k p) ≡ None = sym c.alone_refused.ensures ∙ c.in_default.is in
+    let free : refused w (alone_entry k p) ≡ None = sym c.alone_refused.ensures ∙ c.in_default.is in
     let T : Tells w p Returns c.next_ending-ending.result.1 = subst (λ (e : Ending). Tells w p e c.next_ending-ending.result.1) c.in-Returns.is c.next_ending-ending.ensures in
     record { same = refl; part = refl; beyond = child_beyond w k p c.stands.ensures c.requires.fits c.requires.shared free c.next_ending-ending.result.1 T c.if-part-eq0.false }
 
@@ -38,7 +38,7 @@ returns-in-Beyond-clause-answered c =
     let w : SharedValue = c.args.self.now in
     let p : Private = c.args.part.now in
     let k : ℕ = c.args.worker in
-    let free : refused w (alone_event k p) ≡ None = sym c.alone_refused.ensures ∙ c.in_default.is in
+    let free : refused w (alone_entry k p) ≡ None = sym c.alone_refused.ensures ∙ c.in_default.is in
     let T : Tells w p Beyond c.next_ending-ending.result.1 = subst (λ (e : Ending). Tells w p e c.next_ending-ending.result.1) c.in-Beyond.is c.next_ending-ending.ensures in
     record { same = refl; part = refl; beyond = other_beyond w k p c.stands.ensures c.requires.fits c.requires.shared free c.next_ending-ending.result.1 T }
 
@@ -57,7 +57,7 @@ returns-in_ok-enter_output-in-Prints-clause-refused c = sym c.alone_refused.ensu
 pub returns-in_err-enter_output-in-Prints-clause-refused : goal.returns-in_err-enter_output-in-Prints-clause-refused
 returns-in_err-enter_output-in-Prints-clause-refused c =
     let w : SharedValue = c.args.self.now in
-    for_memory (λ (r : Result (Option Lent) NotEntered). Answers r (refused w (alone_event c.args.worker c.args.part.now))) (sym c.alone_refused.ensures ∙ c.in_default.is)
+    for_memory (λ (r : Result (Option Lent) NotEntered). Answers r (refused w (alone_entry c.args.worker c.args.part.now))) (sym c.alone_refused.ensures ∙ c.in_default.is)
     c.from_residual.result c.from_residual.ensures.1
 
 pub returns-in-Traps-clause-refused : goal.returns-in-Traps-clause-refused

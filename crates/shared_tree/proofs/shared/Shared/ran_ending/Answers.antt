@@ -9,7 +9,7 @@ use Rattle.shared_value.specs.declared.answer.NotRan.{NotRan}
 use Rattle.shared_value.specs.SharedValue.{SharedValue}
 use Rattle.shared_value.specs.Entered.{RanAnswers, refused}
 use Rattle.shared_value.specs.Fits.{AllFit, Fits}
-use Rattle.own_steps.specs.Alone.{alone_event}
+use Rattle.own_steps.specs.Alone.{alone_entry}
 use Rattle.child_tasks.specs.ChildEnds.{IsAtEnd}
 use Rattle.child_tasks.specs.Joins.{IsUnchanged, SameButPlaces}
 use Rattle.child_tasks.proofs.ChildReturns.{end_shared, own_made, parent_low, tree_parent}
@@ -34,7 +34,7 @@ unreachable-requires c =
     let w : SharedValue = c.args.self.now in
     let p : Private = c.args.part in
     let k : ℕ = c.args.worker in
-    let free : refused w (alone_event k p) ≡ None = sym c.alone_refused.ensures ∙ c.in_default.is in
+    let free : refused w (alone_entry k p) ≡ None = sym c.alone_refused.ensures ∙ c.in_default.is in
     none_some (sym c.in_default-parent.is ∙ (c.parent.ensures ∙ (ap (λ (z : SharedValue). parent_of z.tree p.task) c.self.view_is ∙ tree_parent w k p c.stands.ensures c.requires.fits c.requires.ends free)))
 
 pub enter_join-requires-clause-fits : goal.enter_join-requires-clause-fits
@@ -55,8 +55,8 @@ enter_join-requires-clause-free c =
     let w : SharedValue = c.args.self.now in
     let p : Private = c.args.part in
     let k : ℕ = c.args.worker in
-    let free : refused w (alone_event k p) ≡ None = sym c.alone_refused.ensures ∙ c.in_default.is in
-    places_same w c.make_join_places.new.self c.make_join_places.ensures.same (λ z. refused z (alone_event k p) ≡ None) (λ hs ss g. g) free
+    let free : refused w (alone_entry k p) ≡ None = sym c.alone_refused.ensures ∙ c.in_default.is in
+    places_same w c.make_join_places.new.self c.make_join_places.ensures.same (λ z. refused z (alone_entry k p) ≡ None) (λ hs ss g. g) free
 
 pub returns-in-Ok-clause-answered : goal.returns-in-Ok-clause-answered
 returns-in-Ok-clause-answered c =
@@ -143,7 +143,7 @@ sibling_of-requires-clause-child c =
     let w : SharedValue = c.args.self.now in
     let p : Private = c.args.part in
     let k : ℕ = c.args.worker in
-    let free : refused w (alone_event k p) ≡ None = sym c.alone_refused.ensures ∙ c.in_default.is in
+    let free : refused w (alone_entry k p) ≡ None = sym c.alone_refused.ensures ∙ c.in_default.is in
     let low = parent_low w k p c.stands.ensures c.requires.fits c.requires.ends free in
     omega (arith, low)
 
@@ -152,7 +152,7 @@ sibling_of-requires-clause-few c =
     let w : SharedValue = c.args.self.now in
     let p : Private = c.args.part in
     let k : ℕ = c.args.worker in
-    let free : refused w (alone_event k p) ≡ None = sym c.alone_refused.ensures ∙ c.in_default.is in
+    let free : refused w (alone_entry k p) ≡ None = sym c.alone_refused.ensures ∙ c.in_default.is in
     let few = few_tasks w c.stands.ensures in
     let made = own_made w k p c.stands.ensures c.requires.fits c.requires.ends free in
     omega (arith, few, made)

@@ -4,7 +4,7 @@ use Rattle.heap_tree.specs.Node.{depth_of}
 use Rattle.task_machine.specs.declared.part.Private.{Private}
 use Rattle.shared_value.specs.SharedValue.{SharedValue}
 use Rattle.shared_value.specs.Entered.{refused}
-use Rattle.own_steps.specs.Alone.{alone_event}
+use Rattle.own_steps.specs.Alone.{alone_entry}
 use Rattle.own_steps.proofs.AloneEntries.{node_there, trap_is}
 use Rattle.child_tasks.proofs.NextStepForks.{deep_traps, fork_shared}
 use Rattle.shared_tree.proofs.shared.Shared.ran_forking.Goals as goal
@@ -14,7 +14,7 @@ depth-requires c =
     let w : SharedValue = c.args.self.now in
     let p : Private = c.args.part in
     let k : ℕ = c.args.worker in
-    let free : refused w (alone_event k p) ≡ None = sym c.alone_refused.ensures ∙ c.in_default.is in
+    let free : refused w (alone_entry k p) ≡ None = sym c.alone_refused.ensures ∙ c.in_default.is in
     subst (λ (z : SharedValue). p.task < length z.tree) (sym c.self.view_is) (node_there w k p c.stands.ensures c.requires.fits (fork_shared w p c.requires.forks) free)
 
 pub enter_halt-requires-clause-ends : goal.enter_halt-requires-clause-ends
@@ -22,7 +22,7 @@ enter_halt-requires-clause-ends c =
     let w : SharedValue = c.args.self.now in
     let p : Private = c.args.part in
     let k : ℕ = c.args.worker in
-    let free : refused w (alone_event k p) ≡ None = sym c.alone_refused.ensures ∙ c.in_default.is in
+    let free : refused w (alone_entry k p) ≡ None = sym c.alone_refused.ensures ∙ c.in_default.is in
     let deep : 1000 ≤ depth_of w.tree p.task = subst (λ (z : SharedValue). 1000 ≤ depth_of z.tree p.task) c.self.view_is (subst (λ n. 1000 ≤ n) c.depth.ensures c.if-depth-lt-DEPTH_LIMIT.false) in
     let line = c.fork_line-left.result in
     trap_is w p Depth line.2 (deep_traps w k p c.stands.ensures c.requires.fits c.requires.forks free line.0 line.1 line.2 c.fork_line-left.ensures deep)

@@ -4,7 +4,7 @@ use Rattle.shared_value.specs.declared.answer.NotEntered.{NotEntered}
 use Rattle.shared_value.specs.SharedValue.{SharedValue}
 use Rattle.shared_value.specs.Entered.{Answers, refused}
 use Rattle.shared_value.specs.Fits.{Fits}
-use Rattle.own_steps.specs.Alone.{IsBeyond, IsShared, alone_event}
+use Rattle.own_steps.specs.Alone.{IsBeyond, IsShared, alone_entry}
 use Rattle.shared_tree.specs.Calls.{EntersLent}
 use Rattle.shared_tree.specs.Ran.{AloneTo, IsJoint}
 use Rattle.shared_tree.proofs.HandedOn.{handed_on}
@@ -36,7 +36,7 @@ lent_joint-requires-clause-free c =
     let p : Private = c.args.part.now in
     let q : Private = c.ran_alone.new.part in
     let B : IsBeyond w after p q = subst (AloneTo w after c.args.worker p q) c.in-None.is c.in_ok-lent.ensures.answered in
-    then_same w after p q B.same B.part (λ z r. refused z (alone_event c.args.worker r) ≡ None) c.in_ok-lent.ensures.refused
+    then_same w after p q B.same B.part (λ z r. refused z (alone_entry c.args.worker r) ≡ None) c.in_ok-lent.ensures.refused
 
 pub lent_joint-requires-clause-joint : goal.lent_joint-requires-clause-joint
 lent_joint-requires-clause-joint c =
@@ -63,7 +63,7 @@ returns-in-None c =
     let p : Private = c.args.part.now in
     let q : Private = c.ran_alone.new.part in
     let B : IsBeyond w after p q = subst (AloneTo w after c.args.worker p q) c.in-None.is c.in_ok-lent.ensures.answered in
-    let free : refused after (alone_event c.args.worker q) ≡ None = then_same w after p q B.same B.part (λ z r. refused z (alone_event c.args.worker r) ≡ None) c.in_ok-lent.ensures.refused in
+    let free : refused after (alone_entry c.args.worker q) ≡ None = then_same w after p q B.same B.part (λ z r. refused z (alone_entry c.args.worker r) ≡ None) c.in_ok-lent.ensures.refused in
     let joint : EntersLent after c.lent_joint.new.self c.args.worker q c.lent_joint.new.part c.lent_joint.result = record {
       refused = subst (Answers c.lent_joint.result) (sym free) c.lent_joint.ensures.refused;
       same = c.lent_joint.ensures.same;

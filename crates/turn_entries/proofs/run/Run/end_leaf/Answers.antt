@@ -4,7 +4,7 @@ use Rattle.run_trace.specs.declared.entry.Kind.TheVariants.{End}
 use Rattle.journal_laws.proofs.Accepted.{not_refused}
 use Rattle.task_machine.specs.declared.part.Private.{Private}
 use Rattle.shared_value.specs.Entered.{Enters, refused}
-use Rattle.leaf_collections.specs.LeafEnd.{FitsCopied, end_event, ended}
+use Rattle.leaf_collections.specs.LeafEnd.{FitsCopied, end_entry, ended}
 use Rattle.leaf_collections.proofs.WhyNoEnd.{end_free}
 use Rattle.shared_tree.specs.Ends.{end_cause}
 use Rattle.turn_entries.proofs.Going.{may_ended}
@@ -18,14 +18,14 @@ leaf_end-requires-clause-fits c = subst (λ (q : Private). FitsCopied c.args.sel
 pub unreachable-requires : goal.unreachable-requires
 unreachable-requires c =
     not_refused _ c.in-Err.field-0.cause (end_free c.args.self.paced c.args.worker c.args.copied.part c.args.copied.moved c.stands.ensures c.requires.enter.free c.requires.fits)
-    (ap (λ (q : Private). refused c.args.self.paced (end_event c.args.worker q c.args.copied.moved)) (sym c.get_mut.ensures.value) ∙ (sym c.leaf_end.ensures.refused ∙ ap end_cause c.in-Err.is))
+    (ap (λ (q : Private). refused c.args.self.paced (end_entry c.args.worker q c.args.copied.moved)) (sym c.get_mut.ensures.value) ∙ (sym c.leaf_end.ensures.refused ∙ ap end_cause c.in-Err.is))
 
 pub returns : goal.returns
 returns c = λ ready.
     let kind : Kind = End c.args.copied.part.task c.args.copied.moved.taken c.args.copied.moved.given c.args.copied.moved.left in
     c.entered.ensures c.args.self c.args.worker ready kind
     (one c.args.self.paced c.leaf_end.new.self c.args.worker kind
-    (subst (λ (q : Private). Enters c.args.self.paced c.leaf_end.new.self (end_event c.args.worker q c.args.copied.moved)) c.get_mut.ensures.value c.in-Ok.ensures.enters) c.in-Ok.ensures.others)
+    (subst (λ (q : Private). Enters c.args.self.paced c.leaf_end.new.self (end_entry c.args.worker q c.args.copied.moved)) c.get_mut.ensures.value c.in-Ok.ensures.enters) c.in-Ok.ensures.others)
     c.requires.enter.on
     (λ on. (
       on,

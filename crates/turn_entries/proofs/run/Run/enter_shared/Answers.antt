@@ -9,7 +9,7 @@ use Rattle.task_machine.specs.declared.part.Paused.TheVariants.{Shared}
 use Rattle.shared_value.specs.Entered.{IsCaused, refused}
 use Rattle.shared_value.specs.Fits.{Fits}
 use Rattle.shared_value.specs.SharedValue.{SharedValue}
-use Rattle.own_steps.specs.Alone.{GoesAlone, HaltsAlone, IsShared, alone_event}
+use Rattle.own_steps.specs.Alone.{GoesAlone, HaltsAlone, IsShared, alone_entry}
 use Rattle.own_steps.proofs.LastSteps.{alone_free}
 use Rattle.shared_tree.specs.Ran.{LeavesBy, LeavesPart, LentTo}
 use Rattle.turn_entries.specs.declared.held.Ready.TheVariants.{Paused as HasPaused}
@@ -104,7 +104,7 @@ returns-in-Ok-Leaves c =
 pub wanting-requires : goal.wanting-requires
 wanting-requires c =
     only_memory c.in-Err.cause _ (alone_free c.args.self.paced c.args.worker c.args.part c.stands.ensures c.requires.paused.may.fits (stands_shared c.args.self.paced c.args.worker c.args.part c.requires.paused) c.requires.paused.may.idle c.requires.enter.free)
-    (subst (λ (r : Private). IsCaused c.in-Err.cause (refused c.args.self.paced (alone_event c.args.worker r))) c.get_mut.ensures.value c.in-Err.ensures.refused)
+    (subst (λ (r : Private). IsCaused c.in-Err.cause (refused c.args.self.paced (alone_entry c.args.worker r))) c.get_mut.ensures.value c.in-Err.ensures.refused)
 
 pub returns-in-Err : goal.returns-in-Err
 returns-in-Err c =
