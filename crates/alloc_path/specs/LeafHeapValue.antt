@@ -97,8 +97,9 @@ IsReserved ks (Some i) = (i < length ks) × ((chunk_words < (chunk_at ks i).size
 abbrev pub AreWithin : List ChunkValue → Type 0
 AreWithin ks = All (λ k. words_in k.cells ≤ k.size) ks
 
--- the table has how far each chunk stands before a base, and nothing else, all words lie inside their chunks, the counts are those of the words, of the objects, and
--- of the words of small objects, and the pieces that are kept show what their chunks hold
+-- the table has how far each chunk stands before a base, and nothing else, all words lie inside their chunks, the
+-- counts are those of the words, of the objects, and of the words of small objects, and the pieces that are kept show
+-- what their chunks hold
 pub record AgreesWithChunks (chunks : List ChunkValue) (pieces : PiecesValue) (filled kept : Option ℕ) (count many part base : ℕ) (place : ℕ → Option ℕ) (entries : ℕ) : Type 0 where
   pub current : IsCurrent chunks filled
   pub reserved : IsReserved chunks kept
@@ -114,7 +115,8 @@ pub record AgreesWithChunks (chunks : List ChunkValue) (pieces : PiecesValue) (f
 
 -- ---- what a heap keeps between collections
 
--- no object was moved; a large one has its chunk, of just its units, to itself; and a large chunk holds no more than one
+-- no object was moved; a large one has its chunk, of just its units, to itself; and a large chunk holds no more than
+-- one
 pub record IsTidy (k : ChunkValue) : Type 0 where
   pub unmoved : All (λ c. moved_to c.mark ≡ None) k.cells
   pub alone : All (λ c. chunk_words < size_of c → length k.cells ≡ 1) k.cells

@@ -32,8 +32,8 @@ impl Space {
     }
 
     /// Puts these chunks in place of the heap's own, which are let go: with what they hold, counted; at which place the
-    /// small chunk stands that is filled from then on, and at which the reserved one. It takes no memory, and looks at no
-    /// object.
+    /// small chunk stands that is filled from then on, and at which the reserved one. It takes no memory, and looks at
+    /// no object.
     pub fn put_chunks(
         &mut self,
         chunks: Vec<Chunk>,

@@ -176,7 +176,8 @@ impl Space {
         freeze(chunk, object.offset);
     }
 
-    /// Leaves the address that an object was moved to, in place of its birth name; the object's chunk stands at this place.
+    /// Leaves the address that an object was moved to, in place of its birth name; the object's chunk stands at this
+    /// place.
     pub fn forward_in(&mut self, place: usize, object: Addr, to: Addr)
         requires place { place_in self.old.chunks object.chunk ≡ Some place }
         requires object { IsObject (cell_of self.old.chunks object).mark }

@@ -1,4 +1,5 @@
-// What both collectors keep, told by birth names: walks over the addresses of a heap as walks over the names of its objects.
+// What both collectors keep, told by birth names: walks over the addresses of a heap as walks over the names of its
+// objects.
 #![tactic(auto)]
 
 mod laws;

@@ -30,7 +30,8 @@ use Rattle.child_tasks.proofs.ChildReturns.{own_made}
 use Rattle.child_tasks.proofs.JoinPlaces.{set_sources}
 use Rattle.child_tasks.proofs.JoinTakes.{HomesPut, HomesTaken, above_was, beside_empty, beside_set_was, beside_was, rests_join, own_empty, parent_set, set_others, set_was, sets_many, unmarked}
 
--- what is taken: all that belongs to the task and its sibling, and what goes with their parent and is noted for its heap
+-- what is taken: all that belongs to the task and its sibling, and what goes with their parent and is noted for its
+-- heap
 pub record Taken (w : SharedValue) (p : Private) (parent other : ℕ) (h h1 h2 h3 h4 : HomesValue) (home beside : Home) (above : Rest) (set : SetOf) (notes : RememberedValue) (own oth left right : EndedChild) : Type 0 where
   pub rests_are : h.rests ≡ w.rests
   pub sets_are : h.sets ≡ w.sets

@@ -7,8 +7,8 @@ use std::alloc::{AllocError, Global};
 use std::marker::Model;
 use std::mem;
 
-/// Chunks in a row. It has places before them, in which empty chunks without words stand, and places behind them; so chunks
-/// are put in at both ends, and none of the others moves.
+/// Chunks in a row. It has places before them, in which empty chunks without words stand, and places behind them; so
+/// chunks are put in at both ends, and none of the others moves.
 #[derive(Drop)]
 pub struct Row {
     chunks: Vec<Chunk>,

@@ -29,8 +29,8 @@ LargeAreRead =
     → (a : Addr) → Contains (olds ss) a → is_small h.chunks a ≡ false
     → cell_of (collected h ss (reverse news)).chunks a ≡ led_cell (redirection h.chunks ss (reverse news)) (cell_of h.chunks a)
 
--- what a relocation list, in any order, tells: new addresses are places, it leads as the moves do, and an address outside the
--- heap's chunks stays
+-- what a relocation list, in any order, tells: new addresses are places, it leads as the moves do, and an address
+-- outside the heap's chunks stays
 pub record TellsMoves (h : LeafHeapValue) (ss : List Survivor) (news : List ChunkValue) (moved : List (Addr × Addr)) : Type 0 where
   pub places : ArePlaces moved
   pub same : (a : Addr) → new_of moved a ≡ new_of (moves_of h.chunks ss (reverse news)) a

@@ -31,8 +31,8 @@ fn frame(alloc: Global) -> Option<Frames> {
     Some(frames)
 }
 
-// Whether a child is of this number, and stands before the first instruction of its function with the registers of such a
-// frame and an empty heap.
+// Whether a child is of this number, and stands before the first instruction of its function with the registers of such
+// a frame and an empty heap.
 fn begins(child: &Child, task: u32, function: u32) -> bool {
     let (frames, heap) = (&child.frames, &child.heap);
     (child.task, frames.fun(), frames.next()) == (task, function, 0)
@@ -80,8 +80,8 @@ fn three_levels(alloc: Global) -> Option<Tree> {
     }
 }
 
-// The parent that goes on as the first of two tasks ends, the states then of that task and of task 2, and the parent that goes
-// on as the second one ends.
+// The parent that goes on as the first of two tasks ends, the states then of that task and of task 2, and the parent
+// that goes on as the second one ends.
 type Ends = (Option<u32>, Option<State>, Option<State>, Option<u32>);
 
 // Both end, if they are children.
@@ -161,8 +161,8 @@ fn taken_over_in_new_family(alloc: Global) -> Option<(Registers, Taken)> {
 
 const JOINED: Option<State> = Some(State::Joined);
 
-// The parent gets the results in its first registers, the words that its children placed, and their chunks before its own; it
-// goes on filling its own.
+// The parent gets the results in its first registers, the words that its children placed, and their chunks before its
+// own; it goes on filling its own.
 #[test]
 fn a_parent_takes_over(rt: HostRuntime) {
     let registers = ([-5, 6, 25], [LEFT, RIGHT, LEFT]);
@@ -172,8 +172,8 @@ fn a_parent_takes_over(rt: HostRuntime) {
     assert!(rt; taken_over_in_new_family(rt.alloc()) == Some((registers, taken)));
 }
 
-// The fields that the parent, the left and the right child have noted, and those that the parent has after the join. Its own
-// chunk has the number 0.
+// The fields that the parent, the left and the right child have noted, and those that the parent has after the join.
+// Its own chunk has the number 0.
 const NOTED: &[Noted] = &[
     (&[], &[], &[], &[]),
     // Those of objects elsewhere are kept, the left child's before the right one's.
@@ -252,8 +252,8 @@ fn are_lifted_in_new_family(alloc: Global) -> bool {
     }
 }
 
-// A field of the root's object that points down by three levels is lifted twice, and dropped when it doesn't point down any
-// more. One of an object of the task between is dropped at the first join.
+// A field of the root's object that points down by three levels is lifted twice, and dropped when it doesn't point down
+// any more. One of an object of the task between is dropped at the first join.
 #[test]
 fn lifted_twice(rt: HostRuntime) {
     assert!(rt; are_lifted_in_new_family(rt.alloc()));

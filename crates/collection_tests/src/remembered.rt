@@ -44,7 +44,8 @@ fn lift_all(alloc: Global, parent: &mut Remembered, fields: &[Field]) -> bool {
     }
 }
 
-// Whether the set of such a parent, which knows these fields, has the expected ones once those of its child were lifted.
+// Whether the set of such a parent, which knows these fields, has the expected ones once those of its child were
+// lifted.
 fn is_lifted(alloc: Global, known: &[Field], fields: &[Field], expected: &[Field]) -> bool {
     match set_of(alloc, known) {
         Some(mut parent) => {
@@ -97,8 +98,8 @@ const OLD: Addr = Addr {
     offset: 4,
 };
 
-// Leads the sources of a set that hold the old address to another one, if they are fields of objects, and says whether just
-// these objects lie in the heap then.
+// Leads the sources of a set that hold the old address to another one, if they are fields of objects, and says whether
+// just these objects lie in the heap then.
 fn is_rewritten(set: &Remembered, heap: &mut LeafHeap, to: Addr, expected: &[Seen]) -> bool {
     if !are_fields(heap, set.sources()) || to.offset >= CHUNK_WORDS as u32 {
         return false;

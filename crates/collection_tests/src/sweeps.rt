@@ -8,7 +8,8 @@ use memory_scenes::{
 use object_layout::Addr;
 use std::alloc::Global;
 
-// A heap, and what a marking from a root and an overwritten reference, so many objects at a time, and a sweep make of it.
+// A heap, and what a marking from a root and an overwritten reference, so many objects at a time, and a sweep make of
+// it.
 struct Case {
     heap: &'static [Put],
     root: Spot,

@@ -20,9 +20,9 @@ use Rattle.all_bytes.specs.Bytes.{WroteSome}
 abbrev pub DeliversNothing : Ran → Option (List ℕ) → Option (List ℕ) → Type 0
 DeliversNothing r before after = (r.journal ≡ []) × (r.shared ≡ None) × (after ≡ before)
 
--- an answer was given: all its bytes were written; or the sink failed, and a first part of them was; or, before the first
--- byte, the source failed or memory did, and nothing was written. Nothing is handed back then, unless memory was wanting amid
--- a run: then what it leaves is
+-- an answer was given: all its bytes were written; or the sink failed, and a first part of them was; or, before the
+-- first byte, the source failed or memory did, and nothing was written. Nothing is handed back then, unless memory was
+-- wanting amid a run: then what it leaves is
 abbrev pub DeliversBy : Status → (Answer → Type 0) → (List EntryValue → Option SharedValue → Type 0) → Ran → Option (List ℕ) → Option (List ℕ) → Type 0
 DeliversBy ReadFault P L r before after = DeliversNothing r before after
 DeliversBy NoMemory P L r before after = DeliversNothing r before after ⊎ (L r.journal r.shared × (after ≡ before))

@@ -65,7 +65,8 @@ HasProgram input = (r : Refused) → input_fault input ≢ Some (SourceFault r)
 abbrev pub IsEnd : Status → Type 0
 IsEnd status = (e : RunEnd) × (status ≡ status_of_end e)
 
--- a replay of a program, on the core or on the machine that never collects, tells an end of its run, or refuses the trace
+-- a replay of a program, on the core or on the machine that never collects, tells an end of its run, or refuses the
+-- trace
 abbrev pub TracesAreReplayed : Type 0
 TracesAreReplayed =
     (file : Option (List ℕ)) (o : Options) (input : List ℕ) (r : Ran) (before after : Option (List ℕ)) → HasProgram input

@@ -13,8 +13,8 @@ use Rattle.shared_value.specs.Stands.{IsSharedValue}
 use Rattle.command_answers.specs.declared.answer.Answer.{Answer}
 use Rattle.command_answers.specs.Status.{status_of_end}
 
--- the journal of a run of the program with the settings, which is legal, and the shared value that stands for it, from which
--- it was moved out
+-- the journal of a run of the program with the settings, which is legal, and the shared value that stands for it, from
+-- which it was moved out
 pub record HandsBack (p : ProgramText) (s : SettingsValue) (journal : List EntryValue) (shared : Option SharedValue) : Type 0 where
   pub whole : SharedValue
   pub stands : IsSharedValue whole
@@ -24,7 +24,8 @@ pub record HandsBack (p : ProgramText) (s : SettingsValue) (journal : List Entry
   pub moved : journal ≡ whole.journal.items
   pub left : shared ≡ Some (without_journal whole)
 
--- A WHOLE RUN: the journal handed back has an end; the bytes and the status are those of this journal, by the definitions alone
+-- A WHOLE RUN: the journal handed back has an end; the bytes and the status are those of this journal, by the
+-- definitions alone
 pub record IsWholeRun (p : ProgramText) (s : SettingsValue) (extras : Extras) (a : Answer) : Type 0 where
   pub back : HandsBack p s a.journal a.shared
   pub end : RunEnd

@@ -27,8 +27,8 @@ OperandsNameFiles = (file : Text) → IsOperand file
     × (command_line (codes "image" ∷ file ∷ []) ≡ Some (Image (Some file) usual_settings))
     × (command_line (codes "verify" ∷ file ∷ []) ≡ Some (Verify (Some file)))
 
--- two such words behind `make` ask for a program exactly where both are numbers in their ranges, and for its run where the flag
--- comes behind them
+-- two such words behind `make` ask for a program exactly where both are numbers in their ranges, and for its run where
+-- the flag comes behind them
 abbrev pub Makes : List Text → Bool → Type 0
 Makes flags run = (seed size : Text) → IsOperand seed → IsOperand size
     → command_line (codes "make" ∷ seed ∷ size ∷ flags)

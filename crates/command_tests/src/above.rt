@@ -2,9 +2,10 @@
 
 use crate::calls::{Row, check_calls};
 
-// Runs with their reports and journals. A packed object is read twice in one entry, before and while its heap is swept; a task reads
-// the root's object, its parent's and its own in one entry; the number of a swept chunk is taken by the reader itself; counts, a
-// reference and a frozen object are read. A read of a mutable object, and one that fails, end their entries.
+// Runs with their reports and journals. A packed object is read twice in one entry, before and while its heap is swept;
+// a task reads the root's object, its parent's and its own in one entry; the number of a swept chunk is taken by the
+// reader itself; counts, a reference and a frozen object are read. A read of a mutable object, and one that fails, end
+// their entries.
 const RUNS: &[Row] = &[
     (
         "--trace --report",

@@ -67,8 +67,8 @@ impl Gate for SideBySide {
     }
 }
 
-// Before its first instructions, task 2 waits until task 1 is about to copy. There task 1 waits until task 2 has had a turn
-// after those instructions.
+// Before its first instructions, task 2 waits until task 1 is about to copy. There task 1 waits until task 2 has had a
+// turn after those instructions.
 #[derive(Drop)]
 struct TurnWhileCopying {
     copies: Visit,

@@ -20,8 +20,8 @@ type Calls = (usize, u64);
 // No call fails.
 const WHOLE: Calls = (65536, 0);
 
-// The words, the input, the source, the sink; the status, what is written, how many bytes of the input aren't taken, and how many
-// entries the journal has that is handed back.
+// The words, the input, the source, the sink; the status, what is written, how many bytes of the input aren't taken,
+// and how many entries the journal has that is handed back.
 type Row = (
     &'static str,
     Input,
@@ -131,7 +131,8 @@ const SINKS: &[Row] = &[
     ),
 ];
 
-// A source fails at each call that a command makes, with a file and without one; or it gives little, and the sink takes little.
+// A source fails at each call that a command makes, with a file and without one; or it gives little, and the sink takes
+// little.
 const SOURCES: &[Row] = &[
     ("run", Input::Text(SEVEN), (16, 1), WHOLE, 8, "", (31, 0)),
     ("run", Input::Text(SEVEN), (16, 2), WHOLE, 8, "", (15, 0)),

@@ -29,8 +29,8 @@ fn a_program_is_made(rt: HostRuntime) {
     assert!(rt; (made, accepted) == (true, true));
 }
 
-// What made programs write: the sum of the first draws of the functions that are reached from the first one, by the generator's
-// rule.
+// What made programs write: the sum of the first draws of the functions that are reached from the first one, by the
+// generator's rule.
 const SUMS: &[(&str, &str)] = &[
     ("1 1 --run", "496\n"),
     ("7 60 --run", "31503\n"),
@@ -154,8 +154,8 @@ fn workers_share_a_large_program(rt: HostRuntime) {
     assert!(rt; is_made_and_shared(&rt, LARGE_SHARED));
 }
 
-// A made program whose accesses are in order, and what all its runs begin with: its outputs, and how many tasks and steps
-// they come to.
+// A made program whose accesses are in order, and what all its runs begin with: its outputs, and how many tasks and
+// steps they come to.
 const IN_ORDER: (&str, &[u8]) = ("7 60", b"31503\nreport tasks 59 steps 6936 turns ");
 
 const CROWDS: &[&str] = &[

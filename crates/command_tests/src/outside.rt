@@ -1,4 +1,5 @@
-// Calls by what they take and leave: the journal and the shared value of a run, refused words, and an input of a thousand lines.
+// Calls by what they take and leave: the journal and the shared value of a run, refused words, and an input of a
+// thousand lines.
 
 use crate::calls::{answers_leaving, ran, sink_of, source_of};
 use command_core::Ran;

@@ -234,7 +234,8 @@ fn are_alike_at<R: AllocGlobal + Threads + Wait + Sync>(
     }
 }
 
-// How many digits of the trace can be changed, each by itself, so that both replays still write the same; None where they don't.
+// How many digits of the trace can be changed, each by itself, so that both replays still write the same; None where
+// they don't.
 fn alike_changes<R: AllocGlobal + Threads + Wait + Sync>(
     rt: &R,
     options: &str,

@@ -1,4 +1,5 @@
--- Where the objects of a heap went in its collection: each survivor is read at its new address, and nothing else is there.
+-- Where the objects of a heap went in its collection: each survivor is read at its new address, and nothing else is
+-- there.
 use Rattle.std.proofs.Common.{◌≡◌, ℕ, ◌<◌, ◌≤◌, not, arith, true, Option, Some, None, List, [], ◌∷◌, ◌++◌, map, filter, inl, inr, refl, ap, sym, subst, ◌∙◌}
 use Rattle.std.specs.Option.{option_map}
 use Rattle.std.specs.Prelude.{nat_le, reverse, unwrap_or}

@@ -27,8 +27,8 @@ use Rattle.shared_value.specs.SharedValue.{frames_down, belongings_with}
 abbrev pub part_belongings : LeafHeapValue → List Level → ℕ → FramesValue → Option Begun → Belongings
 part_belongings h view count s begun = record (belongings_with h view count (frames_down s) (pos 0, None)) { begun = begun }
 
--- a part of t, with the collection b that it has begun, fits; its heap h is formed as every heap is, and the new chunks are those that the
--- collection took
+-- a part of t, with the collection b that it has begun, fits; its heap h is formed as every heap is, and the new chunks
+-- are those that the collection took
 pub record IsBegun (p : ProgramText) (s : SettingsValue) (t : ℕ) (h : LeafHeapValue) (view : List Level) (count : ℕ) (frames : FramesValue) (b : Begun) (news : List ChunkValue) (v : Memory) (l : Ledger) : Type 0 where
   pub form : HeapForm h
   pub fits : PartFits p s (before s t (part_belongings h view count frames (Some b))) v l
@@ -50,8 +50,8 @@ NumbersAreSaid =
     → units_in l.machine (heap_of l t) ≤ 65536 → (h' : LeafHeapValue) (frames' : FramesValue) (out : Moved) → IsCollected h frames b.roots news h' frames' out
     → ◌≡◌ {A = ℕ × ℕ × ℕ} (out.taken, out.given, out.left) (end_numbers l.machine (heap_of l t))
 
--- WHERE IT CAN BE COPIED, as far as its roots can: each reference of its frames and of its objects into its heap leads to an
--- object there
+-- WHERE IT CAN BE COPIED, as far as its roots can: each reference of its frames and of its objects into its heap leads
+-- to an object there
 pub record CanCopy (h : LeafHeapValue) (frames : FramesValue) (roots : List Addr) : Type 0 where
   pub closed : IsClosed h.chunks
   pub outside : All (IsSound h.chunks) (outside frames roots)

@@ -53,8 +53,8 @@ fn keep_begun(begun: &mut Listed<u64>, entry: Entry, words: u64)
     }
 }
 
-// The totals with those of one entry more. Where they are as they were nothing is written, so that the line of memory in
-// which they stand stays with all processors.
+// The totals with those of one entry more. Where they are as they were nothing is written, so that the line of memory
+// in which they stand stays with all processors.
 fn add(totals: &mut Totals, counted: Totals)
     requires { AreFew (joined totals.old counted) }
     ensures { totals.new ≡ joined totals.old counted }

@@ -1,7 +1,7 @@
 -- Far links: beside the link to its parent each place has one to an ancestor farther up.
 --
--- How far that one leads is given by the depth alone. The lengths are such that a climb to any depth follows a number of
--- links that grows with the logarithm of the depth where it starts.
+-- How far that one leads is given by the depth alone. The lengths are such that a climb to any depth follows a number
+-- of links that grows with the logarithm of the depth where it starts.
 use Rattle.std.specs.Prelude.{◌≡◌, ◌+◌, ◌-◌, ◌<◌, ◌≤◌, ◌==◌, ◌⊎◌, ℕ, zero, suc, Option, Some, None, if◌then◌else◌}
 use Rattle.far_links.specs.Walk.{ancestor}
 

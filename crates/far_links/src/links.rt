@@ -40,7 +40,8 @@ pub trait FarLinks {
         ensures far { result.far ≡ far_at self.now place };
 }
 
-/// Where the far link of a child of `t` leads to: past the two next far links where these are equally long, else to `t`.
+/// Where the far link of a child of `t` leads to: past the two next far links where these are equally long, else to
+/// `t`.
 pub fn far_below<T: FarLinks>(links: &T, t: usize) -> usize
     requires linked { AreLinked (T.places links.now) (T.parent_at links.now) (T.depth_at links.now) (T.far_at links.now) }
     requires there { t < T.places links.now }

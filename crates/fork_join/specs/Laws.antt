@@ -23,8 +23,8 @@ ForksKeepPlacement =
     → ((u : ℕ) (s : Source) → Contains (sources u) s → Contains (after u) s)
     → Placement fields nodes pool sources → Placement fields (forked nodes t) pool after
 
--- what a join makes of the pool and of the sets by heap, where its three heaps have these chunks and it empties the sets of
--- both children
+-- what a join makes of the pool and of the sets by heap, where its three heaps have these chunks and it empties the
+-- sets of both children
 pub record Merges (old new : PoolValue) (sources after : ℕ → List Source) (p c d : ℕ) (ks ls rs : List ChunkValue) : Type 0 where
   pub pool : AreRelabelled old new (ls ++ rs) p
   pub lifts : after p ≡ lifted (lifted (sources p) (sources c) ks) (sources d) ks

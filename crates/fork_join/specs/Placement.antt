@@ -1,5 +1,5 @@
--- Placement: each reference of an object leads up or into the object's own heap, or its field is remembered in the heap into
--- which it leads.
+-- Placement: each reference of an object leads up or into the object's own heap, or its field is remembered in the heap
+-- into which it leads.
 use Rattle.std.specs.Prelude.{◌≡◌, ◌⊎◌, ◌↔◌, ℕ, true, Contains, Some, List}
 use Rattle.object_layout.specs.declared.word.Addr.{Addr}
 use Rattle.object_layout.specs.ChunkValue.{ChunkValue}

@@ -6,8 +6,8 @@ use Rattle.image_check.specs.declared.line.Chunk.{Chunk}
 use Rattle.image_check.specs.Line.{state_word}
 use Rattle.heap_graph.specs.declared.held.Held.{Held}
 
--- Graphviz draws what is called cluster as a box; a task's has a point in it, of the task's name, for edges that lead into
--- its heap
+-- Graphviz draws what is called cluster as a box; a task's has a point in it, of the task's name, for edges that lead
+-- into its heap
 abbrev pub task_cluster : ℕ → List ℕ
 task_cluster t = codes "cluster task " ++ decimal t
 

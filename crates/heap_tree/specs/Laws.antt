@@ -15,8 +15,8 @@ pub record StateChanges (nodes : List Node) (t : ℕ) (s : State) : Type 0 where
 abbrev pub StatesChange : Type 0
 StatesChange = (nodes : List Node) (t : ℕ) (s : State) → StateChanges nodes t s
 
--- a fork of a task that was made: it waits, its two children stand behind all other tasks and are ready, and nothing else
--- changes
+-- a fork of a task that was made: it waits, its two children stand behind all other tasks and are ready, and nothing
+-- else changes
 pub record ForkMakes (nodes : List Node) (t : ℕ) : Type 0 where
   pub count : length (forked nodes t) ≡ length nodes + 2
   pub parents : (u : ℕ) → u < length nodes → parent_of (forked nodes t) u ≡ parent_of nodes u

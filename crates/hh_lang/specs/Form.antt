@@ -10,8 +10,8 @@ pub record ProgramText : Type 0 where
   pub functions : List Fun
   pub main : ℕ
 
--- the places, functions and registers that an instruction names exist, where there are so many places and functions; a `pack` names
--- the first registers of each kind, of which there are 16
+-- the places, functions and registers that an instruction names exist, where there are so many places and functions; a
+-- `pack` names the first registers of each kind, of which there are 16
 abbrev pub NamesExist : ℕ → ℕ → Instr → Type 0
 NamesExist functions places (Pack d references numbers) = (references ≤ 16) × (numbers ≤ 16)
 NamesExist functions places (Jmp to) = to < places

@@ -85,8 +85,8 @@ abbrev pub most : Option ℕ → ℕ → ℕ
 most None n = n
 most (Some m) n = if nat_lt m n then n else m
 
--- under the address of each object line how many references it has (of several of one address the most), and the remembered
--- fields, wherever they stand
+-- under the address of each object line how many references it has (of several of one address the most), and the
+-- remembered fields, wherever they stand
 abbrev pub with_line : Whole → Said → Whole
 with_line w (OfObject o) = record w { objects = with_entry w.objects o.address (most (found w.objects o.address) (length o.references)) }
 with_line w (OfRemembered f) = record w { fields = with_item same_field w.fields (f.task, f.address, f.place) }

@@ -8,8 +8,8 @@ pub fn faultless_is_sound()
     ensures { FaultlessIsSound }
 {}
 
-/// Where no line has a cause, ancestors and descendants are found as such: so nothing is refused as a reference across that goes
-/// up, and nothing as one down that doesn't.
+/// Where no line has a cause, ancestors and descendants are found as such: so nothing is refused as a reference across
+/// that goes up, and nothing as one down that doesn't.
 pub fn tasks_are_related()
     ensures { TasksAreRelated }
 {}

@@ -10,8 +10,8 @@ use Rattle.inner_mark_gc.specs.Snapshot.{Fork, IsInSnapshot, Starts, object_coun
 use Rattle.inner_mark_gc.specs.MarkingValue.{has_address, marked_of, IsAllMarked, IsDone, IsMarking, IsOf, MarkingValue}
 use Rattle.inner_mark_gc.specs.Swept.{has_number, has_object, staying_of, number_at, swept}
 
--- the snapshot that a marking is for, from the roots as they are when it begins and what was kept, is what the roots at the
--- fork lead to: where each start is of that, and each root at the fork is still a root or was kept
+-- the snapshot that a marking is for, from the roots as they are when it begins and what was kept, is what the roots at
+-- the fork lead to: where each start is of that, and each root at the fork is still a root or was kept
 abbrev pub SnapshotIsOfRoots : Type 0
 SnapshotIsOfRoots =
     (h : List ChunkValue) (first roots kept : List Addr)

@@ -49,7 +49,8 @@ Allows p s l w (Sweep t given) = IsUnswept l t × (is_some (heap_of l t).marked 
 -- the fuel is spent
 Allows p s l w Fuel = s.fuel ≤ l.steps
 
--- the run hasn't ended; fuel is left, unless the entry says that it is spent; the worker is there; and the entry is allowed
+-- the run hasn't ended; fuel is left, unless the entry says that it is spent; the worker is there; and the entry is
+-- allowed
 pub record IsAccepted (p : ProgramText) (s : SettingsValue) (l : Ledger) (e : EntryValue) : Type 0 where
   pub on : l.end ≡ None
   pub fuel : (is_fuel e.kind ≡ true) ⊎ (l.steps < s.fuel)

@@ -29,7 +29,8 @@ is_of_steps t _ = false
 abbrev pub HasNone : (Kind → Bool) → List EntryValue → Type 0
 HasNone test entries = (e : EntryValue) → Contains entries e → test e.kind ≡ false
 
--- the last entry of a journal that began a leaf collection of t: the survivors are what was reached within its heap just before
+-- the last entry of a journal that began a leaf collection of t: the survivors are what was reached within its heap
+-- just before
 pub record BeganWith (p : ProgramText) (s : SettingsValue) (journal : List EntryValue) (t : ℕ) : Type 0 where
   pub before : List EntryValue
   pub worker : ℕ

@@ -1,4 +1,5 @@
--- The pace in words: what is kept of each worker is told by the journal's entries, and a journal is paced where it keeps three rules.
+-- The pace in words: what is kept of each worker is told by the journal's entries, and a journal is paced where it
+-- keeps three rules.
 use Rattle.std.specs.Prelude.{◌≡◌, ◌↔◌, ◌⊎◌, ◌==◌, ◌≤◌, ℕ, true, false, Option, Some, None, List, [], ◌∷◌, ◌++◌, slice_get, if◌then◌else◌}
 use Rattle.listed.specs.Members.{In}
 use Rattle.run_trace.specs.declared.entry.Kind.{Kind}
@@ -39,8 +40,8 @@ pub record IsLastBy (w : ℕ) (journal upto : List EntryValue) (kind : Kind) : T
 abbrev pub WaitsOn : Ledger → Strand → Type 0
 WaitsOn l fork = (x : Task) × (slice_get l.machine.tasks fork.task ≡ Some x) × (waits x.status ≡ true) × (x.joins ≡ fork.joins)
 
--- what is kept of a worker's previous entry: none or no steps; steps of a task that waits on no fork after them; or steps of a task
--- that waits on this fork after them
+-- what is kept of a worker's previous entry: none or no steps; steps of a task that waits on no fork after them; or
+-- steps of a task that waits on this fork after them
 abbrev pub IsPrevious : ProgramText → SettingsValue → ℕ → List EntryValue → Previous → Type 0
 IsPrevious p s w journal Other = NoneBy w journal ⊎ ((upto : List EntryValue) × (kind : Kind) × IsLastBy w journal upto kind × ((t k : ℕ) → kind ≡ Ran t k → ⊥))
 IsPrevious p s w journal RanBefore =
@@ -78,8 +79,8 @@ PaceIsOfEntries =
 
 -- THREE RULES for an entry of a worker whose previous entry, at the end of `upto`, are steps of t
 
--- these steps forked t, which still waits on that fork, isn't marked, nor was it marked and swept, and holds at least the inner
--- limit of words
+-- these steps forked t, which still waits on that fork, isn't marked, nor was it marked and swept, and holds at least
+-- the inner limit of words
 pub record IsToMark (p : ProgramText) (s : SettingsValue) (l : Ledger) (upto : List EntryValue) (t : ℕ) (fork : Strand) : Type 0 where
   pub task : fork.task ≡ t
   pub forked : WaitsOn (ledger_of p s upto) fork

@@ -44,12 +44,14 @@ pub fn entries_leave_others()
     ensures { EntriesLeaveOthers }
 {}
 
-/// A leaf collection keeps just the survivors among the held names, the small ones by birth, and a sweep just the snapshot.
+/// A leaf collection keeps just the survivors among the held names, the small ones by birth, and a sweep just the
+/// snapshot.
 pub fn collections_keep_just()
     ensures { CollectionsKeepJust }
 {}
 
-/// What is held after a legal journal is what was allocated and wasn't dropped by the end of a leaf collection or a sweep.
+/// What is held after a legal journal is what was allocated and wasn't dropped by the end of a leaf collection or a
+/// sweep.
 pub fn held_is_undropped()
     ensures { HeldIsUndropped }
 {}
@@ -59,7 +61,8 @@ pub fn legal_is_unrefused()
     ensures { LegalIsUnrefused }
 {}
 
-/// A journal can be cut anywhere: its accounts go on from those of the first part, and it is legal where both parts are.
+/// A journal can be cut anywhere: its accounts go on from those of the first part, and it is legal where both parts
+/// are.
 pub fn journals_can_be_cut()
     ensures { JournalsCanBeCut }
 {}
@@ -74,14 +77,14 @@ pub fn paced_is_meant()
     ensures { PacedIsMeant }
 {}
 
-/// After a legal journal what the pace keeps of a worker is told by the entries: its previous entry is its last in the journal, and its
-/// marks are the forks of all `mark` entries by it, the newest first.
+/// After a legal journal what the pace keeps of a worker is told by the entries: its previous entry is its last in the
+/// journal, and its marks are the forks of all `mark` entries by it, the newest first.
 pub fn pace_is_of_entries()
     ensures { PaceIsOfEntries }
 {}
 
-/// A legal journal is paced exactly where each entry that isn't `fuel`, and whose worker's previous entry are steps, keeps the three
-/// rules of the pace.
+/// A legal journal is paced exactly where each entry that isn't `fuel`, and whose worker's previous entry are steps,
+/// keeps the three rules of the pace.
 pub fn paced_keeps_the_pace()
     ensures { PacedKeepsThePace }
 {}
@@ -101,7 +104,8 @@ pub fn allocations_are_in_bounds()
     ensures { AllocationsAreInBounds }
 {}
 
-/// In a legal journal the end of a leaf collection leaves at most the chunks that it took for the small survivors, each with one.
+/// In a legal journal the end of a leaf collection leaves at most the chunks that it took for the small survivors, each
+/// with one.
 pub fn leaf_collections_are_bounded()
     ensures { LeafCollectionsAreBounded }
 {}
@@ -111,7 +115,8 @@ pub fn sweeps_are_bounded()
     ensures { SweepsAreBounded }
 {}
 
-/// After a legal journal no list of names has more words than a chunk, and all held names at most the words of the chunks in use.
+/// After a legal journal no list of names has more words than a chunk, and all held names at most the words of the
+/// chunks in use.
 pub fn heaps_fit()
     ensures { HeapsFit }
 {}
@@ -126,14 +131,14 @@ pub fn words_are_accounted()
     ensures { WordsAreAccounted }
 {}
 
-/// After a legal journal, and after steps of a task then, the words that a heap counts since its last collection are at most the limit
-/// and 34 for each step taken.
+/// After a legal journal, and after steps of a task then, the words that a heap counts since its last collection are at
+/// most the limit and 34 for each step taken.
 pub fn since_is_bounded()
     ensures { SinceIsBounded }
 {}
 
-/// The accounts of every legal journal are sound: what a heap that waits is used for is in its snapshot, and what one amid a leaf
-/// collection is used for is among its survivors.
+/// The accounts of every legal journal are sound: what a heap that waits is used for is in its snapshot, and what one
+/// amid a leaf collection is used for is among its survivors.
 pub fn journals_are_sound()
     ensures { JournalsAreSound }
 {}

@@ -107,8 +107,8 @@ fn lone_heap(alloc: Global, survivors: &[u32], snapshot: &[u32]) -> Option<Heap>
     Some(heap)
 }
 
-// The words of a heap, its units, the chunks that a collection of it takes, and the words of its large objects, where its
-// words can be counted.
+// The words of a heap, its units, the chunks that a collection of it takes, and the words of its large objects, where
+// its words can be counted.
 fn counts(machine: &State, heap: &Heap) -> Option<(u64, u64, u64, u64)> {
     if !is_countable(machine, heap) {
         return None;
@@ -144,7 +144,8 @@ fn words_and_units(rt: HostRuntime) {
     assert!(rt; units(1024) == 1 && units(1025) == 2);
 }
 
-// Collects a heap whose words can be counted, and says which units that takes and gives back, and the words that are left.
+// Collects a heap whose words can be counted, and says which units that takes and gives back, and the words that are
+// left.
 fn collected(alloc: Global, machine: &State, heap: &mut Heap) -> Option<(u64, u64, u64)> {
     if !is_countable(machine, heap) {
         return None;
@@ -222,8 +223,8 @@ fn swept_by_snapshot(rt: HostRuntime) {
     assert!(rt; lone_sweeping(rt.alloc()) == Some((6, true)));
 }
 
-// Places an object that fills a chunk, puts a name behind it, and places a large object, in a heap of which no word counts;
-// says whether all that went.
+// Places an object that fills a chunk, puts a name behind it, and places a large object, in a heap of which no word
+// counts; says whether all that went.
 fn place_three(alloc: Global, heap: &mut Heap) -> bool {
     heap.since = 0;
     place(alloc, heap, name((0, 0)), 1024).is_ok()

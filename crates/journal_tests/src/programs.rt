@@ -41,8 +41,8 @@ pub(crate) const LARGE: &str = "fn main\nset i0 0\nset i1 1023\nnewm r0 i0 i1\nr
 pub(crate) const LARGE_AND_SMALL: &str =
     "fn main\nset i0 1\nset i1 2000\nnewm r0 i0 i1\nset i1 1\nnewm r1 i0 i1\nset i2 0\nputr r0 i2 r1\nnil r1\nnewm r1 i0 i1\nret\nend\n";
 
-/// The limits of a run: its workers, its fuel, the most chunks, and the words at which collections of leaf heaps and of inner
-/// heaps are due.
+/// The limits of a run: its workers, its fuel, the most chunks, and the words at which collections of leaf heaps and of
+/// inner heaps are due.
 pub(crate) type Limits = (u32, u64, u32, u32, u32);
 
 /// The settings of a run of the first version with these limits; the usual ones where a limit is out of its range.

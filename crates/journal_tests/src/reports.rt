@@ -139,7 +139,8 @@ fn collections_are_counted(rt: HostRuntime) {
     }
 }
 
-// Whether this is written of a journal that was read, with the report and without the trace, if it is that of a whole run.
+// Whether this is written of a journal that was read, with the report and without the trace, if it is that of a whole
+// run.
 fn writes_report(alloc: Global, read: &TraceInput, limits: Limits, text: &str) -> bool {
     let (settings, entries) = (settings(limits), read.trace.entries.as_slice());
     let extras = Extras {

@@ -5,7 +5,8 @@ use Rattle.object_layout.specs.ChunkValue.{ChunkValue}
 use Rattle.object_layout.specs.Piece.{PieceValue}
 use Rattle.kept_pieces.specs.Level.{Level, level_of, nearest, piece_in}
 
--- the layers of pieces, the last made first; the numbers of the chunks that changed since; for how many numbers more there are places; and whether all was let go
+-- the layers of pieces, the last made first; the numbers of the chunks that changed since; for how many numbers more
+-- there are places; and whether all was let go
 pub record PiecesValue : Type 0 where
   pub layers : List Level
   pub stale : List ℕ
@@ -34,14 +35,16 @@ is_settled p = if p.lost then false else (length p.stale == 0)
 
 -- ---- what holds
 
--- where not all was let go, the layers show of each chunk what it holds, unless it changed since, and nothing of other numbers
+-- where not all was let go, the layers show of each chunk what it holds, unless it changed since, and nothing of other
+-- numbers
 pub record Shows (p : PiecesValue) (ks : List ChunkValue) : Type 0 where
   pub same : p.lost ≡ false → (number : ℕ) → is_among p.stale number ≡ false → nearest p.layers number ≡ piece_in (level_of ks) number
   pub no_other : p.lost ≡ false → (number : ℕ) → piece_in (level_of ks) number ≡ None → nearest p.layers number ≡ None
 
 -- ---- changes
 
--- the chunks of these numbers count as changed, and others as before; or all is let go, which happens only where places for the numbers were missing
+-- the chunks of these numbers count as changed, and others as before; or all is let go, which happens only where places
+-- for the numbers were missing
 pub record NotesChanges (old new : PiecesValue) (numbers : List ℕ) : Type 0 where
   pub before : new.lost ≡ false → old.lost ≡ false
   pub layers : new.lost ≡ false → new.layers ≡ old.layers
@@ -49,6 +52,7 @@ pub record NotesChanges (old new : PiecesValue) (numbers : List ℕ) : Type 0 wh
   pub enough : old.lost ≡ false → length numbers ≤ old.places → new.lost ≡ false
   pub places : new.lost ≡ false → old.places ≤ new.places + length numbers
 
--- the number of a chunk of which an object is written or placed; none where the object is mutable, since no piece shows it
+-- the number of a chunk of which an object is written or placed; none where the object is mutable, since no piece shows
+-- it
 abbrev pub written : Bool → ℕ → List ℕ
 written mutable number = if mutable then [] else number ∷ []

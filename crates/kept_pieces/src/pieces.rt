@@ -43,8 +43,8 @@ impl Layers {
     }
 }
 
-/// What is kept of the chunks of a list, by their numbers: layers of pieces, and which chunks changed since the last was
-/// made.
+/// What is kept of the chunks of a list, by their numbers: layers of pieces, and which chunks changed since the last
+/// was made.
 ///
 /// Who changes the chunks says so here. A change costs no memory: where the list of the changed is full and the number
 /// isn't in it, all is let go. As long as nothing is kept it takes the place of a pointer.

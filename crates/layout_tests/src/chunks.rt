@@ -114,8 +114,8 @@ fn fields_of_a_copy(rt: HostRuntime) {
     assert!(rt; copied_between(rt.alloc()) == Some((0, Some(TO), 0, -1)));
 }
 
-// The number of a chunk that is taken from a new pool, whether three units are too many then, the units in use, the number
-// and the size of a chunk that comes and goes, the units in use then, and the owner of its number.
+// The number of a chunk that is taken from a new pool, whether three units are too many then, the units in use, the
+// number and the size of a chunk that comes and goes, the units in use then, and the owner of its number.
 fn first_taken(pool: &mut Pool) -> (Option<u32>, bool, u32, Option<(u32, u32)>, u32, Option<u32>) {
     let number = take(pool, 7, 1);
     let full = is_full(pool, 3);
@@ -124,8 +124,8 @@ fn first_taken(pool: &mut Pool) -> (Option<u32>, bool, u32, Option<(u32, u32)>, 
     (number, full, before, given, pool.in_use(), owner(pool, 1))
 }
 
-// The number of the next chunk, whether one unit is too many then, the units in use, and the owners of both once the second
-// got another one.
+// The number of the next chunk, whether one unit is too many then, the units in use, and the owners of both once the
+// second got another one.
 fn next_taken(pool: &mut Pool) -> (Option<u32>, bool, u32, Option<u32>, Option<u32>) {
     let number = take(pool, 8, 2);
     let full = is_full(pool, 1);
@@ -134,7 +134,8 @@ fn next_taken(pool: &mut Pool) -> (Option<u32>, bool, u32, Option<u32>, Option<u
     (number, full, in_use, owner(pool, 0), owner(pool, 1))
 }
 
-// A pool that is filled to its limit: a chunk changes its owner, and the number of one that was handed back is used again.
+// A pool that is filled to its limit: a chunk changes its owner, and the number of one that was handed back is used
+// again.
 #[test]
 fn chunks_come_and_go(rt: HostRuntime) {
     let mut pool = Pool::new(rt.alloc(), 3);

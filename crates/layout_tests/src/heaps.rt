@@ -50,15 +50,17 @@ fn fields_of_own_objects(rt: HostRuntime) {
     assert!(rt; looks(rt.alloc()) == Some(expected));
 }
 
-// Whether an empty chunk has a place for the largest small object, its room, and whether places are made for one object.
+// Whether an empty chunk has a place for the largest small object, its room, and whether places are made for one
+// object.
 fn empty(alloc: Global) -> Option<(bool, u32, bool)> {
     let mut heap = heap_of(alloc, &[Put::Chunk(7, 1)])?;
     let (has_place, room) = (heap.has_place(1024), heap.room());
     Some((has_place, room, heap.make_spare(1).is_ok()))
 }
 
-// Of a heap with the largest small object: the room, the words since the count began and all words; whether the smallest
-// object has a place, and whether the heap owns a place of its chunk and of another; and the words since the count began anew.
+// Of a heap with the largest small object: the room, the words since the count began and all words; whether the
+// smallest object has a place, and whether the heap owns a place of its chunk and of another; and the words since the
+// count began anew.
 fn full(alloc: Global) -> Option<((u32, u64, u64), (bool, bool, bool), u64)> {
     let mut heap = heap_of(alloc, &[Put::Chunk(7, 1), Put::Object(0, 1022, 0)])?;
     let words = (heap.room(), heap.since(), heap.words());
@@ -86,8 +88,8 @@ fn reserved(alloc: Global) -> Option<(u32, Option<usize>, bool, bool)> {
     ))
 }
 
-// Once an object fills it: the words since the count began, all words and the objects; the words of small objects, and which
-// chunk is reserved.
+// Once an object fills it: the words since the count began, all words and the objects; the words of small objects, and
+// which chunk is reserved.
 fn filled(alloc: Global) -> Option<((u64, u64, u64), u64, Option<usize>)> {
     let heap = heap_of(alloc, &[Put::Chunk(7, 977), Put::Object(0, 1000000, 0)])?;
     let counts = (heap.since(), heap.words(), heap.objects());

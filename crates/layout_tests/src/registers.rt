@@ -26,7 +26,8 @@ fn can_push(frames: &mut Frames, calls: u32) -> bool {
     true
 }
 
-// Whether 999 calls have a place, how deep the frames then are, whether one call more is too deep, and the function that runs.
+// Whether 999 calls have a place, how deep the frames then are, whether one call more is too deep, and the function
+// that runs.
 fn at_the_limit(alloc: Global) -> Option<(bool, u32, bool, u32)> {
     let mut frames = started(alloc)?;
     let (pushed, depth) = (can_push(&mut frames, 999), frames.depth());
@@ -81,8 +82,8 @@ fn registers_of_a_call(rt: HostRuntime) {
     assert!(rt; first_call(rt.alloc()) == Some(expected));
 }
 
-// Register 1 of the top frame, and of the oldest one, once that was written, read in two ways; and register 4 of the top
-// frame, once all its registers were written.
+// Register 1 of the top frame, and of the oldest one, once that was written, read in two ways; and register 4 of the
+// top frame, once all its registers were written.
 fn written(
     frames: &mut Frames,
 ) -> Option<(Option<Addr>, Option<Addr>, Option<Addr>, Option<Addr>)> {

@@ -72,7 +72,8 @@ fn shown_ref(view: &View, object: Addr, field: u32) -> Option<Option<Addr>> {
     }
 }
 
-// The kinds of what is shown at four addresses of the upper heap, and the reference and the numbers of both heaps' objects.
+// The kinds of what is shown at four addresses of the upper heap, and the reference and the numbers of both heaps'
+// objects.
 type Sight = ([Option<Header>; 4], Option<Option<Addr>>, [Option<i64>; 2]);
 
 fn sight(view: &View) -> Sight {

@@ -1,5 +1,5 @@
--- An entry changes the account of one heap, whose task's part a worker holds: what stays of the accounts, and that nothing
--- moves.
+-- An entry changes the account of one heap, whose task's part a worker holds: what stays of the accounts, and that
+-- nothing moves.
 use Rattle.std.proofs.Common.{◌≡◌, ◌⊎◌, ℕ, true, false, Some, None, length, slice_get, is_some, inl, inr, refl, ap, sym, subst, ◌∙◌}
 use Rattle.std.proofs.lemmas.Bool.{cases_eq}
 use Rattle.hh_model.specs.declared.data.State.{State}

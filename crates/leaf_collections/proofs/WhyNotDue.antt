@@ -49,7 +49,8 @@ module _ (w : SharedValue) (k : ℕ) (p : Private) (I : IsSharedValue w) (F : Fi
       ∙ (ap₂ (λ b n. refused_if (is_some p.begun) Collecting (refused_unless b (NotDue n) rest)) due_same (sym (since_is w k P I F on))
       ∙ in_turn (is_some p.begun) (is_part_due p (part_asks w.program p)) Collecting (NotDue p.heap.since) rest)
 
--- of an entry of a kind that needs one due, where nothing comes before what it says; the rest is told of the units in use
+-- of an entry of a kind that needs one due, where nothing comes before what it says; the rest is told of the units in
+-- use
 pub due_answer : (w : SharedValue) (k : ℕ) (p : Private) → IsSharedValue w → Fits w k (record p { fresh = 0 }) → (kind : Kind) (rest : ℕ → Option Refused)
     → kind_refusal w.program w.settings (accounts w) k kind ≡ on_running (accounts w) k p.task (on_due w.settings w.program (accounts w) p.task (rest (in_use (accounts w)))) → is_some (first_cause w.end w.steps w.settings k (is_fuel kind)) ≡ false
     → refused w (record { worker = k; kind = kind }) ≡ or_else (due_cause p (part_asks w.program p)) (rest (units_in_use w.pool))

@@ -17,8 +17,8 @@ pub record Begins (c : CollectorValue) : Type 0 where
   pub new : AreNew c.laying.spare
   pub enough : 2 * units (small_words c.heap.chunks) ≤ length c.laying.spare + 1
 
--- the survivors are found, the small ones laid into new chunks, and all references led there; the old chunks are left with the
--- new addresses in them
+-- the survivors are found, the small ones laid into new chunks, and all references led there; the old chunks are left
+-- with the new addresses in them
 pub record IsEvacuated (c : CollectorValue) (s : FramesValue) (roots : List Addr) (d : CollectorValue) (t : FramesValue) : Type 0 where
   pub survivors : AreSurvivors c.heap.chunks (outside s roots) d.found
   pub moved : d.moved ≡ moves_of c.heap.chunks d.found c.laying.spare

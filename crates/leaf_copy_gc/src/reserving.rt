@@ -10,8 +10,8 @@ use alloc_path::LeafHeap;
 use std::alloc::{AllocError, Global};
 
 impl ToChunks {
-    /// Reserves all lists of a collection of this heap into so many new chunks, and makes places for these chunks in the
-    /// heap. The new chunks are then to be pushed onto `chunks`, which has room for them.
+    /// Reserves all lists of a collection of this heap into so many new chunks, and makes places for these chunks in
+    /// the heap. The new chunks are then to be pushed onto `chunks`, which has room for them.
     pub fn reserve(alloc: Global, heap: &mut LeafHeap, chunks: u32) -> Result<ToChunks, AllocError>
         ensures kept { heap.new ≡ with_places heap.old heap.new.slots heap.new.spare }
         ensures none { IfOk result (λ to. to.chunks.items ≡ []) }

@@ -1,5 +1,5 @@
--- A search through the names of a heap: those that weren't met yet, and those that were met and wait for their references to
--- be followed.
+-- A search through the names of a heap: those that weren't met yet, and those that were met and wait for their
+-- references to be followed.
 use Rattle.std.specs.Prelude.{◌≡◌, ℕ, zero, suc, ◌==◌, ◌&&◌, ◌||◌, not, Bool, Option, List, [], ◌∷◌, if◌then◌else◌, slice_get}
 use Rattle.std.specs.List.{flat_map}
 use Rattle.hh_model.specs.declared.data.Name.{Name}

@@ -104,8 +104,8 @@ fn in_order_of_birth(names: Listed<Name>) -> Listed<Name>
 }
 
 #[tactic(auto, using(crate::proofs::Kept::survivors_units, crate::proofs::Kept::large_units))]
-// The chunks given back, in units: the old ones, the new ones that weren't used, and those of the large objects that were
-// dropped.
+// The chunks given back, in units: the old ones, the new ones that weren't used, and those of the large objects that
+// were dropped.
 fn given_back(machine: &State, heap: &Heap, large: &Listed<Name>, taken: u64) -> u64
     requires words { words_in machine.now heap.now < 2 ^ 62 }
     requires large { large.now ≡ large_survivors heap.now }
@@ -141,8 +141,8 @@ fn lay_all(alloc: Global, machine: &State, names: &[Name]) -> Result<Laid, Alloc
 }
 
 #[tactic(auto, using(crate::proofs::Laid::lay_first, crate::proofs::Laid::lay_new, crate::proofs::Laid::lay_last, crate::proofs::Laid::last_new, run_ledger::proofs::Chunks::put_last_words))]
-// Lays a name into the last list, where that leaves at most a chunk's words in it, else into a new one. The words of the
-// last list are kept along.
+// Lays a name into the last list, where that leaves at most a chunk's words in it, else into a new one. The words of
+// the last list are kept along.
 fn lay(
     alloc: Global,
     machine: &State,

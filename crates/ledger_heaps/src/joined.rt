@@ -12,8 +12,8 @@ use run_ledger::Heap;
 use std::alloc::{AllocError, Global};
 use std::mem;
 
-/// The children of a task join it: its heap gets all that theirs hold, the left child's names first, then the right one's,
-/// then its own; theirs hold nothing any more. Want of memory changes nothing.
+/// The children of a task join it: its heap gets all that theirs hold, the left child's names first, then the right
+/// one's, then its own; theirs hold nothing any more. Want of memory changes nothing.
 pub fn merge(
     alloc: Global,
     parent: &mut Heap,

@@ -9,7 +9,8 @@ use listed::Listed;
 use run_ledger::Heap;
 use std::alloc::{AllocError, Global};
 
-/// An allocation of so many words: a small object's name takes room in the last chunk, a large one's the reserved chunk.
+/// An allocation of so many words: a small object's name takes room in the last chunk, a large one's the reserved
+/// chunk.
 pub fn place(alloc: Global, heap: &mut Heap, name: Name, words: usize) -> Result<(), AllocError>
     requires { heap.old.since + words < 2 ^ 64 }
     ensures ok { OnOk result (heap.new ≡ placed heap.old name words) }

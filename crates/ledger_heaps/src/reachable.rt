@@ -19,8 +19,8 @@ use run_ledger::Heap;
 use std::alloc::{AllocError, Global};
 use std::collections::HashSet;
 
-/// Of the names held in a task's heap, those that are reached from its roots through that heap, in the heap's order. The
-/// names of each heap are owned by its task.
+/// Of the names held in a task's heap, those that are reached from its roots through that heap, in the heap's order.
+/// The names of each heap are owned by its task.
 pub fn within(
     alloc: Global,
     machine: &State,

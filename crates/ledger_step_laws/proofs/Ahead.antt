@@ -1,4 +1,5 @@
--- Private steps of a task change nothing but what it owns, and depend on nothing but the machine and the account of its heap.
+-- Private steps of a task change nothing but what it owns, and depend on nothing but the machine and the account of its
+-- heap.
 use Rattle.std.proofs.Common.{is_some, ◌≡◌, ℕ, zero, suc, ◌+◌, Bool, true, false, cond, Option, Some, None, List, [], ◌∷◌, ◌++◌, length, slice_get, slice_set, inl, inr, refl, ap, ap₂, sym, subst, ◌∙◌, nat_le}
 use Rattle.std.proofs.lemmas.Bool.{false≢true, cases_eq, cond-true, cond-false}
 use Rattle.listed.proofs.Members.{got_same, got_other, same_view, view_step}

@@ -1,5 +1,5 @@
--- The last step of an entry of steps: what kinds there are, and what each changes of the accounts. A step of t takes them from l
--- to l'; x is the task before it and line the line that it takes.
+-- The last step of an entry of steps: what kinds there are, and what each changes of the accounts. A step of t takes
+-- them from l to l'; x is the task before it and line the line that it takes.
 use Rattle.std.specs.Prelude.{◌≡◌, ◌⊎◌, ℕ, ℤ, pos, ◌+◌, true, false, Option, Some, None, [], ◌∷◌, ◌++◌, slice_get, slice_set, length}
 use Rattle.std.specs.Option.{option_flatten}
 use Rattle.hh_lang.specs.declared.instr.Instr.{Instr}
@@ -45,8 +45,8 @@ pub record IsAt (p : ProgramText) (l : Ledger) (t : ℕ) (x : Task) (line : Line
 abbrev pub stepped_by : Ledger → State → Ledger
 stepped_by l m = record l { machine = m; steps = l.steps + 1 }
 
--- the instruction reads the object y and writes nothing: a field, a count of fields, or a compare and swap whose field isn't what
--- was expected, and whose register tells so in the frame f
+-- the instruction reads the object y and writes nothing: a field, a count of fields, or a compare and swap whose field
+-- isn't what was expected, and whose register tells so in the frame f
 abbrev pub JustReads : Task → Instr → Object → Frame → Type 0
 JustReads x (Getr d o k) y f = Unit {0}
 JustReads x (Geti d o k) y f = Unit {0}
@@ -69,7 +69,8 @@ pub record ReadsOther (l l' : Ledger) (t : ℕ) (x : Task) (line : Line) : Type 
   pub goes : l' ≡ stepped_by l (record l.machine { tasks = slice_set l.machine.tasks t (record x { top = frame }) })
   pub alone : StepsAlone l l' t
 
--- what a write makes of the object y and of the frame: a reference, a number, or a reference in place of one that was expected
+-- what a write makes of the object y and of the frame: a reference, a number, or a reference in place of one that was
+-- expected
 abbrev pub Wrote : Task → Instr → Object → Object → Frame → Type 0
 Wrote x (Putr o k v) y y' f =
     (i : ℕ) × (place_in (length y.refs) (int_in x.top k) ≡ Some i) × (y.mutable ≡ true) × (y' ≡ record y { refs = slice_set y.refs i (ref_in x.top v) }) × (f ≡ onward x.top)
@@ -193,7 +194,8 @@ GoesOn Finishing = ⊥
 GoesOn Halting = ⊥
 GoesOn _ = Unit {0}
 
--- an entry of so many steps and one more of t, from the accounts l to l': they are private, and none of all is due or in need
+-- an entry of so many steps and one more of t, from the accounts l to l': they are private, and none of all is due or
+-- in need
 pub record Splits (p : ProgramText) (s : SettingsValue) (l l' : Ledger) (t j : ℕ) : Type 0 where
   pub private : ArePrivate p s l t j
   pub due : is_due s p (task_steps p l t j) t ≡ false

@@ -85,15 +85,15 @@ module _ (p : ProgramText) (limit : ℕ) (ts : List ℕ) (loop : Loop) where
     pub ref : Option Name
     pub back : HandsBack p limit ts (called_frame call.frame i) end handed ref
 
-  -- the frame of a loop step has returned, by the time of so many steps: it was there after the loop step, which didn't trap,
-  -- and is there no more
+  -- the frame of a loop step has returned, by the time of so many steps: it was there after the loop step, which didn't
+  -- trap, and is there no more
   pub record HasReturned (i : ℕ) (s : IsLoopStep i) (now : ℕ) : Type 0 where
     pub later : suc i ≤ now
     pub began : StandsAt p limit ts (loop_frame i s) (suc i)
     pub gone : StandsAt p limit ts (loop_frame i s) now → ⊥
 
-  -- these are the steps by which the nest of a frame calls the body, one for each of n numbers from the first one, in the order
-  -- of the numbers; and what these calls handed back
+  -- these are the steps by which the nest of a frame calls the body, one for each of n numbers from the first one, in
+  -- the order of the numbers; and what these calls handed back
   pub record AreCalls (a : Activation) (at_loop : Frame) (first : ℤ) (n : ℕ) (calls : List ℕ) (results : List ℤ) : Type 0 where
     pub count : length calls ≡ n
     pub as_many : length results ≡ n
@@ -134,14 +134,16 @@ module _ (p : ProgramText) (limit : ℕ) (ts : List ℕ) (loop : Loop) where
     pub levels : (h : ℕ) → how_many i s ≤ 2 ^ h → (b : Activation) (x : Task) → InNest p limit ts loop (loop_frame i s) b
         → slice_get (after p limit ts b.since).tasks b.task ≡ Some x → x.depth ≤ s.task.depth + h
 
--- LOOPS CALL EACH NUMBER: for every program with a loop, every list of steps and every loop step whose frame has returned
+-- LOOPS CALL EACH NUMBER: for every program with a loop, every list of steps and every loop step whose frame has
+-- returned
 abbrev pub LoopsCallEachNumber : Type 0
 LoopsCallEachNumber =
     (p : ProgramText) (limit : ℕ) (ts : List ℕ) (loop : Loop) (i now : ℕ) (s : IsLoopStep p limit ts loop i)
     → IsLoop p loop → IsInRange (int_in s.task.top 0) (int_in s.task.top 1) → HasReturned p limit ts loop i s now
     → CallsEachNumber p limit ts loop i s now
 
--- SOME LOOP RETURNS: so the law speaks of something. There is a run with a loop over two numbers whose frame has returned
+-- SOME LOOP RETURNS: so the law speaks of something. There is a run with a loop over two numbers whose frame has
+-- returned
 abbrev pub SomeLoopReturns : Type 0
 SomeLoopReturns =
     (p : ProgramText) × (limit : ℕ) × (ts : List ℕ) × (loop : Loop) × (i : ℕ) × (now : ℕ) × (s : IsLoopStep p limit ts loop i)

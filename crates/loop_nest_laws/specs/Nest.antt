@@ -7,8 +7,8 @@ use Rattle.hh_lang.specs.Loop.{Loop}
 use Rattle.loop_nest_laws.specs.Frames.{Activation, Takes, left_frame, right_frame, called_frame}
 
 module _ (p : ProgramText) (limit : ℕ) (ts : List ℕ) (loop : Loop) where
-  -- what a frame of a nest begins in it by an instruction: the first frames of both halves by a fork, and the loop's frame
-  -- by the call of a half. A frame of the body is none of the nest, nor what it begins
+  -- what a frame of a nest begins in it by an instruction: the first frames of both halves by a fork, and the loop's
+  -- frame by the call of a half. A frame of the body is none of the nest, nor what it begins
   abbrev pub Starts : Activation → ℕ → Instr → Activation → Type 0
   Starts a i (Par g h) b = ((g ≡ loop.left) × (b ≡ left_frame p limit ts i)) ⊎ ((h ≡ loop.right) × (b ≡ right_frame p limit ts i))
   Starts a i (Call g) b = (g ≡ loop.whole) × (b ≡ called_frame a i)

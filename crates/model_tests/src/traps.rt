@@ -4,8 +4,8 @@ use crate::runs::comes_to;
 use hh_model::{End, Trap};
 use std::alloc::Global;
 
-// r0 is nil, r1 a mutable object with a field of each kind, r2 an immutable one; i0 is 0, i1 is 1, i2 is -1, i3 the most
-// fields of an object, i4 the largest number.
+// r0 is nil, r1 a mutable object with a field of each kind, r2 an immutable one; i0 is 0, i1 is 1, i2 is -1, i3 the
+// most fields of an object, i4 the largest number.
 const SETUP: &str =
     "fn main / set i1 1 / set i2 -1 / set i3 1022 / set i4 9223372036854775807 / newm r1 i1 i1 / pack r2 1 1";
 

@@ -7,8 +7,8 @@ use Rattle.hh_model.specs.declared.data.State.{State}
 use Rattle.hh_model.specs.Step.{fetched}
 use Rattle.run_ledger.specs.Steps.{is_open, works_alone}
 
--- the next step of a running task is no output, no fork and no end of the task, and reads or writes no object that another
--- task owns, but that it may read an immutable object of an ancestor
+-- the next step of a running task is no output, no fork and no end of the task, and reads or writes no object that
+-- another task owns, but that it may read an immutable object of an ancestor
 abbrev pub is_own_line : State → ℕ → Task → Option Line → Bool
 is_own_line m t x None = false
 is_own_line m t x (Some line) = not (is_open x line.instr) && works_alone m t x.top line.instr

@@ -1,4 +1,5 @@
--- What changes of cells make of the objects that are read from them: one appended, a field written, a sweep, references led.
+-- What changes of cells make of the objects that are read from them: one appended, a field written, a sweep, references
+-- led.
 use Rattle.std.proofs.Common.{◌≡◌, ℕ, zero, suc, ◌+◌, ◌-◌, ◌<◌, ◌≤◌, ◌==◌, ◌&&◌, arith, Bool, true, false, cond, Option, List, [], ◌∷◌, ◌++◌, length, map, filter, nat_le, inl, inr, refl, ap, ap₂, sym, ◌∙◌, eq-eqb, ne_eqb}
 use Rattle.std.proofs.lemmas.Bool.{cond-true, cond-false, eqb-true, leb-true, leb-false, false≢true}
 use Rattle.std.proofs.lemmas.List.{length-map}

@@ -1,8 +1,8 @@
 -- Sources and sinks in memory, as contracts see them.
 use Rattle.std.specs.Prelude.{ℕ, List}
 
--- the bytes still to come, those that every name has, the most that a call gives, the calls so far, the calls that fail (the
--- first is 1), the faults so far
+-- the bytes still to come, those that every name has, the most that a call gives, the calls so far, the calls that fail
+-- (the first is 1), the faults so far
 pub record MemSourceValue : Type 0 where
   pub left : List ℕ
   pub named : List ℕ

@@ -66,8 +66,8 @@ pub(crate) fn copy_front(to: &mut [u8], from: &[u8], count: usize)
 }
 
 impl MemSource {
-    /// A source of these bytes, where every name has the bytes `named`. It gives at most so many in a call, and fails at the
-    /// calls with these numbers, from 1.
+    /// A source of these bytes, where every name has the bytes `named`. It gives at most so many in a call, and fails
+    /// at the calls with these numbers, from 1.
     pub fn new(bytes: Vec<u8>, named: Vec<u8>, most: usize, failing: Vec<u64>) -> MemSource
         requires { 0 < most }
         ensures { result ≡ record { left = bytes.items; named = named.items; most = most; calls = 0; failing = failing.items; faults = 0 } }

@@ -1,4 +1,5 @@
--- A part after private steps, more of which may be fresh already: it fits again, and what comes next is told of the machine then.
+-- A part after private steps, more of which may be fresh already: it fits again, and what comes next is told of the
+-- machine then.
 use Rattle.std.proofs.Common.{◌≡◌, ℕ, ◌+◌, ◌≤◌, None, refl, ap, sym, subst, ◌∙◌}
 use Rattle.hh_lang.specs.Form.{ProgramText}
 use Rattle.hh_model.specs.declared.data.State.{State}

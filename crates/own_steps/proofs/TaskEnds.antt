@@ -1,5 +1,5 @@
--- The task of a part ends by the step after its fresh ones: the rest that is handed back, and what becomes of the shared
--- value, whether the run ends with the task or goes on.
+-- The task of a part ends by the step after its fresh ones: the rest that is handed back, and what becomes of the
+-- shared value, whether the run ends with the task or goes on.
 use Rattle.std.proofs.Common.{◌≡◌, ℕ, suc, ◌+◌, ◌<◌, ◌&&◌, not, Option, Some, None, List, length, length-set, slice_get, slice_set, option_map, inl, inr, refl, ap, sym, subst, ◌∙◌}
 use Rattle.std.specs.Option.{option_flatten}
 use Rattle.std.proofs.lemmas.Bool.{cases_eq}

@@ -26,7 +26,8 @@ pub record Holds (m : State) (t : ℕ) (x : Task) (n : Name) (o : Object) : Type
 abbrev pub PrecedesTask : State → ℕ → Task → Name → Type 0
 PrecedesTask m t x n = (o : Object) × (object_at m.store n ≡ Some o) × Precedes m.edges o.strand (strand_of t x)
 
--- each reference field of the object is nil or names an object that precedes the task, so that its read is never stopped
+-- each reference field of the object is nil or names an object that precedes the task, so that its read is never
+-- stopped
 pub record ReadsFreely (m : State) (t : ℕ) (x : Task) (o : Object) : Type 0 where
   pub precede : (r : Name) → Contains o.refs (Some r) → PrecedesTask m t x r
   pub goes : (at d : ℕ) → let r = option_flatten (slice_get o.refs at) in read_effect (setting m t x) x.top m.store d r ≡ Goes (onward (with_ref x.top d r)) m.store
@@ -43,8 +44,8 @@ FrozenReadsGo =
     (p : ProgramText) (limit : ℕ) (ts : List ℕ) (t : ℕ) (x : Task) (n : Name) (o : Object)
     → let m = run p limit ts in Holds m t x n o → o.mutable ≡ false → ReadsFreely m t x o
 
--- a read of an object was stopped: what it would have yielded doesn't precede the reader, and the owner that is named is
--- a task that hasn't joined, owns that object, and doesn't stand on the reader's path
+-- a read of an object was stopped: what it would have yielded doesn't precede the reader, and the owner that is named
+-- is a task that hasn't joined, owns that object, and doesn't stand on the reader's path
 pub record IsStop (m : State) (t owner : ℕ) : Type 0 where
   pub name : Name
   pub source : Name
@@ -90,8 +91,8 @@ IsRead p m t x d n = step p m t ≡ with_task m t (record x { top = onward (with
 abbrev pub IsStopped : ProgramText → State → ℕ → Name → Type 0
 IsStopped p m t n = step p m t ≡ ended_by m (Entangled t (owner_of m.tasks n.task))
 
--- a read goes on exactly where the strand of what it reads precedes the reader's, and is stopped exactly where it doesn't.
--- The owner that a stop names hasn't joined
+-- a read goes on exactly where the strand of what it reads precedes the reader's, and is stopped exactly where it
+-- doesn't. The owner that a stop names hasn't joined
 pub record IsDecided (p : ProgramText) (m : State) (t : ℕ) (x : Task) (d : ℕ) (n : Name) (o : Object) : Type 0 where
   pub goes : Precedes m.edges o.strand (strand_of t x) ↔ IsRead p m t x d n
   pub stops : (Precedes m.edges o.strand (strand_of t x) → ⊥) ↔ IsStopped p m t n

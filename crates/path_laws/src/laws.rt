@@ -12,7 +12,8 @@ pub fn own_reads_go()
     ensures { OwnReadsGo }
 {}
 
-/// A task's reads of an immutable object are never stopped: each field is nil or names an object that precedes the task.
+/// A task's reads of an immutable object are never stopped: each field is nil or names an object that precedes the
+/// task.
 pub fn frozen_reads_go()
     ensures { FrozenReadsGo }
 {}
@@ -62,7 +63,8 @@ pub fn paths_stay()
     ensures { PathsStay }
 {}
 
-/// Each name that a task holds is owned on the task's path, and of an object and what it refers to one owner is on the other's path.
+/// Each name that a task holds is owned on the task's path, and of an object and what it refers to one owner is on the
+/// other's path.
 pub fn names_are_on_path()
     ensures { NamesAreOnPath }
 {}

@@ -1,4 +1,5 @@
--- What a run is looked through for: accesses of fields; those by compare and swap alone, counted like all others; or prints.
+-- What a run is looked through for: accesses of fields; those by compare and swap alone, counted like all others; or
+-- prints.
 use Rattle.std.specs.Prelude.{ℕ, Bool, true, false, Option, Some, None, List, [], ◌∷◌, slice_get, if◌then◌else◌}
 use Rattle.hh_lang.specs.declared.instr.Instr.{Instr}
 use Rattle.hh_lang.specs.declared.instr.Instr.TheVariants.{Out}

@@ -1,5 +1,5 @@
--- What is kept of each field while accesses come: of the earlier ones the first of each strand and kind until two race, and then
--- the race.
+-- What is kept of each field while accesses come: of the earlier ones the first of each strand and kind until two race,
+-- and then the race.
 use Rattle.std.specs.Prelude.{ℕ, ◌&&◌, ◌||◌, not, Bool, true, false, Option, Some, None, List, [], ◌∷◌, ◌++◌, if◌then◌else◌}
 use Rattle.std.specs.declared.cmp.Ordering.{Ordering}
 use Rattle.std.specs.Ordering.{is_eq, nat_cmp, ordering_then}

@@ -53,8 +53,9 @@ fn check_journal(
     Ok(())
 }
 
-/// The races of a legal journal, with or without an end: for each field that has one its pair, in the order of the fields. Of all
-/// races for a field the pair is the one whose later access is the earliest, and for that the earliest other one.
+/// The races of a legal journal, with or without an end: for each field that has one its pair, in the order of the
+/// fields. Of all races for a field the pair is the one whose later access is the earliest, and for that the earliest
+/// other one.
 pub fn races(
     alloc: Global,
     program: &Program,

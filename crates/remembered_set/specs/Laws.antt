@@ -22,8 +22,8 @@ LiftedAreThere =
     → Contains (lifted xs ys ks) t ↔ (Contains xs t ⊎ (Contains ys t × (has_chunk ks t.object.chunk ≡ false)))
 
 module _ {S : Type 0} (refs_at : S → Addr → List (Option Addr)) (with_ref_at : S → Addr → ℕ → Option Addr → S) where
-  -- what is read once all sources are rewritten: each object has as many fields, those that are sources led, all others as
-  -- they were
+  -- what is read once all sources are rewritten: each object has as many fields, those that are sources led, all others
+  -- as they were
   pub record IsRewritten (ms : List (Addr × Addr)) (old new : S) (xs : List Source) : Type 0 where
     pub count : (a : Addr) → length (refs_at new a) ≡ length (refs_at old a)
     pub fields : (a : Addr) (i : ℕ) → slice_index_or (refs_at new a) i None ≡ (if has_source xs (record { object = a; field = i }) then led_by ms (slice_index_or (refs_at old a) i None) else slice_index_or (refs_at old a) i None)

@@ -78,7 +78,8 @@ module _ (s : SettingsValue) (p : ProgramText) (t : ℕ) where
       by false true e = omega arith
       by false false e = omega arith
 
--- how far the steps have come: so many were taken, all of them can stand, and the rest of the question is that of the rest
+-- how far the steps have come: so many were taken, all of them can stand, and the rest of the question is that of the
+-- rest
 pub record Ran (s : SettingsValue) (p : ProgramText) (l : Ledger) (t k done : ℕ) (now : Ledger) : Type 0 where
   pub is : now ≡ task_steps p l t done
   pub rest : standing s p l t k ≡ done + standing s p now t (k - done)

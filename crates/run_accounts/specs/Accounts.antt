@@ -30,8 +30,8 @@ pub record AccountsValue : Type 0 where
   pub used : ℕ
   pub taken : List (Option ℕ)
 
--- what is kept beside the accounts agrees with them: so many chunks are in use, and a worker that holds a task took it last.
--- There is a place for each worker that there can be
+-- what is kept beside the accounts agrees with them: so many chunks are in use, and a worker that holds a task took it
+-- last. There is a place for each worker that there can be
 pub record Agrees (s : AccountsValue) : Type 0 where
   pub used : s.used ≡ in_use s.ledger
   pub places : length s.taken ≡ worker_limit
@@ -108,8 +108,8 @@ used_by used reserved m (Some n) = used - reserved + units (words_at m n)
 abbrev pub used_after : ProgramText → Ledger → ℕ → ℕ
 used_after p l t = if can_step l.machine t then used_by (in_use l) (heap_of l t).reserved (step p l.machine t) (next_large p l t) else in_use l
 
--- after each of the steps that can stand in an entry the counts fit their types, and the chunks in use are as they are kept
--- after the next one that can
+-- after each of the steps that can stand in an entry the counts fit their types, and the chunks in use are as they are
+-- kept after the next one that can
 pub record StaysSteady (s : SettingsValue) (p : ProgramText) (l : Ledger) (t k : ℕ) : Type 0 where
   pub steady : (i : ℕ) → i ≤ standing s p l t k → Steady (task_steps p l t i)
   pub used : (i : ℕ) → i ≤ standing s p l t k → let q = task_steps p l t i in (is_due s p q t || is_in_need p q t) ≡ false → used_after p q t ≡ in_use (task_step p q t)

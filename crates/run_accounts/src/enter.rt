@@ -222,7 +222,8 @@ impl<'p> Accounts<'p> {
         }
     }
 
-    // Why an entry is refused whatever it says of tasks: the run has ended, or its fuel is spent, or there is no such worker.
+    // Why an entry is refused whatever it says of tasks: the run has ended, or its fuel is spent, or there is no such
+    // worker.
     fn general_cause(&self, worker: u32, kind: Kind) -> Option<Refused>
         ensures { result ≡ general_refusal self.now.settings self.now.ledger worker kind }
     {

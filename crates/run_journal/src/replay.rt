@@ -14,8 +14,8 @@ use std::alloc::{AllocError, Global};
 /// Why a journal isn't that of a whole run.
 #[derive(Clone, Copy)]
 pub enum ReplayError {
-    /// This entry is the first that is refused; or none is, and the journal stops before an end of the run: then the number
-    /// is one past its last entry, and the cause `Short`.
+    /// This entry is the first that is refused; or none is, and the journal stops before an end of the run: then the
+    /// number is one past its last entry, and the cause `Short`.
     RefusedAt(RefusedAt),
     /// Want of memory.
     NoMemory,

@@ -33,8 +33,8 @@ FewerStepsAreLegal =
     (p : ProgramText) (s : SettingsValue) (l : Ledger) (w t j k : ℕ) → j ≤ k → refusal p s l (record { worker = w; kind = Ran t k }) ≡ None
     → refusal p s l (record { worker = w; kind = Ran t j }) ≡ None
 
--- the entry that is found as the first refused one: those before it are a legal journal, whose accounts refuse it for the
--- cause that is named, and its number counts from 1
+-- the entry that is found as the first refused one: those before it are a legal journal, whose accounts refuse it for
+-- the cause that is named, and its number counts from 1
 pub record IsFirstRefused (p : ProgramText) (s : SettingsValue) (journal : List EntryValue) (r : RefusedAt) : Type 0 where
   pub before : List EntryValue
   pub entry : EntryValue
@@ -54,8 +54,8 @@ FirstRefusedIsFirst = (p : ProgramText) (s : SettingsValue) (journal : List Entr
 
 -- PACED JOURNALS
 
--- in words: wherever a journal is cut before an entry, the entry ends the run for spent fuel or gives what its worker owes
--- by what comes before it
+-- in words: wherever a journal is cut before an entry, the entry ends the run for spent fuel or gives what its worker
+-- owes by what comes before it
 abbrev pub Paced : ProgramText → SettingsValue → List EntryValue → Type 0
 Paced p s journal =
     (before : List EntryValue) (e : EntryValue) (rest : List EntryValue) → journal ≡ before ++ e ∷ rest
@@ -64,7 +64,8 @@ Paced p s journal =
 abbrev pub PacedIsMeant : Type 0
 PacedIsMeant = (p : ProgramText) (s : SettingsValue) (journal : List EntryValue) → (is_paced p s journal ≡ true) ↔ Paced p s journal
 
--- the pace goes on: a paced journal with one entry more is paced, if that one ends the run for spent fuel or gives what is owed
+-- the pace goes on: a paced journal with one entry more is paced, if that one ends the run for spent fuel or gives what
+-- is owed
 abbrev pub PaceGoesOn : Type 0
 PaceGoesOn =
     (p : ProgramText) (s : SettingsValue) (journal : List EntryValue) (e : EntryValue) → is_paced p s journal ≡ true

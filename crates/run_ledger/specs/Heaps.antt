@@ -1,5 +1,5 @@
--- The accounts of heaps: chunks by count, held names and their words, what a leaf collection and a sweep leave, and what is
--- reached within a heap.
+-- The accounts of heaps: chunks by count, held names and their words, what a leaf collection and a sweep leave, and
+-- what is reached within a heap.
 use Rattle.std.specs.Prelude.{ℕ, ◌+◌, ◌-◌, ◌*◌, ◌==◌, ◌&&◌, ◌||◌, not, Bool, true, false, Option, Some, None, List, [], ◌∷◌, ◌++◌, slice_get, slice_set, length, if◌then◌else◌, nat_lt, nat_le, filter, map, sum_by, max, unwrap_or}
 use Rattle.std.specs.List.{flat_map}
 use Rattle.listed.specs.Members.{is_empty}

@@ -88,7 +88,7 @@ or_short (Some r) end at = Some r
 or_short None (Some e) at = None
 or_short None None at = Some (record { index = at; cause = Short })
 
--- why a journal isn't one of a whole run: its first refused entry, or, where none is and it has no end, one past its last
--- entry as short
+-- why a journal isn't one of a whole run: its first refused entry, or, where none is and it has no end, one past its
+-- last entry as short
 abbrev pub refused_as_run : ProgramText → SettingsValue → List EntryValue → Option RefusedAt
 refused_as_run p s journal = or_short (first_refused p s journal) (end_of p s journal) (length journal + 1)

@@ -89,8 +89,8 @@ WithinIsOwned =
     (p : ProgramText) (s : SettingsValue) (journal : List EntryValue) → is_legal p s journal ≡ true
     → let l = ledger_of p s journal in (t : ℕ) (n : Name) → IsAtWork l t → Contains (within l t) n ↔ IsReached (StartsOwned l t) (LeadsOwned l t) n
 
--- and what is reached within a heap depends on nothing of the accounts but the names that are held: not on who holds a task,
--- nor on any count
+-- and what is reached within a heap depends on nothing of the accounts but the names that are held: not on who holds a
+-- task, nor on any count
 abbrev pub WithinIsOfNames : Type 0
 WithinIsOfNames =
     (l : Ledger) (t u : ℕ) (f : Heap → Heap) → ((h : Heap) → held_in (f h) ≡ held_in h) → within (with_heap l t f) u ≡ within l u
@@ -113,7 +113,8 @@ abbrev pub AreByBirth : List Name → Type 0
 AreByBirth [] = Unit {0}
 AreByBirth (n ∷ ns) = ((k : Name) → Contains ns k → name_le n k ≡ true) × AreByBirth ns
 
--- a leaf collection keeps just the survivors among the held names, the small ones by birth and laid one after the other; a sweep keeps just the snapshot
+-- a leaf collection keeps just the survivors among the held names, the small ones by birth and laid one after the
+-- other; a sweep keeps just the snapshot
 pub record KeepsJust (m : State) (h : Heap) : Type 0 where
   pub survivors : (n : Name) → Contains (held_in (collected m h)) n ↔ (Contains (held_in h) n × Contains h.survivors n)
   pub order : AreByBirth (small_in (collected m h))
@@ -144,8 +145,8 @@ WaitersAreFree =
 
 -- WHAT A STEP CHANGES
 
--- a step after which its task runs on, and the machine too, changes the accounts by what it allocates alone: so it leaves who
--- holds which task, the snapshots and the survivors
+-- a step after which its task runs on, and the machine too, changes the accounts by what it allocates alone: so it
+-- leaves who holds which task, the snapshots and the survivors
 abbrev pub StepsRunOn : Type 0
 StepsRunOn =
     (p : ProgramText) (l : Ledger) (t : ℕ) → can_step l.machine t ≡ true
@@ -161,7 +162,8 @@ StepsLeaveHeaps =
 
 -- WHAT AN ENTRY LEAVES ALONE
 
--- an entry of one worker leaves what another worker holds: the task, the objects that it owns, and the account of its heap
+-- an entry of one worker leaves what another worker holds: the task, the objects that it owns, and the account of its
+-- heap
 pub record LeavesTask (l after : Ledger) (u : ℕ) : Type 0 where
   pub owner : LeavesOwner l.machine after.machine u
   pub heap : heap_of after u ≡ heap_of l u
@@ -173,8 +175,8 @@ EntriesLeaveOthers =
 
 -- WHAT IS HELD
 
--- an entry drops an object that was allocated before it: the end of a leaf collection of t drops what t owns outside the
--- survivors, and a sweep of t's heap what t owns outside the snapshot
+-- an entry drops an object that was allocated before it: the end of a leaf collection of t drops what t owns outside
+-- the survivors, and a sweep of t's heap what t owns outside the snapshot
 abbrev pub Drops : Ledger → Kind → Name → Type 0
 Drops l (End t taken given left) n = IsStored l.machine n × (owner_of l.machine.tasks n.task ≡ t) × (Contains (heap_of l t).survivors n → ⊥)
 Drops l (Sweep t given) n = IsStored l.machine n × (owner_of l.machine.tasks n.task ≡ t) × (Contains (heap_of l t).snapshot n → ⊥)

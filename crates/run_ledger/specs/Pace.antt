@@ -51,8 +51,8 @@ abbrev pub owed_to_marks : Ledger → List Strand → Owed
 owed_to_marks l [] = Nothing
 owed_to_marks l (fork ∷ forks) = if is_under_way l fork then more_of l fork.task else owed_to_marks l forks
 
--- after steps that forked, the marking of the heap that waits comes first, where it is to be marked; after any steps, the
--- worker's last marking that is under way goes on
+-- after steps that forked, the marking of the heap that waits comes first, where it is to be marked; after any steps,
+-- the worker's last marking that is under way goes on
 abbrev pub owed_after : SettingsValue → Ledger → List Strand → Previous → Owed
 owed_after s l marks Other = Nothing
 owed_after s l marks RanBefore = owed_to_marks l marks

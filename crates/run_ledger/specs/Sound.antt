@@ -39,8 +39,8 @@ Owners tasks heaps = (u : ℕ) (n : Name) → InHeaps heaps u n → (n.task < le
 
 -- USES OF A HEAP
 
--- these names are all for which the heap of u is used: without its others, what is held still has all that tasks hold, and all
--- to which its objects refer
+-- these names are all for which the heap of u is used: without its others, what is held still has all that tasks hold,
+-- and all to which its objects refer
 abbrev pub Spares : List Task → List (List Object) → List Heap → ℕ → List Name → Type 0
 Spares tasks store heaps u ns = Closed tasks store (λ n. Keeps heaps n × (InHeaps heaps u n → In ns n))
 
@@ -59,8 +59,8 @@ survivors_at (Some h) = h.survivors
 
 -- SOUND ACCOUNTS
 
--- all that is reached is held; what the heap of a task that waits is used for is in its snapshot; and what the heap of a task
--- amid a leaf collection is used for is among its survivors
+-- all that is reached is held; what the heap of a task that waits is used for is in its snapshot; and what the heap of
+-- a task amid a leaf collection is used for is among its survivors
 pub record Sound (tasks : List Task) (edges : List Edge) (store : List (List Object)) (heaps : List Heap) : Type 0 where
   pub fork_join : IsForkJoinStateIn tasks edges store
   pub apart : Disentangled tasks store

@@ -23,8 +23,8 @@ use Rattle.run_ledger.specs.Report.{report_of}
 abbrev pub StepsAreBounded : Type 0
 StepsAreBounded = (p : ProgramText) (s : SettingsValue) (journal : List EntryValue) → is_legal p s journal ≡ true → (ledger_of p s journal).steps ≤ s.fuel + private_limit
 
--- before each allocation among k steps of t, its words since the last collection are below the limit, and the object has
--- its place
+-- before each allocation among k steps of t, its words since the last collection are below the limit, and the object
+-- has its place
 abbrev pub AllocatesInBounds : ProgramText → SettingsValue → Ledger → ℕ → ℕ → Type 0
 AllocatesInBounds p s l t k =
     (j w : ℕ) → j < k → asked p (task_steps p l t j).machine t ≡ Some w
@@ -39,9 +39,9 @@ AllocationsAreInBounds =
 abbrev pub EachHasName : List (List Name) → Type 0
 EachHasName lists = (ns : List Name) → Contains lists ns → 0 < length ns
 
--- the end of t's leaf collection, by the accounts l before it and those after it: as many chunks were taken when it began
--- as its small names would take still; at most so many hold the small survivors, each has one, and none waits for a large
--- object
+-- the end of t's leaf collection, by the accounts l before it and those after it: as many chunks were taken when it
+-- began as its small names would take still; at most so many hold the small survivors, each has one, and none waits for
+-- a large object
 pub record CollectedWithin (l after : Ledger) (t : ℕ) : Type 0 where
   pub took : begun_in (heap_of l t) ≡ take_of l.machine (heap_of l t)
   pub most : length (heap_of after t).chunks ≤ take_of l.machine (heap_of l t)
@@ -81,8 +81,8 @@ AsksAtMost p limit most = (m : State) (t w : ℕ) → m.field_limit ≡ limit �
 abbrev pub ProgramsAskFew : Type 0
 ProgramsAskFew = (p : ProgramText) → IsProgram p → (limit : ℕ) → AsksAtMost p limit (limit + 34)
 
--- so the words that a heap counts since its last leaf collection are at most so many for each step taken, in both versions of
--- the trace
+-- so the words that a heap counts since its last leaf collection are at most so many for each step taken, in both
+-- versions of the trace
 pub record CountsFew (s : SettingsValue) (l : Ledger) : Type 0 where
   pub by_steps : (t : ℕ) → (heap_of l t).since ≤ (field_limit s.version + 34) * l.steps
   pub below : (t : ℕ) → (heap_of l t).since ≤ (most_fields + 34) * l.steps

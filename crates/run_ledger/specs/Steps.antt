@@ -123,7 +123,8 @@ abbrev pub is_frozen_above : State → ℕ → Option Name → Bool
 is_frozen_above m t None = false
 is_frozen_above m t (Some n) = is_on_path m.tasks (owner_of m.tasks n.task) t && is_frozen (object_at m.store n)
 
--- the object that an instruction reads or writes is the task's own, or there is none; or it reads an immutable object of an ancestor
+-- the object that an instruction reads or writes is the task's own, or there is none; or it reads an immutable object
+-- of an ancestor
 abbrev pub works_alone : State → ℕ → Frame → Instr → Bool
 works_alone m t f i = owns m.tasks t (touched f i) || (is_read i && is_frozen_above m t (touched f i))
 
@@ -161,8 +162,8 @@ is_in_need p l t = on_asked (asked p l.machine t) (lacks_room (heap_of l t))
 abbrev pub most_steps : ℕ
 most_steps = private_limit + 1
 
--- how many of the next k steps of a task can stand in one entry, its limit left aside: those before the first that is due
--- or in need, up to the first that isn't private
+-- how many of the next k steps of a task can stand in one entry, its limit left aside: those before the first that is
+-- due or in need, up to the first that isn't private
 abbrev pub standing : SettingsValue → ProgramText → Ledger → ℕ → ℕ → ℕ
 standing s p l t zero = 0
 standing s p l t (suc k) =

@@ -21,8 +21,8 @@ abbrev pub ChunkGoes : Bool → Ledger → Ledger → ℕ → Type 0
 ChunkGoes true l l' asks = l' ≡ record l { end = Some (Pool (in_use l)) }
 ChunkGoes false l l' asks = (l'.end ≡ l.end) × (in_use l' ≡ in_use l + asks)
 
--- by the units of a chunk that is given, or the run ends where too few are free; by what a leaf collection takes as it begins;
--- down by the number that its end or a sweep says is given back, and by nothing else
+-- by the units of a chunk that is given, or the run ends where too few are free; by what a leaf collection takes as it
+-- begins; down by the number that its end or a sweep says is given back, and by nothing else
 abbrev pub UseGoes : ProgramText → SettingsValue → Ledger → Ledger → Kind → Type 0
 UseGoes p s l l' (Chunk t) = let asks : ℕ = chunk_units (asked p l.machine t) in ChunkGoes (nat_lt s.chunks (in_use l + asks)) l l' asks
 UseGoes p s l l' (Begin t) = in_use l' ≡ in_use l + take_of l.machine (heap_of l t)
@@ -53,8 +53,8 @@ pub record ReservesFor (p : ProgramText) (s : SettingsValue) (l : Ledger) (t : �
   pub fits : (heap_of l t).reserved ≡ units words
   pub early : (heap_of l t).since < s.leaf
 
--- a heap without a chunk has no room; only a task that runs reserves a chunk, for the object that it allocates next; and a
--- leaf collection holds the chunks that it takes, with none reserved
+-- a heap without a chunk has no room; only a task that runs reserves a chunk, for the object that it allocates next;
+-- and a leaf collection holds the chunks that it takes, with none reserved
 pub record UsesChunks (p : ProgramText) (s : SettingsValue) (l : Ledger) : Type 0 where
   pub room : (t : ℕ) → 0 < (heap_of l t).room → 0 < length (heap_of l t).chunks
   pub reserved : (t : ℕ) → 0 < (heap_of l t).reserved → ReservesFor p s l t

@@ -1,4 +1,5 @@
-// The plain data of a journal's accounts: heaps, the ledger, how a run ends, why an entry is refused, the report and the pace.
+// The plain data of a journal's accounts: heaps, the ledger, how a run ends, why an entry is refused, the report and
+// the pace.
 
 use hh_model::{End, Name, State, Strand};
 use listed::Listed;
@@ -159,8 +160,8 @@ pub enum Previous {
 #[derive(Drop)]
 pub struct WorkerPace {
     pub previous: Previous,
-    /// The forks after which the worker began to mark the heap of the task that waits, the last one first. A fork is told
-    /// by the strand that it ended.
+    /// The forks after which the worker began to mark the heap of the task that waits, the last one first. A fork is
+    /// told by the strand that it ended.
     pub marks: Listed<Strand>,
 }
 

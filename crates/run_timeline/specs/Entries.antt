@@ -153,8 +153,8 @@ run_ended p m n w (Some e) = run_end p m n w e ∷ []
 
 -- ALL OF AN ENTRY
 
--- of the entry of this number, whose worker's entry before had that one: in front of it the accounts had these counts, and
--- behind it they are these
+-- of the entry of this number, whose worker's entry before had that one: in front of it the accounts had these counts,
+-- and behind it they are these
 abbrev pub entry_events : ProgramText → Counts → Ledger → ℕ → ℕ → EntryValue → List Json
 entry_events p was l before n e =
     (slice before n e ∷ begins_and_ends p was.tasks l.machine n e.worker e.kind)

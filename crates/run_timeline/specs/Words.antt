@@ -14,8 +14,8 @@ use Rattle.run_journal.specs.BookValue.{IsLegalLedger}
 use Rattle.run_report.specs.Totals.{cleared_words}
 use Rattle.run_timeline.specs.declared.words.Counts.{Counts}
 
--- the words of all objects that heaps hold. While the run is under way those in the heaps of tasks that run count too, which the
--- report's line of words held leaves out; after the return of main no task runs
+-- the words of all objects that heaps hold. While the run is under way those in the heaps of tasks that run count too,
+-- which the report's line of words held leaves out; after the return of main no task runs
 abbrev pub words_held : Ledger → ℕ
 words_held l = sum_by (words_in l.machine) l.heaps
 
@@ -43,8 +43,8 @@ abbrev pub words_by : Kind → ℕ → State → ℕ
 words_by (Ran t k) first m = words_made m t first (objects_made m t - first)
 words_by _ first m = 0
 
--- behind an entry as many words are held as before it, with those of the objects that its steps made, without those that its
--- heap has lost by a collection or a sweep
+-- behind an entry as many words are held as before it, with those of the objects that its steps made, without those
+-- that its heap has lost by a collection or a sweep
 abbrev pub WordsFollowEntries : Type 0
 WordsFollowEntries =
     (p : ProgramText) (s : SettingsValue) (l : Ledger) (e : EntryValue) → IsLegalLedger p s l → refusal p s l e ≡ None

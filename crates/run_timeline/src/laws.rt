@@ -8,8 +8,8 @@ pub fn slices_are_entries()
     ensures { SlicesAreEntries }
 {}
 
-/// Behind an entry the heaps hold as many words as before it, with those that its steps allocated, without those that it
-/// dropped.
+/// Behind an entry the heaps hold as many words as before it, with those that its steps allocated, without those that
+/// it dropped.
 pub fn words_follow_entries()
     ensures { WordsFollowEntries }
 {}

@@ -78,8 +78,8 @@ fn words_after(held: u64, more: u64, lost: u64) -> Option<u64>
     Some(sum.saturating_sub(lost))
 }
 
-/// The words held behind an entry that was entered, before which so many words were held, so many by its task's heap, and
-/// its task had made so many objects; None where a number has no place for them.
+/// The words held behind an entry that was entered, before which so many words were held, so many by its task's heap,
+/// and its task had made so many objects; None where a number has no place for them.
 pub(crate) fn words_behind(
     book: &Book,
     kind: Kind,

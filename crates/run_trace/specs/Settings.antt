@@ -4,8 +4,8 @@ use Rattle.hh_lang.specs.Limits.{most_fields}
 use Rattle.run_trace.specs.declared.settings.Version.{Version}
 use Rattle.run_trace.specs.declared.settings.Version.TheVariants.{One, Two}
 
--- the most workers, the most steps, the most chunks, and the most words from which on a collection is due, that a run may ask
--- for
+-- the most workers, the most steps, the most chunks, and the most words from which on a collection is due, that a run
+-- may ask for
 abbrev pub worker_limit : ℕ
 worker_limit = 64
 

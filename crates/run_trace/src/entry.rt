@@ -19,7 +19,8 @@ pub enum Kind {
     Took(u32),
     /// The task took so many steps, 1 to `PRIVATE_LIMIT + 1`; all but the last are private.
     Ran(u32, u32),
-    /// The task's next step needs more words than it has room for: it gets a chunk more, or the run ends for want of chunks.
+    /// The task's next step needs more words than it has room for: it gets a chunk more, or the run ends for want of
+    /// chunks.
     Chunk(u32),
     /// The task's leaf collection begins.
     Begin(u32),

@@ -6,8 +6,8 @@ ghost use Rattle.run_trace.specs.Settings.{AreSettings, usual_settings, field_li
 use hh_lang::MOST_FIELDS;
 use std::marker::Model;
 
-/// The version of a run's trace: under the first one an object has at most 1,022 fields, and `freeze`, `cas` and parallel
-/// loops aren't there.
+/// The version of a run's trace: under the first one an object has at most 1,022 fields, and `freeze`, `cas` and
+/// parallel loops aren't there.
 #[derive(Clone, Copy, PartialEq, Eq)]
 pub enum Version {
     One,
@@ -49,8 +49,8 @@ pub const CHUNK_LIMIT: u32 = 65_536;
 pub const WORDS_LIMIT: u32 = 1_000_000;
 
 /// The settings of a run: 1 to `WORKER_LIMIT` workers; fuel in steps, 1 to `FUEL_LIMIT`; the most chunks in use, 2 to
-/// `CHUNK_LIMIT`; the words that make a leaf heap due for a collection and those that let a waiting heap be marked, both 16 to
-/// `WORDS_LIMIT`.
+/// `CHUNK_LIMIT`; the words that make a leaf heap due for a collection and those that let a waiting heap be marked,
+/// both 16 to `WORDS_LIMIT`.
 #[derive(Clone, Copy, PartialEq, Eq)]
 pub struct Settings {
     version: Version,

@@ -89,8 +89,8 @@ fn note(entries: &mut Listed<Entry>, line: &[u8]) -> Result<bool, AllocError>
     }
 }
 
-/// Reads a trace text that begins on the line `first_line` of the whole input. The first line is `trace 1` or `trace 2`; each
-/// further line is an entry, or has no words.
+/// Reads a trace text that begins on the line `first_line` of the whole input. The first line is `trace 1` or `trace
+/// 2`; each further line is an entry, or has no words.
 pub fn read_trace(alloc: Global, text: &[u8], first_line: u32) -> Result<Trace, TraceError>
     requires sized { length text.now ≤ most_bytes }
     requires numbered { first_line ≤ most_bytes + 1 }

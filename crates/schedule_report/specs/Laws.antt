@@ -38,13 +38,14 @@ SaysAgree Agree = Unit {0}
 SaysAgree AgreeButForPrints = Unit {0}
 SaysAgree (MayDiffer n) = ⊥
 
--- the run by us ends by the return of main and comes to the same as that by ts, also in its outputs where the verdict makes no
--- exception; or it hasn't ended, and can go on
+-- the run by us ends by the return of main and comes to the same as that by ts, also in its outputs where the verdict
+-- makes no exception; or it hasn't ended, and can go on
 abbrev pub Follows : ProgramText → ℕ → List ℕ → Verdict → List ℕ → Option End → Type 0
 Follows p limit ts v us None = GoesOn p limit ts us
 Follows p limit ts v us (Some e) = (e ≡ Done) × Agrees p limit ts us × (v ≡ Agree → (run p limit us).outputs ≡ (run p limit ts).outputs)
 
--- where one whole run's verdict is that schedules agree, each other one of the program with as many fields allowed follows it
+-- where one whole run's verdict is that schedules agree, each other one of the program with as many fields allowed
+-- follows it
 abbrev pub AgreeingRunsSpeakForAll : Type 0
 AgreeingRunsSpeakForAll =
     (p : ProgramText) (s s' : SettingsValue) (journal journal' : List EntryValue) (c : Clashes)

@@ -2,8 +2,8 @@
 
 ghost use Rattle.schedule_report.specs.Laws.{VerdictsAreExact, AgreeingRunsSpeakForAll};
 
-/// A whole run is in order exactly where its verdict says that schedules agree, and its prints are so exactly where that
-/// makes no exception.
+/// A whole run is in order exactly where its verdict says that schedules agree, and its prints are so exactly where
+/// that makes no exception.
 pub fn verdicts_are_exact()
     ensures { VerdictsAreExact }
 {}

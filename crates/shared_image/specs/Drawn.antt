@@ -65,8 +65,8 @@ IsObjectOf w q = (t : ℕ) × (o : Located) × IsHandedBack w t × In (objects (
 abbrev pub IsFieldOf : SharedValue → Remembered → Type 0
 IsFieldOf w f = (x : Live) × (g : Field) × IsLive w x × IsNoted w x.number g × (f ≡ drawn_field x.number g)
 
--- the picture has just the tasks that haven't joined, the chunks in use, the objects of the heaps handed back and the fields of the
--- sets, each once and in order
+-- the picture has just the tasks that haven't joined, the chunks in use, the objects of the heaps handed back and the
+-- fields of the sets, each once and in order
 pub record IsPictureOf (w : SharedValue) (p : Picture) : Type 0 where
   pub tasks : AreAll TaskBefore (IsTaskOf w) p.tasks
   pub chunks : AreAll ChunkBefore (IsChunkOf w) p.chunks

@@ -8,8 +8,8 @@ pub fn pictures_are_sound()
     ensures { PicturesAreSound }
 {}
 
-/// Its objects are just those that the heaps handed back hold, as they stand in the machine's store; and a reference into a running
-/// task's heap lies in a chunk of that task.
+/// Its objects are just those that the heaps handed back hold, as they stand in the machine's store; and a reference
+/// into a running task's heap lies in a chunk of that task.
 pub fn pictures_have_just_held()
     ensures { PicturesHaveJustHeld }
 {}

@@ -1,5 +1,6 @@
--- What the calls that make an entry come to: said here of the shared value, and by the same words of the value that counts its
--- entries and of the one whose entries keep the pace. A call is refused exactly by the ledger's refusal, and changes nothing then.
+-- What the calls that make an entry come to: said here of the shared value, and by the same words of the value that
+-- counts its entries and of the one whose entries keep the pace. A call is refused exactly by the ledger's refusal, and
+-- changes nothing then.
 use Rattle.std.specs.Prelude.{◌≡◌, ℕ, Some, None, Result, Vec, IfErr, IfOk, OnErr, OnOk, min}
 use Rattle.std.specs.declared.alloc.Global.{Global}
 use Rattle.run_trace.specs.declared.entry.Kind.TheVariants.{Took, Ran, Chunk, Begin, PutOff, Mark, More, Sweep, Fuel}
@@ -50,8 +51,8 @@ pub record EntersSteps (w after : SharedValue) (k : ℕ) (p q : Private) (answer
   pub fits : Fits after k q
   pub others : OnOk answer (OthersFit w after k)
 
--- they are entered with its next one, which isn't private, where that one doesn't give the part up. Where it does, or memory is
--- wanting, nothing is, though heaps and sets may have places for more
+-- they are entered with its next one, which isn't private, where that one doesn't give the part up. Where it does, or
+-- memory is wanting, nothing is, though heaps and sets may have places for more
 pub record EntersLent (w after : SharedValue) (k : ℕ) (p q : Private) (answer : Result Lent NotEntered) : Type 0 where
   pub refused : Answers answer (refused w (alone_entry k p))
   pub same : IfErr answer (λ (e : NotEntered). IsUnchanged e w after)
@@ -86,7 +87,8 @@ pub record GetsChunk (w after : SharedValue) (k : ℕ) (p q : Private) (answer :
   pub fits : Fits after k q
   pub others : OnOk answer (OthersFit w after k)
 
--- a leaf collection of the part p begins, which is q then: the answer is its roots, and new chunks with all that copying needs
+-- a leaf collection of the part p begins, which is q then: the answer is its roots, and new chunks with all that
+-- copying needs
 pub record BeginsLeaf (w after : SharedValue) (k : ℕ) (p q : Private) (answer : Result (Vec Addr Global × ToChunks) NotEntered) : Type 0 where
   pub refused : Answers answer (refused w (record { worker = k; kind = Begin p.task }))
   pub same : OnErr answer (after ≡ w)

@@ -12,8 +12,8 @@ use Rattle.leaf_copy_gc.specs.Survivors.{as_reference}
 use Rattle.task_machine.specs.declared.part.Private.{Private}
 use Rattle.shared_value.specs.Due.{take_by}
 
--- the part keeps the roots and the numbers of the new chunks; these are empty, so many as the collection takes, and none is the
--- heap's; all else that copying needs is reserved
+-- the part keeps the roots and the numbers of the new chunks; these are empty, so many as the collection takes, and
+-- none is the heap's; all else that copying needs is reserved
 pub record HasBegun (old new : Private) (roots : List Addr) (to : ToChunks) : Type 0 where
   pub part : new ≡ record old { heap = with_places old.heap new.heap.slots new.heap.spare; begun = Some (record { roots = roots; news = map number_of to.chunks.items }) }
   pub sound : All (IsSound old.heap.chunks) (map as_reference roots)

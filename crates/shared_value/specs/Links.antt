@@ -1,5 +1,5 @@
--- The first meaning of a part that fits: the machine after its fresh steps, and where the shared value has the names of the
--- tasks above it.
+-- The first meaning of a part that fits: the machine after its fresh steps, and where the shared value has the names of
+-- the tasks above it.
 use Rattle.std.specs.Prelude.{ℕ, ◌==◌, Option, Some, None, List, [], ◌∷◌, if◌then◌else◌, is_none}
 use Rattle.hh_model.specs.declared.data.Name.{Name}
 use Rattle.run_ledger.specs.declared.data.Ledger.{Ledger}

@@ -1,5 +1,5 @@
--- What the next instruction of a part comes to, as its own frames and heap tell: the words that it allocates, and what it does
--- where it comes to no private step.
+-- What the next instruction of a part comes to, as its own frames and heap tell: the words that it allocates, and what
+-- it does where it comes to no private step.
 use Rattle.std.specs.Prelude.{ℕ, ◌+◌, ◌&&◌, ◌||◌, not, Bool, true, false, Option, Some, None, List, length, slice_get, is_some, if◌then◌else◌}
 use Rattle.hh_lang.specs.declared.instr.Instr.{Instr}
 use Rattle.hh_lang.specs.declared.instr.Instr.TheVariants.{Newm, Pack, Calc, Getr, Geti, Putr, Puti, Cntr, Cnti, Freeze, Cas, Call, Par, Ret, Out}
@@ -41,7 +41,8 @@ part_asks p part = line_asks part.field_limit part.frames.top (next_line p part)
 
 -- ---- WHAT A STEP DOES THAT ISN'T PRIVATE
 
--- what is left for an own object in a register: nil can't be worked on, and another's object is beyond what a task does alone
+-- what is left for an own object in a register: nil can't be worked on, and another's object is beyond what a task does
+-- alone
 abbrev pub on_own_cell : List ChunkValue → Option Addr → (Cell → Ending) → Ending
 on_own_cell ks None go = Traps NilTrap
 on_own_cell ks (Some a) go = if is_some (place_in ks a.chunk) then go (object_of ks a) else Beyond

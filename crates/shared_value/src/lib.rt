@@ -1,5 +1,5 @@
-// The value that workers share, as a record, when it stands for its journal and a part fits it, and what its entries ask; laws
-// of what every entry keeps.
+// The value that workers share, as a record, when it stands for its journal and a part fits it, and what its entries
+// ask; laws of what every entry keeps.
 #![tactic(auto)]
 
 mod answer;

@@ -54,7 +54,8 @@ pub record PutOnDeque (old new : Hand) (x : ℕ) : Type 0 where
   pub view_is : own_view new ≡ with_put (own_view old) (x ∷ [])
   pub index_is : index new ≡ index old + 1
 
--- the number went on the list: it wasn't empty, or the deque, which had taken as many as it has slots, refused the number
+-- the number went on the list: it wasn't empty, or the deque, which had taken as many as it has slots, refused the
+-- number
 pub record PutOnList (old new : Hand) (x : ℕ) : Type 0 where
   pub list_is : own_list new ≡ own_list old ++ x ∷ []
   pub view_is : own_view new ≡ own_view old

@@ -38,7 +38,8 @@ pub record Dealt (items : List ℕ) (views : List View) : Type 0 where
   pub stolen : List ℕ
   pub in_order : (port : ℕ) (v : View) → get_elem? views port ≡ some v → v.owns ≡ true → (port ≡ 0) × (v.outstanding ≡ stolen ++ items)
 
--- by the rule there is a state of the deque in which it holds at most so many numbers and one of its passes keeps this view
+-- by the rule there is a state of the deque in which it holds at most so many numbers and one of its passes keeps this
+-- view
 pub record HeldAtMost (most : ℕ) (v : View) : Type 0 where
   pub items : List ℕ
   pub views : List View

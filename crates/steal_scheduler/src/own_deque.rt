@@ -1,5 +1,6 @@
-//! The owner's end of a deque, with a count of the pops that found the deque empty. All is proved for every rule that the
-//! deque may be under. Of such a rule nothing is known but what a step tells, so no body answers None, or counts, without a look.
+//! The owner's end of a deque, with a count of the pops that found the deque empty. All is proved for every rule that
+//! the deque may be under. Of such a rule nothing is known but what a step tells, so no body answers None, or counts,
+//! without a look.
 ghost use Rattle.std.specs.Prelude.{◌≡◌, ◌<◌, ◌≤◌, ◌+◌, ◌∷◌, [], IfOk, IfErr, IfSome, IfNone, OnOk};
 ghost use Rattle.crossbeam_deque.specs.Tasks.{Pushes, Pops, Finds, Blocks};
 ghost use Rattle.crossbeam_deque.specs.Handles.{worker_flavor};
@@ -58,7 +59,8 @@ impl<V, P: Protocol<u32, V>> OwnDeque<V, P> {
         self.worker.push_as::<M>(task)
     }
 
-    /// Takes back the newest number. None, with one empty pop more, only where a step of the call found the deque empty.
+    /// Takes back the newest number. None, with one empty pop more, only where a step of the call found the deque
+    /// empty.
     pub fn pop<M: Outcome<u32, V>>(&mut self) -> Option<u32>
         requires pops { Pops P.holds (owner_port self.old) (owner_view self.old) (M.then (owner_view self.old)) }
         requires empty { Finds P.holds (owner_port self.old) (owner_view self.old) (M.empty (owner_view self.old)) }

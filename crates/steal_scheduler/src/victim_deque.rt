@@ -1,5 +1,5 @@
-//! A deque from which a hand steals, with a count of the thefts that found at most one number there. As in `own_deque`, all
-//! is proved for every rule that the deque may be under.
+//! A deque from which a hand steals, with a count of the thefts that found at most one number there. As in `own_deque`,
+//! all is proved for every rule that the deque may be under.
 ghost use Rattle.std.specs.Prelude.{◌≡◌, ◌∷◌, [], IfOk, IfSome, IfNone};
 ghost use Rattle.crossbeam_deque.specs.Tasks.{Takes, FindsFew, Admits};
 ghost use Rattle.crossbeam_deque.specs.Handles.{stealer_deque, IsPassOf};

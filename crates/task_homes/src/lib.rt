@@ -1,5 +1,5 @@
-// What belongs to each task, one home a task: what it goes on with, its heap, what is noted for that, and what is marked
-// of it.
+// What belongs to each task, one home a task: what it goes on with, its heap, what is noted for that, and what is
+// marked of it.
 #![tactic(auto)]
 
 mod heaps;

@@ -132,8 +132,8 @@ fn call_is_taken(alloc: Global) -> bool {
     }
 }
 
-// Where the call's frame has no memory (as with `rt try --test --fail-alloc`), the part stands before the call, and the call is
-// taken when there is memory.
+// Where the call's frame has no memory (as with `rt try --test --fail-alloc`), the part stands before the call, and the
+// call is taken when there is memory.
 #[test]
 fn a_call_without_memory(rt: HostRuntime) {
     assert!(rt; call_is_taken(rt.alloc()));

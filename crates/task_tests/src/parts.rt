@@ -10,7 +10,8 @@ use program_reader::read_program;
 use std::alloc::Global;
 use task_machine::{Paused, Private, run_local};
 
-/// A root before its first step: words until a collection, the most fields of an object, and the units of its chunk; 0 for none.
+/// A root before its first step: words until a collection, the most fields of an object, and the units of its chunk; 0
+/// for none.
 #[derive(Clone, Copy)]
 pub(crate) struct Setup {
     pub(crate) leaf: u64,

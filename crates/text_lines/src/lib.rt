@@ -1,5 +1,5 @@
-// Lines and words of texts: lines are cut at line feeds; words are runs of other bytes than space, tab and carriage return,
-// up to a word that begins with `#`.
+// Lines and words of texts: lines are cut at line feeds; words are runs of other bytes than space, tab and carriage
+// return, up to a word that begins with `#`.
 #![tactic(auto)]
 
 mod lines;

@@ -14,9 +14,9 @@ const NONE: [u64; 5] = [0; 5];
 
 const OFF: [bool; 2] = [false; 2];
 
-// Words, with a bar between them, and what they ask for. The numbers are the workers, the steps, the chunks, and the words of
-// a leaf and of an inner heap; or the seed and the size. The switches are those for a report and for a trace; or for a run.
-// Zeros and `false` fill the places that a command doesn't have.
+// Words, with a bar between them, and what they ask for. The numbers are the workers, the steps, the chunks, and the
+// words of a leaf and of an inner heap; or the seed and the size. The switches are those for a report and for a trace;
+// or for a run. Zeros and `false` fill the places that a command doesn't have.
 const TAKEN: &[(&str, Meaning)] = &[
     ("check", ("check", None, NONE, OFF)),
     ("check|a.hh", ("check", Some("a.hh"), NONE, OFF)),

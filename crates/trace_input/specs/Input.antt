@@ -50,8 +50,8 @@ is_too_old (Some One) p = is_newer p
 is_too_old (Some Two) p = false
 is_too_old None p = false
 
--- the first bad line of a trace that begins on the line of this number: the trace line itself, where its version is none
--- or too old for the program
+-- the first bad line of a trace that begins on the line of this number: the trace line itself, where its version is
+-- none or too old for the program
 abbrev pub trace_bad : ℕ → ProgramText → List (List ℕ) → Option ℕ
 trace_bad number p [] = Some number
 trace_bad number p (l ∷ ls) = if is_too_old (version_of l) p then Some number else fault_in number (l ∷ ls)

@@ -118,8 +118,8 @@ fn read_parts(alloc: Global, input: &[u8]) -> Result<TraceInput, InputError>
     }
 }
 
-/// Reads an input: the program in front of the first line whose first word is `trace`, and the trace from there on. A program
-/// with `freeze`, `cas` or a parallel loop has no trace of the first version: its trace line is then bad.
+/// Reads an input: the program in front of the first line whose first word is `trace`, and the trace from there on. A
+/// program with `freeze`, `cas` or a parallel loop has no trace of the first version: its trace line is then bad.
 pub fn read_trace_input(alloc: Global, input: &[u8]) -> Result<TraceInput, InputError>
     ensures read { IfOk result (IsInput input.now) }
     ensures fault { IfErr result (FailsAt (input_fault input.now)) }

@@ -33,8 +33,8 @@ pub record LeftPart (after : SharedValue) (k : ℕ) (ready : Ready) : Type 0 whe
   pub brought : ready ≡ HasPaused part Shared
   pub none : HoldsNone after k
 
--- with the part of the task that it holds; with what it came with; with what its step made ready; and it stops only where
--- the run has ended
+-- with the part of the task that it holds; with what it came with; with what its step made ready; and it stops only
+-- where the run has ended
 abbrev pub Follows : SharedValue → SharedValue → ℕ → Ready → Next → Type 0
 Follows w after k ready (Running part) = Goes after × MayRun after k part
 Follows w after k ready (Collects c) = Goes after × MayCopy after k c
@@ -51,7 +51,8 @@ abbrev pub after_end : Option ℕ → Next
 after_end None = Idle
 after_end (Some parent) = Resumed parent
 
--- ---- WHAT COMES OF A TURN: run is the value to give back, r the one that was taken, and kind the entry that comes next, if one does
+-- ---- WHAT COMES OF A TURN: run is the value to give back, r the one that was taken, and kind the entry that comes
+-- next, if one does
 
 pub record MakesEntry (r run : Run) (k : ℕ) (ready : Ready) (kind : Option Kind) (next : Next) : Type 0 where
   pub made : Kind
@@ -61,8 +62,8 @@ pub record MakesEntry (r run : Run) (k : ℕ) (ready : Ready) (kind : Option Kin
   pub on : run.paced.halted ≡ false
   pub follows : Follows r.paced run.paced k ready next
 
--- no entry is made where the run is over, or is now since memory was wanting: the worker stops; where the task that it came for
--- can't be taken: it looks for another; or where it has found none: it waits
+-- no entry is made where the run is over, or is now since memory was wanting: the worker stops; where the task that it
+-- came for can't be taken: it looks for another; or where it has found none: it waits
 abbrev pub WhyNone : Run → Run → ℕ → Ready → Option Kind → Next → Type 0
 WhyNone r run k ready kind Stop = (is_over run ≡ true) × (is_over r ≡ true → run ≡ r)
 WhyNone r run k ready kind Idle = (is_over run ≡ false) × (t : ℕ) × (kind ≡ Some (Took t)) × (is_some (refused r.paced (record { worker = k; kind = Took t })) ≡ true)

@@ -18,7 +18,8 @@ use std::alloc::Global;
 pub enum Acted {
     /// One entry was made.
     Entered(Run, Next),
-    /// No entry was made: the run is over, memory was wanting, the task that was found can't be taken, or none was found.
+    /// No entry was made: the run is over, memory was wanting, the task that was found can't be taken, or none was
+    /// found.
     Same(Run, Next),
 }
 

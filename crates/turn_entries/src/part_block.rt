@@ -6,8 +6,8 @@ use std::marker::Model;
 use std::snapshot::Snapshot;
 use task_machine::Private;
 
-/// A block for a part. It takes the place of a pointer. It is no `Apart`, since a part that is there before the first one
-/// would take memory of its own, for a frame.
+/// A block for a part. It takes the place of a pointer. It is no `Apart`, since a part that is there before the first
+/// one would take memory of its own, for a frame.
 #[derive(Drop)]
 pub struct PartBlock {
     inner: Box<Option<Private>>,

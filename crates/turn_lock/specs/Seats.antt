@@ -77,7 +77,8 @@ module _ {T E P S : Type 0} where
     pub own : own_entries worker_of w ≡ own_entries worker_of v ++ entry ∷ []
 
 module _ {T E P S : Type 0} (journal : T → List E) (worker_of : E → ℕ) (fits : T → ℕ → P → Type 0) (setup : T → S) where
-  -- what a seat knows of the value: its journal begins with all that the seat has seen, then come entries of others, and the worker's part fits
+  -- what a seat knows of the value: its journal begins with all that the seat has seen, then come entries of others,
+  -- and the worker's part fits
   pub record Knows (value : T) (v : View T E P S) : Type 0 where
     pub rest : List E
     pub begins : journal value ≡ v.seen ++ rest
@@ -101,7 +102,8 @@ module _ {T E P S : Type 0} (journal : T → List E) (worker_of : E → ℕ) (fi
     pub fit : (w : ℕ) (p : P) → fits taken w p → fits value w p
     pub same_setup : setup value ≡ setup taken
 
-  -- the value has the longest journal that a seat has seen; each seat has seen a beginning of it, after which no entry is its worker's
+  -- the value has the longest journal that a seat has seen; each seat has seen a beginning of it, after which no entry
+  -- is its worker's
   pub record IsLeftBy (value : T) (seats : List (Seat (Option T) (View T E P S))) : Type 0 where
     pub begins : (k : ℕ) (s : Seat (Option T) (View T E P S)) → slice_get seats k ≡ Some s
         → (rest : List E) × (journal value ≡ (view s).seen ++ rest) × NoneBy worker_of k rest

@@ -1,5 +1,5 @@
--- What tasks see of the heaps above them: what they see is never written and refers only up; all of it is held; no level is hidden
--- where it would be looked up; and reads of it come to the same whatever others do.
+-- What tasks see of the heaps above them: what they see is never written and refers only up; all of it is held; no
+-- level is hidden where it would be looked up; and reads of it come to the same whatever others do.
 use Rattle.std.specs.Prelude.{◌≡◌, ◌≢◌, ◌⊎◌, ℕ, suc, ◌<◌, ◌++◌, true, false, Some, None, List, [], ◌∷◌, drop, slice_get}
 use Rattle.listed.specs.Members.{In as InList}
 use Rattle.hh_lang.specs.Form.{ProgramText}
@@ -47,8 +47,8 @@ abbrev pub LeadTo : List (List Object) → Name → List Name → Name → Type 
 LeadTo store n [] k = n ≡ k
 LeadTo store n (m ∷ ms) k = (o : Object) × (object_at store n ≡ Some o) × InList o.refs (Some m) × LeadTo store m ms k
 
--- after a legal journal and further steps of a task, none or any where it is amid no leaf collection, some heap's account has each
--- name to which references lead from those that the task holds
+-- after a legal journal and further steps of a task, none or any where it is amid no leaf collection, some heap's
+-- account has each name to which references lead from those that the task holds
 abbrev pub SeenNamesAreHeld : Type 0
 SeenNamesAreHeld =
     (p : ProgramText) (s : SettingsValue) (journal : List EntryValue) (t k : ℕ) → is_legal p s journal ≡ true → (k ≡ 0) ⊎ (collecting (slice_get (ledger_of p s journal).heaps t) ≡ false)
@@ -57,8 +57,8 @@ SeenNamesAreHeld =
 
 -- ---- LEVELS
 
--- u, which waits above t, has given a level of its view, behind which stand just those that u sees; an object of u's lies in no
--- chunk that a nearer level has, and in none of t's own
+-- u, which waits above t, has given a level of its view, behind which stand just those that u sees; an object of u's
+-- lies in no chunk that a nearer level has, and in none of t's own
 pub record IsApart (v : Memory) (u t : ℕ) : Type 0 where
   pub place : ℕ
   pub behind : drop (suc place) (v.belongings t).view ≡ (v.belongings u).view

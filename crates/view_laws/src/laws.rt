@@ -12,13 +12,14 @@ pub fn frozen_refer_up()
     ensures { FrozenReferUp }
 {}
 
-/// Each name that a task holds, or that is reached from there, is in the account of some heap: so nothing that was swept is
-/// looked up.
+/// Each name that a task holds, or that is reached from there, is in the account of some heap: so nothing that was
+/// swept is looked up.
 pub fn seen_names_are_held()
     ensures { SeenNamesAreHeld }
 {}
 
-/// Where two levels of a view have one chunk, or a level and the task's own heap do, no object of the farther heap lies in it.
+/// Where two levels of a view have one chunk, or a level and the task's own heap do, no object of the farther heap lies
+/// in it.
 pub fn levels_are_apart()
     ensures { LevelsAreApart }
 {}

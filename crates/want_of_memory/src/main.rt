@@ -1,5 +1,5 @@
-// Calls `command` where one allocation is refused, and tells what came of it. `scripts/want_of_memory.bash` builds it so that its
-// allocation with the number REFUSED is refused, and runs it for each allocation of each trial.
+// Calls `command` where one allocation is refused, and tells what came of it. `scripts/want_of_memory.bash` builds it
+// so that its allocation with the number REFUSED is refused, and runs it for each allocation of each trial.
 #![tactic(auto)]
 
 mod call;

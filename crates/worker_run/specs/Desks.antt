@@ -110,7 +110,8 @@ pub record AreOpened (s : SettingsValue) (desks : List Desk) : Type 0 where
   pub new : AreNewDesks s desks
   pub hands : HaveRoot s.workers (map (λ d. d.hand) desks)
 
--- the desk has the turn, and the value to give back has one entry more than the one taken, which the desk doesn't count yet
+-- the desk has the turn, and the value to give back has one entry more than the one taken, which the desk doesn't count
+-- yet
 pub record HasEntry (z : TableId) (d : Desk) (value : Run) : Type 0 where
   pub taken : Run
   pub turn : HasTurn z d.seat taken

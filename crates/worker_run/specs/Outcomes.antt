@@ -28,8 +28,9 @@ pub record IsRun (p : ProgramText) (s : SettingsValue) (w : SharedValue) : Type 
   pub paced : is_paced p s w.journal.items ≡ true
   pub stands : IsSharedValue w
 
--- WHAT THE WORKERS GAVE BACK: at one turn each worker of a run of this program with these settings had a desk, and the first had
--- put the root; there each went round until the run was over; of each the journal has just the entries that its desk gave back, each once
+-- WHAT THE WORKERS GAVE BACK: at one turn each worker of a run of this program with these settings had a desk, and the
+-- first had put the root; there each went round until the run was over; of each the journal has just the entries that
+-- its desk gave back, each once
 pub record WasGivenBack (p : ProgramText) (s : SettingsValue) (journal : List EntryValue) : Type 0 where
   pub turn : TableId
   pub first : List Desk

@@ -116,7 +116,8 @@ CopiesTo p k c (IsCopied d) = (d.begun.value ≡ c.part) × WasCopied p k d
 CopiesTo p k c (Found o) = ⊥
 CopiesTo p k c Wanting = ⊥
 
--- WHAT A WORKER COMES WITH: a part has taken steps of its own, or its heap was copied; a task is at hand, was put, or was found
+-- WHAT A WORKER COMES WITH: a part has taken steps of its own, or its heap was copied; a task is at hand, was put, or
+-- was found
 abbrev pub Prepares : ProgramText → ℕ → Next → Hand → Hand → Ready → Type 0
 Prepares p k (Running part) old new ready = (new ≡ old) × GrowsTo p k part ready
 Prepares p k (Collects c) old new ready = (new ≡ old) × CopiesTo p k c ready

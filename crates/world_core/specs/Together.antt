@@ -39,8 +39,8 @@ pub record AreParts (x : WorldValue) (qs : List PartOf) : Type 0 where
   pub each : (q : PartOf) → In qs q → (k : ℕ) × IsWith x k q
   pub all : (k : ℕ) (h : Held) → slice_get x.holdings k ≡ Some h → HoldsOneOf x.shared k h qs
 
--- the accounts with the fresh steps of all parts, their tasks at rest: the machine's end is left aside, and once the run is done the
--- root is handed back
+-- the accounts with the fresh steps of all parts, their tasks at rest: the machine's end is left aside, and once the
+-- run is done the root is handed back
 abbrev pub with_parts : SharedValue → List PartOf → Ledger
 with_parts w qs = all_ahead w.program qs (aside (handed (accounts w)))
 

@@ -29,8 +29,8 @@ pub fn heap_of(pool: &Pool, reference: Option<Addr>) -> Option<u32>
 }
 
 #[tactic(auto, using(crate::proofs::Owned::owned_used, crate::proofs::Owned::owned_made))]
-/// The heap in whose set a reference that is written into an object is noted: that into which it points, where it points
-/// down.
+/// The heap in whose set a reference that is written into an object is noted: that into which it points, where it
+/// points down.
 pub fn noted_in(tree: &Tree, pool: &Pool, object: Addr, value: Option<Addr>) -> Option<u32>
     requires object { IsOwned (length tree.now) pool.now (Some object) }
     requires value { IsOwned (length tree.now) pool.now value }

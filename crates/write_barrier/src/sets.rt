@@ -282,8 +282,8 @@ impl SetOf {
         }
     }
 
-    /// The set of a heap that keeps nothing, which remembers this; there is a block where there is something. It takes no
-    /// memory.
+    /// The set of a heap that keeps nothing, which remembers this; there is a block where there is something. It takes
+    /// no memory.
     pub fn remembering(alloc: Global, remembered: Remembered, block: Option<Apart<Noted>>) -> SetOf
         requires { IfNone block (remembered.sources ≡ []) }
         ensures { content_of result ≡ record { sources = remembered.sources; kept = []; keeps = false } }
