@@ -100,8 +100,8 @@ module _ (w : SharedValue) (I : IsSharedValue w) (on : (accounts w).end ≡ None
         let L = F.left M.0 in
         ready_by b (left_in (heap_of l t)) ((λ h. L.0 (R.0 h)), (λ z. R.1 (L.1 z)))
 
-pub marks_stand : MarkedHeapStands
-marks_stand w t I on free =
+pub marked_heap_stands : MarkedHeapStands
+marked_heap_stands w t I on free =
     let r = rest w I on t free in
     let m = marks w I on t free in
     record { wait = wait w I on t free; keeps = keeps w I on t free; rest = r.0; there = r.1; marks = m.0; at = m.1; further = further w I on t free r.0 m.0 r.1 m.1; left = left_by w I on t free r.0 m.0 r.1 m.1 }

@@ -40,7 +40,7 @@ use Rattle.shared_value.proofs.BeforeTheEnd.{stands_now}
 use Rattle.heap_marking.specs.MarkCauses.{marking_cause}
 use Rattle.heap_marking.specs.MarkStand.{StandsMarked}
 use Rattle.heap_marking.proofs.MarkBegun as begun
-use Rattle.heap_marking.proofs.MarkedHeap.{marks_stand}
+use Rattle.heap_marking.proofs.MarkedHeap.{marked_heap_stands}
 use Rattle.heap_marking.proofs.SweptChunks.{Agrees}
 use Rattle.heap_marking.proofs.SweptForm.{HoldLarge}
 
@@ -80,7 +80,7 @@ module _ (w : SharedValue) (I : IsSharedValue w) (on : (accounts w).end ≡ None
   a = heap_of (accounts w) t
 
   pub Z : StandsMarked w t
-  Z = marks_stand w t I on free
+  Z = marked_heap_stands w t I on free
 
   abbrev pub S : StandsFor v (tree_counts_of w) l
   S = stands_now w I on

@@ -30,6 +30,6 @@ pub fn marks_count()
 {}
 
 /// Where no cause speaks against it a heap is being marked: its home and its marking are there.
-pub fn marks_stand()
+pub fn marked_heap_stands()
     ensures { MarkedHeapStands }
 {}

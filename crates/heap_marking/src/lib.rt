@@ -11,7 +11,7 @@ mod sweep;
 pub use causes::{marking_cause, waiting_cause, words_cause};
 pub use forks::fork_in;
 pub use laws::{
-    marks_begin, marks_count, marks_enter, marks_go_further, marks_refuse, marks_stand,
+    marked_heap_stands, marks_begin, marks_count, marks_enter, marks_go_further, marks_refuse,
 };
 pub use pace::{Fork, KeptEntry, Pace, is_joined, paces_stay};
 pub use starts::begin_marking;

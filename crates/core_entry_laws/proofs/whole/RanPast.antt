@@ -1,13 +1,13 @@
 -- An entry of steps keeps the relation and what is noted.
-use Rattle.std.proofs.Common.{◌≡◌, ℕ, ℤ, pos, ◌+◌, ◌&&◌, not, false, Option, Some, None, length, slice_get, inr, refl, ap, sym, subst, ◌∙◌}
+use Rattle.std.proofs.Common.{◌≡◌, ℕ, ℤ, pos, ◌+◌, ◌&&◌, not, false, Option, Some, None, is_some, length, slice_get, inr, refl, ap, sym, subst, ◌∙◌}
 use Rattle.std.proofs.lemmas.Option.{same_Some}
 use Rattle.hh_lang.specs.declared.instr.Instr.{Instr}
 use Rattle.hh_lang.specs.declared.instr.Instr.TheVariants.{Set, Mov, Movr, Nil as NilOf, Calc, Same, Jmp, Jz, Newm, Pack, Getr, Geti, Putr, Puti, Cntr, Cnti, Freeze, Cas, Call, Par, Ret, Out}
 use Rattle.hh_lang.specs.Form.{ProgramText}
 use Rattle.run_trace.specs.Settings.{SettingsValue}
 use Rattle.hh_model.specs.declared.data.State.{State}
-use Rattle.hh_model.specs.Effect.{place_in, int_in}
-use Rattle.hh_model.specs.Step.{is_waiting}
+use Rattle.hh_model.specs.Effect.{place_in, int_in, object_at, row_of}
+use Rattle.hh_model.specs.Step.{is_waiting, is_joined, is_on_path, owner_of}
 use Rattle.run_ledger.specs.declared.data.Ledger.{Ledger}
 use Rattle.run_ledger.specs.Heaps.{heap_of, or_fresh, let_go}
 use Rattle.run_ledger.specs.Steps.{task_steps}
@@ -41,7 +41,7 @@ use Rattle.core_entry_laws.proofs.notes.NotesAhead.{notes_ahead, notes_back}
 use Rattle.core_entry_laws.proofs.parts.Others.{result_read}
 use Rattle.core_relation.proofs.notes.Rooted.{root_apart}
 use Rattle.core_relation.proofs.changes.Takes.{ran_stands}
-use Rattle.ledger_step_laws.proofs.Alone.{alone_along, machine_alone}
+use Rattle.ledger_step_laws.proofs.Alone.{alone_along}
 
 module _ (p : ProgramText) (s : SettingsValue) (v v' : Memory) (l l' : Ledger) (t w k : ℕ) (h : Belongings) (E : Runs p s l l' t w k) (alive : l.end ≡ None) (V : Stands v l) (N : AllNoted v l) where
   abbrev q : Part
@@ -144,7 +144,19 @@ module _ (p : ProgramText) (s : SettingsValue) (v v' : Memory) (l l' : Ledger) (
 
   -- a halt changes nothing but the end
   halt_alone : Halts m l' → StepsAlone m l' t
-  halt_alone H = machine_alone m l' t H.machine (λ u ne. ap (λ hs. or_fresh (slice_get hs u)) H.heaps)
+  halt_alone H = record {
+    tree = record {
+      made = λ u. ap (λ (z : State). is_some (slice_get z.tasks u)) H.machine;
+      owners = λ a. ap (λ (z : State). owner_of z.tasks a) H.machine;
+      paths = λ a u. ap (λ (z : State). is_on_path z.tasks a u) H.machine;
+      waits = λ u. ap (λ (z : State). is_waiting (slice_get z.tasks u)) H.machine;
+      joins = λ u. ap (λ (z : State). is_joined (slice_get z.tasks u)) H.machine;
+    };
+    tasks = λ u ne. ap (λ (z : State). slice_get z.tasks u) H.machine;
+    heaps = λ u ne. ap (λ hs. or_fresh (slice_get hs u)) H.heaps;
+    rows = λ u ne. ap (λ (z : State). length (row_of (slice_get z.store u))) H.machine;
+    store = λ n ne. ap (λ (z : State). object_at z.store n) H.machine;
+  }
 
   by : (kind : LastKind) (K : IsOfKind p m l' t S.task S.line kind) → (GoesOn kind → l'.machine.end ≡ None) → FitsAt p s (part_for s t h (taken_by kind k)) v l → (C : Makes p v v' m l' t h S.task S.line kind K) → Marks p v v' m l' t h S.task S.line kind K C → Handed
   by Private K on F C M = goes (on tt) (stays C (subst (λ (z : Ledger). StepsAlone m z t) (sym S.after) (private_alone p m t K (before_last.known p s l l' t w k E).sound)) (ap (λ (z : Ledger). (heap_of z t).worker) S.after ∙ (worker_step p s t m K ∙ E.out)))
