@@ -1,7 +1,7 @@
 -- What the whole text of a picture has.
 use Rattle.std.proofs.Common.{◌≡◌, ◌≤◌, ℕ, Bool, true, false, List, [], ◌∷◌, ◌++◌, length, map, refl, ap, sym, ◌∙◌, inl, inr, arith, subst}
 use Rattle.std.specs.Prelude.{Option, Some, None, nat_eq}
-use Rattle.std.proofs.lemmas.Bool.{eq-eqb}
+use Rattle.std.proofs.lemmas.Bool.{eq-eqb, eqb-true}
 use Rattle.listed.specs.Members.{In}
 use Rattle.listed.proofs.Members.{in_append_left, in_append_right}
 use Rattle.listed.proofs.Places.{in_map}
@@ -14,7 +14,7 @@ use Rattle.image_check.specs.Sets.{is_among, same_field}
 use Rattle.image_check.specs.Table.{found, with_entry}
 use Rattle.image_check.specs.Read.{most, nothing_had, with_line}
 use Rattle.image_check.proofs.Entries.{found_put, found_beside}
-use Rattle.image_check.proofs.Members.{equal, item_kept, item_added}
+use Rattle.image_check.proofs.Members.{item_kept, item_added}
 use Rattle.heap_image.specs.declared.picture.Picture.{Picture}
 use Rattle.heap_image.specs.Told.{object_said}
 use Rattle.heap_image.proofs.Passes.{with_said}
@@ -52,7 +52,7 @@ module _ (es : List (ℕ × ℕ)) (b k : ℕ) where
     where
       by : (c : Bool) → nat_eq a b ≡ c → (m : ℕ) × (found put a ≡ Some m) × (n ≤ m)
       by true is =
-          let e = equal a b is in
+          let e = eqb-true a b is in
           let l : h.0 ≤ most (found es b) k = most_least (found es b) h.0 k (ap (found es) (sym e) ∙ h.1) in
           let le : n ≤ h.0 = h.2 in
           (most (found es b) k, ap (found put) e ∙ found_put es b (most (found es b) k), omega (arith, l, le))

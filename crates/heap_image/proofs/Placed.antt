@@ -1,7 +1,7 @@
 -- An object of a sound picture is born once, and lies apart from the one before.
 use Rattle.std.proofs.Common.{◌≡◌, ◌<◌, ◌≤◌, Bool, true, false, List, refl, sym, arith}
 use Rattle.std.specs.Prelude.{Option, None, ◌==◌, nat_lt}
-use Rattle.std.proofs.lemmas.Bool.{and_parts, le-ltb}
+use Rattle.std.proofs.lemmas.Bool.{and_parts, eqb-true, le-ltb}
 use Rattle.listed.specs.Members.{In}
 use Rattle.image_check.specs.declared.line.Birth.{Birth}
 use Rattle.image_check.specs.declared.line.Chunk.{Chunk}
@@ -9,7 +9,6 @@ use Rattle.image_check.specs.declared.read.Extent.{Extent}
 use Rattle.image_check.specs.Place.{chunk_number, offset}
 use Rattle.image_check.specs.Sets.{is_among, same_birth}
 use Rattle.image_check.specs.Fault.{overlaps, is_crowded}
-use Rattle.image_check.proofs.Members.{equal}
 use Rattle.heap_image.specs.declared.picture.Picked.{Picked}
 use Rattle.heap_image.specs.declared.picture.Picture.{Picture}
 use Rattle.heap_image.specs.Picture.{ObjectBefore, end_of, AreApart, IsSoundPicture}
@@ -22,7 +21,7 @@ use Rattle.heap_image.proofs.States.{birth_of, ends_at, objects_read}
 -- BIRTHS
 
 one_birth : (x y : Birth) → (x.task == y.task) ≡ true → (x.count == y.count) ≡ true → x ≡ y
-one_birth x y e f = let g = equal x.task y.task e in let h = equal x.count y.count f in (λ j. record { task = g j; count = h j })
+one_birth x y e f = let g = eqb-true x.task y.task e in let h = eqb-true x.count y.count f in (λ j. record { task = g j; count = h j })
 
 other_birth : (x y : Birth) → (x ≡ y → ⊥) → same_birth (x.task, x.count) (y.task, y.count) ≡ false
 other_birth x y ne = by (same_birth (x.task, x.count) (y.task, y.count)) refl
@@ -34,7 +33,7 @@ other_birth x y ne = by (same_birth (x.task, x.count) (y.task, y.count)) refl
 -- PLACES
 
 apart_by : (o q : Picked) (b : Bool) → (chunk_number o.address == chunk_number q.address) ≡ b → o.address < q.address → AreApart o q → overlaps (ends_at o) (as_read q) ≡ false
-apart_by o q true e lt h = let g : nat_lt (offset q.address) (end_of o) ≡ false = le-ltb (offset q.address) (end_of o) (h lt (equal (chunk_number o.address) (chunk_number q.address) e)) in rw (e, g) refl
+apart_by o q true e lt h = let g : nat_lt (offset q.address) (end_of o) ≡ false = le-ltb (offset q.address) (end_of o) (h lt (eqb-true (chunk_number o.address) (chunk_number q.address) e)) in rw (e, g) refl
 apart_by o q false e lt h = rw e refl
 
 module _ (p : Picture) (s : IsSoundPicture p) (a : List Picked) (o : Picked) (b : List Picked) (c : IsCut p.objects a o b) where
