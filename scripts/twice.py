@@ -7,8 +7,9 @@
 
 Names are led to where they come from by the `use` lines; a lemma's statement begins with those parameters of its
 modules that it or its proof uses; what a module's abbreviation without arguments stands for is written out. Two
-statements are the same where nothing but the names of bound variables tells them apart. A row is a place to look: an
-instance of one call may read better beside its use.
+statements are the same where nothing but the names of bound variables tells them apart. Abbreviations are no lemmas,
+and what proves the goals and invariants of one function is left out. A row is a place to look: an instance of one call
+may read better beside its use.
 """
 
 import glob
