@@ -83,7 +83,3 @@ module _ (n : ℕ) (par : ℕ → Option ℕ) (dep far : ℕ → ℕ) (links : A
   -- no place is deeper than it is far from the first
   pub shallow : (t : ℕ) → t < n → dep t ≤ t
   shallow t made = shallow_by (suc t) t (omega arith) made
-
-  -- far links lead to places that are no deeper
-  pub far_higher : (t : ℕ) → t < n → dep (far t) ≤ dep t
-  far_higher t made = let d : dep t ≡ dep (far t) + (dep t - dep (far t)) = (walk_depth (dep t - dep (far t)) t (far t) (links.far_up t made)).0 in omega arith

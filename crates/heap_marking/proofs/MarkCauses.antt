@@ -36,14 +36,6 @@ pub marked_by : (v : Memory) (l : Ledger) (t : ℕ) (o : Option MarkingValue) �
 marked_by v l t None M = ap is_some M
 marked_by v l t (Some m) M = ap is_some M.0.count
 
--- the causes in their order
-waiting_is : (a s k : Bool) (rest : Option Refused) → k ≡ (a && not s) → refused_unless a NotWaiting (refused_if s Swept rest) ≡ or_else (refused_unless a NotWaiting (refused_unless k Swept None)) rest
-waiting_is false s k rest e = refl
-waiting_is true true false rest e = refl
-waiting_is true true true rest e = absurd cc
-waiting_is true false false rest e = absurd cc
-waiting_is true false true rest e = refl
-
 marking_is : (a s k b c : Bool) (rest : Option Refused) → k ≡ (a && not s) → (k ≡ true → b ≡ c)
     → refused_unless a NotWaiting (refused_if s Swept (refused_unless b NotMarking rest)) ≡ or_else (or_else (refused_unless a NotWaiting (refused_unless k Swept None)) (refused_unless c NotMarking None)) rest
 marking_is false s k b c rest e f = refl

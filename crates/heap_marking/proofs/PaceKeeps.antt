@@ -45,11 +45,6 @@ module _ (l l' : Ledger) (M : Moves l l') where
   gone_moves : (s : Strand) → HasGoneOn l s → HasGoneOn l' s
   gone_moves s g = let y = M.grows s.task g.0 g.1 in let lt : s.joins < (g.0).joins = g.2 in let le : (g.0).joins ≤ (y.0).joins = y.2 in (y.0, y.1, omega arith)
 
-  -- the task that waited goes on to wait on the fork, or has gone on
-  fork_goes : (s : Strand) (x : Task) → x.joins ≡ s.joins → waits x.status ≡ true → WaitsOn l.machine.tasks l'.machine.tasks s.task x → (waits_on l' s ≡ true) ⊎ HasGoneOn l' s
-  fork_goes s x j w (inl f) = inl (waits_from l' s x f.0 w j)
-  fork_goes s x j w (inr g) = inr (g.0, g.1, let lt : x.joins < (g.0).joins = g.2 in omega arith)
-
   tells_waits : (f : Fork) (s : Strand) → TellsFork l f s → (b : Bool) → joined l.machine.tasks f.left ≡ b → joined l'.machine.tasks f.left ≡ false → waits_on l' s ≡ true
   tells_waits f s T true e n = absurd (both_ways (joined l'.machine.tasks f.left) n (M.tree.stays f.left e))
   tells_waits f s T false e n =

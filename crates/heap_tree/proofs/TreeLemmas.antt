@@ -224,12 +224,6 @@ module _ (v : List Node) (es : List Linked) (view_is : map node_of es ≡ v) (li
   pub path_there : (r d : ℕ) → r < length es → depth_at es r ≡ d → depth_of v r ≡ d
   path_there r d made there = ap (λ (w : List Node). depth_of w r) (sym view_is) ∙ (depth_seen es r linked made ∙ there)
 
-  pub path_made : (r : ℕ) → r < length es → r < length v
-  path_made r made =
-      let len : length (map node_of es) ≡ length es = length-map es node_of in
-      let same : length (map node_of es) ≡ length v = ap length view_is in
-      omega arith
-
   pub on_path_answer : (t a r d : ℕ) (x : Linked) → slice_get es a ≡ Some x → x.depth ≡ d → ancestor (parent_at es) (depth_at es t - d) t ≡ Some r → (r == a) ≡ is_on_path v a t
   on_path_answer t a r d x got is up =
       let same : d ≡ depth_at es a = sym (ap linked_depth got ∙ is) in

@@ -99,9 +99,6 @@ pub ends_are_steps : EndsAreSteps
 ends_are_steps p limit ts e h = ends_from p limit ts e h ts [] refl refl refl
 
 module _ (p : ProgramText) (limit : ℕ) (ts : List ℕ) (t : ℕ) (runs : is_running (slice_get (run p limit ts).tasks t) ≡ true) where
-  abbrev before_of : (e : End) → IsEnded p limit ts e → State
-  before_of e E = run p limit E.before
-
   root_ran : (e : End) (E : IsEnded p limit ts e) → EndsDone (run p limit E.before) e (run p limit ts) → ⊥
   root_ran e E D =
       let b : State = run p limit E.before in

@@ -142,9 +142,6 @@ module _ (es : Tasks) (ks : List Link) (L : AreLinksOf es ks) where
   pub no_ancestor : (a t : ℕ) → found es a ≡ None → false ≡ is_above es a t
   no_ancestor a t none = never_above a t (λ h. let i = first_link es ordered h.0 t a h.1 in let r = lead_up es ordered h.0 t a i.0 i.1 h.1 in not_there a r.0 none r.2)
 
-  pub no_descendant : (a t : ℕ) → found es t ≡ None → false ≡ is_above es a t
-  no_descendant a t none = never_above a t (λ h. let i = first_link es ordered h.0 t a h.1 in not_there t i.0 none i.1)
-
   module _ (a t j i : ℕ) (z : StandsAt es j a) (s : StandsAt es i t) where
     way_up : IsAncestor es a t → (n : ℕ) × IsUp ks (suc n) i j
     way_up h =
@@ -178,10 +175,6 @@ module _ (es : Tasks) (ks : List Link) (L : AreLinksOf es ks) where
         by false e = passed_by r up (λ f. let g : (r == j) ≡ true = (let h : (j == j) ≡ true = grind arith in ap (λ x. x == j) f ∙ h) in cc)
 
   -- A TASK MORE
-
-  has_some : (o : Option Task) → is_some o ≡ true → (x : Task) × (o ≡ Some x)
-  has_some None e = absurd cc
-  has_some (Some x) e = (x, refl)
 
   module _ (n : ℕ) (t : Task) (m : Option ℕ) (new : has es n ≡ false) (at : IsParentAt es t.parent m) where
     abbrev links : List Link

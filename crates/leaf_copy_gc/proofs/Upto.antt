@@ -23,12 +23,6 @@ module _ (f : Option Addr → Option Addr) (c : Cell) where
   pub size-upto : (k : ℕ) → k ≤ length c.refs → size_of (led_upto f k c) ≡ size_of c
   size-upto k l = let e = length-upto k l in omega arith
 
-  pub upto_none : led_upto f 0 c ≡ c
-  upto_none = refl
-
-  pub upto_all : (n : ℕ) → n ≡ length c.refs → led_upto f n c ≡ led_cell f c
-  upto_all n e = rw (e, take_all (length c.refs) c.refs (omega arith), drop_all (length c.refs) c.refs (omega arith), append-nil) refl
-
   module _ (k : ℕ) (l : k < length c.refs) where
     same_there : (d : Option Addr) → get_or (led_upto f k c).refs k d ≡ get_or c.refs k d
     same_there d =

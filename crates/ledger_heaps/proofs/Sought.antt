@@ -193,9 +193,6 @@ met_is_reached store names roots u all =
     by_test true false e = refl
     by_test false b e = absurd (false≢true e)
 
-none_reached : (store : List (List Object)) (roots : List Name) → [] ≡ reached store [] roots
-none_reached store roots = refl
-
 -- where no name is held, none is reached
 pub nothing_reached : (store : List (List Object)) (names roots : List Name) → ((n : Name) → holds_name names n ≡ false) → [] ≡ reached store names roots
 nothing_reached store [] roots h = refl

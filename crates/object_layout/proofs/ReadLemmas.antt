@@ -42,9 +42,6 @@ IsPlace-from_ref None h = tt
 IsPlace-from_ref (Some a) h = h.0
 
 module _ (c : Cell) (ok : IsCell c) (w : ℕ) where
-  pub nrefs_read : w ≡ slice_index (words_of_cell c) 0 → nrefs_of w ≡ length c.refs
-  nrefs_read e = rw (e, header_is c) (nrefs_of-header_word (length c.refs) (length c.ints) ok.nrefs ok.nints c.mutable (is_gone c.mark))
-
   pub header_read : w ≡ slice_index (words_of_cell c) 0 → (h : Header) → h ≡ record { nrefs = nrefs_of w; nints = nints_of w; mutable = mutable_of w } → h ≡ header_of c
   header_read e h f =
       let nr = nrefs_of-header_word (length c.refs) (length c.ints) ok.nrefs ok.nints c.mutable (is_gone c.mark) in

@@ -103,10 +103,6 @@ module _ (w : SharedValue) (k : ℕ) (p : Private) (I : IsSharedValue w) (F : Fi
       by None e = tt
       by (Some a) e = let n = reads_address place (ref_of p.frames.top b) (ref_in X.top b) a (register_at w k p I F on b) e in placed n.0 a n.2
 
-  rest_got : (o : Option (Option Rest)) (r : Rest) → option_flatten o ≡ Some r → o ≡ Some (Some r)
-  rest_got None r e = absurd cc
-  rest_got (Some q) r e = ap Some e
-
   -- ---- REFERENCES
   module _ (swap : Option ℕ) (a : Addr) (i : ℕ) (r : Option Addr) where
     pub record IsStoreOf : Type 0 where

@@ -44,9 +44,6 @@ module _ (o : Outline) (s : Spot) (h : Head) (ws : List (List ℕ)) (x : Sense) 
   pub gives_word : is_misplaced s.inside h ≡ true → ◌≡◌ {A = Option Cause} (Some Word) (fault_by o s h ws x)
   gives_word = by_word (is_misplaced s.inside h) (has_wrong_operand x) (leaves_open s h) (is_second s h ws) (names_no_function x) (names_no_label x) (lacks_main o s) (is_too_many s h)
 
-  pub gives_operand : is_misplaced s.inside h ≡ false → has_wrong_operand x ≡ true → ◌≡◌ {A = Option Cause} (Some Operand) (fault_by o s h ws x)
-  gives_operand = by_operand (is_misplaced s.inside h) (has_wrong_operand x) (leaves_open s h) (is_second s h ws) (names_no_function x) (names_no_label x) (lacks_main o s) (is_too_many s h)
-
   pub gives_no_end : is_misplaced s.inside h ≡ false → has_wrong_operand x ≡ false → leaves_open s h ≡ true → ◌≡◌ {A = Option Cause} (Some NoEnd) (fault_by o s h ws x)
   gives_no_end = by_no_end (is_misplaced s.inside h) (has_wrong_operand x) (leaves_open s h) (is_second s h ws) (names_no_function x) (names_no_label x) (lacks_main o s) (is_too_many s h)
 

@@ -101,9 +101,6 @@ map_on_line : (number : ℕ) (code : List Instr) → map (λ (l : Line). l.instr
 map_on_line number [] = refl
 map_on_line number (i ∷ is) = ap (λ c. i ∷ c) (map_on_line number is)
 
-triple : (k : ℕ) → 3 * suc k ≡ suc (suc (suc (3 * k)))
-triple k = omega arith
-
 module _ (o : Outline) where
   -- the three functions of the loop at a place
   loop_at : (j : ℕ) (es : List NotedName) (k : ℕ) (e : NotedName) → slice_get es k ≡ Some e → (s : ℕ) (fun : Fun) → slice_get (loop_functions o (loop_function o (j + k)) e) s ≡ Some fun → s < 3 → slice_get (loops_from o j es) (3 * k + s) ≡ Some fun

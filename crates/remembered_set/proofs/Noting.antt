@@ -23,12 +23,6 @@ same_is a b e =
 pub same_self : (a : Source) → same_source a a ≡ true
 same_self a = rw (eq-eqb a.object.chunk a.object.chunk refl, eq-eqb a.object.offset a.object.offset refl, eq-eqb a.field a.field refl) refl
 
--- a source that isn't known is behind others that it differs from
-or_both : (a b c : Bool) → (a || b) ≡ false → c ≡ false → (a || (b || c)) ≡ false
-or_both true b c e f = e
-or_both false true c e f = e
-or_both false false c e f = f
-
 has_more : (xs : List Source) (s t : Source) → has_source (xs ++ s ∷ []) t ≡ (has_source xs t || same_source t s)
 has_more [] s t = or-false (same_source t s)
 has_more (x ∷ xs) s t = ap (λ b. same_source t x || b) (has_more xs s t) ∙ sym (or_assoc (same_source t x) (has_source xs t) (same_source t s))

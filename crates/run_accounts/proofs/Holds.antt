@@ -83,10 +83,6 @@ module _ (s : AccountsValue) (A : Agrees s) (w : ℕ) where
 
 -- NO STEP MAKES A WORKER HOLD A TASK
 
-at_worker : (o : Option Heap) → worker_at o ≡ (or_fresh o).worker
-at_worker None = refl
-at_worker (Some h) = refl
-
 -- who holds a task in one ledger held it in the other
 abbrev Held : Ledger → Ledger → Type 0
 Held l k = (u w : ℕ) → worker_of k u ≡ Some w → worker_of l u ≡ Some w

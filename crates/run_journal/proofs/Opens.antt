@@ -19,9 +19,6 @@ use Rattle.run_accounts.proofs.Holds.{kind_tells}
 use Rattle.run_journal.proofs.Steadies.{legal_steady, legal_stays}
 
 module _ (p : ProgramText) (s : SettingsValue) where
-  pub opening_legal : IsLegalLedger p s (opening p s)
-  opening_legal = ([], refl, refl)
-
   pub ledger_steady : AreSettings s → (l : Ledger) → IsLegalLedger p s l → Steady l
   ledger_steady A l L = subst Steady (sym L.2) (legal_steady p s A L.0 L.1)
 

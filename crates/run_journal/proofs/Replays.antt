@@ -13,9 +13,6 @@ module _ (p : ProgramText) (s : SettingsValue) (l : Ledger) (n : ℕ) (journal :
   pub cut : drop i journal ≡ e ∷ drop (i + 1) journal
   cut = drop-cons journal i e lt ∙ ap₂ (λ x k. x ∷ drop k journal) (sym is) (let q : suc i ≡ i + 1 = omega arith in q)
 
-  pub refused_here : (c : Refused) → refusal p s l e ≡ Some c → first_refused_from p s l n (drop i journal) ≡ Some (record { index = n; cause = c })
-  refused_here c h = ap (first_refused_from p s l n) cut ∙ ap (λ o. refused_or o n (first_refused_from p s (after p s l e) (n + 1) (drop (i + 1) journal))) h
-
   pub refused_next : refusal p s l e ≡ None → first_refused_from p s l n (drop i journal) ≡ first_refused_from p s (after p s l e) (n + 1) (drop (i + 1) journal)
   refused_next h = ap (first_refused_from p s l n) cut ∙ ap (λ o. refused_or o n (first_refused_from p s (after p s l e) (n + 1) (drop (i + 1) journal))) h
 

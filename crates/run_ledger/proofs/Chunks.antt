@@ -43,9 +43,6 @@ module _ (m : State) where
   push_words : (ns : List Name) (n : Name) → words_sum m (ns ++ n ∷ []) ≡ words_sum m ns + words_at m n
   push_words ns n = sum_by-append (words_at m) ns (n ∷ []) ∙ omega arith
 
-  one_word : (n : Name) → words_sum m (n ∷ []) ≡ words_at m n
-  one_word n = omega arith
-
   -- a name put last
   pub put_last_words : (lists : List (List Name)) (n : Name) → last_words m (put_last lists n) ≡ last_words m lists + words_at m n
   put_last_words [] n = omega arith

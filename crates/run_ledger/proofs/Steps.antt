@@ -601,9 +601,6 @@ module _ (p : ProgramText) (l : Ledger) (S : SoundLedger l) (t : ℕ) (x : Task)
     owners4 : Owners after j4
     owners4 u n i = let d = down4 u n i in (subst (λ k. n.task < k) (sym long_after) (owners1 d.0 n d.1).0, owner_by_came u n d)
 
-    no_collection : (u : ℕ) (z : Task) → slice_get tasks u ≡ Some z → runs z.status ≡ false → (u ≡ t → ⊥) → collecting (slice_get b.heaps u) ≡ true → ⊥
-    no_collection u z e no_run ne q = both_ways (runs z.status) no_run (ap is_running (sym e) ∙ S.running u (idle1 u q).1)
-
     stops_p : runs xp.status ≡ false
     stops_p = false_if (runs xp.status) refl
       where

@@ -197,9 +197,6 @@ module _ (m m1 : State) (K : IsForkJoinState m) (u : ℕ) (y : Task) (running : 
   abbrev last : ℕ → Move
   last q = last_move u y q (result_of y.top) (result_at (slice_get m.tasks (sibling u))) (slice_get m.tasks q) (slice_get m.tasks (sibling u))
 
-  pub moved_plain : P → Moved m w u
-  moved_plain h = record { move = h.move; here = h.here; kinds = plain_kinds m u h.move h.plain; quiet = λ v ne none. plain_quiet m.tasks u h.move h.plain v none }
-
   pub moved_last : E → Moved m w u
   moved_last h = record {
     move = last h.parent;

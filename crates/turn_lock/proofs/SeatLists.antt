@@ -22,21 +22,10 @@ module _ {T E P S : Type 0} where
   abbrev pub AreNext : TableId → View T E P S → List (Seat (Option T) (View T E P S)) → Type 0
   AreNext z v seats = (k : ℕ) (s : Seat (Option T) (View T E P S)) → slice_get seats k ≡ Some s → HasNoTurn z s × (view s ≡ newcomer v (suc k) 0)
 
-  pub none_recruited : (z : TableId) (v : View T E P S) → AreNext z v []
-  none_recruited z v k s e = none_some e
-
   pub one_more : (z : TableId) (v : View T E P S) (seats : List (Seat (Option T) (View T E P S))) (t : Seat (Option T) (View T E P S)) → AreNext z v seats → HasNoTurn z t → view t ≡ newcomer v (suc (length seats)) 0
       → AreNext z v (seats ++ t ∷ [])
   one_more z v seats t r idle is k s e = ⊎_elim (λ (h : slice_get seats k ≡ Some s). r k s h)
       (λ (h : (k ≡ length seats) × (t ≡ s)). (subst (HasNoTurn z) h.1 idle, ap view (sym h.1) ∙ (is ∙ ap (λ (n : ℕ). newcomer v (suc n) 0) (sym h.0)))) (got_more seats t s k e)
-
-  pub are_new : (z : TableId) (v : View T E P S) (n : ℕ) (t : Seat (Option T) (View T E P S)) (seats : List (Seat (Option T) (View T E P S))) → HasNoTurn z t → view t ≡ newcomer v 0 n → length seats + 1 ≡ n → AreNext z v seats
-      → AreNewSeats z v n (t ∷ seats)
-  are_new z v n t seats idle is long r = ((omega arith), each)
-    where
-      each : (k : ℕ) (s : Seat (Option T) (View T E P S)) → slice_get (t ∷ seats) k ≡ Some s → HasNoTurn z s × (view s ≡ newcomer v k n)
-      each zero s e = let one = same_Some t s e in (subst (HasNoTurn z) one idle, ap view (sym one) ∙ is)
-      each (suc k) s e = r k s e
 
   abbrev pub joined_all : View T E P S → List (Seat (Option T) (View T E P S)) → View T E P S
   joined_all v [] = v

@@ -56,9 +56,6 @@ module _ (p : ProgramText) (s : SettingsValue) (v : Memory) (l : Ledger) (t w : 
     | inr ne ↦ off_belongings v t (v.belongings t) u ne
   ]
 
-  pub took_stands : Stands v l'
-  took_stands = released v v l l' t w V idle (took_takes l t w h is) (record { belongings = λ u ne. refl; owner = λ k. refl; sources = λ u. refl })
-
   pub took_fits : FitsAt p s q v l'
   took_fits = record {
     worker = w;
