@@ -13,8 +13,8 @@ use Rattle.object_layout.specs.ChunkValue.{ChunkValue}
 use Rattle.object_layout.specs.Place.{cell_at, object_at, put_cell, words_in, IsObjectAt}
 use Rattle.object_layout.specs.Chunks.{cell_of, chunk_at, object_words_in, held_size, held_words, no_chunk, object_count, one_each, place_in, place_of, put_object, small_part, small_words, sum_in, sum_of, with_cell}
 use Rattle.alloc_path.specs.LeafHeapValue.{AreWithin, counted, LeafHeapValue, IsCurrent, IsFresh, AgreesWithChunks, IsReserved, large_place, AreApart, place_for, room_at, small_place, units}
-use Rattle.kept_pieces.specs.PiecesValue.{NotesChanges, PiecesValue, Shows, written}
-use Rattle.kept_pieces.proofs.PieceLists as lists
+use Rattle.chunk_pieces.specs.PiecesValue.{NotesChanges, PiecesValue, Shows, written}
+use Rattle.chunk_pieces.proofs.PieceLists as lists
 use Rattle.object_layout.proofs.ChunkLaws as chunks
 pub use Rattle.object_layout.proofs.ChunkLaws.{none_there, place_found, place_there}
 use Rattle.object_layout.proofs.PlaceLemmas as place

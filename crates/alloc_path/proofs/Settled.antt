@@ -10,7 +10,7 @@ use Rattle.object_layout.specs.Place.{cell_at, put_cell, words_in}
 use Rattle.object_layout.specs.Chunks.{cell_of, chunk_at, no_chunk, put_object, with_cell}
 use Rattle.object_layout.proofs.ChunkLaws.{length-put, place_of-put}
 use Rattle.object_layout.proofs.PlaceLemmas.{All-put_cell}
-use Rattle.kept_pieces.specs.PiecesValue.{PiecesValue}
+use Rattle.chunk_pieces.specs.PiecesValue.{PiecesValue}
 use Rattle.alloc_path.specs.LeafHeapValue.{added, AreApart, AreTidy, LeafHeapValue, IsFresh, AgreesWithChunks, IsSettled, IsTidy, place_for, units}
 use Rattle.alloc_path.proofs.HeapLemmas as heap
 use Rattle.alloc_path.proofs.PlacedLaws as placed

@@ -7,7 +7,7 @@ use Rattle.object_layout.specs.ChunkValue.{ChunkValue}
 use Rattle.object_layout.specs.Place.{words_in}
 use Rattle.object_layout.specs.Chunks.{cell_of, chunk_at, held_words, object_count, place_in, push_object, small_words}
 pub use Rattle.object_layout.specs.Chunks.{AreApart, IsFresh}
-use Rattle.kept_pieces.specs.PiecesValue.{PiecesValue, Shows}
+use Rattle.chunk_pieces.specs.PiecesValue.{PiecesValue, Shows}
 use Rattle.still_counts.specs.Counts.{last_count}
 
 -- its chunks in the order in which they came; at which place the small chunk stands that is being

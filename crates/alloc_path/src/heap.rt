@@ -180,11 +180,10 @@ impl LeafHeap {
 
     /// Makes sure that so many objects can be placed by `place_spare` without memory. An object
     /// takes words of a chunk that is there already, so nothing is left to be made.
-    pub fn make_spare(&mut self, objects: u32) -> Result<(), AllocError>
+    pub fn make_spare(&mut self, _objects: u32) -> Result<(), AllocError>
         ensures kept { self.new ≡ self.old }
         ensures ok { IsOk result }
     {
-        let _ = objects;
         Ok(())
     }
 

@@ -6,8 +6,8 @@ ghost use Rattle.object_layout.specs.Chunks.{chunk_at, held_words, next_address,
 ghost use Rattle.alloc_path.specs.LeafHeapValue.{added, counted, placed, placed_at, place_for, room_of, with_places, IsCurrent, IsFresh, IsReserved, IsSettled};
 
 use super::counts::small_part;
+use chunk_pieces::Pieces;
 use chunk_rows::{Row, missing_pieces};
-use kept_pieces::Pieces;
 use object_layout::{Addr, Birth, CHUNK_WORDS, Chunk, Header, units, write_new};
 use std::alloc::{AllocError, AllocFailed, Global};
 use std::collections::HashMap;

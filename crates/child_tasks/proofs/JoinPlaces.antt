@@ -59,7 +59,7 @@ module _ (w : SharedValue) (rests : List (Option Rest)) (sets : List SetOf) (man
 
     places_world_by : IsSharedValue w'
     places_world_by = record {
-      limits = I.limits;
+      settings = I.settings;
       form = I.form;
       legal = I.legal;
       made = many ∙ I.made;

@@ -6,7 +6,7 @@ use Rattle.listed.proofs.Places.{got_set}
 use Rattle.alloc_path.specs.LeafHeapValue.{LeafHeapValue}
 use Rattle.task_frames.specs.FramesValue.{FramesValue}
 use Rattle.write_barrier.specs.declared.sets.SetOf.{SetOf}
-use Rattle.write_barrier.specs.Held.{bare}
+use Rattle.write_barrier.specs.Forms.{bare}
 use Rattle.write_barrier.specs.Stored.{Content, content_at, content_of}
 use Rattle.inner_mark_gc.specs.MarkingValue.{MarkingValue}
 use Rattle.task_machine.specs.declared.part.Private.{Private}

@@ -77,7 +77,7 @@ pub few_tasks : (w : SharedValue) → IsSharedValue w → length w.tree < 2 ^ 31
 few_tasks w I =
     let c = (journals_are_counted w.program w.settings w.journal.items).counts.made in
     let s = steps_are_bounded w.program w.settings w.journal.items I.legal in
-    let d = I.limits.fuel.1 in
+    let d = I.settings.fuel.1 in
     let n = tree_long w I in
     omega (arith, c, s, d, n)
 

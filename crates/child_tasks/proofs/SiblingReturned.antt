@@ -228,7 +228,7 @@ module _ (w : SharedValue) (k : ℕ) (p : Private) (I : IsSharedValue w) (F : Fi
       let few : CountsFew w.settings M = (since_is_few w.program w.settings w.journal.items I.form I.legal).1 t p.fresh (E.knows.sound, E.collects) in
       let a = ran_tells w.program w.settings l k t (suc p.fresh) (ap is_none free_last) in
       let more : M.steps ≡ l.steps + p.fresh = task_steps_steps w.program p.fresh l t in
-      let fuel = I.limits.fuel.1 in
+      let fuel = I.settings.fuel.1 in
       let fresh : p.fresh ≤ private_limit = at_end.few in
       let b : M.steps ≤ 1000000256 = omega (arith, more, a.2, fuel, fresh) in
       let c : (heap_of M u).since ≤ 1000034 * M.steps = few.below u in

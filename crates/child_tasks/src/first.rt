@@ -1,7 +1,7 @@
 // What belongs to the root before the first entry.
 
 ghost use Rattle.std.specs.Prelude.{◌≡◌, ◌∷◌, [], IfOk, None, Some, false, replicate};
-ghost use Rattle.write_barrier.specs.Held.{bare};
+ghost use Rattle.write_barrier.specs.Forms.{bare};
 ghost use Rattle.shared_value.specs.SharedValue.{first_rest};
 ghost use Rattle.task_homes.specs.declared.task_at_rest.Rest.{Rest as RestOf};
 

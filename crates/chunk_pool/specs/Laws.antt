@@ -14,7 +14,7 @@ abbrev pub OwnersStay : PoolValue → PoolValue → ℕ → Type 0
 OwnersStay old new number = (k : ℕ) → k ≢ number → owner_of new k ≡ owner_of old k
 
 pub record OwnersAreTold : Type 0 where
-  pub taken : (old new : PoolValue) (number : ℕ) (held : Slot) → Takes old new number held → OwnersFrom old new number held.owner × OwnersStay old new number
+  pub taken : (old new : PoolValue) (number : ℕ) (slot : Slot) → Takes old new number slot → OwnersFrom old new number slot.owner × OwnersStay old new number
   pub relabelled : (old new : PoolValue) (number owner : ℕ) → IsSome (slot_at old number) → Relabels old new number owner → OwnersFrom old new number owner × OwnersStay old new number
   pub given : (old new : PoolValue) (number : ℕ) → Gives old new number → ((k u : ℕ) → owner_of new k ≡ Some u → owner_of old k ≡ Some u) × OwnersStay old new number
 

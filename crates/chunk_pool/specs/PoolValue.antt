@@ -41,10 +41,10 @@ pub record KeepsOthers (old new : PoolValue) (number : ℕ) : Type 0 where
   pub others : (other : ℕ) → other ≢ number → slot_at new other ≡ slot_at old other
 
 -- a number that was not in use is in use for this owner and these units; all else stays
-pub record Takes (old new : PoolValue) (number : ℕ) (held : Slot) : Type 0 where
+pub record Takes (old new : PoolValue) (number : ℕ) (slot : Slot) : Type 0 where
   pub was_free : slot_at old number ≡ None
-  pub taken : slot_at new number ≡ Some held
-  pub units : units_in_use new ≡ units_in_use old + held.units
+  pub taken : slot_at new number ≡ Some slot
+  pub units : units_in_use new ≡ units_in_use old + slot.units
   pub rest : KeepsOthers old new number
 
 -- a chunk of one unit for an owner

@@ -7,9 +7,9 @@ use Rattle.std.proofs.lemmas.List.{take_more}
 use Rattle.object_layout.specs.ChunkValue.{ChunkValue}
 use Rattle.object_layout.specs.Chunks.{place_in, place_of}
 use Rattle.object_layout.specs.Piece.{PieceValue, frozen_of}
-use Rattle.kept_pieces.specs.PiecesValue.{is_among, needed, PiecesValue, Shows}
-use Rattle.kept_pieces.proofs.PieceLists as lists
-use Rattle.kept_pieces.proofs.Levels.{or_none}
+use Rattle.chunk_pieces.specs.PiecesValue.{is_among, needed, PiecesValue, Shows}
+use Rattle.chunk_pieces.proofs.PieceLists as lists
+use Rattle.chunk_pieces.proofs.Levels.{or_none}
 use Rattle.chunk_rows.specs.View.{Level, level_of, nearest, piece_in}
 use Rattle.object_layout.proofs.ChunkLaws as chunks
 

@@ -4,7 +4,7 @@ use Rattle.object_layout.specs.declared.word.Addr.{Addr}
 use Rattle.object_layout.specs.Cell.{Cell}
 use Rattle.object_layout.specs.ChunkValue.{ChunkValue}
 use Rattle.object_layout.specs.Piece.{PieceValue, frozen_at}
-pub use Rattle.kept_pieces.specs.Level.{Level, level_of, nearest, piece_in}
+pub use Rattle.chunk_pieces.specs.Level.{Level, level_of, nearest, piece_in}
 
 -- what begins at an offset of a chunk, of which this was seen
 abbrev pub seen_in : Option PieceValue → ℕ → Option Cell

@@ -5,11 +5,11 @@ ghost use Rattle.std.specs.Arc.{arc_value};
 ghost use Rattle.std.specs.HashMap.{get};
 ghost use Rattle.std.specs.Option.{option_copied, option_or};
 ghost use Rattle.object_layout.specs.Chunks.{place_in};
-ghost use Rattle.kept_pieces.specs.PiecesValue.{is_among, needed, Shows};
+ghost use Rattle.chunk_pieces.specs.PiecesValue.{is_among, needed, Shows};
 ghost use Rattle.chunk_rows.specs.View.{level_of, nearest, piece_in};
 
 use super::row::Row;
-use kept_pieces::{Layer, Pieces, piece_of};
+use chunk_pieces::{Layer, Pieces, piece_of};
 use object_layout::{Chunk, Piece};
 use std::alloc::{AllocError, Global};
 use std::collections::HashMap;

@@ -15,7 +15,7 @@ use Rattle.leaf_copy_gc.specs.Laid.{Laying, before, laid_all, laid_one, open_nex
 use Rattle.leaf_copy_gc.specs.Redirected.{led_chunk}
 use Rattle.leaf_copy_gc.specs.Exchanged.{emptied, reserved_of, unreserved}
 use Rattle.leaf_copy_gc.specs.Collected.{back_of, collected, keeps, large_of, laid_of, laying_of, leaves, redirection}
-use Rattle.collected_heap_laws.specs.Laws.{labels, ChunksAreKept}
+use Rattle.collected_heap_laws.specs.Laws.{labels, NoChunkIsLost}
 
 abbrev Label : Type 0
 Label = ℕ × ℕ
@@ -139,5 +139,5 @@ module _ (h : LeafHeapValue) (ss : List Survivor) (news : List ChunkValue) (w : 
       subst (λ (xs : List Label). Perm xs (labels ((collected h ss (reverse news)).chunks ++ back_of h ss (reverse news)))) (sym (labels_append h.chunks news))
       (subst (Perm (labels h.chunks ++ labels news)) (sym after) all)
 
-pub chunks_are_kept : ChunksAreKept
-chunks_are_kept h ss news w = kept h ss news w
+pub no_chunk_is_lost : NoChunkIsLost
+no_chunk_is_lost h ss news w = kept h ss news w

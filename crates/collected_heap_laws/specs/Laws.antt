@@ -48,7 +48,7 @@ abbrev pub labels : List ChunkValue → List (ℕ × ℕ)
 labels ks = map (λ k. (k.number, k.size)) ks
 
 -- the chunks after a collection and those to give back are together those before it and the new ones
-abbrev pub ChunksAreKept : Type 0
-ChunksAreKept =
+abbrev pub NoChunkIsLost : Type 0
+NoChunkIsLost =
     (h : LeafHeapValue) (ss : List Survivor) (news : List ChunkValue) → IsReserved h.chunks h.reserved
     → IsPermutation (labels (h.chunks ++ news)) (labels ((collected h ss (reverse news)).chunks ++ back_of h ss (reverse news)))

@@ -1,6 +1,6 @@
 // Laws of collected heaps, each the clause of a function that does nothing.
 
-ghost use Rattle.collected_heap_laws.specs.Laws.{ChunksAreKept, LargeAreRead, MovedAreRead, MovesAreTold};
+ghost use Rattle.collected_heap_laws.specs.Laws.{NoChunkIsLost, LargeAreRead, MovedAreRead, MovesAreTold};
 
 /// What is read at a new address is the object that was moved there.
 pub fn moved_are_read()
@@ -18,6 +18,6 @@ pub fn moves_are_told()
 {}
 
 /// No chunk is lost, and none comes from nowhere.
-pub fn chunks_are_kept()
-    ensures { ChunksAreKept }
+pub fn no_chunk_is_lost()
+    ensures { NoChunkIsLost }
 {}

@@ -3,4 +3,4 @@
 
 mod laws;
 
-pub use laws::{chunks_are_kept, large_are_read, moved_are_read, moves_are_told};
+pub use laws::{large_are_read, moved_are_read, moves_are_told, no_chunk_is_lost};

@@ -12,7 +12,7 @@ use Rattle.command_answers.specs.declared.wanted.Wanted.{Wanted}
 use Rattle.command_answers.specs.declared.wanted.Wanted.TheVariants.{Before, Amid}
 use Rattle.command_answers.specs.Laws.{GivesAll, NoFault}
 use Rattle.command_answers.proofs.Answered.{never_read_fault}
-use Rattle.command_answers.specs.Delivery.{DeliversNothing, DeliversBy, Delivers, Delivered, Gives, GivesFound, HandsNothing, HandsWanted, IsAnswered, IsWanted}
+use Rattle.command_answers.specs.Delivery.{DeliversNothing, DeliversBy, Delivers, Delivered, Gives, GivesFound, ReturnsNothing, ReturnsWanted, IsAnswered, IsWanted}
 
 -- what a run leaves
 abbrev pub Leaves : Type 1
@@ -87,16 +87,16 @@ silent P L r w Races ok h = absurd ok
 silent P L r w Image ok h = absurd ok
 silent P L r w WriteFault ok h = absurd ok
 
-pub nothing_given : (P : Answer → Type 0) (L : Leaves) (r : Ran) (w : Option (List ℕ)) (s : Status) → IsSilent s → HandsNothing s r → Delivers P L r w w
+pub nothing_given : (P : Answer → Type 0) (L : Leaves) (r : Ran) (w : Option (List ℕ)) (s : Status) → IsSilent s → ReturnsNothing s r → Delivers P L r w w
 nothing_given P L r w s ok h = subst (λ x. DeliversBy x P L r w w) (sym h.status) (silent P L r w s ok (h.journal, h.shared, refl))
 
 -- what is left of a run amid which memory was wanting is handed back
-handed : (L : Leaves) (found : Wanted) (r : Ran) (w : Option (List ℕ)) → IsWanted L found → HandsWanted found r → DeliversNothing r w w ⊎ (L r.journal r.shared × (w ≡ w))
+handed : (L : Leaves) (found : Wanted) (r : Ran) (w : Option (List ℕ)) → IsWanted L found → ReturnsWanted found r → DeliversNothing r w w ⊎ (L r.journal r.shared × (w ≡ w))
 handed L Before r w h hands = inl (hands.0, hands.1, refl)
-handed L (Amid journal left) r w h hands = inr (subst (L r.journal) (sym hands.1) (subst (λ j. L j (Some left)) (sym hands.0) h), refl)
+handed L (Amid journal remains) r w h hands = inr (subst (L r.journal) (sym hands.1) (subst (λ j. L j (Some remains)) (sym hands.0) h), refl)
 
 pub want_given : (P : Answer → Type 0) (L : Leaves) (found : Wanted) (r : Ran) (w : Option (List ℕ)) → IsWanted L found → Gives found r → Delivers P L r w w
-want_given P L found r w h g = subst (λ x. DeliversBy x P L r w w) (sym g.status) (handed L found r w h g.hands)
+want_given P L found r w h g = subst (λ x. DeliversBy x P L r w w) (sym g.status) (handed L found r w h g.returned)
 
 -- whichever of the two was found
 pub found_given : (P : Answer → Type 0) (L : Leaves) (found : Result Answer Wanted) (r : Ran) (before after : Option (List ℕ)) → IfOk found P → IfErr found (IsWanted L) → IfOk found (λ a. IsAnswered a.status)
@@ -109,6 +109,6 @@ found_no_read (Ok a) r before after ok d e = never_read_fault a r before after o
 found_no_read (Err x) r before after ok d e = (let s = d.0.status in cc)
 
 -- then the empty input serves as well as any
-pub some_silent : (P : List ℕ → Answer → Type 0) (L : List ℕ → Leaves) (limit : ℕ) (r : Ran) (w : Option (List ℕ)) (s : Status) → IsSilent s → HandsNothing s r
+pub some_silent : (P : List ℕ → Answer → Type 0) (L : List ℕ → Leaves) (limit : ℕ) (r : Ran) (w : Option (List ℕ)) (s : Status) → IsSilent s → ReturnsNothing s r
     → (input : List ℕ) × (length input ≤ limit + 1) × Delivers (P input) (L input) r w w
 some_silent P L limit r w s ok h = ([], omega arith, nothing_given (P []) (L []) r w s ok h)

@@ -24,7 +24,7 @@ use Rattle.shared_value.specs.Stands.{IsSharedValue}
 use Rattle.shared_value.specs.SharedValue.{SharedValue, accounts, value_of, without_journal}
 use Rattle.heap_reading.proofs.KeptNames.{handed_held}
 use Rattle.heap_reading.proofs.TreeNow.{same_machine}
-use Rattle.command_answers.specs.Runs.{HandsBack}
+use Rattle.command_answers.specs.Runs.{ReturnsRun}
 use Rattle.command_answers.specs.Headline.{FreesNoReachable, HeapIsHeld, HeapsAreHeld, RunsHoldTheHeadline, StopsUnordered}
 use Rattle.command_answers.proofs.Taken.{step_taken}
 
@@ -57,15 +57,15 @@ frees p s journal first legal f =
     let now = ((journals_can_be_cut p s first f.0).legal.0 (subst (λ j. is_legal p s j ≡ true) f.1 legal)).0 in
     record { reachable = nothing_reachable_is_freed p s first now; undropped = held_is_undropped p s first now }
 
-held : (p : ProgramText) (s : SettingsValue) (journal : List EntryValue) (shared : Option SharedValue) → HandsBack p s journal shared → HeapsAreHeld shared (ledger_of p s journal)
+held : (p : ProgramText) (s : SettingsValue) (journal : List EntryValue) (shared : Option SharedValue) → ReturnsRun p s journal shared → HeapsAreHeld shared (ledger_of p s journal)
 held p s journal shared B =
     let items = B.whole.journal.items in
     let same : accounts B.whole ≡ ledger_of p s journal =
     ap (λ q. ledger_of q B.whole.settings items) B.program ∙ (ap (λ z. ledger_of p z items) B.settings ∙ ap (ledger_of p s) (sym B.moved)) in
-    subst (λ z. HeapsAreHeld z (ledger_of p s journal)) (sym B.left) (subst (HeapsAreHeld (Some (without_journal B.whole))) same (heaps_are_held B.whole B.stands))
+    subst (λ z. HeapsAreHeld z (ledger_of p s journal)) (sym B.remains) (subst (HeapsAreHeld (Some (without_journal B.whole))) same (heaps_are_held B.whole B.stands))
 
 -- THE STEPS
-stops : (p : ProgramText) (s : SettingsValue) (journal : List EntryValue) (shared : Option SharedValue) → HandsBack p s journal shared → (before later : List ℕ) (t : ℕ) → tasks_of journal ≡ before ++ t ∷ later → StopsUnordered p (run p (field_limit s.version) before) t
+stops : (p : ProgramText) (s : SettingsValue) (journal : List EntryValue) (shared : Option SharedValue) → ReturnsRun p s journal shared → (before later : List ℕ) (t : ℕ) → tasks_of journal ≡ before ++ t ∷ later → StopsUnordered p (run p (field_limit s.version) before) t
 stops p s journal shared B before later t e =
     let taken = step_taken p s journal before later t (subst IsProgram B.program B.stands.form) B.legal e in
     record { taken = taken; reads = λ x d n o next. reads_are_decided p (field_limit s.version) before t x d n o (can_going (run p (field_limit s.version) before) t taken) next }

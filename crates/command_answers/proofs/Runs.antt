@@ -26,7 +26,7 @@ use Rattle.command_answers.specs.declared.wanted.Wanted.TheVariants.{Amid}
 use Rattle.command_answers.specs.Status.{status_of_end}
 use Rattle.command_answers.specs.Answers.{AnswersReplayed, AnswersTrace, IsReplay, Refuses, StandsReplayed, WhereWhole, extras_of, short_of}
 use Rattle.command_answers.specs.Delivery.{IsWanted, remains_by}
-use Rattle.command_answers.specs.Runs.{HandsBack, IsReplayedRun, LeavesPrefix}
+use Rattle.command_answers.specs.Runs.{ReturnsRun, IsReplayedRun, LeavesPrefix}
 use Rattle.command_answers.proofs.Traces.{trace_told}
 
 -- a legal journal with an end is one of a whole run
@@ -46,15 +46,15 @@ refused_first p s journal r is = ap (λ (o : Option RefusedAt). or_short o (end_
 
 -- what is handed back of a shared value
 pub handed : (p : ProgramText) (s : SettingsValue) (w : SharedValue) (journal : List EntryValue) (shared : Option SharedValue) → IsSharedValue w → w.program ≡ p → w.settings ≡ s
-    → journal ≡ w.journal.items → shared ≡ Some (without_journal w) → HandsBack p s journal shared
-handed p s w journal shared stands program settings moved left = record {
+    → journal ≡ w.journal.items → shared ≡ Some (without_journal w) → ReturnsRun p s journal shared
+handed p s w journal shared stands program settings moved remains = record {
   whole = w;
   stands = stands;
   program = program;
   settings = settings;
   legal = subst (λ j. is_legal p s j ≡ true) (sym moved) (subst (λ l. is_legal p l w.journal.items ≡ true) settings (subst (λ q. is_legal q w.settings w.journal.items ≡ true) program stands.legal));
   moved = moved;
-  left = left;
+  remains = remains;
 }
 
 -- the answer of a run that has ended so

@@ -73,12 +73,12 @@ one_program r p q e f = let g : Ok p ≡ Ok q = sym e ∙ f in cc
 pub made_left : (seed size : ℕ) (run : Bool) (s : SettingsValue) (bytes : List ℕ) (w : Wanted) → 1 ≤ size → size ≤ 1000 → run ≡ true → s ≡ usual_settings → bytes ≡ made_text seed size
     → IsWanted (LeavesRun (record { settings = s; report = true; trace = false }) bytes) w → IsWanted (LeavesMake seed size run) w
 made_left seed size run s bytes Before some most runs usual is h = tt
-made_left seed size run s bytes (Amid journal left) some most runs usual is h =
+made_left seed size run s bytes (Amid journal remains) some most runs usual is h =
     let program = h.0 in
     let same : program ≡ program_of (made_text seed size) = one_program (program_in bytes) program (program_of (made_text seed size)) h.1 (ap program_in is ∙ made_are_read seed size some most) in
-    subst (λ b. LeavesMake seed size b journal (Some left)) (sym runs)
-    (subst (λ p. LeavesPaced p usual_settings journal (Some left)) same
-    (subst (λ l. LeavesPaced program l journal (Some left)) usual h.2))
+    subst (λ b. LeavesMake seed size b journal (Some remains)) (sym runs)
+    (subst (λ p. LeavesPaced p usual_settings journal (Some remains)) same
+    (subst (λ l. LeavesPaced program l journal (Some remains)) usual h.2))
 
 -- a text that was made
 pub text_made : (seed size : ℕ) (bytes : List ℕ) (a : Answer) → bytes ≡ made_text seed size → IsText Done bytes a → AnswersMake seed size false a

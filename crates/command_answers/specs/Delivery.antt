@@ -56,7 +56,7 @@ pub record Delivered (a : Answer) (r : Ran) (before after : Option (List ℕ)) :
   pub written : ((r.status ≡ a.status) × (after ≡ with_more before a.bytes)) ⊎ ((r.status ≡ WriteFault) × WroteSome before after a.bytes)
 
 -- nothing was handed back
-pub record HandsNothing (named : Status) (r : Ran) : Type 0 where
+pub record ReturnsNothing (named : Status) (r : Ran) : Type 0 where
   pub status : r.status ≡ named
   pub journal : r.journal ≡ []
   pub shared : r.shared ≡ None
@@ -78,16 +78,16 @@ remains_by (Err (WantsMemory (Some x))) = remains_of (Some x.shared)
 -- before a run began, or amid it, where this is left of it
 abbrev pub IsWanted : (List EntryValue → Option SharedValue → Type 0) → Wanted → Type 0
 IsWanted L Before = Unit {0}
-IsWanted L (Amid journal left) = L journal (Some left)
+IsWanted L (Amid journal remains) = L journal (Some remains)
 
 -- and what is handed back then
-abbrev pub HandsWanted : Wanted → Ran → Type 0
-HandsWanted Before r = (r.journal ≡ []) × (r.shared ≡ None)
-HandsWanted (Amid journal left) r = (r.journal ≡ journal) × (r.shared ≡ Some left)
+abbrev pub ReturnsWanted : Wanted → Ran → Type 0
+ReturnsWanted Before r = (r.journal ≡ []) × (r.shared ≡ None)
+ReturnsWanted (Amid journal remains) r = (r.journal ≡ journal) × (r.shared ≡ Some remains)
 
 pub record Gives (w : Wanted) (r : Ran) : Type 0 where
   pub status : r.status ≡ NoMemory
-  pub hands : HandsWanted w r
+  pub returned : ReturnsWanted w r
 
 -- AN ANSWER OR NONE IS GIVEN, with no other status than its own, or that of a sink that failed
 abbrev pub GivesFound : Result Answer Wanted → Ran → Option (List ℕ) → Option (List ℕ) → Type 0

@@ -15,19 +15,19 @@ use Rattle.command_answers.specs.Status.{status_of_end}
 
 -- the journal of a run of the program with the settings, which is legal, and the shared value that stands for it, from
 -- which it was moved out
-pub record HandsBack (p : ProgramText) (s : SettingsValue) (journal : List EntryValue) (shared : Option SharedValue) : Type 0 where
+pub record ReturnsRun (p : ProgramText) (s : SettingsValue) (journal : List EntryValue) (shared : Option SharedValue) : Type 0 where
   pub whole : SharedValue
   pub stands : IsSharedValue whole
   pub program : whole.program ≡ p
   pub settings : whole.settings ≡ s
   pub legal : is_legal p s journal ≡ true
   pub moved : journal ≡ whole.journal.items
-  pub left : shared ≡ Some (without_journal whole)
+  pub remains : shared ≡ Some (without_journal whole)
 
 -- A WHOLE RUN: the journal handed back has an end; the bytes and the status are those of this journal, by the
 -- definitions alone
 pub record IsWholeRun (p : ProgramText) (s : SettingsValue) (extras : Extras) (a : Answer) : Type 0 where
-  pub back : HandsBack p s a.journal a.shared
+  pub back : ReturnsRun p s a.journal a.shared
   pub end : RunEnd
   pub ended : end_of p s a.journal ≡ Some end
   pub status : a.status ≡ status_of_end end
@@ -44,7 +44,7 @@ IsReplayedRun p s extras entries a = IsWholeRun p s extras a × (a.journal ≡ e
 -- AMID A RUN, where memory is wanting: what is handed back stands as far as the run came
 
 abbrev pub LeavesPaced : ProgramText → SettingsValue → List EntryValue → Option SharedValue → Type 0
-LeavesPaced p s journal shared = HandsBack p s journal shared × (is_paced p s journal ≡ true)
+LeavesPaced p s journal shared = ReturnsRun p s journal shared × (is_paced p s journal ≡ true)
 
 abbrev pub LeavesPrefix : ProgramText → SettingsValue → List EntryValue → List EntryValue → Option SharedValue → Type 0
-LeavesPrefix p s entries journal shared = HandsBack p s journal shared × IsPrefix journal entries
+LeavesPrefix p s entries journal shared = ReturnsRun p s journal shared × IsPrefix journal entries

@@ -7,7 +7,7 @@ use hh_model::End;
 use listed::Listed;
 use run_ledger::RunEnd;
 use run_trace::Entry;
-use shared_tree::Left;
+use shared_tree::Remains;
 
 /// How a call ended.
 #[derive(Clone, Copy)]
@@ -46,7 +46,7 @@ pub struct Answer {
     pub status: Status,
     pub bytes: Listed<u8>,
     pub journal: Listed<Entry>,
-    pub shared: Option<Left>,
+    pub shared: Option<Remains>,
 }
 
 /// What a call hands back.
@@ -56,7 +56,7 @@ pub struct Ran {
     /// The run's journal, which was moved out of the shared value; empty where no run was made.
     pub journal: Listed<Entry>,
     /// What the workers shared; None where no run was made.
-    pub shared: Option<Left>,
+    pub shared: Option<Remains>,
 }
 
 impl Status {

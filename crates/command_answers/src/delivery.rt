@@ -2,7 +2,7 @@
 
 ghost use Rattle.std.specs.Prelude.{◌≡◌};
 ghost use Rattle.outside_io.specs.Fault.{HasRisen};
-ghost use Rattle.command_answers.specs.Delivery.{IsAnswered, Delivered, Gives, HandsNothing};
+ghost use Rattle.command_answers.specs.Delivery.{IsAnswered, Delivered, Gives, ReturnsNothing};
 
 use crate::answer::{Answer, Ran, Status};
 use crate::wanted::Wanted;
@@ -13,7 +13,7 @@ use std::alloc::Global;
 
 /// What is handed back where nothing was answered.
 pub fn nothing(alloc: Global, status: Status) -> Ran
-    ensures { HandsNothing status result }
+    ensures { ReturnsNothing status result }
 {
     Ran {
         status,
@@ -23,15 +23,15 @@ pub fn nothing(alloc: Global, status: Status) -> Ran
 }
 
 /// What is handed back for want of memory.
-pub fn hand_back(alloc: Global, wanted: Wanted) -> Ran
+pub fn return_wanted(alloc: Global, wanted: Wanted) -> Ran
     ensures { Gives wanted result }
 {
     match wanted {
         Wanted::Before => nothing(alloc, Status::NoMemory),
-        Wanted::Amid(journal, left) => Ran {
+        Wanted::Amid(journal, remains) => Ran {
             status: Status::NoMemory,
             journal,
-            shared: Some(left),
+            shared: Some(remains),
         },
     }
 }

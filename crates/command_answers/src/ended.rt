@@ -72,12 +72,12 @@ fn run_text(
 
 /// What is left of a run amid which memory was wanting.
 pub fn amid(shared: Counted) -> Wanted
-    ensures left { result ≡ Wanted.Amid shared.journal.items (without_journal shared) }
+    ensures amid { result ≡ Wanted.Amid shared.journal.items (without_journal shared) }
     ensures stands { IsSharedValue shared }
 {
     shared.stands();
-    let (journal, left) = shared.take_journal();
-    Wanted::Amid(journal, left)
+    let (journal, remains) = shared.take_journal();
+    Wanted::Amid(journal, remains)
 }
 
 /// The answer of a run that ended so.
@@ -95,12 +95,12 @@ pub fn answer_ended(
     match run_text(alloc, &shared, end, extras) {
         Err(AllocError) => Err(amid(shared)),
         Ok(text) => {
-            let (journal, left) = shared.take_journal();
+            let (journal, remains) = shared.take_journal();
             Ok(Answer {
                 status: Status::of_end(end),
                 bytes: Listed::from_vec(text),
                 journal,
-                shared: Some(left),
+                shared: Some(remains),
             })
         }
     }

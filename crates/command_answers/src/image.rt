@@ -47,8 +47,8 @@ fn answer_trace(alloc: Global, settings: Settings, read: &TraceInput) -> Result<
             answer
         }
         Err(ReplayStop::RefusedAt(entry)) => refused(alloc, Refusal::Entry(entry)),
-        Err(ReplayStop::NoMemory(left)) => {
-            drop(left);
+        Err(ReplayStop::NoMemory(remains)) => {
+            drop(remains);
             Err(AllocError)
         }
     }

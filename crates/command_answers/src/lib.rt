@@ -23,7 +23,7 @@ mod laws;
 
 pub use answer::{Answer, Ran, Status};
 pub use check::answer_check;
-pub use delivery::{deliver, hand_back, nothing};
+pub use delivery::{deliver, nothing, return_wanted};
 pub use ended::{amid, answer_ended, extras_of};
 pub use image::answer_image;
 pub use input::{program_in, read_input};

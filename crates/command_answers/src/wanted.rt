@@ -2,7 +2,7 @@
 
 use listed::Listed;
 use run_trace::Entry;
-use shared_tree::Left;
+use shared_tree::Remains;
 use std::alloc::AllocError;
 
 /// Where memory was wanting.
@@ -11,7 +11,7 @@ pub enum Wanted {
     /// Before a run began, or where none is made.
     Before,
     /// Amid a run: its journal as far as it came, moved out of what the workers shared.
-    Amid(Listed<Entry>, Left),
+    Amid(Listed<Entry>, Remains),
 }
 
 impl From<AllocError> for Wanted {

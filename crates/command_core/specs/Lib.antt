@@ -5,4 +5,4 @@ pub use Rattle.command_answers.specs.Answers
 pub use Rattle.command_answers.specs.Delivery
 pub use Rattle.command_answers.specs.Laws
 pub use Rattle.command_answers.specs.Headline
-pub mod Left
+pub mod Outcomes

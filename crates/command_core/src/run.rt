@@ -6,7 +6,7 @@ ghost use Rattle.shared_value.specs.SharedValue.{SharedValue, accounts};
 ghost use Rattle.command_answers.specs.Answers.{AnswersProgram, AnswersRun, LeavesRun};
 ghost use Rattle.command_answers.specs.Delivery.{IsWanted, remains_of};
 ghost use Rattle.command_answers.specs.Runs.{LeavesPaced};
-ghost use Rattle.command_core.specs.Left.{AnswersLeft};
+ghost use Rattle.command_core.specs.Outcomes.{AnswersOutcome};
 
 use command_answers::{Answer, Wanted, amid, answer_ended, extras_of, program_in, refused};
 use command_line::Options;
@@ -20,9 +20,9 @@ use std::thread::Threads;
 use worker_run::{Finish, Outcome, run_on_workers};
 
 // The answer of what workers have left. Where memory was wanting, all that they have left is handed back.
-fn answer_left(alloc: Global, outcome: Outcome, extras: Extras) -> Result<Answer, Wanted>
+fn answer_outcome(alloc: Global, outcome: Outcome, extras: Extras) -> Result<Answer, Wanted>
     requires { (w : SharedValue) (end : RunEnd) → outcome.shared ≡ Some w → outcome.finish ≡ Finish.Ended end → (accounts w).end ≡ Some end }
-    ensures answer { IfOk result (AnswersLeft outcome extras) }
+    ensures answer { IfOk result (AnswersOutcome outcome extras) }
     ensures wanted { IfErr result (λ w. w ≡ remains_of outcome.shared) }
 {
     let Outcome { finish, shared } = outcome;
@@ -45,7 +45,7 @@ fn answer_program<R: Threads + Wait + Sync, G: Gate>(
     ensures wanted { IfErr result (IsWanted (LeavesPaced program.now options.settings)) }
 {
     let outcome = run_on_workers(rt, alloc, program, options.settings, gate);
-    answer_left(alloc, outcome, extras_of(options))
+    answer_outcome(alloc, outcome, extras_of(options))
 }
 
 /// Reads a program and runs it.

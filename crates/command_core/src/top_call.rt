@@ -10,7 +10,7 @@ ghost use Rattle.command_answers.specs.Delivery.{DeliversLine, DeliversWords, Gi
 use crate::answers::answer_line;
 use all_bytes::ReadError;
 use command_answers::{
-    Answer, Ran, Status, Wanted, deliver, hand_back, nothing, read_input, refused,
+    Answer, Ran, Status, Wanted, deliver, nothing, read_input, refused, return_wanted,
 };
 use command_line::{CommandLine, read_command_line};
 use outside_io::{Gate, Sink, Source};
@@ -39,7 +39,7 @@ fn give<K: Sink>(alloc: Global, found: Result<Answer, Wanted>, sink: &mut K) -> 
 {
     match found {
         Ok(answer) => deliver(answer, sink),
-        Err(found) => hand_back(alloc, found),
+        Err(found) => return_wanted(alloc, found),
     }
 }
 

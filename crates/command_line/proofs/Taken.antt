@@ -94,7 +94,7 @@ runner_options name words e =
     let h = (level_passed s (plain_runner name) [] nothing_held words false [] tt e).0 in
     let start = (settled s.rules held).rows in
     record {
-      limits = record {
+      settings = record {
         workers = number_has s rows (codes "workers") 1 64 h (λ t p. p _ refl) (default_row (codes "workers") s.rules refl start);
         fuel = number_has s rows (codes "fuel") 1 1000000000 h (λ t p. p _ refl) (default_row (codes "fuel") s.rules refl start);
         chunks = number_has s rows (codes "chunks") 2 65536 h (λ t p. p _ refl) (default_row (codes "chunks") s.rules refl start);

@@ -22,7 +22,7 @@ pub record HasSettings (rows : List Row) : Type 0 where
 
 -- those of a command that runs a program have these and both flags
 pub record HasOptions (rows : List Row) : Type 0 where
-  pub limits : HasSettings rows
+  pub settings : HasSettings rows
   pub report : HasFlag (codes "report") rows
   pub trace : HasFlag (codes "trace") rows
 

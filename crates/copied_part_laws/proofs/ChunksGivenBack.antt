@@ -28,7 +28,7 @@ use Rattle.leaf_copy_gc.proofs.NewNumbers as new_numbers
 use Rattle.leaf_copy_gc.proofs.NewNumbers.{within_at}
 use Rattle.leaf_copy_gc.proofs.Naming.{in_unreserved}
 use Rattle.collected_heap_laws.proofs.Reading as reading
-use Rattle.inner_mark_gc.specs.Swept.{units_kept}
+use Rattle.inner_mark_gc.specs.Swept.{units_in_slots}
 use Rattle.core_relation.specs.Memory.{In}
 use Rattle.shared_value.specs.Measured.{AreMeasured}
 use Rattle.shared_value.proofs.HeapLaidOut.{same_chunk}
@@ -220,7 +220,7 @@ module _ (h : LeafHeapValue) (from : List (Option Addr)) (ss : List Survivor) (n
           | inr j ↦ let s = size_of_new news W.chunk T.new j in omega (arith, s)
         ])
 
-    units_all : (ks : List ChunkValue) → ((k : ChunkValue) → In ks k → slot_at pool k.number ≡ Some (record { owner = t; units = k.size / 1024 })) → ((k : ChunkValue) → In ks k → k.size ≡ 1024 * (k.size / 1024)) → units_kept pool ks ≡ unit_count ks
+    units_all : (ks : List ChunkValue) → ((k : ChunkValue) → In ks k → slot_at pool k.number ≡ Some (record { owner = t; units = k.size / 1024 })) → ((k : ChunkValue) → In ks k → k.size ≡ 1024 * (k.size / 1024)) → units_in_slots pool ks ≡ unit_count ks
     units_all [] f g = refl
     units_all (k ∷ ks) f g =
         let u : slot_units (slot_at pool k.number) ≡ k.size / 1024 = ap slot_units (f k (inl refl)) in
@@ -228,7 +228,7 @@ module _ (h : LeafHeapValue) (from : List (Option Addr)) (ss : List Survivor) (n
         let r = units_all ks (λ x i. f x (inr i)) (λ x i. g x (inr i)) in
         omega (arith, u, w, r)
 
-    pub back_units : units_kept pool Back ≡ unit_count Back
+    pub back_units : units_in_slots pool Back ≡ unit_count Back
     back_units = units_all Back held_back whole_back
 
     pub heap_measured : AreMeasured pool t (L ++ (K ++ R))

@@ -18,7 +18,7 @@ use Rattle.leaf_copy_gc.specs.Survivors.{outside}
 use Rattle.leaf_copy_gc.specs.Collected.{back_of}
 use Rattle.leaf_copy_gc.specs.Lists.{IsCollected}
 use Rattle.collected_heap_laws.proofs.Telling.{moves_are_told}
-use Rattle.inner_mark_gc.specs.Swept.{units_kept}
+use Rattle.inner_mark_gc.specs.Swept.{units_in_slots}
 use Rattle.ledger_step_laws.specs.Accounts.{aside}
 use Rattle.ledger_step_laws.proofs.Rested.{rested_view}
 use Rattle.core_relation.specs.Copies.{PartFits, before}
@@ -81,7 +81,7 @@ module _ (w : SharedValue) (k : ℕ) (p : Private) (b : Begun) (news : List Chun
   few =
       let a : units_in (aside (accounts w)).machine (heap_of (aside (accounts w)) p.task) ≤ in_use (accounts w) = aside_least (accounts w) p.task in
       let u : in_use (accounts w) ≤ w.settings.chunks = (use_is_bounded w.program w.settings w.journal.items C.shared.legal).now in
-      let c : w.settings.chunks ≤ 65536 = C.shared.limits.chunks.1 in
+      let c : w.settings.chunks ≤ 65536 = C.shared.settings.chunks.1 in
       omega (arith, a, u, c)
 
   -- the pool has its chunks and the new ones with their units
@@ -117,7 +117,7 @@ module _ (w : SharedValue) (k : ℕ) (p : Private) (b : Begun) (news : List Chun
           (back.back_owned p.heap (outside p.frames b.roots) D.survivors news D.are C.new (aside (accounts w)).machine (heap_of (aside (accounts w)) p.task) O w.pool p.task all_measured);
       gone = subst (All (λ c. IsFresh h'.chunks c.number)) (sym D.back)
           (subst (λ (x : LeafHeapValue). All (λ c. IsFresh x.chunks c.number) Back) (sym D.heap) (back.back_gone p.heap (outside p.frames b.roots) D.survivors news D.are C.new (aside (accounts w)).machine (heap_of (aside (accounts w)) p.task) O));
-      units = ap (units_kept w.pool) D.back
+      units = ap (units_in_slots w.pool) D.back
           ∙ (back.back_units p.heap (outside p.frames b.roots) D.survivors news D.are C.new (aside (accounts w)).machine (heap_of (aside (accounts w)) p.task) O w.pool p.task all_measured ∙ given_is);
     }
 

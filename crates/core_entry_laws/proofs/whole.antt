@@ -10,4 +10,4 @@ pub mod RanCounts
 pub mod RanWhole
 pub mod TasksOut
 pub mod EntriesWhole
-pub mod DoneHands
+pub mod DoneReturns

@@ -70,8 +70,8 @@ EndsStandFor =
     refusal p s l e ≡ None → StandsForAll v c l → CopyFits p s t h h' f v l → EndsAt v v' t h' f → h'.begun ≡ None → OthersNotes v v' t → CountsGo p s l c c' w (End t taken given left) → StandsForAll v' c' (after p s l e)
 
 -- once the run is done every heap is handed back
-abbrev pub DoneHandsAll : Type 0
-DoneHandsAll =
+abbrev pub DoneReturnsAll : Type 0
+DoneReturnsAll =
     (p : ProgramText) (s : SettingsValue) (l l' : Ledger) (t w k : ℕ) → Runs p s l l' t w k → l'.machine.end ≡ Some Done → (u : ℕ) → Rests (handed l') u
 
 -- ITS PARTS

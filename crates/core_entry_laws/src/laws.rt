@@ -1,6 +1,6 @@
 // The laws of entries and of what workers hold, each the clause of a function that does nothing.
 
-ghost use Rattle.core_entry_laws.specs.EntryLaws.{FirstStandsFor, DoneHandsAll, WholeStands, WholeNotes, CountsStand, TookStandsFor, QuietStandsFor, SweepsStandFor, EndsStandFor, RanStandsFor, TasksOutAreTold};
+ghost use Rattle.core_entry_laws.specs.EntryLaws.{FirstStandsFor, DoneReturnsAll, WholeStands, WholeNotes, CountsStand, TookStandsFor, QuietStandsFor, SweepsStandFor, EndsStandFor, RanStandsFor, TasksOutAreTold};
 ghost use Rattle.core_entry_laws.specs.WorkerLaws.{AllFitTogether, RanLeaves, TookLeaves, QuietLeaves, SweepsLeave, EndsLeave, TookFits, RanFits, QuietFits, EndsFit, FramesGo, NumbersGo, RanAlike};
 ghost use Rattle.core_entry_laws.specs.CopyLaws.{MarksAreAll, CollectionsBegin, BegunStays, CopiesStay, CopiesEnd};
 ghost use Rattle.core_entry_laws.specs.Now.{SnapshotsAreNow};
@@ -141,8 +141,8 @@ pub fn ran_alike()
 {}
 
 /// Once the run is done every heap is handed back.
-pub fn done_hands_all()
-    ensures { DoneHandsAll }
+pub fn done_returns_all()
+    ensures { DoneReturnsAll }
 {}
 
 /// Nothing is left to mark exactly where the whole snapshot is marked.

@@ -140,7 +140,7 @@ module _ (w v : SharedValue) (c : Counts) (e : EntryValue) (words : ℕ) (M : Is
   totals_few short lost used a b =
       let all : List EntryValue = w.journal.items ++ e ∷ [] in
       let few : AreFew (totals_from p s (opening p s) all) =
-      legal_few p s M.stands.limits all (legal_then p s w.journal.items e M.stands.legal M.free) (subst (λ xs. length xs < 2 ^ 64) M.enters.journal short) in
+      legal_few p s M.stands.settings all (legal_then p s w.journal.items e M.stands.legal M.free) (subst (λ xs. length xs < 2 ^ 64) M.enters.journal short) in
       subst AreFew (totals_last p s w.journal.items (opening p s) e ∙ ap₂ joined (sym M.keeps.totals) (sym (counted_is lost used a b))) few
 
   -- WHAT IS KEPT OF WORKERS

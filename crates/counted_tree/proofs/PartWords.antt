@@ -36,7 +36,7 @@ pub words_small : (w : SharedValue) → IsSharedValue w → (t : ℕ) → words_
 words_small w I t =
     let k : Ledger = accounts w in
     let u : in_use k ≤ w.settings.chunks = (use_is_bounded w.program w.settings w.journal.items I.legal).now in
-    let c : w.settings.chunks ≤ 65536 = I.limits.chunks.1 in
+    let c : w.settings.chunks ≤ 65536 = I.settings.chunks.1 in
     let f : words_sum k.machine (held k) ≤ 1024 * in_use k = (heaps_fit w.program w.settings w.journal.items I.legal).words in
     let a : words_in k.machine (heap_of k t) ≤ words_sum k.machine (held k) + words_sum k.machine [] = heap_least (words_sum k.machine) (sum_by-append (words_at k.machine)) k.heaps t in
     let z : words_sum k.machine [] ≡ 0 = refl in

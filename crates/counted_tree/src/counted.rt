@@ -14,7 +14,7 @@ use hh_lang::Program;
 use listed::Listed;
 use run_ledger::Report;
 use run_trace::{Entry, Settings};
-use shared_tree::{Left, Shared};
+use shared_tree::{Remains, Shared};
 use std::alloc::{AllocError, Global};
 use std::marker::Model;
 
@@ -106,7 +106,7 @@ impl Counted {
     }
 
     /// Takes the journal out: no entry can be made after it.
-    pub fn take_journal(self) -> (Listed<Entry>, Left)
+    pub fn take_journal(self) -> (Listed<Entry>, Remains)
         ensures journal { result.0 ≡ self.journal.items }
         ensures rest { result.1 ≡ without_journal self }
     {

@@ -156,11 +156,11 @@ drawn r m p objects (OfObject o) = edges_drawn r p o (owner_at r.chunks o.addres
 drawn r m p objects _ = []
 
 -- the lines that are left then
-abbrev pub left_by : Said → List (List ℕ) → List (List ℕ)
-left_by (OfChunk c) objects = lines_behind c.number objects
-left_by _ objects = objects
+abbrev pub undrawn_after : Said → List (List ℕ) → List (List ℕ)
+undrawn_after (OfChunk c) objects = lines_behind c.number objects
+undrawn_after _ objects = objects
 
 -- what lines add
 abbrev pub all_drawn : Read → Heaps → Option ℕ → List (List ℕ) → List (List ℕ) → List Statement
 all_drawn r m p objects [] = []
-all_drawn r m p objects (l ∷ ls) = drawn r m p objects (said_by l) ++ all_drawn r m p (left_by (said_by l) objects) ls
+all_drawn r m p objects (l ∷ ls) = drawn r m p objects (said_by l) ++ all_drawn r m p (undrawn_after (said_by l) objects) ls

@@ -9,6 +9,6 @@ abbrev pub opened : ℕ → List ℕ
 opened t = cluster_begin (task_cluster t)
 
 -- the lines of a text, or no line
-abbrev pub lines_left : Option (List ℕ) → List (List ℕ)
-lines_left None = []
-lines_left (Some text) = lines_of text
+abbrev pub optional_lines : Option (List ℕ) → List (List ℕ)
+optional_lines None = []
+optional_lines (Some text) = lines_of text

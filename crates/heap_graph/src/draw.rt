@@ -6,8 +6,8 @@ ghost use Rattle.image_check.specs.Read.{IsSized};
 ghost use Rattle.image_check.specs.Place.{chunk_number};
 ghost use Rattle.image_check.specs.Tasks.{owner_at};
 ghost use Rattle.text_lines.specs.Lines.{lines_of};
-ghost use Rattle.heap_graph.specs.Drawn.{path, path_above, path_to, inside, point, titled, task_box, task_drawn, chunk_box, node_by, lies_elsewhere, nodes_in, lines_behind, edges_drawn, drawn_task, drawn_chunk, drawn, left_by, all_drawn};
-ghost use Rattle.heap_graph.specs.Pieces.{opened, lines_left};
+ghost use Rattle.heap_graph.specs.Drawn.{path, path_above, path_to, inside, point, titled, task_box, task_drawn, chunk_box, node_by, lies_elsewhere, nodes_in, lines_behind, edges_drawn, drawn_task, drawn_chunk, drawn, undrawn_after, all_drawn};
+ghost use Rattle.heap_graph.specs.Pieces.{opened, optional_lines};
 ghost use Rattle.dot_text.specs.Dot.{Statement, braces_end, dot};
 
 use crate::edges::add_edges;
@@ -234,8 +234,8 @@ fn add_nodes<'t>(
     chunk: u64,
     objects: Option<&'t [u8]>,
 ) -> Result<Option<&'t [u8]>, AllocError>
-    ensures nodes { OnOk result (text.new.items ≡ text.old.items ++ flat_map dot (nodes_in chunk (lines_left (option_copied objects.entry)))) }
-    ensures left { IfOk result (λ left. lines_left (option_copied left) ≡ lines_behind chunk (lines_left (option_copied objects.entry))) }
+    ensures nodes { OnOk result (text.new.items ≡ text.old.items ++ flat_map dot (nodes_in chunk (optional_lines (option_copied objects.entry)))) }
+    ensures left { IfOk result (λ left. optional_lines (option_copied left) ≡ lines_behind chunk (optional_lines (option_copied objects.entry))) }
 {
     let mut left = objects;
     loop {
@@ -261,8 +261,8 @@ fn add_chunk_with<'t>(
     chunk: &Chunk,
     objects: Option<&'t [u8]>,
 ) -> Result<Option<&'t [u8]>, AllocError>
-    ensures drawn { OnOk result (text.new.items ≡ text.old.items ++ flat_map dot (drawn_chunk read.now path chunk.now (lines_left (option_copied objects.entry)))) }
-    ensures left { IfOk result (λ left. lines_left (option_copied left) ≡ lines_behind chunk.now.number (lines_left (option_copied objects.entry))) }
+    ensures drawn { OnOk result (text.new.items ≡ text.old.items ++ flat_map dot (drawn_chunk read.now path chunk.now (optional_lines (option_copied objects.entry)))) }
+    ensures left { IfOk result (λ left. optional_lines (option_copied left) ≡ lines_behind chunk.now.number (optional_lines (option_copied objects.entry))) }
 {
     let mut within = Vec::new(alloc);
     let left = add_nodes(alloc, &mut within, chunk.number, objects)?;
@@ -322,8 +322,8 @@ fn add_said<'t>(
     said: &Said,
     objects: Option<&'t [u8]>,
 ) -> Result<Option<&'t [u8]>, AllocError>
-    ensures drawn { OnOk result (text.new.items ≡ text.old.items ++ flat_map dot (drawn read.now heaps.now path (lines_left (option_copied objects.entry)) said.now)) }
-    ensures left { IfOk result (λ left. lines_left (option_copied left) ≡ left_by said.now (lines_left (option_copied objects.entry))) }
+    ensures drawn { OnOk result (text.new.items ≡ text.old.items ++ flat_map dot (drawn read.now heaps.now path (optional_lines (option_copied objects.entry)) said.now)) }
+    ensures left { IfOk result (λ left. optional_lines (option_copied left) ≡ undrawn_after said.now (optional_lines (option_copied objects.entry))) }
 {
     match said {
         Said::OfTask(task) => {

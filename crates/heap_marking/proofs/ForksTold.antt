@@ -135,7 +135,7 @@ module _ (w : SharedValue) (I : IsSharedValue w) (on : (accounts w).end ≡ None
 
   -- as 64 bits count the words
   pub begin_counted : (f : Fork) → is_going l f ≡ true → is_some (marks_at w.marks f.task) ≡ false → is_to_begin w.settings l f ≡ nat_le w.settings.inner (counted (words_in l.machine (heap_of l f.task)))
-  begin_counted f on m = begin_words f on m ∙ sym (counted_le w.settings.inner (words_in l.machine (heap_of l f.task)) (let h = I.limits.inner.1 in omega (arith, h)))
+  begin_counted f on m = begin_words f on m ∙ sym (counted_le w.settings.inner (words_in l.machine (heap_of l f.task)) (let h = I.settings.inner.1 in omega (arith, h)))
 
   -- THE FORK on which a task waits
   child_is : (t c : ℕ) → is_live_child w.tree t c ≡ lives_below l.machine.tasks t c

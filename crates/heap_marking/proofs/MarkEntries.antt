@@ -93,7 +93,7 @@ module _ (w : SharedValue) (I : IsSharedValue w) (k t : ℕ) where
       ∙ ap (λ o. or_else (waiting_cause w t) (refused_if (is_some (marks_at w.marks t)) Marking o)) (sym (due_by w.settings (words_in l.machine (heap_of l t)) few))))
     where
       few : w.settings.inner < 2 ^ 32
-      few = let h = I.limits.inner.1 in omega (arith, h)
+      few = let h = I.settings.inner.1 in omega (arith, h)
 
   -- in their order
   pub mark_as_waiting : (o : Option Refused) → is_some (first_cause w.end w.steps w.settings k false) ≡ false → o ≡ waiting_cause w t → is_some o ≡ true → o ≡ refused w (record { worker = k; kind = Mark t })

@@ -17,12 +17,11 @@ use Rattle.journal_laws.proofs.OwedEntries.{waits_tells as since_tells}
 use Rattle.journal_laws.proofs.OwedEntries.{Touched}
 use Rattle.heap_marking.specs.declared.pace.Fork.{Fork}
 use Rattle.heap_marking.specs.declared.pace.Pace.{Pace}
-use Rattle.heap_marking.specs.declared.pace.KeptEntry.{KeptEntry}
-use Rattle.heap_marking.specs.declared.pace.KeptEntry.TheVariants.{Other, Ran, Forked}
+use Rattle.heap_marking.specs.declared.pace.PreviousKind.{PreviousKind}
+use Rattle.heap_marking.specs.declared.pace.PreviousKind.TheVariants.{Other, Ran, Forked}
 use Rattle.heap_marking.specs.Pace.{HasGoneOn, IsForkOf, IsOver, KeepsMarks, KeepsPace, KeepsPrevious, TellsFork, TellsMark, previous_of}
 use Rattle.listed.specs.Options.{option_is}
 use Rattle.run_ledger.proofs.Frames.{held_is}
-use Rattle.heap_marking.proofs.StepsKeepForks.{WaitsOn}
 use Rattle.heap_marking.proofs.ForksStay.{Moves}
 
 -- WAITING ON A FORK
@@ -103,7 +102,7 @@ module _ (l l' : Ledger) (M : Moves l l') where
   marks_move forks (s ∷ ss) (inl k) = inl (over_moves s k.0, marks_move forks ss k.1)
   marks_move forks (s ∷ ss) (inr k) = inr (k.0, k.1, k.2, mark_moves k.1 s k.3, marks_move k.0 ss k.4)
 
-  pub previous_moves : (a : KeptEntry) (b : Previous) → KeepsPrevious l a b → KeepsPrevious l' a b
+  pub previous_moves : (a : PreviousKind) (b : Previous) → KeepsPrevious l a b → KeepsPrevious l' a b
   previous_moves Other OtherEntry k = k
   previous_moves Other RanEntry k = absurd k
   previous_moves Other (ForkedEntry s) k = absurd k

@@ -17,8 +17,8 @@ use Rattle.run_ledger.specs.Heaps.{heap_of, words_in}
 use Rattle.run_ledger.specs.Pace.{is_to_mark, is_under_way, is_unmarked, more_of, owed_after, owed_to_marks, waits_on}
 use Rattle.heap_marking.specs.declared.pace.Fork.{Fork}
 use Rattle.heap_marking.specs.declared.pace.Pace.{Pace}
-use Rattle.heap_marking.specs.declared.pace.KeptEntry.{KeptEntry}
-use Rattle.heap_marking.specs.declared.pace.KeptEntry.TheVariants.{Other, Ran, Forked}
+use Rattle.heap_marking.specs.declared.pace.PreviousKind.{PreviousKind}
+use Rattle.heap_marking.specs.declared.pace.PreviousKind.TheVariants.{Other, Ran, Forked}
 use Rattle.heap_marking.specs.Pace.{IsLastGoing, IsOver, KeepsMarks, KeepsPace, KeepsPrevious, TellsFork, TellsMark, is_going, is_to_begin}
 use Rattle.heap_marking.proofs.PaceKeeps.{gone_waits, waits_tells}
 
@@ -155,12 +155,12 @@ drop_last l front f (s ∷ ss) off (inr K) =
     inl (stopped_over l K.1 s K.3 (ap (is_going l) (sym e.1) ∙ off) (joined l.machine.tasks (K.1).left) refl, subst (λ (fs : List Fork). KeepsMarks l fs ss) (sym e.0) K.4)
 
 -- OWED BY WHAT CAME BEFORE
-abbrev pub owed_told : SettingsValue → Ledger → List Strand → KeptEntry → Owed
+abbrev pub owed_told : SettingsValue → Ledger → List Strand → PreviousKind → Owed
 owed_told limits l marks Other = Nothing
 owed_told limits l marks Ran = owed_to_marks l marks
 owed_told limits l marks (Forked f) = cond (is_to_begin limits l f) (OwesMark f.task) (owed_to_marks l marks)
 
-pub owed_is : (limits : SettingsValue) (l : Ledger) (marks : List Strand) (a : KeptEntry) (b : Previous) → KeepsPrevious l a b → owed_told limits l marks a ≡ owed_after limits l marks b
+pub owed_is : (limits : SettingsValue) (l : Ledger) (marks : List Strand) (a : PreviousKind) (b : Previous) → KeepsPrevious l a b → owed_told limits l marks a ≡ owed_after limits l marks b
 owed_is limits l marks Other OtherEntry k = refl
 owed_is limits l marks Other RanEntry k = absurd k
 owed_is limits l marks Other (ForkedEntry s) k = absurd k

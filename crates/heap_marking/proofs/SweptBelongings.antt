@@ -20,7 +20,7 @@ use Rattle.alloc_path.specs.LeafHeapValue.{LeafHeapValue as HeapOfCode, IsFresh,
 use Rattle.alloc_path.specs.Units.{unit_count}
 use Rattle.chunk_rows.specs.View.{Level}
 use Rattle.inner_mark_gc.specs.MarkingValue.{marked_of}
-use Rattle.inner_mark_gc.specs.Swept.{AreGiven, gone_of, goes, swept, units_kept}
+use Rattle.inner_mark_gc.specs.Swept.{AreGiven, gone_of, goes, swept, units_in_slots}
 use Rattle.ledger_step_laws.proofs.Ahead.{heap_then, with_at}
 use Rattle.core_relation.specs.Changes.{KeepsJust}
 use Rattle.core_relation.specs.Layout.{AreLaidOut}
@@ -130,15 +130,15 @@ module _ (w : SharedValue) (I : IsSharedValue w) (on : (accounts w).end ≡ None
   measured_was = I.measured t r (start.Z w I on t free).there (free_at_rest w t I on (start.rests w I on t free))
 
   -- as the pool counts it
-  pub units_go : units_kept w.pool (gone_of r.heap kept) ≡ unit_count (gone_of r.heap kept)
-  units_go = subst (λ gs. units_kept w.pool gs ≡ unit_count gs) (sym gone_is) (by (gone kept ks) (λ c i. (gone_was c i).0))
+  pub units_go : units_in_slots w.pool (gone_of r.heap kept) ≡ unit_count (gone_of r.heap kept)
+  units_go = subst (λ gs. units_in_slots w.pool gs ≡ unit_count gs) (sym gone_is) (by (gone kept ks) (λ c i. (gone_was c i).0))
     where
-      by : (gs : List ChunkValue) → ((c : ChunkValue) → In gs c → In ks c) → units_kept w.pool gs ≡ unit_count gs
+      by : (gs : List ChunkValue) → ((c : ChunkValue) → In gs c → In ks c) → units_in_slots w.pool gs ≡ unit_count gs
       by [] f = refl
       by (c ∷ gs) f =
           let one : slot_units (slot_at w.pool c.number) ≡ c.size / 1024 = ap slot_units (measured_was c (f c (inl refl))) in
           let whole : c.size ≡ 1024 * (c.size / 1024) = F.whole c (f c (inl refl)) in
-          let go : units_kept w.pool gs ≡ unit_count gs = by gs (λ d i. f d (inr i)) in
+          let go : units_in_slots w.pool gs ≡ unit_count gs = by gs (λ d i. f d (inr i)) in
           omega (arith, one, whole, go)
 
   pub owned_gone : All (λ c. owner_of w.pool c.number ≡ Some t) (gone_of r.heap kept)

@@ -7,7 +7,7 @@ use Rattle.object_layout.specs.Cell.{Born, Cell, Hole, Mark, Moved, moved_to, si
 use Rattle.object_layout.specs.ChunkValue.{ChunkValue}
 use Rattle.object_layout.specs.Place.{words_in}
 use Rattle.object_layout.specs.Objects.{Located, located, located_by, objects_from}
-use Rattle.object_layout.proofs.ObjectChanges.{sifted_are_kept}
+use Rattle.object_layout.proofs.ObjectChanges.{sifted_are_filtered}
 use Rattle.inner_mark_gc.specs.MarkingValue.{has_address}
 use Rattle.inner_mark_gc.specs.Swept.{has_object, is_object, swept_cell, swept_cells, swept_chunk}
 use Rattle.inner_mark_gc.proofs.Sweeping.{size_swept}
@@ -46,11 +46,11 @@ module _ (kept : List Addr) (number : ℕ) where
 
 -- a large chunk holds its object, or nothing
 pub large_kept : (kept : List Addr) (k : ChunkValue) → HoldsLarge (chunk_of k) → HoldsLarge (chunk_of (swept_chunk kept k))
-large_kept kept k (inl none) = inl (sifted_are_kept (has_address kept) k ∙ ap (filter (is_there kept)) none)
+large_kept kept k (inl none) = inl (sifted_are_filtered (has_address kept) k ∙ ap (filter (is_there kept)) none)
 large_kept kept k (inr (o, only, at, fits)) = by (is_there kept o) refl
   where
     left : (b : Bool) → is_there kept o ≡ b → (chunk_of (swept_chunk kept k)).objects ≡ cond b (o ∷ []) []
-    left b q = sifted_are_kept (has_address kept) k ∙ (ap (filter (is_there kept)) only ∙ ap (λ z. cond z (o ∷ []) []) q)
+    left b q = sifted_are_filtered (has_address kept) k ∙ (ap (filter (is_there kept)) only ∙ ap (λ z. cond z (o ∷ []) []) q)
 
     by : (b : Bool) → is_there kept o ≡ b → HoldsLarge (chunk_of (swept_chunk kept k))
     by true q = inr (o, left true q, at, fits)

@@ -13,7 +13,7 @@ use Rattle.object_layout.specs.declared.word.Addr.{Addr}
 use Rattle.object_layout.specs.Cell.{moved_to}
 use Rattle.object_layout.specs.ChunkValue.{ChunkValue}
 use Rattle.object_layout.specs.Objects.{Located}
-use Rattle.object_layout.proofs.ObjectChanges.{sifted_are_kept}
+use Rattle.object_layout.proofs.ObjectChanges.{sifted_are_filtered}
 use Rattle.alloc_path.specs.LeafHeapValue.{units}
 use Rattle.alloc_path.specs.Units.{unit_count}
 use Rattle.inner_mark_gc.specs.MarkingValue.{has_address}
@@ -58,7 +58,7 @@ module _ (kept : List Addr) where
   has_is k F = object_left kept k.number k.cells 0 F.unmoved
 
   pub swept_is : (k : ChunkValue) → (chunk_of (swept_chunk kept k)).objects ≡ kept_in k
-  swept_is k = sifted_are_kept (has_address kept) k
+  swept_is k = sifted_are_filtered (has_address kept) k
 
   -- OBJECTS
   pub objects_left : (ks : List ChunkValue) → AreFilled ks → objects_in (chunks_of (left ks)) ≡ filter (is_there kept) (objects_in (chunks_of ks))

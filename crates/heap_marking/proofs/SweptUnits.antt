@@ -159,7 +159,7 @@ module _ (w : SharedValue) (I : IsSharedValue w) (on : (accounts w).end ≡ None
   used : in_use l ≤ 65536
   used =
       let u : in_use l ≤ w.settings.chunks = (use_is_bounded w.program w.settings w.journal.items I.legal).now in
-      let c : w.settings.chunks ≤ 65536 = I.limits.chunks.1 in
+      let c : w.settings.chunks ≤ 65536 = I.settings.chunks.1 in
       omega (arith, u, c)
 
   -- as 32 bits count

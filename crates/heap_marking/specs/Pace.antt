@@ -19,8 +19,8 @@ use Rattle.shared_value.specs.Stands.{IsSharedValue}
 use Rattle.shared_value.specs.SharedValue.{SharedValue, accounts}
 use Rattle.heap_marking.specs.declared.pace.Fork.{Fork}
 use Rattle.heap_marking.specs.declared.pace.Pace.{Pace}
-use Rattle.heap_marking.specs.declared.pace.KeptEntry.{KeptEntry}
-use Rattle.heap_marking.specs.declared.pace.KeptEntry.TheVariants.{Other, Ran, Forked}
+use Rattle.heap_marking.specs.declared.pace.PreviousKind.{PreviousKind}
+use Rattle.heap_marking.specs.declared.pace.PreviousKind.TheVariants.{Other, Ran, Forked}
 use Rattle.heap_marking.specs.MarkCauses.{is_state_waiting}
 use Rattle.listed.specs.Options.{option_is}
 
@@ -102,7 +102,7 @@ IsLastGoing l forks (Some f) =
 
 -- ---- A WORKER'S ENTRIES
 
-abbrev pub KeepsPrevious : Ledger → KeptEntry → Previous → Type 0
+abbrev pub KeepsPrevious : Ledger → PreviousKind → Previous → Type 0
 KeepsPrevious l Other OtherEntry = Unit {0}
 KeepsPrevious l Other RanEntry = ⊥
 KeepsPrevious l Other (ForkedEntry s) = ⊥
@@ -114,7 +114,7 @@ KeepsPrevious l (Forked f) RanEntry = ⊥
 KeepsPrevious l (Forked f) (ForkedEntry s) = TellsFork l f s
 
 -- after steps, which ended with this fork or with none
-abbrev pub previous_of : Option Fork → KeptEntry
+abbrev pub previous_of : Option Fork → PreviousKind
 previous_of None = Ran
 previous_of (Some f) = Forked f
 

@@ -13,6 +13,6 @@ pub use forks::fork_in;
 pub use laws::{
     marked_heap_stands, marks_begin, marks_count, marks_enter, marks_go_further, marks_refuse,
 };
-pub use pace::{Fork, KeptEntry, Pace, is_joined, paces_stay};
+pub use pace::{Fork, Pace, PreviousKind, is_joined, paces_stay};
 pub use starts::begin_marking;
 pub use sweep::{drop_unmarked, forget_kept};

@@ -17,7 +17,7 @@ pub struct Fork {
 
 /// What is kept of a worker's previous entry, as far as the pace asks.
 #[derive(Clone, Copy)]
-pub enum KeptEntry {
+pub enum PreviousKind {
     /// None, or no steps.
     Other,
     /// Steps that forked nothing.
@@ -29,7 +29,7 @@ pub enum KeptEntry {
 /// What is kept of a worker's own entries, as far as the pace asks.
 #[derive(Drop)]
 pub struct Pace {
-    pub previous: KeptEntry,
+    pub previous: PreviousKind,
     /// The forks after which the worker began to mark the heap of the task that waits, the last one at the end.
     pub marks: Roomy<Fork>,
 }
@@ -37,11 +37,11 @@ pub struct Pace {
 impl Pace {
     /// Of a worker without an entry.
     pub fn new(alloc: Global) -> Pace
-        ensures previous { result.previous ≡ KeptEntry.Other }
+        ensures previous { result.previous ≡ PreviousKind.Other }
         ensures marks { result.marks.items ≡ [] }
     {
         Pace {
-            previous: KeptEntry::Other,
+            previous: PreviousKind::Other,
             marks: Roomy::new(alloc),
         }
     }
@@ -61,26 +61,26 @@ impl Pace {
         ensures { self.new ≡ record self.old { previous = previous_of fork } }
     {
         match (fork, self.previous) {
-            (Some(fork), _) => self.previous = KeptEntry::Forked(fork),
-            (None, KeptEntry::Ran) => {}
-            (None, _) => self.previous = KeptEntry::Ran,
+            (Some(fork), _) => self.previous = PreviousKind::Forked(fork),
+            (None, PreviousKind::Ran) => {}
+            (None, _) => self.previous = PreviousKind::Ran,
         }
     }
 
     /// After the marking of a heap has begun, whose task waits on this fork.
     pub fn after_mark(&mut self, fork: Fork)
         requires { 0 < self.old.marks.room }
-        ensures { self.new ≡ record { previous = KeptEntry.Other; marks = record { items = self.old.marks.items ++ fork ∷ []; room = self.old.marks.room - 1 } } }
+        ensures { self.new ≡ record { previous = PreviousKind.Other; marks = record { items = self.old.marks.items ++ fork ∷ []; room = self.old.marks.room - 1 } } }
     {
-        self.previous = KeptEntry::Other;
+        self.previous = PreviousKind::Other;
         self.marks.push_reserved(fork);
     }
 
     /// After any other entry.
     pub fn after_other(&mut self)
-        ensures { self.new ≡ record self.old { previous = KeptEntry.Other } }
+        ensures { self.new ≡ record self.old { previous = PreviousKind.Other } }
     {
-        self.previous = KeptEntry::Other;
+        self.previous = PreviousKind::Other;
     }
 }
 

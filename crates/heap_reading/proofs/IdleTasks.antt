@@ -28,7 +28,7 @@ use Rattle.ledger_step_laws.specs.Accounts.{Rests, rested}
 use Rattle.ledger_step_laws.specs.Last.{EndsDone, GoesOn, Halts, IdleRest, IsOfKind, LastKind, Private, Reading, Writing, Printing, Forking, Ending, Joining, Finishing, Halting, Runs}
 use Rattle.ledger_step_laws.proofs.Split.{entry_runs, legal_idle}
 use Rattle.core_relation.specs.Whole.{handed}
-use Rattle.core_entry_laws.proofs.whole.DoneHands.{done_hands_all, others_idle}
+use Rattle.core_entry_laws.proofs.whole.DoneReturns.{done_returns_all, others_idle}
 use Rattle.core_entry_laws.proofs.whole.HandedBack.{handed_halt, handed_on}
 use Rattle.shared_value.proofs.JournalGoesOn.{accounts_then}
 
@@ -131,7 +131,7 @@ module _ (p : ProgramText) (s : SettingsValue) (before : List EntryValue) (I : I
       ran_by Forking K go = more (go tt)
       ran_by Ending K go = more (go tt)
       ran_by Joining K go = more (go tt)
-      ran_by Finishing K go = record { handed_back = λ u h. done_hands_all p s l l' t w k E K.ended u; done = λ q u. ended K u }
+      ran_by Finishing K go = record { handed_back = λ u h. done_returns_all p s l l' t w k E K.ended u; done = λ q u. ended K u }
       ran_by Halting K go = halted K
 
     entry_idle : (w : ℕ) (kind : Kind) → refusal p s l (record { worker = w; kind = kind }) ≡ None → Idles (after p s l (record { worker = w; kind = kind }))

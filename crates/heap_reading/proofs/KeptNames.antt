@@ -190,7 +190,7 @@ module _ (w : SharedValue) (I : IsSharedValue w) where
   few_words : words_sum k.machine (held k) ≤ 2 ^ 26
   few_words =
       let u : in_use k ≤ w.settings.chunks = (use_is_bounded w.program w.settings w.journal.items I.legal).now in
-      let c : w.settings.chunks ≤ 65536 = I.limits.chunks.1 in
+      let c : w.settings.chunks ≤ 65536 = I.settings.chunks.1 in
       let f : words_sum k.machine (held k) ≤ 1024 * in_use k = (heaps_fit w.program w.settings w.journal.items I.legal).words in
       omega (arith, u, c, f)
 
@@ -216,7 +216,7 @@ module _ (w : SharedValue) (I : IsSharedValue w) where
   homes_few =
       let c = (journals_are_counted w.program w.settings w.journal.items).counts.made in
       let s = steps_are_bounded w.program w.settings w.journal.items I.legal in
-      let d = I.limits.fuel.1 in
+      let d = I.settings.fuel.1 in
       let h = homes_long in
       omega (arith, c, s, d, h)
 

@@ -56,7 +56,7 @@ IsStored m n = (o : Object) × (object_at m.store n ≡ Some o)
 
 -- what a task holds in its registers or as its result, and what a field holds, is in the store
 pub record NamesAreStoredIn (m : State) : Type 0 where
-  pub held : (t : ℕ) (x : Task) (n : Name) → slice_get m.tasks t ≡ Some x → Contains (task_names x) n → IsStored m n
+  pub named : (t : ℕ) (x : Task) (n : Name) → slice_get m.tasks t ≡ Some x → Contains (task_names x) n → IsStored m n
   pub in_fields : (n r : Name) (o : Object) → object_at m.store n ≡ Some o → Contains o.refs (Some r) → IsStored m r
 
 abbrev pub NamesAreStored : Type 0

@@ -1,15 +1,13 @@
 -- The references of an object, one after the other.
-use Rattle.std.proofs.Common.{◌≡◌, ◌+◌, ℕ, Bool, true, false, List, [], ◌∷◌, ap, sym, ◌∙◌}
-use Rattle.std.specs.Prelude.{Option, Some, None, ◌||◌, ◌&&◌, not, if◌then◌else◌}
+use Rattle.std.proofs.Common.{◌≡◌, ℕ, Bool, false, List, [], sym}
+use Rattle.std.specs.Prelude.{Option, Some, None, ◌||◌, if◌then◌else◌}
 use Rattle.std.specs.List.{list_any}
-use Rattle.std.proofs.Math.Bool.{or-false, or_assoc}
+use Rattle.std.proofs.Math.Bool.{or-false}
 use Rattle.image_check.specs.declared.read.Read.{Read}
 use Rattle.image_check.specs.declared.whole.Whole.{Whole}
 use Rattle.image_check.specs.declared.cause.Cause.{Cause}
 use Rattle.image_check.specs.declared.cause.Cause.TheVariants.{Ref, Cross, Down}
-use Rattle.image_check.specs.declared.tasks.Relation.{Relation}
-use Rattle.image_check.specs.Tasks.{owner_at}
-use Rattle.image_check.specs.Fault.{is_astray, relation_to, is_apart, is_below, is_noted, crosses, is_forgotten, forgets}
+use Rattle.image_check.specs.Fault.{is_astray, crosses, forgets}
 
 abbrev pub by_tests : Bool → Bool → Bool → Option Cause
 by_tests astray crossing forgotten =

@@ -10,7 +10,7 @@ use Rattle.alloc_path.specs.LeafHeapValue.{AreApart, IsFresh}
 use Rattle.alloc_path.specs.Units.{counted32, unit_count}
 use Rattle.alloc_path.proofs.HeapLemmas.{fresh_behind, fresh_cons, fresh_front, fresh_head, fresh_tail}
 use Rattle.chunk_pool.specs.PoolValue.{PoolValue, Gives, slot_at, slot_units}
-use Rattle.inner_mark_gc.specs.Swept.{AreGiven, units_kept}
+use Rattle.inner_mark_gc.specs.Swept.{AreGiven, units_in_slots}
 
 -- ---- fresh numbers
 
@@ -86,11 +86,11 @@ still_free q r (k ∷ ks) ls a g =
     ])
     (still_free q r ks ls (All-tail (λ k. slot_at q k.number ≡ None) k ks a) g)
 
-units_append : (p : PoolValue) (ks ls : List ChunkValue) → units_kept p (ks ++ ls) ≡ units_kept p ks + units_kept p ls
+units_append : (p : PoolValue) (ks ls : List ChunkValue) → units_in_slots p (ks ++ ls) ≡ units_in_slots p ks + units_in_slots p ls
 units_append p [] ls = omega arith
 units_append p (k ∷ ks) ls = let ih = units_append p ks ls in omega arith
 
-units_same : (p q : PoolValue) (ks ls : List ChunkValue) → AreGiven p q ks → All (λ l. IsFresh ks l.number) ls → units_kept q ls ≡ units_kept p ls
+units_same : (p q : PoolValue) (ks ls : List ChunkValue) → AreGiven p q ks → All (λ l. IsFresh ks l.number) ls → units_in_slots q ls ≡ units_in_slots p ls
 units_same p q ks [] g a = refl
 units_same p q ks (l ∷ ls) g a =
     let here : slot_units (slot_at q l.number) ≡ slot_units (slot_at p l.number) = ap slot_units (g.others l.number (All-head (λ l. IsFresh ks l.number) l ls a)) in

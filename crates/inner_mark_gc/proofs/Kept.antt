@@ -15,7 +15,7 @@ use Rattle.listed.proofs.Members.{In, contains_from_in, in_from_contains}
 use Rattle.listed.proofs.Places.{in_take}
 use Rattle.alloc_path.specs.LeafHeapValue.{AreApart, IsCurrent, IsFresh, IsReserved, IsSettled, IsTidy, units}
 use Rattle.alloc_path.proofs.HeapLemmas.{fresh_at, fresh_cons, fresh_head, fresh_tail, none_there}
-use Rattle.inner_mark_gc.specs.Laws.{AllMarkedIsDone, EachLeftHolds, SweptAreRead, SweptIsSnapshot}
+use Rattle.inner_mark_gc.specs.Laws.{AllMarkedIsDone, SweptChunksHold, SweptAreRead, SweptIsSnapshot}
 use Rattle.inner_mark_gc.specs.MarkingValue.{has_address, marked_of}
 use Rattle.inner_mark_gc.specs.Snapshot.{IsInSnapshot}
 use Rattle.inner_mark_gc.specs.Swept.{has_number, has_object, number_at, place_at, stays, swept, swept_cell, swept_cells, swept_chunk}
@@ -251,5 +251,5 @@ each_left kept reserved (x ∷ ks) k i = step (each_left kept reserved ks k) (st
     step rest true q (inr j) = rest j
     step rest false q j = rest j
 
-pub each_left_holds : EachLeftHolds
-each_left_holds h kept k c = each_left kept (number_at h.chunks h.reserved) h.chunks k (in_from_contains _ k c)
+pub swept_chunks_hold : SweptChunksHold
+swept_chunks_hold h kept k c = each_left kept (number_at h.chunks h.reserved) h.chunks k (in_from_contains _ k c)

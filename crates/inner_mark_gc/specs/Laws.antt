@@ -40,11 +40,11 @@ AllMarkedIsDone =
     (f : Fork) (kept : List Addr) (m : MarkingValue) (h : List ChunkValue)
     → IsOf h kept m → IsMarking f kept m → IsAllMarked f kept m → IsDone m
 
--- once a heap is swept, what is kept is read as it was, and nothing else is there
+-- once a heap is swept, what was marked is read as it was, and nothing else is there
 abbrev pub SweptAreRead : Type 0
 SweptAreRead =
-    (h : LeafHeapValue) (kept : List Addr) → AreApart h.chunks
-    → (a : Addr) → object_of (swept h kept).chunks a ≡ (if has_address kept a then object_of h.chunks a else no_cell)
+    (h : LeafHeapValue) (marked : List Addr) → AreApart h.chunks
+    → (a : Addr) → object_of (swept h marked).chunks a ≡ (if has_address marked a then object_of h.chunks a else no_cell)
 
 -- where the whole snapshot is marked, a sweep leaves exactly that: each object there is of it, and all of it is there
 abbrev pub SweptIsSnapshot : Type 0
@@ -54,7 +54,7 @@ SweptIsSnapshot =
     → (a : Addr) → (IsObject (cell_of (swept h (marked_of m)).chunks a).mark → IsInSnapshot f kept a) × (IsInSnapshot f kept a → HasObjectAt (swept h (marked_of m)).chunks a)
 
 -- in each chunk that a sweep leaves lies an object, but for the reserved one
-abbrev pub EachLeftHolds : Type 0
-EachLeftHolds =
-    (h : LeafHeapValue) (kept : List Addr) (k : ChunkValue) → Contains (staying_of h kept) k
+abbrev pub SweptChunksHold : Type 0
+SweptChunksHold =
+    (h : LeafHeapValue) (marked : List Addr) (k : ChunkValue) → Contains (staying_of h marked) k
     → (has_object k.cells ≡ true) ⊎ (has_number (number_at h.chunks h.reserved) k ≡ true)

@@ -13,12 +13,12 @@ use Rattle.inner_mark_gc.specs.MarkingValue.{has_address}
 
 -- ---- a chunk
 
--- cells of a chunk, the first of them at an offset: those at the addresses that are kept stay
+-- cells of a chunk, the first of them at an offset: those at the addresses that are marked stay
 abbrev pub swept_cells : List Addr → ℕ → ℕ → List Cell → List Cell
-swept_cells kept number at cs = sifted_cells (has_address kept) number at cs
+swept_cells marked number at cs = sifted_cells (has_address marked) number at cs
 
 abbrev pub swept_chunk : List Addr → ChunkValue → ChunkValue
-swept_chunk kept k = record k { cells = swept_cells kept k.number 0 k.cells }
+swept_chunk marked k = record k { cells = swept_cells marked k.number 0 k.cells }
 
 -- whether an object lies among these cells
 abbrev pub is_object : Mark → Bool
@@ -47,37 +47,37 @@ has_number (Some n) k = k.number == n
 
 -- a chunk stays where an object is left in it; so does the one of this number, which is reserved
 abbrev pub stays : List Addr → Option ℕ → ChunkValue → Bool
-stays kept reserved k = has_number reserved k || has_object (swept_chunk kept k).cells
+stays marked reserved k = has_number reserved k || has_object (swept_chunk marked k).cells
 
 abbrev pub goes : List Addr → Option ℕ → ChunkValue → Bool
-goes kept reserved k = not (stays kept reserved k)
+goes marked reserved k = not (stays marked reserved k)
 
 -- the chunks that are left, in their order, and those that go
 abbrev pub staying_of : LeafHeapValue → List Addr → List ChunkValue
-staying_of h kept = map (swept_chunk kept) (filter (stays kept (number_at h.chunks h.reserved)) h.chunks)
+staying_of h marked = map (swept_chunk marked) (filter (stays marked (number_at h.chunks h.reserved)) h.chunks)
 
 abbrev pub gone_of : LeafHeapValue → List Addr → List ChunkValue
-gone_of h kept = filter (goes kept (number_at h.chunks h.reserved)) h.chunks
+gone_of h marked = filter (goes marked (number_at h.chunks h.reserved)) h.chunks
 
--- the heap with just the objects that are kept, each where it lies; it goes on filling its chunk, if that
+-- the heap with just the objects that are marked, each where it lies; it goes on filling its chunk, if that
 -- is left, and keeps the reserved one
 abbrev pub swept : LeafHeapValue → List Addr → LeafHeapValue
-swept h kept = record h {
-  chunks = staying_of h kept;
-  current = place_at (staying_of h kept) (number_at h.chunks h.current);
-  reserved = place_at (staying_of h kept) (number_at h.chunks h.reserved);
+swept h marked = record h {
+  chunks = staying_of h marked;
+  current = place_at (staying_of h marked) (number_at h.chunks h.current);
+  reserved = place_at (staying_of h marked) (number_at h.chunks h.reserved);
 }
 
 -- ---- the pool
 
 -- the units that the pool keeps for these chunks
-abbrev pub units_kept : PoolValue → List ChunkValue → ℕ
-units_kept pool [] = 0
-units_kept pool (k ∷ ks) = slot_units (slot_at pool k.number) + units_kept pool ks
+abbrev pub units_in_slots : PoolValue → List ChunkValue → ℕ
+units_in_slots pool [] = 0
+units_in_slots pool (k ∷ ks) = slot_units (slot_at pool k.number) + units_in_slots pool ks
 
 -- the numbers of these chunks are no longer in use; all else stays
 pub record AreGiven (old new : PoolValue) (ks : List ChunkValue) : Type 0 where
   pub free : All (λ k. slot_at new k.number ≡ None) ks
   pub others : (n : ℕ) → IsFresh ks n → slot_at new n ≡ slot_at old n
   pub limit : new.limit ≡ old.limit
-  pub units : units_in_use new + units_kept old ks ≡ units_in_use old
+  pub units : units_in_use new + units_in_slots old ks ≡ units_in_use old

@@ -1,6 +1,6 @@
 // Laws of the snapshot, of a marking between two calls, and of a sweep.
 
-ghost use Rattle.inner_mark_gc.specs.Laws.{AllMarkedIsDone, EachLeftHolds, MarkingGoesOn, MarkingStaysOf, SnapshotIsOfRoots, SweptAreRead, SweptIsSnapshot};
+ghost use Rattle.inner_mark_gc.specs.Laws.{AllMarkedIsDone, SweptChunksHold, MarkingGoesOn, MarkingStaysOf, SnapshotIsOfRoots, SweptAreRead, SweptIsSnapshot};
 
 /// What a marking starts from leads to just what the roots at the fork lead to, where each start is of that.
 pub fn snapshot_is_of_roots()
@@ -33,6 +33,6 @@ pub fn swept_is_snapshot()
 {}
 
 /// In each chunk that a sweep leaves lies an object, but for the reserved one.
-pub fn each_left_holds()
-    ensures { EachLeftHolds }
+pub fn swept_chunks_hold()
+    ensures { SweptChunksHold }
 {}

@@ -7,8 +7,8 @@ mod room;
 mod sweep;
 
 pub use laws::{
-    all_marked_is_done, each_left_holds, marking_goes_on, marking_stays_of, snapshot_is_of_roots,
-    swept_are_read, swept_is_snapshot,
+    all_marked_is_done, marking_goes_on, marking_stays_of, snapshot_is_of_roots, swept_are_read,
+    swept_chunks_hold, swept_is_snapshot,
 };
 pub use marking::Marking;
 pub use room::MarkingRoom;

@@ -47,14 +47,14 @@ module _ (w : SharedValue) (k : ℕ) (p : Private) (I : IsSharedValue w) (F : Fi
   pub begin_count : (n : ℕ) → n ≡ take_by (counted (small_words p.heap.chunks)) → n ≡ take_by (small_words p.heap.chunks)
   begin_count n q =
       let h : units_in_use w.pool + take_by (small_words p.heap.chunks) ≤ w.settings.chunks = begin_within w k p I F0 free in
-      let few : w.settings.chunks ≤ 65536 = I.limits.chunks.1 in
+      let few : w.settings.chunks ≤ 65536 = I.settings.chunks.1 in
       omega (arith, q, h, few)
 
   pub begin_few : (n : ℕ) → n ≡ take_by (counted (small_words p.heap.chunks)) → n < 2 ^ 22
   begin_few n q =
       let c = begin_count n q in
       let h : units_in_use w.pool + take_by (small_words p.heap.chunks) ≤ w.settings.chunks = begin_within w k p I F0 free in
-      let few : w.settings.chunks ≤ 65536 = I.limits.chunks.1 in
+      let few : w.settings.chunks ≤ 65536 = I.settings.chunks.1 in
       omega (arith, c, h, few)
 
   pub begin_free : (n : ℕ) → n ≡ take_by (counted (small_words p.heap.chunks)) → w.pool.limit < units_in_use w.pool + n → ⊥

@@ -37,7 +37,7 @@ use Rattle.remembered_set.specs.Moved.{AreFields, redirected}
 use Rattle.remembered_set.specs.Sources.{StandOnce}
 use Rattle.leaf_copy_gc.specs.declared.lists.Moved.{Moved}
 use Rattle.leaf_copy_gc.specs.Redirected.{new_address}
-use Rattle.inner_mark_gc.specs.Swept.{AreGiven, units_kept}
+use Rattle.inner_mark_gc.specs.Swept.{AreGiven, units_in_slots}
 use Rattle.ledger_step_laws.specs.Accounts.{Rests, own}
 use Rattle.ledger_step_laws.proofs.Ahead.{heap_then, with_at, with_off}
 use Rattle.ledger_step_laws.proofs.Known.{legal_knows}
@@ -250,7 +250,7 @@ module _ (w : SharedValue) (k : ℕ) (p : Private) (moved : Moved) (I : IsShared
     counts : CountsGo w.program w.settings l (tree_counts_of w) (tree_counts_of w') k (End t moved.taken moved.given moved.left)
     counts = (
       record { node = λ u. refl; task_out = λ u. refl; steps = refl; outputs = refl },
-      (let g : units_in_use pool + units_kept w.pool moved.back.items ≡ units_in_use w.pool = G.units in let b : units_kept w.pool moved.back.items ≡ moved.given = F.back.units in omega (arith, g, b)),
+      (let g : units_in_use pool + units_in_slots w.pool moved.back.items ≡ units_in_use w.pool = G.units in let b : units_in_slots w.pool moved.back.items ≡ moved.given = F.back.units in omega (arith, g, b)),
       refl,
     )
 

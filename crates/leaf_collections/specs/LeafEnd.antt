@@ -10,7 +10,7 @@ use Rattle.alloc_path.specs.LeafHeapValue.{AreApart, IsFresh}
 use Rattle.remembered_set.specs.Moved.{AreInOrder, ArePlaces}
 use Rattle.leaf_copy_gc.specs.declared.lists.Moved.{Moved}
 use Rattle.leaf_copy_gc.specs.Redirected.{new_address}
-use Rattle.inner_mark_gc.specs.Swept.{units_kept}
+use Rattle.inner_mark_gc.specs.Swept.{units_in_slots}
 use Rattle.ledger_step_laws.specs.Accounts.{aside}
 use Rattle.core_relation.specs.Copies.{CopyFits}
 use Rattle.core_relation.specs.Memory.{Belongings}
@@ -33,7 +33,7 @@ pub record AreBack (w : SharedValue) (p : Private) (ks : List ChunkValue) (given
   pub apart : AreApart ks
   pub owned : All (λ k. owner_of w.pool k.number ≡ Some p.task) ks
   pub gone : All (λ k. IsFresh p.heap.chunks k.number) ks
-  pub units : units_kept w.pool ks ≡ given
+  pub units : units_in_slots w.pool ks ≡ given
 
 -- the part as it was copied, with what the copying came to
 pub record FitsCopied (w : SharedValue) (worker : ℕ) (p : Private) (moved : Moved) : Type 0 where

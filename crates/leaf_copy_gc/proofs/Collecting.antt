@@ -12,7 +12,7 @@ use Rattle.leaf_copy_gc.specs.Survivors.{olds, with_chunks, HaveNames}
 use Rattle.leaf_copy_gc.specs.Laid.{before, smalls, AreNew}
 use Rattle.leaf_copy_gc.specs.Redirected.{led_chunk}
 use Rattle.leaf_copy_gc.specs.Exchanged.{emptied, goes, stays, unreserved, reserved_of, reserved_place, named, last_place, CanName}
-use Rattle.leaf_copy_gc.specs.Collected.{IsLeftBehind, keeps, leaves, laying_of, redirection}
+use Rattle.leaf_copy_gc.specs.Collected.{IsVacated, keeps, leaves, laying_of, redirection}
 use Rattle.address_laws.proofs.Numbers as nums
 use Rattle.leaf_copy_gc.proofs.NewNumbers as new_numbers
 use Rattle.address_laws.proofs.Numbers.{numbers, Distinct}
@@ -23,7 +23,7 @@ use Rattle.leaf_copy_gc.proofs.Naming as naming
 use Rattle.leaf_copy_gc.proofs.Tidied as tidied
 
 module _ (h g : List ChunkValue) (ss : List Survivor) (news : List ChunkValue) (r : Option ℕ) (laid : List ChunkValue)
-    (left : IsLeftBehind h g (olds ss) (redirection h ss (reverse news))) (tidy : AreTidy h) (apart : AreApart (h ++ news)) (new : AreNew news)
+    (vacated : IsVacated h g (olds ss) (redirection h ss (reverse news))) (tidy : AreTidy h) (apart : AreApart (h ++ news)) (new : AreNew news)
     (once : Once (olds ss)) (names : HaveNames h ss) (reserved : IsReserved g r)
     (is : laid ≡ map (led_chunk (redirection h ss (reverse news))) (laying_of h ss (reverse news)).laid) where
   all_once : Distinct (numbers h ++ numbers news)
@@ -51,13 +51,13 @@ module _ (h g : List ChunkValue) (ss : List Survivor) (news : List ChunkValue) (
 
   within_before : (o : Option ℕ) → Within g o → Within h o
   within_before None w = tt
-  within_before (Some i) w = let n = nums.alike_length h g left.alike in let l : i < length g = w in omega arith
+  within_before (Some i) w = let n = nums.alike_length h g vacated.alike in let l : i < length g = w in omega arith
 
   within : Within h r
   within = within_before r (within_at g r reserved)
 
   reserved_is : reserved_of g r ≡ reserved_of h r
-  reserved_is = rebuilt.reserved_same h g r left.alike (none_at g r reserved)
+  reserved_is = rebuilt.reserved_same h g r vacated.alike (none_at g r reserved)
 
   none_before : (o : Option ℕ) → reserved_of g o ≡ reserved_of h o → NoneThere g o → NoneThere h o
   none_before None e n = tt
@@ -65,7 +65,7 @@ module _ (h g : List ChunkValue) (ss : List Survivor) (news : List ChunkValue) (
 
   pairs : rebuilt.ArePairs ss (redirection h ss (reverse news)) (unreserved h r) (unreserved g r)
   pairs = rebuilt.pairs_unreserved ss (redirection h ss (reverse news)) h g r
-      (rebuilt.pairs ss (redirection h ss (reverse news)) h g left.alike tidy once_h (λ a i. (left.large a, left.others a)))
+      (rebuilt.pairs ss (redirection h ss (reverse news)) h g vacated.alike tidy once_h (λ a i. (vacated.large a, vacated.others a)))
 
   stay_is : filter stays (unreserved g r) ≡ map (marked_chunk ss (redirection h ss (reverse news))) (filter (keeps ss) (unreserved h r))
   stay_is = rebuilt.stay_same ss (redirection h ss (reverse news)) (unreserved h r) (unreserved g r) pairs

@@ -23,7 +23,7 @@ use Rattle.leaf_copy_gc.specs.CollectorValue.{CollectorValue}
 use Rattle.leaf_copy_gc.specs.Copying.{copied, copied_one}
 use Rattle.leaf_copy_gc.specs.Redirected.{followed_ref, followed_large, redirected, led_cell}
 use Rattle.address_laws.specs.Alike.{AreAlike}
-use Rattle.leaf_copy_gc.specs.Collected.{IsLeftBehind}
+use Rattle.leaf_copy_gc.specs.Collected.{IsVacated}
 use Rattle.leaf_copy_gc.proofs.Moves as moves
 use Rattle.leaf_copy_gc.proofs.Larges as larges
 use Rattle.leaf_copy_gc.proofs.Leading as leading
@@ -70,8 +70,8 @@ module _ (h : List ChunkValue) (from : List (Option Addr)) (closed : IsClosed h)
       larges.larges_other t.heap.chunks ss a out
       ∙ leading.dead_stays h from closed sound ss found spare kept once all names k k_old k_laying k_moved new t is a out (back a)
 
-  pub left : IsLeftBehind h (fold followed_large t.heap.chunks ss) (olds ss) (redirected (relocations (before spare) h (smalls h (olds ss))))
-  left = record { alike = alike; large = large; others = others }
+  pub vacated : IsVacated h (fold followed_large t.heap.chunks ss) (olds ss) (redirected (relocations (before spare) h (smalls h (olds ss))))
+  vacated = record { alike = alike; large = large; others = others }
 
 -- ---- a sort keeps the survivors, each once
 

@@ -19,7 +19,7 @@ use Rattle.leaf_copy_gc.specs.Search.{all_found, IsTarget}
 use Rattle.leaf_copy_gc.specs.Laid.{Laying, before, relocations, smalls}
 use Rattle.leaf_copy_gc.specs.Copying.{copied, IsReady}
 use Rattle.leaf_copy_gc.specs.Redirected.{followed_ref, followed_large, led_chunk, led_frame, CanFollow, HasTargets}
-use Rattle.leaf_copy_gc.specs.Collected.{laying_of, moves_of, redirection, AreSurvivors, IsLeftBehind}
+use Rattle.leaf_copy_gc.specs.Collected.{laying_of, moves_of, redirection, AreSurvivors, IsVacated}
 use Rattle.leaf_copy_gc.specs.Evacuated.{Begins, IsEvacuated}
 use Rattle.leaf_copy_gc.proofs.Evacuated as evacuated
 use Rattle.leaf_copy_gc.proofs.FrameLemmas as frames
@@ -107,9 +107,9 @@ module _ (b : CollectorValue) (from : List (Option Addr)) (closed : IsClosed b.h
     pub laid_is : map (led_chunk (followed_ref t.heap.chunks)) t.laying.laid ≡ map (led_chunk (redirection b.heap.chunks s.found b.laying.spare)) (laying_of b.heap.chunks s.found b.laying.spare).laid
     laid_is = leading.chunks_are b.heap.chunks from closed sound s.found (olds d.found) b.laying.spare kept once all names s marks none_laid none_moved are.begins.new t is
 
-    pub left_is : IsLeftBehind b.heap.chunks (fold followed_large t.heap.chunks t.found) (olds s.found) (redirection b.heap.chunks s.found b.laying.spare)
-    left_is = subst (λ (xs : List Survivor). IsLeftBehind b.heap.chunks (fold followed_large t.heap.chunks xs) (olds s.found) (redirection b.heap.chunks s.found b.laying.spare)) (sym stay)
-        (evacuated.left b.heap.chunks from closed sound s.found (olds d.found) b.laying.spare kept once all (evacuated.in_sorted d.found s.found are.permuted) names s marks none_laid none_moved are.begins.new t is)
+    pub vacated_is : IsVacated b.heap.chunks (fold followed_large t.heap.chunks t.found) (olds s.found) (redirection b.heap.chunks s.found b.laying.spare)
+    vacated_is = subst (λ (xs : List Survivor). IsVacated b.heap.chunks (fold followed_large t.heap.chunks xs) (olds s.found) (redirection b.heap.chunks s.found b.laying.spare)) (sym stay)
+        (evacuated.vacated b.heap.chunks from closed sound s.found (olds d.found) b.laying.spare kept once all (evacuated.in_sorted d.found s.found are.permuted) names s marks none_laid none_moved are.begins.new t is)
 
   pub survivors : AreSurvivors b.heap.chunks from s.found
   survivors = record { exactly = kept; once = distinct_from (olds s.found) once; names = names; order = are.ordered }
@@ -147,8 +147,8 @@ module _ (b : CollectorValue) (fs : FramesValue) (roots : List Addr) (closed : I
     spare = ap (λ (z : CollectorValue). z.laying.spare) e_is ∙ (ap (λ (z : CollectorValue). z.laying.spare) u_is ∙ (ap (λ (y : Laying). y.spare) (laying_is b (outside fs roots) closed sound d s are t is)
         ∙ ap (λ (xs : List Survivor). (laying_of b.heap.chunks xs b.laying.spare).spare) (sym found_e)));
     frames = g_is ∙ (led_frames ∙ ap (λ (xs : List Survivor). map (led_frame (redirection b.heap.chunks xs b.laying.spare)) (frames_of fs)) (sym found_e));
-    left = subst (λ (xs : List Survivor). IsLeftBehind b.heap.chunks e.heap.chunks (olds xs) (redirection b.heap.chunks xs b.laying.spare)) (sym found_e)
-        (subst (λ (g : List ChunkValue). IsLeftBehind b.heap.chunks g (olds s.found) (redirection b.heap.chunks s.found b.laying.spare)) (sym chunks_e) (left_is b (outside fs roots) closed sound d s are t is));
+    vacated = subst (λ (xs : List Survivor). IsVacated b.heap.chunks e.heap.chunks (olds xs) (redirection b.heap.chunks xs b.laying.spare)) (sym found_e)
+        (subst (λ (g : List ChunkValue). IsVacated b.heap.chunks g (olds s.found) (redirection b.heap.chunks s.found b.laying.spare)) (sym chunks_e) (vacated_is b (outside fs roots) closed sound d s are t is));
     heap = ap (λ (z : CollectorValue). z.heap) e_is
         ∙ (ap (λ (g : LeafHeapValue). with_chunks g (fold followed_large u.heap.chunks u.found)) (heap_u ∙ copying_kept b (outside fs roots) closed sound d s are t is)
         ∙ ap (with_chunks b.heap) (sym (ap (λ (z : CollectorValue). z.heap.chunks) e_is)));

@@ -76,12 +76,12 @@ module _ (ss : List Survivor) (f : Option Addr → Option Addr) where
   abbrev pub marked_chunk : ChunkValue → ChunkValue
   marked_chunk k = record k { cells = map (λ (c : Cell). led_cell f (with_mark c (Moved (first_of k)))) k.cells }
 
-  abbrev pub LeftIn : List ChunkValue → List ChunkValue → Type 0
-  LeftIn hs gs = (a : Addr) → In (numbers hs) a.chunk →
+  abbrev pub VacatedIn : List ChunkValue → List ChunkValue → Type 0
+  VacatedIn hs gs = (a : Addr) → In (numbers hs) a.chunk →
       (Contains (olds ss) a → is_small hs a ≡ false → cell_of gs a ≡ led_cell f (with_mark (cell_of hs a) (Moved a)))
       × ((Contains (olds ss) a → ⊥) → cell_of gs a ≡ cell_of hs a)
 
-  left_tail : (k l : ChunkValue) (ks ls : List ChunkValue) → l.number ≡ k.number → (In (numbers ks) k.number → ⊥) → LeftIn (k ∷ ks) (l ∷ ls) → LeftIn ks ls
+  left_tail : (k l : ChunkValue) (ks ls : List ChunkValue) → l.number ≡ k.number → (In (numbers ks) k.number → ⊥) → VacatedIn (k ∷ ks) (l ∷ ls) → VacatedIn ks ls
   left_tail k l ks ls n fresh left a i =
       let out : k.number ≡ a.chunk → ⊥ = λ e. fresh (subst (In (numbers ks)) (sym e) i) in
       let was = extent.later k ks a out in
@@ -143,7 +143,7 @@ module _ (ss : List Survivor) (f : Option Addr → Option Addr) where
   ArePairs (k ∷ ks) [] = ⊥
   ArePairs (k ∷ ks) (l ∷ ls) = IsPair k l × ArePairs ks ls
 
-  pub pairs : (hs gs : List ChunkValue) → AreAlike hs gs → AreTidy hs → Distinct (numbers hs) → LeftIn hs gs → ArePairs hs gs
+  pub pairs : (hs gs : List ChunkValue) → AreAlike hs gs → AreTidy hs → Distinct (numbers hs) → VacatedIn hs gs → ArePairs hs gs
   pairs [] [] a t d left = tt
   pairs [] (l ∷ ls) a t d left = absurd a
   pairs (k ∷ ks) [] a t d left = absurd a

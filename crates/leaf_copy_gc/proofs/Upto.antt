@@ -1,11 +1,10 @@
 -- The references of an object led one after another.
 use Rattle.std.proofs.Common.{◌≡◌, ℕ, zero, suc, ◌+◌, ◌-◌, ◌<◌, ◌≤◌, List, [], ◌∷◌, ◌++◌, length, get_or, set, take, drop, refl, ap, ◌∙◌, arith, Some, Option, length-append, length-take, length-drop, map, slice_get}
-use Rattle.std.proofs.lemmas.List.{length-map, get_or-append_right, get_or-drop, take_all, drop_all, append-nil}
+use Rattle.std.proofs.lemmas.List.{length-map, get_or-append_right, get_or-drop}
 use Rattle.std.proofs.lemmas.List.Edits.{map_over_more}
 use Rattle.listed.proofs.Places.{got_item}
 use Rattle.object_layout.specs.declared.word.Addr.{Addr}
 use Rattle.object_layout.specs.Cell.{Cell, with_ref, size_of}
-use Rattle.leaf_copy_gc.specs.Redirected.{led_cell}
 
 -- as far as the references below k
 abbrev pub led_upto : (Option Addr → Option Addr) → ℕ → Cell → Cell

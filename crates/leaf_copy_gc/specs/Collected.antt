@@ -38,7 +38,7 @@ redirection h ss news = redirected (moves_of h ss news)
 -- ---- the old chunks, once all references are led
 
 -- a large survivor is where it was, marked as found, with its references led; what doesn't survive is as it was
-pub record IsLeftBehind (h g : List ChunkValue) (ss : List Addr) (f : Option Addr → Option Addr) : Type 0 where
+pub record IsVacated (h g : List ChunkValue) (ss : List Addr) (f : Option Addr → Option Addr) : Type 0 where
   pub alike : AreAlike h g
   pub large : (a : Addr) → Contains ss a → is_small h a ≡ false → cell_of g a ≡ led_cell f (with_mark (cell_of h a) (Moved a))
   pub others : (a : Addr) → (Contains ss a → ⊥) → cell_of g a ≡ cell_of h a

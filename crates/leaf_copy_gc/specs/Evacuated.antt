@@ -7,7 +7,7 @@ use Rattle.leaf_copy_gc.specs.Survivors.{olds, outside, with_chunks}
 use Rattle.leaf_copy_gc.specs.Laid.{AreNew, small_words}
 use Rattle.leaf_copy_gc.specs.Redirected.{led_chunk, led_frame}
 use Rattle.leaf_copy_gc.specs.CollectorValue.{CollectorValue}
-use Rattle.leaf_copy_gc.specs.Collected.{AreSurvivors, IsLeftBehind, laying_of, moves_of, redirection}
+use Rattle.leaf_copy_gc.specs.Collected.{AreSurvivors, IsVacated, laying_of, moves_of, redirection}
 
 -- nothing is found, laid or moved yet, and the new chunks are enough for what is small
 pub record Begins (c : CollectorValue) : Type 0 where
@@ -25,5 +25,5 @@ pub record IsEvacuated (c : CollectorValue) (s : FramesValue) (roots : List Addr
   pub laid : d.laying.laid ≡ map (led_chunk (redirection c.heap.chunks d.found c.laying.spare)) (laying_of c.heap.chunks d.found c.laying.spare).laid
   pub spare : d.laying.spare ≡ (laying_of c.heap.chunks d.found c.laying.spare).spare
   pub frames : frames_of t ≡ map (led_frame (redirection c.heap.chunks d.found c.laying.spare)) (frames_of s)
-  pub left : IsLeftBehind c.heap.chunks d.heap.chunks (olds d.found) (redirection c.heap.chunks d.found c.laying.spare)
+  pub vacated : IsVacated c.heap.chunks d.heap.chunks (olds d.found) (redirection c.heap.chunks d.found c.laying.spare)
   pub heap : d.heap ≡ with_chunks c.heap d.heap.chunks

@@ -8,7 +8,7 @@ ghost use Rattle.run_ledger.specs.Reachable.{holds_name, is_name};
 ghost use Rattle.run_ledger.specs.Space.{last_words};
 ghost use Rattle.ledger_heaps.specs.Parts.{with_collected};
 
-use crate::names::{kept, kept_small, table_of};
+use crate::names::{among, small_among, table_of};
 use crate::placed::{push_list, put_last};
 use crate::sizes::{CHUNK_WORDS, units_sum, words_at, words_sum};
 use hh_model::{Name, State};
@@ -80,7 +80,7 @@ fn small_survivors(
     requires { (n : Name) → contains is_name survivors.now n ≡ holds_name heap.now.survivors n }
     ensures { IfOk result (λ names. names ≡ small_survivors heap.now) }
 {
-    Ok(in_order_of_birth(kept_small(alloc, heap, survivors)?))
+    Ok(in_order_of_birth(small_among(alloc, heap, survivors)?))
 }
 
 fn large_survivors(
@@ -91,7 +91,7 @@ fn large_survivors(
     requires { (n : Name) → contains is_name survivors.now n ≡ holds_name heap.now.survivors n }
     ensures { IfOk result (λ names. names ≡ large_survivors heap.now) }
 {
-    kept(alloc, heap.large.as_slice(), survivors)
+    among(alloc, heap.large.as_slice(), survivors)
 }
 
 // Names by task, then by count.

@@ -44,7 +44,7 @@ fn note_all(table: &mut HashSet<Name>, names: &[Name]) -> Result<(), AllocError>
 }
 
 /// Those of some names that are in a table, in order.
-pub(crate) fn kept(
+pub(crate) fn among(
     alloc: Global,
     names: &[Name],
     table: &HashSet<Name>,
@@ -57,7 +57,7 @@ pub(crate) fn kept(
 }
 
 /// Those of a heap's small names that are in a table, in order.
-pub(crate) fn kept_small(
+pub(crate) fn small_among(
     alloc: Global,
     heap: &Heap,
     table: &HashSet<Name>,

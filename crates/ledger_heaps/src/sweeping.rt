@@ -8,7 +8,7 @@ ghost use Rattle.listed.specs.Members.{is_empty};
 ghost use Rattle.run_ledger.specs.Heaps.{in_snapshot, is_last_empty, sweep_number, swept_heap, without_empty, words_in};
 ghost use Rattle.ledger_heaps.specs.Parts.{with_swept};
 
-use crate::names::{kept, table_of};
+use crate::names::{among, table_of};
 use crate::sizes::units_sum;
 use hh_model::{Name, State};
 use listed::Listed;
@@ -54,7 +54,7 @@ pub fn sweep(alloc: Global, machine: &State, heap: &Heap) -> Result<Swept, Alloc
         chunks,
         is_last_empty,
     } = clear(alloc, heap, &snapshot)?;
-    let large = large_kept(alloc, heap, &snapshot)?;
+    let large = large_among(alloc, heap, &snapshot)?;
     let room = if is_last_empty { 0 } else { heap.room };
     let dropped = units_sum(machine, heap.large.as_slice()) - units_sum(machine, large.as_slice());
     let given = (heap.chunks.as_slice().len() - chunks.len()) as u64 + dropped;
@@ -66,7 +66,7 @@ pub fn sweep(alloc: Global, machine: &State, heap: &Heap) -> Result<Swept, Alloc
     })
 }
 
-fn large_kept(
+fn large_among(
     alloc: Global,
     heap: &Heap,
     snapshot: &HashSet<Name>,
@@ -74,7 +74,7 @@ fn large_kept(
     requires { (n : Name) → contains is_name snapshot.now n ≡ holds_name heap.now.snapshot n }
     ensures { IfOk result (λ names. names ≡ in_snapshot heap.now heap.now.large) }
 {
-    kept(alloc, heap.large.as_slice(), snapshot)
+    among(alloc, heap.large.as_slice(), snapshot)
 }
 
 // The chunks that keep a name, and whether the last one keeps none.
@@ -93,7 +93,7 @@ fn clear(alloc: Global, heap: &Heap, snapshot: &HashSet<Name>) -> Result<Cleared
     let mut chunks = Listed::new(alloc);
     let mut is_last_empty = false;
     for names in heap.chunks.as_slice() {
-        let left = kept(alloc, names.as_slice(), snapshot)?;
+        let left = among(alloc, names.as_slice(), snapshot)?;
         is_last_empty = !push_filled(&mut chunks, left)?;
     }
     Ok(Cleared {

@@ -17,7 +17,7 @@ use Rattle.hh_model.specs.Step.{is_running, result_in, setting, follow, fetched,
 use Rattle.model_laws.specs.Winner.{IsTurn}
 use Rattle.hh_model.proofs.Lists.{last_push, front_push}
 use Rattle.hh_model.proofs.Taken.{step_taken}
-use Rattle.loop_nest_laws.specs.Frames.{Activation, StandsAt, Takes, HandsBack, called_frame}
+use Rattle.loop_nest_laws.specs.Frames.{Activation, StandsAt, Takes, ReturnsBy, called_frame}
 use Rattle.loop_nest_laws.proofs.Moves.{Gives, kept, now, stays, goes, calls, gives, forks, ends, resumes, joins}
 use Rattle.loop_nest_laws.proofs.Turns.{at, at_next, move_at, MoveAt, turn_of, ended_stands, ended_over, OnTop, next_turn, takes_of, not_last, fetches}
 
@@ -171,7 +171,7 @@ module _ (p : ProgramText) (limit : ℕ) (ts : List ℕ) (a : Activation) (bs : 
     pub e : ℕ
     pub number : ℤ
     pub ref : Option Name
-    pub back : HandsBack p limit ts (called_frame a k) e number ref
+    pub back : ReturnsBy p limit ts (called_frame a k) e number ref
     pub later : suc k ≤ e
     pub to : suc e ≤ m
     pub on : OnTop p limit ts a bs d (suc e) (handed (onward f) number ref)

@@ -17,7 +17,7 @@ use Rattle.hh_model.specs.Step.{is_running, is_joined, is_over, is_left, sibling
 use Rattle.model_laws.specs.Winner.{IsTurn}
 use Rattle.hh_model.proofs.Runs.{grown_at, grown_left, grown_right}
 use Rattle.hh_model.proofs.Taken.{step_taken}
-use Rattle.loop_nest_laws.specs.Frames.{Activation, StandsAt, Takes, HandsBack, left_frame, right_frame}
+use Rattle.loop_nest_laws.specs.Frames.{Activation, StandsAt, Takes, ReturnsBy, left_frame, right_frame}
 use Rattle.loop_nest_laws.proofs.Moves.{Gives, Hands, kept, now, JoinsIn, stays, goes, calls, gives, forks, ends, resumes, joins}
 use Rattle.loop_nest_laws.proofs.Turns.{at, at_next, fork_join_at, move_at, MoveAt, turn_of, turn_runs, ended_over, hands_tells, OnTop, next_turn, takes_of, not_last, fetches}
 
@@ -52,8 +52,8 @@ module _ (p : ProgramText) (limit : ℕ) (ts : List ℕ) (a : Activation) (bs : 
     pub right_end : ℕ
     pub left_value : ℤ × Option Name
     pub right_value : ℤ × Option Name
-    pub left_back : HandsBack p limit ts (left_frame p limit ts k) left_end left_value.0 left_value.1
-    pub right_back : HandsBack p limit ts (right_frame p limit ts k) right_end right_value.0 right_value.1
+    pub left_back : ReturnsBy p limit ts (left_frame p limit ts k) left_end left_value.0 left_value.1
+    pub right_back : ReturnsBy p limit ts (right_frame p limit ts k) right_end right_value.0 right_value.1
     pub on : OnTop p limit ts a bs d (suc e) (rejoined (onward f) left_value right_value)
     pub only : (j : ℕ) (v : Takes p limit ts a j) → i ≤ j → ((j ≡ k) × (v.line.instr ≡ Par g h)) ⊎ (suc e ≤ j)
 
@@ -246,13 +246,13 @@ module _ (p : ProgramText) (limit : ℕ) (ts : List ℕ) (a : Activation) (bs : 
           when : ℕ
           behind : suc k ≤ when
           before : when < j
-          back : HandsBack p limit ts b when r.0 r.1
+          back : ReturnsBy p limit ts b when r.0 r.1
 
         abbrev KidAt : ℕ → Type 0
         KidAt j = (y : Task) × (slice_get (at p limit ts j).tasks c ≡ Some y) × ((result_in y.status ≡ None) ⊎ ((r : ℤ × Option Name) × Ended j r × (result_in y.status ≡ Some r)))
 
         gives_back : (j u : ℕ) (y : Task) → suc k ≤ j → j ≤ until.e → slice_get ts j ≡ Some u → slice_get (at p limit ts j).tasks c ≡ Some y → Gives p (at p limit ts j) u c y → last_of y.below ≡ None
-            → HandsBack p limit ts b j (result_of y.top).0 (result_of y.top).1
+            → ReturnsBy p limit ts b j (result_of y.top).0 (result_of y.top).1
         gives_back j u y le to e iy o empty = record {
           takes = record {
             task = y;
@@ -309,15 +309,15 @@ module _ (p : ProgramText) (limit : ℕ) (ts : List ℕ) (a : Activation) (bs : 
             subst KidAt (let e : suc k + (until.e - suc k) ≡ until.e = omega arith in e) (kid_later (until.e - suc k) (omega arith))
 
         kid_returned : (u : ℕ) (y : Task) (r : ℤ × Option Name) → slice_get ts until.e ≡ Some u → slice_get (at p limit ts until.e).tasks c ≡ Some y → Hands p (at p limit ts until.e) u c y r
-            → (when : ℕ) × HandsBack p limit ts b when r.0 r.1
-        kid_returned u y r e iy (now o empty same) = (until.e, subst (λ (z : ℤ × Option Name). HandsBack p limit ts b until.e z.0 z.1) (sym same) (gives_back until.e u y until.begins (omega arith) e iy o empty))
+            → (when : ℕ) × ReturnsBy p limit ts b when r.0 r.1
+        kid_returned u y r e iy (now o empty same) = (until.e, subst (λ (z : ℤ × Option Name). ReturnsBy p limit ts b until.e z.0 z.1) (sym same) (gives_back until.e u y until.begins (omega arith) e iy o empty))
         kid_returned u y r e iy (kept has) =
             let s = kid_last in
             let same : s.0 ≡ y = same_Some s.0 y (sym s.1 ∙ iy) in
             let result : result_in s.0.status ≡ Some r = ap (λ (z : Task). result_in z.status) same ∙ has in
             elim (s.2) [
               | inl no_result ↦ let two : None ≡ Some r = sym no_result ∙ result in absurd cc
-              | inr q ↦ (q.1.when, subst (λ (z : ℤ × Option Name). HandsBack p limit ts b q.1.when z.0 z.1) (same_Some q.0 r (sym q.2 ∙ result)) q.1.back)
+              | inr q ↦ (q.1.when, subst (λ (z : ℤ × Option Name). ReturnsBy p limit ts b q.1.when z.0 z.1) (same_Some q.0 r (sym q.2 ∙ result)) q.1.back)
             ]
 
       abbrev r0 : Resumes until.e
@@ -329,12 +329,12 @@ module _ (p : ProgramText) (limit : ℕ) (ts : List ℕ) (a : Activation) (bs : 
       right_at : slice_get (at p limit ts until.e).tasks (l + 1) ≡ Some r0.joined.xr
       right_at = ap (λ z. slice_get (at p limit ts until.e).tasks (z + 1)) (sym r0.same) ∙ r0.joined.ir
 
-      left_returned : (when : ℕ) × HandsBack p limit ts (left_frame p limit ts k) when r0.rl.0 r0.rl.1
+      left_returned : (when : ℕ) × ReturnsBy p limit ts (left_frame p limit ts k) when r0.rl.0 r0.rl.1
       left_returned =
           kid_returned l (λ j s. s.left) cl (now_at l cl (grown_left m0.tasks a.task x xw cl cr on.is)) refl r0.u r0.joined.xl r0.rl r0.is_turn left_at
           (subst (λ z. Hands p (at p limit ts until.e) r0.u z r0.joined.xl r0.rl) r0.same r0.joined.gl)
 
-      right_returned : (when : ℕ) × HandsBack p limit ts (right_frame p limit ts k) when r0.rr.0 r0.rr.1
+      right_returned : (when : ℕ) × ReturnsBy p limit ts (right_frame p limit ts k) when r0.rr.0 r0.rr.1
       right_returned =
           kid_returned (l + 1) (λ j s. s.right) cr (now_at (l + 1) cr (grown_right m0.tasks a.task x xw cl cr on.is)) refl r0.u r0.joined.xr r0.rr r0.is_turn right_at
           (subst (λ z. Hands p (at p limit ts until.e) r0.u (z + 1) r0.joined.xr r0.rr) r0.same r0.joined.gr)

@@ -12,7 +12,7 @@ use Rattle.hh_model.specs.declared.data.Frame.{Frame}
 use Rattle.hh_model.specs.Effect.{Goes, Setting, effect, int_in, with_int, with_ref, onward, flag, int_eq}
 use Rattle.hh_model.specs.Step.{result_of, entry_frame}
 use Rattle.hh_lang.specs.Loop.{Loop, IsLoop, whole_code, instrs_of}
-use Rattle.loop_nest_laws.specs.Frames.{Activation, Takes, HandsBack, called_frame}
+use Rattle.loop_nest_laws.specs.Frames.{Activation, Takes, ReturnsBy, called_frame}
 use Rattle.loop_nest_laws.proofs.Turns.{OnTop, Reaches, here, then, goes_to, IsPlain}
 use Rattle.loop_nest_laws.proofs.Calls.{calls_and_goes_on, handed}
 use Rattle.loop_nest_laws.proofs.Children.{ForksAndGoesOn, forks_and_goes_on, rejoined}
@@ -185,7 +185,7 @@ module _ (p : ProgramText) (limit : ℕ) (ts : List ℕ) (a : Activation) (bs : 
         pub e : ℕ
         pub number : ℤ
         pub ref : Option Name
-        pub back : HandsBack p limit ts (called_frame a k0) e number ref
+        pub back : ReturnsBy p limit ts (called_frame a k0) e number ref
         pub result : result_of w.task.top ≡ (number, None)
         pub only : (j : ℕ) (v : Takes p limit ts a j) → i ≤ j → IsPlain v.line.instr ⊎ ((j ≡ k0) × (v.line.instr ≡ Call loop.body))
 

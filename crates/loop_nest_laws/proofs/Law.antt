@@ -19,7 +19,7 @@ use Rattle.model_laws.specs.Winner.{after}
 use Rattle.hh_model.proofs.Taken.{step_taken}
 use Rattle.hh_model.proofs.Sizes.{wide}
 use Rattle.hh_lang.specs.Loop.{Loop, IsLoop}
-use Rattle.loop_nest_laws.specs.Frames.{Activation, StandsAt, HandsBack}
+use Rattle.loop_nest_laws.specs.Frames.{Activation, StandsAt, ReturnsBy}
 use Rattle.loop_nest_laws.specs.LoopLaw.{IsLoopStep, loop_frame, IsInRange, HasReturned, GoesOn, CallsEachNumber, LoopsCallEachNumber, numbers_between, count_of, wrapping_sum}
 use Rattle.loop_nest_laws.proofs.Turns.{ended_stands, OnTop, at_next, turn_runs}
 use Rattle.loop_nest_laws.proofs.Calls.{Above, Back, above_step}
@@ -132,7 +132,7 @@ module _ (p : ProgramText) (limit : ℕ) (ts : List ℕ) (loop : Loop) (i now : 
   abbrev result : ℤ × Option Name
   result = result_of ends.back.x.top
 
-  back : HandsBack p limit ts a ends.e result.0 result.1
+  back : ReturnsBy p limit ts a ends.e result.0 result.1
   back = record {
     takes = record {
       task = ends.back.x;
@@ -166,7 +166,7 @@ module _ (p : ProgramText) (limit : ℕ) (ts : List ℕ) (loop : Loop) (i now : 
       end = ends.e;
       before = ends.before;
       each = record { count = t.count ∙ e; as_many = t.results_count ∙ e; one_each = t.each; no_other = λ j c. contains_from_in t.calls j (t.all j c) };
-      sum = subst (λ (q : ℤ × Option Name). HandsBack p limit ts a ends.e q.0 q.1) is back;
+      sum = subst (λ (q : ℤ × Option Name). ReturnsBy p limit ts a ends.e q.0 q.1) is back;
       goes_on = goes_on (wrapping_sum t.results) is;
       nest_forks = record {
         each = t.forks_each;

@@ -11,7 +11,7 @@ use Rattle.hh_model.specs.Effect.{int_in, int_eq}
 use Rattle.hh_model.specs.Step.{result_of, entry_frame}
 use Rattle.model_laws.specs.Winner.{after}
 use Rattle.hh_lang.specs.Loop.{Loop, IsLoop}
-use Rattle.loop_nest_laws.specs.Frames.{Activation, HandsBack, called_frame, left_frame, right_frame}
+use Rattle.loop_nest_laws.specs.Frames.{Activation, ReturnsBy, called_frame, left_frame, right_frame}
 use Rattle.loop_nest_laws.specs.LoopLaw.{Finds}
 use Rattle.loop_nest_laws.proofs.Turns.{OnTop}
 use Rattle.loop_nest_laws.proofs.Nests.{middle, SplitsAt, Told, told_none, told_one, told_half, told_two}
@@ -34,7 +34,7 @@ module _ (p : ProgramText) (limit : ℕ) (ts : List ℕ) (loop : Loop) (L : IsLo
   Works n =
       (a : Activation) (bs : List Frame) (d : ℕ) (f g : Frame) (first : ℤ) (m : ℕ) (k : ℤ) (r : Option Name)
       → OnTop p limit ts a bs d a.since f → f.function ≡ loop.whole → f.next ≡ 0 → Holds g f first (first +ℤ pos n)
-      → FitsSigned w64 first → FitsSigned w64 (first +ℤ pos n) → FitsSigned w64 (pos n) → HandsBack p limit ts a m k r
+      → FitsSigned w64 first → FitsSigned w64 (first +ℤ pos n) → FitsSigned w64 (pos n) → ReturnsBy p limit ts a m k r
       → Told p limit ts loop L.apart a g d first n k × (r ≡ None)
 
   at_depth : (a : Activation) (bs : List Frame) (d : ℕ) (f : Frame) → OnTop p limit ts a bs d a.since f → (x : Task) → slice_get (after p limit ts a.since).tasks a.task ≡ Some x → x.depth ≡ d
@@ -42,7 +42,7 @@ module _ (p : ProgramText) (limit : ℕ) (ts : List ℕ) (loop : Loop) (L : IsLo
 
   -- a half
   half_told : (n : ℕ) → Works n → (a : Activation) (bs : List Frame) (d : ℕ) (f g : Frame) (first last lo hi : ℤ) (m : ℕ) (k : ℤ) (r : Option Name) → OnTop p limit ts a bs d a.since f
-      → FitsSigned w64 lo → FitsSigned w64 hi → FitsSigned w64 (pos n) → hi ≡ lo +ℤ pos n → (back : HandsBack p limit ts a m k r) → (high : length bs ≡ a.height) → RunsHalf p limit ts a bs d m back.takes back.ret high loop g first last a.since lo hi
+      → FitsSigned w64 lo → FitsSigned w64 hi → FitsSigned w64 (pos n) → hi ≡ lo +ℤ pos n → (back : ReturnsBy p limit ts a m k r) → (high : length bs ≡ a.height) → RunsHalf p limit ts a bs d m back.takes back.ret high loop g first last a.since lo hi
       → Told p limit ts loop L.apart a g d lo n k
   half_told n works a bs d f g first last lo hi m k r on flo fhi fn sum back high run =
       let inner = works (called_frame a run.k0) _ d _ g lo run.e run.number run.ref run.inner refl refl
@@ -53,7 +53,7 @@ module _ (p : ProgramText) (limit : ℕ) (ts : List ℕ) (loop : Loop) (L : IsLo
 
   module _ (n : ℕ) (works : (q : ℕ) → q < n → Works q) (a : Activation) (bs : List Frame) (d : ℕ) (f g : Frame) (first : ℤ) (m : ℕ) (k : ℤ) (r : Option Name)
       (on : OnTop p limit ts a bs d a.since f) (fun : f.function ≡ loop.whole) (next : f.next ≡ 0) (has : Holds g f first (first +ℤ pos n))
-      (fits : FitsSigned w64 first) (fits_last : FitsSigned w64 (first +ℤ pos n)) (fits_n : FitsSigned w64 (pos n)) (back : HandsBack p limit ts a m k r) where
+      (fits : FitsSigned w64 first) (fits_last : FitsSigned w64 (first +ℤ pos n)) (fits_n : FitsSigned w64 (pos n)) (back : ReturnsBy p limit ts a m k r) where
     abbrev last : ℤ
     last = first +ℤ pos n
 

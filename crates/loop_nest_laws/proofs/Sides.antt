@@ -11,7 +11,7 @@ use Rattle.hh_model.specs.declared.data.Trap.TheVariants.{Div as DivTrap}
 use Rattle.hh_model.specs.Effect.{Goes, int_in, ref_in, with_int, with_ref, onward, int_eq, or_trap}
 use Rattle.hh_model.specs.Step.{entry_frame, result_of}
 use Rattle.hh_lang.specs.Loop.{Loop, IsLoop, left_code, right_code, instrs_of}
-use Rattle.loop_nest_laws.specs.Frames.{Activation, Takes, HandsBack, called_frame}
+use Rattle.loop_nest_laws.specs.Frames.{Activation, Takes, ReturnsBy, called_frame}
 use Rattle.loop_nest_laws.proofs.Turns.{OnTop, IsPlain}
 use Rattle.loop_nest_laws.proofs.Calls.{calls_and_goes_on, handed}
 use Rattle.loop_nest_laws.proofs.Nests.{middle}
@@ -34,7 +34,7 @@ module _ (p : ProgramText) (limit : ℕ) (ts : List ℕ) (a : Activation) (bs : 
     pub e : ℕ
     pub number : ℤ
     pub ref : Option Name
-    pub back : HandsBack p limit ts (called_frame a k0) e number ref
+    pub back : ReturnsBy p limit ts (called_frame a k0) e number ref
     pub result : ref ≡ None → result_of w.task.top ≡ (number, None)
     pub only : (j : ℕ) (v : Takes p limit ts a j) → i ≤ j → IsPlain v.line.instr ⊎ ((j ≡ k0) × (v.line.instr ≡ Call loop.whole))
 

@@ -12,7 +12,7 @@ use Rattle.hh_model.specs.Step.{is_running}
 use Rattle.hh_model.specs.Store.{IsNext}
 use Rattle.model_laws.specs.Winner.{after, IsTurn}
 use Rattle.hh_lang.specs.Loop.{Loop, IsLoop}
-use Rattle.loop_nest_laws.specs.Frames.{Activation, StandsAt, called_frame, HandsBack}
+use Rattle.loop_nest_laws.specs.Frames.{Activation, StandsAt, called_frame, ReturnsBy}
 use Rattle.loop_nest_laws.specs.Nest.{InNest, CallsBody, ForksIn}
 
 -- the wrapping sum of numbers of 64 bits
@@ -83,7 +83,7 @@ module _ (p : ProgramText) (limit : ℕ) (ts : List ℕ) (loop : Loop) where
     -- it returns
     pub end : ℕ
     pub ref : Option Name
-    pub back : HandsBack p limit ts (called_frame call.frame i) end handed ref
+    pub back : ReturnsBy p limit ts (called_frame call.frame i) end handed ref
 
   -- the frame of a loop step has returned, by the time of so many steps: it was there after the loop step, which didn't
   -- trap, and is there no more
@@ -125,7 +125,7 @@ module _ (p : ProgramText) (limit : ℕ) (ts : List ℕ) (loop : Loop) where
     -- the body is called for each number once
     pub each : AreCalls (loop_frame i s) s.task.top (first_number i s) (how_many i s) calls results
     -- the loop hands back the sum of what these calls did, and nil
-    pub sum : HandsBack p limit ts (loop_frame i s) end (wrapping_sum results) None
+    pub sum : ReturnsBy p limit ts (loop_frame i s) end (wrapping_sum results) None
     pub goes_on : GoesOn i s end (wrapping_sum results)
     -- it forks once less than it calls
     pub nest_forks : AreForks (loop_frame i s) forks

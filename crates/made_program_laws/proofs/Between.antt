@@ -8,7 +8,7 @@ use Rattle.text_lines.specs.Lines.{lines_of}
 use Rattle.run_trace.specs.Line.{spaced}
 use Rattle.run_trace.proofs.Words.{words_spaced}
 use Rattle.program_make.specs.Draws.{value_after}
-use Rattle.program_reader.specs.Names.{NotedName, entry_of, is_noted, is_name, noted}
+use Rattle.program_reader.specs.Names.{NotedName, noted_name_of, is_noted, is_name, noted}
 use Rattle.program_reader.specs.Sense.{only_name}
 use Rattle.program_reader.specs.Head.{operands_of}
 use Rattle.program_reader.specs.Around.{begun_above, is_inside, noted_if, no_names, operands_of_line, orders_above, outline_above, outline_line, outline_of, outline_onto}
@@ -43,11 +43,11 @@ not_below : (k : ℕ) → nat_lt k k ≡ false
 not_below k = grind arith
 
 -- a name more
-names_next : (k : ℕ) (es fs : List NotedName) (number : ℕ) → k < 1000 → ((j : ℕ) → j < 1000 → is_noted es (name_of j) ≡ nat_lt j k) → fs ≡ es ++ entry_of (name_of k) number ∷ [] → (j : ℕ) → j < 1000 → is_noted fs (name_of j) ≡ nat_lt j (suc k)
+names_next : (k : ℕ) (es fs : List NotedName) (number : ℕ) → k < 1000 → ((j : ℕ) → j < 1000 → is_noted es (name_of j) ≡ nat_lt j k) → fs ≡ es ++ noted_name_of (name_of k) number ∷ [] → (j : ℕ) → j < 1000 → is_noted fs (name_of j) ≡ nat_lt j (suc k)
 names_next k es fs number lt names e j lj =
     ap (λ xs. is_noted xs (name_of j)) e ∙ noted_more es (name_of j) (name_of k) number ∙ ap (λ b. b || bytes_eq (name_of j) (name_of k)) (names j lj) ∙ among_more j k lj lt
 
-main_next : (k : ℕ) (es fs : List NotedName) (number : ℕ) → is_noted es (codes "main") ≡ false → fs ≡ es ++ entry_of (name_of k) number ∷ [] → is_noted fs (codes "main") ≡ false
+main_next : (k : ℕ) (es fs : List NotedName) (number : ℕ) → is_noted es (codes "main") ≡ false → fs ≡ es ++ noted_name_of (name_of k) number ∷ [] → is_noted fs (codes "main") ≡ false
 main_next k es fs number main e = ap (λ xs. is_noted xs (codes "main")) e ∙ noted_more es (codes "main") (name_of k) number ∙ ap (λ b. b || bytes_eq (codes "main") (name_of k)) main ∙ not_main k
 
 -- the lines of a function behind its first one begin none, are no more than 39, and end it
@@ -112,7 +112,7 @@ pub record Named (size : ℕ) (names : List NotedName) : Type 0 where
 
 names_all : (size : ℕ) (all es : List NotedName) (number : ℕ) → size ≤ 1000 → ((j : ℕ) → j < 1000 → is_noted es (name_of j) ≡ nat_lt j size) → is_noted es (codes "main") ≡ false → all ≡ noted es (codes "main") number → Named size all
 names_all size all es number le names main e =
-    let is : all ≡ es ++ entry_of (codes "main") number ∷ [] = e ∙ new_entry es (codes "main") number main in
+    let is : all ≡ es ++ noted_name_of (codes "main") number ∷ [] = e ∙ new_entry es (codes "main") number main in
     record {
       functions = λ j lt. ap (λ xs. is_noted xs (name_of j)) is ∙ noted_more es (name_of j) (codes "main") number ∙ ap (λ b. b || bytes_eq (name_of j) (codes "main")) (names j (omega (arith, lt, le)) ∙ lt-ltb j size lt);
       main = ap (λ xs. is_noted xs (codes "main")) is ∙ noted_more es (codes "main") (codes "main") number ∙ ap (λ b. b || bytes_eq (codes "main") (codes "main")) main;

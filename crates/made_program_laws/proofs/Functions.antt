@@ -16,7 +16,7 @@ use Rattle.run_trace.proofs.Words.{AreProper, words_spaced}
 use Rattle.run_trace.proofs.Said.{spaced_utf8}
 use Rattle.program_make.specs.Draws.{amount, garbage, rounds, value_after}
 use Rattle.program_make.specs.Text.{side}
-use Rattle.program_reader.specs.Names.{NotedName, entry_of, is_name, is_noted, place_of}
+use Rattle.program_reader.specs.Names.{NotedName, noted_name_of, is_name, is_noted, place_of}
 use Rattle.program_reader.specs.Operands.{int_register}
 use Rattle.program_reader.specs.Sense.{fork, plain, sense_of, two}
 use Rattle.program_reader.specs.Head.{operands_of}
@@ -69,7 +69,7 @@ par_reads text labels left right ll lr el er =
 
 -- its labels, where these many instructions stand before them
 abbrev two_labels : ℕ → ℕ → List NotedName
-two_labels a b = entry_of (codes "a") a ∷ entry_of (codes "b") b ∷ []
+two_labels a b = noted_name_of (codes "a") a ∷ noted_name_of (codes "b") b ∷ []
 
 pub both_read : (text : List ℕ) (labels : List NotedName) (ls ms : Lines) → list_all (is_read (outline_of text) labels) ls ≡ true → list_all (is_read (outline_of text) labels) ms ≡ true → list_all (is_read (outline_of text) labels) (ls ++ ms) ≡ true
 both_read text labels [] ms e f = f
@@ -163,9 +163,9 @@ module _ (text : List ℕ) (a b : ℕ) (above before after rest : Lines) (begun 
       let one = orders_pass (outline_of text) (two_labels a b) [] before open_at from_first (orders_above open_at + length before) read_before w (omega arith) (omega (arith, few)) refl in
       let first = label_passes (outline_of text) (two_labels a b) [] (codes "a") (turned open_at before) (codes "lab a") (loop_rows ++ from_second) (ascii_utf8 (codes "lab a") refl) refl refl one.within refl refl in
       let five : length loop_rows ≡ 5 = refl in
-      let two = orders_pass (outline_of text) (two_labels a b) (entry_of (codes "a") first.number ∷ []) loop_rows (codes "lab a" ∷ turned open_at before) from_second (orders_above open_at + length before + 5) (loop_read text a b) first.within (omega (arith, five, first.orders, one.orders)) (omega (arith, few)) refl in
-      let second = label_passes (outline_of text) (two_labels a b) (entry_of (codes "a") first.number ∷ []) (codes "b") (turned (codes "lab a" ∷ turned open_at before) loop_rows) (codes "lab b") (after ++ from_end) (ascii_utf8 (codes "lab b") refl) refl refl two.within refl (not_last after from_end refl) in
-      let three = orders_pass (outline_of text) (two_labels a b) (entry_of (codes "a") first.number ∷ entry_of (codes "b") second.number ∷ []) after (codes "lab b" ∷ turned (codes "lab a" ∷ turned open_at before) loop_rows) from_end (orders_above open_at + length before + 5 + length after) read_after second.within (omega (arith, second.orders, two.orders)) few refl in
+      let two = orders_pass (outline_of text) (two_labels a b) (noted_name_of (codes "a") first.number ∷ []) loop_rows (codes "lab a" ∷ turned open_at before) from_second (orders_above open_at + length before + 5) (loop_read text a b) first.within (omega (arith, five, first.orders, one.orders)) (omega (arith, few)) refl in
+      let second = label_passes (outline_of text) (two_labels a b) (noted_name_of (codes "a") first.number ∷ []) (codes "b") (turned (codes "lab a" ∷ turned open_at before) loop_rows) (codes "lab b") (after ++ from_end) (ascii_utf8 (codes "lab b") refl) refl refl two.within refl (not_last after from_end refl) in
+      let three = orders_pass (outline_of text) (two_labels a b) (noted_name_of (codes "a") first.number ∷ noted_name_of (codes "b") second.number ∷ []) after (codes "lab b" ∷ turned (codes "lab a" ∷ turned open_at before) loop_rows) from_end (orders_above open_at + length before + 5 + length after) read_after second.within (omega (arith, second.orders, two.orders)) few refl in
       one.faults ∙ first.faults ∙ two.faults ∙ second.faults ∙ three.faults
       ∙ passes (outline_of text) at_end (codes "end") rest (end_free (outline_of text) (spot_of at_end (codes "end") rest) (codes "end") (ascii_utf8 (codes "end") refl) refl refl three.within.inside last)
 

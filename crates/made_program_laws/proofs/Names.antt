@@ -12,7 +12,7 @@ use Rattle.std.proofs.Math.Bool.{or-false, or-true, or_assoc}
 use Rattle.hh_lang.specs.Number.{fits_i64, signed_number}
 use Rattle.hh_lang.proofs.Tests.{numeral_passes, positive, unsigned}
 use Rattle.run_trace.proofs.Words.{IsProper, decimal_is_proper}
-use Rattle.program_reader.specs.Names.{NotedName, entry_of, is_name, is_name_byte, is_noted}
+use Rattle.program_reader.specs.Names.{NotedName, noted_name_of, is_name, is_name_byte, is_noted}
 
 -- the name of a function, by its number
 abbrev pub name_of : ℕ → List ℕ
@@ -80,8 +80,8 @@ any_more : {X : Type 0} (p : X → Bool) (xs : List X) (x : X) → list_any p (x
 any_more p [] x = or-false (p x)
 any_more p (y ∷ ys) x = ap (λ b. p y || b) (any_more p ys x) ∙ sym (or_assoc (p y) (list_any p ys) (p x))
 
-pub noted_more : (es : List NotedName) (name other : List ℕ) (number : ℕ) → is_noted (es ++ entry_of other number ∷ []) name ≡ (is_noted es name || bytes_eq name other)
-noted_more es name other number = any_more (λ e. bytes_eq name e.name) es (entry_of other number)
+pub noted_more : (es : List NotedName) (name other : List ℕ) (number : ℕ) → is_noted (es ++ noted_name_of other number ∷ []) name ≡ (is_noted es name || bytes_eq name other)
+noted_more es name other number = any_more (λ e. bytes_eq name e.name) es (noted_name_of other number)
 
 is_next : (j k : ℕ) → j ≡ k → nat_lt j (suc k) ≡ true
 is_next j k e = grind (arith, e)

@@ -11,7 +11,7 @@ use Rattle.object_layout.specs.ChunkValue.{ChunkValue}
 use Rattle.object_layout.specs.Chunks.{cell_of, put_object, with_cell}
 use Rattle.object_layout.specs.Place.{cell_at, put_cell, words_in}
 use Rattle.object_layout.specs.Objects.{Located, changed_at, led_cell, led_object, located, located_by, objects_from, objects_of, sifted_cells, swept_cell, with_fields}
-use Rattle.object_layout.specs.ObjectLaws.{AppendedIsLast, LedAreRead, PutChangesOne, SiftedAreKept}
+use Rattle.object_layout.specs.ObjectLaws.{AppendedIsLast, LedAreRead, PutChangesOne, SiftedAreFiltered}
 use Rattle.object_layout.proofs.Owning.{fresh_none}
 use Rattle.object_layout.proofs.ObjectLemmas.{has_own}
 
@@ -150,8 +150,8 @@ sifted_kept keep (c ∷ cs) number base = by (keep (at_place number base)) refl 
     by true q Hole e ih = ap (λ m. located_by number base c m (objects_from number (base + size_of c) (sifted_cells keep number (base + size_of c) cs))) e ∙ ih
     by false q Hole e ih = ih
 
-pub sifted_are_kept : SiftedAreKept
-sifted_are_kept keep k = sifted_kept keep k.cells k.number 0
+pub sifted_are_filtered : SiftedAreFiltered
+sifted_are_filtered keep k = sifted_kept keep k.cells k.number 0
 
 -- ---- references are led
 

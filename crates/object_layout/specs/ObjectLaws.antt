@@ -34,8 +34,8 @@ PutChangesOne =
     → map objects_of (put_object ks a d) ≡ map (map (changed_at a d)) (map objects_of ks)
 
 -- just the objects whose addresses are kept are left by a sweep
-abbrev pub SiftedAreKept : Type 0
-SiftedAreKept = (keep : Addr → Bool) (k : ChunkValue) → objects_of (sifted keep k) ≡ filter (λ o. keep o.at) (objects_of k)
+abbrev pub SiftedAreFiltered : Type 0
+SiftedAreFiltered = (keep : Addr → Bool) (k : ChunkValue) → objects_of (sifted keep k) ≡ filter (λ o. keep o.at) (objects_of k)
 
 -- led references are read so
 abbrev pub LedAreRead : Type 0

@@ -1,7 +1,7 @@
 // Laws of objects by their addresses.
 
 ghost use Rattle.object_layout.specs.Laws.{ApartTogether, ChunksAreFound, FreshHasNone, PushLeavesOthers, PutMovesNoChunk, PutWherePushed, SameAddress, SecondPutStays};
-ghost use Rattle.object_layout.specs.ObjectLaws.{AppendedIsLast, LedAreRead, ObjectsHaveChunks, ObjectsLieThere, PutChangesOne, SiftedAreKept};
+ghost use Rattle.object_layout.specs.ObjectLaws.{AppendedIsLast, LedAreRead, ObjectsHaveChunks, ObjectsLieThere, PutChangesOne, SiftedAreFiltered};
 
 /// Addresses with the same parts are the same.
 pub fn same_address()
@@ -64,8 +64,8 @@ pub fn put_changes_one()
 {}
 
 /// Just the objects whose addresses are kept are left by a sweep.
-pub fn sifted_are_kept()
-    ensures { SiftedAreKept }
+pub fn sifted_are_filtered()
+    ensures { SiftedAreFiltered }
 {}
 
 /// Led references are read so.

@@ -24,7 +24,7 @@ module _ (w : SharedValue) (sets : List SetOf) (many : length sets ≡ length w.
 
   pub roomier_world : IsSharedValue w → IsSharedValue roomier
   roomier_world I = record {
-    limits = I.limits;
+    settings = I.settings;
     form = I.form;
     legal = I.legal;
     made = I.made;

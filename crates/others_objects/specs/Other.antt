@@ -98,7 +98,7 @@ or_frozen c go = if c.mutable then go else Traps FrozenTrap
 
 -- a compare and swap, where the field holds this
 abbrev pub swaps : ℕ → Addr → Option Addr → Option Addr → ℕ → Option Addr → OtherStep
-swaps d a held expected i value = if same_reference held expected then Swaps d a i value else SetsNumber d (pos 0)
+swaps d a found expected i value = if same_reference found expected then Swaps d a i value else SetsNumber d (pos 0)
 
 -- of an instruction on the object of another task at an address, whose cell is c
 abbrev pub other_step : List Node → PoolValue → Private → Addr → Cell → Instr → OtherStep

@@ -19,7 +19,7 @@ StoppedReadsWriteNothing =
     → (reader owner : ℕ) → (step w.program (machine_after w p) p.task).end ≡ Some (Entangled reader owner) → ⊥
 
 -- a step that a task doesn't do alone, and that neither forks nor returns, works on an object of another task
-abbrev pub LeftStepsAreOther : Type 0
-LeftStepsAreOther =
+abbrev pub StepsBeyondAreOther : Type 0
+StepsBeyondAreOther =
     (w : SharedValue) (k : ℕ) (p : Private) → IsSharedValue w → Fits w k p → IsShared w p → (accounts w).end ≡ None → is_beyond w.program (machine_after w p) p.task ≡ true
     → (line : Line) → next_line w.program p ≡ Some line → ((g h : ℕ) → line.instr ≡ Par g h → ⊥) → (line.instr ≡ Ret → ⊥) → IsOther w p

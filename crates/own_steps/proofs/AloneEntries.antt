@@ -56,7 +56,7 @@ module _ (w : SharedValue) (k : ℕ) (p : Private) (I : IsSharedValue w) (F : Fi
   alone_small =
       let a = ran_tells w.program w.settings (accounts w) k p.task (suc p.fresh) (ap is_none last_free) in
       let b : w.steps ≡ (accounts w).steps = steps_now w I in
-      let c = I.limits.fuel.1 in
+      let c = I.settings.fuel.1 in
       (omega (arith, a.2, b, c), shared.few)
 
   -- the part fits a machine

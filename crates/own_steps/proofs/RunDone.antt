@@ -22,7 +22,7 @@ use Rattle.core_relation.specs.Fits.{part_for}
 use Rattle.core_relation.specs.RanCounts.{RanCounts}
 use Rattle.core_relation.specs.Whole.{handed}
 use Rattle.core_relation.specs.Worker.{WorkerFits}
-use Rattle.core_entry_laws.proofs.whole.DoneHands.{done_hands_all}
+use Rattle.core_entry_laws.proofs.whole.DoneReturns.{done_returns_all}
 use Rattle.task_machine.specs.declared.part.Private.{Private}
 use Rattle.shared_value.specs.declared.next_step.Ending.TheVariants.{Returns}
 use Rattle.shared_value.specs.SharedValue.{SharedValue, accounts, tree_counts_of, value_of}
@@ -114,7 +114,7 @@ module _ (w : SharedValue) (k : ℕ) (p : Private) (I : IsSharedValue w) (F : Fi
 
     -- every heap is handed back
     pub done_rests : (u : ℕ) → Rests (handed (accounts w')) u
-    done_rests u = subst (λ (z : Ledger). Rests (handed z) u) (sym (ending.accounts_then w k p I F shared free end j.room)) (done_hands_all w.program w.settings l L t k p.fresh E D.ended u)
+    done_rests u = subst (λ (z : Ledger). Rests (handed z) u) (sym (ending.accounts_then w k p I F shared free end j.room)) (done_returns_all w.program w.settings l L t k p.fresh E D.ended u)
 
     -- THE PARTS OF OTHERS
     pub done_others : OthersFit w w' k

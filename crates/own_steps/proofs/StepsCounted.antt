@@ -111,7 +111,7 @@ module _ (w : SharedValue) (k : ℕ) (p q : Private) (n : ℕ) (I : IsSharedValu
   ran = R M.machine above (fits_machine w k p I F on)
 
   leaf_few : p.leaf_limit ≤ 1000000
-  leaf_few = let a : p.leaf_limit ≡ w.settings.leaf = F.leaf_limit in let b : w.settings.leaf ≤ 1000000 = I.limits.leaf.1 in omega (arith, a, b)
+  leaf_few = let a : p.leaf_limit ≡ w.settings.leaf = F.leaf_limit in let b : w.settings.leaf ≤ 1000000 = I.settings.leaf.1 in omega (arith, a, b)
 
   small : p.leaf_limit < 2 ^ 64
   small = let a = leaf_few in omega (arith, a)

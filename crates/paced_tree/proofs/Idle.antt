@@ -11,7 +11,7 @@ use Rattle.shared_value.specs.declared.answer.NotEntered.TheVariants.{NoMemory, 
 use Rattle.shared_value.specs.SharedValue.{SharedValue, accounts}
 use Rattle.child_tasks.specs.Joins.{IsUnchanged}
 use Rattle.heap_marking.specs.declared.pace.Pace.{Pace}
-use Rattle.heap_marking.specs.declared.pace.KeptEntry.TheVariants.{Other}
+use Rattle.heap_marking.specs.declared.pace.PreviousKind.TheVariants.{Other}
 use Rattle.heap_marking.specs.Pace.{KeepsPace, KeepsPrevious}
 use Rattle.heap_marking.proofs.PaceKeeps.{keeps_items}
 use Rattle.paced_tree.specs.Owed.{AreIdle, KeepsPaces, NotesAt, SameMarks, worker_pace}

@@ -23,7 +23,7 @@ use Rattle.shared_value.specs.Stands.{IsSharedValue}
 use Rattle.shared_value.specs.SharedValue.{SharedValue, accounts}
 use Rattle.shared_value.proofs.EntryMade.{entry_on}
 use Rattle.heap_marking.specs.declared.pace.Pace.{Pace}
-use Rattle.heap_marking.specs.declared.pace.KeptEntry.TheVariants.{Other}
+use Rattle.heap_marking.specs.declared.pace.PreviousKind.TheVariants.{Other}
 use Rattle.heap_marking.specs.declared.pace.Fork.{Fork}
 use Rattle.heap_marking.specs.Pace.{IsForkOf, KeepsPace, previous_of}
 use Rattle.heap_marking.proofs.PaceKeeps.{mark_kept, steps_kept}

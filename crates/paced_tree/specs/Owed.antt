@@ -8,7 +8,7 @@ use Rattle.run_ledger.specs.declared.data.WorkerPace.{WorkerPace}
 use Rattle.run_ledger.specs.Pace.{gives, is_paced, noted, owed, pace_at_end, pace_of}
 use Rattle.shared_value.specs.SharedValue.{SharedValue, accounts}
 use Rattle.heap_marking.specs.declared.pace.Pace.{Pace}
-use Rattle.heap_marking.specs.declared.pace.KeptEntry.TheVariants.{Other}
+use Rattle.heap_marking.specs.declared.pace.PreviousKind.TheVariants.{Other}
 use Rattle.heap_marking.specs.Pace.{KeepsPace}
 
 -- what the journal keeps of the worker's entries

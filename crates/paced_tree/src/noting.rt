@@ -10,7 +10,7 @@ ghost use Rattle.paced_tree.specs.Owed.{AreIdle, HasRoom, KeepsNoted, NotesAt, N
 use crate::forks_of::fork_of;
 use crate::owing::forget;
 use listed::Listed;
-use shared_tree::{KeptEntry, Pace, Shared};
+use shared_tree::{Pace, PreviousKind, Shared};
 use std::alloc::{AllocError, Global};
 
 // What is kept of workers without an entry.
@@ -77,7 +77,7 @@ pub(crate) fn note_ran(
 // The child that a worker's previous entry made, where it forked this task.
 fn child_before(pace: &Pace, task: u32) -> u32 {
     match pace.previous {
-        KeptEntry::Forked(fork) if fork.task == task => fork.left,
+        PreviousKind::Forked(fork) if fork.task == task => fork.left,
         _ => 0,
     }
 }

@@ -10,7 +10,7 @@ ghost use Rattle.heap_marking.specs.Pace.{IsLastGoing, KeepsMarks, KeepsPace};
 use crate::forks_of::{is_going, is_to_begin};
 use heap_marking::marking_cause;
 use run_ledger::Owed;
-use shared_tree::{Fork, KeptEntry, Pace, Shared};
+use shared_tree::{Fork, Pace, PreviousKind, Shared};
 
 // The last of these markings that is under way.
 fn last_going(shared: &Shared, forks: &[Fork]) -> Option<Fork>
@@ -52,9 +52,9 @@ pub(crate) fn owed(shared: &Shared, pace: &Pace) -> Owed
     ensures { (x : WorkerPace) → KeepsPace (accounts shared.now) pace.now x → result ≡ owed shared.now.settings (accounts shared.now) x }
 {
     match pace.previous {
-        KeptEntry::Other => Owed::Nothing,
-        KeptEntry::Ran => owed_to_marks(shared, pace),
-        KeptEntry::Forked(fork) => {
+        PreviousKind::Other => Owed::Nothing,
+        PreviousKind::Ran => owed_to_marks(shared, pace),
+        PreviousKind::Forked(fork) => {
             if is_to_begin(shared, fork) {
                 Owed::Mark(fork.task)
             } else {

@@ -115,7 +115,7 @@ module _ (p : ProgramText) (m : State) (t : ℕ) (K : IsForkJoinState m) where
               field = contains_from_in (refs_at m.store stop.4.source) stop.0 stop.4.field;
               task = x;
               is = is;
-              held = contains_from_in (task_names x) stop.4.source (names_run x stop.4.source (runs_is x.status run') (in_registers (x.top ∷ x.below) x.top stop.4.source (inl refl) stop.4.held));
+              named = contains_from_in (task_names x) stop.4.source (names_run x stop.4.source (runs_is x.status run') (in_registers (x.top ∷ x.below) x.top stop.4.source (inl refl) stop.4.held));
               apart = λ w.
                   both_ways (precedes m.edges stop.4.object.strand (strand_of t x)) stop.4.apart
                   ((K.tree.right stop.4.object.strand (strand_of t x)).1

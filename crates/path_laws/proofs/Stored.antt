@@ -138,7 +138,7 @@ run_stored p limit ts = stored_from p (start p limit) ts 0 (start_is_fork_join_s
 
 pub names_are_stored : NamesAreStored
 names_are_stored p limit ts = record {
-  held = λ t x n is h. (run_stored p limit ts).of_task t x n is (in_from_contains (task_names x) n h);
+  named = λ t x n is h. (run_stored p limit ts).of_task t x n is (in_from_contains (task_names x) n h);
   in_fields = λ n r o is h.
       (run_stored p limit ts).of_object n r (o, is) (subst (λ w. In (refs_of w) r) (sym is) (named_from_in o.refs r (in_from_contains o.refs (Some r) h)));
 }

@@ -52,7 +52,7 @@ pub record IsStop (m : State) (t owner : ℕ) : Type 0 where
   pub field : Contains (refs_at m.store source) name
   pub task : Task
   pub is : slice_get m.tasks t ≡ Some task
-  pub held : Contains (task_names task) source
+  pub named : Contains (task_names task) source
   pub apart : PrecedesTask m t task name → ⊥
   pub owns : owner ≡ owner_of m.tasks name.task
   pub live : joined m.tasks owner ≡ false

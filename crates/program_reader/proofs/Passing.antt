@@ -14,7 +14,7 @@ use Rattle.program_reader.specs.declared.sense.Sense.{Sense}
 use Rattle.program_reader.specs.declared.sense.Sense.TheVariants.{Fits, Does, WrongOperand, NoSuchFunction, NoSuchLabel}
 use Rattle.program_reader.specs.declared.sense.Outline.{Outline}
 use Rattle.program_reader.specs.declared.labels.Labels.{Labels}
-use Rattle.program_reader.specs.Names.{NotedName, entry_of, is_noted, noted, place_of}
+use Rattle.program_reader.specs.Names.{NotedName, noted_name_of, is_noted, noted, place_of}
 use Rattle.program_reader.specs.Sense.{sense_of, only_name, named}
 use Rattle.program_reader.specs.Around.{head_of_line, operands_of_line, is_inside, is_open_after, ends_body, label_line, labels_above, labels_after, labels_onto, noted_if, begins, begun_above, begun_name, orders, orders_above, outline_above}
 use Rattle.program_reader.specs.Fault.{Spot, spot_of, is_named_in, is_begin, is_misplaced, fault_by, fault_on, fault_from, or_later}
@@ -263,5 +263,5 @@ has_place es name h =
     some_place (place_of es name) (length es) (noted_before es name (length es) ∙ ap (λ xs. is_noted xs name) (take_all (length es) es (omega arith)) ∙ h)
 
 -- a name that isn't noted yet is noted behind the others
-pub new_entry : (es : List NotedName) (name : List ℕ) (number : ℕ) → is_noted es name ≡ false → noted es name number ≡ es ++ entry_of name number ∷ []
+pub new_entry : (es : List NotedName) (name : List ℕ) (number : ℕ) → is_noted es name ≡ false → noted es name number ≡ es ++ noted_name_of name number ∷ []
 new_entry es name number e = new_name es name number e

@@ -8,13 +8,13 @@ use Rattle.indexmap.specs.IndexMap.{IndexMap, insert_entry}
 use Rattle.indexmap.proofs.CallerLemmas.{insert_entry-new}
 use Rattle.listed.proofs.Options.{none_of}
 use Rattle.listed.proofs.Numbers.{above_zero}
-use Rattle.program_reader.specs.Names.{NotedName, entry_of, is_noted, noted, place_of, numbered_of}
+use Rattle.program_reader.specs.Names.{NotedName, noted_name_of, is_noted, noted, place_of, numbered_of}
 
 abbrev pub Pairs : Type 0
 Pairs = List (Bor (List ℕ) × ℕ)
 
 abbrev pub shown : Pairs → List NotedName
-shown es = map (λ e. entry_of e.0.now e.1) es
+shown es = map (λ e. noted_name_of e.0.now e.1) es
 
 -- the test by which a map looks a name up
 abbrev pub is_key : List ℕ → Bor (List ℕ) → Bool
@@ -43,18 +43,18 @@ pub found_any : (name : List ℕ) (es : Pairs) → is_some (lookup (is_key name)
 found_any name [] = refl
 found_any name (e ∷ es) = some_or_else (bytes_eq name e.0.now) e.1 (lookup (is_key name) es) (is_noted (shown es) name) (found_any name es)
 
-shown_last : (es : Pairs) (k : Bor (List ℕ)) (number : ℕ) → shown (es ++ (k, number) ∷ []) ≡ shown es ++ entry_of k.now number ∷ []
+shown_last : (es : Pairs) (k : Bor (List ℕ)) (number : ℕ) → shown (es ++ (k, number) ∷ []) ≡ shown es ++ noted_name_of k.now number ∷ []
 shown_last [] k number = refl
-shown_last (e ∷ es) k number = ap (λ xs. entry_of e.0.now e.1 ∷ xs) (shown_last es k number)
+shown_last (e ∷ es) k number = ap (λ xs. noted_name_of e.0.now e.1 ∷ xs) (shown_last es k number)
 
 pub added_last : {S : Type 0} (k : Bor (List ℕ)) (number : ℕ) (m : IndexMap (Bor (List ℕ)) ℕ S) → is_some (lookup (is_key k.now) m.entries) ≡ false → shown (insert_entry (λ x y. bytes_eq x.now y.now) m.entries k number) ≡ noted (shown m.entries) k.now number
 added_last k number m h =
     ap shown (insert_entry-new (λ x y. bytes_eq x.now y.now) m k number (none_of (lookup (is_key k.now) m.entries) h))
     ∙ shown_last m.entries k number
-    ∙ ap (λ t. cond t (shown m.entries) (shown m.entries ++ entry_of k.now number ∷ [])) (sym (sym (found_any k.now m.entries) ∙ h))
+    ∙ ap (λ t. cond t (shown m.entries) (shown m.entries ++ noted_name_of k.now number ∷ [])) (sym (sym (found_any k.now m.entries) ∙ h))
 
 pub kept_all : (name : List ℕ) (number : ℕ) (es : Pairs) → is_some (lookup (is_key name) es) ≡ true → shown es ≡ noted (shown es) name number
-kept_all name number es h = ap (λ t. cond t (shown es) (shown es ++ entry_of name number ∷ [])) (sym h ∙ found_any name es)
+kept_all name number es h = ap (λ t. cond t (shown es) (shown es ++ noted_name_of name number ∷ [])) (sym h ∙ found_any name es)
 
 -- ONE OF THE FIRST SO MANY
 

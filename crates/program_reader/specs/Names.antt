@@ -36,8 +36,8 @@ noted es name number = if is_noted es name then es else es ++ record { name = na
 abbrev pub place_of : List NotedName → List ℕ → Option ℕ
 place_of es name = position (λ e. bytes_eq name e.name) es
 
-abbrev pub entry_of : List ℕ → ℕ → NotedName
-entry_of name number = record { name = name; number = number }
+abbrev pub noted_name_of : List ℕ → ℕ → NotedName
+noted_name_of name number = record { name = name; number = number }
 
 -- the number that was noted with a name
 abbrev pub numbered_of : List NotedName → List ℕ → Option ℕ

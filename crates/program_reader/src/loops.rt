@@ -1,7 +1,7 @@
 // The functions of loops.
 
 ghost use Rattle.std.specs.Prelude.{◌≡◌, ◌<◌, ◌+◌, ◌^◌, ◌++◌, ◌∷◌, [], length, codes, IfOk, OnOk, MatchOption, slice_get};
-ghost use Rattle.program_reader.specs.Names.{entry_of};
+ghost use Rattle.program_reader.specs.Names.{noted_name_of};
 ghost use Rattle.program_reader.specs.Sense.{IsSmall, loop_function};
 ghost use Rattle.hh_lang.specs.Loop.{whole_code, left_code, right_code};
 ghost use Rattle.program_reader.specs.Program.{function_of, loop_from, on_line, loop_functions, loops_from, number_of};
@@ -141,7 +141,7 @@ fn add_named(
 ) -> Result<(), AllocError>
     requires small { IsSmall outline.now }
     requires fits { first + 2 < 2 ^ 32 }
-    ensures { OnOk result (functions.new ≡ functions.old ++ loop_functions outline.now first (entry_of name.now number)) }
+    ensures { OnOk result (functions.new ≡ functions.old ++ loop_functions outline.now first (noted_name_of name.now number)) }
 {
     let function = number_in(outline, name);
     functions.push(whole_function(alloc, name, number, function, first)?)?;

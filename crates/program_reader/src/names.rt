@@ -2,7 +2,7 @@
 
 ghost use Rattle.std.specs.Prelude.{◌≡◌, [], length, take, OnOk, OnErr, option_map, slice_get};
 ghost use Rattle.std.specs.List.{list_all};
-ghost use Rattle.program_reader.specs.Names.{is_letter, is_name_byte, is_name, begins_name, is_noted, noted, place_of, numbered_of, entry_of};
+ghost use Rattle.program_reader.specs.Names.{is_letter, is_name_byte, is_name, begins_name, is_noted, noted, place_of, numbered_of, noted_name_of};
 
 use indexmap::IndexMap;
 use std::alloc::{AllocError, Global};
@@ -51,11 +51,11 @@ pub(crate) struct Table<'a> {
 
 impl<'a> Model for Table<'a> {
     ghost use Rattle.std.specs.Prelude.{List, map};
-    ghost use Rattle.program_reader.specs.Names.{NotedName, entry_of};
+    ghost use Rattle.program_reader.specs.Names.{NotedName, noted_name_of};
 
     ghost Value = { List NotedName };
 
-    ghost view = { λ t. map (λ e. entry_of e.0.now e.1) t.numbers.entries };
+    ghost view = { λ t. map (λ e. noted_name_of e.0.now e.1) t.numbers.entries };
 }
 
 impl<'a> Table<'a> {
@@ -84,7 +84,7 @@ impl<'a> Table<'a> {
 
     /// The name at a place, and its number.
     pub(crate) fn entry(&self, place: usize) -> Option<(&'a [u8], u32)>
-        ensures { option_map (λ e. entry_of e.0.now e.1) result ≡ slice_get self.now place }
+        ensures { option_map (λ e. noted_name_of e.0.now e.1) result ≡ slice_get self.now place }
     {
         let (name, number) = self.numbers.get_index(place)?;
         Some((*name, *number))

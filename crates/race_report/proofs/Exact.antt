@@ -9,7 +9,7 @@ use Rattle.race_report.specs.declared.data.Open.{Open}
 use Rattle.race_report.specs.declared.data.Watch.{Watch}
 use Rattle.race_report.specs.declared.data.Watch.TheVariants.{Open as Waits, Found}
 use Rattle.race_report.specs.Labels.{allows}
-use Rattle.race_report.specs.Watch.{Key, bound_for, clashes, first_clash, found_by, kept_from, kept_with, key_of, nothing_yet, or_nothing, race_of, same_key, watch_with, with_access}
+use Rattle.race_report.specs.Watch.{Key, bound_for, clashes, first_clash, found_by, watched_from, watched_with, key_of, nothing_yet, or_nothing, race_of, same_key, watch_with, with_access}
 use Rattle.race_report.proofs.Alike.{SameFor, StrandsTell, access_earlier, all_free, first_same, firsts_from, firsts_push, same_for, with_new}
 use Rattle.race_report.proofs.Keys.{same_key_is, same_key_itself}
 use Rattle.race_report.proofs.BoundLaws.{Bounds, bound_tells, bounds_more, none_clashes}
@@ -250,19 +250,19 @@ module _ (q : Key) where
     or_good None G = nothing_good G
     or_good (Some w) G = G
 
-  good_step : (ss : List Seen) (x : Seen) (w : Option Watch) → SameFor x (filter chosen ss) → Good ss w → Good (ss ++ x ∷ []) (kept_with q w x)
+  good_step : (ss : List Seen) (x : Seen) (w : Option Watch) → SameFor x (filter chosen ss) → Good ss w → Good (ss ++ x ∷ []) (watched_with q w x)
   good_step ss x w same G = by (chosen x) refl
     where
       by : (b : Bool) → chosen x ≡ b → Good (ss ++ x ∷ []) (cond b (Some (watch_with (or_nothing w) x)) w)
       by true e = let kx = same_key_is (key x) q e in with_watch ss x kx same (or_nothing w) (or_good ss x kx same w G)
       by false e = other ss x (λ k. both_ways (chosen x) e (choose x k)) e w G
 
-  good_from : (ss xs : List Seen) (w : Option Watch) → StrandsTell (ss ++ xs) → Good ss w → Good (ss ++ xs) (kept_from q w xs)
+  good_from : (ss xs : List Seen) (w : Option Watch) → StrandsTell (ss ++ xs) → Good ss w → Good (ss ++ xs) (watched_from q w xs)
   good_from ss [] w T G = subst (λ zs. Good zs w) (sym (append-nil ss)) G
   good_from ss (x ∷ xs) w T G =
-      subst (λ zs. Good zs (kept_from q (kept_with q w x) xs)) (append_assoc ss (x ∷ []) xs) (good_from (ss ++ x ∷ []) xs (kept_with q w x) (subst StrandsTell (sym (append_assoc ss (x ∷ []) xs)) T) (good_step ss x w (same_for chosen ss x xs T) G))
+      subst (λ zs. Good zs (watched_from q (watched_with q w x) xs)) (append_assoc ss (x ∷ []) xs) (good_from (ss ++ x ∷ []) xs (watched_with q w x) (subst StrandsTell (sym (append_assoc ss (x ∷ []) xs)) T) (good_step ss x w (same_for chosen ss x xs T) G))
 
-  pub kept_good : (xs : List Seen) → StrandsTell xs → Good xs (kept_from q None xs)
+  pub kept_good : (xs : List Seen) → StrandsTell xs → Good xs (watched_from q None xs)
   kept_good xs T = good_from [] xs None T (λ i v e k. absurd (empty i v e))
     where
       empty : (i : ℕ) (v : Seen) → slice_get [] i ≡ Some v → ⊥

@@ -28,7 +28,7 @@ use Rattle.race_report.specs.Sights.{looked}
 use Rattle.race_report.specs.Labels.{label_precedes}
 use Rattle.race_report.specs.Races.{IsPair, RaceAt}
 use Rattle.race_report.specs.Report.{IsReport, race_key}
-use Rattle.race_report.specs.Watch.{Key, clash, kept_from, key_cmp, key_of, kind_key, race_of, races_in, seen}
+use Rattle.race_report.specs.Watch.{Key, clash, watched_from, key_cmp, key_of, kind_key, race_of, races_in, seen}
 use Rattle.race_report.proofs.Exact.{Clash, Good, Pair, kept_good, key}
 use Rattle.race_report.proofs.Alike.{StrandsTell}
 use Rattle.race_report.proofs.Keys.{key_total}
@@ -209,7 +209,7 @@ strands_tell sight p limit ts i k j u w v li lk eu ew ev same =
     ∙ sym (seen_tells sight p (start p limit) (start_is_fork_join_state p limit) ts w v k j lk ew ev)
 
 module _ (sight : Sight) (p : ProgramText) (limit : ℕ) (ts : List ℕ) (kept : BTreeMap Key Watch) (ordered : tree.IsOrdered key_cmp kept)
-    (is : (q : Key) → tree.get key_cmp kept q ≡ kept_from q None (seen sight p limit ts)) where
+    (is : (q : Key) → tree.get key_cmp kept q ≡ watched_from q None (seen sight p limit ts)) where
   -- a race that is kept is the pair of a field, which is the key's
   pub record Told (q : Key) (r : Race) : Type 0 where
     pub u : Access
@@ -239,7 +239,7 @@ module _ (sight : Sight) (p : ProgramText) (limit : ℕ) (ts : List ℕ) (kept :
   abbrev Has : Field → Type 0
   Has field = (w : Access) × (z : Access) × IsPair (run p limit ts).edges (looked sight p limit ts) field w z × Contains (races_in (tree.values kept)) (race_of w z)
 
-  has_by : (field : Field) (i j : ℕ) (u v : Seen) → Clash (key_of field) (seen sight p limit ts) i j u v → (w : Option Watch) → kept_from (key_of field) None (seen sight p limit ts) ≡ w → Good (key_of field) (seen sight p limit ts) w → Has field
+  has_by : (field : Field) (i j : ℕ) (u v : Seen) → Clash (key_of field) (seen sight p limit ts) i j u v → (w : Option Watch) → watched_from (key_of field) None (seen sight p limit ts) ≡ w → Good (key_of field) (seen sight p limit ts) w → Has field
   has_by field i j u v C None e G = absurd (G i u C.first C.key_u)
   has_by field i j u v C (Some (Waits o)) e W = absurd (W.none i j u v C)
   has_by field i j u v C (Some (Found r)) e G =
@@ -255,7 +255,7 @@ module _ (sight : Sight) (p : ProgramText) (limit : ℕ) (ts : List ℕ) (kept :
   every : (field : Field) (i j : ℕ) (u v : Access) → RaceAt (run p limit ts).edges (looked sight p limit ts) field i j u v → Has field
   every field i j u v R =
       let C = clash_at sight p limit ts field i j u v R in
-      has_by field i j C.0 C.1 C.2 (kept_from (key_of field) None (seen sight p limit ts)) refl (kept_good (key_of field) (seen sight p limit ts) (strands_tell sight p limit ts))
+      has_by field i j C.0 C.1 C.2 (watched_from (key_of field) None (seen sight p limit ts)) refl (kept_good (key_of field) (seen sight p limit ts) (strands_tell sight p limit ts))
 
   key_is : (q : Key) (r : Race) → Told q r → race_key r ≡ q
   key_is q r T = ap race_key T.same ∙ (race_field T.u T.v ∙ T.at)

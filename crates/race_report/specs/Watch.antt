@@ -120,13 +120,13 @@ abbrev pub same_key : Key → Key → Bool
 same_key a b = is_eq (key_cmp a b)
 
 -- what is kept at a key, with one access more
-abbrev pub kept_with : Key → Option Watch → Seen → Option Watch
-kept_with q w v = if same_key (key_of v.access.field) q then Some (watch_with (or_nothing w) v) else w
+abbrev pub watched_with : Key → Option Watch → Seen → Option Watch
+watched_with q w v = if same_key (key_of v.access.field) q then Some (watch_with (or_nothing w) v) else w
 
 -- and with these accesses more
-abbrev pub kept_from : Key → Option Watch → List Seen → Option Watch
-kept_from q w [] = w
-kept_from q w (v ∷ vs) = kept_from q (kept_with q w v) vs
+abbrev pub watched_from : Key → Option Watch → List Seen → Option Watch
+watched_from q w [] = w
+watched_from q w (v ∷ vs) = watched_from q (watched_with q w v) vs
 
 -- THE RACES THAT WERE FOUND
 

@@ -5,7 +5,7 @@ ghost use Rattle.std.specs.BTreeMap as tree;
 ghost use Rattle.run_ledger.specs.Journals.{tasks_in, tasks_of};
 ghost use Rattle.hh_model.specs.Step.{step};
 ghost use Rattle.race_report.specs.Accesses.{with_some};
-ghost use Rattle.race_report.specs.Watch.{Key, key_cmp, kept_from, seen, seen_from, seen_of};
+ghost use Rattle.race_report.specs.Watch.{Key, key_cmp, watched_from, seen, seen_from, seen_of};
 ghost use Rattle.race_report.specs.Scan.{Follows};
 
 use crate::data::{Seen, Sight, Watch};
@@ -37,7 +37,7 @@ fn look(
     t: u32,
 ) -> Result<(), AllocError>
     requires { machine.now.steps < 2 ^ 30 }
-    ensures { OnOk result ((q : Key) → tree.get key_cmp kept.new q ≡ kept_from q (tree.get key_cmp kept.old q) (with_some (seen_of sight program.now machine.now.state t) [])) }
+    ensures { OnOk result ((q : Key) → tree.get key_cmp kept.new q ≡ watched_from q (tree.get key_cmp kept.old q) (with_some (seen_of sight program.now machine.now.state t) [])) }
 {
     sizes_are_bounded();
     machine.reached();
@@ -117,7 +117,7 @@ fn take_entries(
 ) -> Result<(), AllocError>
     requires program { machine.old.program ≡ program.now }
     requires few { machine.old.steps + length (tasks_of journal.now) < 2 ^ 30 }
-    ensures { OnOk result ((q : Key) → tree.get key_cmp kept.new q ≡ kept_from q (tree.get key_cmp kept.old q) (seen_from sight program.now machine.old.state (tasks_of journal.now))) }
+    ensures { OnOk result ((q : Key) → tree.get key_cmp kept.new q ≡ watched_from q (tree.get key_cmp kept.old q) (seen_from sight program.now machine.old.state (tasks_of journal.now))) }
 {
     for entry in journal {
         let ran = steps_in(entry.kind());
@@ -136,7 +136,7 @@ fn scan_onto(
     journal: &[Entry],
 ) -> Result<(), AllocError>
     requires { length (tasks_of journal.now) < 2 ^ 30 }
-    ensures { OnOk result ((q : Key) → tree.get key_cmp kept.new q ≡ kept_from q (tree.get key_cmp kept.old q) (seen sight program.now field_limit (tasks_of journal.now))) }
+    ensures { OnOk result ((q : Key) → tree.get key_cmp kept.new q ≡ watched_from q (tree.get key_cmp kept.old q) (seen sight program.now field_limit (tasks_of journal.now))) }
 {
     let mut machine = Machine::start(alloc, program, field_limit)?;
     take_entries(alloc, sight, program, &mut machine, kept, journal)
@@ -151,7 +151,7 @@ pub(crate) fn scan(
     journal: &[Entry],
 ) -> Result<BTreeMap<((u32, u32), (u32, u32)), Watch>, AllocError>
     requires { length (tasks_of journal.now) < 2 ^ 30 }
-    ensures kept { IfOk result (λ kept. (q : Key) → tree.get key_cmp kept q ≡ kept_from q None (seen sight program.now field_limit (tasks_of journal.now))) }
+    ensures kept { IfOk result (λ kept. (q : Key) → tree.get key_cmp kept q ≡ watched_from q None (seen sight program.now field_limit (tasks_of journal.now))) }
     ensures ordered { IfOk result (λ kept. tree.IsOrdered key_cmp kept) }
 {
     let mut kept = BTreeMap::new(alloc);

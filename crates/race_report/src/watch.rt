@@ -5,7 +5,7 @@ ghost use Rattle.std.specs.BTreeMap as tree;
 ghost use Rattle.std.specs.BTreeMap.{values};
 ghost use Rattle.race_report.specs.Labels.{allows, label_precedes};
 ghost use Rattle.race_report.specs.Ways.{has_alike};
-ghost use Rattle.race_report.specs.Watch.{clash, clashes, first_clash, bound_with, with_first, with_access, bound_for, race_of, watch_with, nothing_yet, Key, key_of, key_cmp, kept_with, races_in};
+ghost use Rattle.race_report.specs.Watch.{clash, clashes, first_clash, bound_with, with_first, with_access, bound_for, race_of, watch_with, nothing_yet, Key, key_of, key_cmp, watched_with, races_in};
 
 use crate::bounds::allows;
 use crate::data::{Access, Bound, Field, Open, Race, Seen, Watch};
@@ -197,7 +197,7 @@ pub(crate) fn keep(
     kept: &mut BTreeMap<((u32, u32), (u32, u32)), Watch>,
     seen: Seen,
 ) -> Result<(), AllocError>
-    ensures { OnOk result ((q : Key) → tree.get key_cmp kept.new q ≡ kept_with q (tree.get key_cmp kept.old q) seen) }
+    ensures { OnOk result ((q : Key) → tree.get key_cmp kept.new q ≡ watched_with q (tree.get key_cmp kept.old q) seen) }
 {
     let key = key_of(seen.access.field);
     let watch = match kept.remove(&key) {

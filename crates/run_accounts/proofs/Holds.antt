@@ -19,7 +19,7 @@ use Rattle.run_ledger.specs.Entries.{kind_refusal, after_kind, out_from, is_read
 use Rattle.listed.specs.Options.{option_is}
 use Rattle.run_ledger.proofs.Moves.{moves_each}
 use Rattle.run_ledger.proofs.Sound.{SoundLedger}
-use Rattle.run_ledger.proofs.Steps.{SoundAt, step_keeps, step_leaves, task_step_sound, worker_at}
+use Rattle.run_ledger.proofs.Steps.{SoundAt, step_keeps, step_leaves, task_step_sound}
 use Rattle.run_ledger.proofs.Stocks.{with_heap_any}
 use Rattle.run_ledger.proofs.Journals.{none_unless, out_tells}
 use Rattle.run_ledger.proofs.Frames.{held_is, is_held}

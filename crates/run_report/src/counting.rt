@@ -52,7 +52,7 @@ fn enter(book: &mut Book, totals: Totals, entry: Entry) -> Result<Totals, ApplyE
 
 // Enters the entries of a journal into the accounts of a run before its first entry, and adds up what they count.
 fn enter_all(book: &mut Book, journal: &[Entry]) -> Result<Totals, ReplayError>
-    requires limits { AreSettings book.old.settings }
+    requires settings { AreSettings book.old.settings }
     requires first { book.old.ledger ≡ opening book.old.program book.old.settings }
     requires open { book.old.stopped ≡ false }
     ensures book { OnOk result (book.new ≡ record book.old { ledger = ledger_of book.old.program book.old.settings journal.now }) }

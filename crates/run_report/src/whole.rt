@@ -122,7 +122,7 @@ fn whole_of(
     journal: &[Entry],
     extras: Extras,
 ) -> Result<WholeRun, ReplayError>
-    requires limits { counted.now.book.settings ≡ settings }
+    requires settings { counted.now.book.settings ≡ settings }
     requires open { counted.now.book.stopped ≡ false }
     requires ledger { counted.now.book.ledger ≡ ledger_of counted.now.book.program settings journal.now }
     requires totals { counted.now.totals ≡ totals_from counted.now.book.program settings (opening counted.now.book.program settings) journal.now }

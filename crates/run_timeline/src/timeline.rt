@@ -155,7 +155,7 @@ fn enter_all(
     journal: &[Entry],
 ) -> Result<(), ReplayError>
     requires few { length journal.now < 2 ^ 32 - 1 }
-    requires limits { AreSettings book.old.settings }
+    requires settings { AreSettings book.old.settings }
     requires first { book.old.ledger ≡ opening book.old.program book.old.settings }
     requires open { book.old.stopped ≡ false }
     requires program { book.old.program ≡ program.now }

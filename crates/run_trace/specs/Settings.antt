@@ -31,12 +31,12 @@ pub record SettingsValue : Type 0 where
   -- the words from which on a waiting heap may be marked
   pub inner : ℕ
 
-pub record AreSettings (l : SettingsValue) : Type 0 where
-  pub workers : (1 ≤ l.workers) × (l.workers ≤ worker_limit)
-  pub fuel : (1 ≤ l.fuel) × (l.fuel ≤ fuel_limit)
-  pub chunks : (2 ≤ l.chunks) × (l.chunks ≤ chunk_limit)
-  pub leaf : (16 ≤ l.leaf) × (l.leaf ≤ words_limit)
-  pub inner : (16 ≤ l.inner) × (l.inner ≤ words_limit)
+pub record AreSettings (s : SettingsValue) : Type 0 where
+  pub workers : (1 ≤ s.workers) × (s.workers ≤ worker_limit)
+  pub fuel : (1 ≤ s.fuel) × (s.fuel ≤ fuel_limit)
+  pub chunks : (2 ≤ s.chunks) × (s.chunks ≤ chunk_limit)
+  pub leaf : (16 ≤ s.leaf) × (s.leaf ≤ words_limit)
+  pub inner : (16 ≤ s.inner) × (s.inner ≤ words_limit)
 
 -- the settings where none are given
 abbrev pub usual_settings : SettingsValue

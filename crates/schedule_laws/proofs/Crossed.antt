@@ -21,7 +21,7 @@ use Rattle.renaming_laws.proofs.Swaps.{at_low, swapped}
 use Rattle.renaming_laws.proofs.Unnamed.{itself}
 use Rattle.schedule_laws.proofs.Swapping.{Agree, AllAt, Stored, sets}
 use Rattle.schedule_laws.proofs.Moves.{Acts, IsPlain, Joins, Last, Move, Moves, Plain, Shape, Splits, change_in, edges_in, last_move, last_moves, news, puts, rows_in}
-use Rattle.schedule_laws.proofs.Apart.{Kind, last_kinds, last_quiet, last_same, plain_quiet}
+use Rattle.schedule_laws.proofs.Apart.{Kind, last_kinds, last_quiet, last_same}
 use Rattle.schedule_laws.proofs.Commuting.{Even, edges_then, even_alike, even_back, in_swap, store_cross, store_then, tasks_cross, tasks_then}
 use Rattle.schedule_laws.proofs.Forked.{edges_swap, f, rows_swap, tasks_swap}
 use Rattle.schedule_laws.proofs.Lows.{LowIn}

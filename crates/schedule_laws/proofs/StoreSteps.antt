@@ -61,7 +61,7 @@ behind new (inr e) store n o is = ap (λ w. object_at (store ++ w) n) e ∙ rows
 
 module _ (p : ProgramText) (m : State) (N : NamesAreStoredIn m) (t : ℕ) where
   pub held : (x : Task) → slice_get m.tasks t ≡ Some x → is_running (Some x) ≡ true → (n : Name) → In x.top.refs (Some n) → (o : Object) × (object_at m.store n ≡ Some o)
-  held x is run n i = N.held t x n is (contains_from_in _ n (names_run x n (runs_is x.status run) (in_registers (x.top ∷ x.below) x.top n (inl refl) i)))
+  held x is run n i = N.named t x n is (contains_from_in _ n (names_run x n (runs_is x.status run) (in_registers (x.top ∷ x.below) x.top n (inl refl) i)))
 
   pub in_field : (n q : Name) (o : Object) (k : ℕ) → object_at m.store n ≡ Some o → option_flatten (slice_get o.refs k) ≡ Some q → (z : Object) × (object_at m.store q ≡ Some z)
   in_field n q o k is got = N.in_fields n q o is (contains_from_in o.refs (Some q) (got_in o.refs k (Some q) (flat_at (slice_get o.refs k) q got)))

@@ -76,7 +76,7 @@ module _ (w : SharedValue) (I : IsSharedValue w) where
   few_steps : l.steps ≤ 1000000256
   few_steps =
       let a : l.steps ≤ w.settings.fuel + 256 = steps_are_bounded w.program w.settings w.journal.items I.legal in
-      let b : w.settings.fuel ≤ 1000000000 = I.limits.fuel.1 in
+      let b : w.settings.fuel ≤ 1000000000 = I.settings.fuel.1 in
       omega (arith, a, b)
 
   pub few : length T < 2 ^ 32

@@ -83,7 +83,7 @@ module _ (w : SharedValue) (I : IsSharedValue w) (C : AreChunks w.pool.slots) (F
       let a : h.units ≤ units_in_use w.pool = units_most w.pool.slots n h e in
       let b : units_in_use w.pool ≡ in_use (accounts w) = used_now w I in
       let c : in_use (accounts w) ≤ w.settings.chunks = (use_is_bounded w.program w.settings w.journal.items I.legal).now in
-      let d : w.settings.chunks ≤ 65536 = I.limits.chunks.1 in
+      let d : w.settings.chunks ≤ 65536 = I.settings.chunks.1 in
       omega (arith, a, b, c, d)
 
   chunk_form : (c : Chunk) → In p.chunks c → IsChunkForm c

@@ -12,7 +12,7 @@ use task_machine::Private;
 impl Shared {
     /// Whether the free chunks are enough for a leaf collection of a part.
     pub fn pool_enough(&self, part: &Private) -> bool
-        requires held { IsOutPart self.now part.now }
+        requires out { IsOutPart self.now part.now }
         requires fresh { part.now.fresh ≡ 0 }
         ensures { result ≡ is_pool_enough self.now.settings (accounts self.now) part.now.task }
     {

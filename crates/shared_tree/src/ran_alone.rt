@@ -40,7 +40,7 @@ impl Shared {
 
     // What the part's next step does, and the line of the text where it stands.
     fn next_ending(&self, part: &Private) -> (Ending, u32)
-        requires held { MayBeEntered self.now part.now }
+        requires out { MayBeEntered self.now part.now }
         requires shared { IsShared self.now part.now }
         ensures { Tells self.now part.now result.0 result.1 }
     {

@@ -52,7 +52,7 @@ impl Shared {
 
     // Makes places in the parent's heap and set for what both children bring; nothing else changes.
     fn make_join_places(&mut self, part: &Private, parent: u32) -> Result<(), AllocError>
-        requires held { MayBeEntered self.old part.now }
+        requires out { MayBeEntered self.old part.now }
         requires ends { IsAtEnd self.old part.now }
         requires ended { state_of self.old.tree (sibling part.now.task) ≡ Some State.Ended }
         requires parent { parent_of self.old.tree part.now.task ≡ Some parent }

@@ -32,7 +32,7 @@ fn room_kept(marked: Option<Apart<Marking>>, room: MarkingRoom) -> MarkingRoom {
 impl Shared {
     // The functions that the children begin, and the line of the text where the fork stands.
     fn fork_line(&self, part: &Private) -> (u32, u32, u32)
-        requires held { MayBeEntered self.now part.now }
+        requires out { MayBeEntered self.now part.now }
         requires forks { IsAtFork self.now part.now }
         ensures { ForksTo self.now part.now result.0 result.1 result.2 }
     {

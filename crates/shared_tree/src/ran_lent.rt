@@ -39,7 +39,7 @@ impl Shared {
     // How the part's next step, in which other tasks have part, gives it up; none where it works on an object of
     // another task.
     fn leaving(&self, part: &Private) -> Option<Leaving>
-        requires held { MayBeEntered self.now part.now }
+        requires out { MayBeEntered self.now part.now }
         requires shared { IsShared self.now part.now }
         requires joint { IsJoint self.now part.now }
         ensures { ComesTo self.now part.now result }

@@ -21,7 +21,7 @@ use task_machine::Private;
 impl Shared {
     // What the part's next step does, and the line of the text where it stands.
     fn next_other(&self, part: &Private) -> (OtherStep, u32)
-        requires held { MayBeEntered self.now part.now }
+        requires out { MayBeEntered self.now part.now }
         requires shared { IsShared self.now part.now }
         requires other { IsOther self.now part.now }
         ensures { TellsOther self.now part.now result.0 result.1 }

@@ -99,7 +99,7 @@ module _ (w : SharedValue) (e : EntryValue) (I : IsSharedValue w) (free : refuse
   pub marked_world : length rests ≡ length tree → length sets ≡ length tree → length tasks_out ≡ length w.tasks_out → pool.limit ≡ w.pool.limit
       → StandsForAll (value_of marked') (tree_counts_of marked') (after w.program w.settings (accounts w) e) → ((t : ℕ) (r : Rest) → rest_at rests t ≡ Some r → HeapForm r.heap) → RestsAreMeasured pool rests tasks_out → IsSharedValue marked'
   marked_world made noted workers limit stands heaps measured = record {
-    limits = I.limits;
+    settings = I.settings;
     form = I.form;
     legal = legal_then w.program w.settings w.journal.items e I.legal free;
     made = made;

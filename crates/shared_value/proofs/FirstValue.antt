@@ -128,7 +128,7 @@ module _ (p : ProgramText) (s : SettingsValue) (lims : AreSettings s) (form : Is
 
   pub first_world : IsSharedValue w
   first_world = record {
-    limits = lims;
+    settings = lims;
     form = form;
     legal = refl;
     made = refl;

@@ -110,5 +110,5 @@ module _ (w : SharedValue) (k : ℕ) (p : Private) (I : IsSharedValue w) (F : Fi
 
   pub enough_is : nat_le (units_in_use w.pool + take_by (counted (small_words p.heap.chunks))) w.settings.chunks ≡ is_pool_enough w.settings l t
   enough_is =
-      enough_by (units_in_use w.pool) (small_words p.heap.chunks) w.settings.chunks I.limits.chunks.1
+      enough_by (units_in_use w.pool) (small_words p.heap.chunks) w.settings.chunks I.settings.chunks.1
       ∙ ap₂ (λ a b. nat_le (a + b) w.settings.chunks) (used_now w I) (sym take_is)

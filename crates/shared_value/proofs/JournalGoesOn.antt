@@ -34,7 +34,7 @@ four_changed w n n' h h' a a' j j' en eh ea ej =
 pub room_world : (w : SharedValue) (j : RoomyValue EntryValue) → j.items ≡ w.journal.items → IsSharedValue w → IsSharedValue (record w { journal = j })
 room_world w j e I =
     subst (λ (x : List EntryValue). IsSharedValue (record w { journal = record { items = x; room = j.room } })) (sym e)
-    (record { limits = I.limits; form = I.form; legal = I.legal; made = I.made; noted = I.noted; workers = I.workers; limit = I.limit; stands = I.stands; heaps = I.heaps; measured = I.measured })
+    (record { settings = I.settings; form = I.form; legal = I.legal; made = I.made; noted = I.noted; workers = I.workers; limit = I.limit; stands = I.stands; heaps = I.heaps; measured = I.measured })
 
 -- and every part that fits fits
 pub room_fit : (w : SharedValue) (j : RoomyValue EntryValue) → j.items ≡ w.journal.items → (k : ℕ) (p : Private) → Fits w k p → Fits (record w { journal = j }) k p

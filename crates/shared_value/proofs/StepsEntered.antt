@@ -226,4 +226,4 @@ pub steps_small : (w : SharedValue) (k : ℕ) (p : Private) → IsSharedValue w 
 steps_small w k p I F free =
     let a = ran_tells w.program w.settings (accounts w) k p.task p.fresh (ap is_none free) in
     let b : w.steps ≡ (accounts w).steps = steps_now w I in
-    (omega (arith, a.2, b), I.limits.fuel.1, F.fits.part.fits.few)
+    (omega (arith, a.2, b), I.settings.fuel.1, F.fits.part.fits.few)

@@ -32,7 +32,7 @@ pub record HeapForm (h : LeafHeapValue) : Type 0 where
 
 -- its journal is legal, and it stands for its journal; the root of a run that is done is handed back
 pub record IsSharedValue (w : SharedValue) : Type 0 where
-  pub limits : AreSettings w.settings
+  pub settings : AreSettings w.settings
   pub form : IsProgram w.program
   pub legal : is_legal w.program w.settings w.journal.items ≡ true
   pub made : length w.rests ≡ length w.tree

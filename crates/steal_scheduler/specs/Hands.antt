@@ -6,7 +6,7 @@ use Rattle.steal_scheduler.specs.Ends.{owner_port, owner_view, slots, next_put, 
 use Rattle.steal_scheduler.specs.declared.view.View.{View}
 use Rattle.steal_scheduler.specs.declared.theft.Theft.{Theft}
 use Rattle.steal_scheduler.specs.declared.hand.Hand.{Hand}
-use Rattle.steal_scheduler.specs.Rule.{opening_view, guest_view, with_put, TookBack, HeldAtMost}
+use Rattle.steal_scheduler.specs.Rule.{opening_view, guest_view, with_put, TookBack, HasAtMost}
 use Rattle.steal_scheduler.specs.Thefts.{theft_view, vain_thefts, SameTheft}
 
 -- what the hand's pass keeps at its own deque
@@ -82,7 +82,7 @@ pub record TookNone (old new : Hand) : Type 0 where
   pub view_is : own_view new ≡ own_view old
   pub index_falls : index new ≤ index old
   pub empty_pops_rose : empty_pops new ≡ raised_by (empty_pops old) 1
-  pub was_empty : HeldAtMost 0 (own_view old)
+  pub was_empty : HasAtMost 0 (own_view old)
 
 -- list and own deque as before
 pub record KeepsOwn (old new : Hand) : Type 0 where

@@ -40,7 +40,7 @@ pub record Dealt (items : List ℕ) (views : List View) : Type 0 where
 
 -- by the rule there is a state of the deque in which it holds at most so many numbers and one of its passes keeps this
 -- view
-pub record HeldAtMost (most : ℕ) (v : View) : Type 0 where
+pub record HasAtMost (most : ℕ) (v : View) : Type 0 where
   pub items : List ℕ
   pub views : List View
   pub port : ℕ

@@ -5,7 +5,7 @@ use Rattle.steal_scheduler.specs.declared.theft.Theft.{Theft}
 use Rattle.crossbeam_deque.specs.Handles.{stealer_deque}
 use Rattle.still_counts.specs.Counts.{raised_by}
 use Rattle.steal_scheduler.specs.Ends.{thief_port, thief_view, thefts_of_none}
-use Rattle.steal_scheduler.specs.Rule.{with_taken, HeldAtMost}
+use Rattle.steal_scheduler.specs.Rule.{with_taken, HasAtMost}
 
 -- what its pass keeps
 abbrev pub theft_view : Theft → View
@@ -31,4 +31,4 @@ pub record Stole (x : ℕ) (old new : Theft) : Type 0 where
 pub record StoleNone (old new : Theft) : Type 0 where
   pub view_is : theft_view new ≡ theft_view old
   pub vain_rose : vain_thefts new ≡ raised_by (vain_thefts old) 1
-  pub few : HeldAtMost 1 (theft_view old)
+  pub few : HasAtMost 1 (theft_view old)

@@ -32,22 +32,22 @@ impl Outcome<u32, View> for Puts {
 pub(crate) struct TakesBack;
 
 impl Outcome<u32, View> for TakesBack {
-    ghost use Rattle.steal_scheduler.specs.Rule.{TookBack, HeldAtMost};
+    ghost use Rattle.steal_scheduler.specs.Rule.{TookBack, HasAtMost};
 
     ghost then = { TookBack };
 
-    ghost empty = { HeldAtMost 0 };
+    ghost empty = { HasAtMost 0 };
 }
 
 pub(crate) struct Steals;
 
 impl Outcome<u32, View> for Steals {
     ghost use Rattle.std.specs.Prelude.{◌≡◌};
-    ghost use Rattle.steal_scheduler.specs.Rule.{with_taken, HeldAtMost};
+    ghost use Rattle.steal_scheduler.specs.Rule.{with_taken, HasAtMost};
 
     ghost then = { λ v xs w. w ≡ with_taken v xs };
 
-    ghost empty = { HeldAtMost 1 };
+    ghost empty = { HasAtMost 1 };
 }
 
 pub(crate) type Owner = OwnDeque<View, Deals>;

@@ -6,7 +6,7 @@ use Rattle.object_layout.specs.Chunks.{object_of}
 use Rattle.alloc_path.specs.LeafHeapValue.{with_places}
 use Rattle.remembered_set.specs.declared.remembered.Source.{Source}
 use Rattle.write_barrier.specs.declared.sets.SetOf.{SetOf}
-use Rattle.write_barrier.specs.Held.{bare}
+use Rattle.write_barrier.specs.Forms.{bare}
 use Rattle.write_barrier.specs.Stored.{Content}
 use Rattle.inner_mark_gc.specs.MarkingValue.{MarkingValue}
 use Rattle.task_homes.specs.declared.homes.Home.{Home}

@@ -5,7 +5,7 @@ ghost use Rattle.object_layout.specs.Cell.{with_int, IsPlace};
 ghost use Rattle.object_layout.specs.Chunks.{cell_of, object_of, put_object};
 ghost use Rattle.alloc_path.specs.FieldLaws.{with_ref_of};
 ghost use Rattle.remembered_set.specs.Sources.{StandOnce};
-ghost use Rattle.write_barrier.specs.Held.{bare};
+ghost use Rattle.write_barrier.specs.Forms.{bare};
 ghost use Rattle.write_barrier.specs.Stored.{content_at, with_kept, with_source, IsRoomy};
 ghost use Rattle.task_homes.specs.declared.task_at_rest.Rest.{Rest as RestOf};
 ghost use Rattle.task_homes.specs.HomesValue.{kept_of, keeping, keeps_of, marking_in, marks_at, refs_of_rest, rest_at, rest_in, set_in, sources_of, IsSameRest};
@@ -71,7 +71,7 @@ impl Homes {
     ghost use Rattle.object_layout.specs.Chunks.{cell_of, object_of, put_object};
     ghost use Rattle.alloc_path.specs.FieldLaws.{with_ref_of};
     ghost use Rattle.remembered_set.specs.Sources.{StandOnce};
-    ghost use Rattle.write_barrier.specs.Held.{bare};
+    ghost use Rattle.write_barrier.specs.Forms.{bare};
     ghost use Rattle.write_barrier.specs.Stored.{content_at, with_kept, with_source, IsRoomy};
     ghost use Rattle.task_homes.specs.declared.task_at_rest.Rest.{Rest as RestOf};
     ghost use Rattle.task_homes.specs.HomesValue.{kept_of, keeping, keeps_of, marking_in, marks_at, refs_of_rest, rest_at, rest_in, set_in, sources_of, IsSameRest};

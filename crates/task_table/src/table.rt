@@ -51,7 +51,7 @@ fn enter_all(
     rows: &mut Listed<Row>,
     journal: &[Entry],
 ) -> Result<(), ReplayError>
-    requires limits { AreSettings book.old.settings }
+    requires settings { AreSettings book.old.settings }
     requires first { book.old.ledger ≡ opening book.old.program book.old.settings }
     requires open { book.old.stopped ≡ false }
     requires program { book.old.program ≡ program.now }

@@ -11,8 +11,8 @@ use Rattle.shared_value.specs.Stands.{IsSharedValue}
 use Rattle.shared_value.specs.SharedValue.{SharedValue, accounts}
 use Rattle.paced_tree.specs.Owed.{owed_by}
 use Rattle.turn_entries.specs.declared.act.Acted.{Acted}
-use Rattle.turn_entries.specs.declared.held.Ready.{Ready}
-use Rattle.turn_entries.specs.declared.held.Ready.TheVariants.{Paused as HasPaused}
+use Rattle.turn_entries.specs.declared.between_turns.Ready.{Ready}
+use Rattle.turn_entries.specs.declared.between_turns.Ready.TheVariants.{Paused as HasPaused}
 use Rattle.turn_entries.specs.declared.run.Run.{Run}
 use Rattle.turn_entries.specs.Acts.{Acts, ActsFor}
 use Rattle.turn_entries.specs.Next.{after_steps, brought_kind, due_kind, going_kind, is_wanting, next_kind, owing_kind, paused_kind}

@@ -58,7 +58,7 @@ module _ (w : SharedValue) (k : ℕ) (part : Private) (I : IsSharedValue w) (on 
       first.count ∙ ap (λ (z : State). length (row_of (slice_get z.store part.task))) (beyond_machine w.program l part) in
       let rows : length (row_of (slice_get (steps w.program m part.task part.fresh).store part.task)) ≤ part.fresh + l.steps = then.objects part.task in
       let bound : l.steps ≤ w.settings.fuel + 256 = steps_are_bounded w.program w.settings w.journal.items I.legal in
-      let fuel = I.limits.fuel.1 in
+      let fuel = I.settings.fuel.1 in
       omega (arith, count, rows, bound, fuel, few, most)
 
 -- ---- AFTER A RUN OF STEPS

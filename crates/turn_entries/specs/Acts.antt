@@ -12,10 +12,10 @@ use Rattle.child_tasks.specs.ChildEnds.{running_parent}
 use Rattle.child_tasks.specs.NoTask.{HoldsNone}
 use Rattle.turn_entries.specs.declared.act.Acted.{Acted}
 use Rattle.turn_entries.specs.declared.act.Acted.TheVariants.{Entered, Same}
-use Rattle.turn_entries.specs.declared.held.Next.{Next}
-use Rattle.turn_entries.specs.declared.held.Next.TheVariants.{Running, Collecting as Collects, Copied as HasCopied, Found as GoesFor, Forked, Resumed, Idle, Waits, Stop}
-use Rattle.turn_entries.specs.declared.held.Ready.{Ready}
-use Rattle.turn_entries.specs.declared.held.Ready.TheVariants.{Paused as HasPaused, Copied as IsCopied, Found}
+use Rattle.turn_entries.specs.declared.between_turns.Next.{Next}
+use Rattle.turn_entries.specs.declared.between_turns.Next.TheVariants.{Running, Collecting as Collects, Copied as HasCopied, Found as GoesFor, Forked, Resumed, Idle, Waits, Stop}
+use Rattle.turn_entries.specs.declared.between_turns.Ready.{Ready}
+use Rattle.turn_entries.specs.declared.between_turns.Ready.TheVariants.{Paused as HasPaused, Copied as IsCopied, Found}
 use Rattle.turn_entries.specs.declared.run.Run.{Run}
 use Rattle.turn_entries.specs.Next.{is_wanting, next_kind}
 use Rattle.turn_entries.specs.Parts.{BringsTo, MayCopy, MayRun, WasCopied}
@@ -28,7 +28,7 @@ abbrev pub Goes : SharedValue → Type 0
 Goes after = (accounts after).end ≡ None
 
 -- the worker came with a part whose task has forked or ended, and holds none now
-pub record LeftPart (after : SharedValue) (k : ℕ) (ready : Ready) : Type 0 where
+pub record GaveTaskUp (after : SharedValue) (k : ℕ) (ready : Ready) : Type 0 where
   pub part : Private
   pub brought : ready ≡ HasPaused part Shared
   pub none : HoldsNone after k
@@ -40,9 +40,9 @@ Follows w after k ready (Running part) = Goes after × MayRun after k part
 Follows w after k ready (Collects c) = Goes after × MayCopy after k c
 Follows w after k ready (HasCopied c) = Goes after × (ready ≡ IsCopied c) × Fits after k c.begun.value × WasCopied after.program k c
 Follows w after k ready (GoesFor t) = Goes after × (ready ≡ Found (Some t))
-Follows w after k ready (Forked left right) = Goes after × LeftPart after k ready × (left ≡ length (accounts w).machine.tasks) × (right ≡ left + 1)
-Follows w after k ready (Resumed t) = Goes after × (p : LeftPart after k ready) × (running_parent (accounts after).machine.tasks p.part.task ≡ Some t)
-Follows w after k ready Idle = Goes after × ((ready ≡ Found None) ⊎ ((p : LeftPart after k ready) × (running_parent (accounts after).machine.tasks p.part.task ≡ None)))
+Follows w after k ready (Forked left right) = Goes after × GaveTaskUp after k ready × (left ≡ length (accounts w).machine.tasks) × (right ≡ left + 1)
+Follows w after k ready (Resumed t) = Goes after × (p : GaveTaskUp after k ready) × (running_parent (accounts after).machine.tasks p.part.task ≡ Some t)
+Follows w after k ready Idle = Goes after × ((ready ≡ Found None) ⊎ ((p : GaveTaskUp after k ready) × (running_parent (accounts after).machine.tasks p.part.task ≡ None)))
 Follows w after k ready Waits = ⊥
 Follows w after k ready Stop = is_some (accounts after).end ≡ true
 

@@ -12,8 +12,8 @@ use Rattle.task_machine.specs.declared.part.Paused.{Paused}
 use Rattle.task_machine.specs.declared.part.Paused.TheVariants.{Due, NeedChunk, Shared, Spent}
 use Rattle.shared_value.specs.SharedValue.{SharedValue, accounts}
 use Rattle.paced_tree.specs.Owed.{owed_by}
-use Rattle.turn_entries.specs.declared.held.Ready.{Ready}
-use Rattle.turn_entries.specs.declared.held.Ready.TheVariants.{Paused as HasPaused, Copied as IsCopied, Found, Wanting}
+use Rattle.turn_entries.specs.declared.between_turns.Ready.{Ready}
+use Rattle.turn_entries.specs.declared.between_turns.Ready.TheVariants.{Paused as HasPaused, Copied as IsCopied, Found, Wanting}
 use Rattle.turn_entries.specs.declared.run.Run.{Run}
 use Rattle.turn_entries.specs.Values.{is_over}
 

@@ -14,12 +14,12 @@ use Rattle.shared_value.specs.SharedValue.{SharedValue, accounts}
 use Rattle.own_steps.specs.Alone.{machine_after}
 use Rattle.leaf_collections.specs.LeafEnd.{FitsCopied}
 use Rattle.turn_lock.specs.declared.view.View.{View}
-use Rattle.turn_entries.specs.declared.held.Collecting.{Collecting}
-use Rattle.turn_entries.specs.declared.held.Copied.{Copied}
-use Rattle.turn_entries.specs.declared.held.Next.{Next}
-use Rattle.turn_entries.specs.declared.held.Next.TheVariants.{Running, Collecting as Collects, Copied as HasCopied, Found as GoesFor, Idle, Stop}
-use Rattle.turn_entries.specs.declared.held.Ready.{Ready}
-use Rattle.turn_entries.specs.declared.held.Ready.TheVariants.{Paused as HasPaused, Copied as IsCopied, Found, Wanting}
+use Rattle.turn_entries.specs.declared.between_turns.Collecting.{Collecting}
+use Rattle.turn_entries.specs.declared.between_turns.Copied.{Copied}
+use Rattle.turn_entries.specs.declared.between_turns.Next.{Next}
+use Rattle.turn_entries.specs.declared.between_turns.Next.TheVariants.{Running, Collecting as Collects, Copied as HasCopied, Found as GoesFor, Idle, Stop}
+use Rattle.turn_entries.specs.declared.between_turns.Ready.{Ready}
+use Rattle.turn_entries.specs.declared.between_turns.Ready.TheVariants.{Paused as HasPaused, Copied as IsCopied, Found, Wanting}
 use Rattle.turn_entries.specs.declared.run.Run.{Run}
 use Rattle.turn_entries.specs.declared.run.Setup.{Setup}
 

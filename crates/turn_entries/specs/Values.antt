@@ -23,8 +23,8 @@ abbrev pub setup_of : Run → Setup
 setup_of r = record { program = r.paced.program; settings = r.paced.settings }
 
 -- a worker keeps a part that fits
-abbrev pub FitsKept : Run → ℕ → Snapshot Private → Type 0
-FitsKept r k kept = Fits r.paced k kept.value
+abbrev pub FitsSnapshot : Run → ℕ → Snapshot Private → Type 0
+FitsSnapshot r k kept = Fits r.paced k kept.value
 
 -- no more entries are made: the run has ended, or some worker has met want of memory
 abbrev pub is_over : Run → Bool

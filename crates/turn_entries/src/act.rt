@@ -7,7 +7,7 @@ ghost use Rattle.turn_entries.specs.Next.{going_kind, is_wanting, owing_kind};
 ghost use Rattle.turn_entries.specs.Parts.{BringsTo};
 ghost use Rattle.turn_entries.specs.Values.{MayEnter};
 
-use crate::held::{Next, Ready};
+use crate::between_turns::{Next, Ready};
 use crate::run::Run;
 use paced_tree::NotEntered;
 use run_ledger::Owed;

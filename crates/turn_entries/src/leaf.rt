@@ -11,7 +11,7 @@ ghost use Rattle.turn_entries.specs.Parts.{IsPaused};
 ghost use Rattle.turn_entries.specs.Values.{MayEnter};
 
 use crate::act::Acted;
-use crate::held::{Collecting, Copied, Next};
+use crate::between_turns::{Collecting, Copied, Next};
 use crate::part_block::PartInBlock;
 use crate::run::Run;
 use leaf_copy_gc::{Moved, ToChunks};

@@ -3,7 +3,7 @@
 #![tactic(auto)]
 
 mod act;
-mod held;
+mod between_turns;
 mod leaf;
 mod part_block;
 mod pay;
@@ -11,7 +11,7 @@ mod run;
 mod steps;
 
 pub use act::Acted;
-pub use held::{Collecting, Copied, Next, Ready};
+pub use between_turns::{Collecting, Copied, Next, Ready};
 pub use paced_tree::{Counted, Paced};
 pub use part_block::{PartBlock, PartInBlock};
 pub use run::{Run, Setup};

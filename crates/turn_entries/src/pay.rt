@@ -12,7 +12,7 @@ ghost use Rattle.turn_entries.specs.Parts.{next_after, BringsTo};
 ghost use Rattle.turn_entries.specs.Values.{MayEnter};
 
 use crate::act::Acted;
-use crate::held::{Next, Ready};
+use crate::between_turns::{Next, Ready};
 use crate::run::Run;
 use run_ledger::MARKED_AT_ONCE;
 

@@ -1,6 +1,6 @@
 //! The shared value in turns.
 ghost use Rattle.std.specs.Prelude.{◌≡◌, ◌<◌, ◌^◌, not, length};
-ghost use Rattle.turn_entries.specs.Values.{worker_of, setup_of, is_over, FitsKept};
+ghost use Rattle.turn_entries.specs.Values.{worker_of, setup_of, is_over, FitsSnapshot};
 
 use hh_lang::Program;
 use paced_tree::Paced;
@@ -22,7 +22,7 @@ pub struct Setup {
 }
 
 impl Kept for Run {
-    ghost use Rattle.turn_entries.specs.Values.{worker_of, setup_of, FitsKept};
+    ghost use Rattle.turn_entries.specs.Values.{worker_of, setup_of, FitsSnapshot};
 
     type Entry = Entry;
 
@@ -35,7 +35,7 @@ impl Kept for Run {
 
     ghost worker_of = { worker_of };
 
-    ghost fits = { FitsKept };
+    ghost fits = { FitsSnapshot };
 
     ghost setup = { setup_of };
 

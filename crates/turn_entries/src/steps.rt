@@ -9,7 +9,7 @@ ghost use Rattle.turn_entries.specs.Parts.{BringsTo, IsPaused, MayRun};
 ghost use Rattle.turn_entries.specs.Values.{MayEnter};
 
 use crate::act::Acted;
-use crate::held::{Next, Ready};
+use crate::between_turns::{Next, Ready};
 use crate::part_block::{PartBlock, PartInBlock};
 use crate::run::Run;
 use paced_tree::{Leaving, Lent, Ran};

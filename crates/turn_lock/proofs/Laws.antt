@@ -1,5 +1,5 @@
 -- Laws for those who use a turn: a worker's own entries, and all seats at the end.
-use Rattle.std.proofs.Common.{◌≡◌, ℕ, zero, suc, ◌<◌, cond, ◌==◌, ne_eqb, eq-eqb, List, [], ◌∷◌, ◌++◌, length, refl, sym, ap, ◌∙◌, arith, Option, Some, append-nil, slice_get}
+use Rattle.std.proofs.Common.{◌≡◌, ℕ, ◌<◌, cond, ◌==◌, ne_eqb, eq-eqb, List, [], ◌∷◌, ◌++◌, length, refl, sym, ap, ◌∙◌, arith, Option, Some, append-nil, slice_get}
 use Rattle.std.proofs.lemmas.List.Elements.{filter-append}
 use Rattle.listed.proofs.Members.{got_within}
 use Rattle.listed.proofs.Places.{got_some}
@@ -7,7 +7,7 @@ use Rattle.atomic_table.specs.Seated.{TableId}
 use Rattle.atomic_table.specs.declared.shared.Seat.{Seat}
 use Rattle.turn_lock.specs.declared.view.View.{View}
 use Rattle.turn_lock.specs.Journal.{NoneBy, entries_by}
-use Rattle.turn_lock.specs.Seats.{Knows, Extends, IsAlike, IsLeftBy, HasOwnEntries, GaveOne, own_entries, view, HasNoTurn, SameWorker, AreNewSeats, AreAllSeats}
+use Rattle.turn_lock.specs.Seats.{Knows, Extends, IsAlike, IsFinalFor, HasOwnEntries, GaveOne, own_entries, view, HasNoTurn, SameWorker, AreNewSeats, AreAllSeats}
 
 last_or : {E : Type 0} → E → List E → E
 last_or d [] = d
@@ -54,7 +54,7 @@ module _ {T E P S : Type 0} (journal : T → List E) (by : E → ℕ) (fits : T 
   gave_none taken value v w k alike same seen = ap (λ (n : ℕ). entries_by by n w.seen) same ∙ (ap (entries_by by v.worker) (seen ∙ alike.same_journal) ∙ own_of_taken taken v k)
 
   -- the value at the end has no entries of a worker but those that its seat had seen
-  pub own_at_end : (z : TableId) (value : T) (seats : List (Seat (Option T) (View T E P S))) → AreAllSeats z seats → IsLeftBy journal by fits setup value seats → HasOwnEntries journal by fits setup value seats
+  pub own_at_end : (z : TableId) (value : T) (seats : List (Seat (Option T) (View T E P S))) → AreAllSeats z seats → IsFinalFor journal by fits setup value seats → HasOwnEntries journal by fits setup value seats
   own_at_end z value seats all left k s at = let b = left.begins k s at in
       entries_by-begins by k (journal value) (view s).seen b.0 b.1 b.2 ∙ ap (λ (n : ℕ). entries_by by n (view s).seen) (sym (all.each_seat k s at).1)
 

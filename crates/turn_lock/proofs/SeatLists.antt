@@ -10,7 +10,7 @@ use Rattle.atomic_table.specs.Seated.{TableId}
 use Rattle.atomic_table.specs.declared.shared.Seat.{Seat}
 use Rattle.turn_lock.specs.declared.view.View.{View}
 use Rattle.turn_lock.specs.Journal.{NoneBy}
-use Rattle.turn_lock.specs.Seats.{opening_view, newcomer, view, HasNoTurn, AreNewSeats, AreAllSeats, IsLeftBy}
+use Rattle.turn_lock.specs.Seats.{opening_view, newcomer, view, HasNoTurn, AreAllSeats, IsFinalFor}
 use Rattle.turn_lock.specs.Rule.{Sees, HasAll, split_view, with_joined}
 
 pub removed_first : {A : Type 0} (l : List A) (x : A) → 0 < length l → x ≡ get_or l 0 x → l ≡ x ∷ remove l 0
@@ -100,8 +100,8 @@ module _ {T E P S : Type 0} (journal : T → List E) (by : E → ℕ) (fits : T 
   split_next x v i k is next = subst (λ (u : View T E P S). split_view (newcomer u 0 i) ≡ newcomer u (suc k) 0) (sym is) (ap (λ (n : ℕ). split_view (newcomer (opening_view journal setup x) 0 n)) next)
 
   pub gathers : (x : T) (all : List Chair) (s0 : Chair) (done : List Chair) → all ≡ s0 ∷ done → (view s0).joined ≡ [] → ((k : ℕ) (s : Chair) → slice_get all k ≡ Some s → (view s).worker ≡ k)
-      → Sees journal by fits setup x (joined_all (view s0) done) → HasAll journal by fits setup x (joined_all (view s0) done) → IsLeftBy journal by fits setup x all
-  gathers x all s0 done is none_joined number knows whole = subst (IsLeftBy journal by fits setup x) (sym is) record {
+      → Sees journal by fits setup x (joined_all (view s0) done) → HasAll journal by fits setup x (joined_all (view s0) done) → IsFinalFor journal by fits setup x all
+  gathers x all s0 done is none_joined number knows whole = subst (IsFinalFor journal by fits setup x) (sym is) record {
     begins = λ k s e. let b = begins k s e in (b.0, b.1, subst (λ (n : ℕ). NoneBy by n b.0) (number k s (ap (λ (l : List Chair). slice_get l k) is ∙ e)) b.2);
     longest = ⊎_elim (λ (h : (joined_all (view s0) done).seen ≡ journal x). (0, s0, refl, sym (lasts (view s0) done).seen ∙ h))
         (λ (h : (j : ℕ) × (k : ℕ) × (l : List E) × (get_elem? (joined_all (view s0) done).joined j ≡ some (k, l)) × (l ≡ journal x)). let f = joined_from (view s0) done h.0 h.1 h.2 none_joined h.3 in (suc h.0, f.0, f.1, f.2 ∙ h.4)) whole;

@@ -104,7 +104,7 @@ module _ {T E P S : Type 0} (journal : T → List E) (worker_of : E → ℕ) (fi
 
   -- the value has the longest journal that a seat has seen; each seat has seen a beginning of it, after which no entry
   -- is its worker's
-  pub record IsLeftBy (value : T) (seats : List (Seat (Option T) (View T E P S))) : Type 0 where
+  pub record IsFinalFor (value : T) (seats : List (Seat (Option T) (View T E P S))) : Type 0 where
     pub begins : (k : ℕ) (s : Seat (Option T) (View T E P S)) → slice_get seats k ≡ Some s
         → (rest : List E) × (journal value ≡ (view s).seen ++ rest) × NoneBy worker_of k rest
     pub longest : (k : ℕ) × (s : Seat (Option T) (View T E P S)) × (slice_get seats k ≡ Some s) × ((view s).seen ≡ journal value)

@@ -44,13 +44,13 @@ impl<T: Kept> Play<Option<T>, View<T, T::Entry, T::Part, T::Setup>> for Takes<T>
 }
 
 // The part that a giving leaves with the worker, for the proof alone. A call at `Brand` picks it.
-pub(crate) trait LeftPart<P> {
+pub(crate) trait PartAfter<P> {
     ghost use Rattle.std.specs.Prelude.{Option};
 
     ghost part: { Option P };
 }
 
-impl<P> LeftPart<P> for Brand {
+impl<P> PartAfter<P> for Brand {
     ghost use Rattle.std.specs.Prelude.{None};
 
     ghost part = { None };
@@ -60,7 +60,7 @@ pub(crate) struct Gives<T, L> {
     marker: PhantomData<(T, L)>,
 }
 
-impl<T: Kept, L: LeftPart<T::Part>> Play<Option<T>, View<T, T::Entry, T::Part, T::Setup>>
+impl<T: Kept, L: PartAfter<T::Part>> Play<Option<T>, View<T, T::Entry, T::Part, T::Setup>>
     for Gives<T, L> {
     ghost use Rattle.turn_lock.specs.Rule.{gives};
 

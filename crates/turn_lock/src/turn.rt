@@ -1,13 +1,13 @@
 //! The turn: who takes it has the value, and gives it back unchanged or with one entry more.
 ghost use Rattle.std.specs.Prelude.{◌≡◌, ◌^◌, ◌<◌, ◌≤◌, [], length, Some, None, option_map, IfSome, IfOk};
-ghost use Rattle.turn_lock.specs.Seats.{with_looked, with_taken, with_given, view, SameWorker, Knows, IsSeatOf, HasTurn, HasNoTurn, Extends, IsAlike, AreNewSeats, AreAllSeats, IsLeftBy, HasOwnEntries, GaveOne, own_entries, opening_view};
+ghost use Rattle.turn_lock.specs.Seats.{with_looked, with_taken, with_given, view, SameWorker, Knows, IsSeatOf, HasTurn, HasNoTurn, Extends, IsAlike, AreNewSeats, AreAllSeats, IsFinalFor, HasOwnEntries, GaveOne, own_entries, opening_view};
 ghost use Rattle.std.specs.Mem.Slots.{slots_items, slots_len, IsFull};
 ghost use mathlib.Core.Option.{some};
 ghost use lib.ListN.{get_elem?};
 
 use crate::kept::Kept;
 use crate::steps::{
-    Gives, JoinsSeat, LeftPart, Looks, Returns, Rule, Seat, SplitsSeat, Takes, ViewOf,
+    Gives, JoinsSeat, Looks, PartAfter, Returns, Rule, Seat, SplitsSeat, Takes, ViewOf,
 };
 use atomic_table::{Closed, Refused, Table};
 use std::alloc::{AllocError, Global};
@@ -66,7 +66,7 @@ impl<T: Kept + Drop> Turn<T> {
     /// Ends the turn. All seats come back, in the order in which `new` gave them.
     pub fn close(self, mut seats: Vec<Seat<T>>) -> T
         requires { AreAllSeats (identity self) seats.items }
-        ensures value { IsLeftBy T.journal T.worker_of T.fits T.setup result seats.items }
+        ensures value { IsFinalFor T.journal T.worker_of T.fits T.setup result seats.items }
         ensures own { HasOwnEntries T.journal T.worker_of T.fits T.setup result seats.items }
     {
         let mut first = seats.remove(0);
@@ -121,7 +121,7 @@ impl<T: Kept + Drop> Turn<T> {
         self.give::<Brand>(seat, value, part);
     }
 
-    fn give<L: LeftPart<T::Part>>(&self, seat: &mut Seat<T>, value: T, part: Option<&T::Part>)
+    fn give<L: PartAfter<T::Part>>(&self, seat: &mut Seat<T>, value: T, part: Option<&T::Part>)
         requires left { L.part ≡ option_map (λ p. p.now) part }
         requires turn { (taken : T) × HasTurn (identity self.now) seat.old taken × Extends T.journal T.worker_of T.fits T.setup taken value (view seat.old).worker }
         requires part { IfSome part (λ p. T.fits value (view seat.old).worker p.now) }
@@ -129,7 +129,6 @@ impl<T: Kept + Drop> Turn<T> {
         ensures same { SameWorker (view seat.old) (view seat.new) }
         ensures own { GaveOne T.worker_of (T.journal value) (view seat.old) (view seat.new) }
     {
-        let _ = part;
         drop(self.table.shared.exchange(seat, 0, Some(value)));
         self.table.shared.fetch_add::<Gives<T, L>>(seat, 0, 1);
     }

@@ -22,7 +22,7 @@ use Rattle.copied_part_laws.specs.Handed.{IsCopying}
 use Rattle.copied_part_laws.proofs.CopyBegins.{begun_is_copying}
 use Rattle.copied_part_laws.proofs.CopyHanded.{begun, copied_fits}
 use Rattle.copied_part_laws.proofs.CopySays.{begun_can_copy}
-use Rattle.turn_entries.specs.declared.held.Collecting.{Collecting}
+use Rattle.turn_entries.specs.declared.between_turns.Collecting.{Collecting}
 use Rattle.turn_entries.specs.Parts.{MayCopy, RunGoesOn}
 
 module _ (p : ProgramText) (w : SharedValue) (k : ℕ) (c : Collecting) (G : RunGoesOn p w) (M : MayCopy w k c) where

@@ -14,17 +14,17 @@ use Rattle.shared_value.specs.SharedValue.{SharedValue}
 use Rattle.turn_lock.specs.Journal.{entries_by}
 use Rattle.turn_lock.specs.Seats.{view, Extends, HasTurn, IsAlike, Knows, own_entries, with_taken}
 use Rattle.turn_lock.proofs.Laws.{own_of_taken}
-use Rattle.turn_entries.specs.declared.held.Collecting.{Collecting}
-use Rattle.turn_entries.specs.declared.held.Copied.{Copied}
-use Rattle.turn_entries.specs.declared.held.Next.{Next}
-use Rattle.turn_entries.specs.declared.held.Next.TheVariants.{Running, Collecting as Collects, Copied as HasCopied, Found as GoesFor, Forked, Resumed, Idle, Waits, Stop}
-use Rattle.turn_entries.specs.declared.held.Ready.{Ready}
-use Rattle.turn_entries.specs.declared.held.Ready.TheVariants.{Paused as HasPaused, Copied as IsCopied, Found, Wanting}
+use Rattle.turn_entries.specs.declared.between_turns.Collecting.{Collecting}
+use Rattle.turn_entries.specs.declared.between_turns.Copied.{Copied}
+use Rattle.turn_entries.specs.declared.between_turns.Next.{Next}
+use Rattle.turn_entries.specs.declared.between_turns.Next.TheVariants.{Running, Collecting as Collects, Copied as HasCopied, Found as GoesFor, Forked, Resumed, Idle, Waits, Stop}
+use Rattle.turn_entries.specs.declared.between_turns.Ready.{Ready}
+use Rattle.turn_entries.specs.declared.between_turns.Ready.TheVariants.{Paused as HasPaused, Copied as IsCopied, Found, Wanting}
 use Rattle.turn_entries.specs.declared.run.Run.{Run}
 use Rattle.turn_entries.specs.declared.run.Setup.{Setup}
 use Rattle.turn_entries.specs.Acts.{Follows}
 use Rattle.turn_entries.specs.Parts.{BringsTo, ComesWith, GoesWith, KeepsPart, Sight, TakesFrom, WasCopied}
-use Rattle.turn_entries.specs.Values.{EntersOne, FitsKept, IsSame, journal_of, setup_of, worker_of}
+use Rattle.turn_entries.specs.Values.{EntersOne, FitsSnapshot, IsSame, journal_of, setup_of, worker_of}
 use Rattle.worker_run.specs.declared.desk.Desk.{Desk}
 use Rattle.worker_run.specs.Desks.{HasEntry, IsDesk}
 
@@ -44,7 +44,7 @@ pub same_text : (w : SharedValue) (p : ProgramText) (s : SettingsValue) → w.pr
 same_text w p s a b = ap₂ (λ (x : ProgramText) (y : SettingsValue). record { program = x; settings = y }) a b
 
 -- ---- THE TURN IS TAKEN: v is what the seat knew
-module _ (p : ProgramText) (d : Desk) (value : Run) (v : Sight) (K : Knows journal_of worker_of FitsKept setup_of value v) (number : v.worker ≡ d.worker) (under : v.setup ≡ Some (record { program = p; settings = d.settings })) where
+module _ (p : ProgramText) (d : Desk) (value : Run) (v : Sight) (K : Knows journal_of worker_of FitsSnapshot setup_of value v) (number : v.worker ≡ d.worker) (under : v.setup ≡ Some (record { program = p; settings = d.settings })) where
   setup_taken : setup_of value ≡ record { program = p; settings = d.settings }
   setup_taken = same_Some (setup_of value) _ (sym K.setup_is ∙ under)
 
@@ -61,12 +61,12 @@ module _ (p : ProgramText) (d : Desk) (value : Run) (v : Sight) (K : Knows journ
   brings Wanting C = tt
 
 -- the value after an entry runs the desk's program
-pub program_entered : (z : TableId) (p : ProgramText) (d : Desk) (taken value : Run) → IsDesk z p d → Knows journal_of worker_of FitsKept setup_of taken (view d.seat) → (kind : Kind) → EntersOne taken.paced value.paced d.worker kind → value.paced.program ≡ p
+pub program_entered : (z : TableId) (p : ProgramText) (d : Desk) (taken value : Run) → IsDesk z p d → Knows journal_of worker_of FitsSnapshot setup_of taken (view d.seat) → (kind : Kind) → EntersOne taken.paced value.paced d.worker kind → value.paced.program ≡ p
 program_entered z p d taken value D K kind enters = enters.enters.program ∙ program_taken p d taken (view d.seat) K D.number D.under
 
 -- an entry was made
 pub has_entry : (z : TableId) (p : ProgramText) (d e : Desk) (taken value : Run) → IsDesk z p d → e ≡ record d { seat = e.seat } → HasTurn z e.seat taken → view e.seat ≡ with_taken (view d.seat) taken
-    → Knows journal_of worker_of FitsKept setup_of taken (view d.seat) → (kind : Kind) → EntersOne taken.paced value.paced d.worker kind → IsSharedValue value.paced → HasEntry z e value
+    → Knows journal_of worker_of FitsSnapshot setup_of taken (view d.seat) → (kind : Kind) → EntersOne taken.paced value.paced d.worker kind → IsSharedValue value.paced → HasEntry z e value
 has_entry z p d e taken value D is turn sees K kind enters shared = subst (λ (x : Desk). HasEntry z x value) (sym is) (record {
   taken = taken;
   turn = turn;
@@ -79,7 +79,7 @@ has_entry z p d e taken value D is turn sees K kind enters shared = subst (λ (x
   kind = kind;
   enters = enters;
   shared = shared;
-  within = (let a = own_within (view d.seat).worker (journal_of taken) in let b = ap length (own_of_taken journal_of worker_of FitsKept setup_of taken (view d.seat) K) in let c = ap length own in omega (arith, a, b, c));
+  within = (let a = own_within (view d.seat).worker (journal_of taken) in let b = ap length (own_of_taken journal_of worker_of FitsSnapshot setup_of taken (view d.seat) K) in let c = ap length own in omega (arith, a, b, c));
 })
   where
     own : own_entries worker_of (view e.seat) ≡ own_entries worker_of (view d.seat)
@@ -88,7 +88,7 @@ has_entry z p d e taken value D is turn sees K kind enters shared = subst (λ (x
 -- ---- IT IS GIVEN BACK
 
 module _ (z : TableId) (d : Desk) (value : Run) (H : HasEntry z d value) where
-  pub extends : length (journal_of value) < 2 ^ 63 → Extends journal_of worker_of FitsKept setup_of H.taken value (view d.seat).worker
+  pub extends : length (journal_of value) < 2 ^ 63 → Extends journal_of worker_of FitsSnapshot setup_of H.taken value (view d.seat).worker
   extends short = record {
     entry = record { worker = d.worker; kind = H.kind };
     longer = H.enters.enters.journal;
@@ -117,7 +117,7 @@ module _ (z : TableId) (d : Desk) (value : Run) (H : HasEntry z d value) where
   goes Stop v s T e k = tt
 
 -- the value is the same
-pub alike : (taken value : Run) → IsSame taken.paced value.paced → IsAlike journal_of worker_of FitsKept setup_of taken value
+pub alike : (taken value : Run) → IsSame taken.paced value.paced → IsAlike journal_of worker_of FitsSnapshot setup_of taken value
 alike taken value S = record { same_journal = S.journal; fit = λ w s f. S.all w s.value f; same_setup = same_setup taken value S.program S.settings }
 
 -- what the worker goes on with after its entry, and after none

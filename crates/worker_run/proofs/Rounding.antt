@@ -1,7 +1,7 @@
 -- Rounds of a worker, one after the other.
 use Rattle.std.proofs.Common.{suc}
 use Rattle.hh_lang.specs.Form.{ProgramText}
-use Rattle.turn_entries.specs.declared.held.Next.{Next}
+use Rattle.turn_entries.specs.declared.between_turns.Next.{Next}
 use Rattle.worker_run.specs.declared.desk.Desk.{Desk}
 use Rattle.worker_run.specs.Rounds.{GoesRound, MakesRound}
 

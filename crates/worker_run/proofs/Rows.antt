@@ -14,13 +14,13 @@ use Rattle.run_ledger.specs.Pace.{is_paced}
 use Rattle.shared_value.specs.Stands.{IsSharedValue}
 use Rattle.shared_value.specs.SharedValue.{SharedValue, accounts}
 use Rattle.turn_lock.specs.Journal.{entries_by}
-use Rattle.turn_lock.specs.Seats.{view, HasNoTurn, HasOwnEntries, SameWorker, AreNewSeats, AreAllSeats, IsLeftBy}
+use Rattle.turn_lock.specs.Seats.{view, HasNoTurn, HasOwnEntries, SameWorker, AreNewSeats, AreAllSeats, IsFinalFor}
 use Rattle.turn_lock.proofs.Laws.{first_there, new_are_all, kept_are_all}
 use Rattle.turn_lock.proofs.SeatLists.{removed_first}
 use Rattle.turn_entries.specs.declared.run.Run.{Run}
 use Rattle.turn_entries.specs.declared.run.Setup.{Setup}
 use Rattle.turn_entries.specs.Parts.{Sight}
-use Rattle.turn_entries.specs.Values.{FitsKept, journal_of, setup_of, worker_of}
+use Rattle.turn_entries.specs.Values.{FitsSnapshot, journal_of, setup_of, worker_of}
 use Rattle.worker_run.specs.declared.desk.Desk.{Desk}
 use Rattle.worker_run.specs.declared.end.Finish.{Finish}
 use Rattle.worker_run.specs.Desks.{AreAllDesks, AreNewDesks, AreOpened, HasOfEach, HaveSeen, HaveStopped, IsDesk, SameDesk, entries_of}
@@ -115,24 +115,24 @@ module _ (z : TableId) (p : ProgramText) (s : SettingsValue) (desks : List Desk)
   seat_there : (k : ℕ) (d : Desk) → slice_get desks k ≡ Some d → slice_get seats k ≡ Some d.seat
   seat_there k d e = ap (λ (l : List Chair). slice_get l k) is ∙ got_map seat_of desks k d e
 
-  pub of_each : HasOwnEntries journal_of worker_of FitsKept setup_of value seats → HasOfEach (journal_of value) desks
+  pub of_each : HasOwnEntries journal_of worker_of FitsSnapshot setup_of value seats → HasOfEach (journal_of value) desks
   of_each own = λ k d e. let same = own k d.seat (seat_there k d e) in (same, (all.each_desk k d e).0.gave ∙ ap length (sym same))
 
-  pub have_seen : IsLeftBy journal_of worker_of FitsKept setup_of value seats → HaveSeen (journal_of value) desks
+  pub have_seen : IsFinalFor journal_of worker_of FitsSnapshot setup_of value seats → HaveSeen (journal_of value) desks
   have_seen left = record {
     begins = λ k d e. left.begins k d.seat (seat_there k d e);
     whole = (let l = left.longest in let d = map_got seat_of desks l.0 l.1 (ap (λ (x : List Chair). slice_get x l.0) (sym is) ∙ l.2) in (l.0, d.0, d.1, ap (λ (c : Chair). (view c).seen) d.2 ∙ l.3));
   }
 
-  setup_at_end : IsLeftBy journal_of worker_of FitsKept setup_of value seats → setup_of value ≡ record { program = p; settings = s }
+  setup_at_end : IsFinalFor journal_of worker_of FitsSnapshot setup_of value seats → setup_of value ≡ record { program = p; settings = s }
   setup_at_end left =
       let some = all.seats.some_seat in let long = length-map desks seat_of in let d = first_there desks (omega (arith, some, long)) in
       same_Some (setup_of value) _ (sym (left.same_setup d.0.seat (seat_there 0 d.0 d.1)) ∙ ((all.each_desk 0 d.0 d.1).0.under ∙ ap (λ (x : SettingsValue). Some (record { program = p; settings = x })) (all.each_desk 0 d.0 d.1).2))
 
-  pub settings_at_end : IsLeftBy journal_of worker_of FitsKept setup_of value seats → value.paced.settings ≡ s
+  pub settings_at_end : IsFinalFor journal_of worker_of FitsSnapshot setup_of value seats → value.paced.settings ≡ s
   settings_at_end left = ap (λ (x : Setup). x.settings) (setup_at_end left)
 
-  pub program_at_end : IsLeftBy journal_of worker_of FitsKept setup_of value seats → value.paced.program ≡ p
+  pub program_at_end : IsFinalFor journal_of worker_of FitsSnapshot setup_of value seats → value.paced.program ≡ p
   program_at_end left = ap (λ (x : Setup). x.program) (setup_at_end left)
 
 -- what the desks gave back, where the value handed on has the same journal

@@ -7,7 +7,7 @@ use Rattle.listed.proofs.list.Listed.TheSendSync as listed
 use Rattle.listed.proofs.roomy.Roomy.TheSendSync as roomy
 use Rattle.out_of_line.proofs.apart.Apart.TheSendSync as apart
 use Rattle.hh_lang.proofs.program.Program.TheSendSync as program
-use Rattle.kept_pieces.proofs.layer.Layer.TheSendSync as layer
+use Rattle.chunk_pieces.proofs.layer.Layer.TheSendSync as layer
 use Rattle.chunk_pool.proofs.pool.Pool.TheSendSync as pool
 use Rattle.alloc_path.proofs.heap.LeafHeap.TheSendSync as heap
 use Rattle.heap_tree.proofs.tree.Tree.TheSendSync as tree

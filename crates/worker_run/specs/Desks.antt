@@ -11,11 +11,11 @@ use Rattle.turn_lock.specs.Seats.{view, own_entries, AreAllSeats, HasNoTurn, Has
 use Rattle.steal_scheduler.specs.declared.hand.Hand.{Hand}
 use Rattle.steal_scheduler.specs.Hands.{thefts}
 use Rattle.turn_entries.specs.declared.act.Acted.TheVariants.{Entered, Same}
-use Rattle.turn_entries.specs.declared.held.Next.{Next}
-use Rattle.turn_entries.specs.declared.held.Ready.{Ready}
+use Rattle.turn_entries.specs.declared.between_turns.Next.{Next}
+use Rattle.turn_entries.specs.declared.between_turns.Ready.{Ready}
 use Rattle.turn_entries.specs.declared.run.Run.{Run}
 use Rattle.turn_entries.specs.Acts.{Acts}
-use Rattle.turn_entries.specs.Values.{journal_of, setup_of, worker_of, is_over, EntersOne, FitsKept}
+use Rattle.turn_entries.specs.Values.{journal_of, setup_of, worker_of, is_over, EntersOne, FitsSnapshot}
 use Rattle.worker_run.specs.declared.desk.Desk.{Desk}
 use Rattle.worker_run.specs.Tasks.{HaveRoot}
 
@@ -60,7 +60,7 @@ KeepsPlace old new = new ≡ record old { seat = new.seat; given = new.given }
 pub record TakesTurn (old new : Desk) (ready : Ready) (next : Next) : Type 0 where
   pub place : KeepsPlace old new
   pub taken : Run
-  pub knows : Knows journal_of worker_of FitsKept setup_of taken (view old.seat)
+  pub knows : Knows journal_of worker_of FitsSnapshot setup_of taken (view old.seat)
   pub given : Run
   pub gave : HasGiven new given
   pub does : DoesOnce old new taken given ready next

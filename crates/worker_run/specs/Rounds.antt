@@ -1,9 +1,9 @@
 -- What a worker does from round to round.
 use Rattle.std.specs.Prelude.{◌≡◌, ℕ, zero, suc, List, Some, slice_get}
 use Rattle.hh_lang.specs.Form.{ProgramText}
-use Rattle.turn_entries.specs.declared.held.Next.{Next}
-use Rattle.turn_entries.specs.declared.held.Next.TheVariants.{Idle, Stop}
-use Rattle.turn_entries.specs.declared.held.Ready.{Ready}
+use Rattle.turn_entries.specs.declared.between_turns.Next.{Next}
+use Rattle.turn_entries.specs.declared.between_turns.Next.TheVariants.{Idle, Stop}
+use Rattle.turn_entries.specs.declared.between_turns.Ready.{Ready}
 use Rattle.worker_run.specs.declared.desk.Desk.{Desk}
 use Rattle.worker_run.specs.Desks.{ChangesHand, TakesTurn}
 use Rattle.worker_run.specs.Tasks.{Prepares}

@@ -5,11 +5,11 @@ use Rattle.steal_scheduler.specs.declared.hand.Hand.{Hand}
 use Rattle.steal_scheduler.specs.declared.theft.Theft.{Theft}
 use Rattle.steal_scheduler.specs.Hands.{AreNewHands, ChangesAt, KeepsOwn, PutOnDeque, PutOnList, SameHand, TookFromDeque, TookFromList, TookNone, empty_pops, thefts}
 use Rattle.steal_scheduler.specs.Thefts.{SameTheft, Stole, StoleNone}
-use Rattle.turn_entries.specs.declared.held.Collecting.{Collecting}
-use Rattle.turn_entries.specs.declared.held.Next.{Next}
-use Rattle.turn_entries.specs.declared.held.Next.TheVariants.{Running, Collecting as Collects, Copied as HasCopied, Found as GoesFor, Forked, Resumed, Idle, Waits, Stop}
-use Rattle.turn_entries.specs.declared.held.Ready.{Ready}
-use Rattle.turn_entries.specs.declared.held.Ready.TheVariants.{Paused as HasPaused, Copied as IsCopied, Found, Wanting}
+use Rattle.turn_entries.specs.declared.between_turns.Collecting.{Collecting}
+use Rattle.turn_entries.specs.declared.between_turns.Next.{Next}
+use Rattle.turn_entries.specs.declared.between_turns.Next.TheVariants.{Running, Collecting as Collects, Copied as HasCopied, Found as GoesFor, Forked, Resumed, Idle, Waits, Stop}
+use Rattle.turn_entries.specs.declared.between_turns.Ready.{Ready}
+use Rattle.turn_entries.specs.declared.between_turns.Ready.TheVariants.{Paused as HasPaused, Copied as IsCopied, Found, Wanting}
 use Rattle.turn_entries.specs.Parts.{GrowsTo, WasCopied}
 
 -- ---- TASKS ARE PUT

@@ -5,7 +5,7 @@ use Rattle.hh_lang.specs.Form.{ProgramText}
 use Rattle.run_trace.specs.Settings.{SettingsValue}
 use Rattle.turn_lock.specs.Seats.{view}
 use Rattle.worker_run.specs.declared.desk.Desk.{Desk}
-use Rattle.turn_entries.specs.declared.held.Ready.{Ready}
+use Rattle.turn_entries.specs.declared.between_turns.Ready.{Ready}
 use Rattle.worker_run.specs.Desks.{AreAllDesks, ChangesHand, IsDesk}
 use Rattle.turn_entries.specs.Parts.{ComesWith}
 use Rattle.worker_run.proofs.Rows.{first_of}

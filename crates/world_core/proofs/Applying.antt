@@ -16,7 +16,7 @@ use Rattle.shared_value.specs.Stands.{IsSharedValue}
 use Rattle.shared_value.specs.SharedValue.{SharedValue, accounts, rest_at}
 use Rattle.shared_value.proofs.CausesTold.{refused_is}
 use Rattle.child_tasks.specs.Joins.{IsSameRest, SameButPlaces}
-use Rattle.world_core.specs.declared.held.Held.{Held}
+use Rattle.world_core.specs.declared.out_part.OutPart.{OutPart}
 use Rattle.world_core.specs.Applied.{AnswersAll, AnswersApart, AnswersFor, RefusesAll, SameButReserved, SameButRoomier, WantsAll, is_own}
 use Rattle.world_core.specs.WorldValue.{AllHold, Holds}
 use Rattle.world_core.proofs.Holding.{all_stop, all_with, carried, copy_of, each_holds, others_hold, places_same, stops, wants}
@@ -41,7 +41,7 @@ refused_before w k kind cause I own first =
     ∙ (ap (λ b. or_else (first_cause w.end w.steps w.settings k b) (kind_refusal w.program w.settings (accounts w) k kind)) (own_fuel kind own)
     ∙ ap (λ o. or_else o (kind_refusal w.program w.settings (accounts w) k kind)) first)
 
-pub stopped_before : (w : SharedValue) (k : ℕ) (kind : Kind) (cause : Refused) (holdings : List Held) → IsSharedValue w → is_own kind ≡ true → first_cause w.end w.steps w.settings k false ≡ Some cause → AllHold w false holdings
+pub stopped_before : (w : SharedValue) (k : ℕ) (kind : Kind) (cause : Refused) (holdings : List OutPart) → IsSharedValue w → is_own kind ≡ true → first_cause w.end w.steps w.settings k false ≡ Some cause → AllHold w false holdings
     → RefusesAll w w (record { worker = k; kind = kind }) cause holdings
 stopped_before w k kind cause holdings I own first H = record { cause_is = refused_before w k kind cause I own first; same = refl; holds = all_stop w holdings H }
 
@@ -61,8 +61,8 @@ reserved_by w after S = record {
 
 -- ---- AN ENTRY OF A WORKER
 
-module _ (w after : SharedValue) (e : EntryValue) (I : IsSharedValue w) (holdings : List Held) (was : Held) (there : slice_get holdings e.worker ≡ Some was) (H : AllHold w false holdings) (between : Held) where
-  pub made_all : (holding : Held) (r : Result (Unit {0}) NotEntered) → AnswersFor w after e.worker e holding r → AnswersAll w after e (slice_set (slice_set holdings e.worker between) e.worker holding) r
+module _ (w after : SharedValue) (e : EntryValue) (I : IsSharedValue w) (holdings : List OutPart) (was : OutPart) (there : slice_get holdings e.worker ≡ Some was) (H : AllHold w false holdings) (between : OutPart) where
+  pub made_all : (holding : OutPart) (r : Result (Unit {0}) NotEntered) → AnswersFor w after e.worker e holding r → AnswersAll w after e (slice_set (slice_set holdings e.worker between) e.worker holding) r
   made_all holding (Ok x) R = record {
     free = R.free;
     enters = R.enters;
@@ -82,7 +82,7 @@ module _ (w after : SharedValue) (e : EntryValue) (I : IsSharedValue w) (holding
 
 -- ---- ONE FOR A TASK THAT NO WORKER HOLDS
 
-pub apart_all : (w after : SharedValue) (e : EntryValue) (holdings : List Held) (r : Result (Unit {0}) NotEntered) → IsSharedValue w → is_own e.kind ≡ false → AllHold w false holdings → AnswersApart w after e r → AnswersAll w after e holdings r
+pub apart_all : (w after : SharedValue) (e : EntryValue) (holdings : List OutPart) (r : Result (Unit {0}) NotEntered) → IsSharedValue w → is_own e.kind ≡ false → AllHold w false holdings → AnswersApart w after e r → AnswersAll w after e holdings r
 apart_all w after e holdings (Ok x) I own H R = record { free = R.free; enters = R.enters; holds = λ k h at. each_holds w after e R.enters R.free own R.fit k h (H k h at) }
 apart_all w after e holdings (Err (Refuses cause)) I own H R = record {
   cause_is = R.0;
@@ -97,7 +97,7 @@ module _ (w mid : SharedValue) (roomier : SameButRoomier w mid) (fit : AllFit w 
   same_accounts : accounts mid ≡ accounts w
   same_accounts = ap (λ (z : SharedValue). accounts z) roomier
 
-  pub all_mid : (holdings : List Held) → AllHold w false holdings → AllHold mid false holdings
+  pub all_mid : (holdings : List OutPart) → AllHold w false holdings → AllHold mid false holdings
   all_mid holdings H = subst (λ z. AllHold z false holdings) (sym roomier) (by mid.journal.room (subst (AllFit w) roomier fit))
     where
       by : (room : ℕ) → AllFit w (record w { journal = record { items = w.journal.items; room = room } }) → AllHold (record w { journal = record { items = w.journal.items; room = room } }) false holdings
@@ -106,13 +106,13 @@ module _ (w mid : SharedValue) (roomier : SameButRoomier w mid) (fit : AllFit w 
           (λ p moved K. copy_of w (record w { journal = record { items = w.journal.items; room = room } }) k p moved K (A k K.before K.fits))
           (λ K t q. K t q) h (H k h at)
 
-  pub wants_room : (holdings : List Held) → AllHold w false holdings → WantsAll w mid holdings
+  pub wants_room : (holdings : List OutPart) → AllHold w false holdings → WantsAll w mid holdings
   wants_room holdings H = record {
     same = record { journal = ap (λ (z : SharedValue). z.journal.items) roomier; rest = places_same w (record mid { journal = w.journal }) (ap (λ (z : SharedValue). let y : SharedValue = record z { journal = w.journal } in y) roomier) };
     holds = λ k h at. wants w mid same_accounts fit k h (H k h at);
   }
 
-  pub from_room : (after : SharedValue) (e : EntryValue) (holdings : List Held) (r : Result (Unit {0}) NotEntered) → AnswersAll mid after e holdings r → AnswersAll w after e holdings r
+  pub from_room : (after : SharedValue) (e : EntryValue) (holdings : List OutPart) (r : Result (Unit {0}) NotEntered) → AnswersAll mid after e holdings r → AnswersAll w after e holdings r
   from_room after e holdings (Ok x) R = record {
     free = ap (λ (z : SharedValue). refused z e) (sym roomier) ∙ R.free;
     enters = record {

@@ -26,7 +26,7 @@ few_allocations w part n I fresh F few =
     let count : part.allocations ≡ length (row_of (slice_get l.machine.store part.task)) = F.count ∙ ap (λ (m : State). length (row_of (slice_get m.store part.task))) is in
     let most : length (row_of (slice_get l.machine.store part.task)) ≤ l.steps = (journals_are_counted w.program w.settings w.journal.items).counts.objects part.task in
     let bound : l.steps ≤ w.settings.fuel + 256 = steps_are_bounded w.program w.settings w.journal.items I.legal in
-    let fuel = I.limits.fuel.1 in
+    let fuel = I.settings.fuel.1 in
     omega (arith, count, most, bound, fuel, few)
 
 -- ---- GOOD RESULTS

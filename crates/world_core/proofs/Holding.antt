@@ -19,8 +19,8 @@ use Rattle.heap_marking.proofs.ForksTold.{entered_accounts}
 use Rattle.child_tasks.specs.NoTask.{HoldsNone}
 use Rattle.child_tasks.specs.Joins.{SameButPlaces}
 use Rattle.child_tasks.proofs.JoinPlaces.{same_world}
-use Rattle.world_core.specs.declared.held.Held.{Held}
-use Rattle.world_core.specs.declared.held.Held.TheVariants.{Nothing, Part, Copied}
+use Rattle.world_core.specs.declared.out_part.OutPart.{OutPart}
+use Rattle.world_core.specs.declared.out_part.OutPart.TheVariants.{Nothing, Part, Copied}
 use Rattle.world_core.specs.Applied.{is_own}
 use Rattle.world_core.specs.WorldValue.{AllHold, Holds, HoldsCopy, HoldsPart}
 use Rattle.world_core.proofs.WasHeld.{apart_held, kind_held}
@@ -33,7 +33,7 @@ copy_of w w' k p moved H F = record { before = H.before; begun = H.begun; news =
 
 -- where each part of the worker fits, and it holds nothing still where it did
 pub carried : (w w' : SharedValue) (stopped stops : Bool) (k : ℕ) → (stops ≡ false → stopped ≡ false) → ((p : Private) → HoldsPart w stopped k p → HoldsPart w' stops k p) → ((p : Private) (moved : Moved) → HoldsCopy w k p moved → HoldsCopy w' k p moved)
-    → (HoldsNone w k → HoldsNone w' k) → (h : Held) → Holds w stopped k h → Holds w' stops k h
+    → (HoldsNone w k → HoldsNone w' k) → (h : OutPart) → Holds w stopped k h → Holds w' stops k h
 carried w w' stopped stops k on part copy none Nothing H = none H
 carried w w' stopped stops k on part copy none (Part p) H = part p H
 carried w w' stopped stops k on part copy none (Copied p moved) H = copy p moved H
@@ -48,7 +48,7 @@ module _ (w w' : SharedValue) (e : EntryValue) (E : Enters w w' e) where
     held t k h = ap (λ (l : Ledger). (heap_of l t).worker) (handed_on (accounts w) (entry_on w e free)) ∙ h
 
     -- WHAT OTHERS HOLD, at an entry of a worker
-    pub others_hold : OthersFit w w' e.worker → (k : ℕ) → k ≢ e.worker → (h : Held) → Holds w false k h → Holds w' false k h
+    pub others_hold : OthersFit w w' e.worker → (k : ℕ) → k ≢ e.worker → (h : OutPart) → Holds w false k h → Holds w' false k h
     others_hold O k ne =
         carried w w' false false k (λ q. q)
         (λ p H. record { fits = O k p ne H.fits; idle = H.idle; entered = H.entered })
@@ -56,7 +56,7 @@ module _ (w w' : SharedValue) (e : EntryValue) (E : Enters w w' e) where
         (λ H t h. H t (held t k (kind_held w.program w.settings (accounts w) e.worker e.kind t k ne (holder t k h))))
 
     -- WHAT EACH HOLDS, at one for a task that no worker holds
-    pub each_holds : is_own e.kind ≡ false → AllFit w w' → (k : ℕ) (h : Held) → Holds w false k h → Holds w' false k h
+    pub each_holds : is_own e.kind ≡ false → AllFit w w' → (k : ℕ) (h : OutPart) → Holds w false k h → Holds w' false k h
     each_holds apart A k =
         carried w w' false false k (λ q. q)
         (λ p H. record { fits = A k p H.fits; idle = H.idle; entered = H.entered })
@@ -72,14 +72,14 @@ places_same w after same = subst (SameButPlaces w) (sym same) (same_world w)
 pub part_stops : (w : SharedValue) (k : ℕ) (p : Private) → HoldsPart w false k p → HoldsPart w true k p
 part_stops w k p H = record { fits = H.fits; idle = H.idle; entered = λ q. absurd (false≢true (sym q)) }
 
-pub stops : (w : SharedValue) (k : ℕ) (h : Held) → Holds w false k h → Holds w true k h
+pub stops : (w : SharedValue) (k : ℕ) (h : OutPart) → Holds w false k h → Holds w true k h
 stops w k = carried w w false true k (λ q. absurd (false≢true (sym q))) (λ p H. part_stops w k p H) (λ p moved H. H) (λ H. H)
 
-pub all_stop : (w : SharedValue) (holdings : List Held) → AllHold w false holdings → AllHold w true holdings
+pub all_stop : (w : SharedValue) (holdings : List OutPart) → AllHold w false holdings → AllHold w true holdings
 all_stop w holdings H k h e = stops w k h (H k h e)
 
 -- for want of memory: the accounts are as they were
-pub wants : (w w' : SharedValue) → accounts w' ≡ accounts w → AllFit w w' → (k : ℕ) (h : Held) → Holds w false k h → Holds w' true k h
+pub wants : (w w' : SharedValue) → accounts w' ≡ accounts w → AllFit w w' → (k : ℕ) (h : OutPart) → Holds w false k h → Holds w' true k h
 wants w w' same A k =
     carried w w' false true k (λ q. absurd (false≢true (sym q)))
     (λ p H. record { fits = A k p H.fits; idle = H.idle; entered = λ q. absurd (false≢true (sym q)) })
@@ -88,7 +88,7 @@ wants w w' same A k =
 
 -- ---- ALL HANDS, one of them another
 
-pub all_with : (w w' : SharedValue) (stopped stops : Bool) (holdings : List Held) (k : ℕ) (was old new : Held) → slice_get holdings k ≡ Some was → AllHold w stopped holdings → ((j : ℕ) → j ≢ k → (h : Held) → Holds w stopped j h → Holds w' stops j h) → Holds w' stops k new
+pub all_with : (w w' : SharedValue) (stopped stops : Bool) (holdings : List OutPart) (k : ℕ) (was old new : OutPart) → slice_get holdings k ≡ Some was → AllHold w stopped holdings → ((j : ℕ) → j ≢ k → (h : OutPart) → Holds w stopped j h → Holds w' stops j h) → Holds w' stops k new
     → AllHold w' stops (slice_set (slice_set holdings k old) k new)
 all_with w w' stopped stops holdings k was old new there H others own j h e = elim (cases_eq j k) [
   | inl q ↦

@@ -30,8 +30,8 @@ use Rattle.leaf_collections.specs.LeafEnd.{FitsCopied}
 use Rattle.leaf_collections.proofs.WhyNoEnd.{unless_true}
 use Rattle.copied_part_laws.specs.Handed.{IsCopying}
 use Rattle.copied_part_laws.proofs.CopyHanded.{copied_fits}
-use Rattle.world_core.specs.declared.held.Held.{Held}
-use Rattle.world_core.specs.declared.held.Held.TheVariants.{Nothing, Part, Copied}
+use Rattle.world_core.specs.declared.out_part.OutPart.{OutPart}
+use Rattle.world_core.specs.declared.out_part.OutPart.TheVariants.{Nothing, Part, Copied}
 use Rattle.world_core.specs.Applied.{copied_cause, idle_cause}
 use Rattle.world_core.specs.WorldValue.{Holds, HoldsCopy, HoldsPart}
 
@@ -97,12 +97,12 @@ module _ (w : SharedValue) (k : ℕ) (I : IsSharedValue w) (first : first_cause 
         behind kind not_fuel ∙ (runs ∙ (ap (λ u. on_running l k u rest) at ∙ (amid q b rest F begun ∙ is)))
     by_copy p q b false e task F begun is = apart t kind cause held is (other t q.task F.out (ap (λ u. u == t) (sym task) ∙ e))
 
-    by_holding : (h : Held) → Holds w false k h → idle_cause h t ≡ Some cause → refused w (record { worker = k; kind = kind }) ≡ Some cause
+    by_holding : (h : OutPart) → Holds w false k h → idle_cause h t ≡ Some cause → refused w (record { worker = k; kind = kind }) ≡ Some cause
     by_holding Nothing H is = apart t kind cause held is (none H t)
     by_holding (Part p) H is = by_part p (p.task == t) refl H.fits.out is
     by_holding (Copied p moved) H is = by_copy p H.before H.begun (p.task == t) refl (ap (λ (q : Private). q.task) H.part) H.fits H.amid is
 
-  pub idle_refused : (t : ℕ) (h : Held) (cause : Refused) (kind : Kind) (rest : Option Refused) → Holds w false k h → idle_cause h t ≡ Some cause → task_asked kind ≡ Some t → is_fuel kind ≡ false → kind_refusal w.program w.settings l k kind ≡ on_running l k t rest
+  pub idle_refused : (t : ℕ) (h : OutPart) (cause : Refused) (kind : Kind) (rest : Option Refused) → Holds w false k h → idle_cause h t ≡ Some cause → task_asked kind ≡ Some t → is_fuel kind ≡ false → kind_refusal w.program w.settings l k kind ≡ on_running l k t rest
       → refused w (record { worker = k; kind = kind }) ≡ Some cause
   idle_refused t h cause kind rest H is held not_fuel runs = by_holding t kind rest cause held not_fuel runs h H is
 
@@ -124,7 +124,7 @@ module _ (w : SharedValue) (k : ℕ) (I : IsSharedValue w) (first : first_cause 
     by_same p q true cause e task F is = absurd cc
     by_same p q false cause e task F is = apart t (End t a g n) cause refl is (other t q.task F.out (ap (λ u. u == t) (sym task) ∙ e))
 
-    pub copied_refused : (h : Held) (cause : Refused) → Holds w false k h → copied_cause h t ≡ Some cause → refused w (record { worker = k; kind = End t a g n }) ≡ Some cause
+    pub copied_refused : (h : OutPart) (cause : Refused) → Holds w false k h → copied_cause h t ≡ Some cause → refused w (record { worker = k; kind = End t a g n }) ≡ Some cause
     copied_refused Nothing cause H is = apart t (End t a g n) cause refl is (none H t)
     copied_refused (Part p) cause H is = by_other p (p.task == t) cause refl H is
     copied_refused (Copied p moved) cause H is = by_same p H.before (p.task == t) cause refl (ap (λ (q : Private). q.task) H.part) H.fits is
@@ -154,7 +154,7 @@ module _ (a g n a' g' n' : ℕ) where
 
 -- ---- OF EACH KIND
 
-module _ (w : SharedValue) (k : ℕ) (I : IsSharedValue w) (first : first_cause w.end w.steps w.settings k false ≡ None) (t : ℕ) (h : Held) (cause : Refused) (H : Holds w false k h) (is : idle_cause h t ≡ Some cause) where
+module _ (w : SharedValue) (k : ℕ) (I : IsSharedValue w) (first : first_cause w.end w.steps w.settings k false ≡ None) (t : ℕ) (h : OutPart) (cause : Refused) (H : Holds w false k h) (is : idle_cause h t ≡ Some cause) where
   pub ran_apart : (n : ℕ) → refused w (record { worker = k; kind = Ran t n }) ≡ Some cause
   ran_apart n = idle_refused w k I first t h cause (Ran t n) (long_at n (min most_steps (standing w.settings w.program (accounts w) t n))) H is refl refl refl
 

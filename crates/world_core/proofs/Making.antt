@@ -22,9 +22,9 @@ use Rattle.shared_tree.specs.declared.ran.Ran.{Ran}
 use Rattle.shared_tree.specs.declared.ran.Ran.TheVariants.{Done, Ended, Forked, Over}
 use Rattle.shared_tree.specs.Ran.{RanTo}
 use Rattle.shared_tree.proofs.Joints.{fit_by}
-use Rattle.world_core.specs.declared.held.Held.{Held}
-use Rattle.world_core.specs.declared.held.Held.TheVariants.{Part, Copied}
-use Rattle.world_core.specs.declared.held.Made.{Made}
+use Rattle.world_core.specs.declared.out_part.OutPart.{OutPart}
+use Rattle.world_core.specs.declared.out_part.OutPart.TheVariants.{Part, Copied}
+use Rattle.world_core.specs.declared.out_part.Made.{Made}
 use Rattle.world_core.specs.Applied.{AnswersFor, EntersFor, MakesFor, RefusesFor, holding_of}
 use Rattle.world_core.specs.WorldValue.{Holds, HoldsCopy, HoldsPart}
 use Rattle.world_core.proofs.HoldingCauses.{copy_fits, said}
@@ -33,11 +33,11 @@ use Rattle.world_core.proofs.Holding.{part_stops, places_same, stops}
 -- ---- REFUSED
 
 -- nothing has changed
-pub refuses_for : (w after : SharedValue) (k : ℕ) (e : EntryValue) (cause : Refused) (holding : Held) → after ≡ w → refused w e ≡ Some cause → Holds w false k holding → RefusesFor w after k e cause holding
+pub refuses_for : (w after : SharedValue) (k : ℕ) (e : EntryValue) (cause : Refused) (holding : OutPart) → after ≡ w → refused w e ≡ Some cause → Holds w false k holding → RefusesFor w after k e cause holding
 refuses_for w after k e cause holding same is H = record { cause_is = is; same = same; holds = subst (λ z. Holds z true k holding) (sym same) (stops w k holding H) }
 
 -- for what the worker holds
-pub apart_made : (w : SharedValue) (k : ℕ) (e : EntryValue) (holding back : Held) (cause : Refused) (made : Made) → made ≡ record { holding = back; answer = Err (Refuses cause) } → back ≡ holding → Holds w false k holding → refused w e ≡ Some cause → MakesFor w w k e made
+pub apart_made : (w : SharedValue) (k : ℕ) (e : EntryValue) (holding back : OutPart) (cause : Refused) (made : Made) → made ≡ record { holding = back; answer = Err (Refuses cause) } → back ≡ holding → Holds w false k holding → refused w e ≡ Some cause → MakesFor w w k e made
 apart_made w k e holding back cause made is same H why =
     subst (MakesFor w w k e) (sym is) (refuses_for w w k e cause back refl why (subst (Holds w false k) (sym same) H))
 

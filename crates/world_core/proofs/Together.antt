@@ -30,8 +30,8 @@ use Rattle.shared_value.specs.SharedValue.{SharedValue, accounts, value_of}
 use Rattle.shared_value.proofs.EntryMade.{worker_by_end}
 use Rattle.shared_value.proofs.TaskTaken.{some_flat}
 use Rattle.heap_reading.proofs.IdleTasks.{done_idles}
-use Rattle.world_core.specs.declared.held.Held.{Held}
-use Rattle.world_core.specs.declared.held.Held.TheVariants.{Nothing, Part, Copied}
+use Rattle.world_core.specs.declared.out_part.OutPart.{OutPart}
+use Rattle.world_core.specs.declared.out_part.OutPart.TheVariants.{Nothing, Part, Copied}
 use Rattle.world_core.specs.Together.{AreParts, HoldsOneOf, IsPartIn, PartsStand, StandsTogether, with_parts}
 use Rattle.world_core.specs.WorldValue.{Holds, IsWhole, WorldValue}
 use Rattle.world_core.proofs.Aside.{fits_aside, knows_aside, stands_aside}
@@ -45,25 +45,25 @@ not_of t [] h = tt
 not_of t (q ∷ qs) h = (h q (inl refl), not_of t qs (λ r i. h r (inr i)))
 
 -- the parts in some holdings, of which the j-th is that of the worker `of j`
-record Found (w : SharedValue) (of : ℕ → ℕ) (holdings : List Held) : Type 0 where
+record Found (w : SharedValue) (of : ℕ → ℕ) (holdings : List OutPart) : Type 0 where
   parts : List PartOf
   fit : WorkersFit w.program w.settings parts (value_of w) (accounts w)
-  from : (q : PartOf) → In parts q → (j : ℕ) × (h : Held) × (slice_get holdings j ≡ Some h) × IsPartIn w (of j) h q × ((heap_of (accounts w) q.task).worker ≡ Some (of j))
-  all : (j : ℕ) (h : Held) → slice_get holdings j ≡ Some h → HoldsOneOf w (of j) h parts
+  from : (q : PartOf) → In parts q → (j : ℕ) × (h : OutPart) × (slice_get holdings j ≡ Some h) × IsPartIn w (of j) h q × ((heap_of (accounts w) q.task).worker ≡ Some (of j))
+  all : (j : ℕ) (h : OutPart) → slice_get holdings j ≡ Some h → HoldsOneOf w (of j) h parts
 
-one_more : (w : SharedValue) (k : ℕ) (h : Held) (qs : List PartOf) (q : PartOf) → HoldsOneOf w k h qs → HoldsOneOf w k h (q ∷ qs)
+one_more : (w : SharedValue) (k : ℕ) (h : OutPart) (qs : List PartOf) (q : PartOf) → HoldsOneOf w k h qs → HoldsOneOf w k h (q ∷ qs)
 one_more w k Nothing qs q H = tt
 one_more w k (Part p) qs q H = (H.0, inr H.1, H.2)
 one_more w k (Copied p moved) qs q H = (H.0, inr H.1, H.2)
 
-here : (w : SharedValue) (k : ℕ) (h : Held) (qs : List PartOf) (q : PartOf) → IsPartIn w k h q → HoldsOneOf w k h (q ∷ qs)
+here : (w : SharedValue) (k : ℕ) (h : OutPart) (qs : List PartOf) (q : PartOf) → IsPartIn w k h q → HoldsOneOf w k h (q ∷ qs)
 here w k Nothing qs q i = tt
 here w k (Part p) qs q i = (q, inl refl, i)
 here w k (Copied p moved) qs q i = (q, inl refl, i)
 
 module _ (w : SharedValue) (holders : TasksAreOut (accounts w)) where
   -- a holding of a part, before others
-  with_part : (of : ℕ → ℕ) → ((i j : ℕ) → of i ≡ of j → i ≡ j) → (h : Held) (hs : List Held) (q : PartOf) → IsPartIn w (of 0) h q → WorkerFits w.program w.settings q (value_of w) (accounts w) → (heap_of (accounts w) q.task).worker ≡ Some (of 0)
+  with_part : (of : ℕ → ℕ) → ((i j : ℕ) → of i ≡ of j → i ≡ j) → (h : OutPart) (hs : List OutPart) (q : PartOf) → IsPartIn w (of 0) h q → WorkerFits w.program w.settings q (value_of w) (accounts w) → (heap_of (accounts w) q.task).worker ≡ Some (of 0)
       → Found w (λ j. of (suc j)) hs → Found w of (h ∷ hs)
   with_part of inj h hs q i F held R = record {
     parts = q ∷ R.parts;
@@ -79,16 +79,16 @@ module _ (w : SharedValue) (holders : TasksAreOut (accounts w)) where
           let no : 0 ≡ suc z.0 = inj 0 (suc z.0) same in
           absurd (omega (arith, no))
 
-      from : (r : PartOf) → In (q ∷ R.parts) r → (j : ℕ) × (g : Held) × (slice_get (h ∷ hs) j ≡ Some g) × IsPartIn w (of j) g r × ((heap_of (accounts w) r.task).worker ≡ Some (of j))
+      from : (r : PartOf) → In (q ∷ R.parts) r → (j : ℕ) × (g : OutPart) × (slice_get (h ∷ hs) j ≡ Some g) × IsPartIn w (of j) g r × ((heap_of (accounts w) r.task).worker ≡ Some (of j))
       from r (inl e) = (0, h, refl, subst (IsPartIn w (of 0) h) e i, ap (λ (z : PartOf). (heap_of (accounts w) z.task).worker) (sym e) ∙ held)
       from r (inr m) = let z = R.from r m in (suc z.0, z.1, z.2, z.3, z.4)
 
-      all : (j : ℕ) (g : Held) → slice_get (h ∷ hs) j ≡ Some g → HoldsOneOf w (of j) g (q ∷ R.parts)
+      all : (j : ℕ) (g : OutPart) → slice_get (h ∷ hs) j ≡ Some g → HoldsOneOf w (of j) g (q ∷ R.parts)
       all zero g e = subst (λ z. HoldsOneOf w (of 0) z (q ∷ R.parts)) (same_Some h g e) (here w (of 0) h R.parts q i)
       all (suc j) g e = one_more w (of (suc j)) g R.parts q (R.all j g e)
 
   -- one that holds nothing
-  with_none : (of : ℕ → ℕ) (hs : List Held) → Found w (λ j. of (suc j)) hs → Found w of (Nothing ∷ hs)
+  with_none : (of : ℕ → ℕ) (hs : List OutPart) → Found w (λ j. of (suc j)) hs → Found w of (Nothing ∷ hs)
   with_none of hs R = record {
     parts = R.parts;
     fit = R.fit;
@@ -96,17 +96,17 @@ module _ (w : SharedValue) (holders : TasksAreOut (accounts w)) where
     all = all;
   }
     where
-      all : (j : ℕ) (g : Held) → slice_get (Nothing ∷ hs) j ≡ Some g → HoldsOneOf w (of j) g R.parts
+      all : (j : ℕ) (g : OutPart) → slice_get (Nothing ∷ hs) j ≡ Some g → HoldsOneOf w (of j) g R.parts
       all zero g e = subst (λ z. HoldsOneOf w (of 0) z R.parts) (same_Some Nothing g e) tt
       all (suc j) g e = R.all j g e
 
-  found : (stopped : Bool) (of : ℕ → ℕ) → ((i j : ℕ) → of i ≡ of j → i ≡ j) → (hs : List Held) → ((j : ℕ) (h : Held) → slice_get hs j ≡ Some h → Holds w stopped (of j) h) → Found w of hs
+  found : (stopped : Bool) (of : ℕ → ℕ) → ((i j : ℕ) → of i ≡ of j → i ≡ j) → (hs : List OutPart) → ((j : ℕ) (h : OutPart) → slice_get hs j ≡ Some h → Holds w stopped (of j) h) → Found w of hs
   found stopped of inj [] H = record { parts = []; fit = tt; from = λ q m. absurd m; all = λ j h e. absurd cc }
   found stopped of inj (h ∷ hs) H =
       let R : Found w (λ j. of (suc j)) hs = found stopped (λ j. of (suc j)) (λ i j e. (let z : suc i ≡ suc j = inj (suc i) (suc j) e in omega (arith, z))) hs (λ j g e. H (suc j) g e) in
       by h (H 0 h refl) R
     where
-      by : (h : Held) → Holds w stopped (of 0) h → Found w (λ j. of (suc j)) hs → Found w of (h ∷ hs)
+      by : (h : OutPart) → Holds w stopped (of 0) h → Found w (λ j. of (suc j)) hs → Found w of (h ∷ hs)
       by Nothing K R = with_none of hs R
       by (Part p) K R = with_part of inj (Part p) hs (part_of w.settings p) refl K.fits.fits K.fits.out R
       by (Copied p moved) K R = with_part of inj (Copied p moved) hs (part_of w.settings K.before) (K, refl) K.fits.fits K.fits.out R
@@ -198,13 +198,13 @@ module _ (x : WorldValue) (I : IsSharedValue x.shared) (W : IsWhole x) where
       listed : slice_get w.tasks_out k ≡ Some (Some t)
       listed = some_flat (slice_get w.tasks_out k) t ((I.stands.tree_counts.task_out k t).1 e)
 
-      holding : (h : Held) × (slice_get x.holdings k ≡ Some h)
+      holding : (h : OutPart) × (slice_get x.holdings k ≡ Some h)
       holding = got_some x.holdings k (let a = got_within w.tasks_out k (Some t) listed in let b = I.workers in let c = W.count in omega (arith, a, b, c))
 
       at : (q : PartOf) (u : ℕ) → q.task ≡ u → In R.parts q → (heap_of l u).worker ≡ Some k → Rests (with_parts w R.parts) t
       at q u is m held = freed w.program R.parts L t q m (is ∙ holds_tasks.one u t k held (worker_by_end l l.end t k e))
 
-      by : (h : Held) → Holds w x.stopped k h → HoldsOneOf w k h R.parts → Rests (with_parts w R.parts) t
+      by : (h : OutPart) → Holds w x.stopped k h → HoldsOneOf w k h R.parts → Rests (with_parts w R.parts) t
       by Nothing H O = absurd (H t e)
       by (Part p) H O = at O.0 p.task (ap (λ (z : PartOf). z.task) O.2) O.1 H.fits.out
       by (Copied p moved) H O = at O.0 O.2.0.before.task (ap (λ (z : PartOf). z.task) O.2.1) O.1 O.2.0.fits.out

@@ -13,9 +13,9 @@ use Rattle.shared_value.specs.SharedValue.{SharedValue}
 use Rattle.child_tasks.specs.Joins.{SameButPlaces}
 use Rattle.shared_tree.specs.declared.ran.Ran.{Ran}
 use Rattle.shared_tree.specs.declared.ran.Ran.TheVariants.{Done, Ended, Forked, Over}
-use Rattle.world_core.specs.declared.held.Held.{Held}
-use Rattle.world_core.specs.declared.held.Held.TheVariants.{Nothing, Part, Copied}
-use Rattle.world_core.specs.declared.held.Made.{Made}
+use Rattle.world_core.specs.declared.out_part.OutPart.{OutPart}
+use Rattle.world_core.specs.declared.out_part.OutPart.TheVariants.{Nothing, Part, Copied}
+use Rattle.world_core.specs.declared.out_part.Made.{Made}
 use Rattle.world_core.specs.declared.world.NotApplied.{NotApplied}
 use Rattle.world_core.specs.declared.world.NotApplied.TheVariants.{Stopped, Refuses as IsRefused, NoMemory as WantsMemory}
 use Rattle.world_core.specs.WorldValue.{AllHold, Holds, WorldValue}
@@ -32,19 +32,19 @@ pub record SameButReserved (w after : SharedValue) : Type 0 where
 -- ---- WHAT A HAND TELLS
 
 -- why an entry for a task whose leaf collection hasn't begun is refused by what its worker holds
-abbrev pub idle_cause : Held → ℕ → Option Refused
+abbrev pub idle_cause : OutPart → ℕ → Option Refused
 idle_cause Nothing t = Some NotOut
 idle_cause (Part p) t = if p.task == t then None else Some NotOut
 idle_cause (Copied p moved) t = if p.task == t then Some Collecting else Some NotOut
 
 -- and one for a task whose leaf collection has
-abbrev pub copied_cause : Held → ℕ → Option Refused
+abbrev pub copied_cause : OutPart → ℕ → Option Refused
 copied_cause Nothing t = Some NotOut
 copied_cause (Part p) t = if p.task == t then Some NotCollecting else Some NotOut
 copied_cause (Copied p moved) t = if p.task == t then None else Some NotOut
 
 -- what a worker holds once a step is entered that gives its part up
-abbrev pub holding_of : Ran → Held
+abbrev pub holding_of : Ran → OutPart
 holding_of (Forked left right) = Nothing
 holding_of (Ended resumed) = Nothing
 holding_of (Over p) = Part p
@@ -60,23 +60,23 @@ is_own (Sweep t given) = false
 is_own Fuel = false
 is_own _ = true
 
-pub record EntersFor (w after : SharedValue) (k : ℕ) (e : EntryValue) (holding : Held) : Type 0 where
+pub record EntersFor (w after : SharedValue) (k : ℕ) (e : EntryValue) (holding : OutPart) : Type 0 where
   pub free : refused w e ≡ None
   pub enters : Enters w after e
   pub others : OthersFit w after k
   pub holds : Holds after false k holding
 
-pub record RefusesFor (w after : SharedValue) (k : ℕ) (e : EntryValue) (cause : Refused) (holding : Held) : Type 0 where
+pub record RefusesFor (w after : SharedValue) (k : ℕ) (e : EntryValue) (cause : Refused) (holding : OutPart) : Type 0 where
   pub cause_is : refused w e ≡ Some cause
   pub same : after ≡ w
   pub holds : Holds after true k holding
 
-pub record WantsFor (w after : SharedValue) (k : ℕ) (holding : Held) : Type 0 where
+pub record WantsFor (w after : SharedValue) (k : ℕ) (holding : OutPart) : Type 0 where
   pub same : SameButPlaces w after
   pub still : AllFit w after
   pub holds : Holds after true k holding
 
-abbrev pub AnswersFor : SharedValue → SharedValue → ℕ → EntryValue → Held → Result (Unit {0}) NotEntered → Type 0
+abbrev pub AnswersFor : SharedValue → SharedValue → ℕ → EntryValue → OutPart → Result (Unit {0}) NotEntered → Type 0
 AnswersFor w after k e holding (Ok x) = EntersFor w after k e holding
 AnswersFor w after k e holding (Err (Refuses cause)) = RefusesFor w after k e cause holding
 AnswersFor w after k e holding (Err NoMemory) = WantsFor w after k holding
@@ -98,21 +98,21 @@ AnswersApart w after e (Err NoMemory) = after ≡ w
 
 -- ---- AN ENTRY, and what all workers hold then
 
-pub record EntersAll (w after : SharedValue) (e : EntryValue) (holdings : List Held) : Type 0 where
+pub record EntersAll (w after : SharedValue) (e : EntryValue) (holdings : List OutPart) : Type 0 where
   pub free : refused w e ≡ None
   pub enters : Enters w after e
   pub holds : AllHold after false holdings
 
-pub record RefusesAll (w after : SharedValue) (e : EntryValue) (cause : Refused) (holdings : List Held) : Type 0 where
+pub record RefusesAll (w after : SharedValue) (e : EntryValue) (cause : Refused) (holdings : List OutPart) : Type 0 where
   pub cause_is : refused w e ≡ Some cause
   pub same : SameButRoomier w after
   pub holds : AllHold after true holdings
 
-pub record WantsAll (w after : SharedValue) (holdings : List Held) : Type 0 where
+pub record WantsAll (w after : SharedValue) (holdings : List OutPart) : Type 0 where
   pub same : SameButReserved w after
   pub holds : AllHold after true holdings
 
-abbrev pub AnswersAll : SharedValue → SharedValue → EntryValue → List Held → Result (Unit {0}) NotEntered → Type 0
+abbrev pub AnswersAll : SharedValue → SharedValue → EntryValue → List OutPart → Result (Unit {0}) NotEntered → Type 0
 AnswersAll w after e holdings (Ok x) = EntersAll w after e holdings
 AnswersAll w after e holdings (Err (Refuses cause)) = RefusesAll w after e cause holdings
 AnswersAll w after e holdings (Err NoMemory) = WantsAll w after holdings

@@ -13,31 +13,31 @@ use Rattle.task_machine.specs.declared.part.Private.{Private}
 use Rattle.shared_value.specs.Fits.{part_of}
 use Rattle.shared_value.specs.SharedValue.{SharedValue, accounts, value_of}
 use Rattle.leaf_collections.specs.LeafEnd.{FitsCopied}
-use Rattle.world_core.specs.declared.held.Held.{Held}
-use Rattle.world_core.specs.declared.held.Held.TheVariants.{Nothing, Part, Copied}
+use Rattle.world_core.specs.declared.out_part.OutPart.{OutPart}
+use Rattle.world_core.specs.declared.out_part.OutPart.TheVariants.{Nothing, Part, Copied}
 use Rattle.world_core.specs.WorldValue.{HoldsCopy, WorldValue}
 
 -- the part that a worker holds; of one that was copied, what it was before
-abbrev pub IsPartIn : SharedValue → ℕ → Held → PartOf → Type 0
+abbrev pub IsPartIn : SharedValue → ℕ → OutPart → PartOf → Type 0
 IsPartIn w k Nothing q = ⊥
 IsPartIn w k (Part p) q = q ≡ part_of w.settings p
 IsPartIn w k (Copied p moved) q = (H : HoldsCopy w k p moved) × (q ≡ part_of w.settings H.before)
 
 -- a worker holds it
 pub record IsWith (x : WorldValue) (k : ℕ) (q : PartOf) : Type 0 where
-  pub holding : Held
+  pub holding : OutPart
   pub is : slice_get x.holdings k ≡ Some holding
   pub part : IsPartIn x.shared k holding q
 
 -- a worker that holds something holds one of these
-abbrev pub HoldsOneOf : SharedValue → ℕ → Held → List PartOf → Type 0
+abbrev pub HoldsOneOf : SharedValue → ℕ → OutPart → List PartOf → Type 0
 HoldsOneOf w k Nothing qs = Unit {0}
 HoldsOneOf w k h qs = (q : PartOf) × In qs q × IsPartIn w k h q
 
 -- these are the parts that workers hold
 pub record AreParts (x : WorldValue) (qs : List PartOf) : Type 0 where
   pub each : (q : PartOf) → In qs q → (k : ℕ) × IsWith x k q
-  pub all : (k : ℕ) (h : Held) → slice_get x.holdings k ≡ Some h → HoldsOneOf x.shared k h qs
+  pub all : (k : ℕ) (h : OutPart) → slice_get x.holdings k ≡ Some h → HoldsOneOf x.shared k h qs
 
 -- the accounts with the fresh steps of all parts, their tasks at rest: the machine's end is left aside, and once the
 -- run is done the root is handed back

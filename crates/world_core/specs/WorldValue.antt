@@ -9,13 +9,13 @@ use Rattle.task_machine.specs.declared.part.Private.{Private}
 use Rattle.shared_value.specs.Fits.{Fits}
 use Rattle.shared_value.specs.SharedValue.{SharedValue}
 use Rattle.child_tasks.specs.NoTask.{HoldsNone}
-use Rattle.world_core.specs.declared.held.Held.{Held}
-use Rattle.world_core.specs.declared.held.Held.TheVariants.{Nothing, Part, Copied}
+use Rattle.world_core.specs.declared.out_part.OutPart.{OutPart}
+use Rattle.world_core.specs.declared.out_part.OutPart.TheVariants.{Nothing, Part, Copied}
 
 pub record WorldValue : Type 0 where
   pub shared : SharedValue
   -- by worker
-  pub holdings : List Held
+  pub holdings : List OutPart
   -- an entry was refused, or memory was wanting
   pub stopped : Bool
 
@@ -40,13 +40,13 @@ pub record HoldsCopy (w : SharedValue) (k : ℕ) (p : Private) (moved : Moved) :
   pub part : p ≡ record before { heap = p.heap; frames = p.frames }
 
 -- WHAT A WORKER HOLDS fits; one that holds nothing has no task
-abbrev pub Holds : SharedValue → Bool → ℕ → Held → Type 0
+abbrev pub Holds : SharedValue → Bool → ℕ → OutPart → Type 0
 Holds w stopped k Nothing = HoldsNone w k
 Holds w stopped k (Part p) = HoldsPart w stopped k p
 Holds w stopped k (Copied p moved) = HoldsCopy w k p moved
 
-abbrev pub AllHold : SharedValue → Bool → List Held → Type 0
-AllHold w stopped holdings = (k : ℕ) (h : Held) → slice_get holdings k ≡ Some h → Holds w stopped k h
+abbrev pub AllHold : SharedValue → Bool → List OutPart → Type 0
+AllHold w stopped holdings = (k : ℕ) (h : OutPart) → slice_get holdings k ≡ Some h → Holds w stopped k h
 
 pub record IsWhole (x : WorldValue) : Type 0 where
   pub count : length x.holdings ≡ x.shared.settings.workers

@@ -13,7 +13,7 @@ use crate::apply_end::apply_end;
 use crate::apply_put_off::apply_put_off;
 use crate::apply_ran::apply_ran;
 use crate::apply_took::apply_took;
-use crate::held::{Held, Made};
+use crate::out_part::{Made, OutPart};
 use counted_tree::Counted;
 use listed::Listed;
 use run_trace::{Entry, Kind};
@@ -21,7 +21,7 @@ use shared_tree::NotEntered;
 use std::mem;
 
 // A worker that may make entries makes one for a task that it takes or holds.
-fn make_for(shared: &mut Counted, worker: u32, holding: Held, kind: Kind) -> Made
+fn make_for(shared: &mut Counted, worker: u32, holding: OutPart, kind: Kind) -> Made
     requires room { 0 < shared.old.journal.room }
     requires first { first_cause shared.old.end shared.old.steps shared.old.settings worker false ≡ None }
     requires holds { Holds shared.old false worker holding }
@@ -45,7 +45,7 @@ fn make_for(shared: &mut Counted, worker: u32, holding: Held, kind: Kind) -> Mad
 // A worker makes an entry for a task that it takes or holds, if it may make entries.
 fn make_own(
     shared: &mut Counted,
-    holdings: &mut Listed<Held>,
+    holdings: &mut Listed<OutPart>,
     worker: u32,
     kind: Kind,
 ) -> Result<(), NotEntered>
@@ -61,7 +61,7 @@ fn make_own(
     if let Some(cause) = shared.shared().refused_first(worker) {
         return Err(NotEntered::Refuses(cause));
     }
-    let holding = mem::replace(holdings.at_mut(worker as usize), Held::Nothing);
+    let holding = mem::replace(holdings.at_mut(worker as usize), OutPart::Nothing);
     let Made { holding, answer } = make_for(shared, worker, holding, kind);
     shared.stands();
     holdings.set(worker as usize, holding);
@@ -79,7 +79,11 @@ fn is_own(kind: Kind) -> bool
 }
 
 // Makes an entry for which there is room.
-fn make(shared: &mut Counted, holdings: &mut Listed<Held>, entry: Entry) -> Result<(), NotEntered>
+fn make(
+    shared: &mut Counted,
+    holdings: &mut Listed<OutPart>,
+    entry: Entry,
+) -> Result<(), NotEntered>
     requires room { 0 < shared.old.journal.room }
     requires count { length holdings.old ≡ shared.old.settings.workers }
     requires hold { AllHold shared.old false holdings.old }
@@ -99,7 +103,7 @@ fn make(shared: &mut Counted, holdings: &mut Listed<Held>, entry: Entry) -> Resu
 /// Makes an entry.
 pub(crate) fn make_entry(
     shared: &mut Counted,
-    holdings: &mut Listed<Held>,
+    holdings: &mut Listed<OutPart>,
     entry: Entry,
 ) -> Result<(), NotEntered>
     requires count { length holdings.old ≡ shared.old.settings.workers }

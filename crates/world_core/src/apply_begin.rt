@@ -9,7 +9,7 @@ ghost use Rattle.shared_value.specs.SharedValue.{accounts};
 ghost use Rattle.world_core.specs.Applied.{MakesFor};
 ghost use Rattle.world_core.specs.WorldValue.{Holds, HoldsCopy, HoldsPart};
 
-use crate::held::{Held, Made, idle_part};
+use crate::out_part::{Made, OutPart, idle_part};
 use counted_tree::Counted;
 use leaf_copy_gc::{Moved, ToChunks, copy};
 use object_layout::Addr;
@@ -55,19 +55,19 @@ fn begin(shared: &mut Counted, worker: u32, part: Private) -> Made
         Ok((roots, to_chunks)) => {
             let moved = copy_begun(shared, worker, &mut part, &roots, to_chunks);
             Made {
-                holding: Held::Copied(part, moved),
+                holding: OutPart::Copied(part, moved),
                 answer: Ok(()),
             }
         }
         Err(cause) => Made {
-            holding: Held::Part(part),
+            holding: OutPart::Part(part),
             answer: Err(cause),
         },
     }
 }
 
 /// A due leaf collection of a task begins: its heap is copied, which takes no memory.
-pub(crate) fn apply_begin(shared: &mut Counted, worker: u32, holding: Held, t: u32) -> Made
+pub(crate) fn apply_begin(shared: &mut Counted, worker: u32, holding: OutPart, t: u32) -> Made
     requires room { 0 < shared.old.journal.room }
     requires first { first_cause shared.old.end shared.old.steps shared.old.settings worker false ≡ None }
     requires holds { Holds shared.old false worker holding }

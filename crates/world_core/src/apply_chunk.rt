@@ -5,7 +5,7 @@ ghost use Rattle.shared_value.specs.Causes.{first_cause};
 ghost use Rattle.world_core.specs.Applied.{MakesFor};
 ghost use Rattle.world_core.specs.WorldValue.{Holds, HoldsPart};
 
-use crate::held::{Held, Made, idle_part};
+use crate::out_part::{Made, OutPart, idle_part};
 use counted_tree::Counted;
 use run_trace::Kind;
 use task_machine::Private;
@@ -19,13 +19,13 @@ fn give_chunk(shared: &mut Counted, worker: u32, part: Private) -> Made
     let mut part = part;
     let answer = shared.chunk(worker, &mut part);
     Made {
-        holding: Held::Part(part),
+        holding: OutPart::Part(part),
         answer,
     }
 }
 
 /// A task gets the chunk that its next step needs.
-pub(crate) fn apply_chunk(shared: &mut Counted, worker: u32, holding: Held, t: u32) -> Made
+pub(crate) fn apply_chunk(shared: &mut Counted, worker: u32, holding: OutPart, t: u32) -> Made
     requires room { 0 < shared.old.journal.room }
     requires first { first_cause shared.old.end shared.old.steps shared.old.settings worker false ≡ None }
     requires holds { Holds shared.old false worker holding }

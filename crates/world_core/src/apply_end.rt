@@ -6,7 +6,7 @@ ghost use Rattle.shared_value.specs.Causes.{first_cause};
 ghost use Rattle.world_core.specs.Applied.{MakesFor};
 ghost use Rattle.world_core.specs.WorldValue.{Holds, HoldsCopy};
 
-use crate::held::{Held, Made, copied_part};
+use crate::out_part::{Made, OutPart, copied_part};
 use counted_tree::Counted;
 use leaf_copy_gc::Moved;
 use run_ledger::Refused;
@@ -41,7 +41,7 @@ fn end(shared: &mut Counted, worker: u32, part: Private, moved: Moved) -> Made
     let mut part = part;
     match shared.leaf_end(worker, &mut part, moved) {
         Ok(()) => Made {
-            holding: Held::Part(part),
+            holding: OutPart::Part(part),
             answer: Ok(()),
         },
         Err(_) => unreachable!(),
@@ -52,7 +52,7 @@ fn end(shared: &mut Counted, worker: u32, part: Private, moved: Moved) -> Made
 pub(crate) fn apply_end(
     shared: &mut Counted,
     worker: u32,
-    holding: Held,
+    holding: OutPart,
     t: u32,
     taken: u32,
     given: u32,
@@ -68,7 +68,7 @@ pub(crate) fn apply_end(
         Ok((part, moved)) => match miscounted(&moved, taken, given, left) {
             None => end(shared, worker, part, moved),
             Some(cause) => Made {
-                holding: Held::Copied(part, moved),
+                holding: OutPart::Copied(part, moved),
                 answer: Err(NotEntered::Refuses(cause)),
             },
         },

@@ -5,7 +5,7 @@ ghost use Rattle.shared_value.specs.Causes.{first_cause};
 ghost use Rattle.world_core.specs.Applied.{MakesFor};
 ghost use Rattle.world_core.specs.WorldValue.{Holds, HoldsPart};
 
-use crate::held::{Held, Made, idle_part};
+use crate::out_part::{Made, OutPart, idle_part};
 use counted_tree::Counted;
 use run_trace::Kind;
 use shared_tree::NotEntered;
@@ -20,18 +20,18 @@ fn put_off(shared: &mut Counted, worker: u32, part: Private) -> Made
     let mut part = part;
     match shared.put_off(worker, &mut part) {
         Ok(()) => Made {
-            holding: Held::Part(part),
+            holding: OutPart::Part(part),
             answer: Ok(()),
         },
         Err(cause) => Made {
-            holding: Held::Part(part),
+            holding: OutPart::Part(part),
             answer: Err(NotEntered::Refuses(cause)),
         },
     }
 }
 
 /// A due leaf collection of a task is put off for want of chunks.
-pub(crate) fn apply_put_off(shared: &mut Counted, worker: u32, holding: Held, t: u32) -> Made
+pub(crate) fn apply_put_off(shared: &mut Counted, worker: u32, holding: OutPart, t: u32) -> Made
     requires room { 0 < shared.old.journal.room }
     requires first { first_cause shared.old.end shared.old.steps shared.old.settings worker false ≡ None }
     requires holds { Holds shared.old false worker holding }

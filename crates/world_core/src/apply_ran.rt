@@ -10,7 +10,7 @@ ghost use Rattle.world_core.specs.Applied.{holding_of, MakesFor};
 ghost use Rattle.world_core.specs.Next.{standing_by, IsNext};
 ghost use Rattle.world_core.specs.WorldValue.{Holds, HoldsPart};
 
-use crate::held::{Held, Made, idle_part};
+use crate::out_part::{Made, OutPart, idle_part};
 use counted_tree::Counted;
 use outside_io::EmptyGate;
 use run_ledger::Refused;
@@ -83,25 +83,25 @@ fn enter_private(shared: &mut Counted, worker: u32, part: Private) -> Made
     let mut part = part;
     match shared.ran_private(worker, &mut part) {
         Ok(()) => Made {
-            holding: Held::Part(part),
+            holding: OutPart::Part(part),
             answer: Ok(()),
         },
         Err(cause) => Made {
-            holding: Held::Part(part),
+            holding: OutPart::Part(part),
             answer: Err(NotEntered::Refuses(cause)),
         },
     }
 }
 
 // What a worker holds once a step is entered that gives its part up.
-fn holding_of(ran: Ran) -> Held
+fn holding_of(ran: Ran) -> OutPart
     ensures { result ≡ holding_of ran }
 {
     match ran {
-        Ran::Forked { left, right } => Held::Nothing,
-        Ran::Ended { resumed } => Held::Nothing,
-        Ran::Over(part) => Held::Part(part),
-        Ran::Done => Held::Nothing,
+        Ran::Forked { left, right } => OutPart::Nothing,
+        Ran::Ended { resumed } => OutPart::Nothing,
+        Ran::Over(part) => OutPart::Part(part),
+        Ran::Done => OutPart::Nothing,
     }
 }
 
@@ -122,7 +122,7 @@ fn enter_leaving(shared: &mut Counted, worker: u32, part: Private, leaving: Leav
             answer: Ok(()),
         },
         Err(failed) => Made {
-            holding: Held::Part(failed.part),
+            holding: OutPart::Part(failed.part),
             answer: Err(failed.cause),
         },
     }
@@ -141,16 +141,16 @@ fn enter_last(shared: &mut Counted, worker: u32, part: Private) -> Made
     let mut part = part;
     match shared.ran_lent(worker, &mut part) {
         Ok(Lent::Goes) => Made {
-            holding: Held::Part(part),
+            holding: OutPart::Part(part),
             answer: Ok(()),
         },
         Ok(Lent::Over) => Made {
-            holding: Held::Part(part),
+            holding: OutPart::Part(part),
             answer: Ok(()),
         },
         Ok(Lent::Leaves(leaving)) => enter_leaving(shared, worker, part, leaving),
         Err(cause) => Made {
-            holding: Held::Part(part),
+            holding: OutPart::Part(part),
             answer: Err(cause),
         },
     }
@@ -189,7 +189,7 @@ fn enter(shared: &mut Counted, worker: u32, part: Private, paused: Paused, steps
     }
     shared.stands();
     Made {
-        holding: Held::Part(part),
+        holding: OutPart::Part(part),
         answer: Err(NotEntered::Refuses(Refused::Long(most))),
     }
 }
@@ -210,7 +210,7 @@ fn ran(shared: &mut Counted, worker: u32, part: Private, steps: u32) -> Made
             enter(shared, worker, part, paused, steps)
         }
         Err(AllocError) => Made {
-            holding: Held::Part(part),
+            holding: OutPart::Part(part),
             answer: Err(NotEntered::NoMemory),
         },
     }
@@ -220,7 +220,7 @@ fn ran(shared: &mut Counted, worker: u32, part: Private, steps: u32) -> Made
 pub(crate) fn apply_ran(
     shared: &mut Counted,
     worker: u32,
-    holding: Held,
+    holding: OutPart,
     t: u32,
     steps: u32,
 ) -> Made

@@ -5,13 +5,13 @@ ghost use Rattle.shared_value.specs.Causes.{first_cause};
 ghost use Rattle.world_core.specs.Applied.{MakesFor};
 ghost use Rattle.world_core.specs.WorldValue.{Holds};
 
-use crate::held::{Held, Made};
+use crate::out_part::{Made, OutPart};
 use counted_tree::Counted;
 use run_trace::Kind;
 use shared_tree::NotEntered;
 
 /// A worker takes a task, and holds its part then.
-pub(crate) fn apply_took(shared: &mut Counted, worker: u32, holding: Held, t: u32) -> Made
+pub(crate) fn apply_took(shared: &mut Counted, worker: u32, holding: OutPart, t: u32) -> Made
     requires room { 0 < shared.old.journal.room }
     requires first { first_cause shared.old.end shared.old.steps shared.old.settings worker false ≡ None }
     requires holds { Holds shared.old false worker holding }
@@ -20,7 +20,7 @@ pub(crate) fn apply_took(shared: &mut Counted, worker: u32, holding: Held, t: u3
     shared.stands();
     match shared.took(worker, t) {
         Ok(part) => Made {
-            holding: Held::Part(part),
+            holding: OutPart::Part(part),
             answer: Ok(()),
         },
         Err(cause) => Made {

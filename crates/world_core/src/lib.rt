@@ -2,7 +2,7 @@
 #![tactic(auto)]
 
 // The whole as a value, and its replay.
-mod held;
+mod out_part;
 mod replaying;
 mod world;
 

@@ -7,7 +7,7 @@ ghost use Rattle.world_core.specs.Together.{StandsTogether};
 ghost use Rattle.world_core.specs.WorldValue.{IsWhole};
 
 use crate::apply::make_entry;
-use crate::held::Held;
+use crate::out_part::OutPart;
 use counted_tree::Counted;
 use hh_lang::Program;
 use listed::Listed;
@@ -32,7 +32,7 @@ pub enum NotApplied {
 #[derive(Drop)]
 pub struct World {
     shared: Counted,
-    holdings: Listed<Held>,
+    holdings: Listed<OutPart>,
     stopped: bool,
 }
 
@@ -47,12 +47,12 @@ impl Model for World {
 }
 
 // Holdings of nothing.
-fn empty_holdings(alloc: Global, workers: u32) -> Result<Listed<Held>, AllocError>
-    ensures { IfOk result (λ holdings. holdings ≡ replicate workers Held.Nothing) }
+fn empty_holdings(alloc: Global, workers: u32) -> Result<Listed<OutPart>, AllocError>
+    ensures { IfOk result (λ holdings. holdings ≡ replicate workers OutPart.Nothing) }
 {
     let mut holdings = Listed::new(alloc);
     for _ in 0..workers {
-        holdings.push(Held::Nothing)?;
+        holdings.push(OutPart::Nothing)?;
     }
     Ok(holdings)
 }

@@ -3,7 +3,7 @@
 ghost use Rattle.std.specs.Prelude.{◌≡◌, ◌<◌, ◌≤◌, ◌++◌, ◌∷◌, [], IfErr, IfNone, IfOk, None, OnErr, OnOk, false, fold};
 ghost use Rattle.remembered_set.specs.Moved.{redirected, targets_of, AreFields, AreInOrder, ArePlaces};
 ghost use Rattle.remembered_set.specs.Sources.{noted as noted_with, notes_in, StandOnce};
-ghost use Rattle.write_barrier.specs.Held.{bare, in_full};
+ghost use Rattle.write_barrier.specs.Forms.{bare, in_full};
 ghost use Rattle.write_barrier.specs.Stored.{content_of};
 
 use listed::Roomy;
@@ -46,7 +46,7 @@ impl Model for SetOf {
 
     ghost Value = { NotedOf };
 
-    ghost use Rattle.write_barrier.specs.Held.{in_full};
+    ghost use Rattle.write_barrier.specs.Forms.{in_full};
 
     ghost view = { λ s. in_full s.form };
 }

@@ -49,7 +49,7 @@ module _ (v : Memory) (l : Ledger) (t : ℕ) (x : Task) (n : Name) (o : ℕ) (f 
   pub place : Place v l n a
   place = subst (λ z. Reads (Place v l) z (Some n)) at_a (subst (Reads (Place v l) (ref_of f o)) held (reads o))
 
-  -- no worker holds who owns the object
+  -- who owns the object is out with no worker
   pub rests_n : Rests l (own l n)
   rests_n = elim (cases_eq (own l n) t) [
     | inl e ↦ ap (λ z. (heap_of l z).worker) e ∙ rests

@@ -2,7 +2,7 @@ use Rattle.std.proofs.Common.{◌≡◌, None, nat_eq, ◌<◌, ◌∙◌, arith
 use Rattle.std.proofs.lemmas.List.{get_or_read, length-take-le, take_more}
 use Rattle.std.specs.HashMap.{get, spare}
 use Rattle.object_layout.specs.Chunks.{chunk_at, no_chunk}
-use Rattle.kept_pieces.proofs.Levels.{on_ok}
+use Rattle.chunk_pieces.proofs.Levels.{on_ok}
 use Rattle.alloc_path.proofs.HeapLemmas as heap
 use Rattle.alloc_path.proofs.exchange.index_chunks.Goals as goal
 

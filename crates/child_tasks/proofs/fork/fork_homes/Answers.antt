@@ -1,6 +1,6 @@
 use Rattle.std.proofs.Common.{◌≡◌, true, ◌++◌, ◌∷◌, [], List, false, length, option_map, slice_get, ap, sym, subst, ◌∙◌}
 use Rattle.write_barrier.specs.declared.sets.SetOf.{SetOf}
-use Rattle.write_barrier.specs.Held.{bare}
+use Rattle.write_barrier.specs.Forms.{bare}
 use Rattle.write_barrier.specs.Stored.{content_at}
 use Rattle.task_homes.specs.HomesValue.{HomesValue, keeping}
 use Rattle.child_tasks.specs.Forks.{SetsFork}

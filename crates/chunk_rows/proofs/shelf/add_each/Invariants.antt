@@ -1,6 +1,6 @@
 use Rattle.std.proofs.Common.{◌≡◌, ℕ, None, cond, take}
 use Rattle.std.specs.Option.{option_or}
-use Rattle.kept_pieces.specs.PiecesValue.{is_among}
+use Rattle.chunk_pieces.specs.PiecesValue.{is_among}
 use Rattle.chunk_rows.specs.View.{level_of, piece_in}
 use Rattle.chunk_rows.proofs.shelf.add_each.Given as goal
 

@@ -6,12 +6,12 @@ use Rattle.shared_value.specs.SharedValue.{SharedValue}
 use Rattle.worker_run.specs.Outcomes.{IsRun, finish_of}
 use Rattle.run_report.specs.declared.whole.Extras.{Extras}
 use Rattle.command_answers.specs.Answers.{extras_of}
-use Rattle.command_core.specs.Left.{AnswersLeft}
+use Rattle.command_core.specs.Outcomes.{AnswersOutcome}
 use Rattle.command_core.proofs.Runs.{left_wanted, told_end, workers_run}
 use Rattle.command_core.proofs.run.answer_program.Goals as goal
 
-pub answer_left-requires : goal.answer_left-requires
-answer_left-requires g c = λ w end was told.
+pub answer_outcome-requires : goal.answer_outcome-requires
+answer_outcome-requires g c = λ w end was told.
     let p = c.args.program.now in
     let s = c.args.options.settings in
     let o = c.run_on_workers-outcome.result in
@@ -23,10 +23,10 @@ pub returns-clause-answer : goal.returns-clause-answer
 returns-clause-answer g c =
     let p = c.args.program.now in
     let s = c.args.options.settings in
-    IfOk-weaker c.answer_left.result _ _
+    IfOk-weaker c.answer_outcome.result _ _
     (λ a h. workers_run p s (extras_of c.args.options) h.0 a (subst (λ (x : Option SharedValue). IfSome x (IsRun p s)) h.2 c.run_on_workers-outcome.ensures.run) h.4)
-    (subst (λ (x : Extras). IfOk c.answer_left.result (AnswersLeft c.run_on_workers-outcome.result x)) c.extras_of.ensures c.answer_left.ensures.answer)
+    (subst (λ (x : Extras). IfOk c.answer_outcome.result (AnswersOutcome c.run_on_workers-outcome.result x)) c.extras_of.ensures c.answer_outcome.ensures.answer)
 
 pub returns-clause-wanted : goal.returns-clause-wanted
 returns-clause-wanted g c =
-    IfErr-weaker c.answer_left.result _ _ (λ found e. left_wanted c.args.program.now c.args.options.settings c.run_on_workers-outcome.result.shared found c.run_on_workers-outcome.ensures.run e) c.answer_left.ensures.wanted
+    IfErr-weaker c.answer_outcome.result _ _ (λ found e. left_wanted c.args.program.now c.args.options.settings c.run_on_workers-outcome.result.shared found c.run_on_workers-outcome.ensures.run e) c.answer_outcome.ensures.wanted

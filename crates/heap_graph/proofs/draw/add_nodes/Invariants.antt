@@ -3,7 +3,7 @@ use Rattle.std.specs.List.{flat_map}
 use Rattle.std.specs.Prelude.{option_copied}
 use Rattle.dot_text.specs.Dot.{dot}
 use Rattle.heap_graph.specs.Drawn.{nodes_in, lines_behind}
-use Rattle.heap_graph.specs.Pieces.{lines_left}
+use Rattle.heap_graph.specs.Pieces.{optional_lines}
 use Rattle.heap_graph.proofs.Left.{bytes_left}
 use Rattle.heap_graph.proofs.draw.add_nodes.Given as goal
 
@@ -11,9 +11,9 @@ abbrev pub invariant-loop-left : goal.invariant-loop-left
 invariant-loop-left l =
     record {
       nodes :
-          l.text.items ++ flat_map dot (nodes_in l.chunk (lines_left (option_copied l.left)))
-          ≡ l.fn.text.items ++ flat_map dot (nodes_in l.chunk (lines_left (option_copied l.objects)));
-      left : lines_behind l.chunk (lines_left (option_copied l.left)) ≡ lines_behind l.chunk (lines_left (option_copied l.objects));
+          l.text.items ++ flat_map dot (nodes_in l.chunk (optional_lines (option_copied l.left)))
+          ≡ l.fn.text.items ++ flat_map dot (nodes_in l.chunk (optional_lines (option_copied l.objects)));
+      left : lines_behind l.chunk (optional_lines (option_copied l.left)) ≡ lines_behind l.chunk (optional_lines (option_copied l.objects));
     }
 
 abbrev pub decreases-loop-left : goal.decreases-loop-left

@@ -80,7 +80,7 @@ exchange-are_large-requires-clause-apart c =
     let laid : List ChunkValue = c.collector.inside.laid.items in
     let r : Option ℕ = c.reserved-reserved.result in
     let s = e.survivors in
-    collecting.now_apart h g.chunks ss news r laid e.left c.requires.tidy c.requires.apart c.requires.new (once_from (olds ss) s.once) s.names c.reserved-reserved.ensures.empty e.laid
+    collecting.now_apart h g.chunks ss news r laid e.vacated c.requires.tidy c.requires.apart c.requires.new (once_from (olds ss) s.once) s.names c.reserved-reserved.ensures.empty e.laid
 
 pub exchange-are_large-requires-clause-small : goal.exchange-are_large-requires-clause-small
 exchange-are_large-requires-clause-small c =
@@ -94,7 +94,7 @@ exchange-are_large-requires-clause-small c =
     let laid : List ChunkValue = c.collector.inside.laid.items in
     let r : Option ℕ = c.reserved-reserved.result in
     let s = e.survivors in
-    collecting.small_last h g.chunks ss news r laid e.left c.requires.tidy c.requires.apart c.requires.new (once_from (olds ss) s.once) s.names c.reserved-reserved.ensures.empty e.laid
+    collecting.small_last h g.chunks ss news r laid e.vacated c.requires.tidy c.requires.apart c.requires.new (once_from (olds ss) s.once) s.names c.reserved-reserved.ensures.empty e.laid
 
 pub exchange-are_large-requires-clause-back : goal.exchange-are_large-requires-clause-back
 exchange-are_large-requires-clause-back c =
@@ -108,7 +108,7 @@ exchange-are_large-requires-clause-back c =
     let laid : List ChunkValue = c.collector.inside.laid.items in
     let r : Option ℕ = c.reserved-reserved.result in
     let s = e.survivors in
-    let n = nums.alike_length h g.chunks e.left.alike in
+    let n = nums.alike_length h g.chunks e.vacated.alike in
     let none = ap (λ (ks : List ChunkValue). length ks) c.requires.reserved.back in
     let room = c.requires.reserved.back_room in
     omega arith
@@ -144,7 +144,7 @@ give_rest-requires c =
     let laid : List ChunkValue = c.collector.inside.laid.items in
     let r : Option ℕ = c.reserved-reserved.result in
     let s = e.survivors in
-    let n = nums.alike_length h g.chunks e.left.alike in
+    let n = nums.alike_length h g.chunks e.vacated.alike in
     let none = ap (λ (ks : List ChunkValue). length ks) c.requires.reserved.back in
     let room = c.requires.reserved.back_room in
     let count = c.exchange-are_large.ensures.back_count in
@@ -169,7 +169,7 @@ name_larges-requires-clause-can c =
     let s = e.survivors in
     let chunks = ap (λ (x : LeafHeapValue). x.chunks) c.exchange-are_large.ensures.heap in
     subst (CanName c.exchange-are_large.new.heap.chunks) (sym c.deref-3.ensures.value)
-    (subst (λ (ks : List ChunkValue). CanName ks ss) (sym chunks) (collecting.can_name h g.chunks ss news r laid e.left c.requires.tidy c.requires.apart c.requires.new (once_from (olds ss) s.once) s.names c.reserved-reserved.ensures.empty e.laid))
+    (subst (λ (ks : List ChunkValue). CanName ks ss) (sym chunks) (collecting.can_name h g.chunks ss news r laid e.vacated c.requires.tidy c.requires.apart c.requires.new (once_from (olds ss) s.once) s.names c.reserved-reserved.ensures.empty e.laid))
 
 pub name_larges-requires-clause-none : goal.name_larges-requires-clause-none
 name_larges-requires-clause-none c =
@@ -185,7 +185,7 @@ name_larges-requires-clause-none c =
     let s = e.survivors in
     let chunks = ap (λ (x : LeafHeapValue). x.chunks) c.exchange-are_large.ensures.heap in
     λ no. ap (λ (xs : List Survivor). fold named c.exchange-are_large.new.heap.chunks xs) c.deref-3.ensures.value
-    ∙ (ap (λ (ks : List ChunkValue). fold named ks ss) chunks ∙ (collecting.none_named h g.chunks ss news r laid e.left c.requires.tidy c.requires.apart c.requires.new (once_from (olds ss) s.once) s.names c.reserved-reserved.ensures.empty e.laid (c.exchange-are_large.ensures.none no) ∙ sym chunks))
+    ∙ (ap (λ (ks : List ChunkValue). fold named ks ss) chunks ∙ (collecting.none_named h g.chunks ss news r laid e.vacated c.requires.tidy c.requires.apart c.requires.new (once_from (olds ss) s.once) s.names c.reserved-reserved.ensures.empty e.laid (c.exchange-are_large.ensures.none no) ∙ sym chunks))
 
 pub returns-clause-collected : goal.returns-clause-collected
 returns-clause-collected c =
@@ -204,7 +204,7 @@ returns-clause-collected c =
     record {
       survivors = ss;
       are = s;
-      heap = collecting.heap_is h g.chunks ss news r laid e.left c.requires.tidy c.requires.apart c.requires.new (once_from (olds ss) s.once) s.names c.reserved-reserved.ensures.empty e.laid c.args.heap r_is refl c.exchange-are_large.new.heap c.name_larges.new.heap c.reset_since.new.self g c.exchange-are_large.ensures.heap
+      heap = collecting.heap_is h g.chunks ss news r laid e.vacated c.requires.tidy c.requires.apart c.requires.new (once_from (olds ss) s.once) s.names c.reserved-reserved.ensures.empty e.laid c.args.heap r_is refl c.exchange-are_large.new.heap c.name_larges.new.heap c.reset_since.new.self g c.exchange-are_large.ensures.heap
           (c.name_larges.ensures ∙ ap (λ (xs : List Survivor). with_chunks c.exchange-are_large.new.heap (fold named c.exchange-are_large.new.heap.chunks xs)) c.deref-3.ensures.value) c.reset_since.ensures;
       frames = e.frames;
       moved = permuted;
@@ -213,7 +213,7 @@ returns-clause-collected c =
       taken = c.count_of-taken.ensures ∙ ap (λ (ks : List ChunkValue). counted32 (length ks)) (c.deref.ensures.value ∙ e.laid);
       given = c.units_of.ensures ∙ ap (λ (ks : List ChunkValue). counted32 (unit_count ks)) c.deref-4.ensures.value;
       left = c.counted.ensures ∙ (ap counted32 c.words.ensures ∙ omega arith);
-      back = c.give_rest.ensures ∙ collecting.back_is h g.chunks ss news r laid e.left c.requires.tidy c.requires.apart c.requires.new (once_from (olds ss) s.once) s.names c.reserved-reserved.ensures.empty e.laid c.args.heap r_is c.args.to_chunks.lists.back.items c.requires.reserved.back c.collector.inside.spare.items e.spare c.exchange-are_large.new.back.items c.exchange-are_large.ensures.back;
+      back = c.give_rest.ensures ∙ collecting.back_is h g.chunks ss news r laid e.vacated c.requires.tidy c.requires.apart c.requires.new (once_from (olds ss) s.once) s.names c.reserved-reserved.ensures.empty e.laid c.args.heap r_is c.args.to_chunks.lists.back.items c.requires.reserved.back c.collector.inside.spare.items e.spare c.exchange-are_large.new.back.items c.exchange-are_large.ensures.back;
     }
 
 pub returns-clause-settled : goal.returns-clause-settled
@@ -228,6 +228,6 @@ returns-clause-settled c =
     let laid : List ChunkValue = c.collector.inside.laid.items in
     let r : Option ℕ = c.reserved-reserved.result in
     let s = e.survivors in
-    collecting.settled_now h g.chunks ss news r laid e.left c.requires.tidy c.requires.apart c.requires.new (once_from (olds ss) s.once) s.names c.reserved-reserved.ensures.empty e.laid
+    collecting.settled_now h g.chunks ss news r laid e.vacated c.requires.tidy c.requires.apart c.requires.new (once_from (olds ss) s.once) s.names c.reserved-reserved.ensures.empty e.laid
     c.exchange-are_large.new.heap c.name_larges.new.heap c.reset_since.new.self (ap (λ (x : LeafHeapValue). x.chunks) c.exchange-are_large.ensures.heap)
     (c.name_larges.ensures ∙ ap (λ (xs : List Survivor). with_chunks c.exchange-are_large.new.heap (fold named c.exchange-are_large.new.heap.chunks xs)) c.deref-3.ensures.value) c.reset_since.ensures

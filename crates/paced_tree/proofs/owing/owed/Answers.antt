@@ -2,7 +2,7 @@ use Rattle.std.proofs.Common.{cond, ap, sym, subst, ◌∙◌}
 use Rattle.run_ledger.specs.declared.data.Owed.TheVariants.{Mark as OwesMark}
 use Rattle.run_ledger.specs.Pace.{owed_to_marks}
 use Rattle.shared_value.specs.SharedValue.{accounts}
-use Rattle.heap_marking.specs.declared.pace.KeptEntry.TheVariants.{Forked, Ran}
+use Rattle.heap_marking.specs.declared.pace.PreviousKind.TheVariants.{Forked, Ran}
 use Rattle.heap_marking.specs.Pace.{KeepsPrevious}
 use Rattle.heap_marking.proofs.PaceOwes.{owed_is}
 use Rattle.paced_tree.proofs.owing.owed.Goals as goal

@@ -20,7 +20,7 @@ enter-requires-clause-few c none =
     let e = l.invariant.index in
     let f = l.auto.index-fits in
     few_next c.args.journal.now l.book l.entry-index c.entry-item.result c.loop-entry-test.true c.entry-item.is none l.totals l.invariant.at
-    (subst AreSettings (sym l.invariant.settings) c.requires.limits) (omega (arith, e, f))
+    (subst AreSettings (sym l.invariant.settings) c.requires.settings) (omega (arith, e, f))
 
 pub loop-entry-preserved : goal.loop-entry-preserved
 loop-entry-preserved c =

@@ -3,7 +3,7 @@ use Rattle.leaf_copy_gc.specs.Lists.{IsCollected}
 use Rattle.leaf_copy_gc.specs.Survivors.{IsSound, outside}
 use Rattle.task_machine.specs.declared.part.Private.{Private}
 use Rattle.leaf_collections.specs.LeafEnd.{FitsCopied}
-use Rattle.turn_entries.specs.declared.held.Collecting.{Collecting}
+use Rattle.turn_entries.specs.declared.between_turns.Collecting.{Collecting}
 use Rattle.turn_entries.specs.Parts.{MayCopy}
 use Rattle.worker_run.proofs.Copying.{can_copy, copied, may_copy_at, may_copy_out, takes}
 use Rattle.worker_run.proofs.local.copy_part.Goals as goal

@@ -11,7 +11,7 @@ use Rattle.std.proofs.Common.{rules, ◌≡◌, ◌<◌, length, refl, ◌∙◌
 use Rattle.std.proofs.lemmas.Option.{slice_get_read, get_or_from_slice_get, slice_get_within}
 use Rattle.turn_lock.specs.Turn.{identity}
 use Rattle.worker_run.specs.contracts.desk.Desk as Desk
-use Rattle.turn_entries.specs.declared.held.Next.TheVariants.{Idle, Stop}
+use Rattle.turn_entries.specs.declared.between_turns.Next.TheVariants.{Idle, Stop}
 use Rattle.worker_run.specs.declared.desk.Desk.{Desk}
 use Rattle.worker_run.specs.Desks.{HasStopped, IsDesk, SameDesk}
 use Rattle.worker_run.specs.Rounds.{GoesRound}

@@ -1,7 +1,7 @@
 use Rattle.std.proofs.Common.{sym, subst, refl}
 use Rattle.turn_lock.specs.Seats.{view}
-use Rattle.turn_entries.specs.declared.held.Next.{Next}
-use Rattle.turn_entries.specs.declared.held.Ready.TheVariants.{Copied as IsCopied}
+use Rattle.turn_entries.specs.declared.between_turns.Next.{Next}
+use Rattle.turn_entries.specs.declared.between_turns.Ready.TheVariants.{Copied as IsCopied}
 use Rattle.worker_run.specs.Tasks.{Prepares}
 use Rattle.worker_run.proofs.Finding.{comes_looking, comes_sharing, comes_sharing_both}
 use Rattle.worker_run.proofs.Giving.{comes_copied}

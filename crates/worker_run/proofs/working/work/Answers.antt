@@ -1,5 +1,5 @@
 use Rattle.std.proofs.Common.{arith, rules}
-use Rattle.turn_entries.specs.declared.held.Next.TheVariants.{Idle}
+use Rattle.turn_entries.specs.declared.between_turns.Next.TheVariants.{Idle}
 use Rattle.worker_run.proofs.Rounding.{one_more}
 use Rattle.worker_run.proofs.working.work.Goals as goal
 

@@ -1,7 +1,7 @@
 use Rattle.std.proofs.Common.{◌≡◌}
 use Rattle.turn_lock.specs.Seats.{view}
 use Rattle.turn_lock.specs.Turn.{identity}
-use Rattle.turn_entries.specs.declared.held.Next.TheVariants.{Idle, Stop}
+use Rattle.turn_entries.specs.declared.between_turns.Next.TheVariants.{Idle, Stop}
 use Rattle.turn_entries.specs.Parts.{GoesWith}
 use Rattle.worker_run.specs.Desks.{HasStopped, IsDesk, SameDesk}
 use Rattle.worker_run.specs.Rounds.{GoesRound}

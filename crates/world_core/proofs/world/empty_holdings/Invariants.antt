@@ -1,5 +1,5 @@
 use Rattle.std.proofs.Common.{◌≡◌, replicate}
-use Rattle.world_core.specs.declared.held.Held.TheVariants.{Nothing}
+use Rattle.world_core.specs.declared.out_part.OutPart.TheVariants.{Nothing}
 use Rattle.world_core.proofs.world.empty_holdings.Given as goal
 
 abbrev pub invariant-loop : goal.invariant-loop

@@ -1,6 +1,6 @@
 use Rattle.std.proofs.Common.{◌≡◌, ◌<◌, arith, length}
-use Rattle.kept_pieces.proofs.PieceLists as lists
-use Rattle.kept_pieces.proofs.Levels.{on_ok}
+use Rattle.chunk_pieces.proofs.PieceLists as lists
+use Rattle.chunk_pieces.proofs.Levels.{on_ok}
 use Rattle.alloc_path.proofs.HeapLemmas as heap
 use Rattle.alloc_path.proofs.space.Space.add_spare.Goals as goal
 

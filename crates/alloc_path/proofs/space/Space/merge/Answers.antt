@@ -3,7 +3,7 @@ use Rattle.std.specs.Prelude.{nat_eq}
 use Rattle.std.specs.HashMap.{get, hash_map_len}
 use Rattle.object_layout.specs.Chunks.{chunk_at, one_each, small_part}
 use Rattle.alloc_path.specs.LeafHeapValue.{counted}
-use Rattle.kept_pieces.proofs.PieceLists as lists
+use Rattle.chunk_pieces.proofs.PieceLists as lists
 use Rattle.alloc_path.proofs.HeapLemmas as heap
 use Rattle.alloc_path.proofs.space.Space.merge.Goals as goal
 

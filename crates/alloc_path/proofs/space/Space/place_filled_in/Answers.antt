@@ -4,7 +4,7 @@ use Rattle.object_layout.specs.ChunkValue.{ChunkValue}
 use Rattle.alloc_path.specs.LeafHeapValue.{counted}
 use Rattle.object_layout.specs.Cell.{filled_cell, size_of}
 use Rattle.alloc_path.specs.contracts.space.Space.{the_view}
-use Rattle.kept_pieces.proofs.PieceLists as lists
+use Rattle.chunk_pieces.proofs.PieceLists as lists
 use Rattle.alloc_path.proofs.HeapLemmas as heap
 use Rattle.alloc_path.proofs.Settled as settled
 use Rattle.alloc_path.proofs.space.Space.place_filled_in.Goals as goal

@@ -4,7 +4,7 @@ use Rattle.alloc_path.specs.LeafHeapValue.{counted}
 use Rattle.object_layout.specs.Cell.{new_cell, size_of}
 use Rattle.object_layout.proofs.HoldLemmas.{size_of-new}
 use Rattle.alloc_path.specs.contracts.space.Space.{the_view}
-use Rattle.kept_pieces.proofs.PieceLists as lists
+use Rattle.chunk_pieces.proofs.PieceLists as lists
 use Rattle.alloc_path.proofs.HeapLemmas as heap
 use Rattle.alloc_path.proofs.Settled as settled
 use Rattle.alloc_path.proofs.space.Space.place_in_chunk.Goals as goal

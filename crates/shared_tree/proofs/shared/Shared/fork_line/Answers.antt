@@ -22,7 +22,7 @@ pub unreachable-requires : goal.unreachable-requires
 unreachable-requires c =
     let w : SharedValue = the_view c.self.inside in
     let p : Private = c.args.part.now in
-    let held : MayBeEntered w p = subst (λ (z : SharedValue). MayBeEntered z p) (sym c.self.view_is) c.requires.held in
+    let held : MayBeEntered w p = subst (λ (z : SharedValue). MayBeEntered z p) (sym c.self.view_is) c.requires.out in
     let k : ℕ = held.worker in
     let F : Fits w k p = held.fits in
     let at : IsAtFork w p = subst (λ (z : SharedValue). IsAtFork z p) (sym c.self.view_is) c.requires.forks in
@@ -34,7 +34,7 @@ pub unreachable-requires-in_default-instr : goal.unreachable-requires-in_default
 unreachable-requires-in_default-instr c =
     let w : SharedValue = the_view c.self.inside in
     let p : Private = c.args.part.now in
-    let held : MayBeEntered w p = subst (λ (z : SharedValue). MayBeEntered z p) (sym c.self.view_is) c.requires.held in
+    let held : MayBeEntered w p = subst (λ (z : SharedValue). MayBeEntered z p) (sym c.self.view_is) c.requires.out in
     let k : ℕ = held.worker in
     let F : Fits w k p = held.fits in
     let at : IsAtFork w p = subst (λ (z : SharedValue). IsAtFork z p) (sym c.self.view_is) c.requires.forks in
@@ -47,7 +47,7 @@ pub returns : goal.returns
 returns c =
     let w : SharedValue = the_view c.self.inside in
     let p : Private = c.args.part.now in
-    let held : MayBeEntered w p = subst (λ (z : SharedValue). MayBeEntered z p) (sym c.self.view_is) c.requires.held in
+    let held : MayBeEntered w p = subst (λ (z : SharedValue). MayBeEntered z p) (sym c.self.view_is) c.requires.out in
     let k : ℕ = held.worker in
     let F : Fits w k p = held.fits in
     let at : IsAtFork w p = subst (λ (z : SharedValue). IsAtFork z p) (sym c.self.view_is) c.requires.forks in

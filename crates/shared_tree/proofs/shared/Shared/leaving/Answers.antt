@@ -24,7 +24,7 @@ pub unreachable-requires : goal.unreachable-requires
 unreachable-requires c =
     let w : SharedValue = the_view c.self.inside in
     let p : Private = c.args.part.now in
-    let held : MayBeEntered w p = subst (λ (z : SharedValue). MayBeEntered z p) (sym c.self.view_is) c.requires.held in
+    let held : MayBeEntered w p = subst (λ (z : SharedValue). MayBeEntered z p) (sym c.self.view_is) c.requires.out in
     let k : ℕ = held.worker in
     let F : Fits w k p = held.fits in
     let shared : IsShared w p = subst (λ (z : SharedValue). IsShared z p) (sym c.self.view_is) c.requires.shared in
@@ -36,7 +36,7 @@ pub returns-in-Par : goal.returns-in-Par
 returns-in-Par c =
     let w : SharedValue = the_view c.self.inside in
     let p : Private = c.args.part.now in
-    let held : MayBeEntered w p = subst (λ (z : SharedValue). MayBeEntered z p) (sym c.self.view_is) c.requires.held in
+    let held : MayBeEntered w p = subst (λ (z : SharedValue). MayBeEntered z p) (sym c.self.view_is) c.requires.out in
     let k : ℕ = held.worker in
     let F : Fits w k p = held.fits in
     let shared : IsShared w p = subst (λ (z : SharedValue). IsShared z p) (sym c.self.view_is) c.requires.shared in
@@ -49,7 +49,7 @@ pub returns-in-Ret : goal.returns-in-Ret
 returns-in-Ret c =
     let w : SharedValue = the_view c.self.inside in
     let p : Private = c.args.part.now in
-    let held : MayBeEntered w p = subst (λ (z : SharedValue). MayBeEntered z p) (sym c.self.view_is) c.requires.held in
+    let held : MayBeEntered w p = subst (λ (z : SharedValue). MayBeEntered z p) (sym c.self.view_is) c.requires.out in
     let k : ℕ = held.worker in
     let F : Fits w k p = held.fits in
     let shared : IsShared w p = subst (λ (z : SharedValue). IsShared z p) (sym c.self.view_is) c.requires.shared in
@@ -62,7 +62,7 @@ pub returns-in_default-instr : goal.returns-in_default-instr
 returns-in_default-instr c =
     let w : SharedValue = the_view c.self.inside in
     let p : Private = c.args.part.now in
-    let held : MayBeEntered w p = subst (λ (z : SharedValue). MayBeEntered z p) (sym c.self.view_is) c.requires.held in
+    let held : MayBeEntered w p = subst (λ (z : SharedValue). MayBeEntered z p) (sym c.self.view_is) c.requires.out in
     let k : ℕ = held.worker in
     let F : Fits w k p = held.fits in
     let shared : IsShared w p = subst (λ (z : SharedValue). IsShared z p) (sym c.self.view_is) c.requires.shared in

@@ -25,7 +25,7 @@ pub make_places-requires-clause-child : goal.make_places-requires-clause-child
 make_places-requires-clause-child c =
     let w : SharedValue = the_view c.self.inside in
     let p : Private = c.args.part.now in
-    let held : MayBeEntered w p = subst (λ (z : SharedValue). MayBeEntered z p) (sym c.self.view_is) c.requires.held in
+    let held : MayBeEntered w p = subst (λ (z : SharedValue). MayBeEntered z p) (sym c.self.view_is) c.requires.out in
     let at : IsAtEnd w p = subst (λ (z : SharedValue). IsAtEnd z p) (sym c.self.view_is) c.requires.ends in
     let low = parent_low w held.worker p c.self.invariant held.fits at held.free in
     omega (arith, low)
@@ -34,7 +34,7 @@ pub make_places-requires-clause-few : goal.make_places-requires-clause-few
 make_places-requires-clause-few c =
     let w : SharedValue = the_view c.self.inside in
     let p : Private = c.args.part.now in
-    let held : MayBeEntered w p = subst (λ (z : SharedValue). MayBeEntered z p) (sym c.self.view_is) c.requires.held in
+    let held : MayBeEntered w p = subst (λ (z : SharedValue). MayBeEntered z p) (sym c.self.view_is) c.requires.out in
     let at : IsAtEnd w p = subst (λ (z : SharedValue). IsAtEnd z p) (sym c.self.view_is) c.requires.ends in
     let few = few_tasks w c.self.invariant in
     let own = own_made w held.worker p c.self.invariant held.fits at held.free in
@@ -44,7 +44,7 @@ pub make_places-requires-clause-there : goal.make_places-requires-clause-there
 make_places-requires-clause-there c =
     let w : SharedValue = the_view c.self.inside in
     let p : Private = c.args.part.now in
-    let held : MayBeEntered w p = subst (λ (z : SharedValue). MayBeEntered z p) (sym c.self.view_is) c.requires.held in
+    let held : MayBeEntered w p = subst (λ (z : SharedValue). MayBeEntered z p) (sym c.self.view_is) c.requires.out in
     let at : IsAtEnd w p = subst (λ (z : SharedValue). IsAtEnd z p) (sym c.self.view_is) c.requires.ends in
     let ended : state_of w.tree (sibling p.task) ≡ Some Ended = subst (λ (z : SharedValue). state_of z.tree (sibling p.task) ≡ Some Ended) (sym c.self.view_is) c.requires.ended in
     let par : parent_of w.tree p.task ≡ Some c.args.parent = subst (λ (z : SharedValue). parent_of z.tree p.task ≡ Some c.args.parent) (sym c.self.view_is) c.requires.parent in
@@ -78,7 +78,7 @@ pub returns-clause-places : goal.returns-clause-places
 returns-clause-places c =
     let w : SharedValue = the_view c.self.inside in
     let p : Private = c.args.part.now in
-    let held : MayBeEntered w p = subst (λ (z : SharedValue). MayBeEntered z p) (sym c.self.view_is) c.requires.held in
+    let held : MayBeEntered w p = subst (λ (z : SharedValue). MayBeEntered z p) (sym c.self.view_is) c.requires.out in
     let k : ℕ = held.worker in
     let I : IsSharedValue w = c.self.invariant in
     let F : Fits w k p = held.fits in

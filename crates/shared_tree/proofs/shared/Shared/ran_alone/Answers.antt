@@ -69,8 +69,8 @@ returns-else-part-eq0-clause-refused c = sym c.alone_refused.ensures ∙ c.in_de
 pub returns-in-Beyond-clause-refused : goal.returns-in-Beyond-clause-refused
 returns-in-Beyond-clause-refused c = sym c.alone_refused.ensures ∙ c.in_default.is
 
-pub next_ending-ending-requires-clause-held : goal.next_ending-ending-requires-clause-held
-next_ending-ending-requires-clause-held c = record { worker = c.args.worker; fits = c.requires.fits; free = sym c.alone_refused.ensures ∙ c.in_default.is }
+pub next_ending-ending-requires-clause-out : goal.next_ending-ending-requires-clause-out
+next_ending-ending-requires-clause-out c = record { worker = c.args.worker; fits = c.requires.fits; free = sym c.alone_refused.ensures ∙ c.in_default.is }
 
 pub enter_output-requires-clause-free : goal.enter_output-requires-clause-free
 enter_output-requires-clause-free c = sym c.alone_refused.ensures ∙ c.in_default.is

@@ -87,8 +87,8 @@ returns-in-Some-clause-refused c = sym c.alone_refused.ensures ∙ c.in-Some.is
 pub ran_first-requires-clause-alone : goal.ran_first-requires-clause-alone
 ran_first-requires-clause-alone c = λ e. not_yes (c.if-not-is_ended.ensures.1 (state_is c.state.ensures (ap (λ (z : SharedValue). state_of z.tree) c.self.view_is) c.sibling_of.ensures ∙ e))
 
-pub make_join_places-requires-clause-held : goal.make_join_places-requires-clause-held
-make_join_places-requires-clause-held c = record { worker = c.args.worker; fits = c.requires.fits; free = sym c.alone_refused.ensures ∙ c.in_default.is }
+pub make_join_places-requires-clause-out : goal.make_join_places-requires-clause-out
+make_join_places-requires-clause-out c = record { worker = c.args.worker; fits = c.requires.fits; free = sym c.alone_refused.ensures ∙ c.in_default.is }
 
 pub make_join_places-requires-clause-ended : goal.make_join_places-requires-clause-ended
 make_join_places-requires-clause-ended c = sym (state_is c.state.ensures (ap (λ (z : SharedValue). state_of z.tree) c.self.view_is) c.sibling_of.ensures) ∙ c.if-not-is_ended.ensures.0 refl

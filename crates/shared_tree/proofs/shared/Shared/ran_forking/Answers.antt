@@ -33,8 +33,8 @@ enter_halt-requires-clause-shared c = fork_shared c.args.self.now c.args.part c.
 pub returns-in-Some-clause-refused : goal.returns-in-Some-clause-refused
 returns-in-Some-clause-refused c = sym c.alone_refused.ensures ∙ c.in-Some.is
 
-pub fork_line-left-requires-clause-held : goal.fork_line-left-requires-clause-held
-fork_line-left-requires-clause-held c = record { worker = c.args.worker; fits = c.requires.fits; free = sym c.alone_refused.ensures ∙ c.in_default.is }
+pub fork_line-left-requires-clause-out : goal.fork_line-left-requires-clause-out
+fork_line-left-requires-clause-out c = record { worker = c.args.worker; fits = c.requires.fits; free = sym c.alone_refused.ensures ∙ c.in_default.is }
 
 pub enter_fork-requires-clause-free : goal.enter_fork-requires-clause-free
 enter_fork-requires-clause-free c = sym c.alone_refused.ensures ∙ c.in_default.is

@@ -8,5 +8,5 @@ returns-clause-unchanged c = results_unchanged c.args.self.now c.enter_other.new
 pub returns-clause-still : goal.returns-clause-still
 returns-clause-still c = results_fit c.args.self.now c.enter_other.new.self c.enter_other.result c.enter_other.ensures.same
 
-pub next_other-does-requires-clause-held : goal.next_other-does-requires-clause-held
-next_other-does-requires-clause-held c = record { worker = c.args.worker; fits = c.requires.fits; free = sym c.alone_refused.ensures ∙ c.in_default.is }
+pub next_other-does-requires-clause-out : goal.next_other-does-requires-clause-out
+next_other-does-requires-clause-out c = record { worker = c.args.worker; fits = c.requires.fits; free = sym c.alone_refused.ensures ∙ c.in_default.is }

@@ -3,7 +3,7 @@ use Rattle.remembered_set.specs.declared.remembered.Source.{Source}
 use Rattle.remembered_set.specs.Moved.{redirected}
 use Rattle.remembered_set.specs.Sources.{StandOnce}
 use Rattle.write_barrier.specs.declared.sets.SetOf.{SetOf}
-use Rattle.write_barrier.specs.Held.{bare}
+use Rattle.write_barrier.specs.Forms.{bare}
 use Rattle.task_homes.specs.declared.heaps.Heaps.{Heaps}
 use Rattle.task_homes.specs.HomesValue.{HomesValue, sources_of}
 use Rattle.task_homes.specs.RestingHeaps.{Resting, refs_in, resting, with_ref_in, with_resting}

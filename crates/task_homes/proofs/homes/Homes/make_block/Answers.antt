@@ -1,7 +1,7 @@
 use Rattle.std.proofs.Common.{rules, ◌<◌, ◌≡◌, false, Some, None, length, slice_get, ap, sym, ◌∙◌}
 use Rattle.std.specs.Vec.{vec_capacity}
 use Rattle.listed.proofs.Places.{got_item}
-use Rattle.write_barrier.specs.Held.{bare}
+use Rattle.write_barrier.specs.Forms.{bare}
 use Rattle.task_homes.specs.declared.homes.Home.{Home}
 use Rattle.task_homes.specs.HomesValue.{marking_in, rest_in, set_in}
 use Rattle.task_homes.proofs.Places.{bare_was, made_within, block_now, block_only}

@@ -2,7 +2,7 @@ use Rattle.std.proofs.Common.{rules, ◌<◌, ◌≡◌, false, Some, length, sl
 use Rattle.std.specs.Vec.{vec_capacity}
 use Rattle.listed.proofs.Places.{got_item}
 use Rattle.write_barrier.specs.declared.sets.SetOf.{SetOf}
-use Rattle.write_barrier.specs.Held.{bare}
+use Rattle.write_barrier.specs.Forms.{bare}
 use Rattle.task_homes.proofs.Places.{block_within, set_put}
 use Rattle.task_homes.proofs.homes.Homes.take_set.Goals as goal
 

@@ -7,8 +7,8 @@ use Rattle.turn_entries.specs.Next.{due_kind}
 use Rattle.turn_entries.proofs.Coming.{acts_same, due_begins, due_waits, enough_is}
 use Rattle.turn_entries.proofs.run.Run.collect.Goals as goal
 
-pub pool_enough-requires-clause-held : goal.pool_enough-requires-clause-held
-pool_enough-requires-clause-held c = (
+pub pool_enough-requires-clause-out : goal.pool_enough-requires-clause-out
+pool_enough-requires-clause-out c = (
   c.args.worker,
   subst (λ (z : SharedValue). Fits z c.args.worker c.get.result.now) (sym c.shared.ensures) (subst (λ (p : Private). Fits c.args.self.paced c.args.worker p) (sym c.get.ensures) c.requires.paused.may.fits),
 )

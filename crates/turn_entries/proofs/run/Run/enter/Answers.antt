@@ -1,4 +1,4 @@
-use Rattle.turn_entries.specs.declared.held.Ready.TheVariants.{Paused as HasPaused, Copied as IsCopied, Found}
+use Rattle.turn_entries.specs.declared.between_turns.Ready.TheVariants.{Paused as HasPaused, Copied as IsCopied, Found}
 use Rattle.turn_entries.proofs.Coming.{acts_brought}
 use Rattle.turn_entries.proofs.run.Run.enter.Goals as goal
 

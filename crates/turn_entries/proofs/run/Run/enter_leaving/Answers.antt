@@ -3,7 +3,7 @@ use Rattle.run_trace.specs.declared.entry.Kind.TheVariants.{Ran}
 use Rattle.task_machine.specs.declared.part.Private.{Private}
 use Rattle.task_machine.specs.declared.part.Paused.TheVariants.{Shared}
 use Rattle.shared_tree.specs.Ran.{LeavesBy}
-use Rattle.turn_entries.specs.declared.held.Ready.TheVariants.{Paused as HasPaused}
+use Rattle.turn_entries.specs.declared.between_turns.Ready.TheVariants.{Paused as HasPaused}
 use Rattle.turn_entries.specs.Acts.{ActsFor}
 use Rattle.turn_entries.specs.Parts.{IsPaused}
 use Rattle.turn_entries.proofs.run.Run.enter_leaving.Goals as goal

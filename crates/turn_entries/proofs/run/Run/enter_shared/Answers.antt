@@ -12,7 +12,7 @@ use Rattle.shared_value.specs.SharedValue.{SharedValue}
 use Rattle.own_steps.specs.Alone.{GoesAlone, HaltsAlone, IsShared, alone_entry}
 use Rattle.own_steps.proofs.LastSteps.{alone_free}
 use Rattle.shared_tree.specs.Ran.{LeavesBy, LeavesPart, LentTo}
-use Rattle.turn_entries.specs.declared.held.Ready.TheVariants.{Paused as HasPaused}
+use Rattle.turn_entries.specs.declared.between_turns.Ready.TheVariants.{Paused as HasPaused}
 use Rattle.turn_entries.specs.Parts.{IsPaused}
 use Rattle.turn_entries.specs.Values.{MayEnter}
 use Rattle.turn_entries.proofs.Free.{only_memory}

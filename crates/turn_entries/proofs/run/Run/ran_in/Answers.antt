@@ -10,7 +10,7 @@ use Rattle.child_tasks.specs.ChildEnds.{EndsChild}
 use Rattle.child_tasks.specs.Forks.{ForksOn}
 use Rattle.child_tasks.specs.NoTask.{HoldsNone}
 use Rattle.shared_tree.specs.Ran.{RanTo}
-use Rattle.turn_entries.specs.declared.held.Ready.TheVariants.{Paused as HasPaused}
+use Rattle.turn_entries.specs.declared.between_turns.Ready.TheVariants.{Paused as HasPaused}
 use Rattle.turn_entries.specs.Acts.{Follows}
 use Rattle.turn_entries.proofs.Free.{only_memory}
 use Rattle.turn_entries.proofs.Going.{stands_shared}

@@ -9,7 +9,7 @@ pub fetch_add-requires : goal.fetch_add-requires
 fetch_add-requires g c = let t = c.requires.turn in let old = c.args.seat.now.me in let value = c.args.value in (
   search rules,
   search rules,
-  gives_keep g.T.Kept.journal g.T.Kept.worker_of g.T.Kept.fits g.T.Kept.setup _ _ _ old.0 t.0 value g.L.LeftPart.part c.args.self.now.sized.1 t.1.0.1 t.1.1
+  gives_keep g.T.Kept.journal g.T.Kept.worker_of g.T.Kept.fits g.T.Kept.setup _ _ _ old.0 t.0 value g.L.PartAfter.part c.args.self.now.sized.1 t.1.0.1 t.1.1
       (c.exchange.ensures.3 ∙ ap (λ l. (old.0, (0, Some value) ∷ rest l)) t.1.2) t.2
       (λ p is. fitting (g.T.Kept.fits value old.0.worker) c.args.part p (sym c.requires.left ∙ is) c.requires.part),
 )

@@ -8,8 +8,8 @@ use Rattle.core_relation.specs.Whole.{handed}
 use Rattle.shared_value.specs.SharedValue.{SharedValue}
 use Rattle.child_tasks.specs.NoTask.{HoldsNone}
 use Rattle.counted_tree.proofs.EntryCounted.{first_worker}
-use Rattle.world_core.specs.declared.held.Held.{Held}
-use Rattle.world_core.specs.declared.held.Held.TheVariants.{Nothing}
+use Rattle.world_core.specs.declared.out_part.OutPart.{OutPart}
+use Rattle.world_core.specs.declared.out_part.OutPart.TheVariants.{Nothing}
 use Rattle.world_core.specs.WorldValue.{AllHold, Holds}
 use Rattle.world_core.proofs.world.World.start.Goals as goal
 
@@ -17,7 +17,7 @@ holds_none : (w : SharedValue) (k : ℕ) → w.journal.items ≡ [] → HoldsNon
 holds_none w k none t h = first_worker w.program w.settings t k (ap (λ (j : List EntryValue). (heap_of (handed (ledger_of w.program w.settings j)) t).worker) (sym none) ∙ h)
 
 -- holdings of nothing
-each_nothing : (n k : ℕ) (h : Held) → slice_get (replicate n Nothing) k ≡ Some h → Nothing ≡ h
+each_nothing : (n k : ℕ) (h : OutPart) → slice_get (replicate n Nothing) k ≡ Some h → Nothing ≡ h
 each_nothing zero k h e = absurd cc
 each_nothing (suc n) zero h e = same_Some Nothing h e
 each_nothing (suc n) (suc k) h e = each_nothing n k h e
@@ -27,10 +27,10 @@ as_many zero = refl
 as_many (suc n) = ap suc (as_many n)
 
 first_hold : (w : SharedValue) (n : ℕ) → w.journal.items ≡ [] → AllHold w false (replicate n Nothing)
-first_hold w n none k h at = subst (λ (x : Held). Holds w false k x) (each_nothing n k h at) (holds_none w k none)
+first_hold w n none k h at = subst (λ (x : OutPart). Holds w false k x) (each_nothing n k h at) (holds_none w k none)
 
 pub invariant_of-result : goal.invariant_of-result
 invariant_of-result c = record {
   count = ap length c.in_ok-holdings.ensures ∙ (as_many c.workers.result ∙ (c.workers.ensures.value ∙ ap (λ (s : SettingsValue). s.workers) (sym c.in_ok-shared.ensures.settings)));
-  holdings = subst (λ (hs : List Held). AllHold c.in_ok-shared.shared false hs) (sym c.in_ok-holdings.ensures) (first_hold c.in_ok-shared.shared c.workers.result c.in_ok-shared.ensures.journal);
+  holdings = subst (λ (hs : List OutPart). AllHold c.in_ok-shared.shared false hs) (sym c.in_ok-holdings.ensures) (first_hold c.in_ok-shared.shared c.workers.result c.in_ok-shared.ensures.journal);
 }

@@ -1,0 +1,13 @@
+-- What is answered of what workers have left of a run.
+use Rattle.std.specs.Prelude.{◌≡◌, Some}
+use Rattle.run_ledger.specs.declared.data.RunEnd.{RunEnd}
+use Rattle.run_report.specs.declared.whole.Extras.{Extras}
+use Rattle.shared_value.specs.SharedValue.{SharedValue}
+use Rattle.worker_run.specs.declared.end.Finish.TheVariants.{Ended}
+use Rattle.worker_run.specs.declared.end.Outcome.{Outcome}
+use Rattle.command_answers.specs.declared.answer.Answer.{Answer}
+use Rattle.command_answers.specs.Runs.{IsReplayedRun}
+
+-- with the end that it has told, or not at all where it told none
+abbrev pub AnswersOutcome : Outcome → Extras → Answer → Type 0
+AnswersOutcome o extras a = (w : SharedValue) × (end : RunEnd) × (o.shared ≡ Some w) × (o.finish ≡ Ended end) × IsReplayedRun w.program w.settings extras w.journal.items a

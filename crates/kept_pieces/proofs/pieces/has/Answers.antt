@@ -1,4 +1,0 @@
-use Rattle.kept_pieces.proofs.pieces.has.Goals as goal
-
-pub returns : goal.returns
-returns c = c.contains.ensures.value

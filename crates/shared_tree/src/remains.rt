@@ -1,0 +1,102 @@
+// What a run leaves, and its journal.
+
+ghost use Rattle.std.specs.Prelude.{◌≡◌};
+ghost use Rattle.shared_value.specs.SharedValue.{without_journal};
+
+use crate::shared::Shared;
+use heap_tree::Tree;
+use hh_lang::Program;
+use listed::Listed;
+use run_ledger::RunEnd;
+use run_trace::{Entry, Settings};
+use std::marker::Model;
+use task_homes::Heaps;
+
+/// What a run leaves beside its journal: what belongs to each task, and the totals. No
+/// entry can be made any more.
+#[derive(Drop)]
+pub struct Remains {
+    program: Program,
+    settings: Settings,
+    tree: Tree,
+    heaps: Heaps,
+    tasks_out: Listed<Option<u32>>,
+    outputs: Listed<i64>,
+    steps: u64,
+    end: Option<RunEnd>,
+    halted: bool,
+}
+
+impl Model for Remains {
+    ghost use Rattle.std.specs.Prelude.{[]};
+    ghost use Rattle.shared_value.specs.SharedValue.{SharedValue};
+
+    ghost Value = { SharedValue };
+
+    ghost view = { λ s. record { program = s.program; settings = s.settings; tree = s.tree; pool = s.heaps.pool; rests = s.heaps.homes.rests; sets = s.heaps.homes.sets; marks = s.heaps.homes.marks; tasks_out = s.tasks_out; outputs = s.outputs; journal = record { items = []; room = 0 }; steps = s.steps; end = s.end; halted = s.halted } };
+}
+
+impl Remains {
+    /// What was written out.
+    pub fn outputs(&self) -> &[i64]
+        ensures { result.now ≡ self.now.outputs }
+    {
+        self.outputs.as_slice()
+    }
+
+    /// The steps taken.
+    pub fn steps(&self) -> u64
+        ensures { result ≡ self.now.steps }
+    {
+        self.steps
+    }
+
+    /// How the run has ended, if it has.
+    pub fn ended(&self) -> Option<RunEnd>
+        ensures { result ≡ self.now.end }
+    {
+        self.end
+    }
+
+    /// Whether some worker has met want of memory.
+    pub fn halted(&self) -> bool
+        ensures { result ≡ self.now.halted }
+    {
+        self.halted
+    }
+}
+
+impl Shared {
+    /// Takes the journal out: no entry can be made after it.
+    pub fn take_journal(self) -> (Listed<Entry>, Remains)
+        ensures journal { result.0 ≡ self.journal.items }
+        ensures rest { result.1 ≡ without_journal self }
+    {
+        let Shared {
+            program,
+            settings,
+            tree,
+            heaps,
+            tasks_out,
+            outputs,
+            journal,
+            steps,
+            end,
+            halted,
+            room,
+        } = self;
+        drop(room);
+        let remains = Remains {
+            program,
+            settings,
+            tree,
+            heaps,
+            tasks_out,
+            outputs,
+            steps,
+            end,
+            halted,
+        };
+        (journal.into_listed(), remains)
+    }
+}
