@@ -26,17 +26,10 @@ use turn_entries::{Counted, Next, Paced, Run};
 use turn_lock::{Seat, Turn};
 
 /// Each worker works at its desk in a thread of its own, until the run is over.
-pub fn all_work<R: Threads + Wait + Sync, G: Gate>(
-    rt: &R,
-    turn: &Turn<Run>,
-    bell: &Bell,
-    gate: &G,
-    program: &Program,
-    desks: &mut [Desk],
-)
-    requires all { (s : SettingsValue) × AreAllDesks (identity turn.now) program.now s desks.old }
-    ensures all { (s : SettingsValue) → AreAllDesks (identity turn.now) program.now s desks.old → AreAllDesks (identity turn.now) program.now s desks.new }
-    ensures rounds { AllGoRound program.now desks.old desks.new }
+pub fn all_work<R: Threads + Wait + Sync, G: Gate>(rt: &R, shop: &Workshop<G>, desks: &mut [Desk])
+    requires all { (s : SettingsValue) × AreAllDesks (identity shop.now.turn.now) shop.now.program.now s desks.old }
+    ensures all { (s : SettingsValue) → AreAllDesks (identity shop.now.turn.now) shop.now.program.now s desks.old → AreAllDesks (identity shop.now.turn.now) shop.now.program.now s desks.new }
+    ensures rounds { AllGoRound shop.now.program.now desks.old desks.new }
     ensures over { HaveStopped desks.new }
 {
     let threads = desks.len();
@@ -48,17 +41,9 @@ pub fn all_work<R: Threads + Wait + Sync, G: Gate>(
         desks,
         threads,
         &|_: usize, desk: &mut Desk|
-            requires { IsDesk (identity turn.now) program.now desk.now }
-            ensures { IsDesk (identity turn.entry.now) program.entry.now desk.exit.now × SameDesk desk.entry.now desk.exit.now × GoesRound program.entry.now desk.entry.now Next.Idle desk.exit.now Next.Stop × HasStopped desk.exit.now }
-        {
-            let shop = Workshop {
-                turn,
-                bell,
-                gate,
-                program,
-            };
-            work(rt, &shop, desk)
-        },
+            requires { IsDesk (identity shop.now.turn.now) shop.now.program.now desk.now }
+            ensures { IsDesk (identity shop.entry.now.turn.now) shop.entry.now.program.now desk.exit.now × SameDesk desk.entry.now desk.exit.now × GoesRound shop.entry.now.program.now desk.entry.now Next.Idle desk.exit.now Next.Stop × HasStopped desk.exit.now }
+        { work(rt, shop, desk) },
     );
 }
 
@@ -165,7 +150,13 @@ fn run_all<R: Threads + Wait + Sync, G: Gate>(
     let (turn, mut desks) = opened(alloc, program, settings)?;
     let seats = Vec::with_capacity(alloc, desks.len())?;
     let bell = Bell::new();
-    all_work(rt, &turn, &bell, gate, program, desks.as_mut_slice());
+    let shop = Workshop {
+        turn: &turn,
+        bell: &bell,
+        gate,
+        program,
+    };
+    all_work(rt, &shop, desks.as_mut_slice());
     let shared = close(turn, desks, seats).into_shared();
     shared.stands();
     Ok(shared)

@@ -23,13 +23,13 @@ pub for_each_mut-requires-clause-accepts : goal.for_each_mut-requires-clause-acc
 for_each_mut-requires-clause-accepts g c κs within = λ i p inside at. ((c.requires.all.1.each_desk i p.now (slice_get_read c.args.desks.now _ i p.now refl inside at)).0, search rules)
 
 pub returns-clause-all : goal.returns-clause-all
-returns-clause-all g c = let before = c.args.desks.now in let after = c.for_each_mut.new.s in let z = identity c.args.turn.now in let text = c.args.program.now in
+returns-clause-all g c = let before = c.args.desks.now in let after = c.for_each_mut.new.s in let z = identity c.args.shop.now.turn.now in let text = c.args.shop.now.program.now in
     λ s all. kept_desks z text s before after all (search rules) (λ k d e was at. let did = (c.for_each_mut.ensures k e (slice_get_within before k d was)).1 in
     let from : did.argument.now ≡ d = did.argument_is ∙ get_or_from_slice_get before k d e was in let to : did.after_call.now ≡ e = did.left ∙ get_or_from_slice_get after k e e at in
     (subst (IsDesk z text) to did.call.0, subst (SameDesk d) to (subst (λ (x : Desk). SameDesk x did.after_call.now) from did.call.1)))
 
 pub returns-clause-rounds : goal.returns-clause-rounds
-returns-clause-rounds g c = let before = c.args.desks.now in let after = c.for_each_mut.new.s in let text = c.args.program.now in
+returns-clause-rounds g c = let before = c.args.desks.now in let after = c.for_each_mut.new.s in let text = c.args.shop.now.program.now in
     λ k d e was at. (let did = (c.for_each_mut.ensures k e (slice_get_within before k d was)).1 in
     let from : did.argument.now ≡ d = did.argument_is ∙ get_or_from_slice_get before k d e was in let to : did.after_call.now ≡ e = did.left ∙ get_or_from_slice_get after k e e at in
     subst (λ (y : Desk). GoesRound text d Idle y Stop) to (subst (λ (x : Desk). GoesRound text x Idle did.after_call.now Stop) from did.call.2))
@@ -43,9 +43,9 @@ returns-clause-over g c = let before = c.args.desks.now in let after = c.for_eac
     let to : did.after_call.now ≡ e = did.left ∙ get_or_from_slice_get after k e e at in
     subst HasStopped to did.call.3)
 
--- what its threads share: the turn, the bell, the gate, the program and the host
+-- what its threads share: the host, and what workers borrow
 pub for_each_mut-requires-sync-F : goal.for_each_mut-requires-sync-F
 for_each_mut-requires-sync-F g c κs within =
     let host = given_sync 0 g.row.R c.type_bounds.sync-R in
     let gate = given_sync 1 g.row.G c.type_bounds.sync-G in
-    record { shared = λ x b o κ. ((((λ q. tt), turn_sync.shared x.0.now x.0.ref_ptr.0 x.0.ref_ptr.1 _), (((λ q. tt), bell.the_sync.shared x.1.now x.1.ref_ptr.0 x.1.ref_ptr.1 _), (((λ q. tt), gate.shared x.2.now x.2.ref_ptr.0 x.2.ref_ptr.1 _), (((λ q. tt), program.the_sync.shared x.3.now x.3.ref_ptr.0 x.3.ref_ptr.1 _), (((λ q. tt), host.shared x.4.now x.4.ref_ptr.0 x.4.ref_ptr.1 _), tt))))), λ q. tt) }
+    record { shared = λ x b o κ. ((((λ q. tt), host.shared x.0.now x.0.ref_ptr.0 x.0.ref_ptr.1 _), (((λ q. tt), ((((λ q. tt), turn_sync.shared x.1.now.turn.now x.1.now.turn.ref_ptr.0 x.1.now.turn.ref_ptr.1 _), (((λ q. tt), bell.the_sync.shared x.1.now.bell.now x.1.now.bell.ref_ptr.0 x.1.now.bell.ref_ptr.1 _), (((λ q. tt), gate.shared x.1.now.gate.now x.1.now.gate.ref_ptr.0 x.1.now.gate.ref_ptr.1 _), (((λ q. tt), program.the_sync.shared x.1.now.program.now x.1.now.program.ref_ptr.0 x.1.now.program.ref_ptr.1 _), tt)))), λ q. tt)), tt)), λ q. tt) }
