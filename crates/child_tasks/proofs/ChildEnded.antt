@@ -1,33 +1,28 @@
 -- A child's last frame returns, and its sibling goes on.
-use Rattle.std.proofs.Common.{◌≡◌, ℕ, ◌+◌, ◌++◌, false, Some, None, [], ◌∷◌, slice_get, slice_set, refl, ap, sym, subst, ◌∙◌, if◌then◌else◌}
+use Rattle.std.proofs.Common.{◌≡◌, ℕ, false, Some, None, slice_get, refl, ap, sym, ◌∙◌, if◌then◌else◌}
 use Rattle.listed.proofs.Members.{got_other, got_same}
 use Rattle.listed.specs.RoomyValue.{RoomyValue}
 use Rattle.hh_model.specs.declared.data.State.{State}
 use Rattle.hh_model.specs.declared.data.Task.{Task}
 use Rattle.hh_model.specs.Step.{child_ended_by, ended_task, is_running, parent_of, parents, result_of, with_task}
 use Rattle.path_laws.proofs.Leaves.{waiting_stops}
-use Rattle.run_trace.specs.declared.entry.Kind.TheVariants.{Ran}
 use Rattle.run_trace.specs.Entry.{EntryValue}
 use Rattle.run_ledger.specs.declared.data.Ledger.{Ledger}
 use Rattle.heap_tree.specs.declared.state.State.TheVariants.{Ended}
-use Rattle.heap_tree.specs.Node.{state_of as state_in_tree, with_state}
+use Rattle.heap_tree.specs.Node.{state_of as state_in_tree}
 use Rattle.ledger_step_laws.specs.Last.{EndsFirst, Ending, Runs, Splits}
-use Rattle.core_relation.specs.Memory.{Belongings, Memory}
-use Rattle.core_relation.specs.Fits.{part_for}
-use Rattle.core_relation.specs.RanCounts.{RanCounts}
-use Rattle.core_relation.specs.Worker.{WorkerFits}
 use Rattle.task_machine.specs.declared.part.Private.{Private}
-use Rattle.shared_value.specs.SharedValue.{SharedValue, accounts, tree_counts_of, value_of}
+use Rattle.shared_value.specs.SharedValue.{SharedValue, accounts}
 use Rattle.shared_value.specs.Stands.{IsSharedValue}
-use Rattle.shared_value.specs.Fits.{Fits, OthersFit, belongings_of_part}
+use Rattle.shared_value.specs.Fits.{Fits}
 use Rattle.shared_value.specs.Entered.{refused}
-use Rattle.shared_value.proofs.BeforeTheEnd.{end_now}
+use Rattle.shared_value.proofs.EntryMade.{accounts_are, still_goes}
+use Rattle.shared_value.proofs.StepsMade.{MakesSteps, steps_others, steps_world}
 use Rattle.shared_value.proofs.TaskTaken.{lets_go}
-use Rattle.own_steps.specs.Alone.{IsShared, alone_entry, ended_rest}
+use Rattle.own_steps.specs.Alone.{IsShared, alone_entry}
 use Rattle.own_steps.proofs.LastStepEntry as last
-use Rattle.own_steps.proofs.LastStepEntry.{last_entry}
+use Rattle.own_steps.proofs.LastStepEntry.{last_entry, last_steps}
 use Rattle.own_steps.proofs.TaskEnds as ending
-use Rattle.own_steps.proofs.LastSteps.{one_added}
 use Rattle.child_tasks.specs.ChildEnds.{EndsChild, IsAtEnd, running_parent, where_running}
 use Rattle.child_tasks.proofs.ChildReturns as steps
 use Rattle.child_tasks.proofs.LastReturnKinds.{ends}
@@ -50,12 +45,6 @@ module _ (w : SharedValue) (k : ℕ) (p : Private) (I : IsSharedValue w) (F : Fi
 
   abbrev L : Ledger
   L = last.L w k p I F shared free_last
-
-  abbrev v : Memory
-  v = value_of w
-
-  abbrev h : Belongings
-  h = belongings_of_part p
 
   abbrev S : Splits w.program w.settings l L t p.fresh
   S = steps.S w k p I F at_end free
@@ -87,9 +76,6 @@ module _ (w : SharedValue) (k : ℕ) (p : Private) (I : IsSharedValue w) (F : Fi
   abbrev E : Runs w.program w.settings l L t k p.fresh
   E = record (last.runs_so w k p I F shared free_last) { splits = record S { kind = Ending; last = D; apart = last.is_not_private w k p I F shared free_last; on = λ u. goes_then } }
 
-  abbrev own : WorkerFits w.program w.settings (part_for w.settings t h p.fresh) v l
-  own = F.fits
-
   -- the parent waits on
   parent_then : running_parent L.machine.tasks t ≡ None
   parent_then =
@@ -99,50 +85,20 @@ module _ (w : SharedValue) (k : ℕ) (p : Private) (I : IsSharedValue w) (F : Fi
       ap (where_running L.machine.tasks) par ∙ ap (λ b. if b then Some q else None) stops
 
   module _ (j : RoomyValue EntryValue) where
-    abbrev w' : SharedValue
+    abbrev pub w' : SharedValue
     w' = ending.w' w k p I F shared free_last w.end j.room
 
-    counts : RanCounts w.program (tree_counts_of w) (tree_counts_of w') M L t k p.fresh S.task S.line Ending D
-    counts = record { tree = ending.node_ends w k p I F shared free_last w.end j.room; task_out = lets_go w w' (last_entry k p) I free_last refl; outputs = refl; end = refl; used = refl; steps = refl }
+    made : MakesSteps w w' k p p.fresh
+    made = ending.ended_made w k p I F shared free_last w.end j.room E F.fits (ending.makes w k p I F shared free_last w.end j.room) (ending.notes w k p I F shared free_last w.end j.room)
+        (record { tree = ending.node_ends w k p I F shared free_last w.end j.room; task_out = lets_go w w' (last_entry k p) I free_last refl; outputs = refl; end = refl; used = refl; steps = last_steps w p })
 
-    ended_world : IsSharedValue w'
-    ended_world =
-        ending.ended_world w k p I F shared free_last w.end j.room E own (ending.makes w k p I F shared free_last w.end j.room) (ending.notes w k p I F shared free_last w.end j.room) counts
+    pub alone_world : IsSharedValue w'
+    alone_world = steps_world I F free_last made
 
-    ended_goes : (accounts w').end ≡ None
-    ended_goes = sym (end_now w' ended_world) ∙ (end_now w I ∙ steps.on w k p I F at_end free)
-
-    ended_resumed : None ≡ running_parent (accounts w').machine.tasks t
-    ended_resumed = sym (ap (λ (i : Ledger). running_parent i.machine.tasks t) (ending.accounts_then w k p I F shared free_last w.end j.room) ∙ parent_then)
-
-    -- THE PARTS OF OTHERS
-    ended_others : OthersFit w w' k
-    ended_others = ending.others_fit w k p I F shared free_last w.end j.room E own (ending.makes w k p I F shared free_last w.end j.room) ended_world
-
-    -- ---- AS THE CALL HAS IT
-    -- the shared value then, with this many steps entered
-    abbrev with_steps : ℕ → SharedValue
-    with_steps n = record w {
-      tree = with_state w.tree t Ended;
-      rests = slice_set w.rests t (Some (ended_rest p));
-      tasks_out = slice_set w.tasks_out k None;
-      steps = w.steps + n;
-      journal = record { items = w.journal.items ++ record { worker = k; kind = Ran p.task n } ∷ []; room = j.room };
-    }
-
-    abbrev pub ended_alone : SharedValue
-    ended_alone = with_steps (p.fresh + 1)
-
-    ended_is : w' ≡ ended_alone
-    ended_is = ap with_steps (one_added p.fresh)
-
-    pub alone_world : IsSharedValue ended_alone
-    alone_world = subst IsSharedValue ended_is ended_world
-
-    pub alone_ends : EndsChild w ended_alone k p None
+    pub alone_ends : EndsChild w w' k p None
     alone_ends = record {
       enters = record { journal = refl; program = refl; settings = refl; halted = refl };
-      goes = subst (λ (i : SharedValue). (accounts i).end ≡ None) ended_is ended_goes;
-      resumed = subst (λ (i : SharedValue). None ≡ running_parent (accounts i).machine.tasks t) ended_is ended_resumed;
-      others = subst (λ (i : SharedValue). OthersFit w i k) ended_is ended_others;
+      goes = still_goes I free_last made.enters alone_world (steps.on w k p I F at_end free) refl;
+      resumed = sym (ap (λ (i : Ledger). running_parent i.machine.tasks t) (accounts_are I free_last made.enters) ∙ parent_then);
+      others = steps_others I F free_last made;
     }

@@ -1,5 +1,5 @@
 -- A fork is entered: the task waits, and two children are ready.
-use Rattle.std.proofs.Common.{◌≡◌, ℕ, zero, suc, ◌+◌, ◌<◌, ◌++◌, arith, true, false, nat_lt, Option, Some, None, List, [], ◌∷◌, length, length-set, slice_get, slice_set, option_map, inl, inr, refl, ap, ap₂, sym, subst, ◌∙◌}
+use Rattle.std.proofs.Common.{◌≡◌, ◌⊎◌, ℕ, zero, suc, ◌+◌, ◌<◌, ◌++◌, arith, true, false, nat_lt, Option, Some, None, List, [], ◌∷◌, length, length-set, slice_get, slice_set, option_map, inl, inr, refl, ap, ap₂, sym, subst, ◌∙◌}
 use Rattle.std.specs.Option.{option_flatten}
 use Rattle.std.proofs.lemmas.Bool.{cases_eq, cases_lt, cond-true, lt-ltb}
 use Rattle.std.proofs.lemmas.Option.{same_Some}
@@ -29,37 +29,35 @@ use Rattle.ledger_step_laws.specs.Last.{Forking, ForksOn, Runs, Splits}
 use Rattle.core_relation.specs.Memory.{Belongings, Noted, Memory, sources}
 use Rattle.core_relation.specs.Begins.{AreRoots}
 use Rattle.core_relation.specs.Changes.{ForksBelongings, advanced, child_belongings}
-use Rattle.core_relation.specs.Fits.{part_for, with_belongings}
-use Rattle.core_relation.specs.RanCounts.{NodesFork, RanCounts}
+use Rattle.core_relation.specs.Fits.{with_belongings}
+use Rattle.core_relation.specs.RanCounts.{NodesFork}
 use Rattle.core_relation.specs.Since.{ForksNotes}
-use Rattle.core_relation.specs.Worker.{WorkerFits}
-use Rattle.core_entry_laws.proofs.whole.RanWhole.{ran_stands_for}
 use Rattle.core_relation.proofs.changes.With.{at_belongings, off_belongings}
-use Rattle.core_entry_laws.proofs.parts.Workers.{ran_leaves}
 use Rattle.task_machine.specs.declared.part.Private.{Private}
 use Rattle.task_homes.specs.declared.task_at_rest.Rest.{Rest}
 use Rattle.task_homes.specs.HomesValue.{keeping}
 use Rattle.shared_value.specs.Objects.{levels_of}
-use Rattle.shared_value.specs.SharedValue.{SharedValue, marks_at, accounts, belongings_in, belongings_of, noted_in, rest_at, tree_counts_of, value_of}
-use Rattle.shared_value.specs.Measured.{AreMeasured, RestsAreMeasured}
-use Rattle.shared_value.specs.Stands.{HeapForm, IsSharedValue}
-use Rattle.shared_value.specs.Fits.{Fits, OthersFit, belongings_of_part, part_of}
+use Rattle.shared_value.specs.SharedValue.{SharedValue, marks_at, accounts, belongings_in, belongings_of, noted_in, tree_counts_of, value_of}
+use Rattle.shared_value.specs.Stands.{IsSharedValue}
+use Rattle.shared_value.specs.Fits.{Fits, belongings_of_part}
 use Rattle.shared_value.specs.Entered.{refused}
 use Rattle.shared_value.proofs.FieldsNoted.{noted_of}
-use Rattle.shared_value.proofs.EntryMade.{entered_marks, marked_fits, marked_world, task_is_out, tasks_apart, free_before}
+use Rattle.shared_value.proofs.EntryMade.{RestIsWell, RestStays, each_form, free_before, still_goes, task_is_out, well_at}
+use Rattle.shared_value.proofs.StepsMade.{MakesSteps, steps_others, steps_world}
+use Rattle.shared_value.proofs.UnitsMeasured.{all_kept}
 use Rattle.shared_value.proofs.Levels.{level_is}
 use Rattle.shared_value.proofs.PartFitsMachine as link
-use Rattle.shared_value.proofs.BeforeTheEnd.{end_now, tree_long}
+use Rattle.shared_value.proofs.BeforeTheEnd.{tree_long}
 use Rattle.shared_value.proofs.TaskTaken.{made_by, node_by, node_off, lets_go}
 use Rattle.own_steps.specs.Alone.{IsShared, alone_entry}
 use Rattle.own_steps.proofs.AloneEntries.{node_there}
 use Rattle.own_steps.proofs.LastStepEntry as last
-use Rattle.own_steps.proofs.LastStepEntry.{last_entry}
-use Rattle.child_tasks.specs.Forks.{ForksTo, RestsFork, IsAtFork, SetsFork, waiting_rest}
+use Rattle.own_steps.proofs.LastStepEntry.{last_enters, last_entry, last_steps}
+use Rattle.child_tasks.specs.Forks.{ForksOn as EntersFork, ForksTo, RestsFork, IsAtFork, SetsFork, waiting_rest}
 use Rattle.child_tasks.proofs.NextStepForks as steps
 use Rattle.child_tasks.proofs.LastForkKinds.{forks}
 use Rattle.child_tasks.proofs.RootsListed.{roots_are}
-use Rattle.child_tasks.proofs.SetsNoted.{empty_form, heap_at, keeping_kept, keeping_sources, noted_by}
+use Rattle.child_tasks.proofs.SetsNoted.{empty_form, keeping_kept, keeping_sources, noted_by}
 
 abbrev left_of : Instr → ℕ
 left_of (Par g h) = g
@@ -142,9 +140,6 @@ module _ (w : SharedValue) (k : ℕ) (p : Private) (I : IsSharedValue w) (F : Fi
   abbrev E : Runs w.program w.settings l L t k p.fresh
   E = record (last.runs_so w k p I F shared free_last) { splits = record S { kind = Forking; last = Q; apart = last.is_not_private w k p I F shared free_last; on = λ u. goes_then } }
 
-  abbrev own : WorkerFits w.program w.settings (part_for w.settings t h p.fresh) v l
-  own = F.fits
-
   -- ---- THE NUMBERS OF THE CHILDREN
   pub made_is : a ≡ length w.tree
   made_is = steps.then_long w k p I F at_fork free ∙ sym (tree_long w I)
@@ -168,14 +163,8 @@ module _ (w : SharedValue) (k : ℕ) (p : Private) (I : IsSharedValue w) (F : Fi
     abbrev tree : List Node
     tree = forked w.tree t
 
-    abbrev tasks_out : List (Option ℕ)
-    tasks_out = slice_set w.tasks_out k None
-
-    abbrev all_steps : ℕ
-    all_steps = w.steps + suc p.fresh
-
     abbrev pub w' : SharedValue
-    w' = entered_marks w (last_entry k p) tree w.pool rests sets tasks_out w.outputs all_steps w.end j.room marks
+    w' = record w { tree = tree; rests = rests; sets = sets; marks = marks; tasks_out = slice_set w.tasks_out k None; steps = w.steps + (p.fresh + 1); journal = record { items = w.journal.items ++ alone_entry k p ∷ []; room = j.room } }
 
     abbrev v' : Memory
     v' = value_of w'
@@ -266,56 +255,40 @@ module _ (w : SharedValue) (k : ℕ) (p : Private) (I : IsSharedValue w) (F : Fi
       others = node_other;
     }
 
-    counts : RanCounts w.program (tree_counts_of w) (tree_counts_of w') M L t k p.fresh S.task S.line Forking Q
-    counts = record {
-      tree = nodes_fork;
-      task_out = lets_go w w' (last_entry k p) I free_last refl;
-      outputs = refl;
-      end = refl;
-      used = refl;
-      steps = refl;
+    each : (u : ℕ) → RestIsWell w' u ⊎ RestStays w w' u
+    each u = elim (cases_eq u t) [
+      | inl e ↦ inl (well_at w' u t (waiting_rest p) e H.parent (F.form, F.measured.0))
+      | inr nt ↦ elim (cases_eq u (length w.rests)) [
+        | inl e ↦ inl (well_at w' u (length w.rests) _ e H.left_home.2 (empty_form H.left_home.0 H.left_home.1, λ c i. absurd i))
+        | inr na ↦ elim (cases_eq u (length w.rests + 1)) [
+          | inl e ↦ inl (well_at w' u (length w.rests + 1) _ e H.right_home.2 (empty_form H.right_home.0 H.right_home.1, λ c i. absurd i))
+          | inr nb ↦ inr (record { rest = H.others u nt na nb; keeps = all_kept w.pool u; free = λ f. free_before w.tasks_out k None u f (λ h. nt (same_Some u t (sym h ∙ task_is_out w k p I (steps.on w k p I F at_fork free) F))) })
+        ]
+      ]
+    ]
+
+    made : MakesSteps w w' k p p.fresh
+    made = record {
+      enters = last_enters w w' k p (record { journal = refl; program = refl; settings = refl; halted = refl });
+      form = let n = all w.tree t in each_form I each (H.count ∙ (ap (λ n. n + 2) I.made ∙ sym n)) (N.count ∙ (ap (λ n. n + 2) I.noted ∙ sym n)) (length-set w.tasks_out k None) refl;
+      units = λ u q ne G. G.measured;
+      runs = E;
+      own = F.fits;
+      makes = forks_belongings;
+      notes = (roots.0, roots.1, forks_notes);
+      counts = record { tree = nodes_fork; task_out = lets_go w w' (last_entry k p) I free_last refl; outputs = refl; end = refl; used = refl; steps = last_steps w p };
     }
 
-    heaps_then : (u : ℕ) (r : Rest) → rest_at rests u ≡ Some r → HeapForm r.heap
-    heaps_then u r is = elim (cases_eq u t) [
-      | inl e ↦ heap_at (rest_at rests t) r (waiting_rest p) (ap (rest_at rests) (sym e) ∙ is) H.parent F.form
-      | inr nt ↦ elim (cases_eq u (length w.rests)) [
-        | inl e ↦ heap_at (rest_at rests (length w.rests)) r _ (ap (rest_at rests) (sym e) ∙ is) H.left_home.2 (empty_form H.left_home.0 H.left_home.1)
-        | inr na ↦ elim (cases_eq u (length w.rests + 1)) [
-          | inl e ↦ heap_at (rest_at rests (length w.rests + 1)) r _ (ap (rest_at rests) (sym e) ∙ is) H.right_home.2 (empty_form H.right_home.0 H.right_home.1)
-          | inr nb ↦ I.heaps u r (sym (H.others u nt na nb) ∙ is)
-        ]
-      ]
-    ]
-
-    measured_at : (u : ℕ) (r q : Rest) → rest_at rests u ≡ Some r → rest_at rests u ≡ Some q → AreMeasured w.pool u q.heap.chunks → AreMeasured w.pool u r.heap.chunks
-    measured_at u r q is that has = subst (λ (z : Rest). AreMeasured w.pool u z.heap.chunks) (same_Some q r (sym that ∙ is)) has
-
-    measured_then : RestsAreMeasured w.pool rests tasks_out
-    measured_then u r is f = elim (cases_eq u t) [
-      | inl e ↦ measured_at u r (waiting_rest p) is (ap (rest_at rests) e ∙ H.parent) (subst (λ z. AreMeasured w.pool z p.heap.chunks) (sym e) F.measured.0)
-      | inr nt ↦ elim (cases_eq u (length w.rests)) [
-        | inl e ↦ measured_at u r _ is (ap (rest_at rests) e ∙ H.left_home.2) (λ c i. absurd i)
-        | inr na ↦ elim (cases_eq u (length w.rests + 1)) [
-          | inl e ↦ measured_at u r _ is (ap (rest_at rests) e ∙ H.right_home.2) (λ c i. absurd i)
-          | inr nb ↦ I.measured u r (sym (H.others u nt na nb) ∙ is) (free_before w.tasks_out k None u f (λ h. nt (same_Some u t (sym h ∙ task_is_out w k p I (steps.on w k p I F at_fork free) F))))
-        ]
-      ]
-    ]
-
     pub forked_world : IsSharedValue w'
-    forked_world =
-        let n = all w.tree t in
-        marked_world w (last_entry k p) I free_last tree w.pool rests sets tasks_out w.outputs all_steps w.end j.room marks
-        (H.count ∙ (ap (λ n. n + 2) I.made ∙ sym n)) (N.count ∙ (ap (λ n. n + 2) I.noted ∙ sym n)) (length-set w.tasks_out k None) refl
-        (ran_stands_for w.program w.settings w.journal.items I.form I.legal v v' (tree_counts_of w) (tree_counts_of w') k t p.fresh h free_last E I.stands own forks_belongings (roots.0, roots.1, forks_notes) counts)
-        heaps_then measured_then
+    forked_world = steps_world I F free_last made
 
-    pub forked_goes : (accounts w').end ≡ None
-    forked_goes = sym (end_now w' forked_world) ∙ (end_now w I ∙ steps.on w k p I F at_fork free)
-
-    -- THE PARTS OF OTHERS
-    pub forked_others : OthersFit w w' k
-    forked_others u r ne G =
-        marked_fits w (last_entry k p) I free_last tree w.pool rests sets tasks_out w.outputs all_steps w.end j.room marks forked_world u r r (ap option_flatten (got_other w.tasks_out k u None ne)) G refl refl refl G.form G.measured
-        (ran_leaves w.program w.settings v v' l L t k p.fresh h E own forks_belongings (part_of w.settings r) (tasks_apart w k u p r F G ne) G.fits)
+    pub forked_on : (b c : ℕ) → b ≡ length w.tree → c ≡ length w.tree + 1 → EntersFork w w' k p b c
+    forked_on b c eb ec =
+        let long = tree_long w I in
+        record {
+          enters = record { journal = refl; program = refl; settings = refl; halted = refl };
+          left_is = eb ∙ long;
+          right_is = ec ∙ ap (λ n. n + 1) long;
+          goes = still_goes I free_last made.enters forked_world (steps.on w k p I F at_fork free) refl;
+          others = steps_others I F free_last made;
+        }

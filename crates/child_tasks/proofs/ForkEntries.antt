@@ -5,9 +5,8 @@ use Rattle.std.proofs.lemmas.Bool.{cases_lt}
 use Rattle.listed.proofs.Members.{got_back, got_front, got_other, got_past}
 use Rattle.listed.specs.RoomyValue.{RoomyValue}
 use Rattle.listed.proofs.Places.{got_set}
-use Rattle.run_trace.specs.declared.entry.Kind.TheVariants.{Ran}
 use Rattle.run_trace.specs.Entry.{EntryValue}
-use Rattle.heap_tree.specs.Node.{depth_of, forked}
+use Rattle.heap_tree.specs.Node.{depth_of}
 use Rattle.write_barrier.specs.declared.sets.SetOf.{SetOf}
 use Rattle.write_barrier.specs.Forms.{bare}
 use Rattle.write_barrier.specs.Stored.{content_at, content_of}
@@ -16,16 +15,13 @@ use Rattle.fork_join.specs.declared.forks.Child.{Child}
 use Rattle.task_machine.specs.declared.part.Private.{Private}
 use Rattle.task_homes.specs.declared.task_at_rest.Rest.{Rest}
 use Rattle.task_homes.specs.HomesValue.{keeping}
-use Rattle.shared_value.specs.SharedValue.{SharedValue, accounts, marks_at, rest_at}
+use Rattle.shared_value.specs.SharedValue.{SharedValue, marks_at, rest_at}
 use Rattle.shared_value.specs.Stands.{IsSharedValue}
-use Rattle.shared_value.specs.Fits.{Fits, OthersFit}
+use Rattle.shared_value.specs.Fits.{Fits}
 use Rattle.shared_value.specs.Entered.{refused}
-use Rattle.shared_value.proofs.BeforeTheEnd.{tree_long}
 use Rattle.own_steps.specs.Alone.{alone_entry}
-use Rattle.own_steps.proofs.LastStepEntry.{last_entry}
-use Rattle.own_steps.proofs.LastSteps.{one_added}
 use Rattle.child_tasks.specs.Forks.{ForksOn, ForksTo, RestsFork, IsAtFork, SetsFork, begun_rest, part_child, waiting_rest}
-use Rattle.child_tasks.proofs.ForkEntered.{forked_goes, forked_others, forked_world}
+use Rattle.child_tasks.proofs.ForkEntered as fork
 
 -- ---- THE HOMES: that of the task is put, and two come behind it
 module _ (rests : List (Option Rest)) (p : Private) (made : p.task < length rests) (x y z : Option Rest) where
@@ -90,45 +86,17 @@ unmarked_more (m ∷ marks) (suc u) = unmarked_more marks u
 
 module _ (w : SharedValue) (k : ℕ) (p : Private) (I : IsSharedValue w) (F : Fits w k p) (at_fork : IsAtFork w p) (free : refused w (alone_entry k p) ≡ None) (left right number : ℕ) (B : ForksTo w p left right number) (shallow : depth_of w.tree p.task < 1000) where
   module _ (rests : List (Option Rest)) (sets : List SetOf) (H : RestsFork w.rests rests p left right) (N : SetsFork w.sets sets p.task) (marks : List (Option MarkingValue)) (unmarked : marks ≡ slice_set w.marks p.task None ++ None ∷ (None ∷ [])) (j : RoomyValue EntryValue) where
-    unmarked_at : (u : ℕ) → marks_at marks u ≡ marks_at (slice_set w.marks p.task None) u
+    pub unmarked_at : (u : ℕ) → marks_at marks u ≡ marks_at (slice_set w.marks p.task None) u
     unmarked_at u = ap (λ ms. marks_at ms u) unmarked ∙ unmarked_more (slice_set w.marks p.task None) u
 
     abbrev pub forked_alone : SharedValue
-    forked_alone = record w {
-      tree = forked w.tree p.task;
-      rests = rests;
-      sets = sets;
-      marks = marks;
-      tasks_out = slice_set w.tasks_out k None;
-      steps = w.steps + (p.fresh + 1);
-      journal = record { items = w.journal.items ++ alone_entry k p ∷ []; room = j.room };
-    }
-
-    forked_is : record w { tree = forked w.tree p.task; rests = rests; sets = sets; marks = marks; tasks_out = slice_set w.tasks_out k None; steps = w.steps + suc p.fresh; journal = record { items = w.journal.items ++ last_entry k p ∷ []; room = j.room } } ≡ forked_alone
-    forked_is =
-        ap (λ n. let z : SharedValue = record w {
-          tree = forked w.tree p.task;
-          rests = rests;
-          sets = sets;
-          marks = marks;
-          tasks_out = slice_set w.tasks_out k None;
-          steps = w.steps + n;
-          journal = record { items = w.journal.items ++ record { worker = k; kind = Ran p.task n } ∷ []; room = j.room };
-        } in z) (one_added p.fresh)
+    forked_alone = fork.w' w k p I F at_fork free left right number B shallow rests sets H N marks unmarked_at j
 
     pub alone_world : IsSharedValue forked_alone
-    alone_world = subst IsSharedValue forked_is (forked_world w k p I F at_fork free left right number B shallow rests sets H N marks unmarked_at j)
+    alone_world = fork.forked_world w k p I F at_fork free left right number B shallow rests sets H N marks unmarked_at j
 
     pub alone_forks : (a b : ℕ) → a ≡ length w.tree → b ≡ length w.tree + 1 → ForksOn w forked_alone k p a b
-    alone_forks a b ea eb =
-        let long = tree_long w I in
-        record {
-          enters = record { journal = refl; program = refl; settings = refl; halted = refl };
-          left_is = ea ∙ long;
-          right_is = eb ∙ ap (λ n. n + 1) long;
-          goes = subst (λ (z : SharedValue). (accounts z).end ≡ None) forked_is (forked_goes w k p I F at_fork free left right number B shallow rests sets H N marks unmarked_at j);
-          others = subst (λ (z : SharedValue). OthersFit w z k) forked_is (forked_others w k p I F at_fork free left right number B shallow rests sets H N marks unmarked_at j);
-        }
+    alone_forks = fork.forked_on w k p I F at_fork free left right number B shallow rests sets H N marks unmarked_at j
 
 -- ---- WHAT THE CODE MAKES OF HOMES AND SETS
 

@@ -1,12 +1,9 @@
 -- A child's last frame returns after its sibling's: both join their parent, which is ready again.
-use Rattle.std.proofs.Common.{◌≡◌, ℕ, ℤ, suc, ◌+◌, ◌++◌, arith, Option, Some, None, List, [], ◌∷◌, length-set, slice_get, slice_set, inl, inr, refl, ap, sym, subst, ◌∙◌}
-use Rattle.std.specs.Option.{option_flatten}
+use Rattle.std.proofs.Common.{◌≡◌, ◌⊎◌, ℕ, ℤ, ◌+◌, ◌++◌, arith, Option, Some, None, List, [], ◌∷◌, length-set, slice_get, slice_set, inl, inr, refl, ap, sym, subst, ◌∙◌}
 use Rattle.std.proofs.lemmas.Bool.{cases_eq}
-use Rattle.listed.proofs.Members.{got_other}
+use Rattle.std.proofs.lemmas.Option.{same_Some}
 use Rattle.listed.specs.RoomyValue.{RoomyValue}
-use Rattle.listed.proofs.Options.{none_some}
 use Rattle.hh_model.specs.declared.data.Task.{Task}
-use Rattle.run_trace.specs.declared.entry.Kind.TheVariants.{Ran}
 use Rattle.run_trace.specs.Entry.{EntryValue}
 use Rattle.run_ledger.specs.declared.data.Ledger.{Ledger}
 use Rattle.object_layout.specs.declared.word.Addr.{Addr}
@@ -21,37 +18,33 @@ use Rattle.write_barrier.specs.Stored.{Content, content_at}
 use Rattle.inner_mark_gc.specs.MarkingValue.{MarkingValue}
 use Rattle.fork_join.specs.Joined.{AreRelabelled, joined_nodes, with_results}
 use Rattle.ledger_step_laws.specs.Accounts.{rested}
-use Rattle.ledger_step_laws.specs.Last.{EndsLast, Joining, Runs, Splits}
+use Rattle.ledger_step_laws.specs.Last.{EndsLast, Runs, Splits}
 use Rattle.core_relation.specs.Memory.{Belongings, Noted, Memory, sources}
-use Rattle.core_relation.specs.Changes.{HasResult, JoinsBelongings}
-use Rattle.core_relation.specs.Fits.{part_for, with_belongings}
-use Rattle.core_relation.specs.RanCounts.{NodesJoin, RanCounts}
+use Rattle.core_relation.specs.Changes.{JoinsBelongings}
+use Rattle.core_relation.specs.Fits.{with_belongings}
+use Rattle.core_relation.specs.RanCounts.{NodesJoin}
 use Rattle.core_relation.specs.Since.{JoinsNotes}
 use Rattle.core_relation.specs.Stands.{Stands}
-use Rattle.core_relation.specs.Worker.{WorkerFits}
-use Rattle.core_entry_laws.proofs.whole.RanWhole.{ran_stands_for}
-use Rattle.core_entry_laws.proofs.parts.Workers.{ran_leaves}
 use Rattle.task_machine.specs.declared.part.Private.{Private}
 use Rattle.task_homes.specs.declared.task_at_rest.Rest.{Rest}
 use Rattle.task_homes.specs.declared.task_at_rest.Work.{Work}
 use Rattle.task_homes.specs.declared.task_at_rest.Work.TheVariants.{Calls}
 use Rattle.shared_value.specs.SharedValue.{SharedValue, no_belongings, noted_in, accounts, belongings_by, belongings_in, marks_at, rest_at, tree_counts_of, value_of}
 use Rattle.shared_value.specs.Stands.{HeapForm, IsSharedValue}
-use Rattle.shared_value.specs.Fits.{Fits, OthersFit, belongings_of_part, part_of}
+use Rattle.shared_value.specs.Fits.{Fits, belongings_of_part}
 use Rattle.shared_value.specs.Entered.{refused}
 use Rattle.shared_value.proofs.FieldsNoted.{noted_of}
-use Rattle.shared_value.proofs.EntryMade.{entered_marks, tasks_apart, marked_accounts, marked_fits, marked_world}
-use Rattle.shared_value.proofs.BeforeTheEnd.{end_now}
+use Rattle.shared_value.proofs.EntryMade.{RestIsWell, RestStays, accounts_are, each_form, free_before, none_at, still_goes, task_is_out, well_at}
+use Rattle.shared_value.proofs.StepsMade.{MakesSteps, steps_others, steps_world}
 use Rattle.shared_value.proofs.TaskTaken.{lets_go}
 use Rattle.own_steps.specs.Alone.{alone_entry}
 use Rattle.own_steps.proofs.LastStepEntry as last
-use Rattle.own_steps.proofs.LastStepEntry.{last_entry}
-use Rattle.own_steps.proofs.LastSteps.{one_added}
+use Rattle.own_steps.proofs.LastStepEntry.{last_enters, last_entry, last_steps}
 use Rattle.child_tasks.specs.ChildEnds.{EndsChild, IsAtEnd, running_parent}
 use Rattle.child_tasks.specs.Joins.{AreSides, RestsJoin, IsRestOf, SetsJoin, sources_at}
 use Rattle.child_tasks.proofs.ChildReturns as steps
-use Rattle.child_tasks.proofs.JoinUnits.{joined_measured, others_measured}
-use Rattle.child_tasks.proofs.SetsNoted.{heap_at, noted_by}
+use Rattle.child_tasks.proofs.JoinUnits as units
+use Rattle.child_tasks.proofs.SetsNoted.{noted_by}
 use Rattle.child_tasks.proofs.JoinBelongings.{Merges, by_content, joins_belongings}
 use Rattle.child_tasks.proofs.JoinTree.{joined_long, left_node, other_node, parent_node, right_node}
 use Rattle.child_tasks.proofs.MergedHeapForm.{merged_form}
@@ -107,23 +100,14 @@ module _ (w : SharedValue) (k : ℕ) (p : Private) (I : IsSharedValue w) (F : Fi
   abbrev E : Runs w.program w.settings l L t k p.fresh
   E = before.E w k p I F at_end free ended
 
-  abbrev own : WorkerFits w.program w.settings (part_for w.settings t h p.fresh) v l
-  own = F.fits
-
   module _ (above beside : Rest) (frames : FramesValue) (above_is : rest_at w.rests q ≡ Some above) (calls : above.work ≡ Calls frames) (beside_is : IsRestOf (rest_at w.rests s) beside) (c : ℕ) (lh rh : LeafHeapValue) (al ar : ℤ × Option Addr) (side : AreSides p s beside c lh rh al ar) where
     module _ (rests : List (Option Rest)) (sets : List SetOf) (marks : List (Option MarkingValue)) (unmarked : (u : ℕ) → (u ≡ t → ⊥) → (u ≡ s → ⊥) → marks_at marks u ≡ marks_at w.marks u) (pool : PoolValue) (heap : LeafHeapValue) (H : RestsJoin w.rests rests p q s (with_results frames al ar) heap above) (N : SetsJoin w.sets sets q c (c + 1) above.heap.chunks)
         (relabelled : AreRelabelled w.pool pool (lh.chunks ++ rh.chunks) q) (heap_is : heap ≡ with_places (merged above.heap lh rh) heap.slots heap.spare) (room_is : room_of heap ≡ room_of above.heap) (j : RoomyValue EntryValue) where
       abbrev tree : List Node
       tree = joined_nodes (with_state w.tree t Ended) q c (c + 1)
 
-      abbrev tasks_out : List (Option ℕ)
-      tasks_out = slice_set w.tasks_out k None
-
-      abbrev all_steps : ℕ
-      all_steps = w.steps + suc p.fresh
-
-      abbrev w' : SharedValue
-      w' = entered_marks w (last_entry k p) tree pool rests sets tasks_out w.outputs all_steps w.end j.room marks
+      abbrev pub w' : SharedValue
+      w' = record w { tree = tree; pool = pool; rests = rests; sets = sets; marks = marks; tasks_out = slice_set w.tasks_out k None; steps = w.steps + (p.fresh + 1); journal = record { items = w.journal.items ++ alone_entry k p ∷ []; room = j.room } }
 
       abbrev v' : Memory
       v' = value_of w'
@@ -227,72 +211,49 @@ module _ (w : SharedValue) (k : ℕ) (p : Private) (I : IsSharedValue w) (F : Fi
       nodes_so : NodesJoin (tree_counts_of w) (tree_counts_of w') Q.parent Q.left (Q.left + 1)
       nodes_so = subst (λ n. NodesJoin (tree_counts_of w) (tree_counts_of w') Q.parent n (n + 1)) (sym (both.left_is w k p I F at_end free ended above beside frames above_is calls beside_is c lh rh al ar side)) (subst (λ n. NodesJoin (tree_counts_of w) (tree_counts_of w') n c (c + 1)) (sym (before.parent_same w k p I F at_end free ended)) nodes)
 
-      counts : RanCounts w.program (tree_counts_of w) (tree_counts_of w') M L t k p.fresh x S.line Joining Q
-      counts = record {
-        tree = nodes_so;
-        task_out = lets_go w w' (last_entry k p) I free_last refl;
-        outputs = refl;
-        end = refl;
-        used = relabelled.units;
-        steps = refl;
-      }
-
       heap_form : HeapForm heap
       heap_form = subst HeapForm (sym heap_is) (merged_form above.heap lh rh (both.above_form w k p I F at_end free ended above beside frames above_is calls beside_is c lh rh al ar side) (both.child_forms w k p I F at_end free ended above beside frames above_is calls beside_is c lh rh al ar side).0 (both.child_forms w k p I F at_end free ended above beside frames above_is calls beside_is c lh rh al ar side).1 (both.joined_apart w k p I F at_end free ended above beside frames above_is calls beside_is c lh rh al ar side) (both.left_none w k p I F at_end free ended above beside frames above_is calls beside_is c lh rh al ar side) (both.right_none w k p I F at_end free ended above beside frames above_is calls beside_is c lh rh al ar side) heap.slots heap.spare)
 
-      heaps_then : (u : ℕ) (i : Rest) → rest_at rests u ≡ Some i → HeapForm i.heap
-      heaps_then u i is = elim (cases_eq u q) [
-        | inl e ↦ heap_at (rest_at rests q) i _ (ap (rest_at rests) (sym e) ∙ is) H.parent_home heap_form
+      each : (u : ℕ) → RestIsWell w' u ⊎ RestStays w w' u
+      each u = elim (cases_eq u q) [
+        | inl e ↦ inl (well_at w' u q _ e H.parent_home (heap_form, units.heap_measured w k p I F at_end free ended above beside frames above_is calls beside_is c lh rh al ar side rests pool heap H relabelled heap_is))
         | inr nq ↦ elim (cases_eq u t) [
-          | inl e ↦ none_some (sym H.own_home ∙ (ap (rest_at rests) (sym e) ∙ is))
+          | inl e ↦ inl (none_at w' u t e H.own_home)
           | inr nt ↦ elim (cases_eq u s) [
-            | inl e ↦ none_some (sym H.other_home ∙ (ap (rest_at rests) (sym e) ∙ is))
-            | inr ns ↦ I.heaps u i (sym (H.others u nq nt ns) ∙ is)
+            | inl e ↦ inl (none_at w' u s e H.other_home)
+            | inr ns ↦
+                let apart = units.other_apart w k p I F at_end free ended above beside frames above_is calls beside_is c lh rh al ar side u nt ns in
+                inr (record {
+                  rest = H.others u nq nt ns;
+                  keeps = units.units_stay w k p I F at_end free ended above beside frames above_is calls beside_is c lh rh al ar side rests pool heap H relabelled heap_is u apart.0 apart.1;
+                  free = λ f. free_before w.tasks_out k None u f (λ h. nt (same_Some u t (sym h ∙ task_is_out w k p I (steps.on w k p I F at_end free) F)));
+                })
           ]
         ]
       ]
 
-      abbrev Made : Type 0
-      Made = (a : ℤ × Option Addr) × (b : ℤ × Option Addr) × JoinsBelongings vt v' Q.parent Q.left (Q.left + 1) a b × HasResult vt R Q.left Q.left_result a × HasResult vt R (Q.left + 1) Q.right_result b
-
-      made : Made
-      made = (al, ar, joins_so, (both.results w k p I F at_end free ended above beside frames above_is calls beside_is c lh rh al ar side).0, (both.results w k p I F at_end free ended above beside frames above_is calls beside_is c lh rh al ar side).1)
-
-      joined_world : IsSharedValue w'
-      joined_world =
+      made : MakesSteps w w' k p p.fresh
+      made =
           let n = joined_long w.tree t q c (c + 1) (both.child_of_two w k p I F at_end free ended above beside frames above_is calls beside_is c lh rh al ar side) q_c q_d c_d in
-          marked_world w (last_entry k p) I free_last tree pool rests sets tasks_out w.outputs all_steps w.end j.room marks (H.many ∙ (I.made ∙ sym n)) (N.many ∙ (I.noted ∙ sym n)) (length-set w.tasks_out k None) relabelled.limit
-          (ran_stands_for w.program w.settings w.journal.items I.form I.legal v v' (tree_counts_of w) (tree_counts_of w') k t p.fresh h free_last E I.stands own made notes_so counts)
-          heaps_then (joined_measured w k p I F at_end free ended above beside frames above_is calls beside_is c lh rh al ar side rests pool heap H relabelled heap_is)
+          let r = both.results w k p I F at_end free ended above beside frames above_is calls beside_is c lh rh al ar side in
+          record {
+            enters = last_enters w w' k p (record { journal = refl; program = refl; settings = refl; halted = refl });
+            form = each_form I each (H.many ∙ (I.made ∙ sym n)) (N.many ∙ (I.noted ∙ sym n)) (length-set w.tasks_out k None) relabelled.limit;
+            units = units.others_measured w k p I F at_end free ended above beside frames above_is calls beside_is c lh rh al ar side rests pool heap H relabelled heap_is;
+            runs = E;
+            own = F.fits;
+            makes = (al, ar, joins_so, r.0, r.1);
+            notes = notes_so;
+            counts = record { tree = nodes_so; task_out = lets_go w w' (last_entry k p) I free_last refl; outputs = refl; end = refl; used = relabelled.units; steps = last_steps w p };
+          }
 
-      joined_goes : (accounts w').end ≡ None
-      joined_goes = sym (end_now w' joined_world) ∙ (end_now w I ∙ steps.on w k p I F at_end free)
+      pub alone_world : IsSharedValue w'
+      alone_world = steps_world I F free_last made
 
-      joined_resumed : Some q ≡ running_parent (accounts w').machine.tasks t
-      joined_resumed =
-          sym (ap (λ (i : Ledger). running_parent i.machine.tasks t) (marked_accounts w (last_entry k p) I free_last tree pool rests sets tasks_out w.outputs all_steps w.end j.room marks) ∙ (before.parent_then w k p I F at_end free ended))
-
-      -- THE PARTS OF OTHERS
-      joined_others : OthersFit w w' k
-      joined_others u i ne G =
-          marked_fits w (last_entry k p) I free_last tree pool rests sets tasks_out w.outputs all_steps w.end j.room marks joined_world u i i (ap option_flatten (got_other w.tasks_out k u None ne)) G refl refl refl G.form (others_measured w k p I F at_end free ended above beside frames above_is calls beside_is c lh rh al ar side rests pool heap H relabelled heap_is u i ne G)
-          (ran_leaves w.program w.settings v v' l L t k p.fresh h E own made (part_of w.settings i) (tasks_apart w k u p i F G ne) G.fits)
-
-      -- ---- AS THE CALL HAS IT
-      abbrev pub joined_alone : SharedValue
-      joined_alone = record w { tree = tree; pool = pool; rests = rests; sets = sets; marks = marks; tasks_out = tasks_out; steps = w.steps + (p.fresh + 1); journal = record { items = w.journal.items ++ alone_entry k p ∷ []; room = j.room } }
-
-      joined_is : w' ≡ joined_alone
-      joined_is =
-          ap (λ n. let i : SharedValue = record w { tree = tree; pool = pool; rests = rests; sets = sets; marks = marks; tasks_out = tasks_out; steps = w.steps + n; journal = record { items = w.journal.items ++ record { worker = k; kind = Ran p.task n } ∷ []; room = j.room } } in i) (one_added p.fresh)
-
-      pub alone_world : IsSharedValue joined_alone
-      alone_world = subst IsSharedValue joined_is joined_world
-
-      pub alone_joins : EndsChild w joined_alone k p (Some q)
+      pub alone_joins : EndsChild w w' k p (Some q)
       alone_joins = record {
         enters = record { journal = refl; program = refl; settings = refl; halted = refl };
-        goes = subst (λ (i : SharedValue). (accounts i).end ≡ None) joined_is joined_goes;
-        resumed = subst (λ (i : SharedValue). Some q ≡ running_parent (accounts i).machine.tasks t) joined_is joined_resumed;
-        others = subst (λ (i : SharedValue). OthersFit w i k) joined_is joined_others;
+        goes = still_goes I free_last made.enters alone_world (steps.on w k p I F at_end free) refl;
+        resumed = sym (ap (λ (i : Ledger). running_parent i.machine.tasks t) (accounts_are I free_last made.enters) ∙ before.parent_then w k p I F at_end free ended);
+        others = steps_others I F free_last made;
       }

@@ -1,9 +1,7 @@
 -- A join: the pool has the chunks of each heap with their units still.
-use Rattle.std.proofs.Common.{◌≡◌, ℕ, ℤ, ◌+◌, ◌++◌, Option, Some, None, List, slice_set, option_map, inl, inr, refl, ap, sym, subst, ◌∙◌}
-use Rattle.std.proofs.lemmas.Bool.{cases_eq}
+use Rattle.std.proofs.Common.{◌≡◌, ℕ, ℤ, ◌+◌, ◌++◌, Option, Some, None, List, option_map, inl, inr, refl, ap, sym, subst, ◌∙◌}
 use Rattle.std.proofs.lemmas.Option.{same_Some}
 use Rattle.listed.proofs.Members.{in_append_cases, in_append_left, in_append_right}
-use Rattle.listed.proofs.Options.{none_some}
 use Rattle.run_ledger.specs.declared.data.Heap.{Heap}
 use Rattle.run_ledger.specs.declared.data.Ledger.{Ledger}
 use Rattle.object_layout.specs.declared.word.Addr.{Addr}
@@ -21,11 +19,11 @@ use Rattle.task_machine.specs.declared.part.Private.{Private}
 use Rattle.task_homes.specs.declared.task_at_rest.Rest.{Rest}
 use Rattle.task_homes.specs.declared.task_at_rest.Work.TheVariants.{Calls}
 use Rattle.shared_value.specs.SharedValue.{SharedValue, accounts, rest_at}
-use Rattle.shared_value.specs.Measured.{AreMeasured, IsMeasured, IsFree, KeepsUnits, RestsAreMeasured}
+use Rattle.shared_value.specs.Measured.{AreMeasured, IsMeasured, IsFree, KeepsUnits}
 use Rattle.shared_value.specs.Stands.{IsSharedValue}
 use Rattle.shared_value.specs.Fits.{Fits}
 use Rattle.shared_value.specs.Entered.{refused}
-use Rattle.shared_value.proofs.EntryMade.{task_is_out, tasks_apart, free_at_rest, free_before}
+use Rattle.shared_value.proofs.EntryMade.{task_is_out, tasks_apart, free_at_rest}
 use Rattle.shared_value.proofs.PartFitsMachine as link
 use Rattle.shared_value.proofs.UnitsMeasured.{measured_both, measured_kept, part_kept, relabelled_keeps, relabelled_measured, relabelled_own}
 use Rattle.shared_value.proofs.RootsHeld.{chunk_in}
@@ -69,7 +67,7 @@ module _ (w : SharedValue) (k : ℕ) (p : Private) (I : IsSharedValue w) (F : Fi
     unheld_s = unheld s (steps.other_apart w k p I F at_end free) rests_s
 
     -- both are the two, and no other is
-    other_apart : (u : ℕ) → (u ≡ t → ⊥) → (u ≡ s → ⊥) → (u ≡ c → ⊥) × (u ≡ c + 1 → ⊥)
+    pub other_apart : (u : ℕ) → (u ≡ t → ⊥) → (u ≡ s → ⊥) → (u ≡ c → ⊥) × (u ≡ c + 1 → ⊥)
     other_apart u nt ns = by side
       where
         by : AreSides p s beside c lh rh al ar → (u ≡ c → ⊥) × (u ≡ c + 1 → ⊥)
@@ -96,7 +94,7 @@ module _ (w : SharedValue) (k : ℕ) (p : Private) (I : IsSharedValue w) (F : Fi
       owner_of_one : (u n units v : ℕ) (cs : List ChunkValue) (x : ChunkValue) → In cs x → x.number ≡ n → AreMeasured w.pool v cs → slot_at w.pool n ≡ Some (record { owner = u; units = units }) → u ≡ v
       owner_of_one u n units v cs x i e M h = same_Some u v (ap (option_map (λ (z : Slot). z.owner)) (sym h ∙ (ap (slot_at w.pool) (sym e) ∙ M x i)))
 
-      units_stay : (u : ℕ) → (u ≡ c → ⊥) → (u ≡ c + 1 → ⊥) → KeepsUnits w.pool pool u
+      pub units_stay : (u : ℕ) → (u ≡ c → ⊥) → (u ≡ c + 1 → ⊥) → KeepsUnits w.pool pool u
       units_stay u nc nd =
           relabelled_keeps w.pool pool (lh.chunks ++ rh.chunks) q relabelled u (λ n units h has.
           let x = chunk_in (lh.chunks ++ rh.chunks) n has in
@@ -106,7 +104,7 @@ module _ (w : SharedValue) (k : ℕ) (p : Private) (I : IsSharedValue w) (F : Fi
           ])
 
       -- and what both have is the parent's
-      heap_measured : AreMeasured pool q heap.chunks
+      pub heap_measured : AreMeasured pool q heap.chunks
       heap_measured =
           subst (λ (g : LeafHeapValue). AreMeasured pool q g.chunks) (sym heap_is)
           (measured_both pool q lh.chunks (rh.chunks ++ above.heap.chunks)
@@ -114,25 +112,6 @@ module _ (w : SharedValue) (k : ℕ) (p : Private) (I : IsSharedValue w) (F : Fi
           (measured_both pool q rh.chunks above.heap.chunks
           (relabelled_measured w.pool pool (lh.chunks ++ rh.chunks) q relabelled (c + 1) rh.chunks (λ x i. in_has (lh.chunks ++ rh.chunks) x (in_append_right lh.chunks rh.chunks x i)) both_measured.1)
           (measured_kept w.pool pool q above.heap.chunks (relabelled_own w.pool pool (lh.chunks ++ rh.chunks) q relabelled) above_measured)))
-
-      -- THE HEAPS THEN
-      measured_at : (u : ℕ) (i z : Rest) → rest_at rests u ≡ Some i → rest_at rests u ≡ Some z → AreMeasured pool u z.heap.chunks → AreMeasured pool u i.heap.chunks
-      measured_at u i z is that M = subst (λ (z : Rest). AreMeasured pool u z.heap.chunks) (same_Some z i (sym that ∙ is)) M
-
-      pub joined_measured : RestsAreMeasured pool rests (slice_set w.tasks_out k None)
-      joined_measured u i is none = elim (cases_eq u q) [
-        | inl e ↦ measured_at u i _ is (ap (rest_at rests) e ∙ H.parent_home) (subst (λ z. AreMeasured pool z heap.chunks) (sym e) heap_measured)
-        | inr nq ↦ elim (cases_eq u t) [
-          | inl e ↦ none_some (sym H.own_home ∙ (ap (rest_at rests) (sym e) ∙ is))
-          | inr nt ↦ elim (cases_eq u s) [
-            | inl e ↦ none_some (sym H.other_home ∙ (ap (rest_at rests) (sym e) ∙ is))
-            | inr ns ↦
-                let apart = other_apart u nt ns in
-                measured_kept w.pool pool u i.heap.chunks (units_stay u apart.0 apart.1)
-                (I.measured u i (sym (H.others u nq nt ns) ∙ is) (free_before w.tasks_out k None u none (λ h. nt (same_Some u t (sym h ∙ task_is_out w k p I on F)))))
-          ]
-        ]
-      ]
 
       -- THE PARTS OF OTHERS
       pub others_measured : (u : ℕ) (i : Private) → (u ≡ k → ⊥) → Fits w u i → IsMeasured pool i

@@ -1,9 +1,7 @@
 -- What is noted of a heap by what its set holds, and the form of an empty heap and of one at rest.
-use Rattle.std.proofs.Common.{◌≡◌, true, ℕ, arith, Option, Some, None, List, [], slice_get, option_map, refl, sym, subst, ◌∙◌}
-use Rattle.std.proofs.lemmas.Option.{same_Some}
+use Rattle.std.proofs.Common.{◌≡◌, true, ℕ, arith, Option, Some, None, List, [], slice_get, option_map, refl}
 use Rattle.write_barrier.specs.declared.sets.SetOf.{SetOf}
 use Rattle.write_barrier.specs.Stored.{Content, content_at}
-use Rattle.task_homes.specs.declared.task_at_rest.Rest.{Rest}
 use Rattle.task_homes.specs.HomesValue.{keeping}
 use Rattle.shared_value.specs.SharedValue.{noted_in}
 use Rattle.shared_value.specs.Stands.{HeapForm}
@@ -36,8 +34,3 @@ empty_form slots spare = record {
   whole = λ k i. absurd i;
   spare = λ i lt. absurd (omega (arith, lt));
 }
-
--- ---- WHO RESTS has one heap
-
-pub heap_at : (o : Option Rest) (r q : Rest) → o ≡ Some r → o ≡ Some q → HeapForm q.heap → HeapForm r.heap
-heap_at o r q is that form = subst (λ (z : Rest). HeapForm z.heap) (same_Some q r (sym that ∙ is)) form

@@ -1,5 +1,5 @@
 -- An entry that marks a heap further: the shared value that it leaves, and the parts.
-use Rattle.std.proofs.Common.{◌≡◌, ℕ, ◌+◌, min, Option, Some, None, List, Contains, length, slice_get, inl, inr, refl, ap, sym, subst, ◌∙◌}
+use Rattle.std.proofs.Common.{◌≡◌, ℕ, ◌+◌, min, Option, Some, None, List, [], ◌∷◌, ◌++◌, Contains, length, slice_get, inl, inr, refl, ap, sym, subst, ◌∙◌}
 use Rattle.std.proofs.lemmas.Bool.{cases_eq}
 use Rattle.listed.proofs.Members.{contains_from_in}
 use Rattle.listed.proofs.Places.{in_take}
@@ -26,18 +26,18 @@ use Rattle.core_relation.specs.Memory.{In, Memory, object_name, objects}
 use Rattle.core_relation.specs.Changes.{SameObjects}
 use Rattle.core_relation.specs.Counts.{CountsGo, IsMarked, IsQuiet}
 use Rattle.core_relation.specs.Marking.{GoesOn, MarkedBy}
-use Rattle.core_relation.specs.Since.{MarksOn, NotesStay, kept}
+use Rattle.core_relation.specs.Since.{kept}
 use Rattle.core_relation.specs.Layout.{AreLaidOut}
 use Rattle.core_relation.specs.Stands.{HasNames, BelongingsStand}
 use Rattle.core_relation.proofs.changes.Alone.{belongings_kept}
 use Rattle.core_relation.specs.Worker.{IsBy}
-use Rattle.core_entry_laws.proofs.whole.EntriesWhole.{quiet_stands_for}
-use Rattle.core_entry_laws.proofs.parts.WorkersPast.{quiet_leaves}
 use Rattle.shared_value.specs.SharedValue.{SharedValue, accounts, marks_at, tree_counts_of, value_of}
 use Rattle.shared_value.specs.Stands.{IsSharedValue}
-use Rattle.shared_value.specs.Fits.{AllFit, part_of}
+use Rattle.shared_value.specs.Fits.{AllFit}
 use Rattle.shared_value.specs.Entered.{refused}
-use Rattle.shared_value.proofs.EntryMade.{entered_marks, entry_on, marked_fits, marked_world}
+use Rattle.shared_value.proofs.EntryMade.{entry_on}
+use Rattle.shared_value.proofs.NothingMoves.{MovesNothing, quiet_others, quiet_world}
+use Rattle.shared_value.proofs.UnitsMeasured.{all_kept}
 use Rattle.shared_value.proofs.BeforeTheEnd.{stands_now}
 use Rattle.heap_marking.specs.Marking.{MarksEnter}
 
@@ -66,7 +66,7 @@ module _ (w : SharedValue) (e : EntryValue) (I : IsSharedValue w) (free : refuse
   L = after w.program w.settings l e
 
   abbrev pub w' : SharedValue
-  w' = entered_marks w e w.tree w.pool w.rests w.sets w.tasks_out w.outputs w.steps w.end room marks
+  w' = record w { marks = marks; journal = record { items = w.journal.items ++ e ∷ []; room = room } }
 
   abbrev v : Memory
   v = value_of w
@@ -104,9 +104,6 @@ module _ (w : SharedValue) (e : EntryValue) (I : IsSharedValue w) (free : refuse
       sources = λ u. refl;
     }
 
-    notes : (u : ℕ) → (IsMarked e.kind u → ⊥) → NotesStay v v' u
-    notes u none = record { keeps = refl; kept = refl; marked = off_t u (λ q. none (subst (IsMarked e.kind) (sym q) is_marked)) }
-
     -- what is marked is of the snapshot
     goes_then : GoesOn v' t (heap_of L t).snapshot m
     goes_then =
@@ -140,20 +137,22 @@ module _ (w : SharedValue) (e : EntryValue) (I : IsSharedValue w) (free : refuse
       goes_then,
     )
 
-    marks_on : (u : ℕ) → IsMarked e.kind u → MarksOn v v' L u
-    marks_on u k = record { keeps = refl; kept = refl; marks = subst (λ z. MarkedBy v' L z (marks_at marks z)) (sym (only u k)) (subst (MarkedBy v' L t) (sym at_t) marked_now) }
-
-    pub marking_world : IsSharedValue w'
-    marking_world =
-        marked_world w e I free w.tree w.pool w.rests w.sets w.tasks_out w.outputs w.steps w.end room marks I.made I.noted refl refl
-        (quiet_stands_for w.program w.settings w.journal.items I.form I.legal v v' (tree_counts_of w) (tree_counts_of w') e free quiet I.stands same notes marks_on counts)
-        I.heaps I.measured
+    moves : MovesNothing w w' e
+    moves = record {
+      enters = record { journal = refl; program = refl; settings = refl; halted = refl };
+      quiet = quiet;
+      tasks = refl;
+      limit = refl;
+      keeps = all_kept w.pool;
+      same = same;
+      notes = λ u none. record { keeps = refl; kept = refl; marked = off_t u (λ q. none (subst (IsMarked e.kind) (sym q) is_marked)) };
+      marks = λ u k. record { keeps = refl; kept = refl; marks = subst (λ z. MarkedBy v' L z (marks_at marks z)) (sym (only u k)) (subst (MarkedBy v' L t) (sym at_t) marked_now) };
+      counts = counts;
+    }
 
     -- every part that fits fits
-    pub marking_fits : AllFit w w'
-    marking_fits u q F =
-        marked_fits w e I free w.tree w.pool w.rests w.sets w.tasks_out w.outputs w.steps w.end room marks marking_world u q q refl F refl refl refl F.form F.measured
-        (quiet_leaves w.program w.settings w.journal.items I.legal v v' e free quiet same (part_of w.settings q) (by_none q.task) F.fits)
+    pub marking_made : IsSharedValue w' × AllFit w w'
+    marking_made = (quiet_world I free moves, λ u q F. quiet_others I free moves u q (by_none q.task) F)
 
 -- THE LAW
 heap_by : (l : Ledger) (t n : ℕ) (f : Heap → Heap) → ((h : Heap) → f h ≡ record h { marked = (f h).marked }) → (heap_of (with_heap l t f) t).marked ≡ Some n → heap_of (with_heap l t f) t ≡ record (heap_of l t) { marked = Some n }
@@ -178,10 +177,8 @@ marks_enter w k (Mark u) t m marks room I free just at off count G =
     let heaps : (z : ℕ) → (z ≡ t → ⊥) → heap_of (with_heap l u f) z ≡ heap_of l z = λ z ne. ap or_fresh (with_off l u z f (λ q. ne (q ∙ just))) in
     let heap_t : heap_of (with_heap l u f) t ≡ record (heap_of l t) { marked = Some (length (marked_of m)) } =
     subst (λ z. heap_of (with_heap l u f) z ≡ record (heap_of l z) { marked = Some (length (marked_of m)) }) just (heap_by l u (length (marked_of m)) f (λ h. refl) (ap (λ z. (heap_of (with_heap l u f) z).marked) just ∙ count)) in
-    let counts : CountsGo w.program w.settings l (tree_counts_of w) (tree_counts_of w) k (Mark u) = (record { node = λ z. refl; task_out = λ z. refl; steps = refl; outputs = refl }, refl, refl) in (
-      marking_world w e I free tt t m marks room at off only just (λ z q. q) (heap_machine l u f) heap_t heaps counts G,
-      marking_fits w e I free tt t m marks room at off only just (λ z q. q) (heap_machine l u f) heap_t heaps counts G,
-    )
+    let counts : CountsGo w.program w.settings l (tree_counts_of w) (tree_counts_of w) k (Mark u) = (record { node = λ z. refl; task_out = λ z. refl; steps = refl; outputs = refl }, refl, refl) in
+    marking_made w e I free tt t m marks room at off only just (λ z q. q) (heap_machine l u f) heap_t heaps counts G
 marks_enter w k (More u n) t m marks room I free just at off count G =
     let e : EntryValue = record { worker = k; kind = More u n } in
     let l : Ledger = accounts w in
@@ -190,10 +187,8 @@ marks_enter w k (More u n) t m marks room I free just at off count G =
     let heaps : (z : ℕ) → (z ≡ t → ⊥) → heap_of (with_heap l u f) z ≡ heap_of l z = λ z ne. ap or_fresh (with_off l u z f (λ q. ne (q ∙ just))) in
     let heap_t : heap_of (with_heap l u f) t ≡ record (heap_of l t) { marked = Some (length (marked_of m)) } =
     subst (λ z. heap_of (with_heap l u f) z ≡ record (heap_of l z) { marked = Some (length (marked_of m)) }) just (heap_by l u (length (marked_of m)) f (λ h. refl) (ap (λ z. (heap_of (with_heap l u f) z).marked) just ∙ count)) in
-    let counts : CountsGo w.program w.settings l (tree_counts_of w) (tree_counts_of w) k (More u n) = (record { node = λ z. refl; task_out = λ z. refl; steps = refl; outputs = refl }, refl, refl) in (
-      marking_world w e I free tt t m marks room at off only just (λ z q. q) (heap_machine l u f) heap_t heaps counts G,
-      marking_fits w e I free tt t m marks room at off only just (λ z q. q) (heap_machine l u f) heap_t heaps counts G,
-    )
+    let counts : CountsGo w.program w.settings l (tree_counts_of w) (tree_counts_of w) k (More u n) = (record { node = λ z. refl; task_out = λ z. refl; steps = refl; outputs = refl }, refl, refl) in
+    marking_made w e I free tt t m marks room at off only just (λ z q. q) (heap_machine l u f) heap_t heaps counts G
 marks_enter w k (Took u) t m marks room I free just at off count G = absurd just
 marks_enter w k (Ran u n) t m marks room I free just at off count G = absurd just
 marks_enter w k (Chunk u) t m marks room I free just at off count G = absurd just

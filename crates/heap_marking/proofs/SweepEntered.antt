@@ -1,11 +1,11 @@
 -- A sweep is entered: the shared value that it leaves, and the parts.
-use Rattle.std.proofs.Common.{◌≡◌, ℕ, ◌-◌, ◌==◌, ◌++◌, arith, Bool, true, false, Option, Some, None, is_none, List, [], ◌∷◌, length, length-set, option_map, slice_get, slice_set, inl, inr, refl, ap, ap₂, sym, subst, ◌∙◌}
+use Rattle.std.proofs.Common.{◌≡◌, ℕ, ◌-◌, ◌==◌, ◌++◌, arith, Bool, true, false, Option, Some, None, is_none, List, [], ◌∷◌, length, option_map, slice_get, slice_set, inl, inr, refl, ap, ap₂, sym, subst, ◌∙◌}
 use Rattle.std.specs.Option.{option_flatten}
 use Rattle.std.specs.Prelude.{◌≢◌, IsSome}
 use Rattle.std.proofs.lemmas.Bool.{cases_eq, eqb-true}
 use Rattle.std.proofs.lemmas.Option.{same_Some}
 use Rattle.listed.specs.RoomyValue.{RoomyValue}
-use Rattle.listed.proofs.Members.{got_other, got_same}
+use Rattle.listed.proofs.Members.{got_other, got_within}
 use Rattle.listed.proofs.Places.{all_from}
 use Rattle.listed.proofs.Options.{none_some}
 use Rattle.run_trace.specs.declared.entry.Kind.TheVariants.{Sweep}
@@ -34,13 +34,13 @@ use Rattle.task_machine.specs.declared.part.Private.{Private}
 use Rattle.task_homes.specs.declared.task_at_rest.Rest.{Rest}
 use Rattle.task_homes.specs.HomesValue.{keeping}
 use Rattle.shared_value.specs.Causes.{or_else}
-use Rattle.shared_value.specs.Entered.{refused}
+use Rattle.shared_value.specs.Entered.{Enters, refused}
 use Rattle.shared_value.specs.Fits.{AllFit, Fits, part_of}
-use Rattle.shared_value.specs.Measured.{AreMeasured, KeepsUnits, RestsAreMeasured}
-use Rattle.shared_value.specs.Stands.{HeapForm, IsSharedValue}
+use Rattle.shared_value.specs.Measured.{KeepsUnits}
+use Rattle.shared_value.specs.Stands.{IsSharedValue}
 use Rattle.shared_value.specs.SharedValue.{SharedValue, accounts, belongings_in, marks_at, noted_in, rest_at, tree_counts_of, value_of}
-use Rattle.shared_value.proofs.EntryMade.{entered_marks, entry_on, marked_fits, marked_world}
-use Rattle.shared_value.proofs.UnitsMeasured.{given_keeps, measured_kept, part_kept}
+use Rattle.shared_value.proofs.EntryMade.{ChangesRest, IsWell, changed_form, entered_world, entry_on, part_fits, rest_off, rest_then}
+use Rattle.shared_value.proofs.UnitsMeasured.{given_keeps, part_kept}
 use Rattle.shared_value.proofs.TaskTaken.{some_flat}
 use Rattle.heap_marking.specs.MarkCauses.{marking_cause}
 use Rattle.heap_marking.specs.Sweeping.{CanSweep, SweepsHome}
@@ -144,16 +144,19 @@ module _ (w : SharedValue) (k t given : ℕ) (I : IsSharedValue w) (free : refus
     marks = slice_set w.marks t None
 
     abbrev pub w' : SharedValue
-    w' = entered_marks w e w.tree pool rests sets w.tasks_out w.outputs w.steps w.end room marks
+    w' = record w { pool = pool; rests = rests; sets = sets; marks = marks; journal = record { items = w.journal.items ++ e ∷ []; room = room } }
+
+    enters : Enters w w' e
+    enters = record { journal = refl; program = refl; settings = refl; halted = refl }
+
+    keeps_units : (u : ℕ) → (u ≡ t → ⊥) → KeepsUnits w.pool pool u
+    keeps_units u ne = given_keeps w.pool pool (gone_of r.heap (marked_of m)) t u G (swept.owned_gone w I on t T.cause T.none_left) ne
+
+    changes : ChangesRest w w' t (Some rest')
+    changes = record { rests = refl; there = got_within w.rests t (Some r) (some_flat (slice_get w.rests t) r there); keeps = keeps_units; free = λ u ne y. y }
 
     abbrev v' : Memory
     v' = value_of w'
-
-    rest_then : rest_at rests t ≡ Some rest'
-    rest_then = ap option_flatten (got_same w.rests t (Some r) (Some rest') (some_flat (slice_get w.rests t) r there))
-
-    rest_off : (u : ℕ) → (u ≡ t → ⊥) → rest_at rests u ≡ rest_at w.rests u
-    rest_off u ne = ap option_flatten (got_other w.rests t u (Some rest') ne)
 
     noted : ((noted_in (slice_get sets t)).sources ≡ (noted_in (slice_get w.sets t)).sources) × ((noted_in (slice_get sets t)).keeps ≡ false)
     noted = noted_by (slice_get w.sets t) (slice_get sets t) kept_none
@@ -165,8 +168,8 @@ module _ (w : SharedValue) (k t given : ℕ) (I : IsSharedValue w) (free : refus
     ]
 
     keeps : KeepsJust v v' l L t (heap_of l t).snapshot
-    keeps = swept.keeps_just w I on t T.cause T.none_left pool G slots spare v' L (ap belongings_in rest_then) refl (swept.there_by l t (length (marked_of m)) (start.M w I on t T.cause).0.count) (heap_machine l t swept_heap)
-        (λ u ne. ap belongings_in (rest_off u ne)) sources_same
+    keeps = swept.keeps_just w I on t T.cause T.none_left pool G slots spare v' L (ap belongings_in (rest_then I changes)) refl (swept.there_by l t (length (marked_of m)) (start.M w I on t T.cause).0.count) (heap_machine l t swept_heap)
+        (λ u ne. ap belongings_in (rest_off I changes u ne)) sources_same
 
     notes : OthersNotes v v' t
     notes = record {
@@ -182,30 +185,12 @@ module _ (w : SharedValue) (k t given : ℕ) (I : IsSharedValue w) (free : refus
     )
 
     stands : StandsForAll v' (tree_counts_of w') L
-    stands = sweeps_stand_for w.program w.settings w.journal.items I.form I.legal v v' (tree_counts_of w) (tree_counts_of w') k t given free I.stands keeps notes (ap (λ (h : Belongings). h.begun) (ap belongings_in rest_then) ∙ swept.idle_belongings rest') counts
-
-    heaps : (u : ℕ) (x : Rest) → rest_at rests u ≡ Some x → HeapForm x.heap
-    heaps u x is = elim (cases_eq u t) [
-      | inl q ↦
-          let same : rest' ≡ x = same_Some rest' x (sym rest_then ∙ (ap (rest_at rests) (sym q) ∙ is)) in
-          subst (λ (z : Rest). HeapForm z.heap) same (swept.form_then w I on t T.cause T.none_left pool G slots spare)
-      | inr ne ↦ I.heaps u x (sym (rest_off u ne) ∙ is)
-    ]
-
-    keeps_units : (u : ℕ) → (u ≡ t → ⊥) → KeepsUnits w.pool pool u
-    keeps_units u ne = given_keeps w.pool pool (gone_of r.heap (marked_of m)) t u G (swept.owned_gone w I on t T.cause T.none_left) ne
-
-    measured : RestsAreMeasured pool rests w.tasks_out
-    measured u x is none = elim (cases_eq u t) [
-      | inl q ↦
-          let same : rest' ≡ x = same_Some rest' x (sym rest_then ∙ (ap (rest_at rests) (sym q) ∙ is)) in
-          subst (λ z. AreMeasured pool z x.heap.chunks) (sym q) (subst (λ (z : Rest). AreMeasured pool t z.heap.chunks) same (swept.measured_then w I on t T.cause T.none_left pool G slots spare))
-      | inr ne ↦ measured_kept w.pool pool u x.heap.chunks (keeps_units u ne) (I.measured u x (sym (rest_off u ne) ∙ is) none)
-    ]
+    stands = sweeps_stand_for w.program w.settings w.journal.items I.form I.legal v v' (tree_counts_of w) (tree_counts_of w') k t given free I.stands keeps notes (ap (λ (h : Belongings). h.begun) (ap belongings_in (rest_then I changes)) ∙ swept.idle_belongings rest') counts
 
     pub swept_world : IsSharedValue w'
     swept_world =
-        marked_world w e I free w.tree pool rests sets w.tasks_out w.outputs w.steps w.end room marks (length-set w.rests t (Some rest') ∙ I.made) (many ∙ I.noted) refl G.limit stands heaps measured
+        entered_world I free enters
+        (changed_form I changes (λ x q. subst (IsWell pool t) (same_Some rest' x q) (swept.form_then w I on t T.cause T.none_left pool G slots spare, swept.measured_then w I on t T.cause T.none_left pool G slots spare)) refl many refl G.limit) stands
 
     -- a task that a worker holds is another one
     apart : (u : ℕ) (q : Private) → Fits w u q → q.task ≡ t → ⊥
@@ -213,7 +198,7 @@ module _ (w : SharedValue) (k t given : ℕ) (I : IsSharedValue w) (free : refus
 
     pub swept_fits : AllFit w w'
     swept_fits u q F =
-        marked_fits w e I free w.tree pool rests sets w.tasks_out w.outputs w.steps w.end room marks swept_world u q q refl F refl refl refl F.form (part_kept w.pool pool q (keeps_units q.task (apart u q F)) F.measured)
+        part_fits I free enters swept_world u q q refl F refl F.form (part_kept w.pool pool q (keeps_units q.task (apart u q F)) F.measured)
         (sweeps_leave w.program w.settings w.journal.items I.legal v v' k t given free keeps (part_of w.settings q) F.fits)
 
   -- AS THE CALL HAS IT

@@ -1,7 +1,7 @@
 -- An entry changes the account of one heap, whose task's part a worker holds: what stays of the accounts, and that
 -- nothing moves.
-use Rattle.std.proofs.Common.{◌≡◌, ◌⊎◌, ℕ, true, false, Some, None, length, slice_get, is_some, inl, inr, refl, ap, sym, subst, ◌∙◌}
-use Rattle.std.proofs.lemmas.Bool.{cases_eq}
+use Rattle.std.proofs.Common.{◌≡◌, ◌⊎◌, ℕ, true, false, Option, Some, None, length, slice_get, is_some, inl, inr, refl, ap, sym, subst, ◌∙◌}
+use Rattle.std.proofs.lemmas.Bool.{both_ways, cases_eq}
 use Rattle.hh_model.specs.declared.data.State.{State}
 use Rattle.hh_model.specs.Effect.{row_of}
 use Rattle.hh_model.specs.Step.{is_joined, is_waiting}
@@ -14,16 +14,20 @@ use Rattle.ledger_step_laws.specs.Accounts.{Rests, rested}
 use Rattle.ledger_step_laws.proofs.Ahead.{heap_then, with_at, with_off}
 use Rattle.core_relation.specs.Changes.{SameObjects}
 use Rattle.core_relation.specs.Fits.{with_belongings}
-use Rattle.core_relation.specs.Memory.{Belongings, Memory}
-use Rattle.core_relation.specs.Stands.{BelongingsStand}
+use Rattle.object_layout.specs.Objects.{Located}
+use Rattle.core_relation.specs.Layout.{AreLaidOut}
+use Rattle.core_relation.specs.Memory.{Chunk, Belongings, In, Memory, objects, objects_in}
+use Rattle.core_relation.specs.Stands.{HasNames, BelongingsStand}
 use Rattle.core_relation.proofs.changes.Alone.{belongings_kept}
 use Rattle.core_relation.proofs.changes.With.{at_belongings, off_belongings}
+use Rattle.task_machine.specs.declared.part.Begun.{Begun}
 use Rattle.task_machine.specs.declared.part.Private.{Private}
 use Rattle.shared_value.specs.SharedValue.{SharedValue, accounts, value_by, value_of, with_marks}
 use Rattle.shared_value.specs.Stands.{IsSharedValue}
 use Rattle.shared_value.specs.Fits.{Fits, belongings_of_part}
 use Rattle.shared_value.proofs.NextStepAsks.{account_is}
-use Rattle.shared_value.proofs.BeforeTheEnd.{fits_now, stands_now}
+use Rattle.shared_value.proofs.StepsEntered.{belongings_stand}
+use Rattle.shared_value.proofs.BeforeTheEnd.{fits_now, part_idle, stands_now}
 
 module _ (w : SharedValue) (k : ℕ) (p : Private) (I : IsSharedValue w) (F : Fits w k (record p { fresh = 0 })) (on : (accounts w).end ≡ None) (f : Heap → Heap) (holds : (h : Heap) → (f h).worker ≡ h.worker) where
   abbrev P : Private
@@ -70,7 +74,11 @@ module _ (w : SharedValue) (k : ℕ) (p : Private) (I : IsSharedValue w) (F : Fi
     abbrev v' : Memory
     v' = with_marks w.marks (value_by w.rests w.sets pool)
 
-    pub same_objects : ((c u : ℕ) → v'.owner c ≡ Some u → (v.owner c ≡ Some u) ⊎ ((is_waiting (slice_get l.machine.tasks u) ≡ false) × (is_some (slice_get l.machine.tasks u) ≡ true))) → SameObjects v v' l L
+    -- a chunk that is taken goes to a task that doesn't wait
+    abbrev pub AreTaken : Type 0
+    AreTaken = (c u : ℕ) → v'.owner c ≡ Some u → (v.owner c ≡ Some u) ⊎ ((is_waiting (slice_get l.machine.tasks u) ≡ false) × (is_some (slice_get l.machine.tasks u) ≡ true))
+
+    pub same_objects : AreTaken → SameObjects v v' l L
     same_objects taken = record {
       belongings = λ u r. belongings_kept v v' l L u refl (λ c e. kept c u e) (ap or_fresh (heap_off u (not_t u r))) (ap (λ (m : State). length (row_of (slice_get m.store u))) same_machine) (ap (λ (m : State). is_joined (slice_get m.tasks u)) same_machine) ((stands_now w I on).belongings.belongings u (rested_before u r));
       objects = λ u. refl;
@@ -107,3 +115,82 @@ module _ (w : SharedValue) (k : ℕ) (p : Private) (I : IsSharedValue w) (F : Fi
             belongings_kept before after_ (rested l t) (rested L t) u (off_belongings v' t g u ne ∙ sym (off_belongings v t (belongings_of_part P) u ne)) (λ c e. kept c u e) same
             (ap (λ (m : State). length (row_of (slice_get m.store u))) (sym rested_same)) (ap (λ (m : State). is_joined (slice_get m.tasks u)) (sym rested_same)) ((fits_now w k P F on).stands.belongings u rests)
       ]
+
+      -- nothing moves where it has the same objects, frames and result, and sees the same
+      pub part_same : BelongingsStand after_ (rested L t) t → g ≡ record g { frames = (belongings_of_part P).frames; result = (belongings_of_part P).result; view = (belongings_of_part P).view } → objects_in g.chunks ≡ objects_in (belongings_of_part P).chunks
+          → AreTaken → ((heap_of (rested L t) t).begun ≡ (heap_of (rested l t) t).begun → g.begun ≡ p.begun) → SameObjects before after_ (rested l t) (rested L t)
+      part_same mine same_rest same taken begun = record {
+        belongings = all_stand mine;
+        objects = seen (λ (z : Belongings). objects_in z.chunks) same;
+        chunks = λ u e. elim (cases_eq u t) [
+          | inl q ↦ absurd (both_ways (is_waiting (slice_get l.machine.tasks t)) (part_idle w k P F on) (ap (λ z. is_waiting (slice_get l.machine.tasks z)) (sym q) ∙ (ap (λ (m : State). is_waiting (slice_get m.tasks u)) (sym (heap_machine l t let_go)) ∙ e)))
+          | inr ne ↦ ap (λ (z : Belongings). length z.chunks) (other u ne)
+        ];
+        frames = seen (λ (z : Belongings). z.frames) (ap (λ (z : Belongings). z.frames) same_rest);
+        result = seen (λ (z : Belongings). z.result) (ap (λ (z : Belongings). z.result) same_rest);
+        view = seen (λ (z : Belongings). z.view) (ap (λ (z : Belongings). z.view) same_rest);
+        owner = kept;
+        taken = λ c u q. elim (taken c u q) [
+          | inl a ↦ inl a
+          | inr a ↦ inr (ap (λ (m : State). is_waiting (slice_get m.tasks u)) (heap_machine l t let_go) ∙ a.0, ap (λ (m : State). is_some (slice_get m.tasks u)) (heap_machine l t let_go) ∙ a.1)
+        ];
+        begun = λ u q. elim (cases_eq u t) [
+          | inl e ↦ subst (λ z. (after_.belongings z).begun ≡ (before.belongings z).begun) (sym e) (seen (λ (z : Belongings). z.begun) (begun (subst (λ z. (heap_of (rested L t) z).begun ≡ (heap_of (rested l t) z).begun) e q)) t)
+          | inr ne ↦ ap (λ (z : Belongings). z.begun) (other u ne)
+        ];
+        sources = λ u. refl;
+      }
+        where
+          other : (u : ℕ) → (u ≡ t → ⊥) → after_.belongings u ≡ before.belongings u
+          other u ne = off_belongings v' t g u ne ∙ sym (off_belongings v t (belongings_of_part P) u ne)
+
+    -- WHERE THE PART KEEPS ITS CHUNKS: its belongings count n words since its last collection and are amid the collection
+    -- b, and the account says of its chunks what it said
+    module _ (n : ℕ) (b : Option Begun) (lets_go : (h : Heap) → let_go (f h) ≡ f (let_go h)) (chunks : (h : Heap) → f h ≡ record (f h) { chunks = h.chunks; large = h.large; room = h.room; reserved = h.reserved }) (since : n ≡ (f (heap_of (rested l t) t)).since) where
+      abbrev g : Belongings
+      g = record (belongings_of_part P) { since = n; begun = b }
+
+      abbrev X : Heap
+      X = heap_of (rested l t) t
+
+      abbrev was : Memory
+      was = with_belongings v t (belongings_of_part P)
+
+      abbrev is : Memory
+      is = with_belongings v' t g
+
+      pub account_same : heap_of (rested L t) t ≡ f X
+      account_same = ap or_fresh (with_at L t let_go ∙ ap (heap_then let_go) heap_then_is) ∙ (lets_go there.0 ∙ ap f (sym (ap or_fresh (with_at l t let_go ∙ ap (heap_then let_go) there.1))))
+
+      told : {A : Type 0} (view : Heap → A) → view (f X) ≡ view X → view (heap_of (rested L t) t) ≡ view X
+      told view e = ap view account_same ∙ e
+
+      H : BelongingsStand was (rested l t) t
+      H = belongings_stand w k P I F on
+
+      same : {A : Type 0} (view : Belongings → A) → view g ≡ view (belongings_of_part P) → view (is.belongings t) ≡ view (was.belongings t)
+      same view e = seen g view e t
+
+      chunk_was : (c : Chunk) → In (is.belongings t).chunks c → In (was.belongings t).chunks c
+      chunk_was c i = subst (λ ks. In ks c) (same (λ (z : Belongings). z.chunks) refl) i
+
+      object_was : (o : Located) → In (objects is t) o → In (objects was t) o
+      object_was o i = subst (λ ks. In (objects_in ks) o) (same (λ (z : Belongings). z.chunks) refl) i
+
+      stands : BelongingsStand is (rested L t) t
+      stands = record {
+        names = subst (λ ks. HasNames ks (heap_of (rested L t) t)) (sym (same (λ (z : Belongings). z.chunks) refl))
+            (record { small = H.names.small ∙ sym (told (λ (h : Heap). h.chunks) (ap (λ (h : Heap). h.chunks) (chunks X))); large = H.names.large ∙ sym (told (λ (h : Heap). h.large) (ap (λ (h : Heap). h.large) (chunks X))) });
+        room = same (λ (z : Belongings). z.room) refl ∙ (H.room ∙ sym (told (λ (h : Heap). h.room) (ap (λ (h : Heap). h.room) (chunks X))));
+        since = ap (λ (z : Belongings). z.since) (at_belongings v' t g) ∙ (since ∙ sym (ap (λ (h : Heap). h.since) account_same));
+        count = λ live. same (λ (z : Belongings). z.count) refl ∙ (H.count (ap (λ (m : State). is_joined (slice_get m.tasks t)) rested_same ∙ live) ∙ ap (λ (m : State). length (row_of (slice_get m.store t))) rested_same);
+        owned = λ c i. kept c.number t (H.owned c (chunk_was c i));
+        inside = λ c o i q. H.inside c o (chunk_was c i) q;
+        once = λ o q i j e. H.once o q (object_was o i) (object_was q j) e;
+        named = λ o q i j e. H.named o q (object_was o i) (object_was q j) e;
+        laid = subst (λ ks. AreLaidOut ks (heap_of (rested L t) t).reserved) (sym (same (λ (z : Belongings). z.chunks) refl))
+            (subst (AreLaidOut (was.belongings t).chunks) (sym (told (λ (h : Heap). h.reserved) (ap (λ (h : Heap). h.reserved) (chunks X)))) H.laid);
+      }
+
+      pub kept_same : AreTaken → ((f X).begun ≡ X.begun → b ≡ p.begun) → SameObjects was is (rested l t) (rested L t)
+      kept_same taken begun = part_same g stands refl refl taken (λ q. begun (sym (ap (λ (h : Heap). h.begun) account_same) ∙ q))

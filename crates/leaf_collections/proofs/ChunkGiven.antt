@@ -1,6 +1,6 @@
 -- A part gets a chunk.
 use Rattle.std.proofs.Common.{◌≡◌, ◌⊎◌, ℕ, ◌+◌, ◌*◌, ◌/◌, ◌<◌, ◌≤◌, true, false, ◌&&◌, not, Bool, cond, Option, Some, None, [], ◌∷◌, ◌++◌, length, map, slice_get, option_map, is_none, is_some, nat_lt, ◌==◌, inl, inr, refl, ap, ap₂, sym, subst, ◌∙◌, arith, lt-ltb, le-ltb, eq-eqb, ne_eqb}
-use Rattle.std.proofs.lemmas.Bool.{both_ways, cases_eq, cases_lt, cond-false, cond-true, false≢true, leb-false}
+use Rattle.std.proofs.lemmas.Bool.{cases_eq, cases_lt, cond-false, cond-true, false≢true, leb-false}
 use Rattle.std.proofs.lemmas.Option.{same_Some}
 use Rattle.std.proofs.lemmas.List.{append-nil}
 use Rattle.listed.specs.RoomyValue.{RoomyValue}
@@ -35,11 +35,10 @@ use Rattle.core_relation.specs.Memory.{Chunk, Belongings, In, Memory, object_nam
 use Rattle.core_relation.specs.Layout.{AreLaidOut, reserved_chunks, reserved_units}
 use Rattle.core_relation.specs.Stands.{HasNames, BelongingsStand, large_chunks}
 use Rattle.core_relation.specs.Changes.{SameObjects}
-use Rattle.core_relation.specs.Counts.{AsksUnits, CountsGo}
-use Rattle.core_relation.specs.Since.{NotesStay}
+use Rattle.core_relation.specs.Counts.{AsksUnits}
 use Rattle.core_relation.specs.Whole.{BegunBy}
 use Rattle.core_relation.specs.Fits.{with_belongings}
-use Rattle.core_relation.proofs.changes.With.{at_belongings, off_belongings}
+use Rattle.core_relation.proofs.changes.With.{at_belongings}
 use Rattle.task_machine.specs.declared.part.Private.{Private}
 use Rattle.task_machine.specs.Accounts.{AreReserved, IsCounted}
 use Rattle.task_machine.specs.Fits.{IsShaped}
@@ -55,8 +54,8 @@ use Rattle.shared_value.specs.Entered.{refused}
 use Rattle.shared_value.proofs.NextStepAsks.{asks_is, counted_is}
 use Rattle.shared_value.proofs.CollectionUnderWay.{account_idle, none_begun}
 use Rattle.shared_value.proofs.HeapCounts.{small_names}
-use Rattle.shared_value.proofs.EntryMade.{entered, entry_on, tasks_apart}
-use Rattle.shared_value.proofs.NothingMoves.{notes_unchanged, quiet_others, quiet_own, quiet_world, same_value}
+use Rattle.shared_value.proofs.EntryMade.{entry_on, tasks_apart}
+use Rattle.shared_value.proofs.NothingMoves.{MovesNothing, notes_unchanged, quiet_others, quiet_own, quiet_world, same_value}
 use Rattle.shared_value.proofs.HeapForms.{reserved_none}
 use Rattle.shared_value.proofs.PartFitsMachine as link
 use Rattle.shared_value.proofs.UnitsMeasured.{all_kept, measured_both, measured_new, part_kept, taken_keeps}
@@ -176,8 +175,8 @@ module _ (w : SharedValue) (k : ℕ) (p : Private) (I : IsSharedValue w) (F : Fi
     abbrev Q : Private
     Q = record P { heap = g }
 
-    abbrev w' : SharedValue
-    w' = entered w e w.tree pool w.rests w.sets w.tasks_out w.outputs w.steps w.end j.room
+    abbrev pub w' : SharedValue
+    w' = record w { pool = pool; journal = record { items = w.journal.items ++ e ∷ []; room = j.room } }
 
     abbrev v' : Memory
     v' = value_of w'
@@ -221,26 +220,30 @@ module _ (w : SharedValue) (k : ℕ) (p : Private) (I : IsSharedValue w) (F : Fi
     objects_same : SameObjects v v' l L
     objects_same = change.same_objects w k p I F on more (chunk_held words) pool owner_kept owner_taken
 
-    notes : (u : ℕ) → NotesStay v v' u
-    notes u = record { keeps = refl; kept = refl; marked = refl }
-
     asks_units : AsksUnits (nat_lt w.settings.chunks (units_in_use w.pool + chunk_units (asked w.program l.machine t))) (tree_counts_of w) (tree_counts_of w') (chunk_units (asked w.program l.machine t))
     asks_units =
         subst (λ o. AsksUnits (nat_lt w.settings.chunks (units_in_use w.pool + chunk_units o)) (tree_counts_of w) (tree_counts_of w') (chunk_units o)) (sym asked_is)
         (subst (λ b. AsksUnits b (tree_counts_of w) (tree_counts_of w') (chunk_units (Some words))) (sym (ap (λ n. nat_lt w.settings.chunks (n + chunk_units (Some words))) (used_now w I) ∙ fits_free))
         (T.units ∙ ap (λ n. units_in_use w.pool + n) sized, refl))
 
-    counts : CountsGo w.program w.settings l (tree_counts_of w) (tree_counts_of w') k (ChunkOf t)
-    counts = (record { node = λ u. refl; task_out = λ u. refl; steps = refl; outputs = refl }, asks_units)
-
-    same : SameObjects v v' l (after w.program w.settings l e)
-    same = subst (SameObjects v v' l) (sym then) objects_same
-
     units_stay : (o : ℕ) → KeepsUnits w.pool pool o
     units_stay = taken_keeps w.pool pool number (record { owner = p.task; units = u }) T
 
+    moves : MovesNothing w w' e
+    moves = record {
+      enters = record { journal = refl; program = refl; settings = refl; halted = refl };
+      quiet = tt;
+      tasks = refl;
+      limit = T.rest.limit;
+      keeps = units_stay;
+      same = subst (SameObjects v v' l) (sym then) objects_same;
+      notes = λ u n. record { keeps = refl; kept = refl; marked = refl };
+      marks = λ u m. absurd m;
+      counts = (record { node = λ u. refl; task_out = λ u. refl; steps = refl; outputs = refl }, asks_units);
+    }
+
     pub chunk_world : IsSharedValue w'
-    chunk_world = quiet_world w e I free tt (λ u m. m) pool w.end j.room same notes counts T.rest.limit units_stay
+    chunk_world = quiet_world I free moves
 
     -- ---- THE PART
     abbrev before : Memory
@@ -379,40 +382,20 @@ module _ (w : SharedValue) (k : ℕ) (p : Private) (I : IsSharedValue w) (F : Fi
             by false = refl
 
     part_same : SameObjects before after_ (rested l t) (rested L t)
-    part_same = record {
-      belongings = change.all_stand w k p I F on more (chunk_held words) pool owner_kept (belongings_of_part Q) belongings_then;
-      objects = λ u. seen (λ (z : Belongings). objects_in z.chunks) objects_then u;
-      chunks = λ u e. elim (cases_eq u t) [
-        | inl q ↦ absurd (both_ways (is_waiting (slice_get l.machine.tasks t)) idle (ap (λ z. is_waiting (slice_get l.machine.tasks z)) (sym q) ∙ (ap (λ (m : State). is_waiting (slice_get m.tasks u)) (sym (heap_machine l t let_go)) ∙ e)))
-        | inr ne ↦ ap (λ (z : Belongings). length z.chunks) (off_belongings v' t (belongings_of_part Q) u ne ∙ sym (off_belongings v t (belongings_of_part P) u ne))
-      ];
-      frames = λ u. seen (λ (z : Belongings). z.frames) refl u;
-      result = λ u. seen (λ (z : Belongings). z.result) refl u;
-      view = λ u. seen (λ (z : Belongings). z.view) refl u;
-      owner = owner_kept;
-      taken = λ c u e. elim (owner_taken c u e) [
-        | inl q ↦ inl q
-        | inr q ↦ inr (ap (λ (m : State). is_waiting (slice_get m.tasks u)) (heap_machine l t let_go) ∙ q.0, ap (λ (m : State). is_some (slice_get m.tasks u)) (heap_machine l t let_go) ∙ q.1)
-      ];
-      begun = λ u e. seen (λ (z : Belongings). z.begun) refl u;
-      sources = λ u. refl;
-    }
-      where
-        seen : {A : Type 0} (view : Belongings → A) → view (belongings_of_part Q) ≡ view (belongings_of_part P) → (u : ℕ) → view (after_.belongings u) ≡ view (before.belongings u)
-        seen view e u = change.seen w k p I F on more (chunk_held words) pool owner_kept (belongings_of_part Q) view e u
+    part_same = change.part_same w k p I F on more (chunk_held words) pool owner_kept (belongings_of_part Q) belongings_then refl objects_then owner_taken (λ q. refl)
 
     none_then : (heap_of (rested L t) t).begun ≡ None
     none_then = ap (λ (z : Heap). z.begun) account_then ∙ (chunk_begun words there.0 ∙ (ap (λ o. (or_fresh o).begun) (sym there.1) ∙ account_idle w k P F on idle_part))
 
     pub chunk_part : Fits w' k Q
     chunk_part =
-        quiet_own w e I free tt (λ u m. m) pool w.end j.room same notes counts T.rest.limit units_stay k p g p.begun F form_then measured_then
+        quiet_own I free moves k p g p.begun F form_then measured_then
         (subst (λ (z : Ledger). SameObjects before after_ (rested l t) (rested z t)) (sym then) part_same)
         (subst (λ (z : Ledger). BegunBy after_ (rested z t) t p.begun) (sym then) (subst (λ o. BegunBy after_ (rested L t) t o) (sym idle_part) none_then))
 
     -- ---- THE PARTS OF OTHERS
     pub chunk_others : OthersFit w w' k
-    chunk_others o q ne G = quiet_others w e I free tt (λ u m. m) pool w.end j.room same notes counts T.rest.limit units_stay o q (tasks_apart w k o P q F G ne) G
+    chunk_others o q ne G = quiet_others I free moves o q (tasks_apart w k o P q F G ne) G
 
 -- ---- WHERE TOO FEW ARE FREE
 module _ (w : SharedValue) (k : ℕ) (p : Private) (I : IsSharedValue w) (F : Fits w k (record p { fresh = 0 })) (on : (accounts w).end ≡ None) (free : refused w (record { worker = k; kind = ChunkOf p.task }) ≡ None)
@@ -424,16 +407,13 @@ module _ (w : SharedValue) (k : ℕ) (p : Private) (I : IsSharedValue w) (F : Fi
   full_end = Some (PoolOf (units_in_use w.pool))
 
   abbrev ended : SharedValue
-  ended = entered w full_entry w.tree w.pool w.rests w.sets w.tasks_out w.outputs w.steps full_end j.room
+  ended = record w { end = full_end; journal = record { items = w.journal.items ++ full_entry ∷ []; room = j.room } }
 
   abbrev full_ledger : Ledger
   full_ledger = record (accounts w) { end = full_end }
 
   ends_so : after w.program w.settings (accounts w) full_entry ≡ full_ledger
   ends_so = full_then w k p I F on free words asks full
-
-  full_same : SameObjects (value_of w) (value_of w) (accounts w) (after w.program w.settings (accounts w) full_entry)
-  full_same = subst (SameObjects (value_of w) (value_of w) (accounts w)) (sym ends_so) (same_value (value_of w) (accounts w) full_ledger refl (λ u. refl) (stands_now w I on).belongings.belongings)
 
   full_units : AsksUnits (nat_lt w.settings.chunks (units_in_use w.pool + chunk_units (asked w.program (accounts w).machine p.task))) (tree_counts_of w) (tree_counts_of ended) (chunk_units (asked w.program (accounts w).machine p.task))
   full_units =
@@ -442,14 +422,24 @@ module _ (w : SharedValue) (k : ℕ) (p : Private) (I : IsSharedValue w) (F : Fi
       (subst (λ b. AsksUnits b (tree_counts_of w) (tree_counts_of ended) (chunk_units (Some words))) (sym (lt-ltb w.settings.chunks (units_in_use w.pool + chunk_units (Some words)) (omega (arith, full, limit))))
       (refl, refl))
 
-  full_counts : CountsGo w.program w.settings (accounts w) (tree_counts_of w) (tree_counts_of ended) k (ChunkOf p.task)
-  full_counts = (record { node = λ u. refl; task_out = λ u. refl; steps = refl; outputs = refl }, full_units)
+  moves_full : MovesNothing w ended full_entry
+  moves_full = record {
+    enters = record { journal = refl; program = refl; settings = refl; halted = refl };
+    quiet = tt;
+    tasks = refl;
+    limit = refl;
+    keeps = all_kept w.pool;
+    same = subst (SameObjects (value_of w) (value_of w) (accounts w)) (sym ends_so) (same_value (value_of w) (accounts w) full_ledger refl (λ u. refl) (stands_now w I on).belongings.belongings);
+    notes = λ u n. notes_unchanged (value_of w) u;
+    marks = λ u m. absurd m;
+    counts = (record { node = λ u. refl; task_out = λ u. refl; steps = refl; outputs = refl }, full_units);
+  }
 
   pub full_world : IsSharedValue ended
-  full_world = quiet_world w full_entry I free tt (λ u m. m) w.pool full_end j.room full_same (notes_unchanged (value_of w)) full_counts refl (all_kept w.pool)
+  full_world = quiet_world I free moves_full
 
   pub full_others : OthersFit w ended k
-  full_others o q ne G = quiet_others w full_entry I free tt (λ u m. m) w.pool full_end j.room full_same (notes_unchanged (value_of w)) full_counts refl (all_kept w.pool) o q (tasks_apart w k o (record p { fresh = 0 }) q F G ne) G
+  full_others o q ne G = quiet_others I free moves_full o q (tasks_apart w k o (record p { fresh = 0 }) q F G ne) G
 
   abbrev full_belongings : Memory
   full_belongings = with_belongings (value_of w) p.task (belongings_of_part (record p { fresh = 0 }))
@@ -473,7 +463,7 @@ module _ (w : SharedValue) (k : ℕ) (p : Private) (I : IsSharedValue w) (F : Fi
   -- the part, whose heap may have places for other numbers of chunks
   pub full_part : (a b : ℕ) → Fits ended k (record p { fresh = 0; heap = with_places p.heap a b })
   full_part a b =
-      quiet_own w full_entry I free tt (λ u m. m) w.pool full_end j.room full_same (notes_unchanged (value_of w)) full_counts refl (all_kept w.pool) k p (with_places p.heap a b) p.begun F (places_form p.heap a b F.form) F.measured
+      quiet_own I free moves_full k p (with_places p.heap a b) p.begun F (places_form p.heap a b F.form) F.measured
       (subst (λ (z : Ledger). SameObjects full_belongings full_belongings (rested (accounts w) p.task) (rested z p.task)) (sym ends_so)
       (same_value full_belongings (rested (accounts w) p.task) (rested full_ledger p.task) (heap_machine full_ledger p.task let_go ∙ sym (heap_machine (accounts w) p.task let_go)) heaps_rested (fits_now w k (record p { fresh = 0 }) F on).stands.belongings))
       (subst (λ (z : Ledger). BegunBy full_belongings (rested z p.task) p.task p.begun) (sym ends_so) (subst (λ o. BegunBy full_belongings (rested full_ledger p.task) p.task o) (sym full_idle) none_full))

@@ -1,5 +1,5 @@
 -- A leaf collection of a part begins: the shared value and the parts of others.
-use Rattle.std.proofs.Common.{◌≡◌, ℕ, ◌+◌, true, false, Some, None, List, [], map, slice_get, option_map, is_some, ◌⊎◌, inl, inr, refl, ap, sym, ◌∙◌}
+use Rattle.std.proofs.Common.{◌≡◌, ℕ, ◌+◌, true, false, Some, None, List, [], ◌∷◌, ◌++◌, map, slice_get, option_map, is_some, ◌⊎◌, inl, inr, refl, ap, sym, ◌∙◌}
 use Rattle.std.proofs.lemmas.Bool.{cases_Bool}
 use Rattle.std.proofs.lemmas.Option.{same_Some}
 use Rattle.listed.specs.RoomyValue.{RoomyValue}
@@ -15,22 +15,19 @@ use Rattle.object_layout.specs.ChunkValue.{ChunkValue, number_of}
 use Rattle.chunk_pool.specs.PoolValue.{PoolValue, TakesAll, slot_in, units_in_use}
 use Rattle.chunk_pool.proofs.OwnerLaws.{taken_are_owned}
 use Rattle.alloc_path.specs.LeafHeapValue.{LeafHeapValue, with_places}
-use Rattle.core_relation.specs.Changes.{SameObjects}
-use Rattle.core_relation.specs.Counts.{CountsGo}
-use Rattle.core_relation.specs.Since.{NotesStay}
 use Rattle.core_relation.specs.Memory.{In, Memory}
 use Rattle.task_machine.specs.declared.part.Begun.{Begun}
 use Rattle.task_machine.specs.declared.part.Private.{Private}
-use Rattle.shared_value.specs.SharedValue.{SharedValue, accounts, tree_counts_of, value_of}
+use Rattle.shared_value.specs.SharedValue.{SharedValue, accounts, value_of}
 use Rattle.shared_value.specs.Measured.{KeepsUnits}
 use Rattle.shared_value.specs.Stands.{IsSharedValue}
 use Rattle.shared_value.specs.Fits.{Fits, OthersFit}
 use Rattle.shared_value.specs.Due.{take_by}
 use Rattle.shared_value.specs.Entered.{refused}
 use Rattle.shared_value.specs.Roots.{roots_of}
-use Rattle.shared_value.proofs.EntryMade.{entered, entry_on, tasks_apart}
+use Rattle.shared_value.proofs.EntryMade.{entry_on, tasks_apart}
 use Rattle.shared_value.proofs.FreeChunks.{take_is}
-use Rattle.shared_value.proofs.NothingMoves.{quiet_others, quiet_world}
+use Rattle.shared_value.proofs.NothingMoves.{MovesNothing, quiet_others, quiet_world}
 use Rattle.shared_value.proofs.UnitsMeasured.{all_taken_keep}
 use Rattle.shared_value.proofs.BeforeTheEnd.{part_idle}
 use Rattle.shared_value.proofs.RootsHeld.{chunk_in}
@@ -78,8 +75,8 @@ module _ (w : SharedValue) (k : ℕ) (p : Private) (I : IsSharedValue w) (F : Fi
     abbrev Q : Private
     Q = record P { heap = g; begun = Some b }
 
-    abbrev w' : SharedValue
-    w' = entered w e w.tree pool w.rests w.sets w.tasks_out w.outputs w.steps w.end j.room
+    abbrev pub w' : SharedValue
+    w' = record w { pool = pool; journal = record { items = w.journal.items ++ e ∷ []; room = j.room } }
 
     abbrev v' : Memory
     v' = value_of w'
@@ -108,26 +105,29 @@ module _ (w : SharedValue) (k : ℕ) (p : Private) (I : IsSharedValue w) (F : Fi
       | inr h ↦ inl (sym (owner_same c h) ∙ q)
     ]
 
-    -- NOTHING MOVES
-    pub same : SameObjects v v' l L
-    same = change.same_objects w k p I F on begun_with (λ z. refl) pool owner_kept owner_taken
-
-    pub notes : (u : ℕ) → NotesStay v v' u
-    notes u = record { keeps = refl; kept = refl; marked = refl }
-
-    pub counts : CountsGo w.program w.settings l (tree_counts_of w) (tree_counts_of w') k (Begin t)
-    counts = (
-      record { node = λ u. refl; task_out = λ u. refl; steps = refl; outputs = refl },
-      T.numbers.numbered.units ∙ ap (λ n. units_in_use w.pool + n) (T.numbers.count ∙ sym (take_is w k p I F)),
-      refl,
-    )
-
     pub units_stay : (o : ℕ) → KeepsUnits w.pool pool o
     units_stay = all_taken_keep w.pool pool p.task (take_by (small_words p.heap.chunks)) [] news T
 
+    pub moves : MovesNothing w w' e
+    moves = record {
+      enters = record { journal = refl; program = refl; settings = refl; halted = refl };
+      quiet = tt;
+      tasks = refl;
+      limit = T.limit;
+      keeps = units_stay;
+      same = change.same_objects w k p I F on begun_with (λ z. refl) pool owner_kept owner_taken;
+      notes = λ u n. record { keeps = refl; kept = refl; marked = refl };
+      marks = λ u m. absurd m;
+      counts = (
+        record { node = λ u. refl; task_out = λ u. refl; steps = refl; outputs = refl },
+        T.numbers.numbered.units ∙ ap (λ n. units_in_use w.pool + n) (T.numbers.count ∙ sym (take_is w k p I F)),
+        refl,
+      );
+    }
+
     pub begin_world : IsSharedValue w'
-    begin_world = quiet_world w e I free tt (λ u m. m) pool w.end j.room same notes counts T.limit units_stay
+    begin_world = quiet_world I free moves
 
     -- THE PARTS OF OTHERS
     pub begin_others : OthersFit w w' k
-    begin_others o q ne G = quiet_others w e I free tt (λ u m. m) pool w.end j.room same notes counts T.limit units_stay o q (tasks_apart w k o P q F G ne) G
+    begin_others o q ne G = quiet_others I free moves o q (tasks_apart w k o P q F G ne) G

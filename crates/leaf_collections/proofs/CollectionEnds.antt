@@ -8,7 +8,7 @@ use Rattle.listed.proofs.Places.{each_from, got_some, in_map, map_in, read_in}
 use Rattle.listed.proofs.Options.{none_some}
 use Rattle.hh_model.specs.declared.data.Object.{Object}
 use Rattle.hh_model.specs.Effect.{object_at}
-use Rattle.hh_model.specs.Step.{is_running, is_waiting, runs}
+use Rattle.hh_model.specs.Step.{is_running, is_waiting}
 use Rattle.hh_model.specs.declared.data.State.{State}
 use Rattle.hh_model.proofs.Root.{runs_tell}
 use Rattle.run_trace.specs.Entry.{EntryValue}
@@ -63,9 +63,9 @@ use Rattle.shared_value.specs.Fits.{Fits, OthersFit, belongings_of_part, part_of
 use Rattle.task_homes.specs.HomesValue.{refs_of_rest}
 use Rattle.task_homes.specs.RestingHeaps.{Resting, refs_for, refs_in, with_ref_in}
 use Rattle.shared_value.specs.Roots.{heaps_of, sources_of}
-use Rattle.shared_value.specs.Entered.{refused}
+use Rattle.shared_value.specs.Entered.{Enters, refused}
 use Rattle.shared_value.proofs.CellsRead.{fresh_off, seen_object}
-use Rattle.shared_value.proofs.EntryMade.{accounts_are, entered, entered_world, entry_on, worker_on, part_fits, free_at_rest, free_rests}
+use Rattle.shared_value.proofs.EntryMade.{accounts_are, entered_world, entry_on, fits_then, free_at_rest, free_rests, part_fits, worker_when_out}
 use Rattle.shared_value.proofs.FreeChunks.{refs_long}
 use Rattle.shared_value.proofs.HeldTasks.{fits_held, stands_for_held}
 use Rattle.shared_value.proofs.FieldsNoted.{are_once, fresh_by, noted_sources, owned_before}
@@ -181,7 +181,10 @@ module _ (w : SharedValue) (k : ℕ) (p : Private) (moved : Moved) (I : IsShared
     led = lead_all moved.moved.items ss (heaps_of w) Good (are_once ss once) (λ s i. (at s i).place) formed
 
     abbrev pub w' : SharedValue
-    w' = entered w e w.tree pool H'.rests w.sets w.tasks_out w.outputs w.steps w.end room
+    w' = record w { pool = pool; rests = H'.rests; journal = record { items = w.journal.items ++ e ∷ []; room = room } }
+
+    enters : Enters w w' e
+    enters = record { journal = refl; program = refl; settings = refl; halted = refl }
 
     abbrev v' : Memory
     v' = value_of w'
@@ -262,7 +265,7 @@ module _ (w : SharedValue) (k : ℕ) (p : Private) (moved : Moved) (I : IsShared
     legal' = legal_then w.program w.settings w.journal.items e I.legal free
 
     accounts' : accounts w' ≡ L
-    accounts' = accounts_are w e I free w.tree pool H'.rests w.sets w.tasks_out w.outputs w.steps w.end room
+    accounts' = accounts_are I free enters
 
     on' : L.end ≡ None
     on' = by (slice_get l.heaps t) ∙ on
@@ -300,31 +303,25 @@ module _ (w : SharedValue) (k : ℕ) (p : Private) (moved : Moved) (I : IsShared
     measured_then u r is none = measured_kept w.pool pool u r.heap.chunks (units_stay u (λ q. none k ((S.tree_counts.task_out k u).1 (ap (λ z. (heap_of l z).worker) q ∙ F.out)))) (led.measured u r (free_rests w u I on none) is)
 
     pub end_world : IsSharedValue w'
-    end_world = entered_world w e I free w.tree pool H'.rests w.sets w.tasks_out w.outputs w.steps w.end room (led.count ∙ I.made) I.noted refl G.limit stands_then led.form measured_then
+    end_world = entered_world I free enters (record { made = led.count ∙ I.made; noted = I.noted; workers = refl; limit = G.limit; heaps = led.form; measured = measured_then }) stands_then
 
     -- PARTS
     held_value : (q : Part) → WorkerFits w.program w.settings q v'' L → WorkerFits w.program w.settings q v' L
     held_value q fits = fits_held v'' (λ u. v'.belongings u) L same w.program w.settings q sound' going' fits
 
     pub end_fits : Fits w' k (ended p)
-    end_fits = record {
-      out = worker_on w e I free w.tree pool H'.rests w.sets w.tasks_out w.outputs w.steps w.end room end_world k t refl F.out;
-      fits = subst (WorkerFits w.program w.settings (part_of w.settings (ended p)) v') (sym accounts')
-          (held_value (part_of w.settings (ended p))
-          (subst (λ n. WorkerFits w.program w.settings (part_for w.settings t (belongings_of_part (ended p)) n) v'' L) (sym F.fresh)
-          (ends_fit_then w.program w.settings w.journal.items I.legal v v'' k t moved.taken moved.given moved.left F.belongings (belongings_of_part (ended p)) f free C ends refl)));
-      form = F.form;
-      measured = (measured_given w.pool pool moved.back.items t p.heap.chunks G own_apart F.measured, λ n i. absurd i);
-      leaf_limit = F.leaf_limit;
-      field_limit = F.field_limit;
-    }
+    end_fits =
+        fits_then I free enters end_world k (ended p) (worker_when_out I free enters end_world k t ((S.tree_counts.task_out k t).1 F.out)) F.leaf_limit F.field_limit F.form (measured_given w.pool pool moved.back.items t p.heap.chunks G own_apart F.measured, λ n i. absurd i)
+        (held_value (part_of w.settings (ended p))
+        (subst (λ n. WorkerFits w.program w.settings (part_for w.settings t (belongings_of_part (ended p)) n) v'' L) (sym F.fresh)
+        (ends_fit_then w.program w.settings w.journal.items I.legal v v'' k t moved.taken moved.given moved.left F.belongings (belongings_of_part (ended p)) f free C ends refl)))
 
     apart : (u : ℕ) (q : Private) → (u ≡ k → ⊥) → Fits w u q → q.task ≡ t → ⊥
     apart u q ne Q same = ne (same_Some u k (sym Q.out ∙ (ap (λ z. (heap_of l z).worker) same ∙ F.out)))
 
     pub end_others : OthersFit w w' k
     end_others u q ne Q =
-        part_fits w e I free w.tree pool H'.rests w.sets w.tasks_out w.outputs w.steps w.end room end_world u q q refl Q refl refl refl Q.form (part_kept w.pool pool q (units_stay q.task (apart u q ne Q)) Q.measured)
+        part_fits I free enters end_world u q q refl Q refl Q.form (part_kept w.pool pool q (units_stay q.task (apart u q ne Q)) Q.measured)
         (held_value (part_of w.settings q)
         (ends_leave w.program w.settings w.journal.items I.legal v v'' k t moved.taken moved.given moved.left F.belongings (belongings_of_part (ended p)) f free C ends (part_of w.settings q)
         (λ same'. apart u q ne Q (sym same')) Q.fits))

@@ -1,9 +1,9 @@
 -- The value once an object of another task is written: the object alone changes.
-use Rattle.std.proofs.Common.{◌≡◌, ℕ, cond, Option, Some, None, List, map, slice_get, slice_set, is_none, inl, inr, refl, ap, ap₂, sym, subst, ◌∙◌}
+use Rattle.std.proofs.Common.{◌≡◌, ℕ, ◌<◌, length, cond, Option, Some, None, List, map, slice_get, slice_set, is_none, inl, inr, refl, ap, ap₂, sym, subst, ◌∙◌}
 use Rattle.std.specs.Option.{option_flatten}
 use Rattle.std.proofs.lemmas.Bool.{cases_eq, cond-true}
 use Rattle.std.proofs.lemmas.Option.{same_Some}
-use Rattle.listed.proofs.Members.{got_other, got_same}
+use Rattle.listed.proofs.Members.{got_other, got_same, got_within}
 use Rattle.hh_model.specs.declared.data.Name.{Name}
 use Rattle.run_ledger.specs.declared.data.Ledger.{Ledger}
 use Rattle.run_ledger.specs.Heaps.{heap_of}
@@ -32,8 +32,8 @@ use Rattle.task_homes.specs.declared.task_at_rest.Work.{Work}
 use Rattle.task_homes.specs.declared.task_at_rest.Work.TheVariants.{Calls, Result}
 use Rattle.shared_value.specs.SharedValue.{SharedValue, accounts, belongings_by, belongings_in, belongings_of, no_belongings, rest_at, value_by, value_of, with_marks}
 use Rattle.shared_value.specs.Objects.{chunks_of}
-use Rattle.shared_value.specs.Measured.{AreMeasured, RestsAreMeasured}
 use Rattle.shared_value.specs.Stands.{HeapForm, IsSharedValue}
+use Rattle.shared_value.proofs.EntryMade.{IsWell, free_at_rest}
 use Rattle.shared_value.specs.Fits.{Fits, belongings_of_part}
 use Rattle.shared_value.proofs.FieldsLed.{by_chunks}
 use Rattle.shared_value.proofs.CellsRead.{seen_object}
@@ -132,22 +132,11 @@ module _ (w : SharedValue) (k : ℕ) (p : Private) (I : IsSharedValue w) (F : Fi
           by (Some x) e = ap Some e
 
       -- every heap keeps its form
-      pub forms : (z : ℕ) (s : Rest) → rest_at rests z ≡ Some s → HeapForm s.heap
-      forms z s e = elim (cases_eq z u) [
-        | inl q ↦
-            let is : s ≡ r' = same_Some s r' (sym e ∙ (ap (rest_at rests) q ∙ ap option_flatten (got_same w.rests u (Some r) (Some r') was_there))) in
-            subst (λ (x : Rest). HeapForm x.heap) (sym is) (form_written r.heap a d form mark size)
-        | inr ne ↦ I.heaps z s (sym (ap option_flatten (got_other w.rests u z (Some r') ne)) ∙ e)
-      ]
+      pub well : IsWell w.pool u r'
+      well = (form_written r.heap a d form mark size, measured_written w.pool u r.heap.chunks a d (I.measured u r O.there (free_at_rest w u I on O.rests)))
 
-      -- and the pool has its chunks' units still
-      pub measures : RestsAreMeasured w.pool rests w.tasks_out
-      measures z s e f' = elim (cases_eq z u) [
-        | inl q ↦
-            let is : s ≡ r' = same_Some s r' (sym e ∙ (ap (rest_at rests) q ∙ ap option_flatten (got_same w.rests u (Some r) (Some r') was_there))) in
-            subst (λ (x : Rest). AreMeasured w.pool z x.heap.chunks) (sym is) (measured_written w.pool z r.heap.chunks a d (I.measured z r (ap (rest_at w.rests) q ∙ O.there) f'))
-        | inr ne ↦ I.measured z s (sym (ap option_flatten (got_other w.rests u z (Some r') ne)) ∙ e) f'
-      ]
+      pub has_home : u < length w.rests
+      has_home = got_within w.rests u (Some r) was_there
 
       -- the belongings of the object's owner
       abbrev changed : Belongings → Belongings

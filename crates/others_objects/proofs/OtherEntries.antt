@@ -1,19 +1,16 @@
 -- Entries of a part's fresh steps and one that works on an object of another task, as the calls have them.
-use Rattle.std.proofs.Common.{◌≡◌, ℕ, ℤ, suc, ◌+◌, ◌++◌, Option, Some, None, ◌∷◌, [], refl, ap, sym, subst, ◌∙◌}
+use Rattle.std.proofs.Common.{◌≡◌, ℕ, ℤ, ◌+◌, ◌++◌, Option, Some, None, ◌∷◌, [], ap, sym, subst, ◌∙◌}
 use Rattle.std.proofs.lemmas.Option.{same_Some}
 use Rattle.listed.specs.RoomyValue.{RoomyValue}
 use Rattle.hh_lang.specs.declared.program.Line.{Line}
-use Rattle.hh_model.specs.declared.data.Frame.{Frame as ModelFrame}
 use Rattle.hh_model.specs.declared.data.Name.{Name}
 use Rattle.hh_model.specs.declared.data.Task.{Task}
 use Rattle.hh_model.specs.Effect.{onward, with_int, with_ref}
 use Rattle.hh_model.specs.Step.{fetched}
-use Rattle.run_trace.specs.declared.entry.Kind.TheVariants.{Ran}
 use Rattle.run_trace.specs.Entry.{EntryValue}
 use Rattle.run_ledger.specs.declared.data.Ledger.{Ledger}
 use Rattle.run_ledger.specs.Steps.{task_steps}
 use Rattle.object_layout.specs.declared.word.Addr.{Addr}
-use Rattle.task_frames.specs.declared.frames.Frame.{Frame}
 use Rattle.task_frames.specs.FramesValue.{with_int as with_number, with_next, with_reference}
 use Rattle.ledger_step_laws.specs.Last.{Splits}
 use Rattle.core_relation.specs.Reads.{FrameIsRead}
@@ -22,17 +19,16 @@ use Rattle.core_relation.proofs.changes.Target.{goes_on}
 use Rattle.task_machine.specs.declared.part.Private.{Private}
 use Rattle.shared_value.specs.SharedValue.{SharedValue, accounts}
 use Rattle.shared_value.specs.Stands.{IsSharedValue}
-use Rattle.shared_value.specs.Fits.{Fits, OthersFit}
+use Rattle.shared_value.specs.Fits.{Fits}
 use Rattle.shared_value.specs.Entered.{refused}
 use Rattle.own_steps.specs.Alone.{GoesAlone, IsShared, alone_entry}
 use Rattle.own_steps.proofs.AloneEntries.{last_free}
 use Rattle.own_steps.proofs.LastStepEntry as last
 use Rattle.own_steps.proofs.LastStepEntry.{last_entry}
-use Rattle.own_steps.proofs.LastSteps.{one_added}
 use Rattle.others_objects.specs.declared.other.OtherStep.{OtherStep}
 use Rattle.others_objects.specs.declared.other.OtherStep.TheVariants.{SetsNumber, SetsReference}
-use Rattle.others_objects.specs.Other.{ReadsTo, SaysOther, TellsOther, then_places}
-use Rattle.others_objects.proofs.ReadEntered.{read_goes, read_others, read_part, read_world}
+use Rattle.others_objects.specs.Other.{SaysOther, TellsOther, then_places}
+use Rattle.others_objects.proofs.ReadEntered.{read_goes, read_world}
 
 module _ (w : SharedValue) (k : ℕ) (p : Private) (I : IsSharedValue w) (F : Fits w k p) (shared : IsShared w p) (free : refused w (alone_entry k p) ≡ None) where
   abbrev pub free_so : refused w (last_entry k p) ≡ None
@@ -60,27 +56,6 @@ module _ (w : SharedValue) (k : ℕ) (p : Private) (I : IsSharedValue w) (F : Fi
       fetched_of x = fetched w.program x.top
 
   -- A READ
-  module _ (top : ModelFrame) (T : ReadsTo M.machine t S.task S.line top) (g : Frame) (read : FrameIsRead (then_places w p) p.frames.top S.task.top → FrameIsRead (then_places w p) g top) (j : RoomyValue EntryValue) where
-    abbrev read_entered : SharedValue
-    read_entered = record w { steps = w.steps + (p.fresh + 1); journal = record { items = w.journal.items ++ alone_entry k p ∷ []; room = j.room } }
-
-    abbrev read_to : Private
-    read_to = record p { frames = record { below = p.frames.below; top = g }; fresh = 0 }
-
-    read_is : record w { steps = w.steps + suc p.fresh; journal = record { items = w.journal.items ++ last_entry k p ∷ []; room = j.room } } ≡ read_entered
-    read_is = ap (λ n. let z : SharedValue = record w { steps = w.steps + n; journal = record { items = w.journal.items ++ record { worker = k; kind = Ran p.task n } ∷ []; room = j.room } } in z) (one_added p.fresh)
-
-    read_world_so : IsSharedValue read_entered
-    read_world_so = subst IsSharedValue read_is (read_world w k p I F shared free_so top T g read j)
-
-    read_goes_so : GoesAlone w read_entered k p read_to
-    read_goes_so = record {
-      enters = record { journal = refl; program = refl; settings = refl; halted = refl };
-      goes = subst (λ (z : SharedValue). (accounts z).end ≡ None) read_is (read_goes w k p I F shared free_so top T g read j);
-      fits = subst (λ (z : SharedValue). Fits z k read_to) read_is (read_part w k p I F shared free_so top T g read j);
-      part = refl;
-      others = subst (λ (z : SharedValue). OthersFit w z k) read_is (read_others w k p I F shared free_so top T g read j);
-    }
 
   -- of a number
   module _ (d : ℕ) (z : ℤ) (line : ℕ) (T : TellsOther w p (SetsNumber d z) line) (j : RoomyValue EntryValue) where
@@ -94,10 +69,10 @@ module _ (w : SharedValue) (k : ℕ) (p : Private) (I : IsSharedValue w) (F : Fi
     number_after = record w { steps = w.steps + (p.fresh + 1); journal = record { items = w.journal.items ++ alone_entry k p ∷ []; room = j.room } }
 
     pub number_world : IsSharedValue number_after
-    number_world = read_world_so (onward (with_int S.task.top d z)) (said (SetsNumber d z) line T).1 (with_next (with_number p.frames d z) (p.frames.top.next + 1)).top number_read j
+    number_world = read_world w k p I F shared free_so (onward (with_int S.task.top d z)) (said (SetsNumber d z) line T).1 (with_next (with_number p.frames d z) (p.frames.top.next + 1)).top number_read j
 
     pub number_goes : GoesAlone w number_after k p number_part
-    number_goes = read_goes_so (onward (with_int S.task.top d z)) (said (SetsNumber d z) line T).1 (with_next (with_number p.frames d z) (p.frames.top.next + 1)).top number_read j
+    number_goes = read_goes w k p I F shared free_so (onward (with_int S.task.top d z)) (said (SetsNumber d z) line T).1 (with_next (with_number p.frames d z) (p.frames.top.next + 1)).top number_read j
 
   -- of a reference
   module _ (d : ℕ) (r : Option Addr) (line : ℕ) (T : TellsOther w p (SetsReference d r) line) (j : RoomyValue EntryValue) where
@@ -119,7 +94,7 @@ module _ (w : SharedValue) (k : ℕ) (p : Private) (I : IsSharedValue w) (F : Fi
     reference_after = record w { steps = w.steps + (p.fresh + 1); journal = record { items = w.journal.items ++ alone_entry k p ∷ []; room = j.room } }
 
     pub reference_world : IsSharedValue reference_after
-    reference_world = read_world_so (onward (with_ref S.task.top d name)) (said (SetsReference d r) line T).1.1 (with_next (with_reference p.frames d r) (p.frames.top.next + 1)).top reference_read j
+    reference_world = read_world w k p I F shared free_so (onward (with_ref S.task.top d name)) (said (SetsReference d r) line T).1.1 (with_next (with_reference p.frames d r) (p.frames.top.next + 1)).top reference_read j
 
     pub reference_goes : GoesAlone w reference_after k p reference_part
-    reference_goes = read_goes_so (onward (with_ref S.task.top d name)) (said (SetsReference d r) line T).1.1 (with_next (with_reference p.frames d r) (p.frames.top.next + 1)).top reference_read j
+    reference_goes = read_goes w k p I F shared free_so (onward (with_ref S.task.top d name)) (said (SetsReference d r) line T).1.1 (with_next (with_reference p.frames d r) (p.frames.top.next + 1)).top reference_read j

@@ -1,5 +1,5 @@
 -- Stores into objects of other tasks, as the calls have them.
-use Rattle.std.proofs.Common.{◌≡◌, ℕ, ℤ, suc, ◌+◌, ◌<◌, ◌++◌, Option, Some, None, List, [], ◌∷◌, length, slice_get, slice_set, option_map, refl, ap, sym, subst, ◌∙◌}
+use Rattle.std.proofs.Common.{◌≡◌, ℕ, ℤ, ◌<◌, Option, Some, None, List, length, slice_get, slice_set, option_map, refl, ap, sym, subst, ◌∙◌}
 use Rattle.std.specs.Prelude.{slice_index_or}
 use Rattle.std.proofs.lemmas.Option.{same_Some, slice_get-get_or}
 use Rattle.listed.proofs.Members.{got_same}
@@ -15,7 +15,6 @@ use Rattle.hh_model.specs.Effect.{Goes, effect, int_in, object_at, place_in, ref
 use Rattle.hh_model.specs.Step.{follow, owner_of, runs, setting}
 use Rattle.hh_model.proofs.Changes.{place_within}
 use Rattle.run_trace.specs.Entry.{EntryValue}
-use Rattle.run_trace.specs.declared.entry.Kind.TheVariants.{Ran}
 use Rattle.run_ledger.specs.declared.data.Ledger.{Ledger}
 use Rattle.run_ledger.specs.Steps.{task_steps, touched}
 use Rattle.object_layout.specs.declared.word.Addr.{Addr}
@@ -37,7 +36,7 @@ use Rattle.task_machine.proofs.Owned.{born_object}
 use Rattle.task_homes.specs.declared.task_at_rest.Rest.{Rest}
 use Rattle.shared_value.specs.SharedValue.{SharedValue, accounts, value_of}
 use Rattle.shared_value.specs.Stands.{IsSharedValue}
-use Rattle.shared_value.specs.Fits.{Fits, OthersFit, belongings_of_part}
+use Rattle.shared_value.specs.Fits.{Fits, belongings_of_part}
 use Rattle.shared_value.specs.Entered.{refused}
 use Rattle.shared_value.proofs.PartFitsMachine as link
 use Rattle.shared_value.proofs.FreeChunks.{refs_long}
@@ -45,8 +44,6 @@ use Rattle.own_steps.specs.Alone.{GoesAlone, IsShared}
 use Rattle.own_steps.proofs.LastStepEntry as last
 use Rattle.own_steps.proofs.LastStepEntry.{last_entry}
 use Rattle.own_steps.proofs.OtherStepKinds.{same_object, writing}
-use Rattle.own_steps.proofs.LastSteps.{one_added}
-use Rattle.others_objects.specs.Other.{put_rest}
 use Rattle.others_objects.proofs.ForeignObject.{IsForeign, in_register, x}
 use Rattle.others_objects.proofs.ObjectWritten as other
 use Rattle.others_objects.proofs.StoreValue as stores
@@ -77,15 +74,6 @@ module _ (w : SharedValue) (k : ℕ) (p : Private) (I : IsSharedValue w) (F : Fi
 
   abbrev pub X : Task
   X = x w k p I F on
-
-  -- the value once so many steps are entered
-  abbrev pub entered_by : List (Option Rest) → List SetOf → ℕ → RoomyValue EntryValue → SharedValue
-  entered_by rests sets m space = record w {
-    rests = rests;
-    sets = sets;
-    steps = w.steps + m;
-    journal = record { items = w.journal.items ++ record { worker = k; kind = Ran p.task m } ∷ []; room = space.room };
-  }
 
   task_is : X ≡ S.task
   task_is = same_Some X S.task (sym (link.A w k p I F on).is ∙ S.at.task)
@@ -166,7 +154,7 @@ module _ (w : SharedValue) (k : ℕ) (p : Private) (I : IsSharedValue w) (F : Fi
           abbrev d : Cell
           d = cell_ref cell i value
 
-          size : size_of d ≡ size_of cell
+          pub size : size_of d ≡ size_of cell
           size = stores.size w k p I F on n a foreign o held at_a b i swap overwritten was sets C top goes
 
           abbrev v0 : Memory
@@ -184,35 +172,18 @@ module _ (w : SharedValue) (k : ℕ) (p : Private) (I : IsSharedValue w) (F : Fi
           at : StoresAt (with_belongings v0 t h) (with_belongings v1 t g) (rested M t) t p.frames.top p.frames.below a b i swap
           at = stores.stores_at w k p I F on n a foreign o held at_a b i swap overwritten was sets C top goes
 
-          made : Made v0 v1 M t h S.task K.object S.line.instr g
+          pub made : Made v0 v1 M t h S.task K.object S.line.instr g
           made =
               pack K.object v0 v1
               (g, i, p.frames.top, p.frames.below, a, subst (λ (q : Object). place_in (length q.refs) (int_in S.task.top j) ≡ Some i) object_is place, at, at_a)
               (stores.stores_notes w k p I F on n a foreign o held at_a b i swap overwritten was sets C top goes)
 
           module _ (space : RoomyValue EntryValue) where
-            abbrev rests : List (Option Rest)
-            rests = slice_set w.rests (own (rested M t) n) (Some (put_rest rest a d))
+            pub reference_world : IsSharedValue (written.w' w k p I F shared free n a foreign d refl size (with_field i value) (λ m e birth. refl) sets many top K made.0 made.1 made.2 space)
+            reference_world = written.written_world w k p I F shared free n a foreign d refl size (with_field i value) (λ m e birth. refl) sets many top K made.0 made.1 made.2 space
 
-            abbrev pub stored : SharedValue
-            stored = entered_by rests sets (p.fresh + 1) space
-
-            stored_is : entered_by rests sets (suc p.fresh) space ≡ stored
-            stored_is = ap (λ m. entered_by rests sets m space) (one_added p.fresh)
-
-            pub reference_world : IsSharedValue stored
-            reference_world =
-                subst IsSharedValue stored_is
-                (written.written_world w k p I F shared free n a foreign d refl size (with_field i value) (λ m e birth. refl) sets many top K made.0 made.1 made.2 space)
-
-            pub reference_goes : GoesAlone w stored k p q
-            reference_goes = record {
-              enters = record { journal = refl; program = refl; settings = refl; halted = refl };
-              goes = subst (λ (y : SharedValue). (accounts y).end ≡ None) stored_is (written.written_goes w k p I F shared free n a foreign d refl size (with_field i value) (λ m e birth. refl) sets many top K made.0 made.1 made.2 space);
-              fits = subst (λ (y : SharedValue). Fits y k q) stored_is (written.written_part w k p I F shared free n a foreign d refl size (with_field i value) (λ m e birth. refl) sets many top K made.0 made.1 made.2 space);
-              part = refl;
-              others = subst (λ (y : SharedValue). OthersFit w y k) stored_is (written.written_others w k p I F shared free n a foreign d refl size (with_field i value) (λ m e birth. refl) sets many top K made.0 made.1 made.2 space);
-            }
+            pub reference_goes : GoesAlone w (written.w' w k p I F shared free n a foreign d refl size (with_field i value) (λ m e birth. refl) sets many top K made.0 made.1 made.2 space) k p q
+            reference_goes = written.written_goes w k p I F shared free n a foreign d refl size (with_field i value) (λ m e birth. refl) sets many top K made.0 made.1 made.2 space
 
       -- ---- A NUMBER, from the register b, into the field i, whose number is in the register j
       module _ (b j i : ℕ) (place : place_in (length y.ints) (int_in S.task.top j) ≡ Some i) (by : S.line.instr ≡ Puti o j b) (top : Frame) (goes : top ≡ gone_on None p.frames.top) where
@@ -236,7 +207,7 @@ module _ (w : SharedValue) (k : ℕ) (p : Private) (I : IsSharedValue w) (F : Fi
         abbrev d_n : Cell
         d_n = cell_int cell_n i number
 
-        size_n : size_of d_n ≡ size_of cell_n
+        pub size_n : size_of d_n ≡ size_of cell_n
         size_n = stores.size_number w k p I F on n a foreign o held at_a b i top goes
 
         abbrev v0_n : Memory
@@ -251,7 +222,7 @@ module _ (w : SharedValue) (k : ℕ) (p : Private) (I : IsSharedValue w) (F : Fi
         abbrev g_n : Belongings
         g_n = belongings_of_part q_n
 
-        made_n : Made v0_n v1_n M t h S.task K.object S.line.instr g_n
+        pub made_n : Made v0_n v1_n M t h S.task K.object S.line.instr g_n
         made_n =
             subst (λ (e : Instr). Made v0_n v1_n M t h S.task K.object e g_n) (sym by) (
               (g_n, i, p.frames.top, p.frames.below, a, subst (λ (q : Object). place_in (length q.ints) (int_in S.task.top j) ≡ Some i) object_is place, stores.stores_number w k p I F on n a foreign o held at_a b i top goes, at_a),
@@ -260,25 +231,8 @@ module _ (w : SharedValue) (k : ℕ) (p : Private) (I : IsSharedValue w) (F : Fi
             )
 
         module _ (space : RoomyValue EntryValue) where
-          abbrev homes_n : List (Option Rest)
-          homes_n = slice_set w.rests (own (rested M t) n) (Some (put_rest rest_n a d_n))
+          pub number_world : IsSharedValue (written.w' w k p I F shared free n a foreign d_n refl size_n (number_field i number) (λ m e birth. refl) w.sets refl top K made_n.0 made_n.1 made_n.2 space)
+          number_world = written.written_world w k p I F shared free n a foreign d_n refl size_n (number_field i number) (λ m e birth. refl) w.sets refl top K made_n.0 made_n.1 made_n.2 space
 
-          abbrev pub stored_n : SharedValue
-          stored_n = entered_by homes_n w.sets (p.fresh + 1) space
-
-          stored_is_n : entered_by homes_n w.sets (suc p.fresh) space ≡ stored_n
-          stored_is_n = ap (λ m. entered_by homes_n w.sets m space) (one_added p.fresh)
-
-          pub number_world : IsSharedValue stored_n
-          number_world =
-              subst IsSharedValue stored_is_n
-              (written.written_world w k p I F shared free n a foreign d_n refl size_n (number_field i number) (λ m e birth. refl) w.sets refl top K made_n.0 made_n.1 made_n.2 space)
-
-          pub number_goes : GoesAlone w stored_n k p q_n
-          number_goes = record {
-            enters = record { journal = refl; program = refl; settings = refl; halted = refl };
-            goes = subst (λ (y : SharedValue). (accounts y).end ≡ None) stored_is_n (written.written_goes w k p I F shared free n a foreign d_n refl size_n (number_field i number) (λ m e birth. refl) w.sets refl top K made_n.0 made_n.1 made_n.2 space);
-            fits = subst (λ (y : SharedValue). Fits y k q_n) stored_is_n (written.written_part w k p I F shared free n a foreign d_n refl size_n (number_field i number) (λ m e birth. refl) w.sets refl top K made_n.0 made_n.1 made_n.2 space);
-            part = refl;
-            others = subst (λ (y : SharedValue). OthersFit w y k) stored_is_n (written.written_others w k p I F shared free n a foreign d_n refl size_n (number_field i number) (λ m e birth. refl) w.sets refl top K made_n.0 made_n.1 made_n.2 space);
-          }
+          pub number_goes : GoesAlone w (written.w' w k p I F shared free n a foreign d_n refl size_n (number_field i number) (λ m e birth. refl) w.sets refl top K made_n.0 made_n.1 made_n.2 space) k p q_n
+          number_goes = written.written_goes w k p I F shared free n a foreign d_n refl size_n (number_field i number) (λ m e birth. refl) w.sets refl top K made_n.0 made_n.1 made_n.2 space

@@ -1,6 +1,7 @@
 -- A write of an object of another task is entered.
-use Rattle.std.proofs.Common.{◌≡◌, ℕ, suc, ◌+◌, true, Option, Some, None, List, length, length-set, slice_get, inl, inr, refl, ap, sym, subst, ◌∙◌}
+use Rattle.std.proofs.Common.{◌≡◌, ℕ, ◌+◌, ◌++◌, true, Option, Some, None, List, [], ◌∷◌, length, slice_get, inl, inr, refl, ap, sym, subst, ◌∙◌}
 use Rattle.std.proofs.lemmas.Bool.{cases_eq, false≢true}
+use Rattle.std.proofs.lemmas.Option.{same_Some}
 use Rattle.listed.proofs.Members.{got_other, got_same}
 use Rattle.listed.specs.RoomyValue.{RoomyValue}
 use Rattle.listed.proofs.Options.{none_some}
@@ -37,13 +38,14 @@ use Rattle.task_homes.specs.declared.task_at_rest.Rest.{Rest}
 use Rattle.shared_value.specs.SharedValue.{SharedValue, accounts, tree_counts_of, value_of}
 use Rattle.shared_value.specs.Stands.{IsSharedValue}
 use Rattle.shared_value.specs.Fits.{Fits, OthersFit, belongings_of_part, part_of}
-use Rattle.shared_value.specs.Entered.{refused}
-use Rattle.shared_value.proofs.EntryMade.{entered, entered_world, tasks_apart, part_fits}
+use Rattle.shared_value.specs.Entered.{Enters, refused}
+use Rattle.shared_value.proofs.EntryMade.{ChangesRest, IsWell, changed_form, entered_world, part_fits, still_goes, tasks_apart}
+use Rattle.shared_value.proofs.UnitsMeasured.{all_kept}
 use Rattle.shared_value.proofs.HeldTasks.{fits_held, stands_for_held}
-use Rattle.shared_value.proofs.BeforeTheEnd.{end_now, stands_now}
-use Rattle.own_steps.specs.Alone.{IsShared}
+use Rattle.shared_value.proofs.BeforeTheEnd.{stands_now}
+use Rattle.own_steps.specs.Alone.{GoesAlone, IsShared, alone_entry}
 use Rattle.own_steps.proofs.LastStepEntry as last
-use Rattle.own_steps.proofs.LastStepEntry.{last_entry}
+use Rattle.own_steps.proofs.LastStepEntry.{last_enters, last_entry, last_steps}
 use Rattle.others_objects.proofs.ForeignObject.{IsForeign}
 use Rattle.others_objects.proofs.ObjectWritten as other
 use Rattle.others_objects.proofs.ObjectWritten.{resting_is}
@@ -152,14 +154,17 @@ module _ (w : SharedValue) (k : ℕ) (p : Private) (I : IsSharedValue w) (F : Fi
       waits_then u h' = ap (λ (z : Heap). z.worker) (heap_then u) ∙ R.idle u (waiting_stops (slice_get M.machine.tasks u) (sym (waits_same u) ∙ h'))
 
       module _ (j : RoomyValue EntryValue) where
-        abbrev steps : ℕ
-        steps = w.steps + suc p.fresh
+        abbrev pub w' : SharedValue
+        w' = record w { rests = rests; sets = sets; steps = w.steps + (p.fresh + 1); journal = record { items = w.journal.items ++ alone_entry k p ∷ []; room = j.room } }
 
-        abbrev w' : SharedValue
-        w' = entered w (last_entry k p) w.tree w.pool rests sets w.tasks_out w.outputs steps w.end j.room
+        enters : Enters w w' (last_entry k p)
+        enters = last_enters w w' k p (record { journal = refl; program = refl; settings = refl; halted = refl })
+
+        changes : ChangesRest w w' (other.u w k p I F on n a O) (Some (other.r' w k p I F on n a O d mark size f fields sets top))
+        changes = record { rests = refl; there = other.has_home w k p I F on n a O d mark size f fields sets top; keeps = λ u ne. all_kept w.pool u; free = λ u ne y. y }
 
         counts : RanCounts w.program (tree_counts_of w) (tree_counts_of w') M L t k p.fresh S.task S.line Writing K
-        counts = record { tree = λ u. refl; task_out = λ u. refl; outputs = refl; end = refl; used = refl; steps = refl }
+        counts = record { tree = λ u. refl; task_out = λ u. refl; outputs = refl; end = refl; used = refl; steps = last_steps w p }
 
         all_1 : StandsForAll v1 (tree_counts_of w') L
         all_1 = ran_stands_for w.program w.settings w.journal.items I.form I.legal v0 v1 (tree_counts_of w) (tree_counts_of w') k t p.fresh h free E all_0 own_0 C mk counts
@@ -171,23 +176,24 @@ module _ (w : SharedValue) (k : ℕ) (p : Private) (I : IsSharedValue w) (F : Fi
 
         pub written_world : IsSharedValue w'
         written_world =
-            entered_world w (last_entry k p) I free w.tree w.pool rests sets w.tasks_out w.outputs steps w.end j.room
-            (length-set w.rests (other.u w k p I F on n a O) _ ∙ I.made) (many ∙ I.noted) refl refl all_then
-            (other.forms w k p I F on n a O d mark size f fields sets top) (other.measures w k p I F on n a O d mark size f fields sets top)
-
-        pub written_goes : (accounts w').end ≡ None
-        written_goes = sym (end_now w' written_world) ∙ (end_now w I ∙ on)
-
-        pub written_part : Fits w' k q
-        written_part =
-            part_fits w (last_entry k p) I free w.tree w.pool rests sets w.tasks_out w.outputs steps w.end j.room written_world k p q refl F refl refl refl F.form F.measured
-            (fits_held v1 v'.belongings L same_then w.program w.settings (part_of w.settings q) R.knows_then.sound goes_then
-            (ran_fits_then w.program w.settings v0 v1 l L t k p.fresh h g E own_0 C gh))
+            entered_world I free enters
+            (changed_form I changes (λ r e. subst (IsWell w.pool (other.u w k p I F on n a O)) (same_Some _ r e) (other.well w k p I F on n a O d mark size f fields sets top)) refl many refl refl) all_then
 
         -- THE PARTS OF OTHERS
-        pub written_others : OthersFit w w' k
+        written_others : OthersFit w w' k
         written_others u r ne G =
-            part_fits w (last_entry k p) I free w.tree w.pool rests sets w.tasks_out w.outputs steps w.end j.room written_world u r r refl G refl refl refl G.form G.measured
+            part_fits I free enters written_world u r r refl G refl G.form G.measured
             (fits_held v1 v'.belongings L same_then w.program w.settings (part_of w.settings r) R.knows_then.sound goes_then
             (ran_leaves w.program w.settings v0 v1 l L t k p.fresh h E own_0 C (part_of w.settings r) (tasks_apart w k u p r F G ne)
             (fits_held (value_of w) v0.belongings l (λ z y. resting_is l (value_of w).belongings z y) w.program w.settings (part_of w.settings r) R.knows.sound (last.before_goes w k p I F shared free) G.fits)))
+
+        pub written_goes : GoesAlone w w' k p q
+        written_goes = record {
+          enters = record { journal = refl; program = refl; settings = refl; halted = refl };
+          goes = still_goes I free enters written_world on refl;
+          fits = part_fits I free enters written_world k p q refl F refl F.form F.measured
+              (fits_held v1 v'.belongings L same_then w.program w.settings (part_of w.settings q) R.knows_then.sound goes_then
+              (ran_fits_then w.program w.settings v0 v1 l L t k p.fresh h g E own_0 C gh));
+          part = refl;
+          others = written_others;
+        }

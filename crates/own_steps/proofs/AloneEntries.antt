@@ -1,5 +1,5 @@
 -- Entries of a part's fresh steps and a last one, as the calls have them.
-use Rattle.std.proofs.Common.{◌≡◌, ℕ, ℤ, suc, ◌+◌, ◌<◌, ◌≤◌, ◌^◌, ◌++◌, ◌||◌, ◌&&◌, arith, not, true, Option, Some, None, [], ◌∷◌, slice_get, slice_set, is_none, is_some, length, refl, ap, ap₂, sym, subst, ◌∙◌}
+use Rattle.std.proofs.Common.{◌≡◌, ℕ, ℤ, suc, ◌+◌, ◌<◌, ◌≤◌, ◌^◌, ◌||◌, ◌&&◌, arith, not, true, Option, Some, None, [], slice_get, is_none, is_some, length, refl, ap, ap₂, sym, subst, ◌∙◌}
 use Rattle.std.proofs.lemmas.Bool.{or_left}
 use Rattle.listed.specs.RoomyValue.{RoomyValue}
 use Rattle.hh_lang.specs.declared.instr.Instr.{Instr}
@@ -11,33 +11,27 @@ use Rattle.hh_model.specs.declared.data.State.{State}
 use Rattle.hh_model.specs.declared.data.Task.{Task}
 use Rattle.hh_model.specs.declared.data.Trap.{Trap}
 use Rattle.hh_model.specs.Step.{ended_by, fetched, step}
-use Rattle.run_trace.specs.declared.entry.Kind.TheVariants.{Ran}
 use Rattle.run_trace.specs.Entry.{EntryValue, private_limit}
-use Rattle.run_ledger.specs.declared.data.RunEnd.TheVariants.{Machine}
 use Rattle.run_ledger.specs.Steps.{has_no_caller, owns, touched}
 use Rattle.run_ledger.proofs.Bounds.{ran_tells}
 use Rattle.task_frames.specs.FramesValue.{with_next}
-use Rattle.heap_tree.specs.declared.state.State.TheVariants.{Ended}
-use Rattle.heap_tree.specs.Node.{with_state}
-use Rattle.ledger_step_laws.specs.Accounts.{Rests}
-use Rattle.core_relation.specs.Whole.{handed}
 use Rattle.task_machine.specs.declared.part.Private.{Private}
 use Rattle.task_machine.specs.Ready.{FitsSome, IsSafe}
 use Rattle.task_machine.proofs.Agreement.{some_next, some_safe}
 use Rattle.shared_value.specs.declared.next_step.Ending.TheVariants.{Beyond, Prints, Returns, Traps}
 use Rattle.shared_value.specs.SharedValue.{SharedValue, accounts}
 use Rattle.shared_value.specs.Stands.{IsSharedValue}
-use Rattle.shared_value.specs.Fits.{Fits, OthersFit}
+use Rattle.shared_value.specs.Fits.{Fits}
 use Rattle.shared_value.specs.Next.{is_beyond, is_beyond_by, is_beyond_line, is_joint}
 use Rattle.shared_value.specs.Entered.{refused}
 use Rattle.shared_value.proofs.BeforeTheEnd.{steps_now}
-use Rattle.own_steps.specs.Alone.{FinishesAlone, GoesAlone, HaltsAlone, IsShared, Tells, alone_entry, ended_rest, machine_after, then_accounts}
-use Rattle.own_steps.proofs.RunDone.{done_ends, done_others, done_rests, done_world}
-use Rattle.own_steps.proofs.RunHalted.{halted_ends, halted_others, halted_part, halted_world}
+use Rattle.own_steps.specs.Alone.{FinishesAlone, GoesAlone, HaltsAlone, IsShared, Tells, alone_entry, machine_after, then_accounts}
 use Rattle.own_steps.proofs.LastStepEntry as last
 use Rattle.own_steps.proofs.LastStepEntry.{last_entry}
-use Rattle.own_steps.proofs.LastSteps.{entry_is, fits_machine, machine_same, one_added}
-use Rattle.own_steps.proofs.OutputEntered.{output_goes, output_others, output_part, output_world}
+use Rattle.own_steps.proofs.LastSteps.{entry_is, fits_machine, machine_same}
+use Rattle.own_steps.proofs.OutputEntered as output
+use Rattle.own_steps.proofs.RunDone as done
+use Rattle.own_steps.proofs.RunHalted as halting
 use Rattle.own_steps.proofs.TaskEnds.{has_home, has_node}
 
 -- a step that can't be done ends the run so
@@ -81,86 +75,27 @@ module _ (w : SharedValue) (k : ℕ) (p : Private) (I : IsSharedValue w) (F : Fi
 
   -- AN OUTPUT
   module _ (value : ℤ) (line : ℕ) (T : Tells w p (Prints value) line) (j : RoomyValue EntryValue) where
-    abbrev printed : SharedValue
-    printed = record w { outputs = w.outputs ++ value ∷ []; steps = w.steps + (p.fresh + 1); journal = record { items = w.journal.items ++ alone_entry k p ∷ []; room = j.room } }
+    pub printed_world : IsSharedValue (output.printed w k p I F shared last_free value line T j)
+    printed_world = output.printed_world w k p I F shared last_free value line T j
 
-    printed_is : record w { outputs = w.outputs ++ value ∷ []; steps = w.steps + suc p.fresh; journal = record { items = w.journal.items ++ last_entry k p ∷ []; room = j.room } } ≡ printed
-    printed_is =
-        ap (λ n. let z : SharedValue = record w { outputs = w.outputs ++ value ∷ []; steps = w.steps + n; journal = record { items = w.journal.items ++ record { worker = k; kind = Ran p.task n } ∷ []; room = j.room } } in z) (one_added p.fresh)
-
-    pub printed_world : IsSharedValue printed
-    printed_world = subst IsSharedValue printed_is (output_world w k p I F shared last_free value line T j)
-
-    pub printed_goes : GoesAlone w printed k p (record p { frames = with_next p.frames (p.frames.top.next + 1); fresh = 0 })
-    printed_goes = record {
-      enters = record { journal = refl; program = refl; settings = refl; halted = refl };
-      goes = subst (λ (z : SharedValue). (accounts z).end ≡ None) printed_is (output_goes w k p I F shared last_free value line T j);
-      fits = subst (λ (z : SharedValue). Fits z k (record p { frames = with_next p.frames (p.frames.top.next + 1); fresh = 0 })) printed_is (output_part w k p I F shared last_free value line T j);
-      part = refl;
-      others = subst (λ (z : SharedValue). OthersFit w z k) printed_is (output_others w k p I F shared last_free value line T j);
-    }
+    pub printed_goes : GoesAlone w (output.printed w k p I F shared last_free value line T j) k p (record p { frames = with_next p.frames (p.frames.top.next + 1); fresh = 0 })
+    printed_goes = output.printed_goes w k p I F shared last_free value line T j
 
   -- THE RUN ENDS, and all else is as it was
   module _ (x : End) (other : x ≡ Done → ⊥) (is : step w.program (then_accounts w p).machine p.task ≡ ended_by (then_accounts w p).machine x) (j : RoomyValue EntryValue) where
-    abbrev halted : SharedValue
-    halted = record w { steps = w.steps + (p.fresh + 1); journal = record { items = w.journal.items ++ alone_entry k p ∷ []; room = j.room }; end = Some (Machine x) }
+    pub halt_world : IsSharedValue (halting.halted w k p I F shared last_free x other is j)
+    halt_world = halting.halt_world w k p I F shared last_free x other is j
 
-    halted_is : record w { steps = w.steps + suc p.fresh; journal = record { items = w.journal.items ++ last_entry k p ∷ []; room = j.room }; end = Some (Machine x) } ≡ halted
-    halted_is =
-        ap (λ n. let z : SharedValue = record w { steps = w.steps + n; journal = record { items = w.journal.items ++ record { worker = k; kind = Ran p.task n } ∷ []; room = j.room }; end = Some (Machine x) } in z) (one_added p.fresh)
-
-    pub halt_world : IsSharedValue halted
-    halt_world = subst IsSharedValue halted_is (halted_world w k p I F shared last_free x other is j)
-
-    pub halts_alone : HaltsAlone w halted k p (record p { fresh = 0 })
-    halts_alone = record {
-      enters = record { journal = refl; program = refl; settings = refl; halted = refl };
-      halts = (x, subst (λ (z : SharedValue). (accounts z).end ≡ Some (Machine x)) halted_is (halted_ends w k p I F shared last_free x other is j), other);
-      fits = subst (λ (z : SharedValue). Fits z k (record p { fresh = 0 })) halted_is (halted_part w k p I F shared last_free x other is j);
-      part = refl;
-      others = subst (λ (z : SharedValue). OthersFit w z k) halted_is (halted_others w k p I F shared last_free x other is j);
-    }
+    pub halts_alone : HaltsAlone w (halting.halted w k p I F shared last_free x other is j) k p (record p { fresh = 0 })
+    halts_alone = halting.halts_alone w k p I F shared last_free x other is j
 
   -- THE ROOT'S END
   module _ (line : ℕ) (T : Tells w p Returns line) (root : p.task ≡ 0) (j : RoomyValue EntryValue) where
-    abbrev finished : SharedValue
-    finished = record w {
-      tree = with_state w.tree p.task Ended;
-      rests = slice_set w.rests p.task (Some (ended_rest p));
-      tasks_out = slice_set w.tasks_out k None;
-      steps = w.steps + (p.fresh + 1);
-      journal = record { items = w.journal.items ++ alone_entry k p ∷ []; room = j.room };
-      end = Some (Machine Done);
-    }
+    pub finished_world : IsSharedValue (done.w' w k p I F shared last_free line T root j)
+    finished_world = done.done_world w k p I F shared last_free line T root j
 
-    finished_is : record w {
-      tree = with_state w.tree p.task Ended;
-      rests = slice_set w.rests p.task (Some (ended_rest p));
-      tasks_out = slice_set w.tasks_out k None;
-      steps = w.steps + suc p.fresh;
-      journal = record { items = w.journal.items ++ last_entry k p ∷ []; room = j.room };
-      end = Some (Machine Done);
-    } ≡ finished
-    finished_is =
-        ap (λ n. let z : SharedValue = record w {
-          tree = with_state w.tree p.task Ended;
-          rests = slice_set w.rests p.task (Some (ended_rest p));
-          tasks_out = slice_set w.tasks_out k None;
-          steps = w.steps + n;
-          journal = record { items = w.journal.items ++ record { worker = k; kind = Ran p.task n } ∷ []; room = j.room };
-          end = Some (Machine Done);
-        } in z) (one_added p.fresh)
-
-    pub finished_world : IsSharedValue finished
-    finished_world = subst IsSharedValue finished_is (done_world w k p I F shared last_free line T root j)
-
-    pub finishes_alone : FinishesAlone w finished k p
-    finishes_alone = record {
-      enters = record { journal = refl; program = refl; settings = refl; halted = refl };
-      done = subst (λ (z : SharedValue). (accounts z).end ≡ Some (Machine Done)) finished_is (done_ends w k p I F shared last_free line T root j);
-      rest = λ u. subst (λ (z : SharedValue). Rests (handed (accounts z)) u) finished_is (done_rests w k p I F shared last_free line T root j u);
-      others = subst (λ (z : SharedValue). OthersFit w z k) finished_is (done_others w k p I F shared last_free line T root j);
-    }
+    pub finishes_alone : FinishesAlone w (done.w' w k p I F shared last_free line T root j) k p
+    finishes_alone = done.finishes_alone w k p I F shared last_free line T root j
 
   -- WHERE OTHER TASKS HAVE PART IN THE STEP
   abbrev m : State

@@ -1,5 +1,6 @@
 -- An entry of a part's fresh steps and its next one: what is known of the accounts before and after it.
-use Rattle.std.proofs.Common.{◌≡◌, ℕ, suc, true, false, Option, Some, None, slice_get, is_none, min, inl, inr, ap, ap₂, sym, subst, ◌∙◌}
+use Rattle.std.proofs.Common.{◌≡◌, ℕ, suc, ◌+◌, true, false, Option, Some, None, slice_get, is_none, min, inl, inr, refl, ap, ap₂, sym, subst, ◌∙◌}
+use Rattle.std.specs.Option.{option_flatten}
 use Rattle.std.proofs.lemmas.Bool.{cases_eq}
 use Rattle.std.proofs.lemmas.Option.{same_Some}
 use Rattle.listed.proofs.Options.{none_of}
@@ -16,27 +17,51 @@ use Rattle.run_ledger.specs.Steps.{is_private, most_steps, standing, task_steps}
 use Rattle.run_ledger.specs.Entries.{after, long_at}
 use Rattle.run_ledger.proofs.Journals.{entry_tells}
 use Rattle.run_ledger.proofs.Machine.{task_step_machine}
+use Rattle.task_frames.specs.FramesValue.{FramesValue}
 use Rattle.ledger_step_laws.specs.Accounts.{Knows}
 use Rattle.ledger_step_laws.specs.Last.{Runs, Splits}
 use Rattle.ledger_step_laws.proofs.Along.{steps_know}
 use Rattle.ledger_step_laws.proofs.Split.{entry_runs}
+use Rattle.core_relation.specs.Makes.{BelongingsAfter}
 use Rattle.core_relation.specs.Worker.{WorkerFits}
 use Rattle.task_machine.specs.declared.part.Private.{Private}
 use Rattle.shared_value.specs.SharedValue.{SharedValue, accounts, value_of}
+use Rattle.shared_value.specs.Measured.{IsMeasured}
 use Rattle.shared_value.specs.Stands.{IsSharedValue}
-use Rattle.shared_value.specs.Fits.{Fits, part_of}
+use Rattle.shared_value.specs.Fits.{Fits, belongings_of_part, part_of}
 use Rattle.shared_value.specs.declared.next_step.Ending.{Ending}
-use Rattle.shared_value.specs.Entered.{refused}
+use Rattle.shared_value.specs.Entered.{Enters, refused}
 use Rattle.shared_value.proofs.BeforeTheEnd.{part_idle}
 use Rattle.shared_value.proofs.CollectionUnderWay.{none_begun}
 use Rattle.shared_value.proofs.PartFitsMachine as link
+use Rattle.shared_value.proofs.EntryMade.{entry_on, still_goes}
 use Rattle.shared_value.proofs.StepsEntered.{goes}
+use Rattle.shared_value.proofs.StepsMade.{MakesSteps, ran_to, steps_others, steps_part, steps_world}
 use Rattle.shared_value.proofs.StepAccounts.{After}
-use Rattle.own_steps.specs.Alone.{IsShared, SaysOf, Tells}
-use Rattle.own_steps.proofs.LastSteps.{shared_now}
+use Rattle.own_steps.specs.Alone.{GoesAlone, IsShared, SaysOf, Tells, alone_entry}
+use Rattle.own_steps.proofs.LastSteps.{entry_is, one_added, shared_now}
 
 abbrev pub last_entry : ℕ → Private → EntryValue
 last_entry k p = record { worker = k; kind = Ran p.task (suc p.fresh) }
+
+-- as calls have it, so many steps and one more
+pub last_enters : (w w' : SharedValue) (k : ℕ) (p : Private) → Enters w w' (alone_entry k p) → Enters w w' (last_entry k p)
+last_enters w w' k p N = subst (Enters w w') (entry_is k p) N
+
+pub last_steps : (w : SharedValue) (p : Private) → w.steps + (p.fresh + 1) ≡ w.steps + suc p.fresh
+last_steps w p = ap (λ n. w.steps + n) (sym (one_added p.fresh))
+
+-- they are entered, and the part goes on with other frames
+pub goes_alone : {w w' : SharedValue} {k : ℕ} {p : Private} (I : IsSharedValue w) (F : Fits w k p) (free : refused w (last_entry k p) ≡ None) (M : MakesSteps w w' k p p.fresh) (frames : FramesValue) → w'.tasks_out ≡ w.tasks_out → w'.end ≡ w.end → w'.pool ≡ w.pool
+    → BelongingsAfter w.program (value_of w) (value_of w') (task_steps w.program (accounts w) p.task p.fresh) (ran_to w k p (suc p.fresh)) p.task (belongings_of_part p) M.runs.splits.task M.runs.splits.line M.runs.splits.kind M.runs.splits.last M.makes (belongings_of_part (record p { frames = frames; fresh = 0 }))
+    → GoesAlone w w' k p (record p { frames = frames; fresh = 0 })
+goes_alone {w} {w'} {k} {p} I F free M frames out end pool read = record {
+  enters = subst (Enters w w') (sym (entry_is k p)) M.enters;
+  goes = still_goes I free M.enters (steps_world I F free M) (entry_on w (last_entry k p) free) end;
+  fits = steps_part I F free M frames (ap (λ ts. option_flatten (slice_get ts k)) out) (subst (λ z. IsMeasured z p) (sym pool) F.measured) read;
+  part = refl;
+  others = steps_others I F free M;
+}
 
 module _ (w : SharedValue) (k : ℕ) (p : Private) (I : IsSharedValue w) (F : Fits w k p) (shared : IsShared w p) (free : refused w (last_entry k p) ≡ None) where
   abbrev pub t : ℕ

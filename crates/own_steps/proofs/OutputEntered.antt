@@ -1,5 +1,5 @@
 -- An output is entered.
-use Rattle.std.proofs.Common.{◌≡◌, ℕ, ℤ, suc, ◌+◌, ◌++◌, true, Some, None, List, [], ◌∷◌, slice_get, slice_set, refl, ap, sym, ◌∙◌}
+use Rattle.std.proofs.Common.{◌≡◌, ℕ, ℤ, ◌+◌, ◌++◌, true, Some, None, [], ◌∷◌, slice_get, slice_set, refl, ap, sym, ◌∙◌}
 use Rattle.listed.proofs.Members.{got_same}
 use Rattle.listed.specs.RoomyValue.{RoomyValue}
 use Rattle.hh_lang.specs.declared.instr.Instr.{Instr}
@@ -14,26 +14,21 @@ use Rattle.run_ledger.specs.Steps.{task_steps}
 use Rattle.task_frames.specs.FramesValue.{with_next}
 use Rattle.ledger_step_laws.specs.Last.{Printing, Prints, Runs, Splits}
 use Rattle.core_relation.specs.Memory.{Belongings, Memory}
-use Rattle.core_relation.specs.Fits.{part_for}
 use Rattle.core_relation.specs.Makes.{StepsTo}
-use Rattle.core_relation.specs.RanCounts.{RanCounts}
-use Rattle.core_relation.specs.Worker.{WorkerFits}
-use Rattle.core_entry_laws.proofs.parts.RanFits.{ran_fits_then}
-use Rattle.core_entry_laws.proofs.whole.RanWhole.{ran_stands_for}
 use Rattle.core_entry_laws.proofs.parts.Sets.{numbers_go}
-use Rattle.core_entry_laws.proofs.parts.Workers.{ran_leaves}
 use Rattle.task_machine.specs.declared.part.Private.{Private}
 use Rattle.shared_value.specs.declared.next_step.Ending.TheVariants.{Prints as PrintsOf}
-use Rattle.shared_value.specs.SharedValue.{SharedValue, accounts, tree_counts_of, value_of}
+use Rattle.shared_value.specs.SharedValue.{SharedValue, accounts, value_of}
 use Rattle.shared_value.specs.Stands.{IsSharedValue}
-use Rattle.shared_value.specs.Fits.{Fits, OthersFit, belongings_of_part, part_of}
+use Rattle.shared_value.specs.Fits.{Fits, belongings_of_part}
 use Rattle.shared_value.specs.Entered.{refused}
-use Rattle.shared_value.proofs.EntryMade.{entered, entered_world, tasks_apart, part_fits}
-use Rattle.shared_value.proofs.BeforeTheEnd.{end_now}
-use Rattle.own_steps.specs.Alone.{IsShared, Tells}
+use Rattle.shared_value.proofs.EntryMade.{same_form}
+use Rattle.shared_value.proofs.StepsMade.{MakesSteps, steps_world}
+use Rattle.shared_value.proofs.UnitsMeasured.{all_kept}
+use Rattle.own_steps.specs.Alone.{GoesAlone, IsShared, Tells, alone_entry}
 use Rattle.own_steps.proofs.LastKinds.{prints}
 use Rattle.own_steps.proofs.LastStepEntry as last
-use Rattle.own_steps.proofs.LastStepEntry.{last_entry}
+use Rattle.own_steps.proofs.LastStepEntry.{goes_alone, last_enters, last_entry, last_steps}
 
 abbrev register_of : Instr → ℕ
 register_of (Out a) = a
@@ -95,34 +90,28 @@ module _ (w : SharedValue) (k : ℕ) (p : Private) (I : IsSharedValue w) (F : Fi
   abbrev E : Runs w.program w.settings l L t k p.fresh
   E = record (last.runs_so w k p I F shared free) { splits = record S { kind = Printing; last = Q; apart = last.is_not_private w k p I F shared free; on = λ u. goes_then } }
 
-  abbrev own : WorkerFits w.program w.settings (part_for w.settings t h p.fresh) v l
-  own = F.fits
-
   -- it prints what the part has in its register
   value_is : value ≡ int_in S.task.top Q.register
   value_is = says.2 ∙ ap (int_in S.task.top) (ap register_of (sym says.1 ∙ Q.by))
 
   module _ (j : RoomyValue EntryValue) where
-    abbrev outputs : List ℤ
-    outputs = w.outputs ++ value ∷ []
+    abbrev pub printed : SharedValue
+    printed = record w { outputs = w.outputs ++ value ∷ []; steps = w.steps + (p.fresh + 1); journal = record { items = w.journal.items ++ alone_entry k p ∷ []; room = j.room } }
 
-    abbrev steps : ℕ
-    steps = w.steps + suc p.fresh
+    abbrev made : MakesSteps w printed k p p.fresh
+    made = record {
+      enters = last_enters w printed k p (record { journal = refl; program = refl; settings = refl; halted = refl });
+      form = same_form I refl refl (all_kept w.pool);
+      units = λ u q ne G. G.measured;
+      runs = E;
+      own = F.fits;
+      makes = refl;
+      notes = tt;
+      counts = record { tree = λ u. refl; task_out = λ u. refl; outputs = ap (λ x. w.outputs ++ x ∷ []) value_is; end = refl; used = refl; steps = last_steps w p };
+    }
 
-    abbrev w' : SharedValue
-    w' = entered w (last_entry k p) w.tree w.pool w.rests w.sets w.tasks_out outputs steps w.end j.room
-
-    counts : RanCounts w.program (tree_counts_of w) (tree_counts_of w') M L t k p.fresh S.task S.line Printing Q
-    counts = record { tree = λ u. refl; task_out = λ u. refl; outputs = ap (λ x. w.outputs ++ x ∷ []) value_is; end = refl; used = refl; steps = refl }
-
-    pub output_world : IsSharedValue w'
-    output_world =
-        entered_world w (last_entry k p) I free w.tree w.pool w.rests w.sets w.tasks_out outputs steps w.end j.room I.made I.noted refl refl
-        (ran_stands_for w.program w.settings w.journal.items I.form I.legal v v (tree_counts_of w) (tree_counts_of w') k t p.fresh h free E I.stands own refl tt counts)
-        I.heaps I.measured
-
-    pub output_goes : (accounts w').end ≡ None
-    output_goes = sym (end_now w' output_world) ∙ (end_now w I ∙ last.on w k p I F shared free)
+    pub printed_world : IsSharedValue printed
+    printed_world = steps_world I F free made
 
     -- THE PART, whose frame goes on
     abbrev q : Private
@@ -130,15 +119,7 @@ module _ (w : SharedValue) (k : ℕ) (p : Private) (I : IsSharedValue w) (F : Fi
 
     belongings_go_on : StepsTo v L t h (belongings_of_part q)
     belongings_go_on =
-        numbers_go w.program w.settings v l L t k p.fresh h E own p.frames.top p.frames.below None (M.machine.outputs ++ int_in S.task.top Q.register ∷ []) Q.alone Q.goes refl
+        numbers_go w.program w.settings v l L t k p.fresh h E F.fits p.frames.top p.frames.below None (M.machine.outputs ++ int_in S.task.top Q.register ∷ []) Q.alone Q.goes refl
 
-    pub output_part : Fits w' k q
-    output_part =
-        part_fits w (last_entry k p) I free w.tree w.pool w.rests w.sets w.tasks_out outputs steps w.end j.room output_world k p q refl F refl refl refl F.form F.measured
-        (ran_fits_then w.program w.settings v v l L t k p.fresh h (belongings_of_part q) E own refl belongings_go_on)
-
-    -- THE PARTS OF OTHERS
-    pub output_others : OthersFit w w' k
-    output_others u r ne G =
-        part_fits w (last_entry k p) I free w.tree w.pool w.rests w.sets w.tasks_out outputs steps w.end j.room output_world u r r refl G refl refl refl G.form G.measured
-        (ran_leaves w.program w.settings v v l L t k p.fresh h E own refl (part_of w.settings r) (tasks_apart w k u p r F G ne) G.fits)
+    pub printed_goes : GoesAlone w printed k p q
+    printed_goes = goes_alone I F free made q.frames refl refl refl belongings_go_on

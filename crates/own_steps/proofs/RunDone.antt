@@ -17,24 +17,22 @@ use Rattle.run_ledger.specs.declared.data.RunEnd.TheVariants.{Machine}
 use Rattle.run_ledger.specs.Steps.{task_steps}
 use Rattle.ledger_step_laws.specs.Accounts.{Rests}
 use Rattle.ledger_step_laws.specs.Last.{EndsDone, Finishing, Runs, Splits}
-use Rattle.core_relation.specs.Memory.{Belongings, Memory}
-use Rattle.core_relation.specs.Fits.{part_for}
-use Rattle.core_relation.specs.RanCounts.{RanCounts}
 use Rattle.core_relation.specs.Whole.{handed}
-use Rattle.core_relation.specs.Worker.{WorkerFits}
 use Rattle.core_entry_laws.proofs.whole.DoneReturns.{done_returns_all}
 use Rattle.task_machine.specs.declared.part.Private.{Private}
 use Rattle.shared_value.specs.declared.next_step.Ending.TheVariants.{Returns}
-use Rattle.shared_value.specs.SharedValue.{SharedValue, accounts, tree_counts_of, value_of}
+use Rattle.shared_value.specs.SharedValue.{SharedValue, accounts}
 use Rattle.shared_value.specs.Stands.{IsSharedValue}
-use Rattle.shared_value.specs.Fits.{Fits, OthersFit, belongings_of_part}
+use Rattle.shared_value.specs.Fits.{Fits}
 use Rattle.shared_value.specs.Entered.{refused}
 use Rattle.shared_value.proofs.BeforeTheEnd.{end_now}
+use Rattle.shared_value.proofs.EntryMade.{accounts_are}
+use Rattle.shared_value.proofs.StepsMade.{MakesSteps, steps_others, steps_world}
 use Rattle.shared_value.proofs.TaskTaken.{lets_go}
-use Rattle.own_steps.specs.Alone.{IsShared, Tells}
+use Rattle.own_steps.specs.Alone.{FinishesAlone, IsShared, Tells}
 use Rattle.own_steps.proofs.LastKinds.{done}
 use Rattle.own_steps.proofs.LastStepEntry as last
-use Rattle.own_steps.proofs.LastStepEntry.{last_entry}
+use Rattle.own_steps.proofs.LastStepEntry.{last_entry, last_steps}
 use Rattle.own_steps.proofs.TaskEnds as ending
 
 no_parent : (par : ℕ → Option ℕ) → ((t p : ℕ) → par t ≡ Some p → p < t) → (t : ℕ) → t ≡ 0 → (o : Option ℕ) → par t ≡ o → o ≡ None
@@ -53,12 +51,6 @@ module _ (w : SharedValue) (k : ℕ) (p : Private) (I : IsSharedValue w) (F : Fi
 
   abbrev L : Ledger
   L = last.L w k p I F shared free
-
-  abbrev v : Memory
-  v = value_of w
-
-  abbrev h : Belongings
-  h = belongings_of_part p
 
   abbrev S : Splits w.program w.settings l L t p.fresh
   S = last.S w k p I F shared free
@@ -93,29 +85,25 @@ module _ (w : SharedValue) (k : ℕ) (p : Private) (I : IsSharedValue w) (F : Fi
   abbrev E : Runs w.program w.settings l L t k p.fresh
   E = record (last.runs_so w k p I F shared free) { splits = record S { kind = Finishing; last = D; apart = last.is_not_private w k p I F shared free; on = λ b. absurd b } }
 
-  abbrev own : WorkerFits w.program w.settings (part_for w.settings t h p.fresh) v l
-  own = F.fits
-
   module _ (j : RoomyValue EntryValue) where
     abbrev end : Option RunEnd
     end = Some (Machine Done)
 
-    abbrev w' : SharedValue
+    abbrev pub w' : SharedValue
     w' = ending.w' w k p I F shared free end j.room
 
-    counts : RanCounts w.program (tree_counts_of w) (tree_counts_of w') M L t k p.fresh S.task S.line Finishing D
-    counts = record { tree = ending.node_ends w k p I F shared free end j.room; task_out = lets_go w w' (last_entry k p) I free refl; outputs = refl; end = refl; used = refl; steps = refl }
+    made : MakesSteps w w' k p p.fresh
+    made = ending.ended_made w k p I F shared free end j.room E F.fits (ending.makes w k p I F shared free end j.room) (ending.notes w k p I F shared free end j.room)
+        (record { tree = ending.node_ends w k p I F shared free end j.room; task_out = lets_go w w' (last_entry k p) I free refl; outputs = refl; end = refl; used = refl; steps = last_steps w p })
 
     pub done_world : IsSharedValue w'
-    done_world = ending.ended_world w k p I F shared free end j.room E own (ending.makes w k p I F shared free end j.room) (ending.notes w k p I F shared free end j.room) counts
-
-    pub done_ends : (accounts w').end ≡ Some (Machine Done)
-    done_ends = sym (end_now w' done_world)
+    done_world = steps_world I F free made
 
     -- every heap is handed back
-    pub done_rests : (u : ℕ) → Rests (handed (accounts w')) u
-    done_rests u = subst (λ (z : Ledger). Rests (handed z) u) (sym (ending.accounts_then w k p I F shared free end j.room)) (done_returns_all w.program w.settings l L t k p.fresh E D.ended u)
-
-    -- THE PARTS OF OTHERS
-    pub done_others : OthersFit w w' k
-    done_others = ending.others_fit w k p I F shared free end j.room E own (ending.makes w k p I F shared free end j.room) done_world
+    pub finishes_alone : FinishesAlone w w' k p
+    finishes_alone = record {
+      enters = record { journal = refl; program = refl; settings = refl; halted = refl };
+      done = sym (end_now w' done_world);
+      rest = λ u. subst (λ (z : Ledger). Rests (handed z) u) (sym (accounts_are I free made.enters)) (done_returns_all w.program w.settings l L t k p.fresh E D.ended u);
+      others = steps_others I F free made;
+    }

@@ -1,18 +1,15 @@
 -- The task of a part ends by the step after its fresh ones: the rest that is handed back, and what becomes of the
 -- shared value, whether the run ends with the task or goes on.
-use Rattle.std.proofs.Common.{◌≡◌, ℕ, suc, ◌+◌, ◌<◌, ◌&&◌, not, Option, Some, None, List, length, length-set, slice_get, slice_set, option_map, inl, inr, refl, ap, sym, subst, ◌∙◌}
-use Rattle.std.specs.Option.{option_flatten}
-use Rattle.std.proofs.lemmas.Bool.{cases_eq}
+use Rattle.std.proofs.Common.{◌≡◌, ℕ, ◌+◌, ◌++◌, ◌<◌, ◌&&◌, not, Option, Some, None, List, [], ◌∷◌, length, length-set, slice_get, slice_set, option_map, refl, ap, sym, subst, ◌∙◌}
 use Rattle.std.proofs.lemmas.Option.{same_Some}
-use Rattle.listed.proofs.Members.{got_other, got_within}
-use Rattle.listed.proofs.Places.{got_set}
+use Rattle.listed.proofs.Members.{got_within}
 use Rattle.run_ledger.specs.declared.data.Ledger.{Ledger}
 use Rattle.run_ledger.specs.declared.data.RunEnd.{RunEnd}
+use Rattle.heap_tree.specs.Node.{with_state}
 use Rattle.run_ledger.specs.Heaps.{heap_of}
 use Rattle.run_ledger.specs.Steps.{task_steps}
 use Rattle.task_frames.specs.declared.frames.Frame.{Frame}
 use Rattle.heap_tree.specs.declared.state.State.TheVariants.{Ended}
-use Rattle.heap_tree.specs.Node.{Node, with_state}
 use Rattle.ledger_step_laws.specs.Last.{Runs}
 use Rattle.core_relation.specs.Memory.{Belongings, Memory}
 use Rattle.core_relation.specs.Changes.{EndsBelongings}
@@ -24,21 +21,20 @@ use Rattle.core_relation.specs.Since.{OthersNotes}
 use Rattle.core_relation.specs.Whole.{StandsFor, as_node}
 use Rattle.core_relation.specs.Worker.{WorkerFits}
 use Rattle.core_relation.proofs.changes.With.{at_belongings, off_belongings}
-use Rattle.core_entry_laws.proofs.whole.RanWhole.{ran_stands_for}
-use Rattle.core_entry_laws.proofs.parts.Workers.{ran_leaves}
 use Rattle.task_machine.specs.declared.part.Private.{Private}
 use Rattle.task_homes.specs.declared.task_at_rest.Rest.{Rest}
-use Rattle.shared_value.specs.SharedValue.{SharedValue, accounts, belongings_in, belongings_of, rest_at, tree_counts_of, value_of}
-use Rattle.shared_value.specs.Measured.{AreMeasured, RestsAreMeasured}
-use Rattle.shared_value.specs.Stands.{HeapForm, IsSharedValue}
-use Rattle.shared_value.specs.Fits.{Fits, OthersFit, belongings_of_part, part_of}
-use Rattle.shared_value.specs.Entered.{refused}
-use Rattle.shared_value.proofs.EntryMade.{accounts_are, entered, entered_world, task_is_out, tasks_apart, part_fits, free_before}
+use Rattle.shared_value.specs.SharedValue.{SharedValue, accounts, belongings_in, belongings_of, tree_counts_of, value_of}
+use Rattle.shared_value.specs.Stands.{IsSharedValue}
+use Rattle.shared_value.specs.Fits.{Fits, belongings_of_part}
+use Rattle.shared_value.specs.Entered.{Enters, refused}
+use Rattle.shared_value.proofs.EntryMade.{ChangesRest, IsWell, changed_form, free_before, rest_off, rest_then, task_is_out}
+use Rattle.shared_value.proofs.StepsMade.{MakesSteps}
+use Rattle.shared_value.proofs.UnitsMeasured.{all_kept}
 use Rattle.shared_value.proofs.BeforeTheEnd.{stands_now}
 use Rattle.shared_value.proofs.TaskTaken.{made_by, node_by, node_off}
-use Rattle.own_steps.specs.Alone.{IsShared, ended_rest}
+use Rattle.own_steps.specs.Alone.{IsShared, alone_entry, ended_rest}
 use Rattle.own_steps.proofs.LastStepEntry as last
-use Rattle.own_steps.proofs.LastStepEntry.{last_entry}
+use Rattle.own_steps.proofs.LastStepEntry.{last_enters, last_entry}
 
 module _ (w : SharedValue) (k : ℕ) (p : Private) (I : IsSharedValue w) (F : Fits w k p) (shared : IsShared w p) (free : refused w (last_entry k p) ≡ None) where
   abbrev t : ℕ
@@ -82,32 +78,32 @@ module _ (w : SharedValue) (k : ℕ) (p : Private) (I : IsSharedValue w) (F : Fi
   here = at_belongings v t h
 
   module _ (end : Option RunEnd) (room : ℕ) where
-    abbrev tree : List Node
-    tree = with_state w.tree t Ended
-
-    abbrev rests : List (Option Rest)
-    rests = slice_set w.rests t (Some rest)
-
-    abbrev tasks_out : List (Option ℕ)
-    tasks_out = slice_set w.tasks_out k None
-
-    abbrev steps : ℕ
-    steps = w.steps + suc p.fresh
-
     abbrev pub w' : SharedValue
-    w' = entered w (last_entry k p) tree w.pool rests w.sets tasks_out w.outputs steps end room
+    w' = record w {
+      tree = with_state w.tree t Ended;
+      rests = slice_set w.rests t (Some rest);
+      tasks_out = slice_set w.tasks_out k None;
+      steps = w.steps + (p.fresh + 1);
+      end = end;
+      journal = record { items = w.journal.items ++ alone_entry k p ∷ []; room = room };
+    }
 
     abbrev v' : Memory
     v' = value_of w'
 
-    rest_now : rest_at rests t ≡ Some rest
-    rest_now = ap option_flatten (got_set w.rests t (Some rest) has_home)
+    pub enters : Enters w w' (last_entry k p)
+    enters = last_enters w w' k p (record { journal = refl; program = refl; settings = refl; halted = refl })
 
-    rest_off : (u : ℕ) → (u ≡ t → ⊥) → rest_at rests u ≡ rest_at w.rests u
-    rest_off u ne = ap option_flatten (got_other w.rests t u (Some rest) ne)
+    changes : ChangesRest w w' t (Some rest)
+    changes = record {
+      rests = refl;
+      there = has_home;
+      keeps = λ u ne. all_kept w.pool u;
+      free = λ u ne f. free_before w.tasks_out k None u f (λ h. ne (same_Some u t (sym h ∙ task_is_out w k p I (last.on w k p I F shared free) F)));
+    }
 
     belongings_now : v'.belongings t ≡ belongings_of rest
-    belongings_now = ap belongings_in rest_now
+    belongings_now = ap belongings_in (rest_then I changes)
 
     ends_belongings : EndsBelongings vt v' t p.frames.top p.frames.below
     ends_belongings = record {
@@ -119,7 +115,7 @@ module _ (w : SharedValue) (k : ℕ) (p : Private) (I : IsSharedValue w) (F : Fi
       room = ap (λ (z : Belongings). z.room) belongings_now ∙ ap (λ (z : Belongings). z.room) (sym here);
       since = ap (λ (z : Belongings). z.since) belongings_now ∙ ap (λ (z : Belongings). z.since) (sym here);
       count = ap (λ (z : Belongings). z.count) belongings_now ∙ ap (λ (z : Belongings). z.count) (sym here);
-      others = λ u ne. ap belongings_in (rest_off u ne) ∙ sym (off_belongings v t h u ne);
+      others = λ u ne. ap belongings_in (rest_off I changes u ne) ∙ sym (off_belongings v t h u ne);
       owner = λ c. refl;
       sources = λ u. refl;
     }
@@ -133,31 +129,16 @@ module _ (w : SharedValue) (k : ℕ) (p : Private) (I : IsSharedValue w) (F : Fi
     pub node_ends : NodeGoes (tree_counts_of w) (tree_counts_of w') t Ended
     node_ends = record { node = node_by w.tree t Ended (slice_get w.tree t) refl; others = λ u ne. node_off w.tree t Ended (slice_get w.tree t) u ne }
 
-    heaps_then : (u : ℕ) (r : Rest) → rest_at rests u ≡ Some r → HeapForm r.heap
-    heaps_then u r is = elim (cases_eq u t) [
-      | inl q ↦ subst (λ (z : Rest). HeapForm z.heap) (same_Some rest r (sym rest_now ∙ (ap (rest_at rests) (sym q) ∙ is))) F.form
-      | inr ne ↦ I.heaps u r (sym (rest_off u ne) ∙ is)
-    ]
-
-    measured_then : RestsAreMeasured w.pool rests tasks_out
-    measured_then u r is f = elim (cases_eq u t) [
-      | inl q ↦ subst (λ z. AreMeasured w.pool z r.heap.chunks) (sym q) (subst (λ (z : Rest). AreMeasured w.pool t z.heap.chunks) (same_Some rest r (sym rest_now ∙ (ap (rest_at rests) (sym q) ∙ is))) F.measured.0)
-      | inr ne ↦ I.measured u r (sym (rest_off u ne) ∙ is) (free_before w.tasks_out k None u f (λ h. ne (same_Some u t (sym h ∙ task_is_out w k p I (last.on w k p I F shared free) F))))
-    ]
-
-    pub accounts_then : accounts w' ≡ L
-    accounts_then = accounts_are w (last_entry k p) I free tree w.pool rests w.sets tasks_out w.outputs steps end room
-
     -- by how the entry splits, and what its last step makes of the memory
-    module _ (E : Runs w.program w.settings l L t k p.fresh) (own : WorkerFits w.program w.settings (part_for w.settings t h (taken_by E.splits.kind p.fresh)) v l) (C : Makes w.program v v' M L t h E.splits.task E.splits.line E.splits.kind E.splits.last) where
-      pub ended_world : Marks w.program v v' M L t h E.splits.task E.splits.line E.splits.kind E.splits.last C → RanCounts w.program (tree_counts_of w) (tree_counts_of w') M L t k p.fresh E.splits.task E.splits.line E.splits.kind E.splits.last → IsSharedValue w'
-      ended_world N counts =
-          entered_world w (last_entry k p) I free tree w.pool rests w.sets tasks_out w.outputs steps end room (length-set w.rests t (Some rest) ∙ (I.made ∙ sym (made_by w.tree t Ended (slice_get w.tree t)))) (I.noted ∙ sym (made_by w.tree t Ended (slice_get w.tree t))) (length-set w.tasks_out k None) refl
-          (ran_stands_for w.program w.settings w.journal.items I.form I.legal v v' (tree_counts_of w) (tree_counts_of w') k t p.fresh h free E I.stands own C N counts) heaps_then measured_then
-
-      -- THE PARTS OF OTHERS
-      module _ (after : IsSharedValue w') where
-        pub others_fit : OthersFit w w' k
-        others_fit u r ne G =
-            part_fits w (last_entry k p) I free tree w.pool rests w.sets tasks_out w.outputs steps end room after u r r (ap option_flatten (got_other w.tasks_out k u None ne)) G refl refl refl G.form G.measured
-            (ran_leaves w.program w.settings v v' l L t k p.fresh h E own C (part_of w.settings r) (tasks_apart w k u p r F G ne) G.fits)
+    pub ended_made : (E : Runs w.program w.settings l L t k p.fresh) → WorkerFits w.program w.settings (part_for w.settings t h (taken_by E.splits.kind p.fresh)) v l → (C : Makes w.program v v' M L t h E.splits.task E.splits.line E.splits.kind E.splits.last)
+        → Marks w.program v v' M L t h E.splits.task E.splits.line E.splits.kind E.splits.last C → RanCounts w.program (tree_counts_of w) (tree_counts_of w') M L t k p.fresh E.splits.task E.splits.line E.splits.kind E.splits.last → MakesSteps w w' k p p.fresh
+    ended_made E own C N counts = record {
+      enters = enters;
+      form = changed_form I changes (λ r q. subst (IsWell w.pool t) (same_Some rest r q) (F.form, F.measured.0)) (made_by w.tree t Ended (slice_get w.tree t)) refl (length-set w.tasks_out k None) refl;
+      units = λ u q ne G. G.measured;
+      runs = E;
+      own = own;
+      makes = C;
+      notes = N;
+      counts = counts;
+    }

@@ -1,23 +1,24 @@
 -- An entry is made: the shared value that the entry leaves.
-use Rattle.std.proofs.Common.{◌≡◌, ℕ, ℤ, Option, Some, None, List, [], ◌∷◌, ◌++◌, length, slice_get, slice_set, is_none, inl, inr, refl, ap, sym, subst, ◌∙◌}
+use Rattle.std.proofs.Common.{◌≡◌, ◌⊎◌, ℕ, ◌<◌, Option, Some, None, List, length, length-set, slice_get, slice_set, is_none, inl, inr, refl, ap, sym, subst, ◌∙◌}
 use Rattle.std.specs.Option.{option_flatten}
 use Rattle.std.proofs.lemmas.Bool.{cases_eq}
 use Rattle.std.proofs.lemmas.Option.{same_Some}
 use Rattle.listed.proofs.Members.{got_other}
+use Rattle.listed.proofs.Places.{got_set}
 use Rattle.listed.proofs.Options.{none_of, none_some}
+use Rattle.hh_lang.specs.Form.{IsProgram}
 use Rattle.hh_model.specs.declared.data.End.TheVariants.{Done, Trapped, Entangled}
 use Rattle.run_trace.specs.Entry.{EntryValue}
+use Rattle.run_trace.specs.Settings.{AreSettings, SettingsValue, field_limit}
 use Rattle.run_ledger.specs.declared.data.Ledger.{Ledger}
 use Rattle.run_ledger.specs.declared.data.RunEnd.{RunEnd}
 use Rattle.run_ledger.specs.Heaps.{heap_of, let_go, or_fresh}
 use Rattle.run_ledger.specs.Entries.{after}
 use Rattle.run_ledger.proofs.Journals.{entry_tells}
 use Rattle.run_ledger.specs.declared.data.RunEnd.TheVariants.{Fuel, Machine, Pool}
+use Rattle.run_ledger.specs.Journals.{is_legal, ledger_of}
 use Rattle.run_ledger.proofs.Cuts.{legal_then}
 use Rattle.chunk_pool.specs.PoolValue.{PoolValue}
-use Rattle.heap_tree.specs.Node.{Node}
-use Rattle.write_barrier.specs.declared.sets.SetOf.{SetOf}
-use Rattle.inner_mark_gc.specs.MarkingValue.{MarkingValue}
 use Rattle.ledger_step_laws.specs.Accounts.{Rests, rested}
 use Rattle.ledger_step_laws.proofs.Ahead.{with_off}
 use Rattle.ledger_step_laws.proofs.Rested.{rested_worker}
@@ -26,12 +27,13 @@ use Rattle.core_relation.specs.Worker.{WorkerFits}
 use Rattle.task_machine.specs.declared.part.Private.{Private}
 use Rattle.task_homes.specs.declared.task_at_rest.Rest.{Rest}
 use Rattle.shared_value.specs.SharedValue.{SharedValue, accounts, rest_at, tree_counts_of, value_of}
-use Rattle.shared_value.specs.Measured.{IsMeasured, IsFree, RestsAreMeasured}
+use Rattle.shared_value.specs.Measured.{AreMeasured, IsMeasured, IsFree, KeepsUnits, RestsAreMeasured}
 use Rattle.shared_value.specs.Stands.{HeapForm, IsSharedValue}
 use Rattle.shared_value.specs.Fits.{Fits, part_of}
-use Rattle.shared_value.specs.Entered.{refused}
+use Rattle.shared_value.specs.Entered.{Enters, refused}
 use Rattle.shared_value.proofs.JournalGoesOn.{accounts_then}
-use Rattle.shared_value.proofs.BeforeTheEnd.{stands_now}
+use Rattle.shared_value.proofs.BeforeTheEnd.{end_now, stands_now}
+use Rattle.shared_value.proofs.UnitsMeasured.{measured_kept}
 
 -- nothing is refused after the run's end but as over
 pub entry_on : (w : SharedValue) (e : EntryValue) → refused w e ≡ None → (accounts w).end ≡ None
@@ -81,75 +83,131 @@ free_before tasks_out k x u none other j e = elim (cases_eq j k) [
   | inr ne ↦ none j (ap option_flatten (got_other tasks_out k j x ne) ∙ e)
 ]
 
--- the value with other fields and one entry more
-abbrev pub entered : SharedValue → EntryValue → List Node → PoolValue → List (Option Rest) → List SetOf → List (Option ℕ) → List ℤ → ℕ → Option RunEnd → ℕ → SharedValue
-entered w e tree pool rests sets tasks_out outputs steps end room = record w { tree = tree; pool = pool; rests = rests; sets = sets; tasks_out = tasks_out; outputs = outputs; steps = steps; end = end; journal = record { items = w.journal.items ++ e ∷ []; room = room } }
+-- WHAT OF A VALUE IS FORM: as many homes and sets as nodes, as many workers, and each heap that rests is well formed and
+-- measured
+pub record HasForm (w w' : SharedValue) : Type 0 where
+  pub made : length w'.rests ≡ length w'.tree
+  pub noted : length w'.sets ≡ length w'.tree
+  pub workers : length w'.tasks_out ≡ length w.tasks_out
+  pub limit : w'.pool.limit ≡ w.pool.limit
+  pub heaps : (t : ℕ) (r : Rest) → rest_at w'.rests t ≡ Some r → HeapForm r.heap
+  pub measured : RestsAreMeasured w'.pool w'.rests w'.tasks_out
 
--- the value with other fields, marks among them, and one entry more
-abbrev pub entered_marks : SharedValue → EntryValue → List Node → PoolValue → List (Option Rest) → List SetOf → List (Option ℕ) → List ℤ → ℕ → Option RunEnd → ℕ → List (Option MarkingValue) → SharedValue
-entered_marks w e tree pool rests sets tasks_out outputs steps end room marks = record (entered w e tree pool rests sets tasks_out outputs steps end room) { marks = marks }
+-- of the tasks the values have the same
+abbrev pub HasSameTasks : SharedValue → SharedValue → Type 0
+HasSameTasks w w' = w' ≡ record w' { tree = w.tree; rests = w.rests; sets = w.sets; tasks_out = w.tasks_out }
 
-module _ (w : SharedValue) (e : EntryValue) (I : IsSharedValue w) (free : refused w e ≡ None) (tree : List Node) (pool : PoolValue) (rests : List (Option Rest)) (sets : List SetOf) (tasks_out : List (Option ℕ)) (outputs : List ℤ) (steps : ℕ) (end : Option RunEnd) (room : ℕ) (marks : List (Option MarkingValue)) where
-  abbrev marked' : SharedValue
-  marked' = entered_marks w e tree pool rests sets tasks_out outputs steps end room marks
+pub same_form : {w w' : SharedValue} → IsSharedValue w → HasSameTasks w w' → w'.pool.limit ≡ w.pool.limit → ((t : ℕ) → KeepsUnits w.pool w'.pool t) → HasForm w w'
+same_form {w} {w'} I same limit keeps = subst (HasForm w) (sym same) (record { made = I.made; noted = I.noted; workers = refl; limit = limit; heaps = I.heaps; measured = λ t r i f. measured_kept w.pool w'.pool t r.heap.chunks (keeps t) (I.measured t r i f) })
 
-  pub marked_accounts : accounts marked' ≡ after w.program w.settings (accounts w) e
-  marked_accounts = accounts_then w.program w.settings w.journal.items e
+-- WHAT RESTS AT A TASK stays: no worker held the task before where none does, and its chunks are as they were
+pub record RestStays (w w' : SharedValue) (u : ℕ) : Type 0 where
+  pub rest : rest_at w'.rests u ≡ rest_at w.rests u
+  pub keeps : KeepsUnits w.pool w'.pool u
+  pub free : IsFree w'.tasks_out u → IsFree w.tasks_out u
 
-  pub marked_world : length rests ≡ length tree → length sets ≡ length tree → length tasks_out ≡ length w.tasks_out → pool.limit ≡ w.pool.limit
-      → StandsForAll (value_of marked') (tree_counts_of marked') (after w.program w.settings (accounts w) e) → ((t : ℕ) (r : Rest) → rest_at rests t ≡ Some r → HeapForm r.heap) → RestsAreMeasured pool rests tasks_out → IsSharedValue marked'
-  marked_world made noted workers limit stands heaps measured = record {
-    settings = I.settings;
-    form = I.form;
-    legal = legal_then w.program w.settings w.journal.items e I.legal free;
-    made = made;
-    noted = noted;
-    workers = workers ∙ I.workers;
-    limit = limit ∙ I.limit;
-    stands = subst (λ (z : Ledger). StandsForAll (value_of marked') (tree_counts_of marked') z) (sym marked_accounts) stands;
-    heaps = heaps;
-    measured = measured;
+-- or it is well formed and measured
+abbrev pub IsWell : PoolValue → ℕ → Rest → Type 0
+IsWell pool u r = HeapForm r.heap × AreMeasured pool u r.heap.chunks
+
+abbrev pub RestIsWell : SharedValue → ℕ → Type 0
+RestIsWell w' u = (r : Rest) → rest_at w'.rests u ≡ Some r → IsWell w'.pool u r
+
+pub well_at : (w' : SharedValue) (u t : ℕ) (s : Rest) → u ≡ t → rest_at w'.rests t ≡ Some s → IsWell w'.pool t s → RestIsWell w' u
+well_at w' u t s q there well r is = subst (λ z. IsWell w'.pool z r) (sym q) (subst (IsWell w'.pool t) (same_Some s r (sym there ∙ (ap (rest_at w'.rests) (sym q) ∙ is))) well)
+
+pub none_at : (w' : SharedValue) (u t : ℕ) → u ≡ t → rest_at w'.rests t ≡ None → RestIsWell w' u
+none_at w' u t q there r is = none_some (sym there ∙ (ap (rest_at w'.rests) (sym q) ∙ is))
+
+pub each_form : {w w' : SharedValue} → IsSharedValue w → ((u : ℕ) → RestIsWell w' u ⊎ RestStays w w' u) → length w'.rests ≡ length w'.tree → length w'.sets ≡ length w'.tree → length w'.tasks_out ≡ length w.tasks_out → w'.pool.limit ≡ w.pool.limit → HasForm w w'
+each_form {w} {w'} I each made noted workers limit = record {
+  made = made;
+  noted = noted;
+  workers = workers;
+  limit = limit;
+  heaps = λ u r is. elim (each u) [
+    | inl well ↦ (well r is).0
+    | inr S ↦ I.heaps u r (sym S.rest ∙ is)
+  ];
+  measured = λ u r is f. elim (each u) [
+    | inl well ↦ (well r is).1
+    | inr S ↦ measured_kept w.pool w'.pool u r.heap.chunks S.keeps (I.measured u r (sym S.rest ∙ is) (S.free f))
+  ];
+}
+
+-- ONE TASK'S REST CHANGES: s is at t
+pub record ChangesRest (w w' : SharedValue) (t : ℕ) (s : Option Rest) : Type 0 where
+  pub rests : w'.rests ≡ slice_set w.rests t s
+  pub there : t < length w.rests
+  pub keeps : (u : ℕ) → (u ≡ t → ⊥) → KeepsUnits w.pool w'.pool u
+  pub free : (u : ℕ) → (u ≡ t → ⊥) → IsFree w'.tasks_out u → IsFree w.tasks_out u
+
+module _ {w w' : SharedValue} {t : ℕ} {s : Option Rest} (I : IsSharedValue w) (C : ChangesRest w w' t s) where
+  pub rest_then : rest_at w'.rests t ≡ s
+  rest_then = ap (λ rs. rest_at rs t) C.rests ∙ ap option_flatten (got_set w.rests t s C.there)
+
+  pub rest_off : (u : ℕ) → (u ≡ t → ⊥) → rest_at w'.rests u ≡ rest_at w.rests u
+  rest_off u ne = ap (λ rs. rest_at rs u) C.rests ∙ ap option_flatten (got_other w.rests t u s ne)
+
+  pub changed_form : ((r : Rest) → s ≡ Some r → IsWell w'.pool t r) → length w'.tree ≡ length w.tree → length w'.sets ≡ length w.sets → length w'.tasks_out ≡ length w.tasks_out → w'.pool.limit ≡ w.pool.limit → HasForm w w'
+  changed_form well tree sets workers limit =
+      each_form I (λ u. elim (cases_eq u t) [
+        | inl q ↦ inl (λ r is. let there : rest_at w'.rests t ≡ Some r = ap (rest_at w'.rests) (sym q) ∙ is in subst (λ z. IsWell w'.pool z r) (sym q) (well r (sym rest_then ∙ there)))
+        | inr ne ↦ inr (record { rest = rest_off u ne; keeps = C.keeps u ne; free = C.free u ne })
+      ]) (ap length C.rests ∙ (length-set w.rests t s ∙ (I.made ∙ sym tree))) (sets ∙ (I.noted ∙ sym tree)) workers limit
+
+-- the part goes on as another one, of the same task and with the same limits
+abbrev pub GoesOnAs : Private → Private → Type 0
+GoesOnAs p q = q ≡ record q { task = p.task; leaf_limit = p.leaf_limit; field_limit = p.field_limit }
+
+-- THE ENTRY IS MADE: it isn't refused, and the journal of the value w' has it
+module _ {w w' : SharedValue} {e : EntryValue} (I : IsSharedValue w) (free : refused w e ≡ None) (N : Enters w w' e) where
+  pub accounts_are : accounts w' ≡ after w.program w.settings (accounts w) e
+  accounts_are =
+      ap (λ p. ledger_of p w'.settings w'.journal.items) N.program
+      ∙ (ap (λ s. ledger_of w.program s w'.journal.items) N.settings ∙ (ap (ledger_of w.program w.settings) N.journal ∙ accounts_then w.program w.settings w.journal.items e))
+
+  pub entered_world : HasForm w w' → StandsForAll (value_of w') (tree_counts_of w') (after w.program w.settings (accounts w) e) → IsSharedValue w'
+  entered_world H stands = record {
+    settings = subst AreSettings (sym N.settings) I.settings;
+    form = subst IsProgram (sym N.program) I.form;
+    legal = ap (λ p. is_legal p w'.settings w'.journal.items) N.program
+        ∙ (ap (λ s. is_legal w.program s w'.journal.items) N.settings ∙ (ap (is_legal w.program w.settings) N.journal ∙ legal_then w.program w.settings w.journal.items e I.legal free));
+    made = H.made;
+    noted = H.noted;
+    workers = H.workers ∙ (I.workers ∙ ap (λ (s : SettingsValue). s.workers) (sym N.settings));
+    limit = H.limit ∙ (I.limit ∙ ap (λ (s : SettingsValue). s.chunks) (sym N.settings));
+    stands = subst (StandsForAll (value_of w') (tree_counts_of w')) (sym accounts_are) stands;
+    heaps = H.heaps;
+    measured = H.measured;
   }
 
-  module _ (I' : IsSharedValue marked') where
+  module _ (I' : IsSharedValue w') where
+    -- the run goes on where it did
+    pub still_goes : (accounts w).end ≡ None → w'.end ≡ w.end → (accounts w').end ≡ None
+    still_goes on same = sym (end_now w' I') ∙ (same ∙ (end_now w I ∙ on))
+
     -- a worker holds the task that is out with it
-    marked_out : (u t : ℕ) → option_flatten (slice_get tasks_out u) ≡ Some t → (heap_of (accounts marked') t).worker ≡ Some u
-    marked_out u t e = worker_by_end (accounts marked') (accounts marked').end t u ((I'.stands.tree_counts.task_out u t).0 e)
+    pub worker_when_out : (u t : ℕ) → option_flatten (slice_get w'.tasks_out u) ≡ Some t → (heap_of (accounts w') t).worker ≡ Some u
+    worker_when_out u t q = worker_by_end (accounts w') (accounts w').end t u ((I'.stands.tree_counts.task_out u t).0 q)
 
-    marked_held : (u t : ℕ) → option_flatten (slice_get tasks_out u) ≡ option_flatten (slice_get w.tasks_out u) → (heap_of (accounts w) t).worker ≡ Some u → (heap_of (accounts marked') t).worker ≡ Some u
-    marked_held u t same held = marked_out u t (same ∙ ((stands_now w I (entry_on w e free)).tree_counts.task_out u t).1 held)
-
-    -- a part of a worker that goes on fits where its belongings do
-    pub marked_fits : (u : ℕ) (p q : Private) → option_flatten (slice_get tasks_out u) ≡ option_flatten (slice_get w.tasks_out u) → Fits w u p → q.task ≡ p.task → q.leaf_limit ≡ p.leaf_limit → q.field_limit ≡ p.field_limit → HeapForm q.heap → IsMeasured pool q
-        → WorkerFits w.program w.settings (part_of w.settings q) (value_of marked') (after w.program w.settings (accounts w) e) → Fits marked' u q
-    marked_fits u p q same F et el ef form measured fits = record {
-      out = ap (λ z. (heap_of (accounts marked') z).worker) et ∙ marked_held u p.task same F.out;
-      fits = subst (WorkerFits w.program w.settings (part_of w.settings q) (value_of marked')) (sym marked_accounts) fits;
+    -- what a worker goes on with fits where it fits the accounts then
+    pub fits_then : (u : ℕ) (q : Private) → (heap_of (accounts w') q.task).worker ≡ Some u → q.leaf_limit ≡ w.settings.leaf → q.field_limit ≡ field_limit w.settings.version → HeapForm q.heap → IsMeasured w'.pool q
+        → WorkerFits w.program w.settings (part_of w.settings q) (value_of w') (after w.program w.settings (accounts w) e) → Fits w' u q
+    fits_then u q out el ef form measured fits = record {
+      out = out;
+      fits = subst (λ p. WorkerFits p w'.settings (part_of w'.settings q) (value_of w') (accounts w')) (sym N.program)
+          (subst (λ s. WorkerFits w.program s (part_of s q) (value_of w') (accounts w')) (sym N.settings) (subst (WorkerFits w.program w.settings (part_of w.settings q) (value_of w')) (sym accounts_are) fits));
       form = form;
       measured = measured;
-      leaf_limit = el ∙ F.leaf_limit;
-      field_limit = ef ∙ F.field_limit;
+      leaf_limit = el ∙ ap (λ (s : SettingsValue). s.leaf) (sym N.settings);
+      field_limit = ef ∙ ap (λ (s : SettingsValue). field_limit s.version) (sym N.settings);
     }
 
--- and where what is marked stays
-module _ (w : SharedValue) (e : EntryValue) (I : IsSharedValue w) (free : refused w e ≡ None) (tree : List Node) (pool : PoolValue) (rests : List (Option Rest)) (sets : List SetOf) (tasks_out : List (Option ℕ)) (outputs : List ℤ) (steps : ℕ) (end : Option RunEnd) (room : ℕ) where
-  abbrev w' : SharedValue
-  w' = entered w e tree pool rests sets tasks_out outputs steps end room
-
-  pub accounts_are : accounts w' ≡ after w.program w.settings (accounts w) e
-  accounts_are = marked_accounts w e I free tree pool rests sets tasks_out outputs steps end room w.marks
-
-  pub entered_world : length rests ≡ length tree → length sets ≡ length tree → length tasks_out ≡ length w.tasks_out → pool.limit ≡ w.pool.limit
-      → StandsForAll (value_of w') (tree_counts_of w') (after w.program w.settings (accounts w) e) → ((t : ℕ) (r : Rest) → rest_at rests t ≡ Some r → HeapForm r.heap) → RestsAreMeasured pool rests tasks_out → IsSharedValue w'
-  entered_world = marked_world w e I free tree pool rests sets tasks_out outputs steps end room w.marks
-
-  module _ (I' : IsSharedValue w') where
-    pub worker_when_out : (u t : ℕ) → option_flatten (slice_get tasks_out u) ≡ Some t → (heap_of (accounts w') t).worker ≡ Some u
-    worker_when_out = marked_out w e I free tree pool rests sets tasks_out outputs steps end room w.marks I'
-
-    pub worker_on : (u t : ℕ) → option_flatten (slice_get tasks_out u) ≡ option_flatten (slice_get w.tasks_out u) → (heap_of (accounts w) t).worker ≡ Some u → (heap_of (accounts w') t).worker ≡ Some u
-    worker_on = marked_held w e I free tree pool rests sets tasks_out outputs steps end room w.marks I'
-
-    pub part_fits : (u : ℕ) (p q : Private) → option_flatten (slice_get tasks_out u) ≡ option_flatten (slice_get w.tasks_out u) → Fits w u p → q.task ≡ p.task → q.leaf_limit ≡ p.leaf_limit → q.field_limit ≡ p.field_limit → HeapForm q.heap → IsMeasured pool q
+    -- a part of a worker that goes on fits where its belongings do
+    pub part_fits : (u : ℕ) (p q : Private) → option_flatten (slice_get w'.tasks_out u) ≡ option_flatten (slice_get w.tasks_out u) → Fits w u p → GoesOnAs p q → HeapForm q.heap → IsMeasured w'.pool q
         → WorkerFits w.program w.settings (part_of w.settings q) (value_of w') (after w.program w.settings (accounts w) e) → Fits w' u q
-    part_fits = marked_fits w e I free tree pool rests sets tasks_out outputs steps end room w.marks I'
+    part_fits u p q same F on_as form measured fits =
+        fits_then u q
+        (ap (λ (z : Private). (heap_of (accounts w') z.task).worker) on_as ∙ worker_when_out u p.task (same ∙ ((stands_now w I (entry_on w e free)).tree_counts.task_out u p.task).1 F.out))
+        (ap (λ (z : Private). z.leaf_limit) on_as ∙ F.leaf_limit) (ap (λ (z : Private). z.field_limit) on_as ∙ F.field_limit) form measured fits

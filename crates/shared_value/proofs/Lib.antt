@@ -8,6 +8,7 @@ pub mod HeapCounts
 pub mod SmallWords
 pub mod HeapWords
 pub mod EntryMade
+pub mod StepsMade
 pub mod JournalGoesOn
 pub mod OneAccount
 pub mod NothingMoves

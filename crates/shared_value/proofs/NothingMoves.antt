@@ -1,5 +1,6 @@
 -- Entries that move nothing: the end of fuel, a chunk, and the end of the pool.
-use Rattle.std.proofs.Common.{◌≡◌, ℕ, Option, Some, None, length, slice_get, inl, refl, ap, sym, ◌∙◌}
+use Rattle.std.proofs.Common.{◌≡◌, ℕ, Option, Some, None, [], ◌∷◌, ◌++◌, length, slice_get, inl, refl, ap, sym, ◌∙◌}
+use Rattle.std.specs.Option.{option_flatten}
 use Rattle.listed.specs.RoomyValue.{RoomyValue}
 use Rattle.hh_model.specs.declared.data.State.{State}
 use Rattle.hh_model.specs.Effect.{row_of}
@@ -8,18 +9,16 @@ use Rattle.run_trace.specs.declared.entry.Kind.TheVariants.{Fuel}
 use Rattle.run_trace.specs.Entry.{EntryValue}
 use Rattle.run_ledger.specs.declared.data.Heap.{Heap}
 use Rattle.run_ledger.specs.declared.data.Ledger.{Ledger}
-use Rattle.run_ledger.specs.declared.data.RunEnd.{RunEnd}
 use Rattle.run_ledger.specs.declared.data.RunEnd.TheVariants.{Fuel as FuelEnd}
 use Rattle.run_ledger.specs.Heaps.{heap_of}
 use Rattle.run_ledger.specs.Entries.{after}
-use Rattle.chunk_pool.specs.PoolValue.{PoolValue}
 use Rattle.alloc_path.specs.LeafHeapValue.{LeafHeapValue as HeapOf}
 use Rattle.ledger_step_laws.specs.Accounts.{Rests, rested}
 use Rattle.core_relation.specs.Memory.{Memory}
 use Rattle.core_relation.specs.Changes.{SameObjects}
 use Rattle.core_relation.specs.Counts.{CountsGo, IsMarked, IsQuiet}
 use Rattle.core_relation.specs.Fits.{with_belongings}
-use Rattle.core_relation.specs.Since.{NotesStay}
+use Rattle.core_relation.specs.Since.{MarksOn, NotesStay}
 use Rattle.core_relation.specs.Stands.{BelongingsStand}
 use Rattle.core_relation.specs.Whole.{BegunBy}
 use Rattle.core_relation.specs.Worker.{IsBy}
@@ -33,53 +32,53 @@ use Rattle.shared_value.specs.SharedValue.{SharedValue, accounts, tree_counts_of
 use Rattle.shared_value.specs.Measured.{IsMeasured, KeepsUnits}
 use Rattle.shared_value.specs.Stands.{HeapForm, IsSharedValue}
 use Rattle.shared_value.specs.Fits.{AllFit, Fits, belongings_of_part, part_of}
-use Rattle.shared_value.specs.Entered.{refused}
-use Rattle.shared_value.proofs.EntryMade.{entered, entered_world, entry_on, part_fits}
+use Rattle.shared_value.specs.Entered.{Enters, refused}
+use Rattle.shared_value.proofs.EntryMade.{HasSameTasks, entered_world, entry_on, part_fits, same_form}
 use Rattle.shared_value.proofs.BeforeTheEnd.{stands_now}
-use Rattle.shared_value.proofs.UnitsMeasured.{all_kept, measured_kept, part_kept}
+use Rattle.shared_value.proofs.UnitsMeasured.{all_kept, part_kept}
 
--- an entry after which the pool and the end may be others
-module _ (w : SharedValue) (e : EntryValue) (I : IsSharedValue w) (free : refused w e ≡ None) (quiet : IsQuiet e.kind) (unmarked : (u : ℕ) → IsMarked e.kind u → ⊥) (pool : PoolValue) (end : Option RunEnd) (room : ℕ) where
-  abbrev pub l : Ledger
-  l = accounts w
+-- an entry that moves nothing makes w' of w: the pool, the end and what is marked may be others
+pub record MovesNothing (w w' : SharedValue) (e : EntryValue) : Type 0 where
+  pub enters : Enters w w' e
+  pub quiet : IsQuiet e.kind
+  pub tasks : HasSameTasks w w'
+  pub limit : w'.pool.limit ≡ w.pool.limit
+  pub keeps : (t : ℕ) → KeepsUnits w.pool w'.pool t
+  pub same : SameObjects (value_of w) (value_of w') (accounts w) (after w.program w.settings (accounts w) e)
+  pub notes : (u : ℕ) → (IsMarked e.kind u → ⊥) → NotesStay (value_of w) (value_of w') u
+  pub marks : (u : ℕ) → IsMarked e.kind u → MarksOn (value_of w) (value_of w') (after w.program w.settings (accounts w) e) u
+  pub counts : CountsGo w.program w.settings (accounts w) (tree_counts_of w) (tree_counts_of w') e.worker e.kind
 
-  abbrev pub L : Ledger
-  L = after w.program w.settings l e
+module _ {w w' : SharedValue} {e : EntryValue} (I : IsSharedValue w) (free : refused w e ≡ None) (M : MovesNothing w w' e) where
+  abbrev L : Ledger
+  L = after w.program w.settings (accounts w) e
 
-  abbrev pub w' : SharedValue
-  w' = entered w e w.tree pool w.rests w.sets w.tasks_out w.outputs w.steps end room
+  pub quiet_world : IsSharedValue w'
+  quiet_world =
+      entered_world I free M.enters (same_form I M.tasks M.limit M.keeps)
+      (quiet_stands_for w.program w.settings w.journal.items I.form I.legal (value_of w) (value_of w') (tree_counts_of w) (tree_counts_of w') e free M.quiet I.stands M.same M.notes M.marks M.counts)
 
-  abbrev pub v : Memory
-  v = value_of w
+  out_same : (u : ℕ) → option_flatten (slice_get w'.tasks_out u) ≡ option_flatten (slice_get w.tasks_out u)
+  out_same u = ap (λ (z : SharedValue). option_flatten (slice_get z.tasks_out u)) M.tasks
 
-  abbrev pub v' : Memory
-  v' = value_of w'
+  pub quiet_others : (u : ℕ) (q : Private) → (IsBy e.kind q.task → ⊥) → Fits w u q → Fits w' u q
+  quiet_others u q ne F =
+      part_fits I free M.enters quiet_world u q q (out_same u) F refl F.form (part_kept w.pool w'.pool q (M.keeps q.task) F.measured)
+      (quiet_leaves w.program w.settings w.journal.items I.legal (value_of w) (value_of w') e free M.quiet M.same (part_of w.settings q) ne F.fits)
 
-  module _ (same : SameObjects v v' l L) (notes : (u : ℕ) → NotesStay v v' u) (counts : CountsGo w.program w.settings l (tree_counts_of w) (tree_counts_of w') e.worker e.kind) (limit : pool.limit ≡ w.pool.limit) (keeps : (t : ℕ) → KeepsUnits w.pool pool t) where
-    pub quiet_world : IsSharedValue w'
-    quiet_world =
-        entered_world w e I free w.tree pool w.rests w.sets w.tasks_out w.outputs w.steps end room I.made I.noted refl limit
-        (quiet_stands_for w.program w.settings w.journal.items I.form I.legal v v' (tree_counts_of w) (tree_counts_of w') e free quiet I.stands same (λ u n. notes u) (λ u m. absurd (unmarked u m)) counts)
-        I.heaps (λ t r i f. measured_kept w.pool pool t r.heap.chunks (keeps t) (I.measured t r i f))
+  -- the part of the worker that enters it, without fresh steps, with another heap, and amid the collection b
+  module _ (k : ℕ) (p : Private) (g : HeapOf) (b : Option Begun) (F : Fits w k (record p { fresh = 0 })) where
+    abbrev pub P : Private
+    P = record p { fresh = 0 }
 
-    pub quiet_others : (u : ℕ) (q : Private) → (IsBy e.kind q.task → ⊥) → Fits w u q → Fits w' u q
-    quiet_others u q ne F =
-        part_fits w e I free w.tree pool w.rests w.sets w.tasks_out w.outputs w.steps end room quiet_world u q q refl F refl refl refl F.form (part_kept w.pool pool q (keeps q.task) F.measured)
-        (quiet_leaves w.program w.settings w.journal.items I.legal v v' e free quiet same (part_of w.settings q) ne F.fits)
+    abbrev pub Q : Private
+    Q = record p { fresh = 0; heap = g; begun = b }
 
-    -- the part of the worker that enters it, without fresh steps, with another heap, and amid the collection b
-    module _ (k : ℕ) (p : Private) (g : HeapOf) (b : Option Begun) (F : Fits w k (record p { fresh = 0 })) where
-      abbrev pub P : Private
-      P = record p { fresh = 0 }
-
-      abbrev pub Q : Private
-      Q = record p { fresh = 0; heap = g; begun = b }
-
-      pub quiet_own : HeapForm g → IsMeasured pool Q → SameObjects (with_belongings v p.task (belongings_of_part P)) (with_belongings v' p.task (belongings_of_part Q)) (rested l p.task) (rested L p.task) → BegunBy (with_belongings v' p.task (belongings_of_part Q)) (rested L p.task) p.task b
-          → Fits w' k Q
-      quiet_own form measured part begun =
-          part_fits w e I free w.tree pool w.rests w.sets w.tasks_out w.outputs w.steps end room quiet_world k P Q refl F refl refl refl form measured
-          (quiet_fits_then w.program w.settings w.journal.items I.legal v v' e p.task (belongings_of_part P) (belongings_of_part Q) free quiet F.fits part begun)
+    pub quiet_own : HeapForm g → IsMeasured w'.pool Q → SameObjects (with_belongings (value_of w) p.task (belongings_of_part P)) (with_belongings (value_of w') p.task (belongings_of_part Q)) (rested (accounts w) p.task) (rested L p.task)
+        → BegunBy (with_belongings (value_of w') p.task (belongings_of_part Q)) (rested L p.task) p.task b → Fits w' k Q
+    quiet_own form measured part begun =
+        part_fits I free M.enters quiet_world k P Q (out_same k) F refl form measured
+        (quiet_fits_then w.program w.settings w.journal.items I.legal (value_of w) (value_of w') e p.task (belongings_of_part P) (belongings_of_part Q) free M.quiet F.fits part begun)
 
 -- where the machine and the accounts of heaps stay, the value may
 pub same_value : (v : Memory) (l L : Ledger) → L.machine ≡ l.machine → ((u : ℕ) → heap_of L u ≡ heap_of l u) → ((u : ℕ) → Rests l u → BelongingsStand v l u) → SameObjects v v l L
@@ -102,23 +101,27 @@ notes_unchanged v u = record { keeps = refl; kept = refl; marked = refl }
 
 -- FUEL
 module _ (w : SharedValue) (k : ℕ) (I : IsSharedValue w) (free : refused w (record { worker = k; kind = Fuel }) ≡ None) (j : RoomyValue EntryValue) where
-  abbrev room : ℕ
-  room = j.room
-
   abbrev e : EntryValue
   e = record { worker = k; kind = Fuel }
 
   abbrev fueled : SharedValue
-  fueled = entered w e w.tree w.pool w.rests w.sets w.tasks_out w.outputs w.steps (Some (FuelEnd w.steps)) room
+  fueled = record w { end = Some (FuelEnd w.steps); journal = record { items = w.journal.items ++ e ∷ []; room = j.room } }
 
-  same : SameObjects (value_of w) (value_of w) (accounts w) (after w.program w.settings (accounts w) e)
-  same = same_value (value_of w) (accounts w) (after w.program w.settings (accounts w) e) refl (λ u. refl) (stands_now w I (entry_on w e free)).belongings.belongings
-
-  counts : CountsGo w.program w.settings (accounts w) (tree_counts_of w) (tree_counts_of fueled) k Fuel
-  counts = (record { node = λ u. refl; task_out = λ u. refl; steps = refl; outputs = refl }, refl, refl)
+  moves : MovesNothing w fueled e
+  moves = record {
+    enters = record { journal = refl; program = refl; settings = refl; halted = refl };
+    quiet = tt;
+    tasks = refl;
+    limit = refl;
+    keeps = all_kept w.pool;
+    same = same_value (value_of w) (accounts w) (after w.program w.settings (accounts w) e) refl (λ u. refl) (stands_now w I (entry_on w e free)).belongings.belongings;
+    notes = λ u n. notes_unchanged (value_of w) u;
+    marks = λ u m. absurd m;
+    counts = (record { node = λ u. refl; task_out = λ u. refl; steps = refl; outputs = refl }, refl, refl);
+  }
 
   pub fuel_world : IsSharedValue fueled
-  fuel_world = quiet_world w e I free tt (λ u m. m) w.pool (Some (FuelEnd w.steps)) room same (notes_unchanged (value_of w)) counts refl (all_kept w.pool)
+  fuel_world = quiet_world I free moves
 
   pub fuel_all : AllFit w fueled
-  fuel_all u q F = quiet_others w e I free tt (λ b m. m) w.pool (Some (FuelEnd w.steps)) room same (notes_unchanged (value_of w)) counts refl (all_kept w.pool) u q (λ b. b) F
+  fuel_all u q F = quiet_others I free moves u q (λ b. b) F

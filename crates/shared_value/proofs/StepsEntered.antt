@@ -1,5 +1,5 @@
 -- Private steps are entered.
-use Rattle.std.proofs.Common.{◌≡◌, ℕ, zero, suc, ◌+◌, ◌-◌, ◌<◌, ◌≤◌, true, false, min, Bool, Option, Some, None, map, slice_get, nat_le, is_none, is_some, inl, inr, refl, ap, sym, subst, ◌∙◌, arith, eq-eqb, le-leb}
+use Rattle.std.proofs.Common.{◌≡◌, ℕ, zero, suc, ◌+◌, ◌-◌, ◌<◌, ◌≤◌, true, false, min, Bool, Option, Some, None, [], ◌∷◌, ◌++◌, map, slice_get, nat_le, is_none, is_some, inl, inr, refl, ap, sym, subst, ◌∙◌, arith, eq-eqb, le-leb}
 use Rattle.std.proofs.lemmas.Bool.{and_from}
 use Rattle.listed.specs.RoomyValue.{RoomyValue}
 use Rattle.hh_lang.specs.Form.{ProgramText}
@@ -30,24 +30,22 @@ use Rattle.core_relation.specs.Layout.{reserved_chunks, reserved_units}
 use Rattle.core_relation.specs.Memory.{Chunk, Belongings, Memory}
 use Rattle.core_relation.specs.Fits.{ahead, part_for, with_belongings}
 use Rattle.core_relation.specs.Frames.{IsSteady}
-use Rattle.core_relation.specs.RanCounts.{RanCounts}
 use Rattle.core_relation.specs.Stands.{HasNames, BelongingsStand}
 use Rattle.core_relation.specs.Worker.{WorkerFits}
-use Rattle.core_entry_laws.proofs.parts.RanFits.{ran_fits_then}
-use Rattle.core_entry_laws.proofs.whole.RanWhole.{ran_stands_for}
 use Rattle.core_relation.proofs.changes.With.{at_belongings}
-use Rattle.core_entry_laws.proofs.parts.Workers.{ran_leaves}
 use Rattle.task_machine.specs.declared.part.Private.{Private}
 use Rattle.task_machine.specs.Accounts.{IsCounted}
 use Rattle.task_machine.specs.Fits.{unended}
 use Rattle.task_machine.specs.Outline.{steps}
-use Rattle.shared_value.specs.SharedValue.{SharedValue, accounts, tree_counts_of, value_of}
+use Rattle.shared_value.specs.SharedValue.{SharedValue, accounts, value_of}
 use Rattle.shared_value.specs.Stands.{IsSharedValue}
 use Rattle.shared_value.specs.Fits.{Fits, OthersFit, beyond, belongings_of_part, part_of}
 use Rattle.shared_value.specs.Entered.{refused}
 use Rattle.shared_value.specs.Causes.{first_cause, or_else}
 use Rattle.shared_value.proofs.HeapCounts.{counted_from}
-use Rattle.shared_value.proofs.EntryMade.{entered, entered_world, entry_on, tasks_apart, part_fits}
+use Rattle.shared_value.proofs.EntryMade.{entry_on, same_form}
+use Rattle.shared_value.proofs.StepsMade.{MakesSteps, ran_entry, steps_others, steps_part, steps_world}
+use Rattle.shared_value.proofs.UnitsMeasured.{all_kept}
 use Rattle.shared_value.proofs.BeforeTheEnd as now
 use Rattle.shared_value.proofs.BeforeTheEnd.{end_now, fits_now, steps_now}
 use Rattle.shared_value.proofs.CausesTold.{refused_is}
@@ -134,11 +132,8 @@ private_at : (p : ProgramText) (s : SettingsValue) (t n : ℕ) (l : Ledger) → 
 private_at p s t zero l h = h.2
 private_at p s t (suc n) l h = private_at p s t n (task_step p l t) h.3
 
-abbrev ran_entry : ℕ → Private → ℕ → EntryValue
-ran_entry k p m = record { worker = k; kind = Ran p.task m }
-
 abbrev ran_with : SharedValue → ℕ → Private → ℕ → ℕ → SharedValue
-ran_with w k p m room = entered w (ran_entry k p m) w.tree w.pool w.rests w.sets w.tasks_out w.outputs (w.steps + m) w.end room
+ran_with w k p m room = record w { steps = w.steps + m; journal = record { items = w.journal.items ++ ran_entry k p m ∷ []; room = room } }
 
 module _ (w : SharedValue) (k : ℕ) (p : Private) (I : IsSharedValue w) (F : Fits w k p) (n : ℕ) (is : p.fresh ≡ suc n) (free : refused w (ran_entry k p (suc n)) ≡ None) (room : ℕ) where
   abbrev e : EntryValue
@@ -178,29 +173,17 @@ module _ (w : SharedValue) (k : ℕ) (p : Private) (I : IsSharedValue w) (F : Fi
   abbrev E : Runs w.program w.settings l L t k n
   E = record R { splits = record R.splits { kind = PrivateKind; last = private_at w.program w.settings t n l private; apart = tt; on = λ u. A.goes ∙ goes w k p I F on } }
 
-  own : WorkerFits w.program w.settings (part_for w.settings t h (suc n)) v l
-  own = subst (λ m. WorkerFits w.program w.settings (part_for w.settings t h m) v l) is F.fits
-
-  counts : RanCounts w.program (tree_counts_of w) (tree_counts_of w') (task_steps w.program l t n) L t k n E.splits.task E.splits.line E.splits.kind E.splits.last
-  counts = record { tree = λ u. refl; task_out = λ u. refl; outputs = refl; end = refl; used = refl; steps = refl }
-
-  ran_world_by : IsSharedValue w'
-  ran_world_by =
-      entered_world w e I free w.tree w.pool w.rests w.sets w.tasks_out w.outputs (w.steps + suc n) w.end room I.made I.noted refl refl
-      (ran_stands_for w.program w.settings w.journal.items I.form I.legal v v (tree_counts_of w) (tree_counts_of w') k t n h free E I.stands own refl tt counts)
-      I.heaps I.measured
-
-  -- THE PART, without fresh steps
-  ran_part_by : Fits w' k (record p { fresh = 0 })
-  ran_part_by =
-      part_fits w e I free w.tree w.pool w.rests w.sets w.tasks_out w.outputs (w.steps + suc n) w.end room ran_world_by k p (record p { fresh = 0 }) refl F refl refl refl F.form F.measured
-      (ran_fits_then w.program w.settings v v l L t k n h h E own refl refl)
-
-  -- THE PARTS OF OTHERS
-  ran_others_by : OthersFit w w' k
-  ran_others_by u q ne H =
-      part_fits w e I free w.tree w.pool w.rests w.sets w.tasks_out w.outputs (w.steps + suc n) w.end room ran_world_by u q q refl H refl refl refl H.form H.measured
-      (ran_leaves w.program w.settings v v l L t k n h E own refl (part_of w.settings q) (tasks_apart w k u p q F H ne) H.fits)
+  abbrev made : MakesSteps w w' k p n
+  made = record {
+    enters = record { journal = refl; program = refl; settings = refl; halted = refl };
+    form = same_form I refl refl (all_kept w.pool);
+    units = λ u q ne G. G.measured;
+    runs = E;
+    own = subst (λ m. WorkerFits w.program w.settings (part_for w.settings t h m) v l) is F.fits;
+    makes = refl;
+    notes = tt;
+    counts = record { tree = λ u. refl; task_out = λ u. refl; outputs = refl; end = refl; used = refl; steps = refl };
+  }
 
 module _ (w : SharedValue) (k : ℕ) (p : Private) (I : IsSharedValue w) (F : Fits w k p) (pos : 0 < p.fresh) (free : refused w (record { worker = k; kind = Ran p.task p.fresh }) ≡ None) (j : RoomyValue EntryValue) where
   abbrev n : ℕ
@@ -212,14 +195,17 @@ module _ (w : SharedValue) (k : ℕ) (p : Private) (I : IsSharedValue w) (F : Fi
   free_so : refused w (ran_entry k p (suc n)) ≡ None
   free_so = subst (λ m. refused w (ran_entry k p m) ≡ None) is free
 
+  made_so : MakesSteps w (ran_with w k p p.fresh j.room) k p n
+  made_so = subst (λ m. MakesSteps w (ran_with w k p m j.room) k p n) (sym is) (made w k p I F n is free_so j.room)
+
   pub ran_world : IsSharedValue (ran_with w k p p.fresh j.room)
-  ran_world = subst (λ m. IsSharedValue (ran_with w k p m j.room)) (sym is) (ran_world_by w k p I F n is free_so j.room)
+  ran_world = steps_world I F free_so made_so
 
   pub ran_part : Fits (ran_with w k p p.fresh j.room) k (record p { fresh = 0 })
-  ran_part = subst (λ m. Fits (ran_with w k p m j.room) k (record p { fresh = 0 })) (sym is) (ran_part_by w k p I F n is free_so j.room)
+  ran_part = subst (λ m. Fits (ran_with w k p m j.room) k (record p { fresh = 0 })) (sym is) (steps_part I F free_so (made w k p I F n is free_so j.room) p.frames refl F.measured refl)
 
   pub ran_others : OthersFit w (ran_with w k p p.fresh j.room) k
-  ran_others = subst (λ m. OthersFit w (ran_with w k p m j.room) k) (sym is) (ran_others_by w k p I F n is free_so j.room)
+  ran_others = steps_others I F free_so made_so
 
 -- the counts are small
 pub steps_small : (w : SharedValue) (k : ℕ) (p : Private) → IsSharedValue w → Fits w k p → refused w (record { worker = k; kind = Ran p.task p.fresh }) ≡ None → (w.steps < w.settings.fuel) × (w.settings.fuel ≤ 1000000000) × (p.fresh ≤ 257)

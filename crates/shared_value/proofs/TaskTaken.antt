@@ -1,12 +1,12 @@
 -- A worker takes a task.
-use Rattle.std.proofs.Common.{◌≡◌, ℕ, ◌<◌, Bool, true, false, not, ◌&&◌, nat_le, nat_lt, Option, Some, None, List, ◌∷◌, length, length-set, slice_get, slice_set, option_map, is_none, is_some, inl, inr, refl, ap, sym, subst, ◌∙◌, arith}
+use Rattle.std.proofs.Common.{◌≡◌, ℕ, ◌<◌, Bool, true, false, not, ◌&&◌, nat_le, nat_lt, Option, Some, None, List, [], ◌∷◌, ◌++◌, length, length-set, slice_get, slice_set, option_map, is_none, is_some, refl, ap, sym, subst, ◌∙◌, arith}
 use Rattle.std.specs.Option.{option_flatten}
 use Rattle.std.specs.Prelude.{IsSome}
-use Rattle.std.proofs.lemmas.Bool.{cases_eq, and_parts, false≢true, ltb-true}
+use Rattle.std.proofs.lemmas.Bool.{and_parts, false≢true, ltb-true}
 use Rattle.listed.specs.RoomyValue.{RoomyValue}
 use Rattle.listed.proofs.Members.{got_same, got_other, got_within}
 use Rattle.listed.proofs.Places.{got_set}
-use Rattle.listed.proofs.Options.{none_is}
+use Rattle.listed.proofs.Options.{none_is, none_some}
 use Rattle.hh_model.specs.declared.data.Name.{Name}
 use Rattle.hh_model.specs.declared.data.Task.{Task}
 use Rattle.hh_model.specs.declared.data.Status.TheVariants.{Running}
@@ -44,11 +44,11 @@ use Rattle.task_homes.specs.declared.task_at_rest.Rest.{Rest}
 use Rattle.task_homes.specs.declared.task_at_rest.Work.{Work}
 use Rattle.task_homes.specs.declared.task_at_rest.Work.TheVariants.{Calls, Result}
 use Rattle.shared_value.specs.SharedValue.{SharedValue, accounts, belongings_in, belongings_by, rest_at, tree_counts_of, value_of}
-use Rattle.shared_value.specs.Measured.{RestsAreMeasured}
-use Rattle.shared_value.specs.Stands.{HeapForm, IsSharedValue}
+use Rattle.shared_value.specs.Stands.{IsSharedValue}
 use Rattle.shared_value.specs.Fits.{Fits, IsAtWork, OthersFit, belongings_of_part, part_of, taken_part}
-use Rattle.shared_value.specs.Entered.{refused}
-use Rattle.shared_value.proofs.EntryMade.{accounts_are, entered, entered_world, entry_on, worker_when_out, part_fits, free_at_rest, free_before}
+use Rattle.shared_value.specs.Entered.{Enters, refused}
+use Rattle.shared_value.proofs.EntryMade.{ChangesRest, changed_form, entered_world, entry_on, fits_then, free_at_rest, free_before, part_fits, worker_when_out}
+use Rattle.shared_value.proofs.UnitsMeasured.{all_kept}
 use Rattle.shared_value.proofs.BeforeTheEnd.{node_now, task_out_now, stands_now}
 
 -- the tree and the machine tell the same parent, whether or not the run has ended
@@ -170,11 +170,11 @@ module _ (w : SharedValue) (k t : ℕ) (I : IsSharedValue w) (free : refused w (
   at_work r q = subst IsAtWork (sym (calls_of r q).1) tt
 
   module _ (j : RoomyValue EntryValue) where
-    abbrev room : ℕ
-    room = j.room
-
     abbrev w' : SharedValue
-    w' = entered w e (with_state w.tree t Out) w.pool (slice_set w.rests t None) w.sets (slice_set w.tasks_out k (Some t)) w.outputs w.steps w.end room
+    w' = record w { tree = with_state w.tree t Out; rests = slice_set w.rests t None; tasks_out = slice_set w.tasks_out k (Some t); journal = record { items = w.journal.items ++ e ∷ []; room = j.room } }
+
+    enters : Enters w w' e
+    enters = record { journal = refl; program = refl; settings = refl; halted = refl }
 
     abbrev v' : Memory
     v' = value_of w'
@@ -200,29 +200,13 @@ module _ (w : SharedValue) (k t : ℕ) (I : IsSharedValue w) (free : refused w (
     abbrev L : Ledger
     L = after w.program w.settings l e
 
-    heaps_then : (u : ℕ) (r : Rest) → rest_at w'.rests u ≡ Some r → HeapForm r.heap
-    heaps_then u r is = elim (cases_eq u t) [
-      | inl q ↦ gone (sym (ap (rest_at w'.rests) q ∙ ap option_flatten (got_set w.rests t None has_home)) ∙ is)
-      | inr ne ↦ I.heaps u r (sym (homes_off u ne) ∙ is)
-    ]
-      where
-        gone : {A : Type 0} → ◌≡◌ {A = Option Rest} None (Some r) → A
-        gone x = absurd cc
-
-    measured_then : RestsAreMeasured w.pool w'.rests w'.tasks_out
-    measured_then u r is f = elim (cases_eq u t) [
-      | inl q ↦ gone (sym (ap (rest_at w'.rests) q ∙ ap option_flatten (got_set w.rests t None has_home)) ∙ is)
-      | inr ne ↦ I.measured u r (sym (homes_off u ne) ∙ is) (free_before w.tasks_out k (Some t) u f (λ h. none_holds (out_from k 0 l.heaps) (sym (task_out_now w I on k) ∙ h) free_of_tasks))
-    ]
-      where
-        gone : {A : Type 0} → ◌≡◌ {A = Option Rest} None (Some r) → A
-        gone x = absurd cc
+    changes : ChangesRest w w' t None
+    changes = record { rests = refl; there = has_home; keeps = λ u ne. all_kept w.pool u; free = λ u ne f. free_before w.tasks_out k (Some t) u f (λ h. none_holds (out_from k 0 l.heaps) (sym (task_out_now w I on k) ∙ h) free_of_tasks) }
 
     pub took_world : IsSharedValue w'
     took_world =
-        entered_world w e I free w'.tree w.pool w'.rests w.sets w'.tasks_out w.outputs w.steps w.end room (length-set w.rests t None ∙ (I.made ∙ sym (made_by w.tree t Out (slice_get w.tree t)))) (I.noted ∙ sym (made_by w.tree t Out (slice_get w.tree t))) (length-set w.tasks_out k (Some t)) refl
+        entered_world I free enters (changed_form I changes (λ r q. absurd (none_some q)) (made_by w.tree t Out (slice_get w.tree t)) refl (length-set w.tasks_out k (Some t)) refl)
         (took_stands_for w.program w.settings w.journal.items I.form I.legal v v' (tree_counts_of w) (tree_counts_of w') k t free I.stands but (λ u. record { keeps = refl; kept = refl; marked = refl }) counts)
-        heaps_then measured_then
 
     -- THE PART THAT IS TAKEN
     module _ (r : Rest) (s : FramesValue) (rest_is : rest_at w.rests t ≡ Some r) (calls_is : r.work ≡ Calls s) where
@@ -233,18 +217,12 @@ module _ (w : SharedValue) (k t : ℕ) (I : IsSharedValue w) (free : refused w (
       belongings_are = ap belongings_in rest_is ∙ ap (belongings_by r.heap r.view r.allocations) calls_is
 
       pub took_part : Fits w' k p
-      took_part = record {
-        out = worker_when_out w e I free w'.tree w.pool w'.rests w.sets w'.tasks_out w.outputs w.steps w.end room took_world k t counts.task_out;
-        fits = subst (WorkerFits w.program w.settings (part_of w.settings p) v') (sym (accounts_are w e I free w'.tree w.pool w'.rests w.sets w'.tasks_out w.outputs w.steps w.end room))
-            (subst (λ (g : Belongings). WorkerFits w.program w.settings (part_for w.settings t g 0) v' L) belongings_are (took_fits_then w.program w.settings w.journal.items I.legal v v' (tree_counts_of w) k t free I.stands but));
-        form = I.heaps t r rest_is;
-        measured = (I.measured t r rest_is (free_at_rest w t I on rests), λ n i. absurd i);
-        leaf_limit = refl;
-        field_limit = refl;
-      }
+      took_part =
+          fits_then I free enters took_world k p (worker_when_out I free enters took_world k t counts.task_out) refl refl (I.heaps t r rest_is) (I.measured t r rest_is (free_at_rest w t I on rests), λ n i. absurd i)
+          (subst (λ (g : Belongings). WorkerFits w.program w.settings (part_for w.settings t g 0) v' L) belongings_are (took_fits_then w.program w.settings w.journal.items I.legal v v' (tree_counts_of w) k t free I.stands but))
 
     -- THE PARTS OF OTHERS
     pub took_others : OthersFit w w' k
     took_others u q ne F =
-        part_fits w e I free w'.tree w.pool w'.rests w.sets w'.tasks_out w.outputs w.steps w.end room took_world u q q (counts.tasks_out u ne) F refl refl refl F.form F.measured
+        part_fits I free enters took_world u q q (counts.tasks_out u ne) F refl F.form F.measured
         (took_leaves w.program w.settings w.journal.items I.legal v v' k t free but (part_of w.settings q) F.fits)

@@ -1,0 +1,83 @@
+-- An entry of steps is made: what it makes of the memory, of what is noted, and of the tree and the counts makes a
+-- shared value, which the parts of other workers fit, and that of its own where it goes on.
+use Rattle.std.proofs.Common.{◌≡◌, ℕ, suc, slice_get, refl}
+use Rattle.std.specs.Option.{option_flatten}
+use Rattle.run_trace.specs.declared.entry.Kind.TheVariants.{Ran}
+use Rattle.run_trace.specs.Entry.{EntryValue}
+use Rattle.run_ledger.specs.declared.data.Ledger.{Ledger}
+use Rattle.run_ledger.specs.Entries.{after}
+use Rattle.run_ledger.specs.Steps.{task_steps}
+use Rattle.std.specs.Prelude.{None}
+use Rattle.task_frames.specs.FramesValue.{FramesValue}
+use Rattle.ledger_step_laws.specs.Last.{LastKind, Private as PrivateKind, Reading, Writing, Printing, Forking, Ending, Joining, Finishing, Halting, Runs}
+use Rattle.core_relation.specs.Fits.{part_for}
+use Rattle.core_relation.specs.Makes.{BelongingsAfter, Makes, taken_by}
+use Rattle.core_relation.specs.Marks.{Marks}
+use Rattle.core_relation.specs.RanCounts.{RanCounts, TasksOutGo}
+use Rattle.core_relation.specs.Whole.{TreeCounts}
+use Rattle.core_relation.specs.Worker.{WorkerFits}
+use Rattle.core_entry_laws.proofs.parts.RanFits.{ran_fits_then}
+use Rattle.core_entry_laws.proofs.parts.Workers.{ran_leaves}
+use Rattle.core_entry_laws.proofs.whole.RanWhole.{ran_stands_for}
+use Rattle.task_machine.specs.declared.part.Private.{Private}
+use Rattle.shared_value.specs.SharedValue.{SharedValue, accounts, tree_counts_of, value_of}
+use Rattle.shared_value.specs.Measured.{IsMeasured}
+use Rattle.shared_value.specs.Stands.{IsSharedValue}
+use Rattle.shared_value.specs.Fits.{Fits, OthersFit, belongings_of_part, part_of}
+use Rattle.shared_value.specs.Entered.{Enters, refused}
+use Rattle.shared_value.proofs.EntryMade.{HasForm, entered_world, part_fits, tasks_apart}
+
+-- who holds what but its own worker
+pub others_out : (c c' : TreeCounts) (k : ℕ) (kind : LastKind) → TasksOutGo c c' k kind → (u : ℕ) → (u ≡ k → ⊥) → c'.task_out u ≡ c.task_out u
+others_out c c' k PrivateKind T u ne = T u
+others_out c c' k Reading T u ne = T u
+others_out c c' k Writing T u ne = T u
+others_out c c' k Printing T u ne = T u
+others_out c c' k Forking T u ne = T.others u ne
+others_out c c' k Ending T u ne = T.others u ne
+others_out c c' k Joining T u ne = T.others u ne
+others_out c c' k Finishing T u ne = T.others u ne
+others_out c c' k Halting T u ne = T u
+
+abbrev pub ran_entry : ℕ → Private → ℕ → EntryValue
+ran_entry k p m = record { worker = k; kind = Ran p.task m }
+
+-- the accounts after the entry
+abbrev pub ran_to : SharedValue → ℕ → Private → ℕ → Ledger
+ran_to w k p m = after w.program w.settings (accounts w) (ran_entry k p m)
+
+-- the entry e of n private steps of the part p and one more makes w' of w: how it splits, and what its last step makes
+pub record MakesSteps (w w' : SharedValue) (k : ℕ) (p : Private) (n : ℕ) : Type 0 where
+  pub enters : Enters w w' (ran_entry k p (suc n))
+  pub form : HasForm w w'
+  -- the pool has the chunks of each other worker
+  pub units : (u : ℕ) (q : Private) → (u ≡ k → ⊥) → Fits w u q → IsMeasured w'.pool q
+  pub runs : Runs w.program w.settings (accounts w) (ran_to w k p (suc n)) p.task k n
+  pub own : WorkerFits w.program w.settings (part_for w.settings p.task (belongings_of_part p) (taken_by runs.splits.kind n)) (value_of w) (accounts w)
+  pub makes : Makes w.program (value_of w) (value_of w') (task_steps w.program (accounts w) p.task n) (ran_to w k p (suc n)) p.task (belongings_of_part p) runs.splits.task runs.splits.line runs.splits.kind runs.splits.last
+  pub notes : Marks w.program (value_of w) (value_of w') (task_steps w.program (accounts w) p.task n) (ran_to w k p (suc n)) p.task (belongings_of_part p) runs.splits.task runs.splits.line runs.splits.kind runs.splits.last makes
+  pub counts : RanCounts w.program (tree_counts_of w) (tree_counts_of w') (task_steps w.program (accounts w) p.task n) (ran_to w k p (suc n)) p.task k n runs.splits.task runs.splits.line runs.splits.kind runs.splits.last
+
+module _ {w w' : SharedValue} {k : ℕ} {p : Private} {n : ℕ} (I : IsSharedValue w) (F : Fits w k p) (free : refused w (ran_entry k p (suc n)) ≡ None) (M : MakesSteps w w' k p n) where
+  pub steps_world : IsSharedValue w'
+  steps_world =
+      entered_world I free M.enters M.form
+      (ran_stands_for w.program w.settings w.journal.items I.form I.legal (value_of w) (value_of w') (tree_counts_of w) (tree_counts_of w') k p.task n (belongings_of_part p) free M.runs I.stands M.own M.makes M.notes M.counts)
+
+  -- THE PARTS OF OTHERS
+  pub steps_others : OthersFit w w' k
+  steps_others u q ne G =
+      part_fits I free M.enters steps_world u q q (others_out (tree_counts_of w) (tree_counts_of w') k M.runs.splits.kind M.counts.task_out u ne) G refl G.form (M.units u q ne G)
+      (ran_leaves w.program w.settings (value_of w) (value_of w') (accounts w) (ran_to w k p (suc n)) p.task k n (belongings_of_part p) M.runs M.own M.makes (part_of w.settings q) (tasks_apart w k u p q F G ne) G.fits)
+
+  -- THE PART, where its worker goes on with it: its frames are others, and no step is fresh
+  module _ (frames : FramesValue) where
+    abbrev q : Private
+    q = record p { frames = frames; fresh = 0 }
+
+    pub steps_part : option_flatten (slice_get w'.tasks_out k) ≡ option_flatten (slice_get w.tasks_out k) → IsMeasured w'.pool p
+        → BelongingsAfter w.program (value_of w) (value_of w') (task_steps w.program (accounts w) p.task n) (ran_to w k p (suc n)) p.task (belongings_of_part p) M.runs.splits.task M.runs.splits.line M.runs.splits.kind M.runs.splits.last M.makes (belongings_of_part q)
+        → Fits w' k q
+    steps_part same measured read =
+        part_fits I free M.enters steps_world k p q same F refl F.form measured
+        (ran_fits_then w.program w.settings (value_of w) (value_of w') (accounts w) (ran_to w k p (suc n)) p.task k n (belongings_of_part p) (belongings_of_part q) M.runs M.own M.makes read)
