@@ -10,47 +10,31 @@ use Rattle.run_trace.specs.Entry.{EntryValue}
 use Rattle.run_ledger.specs.declared.data.Ledger.{Ledger}
 use Rattle.heap_tree.specs.declared.state.State.TheVariants.{Ended}
 use Rattle.heap_tree.specs.Node.{state_of as state_in_tree}
-use Rattle.ledger_step_laws.specs.Last.{EndsFirst, Ending, Runs, Splits}
+use Rattle.ledger_step_laws.specs.Last.{EndsFirst, Ending, Runs}
 use Rattle.task_machine.specs.declared.part.Private.{Private}
-use Rattle.shared_value.specs.SharedValue.{SharedValue, accounts}
+use Rattle.shared_value.specs.SharedValue.{SharedValue}
 use Rattle.shared_value.specs.Stands.{IsSharedValue}
-use Rattle.shared_value.specs.Fits.{Fits}
-use Rattle.shared_value.specs.Entered.{refused}
 use Rattle.shared_value.proofs.EntryMade.{accounts_are, still_goes}
 use Rattle.shared_value.proofs.StepsMade.{MakesSteps, steps_others, steps_world}
 use Rattle.shared_value.proofs.TaskTaken.{lets_go}
-use Rattle.own_steps.specs.Alone.{IsShared, alone_entry}
 use Rattle.own_steps.proofs.LastStepEntry as last
-use Rattle.own_steps.proofs.LastStepEntry.{last_entry, last_steps}
+use Rattle.own_steps.proofs.LastStepEntry.{AsksLast, last_entry, last_steps}
 use Rattle.own_steps.proofs.TaskEnds as ending
-use Rattle.child_tasks.specs.ChildEnds.{EndsChild, IsAtEnd, running_parent, where_running}
+use Rattle.child_tasks.specs.ChildEnds.{EndsChild, running_parent, where_running}
 use Rattle.child_tasks.proofs.ChildReturns as steps
+use Rattle.child_tasks.proofs.ChildReturns.{AsksEnd}
 use Rattle.child_tasks.proofs.LastReturnKinds.{ends}
 
-module _ (w : SharedValue) (k : ℕ) (p : Private) (I : IsSharedValue w) (F : Fits w k p) (at_end : IsAtEnd w p) (free : refused w (alone_entry k p) ≡ None) (open_ : state_in_tree w.tree (steps.other w k p I F at_end free) ≡ Some Ended → ⊥) where
-  abbrev t : ℕ
-  t = p.task
+module _ {w : SharedValue} {k : ℕ} {p : Private} (asks : AsksEnd w k p) (open_ : state_in_tree w.tree (steps.other asks) ≡ Some Ended → ⊥) where
+  open asks use {I, F}
 
-  abbrev l : Ledger
-  l = accounts w
+  abbrev asked : AsksLast w k p
+  asked = steps.asked asks
 
-  abbrev M : Ledger
-  M = steps.M w k p I F at_end free
-
-  abbrev shared : IsShared w p
-  shared = steps.shared w k p I F at_end free
-
-  abbrev free_last : refused w (last_entry k p) ≡ None
-  free_last = steps.free_last w k p I F at_end free
-
-  abbrev L : Ledger
-  L = last.L w k p I F shared free_last
-
-  abbrev S : Splits w.program w.settings l L t p.fresh
-  S = steps.S w k p I F at_end free
+  open (last.names (steps.asked asks)) use {t, l, M, L, S}
 
   abbrev q : ℕ
-  q = steps.parent w k p I F at_end free
+  q = steps.parent asks
 
   abbrev z : Task
   z = ended_task S.task (result_of S.task.top)
@@ -60,45 +44,45 @@ module _ (w : SharedValue) (k : ℕ) (p : Private) (I : IsSharedValue w) (F : Fi
 
   machine_is : L.machine ≡ m'
   machine_is =
-      last.machine_then w k p I F shared free_last
-      ∙ (steps.step_is w k p I F at_end free ∙ ap (child_ended_by M.machine t S.task q (result_of S.task.top)) (steps.other_open w k p I F at_end free open_))
+      last.machine_then asked
+      ∙ (steps.step_is asks ∙ ap (child_ended_by M.machine t S.task q (result_of S.task.top)) (steps.other_open asks open_))
 
   at_then : slice_get L.machine.tasks t ≡ Some z
   at_then = ap (λ (m : State). slice_get m.tasks t) machine_is ∙ got_same M.machine.tasks t S.task z S.at.task
 
   goes_then : L.machine.end ≡ None
-  goes_then = ap (λ (m : State). m.end) machine_is ∙ last.mid_goes w k p I F shared free_last
+  goes_then = ap (λ (m : State). m.end) machine_is ∙ last.mid_goes asked
 
   D : EndsFirst M L t S.task
-  D = ends w.program M L t S.task S.line (last.is_not_private w k p I F shared free_last) (steps.says w k p I F at_end free).0 z at_then goes_then refl S.kind S.last
+  D = ends w.program M L t S.task S.line (last.is_not_private asked) (steps.says asks).0 z at_then goes_then refl S.kind S.last
 
   -- how the entry splits
   abbrev E : Runs w.program w.settings l L t k p.fresh
-  E = record (last.runs_so w k p I F shared free_last) { splits = record S { kind = Ending; last = D; apart = last.is_not_private w k p I F shared free_last; on = λ u. goes_then } }
+  E = record (last.runs_so asked) { splits = record S { kind = Ending; last = D; apart = last.is_not_private asked; on = λ u. goes_then } }
 
   -- the parent waits on
   parent_then : running_parent L.machine.tasks t ≡ None
   parent_then =
-      let par : parents L.machine.tasks t ≡ Some q = ap parent_of at_then ∙ steps.parent_is w k p I F at_end free in
-      let same : slice_get L.machine.tasks q ≡ slice_get M.machine.tasks q = ap (λ (m : State). slice_get m.tasks q) machine_is ∙ got_other M.machine.tasks t q z (steps.parent_apart w k p I F at_end free) in
-      let stops : is_running (slice_get L.machine.tasks q) ≡ false = ap is_running same ∙ waiting_stops (slice_get M.machine.tasks q) (steps.parent_waits w k p I F at_end free) in
+      let par : parents L.machine.tasks t ≡ Some q = ap parent_of at_then ∙ steps.parent_is asks in
+      let same : slice_get L.machine.tasks q ≡ slice_get M.machine.tasks q = ap (λ (m : State). slice_get m.tasks q) machine_is ∙ got_other M.machine.tasks t q z (steps.parent_apart asks) in
+      let stops : is_running (slice_get L.machine.tasks q) ≡ false = ap is_running same ∙ waiting_stops (slice_get M.machine.tasks q) (steps.parent_waits asks) in
       ap (where_running L.machine.tasks) par ∙ ap (λ b. if b then Some q else None) stops
 
   module _ (j : RoomyValue EntryValue) where
     abbrev pub w' : SharedValue
-    w' = ending.w' w k p I F shared free_last w.end j.room
+    w' = ending.w' asked w.end j.room
 
     made : MakesSteps w w' k p p.fresh
-    made = ending.ended_made w k p I F shared free_last w.end j.room E F.fits (ending.makes w k p I F shared free_last w.end j.room) (ending.notes w k p I F shared free_last w.end j.room)
-        (record { tree = ending.node_ends w k p I F shared free_last w.end j.room; task_out = lets_go w w' (last_entry k p) I free_last refl; outputs = refl; end = refl; used = refl; steps = last_steps w p })
+    made = ending.ended_made asked w.end j.room E F.fits (ending.makes asked w.end j.room) (ending.notes asked w.end j.room)
+        (record { tree = ending.node_ends asked w.end j.room; task_out = lets_go w w' (last_entry k p) I asked.free refl; outputs = refl; end = refl; used = refl; steps = last_steps w p })
 
     pub alone_world : IsSharedValue w'
-    alone_world = steps_world I F free_last made
+    alone_world = steps_world I F asked.free made
 
     pub alone_ends : EndsChild w w' k p None
     alone_ends = record {
       enters = record { journal = refl; program = refl; settings = refl; halted = refl };
-      goes = still_goes I free_last made.enters alone_world (steps.on w k p I F at_end free) refl;
-      resumed = sym (ap (λ (i : Ledger). running_parent i.machine.tasks t) (accounts_are I free_last made.enters) ∙ parent_then);
-      others = steps_others I F free_last made;
+      goes = still_goes I asked.free made.enters alone_world (steps.on asks) refl;
+      resumed = sym (ap (λ (i : Ledger). running_parent i.machine.tasks t) (accounts_are I asked.free made.enters) ∙ parent_then);
+      others = steps_others I F asked.free made;
     }

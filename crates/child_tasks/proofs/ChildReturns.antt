@@ -1,5 +1,5 @@
 -- A part whose next step is the last return of a task that another one forked: what is known before it is entered.
-use Rattle.std.proofs.Common.{◌≡◌, ℕ, ℤ, ◌+◌, ◌-◌, ◌<◌, ◌&&◌, arith, not, Bool, true, false, Option, Some, None, List, [], ◌∷◌, length, slice_get, option_map, is_some, refl, ap, sym, ◌∙◌}
+use Rattle.std.proofs.Common.{◌≡◌, ℕ, ℤ, ◌+◌, ◌-◌, ◌<◌, ◌&&◌, arith, not, Bool, true, false, Option, Some, None, List, [], ◌∷◌, length, slice_get, option_map, is_some, refl, ap, sym, subst, ◌∙◌}
 use Rattle.std.proofs.lemmas.Bool.{and_parts, cond-false, cond-true, false≢true}
 use Rattle.std.proofs.lemmas.Option.{same_Some}
 use Rattle.listed.proofs.Options.{none_some}
@@ -15,12 +15,10 @@ use Rattle.hh_model.specs.declared.data.Task.{Task}
 use Rattle.hh_model.specs.Effect.{effect}
 use Rattle.hh_model.specs.Step.{child_ended_by, fetched, follow, is_joined, is_left, is_over, is_waiting, result_at, last_of, last_return, parent_of, parents, result_in, result_of, returned_to, setting, sibling, step}
 use Rattle.hh_model.specs.Tree.{TreeOf}
-use Rattle.run_ledger.specs.declared.data.Ledger.{Ledger}
-use Rattle.run_ledger.specs.Steps.{has_no_caller, is_open, is_private_by, is_private_line, task_steps}
+use Rattle.run_ledger.specs.Steps.{has_no_caller, is_open, is_private_by, is_private_line}
 use Rattle.heap_tree.specs.declared.state.State.{State}
 use Rattle.heap_tree.specs.declared.state.State.TheVariants.{Ended}
 use Rattle.heap_tree.specs.Node.{Node, parent_of as parent_in_tree, state_of as state_in_tree}
-use Rattle.ledger_step_laws.specs.Last.{Splits}
 use Rattle.core_relation.specs.Whole.{state_by, as_node}
 use Rattle.task_machine.specs.declared.part.Private.{Private}
 use Rattle.task_machine.proofs.Allocations.{is_some_place}
@@ -33,8 +31,10 @@ use Rattle.shared_value.proofs.BeforeTheEnd.{node_now}
 use Rattle.shared_value.proofs.StepAccounts.{After}
 use Rattle.shared_value.proofs.TaskTaken.{parent_is as tree_parent_is}
 use Rattle.own_steps.specs.Alone.{IsShared, alone_entry, machine_after}
-use Rattle.own_steps.proofs.AloneEntries.{last_free, node_there, runs_on}
+use Rattle.own_steps.proofs.AloneEntries as own
+use Rattle.own_steps.proofs.AloneEntries.{node_there, runs_on}
 use Rattle.own_steps.proofs.LastStepEntry as last
+use Rattle.own_steps.proofs.LastStepEntry.{AsksLast}
 use Rattle.own_steps.proofs.LastSteps.{machine_same}
 use Rattle.child_tasks.specs.ChildEnds.{IsAtEnd, is_last, is_last_by, is_last_line}
 
@@ -102,27 +102,30 @@ sibling_by t false e pos same = let s : sibling t ≡ t - 1 = cond-false (is_lef
 
 -- ---- THE NEXT STEP
 
-module _ (w : SharedValue) (k : ℕ) (p : Private) (I : IsSharedValue w) (F : Fits w k p) (at_end : IsAtEnd w p) (free : refused w (alone_entry k p) ≡ None) where
+-- a call asks for the entry of a child's end, and nothing refuses it
+pub record AsksEnd (w : SharedValue) (k : ℕ) (p : Private) : Type 0 where
+  pub I : IsSharedValue w
+  pub F : Fits w k p
+  pub at_end : IsAtEnd w p
+  pub free : refused w (alone_entry k p) ≡ None
+
+-- by what is known of a value that is the same
+pub asks_end : {w after : SharedValue} {k : ℕ} {p : Private} → w ≡ after → IsSharedValue w → Fits after k p → IsAtEnd after p → refused after (alone_entry k p) ≡ None → AsksEnd w k p
+asks_end {w} {after} {k} {p} same I F at free = record { I = I; F = subst (λ z. Fits z k p) (sym same) F; at_end = subst (λ z. IsAtEnd z p) (sym same) at; free = subst (λ z. refused z (alone_entry k p) ≡ None) (sym same) free }
+
+module _ {w : SharedValue} {k : ℕ} {p : Private} (asks : AsksEnd w k p) where
+  open asks use {I, F, at_end, free}
+
   abbrev pub shared : IsShared w p
   shared = end_shared w p at_end
 
   pub on : (accounts w).end ≡ None
-  on = runs_on w k p I F shared free
+  on = runs_on (record { I = I; F = F; shared = shared; free = free })
 
-  abbrev pub free_last : refused w (last.last_entry k p) ≡ None
-  free_last = last_free w k p I F shared free
+  abbrev pub asked : AsksLast w k p
+  asked = own.asks_last (record { I = I; F = F; shared = shared; free = free })
 
-  abbrev pub t : ℕ
-  t = p.task
-
-  abbrev pub l : Ledger
-  l = accounts w
-
-  abbrev pub M : Ledger
-  M = task_steps w.program l t p.fresh
-
-  abbrev pub S : Splits w.program w.settings l (last.L w k p I F shared free_last) t p.fresh
-  S = last.S w k p I F shared free_last
+  open (last.names asked) use {t, l, M, S}
 
   last_here : is_last S.task S.line.instr ≡ true
   last_here =
@@ -139,7 +142,7 @@ module _ (w : SharedValue) (k : ℕ) (p : Private) (I : IsSharedValue w) (F : Fi
   parent_is = says.3
 
   abbrev pub kept_tree : TreeOf M.machine.tasks M.machine.edges
-  kept_tree = (last.knows_mid w k p I F shared free_last).sound.fork_join.tree
+  kept_tree = (last.knows_mid asked).sound.fork_join.tree
 
   pub par_mid : parents M.machine.tasks t ≡ Some parent
   par_mid = ap parent_of S.at.task ∙ parent_is
@@ -163,10 +166,10 @@ module _ (w : SharedValue) (k : ℕ) (p : Private) (I : IsSharedValue w) (F : Fi
   same_then u ne = A.others u ne
 
   pub tree_parent : parent_in_tree w.tree t ≡ Some parent
-  tree_parent = tree_parent_is w I t ∙ (sym (last.then_parents w k p I F shared free_last t) ∙ par_mid)
+  tree_parent = tree_parent_is w I t ∙ (sym (last.then_parents asked t) ∙ par_mid)
 
   pub own_made : t < length w.tree
-  own_made = node_there w k p I F shared free
+  own_made = node_there (record { I = I; F = F; shared = shared; free = free })
 
   abbrev pub other : ℕ
   other = sibling t
@@ -192,6 +195,6 @@ module _ (w : SharedValue) (k : ℕ) (p : Private) (I : IsSharedValue w) (F : Fi
   -- the machine after the step
   pub step_is : step w.program M.machine t ≡ child_ended_by M.machine t S.task parent (result_of S.task.top) (result_at (slice_get M.machine.tasks other))
   step_is =
-      last.taken w k p I F shared free_last
+      last.taken asked
       ∙ (ap (λ (i : Instr). follow M.machine t S.task S.line.number (effect (setting M.machine t S.task) S.task.top M.machine.store i)) says.0
       ∙ (ap (λ (fs : List Frame). returned_to M.machine t S.task (last_of fs)) says.1 ∙ ap (last_return M.machine t S.task) parent_is))

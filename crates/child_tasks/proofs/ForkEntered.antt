@@ -15,7 +15,6 @@ use Rattle.hh_model.specs.Effect.{onward}
 use Rattle.hh_model.specs.Step.{child, depth_limit, edge, strand, strand_of}
 use Rattle.hh_model.proofs.Runs.{grown_at}
 use Rattle.run_trace.specs.Entry.{EntryValue}
-use Rattle.run_ledger.specs.declared.data.Ledger.{Ledger}
 use Rattle.object_layout.specs.declared.word.Addr.{Addr}
 use Rattle.chunk_rows.specs.View.{view_below}
 use Rattle.heap_tree.specs.declared.state.State.TheVariants.{Waiting}
@@ -25,7 +24,7 @@ use Rattle.write_barrier.specs.declared.sets.SetOf.{SetOf}
 use Rattle.write_barrier.specs.Stored.{content_at, content_of}
 use Rattle.inner_mark_gc.specs.MarkingValue.{MarkingValue}
 use Rattle.ledger_step_laws.specs.Accounts.{rested}
-use Rattle.ledger_step_laws.specs.Last.{Forking, ForksOn, Runs, Splits}
+use Rattle.ledger_step_laws.specs.Last.{Forking, ForksOn, Runs}
 use Rattle.core_relation.specs.Memory.{Belongings, Noted, Memory, sources}
 use Rattle.core_relation.specs.Begins.{AreRoots}
 use Rattle.core_relation.specs.Changes.{ForksBelongings, advanced, child_belongings}
@@ -37,10 +36,8 @@ use Rattle.task_machine.specs.declared.part.Private.{Private}
 use Rattle.task_homes.specs.declared.task_at_rest.Rest.{Rest}
 use Rattle.task_homes.specs.HomesValue.{keeping}
 use Rattle.shared_value.specs.Objects.{levels_of}
-use Rattle.shared_value.specs.SharedValue.{SharedValue, marks_at, accounts, belongings_in, belongings_of, noted_in, tree_counts_of, value_of}
+use Rattle.shared_value.specs.SharedValue.{SharedValue, marks_at, belongings_in, belongings_of, noted_in, tree_counts_of, value_of}
 use Rattle.shared_value.specs.Stands.{IsSharedValue}
-use Rattle.shared_value.specs.Fits.{Fits, belongings_of_part}
-use Rattle.shared_value.specs.Entered.{refused}
 use Rattle.shared_value.proofs.FieldsNoted.{noted_of}
 use Rattle.shared_value.proofs.EntryMade.{RestIsWell, RestStays, each_form, free_before, still_goes, task_is_out, well_at}
 use Rattle.shared_value.proofs.StepsMade.{MakesSteps, steps_others, steps_world}
@@ -49,12 +46,13 @@ use Rattle.shared_value.proofs.Levels.{level_is}
 use Rattle.shared_value.proofs.PartFitsMachine as link
 use Rattle.shared_value.proofs.BeforeTheEnd.{tree_long}
 use Rattle.shared_value.proofs.TaskTaken.{made_by, node_by, node_off, lets_go}
-use Rattle.own_steps.specs.Alone.{IsShared, alone_entry}
+use Rattle.own_steps.specs.Alone.{alone_entry}
 use Rattle.own_steps.proofs.AloneEntries.{node_there}
 use Rattle.own_steps.proofs.LastStepEntry as last
-use Rattle.own_steps.proofs.LastStepEntry.{last_enters, last_entry, last_steps}
-use Rattle.child_tasks.specs.Forks.{ForksOn as EntersFork, ForksTo, RestsFork, IsAtFork, SetsFork, waiting_rest}
+use Rattle.own_steps.proofs.LastStepEntry.{AsksLast, last_enters, last_entry, last_steps}
+use Rattle.child_tasks.specs.Forks.{ForksOn as EntersFork, ForksTo, RestsFork, SetsFork, waiting_rest}
 use Rattle.child_tasks.proofs.NextStepForks as steps
+use Rattle.child_tasks.proofs.NextStepForks.{AsksFork}
 use Rattle.child_tasks.proofs.LastForkKinds.{forks}
 use Rattle.child_tasks.proofs.RootsListed.{roots_are}
 use Rattle.child_tasks.proofs.SetsNoted.{empty_form, keeping_kept, keeping_sources, noted_by}
@@ -72,33 +70,13 @@ none_left [] t = refl
 none_left (m ∷ marks) zero = refl
 none_left (m ∷ marks) (suc t) = none_left marks t
 
-module _ (w : SharedValue) (k : ℕ) (p : Private) (I : IsSharedValue w) (F : Fits w k p) (at_fork : IsAtFork w p) (free : refused w (alone_entry k p) ≡ None) (left right number : ℕ) (B : ForksTo w p left right number) (shallow : depth_of w.tree p.task < 1000) where
-  abbrev t : ℕ
-  t = p.task
+module _ {w : SharedValue} {k : ℕ} {p : Private} (asks : AsksFork w k p) (left right number : ℕ) (B : ForksTo w p left right number) (shallow : depth_of w.tree p.task < 1000) where
+  open asks use {I, F, free}
 
-  abbrev l : Ledger
-  l = accounts w
+  abbrev asked : AsksLast w k p
+  asked = steps.asked asks
 
-  abbrev M : Ledger
-  M = steps.M w k p I F at_fork free
-
-  abbrev shared : IsShared w p
-  shared = steps.shared w k p I F at_fork free
-
-  abbrev free_last : refused w (last_entry k p) ≡ None
-  free_last = steps.free_last w k p I F at_fork free
-
-  abbrev L : Ledger
-  L = last.L w k p I F shared free_last
-
-  abbrev v : Memory
-  v = value_of w
-
-  abbrev h : Belongings
-  h = belongings_of_part p
-
-  abbrev S : Splits w.program w.settings l L t p.fresh
-  S = steps.S w k p I F at_fork free
+  open (last.names asked) use {t, l, M, L, v, h, S}
 
   abbrev a : ℕ
   a = length M.machine.tasks
@@ -116,33 +94,33 @@ module _ (w : SharedValue) (k : ℕ) (p : Private) (I : IsSharedValue w) (F : Fi
 
   machine_is : L.machine ≡ m'
   machine_is =
-      let lt : S.task.depth < 1000 = let e = steps.depth_is w k p I F at_fork free in omega (arith, e, shallow) in
-      last.machine_then w k p I F shared free_last
-      ∙ (steps.forked_so w k p I F at_fork free left right number B ∙ cond-true (nat_lt S.task.depth depth_limit) m' _ (lt-ltb S.task.depth 1000 lt))
+      let lt : S.task.depth < 1000 = let e = steps.depth_is asks in omega (arith, e, shallow) in
+      last.machine_then asked
+      ∙ (steps.forked_so asks left right number B ∙ cond-true (nat_lt S.task.depth depth_limit) m' _ (lt-ltb S.task.depth 1000 lt))
 
   at_then : slice_get L.machine.tasks t ≡ Some y
   at_then = ap (λ (m : State). slice_get m.tasks t) machine_is ∙ grown_at M.machine.tasks t S.task y (child t (S.task.depth + 1) left S.task.top) (child t (S.task.depth + 1) right S.task.top) S.at.task
 
   goes_then : L.machine.end ≡ None
-  goes_then = ap (λ (m : State). m.end) machine_is ∙ last.mid_goes w k p I F shared free_last
+  goes_then = ap (λ (m : State). m.end) machine_is ∙ last.mid_goes asked
 
   Q : ForksOn M L t S.task S.line
   Q =
-      forks w.program M L t S.task S.line (last.is_not_private w k p I F shared free_last) left right (steps.by w k p I F at_fork free left right number B) y at_then refl goes_then S.kind S.last
+      forks w.program M L t S.task S.line (last.is_not_private asked) left right (steps.by asks left right number B) y at_then refl goes_then S.kind S.last
 
   left_is : Q.left ≡ left
-  left_is = ap left_of (sym Q.by ∙ steps.by w k p I F at_fork free left right number B)
+  left_is = ap left_of (sym Q.by ∙ steps.by asks left right number B)
 
   right_is : Q.right ≡ right
-  right_is = ap right_of (sym Q.by ∙ steps.by w k p I F at_fork free left right number B)
+  right_is = ap right_of (sym Q.by ∙ steps.by asks left right number B)
 
   -- how the entry splits
   abbrev E : Runs w.program w.settings l L t k p.fresh
-  E = record (last.runs_so w k p I F shared free_last) { splits = record S { kind = Forking; last = Q; apart = last.is_not_private w k p I F shared free_last; on = λ u. goes_then } }
+  E = record (last.runs_so asked) { splits = record S { kind = Forking; last = Q; apart = last.is_not_private asked; on = λ u. goes_then } }
 
   -- ---- THE NUMBERS OF THE CHILDREN
   pub made_is : a ≡ length w.tree
-  made_is = steps.then_long w k p I F at_fork free ∙ sym (tree_long w I)
+  made_is = steps.then_long asks ∙ sym (tree_long w I)
 
   home_is : a ≡ length w.rests
   home_is = made_is ∙ sym I.made
@@ -151,7 +129,7 @@ module _ (w : SharedValue) (k : ℕ) (p : Private) (I : IsSharedValue w) (F : Fi
   set_is = made_is ∙ sym I.noted
 
   has_node : t < length w.tree
-  has_node = node_there w k p I F (steps.shared w k p I F at_fork free) free
+  has_node = node_there (record { I = I; F = F; shared = (steps.shared asks); free = free })
 
   abbrev vt : Memory
   vt = with_belongings v t h
@@ -195,7 +173,7 @@ module _ (w : SharedValue) (k : ℕ) (p : Private) (I : IsSharedValue w) (F : Fi
 
     forks_belongings : ForksBelongings vt v' t a (a + 1) Q.left Q.right
     forks_belongings = record {
-      belongings = ap belongings_in H.parent ∙ (ap (λ o. let z : Belongings = record (belongings_of (waiting_rest p)) { begun = o } in z) (sym (last.none w k p I F shared free_last)) ∙ ap (λ (z : Belongings). record z { frames = advanced z.frames }) (sym here));
+      belongings = ap belongings_in H.parent ∙ (ap (λ o. let z : Belongings = record (belongings_of (waiting_rest p)) { begun = o } in z) (sym (last.none asked)) ∙ ap (λ (z : Belongings). record z { frames = advanced z.frames }) (sym here));
       left = ap v'.belongings home_is ∙ (ap belongings_in H.left_home.2 ∙ (begun_belongings left ∙ ap₂ (λ g (z : Belongings). child_belongings g z) (sym left_is) (sym here)));
       right = ap (λ n. v'.belongings (n + 1)) home_is ∙ (ap belongings_in H.right_home.2 ∙ (begun_belongings right ∙ ap₂ (λ g (z : Belongings). child_belongings g z) (sym right_is) (sym here)));
       others = λ u nt na nb. ap belongings_in (H.others u nt (λ e. na (e ∙ sym home_is)) (λ e. nb (e ∙ ap (λ n. n + 1) (sym home_is)))) ∙ sym (off_belongings v t h u nt);
@@ -223,7 +201,7 @@ module _ (w : SharedValue) (k : ℕ) (p : Private) (I : IsSharedValue w) (F : Fi
     }
 
     roots : (rs : List Addr) × AreRoots vt (rested M t) t rs
-    roots = roots_are vt (rested M t) t (link.W w k p I F (steps.on w k p I F at_fork free))
+    roots = roots_are vt (rested M t) t (link.W w k p I F (steps.on asks))
 
     -- ---- THE TREE
     abbrev old : List Node
@@ -262,7 +240,7 @@ module _ (w : SharedValue) (k : ℕ) (p : Private) (I : IsSharedValue w) (F : Fi
         | inl e ↦ inl (well_at w' u (length w.rests) _ e H.left_home.2 (empty_form H.left_home.0 H.left_home.1, λ c i. absurd i))
         | inr na ↦ elim (cases_eq u (length w.rests + 1)) [
           | inl e ↦ inl (well_at w' u (length w.rests + 1) _ e H.right_home.2 (empty_form H.right_home.0 H.right_home.1, λ c i. absurd i))
-          | inr nb ↦ inr (record { rest = H.others u nt na nb; keeps = all_kept w.pool u; free = λ f. free_before w.tasks_out k None u f (λ h. nt (same_Some u t (sym h ∙ task_is_out w k p I (steps.on w k p I F at_fork free) F))) })
+          | inr nb ↦ inr (record { rest = H.others u nt na nb; keeps = all_kept w.pool u; free = λ f. free_before w.tasks_out k None u f (λ h. nt (same_Some u t (sym h ∙ task_is_out w k p I (steps.on asks) F))) })
         ]
       ]
     ]
@@ -276,11 +254,11 @@ module _ (w : SharedValue) (k : ℕ) (p : Private) (I : IsSharedValue w) (F : Fi
       own = F.fits;
       makes = forks_belongings;
       notes = (roots.0, roots.1, forks_notes);
-      counts = record { tree = nodes_fork; task_out = lets_go w w' (last_entry k p) I free_last refl; outputs = refl; end = refl; used = refl; steps = last_steps w p };
+      counts = record { tree = nodes_fork; task_out = lets_go w w' (last_entry k p) I asked.free refl; outputs = refl; end = refl; used = refl; steps = last_steps w p };
     }
 
     pub forked_world : IsSharedValue w'
-    forked_world = steps_world I F free_last made
+    forked_world = steps_world I F asked.free made
 
     pub forked_on : (b c : ℕ) → b ≡ length w.tree → c ≡ length w.tree + 1 → EntersFork w w' k p b c
     forked_on b c eb ec =
@@ -289,6 +267,6 @@ module _ (w : SharedValue) (k : ℕ) (p : Private) (I : IsSharedValue w) (F : Fi
           enters = record { journal = refl; program = refl; settings = refl; halted = refl };
           left_is = eb ∙ long;
           right_is = ec ∙ ap (λ n. n + 1) long;
-          goes = still_goes I free_last made.enters forked_world (steps.on w k p I F at_fork free) refl;
-          others = steps_others I F free_last made;
+          goes = still_goes I asked.free made.enters forked_world (steps.on asks) refl;
+          others = steps_others I F asked.free made;
         }

@@ -17,11 +17,9 @@ use Rattle.task_homes.specs.declared.task_at_rest.Rest.{Rest}
 use Rattle.task_homes.specs.HomesValue.{keeping}
 use Rattle.shared_value.specs.SharedValue.{SharedValue, marks_at, rest_at}
 use Rattle.shared_value.specs.Stands.{IsSharedValue}
-use Rattle.shared_value.specs.Fits.{Fits}
-use Rattle.shared_value.specs.Entered.{refused}
-use Rattle.own_steps.specs.Alone.{alone_entry}
-use Rattle.child_tasks.specs.Forks.{ForksOn, ForksTo, RestsFork, IsAtFork, SetsFork, begun_rest, part_child, waiting_rest}
+use Rattle.child_tasks.specs.Forks.{ForksOn, ForksTo, RestsFork, SetsFork, begun_rest, part_child, waiting_rest}
 use Rattle.child_tasks.proofs.ForkEntered as fork
+use Rattle.child_tasks.proofs.NextStepForks.{AsksFork}
 
 -- ---- THE HOMES: that of the task is put, and two come behind it
 module _ (rests : List (Option Rest)) (p : Private) (made : p.task < length rests) (x y z : Option Rest) where
@@ -84,19 +82,19 @@ unmarked_more [] (suc (suc u)) = refl
 unmarked_more (m ∷ marks) zero = refl
 unmarked_more (m ∷ marks) (suc u) = unmarked_more marks u
 
-module _ (w : SharedValue) (k : ℕ) (p : Private) (I : IsSharedValue w) (F : Fits w k p) (at_fork : IsAtFork w p) (free : refused w (alone_entry k p) ≡ None) (left right number : ℕ) (B : ForksTo w p left right number) (shallow : depth_of w.tree p.task < 1000) where
+module _ {w : SharedValue} {k : ℕ} {p : Private} (asks : AsksFork w k p) (left right number : ℕ) (B : ForksTo w p left right number) (shallow : depth_of w.tree p.task < 1000) where
   module _ (rests : List (Option Rest)) (sets : List SetOf) (H : RestsFork w.rests rests p left right) (N : SetsFork w.sets sets p.task) (marks : List (Option MarkingValue)) (unmarked : marks ≡ slice_set w.marks p.task None ++ None ∷ (None ∷ [])) (j : RoomyValue EntryValue) where
     pub unmarked_at : (u : ℕ) → marks_at marks u ≡ marks_at (slice_set w.marks p.task None) u
     unmarked_at u = ap (λ ms. marks_at ms u) unmarked ∙ unmarked_more (slice_set w.marks p.task None) u
 
     abbrev pub forked_alone : SharedValue
-    forked_alone = fork.w' w k p I F at_fork free left right number B shallow rests sets H N marks unmarked_at j
+    forked_alone = fork.w' asks left right number B shallow rests sets H N marks unmarked_at j
 
     pub alone_world : IsSharedValue forked_alone
-    alone_world = fork.forked_world w k p I F at_fork free left right number B shallow rests sets H N marks unmarked_at j
+    alone_world = fork.forked_world asks left right number B shallow rests sets H N marks unmarked_at j
 
     pub alone_forks : (a b : ℕ) → a ≡ length w.tree → b ≡ length w.tree + 1 → ForksOn w forked_alone k p a b
-    alone_forks = fork.forked_on w k p I F at_fork free left right number B shallow rests sets H N marks unmarked_at j
+    alone_forks = fork.forked_on asks left right number B shallow rests sets H N marks unmarked_at j
 
 -- ---- WHAT THE CODE MAKES OF HOMES AND SETS
 

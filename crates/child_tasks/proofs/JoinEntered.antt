@@ -1,16 +1,14 @@
 -- A child's last frame returns after its sibling's: both join their parent, which is ready again.
-use Rattle.std.proofs.Common.{◌≡◌, ◌⊎◌, ℕ, ℤ, ◌+◌, ◌++◌, arith, Option, Some, None, List, [], ◌∷◌, length-set, slice_get, slice_set, inl, inr, refl, ap, sym, subst, ◌∙◌}
+use Rattle.std.proofs.Common.{◌≡◌, ◌⊎◌, ℕ, ◌+◌, ◌++◌, arith, Option, Some, None, List, [], ◌∷◌, length-set, slice_get, slice_set, inl, inr, refl, ap, sym, subst, ◌∙◌}
 use Rattle.std.proofs.lemmas.Bool.{cases_eq}
 use Rattle.std.proofs.lemmas.Option.{same_Some}
 use Rattle.listed.specs.RoomyValue.{RoomyValue}
 use Rattle.hh_model.specs.declared.data.Task.{Task}
 use Rattle.run_trace.specs.Entry.{EntryValue}
 use Rattle.run_ledger.specs.declared.data.Ledger.{Ledger}
-use Rattle.object_layout.specs.declared.word.Addr.{Addr}
 use Rattle.chunk_pool.specs.PoolValue.{PoolValue}
 use Rattle.alloc_path.specs.LeafHeapValue.{LeafHeapValue, merged, room_of, with_places}
 use Rattle.chunk_rows.specs.View.{Level}
-use Rattle.task_frames.specs.FramesValue.{FramesValue}
 use Rattle.heap_tree.specs.declared.state.State.TheVariants.{Ended}
 use Rattle.heap_tree.specs.Node.{Node, state_of as state_in_tree, with_state}
 use Rattle.write_barrier.specs.declared.sets.SetOf.{SetOf}
@@ -18,8 +16,8 @@ use Rattle.write_barrier.specs.Stored.{Content, content_at}
 use Rattle.inner_mark_gc.specs.MarkingValue.{MarkingValue}
 use Rattle.fork_join.specs.Joined.{AreRelabelled, joined_nodes, with_results}
 use Rattle.ledger_step_laws.specs.Accounts.{rested}
-use Rattle.ledger_step_laws.specs.Last.{EndsLast, Runs, Splits}
-use Rattle.core_relation.specs.Memory.{Belongings, Noted, Memory, sources}
+use Rattle.ledger_step_laws.specs.Last.{EndsLast, Runs}
+use Rattle.core_relation.specs.Memory.{Noted, Memory, sources}
 use Rattle.core_relation.specs.Changes.{JoinsBelongings}
 use Rattle.core_relation.specs.Fits.{with_belongings}
 use Rattle.core_relation.specs.RanCounts.{NodesJoin}
@@ -29,20 +27,19 @@ use Rattle.task_machine.specs.declared.part.Private.{Private}
 use Rattle.task_homes.specs.declared.task_at_rest.Rest.{Rest}
 use Rattle.task_homes.specs.declared.task_at_rest.Work.{Work}
 use Rattle.task_homes.specs.declared.task_at_rest.Work.TheVariants.{Calls}
-use Rattle.shared_value.specs.SharedValue.{SharedValue, no_belongings, noted_in, accounts, belongings_by, belongings_in, marks_at, rest_at, tree_counts_of, value_of}
+use Rattle.shared_value.specs.SharedValue.{SharedValue, no_belongings, noted_in, belongings_by, belongings_in, marks_at, tree_counts_of, value_of}
 use Rattle.shared_value.specs.Stands.{HeapForm, IsSharedValue}
-use Rattle.shared_value.specs.Fits.{Fits, belongings_of_part}
-use Rattle.shared_value.specs.Entered.{refused}
 use Rattle.shared_value.proofs.FieldsNoted.{noted_of}
 use Rattle.shared_value.proofs.EntryMade.{RestIsWell, RestStays, accounts_are, each_form, free_before, none_at, still_goes, task_is_out, well_at}
 use Rattle.shared_value.proofs.StepsMade.{MakesSteps, steps_others, steps_world}
 use Rattle.shared_value.proofs.TaskTaken.{lets_go}
 use Rattle.own_steps.specs.Alone.{alone_entry}
 use Rattle.own_steps.proofs.LastStepEntry as last
-use Rattle.own_steps.proofs.LastStepEntry.{last_enters, last_entry, last_steps}
-use Rattle.child_tasks.specs.ChildEnds.{EndsChild, IsAtEnd, running_parent}
-use Rattle.child_tasks.specs.Joins.{AreSides, RestsJoin, IsRestOf, SetsJoin, sources_at}
+use Rattle.own_steps.proofs.LastStepEntry.{AsksLast, last_enters, last_entry, last_steps}
+use Rattle.child_tasks.specs.ChildEnds.{EndsChild, running_parent}
+use Rattle.child_tasks.specs.Joins.{RestsJoin, SetsJoin, sources_at}
 use Rattle.child_tasks.proofs.ChildReturns as steps
+use Rattle.child_tasks.proofs.ChildReturns.{AsksEnd}
 use Rattle.child_tasks.proofs.JoinUnits as units
 use Rattle.child_tasks.proofs.SetsNoted.{noted_by}
 use Rattle.child_tasks.proofs.JoinBelongings.{Merges, by_content, joins_belongings}
@@ -50,57 +47,43 @@ use Rattle.child_tasks.proofs.JoinTree.{joined_long, left_node, other_node, pare
 use Rattle.child_tasks.proofs.MergedHeapForm.{merged_form}
 use Rattle.child_tasks.proofs.SiblingReturned as before
 use Rattle.child_tasks.proofs.JoinedBelongings as both
+use Rattle.child_tasks.proofs.JoinedBelongings.{JoiningTwo}
 
-module _ (w : SharedValue) (k : ℕ) (p : Private) (I : IsSharedValue w) (F : Fits w k p) (at_end : IsAtEnd w p) (free : refused w (alone_entry k p) ≡ None) (ended : state_in_tree w.tree (steps.other w k p I F at_end free) ≡ Some Ended) where
-  abbrev t : ℕ
-  t = p.task
+module _ {w : SharedValue} {k : ℕ} {p : Private} (asks : AsksEnd w k p) (ended : state_in_tree w.tree (steps.other asks) ≡ Some Ended) where
+  open asks use {I, F, free}
 
-  abbrev M : Ledger
-  M = steps.M w k p I F at_end free
+  abbrev asked : AsksLast w k p
+  asked = steps.asked asks
+
+  open (last.names (steps.asked asks)) use {t, l, M, L, v, h, S}
 
   abbrev R : Ledger
   R = rested M t
-
-  abbrev L : Ledger
-  L = last.L w k p I F (steps.shared w k p I F at_end free) (steps.free_last w k p I F at_end free)
-
-  abbrev v : Memory
-  v = value_of w
-
-  abbrev h : Belongings
-  h = belongings_of_part p
 
   abbrev vt : Memory
   vt = with_belongings v t h
 
   abbrev x : Task
-  x = (steps.S w k p I F at_end free).task
+  x = S.task
 
   abbrev pub q : ℕ
-  q = steps.parent w k p I F at_end free
+  q = steps.parent asks
 
   abbrev pub s : ℕ
-  s = steps.other w k p I F at_end free
+  s = steps.other asks
 
   abbrev W : Stands vt R
-  W = before.W w k p I F at_end free ended
+  W = before.W asks ended
 
   abbrev Q : EndsLast M L t x
-  Q = before.Q w k p I F at_end free ended
-
-  abbrev l : Ledger
-  l = accounts w
-
-  abbrev free_last : refused w (last_entry k p) ≡ None
-  free_last = steps.free_last w k p I F at_end free
-
-  abbrev S : Splits w.program w.settings l L t p.fresh
-  S = steps.S w k p I F at_end free
+  Q = before.Q asks ended
 
   abbrev E : Runs w.program w.settings l L t k p.fresh
-  E = before.E w k p I F at_end free ended
+  E = before.E asks ended
 
-  module _ (above beside : Rest) (frames : FramesValue) (above_is : rest_at w.rests q ≡ Some above) (calls : above.work ≡ Calls frames) (beside_is : IsRestOf (rest_at w.rests s) beside) (c : ℕ) (lh rh : LeafHeapValue) (al ar : ℤ × Option Addr) (side : AreSides p s beside c lh rh al ar) where
+  module _ (two : JoiningTwo w k p asks) where
+    open two use {above, beside, frames, c, lh, rh, al, ar}
+
     module _ (rests : List (Option Rest)) (sets : List SetOf) (marks : List (Option MarkingValue)) (unmarked : (u : ℕ) → (u ≡ t → ⊥) → (u ≡ s → ⊥) → marks_at marks u ≡ marks_at w.marks u) (pool : PoolValue) (heap : LeafHeapValue) (H : RestsJoin w.rests rests p q s (with_results frames al ar) heap above) (N : SetsJoin w.sets sets q c (c + 1) above.heap.chunks)
         (relabelled : AreRelabelled w.pool pool (lh.chunks ++ rh.chunks) q) (heap_is : heap ≡ with_places (merged above.heap lh rh) heap.slots heap.spare) (room_is : room_of heap ≡ room_of above.heap) (j : RoomyValue EntryValue) where
       abbrev tree : List Node
@@ -129,7 +112,7 @@ module _ (w : SharedValue) (k : ℕ) (p : Private) (I : IsSharedValue w) (F : Fi
         right = ap (λ (z : Noted). z.keeps) (set_then (c + 1) _ N.right_set);
         others = λ u nq nc nd.
             let e = same_noted u nq nc nd in
-            let f = both.apart_of w k p I F at_end free ended above beside frames above_is calls beside_is c lh rh al ar side u nc nd in
+            let f = both.apart_of asks ended two u nc nd in
             record { keeps = ap (λ (z : Noted). z.keeps) e; kept = ap (λ (z : Noted). z.kept) e; marked = unmarked u f.0 f.1 };
       }
 
@@ -139,8 +122,8 @@ module _ (w : SharedValue) (k : ℕ) (p : Private) (I : IsSharedValue w) (F : Fi
 
       both_then : HasBoth c lh × HasBoth (c + 1) rh
       both_then =
-          both.sides_of w k p I F at_end free ended above beside frames above_is calls beside_is c lh rh al ar side HasBoth (p.allocations, Calls p.frames, p.view, before.own_here w k p I F at_end free ended, ap belongings_in H.own_home)
-          (beside.allocations, beside.work, beside.view, (both.belongings_beside w k p I F at_end free ended above beside frames above_is calls beside_is c lh rh al ar side), ap belongings_in H.other_home)
+          both.sides_of asks ended two HasBoth (p.allocations, Calls p.frames, p.view, before.own_here asks ended, ap belongings_in H.own_home)
+          (beside.allocations, beside.work, beside.view, (both.belongings_beside asks ended two), ap belongings_in H.other_home)
 
       merges : Merges vt v' w.pool pool q c (c + 1) al ar
       merges = record {
@@ -157,7 +140,7 @@ module _ (w : SharedValue) (k : ℕ) (p : Private) (I : IsSharedValue w) (F : Fi
         frames = frames;
         left_work = both_then.0.1;
         right_work = both_then.1.1;
-        own_belongings = (both.belongings_above w k p I F at_end free ended above beside frames above_is calls beside_is c lh rh al ar side);
+        own_belongings = (both.belongings_above asks ended two);
         left_belongings = both_then.0.3;
         right_belongings = both_then.1.3;
         own_then = ap belongings_in H.parent_home;
@@ -165,8 +148,8 @@ module _ (w : SharedValue) (k : ℕ) (p : Private) (I : IsSharedValue w) (F : Fi
         right_then = both_then.1.4;
         heap_is = heap_is;
         room_is = room_is;
-        small = (both.small w k p I F at_end free ended above beside frames above_is calls beside_is c lh rh al ar side);
-        others = λ u nq nc nd. let e = both.apart_of w k p I F at_end free ended above beside frames above_is calls beside_is c lh rh al ar side u nc nd in ap belongings_in (H.others u nq e.0 e.1) ∙ sym (before.off w k p I F at_end free ended u e.0);
+        small = (both.small asks ended two);
+        others = λ u nq nc nd. let e = both.apart_of asks ended two u nc nd in ap belongings_in (H.others u nq e.0 e.1) ∙ sym (before.off asks ended u e.0);
         owner = λ n. refl;
         owner_then = λ n. refl;
         relabelled = relabelled;
@@ -184,49 +167,49 @@ module _ (w : SharedValue) (k : ℕ) (p : Private) (I : IsSharedValue w) (F : Fi
 
       joins_so : JoinsBelongings vt v' Q.parent Q.left (Q.left + 1) al ar
       joins_so =
-          subst (λ n. JoinsBelongings vt v' Q.parent n (n + 1) al ar) (sym (both.left_is w k p I F at_end free ended above beside frames above_is calls beside_is c lh rh al ar side))
-          (subst (λ n. JoinsBelongings vt v' n c (c + 1) al ar) (sym (before.parent_same w k p I F at_end free ended)) (joins_belongings vt v' R W w.pool pool q c (c + 1) al ar (before.rests_parent w k p I F at_end free ended) (both.rests_c w k p I F at_end free ended above beside frames above_is calls beside_is c lh rh al ar side) (both.rests_d w k p I F at_end free ended above beside frames above_is calls beside_is c lh rh al ar side) merges))
+          subst (λ n. JoinsBelongings vt v' Q.parent n (n + 1) al ar) (sym (both.left_is asks ended two))
+          (subst (λ n. JoinsBelongings vt v' n c (c + 1) al ar) (sym (before.parent_same asks ended)) (joins_belongings vt v' R W w.pool pool q c (c + 1) al ar (before.rests_parent asks ended) (both.rests_c asks ended two) (both.rests_d asks ended two) merges))
 
       notes_so : JoinsNotes vt v' Q.parent Q.left (Q.left + 1)
-      notes_so = subst (λ n. JoinsNotes vt v' Q.parent n (n + 1)) (sym (both.left_is w k p I F at_end free ended above beside frames above_is calls beside_is c lh rh al ar side)) (subst (λ n. JoinsNotes vt v' n c (c + 1)) (sym (before.parent_same w k p I F at_end free ended)) notes)
+      notes_so = subst (λ n. JoinsNotes vt v' Q.parent n (n + 1)) (sym (both.left_is asks ended two)) (subst (λ n. JoinsNotes vt v' n c (c + 1)) (sym (before.parent_same asks ended)) notes)
 
       -- ---- THE TREE
       q_c : q ≡ c → ⊥
-      q_c e = let lt = (both.q_low w k p I F at_end free ended above beside frames above_is calls beside_is c lh rh al ar side) in omega (arith, e, lt)
+      q_c e = let lt = (both.q_low asks ended two) in omega (arith, e, lt)
 
       q_d : q ≡ c + 1 → ⊥
-      q_d e = let lt = (both.q_low w k p I F at_end free ended above beside frames above_is calls beside_is c lh rh al ar side) in omega (arith, e, lt)
+      q_d e = let lt = (both.q_low asks ended two) in omega (arith, e, lt)
 
       c_d : c ≡ c + 1 → ⊥
       c_d e = omega (arith, e)
 
       nodes : NodesJoin (tree_counts_of w) (tree_counts_of w') q c (c + 1)
       nodes = record {
-        parent = parent_node w.tree t q c (c + 1) (both.child_of_two w k p I F at_end free ended above beside frames above_is calls beside_is c lh rh al ar side) q_c q_d c_d;
-        left = left_node w.tree t q c (c + 1) (both.child_of_two w k p I F at_end free ended above beside frames above_is calls beside_is c lh rh al ar side) q_c q_d c_d;
-        right = right_node w.tree t q c (c + 1) (both.child_of_two w k p I F at_end free ended above beside frames above_is calls beside_is c lh rh al ar side) q_c q_d c_d;
-        others = other_node w.tree t q c (c + 1) (both.child_of_two w k p I F at_end free ended above beside frames above_is calls beside_is c lh rh al ar side) q_c q_d c_d;
+        parent = parent_node w.tree t q c (c + 1) (both.child_of_two asks ended two) q_c q_d c_d;
+        left = left_node w.tree t q c (c + 1) (both.child_of_two asks ended two) q_c q_d c_d;
+        right = right_node w.tree t q c (c + 1) (both.child_of_two asks ended two) q_c q_d c_d;
+        others = other_node w.tree t q c (c + 1) (both.child_of_two asks ended two) q_c q_d c_d;
       }
 
       nodes_so : NodesJoin (tree_counts_of w) (tree_counts_of w') Q.parent Q.left (Q.left + 1)
-      nodes_so = subst (λ n. NodesJoin (tree_counts_of w) (tree_counts_of w') Q.parent n (n + 1)) (sym (both.left_is w k p I F at_end free ended above beside frames above_is calls beside_is c lh rh al ar side)) (subst (λ n. NodesJoin (tree_counts_of w) (tree_counts_of w') n c (c + 1)) (sym (before.parent_same w k p I F at_end free ended)) nodes)
+      nodes_so = subst (λ n. NodesJoin (tree_counts_of w) (tree_counts_of w') Q.parent n (n + 1)) (sym (both.left_is asks ended two)) (subst (λ n. NodesJoin (tree_counts_of w) (tree_counts_of w') n c (c + 1)) (sym (before.parent_same asks ended)) nodes)
 
       heap_form : HeapForm heap
-      heap_form = subst HeapForm (sym heap_is) (merged_form above.heap lh rh (both.above_form w k p I F at_end free ended above beside frames above_is calls beside_is c lh rh al ar side) (both.child_forms w k p I F at_end free ended above beside frames above_is calls beside_is c lh rh al ar side).0 (both.child_forms w k p I F at_end free ended above beside frames above_is calls beside_is c lh rh al ar side).1 (both.joined_apart w k p I F at_end free ended above beside frames above_is calls beside_is c lh rh al ar side) (both.left_none w k p I F at_end free ended above beside frames above_is calls beside_is c lh rh al ar side) (both.right_none w k p I F at_end free ended above beside frames above_is calls beside_is c lh rh al ar side) heap.slots heap.spare)
+      heap_form = subst HeapForm (sym heap_is) (merged_form above.heap lh rh (both.above_form asks ended two) (both.child_forms asks ended two).0 (both.child_forms asks ended two).1 (both.joined_apart asks ended two) (both.left_none asks ended two) (both.right_none asks ended two) heap.slots heap.spare)
 
       each : (u : ℕ) → RestIsWell w' u ⊎ RestStays w w' u
       each u = elim (cases_eq u q) [
-        | inl e ↦ inl (well_at w' u q _ e H.parent_home (heap_form, units.heap_measured w k p I F at_end free ended above beside frames above_is calls beside_is c lh rh al ar side rests pool heap H relabelled heap_is))
+        | inl e ↦ inl (well_at w' u q _ e H.parent_home (heap_form, units.heap_measured asks ended two rests pool heap H relabelled heap_is))
         | inr nq ↦ elim (cases_eq u t) [
           | inl e ↦ inl (none_at w' u t e H.own_home)
           | inr nt ↦ elim (cases_eq u s) [
             | inl e ↦ inl (none_at w' u s e H.other_home)
             | inr ns ↦
-                let apart = units.other_apart w k p I F at_end free ended above beside frames above_is calls beside_is c lh rh al ar side u nt ns in
+                let apart = units.other_apart asks ended two u nt ns in
                 inr (record {
                   rest = H.others u nq nt ns;
-                  keeps = units.units_stay w k p I F at_end free ended above beside frames above_is calls beside_is c lh rh al ar side rests pool heap H relabelled heap_is u apart.0 apart.1;
-                  free = λ f. free_before w.tasks_out k None u f (λ h. nt (same_Some u t (sym h ∙ task_is_out w k p I (steps.on w k p I F at_end free) F)));
+                  keeps = units.units_stay asks ended two rests pool heap H relabelled heap_is u apart.0 apart.1;
+                  free = λ f. free_before w.tasks_out k None u f (λ h. nt (same_Some u t (sym h ∙ task_is_out w k p I (steps.on asks) F)));
                 })
           ]
         ]
@@ -234,26 +217,26 @@ module _ (w : SharedValue) (k : ℕ) (p : Private) (I : IsSharedValue w) (F : Fi
 
       made : MakesSteps w w' k p p.fresh
       made =
-          let n = joined_long w.tree t q c (c + 1) (both.child_of_two w k p I F at_end free ended above beside frames above_is calls beside_is c lh rh al ar side) q_c q_d c_d in
-          let r = both.results w k p I F at_end free ended above beside frames above_is calls beside_is c lh rh al ar side in
+          let n = joined_long w.tree t q c (c + 1) (both.child_of_two asks ended two) q_c q_d c_d in
+          let r = both.results asks ended two in
           record {
             enters = last_enters w w' k p (record { journal = refl; program = refl; settings = refl; halted = refl });
             form = each_form I each (H.many ∙ (I.made ∙ sym n)) (N.many ∙ (I.noted ∙ sym n)) (length-set w.tasks_out k None) relabelled.limit;
-            units = units.others_measured w k p I F at_end free ended above beside frames above_is calls beside_is c lh rh al ar side rests pool heap H relabelled heap_is;
+            units = units.others_measured asks ended two rests pool heap H relabelled heap_is;
             runs = E;
             own = F.fits;
             makes = (al, ar, joins_so, r.0, r.1);
             notes = notes_so;
-            counts = record { tree = nodes_so; task_out = lets_go w w' (last_entry k p) I free_last refl; outputs = refl; end = refl; used = relabelled.units; steps = last_steps w p };
+            counts = record { tree = nodes_so; task_out = lets_go w w' (last_entry k p) I asked.free refl; outputs = refl; end = refl; used = relabelled.units; steps = last_steps w p };
           }
 
       pub alone_world : IsSharedValue w'
-      alone_world = steps_world I F free_last made
+      alone_world = steps_world I F asked.free made
 
       pub alone_joins : EndsChild w w' k p (Some q)
       alone_joins = record {
         enters = record { journal = refl; program = refl; settings = refl; halted = refl };
-        goes = still_goes I free_last made.enters alone_world (steps.on w k p I F at_end free) refl;
-        resumed = sym (ap (λ (i : Ledger). running_parent i.machine.tasks t) (accounts_are I free_last made.enters) ∙ before.parent_then w k p I F at_end free ended);
-        others = steps_others I F free_last made;
+        goes = still_goes I asked.free made.enters alone_world (steps.on asks) refl;
+        resumed = sym (ap (λ (i : Ledger). running_parent i.machine.tasks t) (accounts_are I asked.free made.enters) ∙ before.parent_then asks ended);
+        others = steps_others I F asked.free made;
       }

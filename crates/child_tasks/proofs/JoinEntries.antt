@@ -28,34 +28,37 @@ use Rattle.task_homes.specs.declared.task_at_rest.Rest.{Rest}
 use Rattle.task_homes.specs.declared.task_at_rest.Work.TheVariants.{Calls}
 use Rattle.shared_value.specs.SharedValue.{SharedValue, marks_at, rest_at}
 use Rattle.shared_value.specs.Stands.{IsSharedValue}
-use Rattle.shared_value.specs.Fits.{Fits, IsAtWork}
-use Rattle.shared_value.specs.Entered.{refused}
+use Rattle.shared_value.specs.Fits.{IsAtWork}
 use Rattle.shared_value.proofs.BeforeTheEnd.{stands_now}
 use Rattle.shared_value.proofs.TaskTaken.{HasCalls, parent_is as tree_parent_is, some_calls}
 use Rattle.core_relation.specs.Whole.{as_node}
 use Rattle.own_steps.specs.Alone.{alone_entry}
 use Rattle.own_steps.proofs.LastStepEntry as last
-use Rattle.child_tasks.specs.ChildEnds.{EndsChild, IsAtEnd}
+use Rattle.child_tasks.specs.ChildEnds.{EndsChild}
 use Rattle.child_tasks.specs.Forks.{nothing_noted}
 use Rattle.child_tasks.specs.Joins.{AreSides, CanJoin, HasPlaces, RestsJoin, IsRestOf, SetsJoin, chunk_count, left_of, other_child, own_child, parent_side, right_of, sources_at}
 use Rattle.child_tasks.proofs.ChildReturns as steps
+use Rattle.child_tasks.proofs.ChildReturns.{AsksEnd}
 use Rattle.child_tasks.proofs.JoinedBelongings as both_sides
+use Rattle.child_tasks.proofs.JoinedBelongings.{JoiningTwo}
 use Rattle.child_tasks.proofs.SiblingReturned as before
 use Rattle.child_tasks.proofs.JoinEntered as joined
 use Rattle.child_tasks.proofs.TwoChildren.{both, count_of, each, in_pairs, right_next, sides, waits_in}
 
-module _ (w : SharedValue) (k : ℕ) (p : Private) (I : IsSharedValue w) (F : Fits w k p) (at_end : IsAtEnd w p) (free : refused w (alone_entry k p) ≡ None) (ended : state_in_tree w.tree (sibling p.task) ≡ Some Ended) where
+module _ {w : SharedValue} {k : ℕ} {p : Private} (asks : AsksEnd w k p) (ended : state_in_tree w.tree (sibling p.task) ≡ Some Ended) where
+  open asks use {I}
+
   abbrev pub q : ℕ
-  q = steps.parent w k p I F at_end free
+  q = steps.parent asks
 
   abbrev s' : ℕ
   s' = sibling p.task
 
   low : 0 < p.task
-  low = let a = steps.parent_low w k p I F at_end free in omega (arith, a)
+  low = let a = steps.parent_low asks in omega (arith, a)
 
   pub parent_is : (parent : ℕ) → parent_in_tree w.tree p.task ≡ Some parent → q ≡ parent
-  parent_is parent e = same_Some q parent (sym (steps.tree_parent w k p I F at_end free) ∙ e)
+  parent_is parent e = same_Some q parent (sym (steps.tree_parent asks) ∙ e)
 
   within_by : (o : Option Node) (u : ℕ) → slice_get w.tree u ≡ o → (x : State) → option_map (λ (n : Node). n.state) o ≡ Some x → u < length w.tree
   within_by None u e x h = none_some h
@@ -65,10 +68,10 @@ module _ (w : SharedValue) (k : ℕ) (p : Private) (I : IsSharedValue w) (F : Fi
   other_made = within_by (slice_get w.tree s') s' refl Ended ended
 
   pub parent_made : q < length w.tree
-  parent_made = let a = steps.parent_low w k p I F at_end free in let b = steps.own_made w k p I F at_end free in omega (arith, a, b)
+  parent_made = let a = steps.parent_low asks in let b = steps.own_made asks in omega (arith, a, b)
 
   pub own_set : p.task < length w.sets
-  own_set = subst (λ n. p.task < n) (sym I.noted) (steps.own_made w k p I F at_end free)
+  own_set = subst (λ n. p.task < n) (sym I.noted) (steps.own_made asks)
 
   pub other_set : s' < length w.sets
   other_set = subst (λ n. s' < n) (sym I.noted) other_made
@@ -77,27 +80,27 @@ module _ (w : SharedValue) (k : ℕ) (p : Private) (I : IsSharedValue w) (F : Fi
   parent_set = subst (λ n. q < n) (sym I.noted) parent_made
 
   pub other_apart : s' ≡ p.task → ⊥
-  other_apart e = steps.other_apart w k p I F at_end free e
+  other_apart e = steps.other_apart asks e
 
   pub parent_apart : q ≡ p.task → ⊥
-  parent_apart e = steps.parent_apart w k p I F at_end free e
+  parent_apart e = steps.parent_apart asks e
 
   -- the parent's number is below those of both
   pub parent_other : q ≡ s' → ⊥
-  parent_other e = let a = (steps.kept_tree w k p I F at_end free).low s' q (steps.other_parent w k p I F at_end free) in omega (arith, a, e)
+  parent_other e = let a = (steps.kept_tree asks).low s' q (steps.other_parent asks) in omega (arith, a, e)
 
   -- the parent waits in the tree
   parent_waits : state_in_tree w.tree q ≡ Some Waiting
   parent_waits =
-      let x = before.waiting_parent w k p I F at_end free ended in
-      waits_in _ (slice_get w.tree q) x.0 x.2 ((stands_now w I (steps.on w k p I F at_end free)).tree_counts.node q ∙ ap (option_map (as_node _)) x.1)
+      let x = before.waiting_parent asks ended in
+      waits_in _ (slice_get w.tree q) x.0 x.2 ((stands_now w I (steps.on asks)).tree_counts.node q ∙ ap (option_map (as_node _)) x.1)
 
   other_parent : parent_in_tree w.tree s' ≡ Some q
-  other_parent = tree_parent_is w I s' ∙ (sym (last.then_parents w k p I F (steps.shared w k p I F at_end free) (steps.free_last w k p I F at_end free) s') ∙ steps.other_parent w k p I F at_end free)
+  other_parent = tree_parent_is w I s' ∙ (sym (last.then_parents (steps.asked asks) s') ∙ steps.other_parent asks)
 
   -- the parent has frames
   pub calls : HasCalls (rest_at w.rests q)
-  calls = before.parent_calls w k p I F at_end free ended
+  calls = before.parent_calls asks ended
 
   -- and so it has a home, which stays as both children leave theirs
   pub parent_home : (parent : ℕ) → parent_in_tree w.tree p.task ≡ Some parent → IsSome (rest_at w.rests parent)
@@ -152,15 +155,15 @@ module _ (w : SharedValue) (k : ℕ) (p : Private) (I : IsSharedValue w) (F : Fi
     -- THE STATES
     states : (u : ℕ) → state_in_tree w.tree u ≡ Some Ended → state_in_tree nodes u ≡ Some Ended
     states u e = elim (cases_eq u p.task) [
-      | inl f ↦ ap (state_in_tree nodes) f ∙ (states_change w.tree p.task Ended).set (steps.own_made w k p I F at_end free)
+      | inl f ↦ ap (state_in_tree nodes) f ∙ (states_change w.tree p.task Ended).set (steps.own_made asks)
       | inr ne ↦ (states_change w.tree p.task Ended).others u ne ∙ e
     ]
 
     own_ended : state_in_tree nodes p.task ≡ Some Ended
-    own_ended = (states_change w.tree p.task Ended).set (steps.own_made w k p I F at_end free)
+    own_ended = (states_change w.tree p.task Ended).set (steps.own_made asks)
 
     other_ended : state_in_tree nodes s' ≡ Some Ended
-    other_ended = (states_change w.tree p.task Ended).others s' (steps.other_apart w k p I F at_end free) ∙ ended
+    other_ended = (states_change w.tree p.task Ended).others s' (steps.other_apart asks) ∙ ended
 
     abbrev HasEnded : EndedChild → Type 0
     HasEnded c = (state_in_tree nodes c.side.task ≡ Some Ended) × (parent_in_tree nodes c.side.task ≡ Some q)
@@ -170,19 +173,22 @@ module _ (w : SharedValue) (k : ℕ) (p : Private) (I : IsSharedValue w) (F : Fi
 
     both_ended : HasEnded L × HasEnded R
     both_ended =
-        each p beside own_notes other_notes low HasEnded (own_ended, parents_same p.task ∙ steps.tree_parent w k p I F at_end free) (other_ended, parents_same s' ∙ other_parent)
+        each p beside own_notes other_notes low HasEnded (own_ended, parents_same p.task ∙ steps.tree_parent asks) (other_ended, parents_same s' ∙ other_parent)
 
     have_ended : HaveEnded nodes q L.side.task R.side.task
     have_ended =
         let pairs = in_pairs p beside own_notes other_notes low in
         record {
-          waits = (states_change w.tree p.task Ended).others q (steps.parent_apart w k p I F at_end free) ∙ parent_waits;
+          waits = (states_change w.tree p.task Ended).others q (steps.parent_apart asks) ∙ parent_waits;
           left_ended = both_ended.0.0;
           right_ended = both_ended.1.0;
           child = both_ended.0.1;
           is_first = pairs.0;
           second = pairs.1;
         }
+
+    abbrev two : JoiningTwo w k p asks
+    two = record { above = above; beside = beside; frames = frames; above_is = above_is; calls = frames_are; beside_is = beside_of; c = L.side.task; lh = L.side.heap; rh = R.side.heap; al = L.result; ar = R.result; side = side }
 
     -- THE PLACES
     module _ (places : HasPlaces w p q) (own_is : own_notes.sources ≡ sources_at w.sets p.task) (other_is : other_notes.sources ≡ sources_at w.sets s') (set_is : IfSome (slice_get w.sets q) (λ z. notes ≡ z.remembered)) where
@@ -218,9 +224,9 @@ module _ (w : SharedValue) (k : ℕ) (p : Private) (I : IsSharedValue w) (F : Fi
       can_join = record {
         room = has_room;
         ended = have_ended;
-        left_used = both_sides.left_used w k p I F at_end free ended above beside frames above_is frames_are beside_of L.side.task L.side.heap R.side.heap L.result R.result side;
-        right_used = both_sides.right_used w k p I F at_end free ended above beside frames above_is frames_are beside_of L.side.task L.side.heap R.side.heap L.result R.result side;
-        apart = both_sides.joined_apart w k p I F at_end free ended above beside frames above_is frames_are beside_of L.side.task L.side.heap R.side.heap L.result R.result side;
+        left_used = both_sides.left_used asks ended two;
+        right_used = both_sides.right_used asks ended two;
+        apart = both_sides.joined_apart asks ended two;
       }
 
     -- ---- THE SETS
@@ -267,9 +273,9 @@ module _ (w : SharedValue) (k : ℕ) (p : Private) (I : IsSharedValue w) (F : Fi
       pub then_world : IsSharedValue then_
       then_world =
           subst IsSharedValue same_tree
-          (joined.alone_world w k p I F at_end free ended above beside frames above_is frames_are beside_of L.side.task L.side.heap R.side.heap L.result R.result side rests sets marks unmarked pool rest.heap H N relabelled J.heap J.room j)
+          (joined.alone_world asks ended two rests sets marks unmarked pool rest.heap H N relabelled J.heap J.room j)
 
       pub then_joins : EndsChild w then_ k p (Some q)
       then_joins =
           subst (λ (z : SharedValue). EndsChild w z k p (Some q)) same_tree
-          (joined.alone_joins w k p I F at_end free ended above beside frames above_is frames_are beside_of L.side.task L.side.heap R.side.heap L.result R.result side rests sets marks unmarked pool rest.heap H N relabelled J.heap J.room j)
+          (joined.alone_joins asks ended two rests sets marks unmarked pool rest.heap H N relabelled J.heap J.room j)

@@ -1,15 +1,13 @@
 -- A join: the pool has the chunks of each heap with their units still.
-use Rattle.std.proofs.Common.{◌≡◌, ℕ, ℤ, ◌+◌, ◌++◌, Option, Some, None, List, option_map, inl, inr, refl, ap, sym, subst, ◌∙◌}
+use Rattle.std.proofs.Common.{◌≡◌, ℕ, ◌+◌, ◌++◌, Option, Some, None, List, option_map, inl, inr, refl, ap, sym, subst, ◌∙◌}
 use Rattle.std.proofs.lemmas.Option.{same_Some}
 use Rattle.listed.proofs.Members.{in_append_cases, in_append_left, in_append_right}
 use Rattle.run_ledger.specs.declared.data.Heap.{Heap}
 use Rattle.run_ledger.specs.declared.data.Ledger.{Ledger}
-use Rattle.object_layout.specs.declared.word.Addr.{Addr}
 use Rattle.object_layout.specs.ChunkValue.{ChunkValue}
 use Rattle.chunk_pool.specs.declared.pool.Slot.{Slot}
 use Rattle.chunk_pool.specs.PoolValue.{PoolValue, slot_at}
 use Rattle.alloc_path.specs.LeafHeapValue.{LeafHeapValue, merged, with_places}
-use Rattle.task_frames.specs.FramesValue.{FramesValue}
 use Rattle.heap_tree.specs.declared.state.State.TheVariants.{Ended}
 use Rattle.heap_tree.specs.Node.{state_of as state_in_tree}
 use Rattle.fork_join.specs.Joined.{AreRelabelled, with_results}
@@ -17,54 +15,54 @@ use Rattle.ledger_step_laws.specs.Accounts.{Rests, rested}
 use Rattle.core_relation.specs.Memory.{In}
 use Rattle.task_machine.specs.declared.part.Private.{Private}
 use Rattle.task_homes.specs.declared.task_at_rest.Rest.{Rest}
-use Rattle.task_homes.specs.declared.task_at_rest.Work.TheVariants.{Calls}
 use Rattle.shared_value.specs.SharedValue.{SharedValue, accounts, rest_at}
 use Rattle.shared_value.specs.Measured.{AreMeasured, IsMeasured, IsFree, KeepsUnits}
-use Rattle.shared_value.specs.Stands.{IsSharedValue}
 use Rattle.shared_value.specs.Fits.{Fits}
-use Rattle.shared_value.specs.Entered.{refused}
 use Rattle.shared_value.proofs.EntryMade.{task_is_out, tasks_apart, free_at_rest}
 use Rattle.shared_value.proofs.PartFitsMachine as link
 use Rattle.shared_value.proofs.UnitsMeasured.{measured_both, measured_kept, part_kept, relabelled_keeps, relabelled_measured, relabelled_own}
 use Rattle.shared_value.proofs.RootsHeld.{chunk_in}
-use Rattle.own_steps.specs.Alone.{alone_entry}
-use Rattle.child_tasks.specs.ChildEnds.{IsAtEnd}
 use Rattle.child_tasks.specs.Joins.{AreSides, RestsJoin, IsRestOf}
+use Rattle.own_steps.proofs.LastStepEntry as last
 use Rattle.child_tasks.proofs.ChildReturns as steps
+use Rattle.child_tasks.proofs.ChildReturns.{AsksEnd}
 use Rattle.child_tasks.proofs.JoinBelongings.{in_has}
 use Rattle.child_tasks.proofs.JoinedBelongings as both
+use Rattle.child_tasks.proofs.JoinedBelongings.{JoiningTwo}
 use Rattle.child_tasks.proofs.SiblingReturned as before
 
-module _ (w : SharedValue) (k : ℕ) (p : Private) (I : IsSharedValue w) (F : Fits w k p) (at_end : IsAtEnd w p) (free : refused w (alone_entry k p) ≡ None) (ended : state_in_tree w.tree (steps.other w k p I F at_end free) ≡ Some Ended) where
-  abbrev t : ℕ
-  t = p.task
+module _ {w : SharedValue} {k : ℕ} {p : Private} (asks : AsksEnd w k p) (ended : state_in_tree w.tree (steps.other asks) ≡ Some Ended) where
+  open asks use {I, F}
+  open (last.names (steps.asked asks)) use {t, M}
 
   abbrev q : ℕ
-  q = steps.parent w k p I F at_end free
+  q = steps.parent asks
 
   abbrev s : ℕ
-  s = steps.other w k p I F at_end free
+  s = steps.other asks
 
   abbrev R : Ledger
-  R = rested (steps.M w k p I F at_end free) t
+  R = rested (M) t
 
   abbrev on : (accounts w).end ≡ None
-  on = steps.on w k p I F at_end free
+  on = steps.on asks
 
   -- no worker holds the others that join
   unheld : (u : ℕ) → (u ≡ t → ⊥) → Rests R u → IsFree w.tasks_out u
   unheld u ne rests = free_at_rest w u I on (sym (ap (λ (z : Heap). z.worker) ((link.alone w k p I F on).heaps u ne)) ∙ rests)
 
-  module _ (above beside : Rest) (frames : FramesValue) (above_is : rest_at w.rests q ≡ Some above) (calls : above.work ≡ Calls frames) (beside_is : IsRestOf (rest_at w.rests s) beside) (c : ℕ) (lh rh : LeafHeapValue) (al ar : ℤ × Option Addr) (side : AreSides p s beside c lh rh al ar) where
+  module _ (two : JoiningTwo w k p asks) where
+    open two use {above, beside, frames, above_is, beside_is, c, lh, rh, al, ar, side}
+
     rests_s : Rests R s
     rests_s = by side
       where
         by : AreSides p s beside c lh rh al ar → Rests R s
-        by (inl m) = subst (Rests R) (sym m.1) (both.rests_d w k p I F at_end free ended above beside frames above_is calls beside_is c lh rh al ar side)
-        by (inr m) = subst (Rests R) (sym m.0) (both.rests_c w k p I F at_end free ended above beside frames above_is calls beside_is c lh rh al ar side)
+        by (inl m) = subst (Rests R) (sym m.1) (both.rests_d asks ended two)
+        by (inr m) = subst (Rests R) (sym m.0) (both.rests_c asks ended two)
 
     unheld_s : IsFree w.tasks_out s
-    unheld_s = unheld s (steps.other_apart w k p I F at_end free) rests_s
+    unheld_s = unheld s (steps.other_apart asks) rests_s
 
     -- both are the two, and no other is
     pub other_apart : (u : ℕ) → (u ≡ t → ⊥) → (u ≡ s → ⊥) → (u ≡ c → ⊥) × (u ≡ c + 1 → ⊥)
@@ -80,13 +78,13 @@ module _ (w : SharedValue) (k : ℕ) (p : Private) (I : IsSharedValue w) (F : Fi
 
     both_measured : AreMeasured w.pool c lh.chunks × AreMeasured w.pool (c + 1) rh.chunks
     both_measured =
-        both.sides_of w k p I F at_end free ended above beside frames above_is calls beside_is c lh rh al ar side (λ u g. AreMeasured w.pool u g.chunks)
+        both.sides_of asks ended two (λ u g. AreMeasured w.pool u g.chunks)
         F.measured.0 (beside_measured (rest_at w.rests s) refl beside_is)
 
     above_measured : AreMeasured w.pool q above.heap.chunks
     above_measured =
         I.measured q above above_is
-        (unheld q (steps.parent_apart w k p I F at_end free) (before.rests_parent w k p I F at_end free ended))
+        (unheld q (steps.parent_apart asks) (before.rests_parent asks ended))
 
     module _ (rests : List (Option Rest)) (pool : PoolValue) (heap : LeafHeapValue) (H : RestsJoin w.rests rests p q s (with_results frames al ar) heap above) (relabelled : AreRelabelled w.pool pool (lh.chunks ++ rh.chunks) q)
         (heap_is : heap ≡ with_places (merged above.heap lh rh) heap.slots heap.spare) where

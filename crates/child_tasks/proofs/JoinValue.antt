@@ -20,13 +20,12 @@ use Rattle.task_homes.specs.declared.task_at_rest.Work.TheVariants.{Calls}
 use Rattle.task_homes.specs.HomesValue.{HomesValue}
 use Rattle.shared_value.specs.SharedValue.{SharedValue, marks_at, rest_at}
 use Rattle.shared_value.specs.Stands.{IsSharedValue}
-use Rattle.shared_value.specs.Fits.{Fits, IsAtWork}
-use Rattle.shared_value.specs.Entered.{refused}
+use Rattle.shared_value.specs.Fits.{IsAtWork}
 use Rattle.own_steps.specs.Alone.{alone_entry}
-use Rattle.child_tasks.specs.ChildEnds.{EndsChild, IsAtEnd}
+use Rattle.child_tasks.specs.ChildEnds.{EndsChild}
 use Rattle.child_tasks.specs.Joins.{CanJoin, HasPlaces, RestsJoin, IsRestOf, SetsJoin, left_of, other_child, own_child, parent_side, right_of, sources_at}
 use Rattle.child_tasks.proofs.JoinEntries as entry
-use Rattle.child_tasks.proofs.ChildReturns.{own_made}
+use Rattle.child_tasks.proofs.ChildReturns.{AsksEnd, own_made}
 use Rattle.child_tasks.proofs.JoinPlaces.{set_sources}
 use Rattle.child_tasks.proofs.JoinTakes.{HomesPut, HomesTaken, above_was, beside_empty, beside_set_was, beside_was, rests_join, own_empty, parent_set, set_others, set_was, sets_many, unmarked}
 
@@ -51,10 +50,12 @@ pub record Put (w : SharedValue) (parent : ℕ) (h4 h5 h6 : HomesValue) (notes :
   pub homes : HomesPut h4 h5 h6 parent rest put
   pub put_is : content_of put ≡ record { sources = noted.sources; kept = []; keeps = false }
 
-module _ (w : SharedValue) (k : ℕ) (p : Private) (I : IsSharedValue w) (F : Fits w k p) (at_end : IsAtEnd w p) (free : refused w (alone_entry k p) ≡ None) (ended : state_in_tree w.tree (sibling p.task) ≡ Some Ended) (h h1 h2 h3 h4 : HomesValue) (home beside_home : Home) (above : Rest) (set : SetOf) (notes : RememberedValue)
+module _ {w : SharedValue} {k : ℕ} {p : Private} (asks : AsksEnd w k p) (ended : state_in_tree w.tree (sibling p.task) ≡ Some Ended) (h h1 h2 h3 h4 : HomesValue) (home beside_home : Home) (above : Rest) (set : SetOf) (notes : RememberedValue)
     (own oth left right : EndedChild) where
+  open asks use {I}
+
   abbrev q : ℕ
-  q = entry.q w k p I F at_end free ended
+  q = entry.q asks ended
 
   abbrev s : ℕ
   s = sibling p.task
@@ -70,13 +71,13 @@ module _ (w : SharedValue) (k : ℕ) (p : Private) (I : IsSharedValue w) (F : Fi
     other_notes = beside_home.set.remembered
 
     qt : q ≡ p.task → ⊥
-    qt = entry.parent_apart w k p I F at_end free ended
+    qt = entry.parent_apart asks ended
 
     qs : q ≡ s → ⊥
-    qs = entry.parent_other w k p I F at_end free ended
+    qs = entry.parent_other asks ended
 
     st : s ≡ p.task → ⊥
-    st = entry.other_apart w k p I F at_end free ended
+    st = entry.other_apart asks ended
 
     beside_of : IsRestOf (rest_at w.rests s) beside
     beside_of = subst (λ o. IsRestOf o beside) (beside_was h h1 h2 h3 h4 p s q home beside_home above set K.homes st ∙ ap (λ xs. rest_at xs s) K.rests_are) K.other_is.1
@@ -115,13 +116,13 @@ module _ (w : SharedValue) (k : ℕ) (p : Private) (I : IsSharedValue w) (F : Fi
     own_set_sources = ap (λ (n : RememberedValue). n.sources) K.notes_are ∙ set_sources w.sets q set set_there
 
     at_work_q : IsAtWork above.work
-    at_work_q = entry.at_work w k p I F at_end free ended above beside own_notes other_notes notes above_of beside_of
+    at_work_q = entry.at_work asks ended above beside own_notes other_notes notes above_of beside_of
 
     can_join_q : HasPlaces w p q → CanJoin (with_state w.tree p.task Ended) w.pool (parent_side q above notes) left right
     can_join_q places =
         subst (λ a. CanJoin (with_state w.tree p.task Ended) w.pool (parent_side q above notes) a right) (sym left_so)
         (subst (λ b. CanJoin (with_state w.tree p.task Ended) w.pool (parent_side q above notes) L b) (sym right_so)
-        (entry.can_join w k p I F at_end free ended above beside own_notes other_notes notes above_of beside_of places own_sources other_sources set_is))
+        (entry.can_join asks ended above beside own_notes other_notes notes above_of beside_of places own_sources other_sources set_is))
 
     module _ (pool : PoolValue) (rest : Rest) (noted : RememberedValue) (h5 h6 : HomesValue) (put : SetOf) (P : Put w q h4 h5 h6 notes above L R pool rest noted put) (j : RoomyValue EntryValue) where
       made_sets : (u : ℕ) → u < length w.sets → u < length h.sets
@@ -132,22 +133,22 @@ module _ (w : SharedValue) (k : ℕ) (p : Private) (I : IsSharedValue w) (F : Fi
 
       N : SetsJoin w.sets h6.sets q L.side.task (L.side.task + 1) above.heap.chunks
       N =
-          entry.sets_join w k p I F at_end free ended above beside own_notes other_notes notes above_of beside_of h6.sets rest noted P.side own_sources other_sources own_set_sources
+          entry.sets_join asks ended above beside own_notes other_notes notes above_of beside_of h6.sets rest noted P.side own_sources other_sources own_set_sources
           (sets_many h h1 h2 h3 h4 p s q home beside_home above set K.homes h5 h6 rest put P.homes ∙ ap (λ xs. length xs) K.sets_are)
-          (own_empty h h1 h2 h3 h4 p s q home beside_home above set K.homes h5 h6 rest put P.homes qt st (made_sets p.task (entry.own_set w k p I F at_end free ended)))
-          (beside_empty h h1 h2 h3 h4 p s q home beside_home above set K.homes h5 h6 rest put P.homes qs (made_sets s (entry.other_set w k p I F at_end free ended)))
-          (parent_set h h1 h2 h3 h4 p s q home beside_home above set K.homes h5 h6 rest put P.homes (made_sets q (entry.parent_set w k p I F at_end free ended)) _ P.put_is)
+          (own_empty h h1 h2 h3 h4 p s q home beside_home above set K.homes h5 h6 rest put P.homes qt st (made_sets p.task (entry.own_set asks ended)))
+          (beside_empty h h1 h2 h3 h4 p s q home beside_home above set K.homes h5 h6 rest put P.homes qs (made_sets s (entry.other_set asks ended)))
+          (parent_set h h1 h2 h3 h4 p s q home beside_home above set K.homes h5 h6 rest put P.homes (made_sets q (entry.parent_set asks ended)) _ P.put_is)
           (λ u nq nt ns. set_others h h1 h2 h3 h4 p s q home beside_home above set K.homes h5 h6 rest put P.homes u nq nt ns ∙ ap (λ xs. content_at xs u) K.sets_are)
 
       abbrev frames : FramesValue
-      frames = entry.frames w k p I F at_end free ended above beside own_notes other_notes notes above_of beside_of
+      frames = entry.frames asks ended above beside own_notes other_notes notes above_of beside_of
 
       H : RestsJoin w.rests h6.rests p q s (with_results frames L.result R.result) rest.heap above
       H =
           subst (λ xs. RestsJoin xs h6.rests p q s (with_results frames L.result R.result) rest.heap above) K.rests_are
           (rests_join h h1 h2 h3 h4 p s q home beside_home above set K.homes h5 h6 rest put P.homes (with_results frames L.result R.result) rest.heap qt qs st
-          (made_rests p.task (own_made w k p I F at_end free)) (made_rests s (entry.other_made w k p I F at_end free ended)) (made_rests q (entry.parent_made w k p I F at_end free ended))
-          (P.rest_is frames (entry.frames_are w k p I F at_end free ended above beside own_notes other_notes notes above_of beside_of)))
+          (made_rests p.task (own_made asks)) (made_rests s (entry.other_made asks ended)) (made_rests q (entry.parent_made asks ended))
+          (P.rest_is frames (entry.frames_are asks ended above beside own_notes other_notes notes above_of beside_of)))
 
       unmarked_then : (u : ℕ) → (u ≡ p.task → ⊥) → (u ≡ s → ⊥) → marks_at h6.marks u ≡ marks_at w.marks u
       unmarked_then u nt ns = unmarked h h1 h2 h3 h4 p s q home beside_home above set K.homes h5 h6 rest put P.homes u nt ns ∙ ap (λ ms. marks_at ms u) K.marks_are
@@ -166,11 +167,11 @@ module _ (w : SharedValue) (k : ℕ) (p : Private) (I : IsSharedValue w) (F : Fi
 
       made_world_q : IsSharedValue (made_of q L R)
       made_world_q =
-          entry.then_world w k p I F at_end free ended above beside own_notes other_notes notes above_of beside_of h6.rests h6.sets h6.marks unmarked_then pool rest H N P.pool_is noted P.side j
+          entry.then_world asks ended above beside own_notes other_notes notes above_of beside_of h6.rests h6.sets h6.marks unmarked_then pool rest H N P.pool_is noted P.side j
 
       made_joins_q : EndsChild w (made_of q L R) k p (Some q)
       made_joins_q =
-          entry.then_joins w k p I F at_end free ended above beside own_notes other_notes notes above_of beside_of h6.rests h6.sets h6.marks unmarked_then pool rest H N P.pool_is noted P.side j
+          entry.then_joins asks ended above beside own_notes other_notes notes above_of beside_of h6.rests h6.sets h6.marks unmarked_then pool rest H N P.pool_is noted P.side j
 
     module _ (pool : PoolValue) (rest : Rest) (noted : RememberedValue) (h5 h6 : HomesValue) (put : SetOf) (P : Put w q h4 h5 h6 notes above left right pool rest noted put) (j : RoomyValue EntryValue) where
       P' : Put w q h4 h5 h6 notes above L R pool rest noted put
@@ -182,13 +183,13 @@ module _ (w : SharedValue) (k : ℕ) (p : Private) (I : IsSharedValue w) (F : Fi
           subst (λ a. G a right) (sym left_so) (subst (λ b. G L b) (sym right_so) (made_world_q pool rest noted h5 h6 put P' j, made_joins_q pool rest noted h5 h6 put P' j))
 
 -- ---- THE SAME, of the parent and the sibling as the code has them
-module _ (w : SharedValue) (k : ℕ) (p : Private) (I : IsSharedValue w) (F : Fits w k p) (at_end : IsAtEnd w p) (free : refused w (alone_entry k p) ≡ None) (ended : state_in_tree w.tree (sibling p.task) ≡ Some Ended) (parent other : ℕ) (parent_is : parent_in_tree w.tree p.task ≡ Some parent) (other_is : other ≡ sibling p.task) (h h1 h2 h3 h4 : HomesValue) (home beside : Home)
+module _ {w : SharedValue} {k : ℕ} {p : Private} (asks : AsksEnd w k p) (ended : state_in_tree w.tree (sibling p.task) ≡ Some Ended) (parent other : ℕ) (parent_is : parent_in_tree w.tree p.task ≡ Some parent) (other_is : other ≡ sibling p.task) (h h1 h2 h3 h4 : HomesValue) (home beside : Home)
     (above : Rest) (set : SetOf) (notes : RememberedValue) (own oth left right : EndedChild) where
   abbrev z : ℕ
-  z = entry.q w k p I F at_end free ended
+  z = entry.q asks ended
 
   same : z ≡ parent
-  same = entry.parent_is w k p I F at_end free ended parent parent_is
+  same = entry.parent_is asks ended parent parent_is
 
   -- what is so for these two is so for those
   moved : (G : ℕ → ℕ → Type 0) → G z (sibling p.task) → G parent other
@@ -201,8 +202,8 @@ module _ (w : SharedValue) (k : ℕ) (p : Private) (I : IsSharedValue w) (F : Fi
   can_join =
       moved (λ n o. K n o → HasPlaces w p n → IsAtWork above.work × CanJoin (with_state w.tree p.task Ended) w.pool (parent_side n above notes) left right)
       (λ T places. (
-        at_work_q w k p I F at_end free ended h h1 h2 h3 h4 home beside above set notes own oth left right T,
-        can_join_q w k p I F at_end free ended h h1 h2 h3 h4 home beside above set notes own oth left right T places,
+        at_work_q asks ended h h1 h2 h3 h4 home beside above set notes own oth left right T,
+        can_join_q asks ended h h1 h2 h3 h4 home beside above set notes own oth left right T places,
       ))
 
   module _ (pool : PoolValue) (rest : Rest) (noted : RememberedValue) (h5 h6 : HomesValue) (put : SetOf) (j : RoomyValue EntryValue) where
@@ -221,4 +222,4 @@ module _ (w : SharedValue) (k : ℕ) (p : Private) (I : IsSharedValue w) (F : Fi
     pub both_made : K parent other → Put w parent h4 h5 h6 notes above left right pool rest noted put → IsSharedValue (made parent) × EndsChild w (made parent) k p (Some parent)
     both_made =
         moved (λ n o. K n o → Put w n h4 h5 h6 notes above left right pool rest noted put → IsSharedValue (made n) × EndsChild w (made n) k p (Some n))
-        (λ T P. both_made_q w k p I F at_end free ended h h1 h2 h3 h4 home beside above set notes own oth left right T pool rest noted h5 h6 put P j)
+        (λ T P. both_made_q asks ended h h1 h2 h3 h4 home beside above set notes own oth left right T pool rest noted h5 h6 put P j)

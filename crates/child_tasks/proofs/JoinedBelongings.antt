@@ -21,7 +21,7 @@ use Rattle.heap_tree.specs.declared.state.State.TheVariants.{Ended}
 use Rattle.heap_tree.specs.Node.{state_of as state_in_tree}
 use Rattle.fork_join.specs.Joined.{AreInUse}
 use Rattle.ledger_step_laws.specs.Accounts.{Rests, rested}
-use Rattle.ledger_step_laws.specs.Last.{EndsLast, Splits}
+use Rattle.ledger_step_laws.specs.Last.{EndsLast}
 use Rattle.core_relation.specs.Memory.{Chunk, Belongings, In, Memory}
 use Rattle.core_relation.specs.Changes.{HasResult}
 use Rattle.core_relation.specs.Fits.{with_belongings}
@@ -32,16 +32,13 @@ use Rattle.task_homes.specs.declared.task_at_rest.Rest.{Rest}
 use Rattle.task_homes.specs.declared.task_at_rest.Work.{Work}
 use Rattle.task_homes.specs.declared.task_at_rest.Work.TheVariants.{Calls, Result}
 use Rattle.shared_value.specs.Objects.{chunk_of}
-use Rattle.shared_value.specs.SharedValue.{SharedValue, accounts, belongings_by, belongings_in, belongings_of, rest_at, value_of}
-use Rattle.shared_value.specs.Stands.{HeapForm, IsSharedValue}
-use Rattle.shared_value.specs.Fits.{Fits, belongings_of_part}
-use Rattle.shared_value.specs.Entered.{refused}
+use Rattle.shared_value.specs.SharedValue.{SharedValue, belongings_by, belongings_in, belongings_of, rest_at}
+use Rattle.shared_value.specs.Stands.{HeapForm}
 use Rattle.shared_value.proofs.RootsHeld.{chunk_in}
-use Rattle.own_steps.specs.Alone.{alone_entry}
 use Rattle.own_steps.proofs.LastStepEntry as last
-use Rattle.child_tasks.specs.ChildEnds.{IsAtEnd}
 use Rattle.child_tasks.specs.Joins.{AreSides, IsRestOf, part_result, work_result}
 use Rattle.child_tasks.proofs.ChildReturns as steps
+use Rattle.child_tasks.proofs.ChildReturns.{AsksEnd}
 use Rattle.child_tasks.proofs.SetsNoted.{empty_form}
 use Rattle.shared_value.proofs.FieldsLed.{by_chunks}
 use Rattle.shared_value.proofs.UnitsMeasured.{owner_held}
@@ -50,45 +47,46 @@ use Rattle.child_tasks.proofs.JoinTree.{kept_is}
 use Rattle.child_tasks.proofs.MergedHeapForm.{none_reserved}
 use Rattle.child_tasks.proofs.SiblingReturned as before
 
-module _ (w : SharedValue) (k : ℕ) (p : Private) (I : IsSharedValue w) (F : Fits w k p) (at_end : IsAtEnd w p) (free : refused w (alone_entry k p) ≡ None) (ended : state_in_tree w.tree (steps.other w k p I F at_end free) ≡ Some Ended) where
-  abbrev t : ℕ
-  t = p.task
+-- what joins: what rests at the parent and at the sibling, the number of the left child, and the heap and the result of
+-- each
+pub record JoiningTwo (w : SharedValue) (k : ℕ) (p : Private) (asks : AsksEnd w k p) : Type 0 where
+  pub above : Rest
+  pub beside : Rest
+  pub frames : FramesValue
+  pub above_is : rest_at w.rests (steps.parent asks) ≡ Some above
+  pub calls : above.work ≡ Calls frames
+  pub beside_is : IsRestOf (rest_at w.rests (steps.other asks)) beside
+  pub c : ℕ
+  pub lh : LeafHeapValue
+  pub rh : LeafHeapValue
+  pub al : ℤ × Option Addr
+  pub ar : ℤ × Option Addr
+  pub side : AreSides p (steps.other asks) beside c lh rh al ar
 
-  abbrev M : Ledger
-  M = steps.M w k p I F at_end free
+module _ {w : SharedValue} {k : ℕ} {p : Private} (asks : AsksEnd w k p) (ended : state_in_tree w.tree (steps.other asks) ≡ Some Ended) where
+  open asks use {I, F}
+  open (last.names (steps.asked asks)) use {t, M, L, v, h, S}
 
   abbrev R : Ledger
   R = rested M t
-
-  abbrev L : Ledger
-  L = last.L w k p I F (steps.shared w k p I F at_end free) (steps.free_last w k p I F at_end free)
-
-  abbrev v : Memory
-  v = value_of w
-
-  abbrev h : Belongings
-  h = belongings_of_part p
 
   abbrev vt : Memory
   vt = with_belongings v t h
 
   abbrev x : Task
-  x = (steps.S w k p I F at_end free).task
-
-  abbrev S : Splits w.program w.settings (accounts w) L t p.fresh
-  S = steps.S w k p I F at_end free
+  x = S.task
 
   abbrev pub q : ℕ
-  q = steps.parent w k p I F at_end free
+  q = steps.parent asks
 
   abbrev pub s : ℕ
-  s = steps.other w k p I F at_end free
+  s = steps.other asks
 
   abbrev W : Stands vt R
-  W = before.W w k p I F at_end free ended
+  W = before.W asks ended
 
   abbrev Q : EndsLast M L t x
-  Q = before.Q w k p I F at_end free ended
+  Q = before.Q asks ended
 
   abbrev pub HasBelongings : ℕ → LeafHeapValue → Type 0
   HasBelongings u g = (n : ℕ) × (z : Work) × (view : List Level) × (vt.belongings u ≡ belongings_by g view n z)
@@ -109,16 +107,18 @@ module _ (w : SharedValue) (k : ℕ) (p : Private) (I : IsSharedValue w) (F : Fi
   by_result g view n (Calls f) = refl
   by_result g view n (Result i a) = refl
 
-  module _ (above beside : Rest) (frames : FramesValue) (above_is : rest_at w.rests q ≡ Some above) (calls : above.work ≡ Calls frames) (beside_is : IsRestOf (rest_at w.rests s) beside) (c : ℕ) (lh rh : LeafHeapValue) (al ar : ℤ × Option Addr) (side : AreSides p s beside c lh rh al ar) where
+  module _ (two : JoiningTwo w k p asks) where
+    open two use {above, beside, frames, above_is, calls, beside_is, c, lh, rh, al, ar, side}
+
     pub belongings_above : vt.belongings q ≡ belongings_by above.heap above.view above.allocations (Calls frames)
-    belongings_above = before.off w k p I F at_end free ended q (steps.parent_apart w k p I F at_end free) ∙ (ap belongings_in above_is ∙ ap (belongings_by above.heap above.view above.allocations) calls)
+    belongings_above = before.off asks ended q (steps.parent_apart asks) ∙ (ap belongings_in above_is ∙ ap (belongings_by above.heap above.view above.allocations) calls)
 
     beside_belongings : (o : Option Rest) → IsRestOf o beside → belongings_in o ≡ belongings_of beside
     beside_belongings None e = ap belongings_of (sym e.2)
     beside_belongings (Some z) e = ap belongings_of (sym e)
 
     pub belongings_beside : vt.belongings s ≡ belongings_by beside.heap beside.view beside.allocations beside.work
-    belongings_beside = before.off w k p I F at_end free ended s (steps.other_apart w k p I F at_end free) ∙ beside_belongings (rest_at w.rests s) beside_is
+    belongings_beside = before.off asks ended s (steps.other_apart asks) ∙ beside_belongings (rest_at w.rests s) beside_is
 
     beside_form : (o : Option Rest) → rest_at w.rests s ≡ o → IsRestOf o beside → HeapForm beside.heap
     beside_form None f e = subst (λ (z : Rest). HeapForm z.heap) (sym e.2) (empty_form e.0 e.1)
@@ -131,9 +131,9 @@ module _ (w : SharedValue) (k : ℕ) (p : Private) (I : IsSharedValue w) (F : Fi
     above_form = I.heaps q above above_is
 
     pub left_is : Q.left ≡ c
-    left_is = by (before.which w k p I F at_end free ended) side
+    left_is = by (before.which asks ended) side
       where
-        by : (before.Which w k p I F at_end free ended) → AreSides p s beside c lh rh al ar → Q.left ≡ c
+        by : (before.Which asks ended) → AreSides p s beside c lh rh al ar → Q.left ≡ c
         by (inl z) (inl m) = sym z.0 ∙ m.0
         by (inl z) (inr m) = let a = z.0 in let b = z.1 in let e = m.0 in let f = m.1 in absurd (omega (arith, a, b, e, f))
         by (inr z) (inl m) = let a = z.0 in let b = z.1 in let e = m.0 in let f = m.1 in absurd (omega (arith, a, b, e, f))
@@ -142,12 +142,12 @@ module _ (w : SharedValue) (k : ℕ) (p : Private) (I : IsSharedValue w) (F : Fi
     own_has : (o : ℤ × Option Name) → o ≡ result_of x.top → HasResult vt R t o (part_result p)
     own_has o e = inr (record {
       task = x;
-      is = ap (λ (m : State). slice_get m.tasks t) (before.machine_rests w k p I F at_end free ended) ∙ S.at.task;
+      is = ap (λ (m : State). slice_get m.tasks t) (before.machine_rests asks ended) ∙ S.at.task;
       runs = S.at.runs;
       returns = e;
       frame = p.frames.top;
       below = p.frames.below;
-      frames = ap (λ (i : Belongings). i.frames) (before.here w k p I F at_end free ended);
+      frames = ap (λ (i : Belongings). i.frames) (before.here asks ended);
       result = refl;
     })
 
@@ -156,15 +156,15 @@ module _ (w : SharedValue) (k : ℕ) (p : Private) (I : IsSharedValue w) (F : Fi
         let z = kept_is (slice_get M.machine.tasks s) o e in
         inl (record {
           task = z.0;
-          is = ap (λ (m : State). slice_get m.tasks s) (before.machine_rests w k p I F at_end free ended) ∙ z.1;
+          is = ap (λ (m : State). slice_get m.tasks s) (before.machine_rests asks ended) ∙ z.1;
           ended = z.2;
           result = ap (λ (i : Belongings). i.result) belongings_beside ∙ by_result beside.heap beside.view beside.allocations beside.work;
         })
 
     pub results : HasResult vt R Q.left Q.left_result al × HasResult vt R (Q.left + 1) Q.right_result ar
-    results = by (before.which w k p I F at_end free ended) side
+    results = by (before.which asks ended) side
       where
-        by : (before.Which w k p I F at_end free ended) → AreSides p s beside c lh rh al ar → HasResult vt R Q.left Q.left_result al × HasResult vt R (Q.left + 1) Q.right_result ar
+        by : (before.Which asks ended) → AreSides p s beside c lh rh al ar → HasResult vt R Q.left Q.left_result al × HasResult vt R (Q.left + 1) Q.right_result ar
         by (inl z) (inl m) = (
           subst (λ u. HasResult vt R u Q.left_result al) z.0 (subst (λ a. HasResult vt R t Q.left_result a) (sym m.4) (own_has Q.left_result z.2)),
           subst (λ u. HasResult vt R u Q.right_result ar) z.1 (subst (λ a. HasResult vt R s Q.right_result a) (sym m.5) (other_has Q.right_result z.3)),
@@ -177,7 +177,7 @@ module _ (w : SharedValue) (k : ℕ) (p : Private) (I : IsSharedValue w) (F : Fi
         )
 
     abbrev rests_q : Rests R q
-    rests_q = before.rests_parent w k p I F at_end free ended
+    rests_q = before.rests_parent asks ended
 
     pub rests_c : Rests R c
     rests_c = subst (Rests R) left_is Q.can.left_rests
@@ -187,10 +187,10 @@ module _ (w : SharedValue) (k : ℕ) (p : Private) (I : IsSharedValue w) (F : Fi
 
     -- the parent's number is the lowest
     pub q_low : q < c
-    q_low = let a = (steps.kept_tree w k p I F at_end free).low Q.left Q.parent (before.left_par w k p I F at_end free ended) in omega (arith, a, (before.parent_same w k p I F at_end free ended), left_is)
+    q_low = let a = (steps.kept_tree asks).low Q.left Q.parent (before.left_par asks ended) in omega (arith, a, (before.parent_same asks ended), left_is)
 
     own_belongings : HasBelongings t p.heap
-    own_belongings = (p.allocations, Calls p.frames, p.view, before.own_here w k p I F at_end free ended)
+    own_belongings = (p.allocations, Calls p.frames, p.view, before.own_here asks ended)
 
     other_belongings : HasBelongings s beside.heap
     other_belongings = (beside.allocations, beside.work, beside.view, belongings_beside)
@@ -215,19 +215,19 @@ module _ (w : SharedValue) (k : ℕ) (p : Private) (I : IsSharedValue w) (F : Fi
     pub left_none : lh.reserved ≡ None
     left_none =
         none_reserved lh child_forms.0.shaped.reserved
-        (subst (AreReserved lh.chunks lh.reserved) (ap (λ u. (heap_of R u).reserved) (sym left_is) ∙ Q.can.left_spares) (before.counted_belongings w k p I F at_end free ended c children_belongings.0.0 lh children_belongings.0.2 children_belongings.0.1 children_belongings.0.3 rests_c child_forms.0).reserved)
+        (subst (AreReserved lh.chunks lh.reserved) (ap (λ u. (heap_of R u).reserved) (sym left_is) ∙ Q.can.left_spares) (before.counted_belongings asks ended c children_belongings.0.0 lh children_belongings.0.2 children_belongings.0.1 children_belongings.0.3 rests_c child_forms.0).reserved)
 
     pub right_none : rh.reserved ≡ None
     right_none =
         none_reserved rh child_forms.1.shaped.reserved
-        (subst (AreReserved rh.chunks rh.reserved) (ap (λ u. (heap_of R (u + 1)).reserved) (sym left_is) ∙ Q.can.right_spares) (before.counted_belongings w k p I F at_end free ended (c + 1) children_belongings.1.0 rh children_belongings.1.2 children_belongings.1.1 children_belongings.1.3 rests_d child_forms.1).reserved)
+        (subst (AreReserved rh.chunks rh.reserved) (ap (λ u. (heap_of R (u + 1)).reserved) (sym left_is) ∙ Q.can.right_spares) (before.counted_belongings asks ended (c + 1) children_belongings.1.0 rh children_belongings.1.2 children_belongings.1.1 children_belongings.1.3 rests_d child_forms.1).reserved)
 
     pub small : above.heap.since + (lh.since + rh.since) < 2 ^ 64
     small =
-        let a : above.heap.since ≡ (heap_of R q).since = before.since_belongings w k p I F at_end free ended q above.allocations above.heap above.view (Calls frames) belongings_above rests_q in
-        let b : lh.since ≡ (heap_of R c).since = before.since_belongings w k p I F at_end free ended c children_belongings.0.0 lh children_belongings.0.2 children_belongings.0.1 children_belongings.0.3 rests_c in
-        let e : rh.since ≡ (heap_of R (c + 1)).since = before.since_belongings w k p I F at_end free ended (c + 1) children_belongings.1.0 rh children_belongings.1.2 children_belongings.1.1 children_belongings.1.3 rests_d in
-        omega (arith, a, b, e, before.since_low w k p I F at_end free ended q, before.since_low w k p I F at_end free ended c, before.since_low w k p I F at_end free ended (c + 1))
+        let a : above.heap.since ≡ (heap_of R q).since = before.since_belongings asks ended q above.allocations above.heap above.view (Calls frames) belongings_above rests_q in
+        let b : lh.since ≡ (heap_of R c).since = before.since_belongings asks ended c children_belongings.0.0 lh children_belongings.0.2 children_belongings.0.1 children_belongings.0.3 rests_c in
+        let e : rh.since ≡ (heap_of R (c + 1)).since = before.since_belongings asks ended (c + 1) children_belongings.1.0 rh children_belongings.1.2 children_belongings.1.1 children_belongings.1.3 rests_d in
+        omega (arith, a, b, e, before.since_low asks ended q, before.since_low asks ended c, before.since_low asks ended (c + 1))
 
     -- the merged chunks have numbers of their own
     pub joined_apart : AreApart (lh.chunks ++ (rh.chunks ++ above.heap.chunks))

@@ -12,14 +12,12 @@ use Rattle.hh_model.specs.declared.data.Trap.TheVariants.{Depth}
 use Rattle.hh_model.specs.Effect.{effect}
 use Rattle.hh_model.specs.Step.{depth_limit, ended_by, fetched, follow, forked as forked_machine, parents, setting, step}
 use Rattle.hh_model.specs.Tree.{AreLow}
-use Rattle.run_ledger.specs.declared.data.Ledger.{Ledger}
 use Rattle.run_ledger.specs.Heaps.{heap_of}
-use Rattle.run_ledger.specs.Steps.{is_open, is_private_by, is_private_line, task_steps}
+use Rattle.run_ledger.specs.Steps.{is_open, is_private_by, is_private_line}
 use Rattle.run_ledger.proofs.Bounds.{steps_are_bounded}
 use Rattle.journal_laws.proofs.Counted.{journals_are_counted}
 use Rattle.heap_tree.specs.declared.state.State.TheVariants.{Out}
 use Rattle.heap_tree.specs.Node.{Node, depth_of, parent_of as parent_in_tree, state_of as state_in_tree}
-use Rattle.ledger_step_laws.specs.Last.{Splits}
 use Rattle.core_relation.specs.Whole.{StandsFor, state_by, as_node}
 use Rattle.task_machine.specs.declared.part.Private.{Private}
 use Rattle.task_machine.specs.Fits.{FitsNow as FitsMachine}
@@ -39,9 +37,11 @@ use Rattle.shared_value.proofs.StepAccounts.{After}
 use Rattle.shared_value.proofs.SameLength.{same_length}
 use Rattle.shared_value.proofs.TaskTaken.{parent_is}
 use Rattle.own_steps.specs.Alone.{IsShared, Tells, alone_entry, machine_after}
-use Rattle.own_steps.proofs.AloneEntries.{last_free, runs_on}
+use Rattle.own_steps.proofs.AloneEntries as own
+use Rattle.own_steps.proofs.AloneEntries.{runs_on}
 use Rattle.own_steps.proofs.TaskDepths.{AreDeep, deep_in, run_deep}
 use Rattle.own_steps.proofs.LastStepEntry as last
+use Rattle.own_steps.proofs.LastStepEntry.{AsksLast}
 use Rattle.own_steps.proofs.LastSteps.{fits_machine, machine_same}
 use Rattle.child_tasks.specs.Forks.{ForksTo, IsAtFork, is_fork, is_fork_by, is_par}
 
@@ -97,24 +97,30 @@ module _ (w : SharedValue) (I : IsSharedValue w) (on : (accounts w).end ≡ None
 
 -- ---- THE NEXT STEP
 
-module _ (w : SharedValue) (k : ℕ) (p : Private) (I : IsSharedValue w) (F : Fits w k p) (at_fork : IsAtFork w p) (free : refused w (alone_entry k p) ≡ None) where
+-- a call asks for the entry of a fork, and nothing refuses it
+pub record AsksFork (w : SharedValue) (k : ℕ) (p : Private) : Type 0 where
+  pub I : IsSharedValue w
+  pub F : Fits w k p
+  pub at_fork : IsAtFork w p
+  pub free : refused w (alone_entry k p) ≡ None
+
+-- by what is known of a value that is the same
+pub asks_fork : {w after : SharedValue} {k : ℕ} {p : Private} → w ≡ after → IsSharedValue w → Fits after k p → IsAtFork after p → refused after (alone_entry k p) ≡ None → AsksFork w k p
+asks_fork {w} {after} {k} {p} same I F at free = record { I = I; F = subst (λ z. Fits z k p) (sym same) F; at_fork = subst (λ z. IsAtFork z p) (sym same) at; free = subst (λ z. refused z (alone_entry k p) ≡ None) (sym same) free }
+
+module _ {w : SharedValue} {k : ℕ} {p : Private} (asks : AsksFork w k p) where
+  open asks use {I, F, at_fork, free}
+
   abbrev pub shared : IsShared w p
   shared = fork_shared w p at_fork
 
   pub on : (accounts w).end ≡ None
-  on = runs_on w k p I F shared free
+  on = runs_on (record { I = I; F = F; shared = shared; free = free })
 
-  abbrev pub free_last : refused w (last.last_entry k p) ≡ None
-  free_last = last_free w k p I F shared free
+  abbrev pub asked : AsksLast w k p
+  asked = own.asks_last (record { I = I; F = F; shared = shared; free = free })
 
-  abbrev pub t : ℕ
-  t = p.task
-
-  abbrev pub l : Ledger
-  l = accounts w
-
-  abbrev pub M : Ledger
-  M = task_steps w.program l t p.fresh
+  open (last.names asked) use {t, l, M, S}
 
   abbrev above : Places
   above = above_of (value_of w) l t
@@ -146,17 +152,14 @@ module _ (w : SharedValue) (k : ℕ) (p : Private) (I : IsSharedValue w) (F : Fi
         | inr ne ↦ ap is_some (A.others u ne)
       ]
 
-  abbrev pub S : Splits w.program w.settings l (last.L w k p I F shared free_last) t p.fresh
-  S = last.S w k p I F shared free_last
-
   low : AreLow (parents M.machine.tasks)
-  low = (last.knows_mid w k p I F shared free_last).sound.fork_join.tree.low
+  low = (last.knows_mid asked).sound.fork_join.tree.low
 
   deep : AreDeep M.machine.tasks
   deep = let r = G.reached in subst (λ (m : State). AreDeep m.tasks) (sym r.2) (run_deep w.program r.0 r.1)
 
   pub depth_is : depth_of w.tree t ≡ S.task.depth
-  depth_is = deep_in M.machine.tasks low deep (parent_in_tree w.tree) (λ u. parent_is w I u ∙ sym (last.then_parents w k p I F shared free_last u)) t S.task S.at.task
+  depth_is = deep_in M.machine.tasks low deep (parent_in_tree w.tree) (λ u. parent_is w I u ∙ sym (last.then_parents asked u)) t S.task S.at.task
 
   module _ (left right number : ℕ) (B : ForksTo w p left right number) where
     same_task : B.task ≡ S.task
@@ -173,7 +176,7 @@ module _ (w : SharedValue) (k : ℕ) (p : Private) (I : IsSharedValue w) (F : Fi
 
     pub forked_so : step w.program M.machine t ≡ forked_machine M.machine t S.task left right S.line.number
     forked_so =
-        last.taken w k p I F shared free_last
+        last.taken asked
         ∙ ap (λ (i : Instr). follow M.machine t S.task S.line.number (effect (setting M.machine t S.task) S.task.top M.machine.store i)) by
 
     -- too deep it is a trap

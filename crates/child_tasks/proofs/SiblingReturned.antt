@@ -22,7 +22,7 @@ use Rattle.chunk_rows.specs.View.{Level}
 use Rattle.heap_tree.specs.declared.state.State.TheVariants.{Ended}
 use Rattle.heap_tree.specs.Node.{state_of as state_in_tree}
 use Rattle.ledger_step_laws.specs.Accounts.{Rests, rested}
-use Rattle.ledger_step_laws.specs.Last.{EndsLast, Joining, Runs, Splits}
+use Rattle.ledger_step_laws.specs.Last.{EndsLast, Joining, Runs}
 use Rattle.ledger_step_laws.proofs.Ahead.{with_off}
 use Rattle.ledger_step_laws.proofs.Rested.{rested_view}
 use Rattle.core_relation.specs.Memory.{Chunk, Belongings, Memory}
@@ -36,75 +36,53 @@ use Rattle.task_machine.specs.declared.part.Private.{Private}
 use Rattle.task_machine.specs.Accounts.{IsCounted}
 use Rattle.task_homes.specs.declared.task_at_rest.Work.{Work}
 use Rattle.task_homes.specs.declared.task_at_rest.Work.TheVariants.{Calls}
-use Rattle.shared_value.specs.SharedValue.{SharedValue, accounts, belongings_by, rest_at, value_of}
-use Rattle.shared_value.specs.Stands.{HeapForm, IsSharedValue}
-use Rattle.shared_value.specs.Fits.{Fits, belongings_of_part}
-use Rattle.shared_value.specs.Entered.{refused}
+use Rattle.shared_value.specs.SharedValue.{SharedValue, belongings_by, rest_at}
+use Rattle.shared_value.specs.Stands.{HeapForm}
 use Rattle.shared_value.proofs.HeapCounts.{counted_from}
 use Rattle.shared_value.proofs.PartFitsMachine as link
 use Rattle.shared_value.proofs.TaskTaken.{HasCalls, has_calls}
-use Rattle.own_steps.specs.Alone.{IsShared, alone_entry}
 use Rattle.own_steps.proofs.LastStepEntry as last
-use Rattle.own_steps.proofs.LastStepEntry.{last_entry}
-use Rattle.child_tasks.specs.ChildEnds.{IsAtEnd, running_parent, where_running}
+use Rattle.own_steps.proofs.LastStepEntry.{AsksLast, last_entry}
+use Rattle.child_tasks.specs.ChildEnds.{running_parent, where_running}
 use Rattle.child_tasks.proofs.ChildReturns as steps
+use Rattle.child_tasks.proofs.ChildReturns.{AsksEnd}
 use Rattle.shared_value.proofs.FieldsLed.{by_chunks}
 use Rattle.child_tasks.proofs.JoinBelongings.{by_since}
 use Rattle.child_tasks.proofs.JoinTree.{IsOver, by_room, kept_is}
 use Rattle.child_tasks.proofs.LastReturnKinds.{joins}
 
-module _ (w : SharedValue) (k : ℕ) (p : Private) (I : IsSharedValue w) (F : Fits w k p) (at_end : IsAtEnd w p) (free : refused w (alone_entry k p) ≡ None) (ended : state_in_tree w.tree (steps.other w k p I F at_end free) ≡ Some Ended) where
-  abbrev pub t : ℕ
-  t = p.task
+module _ {w : SharedValue} {k : ℕ} {p : Private} (asks : AsksEnd w k p) (ended : state_in_tree w.tree (steps.other asks) ≡ Some Ended) where
+  open asks use {I, F, at_end}
 
-  abbrev pub l : Ledger
-  l = accounts w
+  abbrev asked : AsksLast w k p
+  asked = steps.asked asks
 
-  abbrev pub M : Ledger
-  M = steps.M w k p I F at_end free
+  open (last.names (steps.asked asks)) use {t, l, M, L, v, h, S}
 
   abbrev pub R : Ledger
   R = rested M t
 
-  abbrev pub shared : IsShared w p
-  shared = steps.shared w k p I F at_end free
-
-  abbrev pub free_last : refused w (last_entry k p) ≡ None
-  free_last = steps.free_last w k p I F at_end free
-
-  abbrev pub L : Ledger
-  L = last.L w k p I F shared free_last
-
-  abbrev pub v : Memory
-  v = value_of w
-
-  abbrev pub h : Belongings
-  h = belongings_of_part p
-
   abbrev pub vt : Memory
   vt = with_belongings v t h
-
-  abbrev pub S : Splits w.program w.settings l L t p.fresh
-  S = steps.S w k p I F at_end free
 
   abbrev pub x : Task
   x = S.task
 
   abbrev pub q : ℕ
-  q = steps.parent w k p I F at_end free
+  q = steps.parent asks
 
   abbrev pub s : ℕ
-  s = steps.other w k p I F at_end free
+  s = steps.other asks
 
   -- ---- THE MACHINE THEN
   pub other_kept : (r : ℤ × Option Name) × (result_at (slice_get M.machine.tasks s) ≡ Some r)
-  other_kept = steps.other_ended w k p I F at_end free ended
+  other_kept = steps.other_ended asks ended
 
   other_task : (y : Task) × (slice_get M.machine.tasks s ≡ Some y) × (y.status ≡ EndedOf other_kept.0.0 other_kept.0.1)
   other_task = kept_is (slice_get M.machine.tasks s) other_kept.0 other_kept.1
 
   above_task : (y : Task) × (slice_get M.machine.tasks q ≡ Some y)
-  above_task = wait_there (slice_get M.machine.tasks q) (steps.parent_waits w k p I F at_end free)
+  above_task = wait_there (slice_get M.machine.tasks q) (steps.parent_waits asks)
 
   abbrev y : Task
   y = other_task.0
@@ -120,8 +98,8 @@ module _ (w : SharedValue) (k : ℕ) (p : Private) (I : IsSharedValue w) (F : Fi
 
   machine_is : L.machine ≡ joined_to (is_left t)
   machine_is =
-      last.machine_then w k p I F shared free_last
-      ∙ (steps.step_is w k p I F at_end free
+      last.machine_then asked
+      ∙ (steps.step_is asks
       ∙ (ap (child_ended_by M.machine t x q (result_of x.top)) other_kept.1
       ∙ (ap (λ (o : Option Task). or_same M.machine o (λ above. or_same M.machine (slice_get M.machine.tasks s) (λ z. cond (is_left t) (join_of M.machine q above t x z (result_of x.top) r) (join_of M.machine q above (t - 1) z x r (result_of x.top))))) above_task.1
       ∙ ap (λ (o : Option Task). or_same M.machine o (λ z. cond (is_left t) (join_of M.machine q xp t x z (result_of x.top) r) (join_of M.machine q xp (t - 1) z x r (result_of x.top)))) other_task.1)))
@@ -129,13 +107,13 @@ module _ (w : SharedValue) (k : ℕ) (p : Private) (I : IsSharedValue w) (F : Fi
   over_by : (b : Bool) → IsOver (joined_to b) t
   over_by true = record {
     task = joined_task x;
-    is = got_other (slice_set (slice_set M.machine.tasks t (joined_task x)) (t + 1) (joined_task y)) q t (resumed xp (result_of x.top) r) (λ e. steps.parent_apart w k p I F at_end free (sym e))
+    is = got_other (slice_set (slice_set M.machine.tasks t (joined_task x)) (t + 1) (joined_task y)) q t (resumed xp (result_of x.top) r) (λ e. steps.parent_apart asks (sym e))
         ∙ (got_other (slice_set M.machine.tasks t (joined_task x)) (t + 1) t (joined_task y) (λ e. omega (arith, e)) ∙ got_same M.machine.tasks t x (joined_task x) S.at.task);
     over = refl;
-    end = last.mid_goes w k p I F shared free_last;
+    end = last.mid_goes asked;
   }
   over_by false =
-      let low = steps.parent_low w k p I F at_end free in
+      let low = steps.parent_low asks in
       let back : t - 1 + 1 ≡ t = omega (arith, low) in
       let there : slice_get (slice_set M.machine.tasks (t - 1) (joined_task y)) (t - 1 + 1) ≡ Some x =
       got_other M.machine.tasks (t - 1) (t - 1 + 1) (joined_task y) (λ e. omega (arith, e)) ∙ (ap (slice_get M.machine.tasks) back ∙ S.at.task) in
@@ -143,20 +121,20 @@ module _ (w : SharedValue) (k : ℕ) (p : Private) (I : IsSharedValue w) (F : Fi
       ap (slice_get (slice_set (slice_set M.machine.tasks (t - 1) (joined_task y)) (t - 1 + 1) (joined_task x))) (sym back) ∙ got_same (slice_set M.machine.tasks (t - 1) (joined_task y)) (t - 1 + 1) x (joined_task x) there in
       record {
         task = joined_task x;
-        is = got_other (slice_set (slice_set M.machine.tasks (t - 1) (joined_task y)) (t - 1 + 1) (joined_task x)) q t (resumed xp r (result_of x.top)) (λ e. steps.parent_apart w k p I F at_end free (sym e)) ∙ put;
+        is = got_other (slice_set (slice_set M.machine.tasks (t - 1) (joined_task y)) (t - 1 + 1) (joined_task x)) q t (resumed xp r (result_of x.top)) (λ e. steps.parent_apart asks (sym e)) ∙ put;
         over = refl;
-        end = last.mid_goes w k p I F shared free_last;
+        end = last.mid_goes asked;
       }
 
   pub over_then : IsOver L.machine t
   over_then = subst (λ (m : State). IsOver m t) (sym machine_is) (over_by (is_left t))
 
   pub Q : EndsLast M L t x
-  Q = joins w.program M L t x S.line (last.is_not_private w k p I F shared free_last) (steps.says w k p I F at_end free).0 over_then.task over_then.is over_then.end over_then.over S.kind S.last
+  Q = joins w.program M L t x S.line (last.is_not_private asked) (steps.says asks).0 over_then.task over_then.is over_then.end over_then.over S.kind S.last
 
   -- how the entry splits
   abbrev pub E : Runs w.program w.settings l L t k p.fresh
-  E = record (last.runs_so w k p I F shared free_last) { splits = record S { kind = Joining; last = Q; apart = last.is_not_private w k p I F shared free_last; on = λ u. over_then.end } }
+  E = record (last.runs_so asked) { splits = record S { kind = Joining; last = Q; apart = last.is_not_private asked; on = λ u. over_then.end } }
 
   abbrev pub own : WorkerFits w.program w.settings (part_for w.settings t h p.fresh) v l
   own = F.fits
@@ -184,7 +162,7 @@ module _ (w : SharedValue) (k : ℕ) (p : Private) (I : IsSharedValue w) (F : Fi
       ⊎ ((t ≡ Q.left + 1) × (s ≡ Q.left) × (Q.right_result ≡ result_of x.top) × (result_at (slice_get M.machine.tasks s) ≡ Some Q.left_result))
 
   sibling_is : (u : ℕ) → parents M.machine.tasks u ≡ Some Q.parent → parents M.machine.tasks t ≡ Some Q.parent → is_joined (slice_get M.machine.tasks u) ≡ false → (u ≡ t → ⊥) → s ≡ u
-  sibling_is u pu pt live ne = elim ((steps.kept_tree w k p I F at_end free).brothers t u Q.parent pt pu (steps.live_mid w k p I F at_end free) live) [
+  sibling_is u pu pt live ne = elim ((steps.kept_tree asks).brothers t u Q.parent pt pu (steps.live_mid asks) live) [
     | inl e ↦ absurd (ne e)
     | inr e ↦ sym e
   ]
@@ -205,7 +183,7 @@ module _ (w : SharedValue) (k : ℕ) (p : Private) (I : IsSharedValue w) (F : Fi
   parent_same = by which
     where
       mid : parents M.machine.tasks t ≡ Some q
-      mid = steps.par_mid w k p I F at_end free
+      mid = steps.par_mid asks
 
       by : Which → Q.parent ≡ q
       by (inl z) = same_Some Q.parent q (sym left_par ∙ (ap (parents M.machine.tasks) (sym z.0) ∙ mid))
@@ -214,19 +192,19 @@ module _ (w : SharedValue) (k : ℕ) (p : Private) (I : IsSharedValue w) (F : Fi
   -- the parent runs again
   pub parent_then : running_parent L.machine.tasks t ≡ Some q
   parent_then =
-      let par : parents L.machine.tasks t ≡ Some q = Q.parents t ∙ steps.par_mid w k p I F at_end free in
+      let par : parents L.machine.tasks t ≡ Some q = Q.parents t ∙ steps.par_mid asks in
       let is : slice_get L.machine.tasks q ≡ Some (resumed Q.above Q.left_result Q.right_result) = ap (slice_get L.machine.tasks) (sym parent_same) ∙ Q.joins.resumed in
       ap (where_running L.machine.tasks) par ∙ ap (λ b. if b then Some q else None) (ap is_running is)
 
   -- ---- THE ACCOUNTS AT REST
   pub W : Stands vt R
-  W = link.W w k p I F (steps.on w k p I F at_end free)
+  W = link.W w k p I F (steps.on asks)
 
   -- the words that a heap counts
   pub since_low : (u : ℕ) → (heap_of R u).since ≤ 1000034 * 1000000256
   since_low u =
       let few : CountsFew w.settings M = (since_is_few w.program w.settings w.journal.items I.form I.legal).1 t p.fresh (E.knows.sound, E.collects) in
-      let a = ran_tells w.program w.settings l k t (suc p.fresh) (ap is_none free_last) in
+      let a = ran_tells w.program w.settings l k t (suc p.fresh) (ap is_none asked.free) in
       let more : M.steps ≡ l.steps + p.fresh = task_steps_steps w.program p.fresh l t in
       let fuel = I.settings.fuel.1 in
       let fresh : p.fresh ≤ private_limit = at_end.few in
@@ -243,7 +221,7 @@ module _ (w : SharedValue) (k : ℕ) (p : Private) (I : IsSharedValue w) (F : Fi
 
   -- it is amid no collection
   pub own_here : vt.belongings t ≡ belongings_by p.heap p.view p.allocations (Calls p.frames)
-  own_here = here ∙ ap (λ o. let z : Belongings = record (belongings_by p.heap p.view p.allocations (Calls p.frames)) { begun = o } in z) (last.none w k p I F shared free_last)
+  own_here = here ∙ ap (λ o. let z : Belongings = record (belongings_by p.heap p.view p.allocations (Calls p.frames)) { begun = o } in z) (last.none asked)
 
   abbrev pub off : (u : ℕ) → (u ≡ t → ⊥) → vt.belongings u ≡ v.belongings u
   off = off_belongings v t h
@@ -266,13 +244,13 @@ module _ (w : SharedValue) (k : ℕ) (p : Private) (I : IsSharedValue w) (F : Fi
   rests_parent = subst (Rests R) parent_same Q.can.rests
 
   above_status : xp.status ≡ WaitingOf
-  above_status = waits_is xp.status (ap is_waiting (sym above_task.1) ∙ steps.parent_waits w k p I F at_end free)
+  above_status = waits_is xp.status (ap is_waiting (sym above_task.1) ∙ steps.parent_waits asks)
 
   pub waiting_parent : (y : Task) × (slice_get l.machine.tasks q ≡ Some y) × (y.status ≡ WaitingOf)
-  waiting_parent = (xp, sym (steps.same_then w k p I F at_end free q (steps.parent_apart w k p I F at_end free)) ∙ above_task.1, above_status)
+  waiting_parent = (xp, sym (steps.same_then asks q (steps.parent_apart asks)) ∙ above_task.1, above_status)
 
   pub parent_calls : HasCalls (rest_at w.rests q)
   parent_calls =
       let held : TaskIsRead (Place vt R) (vt.belongings q) xp = W.tasks q xp rests_parent (ap (λ (m : State). slice_get m.tasks q) machine_rests ∙ above_task.1) in
       has_calls (Place vt R) (rest_at w.rests q) xp
-      (subst (HoldsRead (Place vt R) (v.belongings q) xp) above_status (subst (λ (i : Belongings). TaskIsRead (Place vt R) i xp) (off q (steps.parent_apart w k p I F at_end free)) held))
+      (subst (HoldsRead (Place vt R) (v.belongings q) xp) above_status (subst (λ (i : Belongings). TaskIsRead (Place vt R) i xp) (off q (steps.parent_apart asks)) held))

@@ -1,5 +1,5 @@
 -- Entries of a part's fresh steps and one that works on an object of another task, as the calls have them.
-use Rattle.std.proofs.Common.{◌≡◌, ℕ, ℤ, ◌+◌, ◌++◌, Option, Some, None, ◌∷◌, [], ap, sym, subst, ◌∙◌}
+use Rattle.std.proofs.Common.{◌≡◌, ℕ, ℤ, ◌+◌, ◌++◌, Option, Some, ◌∷◌, [], ap, sym, subst, ◌∙◌}
 use Rattle.std.proofs.lemmas.Option.{same_Some}
 use Rattle.listed.specs.RoomyValue.{RoomyValue}
 use Rattle.hh_lang.specs.declared.program.Line.{Line}
@@ -19,20 +19,19 @@ use Rattle.core_relation.proofs.changes.Target.{goes_on}
 use Rattle.task_machine.specs.declared.part.Private.{Private}
 use Rattle.shared_value.specs.SharedValue.{SharedValue, accounts}
 use Rattle.shared_value.specs.Stands.{IsSharedValue}
-use Rattle.shared_value.specs.Fits.{Fits}
-use Rattle.shared_value.specs.Entered.{refused}
-use Rattle.own_steps.specs.Alone.{GoesAlone, IsShared, alone_entry}
-use Rattle.own_steps.proofs.AloneEntries.{last_free}
+use Rattle.own_steps.specs.Alone.{GoesAlone, alone_entry}
+use Rattle.own_steps.proofs.AloneEntries as own
+use Rattle.own_steps.proofs.AloneEntries.{AsksAlone}
 use Rattle.own_steps.proofs.LastStepEntry as last
-use Rattle.own_steps.proofs.LastStepEntry.{last_entry}
+use Rattle.own_steps.proofs.LastStepEntry.{AsksLast}
 use Rattle.others_objects.specs.declared.other.OtherStep.{OtherStep}
 use Rattle.others_objects.specs.declared.other.OtherStep.TheVariants.{SetsNumber, SetsReference}
 use Rattle.others_objects.specs.Other.{SaysOther, TellsOther, then_places}
 use Rattle.others_objects.proofs.ReadEntered.{read_goes, read_world}
 
-module _ (w : SharedValue) (k : ℕ) (p : Private) (I : IsSharedValue w) (F : Fits w k p) (shared : IsShared w p) (free : refused w (alone_entry k p) ≡ None) where
-  abbrev pub free_so : refused w (last_entry k p) ≡ None
-  free_so = last_free w k p I F shared free
+module _ {w : SharedValue} {k : ℕ} {p : Private} (asks : AsksAlone w k p) where
+  abbrev pub asked : AsksLast w k p
+  asked = own.asks_last asks
 
   abbrev pub t : ℕ
   t = p.task
@@ -40,8 +39,8 @@ module _ (w : SharedValue) (k : ℕ) (p : Private) (I : IsSharedValue w) (F : Fi
   abbrev pub M : Ledger
   M = task_steps w.program (accounts w) t p.fresh
 
-  abbrev pub S : Splits w.program w.settings (accounts w) (last.L w k p I F shared free_so) t p.fresh
-  S = last.S w k p I F shared free_so
+  abbrev pub S : Splits w.program w.settings (accounts w) (last.L asked) t p.fresh
+  S = last.S asked
 
   -- what is known of the next step in the machine then
   pub said : (does : OtherStep) (number : ℕ) → TellsOther w p does number → (S.line.number ≡ number) × SaysOther w.program (then_places w p) p M.machine t S.task S.line does
@@ -69,10 +68,10 @@ module _ (w : SharedValue) (k : ℕ) (p : Private) (I : IsSharedValue w) (F : Fi
     number_after = record w { steps = w.steps + (p.fresh + 1); journal = record { items = w.journal.items ++ alone_entry k p ∷ []; room = j.room } }
 
     pub number_world : IsSharedValue number_after
-    number_world = read_world w k p I F shared free_so (onward (with_int S.task.top d z)) (said (SetsNumber d z) line T).1 (with_next (with_number p.frames d z) (p.frames.top.next + 1)).top number_read j
+    number_world = read_world asked (onward (with_int S.task.top d z)) (said (SetsNumber d z) line T).1 (with_next (with_number p.frames d z) (p.frames.top.next + 1)).top number_read j
 
     pub number_goes : GoesAlone w number_after k p number_part
-    number_goes = read_goes w k p I F shared free_so (onward (with_int S.task.top d z)) (said (SetsNumber d z) line T).1 (with_next (with_number p.frames d z) (p.frames.top.next + 1)).top number_read j
+    number_goes = read_goes asked (onward (with_int S.task.top d z)) (said (SetsNumber d z) line T).1 (with_next (with_number p.frames d z) (p.frames.top.next + 1)).top number_read j
 
   -- of a reference
   module _ (d : ℕ) (r : Option Addr) (line : ℕ) (T : TellsOther w p (SetsReference d r) line) (j : RoomyValue EntryValue) where
@@ -94,7 +93,7 @@ module _ (w : SharedValue) (k : ℕ) (p : Private) (I : IsSharedValue w) (F : Fi
     reference_after = record w { steps = w.steps + (p.fresh + 1); journal = record { items = w.journal.items ++ alone_entry k p ∷ []; room = j.room } }
 
     pub reference_world : IsSharedValue reference_after
-    reference_world = read_world w k p I F shared free_so (onward (with_ref S.task.top d name)) (said (SetsReference d r) line T).1.1 (with_next (with_reference p.frames d r) (p.frames.top.next + 1)).top reference_read j
+    reference_world = read_world asked (onward (with_ref S.task.top d name)) (said (SetsReference d r) line T).1.1 (with_next (with_reference p.frames d r) (p.frames.top.next + 1)).top reference_read j
 
     pub reference_goes : GoesAlone w reference_after k p reference_part
-    reference_goes = read_goes w k p I F shared free_so (onward (with_ref S.task.top d name)) (said (SetsReference d r) line T).1.1 (with_next (with_reference p.frames d r) (p.frames.top.next + 1)).top reference_read j
+    reference_goes = read_goes asked (onward (with_ref S.task.top d name)) (said (SetsReference d r) line T).1.1 (with_next (with_reference p.frames d r) (p.frames.top.next + 1)).top reference_read j

@@ -9,24 +9,19 @@ use Rattle.hh_model.specs.declared.data.Task.{Task}
 use Rattle.hh_model.specs.Effect.{Effect, Goes}
 use Rattle.hh_model.specs.Step.{follow, runs}
 use Rattle.run_trace.specs.Entry.{EntryValue}
-use Rattle.run_ledger.specs.declared.data.Ledger.{Ledger}
-use Rattle.run_ledger.specs.Steps.{task_steps}
 use Rattle.task_frames.specs.declared.frames.Frame.{Frame}
-use Rattle.ledger_step_laws.specs.Last.{Reading, ReadsOther, Runs, Splits, stepped_by}
-use Rattle.core_relation.specs.Memory.{Belongings, Memory}
+use Rattle.ledger_step_laws.specs.Last.{Reading, ReadsOther, Runs, stepped_by}
 use Rattle.core_relation.specs.Reads.{FrameIsRead}
 use Rattle.core_entry_laws.proofs.parts.Sets.{frames_go}
 use Rattle.task_machine.specs.declared.part.Private.{Private}
-use Rattle.shared_value.specs.SharedValue.{SharedValue, accounts, value_of}
+use Rattle.shared_value.specs.SharedValue.{SharedValue}
 use Rattle.shared_value.specs.Stands.{IsSharedValue}
-use Rattle.shared_value.specs.Fits.{Fits, belongings_of_part}
-use Rattle.shared_value.specs.Entered.{refused}
 use Rattle.shared_value.proofs.EntryMade.{same_form}
 use Rattle.shared_value.proofs.StepsMade.{MakesSteps, steps_world}
 use Rattle.shared_value.proofs.UnitsMeasured.{all_kept}
-use Rattle.own_steps.specs.Alone.{GoesAlone, IsShared, alone_entry}
+use Rattle.own_steps.specs.Alone.{GoesAlone, alone_entry}
 use Rattle.own_steps.proofs.LastStepEntry as last
-use Rattle.own_steps.proofs.LastStepEntry.{goes_alone, last_enters, last_entry, last_steps}
+use Rattle.own_steps.proofs.LastStepEntry.{AsksLast, goes_alone, last_enters, last_entry, last_steps}
 use Rattle.own_steps.proofs.OtherStepKinds.{reading}
 use Rattle.others_objects.specs.Other.{ReadsTo, then_places}
 
@@ -37,27 +32,9 @@ same_frame f g s r e = ap frame_in e
     frame_in (Goes z store) = z
     frame_in _ = f
 
-module _ (w : SharedValue) (k : ℕ) (p : Private) (I : IsSharedValue w) (F : Fits w k p) (shared : IsShared w p) (free : refused w (last_entry k p) ≡ None) where
-  abbrev t : ℕ
-  t = p.task
-
-  abbrev l : Ledger
-  l = accounts w
-
-  abbrev M : Ledger
-  M = task_steps w.program l t p.fresh
-
-  abbrev L : Ledger
-  L = last.L w k p I F shared free
-
-  abbrev v : Memory
-  v = value_of w
-
-  abbrev h : Belongings
-  h = belongings_of_part p
-
-  abbrev S : Splits w.program w.settings l L t p.fresh
-  S = last.S w k p I F shared free
+module _ {w : SharedValue} {k : ℕ} {p : Private} (asks : AsksLast w k p) where
+  open asks use {I, F, free}
+  open (last.names asks) use {t, l, M, L, v, h, S}
 
   -- its frame is top afterwards, and g in the part
   module _ (top : ModelFrame) (T : ReadsTo M.machine t S.task S.line top) (g : Frame) (is_read : FrameIsRead (then_places w p) p.frames.top S.task.top → FrameIsRead (then_places w p) g top) where
@@ -69,23 +46,23 @@ module _ (w : SharedValue) (k : ℕ) (p : Private) (I : IsSharedValue w) (F : Fi
 
     machine_is : L.machine ≡ m'
     machine_is =
-        last.machine_then w k p I F shared free
-        ∙ (last.taken w k p I F shared free ∙ ap (follow M.machine t S.task S.line.number) T.does)
+        last.machine_then asks
+        ∙ (last.taken asks ∙ ap (follow M.machine t S.task S.line.number) T.does)
 
     goes_then : L.machine.end ≡ None
-    goes_then = ap (λ (m : State). m.end) machine_is ∙ last.mid_goes w k p I F shared free
+    goes_then = ap (λ (m : State). m.end) machine_is ∙ last.mid_goes asks
 
     at_then : slice_get L.machine.tasks t ≡ Some z
     at_then = ap (λ (m : State). slice_get m.tasks t) machine_is ∙ got_same M.machine.tasks t S.task z S.at.task
 
     R : ReadsOther M L t S.task S.line
     R =
-        reading w.program M L t S.task S.line (last.is_not_private w k p I F shared free) T.name T.touches z at_then (ap runs S.at.runs) goes_then T.object T.is
+        reading w.program M L t S.task S.line (last.is_not_private asks) T.name T.touches z at_then (ap runs S.at.runs) goes_then T.object T.is
         top T.reads S.kind S.last
 
     -- how the entry splits
     abbrev E : Runs w.program w.settings l L t k p.fresh
-    E = record (last.runs_so w k p I F shared free) { splits = record S { kind = Reading; last = R; apart = last.is_not_private w k p I F shared free; on = λ u. goes_then } }
+    E = record (last.runs_so asks) { splits = record S { kind = Reading; last = R; apart = last.is_not_private asks; on = λ u. goes_then } }
 
     frame_is : R.frame ≡ top
     frame_is = same_frame R.frame top M.machine.store M.machine.store (sym R.does ∙ T.does)

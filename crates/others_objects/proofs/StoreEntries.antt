@@ -32,14 +32,14 @@ use Rattle.task_machine.proofs.Owned.{born_is, born_object}
 use Rattle.task_homes.specs.declared.task_at_rest.Rest.{Rest}
 use Rattle.shared_value.specs.SharedValue.{SharedValue, accounts, rest_at, value_of}
 use Rattle.shared_value.specs.Stands.{IsSharedValue}
-use Rattle.shared_value.specs.Fits.{Fits, belongings_of_part}
-use Rattle.shared_value.specs.Entered.{refused}
+use Rattle.shared_value.specs.Fits.{belongings_of_part}
 use Rattle.shared_value.proofs.PartFitsMachine as link
 use Rattle.shared_value.proofs.UnitsMeasured.{owner_held}
-use Rattle.own_steps.specs.Alone.{GoesAlone, IsShared, alone_entry}
-use Rattle.own_steps.proofs.AloneEntries.{is_safe, last_free}
+use Rattle.own_steps.specs.Alone.{GoesAlone, alone_entry}
+use Rattle.own_steps.proofs.AloneEntries as own
+use Rattle.own_steps.proofs.AloneEntries.{AsksAlone}
 use Rattle.own_steps.proofs.LastStepEntry as last
-use Rattle.own_steps.proofs.LastStepEntry.{last_entry}
+use Rattle.own_steps.proofs.LastStepEntry.{AsksLast}
 use Rattle.others_objects.specs.declared.other.OtherStep.TheVariants.{StoresNumber}
 use Rattle.others_objects.specs.Other.{IsWritable, SaysOther, TellsOther, WritesNumber, WritesReference, put_rest, store_frames, store_of, then_places}
 use Rattle.others_objects.proofs.ForeignObject.{IsForeign, register_at, x}
@@ -60,7 +60,9 @@ store_below : (swap : Option ℕ) (s : FramesValue) → record { below = s.below
 store_below None s = refl
 store_below (Some d) s = refl
 
-module _ (w : SharedValue) (k : ℕ) (p : Private) (I : IsSharedValue w) (F : Fits w k p) (shared : IsShared w p) (free : refused w (alone_entry k p) ≡ None) where
+module _ {w : SharedValue} {k : ℕ} {p : Private} (asks : AsksAlone w k p) where
+  open asks use {I, F}
+
   abbrev pub t : ℕ
   t = p.task
 
@@ -73,14 +75,14 @@ module _ (w : SharedValue) (k : ℕ) (p : Private) (I : IsSharedValue w) (F : Fi
   abbrev pub h : Belongings
   h = belongings_of_part p
 
-  abbrev pub free_so : refused w (last_entry k p) ≡ None
-  free_so = last_free w k p I F shared free
+  abbrev pub asked : AsksLast w k p
+  asked = own.asks_last asks
 
   abbrev pub on : l.end ≡ None
-  on = last.on w k p I F shared free_so
+  on = last.on asked
 
-  abbrev pub S : Splits w.program w.settings l (last.L w k p I F shared free_so) t p.fresh
-  S = last.S w k p I F shared free_so
+  abbrev pub S : Splits w.program w.settings l (last.L asked) t p.fresh
+  S = last.S asked
 
   abbrev pub X : Task
   X = x w k p I F on
@@ -141,14 +143,14 @@ module _ (w : SharedValue) (k : ℕ) (p : Private) (I : IsSharedValue w) (F : Fi
 
   module _ (swap : Option ℕ) (a : Addr) (i : ℕ) (r : Option Addr) (line : ℕ) (T : TellsOther w p (store_of swap a i r) line) where
     pub store : IsStoreOf swap a i r
-    store = store_is swap a i r (entries.said w k p I F shared free (store_of swap a i r) line T).1
+    store = store_is swap a i r (entries.said asks (store_of swap a i r) line T).1
 
     abbrev pub n : Name
     n = store.writes.name
 
     abbrev pub foreign : IsForeign w (with_belongings (value_of w) t h) (rested M t) t n a
     foreign =
-        stored.foreign w k p I F shared free_so n store.writes.object store.touches store.writes.is store.writes.frame store.writes.store store.writes.does store.not store.o store.writes.named a store.at
+        stored.foreign asked n store.writes.object store.touches store.writes.is store.writes.frame store.writes.store store.writes.does store.not store.o store.writes.named a store.at
 
     abbrev pub owner : ℕ
     owner = own (rested M t) n
@@ -161,7 +163,7 @@ module _ (w : SharedValue) (k : ℕ) (p : Private) (I : IsSharedValue w) (F : Fi
 
     field_there : i < length (object_of foreign.rest.heap.chunks a).refs
     field_there =
-        stored.field_there w k p I F shared free_so n store.writes.object store.touches store.writes.is store.writes.frame store.writes.store store.writes.does store.not store.o store.writes.named a store.at
+        stored.field_there asked n store.writes.object store.touches store.writes.is store.writes.frame store.writes.store store.writes.does store.not store.o store.writes.named a store.at
         store.b store.j i (flag_of swap) store.writes.place store.pack (store_frames swap p.frames).top (store_top swap p.frames)
 
     held_owned : IsOwned (length w.tree) w.pool (slice_index_or (object_of foreign.rest.heap.chunks a).refs i None)
@@ -188,7 +190,7 @@ module _ (w : SharedValue) (k : ℕ) (p : Private) (I : IsSharedValue w) (F : Fi
     value_owned = subst (IsOwned (length w.tree) w.pool) (sym store.value) (register_owned store.b)
 
     pub value_place : IsPlace r
-    value_place = subst IsPlace (sym store.value) ((is_safe w k p I F shared free).places store.b)
+    value_place = subst IsPlace (sym store.value) ((own.is_safe asks).places store.b)
 
     abbrev pub part_after : Private
     part_after = record p { frames = store_frames swap p.frames; fresh = 0 }
@@ -211,20 +213,20 @@ module _ (w : SharedValue) (k : ℕ) (p : Private) (I : IsSharedValue w) (F : Fi
       pub store_world : IsSharedValue (after_store sets r space)
       store_world =
           subst (λ q. IsSharedValue (after_store sets q space)) (sym store.value)
-          (stored.reference_world w k p I F shared free_so n store.writes.object store.touches store.writes.is store.writes.frame store.writes.store store.writes.does store.not store.o store.writes.named a store.at
+          (stored.reference_world asked n store.writes.object store.touches store.writes.is store.writes.frame store.writes.store store.writes.does store.not store.o store.writes.named a store.at
           store.b store.j i (flag_of swap) store.writes.place store.pack (store_frames swap p.frames).top (store_top swap p.frames) sets many noted_so space)
 
       pub store_goes : GoesAlone w (after_store sets r space) k p part_after
       store_goes =
           subst (λ q. GoesAlone w (after_store sets q space) k p part_after) (sym store.value)
           (subst (λ (s : FramesValue). GoesAlone w (after_store sets (ref_of p.frames.top store.b) space) k p (record p { frames = s; fresh = 0 })) (store_below swap p.frames)
-          (stored.reference_goes w k p I F shared free_so n store.writes.object store.touches store.writes.is store.writes.frame store.writes.store store.writes.does store.not store.o store.writes.named a store.at
+          (stored.reference_goes asked n store.writes.object store.touches store.writes.is store.writes.frame store.writes.store store.writes.does store.not store.o store.writes.named a store.at
           store.b store.j i (flag_of swap) store.writes.place store.pack (store_frames swap p.frames).top (store_top swap p.frames) sets many noted_so space))
 
   -- ---- NUMBERS
   module _ (a : Addr) (i : ℕ) (value : ℤ) (line : ℕ) (T : TellsOther w p (StoresNumber a i value) line) where
     abbrev pub said : SaysOther w.program (then_places w p) p M.machine t S.task S.line (StoresNumber a i value)
-    said = (entries.said w k p I F shared free (StoresNumber a i value) line T).1
+    said = (entries.said asks (StoresNumber a i value) line T).1
 
     abbrev pub writes : WritesNumber M.machine t S.task S.line said.0 said.1 i
     writes = said.5
@@ -239,7 +241,7 @@ module _ (w : SharedValue) (k : ℕ) (p : Private) (I : IsSharedValue w) (F : Fi
     not_number f q = reads_puti S.task S.line.instr writes.object f said.0 said.1 said.2 said.3 q
 
     abbrev pub foreign_number : IsForeign w (with_belongings (value_of w) t h) (rested M t) t n_number a
-    foreign_number = stored.foreign w k p I F shared free_so writes.name writes.object touches_number writes.is writes.frame writes.store writes.does not_number said.0 writes.named a said.4
+    foreign_number = stored.foreign asked writes.name writes.object touches_number writes.is writes.frame writes.store writes.does not_number said.0 writes.named a said.4
 
     abbrev pub owner_number : ℕ
     owner_number = own (rested M t) n_number
@@ -257,7 +259,7 @@ module _ (w : SharedValue) (k : ℕ) (p : Private) (I : IsSharedValue w) (F : Fi
     field_number z r e f =
         let is : r ≡ foreign_number.rest = same_Some r foreign_number.rest (sym f ∙ (ap (rest_at w.rests) (same_owner z e) ∙ foreign_number.there)) in
         subst (λ (q : Rest). i < length (object_of q.heap.chunks a).ints) (sym is)
-        (stored.number_there w k p I F shared free_so writes.name writes.object touches_number writes.is writes.frame writes.store writes.does not_number said.0 writes.named a said.4
+        (stored.number_there asked writes.name writes.object touches_number writes.is writes.frame writes.store writes.does not_number said.0 writes.named a said.4
         said.2 said.1 i writes.place said.3 (store_frames None p.frames).top (store_top None p.frames))
 
     abbrev pub part_number : Private
@@ -273,11 +275,11 @@ module _ (w : SharedValue) (k : ℕ) (p : Private) (I : IsSharedValue w) (F : Fi
     pub number_world : (space : RoomyValue EntryValue) → IsSharedValue (after_number value space)
     number_world space =
         subst (λ q. IsSharedValue (after_number q space)) (sym said.6)
-        (stored.number_world w k p I F shared free_so writes.name writes.object touches_number writes.is writes.frame writes.store writes.does not_number said.0 writes.named a said.4
+        (stored.number_world asked writes.name writes.object touches_number writes.is writes.frame writes.store writes.does not_number said.0 writes.named a said.4
         said.2 said.1 i writes.place said.3 (store_frames None p.frames).top (store_top None p.frames) space)
 
     pub number_goes : (space : RoomyValue EntryValue) → GoesAlone w (after_number value space) k p part_number
     number_goes space =
         subst (λ q. GoesAlone w (after_number q space) k p part_number) (sym said.6)
-        (stored.number_goes w k p I F shared free_so writes.name writes.object touches_number writes.is writes.frame writes.store writes.does not_number said.0 writes.named a said.4
+        (stored.number_goes asked writes.name writes.object touches_number writes.is writes.frame writes.store writes.does not_number said.0 writes.named a said.4
         said.2 said.1 i writes.place said.3 (store_frames None p.frames).top (store_top None p.frames) space)

@@ -15,8 +15,7 @@ use Rattle.hh_model.specs.Effect.{Goes, effect, int_in, object_at, place_in, ref
 use Rattle.hh_model.specs.Step.{follow, owner_of, runs, setting}
 use Rattle.hh_model.proofs.Changes.{place_within}
 use Rattle.run_trace.specs.Entry.{EntryValue}
-use Rattle.run_ledger.specs.declared.data.Ledger.{Ledger}
-use Rattle.run_ledger.specs.Steps.{task_steps, touched}
+use Rattle.run_ledger.specs.Steps.{touched}
 use Rattle.object_layout.specs.declared.word.Addr.{Addr}
 use Rattle.object_layout.specs.Cell.{Cell, size_of, with_int as cell_int, with_ref as cell_ref}
 use Rattle.object_layout.specs.Chunks.{cell_of, object_of}
@@ -24,7 +23,7 @@ use Rattle.task_frames.specs.declared.frames.Frame.{Frame}
 use Rattle.write_barrier.specs.declared.sets.SetOf.{SetOf}
 use Rattle.write_barrier.specs.Stored.{content_after, content_at}
 use Rattle.ledger_step_laws.specs.Accounts.{own, rested}
-use Rattle.ledger_step_laws.specs.Last.{JustReads, Splits, WritesOther}
+use Rattle.ledger_step_laws.specs.Last.{JustReads, WritesOther}
 use Rattle.core_relation.specs.Memory.{Belongings, Memory}
 use Rattle.core_relation.specs.Changes.{StoresAt, gone_on, with_field, with_number as number_field}
 use Rattle.core_relation.specs.Fits.{with_belongings}
@@ -34,15 +33,14 @@ use Rattle.task_machine.specs.declared.part.Private.{Private}
 use Rattle.task_frames.specs.FramesValue.{int_of, ref_of}
 use Rattle.task_machine.proofs.Owned.{born_object}
 use Rattle.task_homes.specs.declared.task_at_rest.Rest.{Rest}
-use Rattle.shared_value.specs.SharedValue.{SharedValue, accounts, value_of}
+use Rattle.shared_value.specs.SharedValue.{SharedValue, value_of}
 use Rattle.shared_value.specs.Stands.{IsSharedValue}
-use Rattle.shared_value.specs.Fits.{Fits, belongings_of_part}
-use Rattle.shared_value.specs.Entered.{refused}
+use Rattle.shared_value.specs.Fits.{belongings_of_part}
 use Rattle.shared_value.proofs.PartFitsMachine as link
 use Rattle.shared_value.proofs.FreeChunks.{refs_long}
-use Rattle.own_steps.specs.Alone.{GoesAlone, IsShared}
+use Rattle.own_steps.specs.Alone.{GoesAlone}
 use Rattle.own_steps.proofs.LastStepEntry as last
-use Rattle.own_steps.proofs.LastStepEntry.{last_entry}
+use Rattle.own_steps.proofs.LastStepEntry.{AsksLast, last_entry}
 use Rattle.own_steps.proofs.OtherStepKinds.{same_object, writing}
 use Rattle.others_objects.proofs.ForeignObject.{IsForeign, in_register, x}
 use Rattle.others_objects.proofs.ObjectWritten as other
@@ -50,27 +48,12 @@ use Rattle.others_objects.proofs.StoreValue as stores
 use Rattle.others_objects.proofs.WriteEntered as written
 use Rattle.others_objects.proofs.StoreKinds.{Made}
 
-module _ (w : SharedValue) (k : ℕ) (p : Private) (I : IsSharedValue w) (F : Fits w k p) (shared : IsShared w p) (free : refused w (last_entry k p) ≡ None) where
-  abbrev pub t : ℕ
-  t = p.task
-
-  abbrev pub l : Ledger
-  l = accounts w
-
-  abbrev pub M : Ledger
-  M = task_steps w.program l t p.fresh
-
-  abbrev pub L : Ledger
-  L = last.L w k p I F shared free
-
-  abbrev pub h : Belongings
-  h = belongings_of_part p
-
-  abbrev pub S : Splits w.program w.settings l L t p.fresh
-  S = last.S w k p I F shared free
+module _ {w : SharedValue} {k : ℕ} {p : Private} (asks : AsksLast w k p) where
+  open asks use {I, F}
+  open (last.names asks) use {t, l, M, L, h, S}
 
   abbrev pub on : l.end ≡ None
-  on = last.on w k p I F shared free
+  on = last.on asks
 
   abbrev pub X : Task
   X = x w k p I F on
@@ -85,21 +68,21 @@ module _ (w : SharedValue) (k : ℕ) (p : Private) (I : IsSharedValue w) (F : Fi
     z = record S.task { top = frame }
 
     machine_is : L.machine ≡ record M.machine { tasks = slice_set M.machine.tasks t z; store = store }
-    machine_is = last.machine_then w k p I F shared free ∙ (last.taken w k p I F shared free ∙ ap (follow M.machine t S.task S.line.number) does)
+    machine_is = last.machine_then asks ∙ (last.taken asks ∙ ap (follow M.machine t S.task S.line.number) does)
 
     at_then : slice_get L.machine.tasks t ≡ Some z
     at_then = ap (λ (m : State). slice_get m.tasks t) machine_is ∙ got_same M.machine.tasks t S.task z S.at.task
 
     goes_then : L.machine.end ≡ None
-    goes_then = ap (λ (m : State). m.end) machine_is ∙ last.mid_goes w k p I F shared free
+    goes_then = ap (λ (m : State). m.end) machine_is ∙ last.mid_goes asks
 
     pub K : WritesOther M L t S.task S.line
     K =
-        writing w.program M L t S.task S.line (last.is_not_private w k p I F shared free) n touches z at_then (ap runs S.at.runs) goes_then y is
+        writing w.program M L t S.task S.line (last.is_not_private asks) n touches z at_then (ap runs S.at.runs) goes_then y is
         not S.kind S.last
 
     pub object_is : y ≡ K.object
-    object_is = same_object w.program M L t S.task S.line (last.is_not_private w k p I F shared free) n touches z at_then (ap runs S.at.runs) goes_then y is K
+    object_is = same_object w.program M L t S.task S.line (last.is_not_private asks) n touches z at_then (ap runs S.at.runs) goes_then y is K
 
     apart : own (rested M t) n ≡ t → ⊥
     apart e = K.foreign (ap (λ (r : Name). owner_of M.machine.tasks r.task) (sym (same_Some n K.name (sym touches ∙ K.touches))) ∙ (ap (λ (m : State). owner_of m.tasks n.task) (sym (link.machine_is w k p I F on)) ∙ e))
@@ -158,7 +141,7 @@ module _ (w : SharedValue) (k : ℕ) (p : Private) (I : IsSharedValue w) (F : Fi
           size = stores.size w k p I F on n a foreign o held at_a b i swap overwritten was sets C top goes
 
           abbrev v0 : Memory
-          v0 = written.v0 w k p I F shared free
+          v0 = written.v0 asks
 
           abbrev v1 : Memory
           v1 = other.v1 w k p I F on n a foreign d refl size (with_field i value) (λ m e birth. refl) sets top
@@ -179,11 +162,11 @@ module _ (w : SharedValue) (k : ℕ) (p : Private) (I : IsSharedValue w) (F : Fi
               (stores.stores_notes w k p I F on n a foreign o held at_a b i swap overwritten was sets C top goes)
 
           module _ (space : RoomyValue EntryValue) where
-            pub reference_world : IsSharedValue (written.w' w k p I F shared free n a foreign d refl size (with_field i value) (λ m e birth. refl) sets many top K made.0 made.1 made.2 space)
-            reference_world = written.written_world w k p I F shared free n a foreign d refl size (with_field i value) (λ m e birth. refl) sets many top K made.0 made.1 made.2 space
+            pub reference_world : IsSharedValue (written.w' asks n a foreign d refl size (with_field i value) (λ m e birth. refl) sets many top K made.0 made.1 made.2 space)
+            reference_world = written.written_world asks n a foreign d refl size (with_field i value) (λ m e birth. refl) sets many top K made.0 made.1 made.2 space
 
-            pub reference_goes : GoesAlone w (written.w' w k p I F shared free n a foreign d refl size (with_field i value) (λ m e birth. refl) sets many top K made.0 made.1 made.2 space) k p q
-            reference_goes = written.written_goes w k p I F shared free n a foreign d refl size (with_field i value) (λ m e birth. refl) sets many top K made.0 made.1 made.2 space
+            pub reference_goes : GoesAlone w (written.w' asks n a foreign d refl size (with_field i value) (λ m e birth. refl) sets many top K made.0 made.1 made.2 space) k p q
+            reference_goes = written.written_goes asks n a foreign d refl size (with_field i value) (λ m e birth. refl) sets many top K made.0 made.1 made.2 space
 
       -- ---- A NUMBER, from the register b, into the field i, whose number is in the register j
       module _ (b j i : ℕ) (place : place_in (length y.ints) (int_in S.task.top j) ≡ Some i) (by : S.line.instr ≡ Puti o j b) (top : Frame) (goes : top ≡ gone_on None p.frames.top) where
@@ -211,7 +194,7 @@ module _ (w : SharedValue) (k : ℕ) (p : Private) (I : IsSharedValue w) (F : Fi
         size_n = stores.size_number w k p I F on n a foreign o held at_a b i top goes
 
         abbrev v0_n : Memory
-        v0_n = written.v0 w k p I F shared free
+        v0_n = written.v0 asks
 
         abbrev v1_n : Memory
         v1_n = other.v1 w k p I F on n a foreign d_n refl size_n (number_field i number) (λ m e birth. refl) w.sets top
@@ -231,8 +214,8 @@ module _ (w : SharedValue) (k : ℕ) (p : Private) (I : IsSharedValue w) (F : Fi
             )
 
         module _ (space : RoomyValue EntryValue) where
-          pub number_world : IsSharedValue (written.w' w k p I F shared free n a foreign d_n refl size_n (number_field i number) (λ m e birth. refl) w.sets refl top K made_n.0 made_n.1 made_n.2 space)
-          number_world = written.written_world w k p I F shared free n a foreign d_n refl size_n (number_field i number) (λ m e birth. refl) w.sets refl top K made_n.0 made_n.1 made_n.2 space
+          pub number_world : IsSharedValue (written.w' asks n a foreign d_n refl size_n (number_field i number) (λ m e birth. refl) w.sets refl top K made_n.0 made_n.1 made_n.2 space)
+          number_world = written.written_world asks n a foreign d_n refl size_n (number_field i number) (λ m e birth. refl) w.sets refl top K made_n.0 made_n.1 made_n.2 space
 
-          pub number_goes : GoesAlone w (written.w' w k p I F shared free n a foreign d_n refl size_n (number_field i number) (λ m e birth. refl) w.sets refl top K made_n.0 made_n.1 made_n.2 space) k p q_n
-          number_goes = written.written_goes w k p I F shared free n a foreign d_n refl size_n (number_field i number) (λ m e birth. refl) w.sets refl top K made_n.0 made_n.1 made_n.2 space
+          pub number_goes : GoesAlone w (written.w' asks n a foreign d_n refl size_n (number_field i number) (λ m e birth. refl) w.sets refl top K made_n.0 made_n.1 made_n.2 space) k p q_n
+          number_goes = written.written_goes asks n a foreign d_n refl size_n (number_field i number) (λ m e birth. refl) w.sets refl top K made_n.0 made_n.1 made_n.2 space

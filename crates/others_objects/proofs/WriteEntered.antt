@@ -13,7 +13,6 @@ use Rattle.run_trace.specs.Entry.{EntryValue}
 use Rattle.run_ledger.specs.declared.data.Heap.{Heap}
 use Rattle.run_ledger.specs.declared.data.Ledger.{Ledger}
 use Rattle.run_ledger.specs.Heaps.{heap_of, or_fresh}
-use Rattle.run_ledger.specs.Steps.{task_steps}
 use Rattle.run_ledger.proofs.Holders.{tasks_are_out_once}
 use Rattle.object_layout.specs.declared.word.Addr.{Addr}
 use Rattle.object_layout.specs.declared.word.Birth.{Birth}
@@ -22,7 +21,7 @@ use Rattle.object_layout.specs.Objects.{Located, located, with_fields}
 use Rattle.task_frames.specs.declared.frames.Frame.{Frame}
 use Rattle.write_barrier.specs.declared.sets.SetOf.{SetOf}
 use Rattle.ledger_step_laws.specs.Accounts.{Rests}
-use Rattle.ledger_step_laws.specs.Last.{Runs, Splits, Writing, WritesOther}
+use Rattle.ledger_step_laws.specs.Last.{Runs, Writing, WritesOther}
 use Rattle.core_relation.specs.Memory.{Belongings, Memory}
 use Rattle.core_relation.specs.Fits.{part_for, with_belongings}
 use Rattle.core_relation.specs.Makes.{Stores, BelongingsAfterStore}
@@ -35,17 +34,17 @@ use Rattle.core_entry_laws.proofs.whole.RanWhole.{ran_stands_for}
 use Rattle.core_entry_laws.proofs.parts.Workers.{ran_leaves}
 use Rattle.task_machine.specs.declared.part.Private.{Private}
 use Rattle.task_homes.specs.declared.task_at_rest.Rest.{Rest}
-use Rattle.shared_value.specs.SharedValue.{SharedValue, accounts, tree_counts_of, value_of}
+use Rattle.shared_value.specs.SharedValue.{SharedValue, tree_counts_of, value_of}
 use Rattle.shared_value.specs.Stands.{IsSharedValue}
-use Rattle.shared_value.specs.Fits.{Fits, OthersFit, belongings_of_part, part_of}
-use Rattle.shared_value.specs.Entered.{Enters, refused}
+use Rattle.shared_value.specs.Fits.{OthersFit, belongings_of_part, part_of}
+use Rattle.shared_value.specs.Entered.{Enters}
 use Rattle.shared_value.proofs.EntryMade.{ChangesRest, IsWell, changed_form, entered_world, part_fits, still_goes, tasks_apart}
 use Rattle.shared_value.proofs.UnitsMeasured.{all_kept}
 use Rattle.shared_value.proofs.HeldTasks.{fits_held, stands_for_held}
 use Rattle.shared_value.proofs.BeforeTheEnd.{stands_now}
-use Rattle.own_steps.specs.Alone.{GoesAlone, IsShared, alone_entry}
+use Rattle.own_steps.specs.Alone.{GoesAlone, alone_entry}
 use Rattle.own_steps.proofs.LastStepEntry as last
-use Rattle.own_steps.proofs.LastStepEntry.{last_enters, last_entry, last_steps}
+use Rattle.own_steps.proofs.LastStepEntry.{AsksLast, last_enters, last_entry, last_steps}
 use Rattle.others_objects.proofs.ForeignObject.{IsForeign}
 use Rattle.others_objects.proofs.ObjectWritten as other
 use Rattle.others_objects.proofs.ObjectWritten.{resting_is}
@@ -54,27 +53,12 @@ use Rattle.others_objects.proofs.ObjectWritten.{resting_is}
 running_not : {A : Type 0} (o : Option Task) → is_waiting o ≡ true → is_running o ≡ true → A
 running_not o h r = absurd (false≢true (sym (waiting_stops o h) ∙ r))
 
-module _ (w : SharedValue) (k : ℕ) (p : Private) (I : IsSharedValue w) (F : Fits w k p) (shared : IsShared w p) (free : refused w (last_entry k p) ≡ None) where
-  abbrev pub t : ℕ
-  t = p.task
-
-  abbrev pub l : Ledger
-  l = accounts w
-
-  abbrev pub M : Ledger
-  M = task_steps w.program l t p.fresh
-
-  abbrev pub L : Ledger
-  L = last.L w k p I F shared free
-
-  abbrev pub h : Belongings
-  h = belongings_of_part p
-
-  abbrev pub S : Splits w.program w.settings l L t p.fresh
-  S = last.S w k p I F shared free
+module _ {w : SharedValue} {k : ℕ} {p : Private} (asks : AsksLast w k p) where
+  open asks use {I, F, free}
+  open (last.names asks) use {t, l, M, L, h, S}
 
   abbrev pub on : l.end ≡ None
-  on = last.on w k p I F shared free
+  on = last.on asks
 
   abbrev pub v0 : Memory
   v0 = other.v0 w k p I F on
@@ -94,10 +78,10 @@ module _ (w : SharedValue) (k : ℕ) (p : Private) (I : IsSharedValue w) (F : Fi
   all_0 = subst (λ o. StandsFor v0 (tree_counts_of w) (by_end l o)) (sym on) stands_0
 
   abbrev R : Runs w.program w.settings l L t k p.fresh
-  R = last.runs_so w k p I F shared free
+  R = last.runs_so asks
 
   own_0 : WorkerFits w.program w.settings (part_for w.settings t h p.fresh) v0 l
-  own_0 = fits_held (value_of w) v0.belongings l (λ u r. resting_is l (value_of w).belongings u r) w.program w.settings (part_for w.settings t h p.fresh) R.knows.sound (last.before_goes w k p I F shared free) F.fits
+  own_0 = fits_held (value_of w) v0.belongings l (λ u r. resting_is l (value_of w).belongings u r) w.program w.settings (part_for w.settings t h p.fresh) R.knows.sound (last.before_goes asks) F.fits
 
   module _ (n : Name) (a : Addr) (O : IsForeign w (with_belongings (value_of w) t h) (other.L w k p I F on) t n a) (d : Cell) (mark : d.mark ≡ (other.c w k p I F on n a O).mark) (size : size_of d ≡ size_of (other.c w k p I F on n a O))
       (f : Located → Located) (fields : (number at : ℕ) (b : Birth) → with_fields d (located number at b (other.c w k p I F on n a O)) ≡ f (located number at b (other.c w k p I F on n a O))) (sets : List SetOf) (many : length sets ≡ length w.sets) (top : Frame) where
@@ -118,14 +102,14 @@ module _ (w : SharedValue) (k : ℕ) (p : Private) (I : IsSharedValue w) (F : Fi
 
     module _ (K : WritesOther M L t S.task S.line) (C : Stores v0 v1 M t h S.task K.object S.line.instr) (mk : StoreMarks v0 v1 M t h S.task K.object S.line.instr C) (gh : BelongingsAfterStore v0 v1 M t h S.task K.object S.line.instr C g) where
       goes_then : L.machine.end ≡ None
-      goes_then = ap (λ (y : Ledger). y.machine.end) K.goes ∙ last.mid_goes w k p I F shared free
+      goes_then = ap (λ (y : Ledger). y.machine.end) K.goes ∙ last.mid_goes asks
 
       end_then : L.end ≡ None
-      end_then = ap (λ (y : Ledger). y.end) K.goes ∙ ((last.A w k p I F shared free).end ∙ on)
+      end_then = ap (λ (y : Ledger). y.end) K.goes ∙ ((last.A asks).end ∙ on)
 
       -- how the entry splits
       abbrev E : Runs w.program w.settings l L t k p.fresh
-      E = record R { splits = record S { kind = Writing; last = K; apart = last.is_not_private w k p I F shared free; on = λ u. goes_then } }
+      E = record R { splits = record S { kind = Writing; last = K; apart = last.is_not_private asks; on = λ u. goes_then } }
 
       -- who holds what stays
       heap_then : (u : ℕ) → heap_of L u ≡ heap_of M u
@@ -133,8 +117,8 @@ module _ (w : SharedValue) (k : ℕ) (p : Private) (I : IsSharedValue w) (F : Fi
 
       rests_then : (u : ℕ) → Rests L u → Rests l u
       rests_then u r = elim (cases_eq u t) [
-        | inl e ↦ none_some (sym (subst (λ z. (heap_of M z).worker ≡ None) e (ap (λ (z : Heap). z.worker) (sym (heap_then u)) ∙ r)) ∙ last.held_mid w k p I F shared free)
-        | inr ne ↦ ap (λ o. (or_fresh o).worker) (sym (last.heap_off w k p I F shared free u ne)) ∙ (ap (λ (z : Heap). z.worker) (sym (heap_then u)) ∙ r)
+        | inl e ↦ none_some (sym (subst (λ z. (heap_of M z).worker ≡ None) e (ap (λ (z : Heap). z.worker) (sym (heap_then u)) ∙ r)) ∙ last.held_mid asks)
+        | inr ne ↦ ap (λ o. (or_fresh o).worker) (sym (last.heap_off asks u ne)) ∙ (ap (λ (z : Heap). z.worker) (sym (heap_then u)) ∙ r)
       ]
 
       same_then : (u : ℕ) → Rests L u → v'.belongings u ≡ v1.belongings u
@@ -185,7 +169,7 @@ module _ (w : SharedValue) (k : ℕ) (p : Private) (I : IsSharedValue w) (F : Fi
             part_fits I free enters written_world u r r refl G refl G.form G.measured
             (fits_held v1 v'.belongings L same_then w.program w.settings (part_of w.settings r) R.knows_then.sound goes_then
             (ran_leaves w.program w.settings v0 v1 l L t k p.fresh h E own_0 C (part_of w.settings r) (tasks_apart w k u p r F G ne)
-            (fits_held (value_of w) v0.belongings l (λ z y. resting_is l (value_of w).belongings z y) w.program w.settings (part_of w.settings r) R.knows.sound (last.before_goes w k p I F shared free) G.fits)))
+            (fits_held (value_of w) v0.belongings l (λ z y. resting_is l (value_of w).belongings z y) w.program w.settings (part_of w.settings r) R.knows.sound (last.before_goes asks) G.fits)))
 
         pub written_goes : GoesAlone w w' k p q
         written_goes = record {

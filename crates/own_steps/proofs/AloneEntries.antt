@@ -27,7 +27,7 @@ use Rattle.shared_value.specs.Entered.{refused}
 use Rattle.shared_value.proofs.BeforeTheEnd.{steps_now}
 use Rattle.own_steps.specs.Alone.{FinishesAlone, GoesAlone, HaltsAlone, IsShared, Tells, alone_entry, machine_after, then_accounts}
 use Rattle.own_steps.proofs.LastStepEntry as last
-use Rattle.own_steps.proofs.LastStepEntry.{last_entry}
+use Rattle.own_steps.proofs.LastStepEntry.{AsksLast, last_entry}
 use Rattle.own_steps.proofs.LastSteps.{entry_is, fits_machine, machine_same}
 use Rattle.own_steps.proofs.OutputEntered as output
 use Rattle.own_steps.proofs.RunDone as done
@@ -38,12 +38,28 @@ use Rattle.own_steps.proofs.TaskEnds.{has_home, has_node}
 pub trap_is : (w : SharedValue) (p : Private) (kind : Trap) (number : ℕ) → Tells w p (Traps kind) number → step w.program (then_accounts w p).machine p.task ≡ ended_by (then_accounts w p).machine (Trapped kind p.task number)
 trap_is w p kind number T = T.says ∙ ap (λ n. ended_by (then_accounts w p).machine (Trapped kind p.task n)) T.number_is
 
-module _ (w : SharedValue) (k : ℕ) (p : Private) (I : IsSharedValue w) (F : Fits w k p) (shared : IsShared w p) (free : refused w (alone_entry k p) ≡ None) where
+-- a call asks for an entry of the part's fresh steps and its next one, and nothing refuses it
+pub record AsksAlone (w : SharedValue) (k : ℕ) (p : Private) : Type 0 where
+  pub I : IsSharedValue w
+  pub F : Fits w k p
+  pub shared : IsShared w p
+  pub free : refused w (alone_entry k p) ≡ None
+
+-- by what is known of a value that is the same
+pub asks_alone : {w after : SharedValue} {k : ℕ} {p : Private} → w ≡ after → IsSharedValue w → Fits after k p → IsShared after p → refused after (alone_entry k p) ≡ None → AsksAlone w k p
+asks_alone {w} {after} {k} {p} same I F shared free = record { I = I; F = subst (λ z. Fits z k p) (sym same) F; shared = subst (λ z. IsShared z p) (sym same) shared; free = subst (λ z. refused z (alone_entry k p) ≡ None) (sym same) free }
+
+module _ {w : SharedValue} {k : ℕ} {p : Private} (asks : AsksAlone w k p) where
+  open asks use {I, F, shared, free}
+
   pub last_free : refused w (last_entry k p) ≡ None
   last_free = ap (refused w) (sym (entry_is k p)) ∙ free
 
+  abbrev pub asks_last : AsksLast w k p
+  asks_last = record { I = I; F = F; shared = shared; free = last_free }
+
   pub runs_on : (accounts w).end ≡ None
-  runs_on = last.on w k p I F shared last_free
+  runs_on = last.on asks_last
 
   -- the counts are small
   pub alone_small : (w.steps < 1000000000) × (p.fresh ≤ private_limit)
@@ -65,41 +81,41 @@ module _ (w : SharedValue) (k : ℕ) (p : Private) (I : IsSharedValue w) (F : Fi
 
   -- its task has a node, a home and a set
   pub node_there : p.task < length w.tree
-  node_there = has_node w k p I F shared last_free
+  node_there = has_node asks_last
 
   pub home_there : p.task < length w.rests
-  home_there = has_home w k p I F shared last_free
+  home_there = has_home asks_last
 
   pub set_there : p.task < length w.sets
   set_there = subst (λ n. p.task < n) (sym I.noted) node_there
 
   -- AN OUTPUT
   module _ (value : ℤ) (line : ℕ) (T : Tells w p (Prints value) line) (j : RoomyValue EntryValue) where
-    pub printed_world : IsSharedValue (output.printed w k p I F shared last_free value line T j)
-    printed_world = output.printed_world w k p I F shared last_free value line T j
+    pub printed_world : IsSharedValue (output.printed asks_last value line T j)
+    printed_world = output.printed_world asks_last value line T j
 
-    pub printed_goes : GoesAlone w (output.printed w k p I F shared last_free value line T j) k p (record p { frames = with_next p.frames (p.frames.top.next + 1); fresh = 0 })
-    printed_goes = output.printed_goes w k p I F shared last_free value line T j
+    pub printed_goes : GoesAlone w (output.printed asks_last value line T j) k p (record p { frames = with_next p.frames (p.frames.top.next + 1); fresh = 0 })
+    printed_goes = output.printed_goes asks_last value line T j
 
   -- THE RUN ENDS, and all else is as it was
   module _ (x : End) (other : x ≡ Done → ⊥) (is : step w.program (then_accounts w p).machine p.task ≡ ended_by (then_accounts w p).machine x) (j : RoomyValue EntryValue) where
-    pub halt_world : IsSharedValue (halting.halted w k p I F shared last_free x other is j)
-    halt_world = halting.halt_world w k p I F shared last_free x other is j
+    pub halt_world : IsSharedValue (halting.halted asks_last x other is j)
+    halt_world = halting.halt_world asks_last x other is j
 
-    pub halts_alone : HaltsAlone w (halting.halted w k p I F shared last_free x other is j) k p (record p { fresh = 0 })
-    halts_alone = halting.halts_alone w k p I F shared last_free x other is j
+    pub halts_alone : HaltsAlone w (halting.halted asks_last x other is j) k p (record p { fresh = 0 })
+    halts_alone = halting.halts_alone asks_last x other is j
 
   -- THE ROOT'S END
   module _ (line : ℕ) (T : Tells w p Returns line) (root : p.task ≡ 0) (j : RoomyValue EntryValue) where
-    pub finished_world : IsSharedValue (done.w' w k p I F shared last_free line T root j)
-    finished_world = done.done_world w k p I F shared last_free line T root j
+    pub finished_world : IsSharedValue (done.w' asks_last line T root j)
+    finished_world = done.done_world asks_last line T root j
 
-    pub finishes_alone : FinishesAlone w (done.w' w k p I F shared last_free line T root j) k p
-    finishes_alone = done.finishes_alone w k p I F shared last_free line T root j
+    pub finishes_alone : FinishesAlone w (done.w' asks_last line T root j) k p
+    finishes_alone = done.finishes_alone asks_last line T root j
 
   -- WHERE OTHER TASKS HAVE PART IN THE STEP
   abbrev m : State
-  m = (last.M w k p I F shared last_free).machine
+  m = (last.M asks_last).machine
 
   beyond_line : (x : Task) (line : Line) → slice_get m.tasks p.task ≡ Some x → fetched w.program x.top ≡ Some line → (is_joint x line.instr || not (owns m.tasks p.task (touched x.top line.instr))) ≡ true → is_beyond w.program (machine_after w p) p.task ≡ true
   beyond_line x line is next h =
@@ -123,4 +139,4 @@ module _ (w : SharedValue) (k : ℕ) (p : Private) (I : IsSharedValue w) (F : Fi
         where
           by : (o : Option ℕ) → x.parent ≡ o → is_some o ≡ true
           by (Some q) e = refl
-          by None e = absurd (ne ((last.runs_so w k p I F shared last_free).root p.task x is e))
+          by None e = absurd (ne ((last.runs_so asks_last).root p.task x is e))

@@ -23,6 +23,7 @@ use Rattle.ledger_step_laws.specs.Last.{Runs, Splits}
 use Rattle.ledger_step_laws.proofs.Along.{steps_know}
 use Rattle.ledger_step_laws.proofs.Split.{entry_runs}
 use Rattle.core_relation.specs.Makes.{BelongingsAfter}
+use Rattle.core_relation.specs.Memory.{Belongings, Memory}
 use Rattle.core_relation.specs.Worker.{WorkerFits}
 use Rattle.task_machine.specs.declared.part.Private.{Private}
 use Rattle.shared_value.specs.SharedValue.{SharedValue, accounts, value_of}
@@ -63,7 +64,27 @@ goes_alone {w} {w'} {k} {p} I F free M frames out end pool read = record {
   others = steps_others I F free M;
 }
 
-module _ (w : SharedValue) (k : ℕ) (p : Private) (I : IsSharedValue w) (F : Fits w k p) (shared : IsShared w p) (free : refused w (last_entry k p) ≡ None) where
+-- a call asks for an entry of the part's fresh steps and its next one, which isn't private, and nothing refuses it
+pub record AsksLast (w : SharedValue) (k : ℕ) (p : Private) : Type 0 where
+  pub I : IsSharedValue w
+  pub F : Fits w k p
+  pub shared : IsShared w p
+  pub free : refused w (last_entry k p) ≡ None
+
+-- what proofs speak of: the task, the accounts before the entry, before its last step, and after it, the memory and the
+-- part's belongings before it, and how it splits
+pub record LastNames (w : SharedValue) (p : Private) : Type 0 where
+  pub t : ℕ
+  pub l : Ledger
+  pub M : Ledger
+  pub L : Ledger
+  pub v : Memory
+  pub h : Belongings
+  pub S : Splits w.program w.settings l L t p.fresh
+
+module _ {w : SharedValue} {k : ℕ} {p : Private} (asks : AsksLast w k p) where
+  open asks use {I, F, shared, free}
+
   abbrev pub t : ℕ
   t = p.task
 
@@ -131,6 +152,9 @@ module _ (w : SharedValue) (k : ℕ) (p : Private) (I : IsSharedValue w) (F : Fi
 
   pub held_mid : (heap_of M t).worker ≡ Some k
   held_mid = link.worker_then w k p I F on
+
+  abbrev pub names : LastNames w p
+  names = record { t = t; l = l; M = M; L = L; v = value_of w; h = belongings_of_part p; S = S }
 
   -- the tree is that of the machine then
   pub then_parents : (u : ℕ) → parents M.machine.tasks u ≡ parents l.machine.tasks u

@@ -9,55 +9,33 @@ use Rattle.hh_model.specs.declared.data.Task.{Task}
 use Rattle.hh_model.specs.Effect.{effect, int_in, onward}
 use Rattle.hh_model.specs.Step.{follow, runs, setting}
 use Rattle.run_trace.specs.Entry.{EntryValue}
-use Rattle.run_ledger.specs.declared.data.Ledger.{Ledger}
-use Rattle.run_ledger.specs.Steps.{task_steps}
 use Rattle.task_frames.specs.FramesValue.{with_next}
-use Rattle.ledger_step_laws.specs.Last.{Printing, Prints, Runs, Splits}
-use Rattle.core_relation.specs.Memory.{Belongings, Memory}
+use Rattle.ledger_step_laws.specs.Last.{Printing, Prints, Runs}
 use Rattle.core_relation.specs.Makes.{StepsTo}
 use Rattle.core_entry_laws.proofs.parts.Sets.{numbers_go}
 use Rattle.task_machine.specs.declared.part.Private.{Private}
 use Rattle.shared_value.specs.declared.next_step.Ending.TheVariants.{Prints as PrintsOf}
-use Rattle.shared_value.specs.SharedValue.{SharedValue, accounts, value_of}
+use Rattle.shared_value.specs.SharedValue.{SharedValue}
 use Rattle.shared_value.specs.Stands.{IsSharedValue}
-use Rattle.shared_value.specs.Fits.{Fits, belongings_of_part}
-use Rattle.shared_value.specs.Entered.{refused}
+use Rattle.shared_value.specs.Fits.{belongings_of_part}
 use Rattle.shared_value.proofs.EntryMade.{same_form}
 use Rattle.shared_value.proofs.StepsMade.{MakesSteps, steps_world}
 use Rattle.shared_value.proofs.UnitsMeasured.{all_kept}
-use Rattle.own_steps.specs.Alone.{GoesAlone, IsShared, Tells, alone_entry}
+use Rattle.own_steps.specs.Alone.{GoesAlone, Tells, alone_entry}
 use Rattle.own_steps.proofs.LastKinds.{prints}
 use Rattle.own_steps.proofs.LastStepEntry as last
-use Rattle.own_steps.proofs.LastStepEntry.{goes_alone, last_enters, last_entry, last_steps}
+use Rattle.own_steps.proofs.LastStepEntry.{AsksLast, goes_alone, last_enters, last_entry, last_steps}
 
 abbrev register_of : Instr → ℕ
 register_of (Out a) = a
 register_of _ = 0
 
-module _ (w : SharedValue) (k : ℕ) (p : Private) (I : IsSharedValue w) (F : Fits w k p) (shared : IsShared w p) (free : refused w (last_entry k p) ≡ None) (value : ℤ) (number : ℕ) (T : Tells w p (PrintsOf value) number) where
-  abbrev t : ℕ
-  t = p.task
-
-  abbrev l : Ledger
-  l = accounts w
-
-  abbrev M : Ledger
-  M = task_steps w.program l t p.fresh
-
-  abbrev L : Ledger
-  L = last.L w k p I F shared free
-
-  abbrev v : Memory
-  v = value_of w
-
-  abbrev h : Belongings
-  h = belongings_of_part p
-
-  abbrev S : Splits w.program w.settings l L t p.fresh
-  S = last.S w k p I F shared free
+module _ {w : SharedValue} {k : ℕ} {p : Private} (asks : AsksLast w k p) (value : ℤ) (number : ℕ) (T : Tells w p (PrintsOf value) number) where
+  open asks use {I, F, free}
+  open (last.names asks) use {t, l, M, L, v, h, S}
 
   says : (a : ℕ) × (S.line.instr ≡ Out a) × (value ≡ int_in S.task.top a)
-  says = (last.said w k p I F shared free (PrintsOf value) number T).1
+  says = (last.said asks (PrintsOf value) number T).1
 
   abbrev register : ℕ
   register = says.0
@@ -71,11 +49,11 @@ module _ (w : SharedValue) (k : ℕ) (p : Private) (I : IsSharedValue w) (F : Fi
 
   machine_is : L.machine ≡ m'
   machine_is =
-      last.machine_then w k p I F shared free
-      ∙ (last.taken w k p I F shared free ∙ ap (λ (i : Instr). follow M.machine t S.task S.line.number (effect (setting M.machine t S.task) S.task.top M.machine.store i)) says.1)
+      last.machine_then asks
+      ∙ (last.taken asks ∙ ap (λ (i : Instr). follow M.machine t S.task S.line.number (effect (setting M.machine t S.task) S.task.top M.machine.store i)) says.1)
 
   goes_then : L.machine.end ≡ None
-  goes_then = ap (λ (m : State). m.end) machine_is ∙ last.mid_goes w k p I F shared free
+  goes_then = ap (λ (m : State). m.end) machine_is ∙ last.mid_goes asks
 
   at_then : slice_get L.machine.tasks t ≡ Some z
   at_then = ap (λ (m : State). slice_get m.tasks t) machine_is ∙ got_same M.machine.tasks t S.task z S.at.task
@@ -84,11 +62,11 @@ module _ (w : SharedValue) (k : ℕ) (p : Private) (I : IsSharedValue w) (F : Fi
   runs_then = ap runs S.at.runs
 
   Q : Prints M L t S.task S.line
-  Q = prints w.program M L t S.task S.line (last.is_not_private w k p I F shared free) register says.1 z at_then runs_then goes_then S.kind S.last
+  Q = prints w.program M L t S.task S.line (last.is_not_private asks) register says.1 z at_then runs_then goes_then S.kind S.last
 
   -- how the entry splits
   abbrev E : Runs w.program w.settings l L t k p.fresh
-  E = record (last.runs_so w k p I F shared free) { splits = record S { kind = Printing; last = Q; apart = last.is_not_private w k p I F shared free; on = λ u. goes_then } }
+  E = record (last.runs_so asks) { splits = record S { kind = Printing; last = Q; apart = last.is_not_private asks; on = λ u. goes_then } }
 
   -- it prints what the part has in its register
   value_is : value ≡ int_in S.task.top Q.register

@@ -14,52 +14,37 @@ use Rattle.run_trace.specs.Entry.{EntryValue}
 use Rattle.run_ledger.specs.declared.data.Ledger.{Ledger}
 use Rattle.run_ledger.specs.declared.data.RunEnd.{RunEnd}
 use Rattle.run_ledger.specs.declared.data.RunEnd.TheVariants.{Machine}
-use Rattle.run_ledger.specs.Steps.{task_steps}
 use Rattle.ledger_step_laws.specs.Accounts.{Rests}
-use Rattle.ledger_step_laws.specs.Last.{EndsDone, Finishing, Runs, Splits}
+use Rattle.ledger_step_laws.specs.Last.{EndsDone, Finishing, Runs}
 use Rattle.core_relation.specs.Whole.{handed}
 use Rattle.core_entry_laws.proofs.whole.DoneReturns.{done_returns_all}
 use Rattle.task_machine.specs.declared.part.Private.{Private}
 use Rattle.shared_value.specs.declared.next_step.Ending.TheVariants.{Returns}
-use Rattle.shared_value.specs.SharedValue.{SharedValue, accounts}
+use Rattle.shared_value.specs.SharedValue.{SharedValue}
 use Rattle.shared_value.specs.Stands.{IsSharedValue}
-use Rattle.shared_value.specs.Fits.{Fits}
-use Rattle.shared_value.specs.Entered.{refused}
 use Rattle.shared_value.proofs.BeforeTheEnd.{end_now}
 use Rattle.shared_value.proofs.EntryMade.{accounts_are}
 use Rattle.shared_value.proofs.StepsMade.{MakesSteps, steps_others, steps_world}
 use Rattle.shared_value.proofs.TaskTaken.{lets_go}
-use Rattle.own_steps.specs.Alone.{FinishesAlone, IsShared, Tells}
+use Rattle.own_steps.specs.Alone.{FinishesAlone, Tells}
 use Rattle.own_steps.proofs.LastKinds.{done}
 use Rattle.own_steps.proofs.LastStepEntry as last
-use Rattle.own_steps.proofs.LastStepEntry.{last_entry, last_steps}
+use Rattle.own_steps.proofs.LastStepEntry.{AsksLast, last_entry, last_steps}
 use Rattle.own_steps.proofs.TaskEnds as ending
 
 no_parent : (par : ℕ → Option ℕ) → ((t p : ℕ) → par t ≡ Some p → p < t) → (t : ℕ) → t ≡ 0 → (o : Option ℕ) → par t ≡ o → o ≡ None
 no_parent par low t z None e = refl
 no_parent par low t z (Some q) e = let lt : q < t = low t q e in absurd (omega (arith, z, lt))
 
-module _ (w : SharedValue) (k : ℕ) (p : Private) (I : IsSharedValue w) (F : Fits w k p) (shared : IsShared w p) (free : refused w (last_entry k p) ≡ None) (number : ℕ) (T : Tells w p Returns number) (root : p.task ≡ 0) where
-  abbrev t : ℕ
-  t = p.task
-
-  abbrev l : Ledger
-  l = accounts w
-
-  abbrev M : Ledger
-  M = task_steps w.program l t p.fresh
-
-  abbrev L : Ledger
-  L = last.L w k p I F shared free
-
-  abbrev S : Splits w.program w.settings l L t p.fresh
-  S = last.S w k p I F shared free
+module _ {w : SharedValue} {k : ℕ} {p : Private} (asks : AsksLast w k p) (number : ℕ) (T : Tells w p Returns number) (root : p.task ≡ 0) where
+  open asks use {I, F, free}
+  open (last.names asks) use {t, l, M, L, S}
 
   says : (S.line.instr ≡ Ret) × (S.task.below ≡ [])
-  says = (last.said w k p I F shared free Returns number T).1
+  says = (last.said asks Returns number T).1
 
   parent : S.task.parent ≡ None
-  parent = no_parent (λ u. parent_of (slice_get M.machine.tasks u)) (last.knows_mid w k p I F shared free).sound.fork_join.tree.low t root S.task.parent (ap parent_of S.at.task)
+  parent = no_parent (λ u. parent_of (slice_get M.machine.tasks u)) (last.knows_mid asks).sound.fork_join.tree.low t root S.task.parent (ap parent_of S.at.task)
 
   abbrev z : Task
   z = ended_task S.task (result_of S.task.top)
@@ -69,8 +54,8 @@ module _ (w : SharedValue) (k : ℕ) (p : Private) (I : IsSharedValue w) (F : Fi
 
   machine_is : L.machine ≡ m'
   machine_is =
-      last.machine_then w k p I F shared free
-      ∙ (last.taken w k p I F shared free
+      last.machine_then asks
+      ∙ (last.taken asks
       ∙ (ap (λ (i : Instr). follow M.machine t S.task S.line.number (effect (setting M.machine t S.task) S.task.top M.machine.store i)) says.0
       ∙ (ap (λ (fs : List Frame). returned_to M.machine t S.task (last_of fs)) says.1 ∙ ap (last_return M.machine t S.task) parent)))
 
@@ -79,22 +64,22 @@ module _ (w : SharedValue) (k : ℕ) (p : Private) (I : IsSharedValue w) (F : Fi
 
   D : EndsDone M L t S.task
   D =
-      done w.program M L t S.task S.line (last.is_not_private w k p I F shared free) (ap (λ (m : State). m.end) machine_is) z at_then refl S.at.task (ap runs S.at.runs) S.kind S.last S.on
+      done w.program M L t S.task S.line (last.is_not_private asks) (ap (λ (m : State). m.end) machine_is) z at_then refl S.at.task (ap runs S.at.runs) S.kind S.last S.on
 
   -- how the entry splits
   abbrev E : Runs w.program w.settings l L t k p.fresh
-  E = record (last.runs_so w k p I F shared free) { splits = record S { kind = Finishing; last = D; apart = last.is_not_private w k p I F shared free; on = λ b. absurd b } }
+  E = record (last.runs_so asks) { splits = record S { kind = Finishing; last = D; apart = last.is_not_private asks; on = λ b. absurd b } }
 
   module _ (j : RoomyValue EntryValue) where
     abbrev end : Option RunEnd
     end = Some (Machine Done)
 
     abbrev pub w' : SharedValue
-    w' = ending.w' w k p I F shared free end j.room
+    w' = ending.w' asks end j.room
 
     made : MakesSteps w w' k p p.fresh
-    made = ending.ended_made w k p I F shared free end j.room E F.fits (ending.makes w k p I F shared free end j.room) (ending.notes w k p I F shared free end j.room)
-        (record { tree = ending.node_ends w k p I F shared free end j.room; task_out = lets_go w w' (last_entry k p) I free refl; outputs = refl; end = refl; used = refl; steps = last_steps w p })
+    made = ending.ended_made asks end j.room E F.fits (ending.makes asks end j.room) (ending.notes asks end j.room)
+        (record { tree = ending.node_ends asks end j.room; task_out = lets_go w w' (last_entry k p) I free refl; outputs = refl; end = refl; used = refl; steps = last_steps w p })
 
     pub done_world : IsSharedValue w'
     done_world = steps_world I F free made

@@ -1,5 +1,5 @@
 -- The run ends by a step that can't be done, or by a read that is stopped.
-use Rattle.std.proofs.Common.{◌≡◌, ℕ, ◌+◌, ◌++◌, Some, None, [], ◌∷◌, refl, ap, sym, ◌∙◌}
+use Rattle.std.proofs.Common.{◌≡◌, ℕ, ◌+◌, ◌++◌, Some, [], ◌∷◌, refl, ap, sym, ◌∙◌}
 use Rattle.std.proofs.lemmas.Option.{same_Some}
 use Rattle.listed.specs.RoomyValue.{RoomyValue}
 use Rattle.hh_model.specs.declared.data.End.{End}
@@ -7,49 +7,34 @@ use Rattle.hh_model.specs.declared.data.End.TheVariants.{Done}
 use Rattle.hh_model.specs.declared.data.State.{State}
 use Rattle.hh_model.specs.Step.{ended_by, step}
 use Rattle.run_trace.specs.Entry.{EntryValue}
-use Rattle.run_ledger.specs.declared.data.Ledger.{Ledger}
 use Rattle.run_ledger.specs.declared.data.RunEnd.TheVariants.{Machine}
 use Rattle.run_ledger.specs.Steps.{task_steps}
-use Rattle.ledger_step_laws.specs.Last.{Halting, Halts, Runs, Splits}
+use Rattle.ledger_step_laws.specs.Last.{Halting, Halts, Runs}
 use Rattle.task_machine.specs.declared.part.Private.{Private}
 use Rattle.shared_value.specs.SharedValue.{SharedValue, accounts}
 use Rattle.shared_value.specs.Stands.{IsSharedValue}
-use Rattle.shared_value.specs.Fits.{Fits}
-use Rattle.shared_value.specs.Entered.{refused}
 use Rattle.shared_value.proofs.EntryMade.{same_form}
 use Rattle.shared_value.proofs.StepsMade.{MakesSteps, steps_others, steps_part, steps_world}
 use Rattle.shared_value.proofs.UnitsMeasured.{all_kept}
 use Rattle.shared_value.proofs.BeforeTheEnd.{end_now}
-use Rattle.own_steps.specs.Alone.{HaltsAlone, IsShared, alone_entry}
+use Rattle.own_steps.specs.Alone.{HaltsAlone, alone_entry}
 use Rattle.own_steps.proofs.LastStepEntry as last
-use Rattle.own_steps.proofs.LastStepEntry.{last_enters, last_entry, last_steps}
+use Rattle.own_steps.proofs.LastStepEntry.{AsksLast, last_enters, last_entry, last_steps}
 use Rattle.own_steps.proofs.OtherStepKinds.{halts_by}
 
-module _ (w : SharedValue) (k : ℕ) (p : Private) (I : IsSharedValue w) (F : Fits w k p) (shared : IsShared w p) (free : refused w (last_entry k p) ≡ None) (x : End) (other : x ≡ Done → ⊥) (is : step w.program (task_steps w.program (accounts w) p.task p.fresh).machine p.task ≡ ended_by (task_steps w.program (accounts w) p.task p.fresh).machine x) where
-  abbrev t : ℕ
-  t = p.task
-
-  abbrev l : Ledger
-  l = accounts w
-
-  abbrev M : Ledger
-  M = task_steps w.program l t p.fresh
-
-  abbrev L : Ledger
-  L = last.L w k p I F shared free
-
-  abbrev S : Splits w.program w.settings l L t p.fresh
-  S = last.S w k p I F shared free
+module _ {w : SharedValue} {k : ℕ} {p : Private} (asks : AsksLast w k p) (x : End) (other : x ≡ Done → ⊥) (is : step w.program (task_steps w.program (accounts w) p.task p.fresh).machine p.task ≡ ended_by (task_steps w.program (accounts w) p.task p.fresh).machine x) where
+  open asks use {I, F, free}
+  open (last.names asks) use {t, l, M, L, S}
 
   machine_is : L.machine ≡ ended_by M.machine x
-  machine_is = last.machine_then w k p I F shared free ∙ is
+  machine_is = last.machine_then asks ∙ is
 
   H : Halts M L
-  H = halts_by w.program M L t S.task S.line (last.is_not_private w k p I F shared free) x other machine_is S.kind S.last S.on
+  H = halts_by w.program M L t S.task S.line (last.is_not_private asks) x other machine_is S.kind S.last S.on
 
   -- how the entry splits
   abbrev E : Runs w.program w.settings l L t k p.fresh
-  E = record (last.runs_so w k p I F shared free) { splits = record S { kind = Halting; last = H; apart = last.is_not_private w k p I F shared free; on = λ b. absurd b } }
+  E = record (last.runs_so asks) { splits = record S { kind = Halting; last = H; apart = last.is_not_private asks; on = λ b. absurd b } }
 
   end_same : x ≡ H.end
   end_same = sym (same_Some H.end x (ap (λ (m : State). m.end) (sym H.machine ∙ machine_is)))

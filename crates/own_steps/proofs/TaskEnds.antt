@@ -3,11 +3,9 @@
 use Rattle.std.proofs.Common.{◌≡◌, ℕ, ◌+◌, ◌++◌, ◌<◌, ◌&&◌, not, Option, Some, None, List, [], ◌∷◌, length, length-set, slice_get, slice_set, option_map, refl, ap, sym, subst, ◌∙◌}
 use Rattle.std.proofs.lemmas.Option.{same_Some}
 use Rattle.listed.proofs.Members.{got_within}
-use Rattle.run_ledger.specs.declared.data.Ledger.{Ledger}
 use Rattle.run_ledger.specs.declared.data.RunEnd.{RunEnd}
 use Rattle.heap_tree.specs.Node.{with_state}
 use Rattle.run_ledger.specs.Heaps.{heap_of}
-use Rattle.run_ledger.specs.Steps.{task_steps}
 use Rattle.task_frames.specs.declared.frames.Frame.{Frame}
 use Rattle.heap_tree.specs.declared.state.State.TheVariants.{Ended}
 use Rattle.ledger_step_laws.specs.Last.{Runs}
@@ -23,40 +21,23 @@ use Rattle.core_relation.specs.Worker.{WorkerFits}
 use Rattle.core_relation.proofs.changes.With.{at_belongings, off_belongings}
 use Rattle.task_machine.specs.declared.part.Private.{Private}
 use Rattle.task_homes.specs.declared.task_at_rest.Rest.{Rest}
-use Rattle.shared_value.specs.SharedValue.{SharedValue, accounts, belongings_in, belongings_of, tree_counts_of, value_of}
-use Rattle.shared_value.specs.Stands.{IsSharedValue}
-use Rattle.shared_value.specs.Fits.{Fits, belongings_of_part}
-use Rattle.shared_value.specs.Entered.{Enters, refused}
+use Rattle.shared_value.specs.SharedValue.{SharedValue, belongings_in, belongings_of, tree_counts_of, value_of}
+use Rattle.shared_value.specs.Entered.{Enters}
 use Rattle.shared_value.proofs.EntryMade.{ChangesRest, IsWell, changed_form, free_before, rest_off, rest_then, task_is_out}
 use Rattle.shared_value.proofs.StepsMade.{MakesSteps}
 use Rattle.shared_value.proofs.UnitsMeasured.{all_kept}
 use Rattle.shared_value.proofs.BeforeTheEnd.{stands_now}
 use Rattle.shared_value.proofs.TaskTaken.{made_by, node_by, node_off}
-use Rattle.own_steps.specs.Alone.{IsShared, alone_entry, ended_rest}
+use Rattle.own_steps.specs.Alone.{alone_entry, ended_rest}
 use Rattle.own_steps.proofs.LastStepEntry as last
-use Rattle.own_steps.proofs.LastStepEntry.{last_enters, last_entry}
+use Rattle.own_steps.proofs.LastStepEntry.{AsksLast, last_enters, last_entry}
 
-module _ (w : SharedValue) (k : ℕ) (p : Private) (I : IsSharedValue w) (F : Fits w k p) (shared : IsShared w p) (free : refused w (last_entry k p) ≡ None) where
-  abbrev t : ℕ
-  t = p.task
-
-  abbrev l : Ledger
-  l = accounts w
-
-  abbrev M : Ledger
-  M = task_steps w.program l t p.fresh
-
-  abbrev L : Ledger
-  L = last.L w k p I F shared free
-
-  abbrev v : Memory
-  v = value_of w
-
-  abbrev h : Belongings
-  h = belongings_of_part p
+module _ {w : SharedValue} {k : ℕ} {p : Private} (asks : AsksLast w k p) where
+  open asks use {I, F, free}
+  open (last.names asks) use {t, l, M, L, v, h}
 
   S0 : StandsFor v (tree_counts_of w) l
-  S0 = stands_now w I (last.on w k p I F shared free)
+  S0 = stands_now w I (last.on asks)
 
   -- ---- THE REST THAT IS HANDED BACK
   abbrev rest : Rest
@@ -99,7 +80,7 @@ module _ (w : SharedValue) (k : ℕ) (p : Private) (I : IsSharedValue w) (F : Fi
       rests = refl;
       there = has_home;
       keeps = λ u ne. all_kept w.pool u;
-      free = λ u ne f. free_before w.tasks_out k None u f (λ h. ne (same_Some u t (sym h ∙ task_is_out w k p I (last.on w k p I F shared free) F)));
+      free = λ u ne f. free_before w.tasks_out k None u f (λ h. ne (same_Some u t (sym h ∙ task_is_out w k p I (last.on asks) F)));
     }
 
     belongings_now : v'.belongings t ≡ belongings_of rest
@@ -109,7 +90,7 @@ module _ (w : SharedValue) (k : ℕ) (p : Private) (I : IsSharedValue w) (F : Fi
     ends_belongings = record {
       frames = ap (λ (z : Belongings). z.frames) here;
       result = ap (λ (z : Belongings). z.result) belongings_now;
-      begun = ap (λ (z : Belongings). z.begun) belongings_now ∙ (sym (last.none w k p I F shared free) ∙ ap (λ (z : Belongings). z.begun) (sym here));
+      begun = ap (λ (z : Belongings). z.begun) belongings_now ∙ (sym (last.none asks) ∙ ap (λ (z : Belongings). z.begun) (sym here));
       view = ap (λ (z : Belongings). z.view) belongings_now ∙ ap (λ (z : Belongings). z.view) (sym here);
       chunks = ap (λ (z : Belongings). z.chunks) belongings_now ∙ ap (λ (z : Belongings). z.chunks) (sym here);
       room = ap (λ (z : Belongings). z.room) belongings_now ∙ ap (λ (z : Belongings). z.room) (sym here);
@@ -124,7 +105,7 @@ module _ (w : SharedValue) (k : ℕ) (p : Private) (I : IsSharedValue w) (F : Fi
     makes = (p.frames.top, p.frames.below, ends_belongings)
 
     pub notes : OthersNotes vt v' t
-    notes = record { none = S0.keeps t ∙ ap (λ b. b && not (heap_of l t).swept) (last.idle w k p I F shared free); others = λ u ne. record { keeps = refl; kept = refl; marked = refl } }
+    notes = record { none = S0.keeps t ∙ ap (λ b. b && not (heap_of l t).swept) (last.idle asks); others = λ u ne. record { keeps = refl; kept = refl; marked = refl } }
 
     pub node_ends : NodeGoes (tree_counts_of w) (tree_counts_of w') t Ended
     node_ends = record { node = node_by w.tree t Ended (slice_get w.tree t) refl; others = λ u ne. node_off w.tree t Ended (slice_get w.tree t) u ne }

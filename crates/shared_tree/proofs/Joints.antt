@@ -60,10 +60,10 @@ module _ (w : SharedValue) (k : ℕ) (p : Private) (I : IsSharedValue w) (F : Fi
   above = above_of (value_of w) (accounts w) t
 
   abbrev G : FitsMachine w.program p M.machine above
-  G = fits_machine w k p I F (runs_on w k p I F shared free)
+  G = fits_machine w k p I F (runs_on (record { I = I; F = F; shared = shared; free = free }))
 
   machine_is : machine_after w p ≡ M.machine
-  machine_is = machine_same w k p I F (runs_on w k p I F shared free)
+  machine_is = machine_same w k p I F (runs_on (record { I = I; F = F; shared = shared; free = free }))
 
   at : fetched w.program G.task.top ≡ Some line
   at = sym (same_line w.program p M.machine above G) ∙ next

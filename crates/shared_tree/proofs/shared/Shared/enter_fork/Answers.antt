@@ -10,14 +10,11 @@ use Rattle.task_homes.specs.declared.task_at_rest.Rest.{Rest}
 use Rattle.task_homes.specs.HomesValue.{HomesValue}
 use Rattle.shared_value.specs.Stands.{IsSharedValue}
 use Rattle.shared_value.specs.SharedValue.{SharedValue}
-use Rattle.shared_value.specs.Fits.{Fits}
-use Rattle.shared_value.specs.Entered.{refused}
 use Rattle.shared_value.proofs.JournalGoesOn.{four_changed}
-use Rattle.own_steps.specs.Alone.{alone_entry}
 use Rattle.own_steps.proofs.AloneEntries.{alone_small, home_there, next_small, set_there}
-use Rattle.child_tasks.specs.Forks.{ForksOn, ForksTo, RestsFork, IsAtFork, SetsFork, begun_rest, part_child, waiting_rest}
+use Rattle.child_tasks.specs.Forks.{ForksOn, ForksTo, RestsFork, SetsFork, begun_rest, part_child, waiting_rest}
 use Rattle.child_tasks.proofs.ForkEntries.{alone_forks, alone_world, rests_fork_by}
-use Rattle.child_tasks.proofs.NextStepForks.{few_tasks, fork_shared, on, tree_out}
+use Rattle.child_tasks.proofs.NextStepForks.{AsksFork, asks_fork, few_tasks, fork_shared, on, tree_out}
 use Rattle.shared_tree.specs.contracts.shared.Shared.{the_view}
 use Rattle.shared_tree.proofs.StepsEntered.{along, entered}
 use Rattle.shared_tree.proofs.shared.Shared.enter_fork.Goals as goal
@@ -27,11 +24,8 @@ grow-grown-requires-clause-out c =
     let w : SharedValue = the_view c.self.inside in
     let p : Private = c.args.part in
     let k : ℕ = c.args.worker in
-    let I : IsSharedValue w = c.self.invariant in
-    let F : Fits w k p = subst (λ (z : SharedValue). Fits z k p) (sym c.self.view_is) c.requires.fits in
-    let at : IsAtFork w p = subst (λ (z : SharedValue). IsAtFork z p) (sym c.self.view_is) c.requires.forks in
-    let free : refused w (alone_entry k p) ≡ None = subst (λ (z : SharedValue). refused z (alone_entry k p) ≡ None) (sym c.self.view_is) c.requires.free in
-    tree_out w I (on w k p I F at free) k p F
+    let asks : AsksFork w k p = asks_fork c.self.view_is c.self.invariant c.requires.fits c.requires.forks c.requires.free in
+    tree_out w asks.I (on asks) k p asks.F
 
 pub grow-grown-requires-clause-few : goal.grow-grown-requires-clause-few
 grow-grown-requires-clause-few c = few_tasks (the_view c.self.inside) c.self.invariant
@@ -44,12 +38,8 @@ pub grow-grown-requires-clause-made : goal.grow-grown-requires-clause-made
 grow-grown-requires-clause-made c =
     let w : SharedValue = the_view c.self.inside in
     let p : Private = c.args.part in
-    let k : ℕ = c.args.worker in
-    let I : IsSharedValue w = c.self.invariant in
-    let F : Fits w k p = subst (λ (z : SharedValue). Fits z k p) (sym c.self.view_is) c.requires.fits in
-    let at : IsAtFork w p = subst (λ (z : SharedValue). IsAtFork z p) (sym c.self.view_is) c.requires.forks in
-    let free : refused w (alone_entry k p) ≡ None = subst (λ (z : SharedValue). refused z (alone_entry k p) ≡ None) (sym c.self.view_is) c.requires.free in
-    home_there w k p I F (fork_shared w p at) free
+    let asks = asks_fork c.self.view_is c.self.invariant c.requires.fits c.requires.forks c.requires.free in
+    home_there (record { I = asks.I; F = asks.F; shared = (fork_shared w p asks.at_fork); free = asks.free })
 
 pub enter_alone-requires-clause-room : goal.enter_alone-requires-clause-room
 enter_alone-requires-clause-room c =
@@ -59,34 +49,22 @@ pub enter_alone-requires-clause-small : goal.enter_alone-requires-clause-small
 enter_alone-requires-clause-small c =
     let w : SharedValue = the_view c.self.inside in
     let p : Private = c.args.part in
-    let k : ℕ = c.args.worker in
-    let I : IsSharedValue w = c.self.invariant in
-    let F : Fits w k p = subst (λ (z : SharedValue). Fits z k p) (sym c.self.view_is) c.requires.fits in
-    let at : IsAtFork w p = subst (λ (z : SharedValue). IsAtFork z p) (sym c.self.view_is) c.requires.forks in
-    let free : refused w (alone_entry k p) ≡ None = subst (λ (z : SharedValue). refused z (alone_entry k p) ≡ None) (sym c.self.view_is) c.requires.free in
-    alone_small w k p I F (fork_shared w p at) free
+    let asks = asks_fork c.self.view_is c.self.invariant c.requires.fits c.requires.forks c.requires.free in
+    alone_small (record { I = asks.I; F = asks.F; shared = (fork_shared w p asks.at_fork); free = asks.free })
 
 pub fork_homes-marked-requires-clause-made : goal.fork_homes-marked-requires-clause-made
 fork_homes-marked-requires-clause-made c =
     let w : SharedValue = the_view c.self.inside in
     let p : Private = c.args.part in
-    let k : ℕ = c.args.worker in
-    let I : IsSharedValue w = c.self.invariant in
-    let F : Fits w k p = subst (λ (z : SharedValue). Fits z k p) (sym c.self.view_is) c.requires.fits in
-    let at : IsAtFork w p = subst (λ (z : SharedValue). IsAtFork z p) (sym c.self.view_is) c.requires.forks in
-    let free : refused w (alone_entry k p) ≡ None = subst (λ (z : SharedValue). refused z (alone_entry k p) ≡ None) (sym c.self.view_is) c.requires.free in
-    subst (λ (z : HomesValue). p.task < length z.rests) (sym c.in-Ok-grown.ensures.homes) (home_there w k p I F (fork_shared w p at) free)
+    let asks = asks_fork c.self.view_is c.self.invariant c.requires.fits c.requires.forks c.requires.free in
+    subst (λ (z : HomesValue). p.task < length z.rests) (sym c.in-Ok-grown.ensures.homes) (home_there (record { I = asks.I; F = asks.F; shared = (fork_shared w p asks.at_fork); free = asks.free }))
 
 pub fork_homes-marked-requires-clause-noted : goal.fork_homes-marked-requires-clause-noted
 fork_homes-marked-requires-clause-noted c =
     let w : SharedValue = the_view c.self.inside in
     let p : Private = c.args.part in
-    let k : ℕ = c.args.worker in
-    let I : IsSharedValue w = c.self.invariant in
-    let F : Fits w k p = subst (λ (z : SharedValue). Fits z k p) (sym c.self.view_is) c.requires.fits in
-    let at : IsAtFork w p = subst (λ (z : SharedValue). IsAtFork z p) (sym c.self.view_is) c.requires.forks in
-    let free : refused w (alone_entry k p) ≡ None = subst (λ (z : SharedValue). refused z (alone_entry k p) ≡ None) (sym c.self.view_is) c.requires.free in
-    subst (λ (z : HomesValue). p.task < length z.sets) (sym c.in-Ok-grown.ensures.homes) (set_there w k p I F (fork_shared w p at) free)
+    let asks = asks_fork c.self.view_is c.self.invariant c.requires.fits c.requires.forks c.requires.free in
+    subst (λ (z : HomesValue). p.task < length z.sets) (sym c.in-Ok-grown.ensures.homes) (set_there (record { I = asks.I; F = asks.F; shared = (fork_shared w p asks.at_fork); free = asks.free }))
 
 pub fork_homes-marked-requires-clause-block : goal.fork_homes-marked-requires-clause-block
 fork_homes-marked-requires-clause-block c =
@@ -100,30 +78,23 @@ pub fork_homes-marked-requires-clause-next : goal.fork_homes-marked-requires-cla
 fork_homes-marked-requires-clause-next c =
     let w : SharedValue = the_view c.self.inside in
     let p : Private = c.args.part in
-    let k : ℕ = c.args.worker in
-    let I : IsSharedValue w = c.self.invariant in
-    let F : Fits w k p = subst (λ (z : SharedValue). Fits z k p) (sym c.self.view_is) c.requires.fits in
-    let at : IsAtFork w p = subst (λ (z : SharedValue). IsAtFork z p) (sym c.self.view_is) c.requires.forks in
-    let free : refused w (alone_entry k p) ≡ None = subst (λ (z : SharedValue). refused z (alone_entry k p) ≡ None) (sym c.self.view_is) c.requires.free in
-    next_small w k p I F (fork_shared w p at) free
+    let asks = asks_fork c.self.view_is c.self.invariant c.requires.fits c.requires.forks c.requires.free in
+    next_small (record { I = asks.I; F = asks.F; shared = (fork_shared w p asks.at_fork); free = asks.free })
 
 pub invariant_of-self-2 : goal.invariant_of-self-2
 invariant_of-self-2 c =
     let w : SharedValue = the_view c.self.inside in
     let p : Private = c.args.part in
     let k : ℕ = c.args.worker in
-    let I : IsSharedValue w = c.self.invariant in
-    let F : Fits w k p = subst (λ (z : SharedValue). Fits z k p) (sym c.self.view_is) c.requires.fits in
-    let at : IsAtFork w p = subst (λ (z : SharedValue). IsAtFork z p) (sym c.self.view_is) c.requires.forks in
-    let free : refused w (alone_entry k p) ≡ None = subst (λ (z : SharedValue). refused z (alone_entry k p) ≡ None) (sym c.self.view_is) c.requires.free in
+    let asks : AsksFork w k p = asks_fork c.self.view_is c.self.invariant c.requires.fits c.requires.forks c.requires.free in
     let B : (n : ℕ) × ForksTo w p c.args.left c.args.right n = subst (λ (z : SharedValue). (n : ℕ) × ForksTo z p c.args.left c.args.right n) (sym c.self.view_is) c.requires.by in
     let low : depth_of w.tree p.task < 1000 = subst (λ (z : SharedValue). depth_of z.tree p.task < 1000) (sym c.self.view_is) c.requires.shallow in
     let g : HomesValue = c.grow-grown.new.homes in
     let n : HomesValue = c.fork_homes-marked.new.homes in
     let grown : g ≡ record c.self.inside.heaps.homes { blocks = g.blocks; room = g.room } = c.in-Ok-grown.ensures.homes in
-    let made : p.task < length w.rests = home_there w k p I F (fork_shared w p at) free in
-    let first : c.in-Ok-grown.first ≡ part_child p (length w.rests) c.args.left c.in-Ok-grown.first.heap.slots c.in-Ok-grown.first.heap.spare = c.in-Ok-grown.ensures.left_child ∙ ap (λ n. part_child p n c.args.left c.in-Ok-grown.first.heap.slots c.in-Ok-grown.first.heap.spare) (sym I.made) in
-    let second : c.in-Ok-grown.second ≡ part_child p (length w.rests + 1) c.args.right c.in-Ok-grown.second.heap.slots c.in-Ok-grown.second.heap.spare = c.in-Ok-grown.ensures.right_child ∙ ap (λ n. part_child p (n + 1) c.args.right c.in-Ok-grown.second.heap.slots c.in-Ok-grown.second.heap.spare) (sym I.made) in
+    let made : p.task < length w.rests = home_there (record { I = asks.I; F = asks.F; shared = (fork_shared w p asks.at_fork); free = asks.free }) in
+    let first : c.in-Ok-grown.first ≡ part_child p (length w.rests) c.args.left c.in-Ok-grown.first.heap.slots c.in-Ok-grown.first.heap.spare = c.in-Ok-grown.ensures.left_child ∙ ap (λ n. part_child p n c.args.left c.in-Ok-grown.first.heap.slots c.in-Ok-grown.first.heap.spare) (sym asks.I.made) in
+    let second : c.in-Ok-grown.second ≡ part_child p (length w.rests + 1) c.args.right c.in-Ok-grown.second.heap.slots c.in-Ok-grown.second.heap.spare = c.in-Ok-grown.ensures.right_child ∙ ap (λ n. part_child p (n + 1) c.args.right c.in-Ok-grown.second.heap.slots c.in-Ok-grown.second.heap.spare) (sym asks.I.made) in
     let rests : n.rests ≡ slice_set w.rests p.task (Some (waiting_rest p)) ++ Some (begun_rest c.in-Ok-grown.first) ∷ (Some (begun_rest c.in-Ok-grown.second) ∷ []) =
     c.fork_homes-marked.ensures.rests ∙ ap (λ (z : HomesValue). slice_set z.rests p.task (Some (waiting_rest p)) ++ Some (begun_rest c.in-Ok-grown.first) ∷ (Some (begun_rest c.in-Ok-grown.second) ∷ [])) grown in
     let marks : n.marks ≡ slice_set w.marks p.task None ++ None ∷ (None ∷ []) = c.fork_homes-marked.ensures.marks ∙ ap (λ (z : HomesValue). slice_set z.marks p.task None ++ None ∷ (None ∷ [])) grown in
@@ -133,25 +104,22 @@ invariant_of-self-2 c =
     let v : SharedValue = record w { steps = w.steps + (p.fresh + 1); sets = n.sets; marks = n.marks } in
     along w k p _ _ c.enter_alone.ensures.steps c.enter_alone.ensures.journal (λ m j. IsSharedValue (record v { steps = m; tree = c.grow-grown.new.tree; rests = n.rests; tasks_out = c.set.new.self; journal = j }))
     (subst IsSharedValue (sym (four_changed v (forked w.tree p.task) _ n.rests n.rests (slice_set w.tasks_out k None) _ (entered w k p) _ c.in-Ok-grown.ensures.tree refl c.set.ensures refl))
-    (alone_world w k p I F at free c.args.left c.args.right B.0 B.1 low n.rests n.sets H N n.marks marks j))
+    (alone_world asks c.args.left c.args.right B.0 B.1 low n.rests n.sets H N n.marks marks j))
 
 pub returns-clause-answered : goal.returns-clause-answered
 returns-clause-answered c =
     let w : SharedValue = the_view c.self.inside in
     let p : Private = c.args.part in
     let k : ℕ = c.args.worker in
-    let I : IsSharedValue w = c.self.invariant in
-    let F : Fits w k p = subst (λ (z : SharedValue). Fits z k p) (sym c.self.view_is) c.requires.fits in
-    let at : IsAtFork w p = subst (λ (z : SharedValue). IsAtFork z p) (sym c.self.view_is) c.requires.forks in
-    let free : refused w (alone_entry k p) ≡ None = subst (λ (z : SharedValue). refused z (alone_entry k p) ≡ None) (sym c.self.view_is) c.requires.free in
+    let asks : AsksFork w k p = asks_fork c.self.view_is c.self.invariant c.requires.fits c.requires.forks c.requires.free in
     let B : (n : ℕ) × ForksTo w p c.args.left c.args.right n = subst (λ (z : SharedValue). (n : ℕ) × ForksTo z p c.args.left c.args.right n) (sym c.self.view_is) c.requires.by in
     let low : depth_of w.tree p.task < 1000 = subst (λ (z : SharedValue). depth_of z.tree p.task < 1000) (sym c.self.view_is) c.requires.shallow in
     let g : HomesValue = c.grow-grown.new.homes in
     let n : HomesValue = c.fork_homes-marked.new.homes in
     let grown : g ≡ record c.self.inside.heaps.homes { blocks = g.blocks; room = g.room } = c.in-Ok-grown.ensures.homes in
-    let made : p.task < length w.rests = home_there w k p I F (fork_shared w p at) free in
-    let first : c.in-Ok-grown.first ≡ part_child p (length w.rests) c.args.left c.in-Ok-grown.first.heap.slots c.in-Ok-grown.first.heap.spare = c.in-Ok-grown.ensures.left_child ∙ ap (λ n. part_child p n c.args.left c.in-Ok-grown.first.heap.slots c.in-Ok-grown.first.heap.spare) (sym I.made) in
-    let second : c.in-Ok-grown.second ≡ part_child p (length w.rests + 1) c.args.right c.in-Ok-grown.second.heap.slots c.in-Ok-grown.second.heap.spare = c.in-Ok-grown.ensures.right_child ∙ ap (λ n. part_child p (n + 1) c.args.right c.in-Ok-grown.second.heap.slots c.in-Ok-grown.second.heap.spare) (sym I.made) in
+    let made : p.task < length w.rests = home_there (record { I = asks.I; F = asks.F; shared = (fork_shared w p asks.at_fork); free = asks.free }) in
+    let first : c.in-Ok-grown.first ≡ part_child p (length w.rests) c.args.left c.in-Ok-grown.first.heap.slots c.in-Ok-grown.first.heap.spare = c.in-Ok-grown.ensures.left_child ∙ ap (λ n. part_child p n c.args.left c.in-Ok-grown.first.heap.slots c.in-Ok-grown.first.heap.spare) (sym asks.I.made) in
+    let second : c.in-Ok-grown.second ≡ part_child p (length w.rests + 1) c.args.right c.in-Ok-grown.second.heap.slots c.in-Ok-grown.second.heap.spare = c.in-Ok-grown.ensures.right_child ∙ ap (λ n. part_child p (n + 1) c.args.right c.in-Ok-grown.second.heap.slots c.in-Ok-grown.second.heap.spare) (sym asks.I.made) in
     let rests : n.rests ≡ slice_set w.rests p.task (Some (waiting_rest p)) ++ Some (begun_rest c.in-Ok-grown.first) ∷ (Some (begun_rest c.in-Ok-grown.second) ∷ []) =
     c.fork_homes-marked.ensures.rests ∙ ap (λ (z : HomesValue). slice_set z.rests p.task (Some (waiting_rest p)) ++ Some (begun_rest c.in-Ok-grown.first) ∷ (Some (begun_rest c.in-Ok-grown.second) ∷ [])) grown in
     let marks : n.marks ≡ slice_set w.marks p.task None ++ None ∷ (None ∷ []) = c.fork_homes-marked.ensures.marks ∙ ap (λ (z : HomesValue). slice_set z.marks p.task None ++ None ∷ (None ∷ [])) grown in
@@ -162,7 +130,7 @@ returns-clause-answered c =
     subst (λ (z : SharedValue). ForksOn z (record v { steps = c.enter_alone.new.steps; tree = c.grow-grown.new.tree; rests = n.rests; tasks_out = c.set.new.self; journal = c.enter_alone.new.journal }) k p c.in-Ok-grown.first.task c.in-Ok-grown.second.task) c.self.view_is
     (along w k p _ _ c.enter_alone.ensures.steps c.enter_alone.ensures.journal (λ m j. ForksOn w (record v { steps = m; tree = c.grow-grown.new.tree; rests = n.rests; tasks_out = c.set.new.self; journal = j }) k p c.in-Ok-grown.first.task c.in-Ok-grown.second.task)
     (subst (λ (z : SharedValue). ForksOn w z k p c.in-Ok-grown.first.task c.in-Ok-grown.second.task) (sym (four_changed v (forked w.tree p.task) _ n.rests n.rests (slice_set w.tasks_out k None) _ (entered w k p) _ c.in-Ok-grown.ensures.tree refl c.set.ensures refl))
-    (alone_forks w k p I F at free c.args.left c.args.right B.0 B.1 low n.rests n.sets H N n.marks marks j c.in-Ok-grown.first.task c.in-Ok-grown.second.task
+    (alone_forks asks c.args.left c.args.right B.0 B.1 low n.rests n.sets H N n.marks marks j c.in-Ok-grown.first.task c.in-Ok-grown.second.task
     (ap (λ (z : Child). z.task) c.in-Ok-grown.ensures.left_child) (ap (λ (z : Child). z.task) c.in-Ok-grown.ensures.right_child))))
 
 -- the same value, by what a call left that failed

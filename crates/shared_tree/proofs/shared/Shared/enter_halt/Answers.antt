@@ -1,48 +1,37 @@
-use Rattle.std.proofs.Common.{◌≡◌, ℕ, ◌-◌, Some, None, [], sym, subst}
+use Rattle.std.proofs.Common.{◌≡◌, ℕ, ◌-◌, Some, [], sym, subst}
 use Rattle.hh_model.specs.Step.{ended_by, step}
 use Rattle.run_ledger.specs.declared.data.RunEnd.TheVariants.{Machine}
 use Rattle.task_machine.specs.declared.part.Private.{Private}
 use Rattle.shared_value.specs.Stands.{IsSharedValue}
 use Rattle.shared_value.specs.SharedValue.{SharedValue}
-use Rattle.shared_value.specs.Fits.{Fits}
-use Rattle.shared_value.specs.Entered.{refused}
-use Rattle.own_steps.specs.Alone.{HaltsAlone, IsShared, alone_entry, then_accounts}
-use Rattle.own_steps.proofs.AloneEntries.{alone_small, halt_world, halts_alone}
+use Rattle.own_steps.specs.Alone.{HaltsAlone, then_accounts}
+use Rattle.own_steps.proofs.AloneEntries.{AsksAlone, asks_alone, alone_small, halt_world, halts_alone}
 use Rattle.shared_tree.specs.contracts.shared.Shared.{the_view}
 use Rattle.shared_tree.proofs.StepsEntered.{along}
 use Rattle.shared_tree.proofs.shared.Shared.enter_halt.Goals as goal
 
 pub enter_alone-requires-clause-small : goal.enter_alone-requires-clause-small
 enter_alone-requires-clause-small c =
-    let w : SharedValue = the_view c.self.inside in
-    let p : Private = c.args.part.now in
-    let k : ℕ = c.args.worker in
-    let F : Fits w k p = subst (λ (z : SharedValue). Fits z k p) (sym c.self.view_is) c.requires.fits in
-    let shared : IsShared w p = subst (λ (z : SharedValue). IsShared z p) (sym c.self.view_is) c.requires.shared in
-    let free : refused w (alone_entry k p) ≡ None = subst (λ (z : SharedValue). refused z (alone_entry k p) ≡ None) (sym c.self.view_is) c.requires.free in
-    alone_small w k p c.self.invariant F shared free
+    let asks = asks_alone c.self.view_is c.self.invariant c.requires.fits c.requires.shared c.requires.free in
+    alone_small asks
 
 pub invariant_of-self : goal.invariant_of-self
 invariant_of-self c =
     let w : SharedValue = the_view c.self.inside in
     let p : Private = c.args.part.now in
     let k : ℕ = c.args.worker in
-    let F : Fits w k p = subst (λ (z : SharedValue). Fits z k p) (sym c.self.view_is) c.requires.fits in
-    let shared : IsShared w p = subst (λ (z : SharedValue). IsShared z p) (sym c.self.view_is) c.requires.shared in
-    let free : refused w (alone_entry k p) ≡ None = subst (λ (z : SharedValue). refused z (alone_entry k p) ≡ None) (sym c.self.view_is) c.requires.free in
+    let asks : AsksAlone w k p = asks_alone c.self.view_is c.self.invariant c.requires.fits c.requires.shared c.requires.free in
     let is : step w.program (then_accounts w p).machine p.task ≡ ended_by (then_accounts w p).machine c.args.end = subst (λ (z : SharedValue). step z.program (then_accounts z p).machine p.task ≡ ended_by (then_accounts z p).machine c.args.end) (sym c.self.view_is) c.requires.ends in
     along w k p _ _ c.enter_alone.ensures.steps c.enter_alone.ensures.journal (λ n j. IsSharedValue (record w { steps = n; journal = j; end = Some (Machine c.args.end) }))
-    (halt_world w k p c.self.invariant F shared free c.args.end c.requires.other is (record { items = []; room = w.journal.room - 1 }))
+    (halt_world asks c.args.end c.requires.other is (record { items = []; room = w.journal.room - 1 }))
 
 pub returns : goal.returns
 returns c =
     let w : SharedValue = the_view c.self.inside in
     let p : Private = c.args.part.now in
     let k : ℕ = c.args.worker in
-    let F : Fits w k p = subst (λ (z : SharedValue). Fits z k p) (sym c.self.view_is) c.requires.fits in
-    let shared : IsShared w p = subst (λ (z : SharedValue). IsShared z p) (sym c.self.view_is) c.requires.shared in
-    let free : refused w (alone_entry k p) ≡ None = subst (λ (z : SharedValue). refused z (alone_entry k p) ≡ None) (sym c.self.view_is) c.requires.free in
+    let asks : AsksAlone w k p = asks_alone c.self.view_is c.self.invariant c.requires.fits c.requires.shared c.requires.free in
     let is : step w.program (then_accounts w p).machine p.task ≡ ended_by (then_accounts w p).machine c.args.end = subst (λ (z : SharedValue). step z.program (then_accounts z p).machine p.task ≡ ended_by (then_accounts z p).machine c.args.end) (sym c.self.view_is) c.requires.ends in
     subst (λ (z : SharedValue). HaltsAlone z (record w { steps = c.enter_alone.new.steps; journal = c.enter_alone.new.journal; end = Some (Machine c.args.end) }) k p (record p { fresh = 0 })) c.self.view_is
     (along w k p _ _ c.enter_alone.ensures.steps c.enter_alone.ensures.journal (λ n j. HaltsAlone w (record w { steps = n; journal = j; end = Some (Machine c.args.end) }) k p (record p { fresh = 0 }))
-    (halts_alone w k p c.self.invariant F shared free c.args.end c.requires.other is (record { items = []; room = w.journal.room - 1 })))
+    (halts_alone asks c.args.end c.requires.other is (record { items = []; room = w.journal.room - 1 })))

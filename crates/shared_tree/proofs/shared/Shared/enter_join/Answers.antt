@@ -17,14 +17,11 @@ use Rattle.task_homes.specs.declared.task_at_rest.Rest.{Rest}
 use Rattle.task_homes.specs.HomesValue.{HomesValue}
 use Rattle.shared_value.specs.SharedValue.{SharedValue, rest_at}
 use Rattle.shared_value.specs.Stands.{IsSharedValue}
-use Rattle.shared_value.specs.Fits.{Fits}
-use Rattle.shared_value.specs.Entered.{refused}
 use Rattle.shared_value.proofs.JournalGoesOn.{four_changed}
-use Rattle.own_steps.specs.Alone.{alone_entry}
 use Rattle.own_steps.proofs.AloneEntries.{alone_small}
-use Rattle.child_tasks.specs.ChildEnds.{EndsChild, IsAtEnd}
+use Rattle.child_tasks.specs.ChildEnds.{EndsChild}
 use Rattle.child_tasks.specs.Joins.{CanJoin, HasPlaces, parent_side}
-use Rattle.child_tasks.proofs.ChildReturns.{end_shared, own_made, parent_low}
+use Rattle.child_tasks.proofs.ChildReturns.{AsksEnd, asks_end, end_shared, own_made, parent_low}
 use Rattle.child_tasks.proofs.NextStepForks.{few_tasks}
 use Rattle.child_tasks.proofs.JoinEntries as entry
 use Rattle.child_tasks.proofs.JoinEntries.{other_made}
@@ -36,75 +33,45 @@ use Rattle.shared_tree.proofs.shared.Shared.enter_join.Goals as goal
 
 pub sibling_of-other-requires-clause-child : goal.sibling_of-other-requires-clause-child
 sibling_of-other-requires-clause-child c =
-    let w : SharedValue = the_view c.self.inside in
-    let p : Private = c.args.part in
-    let k : ℕ = c.args.worker in
-    let I : IsSharedValue w = c.self.invariant in
-    let F : Fits w k p = subst (λ (z : SharedValue). Fits z k p) (sym c.self.view_is) c.requires.fits in
-    let at : IsAtEnd w p = subst (λ (z : SharedValue). IsAtEnd z p) (sym c.self.view_is) c.requires.ends in
-    let free : refused w (alone_entry k p) ≡ None = subst (λ (z : SharedValue). refused z (alone_entry k p) ≡ None) (sym c.self.view_is) c.requires.free in
-    let low = parent_low w k p I F at free in
+    let asks = asks_end c.self.view_is c.self.invariant c.requires.fits c.requires.ends c.requires.free in
+    let low = parent_low asks in
     omega (arith, low)
 
 pub sibling_of-other-requires-clause-few : goal.sibling_of-other-requires-clause-few
 sibling_of-other-requires-clause-few c =
     let w : SharedValue = the_view c.self.inside in
-    let p : Private = c.args.part in
-    let k : ℕ = c.args.worker in
-    let I : IsSharedValue w = c.self.invariant in
-    let F : Fits w k p = subst (λ (z : SharedValue). Fits z k p) (sym c.self.view_is) c.requires.fits in
-    let at : IsAtEnd w p = subst (λ (z : SharedValue). IsAtEnd z p) (sym c.self.view_is) c.requires.ends in
-    let free : refused w (alone_entry k p) ≡ None = subst (λ (z : SharedValue). refused z (alone_entry k p) ≡ None) (sym c.self.view_is) c.requires.free in
-    let few = few_tasks w I in
-    let made = own_made w k p I F at free in
+    let asks = asks_end c.self.view_is c.self.invariant c.requires.fits c.requires.ends c.requires.free in
+    let few = few_tasks w asks.I in
+    let made = own_made asks in
     omega (arith, few, made)
 
 pub enter_alone-requires-clause-small : goal.enter_alone-requires-clause-small
 enter_alone-requires-clause-small c =
     let w : SharedValue = the_view c.self.inside in
     let p : Private = c.args.part in
-    let k : ℕ = c.args.worker in
-    let I : IsSharedValue w = c.self.invariant in
-    let F : Fits w k p = subst (λ (z : SharedValue). Fits z k p) (sym c.self.view_is) c.requires.fits in
-    let at : IsAtEnd w p = subst (λ (z : SharedValue). IsAtEnd z p) (sym c.self.view_is) c.requires.ends in
-    let free : refused w (alone_entry k p) ≡ None = subst (λ (z : SharedValue). refused z (alone_entry k p) ≡ None) (sym c.self.view_is) c.requires.free in
-    alone_small w k p I F (end_shared w p at) free
+    let asks = asks_end c.self.view_is c.self.invariant c.requires.fits c.requires.ends c.requires.free in
+    alone_small (record { I = asks.I; F = asks.F; shared = (end_shared w p asks.at_end); free = asks.free })
 
 pub set_state-requires : goal.set_state-requires
 set_state-requires c =
-    let w : SharedValue = the_view c.self.inside in
-    let p : Private = c.args.part in
-    let k : ℕ = c.args.worker in
-    let I : IsSharedValue w = c.self.invariant in
-    let F : Fits w k p = subst (λ (z : SharedValue). Fits z k p) (sym c.self.view_is) c.requires.fits in
-    let at : IsAtEnd w p = subst (λ (z : SharedValue). IsAtEnd z p) (sym c.self.view_is) c.requires.ends in
-    let free : refused w (alone_entry k p) ≡ None = subst (λ (z : SharedValue). refused z (alone_entry k p) ≡ None) (sym c.self.view_is) c.requires.free in
-    own_made w k p I F at free
+    let asks = asks_end c.self.view_is c.self.invariant c.requires.fits c.requires.ends c.requires.free in
+    own_made asks
 
 pub leave-requires : goal.leave-requires
 leave-requires c =
-    let w : SharedValue = the_view c.self.inside in
     let p : Private = c.args.part in
-    let k : ℕ = c.args.worker in
-    let I : IsSharedValue w = c.self.invariant in
-    let F : Fits w k p = subst (λ (z : SharedValue). Fits z k p) (sym c.self.view_is) c.requires.fits in
-    let at : IsAtEnd w p = subst (λ (z : SharedValue). IsAtEnd z p) (sym c.self.view_is) c.requires.ends in
-    let free : refused w (alone_entry k p) ≡ None = subst (λ (z : SharedValue). refused z (alone_entry k p) ≡ None) (sym c.self.view_is) c.requires.free in
-    record { made = subst (λ n. p.task < n) (sym I.made) (own_made w k p I F at free) }
+    let asks = asks_end c.self.view_is c.self.invariant c.requires.fits c.requires.ends c.requires.free in
+    record { made = subst (λ n. p.task < n) (sym asks.I.made) (own_made asks) }
 
 pub leave-requires-2 : goal.leave-requires-2
 leave-requires-2 c =
     let w : SharedValue = the_view c.self.inside in
     let p : Private = c.args.part in
-    let k : ℕ = c.args.worker in
-    let I : IsSharedValue w = c.self.invariant in
-    let F : Fits w k p = subst (λ (z : SharedValue). Fits z k p) (sym c.self.view_is) c.requires.fits in
-    let at : IsAtEnd w p = subst (λ (z : SharedValue). IsAtEnd z p) (sym c.self.view_is) c.requires.ends in
-    let free : refused w (alone_entry k p) ≡ None = subst (λ (z : SharedValue). refused z (alone_entry k p) ≡ None) (sym c.self.view_is) c.requires.free in
+    let asks = asks_end c.self.view_is c.self.invariant c.requires.fits c.requires.ends c.requires.free in
     let ended : state_of w.tree (sibling p.task) ≡ Some Ended = subst (λ (z : SharedValue). state_of z.tree (sibling p.task) ≡ Some Ended) (sym c.self.view_is) c.requires.ended in
-    let made = other_made w k p I F at free ended in
+    let made = other_made asks ended in
     let o = c.sibling_of-other.ensures in
-    let n = I.made in
+    let n = asks.I.made in
     let m : length c.leave.new.self.rests ≡ length w.rests = ap (λ (z : HomesValue). length z.rests) c.leave.ensures.homes ∙ length-set w.rests p.task None in
     record { made = omega (arith, made, o, n, m) }
 
@@ -112,16 +79,12 @@ pub take_rest-above-requires : goal.take_rest-above-requires
 take_rest-above-requires c =
     let w : SharedValue = the_view c.self.inside in
     let p : Private = c.args.part in
-    let k : ℕ = c.args.worker in
-    let I : IsSharedValue w = c.self.invariant in
-    let F : Fits w k p = subst (λ (z : SharedValue). Fits z k p) (sym c.self.view_is) c.requires.fits in
-    let at : IsAtEnd w p = subst (λ (z : SharedValue). IsAtEnd z p) (sym c.self.view_is) c.requires.ends in
-    let free : refused w (alone_entry k p) ≡ None = subst (λ (z : SharedValue). refused z (alone_entry k p) ≡ None) (sym c.self.view_is) c.requires.free in
+    let asks = asks_end c.self.view_is c.self.invariant c.requires.fits c.requires.ends c.requires.free in
     let ended : state_of w.tree (sibling p.task) ≡ Some Ended = subst (λ (z : SharedValue). state_of z.tree (sibling p.task) ≡ Some Ended) (sym c.self.view_is) c.requires.ended in
     let par : parent_of w.tree p.task ≡ Some c.args.parent = subst (λ (z : SharedValue). parent_of z.tree p.task ≡ Some c.args.parent) (sym c.self.view_is) c.requires.parent in
     let h : HomesValue = c.self.inside.heaps.homes in
     let two : c.leave-2.new.self ≡ left_by (left_by h p.task) c.sibling_of-other.result = c.leave-2.ensures.homes ∙ ap (λ (z : HomesValue). left_by z c.sibling_of-other.result) c.leave.ensures.homes in
-    record { there = subst (λ (z : HomesValue). IsSome (rest_at z.rests c.args.parent)) (sym two) (entry.parent_stays w k p I F at free ended c.args.parent c.sibling_of-other.result par c.sibling_of-other.ensures) }
+    record { there = subst (λ (z : HomesValue). IsSome (rest_at z.rests c.args.parent)) (sym two) (entry.parent_stays asks ended c.args.parent c.sibling_of-other.result par c.sibling_of-other.ensures) }
 
 pub take_set-requires : goal.take_set-requires
 take_set-requires c = record { block = c.take_rest-above.ensures.block }
@@ -130,11 +93,7 @@ pub join_children-rest-requires-clause-work : goal.join_children-rest-requires-c
 join_children-rest-requires-clause-work c =
     let w : SharedValue = the_view c.self.inside in
     let p : Private = c.args.part in
-    let k : ℕ = c.args.worker in
-    let I : IsSharedValue w = c.self.invariant in
-    let F : Fits w k p = subst (λ (z : SharedValue). Fits z k p) (sym c.self.view_is) c.requires.fits in
-    let at : IsAtEnd w p = subst (λ (z : SharedValue). IsAtEnd z p) (sym c.self.view_is) c.requires.ends in
-    let free : refused w (alone_entry k p) ≡ None = subst (λ (z : SharedValue). refused z (alone_entry k p) ≡ None) (sym c.self.view_is) c.requires.free in
+    let asks = asks_end c.self.view_is c.self.invariant c.requires.fits c.requires.ends c.requires.free in
     let ended : state_of w.tree (sibling p.task) ≡ Some Ended = subst (λ (z : SharedValue). state_of z.tree (sibling p.task) ≡ Some Ended) (sym c.self.view_is) c.requires.ended in
     let par : parent_of w.tree p.task ≡ Some c.args.parent = subst (λ (z : SharedValue). parent_of z.tree p.task ≡ Some c.args.parent) (sym c.self.view_is) c.requires.parent in
     let places : HasPlaces w p c.args.parent = subst (λ (z : SharedValue). HasPlaces z p c.args.parent) (sym c.self.view_is) c.requires.places in
@@ -174,17 +133,13 @@ join_children-rest-requires-clause-work c =
       left_is = c.in_order-children.ensures.left;
       right_is = c.in_order-children.ensures.right;
     } in
-    (can_join w k p I F at free ended c.args.parent c.sibling_of-other.result par o h h1 h2 h3 h4 home beside above set notes own oth left right T places).0
+    (can_join asks ended c.args.parent c.sibling_of-other.result par o h h1 h2 h3 h4 home beside above set notes own oth left right T places).0
 
 pub join_children-rest-requires-clause-can : goal.join_children-rest-requires-clause-can
 join_children-rest-requires-clause-can c =
     let w : SharedValue = the_view c.self.inside in
     let p : Private = c.args.part in
-    let k : ℕ = c.args.worker in
-    let I : IsSharedValue w = c.self.invariant in
-    let F : Fits w k p = subst (λ (z : SharedValue). Fits z k p) (sym c.self.view_is) c.requires.fits in
-    let at : IsAtEnd w p = subst (λ (z : SharedValue). IsAtEnd z p) (sym c.self.view_is) c.requires.ends in
-    let free : refused w (alone_entry k p) ≡ None = subst (λ (z : SharedValue). refused z (alone_entry k p) ≡ None) (sym c.self.view_is) c.requires.free in
+    let asks = asks_end c.self.view_is c.self.invariant c.requires.fits c.requires.ends c.requires.free in
     let ended : state_of w.tree (sibling p.task) ≡ Some Ended = subst (λ (z : SharedValue). state_of z.tree (sibling p.task) ≡ Some Ended) (sym c.self.view_is) c.requires.ended in
     let par : parent_of w.tree p.task ≡ Some c.args.parent = subst (λ (z : SharedValue). parent_of z.tree p.task ≡ Some c.args.parent) (sym c.self.view_is) c.requires.parent in
     let places : HasPlaces w p c.args.parent = subst (λ (z : SharedValue). HasPlaces z p c.args.parent) (sym c.self.view_is) c.requires.places in
@@ -225,7 +180,7 @@ join_children-rest-requires-clause-can c =
       right_is = c.in_order-children.ensures.right;
     } in
     subst (λ (ns : List Node). CanJoin ns w.pool (parent_side c.args.parent above notes) left right) (sym c.set_state.ensures)
-    (can_join w k p I F at free ended c.args.parent c.sibling_of-other.result par o h h1 h2 h3 h4 home beside above set notes own oth left right T places).1
+    (can_join asks ended c.args.parent c.sibling_of-other.result par o h h1 h2 h3 h4 home beside above set notes own oth left right T places).1
 
 pub remembering-set-requires : goal.remembering-set-requires
 remembering-set-requires c =
@@ -243,10 +198,7 @@ invariant_of-self c =
     let w : SharedValue = the_view c.self.inside in
     let p : Private = c.args.part in
     let k : ℕ = c.args.worker in
-    let I : IsSharedValue w = c.self.invariant in
-    let F : Fits w k p = subst (λ (z : SharedValue). Fits z k p) (sym c.self.view_is) c.requires.fits in
-    let at : IsAtEnd w p = subst (λ (z : SharedValue). IsAtEnd z p) (sym c.self.view_is) c.requires.ends in
-    let free : refused w (alone_entry k p) ≡ None = subst (λ (z : SharedValue). refused z (alone_entry k p) ≡ None) (sym c.self.view_is) c.requires.free in
+    let asks : AsksEnd w k p = asks_end c.self.view_is c.self.invariant c.requires.fits c.requires.ends c.requires.free in
     let ended : state_of w.tree (sibling p.task) ≡ Some Ended = subst (λ (z : SharedValue). state_of z.tree (sibling p.task) ≡ Some Ended) (sym c.self.view_is) c.requires.ended in
     let par : parent_of w.tree p.task ≡ Some c.args.parent = subst (λ (z : SharedValue). parent_of z.tree p.task ≡ Some c.args.parent) (sym c.self.view_is) c.requires.parent in
     let o : c.sibling_of-other.result ≡ sibling p.task = c.sibling_of-other.ensures in
@@ -299,7 +251,7 @@ invariant_of-self c =
       put_is = c.remembering-set.ensures;
     } in
     let j : RoomyValue EntryValue = record { items = []; room = w.journal.room - 1 } in
-    let both = both_made w k p I F at free ended c.args.parent c.sibling_of-other.result par o h h1 h2 h3 h4 home beside above set notes own oth left right pool rest noted h5 h6 put j T P in
+    let both = both_made asks ended c.args.parent c.sibling_of-other.result par o h h1 h2 h3 h4 home beside above set notes own oth left right pool rest noted h5 h6 put j T P in
     let v : SharedValue = record w { pool = pool; sets = h6.sets; marks = h6.marks; steps = w.steps + (p.fresh + 1) } in
     let tree : c.join_children-rest.new.tree ≡ joined_nodes (with_state w.tree p.task Ended) c.args.parent left.side.task right.side.task = c.join_children-rest.ensures.tree ∙ ap (λ ns. joined_nodes ns c.args.parent left.side.task right.side.task) c.set_state.ensures in
     let same = four_changed v (joined_nodes (with_state w.tree p.task Ended) c.args.parent left.side.task right.side.task) c.join_children-rest.new.tree h6.rests h6.rests (slice_set w.tasks_out k None) c.set.new.self (entered w k p) _ tree refl c.set.ensures refl in
@@ -310,10 +262,7 @@ returns-clause-joined c =
     let w : SharedValue = the_view c.self.inside in
     let p : Private = c.args.part in
     let k : ℕ = c.args.worker in
-    let I : IsSharedValue w = c.self.invariant in
-    let F : Fits w k p = subst (λ (z : SharedValue). Fits z k p) (sym c.self.view_is) c.requires.fits in
-    let at : IsAtEnd w p = subst (λ (z : SharedValue). IsAtEnd z p) (sym c.self.view_is) c.requires.ends in
-    let free : refused w (alone_entry k p) ≡ None = subst (λ (z : SharedValue). refused z (alone_entry k p) ≡ None) (sym c.self.view_is) c.requires.free in
+    let asks : AsksEnd w k p = asks_end c.self.view_is c.self.invariant c.requires.fits c.requires.ends c.requires.free in
     let ended : state_of w.tree (sibling p.task) ≡ Some Ended = subst (λ (z : SharedValue). state_of z.tree (sibling p.task) ≡ Some Ended) (sym c.self.view_is) c.requires.ended in
     let par : parent_of w.tree p.task ≡ Some c.args.parent = subst (λ (z : SharedValue). parent_of z.tree p.task ≡ Some c.args.parent) (sym c.self.view_is) c.requires.parent in
     let o : c.sibling_of-other.result ≡ sibling p.task = c.sibling_of-other.ensures in
@@ -366,7 +315,7 @@ returns-clause-joined c =
       put_is = c.remembering-set.ensures;
     } in
     let j : RoomyValue EntryValue = record { items = []; room = w.journal.room - 1 } in
-    let both = both_made w k p I F at free ended c.args.parent c.sibling_of-other.result par o h h1 h2 h3 h4 home beside above set notes own oth left right pool rest noted h5 h6 put j T P in
+    let both = both_made asks ended c.args.parent c.sibling_of-other.result par o h h1 h2 h3 h4 home beside above set notes own oth left right pool rest noted h5 h6 put j T P in
     let v : SharedValue = record w { pool = pool; sets = h6.sets; marks = h6.marks; steps = w.steps + (p.fresh + 1) } in
     let tree : c.join_children-rest.new.tree ≡ joined_nodes (with_state w.tree p.task Ended) c.args.parent left.side.task right.side.task = c.join_children-rest.ensures.tree ∙ ap (λ ns. joined_nodes ns c.args.parent left.side.task right.side.task) c.set_state.ensures in
     let same = four_changed v (joined_nodes (with_state w.tree p.task Ended) c.args.parent left.side.task right.side.task) c.join_children-rest.new.tree h6.rests h6.rests (slice_set w.tasks_out k None) c.set.new.self (entered w k p) _ tree refl c.set.ensures refl in

@@ -1,4 +1,4 @@
-use Rattle.std.proofs.Common.{◌≡◌, ℕ, ℤ, ◌+◌, ◌-◌, ◌++◌, ◌∷◌, arith, None, List, [], ap, sym, subst, ◌∙◌}
+use Rattle.std.proofs.Common.{◌≡◌, ℕ, ℤ, ◌+◌, ◌-◌, ◌++◌, ◌∷◌, arith, List, [], ap, sym, subst, ◌∙◌}
 use Rattle.std.proofs.Common.{w64}
 use Rattle.std.proofs.lemmas.Int.{to_z-of_z}
 use Rattle.task_frames.specs.FramesValue.{FramesValue, with_next}
@@ -6,34 +6,21 @@ use Rattle.task_machine.specs.declared.part.Private.{Private}
 use Rattle.shared_value.specs.declared.next_step.Ending.TheVariants.{Prints}
 use Rattle.shared_value.specs.Stands.{IsSharedValue}
 use Rattle.shared_value.specs.SharedValue.{SharedValue}
-use Rattle.shared_value.specs.Fits.{Fits}
-use Rattle.shared_value.specs.Entered.{refused}
-use Rattle.own_steps.specs.Alone.{IsShared, alone_entry}
 use Rattle.own_steps.specs.Alone.{GoesAlone, Tells}
-use Rattle.own_steps.proofs.AloneEntries.{alone_small, next_small, printed_goes, printed_world}
+use Rattle.own_steps.proofs.AloneEntries.{AsksAlone, asks_alone, alone_small, next_small, printed_goes, printed_world}
 use Rattle.shared_tree.specs.contracts.shared.Shared.{the_view}
 use Rattle.shared_tree.proofs.StepsEntered.{along, entered}
 use Rattle.shared_tree.proofs.shared.Shared.enter_output.Goals as goal
 
 pub enter_alone-requires-clause-small : goal.enter_alone-requires-clause-small
 enter_alone-requires-clause-small c =
-    let w : SharedValue = the_view c.self.inside in
-    let p : Private = c.args.part.now in
-    let k : ℕ = c.args.worker in
-    let F : Fits w k p = subst (λ (z : SharedValue). Fits z k p) (sym c.self.view_is) c.requires.fits in
-    let shared : IsShared w p = subst (λ (z : SharedValue). IsShared z p) (sym c.self.view_is) c.requires.shared in
-    let free : refused w (alone_entry k p) ≡ None = subst (λ (z : SharedValue). refused z (alone_entry k p) ≡ None) (sym c.self.view_is) c.requires.free in
-    alone_small w k p c.self.invariant F shared free
+    let asks = asks_alone c.self.view_is c.self.invariant c.requires.fits c.requires.shared c.requires.free in
+    alone_small asks
 
 pub overflow_add-next : goal.overflow_add-next
 overflow_add-next c =
-    let w : SharedValue = the_view c.self.inside in
-    let p : Private = c.args.part.now in
-    let k : ℕ = c.args.worker in
-    let F : Fits w k p = subst (λ (z : SharedValue). Fits z k p) (sym c.self.view_is) c.requires.fits in
-    let shared : IsShared w p = subst (λ (z : SharedValue). IsShared z p) (sym c.self.view_is) c.requires.shared in
-    let free : refused w (alone_entry k p) ≡ None = subst (λ (z : SharedValue). refused z (alone_entry k p) ≡ None) (sym c.self.view_is) c.requires.free in
-    let small = next_small w k p c.self.invariant F shared free in
+    let asks = asks_alone c.self.view_is c.self.invariant c.requires.fits c.requires.shared c.requires.free in
+    let small = next_small asks in
     let e = c.next-next.ensures in
     omega (arith, small, e)
 
@@ -42,26 +29,22 @@ invariant_of-self-2 c =
     let w : SharedValue = the_view c.self.inside in
     let p : Private = c.args.part.now in
     let k : ℕ = c.args.worker in
-    let F : Fits w k p = subst (λ (z : SharedValue). Fits z k p) (sym c.self.view_is) c.requires.fits in
-    let shared : IsShared w p = subst (λ (z : SharedValue). IsShared z p) (sym c.self.view_is) c.requires.shared in
-    let free : refused w (alone_entry k p) ≡ None = subst (λ (z : SharedValue). refused z (alone_entry k p) ≡ None) (sym c.self.view_is) c.requires.free in
+    let asks : AsksAlone w k p = asks_alone c.self.view_is c.self.invariant c.requires.fits c.requires.shared c.requires.free in
     let T : (n : ℕ) × Tells w p (Prints c.args.value) n = subst (λ (z : SharedValue). (n : ℕ) × Tells z p (Prints c.args.value) n) (sym c.self.view_is) c.requires.prints in
     along w k p _ _ c.enter_alone.ensures.steps c.enter_alone.ensures.journal (λ n j. IsSharedValue (record w { outputs = c.push.new.self; steps = n; journal = j }))
     (subst (λ (xs : List ℤ). IsSharedValue (record w { outputs = xs; steps = w.steps + (p.fresh + 1); journal = entered w k p })) (sym (c.in_ok-push.ensures.ok ∙ ap (λ (x : ℤ). w.outputs ++ x ∷ []) (to_z-of_z w64 c.args.value c.ranges.value)))
-    (printed_world w k p c.self.invariant F shared free c.args.value T.0 T.1 (record { items = []; room = w.journal.room - 1 })))
+    (printed_world asks c.args.value T.0 T.1 (record { items = []; room = w.journal.room - 1 })))
 
 pub returns-clause-goes : goal.returns-clause-goes
 returns-clause-goes c =
     let w : SharedValue = the_view c.self.inside in
     let p : Private = c.args.part.now in
     let k : ℕ = c.args.worker in
-    let F : Fits w k p = subst (λ (z : SharedValue). Fits z k p) (sym c.self.view_is) c.requires.fits in
-    let shared : IsShared w p = subst (λ (z : SharedValue). IsShared z p) (sym c.self.view_is) c.requires.shared in
-    let free : refused w (alone_entry k p) ≡ None = subst (λ (z : SharedValue). refused z (alone_entry k p) ≡ None) (sym c.self.view_is) c.requires.free in
+    let asks : AsksAlone w k p = asks_alone c.self.view_is c.self.invariant c.requires.fits c.requires.shared c.requires.free in
     let T : (n : ℕ) × Tells w p (Prints c.args.value) n = subst (λ (z : SharedValue). (n : ℕ) × Tells z p (Prints c.args.value) n) (sym c.self.view_is) c.requires.prints in
     let frames : c.set_next.new.self ≡ with_next p.frames (p.frames.top.next + 1) = c.set_next.ensures ∙ ap (λ n. with_next p.frames (n + 1)) c.next-next.ensures in
     subst (λ (z : SharedValue). GoesAlone z (record w { outputs = c.push.new.self; steps = c.enter_alone.new.steps; journal = c.enter_alone.new.journal }) k p (record p { frames = c.set_next.new.self; fresh = 0 })) c.self.view_is
     (subst (λ (s : FramesValue). GoesAlone w (record w { outputs = c.push.new.self; steps = c.enter_alone.new.steps; journal = c.enter_alone.new.journal }) k p (record p { frames = s; fresh = 0 })) (sym frames)
     (along w k p _ _ c.enter_alone.ensures.steps c.enter_alone.ensures.journal (λ n j. GoesAlone w (record w { outputs = c.push.new.self; steps = n; journal = j }) k p (record p { frames = with_next p.frames (p.frames.top.next + 1); fresh = 0 }))
     (subst (λ (xs : List ℤ). GoesAlone w (record w { outputs = xs; steps = w.steps + (p.fresh + 1); journal = entered w k p }) k p (record p { frames = with_next p.frames (p.frames.top.next + 1); fresh = 0 })) (sym (c.in_ok-push.ensures.ok ∙ ap (λ (x : ℤ). w.outputs ++ x ∷ []) (to_z-of_z w64 c.args.value c.ranges.value)))
-    (printed_goes w k p c.self.invariant F shared free c.args.value T.0 T.1 (record { items = []; room = w.journal.room - 1 })))))
+    (printed_goes asks c.args.value T.0 T.1 (record { items = []; room = w.journal.room - 1 })))))

@@ -1,12 +1,10 @@
-use Rattle.std.proofs.Common.{◌≡◌, ℕ, ◌+◌, ◌-◌, arith, None, [], ap, ap₂, sym, subst, ◌∙◌}
+use Rattle.std.proofs.Common.{◌≡◌, ℕ, ◌+◌, ◌-◌, arith, [], ap, ap₂, sym, subst, ◌∙◌}
 use Rattle.task_frames.specs.FramesValue.{FramesValue, with_next, with_reference}
 use Rattle.task_machine.specs.declared.part.Private.{Private}
 use Rattle.shared_value.specs.Stands.{IsSharedValue}
 use Rattle.shared_value.specs.SharedValue.{SharedValue}
-use Rattle.shared_value.specs.Fits.{Fits}
-use Rattle.shared_value.specs.Entered.{refused}
-use Rattle.own_steps.specs.Alone.{GoesAlone, IsShared, alone_entry}
-use Rattle.own_steps.proofs.AloneEntries.{alone_small, next_small}
+use Rattle.own_steps.specs.Alone.{GoesAlone}
+use Rattle.own_steps.proofs.AloneEntries.{AsksAlone, asks_alone, alone_small, next_small}
 use Rattle.others_objects.specs.declared.other.OtherStep.TheVariants.{SetsReference}
 use Rattle.others_objects.specs.Other.{TellsOther}
 use Rattle.others_objects.proofs.OtherEntries.{reference_goes, reference_world}
@@ -16,23 +14,13 @@ use Rattle.shared_tree.proofs.shared.Shared.enter_reference.Goals as goal
 
 pub enter_alone-requires-clause-small : goal.enter_alone-requires-clause-small
 enter_alone-requires-clause-small c =
-    let w : SharedValue = the_view c.self.inside in
-    let p : Private = c.args.part.now in
-    let k : ℕ = c.args.worker in
-    let F : Fits w k p = subst (λ (z : SharedValue). Fits z k p) (sym c.self.view_is) c.requires.fits in
-    let shared : IsShared w p = subst (λ (z : SharedValue). IsShared z p) (sym c.self.view_is) c.requires.shared in
-    let free : refused w (alone_entry k p) ≡ None = subst (λ (z : SharedValue). refused z (alone_entry k p) ≡ None) (sym c.self.view_is) c.requires.free in
-    alone_small w k p c.self.invariant F shared free
+    let asks = asks_alone c.self.view_is c.self.invariant c.requires.fits c.requires.shared c.requires.free in
+    alone_small asks
 
 pub overflow_add-next : goal.overflow_add-next
 overflow_add-next c =
-    let w : SharedValue = the_view c.self.inside in
-    let p : Private = c.args.part.now in
-    let k : ℕ = c.args.worker in
-    let F : Fits w k p = subst (λ (z : SharedValue). Fits z k p) (sym c.self.view_is) c.requires.fits in
-    let shared : IsShared w p = subst (λ (z : SharedValue). IsShared z p) (sym c.self.view_is) c.requires.shared in
-    let free : refused w (alone_entry k p) ≡ None = subst (λ (z : SharedValue). refused z (alone_entry k p) ≡ None) (sym c.self.view_is) c.requires.free in
-    let small = next_small w k p c.self.invariant F shared free in
+    let asks = asks_alone c.self.view_is c.self.invariant c.requires.fits c.requires.shared c.requires.free in
+    let small = next_small asks in
     let e = c.next-next.ensures in
     omega (arith, small, e)
 
@@ -41,25 +29,21 @@ invariant_of-self c =
     let w : SharedValue = the_view c.self.inside in
     let p : Private = c.args.part.now in
     let k : ℕ = c.args.worker in
-    let F : Fits w k p = subst (λ (z : SharedValue). Fits z k p) (sym c.self.view_is) c.requires.fits in
-    let shared : IsShared w p = subst (λ (z : SharedValue). IsShared z p) (sym c.self.view_is) c.requires.shared in
-    let free : refused w (alone_entry k p) ≡ None = subst (λ (z : SharedValue). refused z (alone_entry k p) ≡ None) (sym c.self.view_is) c.requires.free in
+    let asks : AsksAlone w k p = asks_alone c.self.view_is c.self.invariant c.requires.fits c.requires.shared c.requires.free in
     let T : (n : ℕ) × TellsOther w p (SetsReference c.args.register c.args.value) n = subst (λ (z : SharedValue). (n : ℕ) × TellsOther z p (SetsReference c.args.register c.args.value) n) (sym c.self.view_is) c.requires.reads in
     along w k p _ _ c.enter_alone.ensures.steps c.enter_alone.ensures.journal (λ n j. IsSharedValue (record w { steps = n; journal = j }))
-    (reference_world w k p c.self.invariant F shared free c.args.register c.args.value T.0 T.1 (record { items = []; room = w.journal.room - 1 }))
+    (reference_world asks c.args.register c.args.value T.0 T.1 (record { items = []; room = w.journal.room - 1 }))
 
 pub returns : goal.returns
 returns c =
     let w : SharedValue = the_view c.self.inside in
     let p : Private = c.args.part.now in
     let k : ℕ = c.args.worker in
-    let F : Fits w k p = subst (λ (z : SharedValue). Fits z k p) (sym c.self.view_is) c.requires.fits in
-    let shared : IsShared w p = subst (λ (z : SharedValue). IsShared z p) (sym c.self.view_is) c.requires.shared in
-    let free : refused w (alone_entry k p) ≡ None = subst (λ (z : SharedValue). refused z (alone_entry k p) ≡ None) (sym c.self.view_is) c.requires.free in
+    let asks : AsksAlone w k p = asks_alone c.self.view_is c.self.invariant c.requires.fits c.requires.shared c.requires.free in
     let T : (n : ℕ) × TellsOther w p (SetsReference c.args.register c.args.value) n = subst (λ (z : SharedValue). (n : ℕ) × TellsOther z p (SetsReference c.args.register c.args.value) n) (sym c.self.view_is) c.requires.reads in
     let frames : c.set_next.new.self ≡ with_next (with_reference p.frames c.args.register c.args.value) (p.frames.top.next + 1) =
     c.set_next.ensures ∙ ap₂ (λ (s : FramesValue) n. with_next s (n + 1)) (c.set_reference.ensures ∙ ap (λ i. with_reference p.frames i c.args.value) c.index.ensures.value) c.next-next.ensures in
     subst (λ (z : SharedValue). GoesAlone z (record w { steps = c.enter_alone.new.steps; journal = c.enter_alone.new.journal }) k p (record p { frames = c.set_next.new.self; fresh = 0 })) c.self.view_is
     (subst (λ (s : FramesValue). GoesAlone w (record w { steps = c.enter_alone.new.steps; journal = c.enter_alone.new.journal }) k p (record p { frames = s; fresh = 0 })) (sym frames)
     (along w k p _ _ c.enter_alone.ensures.steps c.enter_alone.ensures.journal (λ n j. GoesAlone w (record w { steps = n; journal = j }) k p (record p { frames = with_next (with_reference p.frames c.args.register c.args.value) (p.frames.top.next + 1); fresh = 0 }))
-    (reference_goes w k p c.self.invariant F shared free c.args.register c.args.value T.0 T.1 (record { items = []; room = w.journal.room - 1 }))))
+    (reference_goes asks c.args.register c.args.value T.0 T.1 (record { items = []; room = w.journal.room - 1 }))))

@@ -11,10 +11,8 @@ use Rattle.task_machine.specs.declared.part.Private.{Private}
 use Rattle.task_homes.specs.declared.heaps.Heaps.{Heaps}
 use Rattle.shared_value.specs.Stands.{IsSharedValue}
 use Rattle.shared_value.specs.SharedValue.{SharedValue}
-use Rattle.shared_value.specs.Fits.{Fits}
-use Rattle.shared_value.specs.Entered.{refused}
-use Rattle.own_steps.specs.Alone.{GoesAlone, IsShared, alone_entry}
-use Rattle.own_steps.proofs.AloneEntries.{alone_small, next_small}
+use Rattle.own_steps.specs.Alone.{GoesAlone}
+use Rattle.own_steps.proofs.AloneEntries.{AsksAlone, asks_alone, alone_small, next_small}
 use Rattle.others_objects.specs.declared.other.OtherStep.{OtherStep}
 use Rattle.others_objects.specs.Other.{SameButRoom, TellsOther, put_rest, store_frames, store_of}
 use Rattle.others_objects.proofs.SetRooms.{roomier_same, roomier_world}
@@ -32,46 +30,33 @@ pub write_reference-requires-clause-there : goal.write_reference-requires-clause
 write_reference-requires-clause-there c =
     let w : SharedValue = the_view c.self.inside in
     let p : Private = c.args.part.now in
-    let k : ℕ = c.args.worker in
-    let F : Fits w k p = subst (λ (z : SharedValue). Fits z k p) (sym c.self.view_is) c.requires.fits in
-    let shared : IsShared w p = subst (λ (z : SharedValue). IsShared z p) (sym c.self.view_is) c.requires.shared in
-    let free : refused w (alone_entry k p) ≡ None = subst (λ (z : SharedValue). refused z (alone_entry k p) ≡ None) (sym c.self.view_is) c.requires.free in
+    let asks = asks_alone c.self.view_is c.self.invariant c.requires.fits c.requires.shared c.requires.free in
     let does : OtherStep = store_of c.args.swap c.args.object c.args.field c.args.value in
     let T : (n : ℕ) × TellsOther w p does n = subst (λ (z : SharedValue). (n : ℕ) × TellsOther z p does n) (sym c.self.view_is) c.requires.stores in
-    entries.writable w k p c.self.invariant F shared free c.args.swap c.args.object c.args.field c.args.value T.0 T.1
+    entries.writable asks c.args.swap c.args.object c.args.field c.args.value T.0 T.1
 
 pub write_reference-requires-clause-value : goal.write_reference-requires-clause-value
 write_reference-requires-clause-value c =
     let w : SharedValue = the_view c.self.inside in
     let p : Private = c.args.part.now in
-    let k : ℕ = c.args.worker in
-    let F : Fits w k p = subst (λ (z : SharedValue). Fits z k p) (sym c.self.view_is) c.requires.fits in
-    let shared : IsShared w p = subst (λ (z : SharedValue). IsShared z p) (sym c.self.view_is) c.requires.shared in
-    let free : refused w (alone_entry k p) ≡ None = subst (λ (z : SharedValue). refused z (alone_entry k p) ≡ None) (sym c.self.view_is) c.requires.free in
+    let asks = asks_alone c.self.view_is c.self.invariant c.requires.fits c.requires.shared c.requires.free in
     let does : OtherStep = store_of c.args.swap c.args.object c.args.field c.args.value in
     let T : (n : ℕ) × TellsOther w p does n = subst (λ (z : SharedValue). (n : ℕ) × TellsOther z p does n) (sym c.self.view_is) c.requires.stores in
-    entries.value_owned w k p c.self.invariant F shared free c.args.swap c.args.object c.args.field c.args.value T.0 T.1
+    entries.value_owned asks c.args.swap c.args.object c.args.field c.args.value T.0 T.1
 
 pub write_reference-requires-clause-place : goal.write_reference-requires-clause-place
 write_reference-requires-clause-place c =
     let w : SharedValue = the_view c.self.inside in
     let p : Private = c.args.part.now in
-    let k : ℕ = c.args.worker in
-    let F : Fits w k p = subst (λ (z : SharedValue). Fits z k p) (sym c.self.view_is) c.requires.fits in
-    let shared : IsShared w p = subst (λ (z : SharedValue). IsShared z p) (sym c.self.view_is) c.requires.shared in
-    let free : refused w (alone_entry k p) ≡ None = subst (λ (z : SharedValue). refused z (alone_entry k p) ≡ None) (sym c.self.view_is) c.requires.free in
+    let asks = asks_alone c.self.view_is c.self.invariant c.requires.fits c.requires.shared c.requires.free in
     let does : OtherStep = store_of c.args.swap c.args.object c.args.field c.args.value in
     let T : (n : ℕ) × TellsOther w p does n = subst (λ (z : SharedValue). (n : ℕ) × TellsOther z p does n) (sym c.self.view_is) c.requires.stores in
-    entries.value_place w k p c.self.invariant F shared free c.args.swap c.args.object c.args.field c.args.value T.0 T.1
+    entries.value_place asks c.args.swap c.args.object c.args.field c.args.value T.0 T.1
 
 pub invariant_of-self : goal.invariant_of-self
 invariant_of-self c =
     let w : SharedValue = the_view c.self.inside in
-    let p : Private = c.args.part.now in
-    let k : ℕ = c.args.worker in
-    let F : Fits w k p = subst (λ (z : SharedValue). Fits z k p) (sym c.self.view_is) c.requires.fits in
-    let shared : IsShared w p = subst (λ (z : SharedValue). IsShared z p) (sym c.self.view_is) c.requires.shared in
-    let free : refused w (alone_entry k p) ≡ None = subst (λ (z : SharedValue). refused z (alone_entry k p) ≡ None) (sym c.self.view_is) c.requires.free in
+    let asks = asks_alone c.self.view_is c.self.invariant c.requires.fits c.requires.shared c.requires.free in
     let h : Heaps = c.write_reference.new.heaps in
     let new : List SetOf = h.homes.sets in
     let many : length new ≡ length w.sets = c.write_reference.ensures.many in
@@ -81,11 +66,7 @@ invariant_of-self c =
 pub returns-in_err-write_reference-clause-same : goal.returns-in_err-write_reference-clause-same
 returns-in_err-write_reference-clause-same c =
     let w : SharedValue = the_view c.self.inside in
-    let p : Private = c.args.part.now in
-    let k : ℕ = c.args.worker in
-    let F : Fits w k p = subst (λ (z : SharedValue). Fits z k p) (sym c.self.view_is) c.requires.fits in
-    let shared : IsShared w p = subst (λ (z : SharedValue). IsShared z p) (sym c.self.view_is) c.requires.shared in
-    let free : refused w (alone_entry k p) ≡ None = subst (λ (z : SharedValue). refused z (alone_entry k p) ≡ None) (sym c.self.view_is) c.requires.free in
+    let asks = asks_alone c.self.view_is c.self.invariant c.requires.fits c.requires.shared c.requires.free in
     let h : Heaps = c.write_reference.new.heaps in
     let new : List SetOf = h.homes.sets in
     let many : length new ≡ length w.sets = c.write_reference.ensures.many in
@@ -96,23 +77,13 @@ returns-in_err-write_reference-clause-same c =
 
 pub enter_alone-requires-clause-small : goal.enter_alone-requires-clause-small
 enter_alone-requires-clause-small c =
-    let w : SharedValue = the_view c.self.inside in
-    let p : Private = c.args.part.now in
-    let k : ℕ = c.args.worker in
-    let F : Fits w k p = subst (λ (z : SharedValue). Fits z k p) (sym c.self.view_is) c.requires.fits in
-    let shared : IsShared w p = subst (λ (z : SharedValue). IsShared z p) (sym c.self.view_is) c.requires.shared in
-    let free : refused w (alone_entry k p) ≡ None = subst (λ (z : SharedValue). refused z (alone_entry k p) ≡ None) (sym c.self.view_is) c.requires.free in
-    alone_small w k p c.self.invariant F shared free
+    let asks = asks_alone c.self.view_is c.self.invariant c.requires.fits c.requires.shared c.requires.free in
+    alone_small asks
 
 pub go_on-requires : goal.go_on-requires
 go_on-requires c =
-    let w : SharedValue = the_view c.self.inside in
-    let p : Private = c.args.part.now in
-    let k : ℕ = c.args.worker in
-    let F : Fits w k p = subst (λ (z : SharedValue). Fits z k p) (sym c.self.view_is) c.requires.fits in
-    let shared : IsShared w p = subst (λ (z : SharedValue). IsShared z p) (sym c.self.view_is) c.requires.shared in
-    let free : refused w (alone_entry k p) ≡ None = subst (λ (z : SharedValue). refused z (alone_entry k p) ≡ None) (sym c.self.view_is) c.requires.free in
-    let small = next_small w k p c.self.invariant F shared free in
+    let asks = asks_alone c.self.view_is c.self.invariant c.requires.fits c.requires.shared c.requires.free in
+    let small = next_small asks in
     omega (arith, small)
 
 pub invariant_of-self-2 : goal.invariant_of-self-2
@@ -120,41 +91,37 @@ invariant_of-self-2 c =
     let w : SharedValue = the_view c.self.inside in
     let p : Private = c.args.part.now in
     let k : ℕ = c.args.worker in
-    let F : Fits w k p = subst (λ (z : SharedValue). Fits z k p) (sym c.self.view_is) c.requires.fits in
-    let shared : IsShared w p = subst (λ (z : SharedValue). IsShared z p) (sym c.self.view_is) c.requires.shared in
-    let free : refused w (alone_entry k p) ≡ None = subst (λ (z : SharedValue). refused z (alone_entry k p) ≡ None) (sym c.self.view_is) c.requires.free in
+    let asks : AsksAlone w k p = asks_alone c.self.view_is c.self.invariant c.requires.fits c.requires.shared c.requires.free in
     let does : OtherStep = store_of c.args.swap c.args.object c.args.field c.args.value in
     let T : (n : ℕ) × TellsOther w p does n = subst (λ (z : SharedValue). (n : ℕ) × TellsOther z p does n) (sym c.self.view_is) c.requires.stores in
     let h : Heaps = c.write_reference.new.heaps in
     let new : List SetOf = h.homes.sets in
     let many : length new ≡ length w.sets = c.write_reference.ensures.many in
-    let rests : h.homes.rests ≡ slice_set w.rests (entries.owner w k p c.self.invariant F shared free c.args.swap c.args.object c.args.field c.args.value T.0 T.1) (Some (put_rest (entries.foreign w k p c.self.invariant F shared free c.args.swap c.args.object c.args.field c.args.value T.0 T.1).rest c.args.object (with_ref (cell_of (entries.foreign w k p c.self.invariant F shared free c.args.swap c.args.object c.args.field c.args.value T.0 T.1).rest.heap.chunks c.args.object) c.args.field c.args.value))) =
-    c.in_ok-write_reference.ensures.written (entries.owner w k p c.self.invariant F shared free c.args.swap c.args.object c.args.field c.args.value T.0 T.1) (entries.foreign w k p c.self.invariant F shared free c.args.swap c.args.object c.args.field c.args.value T.0 T.1).rest (entries.foreign w k p c.self.invariant F shared free c.args.swap c.args.object c.args.field c.args.value T.0 T.1).place.chunk (entries.foreign w k p c.self.invariant F shared free c.args.swap c.args.object c.args.field c.args.value T.0 T.1).there in
-    let C : (z : ℕ) → content_at new z ≡ option_map (content_after w.tree w.pool (record { object = c.args.object; field = c.args.field }) (slice_index_or (object_of (entries.foreign w k p c.self.invariant F shared free c.args.swap c.args.object c.args.field c.args.value T.0 T.1).rest.heap.chunks c.args.object).refs c.args.field None) c.args.value z) (content_at w.sets z) =
-    c.in_ok-write_reference.ensures.noted (entries.owner w k p c.self.invariant F shared free c.args.swap c.args.object c.args.field c.args.value T.0 T.1) (entries.foreign w k p c.self.invariant F shared free c.args.swap c.args.object c.args.field c.args.value T.0 T.1).rest (entries.foreign w k p c.self.invariant F shared free c.args.swap c.args.object c.args.field c.args.value T.0 T.1).place.chunk (entries.foreign w k p c.self.invariant F shared free c.args.swap c.args.object c.args.field c.args.value T.0 T.1).there in
+    let rests : h.homes.rests ≡ slice_set w.rests (entries.owner asks c.args.swap c.args.object c.args.field c.args.value T.0 T.1) (Some (put_rest (entries.foreign asks c.args.swap c.args.object c.args.field c.args.value T.0 T.1).rest c.args.object (with_ref (cell_of (entries.foreign asks c.args.swap c.args.object c.args.field c.args.value T.0 T.1).rest.heap.chunks c.args.object) c.args.field c.args.value))) =
+    c.in_ok-write_reference.ensures.written (entries.owner asks c.args.swap c.args.object c.args.field c.args.value T.0 T.1) (entries.foreign asks c.args.swap c.args.object c.args.field c.args.value T.0 T.1).rest (entries.foreign asks c.args.swap c.args.object c.args.field c.args.value T.0 T.1).place.chunk (entries.foreign asks c.args.swap c.args.object c.args.field c.args.value T.0 T.1).there in
+    let C : (z : ℕ) → content_at new z ≡ option_map (content_after w.tree w.pool (record { object = c.args.object; field = c.args.field }) (slice_index_or (object_of (entries.foreign asks c.args.swap c.args.object c.args.field c.args.value T.0 T.1).rest.heap.chunks c.args.object).refs c.args.field None) c.args.value z) (content_at w.sets z) =
+    c.in_ok-write_reference.ensures.noted (entries.owner asks c.args.swap c.args.object c.args.field c.args.value T.0 T.1) (entries.foreign asks c.args.swap c.args.object c.args.field c.args.value T.0 T.1).rest (entries.foreign asks c.args.swap c.args.object c.args.field c.args.value T.0 T.1).place.chunk (entries.foreign asks c.args.swap c.args.object c.args.field c.args.value T.0 T.1).there in
     let space : RoomyValue EntryValue = record { items = []; room = w.journal.room - 1 } in
     along w k p _ _ c.enter_alone.ensures.steps c.enter_alone.ensures.journal (λ n j. IsSharedValue (with_heaps w h n j))
-    (subst IsSharedValue (written_by w (w.steps + (p.fresh + 1)) (entered w k p) h _ new c.write_reference.ensures.pool c.write_reference.ensures.marks rests refl) (entries.store_world w k p c.self.invariant F shared free c.args.swap c.args.object c.args.field c.args.value T.0 T.1 new many C space))
+    (subst IsSharedValue (written_by w (w.steps + (p.fresh + 1)) (entered w k p) h _ new c.write_reference.ensures.pool c.write_reference.ensures.marks rests refl) (entries.store_world asks c.args.swap c.args.object c.args.field c.args.value T.0 T.1 new many C space))
 
 pub returns-clause-goes : goal.returns-clause-goes
 returns-clause-goes c =
     let w : SharedValue = the_view c.self.inside in
     let p : Private = c.args.part.now in
     let k : ℕ = c.args.worker in
-    let F : Fits w k p = subst (λ (z : SharedValue). Fits z k p) (sym c.self.view_is) c.requires.fits in
-    let shared : IsShared w p = subst (λ (z : SharedValue). IsShared z p) (sym c.self.view_is) c.requires.shared in
-    let free : refused w (alone_entry k p) ≡ None = subst (λ (z : SharedValue). refused z (alone_entry k p) ≡ None) (sym c.self.view_is) c.requires.free in
+    let asks : AsksAlone w k p = asks_alone c.self.view_is c.self.invariant c.requires.fits c.requires.shared c.requires.free in
     let does : OtherStep = store_of c.args.swap c.args.object c.args.field c.args.value in
     let T : (n : ℕ) × TellsOther w p does n = subst (λ (z : SharedValue). (n : ℕ) × TellsOther z p does n) (sym c.self.view_is) c.requires.stores in
     let h : Heaps = c.write_reference.new.heaps in
     let new : List SetOf = h.homes.sets in
     let many : length new ≡ length w.sets = c.write_reference.ensures.many in
-    let rests : h.homes.rests ≡ slice_set w.rests (entries.owner w k p c.self.invariant F shared free c.args.swap c.args.object c.args.field c.args.value T.0 T.1) (Some (put_rest (entries.foreign w k p c.self.invariant F shared free c.args.swap c.args.object c.args.field c.args.value T.0 T.1).rest c.args.object (with_ref (cell_of (entries.foreign w k p c.self.invariant F shared free c.args.swap c.args.object c.args.field c.args.value T.0 T.1).rest.heap.chunks c.args.object) c.args.field c.args.value))) =
-    c.in_ok-write_reference.ensures.written (entries.owner w k p c.self.invariant F shared free c.args.swap c.args.object c.args.field c.args.value T.0 T.1) (entries.foreign w k p c.self.invariant F shared free c.args.swap c.args.object c.args.field c.args.value T.0 T.1).rest (entries.foreign w k p c.self.invariant F shared free c.args.swap c.args.object c.args.field c.args.value T.0 T.1).place.chunk (entries.foreign w k p c.self.invariant F shared free c.args.swap c.args.object c.args.field c.args.value T.0 T.1).there in
-    let C : (z : ℕ) → content_at new z ≡ option_map (content_after w.tree w.pool (record { object = c.args.object; field = c.args.field }) (slice_index_or (object_of (entries.foreign w k p c.self.invariant F shared free c.args.swap c.args.object c.args.field c.args.value T.0 T.1).rest.heap.chunks c.args.object).refs c.args.field None) c.args.value z) (content_at w.sets z) =
-    c.in_ok-write_reference.ensures.noted (entries.owner w k p c.self.invariant F shared free c.args.swap c.args.object c.args.field c.args.value T.0 T.1) (entries.foreign w k p c.self.invariant F shared free c.args.swap c.args.object c.args.field c.args.value T.0 T.1).rest (entries.foreign w k p c.self.invariant F shared free c.args.swap c.args.object c.args.field c.args.value T.0 T.1).place.chunk (entries.foreign w k p c.self.invariant F shared free c.args.swap c.args.object c.args.field c.args.value T.0 T.1).there in
+    let rests : h.homes.rests ≡ slice_set w.rests (entries.owner asks c.args.swap c.args.object c.args.field c.args.value T.0 T.1) (Some (put_rest (entries.foreign asks c.args.swap c.args.object c.args.field c.args.value T.0 T.1).rest c.args.object (with_ref (cell_of (entries.foreign asks c.args.swap c.args.object c.args.field c.args.value T.0 T.1).rest.heap.chunks c.args.object) c.args.field c.args.value))) =
+    c.in_ok-write_reference.ensures.written (entries.owner asks c.args.swap c.args.object c.args.field c.args.value T.0 T.1) (entries.foreign asks c.args.swap c.args.object c.args.field c.args.value T.0 T.1).rest (entries.foreign asks c.args.swap c.args.object c.args.field c.args.value T.0 T.1).place.chunk (entries.foreign asks c.args.swap c.args.object c.args.field c.args.value T.0 T.1).there in
+    let C : (z : ℕ) → content_at new z ≡ option_map (content_after w.tree w.pool (record { object = c.args.object; field = c.args.field }) (slice_index_or (object_of (entries.foreign asks c.args.swap c.args.object c.args.field c.args.value T.0 T.1).rest.heap.chunks c.args.object).refs c.args.field None) c.args.value z) (content_at w.sets z) =
+    c.in_ok-write_reference.ensures.noted (entries.owner asks c.args.swap c.args.object c.args.field c.args.value T.0 T.1) (entries.foreign asks c.args.swap c.args.object c.args.field c.args.value T.0 T.1).rest (entries.foreign asks c.args.swap c.args.object c.args.field c.args.value T.0 T.1).place.chunk (entries.foreign asks c.args.swap c.args.object c.args.field c.args.value T.0 T.1).there in
     let space : RoomyValue EntryValue = record { items = []; room = w.journal.room - 1 } in
     subst (λ (z : SharedValue). GoesAlone z (with_heaps w h c.enter_alone.new.steps c.enter_alone.new.journal) k p (record p { frames = c.go_on.new.frames; fresh = 0 })) c.self.view_is
     (subst (λ (s : FramesValue). GoesAlone w (with_heaps w h c.enter_alone.new.steps c.enter_alone.new.journal) k p (record p { frames = s; fresh = 0 })) (sym c.go_on.ensures)
     (along w k p _ _ c.enter_alone.ensures.steps c.enter_alone.ensures.journal (λ n j. GoesAlone w (with_heaps w h n j) k p (record p { frames = store_frames c.args.swap p.frames; fresh = 0 }))
-    (subst (λ (z : SharedValue). GoesAlone w z k p (record p { frames = store_frames c.args.swap p.frames; fresh = 0 })) (written_by w (w.steps + (p.fresh + 1)) (entered w k p) h _ new c.write_reference.ensures.pool c.write_reference.ensures.marks rests refl) (entries.store_goes w k p c.self.invariant F shared free c.args.swap c.args.object c.args.field c.args.value T.0 T.1 new many C space))))
+    (subst (λ (z : SharedValue). GoesAlone w z k p (record p { frames = store_frames c.args.swap p.frames; fresh = 0 })) (written_by w (w.steps + (p.fresh + 1)) (entered w k p) h _ new c.write_reference.ensures.pool c.write_reference.ensures.marks rests refl) (entries.store_goes asks c.args.swap c.args.object c.args.field c.args.value T.0 T.1 new many C space))))

@@ -3,11 +3,9 @@ use Rattle.hh_lang.specs.declared.program.Line.{Line}
 use Rattle.hh_lang.specs.Form.{line_at}
 use Rattle.task_machine.specs.declared.part.Private.{Private}
 use Rattle.shared_value.specs.SharedValue.{SharedValue}
-use Rattle.shared_value.specs.Fits.{Fits}
-use Rattle.shared_value.specs.Entered.{refused}
 use Rattle.shared_value.specs.Next.{next_line}
-use Rattle.own_steps.specs.Alone.{IsShared, alone_entry}
-use Rattle.own_steps.proofs.AloneEntries.{runs_on}
+use Rattle.own_steps.specs.Alone.{IsShared}
+use Rattle.own_steps.proofs.AloneEntries.{AsksAlone, runs_on}
 use Rattle.own_steps.proofs.LastSteps.{some_line}
 use Rattle.child_tasks.specs.ChildEnds.{IsAtEnd}
 use Rattle.child_tasks.specs.Forks.{IsAtFork}
@@ -26,10 +24,8 @@ unreachable-requires c =
     let p : Private = c.args.part.now in
     let held : MayBeEntered w p = subst (λ (z : SharedValue). MayBeEntered z p) (sym c.self.view_is) c.requires.out in
     let k : ℕ = held.worker in
-    let F : Fits w k p = held.fits in
-    let shared : IsShared w p = subst (λ (z : SharedValue). IsShared z p) (sym c.self.view_is) c.requires.shared in
-    let free : refused w (alone_entry k p) ≡ None = held.free in
-    let line = some_line w k p c.self.invariant F shared (runs_on w k p c.self.invariant F shared free) in
+    let asks : AsksAlone w k p = record { I = c.self.invariant; F = held.fits; shared = subst (λ (z : SharedValue). IsShared z p) (sym c.self.view_is) c.requires.shared; free = held.free } in
+    let line = some_line w k p c.self.invariant asks.F asks.shared (runs_on asks) in
     none_some line.0 (sym c.in_default.is ∙ (c.line.ensures ∙ (ap₂ (line_at w.program) c.fun.ensures c.next.ensures ∙ line.1)))
 
 pub returns-in-Par : goal.returns-in-Par
@@ -38,12 +34,10 @@ returns-in-Par c =
     let p : Private = c.args.part.now in
     let held : MayBeEntered w p = subst (λ (z : SharedValue). MayBeEntered z p) (sym c.self.view_is) c.requires.out in
     let k : ℕ = held.worker in
-    let F : Fits w k p = held.fits in
-    let shared : IsShared w p = subst (λ (z : SharedValue). IsShared z p) (sym c.self.view_is) c.requires.shared in
-    let free : refused w (alone_entry k p) ≡ None = held.free in
+    let asks : AsksAlone w k p = record { I = c.self.invariant; F = held.fits; shared = subst (λ (z : SharedValue). IsShared z p) (sym c.self.view_is) c.requires.shared; free = held.free } in
     let joint : IsJoint w p = subst (λ (z : SharedValue). IsJoint z p) (sym c.self.view_is) c.requires.joint in
     let is : next_line w.program p ≡ Some c.in-Some.line = ap₂ (line_at w.program) (sym c.fun.ensures) (sym c.next.ensures) ∙ (sym c.line.ensures ∙ c.in-Some.is) in
-    subst (λ (z : SharedValue). IsAtFork z p) c.self.view_is (at_fork w k p c.self.invariant F shared free joint c.in-Some.line is c.in-Par.field-0 c.in-Par.field-1 c.in-Par.is)
+    subst (λ (z : SharedValue). IsAtFork z p) c.self.view_is (at_fork w k p c.self.invariant asks.F asks.shared asks.free joint c.in-Some.line is c.in-Par.field-0 c.in-Par.field-1 c.in-Par.is)
 
 pub returns-in-Ret : goal.returns-in-Ret
 returns-in-Ret c =
@@ -51,12 +45,10 @@ returns-in-Ret c =
     let p : Private = c.args.part.now in
     let held : MayBeEntered w p = subst (λ (z : SharedValue). MayBeEntered z p) (sym c.self.view_is) c.requires.out in
     let k : ℕ = held.worker in
-    let F : Fits w k p = held.fits in
-    let shared : IsShared w p = subst (λ (z : SharedValue). IsShared z p) (sym c.self.view_is) c.requires.shared in
-    let free : refused w (alone_entry k p) ≡ None = held.free in
+    let asks : AsksAlone w k p = record { I = c.self.invariant; F = held.fits; shared = subst (λ (z : SharedValue). IsShared z p) (sym c.self.view_is) c.requires.shared; free = held.free } in
     let joint : IsJoint w p = subst (λ (z : SharedValue). IsJoint z p) (sym c.self.view_is) c.requires.joint in
     let is : next_line w.program p ≡ Some c.in-Some.line = ap₂ (line_at w.program) (sym c.fun.ensures) (sym c.next.ensures) ∙ (sym c.line.ensures ∙ c.in-Some.is) in
-    subst (λ (z : SharedValue). IsAtEnd z p) c.self.view_is (at_end w k p c.self.invariant F shared free joint c.in-Some.line is c.in-Ret.is)
+    subst (λ (z : SharedValue). IsAtEnd z p) c.self.view_is (at_end w k p c.self.invariant asks.F asks.shared asks.free joint c.in-Some.line is c.in-Ret.is)
 
 pub returns-in_default-instr : goal.returns-in_default-instr
 returns-in_default-instr c =
@@ -64,9 +56,7 @@ returns-in_default-instr c =
     let p : Private = c.args.part.now in
     let held : MayBeEntered w p = subst (λ (z : SharedValue). MayBeEntered z p) (sym c.self.view_is) c.requires.out in
     let k : ℕ = held.worker in
-    let F : Fits w k p = held.fits in
-    let shared : IsShared w p = subst (λ (z : SharedValue). IsShared z p) (sym c.self.view_is) c.requires.shared in
-    let free : refused w (alone_entry k p) ≡ None = held.free in
+    let asks : AsksAlone w k p = record { I = c.self.invariant; F = held.fits; shared = subst (λ (z : SharedValue). IsShared z p) (sym c.self.view_is) c.requires.shared; free = held.free } in
     let joint : IsJoint w p = subst (λ (z : SharedValue). IsJoint z p) (sym c.self.view_is) c.requires.joint in
     let is : next_line w.program p ≡ Some c.in-Some.line = ap₂ (line_at w.program) (sym c.fun.ensures) (sym c.next.ensures) ∙ (sym c.line.ensures ∙ c.in-Some.is) in
-    subst (λ (z : SharedValue). IsOther z p) c.self.view_is (at_other w k p c.self.invariant F shared free joint c.in-Some.line is c.in_default-instr.not-Par c.in_default-instr.not-Ret)
+    subst (λ (z : SharedValue). IsOther z p) c.self.view_is (at_other w k p c.self.invariant asks.F asks.shared asks.free joint c.in-Some.line is c.in_default-instr.not-Par c.in_default-instr.not-Ret)

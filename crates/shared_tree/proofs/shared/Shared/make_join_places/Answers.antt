@@ -27,7 +27,7 @@ make_places-requires-clause-child c =
     let p : Private = c.args.part.now in
     let held : MayBeEntered w p = subst (λ (z : SharedValue). MayBeEntered z p) (sym c.self.view_is) c.requires.out in
     let at : IsAtEnd w p = subst (λ (z : SharedValue). IsAtEnd z p) (sym c.self.view_is) c.requires.ends in
-    let low = parent_low w held.worker p c.self.invariant held.fits at held.free in
+    let low = parent_low (record { I = c.self.invariant; F = held.fits; at_end = at; free = held.free }) in
     omega (arith, low)
 
 pub make_places-requires-clause-few : goal.make_places-requires-clause-few
@@ -37,7 +37,7 @@ make_places-requires-clause-few c =
     let held : MayBeEntered w p = subst (λ (z : SharedValue). MayBeEntered z p) (sym c.self.view_is) c.requires.out in
     let at : IsAtEnd w p = subst (λ (z : SharedValue). IsAtEnd z p) (sym c.self.view_is) c.requires.ends in
     let few = few_tasks w c.self.invariant in
-    let own = own_made w held.worker p c.self.invariant held.fits at held.free in
+    let own = own_made (record { I = c.self.invariant; F = held.fits; at_end = at; free = held.free }) in
     omega (arith, few, own)
 
 pub make_places-requires-clause-there : goal.make_places-requires-clause-there
@@ -48,7 +48,7 @@ make_places-requires-clause-there c =
     let at : IsAtEnd w p = subst (λ (z : SharedValue). IsAtEnd z p) (sym c.self.view_is) c.requires.ends in
     let ended : state_of w.tree (sibling p.task) ≡ Some Ended = subst (λ (z : SharedValue). state_of z.tree (sibling p.task) ≡ Some Ended) (sym c.self.view_is) c.requires.ended in
     let par : parent_of w.tree p.task ≡ Some c.args.parent = subst (λ (z : SharedValue). parent_of z.tree p.task ≡ Some c.args.parent) (sym c.self.view_is) c.requires.parent in
-    parent_home w held.worker p c.self.invariant held.fits at held.free ended c.args.parent par
+    parent_home (record { I = c.self.invariant; F = held.fits; at_end = at; free = held.free }) ended c.args.parent par
 
 -- nothing but what goes with the tasks and their sets
 placed : (w : SharedValue) (h n : HomesValue) → h.marks ≡ w.marks → n ≡ record h { rests = n.rests; sets = n.sets } → record w { rests = n.rests; sets = n.sets } ≡ record w { rests = n.rests; sets = n.sets; marks = n.marks }
@@ -86,11 +86,11 @@ returns-clause-places c =
     let free : refused w (alone_entry k p) ≡ None = held.free in
     let ended : state_of w.tree (sibling p.task) ≡ Some Ended = subst (λ (z : SharedValue). state_of z.tree (sibling p.task) ≡ Some Ended) (sym c.self.view_is) c.requires.ended in
     let par : parent_of w.tree p.task ≡ Some c.args.parent = subst (λ (z : SharedValue). parent_of z.tree p.task ≡ Some c.args.parent) (sym c.self.view_is) c.requires.parent in
-    let e = parent_is w k p I F at free ended c.args.parent par in
+    let e = parent_is (record { I = I; F = F; at_end = at; free = free }) ended c.args.parent par in
     let n : HomesValue = c.make_places.new.homes in
     let same = placed w c.self.inside.heaps.homes n refl c.make_places.ensures.homes in
     both_done _ _ _ c.make_places.result
     (λ h s. subst (λ (z : SharedValue). HasPlaces z p c.args.parent) same (placed_has w n.rests n.sets c.args.parent c.make_places.ensures.many c.make_places.ensures.others c.make_places.ensures.same c.make_places.ensures.many_sets c.make_places.ensures.same_sets p
     (length p.heap.chunks + chunk_count (rest_at w.rests (sibling p.task))) (length (sources_at w.sets p.task) + length (sources_at w.sets (sibling p.task)))
-    (λ f. parent_other w k p I F at free ended (e ∙ f)) refl h refl s))
+    (λ f. parent_other (record { I = I; F = F; at_end = at; free = free }) ended (e ∙ f)) refl h refl s))
     c.make_places.ensures.home_room c.make_places.ensures.set_room

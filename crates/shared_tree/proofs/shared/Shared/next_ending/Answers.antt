@@ -4,12 +4,10 @@ use Rattle.hh_lang.specs.Form.{line_at}
 use Rattle.task_machine.specs.declared.part.Private.{Private}
 use Rattle.shared_value.specs.declared.next_step.Ending.{Ending}
 use Rattle.shared_value.specs.SharedValue.{SharedValue}
-use Rattle.shared_value.specs.Fits.{Fits}
-use Rattle.shared_value.specs.Entered.{refused}
 use Rattle.shared_value.specs.Next.{next_line}
-use Rattle.own_steps.specs.Alone.{IsShared, alone_entry}
+use Rattle.own_steps.specs.Alone.{IsShared}
 use Rattle.own_steps.specs.Alone.{Tells}
-use Rattle.own_steps.proofs.AloneEntries.{is_safe, runs_on}
+use Rattle.own_steps.proofs.AloneEntries.{AsksAlone, is_safe, runs_on}
 use Rattle.own_steps.proofs.LastSteps.{some_line, tells}
 use Rattle.shared_tree.specs.Ran.{MayBeEntered}
 use Rattle.shared_tree.specs.contracts.shared.Shared.{the_view}
@@ -24,10 +22,8 @@ last_step-requires c =
     let p : Private = c.args.part.now in
     let held : MayBeEntered w p = subst (λ (z : SharedValue). MayBeEntered z p) (sym c.self.view_is) c.requires.out in
     let k : ℕ = held.worker in
-    let F : Fits w k p = held.fits in
-    let shared : IsShared w p = subst (λ (z : SharedValue). IsShared z p) (sym c.self.view_is) c.requires.shared in
-    let free : refused w (alone_entry k p) ≡ None = held.free in
-    is_safe w k p c.self.invariant F shared free
+    let asks : AsksAlone w k p = record { I = c.self.invariant; F = held.fits; shared = subst (λ (z : SharedValue). IsShared z p) (sym c.self.view_is) c.requires.shared; free = held.free } in
+    is_safe asks
 
 pub unreachable-requires : goal.unreachable-requires
 unreachable-requires c =
@@ -35,10 +31,8 @@ unreachable-requires c =
     let p : Private = c.args.part.now in
     let held : MayBeEntered w p = subst (λ (z : SharedValue). MayBeEntered z p) (sym c.self.view_is) c.requires.out in
     let k : ℕ = held.worker in
-    let F : Fits w k p = held.fits in
-    let shared : IsShared w p = subst (λ (z : SharedValue). IsShared z p) (sym c.self.view_is) c.requires.shared in
-    let free : refused w (alone_entry k p) ≡ None = held.free in
-    let line = some_line w k p c.self.invariant F shared (runs_on w k p c.self.invariant F shared free) in
+    let asks : AsksAlone w k p = record { I = c.self.invariant; F = held.fits; shared = subst (λ (z : SharedValue). IsShared z p) (sym c.self.view_is) c.requires.shared; free = held.free } in
+    let line = some_line w k p c.self.invariant asks.F asks.shared (runs_on asks) in
     none_some line.0 (sym c.in-None.is ∙ (c.line.ensures ∙ (ap₂ (line_at w.program) c.fun.ensures c.next.ensures ∙ line.1)))
 
 pub returns : goal.returns
@@ -47,9 +41,7 @@ returns c =
     let p : Private = c.args.part.now in
     let held : MayBeEntered w p = subst (λ (z : SharedValue). MayBeEntered z p) (sym c.self.view_is) c.requires.out in
     let k : ℕ = held.worker in
-    let F : Fits w k p = held.fits in
-    let shared : IsShared w p = subst (λ (z : SharedValue). IsShared z p) (sym c.self.view_is) c.requires.shared in
-    let free : refused w (alone_entry k p) ≡ None = held.free in
+    let asks : AsksAlone w k p = record { I = c.self.invariant; F = held.fits; shared = subst (λ (z : SharedValue). IsShared z p) (sym c.self.view_is) c.requires.shared; free = held.free } in
     let is : next_line w.program p ≡ Some c.in-Some.line = ap₂ (line_at w.program) (sym c.fun.ensures) (sym c.next.ensures) ∙ (sym c.line.ensures ∙ c.in-Some.is) in
     subst (λ (z : SharedValue). Tells z p c.last_step.result c.in-Some.line.number) c.self.view_is
-    (subst (λ (e : Ending). Tells w p e c.in-Some.line.number) (sym c.last_step.ensures) (tells w k p c.self.invariant F shared (runs_on w k p c.self.invariant F shared free) c.in-Some.line is))
+    (subst (λ (e : Ending). Tells w p e c.in-Some.line.number) (sym c.last_step.ensures) (tells w k p c.self.invariant asks.F asks.shared (runs_on asks) c.in-Some.line is))

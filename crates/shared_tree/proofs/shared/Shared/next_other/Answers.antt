@@ -2,11 +2,9 @@ use Rattle.std.proofs.Common.{◌≡◌, ℕ, Option, Some, None, option_copied,
 use Rattle.hh_lang.specs.Form.{line_at}
 use Rattle.task_machine.specs.declared.part.Private.{Private}
 use Rattle.shared_value.specs.SharedValue.{SharedValue, accounts}
-use Rattle.shared_value.specs.Fits.{Fits}
-use Rattle.shared_value.specs.Entered.{refused}
 use Rattle.shared_value.specs.Next.{next_line}
-use Rattle.own_steps.specs.Alone.{IsShared, alone_entry}
-use Rattle.own_steps.proofs.AloneEntries.{runs_on}
+use Rattle.own_steps.specs.Alone.{IsShared}
+use Rattle.own_steps.proofs.AloneEntries.{AsksAlone, runs_on}
 use Rattle.own_steps.proofs.LastSteps.{some_line}
 use Rattle.others_objects.specs.declared.other.OtherStep.{OtherStep}
 use Rattle.others_objects.specs.Other.{IsOther, TellsOther}
@@ -24,11 +22,9 @@ unreachable-requires c =
     let p : Private = c.args.part.now in
     let held : MayBeEntered w p = subst (λ (z : SharedValue). MayBeEntered z p) (sym c.self.view_is) c.requires.out in
     let k : ℕ = held.worker in
-    let F : Fits w k p = held.fits in
-    let shared : IsShared w p = subst (λ (z : SharedValue). IsShared z p) (sym c.self.view_is) c.requires.shared in
-    let free : refused w (alone_entry k p) ≡ None = held.free in
-    let on : (accounts w).end ≡ None = runs_on w k p c.self.invariant F shared free in
-    let it = some_line w k p c.self.invariant F shared on in
+    let asks : AsksAlone w k p = record { I = c.self.invariant; F = held.fits; shared = subst (λ (z : SharedValue). IsShared z p) (sym c.self.view_is) c.requires.shared; free = held.free } in
+    let on : (accounts w).end ≡ None = runs_on asks in
+    let it = some_line w k p c.self.invariant asks.F asks.shared on in
     none_some (sym c.in_default.is ∙ (c.line.ensures ∙ (ap₂ (line_at w.program) c.fun.ensures c.next.ensures ∙ it.1)))
 
 pub unreachable-requires-in_default-named : goal.unreachable-requires-in_default-named
@@ -37,13 +33,11 @@ unreachable-requires-in_default-named c =
     let p : Private = c.args.part.now in
     let held : MayBeEntered w p = subst (λ (z : SharedValue). MayBeEntered z p) (sym c.self.view_is) c.requires.out in
     let k : ℕ = held.worker in
-    let F : Fits w k p = held.fits in
-    let shared : IsShared w p = subst (λ (z : SharedValue). IsShared z p) (sym c.self.view_is) c.requires.shared in
-    let free : refused w (alone_entry k p) ≡ None = held.free in
-    let on : (accounts w).end ≡ None = runs_on w k p c.self.invariant F shared free in
+    let asks : AsksAlone w k p = record { I = c.self.invariant; F = held.fits; shared = subst (λ (z : SharedValue). IsShared z p) (sym c.self.view_is) c.requires.shared; free = held.free } in
+    let on : (accounts w).end ≡ None = runs_on asks in
     let other : IsOther w p = subst (λ (z : SharedValue). IsOther z p) (sym c.self.view_is) c.requires.other in
     let next : next_line w.program p ≡ Some c.in-Some.line = ap₂ (line_at w.program) (sym c.fun.ensures) (sym c.next.ensures) ∙ (sym c.line.ensures ∙ c.in-Some.is) in
-    none_some (sym c.in_default-named.is ∙ (c.named.ensures ∙ lines.named w k p c.self.invariant F shared other on c.in-Some.line next))
+    none_some (sym c.in_default-named.is ∙ (c.named.ensures ∙ lines.named w k p c.self.invariant asks.F asks.shared other on c.in-Some.line next))
 
 pub owner-owner-requires : goal.owner-owner-requires
 owner-owner-requires c =
@@ -51,13 +45,11 @@ owner-owner-requires c =
     let p : Private = c.args.part.now in
     let held : MayBeEntered w p = subst (λ (z : SharedValue). MayBeEntered z p) (sym c.self.view_is) c.requires.out in
     let k : ℕ = held.worker in
-    let F : Fits w k p = held.fits in
-    let shared : IsShared w p = subst (λ (z : SharedValue). IsShared z p) (sym c.self.view_is) c.requires.shared in
-    let free : refused w (alone_entry k p) ≡ None = held.free in
-    let on : (accounts w).end ≡ None = runs_on w k p c.self.invariant F shared free in
+    let asks : AsksAlone w k p = record { I = c.self.invariant; F = held.fits; shared = subst (λ (z : SharedValue). IsShared z p) (sym c.self.view_is) c.requires.shared; free = held.free } in
+    let on : (accounts w).end ≡ None = runs_on asks in
     let other : IsOther w p = subst (λ (z : SharedValue). IsOther z p) (sym c.self.view_is) c.requires.other in
     let next : next_line w.program p ≡ Some c.in-Some.line = ap₂ (line_at w.program) (sym c.fun.ensures) (sym c.next.ensures) ∙ (sym c.line.ensures ∙ c.in-Some.is) in
-    lines.used_there w k p c.self.invariant F shared other on c.in-Some.line next c.in-Some-named.object (sym c.named.ensures ∙ c.in-Some-named.is)
+    lines.used_there w k p c.self.invariant asks.F asks.shared other on c.in-Some.line next c.in-Some-named.object (sym c.named.ensures ∙ c.in-Some-named.is)
 
 pub unreachable-requires-in_default-rest : goal.unreachable-requires-in_default-rest
 unreachable-requires-in_default-rest c =
@@ -65,13 +57,11 @@ unreachable-requires-in_default-rest c =
     let p : Private = c.args.part.now in
     let held : MayBeEntered w p = subst (λ (z : SharedValue). MayBeEntered z p) (sym c.self.view_is) c.requires.out in
     let k : ℕ = held.worker in
-    let F : Fits w k p = held.fits in
-    let shared : IsShared w p = subst (λ (z : SharedValue). IsShared z p) (sym c.self.view_is) c.requires.shared in
-    let free : refused w (alone_entry k p) ≡ None = held.free in
-    let on : (accounts w).end ≡ None = runs_on w k p c.self.invariant F shared free in
+    let asks : AsksAlone w k p = record { I = c.self.invariant; F = held.fits; shared = subst (λ (z : SharedValue). IsShared z p) (sym c.self.view_is) c.requires.shared; free = held.free } in
+    let on : (accounts w).end ≡ None = runs_on asks in
     let other : IsOther w p = subst (λ (z : SharedValue). IsOther z p) (sym c.self.view_is) c.requires.other in
     let next : next_line w.program p ≡ Some c.in-Some.line = ap₂ (line_at w.program) (sym c.fun.ensures) (sym c.next.ensures) ∙ (sym c.line.ensures ∙ c.in-Some.is) in
-    let there = lines.rest_is w k p c.self.invariant F shared other on c.in-Some.line next c.in-Some-named.object (sym c.named.ensures ∙ c.in-Some-named.is) c.owner-owner.result c.owner-owner.ensures in
+    let there = lines.rest_is w k p c.self.invariant asks.F asks.shared other on c.in-Some.line next c.in-Some-named.object (sym c.named.ensures ∙ c.in-Some-named.is) c.owner-owner.result c.owner-owner.ensures in
     none_some (ap option_copied (sym c.in_default-rest.is) ∙ (c.rest.ensures ∙ there))
 
 pub step_on-does-requires : goal.step_on-does-requires
@@ -80,13 +70,11 @@ step_on-does-requires c =
     let p : Private = c.args.part.now in
     let held : MayBeEntered w p = subst (λ (z : SharedValue). MayBeEntered z p) (sym c.self.view_is) c.requires.out in
     let k : ℕ = held.worker in
-    let F : Fits w k p = held.fits in
-    let shared : IsShared w p = subst (λ (z : SharedValue). IsShared z p) (sym c.self.view_is) c.requires.shared in
-    let free : refused w (alone_entry k p) ≡ None = held.free in
-    let on : (accounts w).end ≡ None = runs_on w k p c.self.invariant F shared free in
+    let asks : AsksAlone w k p = record { I = c.self.invariant; F = held.fits; shared = subst (λ (z : SharedValue). IsShared z p) (sym c.self.view_is) c.requires.shared; free = held.free } in
+    let on : (accounts w).end ≡ None = runs_on asks in
     let other : IsOther w p = subst (λ (z : SharedValue). IsOther z p) (sym c.self.view_is) c.requires.other in
     let next : next_line w.program p ≡ Some c.in-Some.line = ap₂ (line_at w.program) (sym c.fun.ensures) (sym c.next.ensures) ∙ (sym c.line.ensures ∙ c.in-Some.is) in
-    lines.can_read w k p c.self.invariant F shared other on c.in-Some.line next c.in-Some-named.object (sym c.named.ensures ∙ c.in-Some-named.is) c.owner-owner.result c.owner-owner.ensures c.in-Some-rest.rest.now (sym c.rest.ensures ∙ ap option_copied c.in-Some-rest.is)
+    lines.can_read w k p c.self.invariant asks.F asks.shared other on c.in-Some.line next c.in-Some-named.object (sym c.named.ensures ∙ c.in-Some-named.is) c.owner-owner.result c.owner-owner.ensures c.in-Some-rest.rest.now (sym c.rest.ensures ∙ ap option_copied c.in-Some-rest.is)
 
 pub returns : goal.returns
 returns c =
@@ -94,12 +82,10 @@ returns c =
     let p : Private = c.args.part.now in
     let held : MayBeEntered w p = subst (λ (z : SharedValue). MayBeEntered z p) (sym c.self.view_is) c.requires.out in
     let k : ℕ = held.worker in
-    let F : Fits w k p = held.fits in
-    let shared : IsShared w p = subst (λ (z : SharedValue). IsShared z p) (sym c.self.view_is) c.requires.shared in
-    let free : refused w (alone_entry k p) ≡ None = held.free in
-    let on : (accounts w).end ≡ None = runs_on w k p c.self.invariant F shared free in
+    let asks : AsksAlone w k p = record { I = c.self.invariant; F = held.fits; shared = subst (λ (z : SharedValue). IsShared z p) (sym c.self.view_is) c.requires.shared; free = held.free } in
+    let on : (accounts w).end ≡ None = runs_on asks in
     let other : IsOther w p = subst (λ (z : SharedValue). IsOther z p) (sym c.self.view_is) c.requires.other in
     let next : next_line w.program p ≡ Some c.in-Some.line = ap₂ (line_at w.program) (sym c.fun.ensures) (sym c.next.ensures) ∙ (sym c.line.ensures ∙ c.in-Some.is) in
     subst (λ (z : SharedValue). TellsOther z p c.step_on-does.result c.in-Some.line.number) c.self.view_is
     (subst (λ (e : OtherStep). TellsOther w p e c.in-Some.line.number) (sym c.step_on-does.ensures)
-    (lines.does_so w k p c.self.invariant F shared other on c.in-Some.line next c.in-Some-named.object (sym c.named.ensures ∙ c.in-Some-named.is) c.owner-owner.result c.owner-owner.ensures c.in-Some-rest.rest.now (sym c.rest.ensures ∙ ap option_copied c.in-Some-rest.is)))
+    (lines.does_so w k p c.self.invariant asks.F asks.shared other on c.in-Some.line next c.in-Some-named.object (sym c.named.ensures ∙ c.in-Some-named.is) c.owner-owner.result c.owner-owner.ensures c.in-Some-rest.rest.now (sym c.rest.ensures ∙ ap option_copied c.in-Some-rest.is)))

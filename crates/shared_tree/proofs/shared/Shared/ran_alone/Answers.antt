@@ -21,7 +21,7 @@ returns-else-part-eq0-clause-answered c =
     let k : ℕ = c.args.worker in
     let free : refused w (alone_entry k p) ≡ None = sym c.alone_refused.ensures ∙ c.in_default.is in
     let T : Tells w p Returns c.next_ending-ending.result.1 = subst (λ (e : Ending). Tells w p e c.next_ending-ending.result.1) c.in-Returns.is c.next_ending-ending.ensures in
-    record { same = refl; part = refl; beyond = child_beyond w k p c.stands.ensures c.requires.fits c.requires.shared free c.next_ending-ending.result.1 T c.if-part-eq0.false }
+    record { same = refl; part = refl; beyond = child_beyond (record { I = c.stands.ensures; F = c.requires.fits; shared = c.requires.shared; free = free }) c.next_ending-ending.result.1 T c.if-part-eq0.false }
 
 pub returns-then-part-eq0-clause-answered : goal.returns-then-part-eq0-clause-answered
 returns-then-part-eq0-clause-answered c =
@@ -40,7 +40,7 @@ returns-in-Beyond-clause-answered c =
     let k : ℕ = c.args.worker in
     let free : refused w (alone_entry k p) ≡ None = sym c.alone_refused.ensures ∙ c.in_default.is in
     let T : Tells w p Beyond c.next_ending-ending.result.1 = subst (λ (e : Ending). Tells w p e c.next_ending-ending.result.1) c.in-Beyond.is c.next_ending-ending.ensures in
-    record { same = refl; part = refl; beyond = other_beyond w k p c.stands.ensures c.requires.fits c.requires.shared free c.next_ending-ending.result.1 T }
+    record { same = refl; part = refl; beyond = other_beyond (record { I = c.stands.ensures; F = c.requires.fits; shared = c.requires.shared; free = free }) c.next_ending-ending.result.1 T }
 
 pub enter_halt-requires-clause-ends : goal.enter_halt-requires-clause-ends
 enter_halt-requires-clause-ends c =

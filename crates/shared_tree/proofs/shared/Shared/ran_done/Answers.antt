@@ -10,12 +10,9 @@ use Rattle.task_homes.specs.HomesValue.{HomesValue}
 use Rattle.shared_value.specs.declared.answer.NotEntered.TheVariants.{NoMemory}
 use Rattle.shared_value.specs.Stands.{IsSharedValue}
 use Rattle.shared_value.specs.SharedValue.{SharedValue}
-use Rattle.shared_value.specs.Fits.{Fits}
-use Rattle.shared_value.specs.Entered.{refused}
 use Rattle.shared_value.proofs.JournalGoesOn.{four_changed}
-use Rattle.own_steps.specs.Alone.{IsShared, alone_entry}
 use Rattle.own_steps.specs.Alone.{FinishesAlone, Tells, ended_rest}
-use Rattle.own_steps.proofs.AloneEntries.{alone_small, finishes_alone, finished_world, home_there, node_there}
+use Rattle.own_steps.proofs.AloneEntries.{AsksAlone, asks_alone, alone_small, finishes_alone, finished_world, home_there, node_there}
 use Rattle.child_tasks.proofs.JoinPlaces.{same_world}
 use Rattle.shared_tree.specs.Calls.{EntersLeaving}
 use Rattle.shared_tree.specs.contracts.shared.Shared.{the_view}
@@ -24,33 +21,18 @@ use Rattle.shared_tree.proofs.shared.Shared.ran_done.Goals as goal
 
 pub enter_alone-requires-clause-small : goal.enter_alone-requires-clause-small
 enter_alone-requires-clause-small c =
-    let w : SharedValue = the_view c.self.inside in
-    let p : Private = c.args.part in
-    let k : ℕ = c.args.worker in
-    let F : Fits w k p = subst (λ (z : SharedValue). Fits z k p) (sym c.self.view_is) c.requires.fits in
-    let shared : IsShared w p = subst (λ (z : SharedValue). IsShared z p) (sym c.self.view_is) c.requires.shared in
-    let free : refused w (alone_entry k p) ≡ None = subst (λ (z : SharedValue). refused z (alone_entry k p) ≡ None) (sym c.self.view_is) c.requires.free in
-    alone_small w k p c.self.invariant F shared free
+    let asks = asks_alone c.self.view_is c.self.invariant c.requires.fits c.requires.shared c.requires.free in
+    alone_small asks
 
 pub set_state-requires : goal.set_state-requires
 set_state-requires c =
-    let w : SharedValue = the_view c.self.inside in
-    let p : Private = c.args.part in
-    let k : ℕ = c.args.worker in
-    let F : Fits w k p = subst (λ (z : SharedValue). Fits z k p) (sym c.self.view_is) c.requires.fits in
-    let shared : IsShared w p = subst (λ (z : SharedValue). IsShared z p) (sym c.self.view_is) c.requires.shared in
-    let free : refused w (alone_entry k p) ≡ None = subst (λ (z : SharedValue). refused z (alone_entry k p) ≡ None) (sym c.self.view_is) c.requires.free in
-    node_there w k p c.self.invariant F shared free
+    let asks = asks_alone c.self.view_is c.self.invariant c.requires.fits c.requires.shared c.requires.free in
+    node_there asks
 
 pub make_block-requires : goal.make_block-requires
 make_block-requires c =
-    let w : SharedValue = the_view c.self.inside in
-    let p : Private = c.args.part in
-    let k : ℕ = c.args.worker in
-    let F : Fits w k p = subst (λ (z : SharedValue). Fits z k p) (sym c.self.view_is) c.requires.fits in
-    let shared : IsShared w p = subst (λ (z : SharedValue). IsShared z p) (sym c.self.view_is) c.requires.shared in
-    let free : refused w (alone_entry k p) ≡ None = subst (λ (z : SharedValue). refused z (alone_entry k p) ≡ None) (sym c.self.view_is) c.requires.free in
-    record { made = home_there w k p c.self.invariant F shared free }
+    let asks = asks_alone c.self.view_is c.self.invariant c.requires.fits c.requires.shared c.requires.free in
+    record { made = home_there asks }
 
 pub invariant_of-self : goal.invariant_of-self
 invariant_of-self c =
@@ -61,9 +43,7 @@ invariant_of-self-2 c =
     let w : SharedValue = the_view c.self.inside in
     let p : Private = c.args.part in
     let k : ℕ = c.args.worker in
-    let F : Fits w k p = subst (λ (z : SharedValue). Fits z k p) (sym c.self.view_is) c.requires.fits in
-    let shared : IsShared w p = subst (λ (z : SharedValue). IsShared z p) (sym c.self.view_is) c.requires.shared in
-    let free : refused w (alone_entry k p) ≡ None = subst (λ (z : SharedValue). refused z (alone_entry k p) ≡ None) (sym c.self.view_is) c.requires.free in
+    let asks : AsksAlone w k p = asks_alone c.self.view_is c.self.invariant c.requires.fits c.requires.shared c.requires.free in
     let T : (n : ℕ) × Tells w p Returns n = subst (λ (z : SharedValue). (n : ℕ) × Tells z p Returns n) (sym c.self.view_is) c.requires.returns in
     let hm : HomesValue = record c.self.inside.heaps.homes { rests = slice_set w.rests p.task (Some (ended_rest p)); blocks = c.make_block.new.self.blocks } in
     let put : c.put_rest.new.self ≡ hm =
@@ -75,16 +55,14 @@ invariant_of-self-2 c =
     (subst (λ (h : HomesValue). IsSharedValue (record w { steps = w.steps + (p.fresh + 1); end = Some (Machine Done); tree = c.set_state.new.self; rests = h.rests; sets = h.sets; marks = h.marks; tasks_out = c.set.new.self; journal = entered w k p })) (sym put)
     (subst IsSharedValue (sym (four_changed (record w { steps = w.steps + (p.fresh + 1); end = Some (Machine Done) }) (with_state w.tree p.task Ended) _ (slice_set w.rests p.task (Some (ended_rest p))) _ (slice_set w.tasks_out k None) _ (entered w k p) _
     c.set_state.ensures refl c.set.ensures refl))
-    (finished_world w k p c.self.invariant F shared free T.0 T.1 c.requires.root (record { items = []; room = w.journal.room - 1 }))))
+    (finished_world asks T.0 T.1 c.requires.root (record { items = []; room = w.journal.room - 1 }))))
 
 pub returns : goal.returns
 returns c =
     let w : SharedValue = the_view c.self.inside in
     let p : Private = c.args.part in
     let k : ℕ = c.args.worker in
-    let F : Fits w k p = subst (λ (z : SharedValue). Fits z k p) (sym c.self.view_is) c.requires.fits in
-    let shared : IsShared w p = subst (λ (z : SharedValue). IsShared z p) (sym c.self.view_is) c.requires.shared in
-    let free : refused w (alone_entry k p) ≡ None = subst (λ (z : SharedValue). refused z (alone_entry k p) ≡ None) (sym c.self.view_is) c.requires.free in
+    let asks : AsksAlone w k p = asks_alone c.self.view_is c.self.invariant c.requires.fits c.requires.shared c.requires.free in
     let T : (n : ℕ) × Tells w p Returns n = subst (λ (z : SharedValue). (n : ℕ) × Tells z p Returns n) (sym c.self.view_is) c.requires.returns in
     let hm : HomesValue = record c.self.inside.heaps.homes { rests = slice_set w.rests p.task (Some (ended_rest p)); blocks = c.make_block.new.self.blocks } in
     let put : c.put_rest.new.self ≡ hm =
@@ -98,7 +76,7 @@ returns c =
     (subst (λ (h : HomesValue). FinishesAlone w (record w { steps = w.steps + (p.fresh + 1); end = Some (Machine Done); tree = c.set_state.new.self; rests = h.rests; sets = h.sets; marks = h.marks; tasks_out = c.set.new.self; journal = entered w k p }) k p) (sym put)
     (subst (λ (z : SharedValue). FinishesAlone w z k p) (sym (four_changed (record w { steps = w.steps + (p.fresh + 1); end = Some (Machine Done) }) (with_state w.tree p.task Ended) _ (slice_set w.rests p.task (Some (ended_rest p))) _ (slice_set w.tasks_out k None) _ (entered w k p) _
     c.set_state.ensures refl c.set.ensures refl))
-    (finishes_alone w k p c.self.invariant F shared free T.0 T.1 c.requires.root (record { items = []; room = w.journal.room - 1 }))))) in
+    (finishes_alone asks T.0 T.1 c.requires.root (record { items = []; room = w.journal.room - 1 }))))) in
     record { refused = refl; same = tt; still = tt; back = tt; answered = finishes }
 
 pub returns-then-is_err : goal.returns-then-is_err

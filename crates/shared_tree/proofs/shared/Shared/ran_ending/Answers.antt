@@ -35,7 +35,7 @@ unreachable-requires c =
     let p : Private = c.args.part in
     let k : ℕ = c.args.worker in
     let free : refused w (alone_entry k p) ≡ None = sym c.alone_refused.ensures ∙ c.in_default.is in
-    none_some (sym c.in_default-parent.is ∙ (c.parent.ensures ∙ (ap (λ (z : SharedValue). parent_of z.tree p.task) c.self.view_is ∙ tree_parent w k p c.stands.ensures c.requires.fits c.requires.ends free)))
+    none_some (sym c.in_default-parent.is ∙ (c.parent.ensures ∙ (ap (λ (z : SharedValue). parent_of z.tree p.task) c.self.view_is ∙ tree_parent (record { I = c.stands.ensures; F = c.requires.fits; at_end = c.requires.ends; free = free }))))
 
 pub enter_join-requires-clause-fits : goal.enter_join-requires-clause-fits
 enter_join-requires-clause-fits c =
@@ -144,7 +144,7 @@ sibling_of-requires-clause-child c =
     let p : Private = c.args.part in
     let k : ℕ = c.args.worker in
     let free : refused w (alone_entry k p) ≡ None = sym c.alone_refused.ensures ∙ c.in_default.is in
-    let low = parent_low w k p c.stands.ensures c.requires.fits c.requires.ends free in
+    let low = parent_low (record { I = c.stands.ensures; F = c.requires.fits; at_end = c.requires.ends; free = free }) in
     omega (arith, low)
 
 pub sibling_of-requires-clause-few : goal.sibling_of-requires-clause-few
@@ -154,5 +154,5 @@ sibling_of-requires-clause-few c =
     let k : ℕ = c.args.worker in
     let free : refused w (alone_entry k p) ≡ None = sym c.alone_refused.ensures ∙ c.in_default.is in
     let few = few_tasks w c.stands.ensures in
-    let made = own_made w k p c.stands.ensures c.requires.fits c.requires.ends free in
+    let made = own_made (record { I = c.stands.ensures; F = c.requires.fits; at_end = c.requires.ends; free = free }) in
     omega (arith, few, made)

@@ -7,47 +7,29 @@ use Rattle.task_homes.specs.declared.task_at_rest.Rest.{Rest}
 use Rattle.task_homes.specs.HomesValue.{HomesValue}
 use Rattle.shared_value.specs.Stands.{IsSharedValue}
 use Rattle.shared_value.specs.SharedValue.{SharedValue}
-use Rattle.shared_value.specs.Fits.{Fits}
-use Rattle.shared_value.specs.Entered.{refused}
 use Rattle.shared_value.proofs.JournalGoesOn.{four_changed}
-use Rattle.own_steps.specs.Alone.{alone_entry, ended_rest}
-use Rattle.own_steps.proofs.AloneEntries.{alone_small, home_there, node_there}
-use Rattle.child_tasks.specs.ChildEnds.{EndsChild, IsAtEnd}
+use Rattle.own_steps.specs.Alone.{ended_rest}
+use Rattle.own_steps.proofs.AloneEntries.{alone_small}
+use Rattle.own_steps.proofs.TaskEnds.{has_home, has_node}
+use Rattle.child_tasks.specs.ChildEnds.{EndsChild}
 use Rattle.child_tasks.proofs.ChildEnded.{alone_ends, alone_world}
-use Rattle.child_tasks.proofs.ChildReturns.{end_shared}
+use Rattle.child_tasks.proofs.ChildReturns.{asked, asks_end, shared}
 use Rattle.shared_tree.specs.contracts.shared.Shared.{the_view}
 use Rattle.shared_tree.proofs.StepsEntered.{along, entered}
 use Rattle.shared_tree.proofs.shared.Shared.ran_first.Goals as goal
 
 pub make_block-requires : goal.make_block-requires
 make_block-requires c =
-    let w : SharedValue = the_view c.self.inside in
-    let p : Private = c.args.part in
-    let k : ℕ = c.args.worker in
-    let F : Fits w k p = subst (λ (z : SharedValue). Fits z k p) (sym c.self.view_is) c.requires.fits in
-    let at : IsAtEnd w p = subst (λ (z : SharedValue). IsAtEnd z p) (sym c.self.view_is) c.requires.ends in
-    let free : refused w (alone_entry k p) ≡ None = subst (λ (z : SharedValue). refused z (alone_entry k p) ≡ None) (sym c.self.view_is) c.requires.free in
-    record { made = home_there w k p c.self.invariant F (end_shared w p at) free }
+    record { made = has_home (asked (asks_end c.self.view_is c.self.invariant c.requires.fits c.requires.ends c.requires.free)) }
 
 pub enter_alone-requires-clause-small : goal.enter_alone-requires-clause-small
 enter_alone-requires-clause-small c =
-    let w : SharedValue = the_view c.self.inside in
-    let p : Private = c.args.part in
-    let k : ℕ = c.args.worker in
-    let F : Fits w k p = subst (λ (z : SharedValue). Fits z k p) (sym c.self.view_is) c.requires.fits in
-    let at : IsAtEnd w p = subst (λ (z : SharedValue). IsAtEnd z p) (sym c.self.view_is) c.requires.ends in
-    let free : refused w (alone_entry k p) ≡ None = subst (λ (z : SharedValue). refused z (alone_entry k p) ≡ None) (sym c.self.view_is) c.requires.free in
-    alone_small w k p c.self.invariant F (end_shared w p at) free
+    let asks = asks_end c.self.view_is c.self.invariant c.requires.fits c.requires.ends c.requires.free in
+    alone_small (record { I = asks.I; F = asks.F; shared = shared asks; free = asks.free })
 
 pub set_state-requires : goal.set_state-requires
 set_state-requires c =
-    let w : SharedValue = the_view c.self.inside in
-    let p : Private = c.args.part in
-    let k : ℕ = c.args.worker in
-    let F : Fits w k p = subst (λ (z : SharedValue). Fits z k p) (sym c.self.view_is) c.requires.fits in
-    let at : IsAtEnd w p = subst (λ (z : SharedValue). IsAtEnd z p) (sym c.self.view_is) c.requires.ends in
-    let free : refused w (alone_entry k p) ≡ None = subst (λ (z : SharedValue). refused z (alone_entry k p) ≡ None) (sym c.self.view_is) c.requires.free in
-    node_there w k p c.self.invariant F (end_shared w p at) free
+    has_node (asked (asks_end c.self.view_is c.self.invariant c.requires.fits c.requires.ends c.requires.free))
 
 pub invariant_of-self : goal.invariant_of-self
 invariant_of-self c =
@@ -58,10 +40,6 @@ invariant_of-self-2 c =
     let w : SharedValue = the_view c.self.inside in
     let p : Private = c.args.part in
     let k : ℕ = c.args.worker in
-    let F : Fits w k p = subst (λ (z : SharedValue). Fits z k p) (sym c.self.view_is) c.requires.fits in
-    let at : IsAtEnd w p = subst (λ (z : SharedValue). IsAtEnd z p) (sym c.self.view_is) c.requires.ends in
-    let free : refused w (alone_entry k p) ≡ None = subst (λ (z : SharedValue). refused z (alone_entry k p) ≡ None) (sym c.self.view_is) c.requires.free in
-    let I : IsSharedValue w = c.self.invariant in
     let no : state_of w.tree (sibling p.task) ≡ Some Ended → ⊥ = λ e. c.requires.alone (subst (λ (z : SharedValue). state_of z.tree (sibling p.task) ≡ Some Ended) c.self.view_is e) in
     let hm : HomesValue = record c.self.inside.heaps.homes { rests = slice_set w.rests p.task (Some (ended_rest p)); blocks = c.make_block.new.self.blocks } in
     let put : c.put_rest.new.self ≡ hm =
@@ -73,17 +51,13 @@ invariant_of-self-2 c =
     (subst (λ (h : HomesValue). IsSharedValue (record w { steps = w.steps + (p.fresh + 1); tree = c.set_state.new.self; rests = h.rests; sets = h.sets; marks = h.marks; tasks_out = c.set.new.self; journal = entered w k p })) (sym put)
     (subst IsSharedValue (sym (four_changed (record w { steps = w.steps + (p.fresh + 1) }) (with_state w.tree p.task Ended) _ (slice_set w.rests p.task (Some (ended_rest p))) _ (slice_set w.tasks_out k None) _ (entered w k p) _
     c.set_state.ensures refl c.set.ensures refl))
-    (alone_world w k p I F at free no (record { items = []; room = w.journal.room - 1 }))))
+    (alone_world (asks_end c.self.view_is c.self.invariant c.requires.fits c.requires.ends c.requires.free) no (record { items = []; room = w.journal.room - 1 }))))
 
 pub returns-clause-answered : goal.returns-clause-answered
 returns-clause-answered c =
     let w : SharedValue = the_view c.self.inside in
     let p : Private = c.args.part in
     let k : ℕ = c.args.worker in
-    let F : Fits w k p = subst (λ (z : SharedValue). Fits z k p) (sym c.self.view_is) c.requires.fits in
-    let at : IsAtEnd w p = subst (λ (z : SharedValue). IsAtEnd z p) (sym c.self.view_is) c.requires.ends in
-    let free : refused w (alone_entry k p) ≡ None = subst (λ (z : SharedValue). refused z (alone_entry k p) ≡ None) (sym c.self.view_is) c.requires.free in
-    let I : IsSharedValue w = c.self.invariant in
     let no : state_of w.tree (sibling p.task) ≡ Some Ended → ⊥ = λ e. c.requires.alone (subst (λ (z : SharedValue). state_of z.tree (sibling p.task) ≡ Some Ended) c.self.view_is e) in
     let hm : HomesValue = record c.self.inside.heaps.homes { rests = slice_set w.rests p.task (Some (ended_rest p)); blocks = c.make_block.new.self.blocks } in
     let put : c.put_rest.new.self ≡ hm =
@@ -96,7 +70,7 @@ returns-clause-answered c =
     (subst (λ (h : HomesValue). EndsChild w (record w { steps = w.steps + (p.fresh + 1); tree = c.set_state.new.self; rests = h.rests; sets = h.sets; marks = h.marks; tasks_out = c.set.new.self; journal = entered w k p }) k p None) (sym put)
     (subst (λ (z : SharedValue). EndsChild w z k p None) (sym (four_changed (record w { steps = w.steps + (p.fresh + 1) }) (with_state w.tree p.task Ended) _ (slice_set w.rests p.task (Some (ended_rest p))) _ (slice_set w.tasks_out k None) _ (entered w k p) _
     c.set_state.ensures refl c.set.ensures refl))
-    (alone_ends w k p I F at free no (record { items = []; room = w.journal.room - 1 })))))
+    (alone_ends (asks_end c.self.view_is c.self.invariant c.requires.fits c.requires.ends c.requires.free) no (record { items = []; room = w.journal.room - 1 })))))
 
 pub returns-clause-task_out : goal.returns-clause-task_out
 returns-clause-task_out c = c.set.ensures ∙ ap (λ (z : SharedValue). slice_set z.tasks_out c.args.worker None) c.self.view_is

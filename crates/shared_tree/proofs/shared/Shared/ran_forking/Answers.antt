@@ -15,7 +15,7 @@ depth-requires c =
     let p : Private = c.args.part in
     let k : ℕ = c.args.worker in
     let free : refused w (alone_entry k p) ≡ None = sym c.alone_refused.ensures ∙ c.in_default.is in
-    subst (λ (z : SharedValue). p.task < length z.tree) (sym c.self.view_is) (node_there w k p c.stands.ensures c.requires.fits (fork_shared w p c.requires.forks) free)
+    subst (λ (z : SharedValue). p.task < length z.tree) (sym c.self.view_is) (node_there (record { I = c.stands.ensures; F = c.requires.fits; shared = (fork_shared w p c.requires.forks); free = free }))
 
 pub enter_halt-requires-clause-ends : goal.enter_halt-requires-clause-ends
 enter_halt-requires-clause-ends c =
@@ -25,7 +25,7 @@ enter_halt-requires-clause-ends c =
     let free : refused w (alone_entry k p) ≡ None = sym c.alone_refused.ensures ∙ c.in_default.is in
     let deep : 1000 ≤ depth_of w.tree p.task = subst (λ (z : SharedValue). 1000 ≤ depth_of z.tree p.task) c.self.view_is (subst (λ n. 1000 ≤ n) c.depth.ensures c.if-depth-lt-DEPTH_LIMIT.false) in
     let line = c.fork_line-left.result in
-    trap_is w p Depth line.2 (deep_traps w k p c.stands.ensures c.requires.fits c.requires.forks free line.0 line.1 line.2 c.fork_line-left.ensures deep)
+    trap_is w p Depth line.2 (deep_traps (record { I = c.stands.ensures; F = c.requires.fits; at_fork = c.requires.forks; free = free }) line.0 line.1 line.2 c.fork_line-left.ensures deep)
 
 pub enter_halt-requires-clause-shared : goal.enter_halt-requires-clause-shared
 enter_halt-requires-clause-shared c = fork_shared c.args.self.now c.args.part c.requires.forks
