@@ -16,10 +16,18 @@ use std::sync::Arc;
 /// Layers of pieces, the last made first, and the numbers of the chunks that changed since.
 ///
 /// A layer has at most half as many pieces as the one below it, so that there are few, and each piece moves seldom.
-#[derive(Drop)]
 struct Layers {
     layers: Vec<Arc<Layer, Global>>,
     stale: Vec<u32>,
+}
+
+impl Drop for Layers {
+    fn drop(self) {
+        let Layers {
+            layers: _,
+            stale: _,
+        } = self;
+    }
 }
 
 impl Layers {
@@ -48,9 +56,14 @@ impl Layers {
 ///
 /// Who changes the chunks says so here. A change costs no memory: where the list of the changed is full and the number
 /// isn't in it, all is let go. As long as nothing is kept it takes the place of a pointer.
-#[derive(Drop)]
 pub struct Pieces {
     kept: Option<Apart<Layers>>,
+}
+
+impl Drop for Pieces {
+    fn drop(self) {
+        let Pieces { kept: _ } = self;
+    }
 }
 
 impl Model for Pieces {

@@ -30,13 +30,24 @@ pub enum NotTaken {
 ///
 /// Chunks of one unit that come back are kept without their objects, and are handed out again: with those in use
 /// they are never more than were once in use.
-#[derive(Drop)]
 pub struct Pool {
     limit: u32,
     used: u32,
     slots: Slab<Slot>,
     kept: Vec<Chunk>,
     alloc: Global,
+}
+
+impl Drop for Pool {
+    fn drop(self) {
+        let Pool {
+            limit: _,
+            used: _,
+            slots: _,
+            kept: _,
+            alloc: _,
+        } = self;
+    }
 }
 
 impl Model for Pool {

@@ -9,11 +9,19 @@ use std::mem;
 
 /// Chunks in a row. It has places before them, in which empty chunks without words stand, and places behind them; so
 /// chunks are put in at both ends, and none of the others moves.
-#[derive(Drop)]
 pub struct Row {
     chunks: Vec<Chunk>,
     // How many of them only keep a place.
     before: usize,
+}
+
+impl Drop for Row {
+    fn drop(self) {
+        let Row {
+            chunks: _,
+            before: _,
+        } = self;
+    }
 }
 
 impl Model for Row {

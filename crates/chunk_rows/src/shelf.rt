@@ -20,11 +20,19 @@ use std::sync::Arc;
 /// The immutable objects of all chunks of a heap as they were at one time.
 ///
 /// It shares the layers of pieces with the heap, as long as that keeps them.
-#[derive(Drop)]
 pub struct Shelf {
     layers: Vec<Arc<Layer, Global>>,
     // As they were then.
     chunks: Snapshot<Row>,
+}
+
+impl Drop for Shelf {
+    fn drop(self) {
+        let Shelf {
+            layers: _,
+            chunks: _,
+        } = self;
+    }
 }
 
 impl Model for Shelf {

@@ -15,10 +15,15 @@ use std::sync::Arc;
 
 /// The immutable objects of the tasks above, as each task had them when it forked: a level for each,
 /// the parent's first. Views share the levels that they have in common.
-#[derive(Drop)]
 pub struct View {
     // None where there is none above.
     levels: Option<Vec<Arc<Shelf, Global>>>,
+}
+
+impl Drop for View {
+    fn drop(self) {
+        let View { levels: _ } = self;
+    }
 }
 
 impl Model for View {

@@ -19,10 +19,18 @@ use std::alloc::{AllocError, Global};
 use std::marker::Model;
 
 /// The shared value, and what the entries of its journal come to: it tells the report without another look at them.
-#[derive(Drop)]
 pub struct Counted {
     pub(crate) shared: Shared,
     pub(crate) counts: Counts,
+}
+
+impl Drop for Counted {
+    fn drop(self) {
+        let Counted {
+            shared: _,
+            counts: _,
+        } = self;
+    }
 }
 
 impl Model for Counted {
@@ -110,7 +118,7 @@ impl Counted {
         ensures journal { result.0 ≡ self.journal.items }
         ensures rest { result.1 ≡ without_journal self }
     {
-        let Counted { shared, .. } = self;
+        let Counted { shared, counts: _ } = self;
         shared.take_journal()
     }
 }

@@ -15,22 +15,26 @@ use shared_tree::Shared;
 use std::alloc::{AllocError, Global};
 
 /// What is kept of the entries of a journal.
-#[derive(Drop)]
 pub(crate) struct Counts {
     pub(crate) totals: Totals,
     /// Of each worker, the words of the heap whose leaf collection it is amid, as that began.
     pub(crate) begun: Listed<u64>,
 }
 
+impl Drop for Counts {
+    fn drop(self) {
+        let Counts {
+            totals: _,
+            begun: _,
+        } = self;
+    }
+}
+
 // So many numbers.
 fn zeros(alloc: Global, count: u32) -> Result<Listed<u64>, AllocError>
     ensures { IfOk result (λ numbers. length numbers ≡ count) }
 {
-    let mut numbers = Listed::new(alloc);
-    for _ in 0..count {
-        numbers.push(0)?;
-    }
-    Ok(numbers)
+    Ok(Listed::from_vec(vec![in alloc; 0; count as usize]?))
 }
 
 // The entry that was made last.

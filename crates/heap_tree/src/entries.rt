@@ -19,10 +19,15 @@ pub struct Pair {
 }
 
 /// The entries of the root and of those pairs of children.
-#[derive(Drop)]
 pub struct Entries {
     root: State,
     pairs: Vec<Pair>,
+}
+
+impl Drop for Entries {
+    fn drop(self) {
+        let Entries { root: _, pairs: _ } = self;
+    }
 }
 
 impl Model for Entries {

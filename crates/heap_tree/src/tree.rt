@@ -14,9 +14,14 @@ use std::marker::Model;
 use std::sync::ledger::Ledger;
 
 /// The tasks made so far, each with its parent and its state. The root is task 0.
-#[derive(Drop)]
 pub struct Tree {
     entries: Entries,
+}
+
+impl Drop for Tree {
+    fn drop(self) {
+        let Tree { entries: _ } = self;
+    }
 }
 
 impl Model for Tree {

@@ -16,17 +16,30 @@ pub struct Line {
 }
 
 /// A function: its name in ASCII letters, digits and `_`, and its code.
-#[derive(Drop)]
 pub struct Fun {
     pub name: Listed<u8>,
     pub code: Listed<Line>,
 }
 
+impl Drop for Fun {
+    fn drop(self) {
+        let Fun { name: _, code: _ } = self;
+    }
+}
+
 /// A program whose indices are all in range, whose functions all end with a return, and which has a `main`.
-#[derive(Drop)]
 pub struct Program {
     functions: Listed<Fun>,
     main: u32,
+}
+
+impl Drop for Program {
+    fn drop(self) {
+        let Program {
+            functions: _,
+            main: _,
+        } = self;
+    }
 }
 
 impl Model for Program {

@@ -108,7 +108,6 @@ pub enum End {
 }
 
 /// The whole state of a machine.
-#[derive(Drop)]
 pub struct State {
     /// The most fields that an object may have.
     pub field_limit: u32,
@@ -122,4 +121,17 @@ pub struct State {
     pub outputs: Listed<i64>,
     /// How the run ended, if it has.
     pub end: Option<End>,
+}
+
+impl Drop for State {
+    fn drop(self) {
+        let State {
+            field_limit: _,
+            tasks: _,
+            store: _,
+            edges: _,
+            outputs: _,
+            end: _,
+        } = self;
+    }
 }

@@ -20,11 +20,20 @@ use std::marker::Model;
 ///
 /// A chunk of one unit has 1,024 words. A large object has a chunk of its own, of as many units as
 /// it needs, and lies at offset 0 there.
-#[derive(Drop)]
 pub struct Chunk {
     number: u32,
     words: Vec<u64>,
     used: u32,
+}
+
+impl Drop for Chunk {
+    fn drop(self) {
+        let Chunk {
+            number: _,
+            words: _,
+            used: _,
+        } = self;
+    }
 }
 
 impl Model for Chunk {

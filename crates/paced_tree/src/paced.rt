@@ -23,12 +23,20 @@ use std::marker::Model;
 
 /// The shared value whose journal is paced: each entry gives what its worker owes to the collections of the heaps of
 /// waiting tasks, or ends the run for spent fuel.
-#[derive(Drop)]
 pub struct Paced {
     /// Behind a pointer, since it goes out of the turn and back at each entry.
     pub(crate) shared: Apart<Counted>,
     /// What is kept of each worker's entries.
     pub(crate) paces: Listed<Pace>,
+}
+
+impl Drop for Paced {
+    fn drop(self) {
+        let Paced {
+            shared: _,
+            paces: _,
+        } = self;
+    }
 }
 
 impl Model for Paced {
@@ -72,7 +80,7 @@ impl Paced {
         ensures same { result ≡ self }
         ensures paced { is_paced result.program result.settings result.journal.items ≡ true }
     {
-        let Paced { shared, .. } = self;
+        let Paced { shared, paces: _ } = self;
         shared.into_inner()
     }
 

@@ -20,11 +20,16 @@ pub struct Source {
 
 /// The fields that were seen to point down into a heap. A source stays when its field is
 /// overwritten; what it holds is read when it is needed.
-#[derive(Drop)]
 pub struct Remembered {
     alloc: Global,
     // None where it holds nothing, and has no places.
     table: Option<Apart<Table>>,
+}
+
+impl Drop for Remembered {
+    fn drop(self) {
+        let Remembered { alloc: _, table: _ } = self;
+    }
 }
 
 impl Model for Remembered {

@@ -14,11 +14,20 @@ use std::collections::HashSet;
 use std::marker::Model;
 
 /// The sources of a heap, in a list and in a table that tells which are known.
-#[derive(Drop)]
 pub struct Table {
     sources: Vec<Source>,
     known: HashSet<Source>,
     numbers: HashSet<u32>,
+}
+
+impl Drop for Table {
+    fn drop(self) {
+        let Table {
+            sources: _,
+            known: _,
+            numbers: _,
+        } = self;
+    }
 }
 
 impl Model for Table {

@@ -105,7 +105,6 @@ pub struct Heap {
 }
 
 /// The accounts of a journal.
-#[derive(Drop)]
 pub struct Ledger {
     /// The machine that never collects, after the journal's steps.
     pub machine: State,
@@ -115,6 +114,17 @@ pub struct Ledger {
     pub steps: u64,
     /// How the run ended, if it has.
     pub end: Option<RunEnd>,
+}
+
+impl Drop for Ledger {
+    fn drop(self) {
+        let Ledger {
+            machine: _,
+            heaps: _,
+            steps: _,
+            end: _,
+        } = self;
+    }
 }
 
 /// What a run came to, in counts.

@@ -14,10 +14,18 @@ use std::alloc::{AllocError, Global};
 use text_lines::{next_line, next_word};
 
 /// What a trace text says.
-#[derive(Drop)]
 pub struct Trace {
     pub version: Version,
     pub entries: Listed<Entry>,
+}
+
+impl Drop for Trace {
+    fn drop(self) {
+        let Trace {
+            version: _,
+            entries: _,
+        } = self;
+    }
 }
 
 /// Why a text couldn't be read.

@@ -32,10 +32,15 @@ pub enum NotPushed {
 /// The frames of a task, of which the top one runs. The others wait for a return.
 ///
 /// The top frame lies behind a pointer, so that frames are moved without their registers.
-#[derive(Drop)]
 pub struct Frames {
     below: Vec<Frame>,
     top: Box<Frame>,
+}
+
+impl Drop for Frames {
+    fn drop(self) {
+        let Frames { below: _, top: _ } = self;
+    }
 }
 
 impl Model for Frames {

@@ -13,10 +13,15 @@ use object_layout::{Addr, Chunk, Words};
 use std::alloc::{AllocError, Global};
 
 /// What belongs to each task, and which task owns each chunk.
-#[derive(Drop)]
 pub struct Heaps {
     pub homes: Homes,
     pub pool: Pool,
+}
+
+impl Drop for Heaps {
+    fn drop(self) {
+        let Heaps { homes: _, pool: _ } = self;
+    }
 }
 
 impl Heaps {

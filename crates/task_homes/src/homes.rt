@@ -50,9 +50,14 @@ pub fn home_block(alloc: Global) -> Result<Apart<Home>, AllocError>
 }
 
 /// What belongs to each task, by number.
-#[derive(Drop)]
 pub struct Homes {
     list: Vec<Option<Apart<Home>>>,
+}
+
+impl Drop for Homes {
+    fn drop(self) {
+        let Homes { list: _ } = self;
+    }
 }
 
 impl Model for Homes {

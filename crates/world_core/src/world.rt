@@ -29,11 +29,20 @@ pub enum NotApplied {
 }
 
 /// The shared value and what every worker holds, all in one place: entries are applied one by one.
-#[derive(Drop)]
 pub struct World {
     shared: Counted,
     holdings: Listed<OutPart>,
     stopped: bool,
+}
+
+impl Drop for World {
+    fn drop(self) {
+        let World {
+            shared: _,
+            holdings: _,
+            stopped: _,
+        } = self;
+    }
 }
 
 impl Model for World {
@@ -109,7 +118,11 @@ impl World {
     pub fn into_shared(self) -> Counted
         ensures { result ≡ self.shared }
     {
-        let World { shared, .. } = self;
+        let World {
+            shared,
+            holdings: _,
+            stopped: _,
+        } = self;
         shared
     }
 

@@ -35,10 +35,15 @@ pub enum Form {
 }
 
 /// What is noted for the collections of a heap. It takes no memory until it is to hold something.
-#[derive(Drop)]
 pub struct SetOf {
     alloc: Global,
     form: Form,
+}
+
+impl Drop for SetOf {
+    fn drop(self) {
+        let SetOf { alloc: _, form: _ } = self;
+    }
 }
 
 impl Model for SetOf {
