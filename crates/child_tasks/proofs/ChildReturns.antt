@@ -32,7 +32,7 @@ use Rattle.shared_value.proofs.StepAccounts.{After}
 use Rattle.shared_value.proofs.TaskTaken.{parent_is as tree_parent_is}
 use Rattle.own_steps.specs.Alone.{IsShared, alone_entry, machine_after}
 use Rattle.own_steps.proofs.AloneEntries as own
-use Rattle.own_steps.proofs.AloneEntries.{node_there, runs_on}
+use Rattle.own_steps.proofs.AloneEntries.{AsksAlone, node_there, runs_on}
 use Rattle.own_steps.proofs.LastStepEntry as last
 use Rattle.own_steps.proofs.LastStepEntry.{AsksLast}
 use Rattle.own_steps.proofs.LastSteps.{machine_same}
@@ -119,11 +119,14 @@ module _ {w : SharedValue} {k : ℕ} {p : Private} (asks : AsksEnd w k p) where
   abbrev pub shared : IsShared w p
   shared = end_shared w p at_end
 
+  abbrev pub asked_alone : AsksAlone w k p
+  asked_alone = record { I = I; F = F; shared = shared; free = free }
+
   pub on : (accounts w).end ≡ None
-  on = runs_on (record { I = I; F = F; shared = shared; free = free })
+  on = runs_on asked_alone
 
   abbrev pub asked : AsksLast w k p
-  asked = own.asks_last (record { I = I; F = F; shared = shared; free = free })
+  asked = own.asks_last asked_alone
 
   open (last.names asked) use {t, l, M, S}
 

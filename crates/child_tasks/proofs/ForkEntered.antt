@@ -129,7 +129,7 @@ module _ {w : SharedValue} {k : ℕ} {p : Private} (asks : AsksFork w k p) (left
   set_is = made_is ∙ sym I.noted
 
   has_node : t < length w.tree
-  has_node = node_there (record { I = I; F = F; shared = (steps.shared asks); free = free })
+  has_node = node_there (steps.asked_alone asks)
 
   abbrev vt : Memory
   vt = with_belongings v t h

@@ -38,7 +38,7 @@ use Rattle.shared_value.proofs.SameLength.{same_length}
 use Rattle.shared_value.proofs.TaskTaken.{parent_is}
 use Rattle.own_steps.specs.Alone.{IsShared, Tells, alone_entry, machine_after}
 use Rattle.own_steps.proofs.AloneEntries as own
-use Rattle.own_steps.proofs.AloneEntries.{runs_on}
+use Rattle.own_steps.proofs.AloneEntries.{AsksAlone, runs_on}
 use Rattle.own_steps.proofs.TaskDepths.{AreDeep, deep_in, run_deep}
 use Rattle.own_steps.proofs.LastStepEntry as last
 use Rattle.own_steps.proofs.LastStepEntry.{AsksLast}
@@ -114,11 +114,14 @@ module _ {w : SharedValue} {k : ℕ} {p : Private} (asks : AsksFork w k p) where
   abbrev pub shared : IsShared w p
   shared = fork_shared w p at_fork
 
+  abbrev pub asked_alone : AsksAlone w k p
+  asked_alone = record { I = I; F = F; shared = shared; free = free }
+
   pub on : (accounts w).end ≡ None
-  on = runs_on (record { I = I; F = F; shared = shared; free = free })
+  on = runs_on asked_alone
 
   abbrev pub asked : AsksLast w k p
-  asked = own.asks_last (record { I = I; F = F; shared = shared; free = free })
+  asked = own.asks_last asked_alone
 
   open (last.names asked) use {t, l, M, S}
 

@@ -1,13 +1,12 @@
 -- An entry of steps is made: what it makes of the memory, of what is noted, and of the tree and the counts makes a
 -- shared value, which the parts of other workers fit, and that of its own where it goes on.
-use Rattle.std.proofs.Common.{◌≡◌, ℕ, suc, slice_get, refl}
+use Rattle.std.proofs.Common.{◌≡◌, ℕ, suc, None, slice_get, refl}
 use Rattle.std.specs.Option.{option_flatten}
 use Rattle.run_trace.specs.declared.entry.Kind.TheVariants.{Ran}
 use Rattle.run_trace.specs.Entry.{EntryValue}
 use Rattle.run_ledger.specs.declared.data.Ledger.{Ledger}
 use Rattle.run_ledger.specs.Entries.{after}
 use Rattle.run_ledger.specs.Steps.{task_steps}
-use Rattle.std.specs.Prelude.{None}
 use Rattle.task_frames.specs.FramesValue.{FramesValue}
 use Rattle.ledger_step_laws.specs.Last.{LastKind, Private as PrivateKind, Reading, Writing, Printing, Forking, Ending, Joining, Finishing, Halting, Runs}
 use Rattle.core_relation.specs.Fits.{part_for}

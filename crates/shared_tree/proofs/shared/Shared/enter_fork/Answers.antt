@@ -14,7 +14,7 @@ use Rattle.shared_value.proofs.JournalGoesOn.{four_changed}
 use Rattle.own_steps.proofs.AloneEntries.{alone_small, home_there, next_small, set_there}
 use Rattle.child_tasks.specs.Forks.{ForksOn, ForksTo, RestsFork, SetsFork, begun_rest, part_child, waiting_rest}
 use Rattle.child_tasks.proofs.ForkEntries.{alone_forks, alone_world, rests_fork_by}
-use Rattle.child_tasks.proofs.NextStepForks.{AsksFork, asks_fork, few_tasks, fork_shared, on, tree_out}
+use Rattle.child_tasks.proofs.NextStepForks.{AsksFork, asked_alone, asks_fork, few_tasks, on, tree_out}
 use Rattle.shared_tree.specs.contracts.shared.Shared.{the_view}
 use Rattle.shared_tree.proofs.StepsEntered.{along, entered}
 use Rattle.shared_tree.proofs.shared.Shared.enter_fork.Goals as goal
@@ -36,10 +36,8 @@ grow-grown-requires-clause-shallow c =
 
 pub grow-grown-requires-clause-made : goal.grow-grown-requires-clause-made
 grow-grown-requires-clause-made c =
-    let w : SharedValue = the_view c.self.inside in
-    let p : Private = c.args.part in
     let asks = asks_fork c.self.view_is c.self.invariant c.requires.fits c.requires.forks c.requires.free in
-    home_there (record { I = asks.I; F = asks.F; shared = (fork_shared w p asks.at_fork); free = asks.free })
+    home_there (asked_alone asks)
 
 pub enter_alone-requires-clause-room : goal.enter_alone-requires-clause-room
 enter_alone-requires-clause-room c =
@@ -47,24 +45,20 @@ enter_alone-requires-clause-room c =
 
 pub enter_alone-requires-clause-small : goal.enter_alone-requires-clause-small
 enter_alone-requires-clause-small c =
-    let w : SharedValue = the_view c.self.inside in
-    let p : Private = c.args.part in
     let asks = asks_fork c.self.view_is c.self.invariant c.requires.fits c.requires.forks c.requires.free in
-    alone_small (record { I = asks.I; F = asks.F; shared = (fork_shared w p asks.at_fork); free = asks.free })
+    alone_small (asked_alone asks)
 
 pub fork_homes-marked-requires-clause-made : goal.fork_homes-marked-requires-clause-made
 fork_homes-marked-requires-clause-made c =
-    let w : SharedValue = the_view c.self.inside in
     let p : Private = c.args.part in
     let asks = asks_fork c.self.view_is c.self.invariant c.requires.fits c.requires.forks c.requires.free in
-    subst (λ (z : HomesValue). p.task < length z.rests) (sym c.in-Ok-grown.ensures.homes) (home_there (record { I = asks.I; F = asks.F; shared = (fork_shared w p asks.at_fork); free = asks.free }))
+    subst (λ (z : HomesValue). p.task < length z.rests) (sym c.in-Ok-grown.ensures.homes) (home_there (asked_alone asks))
 
 pub fork_homes-marked-requires-clause-noted : goal.fork_homes-marked-requires-clause-noted
 fork_homes-marked-requires-clause-noted c =
-    let w : SharedValue = the_view c.self.inside in
     let p : Private = c.args.part in
     let asks = asks_fork c.self.view_is c.self.invariant c.requires.fits c.requires.forks c.requires.free in
-    subst (λ (z : HomesValue). p.task < length z.sets) (sym c.in-Ok-grown.ensures.homes) (set_there (record { I = asks.I; F = asks.F; shared = (fork_shared w p asks.at_fork); free = asks.free }))
+    subst (λ (z : HomesValue). p.task < length z.sets) (sym c.in-Ok-grown.ensures.homes) (set_there (asked_alone asks))
 
 pub fork_homes-marked-requires-clause-block : goal.fork_homes-marked-requires-clause-block
 fork_homes-marked-requires-clause-block c =
@@ -76,10 +70,8 @@ fork_homes-marked-requires-clause-room c =
 
 pub fork_homes-marked-requires-clause-next : goal.fork_homes-marked-requires-clause-next
 fork_homes-marked-requires-clause-next c =
-    let w : SharedValue = the_view c.self.inside in
-    let p : Private = c.args.part in
     let asks = asks_fork c.self.view_is c.self.invariant c.requires.fits c.requires.forks c.requires.free in
-    next_small (record { I = asks.I; F = asks.F; shared = (fork_shared w p asks.at_fork); free = asks.free })
+    next_small (asked_alone asks)
 
 pub invariant_of-self-2 : goal.invariant_of-self-2
 invariant_of-self-2 c =
@@ -92,7 +84,7 @@ invariant_of-self-2 c =
     let g : HomesValue = c.grow-grown.new.homes in
     let n : HomesValue = c.fork_homes-marked.new.homes in
     let grown : g ≡ record c.self.inside.heaps.homes { blocks = g.blocks; room = g.room } = c.in-Ok-grown.ensures.homes in
-    let made : p.task < length w.rests = home_there (record { I = asks.I; F = asks.F; shared = (fork_shared w p asks.at_fork); free = asks.free }) in
+    let made : p.task < length w.rests = home_there (asked_alone asks) in
     let first : c.in-Ok-grown.first ≡ part_child p (length w.rests) c.args.left c.in-Ok-grown.first.heap.slots c.in-Ok-grown.first.heap.spare = c.in-Ok-grown.ensures.left_child ∙ ap (λ n. part_child p n c.args.left c.in-Ok-grown.first.heap.slots c.in-Ok-grown.first.heap.spare) (sym asks.I.made) in
     let second : c.in-Ok-grown.second ≡ part_child p (length w.rests + 1) c.args.right c.in-Ok-grown.second.heap.slots c.in-Ok-grown.second.heap.spare = c.in-Ok-grown.ensures.right_child ∙ ap (λ n. part_child p (n + 1) c.args.right c.in-Ok-grown.second.heap.slots c.in-Ok-grown.second.heap.spare) (sym asks.I.made) in
     let rests : n.rests ≡ slice_set w.rests p.task (Some (waiting_rest p)) ++ Some (begun_rest c.in-Ok-grown.first) ∷ (Some (begun_rest c.in-Ok-grown.second) ∷ []) =
@@ -117,7 +109,7 @@ returns-clause-answered c =
     let g : HomesValue = c.grow-grown.new.homes in
     let n : HomesValue = c.fork_homes-marked.new.homes in
     let grown : g ≡ record c.self.inside.heaps.homes { blocks = g.blocks; room = g.room } = c.in-Ok-grown.ensures.homes in
-    let made : p.task < length w.rests = home_there (record { I = asks.I; F = asks.F; shared = (fork_shared w p asks.at_fork); free = asks.free }) in
+    let made : p.task < length w.rests = home_there (asked_alone asks) in
     let first : c.in-Ok-grown.first ≡ part_child p (length w.rests) c.args.left c.in-Ok-grown.first.heap.slots c.in-Ok-grown.first.heap.spare = c.in-Ok-grown.ensures.left_child ∙ ap (λ n. part_child p n c.args.left c.in-Ok-grown.first.heap.slots c.in-Ok-grown.first.heap.spare) (sym asks.I.made) in
     let second : c.in-Ok-grown.second ≡ part_child p (length w.rests + 1) c.args.right c.in-Ok-grown.second.heap.slots c.in-Ok-grown.second.heap.spare = c.in-Ok-grown.ensures.right_child ∙ ap (λ n. part_child p (n + 1) c.args.right c.in-Ok-grown.second.heap.slots c.in-Ok-grown.second.heap.spare) (sym asks.I.made) in
     let rests : n.rests ≡ slice_set w.rests p.task (Some (waiting_rest p)) ++ Some (begun_rest c.in-Ok-grown.first) ∷ (Some (begun_rest c.in-Ok-grown.second) ∷ []) =

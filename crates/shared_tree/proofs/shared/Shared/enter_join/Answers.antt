@@ -21,7 +21,7 @@ use Rattle.shared_value.proofs.JournalGoesOn.{four_changed}
 use Rattle.own_steps.proofs.AloneEntries.{alone_small}
 use Rattle.child_tasks.specs.ChildEnds.{EndsChild}
 use Rattle.child_tasks.specs.Joins.{CanJoin, HasPlaces, parent_side}
-use Rattle.child_tasks.proofs.ChildReturns.{AsksEnd, asks_end, end_shared, own_made, parent_low}
+use Rattle.child_tasks.proofs.ChildReturns.{AsksEnd, asked_alone, asks_end, own_made, parent_low}
 use Rattle.child_tasks.proofs.NextStepForks.{few_tasks}
 use Rattle.child_tasks.proofs.JoinEntries as entry
 use Rattle.child_tasks.proofs.JoinEntries.{other_made}
@@ -47,10 +47,8 @@ sibling_of-other-requires-clause-few c =
 
 pub enter_alone-requires-clause-small : goal.enter_alone-requires-clause-small
 enter_alone-requires-clause-small c =
-    let w : SharedValue = the_view c.self.inside in
-    let p : Private = c.args.part in
     let asks = asks_end c.self.view_is c.self.invariant c.requires.fits c.requires.ends c.requires.free in
-    alone_small (record { I = asks.I; F = asks.F; shared = (end_shared w p asks.at_end); free = asks.free })
+    alone_small (asked_alone asks)
 
 pub set_state-requires : goal.set_state-requires
 set_state-requires c =

@@ -13,7 +13,7 @@ use Rattle.own_steps.proofs.AloneEntries.{alone_small}
 use Rattle.own_steps.proofs.TaskEnds.{has_home, has_node}
 use Rattle.child_tasks.specs.ChildEnds.{EndsChild}
 use Rattle.child_tasks.proofs.ChildEnded.{alone_ends, alone_world}
-use Rattle.child_tasks.proofs.ChildReturns.{asked, asks_end, shared}
+use Rattle.child_tasks.proofs.ChildReturns.{asked, asked_alone, asks_end}
 use Rattle.shared_tree.specs.contracts.shared.Shared.{the_view}
 use Rattle.shared_tree.proofs.StepsEntered.{along, entered}
 use Rattle.shared_tree.proofs.shared.Shared.ran_first.Goals as goal
@@ -25,7 +25,7 @@ make_block-requires c =
 pub enter_alone-requires-clause-small : goal.enter_alone-requires-clause-small
 enter_alone-requires-clause-small c =
     let asks = asks_end c.self.view_is c.self.invariant c.requires.fits c.requires.ends c.requires.free in
-    alone_small (record { I = asks.I; F = asks.F; shared = shared asks; free = asks.free })
+    alone_small (asked_alone asks)
 
 pub set_state-requires : goal.set_state-requires
 set_state-requires c =
