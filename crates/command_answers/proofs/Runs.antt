@@ -1,6 +1,6 @@
 -- What is answered of runs.
 use Rattle.std.proofs.Common.{◌∙◌, ◌≡◌, ◌+◌, List, [], true, ap, ap₂, refl, sym, subst, append-nil, length}
-use Rattle.std.specs.Prelude.{Option, Some, None, Result, Ok, Err, IfOk, IfErr}
+use Rattle.std.specs.Prelude.{Option, Some, None, Result, Ok, Err}
 use Rattle.hh_lang.specs.Form.{ProgramText}
 use Rattle.run_trace.specs.Entry.{EntryValue}
 use Rattle.run_trace.specs.Settings.{SettingsValue}
@@ -16,7 +16,7 @@ use Rattle.shared_value.specs.SharedValue.{SharedValue, accounts, without_journa
 use Rattle.shared_value.specs.Stands.{IsSharedValue}
 use Rattle.world_core.specs.declared.replaying.ReplayStop.{ReplayStop}
 use Rattle.world_core.specs.declared.replaying.ReplayStop.TheVariants.{RefusedAt as Stops, NoMemory as WantsMemory}
-use Rattle.world_core.specs.Replay.{HasReplayed, IsStop}
+use Rattle.world_core.specs.Replay.{ReplayGives}
 use Rattle.world_core.specs.WorldValue.{WorldValue}
 use Rattle.refusal_lines.specs.declared.refusal.Refusal.TheVariants.{Entry}
 use Rattle.command_line.specs.declared.line.Options.{Options}
@@ -113,15 +113,14 @@ all_prefix journal entries is = ([], sym is ∙ sym (append-nil journal))
 -- A REPLAY that has come so far
 
 pub replayed_told : (o : Options) (t : TraceInput) (s : SettingsValue) (entries : List EntryValue) (r : Result WorldValue ReplayStop) (a : Answer) → s ≡ settings_for o.settings t → entries ≡ t.trace.entries
-    → IfOk r (HasReplayed t.program s entries) → IfErr r (IsStop t.program s entries) → AnswersReplayed (extras_of o) r a → AnswersTrace (IsReplay o) o.settings t a
-replayed_told o t s entries (Ok x) a limits is has stop h = made_told o t s entries x.shared a limits is has.program has.settings has.journal h
-replayed_told o t s entries (Err (Stops r)) a limits is has stop h = trace_told (IsReplay o) o.settings t s entries (Some r) a limits is (refused_first t.program s entries r stop) h
-replayed_told o t s entries (Err (WantsMemory x)) a limits is has stop h = absurd h
+    → ReplayGives t.program s entries r → AnswersReplayed (extras_of o) r a → AnswersTrace (IsReplay o) o.settings t a
+replayed_told o t s entries (Ok x) a limits is has h = made_told o t s entries x.shared a limits is has.program has.settings has.journal h
+replayed_told o t s entries (Err (Stops r)) a limits is stop h = trace_told (IsReplay o) o.settings t s entries (Some r) a limits is (refused_first t.program s entries r stop) h
+replayed_told o t s entries (Err (WantsMemory x)) a limits is come h = absurd h
 
 pub replayed_left : (o : Options) (t : TraceInput) (s : SettingsValue) (entries : List EntryValue) (r : Result WorldValue ReplayStop) (found : Wanted) → s ≡ settings_for o.settings t → entries ≡ t.trace.entries
-    → IfOk r (HasReplayed t.program s entries) → IfErr r (IsStop t.program s entries) → StandsReplayed r → found ≡ remains_by r → IsWanted (LeavesPrefix t.program (settings_for o.settings t) t.trace.entries) found
-replayed_left o t s entries (Ok x) found limits is has stop stands e =
+    → ReplayGives t.program s entries r → StandsReplayed r → found ≡ remains_by r → IsWanted (LeavesPrefix t.program (settings_for o.settings t) t.trace.entries) found
+replayed_left o t s entries (Ok x) found limits is has stands e =
     entries_left o t s entries x.shared found limits is stands has.program has.settings (all_prefix x.shared.journal.items entries has.journal) e
-replayed_left o t s entries (Err (Stops r)) found limits is has stop stands e = subst (IsWanted (LeavesPrefix t.program (settings_for o.settings t) t.trace.entries)) (sym e) tt
-replayed_left o t s entries (Err (WantsMemory None)) found limits is has stop stands e = subst (IsWanted (LeavesPrefix t.program (settings_for o.settings t) t.trace.entries)) (sym e) tt
-replayed_left o t s entries (Err (WantsMemory (Some x))) found limits is has stop stands e = entries_left o t s entries x.shared found limits is stands stop.program stop.settings stop.prefix e
+replayed_left o t s entries (Err (Stops r)) found limits is stop stands e = subst (IsWanted (LeavesPrefix t.program (settings_for o.settings t) t.trace.entries)) (sym e) tt
+replayed_left o t s entries (Err (WantsMemory x)) found limits is come stands e = entries_left o t s entries x.shared found limits is stands come.program come.settings come.prefix e

@@ -128,8 +128,7 @@ AnswersReplayed extras (Err (WantsMemory x)) a = ⊥
 abbrev pub StandsReplayed : Result WorldValue ReplayStop → Type 0
 StandsReplayed (Ok x) = IsSharedValue x.shared
 StandsReplayed (Err (Stops r)) = Unit {0}
-StandsReplayed (Err (WantsMemory None)) = Unit {0}
-StandsReplayed (Err (WantsMemory (Some x))) = IsSharedValue x.shared
+StandsReplayed (Err (WantsMemory x)) = IsSharedValue x.shared
 
 -- MODEL writes the same, and hands back nothing
 

@@ -72,8 +72,7 @@ remains_of (Some w) = Amid w.journal.items (without_journal w)
 abbrev pub remains_by : Result WorldValue ReplayStop → Wanted
 remains_by (Ok x) = remains_of (Some x.shared)
 remains_by (Err (RefusedAt r)) = Before
-remains_by (Err (WantsMemory None)) = Before
-remains_by (Err (WantsMemory (Some x))) = remains_of (Some x.shared)
+remains_by (Err (WantsMemory x)) = remains_of (Some x.shared)
 
 -- before a run began, or amid it, where this is left of it
 abbrev pub IsWanted : (List EntryValue → Option SharedValue → Type 0) → Wanted → Type 0

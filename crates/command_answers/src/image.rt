@@ -40,15 +40,15 @@ fn answer_trace(alloc: Global, settings: Settings, read: &TraceInput) -> Result<
 {
     let TraceInput { program, trace } = read;
     let settings = settings.with_version(trace.version);
-    match replay(alloc, program, settings, trace.entries.as_slice()) {
+    match replay(alloc, program, settings, trace.entries.as_slice())? {
         Ok(world) => {
             let answer = answer_made(alloc, world.shared());
             drop(world);
             answer
         }
         Err(ReplayStop::RefusedAt(entry)) => refused(alloc, Refusal::Entry(entry)),
-        Err(ReplayStop::NoMemory(remains)) => {
-            drop(remains);
+        Err(ReplayStop::NoMemory(world)) => {
+            drop(world);
             Err(AllocError)
         }
     }

@@ -58,8 +58,7 @@ fn answer_replayed(
     match replayed {
         Ok(world) => answer_made(alloc, world.into_shared(), extras),
         Err(ReplayStop::RefusedAt(entry)) => Ok(refused(alloc, Refusal::Entry(entry))?),
-        Err(ReplayStop::NoMemory(None)) => Err(Wanted::Before),
-        Err(ReplayStop::NoMemory(Some(world))) => Err(amid(world.into_shared())),
+        Err(ReplayStop::NoMemory(world)) => Err(amid(world.into_shared())),
     }
 }
 
@@ -70,7 +69,7 @@ fn answer_trace(alloc: Global, options: Options, read: &TraceInput) -> Result<An
 {
     let TraceInput { program, trace } = read;
     let settings = options.settings.with_version(trace.version);
-    let replayed = replay(alloc, program, settings, trace.entries.as_slice());
+    let replayed = replay(alloc, program, settings, trace.entries.as_slice())?;
     answer_replayed(alloc, replayed, extras_of(options))
 }
 

@@ -8,7 +8,7 @@ use turn_entries::Counted;
 pub enum Finish {
     /// Its journal ends so.
     Ended(RunEnd),
-    /// Memory was wanting: the journal has no end.
+    /// An allocation failed: the journal has no end.
     NoMemory,
 }
 
@@ -16,6 +16,6 @@ pub enum Finish {
 #[derive(Drop)]
 pub struct Outcome {
     pub finish: Finish,
-    /// The shared value; None only where memory was wanting before the first entry.
+    /// The shared value; None only where there was no memory to start with, before the first entry.
     pub shared: Option<Counted>,
 }

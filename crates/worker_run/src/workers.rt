@@ -136,19 +136,37 @@ pub fn opened(
     Ok((turn, desks))
 }
 
-// The shared value that the workers leave.
-fn run_all<R: Threads + Wait + Sync, G: Gate>(
-    rt: &R,
+// The turn and the desks, and an empty list with capacity for the seat of each desk.
+fn with_seats(
     alloc: Global,
     program: &Program,
     settings: Settings,
-    gate: &G,
-) -> Result<Counted, AllocError>
-    ensures run { IfOk result (IsRun program.now settings) }
-    ensures gave { IfOk result (λ w. WasGivenBack program.now settings w.journal.items) }
+) -> Result<(Turn<Run>, Vec<Desk>, Vec<Seat<Run>>), AllocError>
+    ensures all { IfOk result (λ t. AreAllDesks (identity t.0) program.now settings t.1.items) }
+    ensures new { IfOk result (λ t. AreOpened settings t.1.items) }
+    ensures none { IfOk result (λ t. t.2.items ≡ []) }
+    ensures room { IfOk result (λ t. vec_len t.1 ≤ vec_capacity t.2) }
 {
-    let (turn, mut desks) = opened(alloc, program, settings)?;
+    let (turn, desks) = opened(alloc, program, settings)?;
     let seats = Vec::with_capacity(alloc, desks.len())?;
+    Ok((turn, desks, seats))
+}
+
+// All workers work until the run is over; the shared value comes back whatever they met, a failed allocation too.
+fn run_all<R: Threads + Wait + Sync, G: Gate>(
+    rt: &R,
+    turn: Turn<Run>,
+    mut desks: Vec<Desk>,
+    seats: Vec<Seat<Run>>,
+    program: &Program,
+    gate: &G,
+) -> Counted
+    requires all { (s : SettingsValue) × AreAllDesks (identity turn) program.now s desks.items }
+    requires none { seats.items ≡ [] }
+    requires room { vec_len desks ≤ vec_capacity seats }
+    ensures run { (s : SettingsValue) → AreAllDesks (identity turn) program.now s desks.items → IsRun program.now s result }
+    ensures gave { (s : SettingsValue) → AreAllDesks (identity turn) program.now s desks.items → AreOpened s desks.items → WasGivenBack program.now s result.journal.items }
+{
     let bell = Bell::new();
     let shop = Workshop {
         turn: &turn,
@@ -159,11 +177,12 @@ fn run_all<R: Threads + Wait + Sync, G: Gate>(
     all_work(rt, &shop, desks.as_mut_slice());
     let shared = close(turn, desks, seats).into_shared();
     shared.stands();
-    Ok(shared)
+    shared
 }
 
 /// Runs a program with workers in threads: its journal is legal and paced, its order is that of the turns, and of each
-/// worker it has just the entries that this one gave back.
+/// worker it has just the entries that this one gave back. The shared value is missing only where there was no memory
+/// to start with.
 pub fn run_on_workers<R: Threads + Wait + Sync, G: Gate>(
     rt: &R,
     alloc: Global,
@@ -176,12 +195,13 @@ pub fn run_on_workers<R: Threads + Wait + Sync, G: Gate>(
     ensures finish { IfSome result.shared (λ w. result.finish ≡ finish_of (end_of program.now settings w.journal.items)) }
     ensures none { IfNone result.shared (result.finish ≡ Finish.NoMemory) }
 {
-    let Ok(shared) = run_all(rt, alloc, program, settings, gate) else {
+    let Ok((turn, desks, seats)) = with_seats(alloc, program, settings) else {
         return Outcome {
             finish: Finish::NoMemory,
             shared: None,
         };
     };
+    let shared = run_all(rt, turn, desks, seats, program, gate);
     let finish = match shared.shared().ended() {
         Some(end) => Finish::Ended(end),
         None => Finish::NoMemory,

@@ -122,7 +122,7 @@ fn replayed(
     entries: &[Entry],
 ) -> Option<RunEnd> {
     match replay(alloc, program, settings, entries) {
-        Ok(world) => {
+        Ok(Ok(world)) => {
             let shared = world.shared();
             if is_told(shared, entries) {
                 shared.ended()
@@ -130,7 +130,7 @@ fn replayed(
                 None
             }
         }
-        Err(_) => None,
+        Ok(Err(_)) | Err(_) => None,
     }
 }
 

@@ -1,5 +1,5 @@
 -- What a replay comes to.
-use Rattle.std.specs.Prelude.{◌≡◌, true, false, Option, Some, None, List}
+use Rattle.std.specs.Prelude.{◌≡◌, true, false, Some, None, List, Result, Ok, Err}
 use Rattle.hh_lang.specs.Form.{ProgramText}
 use Rattle.run_trace.specs.Entry.{EntryValue}
 use Rattle.run_trace.specs.Settings.{SettingsValue}
@@ -23,11 +23,12 @@ pub record HasReplayed (p : ProgramText) (s : SettingsValue) (entries : List Ent
   pub goes : x.stopped ≡ false
   pub none : first_refused p s entries ≡ None
 
-abbrev pub HasComeIf : ProgramText → SettingsValue → List EntryValue → Option WorldValue → Type 0
-HasComeIf p s entries None = Unit {0}
-HasComeIf p s entries (Some x) = HasCome p s entries x
-
--- the first refused entry stops it, with its cause; or want of memory, as far as it came
+-- the first refused entry stops it, with its cause; or a failed allocation, as far as it came
 abbrev pub IsStop : ProgramText → SettingsValue → List EntryValue → ReplayStop → Type 0
 IsStop p s entries (RefusedAt r) = first_refused p s entries ≡ Some r
-IsStop p s entries (NoMemory world) = HasComeIf p s entries world
+IsStop p s entries (NoMemory world) = HasCome p s entries world
+
+-- what a replay of these entries answers
+abbrev pub ReplayGives : ProgramText → SettingsValue → List EntryValue → Result WorldValue ReplayStop → Type 0
+ReplayGives p s entries (Ok x) = HasReplayed p s entries x
+ReplayGives p s entries (Err stop) = IsStop p s entries stop

@@ -1,7 +1,7 @@
 // A list of entries is replayed from the start.
 
-ghost use Rattle.std.specs.Prelude.{IfErr, IfOk};
-ghost use Rattle.world_core.specs.Replay.{HasReplayed, IsStop};
+ghost use Rattle.std.specs.Prelude.{◌≡◌, [], IfOk, false};
+ghost use Rattle.world_core.specs.Replay.{ReplayGives};
 
 use crate::world::{NotApplied, World};
 use hh_lang::Program;
@@ -14,46 +14,48 @@ use std::alloc::{AllocError, Global};
 pub enum ReplayStop {
     /// An entry is refused: its number, counted from 1, and why.
     RefusedAt(RefusedAt),
-    /// There was no memory for what an entry takes, or for the start: the world as far as it came.
-    NoMemory(Option<World>),
+    /// An allocation failed that an entry needs: the world after the entries before it.
+    NoMemory(World),
 }
 
-impl From<AllocError> for ReplayStop {
-    ghost use Rattle.std.specs.Prelude.{◌≡◌, None};
-    ghost use Rattle.world_core.specs.declared.replaying.ReplayStop.TheVariants.{NoMemory};
-
-    ghost from_gives = { λ _ s. s ≡ NoMemory None };
-
-    fn from(_: AllocError) -> ReplayStop {
-        ReplayStop::NoMemory(None)
+impl World {
+    /// Applies entries one by one, from the first on, up to the first that is refused. It is called before any entry
+    /// was applied. A failed allocation loses nothing: the world comes back as far as it came.
+    pub fn replay(self, entries: &[Entry]) -> Result<World, ReplayStop>
+        requires first { self.shared.journal.items ≡ [] }
+        requires goes { self.stopped ≡ false }
+        ensures { ReplayGives self.shared.program self.shared.settings entries.now result }
+    {
+        let mut world = self;
+        let mut index: u64 = 1;
+        for entry in entries {
+            match world.apply(*entry) {
+                Ok(()) => {}
+                Err(NotApplied::Refuses(cause)) => {
+                    return Err(ReplayStop::RefusedAt(RefusedAt { index, cause }));
+                }
+                Err(NotApplied::NoMemory) => {
+                    world.stands();
+                    return Err(ReplayStop::NoMemory(world));
+                }
+                Err(NotApplied::Stopped) => unreachable!(),
+            }
+            index += 1;
+        }
+        Ok(world)
     }
 }
 
-/// Applies entries one by one, from the start on, up to the first that is refused.
+/// Applies entries to a new world, as `World::replay`. `AllocError`: there was no memory for the start, and no entry
+/// was applied.
 pub fn replay(
     alloc: Global,
     program: &Program,
     settings: Settings,
     entries: &[Entry],
-) -> Result<World, ReplayStop>
-    ensures replayed { IfOk result (HasReplayed program.now settings entries.now) }
-    ensures stopped { IfErr result (IsStop program.now settings entries.now) }
+) -> Result<Result<World, ReplayStop>, AllocError>
+    ensures { IfOk result (ReplayGives program.now settings entries.now) }
 {
-    let mut world = World::start(alloc, program, settings)?;
-    let mut index: u64 = 1;
-    for entry in entries {
-        match world.apply(*entry) {
-            Ok(()) => {}
-            Err(NotApplied::Refuses(cause)) => {
-                return Err(ReplayStop::RefusedAt(RefusedAt { index, cause }));
-            }
-            Err(NotApplied::NoMemory) => {
-                world.stands();
-                return Err(ReplayStop::NoMemory(Some(world)));
-            }
-            Err(NotApplied::Stopped) => unreachable!(),
-        }
-        index += 1;
-    }
-    Ok(world)
+    let world = World::start(alloc, program, settings)?;
+    Ok(world.replay(entries))
 }

@@ -9,41 +9,41 @@ use Rattle.worker_run.proofs.workers.run_all.Goals as goal
 
 pub all_work-requires-clause-all : goal.all_work-requires-clause-all
 all_work-requires-clause-all g c κs within =
-    let was : c.as_mut_slice.result.now ≡ c.in_ok-turn.desks.items = search rules in
-    (c.args.settings, subst (AreAllDesks (identity c.in_ok-turn.turn) c.args.program.now c.args.settings) (sym was) c.in_ok-turn.ensures.all)
+    let was : c.as_mut_slice.result.now ≡ c.args.desks.items = search rules in
+    (c.requires.all.0, subst (AreAllDesks (identity c.args.turn) c.args.program.now c.requires.all.0) (sym was) c.requires.all.1)
 
 pub close-requires-clause-all : goal.close-requires-clause-all
 close-requires-clause-all g c =
     let desks : List Desk = c.all_work.new.desks in
-    let opened : List Desk = c.in_ok-turn.desks.items in
-    let many : c.in_ok-turn.desks.len ≡ length opened = search rules in
+    let opened : List Desk = c.args.desks.items in
+    let many : c.args.desks.len ≡ length opened = search rules in
     let same : length desks ≡ length opened = search rules in
     let was : c.as_mut_slice.result.now ≡ opened = search rules in (
       c.args.program.now,
-      c.args.settings,
-      (lent_desks (identity c.in_ok-turn.turn) c.args.program.now c.args.settings c.in_ok-turn.desks.len opened c.as_mut_slice.result.now desks was same many c.in_ok-turn.ensures.all c.all_work.ensures.all).1,
+      c.requires.all.0,
+      (lent_desks (identity c.args.turn) c.args.program.now c.requires.all.0 c.args.desks.len opened c.as_mut_slice.result.now desks was same many c.requires.all.1 c.all_work.ensures.all).1,
     )
 
 pub returns-clause-run : goal.returns-clause-run
-returns-clause-run g c =
+returns-clause-run g c s first =
     let desks : List Desk = c.all_work.new.desks in
-    let opened : List Desk = c.in_ok-turn.desks.items in
-    let many : c.in_ok-turn.desks.len ≡ length opened = search rules in
+    let opened : List Desk = c.args.desks.items in
+    let many : c.args.desks.len ≡ length opened = search rules in
     let same : length desks ≡ length opened = search rules in
     let was : c.as_mut_slice.result.now ≡ opened = search rules in
-    let all = lent_desks (identity c.in_ok-turn.turn) c.args.program.now c.args.settings c.in_ok-turn.desks.len opened c.as_mut_slice.result.now desks was same many c.in_ok-turn.ensures.all c.all_work.ensures.all in
-    let setup = c.close.ensures.setup c.args.program.now c.args.settings all.1 in
-    is_run c.args.program.now c.args.settings c.into_shared-shared.result c.stands.ensures (ap (λ (w : SharedValue). w.program) c.into_shared-shared.ensures.same ∙ setup.0)
+    let all = lent_desks (identity c.args.turn) c.args.program.now s c.args.desks.len opened c.as_mut_slice.result.now desks was same many first c.all_work.ensures.all in
+    let setup = c.close.ensures.setup c.args.program.now s all.1 in
+    is_run c.args.program.now s c.into_shared-shared.result c.stands.ensures (ap (λ (w : SharedValue). w.program) c.into_shared-shared.ensures.same ∙ setup.0)
     (ap (λ (w : SharedValue). w.settings) c.into_shared-shared.ensures.same ∙ setup.1) c.into_shared-shared.ensures.paced
 
 pub returns-clause-gave : goal.returns-clause-gave
-returns-clause-gave g c =
+returns-clause-gave g c s first new =
     let desks : List Desk = c.all_work.new.desks in
-    let opened : List Desk = c.in_ok-turn.desks.items in
-    let many : c.in_ok-turn.desks.len ≡ length opened = search rules in
+    let opened : List Desk = c.args.desks.items in
+    let many : c.args.desks.len ≡ length opened = search rules in
     let same : length desks ≡ length opened = search rules in
-    let whole : take c.in_ok-turn.desks.len (desks ++ drop (length desks) opened) ≡ desks = whole_written c.in_ok-turn.desks.len desks opened same many in
+    let whole : take c.args.desks.len (desks ++ drop (length desks) opened) ≡ desks = whole_written c.args.desks.len desks opened same many in
     let was : c.as_mut_slice.result.now ≡ opened = search rules in
-    let all = lent_desks (identity c.in_ok-turn.turn) c.args.program.now c.args.settings c.in_ok-turn.desks.len opened c.as_mut_slice.result.now desks was same many c.in_ok-turn.ensures.all c.all_work.ensures.all in
-    was_given (identity c.in_ok-turn.turn) c.args.program.now c.args.settings opened desks c.close.result c.into_shared-shared.result c.in_ok-turn.ensures.all c.in_ok-turn.ensures.new all.0 (subst (λ (ds : List Desk). AllGoRound c.args.program.now ds desks) was c.all_work.ensures.rounds) c.all_work.ensures.over
+    let all = lent_desks (identity c.args.turn) c.args.program.now s c.args.desks.len opened c.as_mut_slice.result.now desks was same many first c.all_work.ensures.all in
+    was_given (identity c.args.turn) c.args.program.now s opened desks c.close.result c.into_shared-shared.result first new all.0 (subst (λ (ds : List Desk). AllGoRound c.args.program.now ds desks) was c.all_work.ensures.rounds) c.all_work.ensures.over
     (subst (HaveSeen c.close.result.journal.items) whole c.close.ensures.seen) (subst (HasOfEach c.close.result.journal.items) whole c.close.ensures.of_each) c.into_shared-shared.ensures.same

@@ -6,7 +6,8 @@ use Rattle.worker_run.proofs.workers.run_on_workers.Goals as goal
 use Rattle.worker_run.proofs.workers.run_on_workers.Goals.{in-Some, in-None}
 
 pub returns-clause-finish : goal.returns-clause-finish
-returns-clause-finish g c = told_finish c.args.program.now c.args.settings c.in-Ok.shared c.match-ended.finish c.ended.result c.in-Ok.ensures.run (c.ended.ensures ∙ ap (λ (w : SharedValue). (accounts w).end) c.shared.ensures) (elim c.match-ended.branch [
-  | in-Some w ↦ w.finish-is ∙ ap finish_of (sym w.in-Some.is)
-  | in-None w ↦ w.finish-is ∙ ap finish_of (sym w.in-None.is)
-])
+returns-clause-finish g c =
+    told_finish c.args.program.now c.args.settings c.run_all-shared.result c.match-ended.finish c.ended.result (c.run_all-shared.ensures.run c.args.settings c.in-Ok.ensures.all) (c.ended.ensures ∙ ap (λ (w : SharedValue). (accounts w).end) c.shared.ensures) (elim c.match-ended.branch [
+      | in-Some w ↦ w.finish-is ∙ ap finish_of (sym w.in-Some.is)
+      | in-None w ↦ w.finish-is ∙ ap finish_of (sym w.in-None.is)
+    ])

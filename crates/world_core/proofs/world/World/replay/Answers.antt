@@ -1,22 +1,22 @@
 use Rattle.std.proofs.Common.{Err, arith, refl, subst}
 use Rattle.world_core.specs.Applied.{AppliesTo}
 use Rattle.world_core.proofs.Replayed.{came_first, came_more, come_to}
-use Rattle.world_core.proofs.replaying.replay.Goals as goal
+use Rattle.world_core.proofs.world.World.replay.Goals as goal
 
 pub loop-entry-init : goal.loop-entry-init
 loop-entry-init c = record {
-  came = came_first c.args.program.now c.args.settings c.args.entries.now c.in_ok-world.world c.in_ok-world.ensures.program c.in_ok-world.ensures.settings c.in_ok-world.ensures.journal c.in_ok-world.ensures.goes;
+  came = came_first c.args.self.shared.program c.args.self.shared.settings c.args.entries.now c.args.self refl refl c.requires.first c.requires.goes;
   count = refl;
 }
 
-pub returns-in-Err-NoMemory-clause-stopped : goal.returns-in-Err-NoMemory-clause-stopped
-returns-in-Err-NoMemory-clause-stopped c =
-    come_to c.args.program.now c.args.settings c.args.entries.now c.loop-entry.entry-index c.loop-entry.index c.entry-item.result c.loop-entry-test.true c.entry-item.is c.loop-entry.world c.apply.new.self c.loop-entry.invariant.came c.stands.ensures.shared
+pub returns-in-Err-NoMemory : goal.returns-in-Err-NoMemory
+returns-in-Err-NoMemory c =
+    come_to c.args.self.shared.program c.args.self.shared.settings c.args.entries.now c.loop-entry.entry-index c.loop-entry.index c.entry-item.result c.loop-entry-test.true c.entry-item.is c.loop-entry.world c.apply.new.self c.loop-entry.invariant.came c.stands.ensures.shared
     (subst (λ z. AppliesTo c.loop-entry.world c.apply.new.self c.entry-item.result (Err z)) c.in-Err-NoMemory.field-0-is c.in-Err-NoMemory.ensures)
 
 pub loop-entry-preserved : goal.loop-entry-preserved
 loop-entry-preserved c = record {
   came =
-      came_more c.args.program.now c.args.settings c.args.entries.now c.loop-entry.entry-index c.loop-entry.index c.entry-item.result c.loop-entry-test.true c.entry-item.is c.loop-entry.world c.apply.new.self c.loop-entry.invariant.came c.in-Ok.ensures;
+      came_more c.args.self.shared.program c.args.self.shared.settings c.args.entries.now c.loop-entry.entry-index c.loop-entry.index c.entry-item.result c.loop-entry-test.true c.entry-item.is c.loop-entry.world c.apply.new.self c.loop-entry.invariant.came c.in-Ok.ensures;
   count = omega arith;
 }

@@ -1,6 +1,9 @@
 use Rattle.std.proofs.Common.{◌≡◌, ◌+◌}
 use Rattle.world_core.proofs.Replayed.{CameTo}
-use Rattle.world_core.proofs.replaying.replay.Given as goal
+use Rattle.world_core.proofs.world.World.replay.Given as goal
 
 abbrev pub invariant-loop-entry : goal.invariant-loop-entry
-invariant-loop-entry l = record { came : CameTo l.fn.program l.fn.settings l.entries l.entry-index l.index l.world; count : l.index ≡ l.entry-index + 1 }
+invariant-loop-entry l = record {
+  came : CameTo l.fn.self.shared.program l.fn.self.shared.settings l.entries l.entry-index l.index l.world;
+  count : l.index ≡ l.entry-index + 1;
+}
