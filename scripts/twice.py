@@ -1,15 +1,17 @@
 #!/usr/bin/env python3
-"""Lists what stands twice below crates/: lemmas, definitions or functions.
+"""Lists what stands twice below crates/: lemmas, definitions, functions or runs of lines.
 
     scripts/twice.py                 lemmas whose statement, but for names, stands in two files
     scripts/twice.py definitions     definitions that stand letter for letter in two crates, over the same types
-    scripts/twice.py functions       functions of more than three lines with equal bodies in two crates, tests left out
+    scripts/twice.py functions       functions of more than three lines with equal bodies, tests left out
+    scripts/twice.py lines           runs of six lines or more that stand in two places, of .rt and .antt files
 
 Names are led to where they come from by the `use` lines; a lemma's statement begins with those parameters of its
 modules that it or its proof uses; what a module's abbreviation without arguments stands for is written out. Two
-statements are the same where nothing but the names of bound variables tells them apart. Abbreviations are no lemmas,
-and what proves the goals and invariants of one function is left out. A row is a place to look: an instance of one call
-may read better beside its use.
+statements are the same if they differ in the names of bound variables alone. Abbreviations are no lemmas, and neither
+are the answers to the goals of one function; the helpers beside those answers are. Lines are compared without their
+indentation; blank lines, comments and imports don't count, nor do runs of fewer than forty letters. A row is a place
+to look: an instance of one call may read better beside its use.
 """
 
 import glob
@@ -18,7 +20,10 @@ import sys
 
 TOKEN = re.compile(r"[(){}\[\],;]|λ|→|×|[^\s(){}\[\],;λ→×]+")
 HEAD = re.compile(r"^ *((?:pub |abbrev )*)(?!module |use |record |data |mod |postulate )([^\s:=(){}]+) : (.*)$")
-NOT_LEMMAS = ("Answers.antt", "Invariants.antt", "Measures.antt", "Proof.antt", "Lib.antt")
+NOT_LEMMAS = ("Invariants.antt", "Measures.antt", "Proof.antt", "Lib.antt")
+# A line that counts for no run of lines: a comment, an import, or brackets alone.
+NO_LINE = re.compile(r"(--|//|#\[|(pub |ghost )*use |[\s(){}\[\];,]*$)")
+RUN = 6
 CLOSES = {"(": ")", "{": "}", "[": "]"}
 
 
@@ -222,14 +227,18 @@ def stated(part):
     for path in sorted(glob.glob(f"crates/*/{part}/**/*.antt", recursive=True)):
         file = File(path) if not path.endswith(NOT_LEMMAS) else None
         for item in file.items if file else []:
-            if part == "specs" or not item.is_abbrev:
+            if part == "specs" or not (item.is_abbrev or item.statement[:1] and item.statement[0].startswith("goal.")):
                 yield definition(file, item) if part == "specs" else file.statement(item), (path, item.line, item.name)
+
+
+def is_of_tests(path):
+    return path.split("/")[1].endswith("_tests")
 
 
 def functions():
     """Each function of more than three lines outside the crates of tests: its body, and the place."""
     for path in sorted(glob.glob("crates/*/src/**/*.rt", recursive=True)):
-        if path.split("/")[1].endswith("_tests"):
+        if is_of_tests(path):
             continue
         with open(path, encoding="utf-8") as it:
             lines = [re.sub(r"(^|\s)//.*$", "", line).rstrip() for line in it.read().split("\n")]
@@ -242,20 +251,69 @@ def functions():
                     yield " ".join(body), (path, i + 1, head[2])
 
 
+def counted_lines(path):
+    """The lines of a file that count, each with its number."""
+    with open(path, encoding="utf-8") as it:
+        lines = [line.strip() for line in it.read().split("\n")]
+    return [(line, i + 1) for i, line in enumerate(lines) if not NO_LINE.match(line)]
+
+
+def longest(files, first, second):
+    """How many lines two places share that share the first ones."""
+    (a, i), (b, j) = first, second
+    count = 0
+    while i + count < len(files[a]) and j + count < len(files[b]) and files[a][i + count][0] == files[b][j + count][0]:
+        count += 1
+    return count
+
+
+def runs():
+    """The runs of lines that stand in two places, longest first: how many lines, and the two places. A run that
+    stands within a longer one of the same two places isn't told apart."""
+    paths = [it for end in ("rt", "antt") for it in glob.glob(f"crates/*/*/**/*.{end}", recursive=True)]
+    paths = [it for it in sorted(paths) if it.split("/")[2] in ("src", "specs", "proofs") and not is_of_tests(it)]
+    files, starts, found = {it: counted_lines(it) for it in paths}, {}, []
+    for path, lines in files.items():
+        for i in range(len(lines) - RUN + 1):
+            key = "\n".join(line for line, _ in lines[i : i + RUN])
+            if len(key) >= 40:
+                starts.setdefault(key, []).append((path, i))
+    for places in starts.values():
+        for at, second in enumerate(places):
+            for first in places[:at]:
+                before = [(path, i - 1) for path, i in (first, second)]
+                goes_back = min(i for _, i in before) >= 0 and longest(files, *before) > 0
+                apart = first[0] != second[0] or second[1] - first[1] >= RUN
+                if apart and not goes_back:
+                    found.append((longest(files, first, second), *((path, files[path][i][1]) for path, i in (first, second))))
+    return sorted(found, key=lambda it: -it[0])
+
+
+def tell_runs():
+    """Prints the pairs of places, and how many lines stand again."""
+    found, again = runs(), set()
+    for count, (path, line), (other, at) in found:
+        print(f"{count} {path[len('crates/'):]}:{line} {other[len('crates/'):]}:{at}")
+        again |= {(other, at + i) for i in range(count)}
+    print(f"{len(found)} pairs of places share {RUN} lines or more; about {len(again)} lines stand again")
+
+
 def main():
     what = sys.argv[1] if len(sys.argv) > 1 else "lemmas"
-    of = {"lemmas": lambda: stated("proofs"), "definitions": lambda: stated("specs"), "functions": functions}
+    of = {"lemmas": lambda: stated("proofs"), "definitions": lambda: stated("specs"), "functions": functions, "lines": tell_runs}
     if what not in of or len(sys.argv) > 2:
         sys.exit(__doc__)
+    if what == "lines":
+        return tell_runs()
     groups, crate = {}, lambda path: path.split("/")[1]
     for key, place in of[what]():
         groups.setdefault(key, []).append(place)
-    apart = (lambda path: path) if what == "lemmas" else crate
-    found = [(key, them) for key, them in groups.items() if len({apart(path) for path, _, _ in them}) > 1]
+    apart = {"lemmas": lambda place: place[0], "definitions": lambda place: crate(place[0]), "functions": lambda place: place}
+    found = [(key, them) for key, them in groups.items() if len({apart[what](place) for place in them}) > 1]
     for key, them in sorted(found, key=lambda it: -len(it[0])):
         print(" ".join(f"{path[len('crates/'):]}:{line}:{name}" for path, line, name in them))
     crates = sum(len({crate(path) for path, _, _ in them}) > 1 for _, them in found)
-    print(f"{sum(map(len, groups.values()))} {what}; {len(found)} groups stand in two files, {crates} of them in two crates")
+    print(f"{sum(map(len, groups.values()))} {what}; {len(found)} groups stand in two places, {crates} of them in two crates")
 
 
 if __name__ == "__main__":
