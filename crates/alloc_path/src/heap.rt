@@ -13,14 +13,9 @@ use std::mem;
 
 /// The chunks of a task. No object in them was moved, a large one, of more than 1,024 words, has its
 /// chunk to itself, and no two chunks have one number.
+#[derive(Drop)]
 pub struct LeafHeap {
     pub(crate) space: Space,
-}
-
-impl Drop for LeafHeap {
-    fn drop(self) {
-        let LeafHeap { space: _ } = self;
-    }
 }
 
 impl Model for LeafHeap {
@@ -230,14 +225,6 @@ impl LeafHeap {
         self.space.place_filled(new, refs, ints)
     }
 
-    // The chunks of the heap.
-    fn into_space(self) -> Space
-        ensures { result ≡ self }
-    {
-        let LeafHeap { space } = self;
-        space
-    }
-
     /// Puts the chunks of two other heaps before its own, and goes on filling its own chunk. It
     /// takes no memory.
     pub fn merge(&mut self, left: LeafHeap, right: LeafHeap)
@@ -246,7 +233,7 @@ impl LeafHeap {
         requires spare { length left.chunks + length right.chunks ≤ self.old.spare }
         ensures merged { self.new ≡ with_places (merged self.old left right) self.new.slots self.new.spare }
     {
-        self.space.merge(left.into_space(), right.into_space());
+        self.space.merge(left.space, right.space);
     }
 
     /// Takes the chunks out, for a collection or a sweep; the heap is left without any.
