@@ -1,7 +1,6 @@
 // All bytes of a source, up to a limit.
 
-ghost use Rattle.std.specs.Prelude.{◌≡◌, ◌<◌, ◌≤◌, ◌+◌, length, drop, IfOk, OnOk, IfErr, Some, List, ℕ, option_map};
-ghost use Rattle.text_lines.specs.Lines.{most_bytes};
+ghost use Rattle.std.specs.Prelude.{◌≡◌, ◌<◌, ◌≤◌, ◌+◌, ◌^◌, length, drop, IfOk, OnOk, IfErr, Some, List, ℕ, option_map};
 ghost use Rattle.outside_io.specs.Fault.{HasRisen};
 ghost use Rattle.all_bytes.specs.Bytes.{source_bytes, input_of, Grows};
 
@@ -49,10 +48,11 @@ fn take_more<S: Source>(
     limit: usize,
 ) -> Result<usize, ReadError>
     requires within { length input.old.items ≤ limit }
-    requires limit { limit ≤ most_bytes }
+    requires limit { limit < 2 ^ 63 }
     ensures within { OnOk result (length input.new.items ≤ limit + 1) }
     ensures grows { IfOk result (Grows (S.left source.old) (S.left source.new) input.old.items input.new.items) }
     ensures failed { IfErr result (λ e. e ≡ ReadError.Fault → HasRisen (S.faults source.old) (S.faults source.new)) }
+    ensures names { (n : List ℕ) → S.named source.new n ≡ S.named source.old n }
     ensures never_falls { S.faults source.old ≤ S.faults source.new }
 {
     let mut piece = [0u8; PIECE];
@@ -64,11 +64,12 @@ fn take_more<S: Source>(
 
 // Reads all that a source has left, or one byte more than the limit.
 fn read_left<S: Source>(alloc: Global, source: &mut S, limit: usize) -> Result<Vec<u8>, ReadError>
-    requires { limit ≤ most_bytes }
+    requires { limit < 2 ^ 63 }
     ensures within { IfOk result (λ input. length input.items ≤ limit + 1) }
     ensures input { IfOk result (λ input. (whole : List ℕ) → S.left source.old ≡ Some whole → input.items ≡ input_of limit whole) }
     ensures taken { OnOk result ((whole : List ℕ) → S.left source.old ≡ Some whole → S.left source.new ≡ Some (drop (limit + 1) whole)) }
     ensures failed { IfErr result (λ e. e ≡ ReadError.Fault → HasRisen (S.faults source.old) (S.faults source.new)) }
+    ensures names { (n : List ℕ) → S.named source.new n ≡ S.named source.old n }
     ensures never_falls { S.faults source.old ≤ S.faults source.new }
 {
     let mut input = Vec::new(alloc);
@@ -84,6 +85,7 @@ fn read_left<S: Source>(alloc: Global, source: &mut S, limit: usize) -> Result<V
 fn open<S: Source>(source: &mut S, file: Option<&str>) -> Result<(), ReadError>
     ensures told { OnOk result (S.left source.new ≡ source_bytes (S.left source.old) (S.named source.old) (option_map (λ s. s.now) file.entry)) }
     ensures failed { IfErr result (λ e. HasRisen (S.faults source.old) (S.faults source.new)) }
+    ensures names { (n : List ℕ) → S.named source.new n ≡ S.named source.old n }
     ensures never_falls { S.faults source.old ≤ S.faults source.new }
 {
     if let Some(name) = file {
@@ -92,18 +94,20 @@ fn open<S: Source>(source: &mut S, file: Option<&str>) -> Result<(), ReadError>
     Ok(())
 }
 
-/// Reads a file, or, where none is named, what is left of the source; as far as one byte past the limit.
+/// Reads a file, or, where none is named, what is left of the source; as far as one byte past the limit, which is the
+/// caller's.
 pub fn read_file<S: Source>(
     alloc: Global,
     source: &mut S,
     file: Option<&str>,
     limit: usize,
 ) -> Result<Vec<u8>, ReadError>
-    requires { limit ≤ most_bytes }
+    requires { limit < 2 ^ 63 }
     ensures within { IfOk result (λ input. length input.items ≤ limit + 1) }
     ensures input { IfOk result (λ input. (whole : List ℕ) → source_bytes (S.left source.old) (S.named source.old) (option_map (λ s. s.now) file.entry) ≡ Some whole → input.items ≡ input_of limit whole) }
     ensures taken { OnOk result ((whole : List ℕ) → source_bytes (S.left source.old) (S.named source.old) (option_map (λ s. s.now) file.entry) ≡ Some whole → S.left source.new ≡ Some (drop (limit + 1) whole)) }
     ensures failed { IfErr result (λ e. e ≡ ReadError.Fault → HasRisen (S.faults source.old) (S.faults source.new)) }
+    ensures names { (n : List ℕ) → S.named source.new n ≡ S.named source.old n }
     ensures never_falls { S.faults source.old ≤ S.faults source.new }
 {
     open(source, file)?;

@@ -1,4 +1,4 @@
-use Rattle.std.proofs.Common.{arith, rules}
+use Rattle.std.proofs.Common.{arith, rules, ◌∙◌}
 use Rattle.all_bytes.proofs.Inputs.{grown, ended, filled}
 use Rattle.all_bytes.proofs.read.read_left.Goals as goal
 
@@ -7,6 +7,7 @@ loop-source-preserved g c = (
   λ left e. let i = c.loop-source.invariant.0 left e in grown left (g.S.Source.left c.loop-source.source) (g.S.Source.left c.take_more.new.source) c.loop-source.input.items c.take_more.new.input.items c.in_ok-take_more.field-0 i.0 i.1 c.in_ok-take_more.ensures.grows,
   c.in_ok-take_more.ensures.within,
   omega (arith, c.loop-source.invariant.2, c.take_more.ensures.never_falls),
+  λ n. c.take_more.ensures.names n ∙ c.loop-source.invariant.3 n,
 )
 
 pub returns-then-branch-eq0-clause-input : goal.returns-then-branch-eq0-clause-input
