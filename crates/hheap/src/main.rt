@@ -1,32 +1,22 @@
 // The program `hheap`: hands its words, standard input and standard output to the top call.
 #![tactic(auto)]
 
+ghost use Rattle.std.specs.Prelude.{◌≡◌};
+ghost use Rattle.std.specs.Process.{exit_status};
+ghost use Rattle.command_core.specs.Status.{code_of_status};
+
 use command_core::{Status, command};
 use outside_io::{EmptyGate, FileSource, OutSink};
 use std::alloc::AllocError;
-use std::io::ErrorKind;
+use std::io;
 use std::process::ExitCode;
 use std::rt::{Env, Files};
 use std::sync::Wait;
 use std::thread::{Builder, Threads};
-use std::{env, io};
+use whole_call::{words_after_name, words_of_call};
 
 /// The bytes of stack of the thread that a call is answered in, which are reserved before the call begins.
 const STACK_SIZE: usize = 1048576;
-
-// The words behind the program's name; no word where one of them isn't UTF-8, since no command line has such a word.
-fn words_of_call<R: Env + AllocGlobal>(rt: &R) -> io::Result<Vec<String>> {
-    let mut words = Vec::new(rt.alloc());
-    match env::args(rt) {
-        Ok(all) => for word in all.skip(1) {
-            words.push(word)?;
-        },
-        Err(error) => if error.kind() != ErrorKind::InvalidData {
-            return Err(error);
-        },
-    }
-    Ok(words)
-}
 
 // Answers these words.
 fn answer<R: Threads + Wait + Sync + Files + Input + Print + AllocGlobal>(
@@ -43,9 +33,16 @@ fn answer_call<R: Threads + Wait + Sync + Env + Files + Input + Print + AllocGlo
     rt: &R,
 ) -> Status {
     match words_of_call(rt) {
-        Err(_) => Status::NoMemory,
-        Ok(words) => answer(rt, words.as_slice()),
+        Err(AllocError) => Status::NoMemory,
+        Ok(words) => answer(rt, words_after_name(words.as_slice())),
     }
+}
+
+// The exit status of a call.
+fn exit_code(status: Status) -> ExitCode
+    ensures { exit_status result ≡ code_of_status status }
+{
+    ExitCode::from(status.code())
 }
 
 // Answers the call in a thread that has its stack already; the stack of the first thread grows as it is used.
@@ -55,5 +52,5 @@ fn main(rt: HostRuntime) -> ExitCode {
         Err(_) => Status::NoMemory,
         Ok(handle) => handle.join(&rt),
     };
-    ExitCode::from(status.code())
+    exit_code(status)
 }

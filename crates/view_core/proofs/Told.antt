@@ -7,12 +7,12 @@ use Rattle.run_ledger.specs.declared.data.RefusedAt.{RefusedAt}
 use Rattle.run_ledger.specs.Journals.{refused_as_run}
 use Rattle.trace_input.specs.declared.input.TraceInput.{TraceInput}
 use Rattle.trace_input.specs.Input.{settings_for}
-use Rattle.view_core.specs.declared.shown.Shown.{Shown}
-use Rattle.view_core.specs.declared.runs.RunView.{RunView}
+use Rattle.view_line.specs.declared.line.RunView.{RunView}
+use Rattle.whole_call.specs.declared.reply.Reply.{Reply}
 use Rattle.view_core.specs.Shown.{ShowsJournal, ShowsWhole, ShowsTrace}
 
 -- what is shown of a journal, which is the trace's, with its settings
-pub trace_told : (v : RunView) (l : SettingsValue) (t : TraceInput) (s : SettingsValue) (journal : List EntryValue) (r : Option RefusedAt) (w : Shown) → s ≡ settings_for l t → journal ≡ t.trace.entries
+pub trace_told : (v : RunView) (l : SettingsValue) (t : TraceInput) (s : SettingsValue) (journal : List EntryValue) (r : Option RefusedAt) (w : Reply) → s ≡ settings_for l t → journal ≡ t.trace.entries
     → refused_as_run t.program s journal ≡ r → ShowsWhole (ShowsJournal v t.program s journal) r w → ShowsTrace v l t w
 trace_told v l t s journal r w settings entries is h =
     subst (λ x. ShowsWhole (ShowsJournal v t.program x t.trace.entries) (refused_as_run t.program x t.trace.entries) w) settings

@@ -1,53 +1,47 @@
--- A whole call: the words, the input, and what is written where.
-use Rattle.std.specs.Prelude.{◌≡◌, ◌⊎◌, ℕ, Bool, true, false, List, [], Option, Some}
-use Rattle.outside_io.specs.Told.{with_more}
-use Rattle.all_bytes.specs.Bytes.{source_bytes, WroteSome}
-use Rattle.view_line.specs.ViewLine.{Asked, AsksUsage, AsksHeaps, AsksTimeline, AsksTasks, AsksSchedules}
-use Rattle.view_core.specs.declared.shown.Status.{Status}
-use Rattle.view_core.specs.declared.shown.Status.TheVariants.{Done, Differ, ReadFault, WriteFault, NoMemory}
-use Rattle.view_core.specs.declared.shown.Shown.{Shown}
-
--- the bytes that a source tells for a view; the usage reads none
-abbrev pub source_bytes_for : Option (List ℕ) → (List ℕ → Option (List ℕ)) → Asked → Option (List ℕ)
-source_bytes_for left named AsksUsage = Some []
-source_bytes_for left named (AsksHeaps file p limit) = source_bytes left named file
-source_bytes_for left named (AsksTimeline r) = source_bytes left named r.0
-source_bytes_for left named (AsksTasks r) = source_bytes left named r.0
-source_bytes_for left named (AsksSchedules r) = source_bytes left named r.0
+-- A whole call: what is written where.
+use Rattle.std.specs.Prelude.{◌≡◌, ◌⊎◌, ℕ, List, Option, Result, Ok, Err}
+use Rattle.std.specs.declared.alloc.AllocError.{AllocError}
+use Rattle.view_line.specs.declared.line.View.{View}
+use Rattle.whole_call.specs.declared.status.AnswerStatus.{AnswerStatus}
+use Rattle.whole_call.specs.declared.status.AnswerStatus.TheVariants.{Done, Races}
+use Rattle.whole_call.specs.declared.status.Status.{Status}
+use Rattle.whole_call.specs.declared.status.Status.TheVariants.{NoMemory}
+use Rattle.whole_call.specs.declared.reply.Reply.{Reply}
+use Rattle.whole_call.specs.Input.{SourceState}
+use Rattle.whole_call.specs.Output.{EndsSilent, Wrote}
+use Rattle.whole_call.specs.Call.{IsCall}
+use Rattle.view_core.specs.declared.call.Stream.{Stream}
+use Rattle.view_core.specs.declared.call.Stream.TheVariants.{Out, Error}
+use Rattle.view_core.specs.Views.{Shows, reads}
 
 -- what standard output and standard error took
 pub record Streams : Type 0 where
   pub out : Option (List ℕ)
   pub error : Option (List ℕ)
 
--- all of these bytes were written, or a first part where that failed
-abbrev pub Wrote : Status → Status → Option (List ℕ) → Option (List ℕ) → List ℕ → Type 0
-Wrote named status before after bytes = ((status ≡ named) × (after ≡ with_more before bytes)) ⊎ ((status ≡ WriteFault) × WroteSome before after bytes)
+-- a picture goes to standard output, and a refusal to standard error
+abbrev pub stream_of : AnswerStatus → Stream
+stream_of Done = Out
+stream_of Races = Out
+stream_of _ = Error
 
-abbrev pub is_picture : Status → Bool
-is_picture Done = true
-is_picture Differ = true
-is_picture _ = false
+-- a reply was written to a stream, and nothing to the other one
+abbrev pub WroteTo : Stream → Reply → Status → Streams → Streams → Type 0
+WroteTo Out r status before after = Wrote r status before.out after.out × (after.error ≡ before.error)
+WroteTo Error r status before after = Wrote r status before.error after.error × (after.out ≡ before.out)
 
--- to standard output, or to standard error
-abbrev pub WroteTo : Bool → Status → Status → Streams → Streams → List ℕ → Type 0
-WroteTo true named status before after bytes = Wrote named status before.out after.out bytes × (after.error ≡ before.error)
-WroteTo false named status before after bytes = Wrote named status before.error after.error bytes × (after.out ≡ before.out)
+abbrev pub Delivers : Reply → Status → Streams → Streams → Type 0
+Delivers r = WroteTo (stream_of r.status) r
 
--- a picture is written to standard output, and a refusal to standard error
-abbrev pub WroteBy : Status → Status → Streams → Streams → List ℕ → Type 0
-WroteBy named = WroteTo (is_picture named) named
+-- a reply that was made was written, or memory failed
+abbrev pub Gives : Result Reply AllocError → Status → Streams → Streams → Type 0
+Gives (Ok r) status before after = Delivers r status before after
+Gives (Err e) status before after = (status ≡ NoMemory) × (after ≡ before)
 
--- some text of which P is so was written
-pub record Delivers (P : Shown → Type 0) (status : Status) (before after : Streams) : Type 0 where
-  pub shown : Shown
-  pub is : P shown
-  pub written : WroteBy shown.status status before after shown.text
+-- a reply of which P is so was written; or reading failed, or memory did, and nothing was
+abbrev pub Ends : (Reply → Type 0) → Status → Streams → Streams → Type 0
+Ends P status before after = EndsSilent status before after ⊎ ((r : Reply) × P r × Delivers r status before after)
 
--- the source failed, or memory did, and nothing was written
-pub record Fails (status : Status) (before after : Streams) : Type 0 where
-  pub cause : (status ≡ ReadFault) ⊎ (status ≡ NoMemory)
-  pub nothing : after ≡ before
-
-abbrev pub Ends : (Shown → Type 0) → Status → Streams → Streams → Type 0
-Ends P status before after = Fails status before after ⊎ Delivers P status before after
+-- a whole call that asks for this, of a source and the streams; `WriteFails` says that writing failed
+abbrev pub Answers : Option View → Status → SourceState → SourceState → Streams → Streams → Type 0 → Type 0
+Answers asked status source left before after WriteFails = IsCall (reads asked) (λ input. Ends (Shows asked input) status before after) WriteFails status source left

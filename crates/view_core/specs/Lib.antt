@@ -1,3 +1,3 @@
-pub mod Status
 pub mod Shown
+pub mod Views
 pub mod Call

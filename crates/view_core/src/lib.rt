@@ -3,11 +3,8 @@
 
 mod call;
 mod heaps;
-mod refusals;
 mod runs;
 mod schedules;
-mod shown;
 mod views;
 
 pub use call::view;
-pub use shown::{Shown, Status};

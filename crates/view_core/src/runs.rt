@@ -3,26 +3,27 @@
 ghost use Rattle.std.specs.Prelude.{◌≡◌, None, OnOk, IfOk, IfErr};
 ghost use Rattle.run_ledger.specs.Journals.{refused_as_run};
 ghost use Rattle.run_journal.specs.Replay.{ReplayFails};
+ghost use Rattle.whole_call.specs.Output.{Says};
 ghost use Rattle.view_core.specs.Shown.{ShowsJournal, ShowsTrace, ShowsRun};
 
-use crate::refusals::refused;
 use crate::schedules::show_schedules;
-use crate::shown::{Shown, picture};
 use hh_lang::Program;
 use refusal_lines::Refusal;
+use refusal_replies::refused;
 use run_journal::ReplayError;
 use run_timeline::timeline_text;
 use run_trace::{Entry, Settings};
 use std::alloc::{AllocError, Global};
 use task_table::table_text;
 use trace_input::{InputError, TraceInput, read_trace_input};
+use view_line::RunView;
+use whole_call::{AnswerStatus, Reply};
 
-/// A view of a run.
-#[derive(Clone, Copy)]
-pub enum RunView {
-    Timeline,
-    Tasks,
-    Schedules,
+// A picture of a run.
+fn picture(text: Vec<u8>) -> Reply
+    ensures { Says AnswerStatus.Done text.items result }
+{
+    Reply::of_bytes(AnswerStatus::Done, text)
 }
 
 // Shows a view of a journal.
@@ -32,7 +33,7 @@ fn show_journal(
     program: &Program,
     settings: Settings,
     journal: &[Entry],
-) -> Result<Shown, ReplayError>
+) -> Result<Reply, ReplayError>
     ensures whole { OnOk result (refused_as_run program.now settings journal.now ≡ None) }
     ensures shown { IfOk result (ShowsJournal view program.now settings journal.now) }
     ensures fails { IfErr result (ReplayFails (refused_as_run program.now settings journal.now)) }
@@ -50,7 +51,7 @@ fn show_trace(
     view: RunView,
     settings: Settings,
     read: &TraceInput,
-) -> Result<Shown, AllocError>
+) -> Result<Reply, AllocError>
     ensures { IfOk result (ShowsTrace view settings read.now) }
 {
     let TraceInput { program, trace } = read;
@@ -69,7 +70,7 @@ pub(crate) fn show_run(
     view: RunView,
     settings: Settings,
     input: &[u8],
-) -> Result<Shown, AllocError>
+) -> Result<Reply, AllocError>
     ensures { IfOk result (ShowsRun view settings input.now) }
 {
     match read_trace_input(alloc, input) {

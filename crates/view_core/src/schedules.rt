@@ -5,36 +5,43 @@ ghost use Rattle.run_ledger.specs.Journals.{refused_as_run};
 ghost use Rattle.run_journal.specs.Replay.{ReplayFails};
 ghost use Rattle.schedule_report.specs.Schedules.{verdict_of};
 ghost use Rattle.schedule_report.specs.Text.{clashes_text};
-ghost use Rattle.view_core.specs.Status.{status_of_verdict};
-ghost use Rattle.view_core.specs.Shown.{Says, SaysSchedules, ShowsSchedules};
+ghost use Rattle.whole_call.specs.Output.{Says};
+ghost use Rattle.view_core.specs.Shown.{SaysSchedules, ShowsSchedules, not_whole, status_of_verdict};
 
-use crate::refusals::run_not_whole;
-use crate::shown::{Shown, Status, tells};
 use hh_lang::Program;
 use run_journal::ReplayError;
 use run_trace::{Entry, Settings};
 use schedule_report::{Clashes, Verdict, clashes_of_run, clashes_text};
 use std::alloc::{AllocError, Global};
+use whole_call::{AnswerStatus, Reply};
 
-fn status_of_verdict(verdict: Verdict) -> Status
+fn status_of_verdict(verdict: Verdict) -> AnswerStatus
     ensures { result ≡ status_of_verdict verdict }
 {
     match verdict {
-        Verdict::MayDiffer(_) => Status::Differ,
-        _ => Status::Done,
+        Verdict::MayDiffer(_) => AnswerStatus::Races,
+        _ => AnswerStatus::Done,
     }
 }
 
+// The refusal of a run that didn't end by the return of main.
+fn run_not_whole(alloc: Global) -> Result<Reply, AllocError>
+    ensures { IfOk result (Says AnswerStatus.Trace not_whole) }
+{
+    let text = format!(in alloc; "end: no whole run\n")?;
+    Ok(Reply::of_text(AnswerStatus::Trace, text))
+}
+
 // Shows the pairs of a whole run.
-fn show_clashes(alloc: Global, clashes: &Clashes) -> Result<Shown, AllocError>
+fn show_clashes(alloc: Global, clashes: &Clashes) -> Result<Reply, AllocError>
     ensures { IfOk result (Says (status_of_verdict (verdict_of clashes.now)) (clashes_text clashes.now)) }
 {
     let text = clashes_text(alloc, clashes)?;
-    Ok(tells(status_of_verdict(clashes.verdict()), text))
+    Ok(Reply::of_bytes(status_of_verdict(clashes.verdict()), text))
 }
 
 // Shows the pairs of a run, where it is whole.
-fn show_answer(alloc: Global, answer: &Option<Clashes>) -> Result<Shown, AllocError>
+fn show_answer(alloc: Global, answer: &Option<Clashes>) -> Result<Reply, AllocError>
     ensures { IfOk result (SaysSchedules answer.now) }
 {
     match answer {
@@ -49,7 +56,7 @@ pub(crate) fn show_schedules(
     program: &Program,
     settings: Settings,
     journal: &[Entry],
-) -> Result<Shown, ReplayError>
+) -> Result<Reply, ReplayError>
     ensures whole { OnOk result (refused_as_run program.now settings journal.now ≡ None) }
     ensures shown { IfOk result (ShowsSchedules program.now settings journal.now) }
     ensures fails { IfErr result (ReplayFails (refused_as_run program.now settings journal.now)) }

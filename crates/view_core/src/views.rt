@@ -1,38 +1,41 @@
-// What is shown of an input.
+// What is shown of an input: each picture that can be asked for.
 
-ghost use Rattle.std.specs.Prelude.{IfOk};
-ghost use Rattle.view_line.specs.ViewLine.{asked_of};
-ghost use Rattle.view_core.specs.Shown.{Says, usage, ShowsView};
+ghost use Rattle.std.specs.Prelude.{IfOk, Some};
+ghost use Rattle.whole_call.specs.Output.{Says};
+ghost use Rattle.view_core.specs.Views.{Shows, ShowsPicture, usage};
 
 use crate::heaps::show_heaps;
-use crate::runs::{RunView, show_run};
-use crate::shown::{Shown, Status, says};
+use crate::runs::show_run;
 use std::alloc::{AllocError, Global};
-use view_line::View;
+use view_line::{Picture, View};
+use whole_call::{AnswerStatus, Reply};
 
 // How the program is called.
-fn show_usage(alloc: Global) -> Result<Shown, AllocError>
-    ensures { IfOk result (Says Status.Done usage) }
+fn show_usage(alloc: Global) -> Result<Reply, AllocError>
+    ensures { IfOk result (Says AnswerStatus.Done usage) }
 {
     let text = format!(in alloc;
         "usage: hhview heaps [FILE] [--path T] [--limit N]\n       hhview timeline [FILE] [OPTIONS]\n       hhview tasks [FILE] [OPTIONS]\n       hhview schedules [FILE] [OPTIONS]\nOPTIONS are those of hheap replay: --workers N, --fuel N, --chunks N, --leaf N, --inner N\n"
     )?;
-    Ok(says(Status::Done, text))
+    Ok(Reply::of_text(AnswerStatus::Done, text))
+}
+
+// Shows a picture of an input.
+fn show_picture(alloc: Global, picture: &Picture, input: &[u8]) -> Result<Reply, AllocError>
+    ensures { IfOk result (ShowsPicture picture.now input.now) }
+{
+    match picture {
+        Picture::Heaps { path, limit } => show_heaps(alloc, *path, *limit, input),
+        Picture::Run { view, settings } => show_run(alloc, *view, *settings, input),
+    }
 }
 
 /// Shows what is asked for of an input.
-pub(crate) fn show(alloc: Global, view: &View, input: &[u8]) -> Result<Shown, AllocError>
-    ensures { IfOk result (ShowsView (asked_of view.now) input.now) }
+pub(crate) fn show(alloc: Global, view: &View, input: &[u8]) -> Result<Reply, AllocError>
+    ensures { IfOk result (Shows (Some view.now) input.now) }
 {
     match view {
         View::Usage => show_usage(alloc),
-        View::Heaps {
-            file: _,
-            path,
-            limit,
-        } => show_heaps(alloc, *path, *limit, input),
-        View::Timeline { traced } => show_run(alloc, RunView::Timeline, traced.settings, input),
-        View::Tasks { traced } => show_run(alloc, RunView::Tasks, traced.settings, input),
-        View::Schedules { traced } => show_run(alloc, RunView::Schedules, traced.settings, input),
+        View::Of { file: _, picture } => show_picture(alloc, picture, input),
     }
 }

@@ -1,13 +1,13 @@
 -- Words with a fault ask for nothing.
-use Rattle.std.proofs.Common.{◌≡◌, ◌⊎◌, Bool, cond, true, refl, sym, ap, List, [], Option, Some, None, inl, inr, subst}
-use Rattle.clap.specs.Words.{Row, Text, fault_of, matches_of, is_simple, is_simple_and_free}
+use Rattle.std.proofs.Common.{◌≡◌, ◌⊎◌, cond, true, refl, sym, ap, List, [], None, inl, inr}
+use Rattle.clap.specs.Words.{Text, fault_of, matches_of, is_simple, is_simple_and_free}
 use Rattle.clap.specs.Kinds.{IsAmong, Kinds}
 use Rattle.clap.specs.Walk.{is_empty}
 use Rattle.clap.specs.declared.error.kind.ErrorKind.{ErrorKind}
 use Rattle.command_line.proofs.Taken.{among}
 use Rattle.clap.specs.declared.error.kind.ErrorKind.TheVariants as kind
 use Rattle.view_line.specs.App.{heaps_app}
-use Rattle.view_line.specs.ViewLine.{Asked, heaps_in, heaps_line}
+use Rattle.view_line.specs.ViewLine.{heaps_in, heaps_line}
 
 pub is_good : is_simple_and_free heaps_app ≡ true
 is_good = refl

@@ -5,5 +5,5 @@ mod command;
 mod line;
 mod read;
 
-pub use line::{Traced, View};
+pub use line::{InputFile, Picture, RunView, View};
 pub use read::read_view;

@@ -1,36 +1,67 @@
 // What a call asks for.
 
-use run_trace::Settings;
+ghost use Rattle.std.specs.Prelude.{◌≡◌, string_bytes};
 
-/// A program with a trace of its run; a file that is left out stands for standard input.
+use run_trace::Settings;
+use std::marker::Model;
+
+/// The name of a file.
 #[derive(Drop)]
-pub struct Traced {
-    pub file: Option<String>,
-    pub settings: Settings,
+pub struct InputFile {
+    name: String,
 }
 
-/// What a call asks for.
+impl Model for InputFile {
+    ghost use Rattle.std.specs.Prelude.{ℕ, List, string_bytes};
+
+    ghost Value = { List ℕ };
+
+    ghost view = { λ f. string_bytes f.name };
+}
+
+impl InputFile {
+    pub(crate) fn new(name: String) -> InputFile
+        ensures { result ≡ string_bytes name }
+    {
+        InputFile { name }
+    }
+
+    pub fn as_str(&self) -> &str
+        ensures { result.now ≡ self.now }
+    {
+        self.name.as_str()
+    }
+}
+
+/// A view of a run, which is read from a program with its trace.
+#[derive(Clone, Copy)]
+pub enum RunView {
+    /// The timeline.
+    Timeline,
+    /// The tasks.
+    Tasks,
+    /// What the run says of all schedules.
+    Schedules,
+}
+
+/// What is shown of an input.
+#[derive(Drop)]
+pub enum Picture {
+    /// The heaps of an image, or those on the path from the root to a task; heap by heap if there are more objects than
+    /// the limit.
+    Heaps { path: Option<u64>, limit: u64 },
+    /// A view of a run with these settings.
+    Run { view: RunView, settings: Settings },
+}
+
+/// What a call asks for. A file that is left out stands for standard input.
 #[derive(Drop)]
 pub enum View {
     /// How the program is called.
     Usage,
-    /// The heaps of an image, or those on the path from the root to a task; heap by heap where there are more objects
-    /// than the limit.
-    Heaps {
-        file: Option<String>,
-        path: Option<u64>,
-        limit: u64,
-    },
-    /// The timeline of a run.
-    Timeline {
-        traced: Traced,
-    },
-    /// The tasks of a run.
-    Tasks {
-        traced: Traced,
-    },
-    /// What a run says of all schedules.
-    Schedules {
-        traced: Traced,
+    /// A picture of an input.
+    Of {
+        file: Option<InputFile>,
+        picture: Picture,
     },
 }

@@ -1,16 +1,15 @@
 // Reads the words of a call.
 
-ghost use Rattle.std.specs.Prelude.{◌≡◌, ◌≢◌, ◌∷◌, IfOk, None, codes, map, option_map, string_bytes};
+ghost use Rattle.std.specs.Prelude.{◌≡◌, ◌≢◌, ◌∷◌, IfOk, None, codes, map, option_map, option_and_then, string_bytes};
 ghost use Rattle.clap.specs.Words.{found_of, rows_of, first_of};
-ghost use Rattle.view_line.specs.ViewLine.{maybe_number, heaps_in, heaps_line, run_line, named_line, usage_line, view_line, run_of, asked_of};
+ghost use Rattle.view_line.specs.ViewLine.{maybe_number, heaps_in, heaps_line, run_in, run_line, run_view, named_line, usage_line, view_line};
 
 use crate::command::heaps_command;
-use crate::line::{Traced, View};
+use crate::line::{InputFile, Picture, RunView, View};
 use clap::ArgMatches;
 use clap::error::ErrorKind;
 use command_line::{CommandLine, FileName, read_command_line};
 use image_check::read_short;
-use run_trace::Settings;
 use std::alloc::{AllocError, Global};
 
 /// So many objects are drawn one by one where no limit is given.
@@ -23,15 +22,15 @@ fn copy_of(alloc: Global, text: &str) -> Result<String, AllocError>
     format!(in alloc; "{text}")
 }
 
-// The same, where there is a text.
-fn owned(alloc: Global, text: Option<&str>) -> Result<Option<String>, AllocError>
-    ensures { IfOk result (λ own. option_map string_bytes own ≡ option_map (λ s. s.now) text.entry) }
+// The file of this name, if there is one.
+fn file_of(alloc: Global, name: Option<&str>) -> Result<Option<InputFile>, AllocError>
+    ensures { IfOk result (λ file. file ≡ option_map (λ s. s.now) name.entry) }
 {
-    match text {
+    match name {
         None => Ok(None),
-        Some(text) => {
-            let own = copy_of(alloc, text)?;
-            Ok(Some(own))
+        Some(name) => {
+            let own = copy_of(alloc, name)?;
+            Ok(Some(InputFile::new(own)))
         }
     }
 }
@@ -58,7 +57,7 @@ fn text_at<'w>(matches: &ArgMatches<'w>, id: &str) -> Option<&'w str>
 
 // What the matches of `heaps` ask for.
 fn heaps_of(alloc: Global, matches: &ArgMatches) -> Result<Option<View>, AllocError>
-    ensures { IfOk result (λ view. option_map asked_of view ≡ heaps_in (rows_of (found_of matches.now))) }
+    ensures { IfOk result (λ view. view ≡ heaps_in (rows_of (found_of matches.now))) }
 {
     let Some(path) = maybe_number(text_at(matches, "path")) else {
         return Ok(None);
@@ -66,17 +65,17 @@ fn heaps_of(alloc: Global, matches: &ArgMatches) -> Result<Option<View>, AllocEr
     let Some(limit) = maybe_number(text_at(matches, "limit")) else {
         return Ok(None);
     };
-    let file = owned(alloc, text_at(matches, "FILE"))?;
-    Ok(Some(View::Heaps {
+    let file = file_of(alloc, text_at(matches, "FILE"))?;
+    let limit = limit.unwrap_or(USUAL_LIMIT);
+    Ok(Some(View::Of {
         file,
-        path,
-        limit: limit.unwrap_or(USUAL_LIMIT),
+        picture: Picture::Heaps { path, limit },
     }))
 }
 
 // The answer to words that aren't taken, or to want of memory.
 fn refused(kind: ErrorKind) -> Result<Option<View>, AllocError>
-    ensures { IfOk result (λ view. (option_map asked_of view ≡ None) × (kind ≢ ErrorKind.OutOfMemory)) }
+    ensures { IfOk result (λ view. (view ≡ None) × (kind ≢ ErrorKind.OutOfMemory)) }
 {
     match kind {
         ErrorKind::OutOfMemory => Err(AllocError),
@@ -86,7 +85,7 @@ fn refused(kind: ErrorKind) -> Result<Option<View>, AllocError>
 
 // What the words behind `heaps` ask for.
 fn heaps_line(alloc: Global, words: &[String]) -> Result<Option<View>, AllocError>
-    ensures { IfOk result (λ view. option_map asked_of view ≡ heaps_line (map string_bytes words.now)) }
+    ensures { IfOk result (λ view. view ≡ heaps_line (map string_bytes words.now)) }
 {
     match heaps_command(alloc)?.try_get_matches_from(words) {
         Ok(matches) => heaps_of(alloc, &matches),
@@ -108,64 +107,63 @@ fn behind_races(alloc: Global, words: &[String]) -> Result<Vec<String>, AllocErr
     Ok(all)
 }
 
-// A program with its trace, with its file's name on its own.
-fn with_own_name(
+// The view of a run that a command line of `races` asks for.
+fn run_in(
     alloc: Global,
-    file: Option<FileName>,
-    settings: Settings,
-) -> Result<Traced, AllocError>
-    ensures { IfOk result (λ traced. run_of traced ≡ (file.entry, settings)) }
+    view: RunView,
+    line: Option<CommandLine>,
+) -> Result<Option<View>, AllocError>
+    ensures { IfOk result (λ asked. asked ≡ run_in view line.entry) }
 {
-    let file = match &file {
-        None => None,
-        Some(name) => owned(alloc, Some(name.as_str()))?,
-    };
-    Ok(Traced { file, settings })
-}
-
-// What the words behind the name of a command that reads a run ask for.
-fn run_line(alloc: Global, words: &[String]) -> Result<Option<Traced>, AllocError>
-    ensures { IfOk result (λ traced. option_map run_of traced ≡ run_line (map string_bytes words.now)) }
-{
-    let all = behind_races(alloc, words)?;
-    match read_command_line(alloc, all.as_slice())? {
+    match line {
         Some(CommandLine::Races { file, settings }) => {
-            let traced = with_own_name(alloc, file, settings)?;
-            Ok(Some(traced))
+            let file = match &file {
+                None => None,
+                Some(name) => file_of(alloc, Some(name.as_str()))?,
+            };
+            let picture = Picture::Run { view, settings };
+            Ok(Some(View::Of { file, picture }))
         }
         _ => Ok(None),
     }
 }
 
-fn timeline_line(alloc: Global, words: &[String]) -> Result<Option<View>, AllocError>
-    ensures { IfOk result (λ view. option_map asked_of view ≡ named_line (codes "timeline") (map string_bytes words.now)) }
+// What the words behind the name of a view of a run ask for.
+fn run_line(alloc: Global, words: &[String], view: RunView) -> Result<Option<View>, AllocError>
+    ensures { IfOk result (λ asked. asked ≡ run_line (map string_bytes words.now) view) }
 {
-    match run_line(alloc, words)? {
-        None => Ok(None),
-        Some(traced) => Ok(Some(View::Timeline { traced })),
+    let all = behind_races(alloc, words)?;
+    let line = read_command_line(alloc, all.as_slice())?;
+    run_in(alloc, view, line)
+}
+
+// The view of a run that has this name.
+fn run_view(name: &str) -> Option<RunView>
+    ensures { result ≡ run_view name.now }
+{
+    match name {
+        "timeline" => Some(RunView::Timeline),
+        "tasks" => Some(RunView::Tasks),
+        "schedules" => Some(RunView::Schedules),
+        _ => None,
     }
 }
 
-fn tasks_line(alloc: Global, words: &[String]) -> Result<Option<View>, AllocError>
-    ensures { IfOk result (λ view. option_map asked_of view ≡ named_line (codes "tasks") (map string_bytes words.now)) }
+fn run_named(
+    alloc: Global,
+    words: &[String],
+    view: Option<RunView>,
+) -> Result<Option<View>, AllocError>
+    ensures { IfOk result (λ asked. asked ≡ option_and_then (run_line (map string_bytes words.now)) view) }
 {
-    match run_line(alloc, words)? {
+    match view {
         None => Ok(None),
-        Some(traced) => Ok(Some(View::Tasks { traced })),
-    }
-}
-
-fn schedules_line(alloc: Global, words: &[String]) -> Result<Option<View>, AllocError>
-    ensures { IfOk result (λ view. option_map asked_of view ≡ named_line (codes "schedules") (map string_bytes words.now)) }
-{
-    match run_line(alloc, words)? {
-        None => Ok(None),
-        Some(traced) => Ok(Some(View::Schedules { traced })),
+        Some(view) => run_line(alloc, words, view),
     }
 }
 
 fn usage_line(words: &[String]) -> Option<View>
-    ensures { option_map asked_of result ≡ usage_line (map string_bytes words.now) }
+    ensures { result ≡ usage_line (map string_bytes words.now) }
 {
     match words {
         [] => Some(View::Usage),
@@ -175,21 +173,18 @@ fn usage_line(words: &[String]) -> Option<View>
 
 // What a name and the words behind it ask for.
 fn named_line(alloc: Global, name: &str, words: &[String]) -> Result<Option<View>, AllocError>
-    ensures { IfOk result (λ view. option_map asked_of view ≡ named_line name.now (map string_bytes words.now)) }
+    ensures { IfOk result (λ view. view ≡ named_line name.now (map string_bytes words.now)) }
 {
     match name {
         "heaps" => heaps_line(alloc, words),
-        "timeline" => timeline_line(alloc, words),
-        "tasks" => tasks_line(alloc, words),
-        "schedules" => schedules_line(alloc, words),
         "--help" => Ok(usage_line(words)),
-        _ => Ok(None),
+        _ => run_named(alloc, words, run_view(name)),
     }
 }
 
-/// What the words behind the program's name ask for; None where they ask for nothing.
+/// What the words after the program's name ask for; None if they ask for nothing.
 pub fn read_view(alloc: Global, words: &[String]) -> Result<Option<View>, AllocError>
-    ensures { IfOk result (λ view. option_map asked_of view ≡ view_line (map string_bytes words.now)) }
+    ensures { IfOk result (λ view. view ≡ view_line (map string_bytes words.now)) }
 {
     match words {
         [] => Ok(None),

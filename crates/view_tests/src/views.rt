@@ -156,6 +156,20 @@ fn schedules_are_told(rt: HostRuntime) {
     check_calls(&rt, SCHEDULES);
 }
 
+#[test]
+fn usage_is_shown(rt: HostRuntime) {
+    check_calls(
+        &rt,
+        &[(
+            "--help",
+            "",
+            0,
+            "usage: hhview heaps [FILE] [--path T] [--limit N]\n       hhview timeline [FILE] [OPTIONS]\n       hhview tasks [FILE] [OPTIONS]\n       hhview schedules [FILE] [OPTIONS]\nOPTIONS are those of hheap replay: --workers N, --fuel N, --chunks N, --leaf N, --inner N\n",
+            "",
+        )],
+    );
+}
+
 const REFUSED: &[Call] = &[
     ("", "", 2, "", "end: words refused\n"),
     ("draw", "", 2, "", "end: words refused\n"),

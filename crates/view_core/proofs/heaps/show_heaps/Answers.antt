@@ -1,11 +1,12 @@
 use Rattle.std.proofs.Common.{ℕ, List, sym, subst}
 use Rattle.std.specs.Prelude.{Option}
 use Rattle.image_check.specs.declared.cause.Fault.{Fault}
-use Rattle.view_core.specs.declared.shown.Status.TheVariants.{Done}
-use Rattle.view_core.specs.Shown.{Says, ShowsImage}
+use Rattle.whole_call.specs.declared.status.AnswerStatus.TheVariants.{Done}
+use Rattle.whole_call.specs.Output.{Says}
+use Rattle.view_core.specs.Shown.{ShowsImage}
 use Rattle.view_core.proofs.heaps.show_heaps.Goals as goal
 
 pub returns-in-Ok : goal.returns-in-Ok
 returns-in-Ok c =
-    subst (λ (o : Option Fault). ShowsImage c.args.path c.args.limit c.args.input.now o c.picture.result) (sym c.in-Ok.ensures.sound)
-    (subst (λ (x : List ℕ). Says Done x c.picture.result) c.in-Ok.ensures.graph c.picture.ensures)
+    subst (λ (o : Option Fault). ShowsImage c.args.path c.args.limit c.args.input.now o c.of_bytes.result) (sym c.in-Ok.ensures.sound)
+    (subst (λ (x : List ℕ). Says Done x c.of_bytes.result) c.in-Ok.ensures.graph c.of_bytes.ensures)

@@ -1,7 +1,8 @@
 use Rattle.std.proofs.Common.{ℕ, List, sym, subst}
-use Rattle.view_core.specs.declared.shown.Status.TheVariants.{Done}
-use Rattle.view_core.specs.declared.runs.RunView.{RunView}
-use Rattle.view_core.specs.Shown.{Says, ShowsJournal}
+use Rattle.view_line.specs.declared.line.RunView.{RunView}
+use Rattle.whole_call.specs.declared.status.AnswerStatus.TheVariants.{Done}
+use Rattle.whole_call.specs.Output.{Says}
+use Rattle.view_core.specs.Shown.{ShowsJournal}
 use Rattle.view_core.proofs.runs.show_journal.Goals as goal
 
 pub returns-in_ok-timeline_text-in-Timeline-clause-shown : goal.returns-in_ok-timeline_text-in-Timeline-clause-shown

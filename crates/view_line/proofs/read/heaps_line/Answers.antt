@@ -1,4 +1,4 @@
-use Rattle.std.proofs.Common.{◌≡◌, ◌∙◌, ap, sym, subst, true, [], List, map, string_bytes, Global}
+use Rattle.std.proofs.Common.{◌≡◌, ◌∙◌, ap, subst, true, [], List, map, string_bytes, Global}
 use Rattle.std.proofs.lemmas.Result.{IfOk-weaker}
 use Rattle.clap.specs.Words.{App, HasMatchesOf, Text, fault_of, matches_of, found_of, rows_of}
 use Rattle.clap.specs.Kinds.{HasKind}

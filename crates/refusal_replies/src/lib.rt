@@ -1,0 +1,29 @@
+// Refusals as replies: the line of each and its status, the same in both programs.
+#![tactic(auto)]
+
+ghost use Rattle.std.specs.Prelude.{◌≡◌, IfOk};
+ghost use Rattle.refusal_replies.specs.Refused.{Refuses, status_of_refusal};
+
+use refusal_lines::{Refusal, refusal_text};
+use std::alloc::{AllocError, Global};
+use whole_call::{AnswerStatus, Reply};
+
+fn status_of(refusal: Refusal) -> AnswerStatus
+    ensures { result ≡ status_of_refusal refusal }
+{
+    match refusal {
+        Refusal::Words => AnswerStatus::Words,
+        Refusal::Source(_) => AnswerStatus::Source,
+        Refusal::Line(_) => AnswerStatus::Trace,
+        Refusal::Entry(_) => AnswerStatus::Trace,
+        Refusal::Image(_) => AnswerStatus::Image,
+    }
+}
+
+/// The refusal of words, or of an input.
+pub fn refused(alloc: Global, refusal: Refusal) -> Result<Reply, AllocError>
+    ensures { IfOk result (Refuses refusal) }
+{
+    let text = refusal_text(alloc, refusal)?;
+    Ok(Reply::of_text(status_of(refusal), text))
+}

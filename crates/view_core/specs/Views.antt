@@ -1,0 +1,32 @@
+-- Each call: what it reads, and what it shows of that.
+use Rattle.std.specs.Prelude.{ℕ, List, Option, Some, None, codes}
+use Rattle.text_lines.specs.Lines.{most_bytes}
+use Rattle.refusal_lines.specs.declared.refusal.Refusal.TheVariants.{Words}
+use Rattle.refusal_replies.specs.Refused.{Refuses}
+use Rattle.view_line.specs.declared.line.Picture.{Picture}
+use Rattle.view_line.specs.declared.line.Picture.TheVariants.{Heaps, Run}
+use Rattle.view_line.specs.declared.line.View.{View}
+use Rattle.view_line.specs.declared.line.View.TheVariants.{Usage, Of}
+use Rattle.whole_call.specs.declared.status.AnswerStatus.TheVariants.{Done}
+use Rattle.whole_call.specs.declared.reply.Reply.{Reply}
+use Rattle.whole_call.specs.Input.{Reads, ReadsNothing, ReadsUpTo}
+use Rattle.whole_call.specs.Output.{Says}
+use Rattle.view_core.specs.Shown.{ShowsHeaps, ShowsRun}
+
+-- words that ask for nothing read nothing, nor does the usage
+abbrev pub reads : Option View → Reads
+reads (Some (Of file picture)) = ReadsUpTo most_bytes file
+reads (Some Usage) = ReadsNothing
+reads None = ReadsNothing
+
+abbrev pub usage : List ℕ
+usage = codes "usage: hhview heaps [FILE] [--path T] [--limit N]\n       hhview timeline [FILE] [OPTIONS]\n       hhview tasks [FILE] [OPTIONS]\n       hhview schedules [FILE] [OPTIONS]\nOPTIONS are those of hheap replay: --workers N, --fuel N, --chunks N, --leaf N, --inner N\n"
+
+abbrev pub ShowsPicture : Picture → List ℕ → Reply → Type 0
+ShowsPicture (Heaps path limit) input = ShowsHeaps path limit input
+ShowsPicture (Run view settings) input = ShowsRun view settings input
+
+abbrev pub Shows : Option View → List ℕ → Reply → Type 0
+Shows (Some (Of file picture)) input = ShowsPicture picture input
+Shows (Some Usage) input = Says Done usage
+Shows None input = Refuses Words

@@ -1,0 +1,83 @@
+-- How calls end: without memory, without their input, and with it.
+use Rattle.std.proofs.Common.{◌≡◌, ◌∙◌, ℕ, List, [], take, refl, sym, ap, arith}
+use Rattle.std.specs.Prelude.{◌≢◌, Option, Some, None}
+use Rattle.std.proofs.lemmas.List.{length-take}
+use Rattle.outside_io.specs.Fault.{HasRisen}
+use Rattle.whole_call.specs.declared.status.Status.{Status}
+use Rattle.whole_call.specs.declared.status.Status.TheVariants.{ReadFault, WriteFault, NoMemory}
+use Rattle.whole_call.specs.Input.{Reads, ReadsNothing, ReadsUpTo, SourceState, IsInputOf, HasTaken, HasRead, bytes_for, most_of}
+use Rattle.whole_call.specs.Call.{IsCall}
+
+-- INPUTS
+
+abbrev InputAt : Reads → SourceState → Type 0
+InputAt reads before = (input : List ℕ) × IsInputOf reads before input
+
+some_item : (x y : List ℕ) → Some x ≡ Some y → x ≡ y
+some_item x y e = cc
+
+some_is_told : (x : List ℕ) → None ≡ Some x → ⊥
+some_is_told x e = cc
+
+input_at : (reads : Reads) (before : SourceState) (o : Option (List ℕ)) → bytes_for reads before ≡ o → InputAt reads before
+input_at reads before (Some whole) e = (
+  take (most_of reads) whole,
+  record {
+    within = omega (arith, length-take (most_of reads) whole);
+    first = λ other h. ap (take (most_of reads)) (some_item whole other (sym e ∙ h));
+  },
+)
+input_at reads before None e = ([], record { within = omega arith; first = λ other h. absurd (some_is_told other (sym e ∙ h)) })
+
+-- whatever the source tells, there is an input
+pub some_input : (reads : Reads) (before : SourceState) → InputAt reads before
+some_input reads before = input_at reads before (bytes_for reads before) refl
+
+-- a source that isn't touched stays as it was
+pub nothing_taken : (reads : Reads) (before : SourceState) → reads ≡ ReadsNothing → HasTaken reads before before
+nothing_taken ReadsNothing before e = refl
+nothing_taken (ReadsUpTo limit file) before e = absurd (let f : ReadsUpTo limit file ≡ ReadsNothing = e in cc)
+
+-- CALLS
+
+module _ (reads : Reads) (Ends : List ℕ → Type 0) (WriteFails : Type 0) (before after : SourceState) where
+  -- memory failed before the input was there
+  pub without_memory : ((input : List ℕ) → Ends input) → (reads ≡ ReadsNothing → HasTaken reads before after) → IsCall reads Ends WriteFails NoMemory before after
+  without_memory ends untouched =
+      let at = some_input reads before in
+      record {
+        answered = (at.0, at.1, ends at.0);
+        taken = λ read memory. absurd (memory refl);
+        untouched = untouched;
+        read_fault = λ e. absurd (let f : NoMemory ≡ ReadFault = e in cc);
+        write_fault = λ e. absurd (let f : NoMemory ≡ WriteFault = e in cc);
+      }
+
+  -- reading failed
+  pub without_input : ((input : List ℕ) → Ends input) → reads ≢ ReadsNothing → HasRisen before.faults after.faults → IsCall reads Ends WriteFails ReadFault before after
+  without_input ends some risen =
+      let at = some_input reads before in
+      record {
+        answered = (at.0, at.1, ends at.0);
+        taken = λ read memory. absurd (read refl);
+        untouched = λ e. absurd (some e);
+        read_fault = λ e. (some, risen);
+        write_fault = λ e. absurd (let f : ReadFault ≡ WriteFault = e in cc);
+      }
+
+  -- the input was read and answered
+  pub with_input : (status : Status) (input : List ℕ) → HasRead reads before after input → Ends input → status ≢ ReadFault → (status ≡ WriteFault → WriteFails) → IsCall reads Ends WriteFails status before after
+  with_input status input read ends none fails = record {
+    answered = (input, read.is, ends);
+    taken = λ r m. read.taken;
+    untouched = λ e. read.taken;
+    read_fault = λ e. absurd (none e);
+    write_fault = fails;
+  }
+
+-- nothing is read
+pub nothing_read : (before : SourceState) → HasRead ReadsNothing before before []
+nothing_read before = record {
+  is = record { within = omega arith; first = λ whole e. (let f = some_item [] whole e in ap (take 0) f) };
+  taken = refl;
+}

@@ -1,0 +1,47 @@
+// What is to be written, and how it is.
+
+ghost use Rattle.std.specs.Prelude.{◌≡◌, string_bytes};
+ghost use Rattle.outside_io.specs.Fault.{HasRisen};
+ghost use Rattle.whole_call.specs.Output.{Says, Wrote};
+
+use crate::status::{AnswerStatus, Status};
+use all_bytes::write_all;
+use listed::Listed;
+use outside_io::{Failed, Sink};
+
+/// What is to be written, with its status.
+#[derive(Drop)]
+pub struct Reply {
+    pub status: AnswerStatus,
+    pub bytes: Listed<u8>,
+}
+
+impl Reply {
+    /// These bytes.
+    pub fn of_bytes(status: AnswerStatus, bytes: Vec<u8>) -> Reply
+        ensures { Says status bytes.items result }
+    {
+        Reply {
+            status,
+            bytes: Listed::from_vec(bytes),
+        }
+    }
+
+    /// This text.
+    pub fn of_text(status: AnswerStatus, text: String) -> Reply
+        ensures { Says status (string_bytes text) result }
+    {
+        Reply::of_bytes(status, text.into_bytes())
+    }
+
+    /// Writes it to a sink, and says how that ended.
+    pub fn write<K: Sink>(&self, sink: &mut K) -> Status
+        ensures wrote { Wrote self.now result (K.written sink.old) (K.written sink.new) }
+        ensures fault { result ≡ Status.WriteFault → HasRisen (K.faults sink.old) (K.faults sink.new) }
+    {
+        match write_all(sink, self.bytes.as_slice()) {
+            Ok(()) => Status::Answered(self.status),
+            Err(Failed) => Status::WriteFault,
+        }
+    }
+}

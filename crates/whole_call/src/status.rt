@@ -1,0 +1,76 @@
+// Statuses.
+
+ghost use Rattle.std.specs.Prelude.{◌≡◌};
+ghost use Rattle.whole_call.specs.Status.{code_of_answer, code_of_status};
+
+/// How the words of a call, or its input, were answered.
+#[derive(Clone, Copy)]
+pub enum AnswerStatus {
+    /// What was asked for is done.
+    Done,
+    /// The words ask for nothing.
+    Words,
+    /// The input is no program.
+    Source,
+    /// A run ended by a trap.
+    Trap,
+    /// A run ended by a read of a concurrent task's object.
+    Entangled,
+    /// A run ended because its fuel was spent.
+    Fuel,
+    /// A run ended because too few chunks were free.
+    Pool,
+    /// A line of a trace is bad, an entry isn't legal, or the trace isn't that of a whole run.
+    Trace,
+    /// A run has races, or accesses for which another schedule may differ.
+    Races,
+    /// An image is refused.
+    Image,
+}
+
+/// How a call ended.
+#[derive(Clone, Copy)]
+pub enum Status {
+    /// Its answer was written, all of it.
+    Answered(AnswerStatus),
+    /// Reading failed; nothing was written.
+    ReadFault,
+    /// Writing failed; a first part of the answer was written.
+    WriteFault,
+    /// Out of memory; nothing was written.
+    NoMemory,
+}
+
+impl AnswerStatus {
+    // The exit status of a call that was answered so.
+    fn code(self) -> u8
+        ensures { result ≡ code_of_answer self }
+    {
+        match self {
+            AnswerStatus::Done => 0,
+            AnswerStatus::Words => 2,
+            AnswerStatus::Source => 3,
+            AnswerStatus::Trap => 4,
+            AnswerStatus::Entangled => 5,
+            AnswerStatus::Fuel => 6,
+            AnswerStatus::Pool => 7,
+            AnswerStatus::Trace => 11,
+            AnswerStatus::Races => 12,
+            AnswerStatus::Image => 13,
+        }
+    }
+}
+
+impl Status {
+    /// The exit status.
+    pub fn code(self) -> u8
+        ensures { result ≡ code_of_status self }
+    {
+        match self {
+            Status::Answered(status) => status.code(),
+            Status::ReadFault => 8,
+            Status::WriteFault => 9,
+            Status::NoMemory => 10,
+        }
+    }
+}
