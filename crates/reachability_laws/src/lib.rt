@@ -1,0 +1,6 @@
+// What collections keep, in words of reachability.
+#![tactic(auto)]
+
+mod laws;
+
+pub use laws::{leaf_collections_keep_reached, sweeps_keep_reached};
