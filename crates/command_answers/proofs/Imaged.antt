@@ -8,15 +8,17 @@ use Rattle.run_trace.specs.Settings.{SettingsValue}
 use Rattle.trace_input.specs.declared.input.InputFault.{InputFault}
 use Rattle.trace_input.specs.declared.input.InputFault.TheVariants.{Source as SourceFault, BadLine}
 use Rattle.trace_input.specs.declared.input.TraceInput.{TraceInput}
-use Rattle.trace_input.specs.Input.{input_fault, settings_for}
+use Rattle.trace_input.specs.Input.{input_fault, settings_for, IsInput}
 use Rattle.run_ledger.specs.declared.data.RunEnd.{RunEnd}
 use Rattle.run_ledger.specs.declared.data.RefusedAt.{RefusedAt}
-use Rattle.run_ledger.specs.Journals.{refused_as_run}
+use Rattle.run_ledger.specs.Journals.{ledger_of, refused_as_run}
 use Rattle.shared_value.specs.SharedValue.{SharedValue, accounts}
 use Rattle.shared_value.specs.Stands.{IsSharedValue}
 use Rattle.image_check.specs.declared.cause.Fault.{Fault}
 use Rattle.image_check.specs.Fault.{image_fault, objects_in}
+use Rattle.heap_image.specs.declared.picture.Picture.{Picture}
 use Rattle.heap_image.specs.Text.{text_of}
+use Rattle.shared_image.specs.Held.{HasJustHeld}
 use Rattle.heap_image.proofs.Faultless.{sound_is_faultless}
 use Rattle.refusal_lines.specs.declared.refusal.Refusal.TheVariants.{Entry}
 use Rattle.refusal_lines.specs.Refusals.{refusal_of}
@@ -24,7 +26,7 @@ use Rattle.command_answers.specs.declared.answer.Status.{Status}
 use Rattle.command_answers.specs.declared.answer.Status.TheVariants.{Done}
 use Rattle.command_answers.specs.declared.answer.Answer.{Answer}
 use Rattle.command_answers.specs.Answers.{AnswersImage, AnswersImaging, AnswersTrace, IsImageOf, IsImaged, IsText, Refuses, WhereTraced, WhereWhole, short_of}
-use Rattle.command_answers.specs.Laws.{ImagesAreVerified}
+use Rattle.command_answers.specs.Laws.{ImagesAreVerified, ImagesHaveJustHeld}
 use Rattle.command_answers.proofs.Runs.{short_journal, whole_journal}
 use Rattle.command_answers.proofs.Traces.{trace_told}
 
@@ -62,21 +64,22 @@ IsDone _ = ⊥
 undone : (named : Status) (bytes : List ℕ) (a : Answer) → (IsDone named → ⊥) → IsText named bytes a → a.status ≡ Done → ⊥
 undone named bytes a other h e = other (subst IsDone (sym e ∙ h.status) tt)
 
-module _ (Q : Type 0) (s : SettingsValue) (a : Answer) (done : a.status ≡ Done) (so : (p : ProgramText) (l : SettingsValue) (entries : List EntryValue) → IsImaged p l entries a → Q) where
-  whole : (p : ProgramText) (l : SettingsValue) (entries : List EntryValue) (r : Option RefusedAt) → WhereWhole (IsImaged p l entries) r a → Q
-  whole p l entries None h = so p l entries h
+module _ (a : Answer) (done : a.status ≡ Done) where
+  whole : (p : ProgramText) (l : SettingsValue) (entries : List EntryValue) (r : Option RefusedAt) → WhereWhole (IsImaged p l entries) r a → IsImaged p l entries a
+  whole p l entries None h = h
   whole p l entries (Some r) h = absurd (undone _ _ a (λ x. x) h done)
 
-  fault : (f : InputFault) → Refuses (refusal_of f) a → Q
-  fault (SourceFault r) h = absurd (undone _ _ a (λ x. x) h done)
-  fault (BadLine n) h = absurd (undone _ _ a (λ x. x) h done)
+  fault : (f : InputFault) → Refuses (refusal_of f) a → ⊥
+  fault (SourceFault r) h = undone _ _ a (λ x. x) h done
+  fault (BadLine n) h = undone _ _ a (λ x. x) h done
 
-  traced : (input : List ℕ) (f : Option InputFault) → WhereTraced (AnswersTrace IsImaged s) input f a → Q
-  traced input (Some f) h = fault f h
-  traced input None h =
+  -- the image of a whole run
+  traced : (s : SettingsValue) (input : List ℕ) (f : Option InputFault) → WhereTraced (AnswersTrace IsImaged s) input f a → (t : TraceInput) × IsInput input t × IsImaged t.program (settings_for s t) t.trace.entries a
+  traced s input (Some f) h = absurd (fault f h)
+  traced s input None h =
       let t = h.0 in
       let l = settings_for s t in
-      whole t.program l t.trace.entries (refused_as_run t.program l t.trace.entries) h.2
+      (t, h.1, whole t.program l t.trace.entries (refused_as_run t.program l t.trace.entries) h.2)
 
 verified : (p : ProgramText) (l : SettingsValue) (entries : List EntryValue) (a b : Answer) → length a.bytes ≤ most_bytes → AnswersImage (image_fault a.bytes) (objects_in a.bytes) b → IsImaged p l entries a → b.status ≡ Done
 verified p l entries a b fits h is =
@@ -86,4 +89,24 @@ verified p l entries a b fits h is =
 
 pub images_are_verified : ImagesAreVerified
 images_are_verified = λ s input a b h done fits v.
-    traced (b.status ≡ Done) s a done (λ p l entries is. verified p l entries a b fits v is) input (input_fault input) h
+    let r = traced a done s input (input_fault input) h in
+    verified r.0.program (settings_for s r.0) r.0.trace.entries a b fits v r.2
+
+-- HELD
+
+held_by : (p : ProgramText) (l : SettingsValue) (entries : List EntryValue) (w : SharedValue) (q : Picture) → w.program ≡ p → w.settings ≡ l → w.journal.items ≡ entries → HasJustHeld q (accounts w) → HasJustHeld q (ledger_of p l entries)
+held_by p l entries w q program settings journal h =
+    subst (λ j. HasJustHeld q (ledger_of p l j)) journal
+    (subst (λ x. HasJustHeld q (ledger_of p x w.journal.items)) settings (subst (λ y. HasJustHeld q (ledger_of y w.settings w.journal.items)) program h))
+
+pub images_have_just_held : ImagesHaveJustHeld
+images_have_just_held = λ s input a h done.
+    let r = traced a done s input (input_fault input) h in
+    let is = r.2 in
+    record {
+      read = r.0;
+      is = r.1;
+      picture = is.shows.picture;
+      written = is.text.written ∙ is.shows.written;
+      held = held_by r.0.program (settings_for s r.0) r.0.trace.entries is.whole is.shows.picture is.program is.settings is.journal is.shows.held;
+    }

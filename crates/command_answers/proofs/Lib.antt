@@ -6,6 +6,7 @@ pub mod Answered
 pub mod Deliveries
 pub mod Given
 pub mod Alike
+pub mod Recorded
 pub mod Raceless
 pub mod Headline
 pub mod Taken

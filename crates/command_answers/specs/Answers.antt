@@ -20,7 +20,7 @@ use Rattle.race_report.specs.declared.data.Race.{Race}
 use Rattle.race_report.specs.Accesses.{accesses}
 use Rattle.race_report.specs.Report.{IsReport}
 use Rattle.race_report.specs.Text.{races_text}
-use Rattle.shared_value.specs.SharedValue.{SharedValue}
+use Rattle.shared_value.specs.SharedValue.{SharedValue, accounts}
 use Rattle.shared_value.specs.Stands.{IsSharedValue}
 use Rattle.world_core.specs.WorldValue.{WorldValue}
 use Rattle.world_core.specs.declared.replaying.ReplayStop.{ReplayStop}
@@ -31,6 +31,7 @@ use Rattle.heap_image.specs.declared.picture.Picture.{Picture}
 use Rattle.heap_image.specs.Picture.{IsSoundPicture}
 use Rattle.heap_image.specs.Text.{text_of}
 use Rattle.shared_image.specs.Drawn.{IsPictureOf}
+use Rattle.shared_image.specs.Held.{HasJustHeld}
 use Rattle.refusal_lines.specs.declared.refusal.Refusal.{Refusal}
 use Rattle.refusal_lines.specs.declared.refusal.Refusal.TheVariants.{Words, Source, Entry, Image as ImageRefused}
 use Rattle.refusal_lines.specs.Refusals.{refusal_line, refusal_of}
@@ -157,11 +158,12 @@ AnswersRaces = AnswersTraced IsRaceAnswer
 
 -- IMAGE
 
--- the text of a sound picture of a shared value
+-- the text of a sound picture of a shared value, which has just the objects that the heaps handed back hold
 pub record IsImageOf (w : SharedValue) (text : List ℕ) : Type 0 where
   pub picture : Picture
   pub draws : IsPictureOf w picture
   pub sound : IsSoundPicture picture
+  pub held : HasJustHeld picture (accounts w)
   pub written : text ≡ text_of picture
 
 -- the image of a shared value that stands, by a run of these entries

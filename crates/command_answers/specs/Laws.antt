@@ -1,15 +1,25 @@
 -- What the answers come to.
-use Rattle.std.specs.Prelude.{◌≡◌, ◌≢◌, ◌≤◌, ◌⊎◌, Bool, List, ℕ, Option, Some, true, length}
+use Rattle.std.specs.Prelude.{◌≡◌, ◌≢◌, ◌≤◌, ◌⊎◌, ◌++◌, Bool, List, ℕ, Option, Some, true, length}
+use Rattle.std.specs.List.{All}
 use Rattle.text_lines.specs.Lines.{most_bytes}
 use Rattle.outside_io.specs.Told.{with_more}
 use Rattle.hh_lang.specs.Form.{ProgramText}
 use Rattle.program_reader.specs.declared.cause.Refused.{Refused}
 use Rattle.program_reader.specs.Program.{program_of}
 use Rattle.program_make.specs.Text.{made_text, size_limit}
+use Rattle.run_trace.specs.declared.settings.Version.TheVariants.{Two}
+use Rattle.run_trace.specs.Entry.{EntryValue, IsEntry}
 use Rattle.run_trace.specs.Settings.{SettingsValue}
+use Rattle.run_trace.specs.Trace.{trace_text}
+use Rattle.round_trip_laws.specs.RoundTrip.{EndsInFeed}
 use Rattle.trace_input.specs.declared.input.InputFault.TheVariants.{Source as SourceFault}
-use Rattle.trace_input.specs.Input.{input_fault}
+use Rattle.trace_input.specs.declared.input.TraceInput.{TraceInput}
+use Rattle.trace_input.specs.Input.{input_fault, settings_for, IsInput}
 use Rattle.run_ledger.specs.declared.data.RunEnd.{RunEnd}
+use Rattle.run_ledger.specs.Journals.{ledger_of}
+use Rattle.heap_image.specs.declared.picture.Picture.{Picture}
+use Rattle.heap_image.specs.Text.{text_of}
+use Rattle.shared_image.specs.Held.{HasJustHeld}
 use Rattle.command_line.specs.declared.line.Options.{Options}
 use Rattle.command_line.specs.declared.line.CommandLine.{CommandLine}
 use Rattle.command_line.specs.declared.line.CommandLine.TheVariants.{Run, Replay, Model, Image, Make}
@@ -84,6 +94,18 @@ abbrev pub ImagesAreVerified : Type 0
 ImagesAreVerified =
     (s : SettingsValue) (input : List ℕ) (a b : Answer) → AnswersImaging s input a → a.status ≡ Done → length a.bytes ≤ most_bytes → AnswersVerify a.bytes b → b.status ≡ Done
 
+-- what `image` writes of a whole run is the text of a picture whose objects are just those that the heaps of the tasks
+-- that don't run hold by the accounts of its trace, each as it stands in the machine's store
+pub record HasImage (s : SettingsValue) (input : List ℕ) (a : Answer) : Type 0 where
+  pub read : TraceInput
+  pub is : IsInput input read
+  pub picture : Picture
+  pub written : a.bytes ≡ text_of picture
+  pub held : HasJustHeld picture (ledger_of read.program (settings_for s read) read.trace.entries)
+
+abbrev pub ImagesHaveJustHeld : Type 0
+ImagesHaveJustHeld = (s : SettingsValue) (input : List ℕ) (a : Answer) → AnswersImaging s input a → a.status ≡ Done → HasImage s input a
+
 -- two answers write the same, with the same status
 pub record AreAlike (a b : Answer) : Type 0 where
   pub status : a.status ≡ b.status
@@ -92,6 +114,19 @@ pub record AreAlike (a b : Answer) : Type 0 where
 -- `model` writes what `replay` writes
 abbrev pub ModelWritesTheSame : Type 0
 ModelWritesTheSame = (o : Options) (input : List ℕ) (a b : Answer) → AnswersReplay o input a → AnswersModel o input b → AreAlike a b
+
+-- a program's text with the trace of a run's journal behind it: the text ends in a line feed, the entries are such as
+-- traces have, and both together are within the limit
+pub record IsRecorded (text : List ℕ) (journal : List EntryValue) : Type 0 where
+  pub feed : EndsInFeed text
+  pub entries : All IsEntry journal
+  pub within : length (text ++ trace_text Two journal) ≤ most_bytes
+
+-- by the same options `replay` and `model` of it write what the run wrote, with its status
+abbrev pub RecordedRunsAreAlike : Type 0
+RecordedRunsAreAlike =
+    (o : Options) (text : List ℕ) (p : ProgramText) (a b : Answer) → o.settings.version ≡ Two → IsProgramInput text p → AnswersProgram o p a → IsRecorded text a.journal
+    → (AnswersReplay o (text ++ trace_text Two a.journal) b ⊎ AnswersModel o (text ++ trace_text Two a.journal) b) → AreAlike a b
 
 -- a trace of which `races` tells no race is never one of an entangled run
 abbrev pub RacelessAreDisentangled : Type 0

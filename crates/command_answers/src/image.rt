@@ -40,7 +40,8 @@ fn answer_trace(alloc: Global, settings: Settings, read: &TraceInput) -> Result<
 {
     let TraceInput { program, trace } = read;
     let settings = settings.with_version(trace.version);
-    match replay(alloc, program, settings, trace.entries.as_slice())? {
+    let replayed = replay(alloc, program, settings, trace.entries.as_slice())?;
+    match replayed {
         Ok(world) => {
             let answer = answer_made(alloc, world.shared());
             drop(world);

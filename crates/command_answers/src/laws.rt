@@ -1,7 +1,7 @@
 // What the contract of the top call comes to.
 
 ghost use Rattle.command_answers.specs.Headline.{RunsHoldTheHeadline};
-ghost use Rattle.command_answers.specs.Laws.{ImagesAreVerified, MadeAreAccepted, MadeAreRead, MadeAreRun, ModelWritesTheSame, NoFaultGivesAll, ProgramsAreRun, RacelessAreDisentangled, TracesAreDrawn, TracesAreReplayed};
+ghost use Rattle.command_answers.specs.Laws.{ImagesAreVerified, ImagesHaveJustHeld, MadeAreAccepted, MadeAreRead, MadeAreRun, ModelWritesTheSame, NoFaultGivesAll, ProgramsAreRun, RacelessAreDisentangled, RecordedRunsAreAlike, TracesAreDrawn, TracesAreReplayed};
 ghost use Rattle.command_answers.specs.Status.{StatusesOfEnds};
 
 /// A command and its input, and no fault that rose: all bytes and the status of its answer, or want of memory.
@@ -46,9 +46,21 @@ pub fn images_are_verified()
     ensures { ImagesAreVerified }
 {}
 
+/// What `image` writes of a whole run has just the objects that the heaps handed back hold, as they stand in the
+/// machine's store.
+pub fn images_have_just_held()
+    ensures { ImagesHaveJustHeld }
+{}
+
 /// `model` writes what `replay` writes, with its status.
 pub fn model_writes_the_same()
     ensures { ModelWritesTheSame }
+{}
+
+/// By the same options `replay` and `model` of a program's text with the trace of its run write what the run wrote,
+/// with its status.
+pub fn recorded_runs_are_alike()
+    ensures { RecordedRunsAreAlike }
 {}
 
 /// A trace of which `races` tells no race is never one of an entangled run: `replay` doesn't answer so to it.

@@ -4,8 +4,10 @@ ghost use Rattle.std.specs.Prelude.{◌≡◌, ◌++◌, IfOk, OnOk, map};
 ghost use Rattle.chunk_pool.specs.PoolValue.{AreChunks};
 ghost use Rattle.heap_reading.specs.Image.{AreAll, InUseBefore, IsInUse, IsLive, LiveBefore};
 ghost use Rattle.heap_image.specs.Picture.{FieldBefore, IsSoundPicture, ObjectBefore};
+ghost use Rattle.shared_value.specs.SharedValue.{accounts};
 ghost use Rattle.shared_image.specs.Drawn.{AreHeldInWords, IsPictureOf, drawn_chunk, drawn_field, drawn_object, drawn_state, drawn_task};
 ghost use Rattle.shared_image.specs.Drawing.{AreFieldsOf, AreObjectsOf};
+ghost use Rattle.shared_image.specs.Held.{HasJustHeld};
 
 use heap_image::{Picked, Picture};
 use heap_reading::{Field, InUse, Live, Seen};
@@ -173,6 +175,7 @@ fn draw_all(
     requires sized { AreChunks shared.now.pool.slots }
     ensures drawn { IfOk result (λ p. IsPictureOf shared.now p) }
     ensures sound { IfOk result (λ p. IsSoundPicture p) }
+    ensures held { IfOk result (λ p. HasJustHeld p (accounts shared.now)) }
 {
     shared.stands();
     Ok(Picture {
@@ -183,10 +186,11 @@ fn draw_all(
     })
 }
 
-/// The picture of a shared value, which is sound.
+/// The picture of a shared value, which is sound, and has just the objects that the heaps handed back hold.
 pub fn draw(alloc: Global, shared: &Shared) -> Result<Picture, AllocError>
     ensures drawn { IfOk result (λ p. IsPictureOf shared.now p) }
     ensures sound { IfOk result (λ p. IsSoundPicture p) }
+    ensures held { IfOk result (λ p. HasJustHeld p (accounts shared.now)) }
 {
     let live = tree_reading::live(alloc, shared)?;
     let in_use = tree_reading::chunk_list(alloc, shared)?;

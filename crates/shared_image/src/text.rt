@@ -4,16 +4,18 @@ ghost use Rattle.std.specs.Prelude.{◌≡◌, IfOk};
 ghost use Rattle.heap_image.specs.Text.{text_of};
 ghost use Rattle.heap_image.specs.Picture.{IsSoundPicture};
 ghost use Rattle.heap_image.specs.declared.picture.Picture.{Picture as PictureOf};
+ghost use Rattle.shared_value.specs.SharedValue.{accounts};
 ghost use Rattle.shared_image.specs.Drawn.{IsPictureOf};
+ghost use Rattle.shared_image.specs.Held.{HasJustHeld};
 
 use crate::picture::draw;
 use heap_image::picture_text;
 use shared_tree::Shared;
 use std::alloc::{AllocError, Global};
 
-/// The text of a shared value's picture, which is sound.
+/// The text of a shared value's picture, which is sound, and has just the objects that the heaps handed back hold.
 pub fn image_text(alloc: Global, shared: &Shared) -> Result<Vec<u8>, AllocError>
-    ensures { IfOk result (λ text. (p : PictureOf) × IsPictureOf shared.now p × IsSoundPicture p × (text.items ≡ text_of p)) }
+    ensures { IfOk result (λ text. (p : PictureOf) × IsPictureOf shared.now p × IsSoundPicture p × HasJustHeld p (accounts shared.now) × (text.items ≡ text_of p)) }
 {
     let picture = draw(alloc, shared)?;
     picture_text(alloc, &picture)

@@ -1,7 +1,8 @@
-use Rattle.std.proofs.Common.{◌≡◌, ◌∙◌, ap, rules, subst}
+use Rattle.std.proofs.Common.{◌≡◌, ◌∙◌, ap, subst}
 use Rattle.std.specs.Prelude.{Some}
 use Rattle.std.proofs.lemmas.Result.{IfOk-weaker}
 use Rattle.run_ledger.specs.Journals.{first_refused}
+use Rattle.world_core.specs.Replay.{HasReplayed, IsStop, ReplayGives}
 use Rattle.run_ledger.specs.declared.data.RefusedAt.{RefusedAt}
 use Rattle.shared_value.specs.SharedValue.{SharedValue}
 use Rattle.refusal_lines.specs.declared.refusal.Refusal.TheVariants.{Entry}
@@ -14,14 +15,17 @@ use Rattle.command_answers.proofs.image.answer_trace.Goals as goal
 pub returns-in-Ok : goal.returns-in-Ok
 returns-in-Ok c =
     let is = c.shared.ensures in
-    let has = c.in-Ok.ensures.replayed in
+    let has : HasReplayed c.args.read.now.program c.with_version-settings.result c.as_slice.result.now c.in-Ok.world =
+    subst (ReplayGives c.args.read.now.program c.with_version-settings.result c.as_slice.result.now) c.in-Ok.is c.in_ok-replayed.ensures in
     IfOk-weaker c.answer_made-answer.result _ _
     (λ a h. imaged c.args.settings c.args.read.now c.with_version-settings.result c.as_slice.result.now c.shared.result.now a c.with_version-settings.ensures c.as_slice.ensures
     (ap (λ (w : SharedValue). w.program) is ∙ has.program) (ap (λ (w : SharedValue). w.settings) is ∙ has.settings) (ap (λ (w : SharedValue). w.journal.items) is ∙ has.journal) h) c.answer_made-answer.ensures
 
 pub returns-in-Err-RefusedAt : goal.returns-in-Err-RefusedAt
 returns-in-Err-RefusedAt c =
-    let stopped : first_refused c.args.read.now.program c.with_version-settings.result c.as_slice.result.now ≡ Some c.in-Err-RefusedAt.entry = search rules in
+    let stopped : first_refused c.args.read.now.program c.with_version-settings.result c.as_slice.result.now ≡ Some c.in-Err-RefusedAt.entry =
+    subst (IsStop c.args.read.now.program c.with_version-settings.result c.as_slice.result.now) c.in-Err-RefusedAt.field-0-is
+    (subst (ReplayGives c.args.read.now.program c.with_version-settings.result c.as_slice.result.now) c.in-Err-RefusedAt.is c.in_ok-replayed.ensures) in
     IfOk-weaker c.refused.result _ _
     (λ a h. trace_told IsImaged c.args.settings c.args.read.now c.with_version-settings.result c.as_slice.result.now (Some c.in-Err-RefusedAt.entry) a
     c.with_version-settings.ensures c.as_slice.ensures

@@ -4,6 +4,7 @@ use Rattle.image_check.specs.declared.line.Task.{Task}
 use Rattle.image_check.specs.declared.line.Chunk.{Chunk}
 use Rattle.heap_image.specs.declared.picture.Picture.{Picture}
 use Rattle.shared_image.specs.Drawn.{IsPictureOf, drawn_task}
+use Rattle.shared_image.proofs.Keeping.{just_kept}
 use Rattle.shared_image.proofs.Rounds.{picture_of}
 use Rattle.shared_image.proofs.Sounds.{picture_sound}
 use Rattle.shared_image.proofs.picture.draw_all.Goals as goal
@@ -21,14 +22,10 @@ returns-clause-drawn c =
 
 pub returns-clause-sound : goal.returns-clause-sound
 returns-clause-sound c =
-    let w : SharedValue = c.args.shared.now in
     let p : Picture = record { tasks = c.in_ok-draw_tasks.field-0; chunks = c.in_ok-draw_chunks.field-0; objects = c.in_ok-draw_objects.field-0; fields = c.in_ok-draw_fields.field-0 } in
-    let ts : List Task = c.in_ok-draw_tasks.field-0 in
-    let cs : List Chunk = c.in_ok-draw_chunks.field-0 in
-    let os = c.in_ok-draw_objects.field-0 in
-    let fs = c.in_ok-draw_fields.field-0 in
-    let drawn = picture_of w c.stands.ensures c.args.live.now c.args.in_use.now os fs c.requires.live c.requires.in_use c.in_ok-draw_objects.ensures.objects c.in_ok-draw_fields.ensures in
-    let same : IsPictureOf w p =
-    subst (λ (z : List Task). IsPictureOf w (record { tasks = z; chunks = cs; objects = os; fields = fs })) (sym c.in_ok-draw_tasks.ensures)
-    (subst (λ (z : List Chunk). IsPictureOf w (record { tasks = map drawn_task c.args.live.now; chunks = z; objects = os; fields = fs })) (sym c.in_ok-draw_chunks.ensures) drawn) in
-    picture_sound w c.stands.ensures c.requires.sized c.in_ok-draw_objects.ensures.words p same
+    picture_sound c.args.shared.now c.stands.ensures c.requires.sized c.in_ok-draw_objects.ensures.words p (returns-clause-drawn c)
+
+pub returns-clause-held : goal.returns-clause-held
+returns-clause-held c =
+    let p : Picture = record { tasks = c.in_ok-draw_tasks.field-0; chunks = c.in_ok-draw_chunks.field-0; objects = c.in_ok-draw_objects.field-0; fields = c.in_ok-draw_fields.field-0 } in
+    just_kept c.args.shared.now c.stands.ensures c.in_ok-draw_objects.ensures.words p (returns-clause-drawn c)
