@@ -1,0 +1,7 @@
+pub mod Trees
+pub mod Walks
+pub mod Meetings
+pub mod CutRuns
+pub mod Span
+pub mod Serial
+pub mod Blocks

@@ -1,0 +1,5 @@
+pub mod Meeting
+pub mod Serial
+pub mod Span
+pub mod CutRuns
+pub mod Blocks

@@ -1,0 +1,38 @@
+-- Runs that were cut off: of each task a first part of its turns is known.
+use Rattle.std.specs.Prelude.{◌≡◌, ◌==◌, ◌||◌, ℕ, Bool, false, not, List, [], ◌∷◌, ◌++◌, take, map, filter, reverse}
+use Rattle.fork_graph.specs.declared.graph.Turn.{Turn}
+use Rattle.fork_graph.specs.declared.graph.Turn.TheVariants.{Spawn, Join}
+use Rattle.fork_graph.specs.Graph.{Tasks}
+use Rattle.fork_graph.specs.Nested.{IsForkJoin, IsNested}
+
+-- the children that turns spawn, in order
+abbrev pub spawned_by : List Turn → List ℕ
+spawned_by [] = []
+spawned_by (Spawn c ∷ rest) = c ∷ spawned_by rest
+spawned_by (Join c ∷ rest) = spawned_by rest
+
+-- whether one of the turns joins the child
+abbrev pub joins : List Turn → ℕ → Bool
+joins [] c = false
+joins (Spawn d ∷ rest) c = joins rest c
+joins (Join d ∷ rest) c = (d == c) || joins rest c
+
+-- the children that no turn joins, last spawned first
+abbrev pub unjoined : List Turn → List ℕ
+unjoined turns = filter (λ c. not (joins turns c)) (reverse (spawned_by turns))
+
+-- the turns, and then joins of all that is unjoined, last spawned first
+abbrev pub completed : List Turn → List Turn
+completed turns = turns ++ map Join (unjoined turns)
+
+-- each task with all that it spawned joined
+abbrev pub with_joins : Tasks → Tasks
+with_joins tasks t = completed (tasks t)
+
+-- of each task a first part of its turns
+abbrev pub IsCut : Tasks → Tasks → Type 0
+IsCut cut whole = (t : ℕ) → (n : ℕ) × (cut t ≡ take n (whole t))
+
+-- the joins that are added make a nested run
+abbrev pub CompletedAreNested : Type 0
+CompletedAreNested = (tasks : Tasks) → IsForkJoin tasks → IsNested (with_joins tasks)

@@ -1,0 +1,14 @@
+// The graph of a fork-join run: tasks, the strands between their turns, and the edges that lead from strand to strand.
+#![tactic(auto)]
+
+mod children;
+mod fault;
+mod graph;
+mod laws;
+mod reached;
+mod small;
+
+pub use fault::{Cause, Extent, Fault, first_fault};
+pub use graph::{Strand, Turn};
+pub use laws::{completed_are_nested, sound_runs_have_no_fault};
+pub use small::are_small;

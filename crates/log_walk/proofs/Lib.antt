@@ -1,0 +1,5 @@
+pub mod Walking
+pub mod Marks
+pub mod SpawnLinks
+pub mod Climbs
+pub mod Made

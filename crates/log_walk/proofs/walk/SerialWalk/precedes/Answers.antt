@@ -1,0 +1,10 @@
+use Rattle.std.proofs.Common.{◌↔◌, IsTrue, subst}
+use Rattle.fork_graph.specs.Graph.{tasks_in, Precedes}
+use Rattle.log_walk.specs.Tables.{strand_at}
+use Rattle.log_walk.specs.Value.{WalkValue}
+use Rattle.log_walk.proofs.walk.SerialWalk.precedes.Goals as goal
+
+pub returns : goal.returns
+returns c =
+    subst (λ (v : WalkValue). IsTrue c.precedes.result ↔ Precedes (tasks_in v.tasks) (strand_at v.order c.args.first) (strand_at v.order c.args.second))
+    c.self.view_is c.precedes.ensures

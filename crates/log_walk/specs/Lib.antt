@@ -1,0 +1,4 @@
+pub mod Walking
+pub mod Places
+pub mod Tables
+pub mod Value

@@ -1,0 +1,97 @@
+// What is known of the strands of a run by their places in the serial order.
+
+ghost use Rattle.std.specs.Prelude.{◌≡◌, ◌<◌, ◌≤◌, ◌↔◌, IsTrue, IfNone, IfSome, length};
+ghost use Rattle.fork_graph.specs.Graph.{tasks_in, IsAncestor, Precedes};
+ghost use Rattle.far_links.specs.Lists.{depth_at, up_from};
+ghost use Rattle.log_walk.specs.Tables.{strand_at, task_at, AreTables, IsNextUp, IsTop};
+
+use far_links::{FarLinks, Link};
+use fork_graph::{Strand, Turn};
+use listed::Listed;
+
+/// A run's strands in their serial order, with their links; and by task the places of its first strand, of its last,
+/// and of the one that follows its join.
+#[derive(Drop)]
+pub(crate) struct Tables {
+    pub(crate) order: Listed<Strand>,
+    pub(crate) links: Vec<Link>,
+    pub(crate) firsts: Listed<usize>,
+    pub(crate) lasts: Listed<usize>,
+    pub(crate) afters: Listed<usize>,
+}
+
+// Whether the task at one place is that at another or an ancestor of it.
+fn is_above(_tasks: &Listed<Listed<Turn>>, tables: &Tables, upper: usize, lower: usize) -> bool
+    requires tables { AreTables _tasks.now tables.now }
+    requires upper { upper < length tables.now.order }
+    requires lower { lower < length tables.now.order }
+    ensures { IsTrue result ↔ IsAncestor (tasks_in _tasks.now) (task_at tables.now.order upper) (task_at tables.now.order lower) }
+{
+    let task = tables.order.at(upper).task as usize;
+    let first = *tables.firsts.at(task);
+    let last = *tables.lasts.at(task);
+    is_between(first, lower, last)
+}
+
+fn is_between(first: usize, place: usize, last: usize) -> bool
+    ensures { IsTrue result ↔ ((first ≤ place) × (place ≤ last)) }
+{
+    first <= place && place <= last
+}
+
+// The next place on the way up from one whose task isn't above the target's, unless the next task is above it.
+fn next_up(tasks: &Listed<Listed<Turn>>, tables: &Tables, at: usize, target: usize) -> Option<usize>
+    requires tables { AreTables tasks.now tables.now }
+    requires at { at < length tables.now.order }
+    requires target { target < length tables.now.order }
+    requires apart { IsAncestor (tasks_in tasks.now) (task_at tables.now.order at) (task_at tables.now.order target) → ⊥ }
+    ensures top { IfNone result (IsTop tasks.now tables.now at target) }
+    ensures next { IfSome result (IsNextUp tasks.now tables.now at target) }
+{
+    let link = tables.links.link(at);
+    if !is_above(tasks, tables, link.far, target) {
+        return Some(link.far);
+    }
+    match link.parent {
+        Some(parent) if !is_above(tasks, tables, parent, target) => Some(parent),
+        _ => None,
+    }
+}
+
+// The last place on the way up whose task isn't above the target's.
+fn climb(tasks: &Listed<Listed<Turn>>, tables: &Tables, place: usize, target: usize) -> usize
+    requires tables { AreTables tasks.now tables.now }
+    requires place { place < length tables.now.order }
+    requires target { target < length tables.now.order }
+    requires apart { IsAncestor (tasks_in tasks.now) (task_at tables.now.order place) (task_at tables.now.order target) → ⊥ }
+    ensures there { result < length tables.now.order }
+    ensures above { IsAncestor (tasks_in tasks.now) (task_at tables.now.order result) (task_at tables.now.order place) }
+    ensures apart { IsAncestor (tasks_in tasks.now) (task_at tables.now.order result) (task_at tables.now.order target) → ⊥ }
+    ensures top { IsTop tasks.now tables.now result target }
+{
+    let mut at = place;
+    while let Some(up) = next_up(tasks, tables, at, target) {
+        at = up;
+    }
+    at
+}
+
+/// Whether the strand at one place precedes that at another.
+pub(crate) fn precedes(
+    tasks: &Listed<Listed<Turn>>,
+    tables: &Tables,
+    first: usize,
+    second: usize,
+) -> bool
+    requires tables { AreTables tasks.now tables.now }
+    requires first { first < length tables.now.order }
+    requires second { second < length tables.now.order }
+    ensures { IsTrue result ↔ Precedes (tasks_in tasks.now) (strand_at tables.now.order first) (strand_at tables.now.order second) }
+{
+    if is_above(tasks, tables, first, second) {
+        return first <= second;
+    }
+    let top = climb(tasks, tables, first, second);
+    let after = *tables.afters.at(tables.order.at(top).task as usize);
+    after <= second
+}
