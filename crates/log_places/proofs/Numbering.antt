@@ -1,0 +1,189 @@
+-- Numbers of stretches.
+use Rattle.std.proofs.Common.{◌≡◌, ℕ, zero, suc, ◌+◌, ◌*◌, ◌/◌, ◌%◌, ◌<◌, ◌≤◌, Bool, true, false, cond, not, nat_lt, Option, Some, None, IfSome, IfNone, List, [], ◌∷◌, length, get_or, slice_get, refl, ap, sym, subst, ◌∙◌, arith}
+use Rattle.std.specs.List.{position, sum_by}
+use Rattle.std.proofs.lemmas.Bool.{ltb-true, ltb-false}
+use Rattle.std.proofs.lemmas.List.Sums.{sum_by-cons}
+use Rattle.std.proofs.lemmas.Option.{slice_get_within, same_Some, slice_get-get_or}
+use Rattle.listed.specs.Members.{In}
+use Rattle.listed.proofs.Members.{got_in}
+use Rattle.log_places.specs.declared.stretch.Stretch.{Stretch}
+use Rattle.log_places.specs.declared.page.PageKey.{PageKey}
+use Rattle.log_places.specs.declared.numbers.Slot.{Slot}
+use Rattle.log_places.specs.Stretches.{Has}
+use Rattle.log_places.specs.Places.{at, found, page_key, same_page, IsFirst, IsIn, PlacesValue}
+use Rattle.log_places.specs.Numbers.{firsts_from, stretches_before, IsSlot, IsSlotAt}
+use Rattle.log_places.specs.Laws.{NumbersAreDistinct}
+use Rattle.log_places.proofs.Finding.{behind_first, place, places, same_keys}
+
+-- ---- the place of a page
+
+found_step : (k x : PageKey) (xs : List PageKey) (b : Bool) → same_page k x ≡ b → (place k xs < length xs → IsFirst xs k (place k xs))
+    → cond (not b) (1 + place k xs) 0 < length (x ∷ xs) → IsFirst (x ∷ xs) k (cond (not b) (1 + place k xs) 0)
+found_step k x xs true is more lt = is
+found_step k x xs false is more lt = behind_first k x xs (place k xs) is (more (omega arith))
+
+place_first : (k : PageKey) (xs : List PageKey) → place k xs < length xs → IsFirst xs k (place k xs)
+place_first k [] lt = absurd (omega arith)
+place_first k (x ∷ xs) lt = found_step k x xs (same_page k x) refl (place_first k xs) lt
+
+absent_step : (k x : PageKey) (xs : List PageKey) (p : List Stretch) (ps : List (List Stretch)) (b : Bool) → (length xs ≤ place k xs → found xs ps k ≡ [])
+    → length (x ∷ xs) ≤ cond (not b) (1 + place k xs) 0 → cond b p (found xs ps k) ≡ []
+absent_step k x xs p ps true more le = absurd (omega arith)
+absent_step k x xs p ps false more le = more (omega arith)
+
+place_none : (k : PageKey) (xs : List PageKey) (ps : List (List Stretch)) → length xs ≤ place k xs → found xs ps k ≡ []
+place_none k [] ps le = refl
+place_none k (x ∷ xs) [] le = refl
+place_none k (x ∷ xs) (p ∷ ps) le = absent_step k x xs p ps (same_page k x) (place_none k xs ps) le
+
+some_step : (k : PageKey) (xs : List PageKey) (b : Bool) → nat_lt (place k xs) (length xs) ≡ b → IfSome (cond b (Some (place k xs)) None) (λ i. IsFirst xs k i)
+some_step k xs true lt = place_first k xs (ltb-true (place k xs) (length xs) lt)
+some_step k xs false ge = tt
+
+none_step : (k : PageKey) (xs : List PageKey) (ps : List (List Stretch)) (b : Bool) → nat_lt (place k xs) (length xs) ≡ b → IfNone (cond b (Some (place k xs)) None) (found xs ps k ≡ [])
+none_step k xs ps true lt = tt
+none_step k xs ps false ge = place_none k xs ps (ltb-false (place k xs) (length xs) ge)
+
+pub page_found : (v : PlacesValue) (xs : List PageKey) (ps : List (List Stretch)) (k : PageKey) (r : Option ℕ) → places xs ps ≡ v → r ≡ position (same_page k) xs → IfSome r (λ i. IsFirst v.keys k i)
+page_found v xs ps k r view is =
+    subst (λ (w : PlacesValue). IfSome r (λ i. IsFirst w.keys k i)) view
+    (subst (λ (o : Option ℕ). IfSome o (λ i. IsFirst xs k i)) (sym is) (some_step k xs (nat_lt (place k xs) (length xs)) refl))
+
+pub page_absent : (v : PlacesValue) (xs : List PageKey) (ps : List (List Stretch)) (k : PageKey) (r : Option ℕ) → places xs ps ≡ v → r ≡ position (same_page k) xs → IfNone r (at v k ≡ [])
+page_absent v xs ps k r view is =
+    subst (λ (w : PlacesValue). IfNone r (at w k ≡ [])) view
+    (subst (λ (o : Option ℕ). IfNone o (found xs ps k ≡ [])) (sym is) (none_step k xs ps (nat_lt (place k xs) (length xs)) refl))
+
+-- ---- numbers
+
+length_firsts : (n : ℕ) (ps : List (List Stretch)) → length (firsts_from n ps) ≡ length ps
+length_firsts n [] = refl
+length_firsts n (p ∷ ps) = ap suc (length_firsts (n + length p) ps)
+
+pub first_there : (v : PlacesValue) (xs : List PageKey) (ps : List (List Stretch)) (fs : List ℕ) (i : ℕ) → places xs ps ≡ v → fs ≡ firsts_from 0 ps → i < length v.pages → i < length fs
+first_there v xs ps fs i view is lt =
+    let a : length fs ≡ length ps = ap length is ∙ length_firsts 0 ps in
+    let b : length ps ≡ length v.pages = ap (λ w. length w.pages) view in
+    omega arith
+
+first_is : (n : ℕ) (ps : List (List Stretch)) (i d : ℕ) → i < length ps → get_or (firsts_from n ps) i d ≡ n + stretches_before ps i
+first_is n [] i d lt = absurd (omega arith)
+first_is n (p ∷ ps) zero d lt = omega arith
+first_is n (p ∷ ps) (suc i) d lt =
+    let h : get_or (firsts_from (n + length p) ps) i d ≡ n + length p + stretches_before ps i = first_is (n + length p) ps i d (omega arith) in
+    omega arith
+
+below_all : (ps : List (List Stretch)) (i : ℕ) (p : List Stretch) → slice_get ps i ≡ Some p → stretches_before ps i + length p ≤ sum_by length ps
+below_all [] i p got = absurd cc
+below_all (q ∷ ps) zero p got =
+    let e : length q ≡ length p = ap length (same_Some q p got) in
+    let w : sum_by (length {A = Stretch}) (q ∷ ps) ≡ length q + sum_by (length {A = Stretch}) ps = sum_by-cons length q ps in
+    omega arith
+below_all (q ∷ ps) (suc i) p got =
+    let h : stretches_before ps i + length p ≤ sum_by (length {A = Stretch}) ps = below_all ps i p got in
+    let w : sum_by (length {A = Stretch}) (q ∷ ps) ≡ length q + sum_by (length {A = Stretch}) ps = sum_by-cons length q ps in
+    omega arith
+
+got_page : (ps : List (List Stretch)) (i : ℕ) (p : List Stretch) → i < length ps → p ≡ get_or ps i p → slice_get ps i ≡ Some p
+got_page ps i p lt is = slice_get-get_or ps i p lt ∙ ap Some (sym is)
+
+module _ (v : PlacesValue) (xs : List PageKey) (ps : List (List Stretch)) (fs : List ℕ) (i first : ℕ) (ss item : List Stretch) (view : places xs ps ≡ v) (are : fs ≡ firsts_from 0 ps)
+    (lt : i < length v.pages) (is_first : first ≡ get_or fs i first) (is_item : item ≡ get_or ps i item) (is : ss ≡ item) where
+  in_pages : i < length ps
+  in_pages = let b : length ps ≡ length v.pages = ap (λ w. length w.pages) view in omega arith
+
+  number_is : first ≡ stretches_before ps i
+  number_is = is_first ∙ (ap (λ l. get_or l i first) are ∙ first_is 0 ps i first in_pages) ∙ (let h : 0 + stretches_before ps i ≡ stretches_before ps i = omega arith in h)
+
+  pub item_got : slice_get ps i ≡ Some ss
+  item_got = got_page ps i item in_pages is_item ∙ ap Some (sym is)
+
+  pub number_below : (place' : ℕ) (s : Stretch) → slice_get ss place' ≡ Some s → first + place' < sum_by length ps
+  number_below place' s got =
+      let a : place' < length ss = slice_get_within ss place' s got in
+      let b : stretches_before ps i + length ss ≤ sum_by length ps = below_all ps i ss item_got in
+      let c : first ≡ stretches_before ps i = number_is in
+      omega arith
+
+  pub slot_is : (base location start end place' : ℕ) (s : Stretch) → slice_get ss place' ≡ Some s → Has s location → start ≡ base + s.start → end ≡ base + s.end
+      → IsSlotAt v.pages i base location (record { number = first + place'; start = start; end = end })
+  slot_is base location start end place' s got has is_start is_end =
+      subst (λ (w : PlacesValue). IsSlotAt w.pages i base location (record { number = first + place'; start = start; end = end })) view
+      (record {
+        stretches = ss;
+        place = place';
+        stretch = s;
+        there = item_got;
+        at = got;
+        has = has;
+        number = ap (λ n. n + place') number_is;
+        start = is_start;
+        end = is_end;
+      })
+
+-- ---- slots
+
+found_got : (xs : List PageKey) (ps : List (List Stretch)) (k : PageKey) (i : ℕ) (p : List Stretch) → IsFirst xs k i → slice_get ps i ≡ Some p → found xs ps k ≡ p
+found_got [] ps k i p f got = absurd f
+found_got (x ∷ xs) [] k i p f got = absurd cc
+found_got (x ∷ xs) (q ∷ ps) k zero p f got = ap (λ b. cond b q (found xs ps k)) f ∙ same_Some q p got
+found_got (x ∷ xs) (q ∷ ps) k (suc i) p f got = ap (λ b. cond b q (found xs ps k)) f.0 ∙ found_got xs ps k i p f.1 got
+
+pub slot_of : (v : PlacesValue) (block location i : ℕ) (slot : Slot) → IsFirst v.keys (page_key block (location / 4096)) i
+    → IsSlotAt v.pages i (location / 4096 * 4096) (location % 4096) slot → IsSlot v block location slot
+slot_of v block location i slot first s =
+    let here : at v (page_key block (location / 4096)) ≡ s.stretches = found_got v.keys v.pages (page_key block (location / 4096)) i s.stretches first s.there in
+    record {
+      stretch = s.stretch;
+      among = record { among = subst (λ (l : List Stretch). In l s.stretch) (sym here) (got_in s.stretches s.place s.stretch s.at); has = s.has };
+      number = record { page = i; place = s.place; stretches = s.stretches; of_page = first; there = s.there; at = s.at; is = s.number };
+      start = s.start;
+      end = s.end;
+    }
+
+got_some : (ps : List (List Stretch)) (i : ℕ) → i < length ps → (p : List Stretch) × (slice_get ps i ≡ Some p)
+got_some [] i lt = absurd (omega arith)
+got_some (p ∷ ps) zero lt = (p, refl)
+got_some (p ∷ ps) (suc i) lt = got_some ps i (omega arith)
+
+pub none_of : (v : PlacesValue) (block location i : ℕ) → IsFirst v.keys (page_key block (location / 4096)) i → i < length v.pages
+    → ((ss : List Stretch) → slice_get v.pages i ≡ Some ss → (s : Stretch) → In ss s → Has s (location % 4096) → ⊥) → (s : Stretch) → IsIn v block location s → ⊥
+none_of v block location i first lt none s is =
+    let g = got_some v.pages i lt in
+    let here : at v (page_key block (location / 4096)) ≡ g.0 = found_got v.keys v.pages (page_key block (location / 4096)) i g.0 first g.1 in
+    none g.0 g.1 s (subst (λ (l : List Stretch). In l s) here is.among) is.has
+
+-- ---- no two stretches have one number
+
+record IsOne (i j k l : ℕ) : Type 0 where
+  page : i ≡ j
+  place : k ≡ l
+
+one_place : (ps : List (List Stretch)) (i j k l : ℕ) (p q : List Stretch) → slice_get ps i ≡ Some p → slice_get ps j ≡ Some q → k < length p → l < length q
+    → stretches_before ps i + k ≡ stretches_before ps j + l → IsOne i j k l
+one_place [] i j k l p q gp gq lp lq e = absurd cc
+one_place (r ∷ ps) zero zero k l p q gp gq lp lq e = record { page = refl; place = omega arith }
+one_place (r ∷ ps) zero (suc j) k l p q gp gq lp lq e = absurd (let h : length r ≡ length p = ap length (same_Some r p gp) in omega arith)
+one_place (r ∷ ps) (suc i) zero k l p q gp gq lp lq e = absurd (let h : length r ≡ length q = ap length (same_Some r q gq) in omega arith)
+one_place (r ∷ ps) (suc i) (suc j) k l p q gp gq lp lq e =
+    let o = one_place ps i j k l p q gp gq lp lq (omega arith) in
+    record { page = ap suc o.page; place = o.place }
+
+same_first : (xs : List PageKey) (k l : PageKey) (i : ℕ) → IsFirst xs k i → IsFirst xs l i → k ≡ l
+same_first [] k l i f g = absurd f
+same_first (x ∷ xs) k l zero f g = same_keys k x f ∙ sym (same_keys l x g)
+same_first (x ∷ xs) k l (suc i) f g = same_first xs k l i f.1 g.1
+
+pub numbers_are_distinct : NumbersAreDistinct
+numbers_are_distinct v k l s t n a b =
+    let o = one_place v.pages a.page b.page a.place b.place a.stretches b.stretches a.there b.there
+    (slice_get_within a.stretches a.place s a.at) (slice_get_within b.stretches b.place t b.at) (sym a.is ∙ b.is) in
+    let pages : a.stretches ≡ b.stretches = same_Some a.stretches b.stretches (sym a.there ∙ (ap (slice_get v.pages) o.page ∙ b.there)) in (
+      same_first v.keys k l b.page (subst (λ (i : ℕ). IsFirst v.keys k i) o.page a.of_page) b.of_page,
+      same_Some s t (sym a.at ∙ (ap (λ p. slice_get p a.place) pages ∙ (ap (slice_get b.stretches) o.place ∙ b.at))),
+    )
+
+pub numbered : (ps : List (List Stretch)) (page base location n m start end : ℕ) → n ≡ m → IsSlotAt ps page base location (record { number = m; start = start; end = end })
+    → IsSlotAt ps page base location (record { number = n; start = start; end = end })
+numbered ps page base location n m start end is slot =
+    subst (λ (x : ℕ). IsSlotAt ps page base location (record { number = x; start = start; end = end })) (sym is) slot

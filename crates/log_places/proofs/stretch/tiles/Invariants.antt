@@ -1,0 +1,6 @@
+use Rattle.std.proofs.Common.{◌≡◌, drop}
+use Rattle.log_places.specs.Stretches.{tiles}
+use Rattle.log_places.proofs.stretch.tiles.Given as goal
+
+abbrev pub invariant-loop-stretch : goal.invariant-loop-stretch
+invariant-loop-stretch l = tiles l.from l.end (drop l.stretch-index l.stretches) ≡ tiles l.start l.end l.stretches

@@ -1,0 +1,4 @@
+pub mod Stretches
+pub mod Places
+pub mod Numbers
+pub mod Laws

@@ -1,0 +1,16 @@
+//! The places of a log's accesses: stretches of locations that each access touches whole or not at all.
+#![tactic(auto)]
+
+mod laws;
+mod numbers;
+mod page;
+mod places;
+mod region;
+mod stretch;
+
+pub use laws::{marked_are_there, numbers_are_distinct, stretches_are_whole};
+pub use numbers::{NumberError, Numbers, Slot};
+pub use page::PageKey;
+pub use places::Places;
+pub use region::Region;
+pub use stretch::Stretch;

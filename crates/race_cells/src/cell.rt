@@ -1,0 +1,200 @@
+// The cell of a location.
+
+ghost use Rattle.std.specs.Prelude.{◌≡◌, ◌≢◌, ◌↔◌, [], Some, IfOk, IsTrue, option_to_list};
+ghost use Rattle.race_cells.specs.declared.access.AccessKind.TheVariants.{PlainWrite};
+ghost use Rattle.race_cells.specs.Access.{entry_of};
+ghost use Rattle.race_cells.specs.Stack.{without_earlier};
+ghost use Rattle.race_cells.specs.Scan.{keep, no_stacks};
+ghost use Rattle.race_cells.specs.Cell.{few_stacks, kept_stacks};
+
+use crate::access::{Access, AccessKind, Entry, Race};
+use crate::order::Strands;
+use crate::stacks::{Stacks, race_with_one, stacks_of};
+use out_of_line::Apart;
+use std::alloc::{AllocError, Global};
+use std::marker::Model;
+use std::mem::size_of;
+
+// Most locations take a cell and nothing else.
+const _: () = prove!(size_of::<Cell>() == 32);
+
+// What a cell keeps: most locations have a plain write and a plain read to keep at most.
+#[derive(Drop)]
+enum Kept {
+    // A race was reported.
+    Done,
+    Few {
+        write: Option<Entry>,
+        read: Option<Entry>,
+    },
+    Many(Apart<Stacks>),
+}
+
+/// What is to be known of the accesses of a location so far to tell whether the next one races. Contracts see the
+/// stacks, or `None` once a race was reported.
+#[derive(Drop)]
+pub struct Cell {
+    kept: Kept,
+}
+
+impl Model for Cell {
+    ghost use Rattle.std.specs.Prelude.{Option};
+    ghost use Rattle.race_cells.specs.declared.stacks.Stacks.{Stacks};
+    ghost use Rattle.race_cells.specs.Cell.{kept_stacks};
+
+    ghost Value = { Option Stacks };
+
+    ghost view = { λ c. kept_stacks c.kept };
+}
+
+impl Cell {
+    ghost use Rattle.std.specs.Prelude.{◌≡◌, List, [], ◌∷◌, ◌++◌, Some, None, IfOk, OnOk, OnErr};
+    ghost use Rattle.race_cells.specs.declared.access.Access.{Access};
+    ghost use Rattle.race_cells.specs.Order.{IsSerial, MeetsAsInTree};
+    ghost use Rattle.race_cells.specs.Scan.{after, no_stacks, race_at, scanned};
+    ghost use Rattle.race_cells.specs.Laws.{AreInOrder, IsExactNext};
+
+    /// The cell of a location that wasn't accessed yet.
+    pub fn new() -> Cell
+        ensures { result ≡ Some no_stacks }
+    {
+        Cell {
+            kept: Kept::Few {
+                write: None,
+                read: None,
+            },
+        }
+    }
+
+    /// The next access of the location: the race that it makes with an earlier one, if it is the first that does. A
+    /// cell that reported a race is done: it reports none from then on. On an `Err` the cell is as it was.
+    pub fn access<S: Strands>(
+        &mut self,
+        alloc: Global,
+        strands: &S,
+        access: Access,
+    ) -> Result<Option<Race>, AllocError>
+        ensures race { IfOk result (λ race. race ≡ race_at (S.order strands.now) self.old access) }
+        ensures after { OnOk result (self.new ≡ after (S.order strands.now) self.old access) }
+        ensures err { OnErr result (self.new ≡ self.old) }
+
+        // In the subject's own words, where the cell has seen these accesses and no others.
+        ensures exact { (past : List Access) → self.old ≡ scanned (S.order strands.now) past
+            → IsSerial (S.order strands.now) → MeetsAsInTree (S.order strands.now)
+            → AreInOrder (S.order strands.now) (past ++ access ∷ [])
+            → IfOk result (IsExactNext (S.order strands.now) past access) }
+    {
+        match self.race(strands, access) {
+            Some(race) => {
+                self.kept = Kept::Done;
+                Ok(Some(race))
+            }
+            None => {
+                self.keep(alloc, strands, access)?;
+                Ok(None)
+            }
+        }
+    }
+
+    // The race that an access makes with what is kept.
+    fn race<S: Strands>(&self, strands: &S, access: Access) -> Option<Race>
+        ensures { result ≡ race_at (S.order strands.now) self.now access }
+    {
+        match &self.kept {
+            Kept::Done => None,
+            Kept::Few { write, read } => {
+                let with_read = race_with_one(strands, access, AccessKind::PlainRead, *read);
+                let with_write = race_with_one(strands, access, AccessKind::PlainWrite, *write);
+                with_read.or(with_write)
+            }
+            Kept::Many(stacks) => stacks.get().race(strands, access),
+        }
+    }
+
+    // Keeps an access that makes no race.
+    fn keep<S: Strands>(
+        &mut self,
+        alloc: Global,
+        strands: &S,
+        access: Access,
+    ) -> Result<(), AllocError>
+        requires { race_at (S.order strands.now) self.old access ≡ None }
+        ensures ok { OnOk result (self.new ≡ after (S.order strands.now) self.old access) }
+        ensures err { OnErr result (self.new ≡ self.old) }
+    {
+        match &mut self.kept {
+            Kept::Done => Ok(()),
+            Kept::Few { write, read } => {
+                let write = *write;
+                let read = *read;
+                self.kept = few_and_next(alloc, strands, write, read, access)?;
+                Ok(())
+            }
+            Kept::Many(stacks) => {
+                if access.kind == AccessKind::PlainWrite {
+                    self.kept = only_written(access);
+                    return Ok(());
+                }
+                stacks.get_mut().keep(strands, access)
+            }
+        }
+    }
+}
+
+// A plain write stands for all before it.
+fn only_written(access: Access) -> Kept
+    ensures { kept_stacks result ≡ Some (record no_stacks { plain_write = Some (entry_of access) }) }
+{
+    Kept::Few {
+        write: Some(access.entry()),
+        read: None,
+    }
+}
+
+// What is kept of a plain write, a plain read and the next access.
+fn few_and_next<S: Strands>(
+    alloc: Global,
+    strands: &S,
+    write: Option<Entry>,
+    read: Option<Entry>,
+    access: Access,
+) -> Result<Kept, AllocError>
+    ensures { IfOk result (λ kept. kept_stacks kept
+        ≡ Some (keep (S.order strands.now) access (few_stacks write read))) }
+{
+    match access.kind {
+        AccessKind::PlainWrite => Ok(only_written(access)),
+        AccessKind::PlainRead if is_none_or_earlier(strands, read, access.strand) => {
+            let read = Some(access.entry());
+            Ok(Kept::Few { write, read })
+        }
+        _ => many_and_next(alloc, strands, write, read, access),
+    }
+}
+
+// Whether what there is of an access happens before a strand.
+fn is_none_or_earlier<S: Strands>(strands: &S, entry: Option<Entry>, strand: u32) -> bool
+    ensures { IsTrue result ↔ (without_earlier (S.order strands.now) strand (option_to_list entry) ≡ []) }
+{
+    match entry {
+        None => true,
+        Some(earlier) => strands.happens_before(earlier.strand, strand),
+    }
+}
+
+// The stacks of a plain write, a plain read and the next access.
+fn many_and_next<S: Strands>(
+    alloc: Global,
+    strands: &S,
+    write: Option<Entry>,
+    read: Option<Entry>,
+    access: Access,
+) -> Result<Kept, AllocError>
+    requires { access.kind ≢ PlainWrite }
+    ensures { IfOk result (λ kept. kept_stacks kept
+        ≡ Some (keep (S.order strands.now) access (few_stacks write read))) }
+{
+    let mut stacks = stacks_of(alloc, strands, write, read)?;
+    stacks.keep(strands, access)?;
+    Ok(Kept::Many(Apart::new(alloc, stacks)?))
+}
