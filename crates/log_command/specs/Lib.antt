@@ -1,0 +1,4 @@
+pub mod Status
+pub mod Words
+pub mod Shown
+pub mod Call

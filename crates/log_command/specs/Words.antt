@@ -1,0 +1,25 @@
+-- What the words of a call ask for.
+use Rattle.std.specs.Prelude.{ℕ, ◌==◌, ◌&&◌, Bool, true, false, not, Option, Some, None, List, [], ◌∷◌, codes, if◌then◌else◌}
+use Rattle.std.specs.List.{list_all}
+use Rattle.std.specs.Str.{bytes_eq}
+
+-- a name doesn't begin with a hyphen, and isn't empty
+abbrev pub is_name : List ℕ → Bool
+is_name [] = false
+is_name (c ∷ cs) = not (c == 45)
+
+-- at least one name
+abbrev pub are_names : List (List ℕ) → Bool
+are_names [] = false
+are_names (n ∷ ns) = list_all is_name (n ∷ ns)
+
+-- `check` and the names of a log's files
+abbrev pub log_names : List (List ℕ) → Option (List (List ℕ))
+log_names [] = None
+log_names (verb ∷ names) = if bytes_eq verb (codes "check") && are_names names then Some names else None
+
+-- `--help` alone
+abbrev pub is_usage : List (List ℕ) → Bool
+is_usage [] = false
+is_usage (word ∷ []) = bytes_eq word (codes "--help")
+is_usage (word ∷ other ∷ words) = false

@@ -1,0 +1,11 @@
+// A call of the program that checks logs of fork-join programs.
+#![tactic(auto)]
+
+mod call;
+mod read;
+mod shown;
+mod texts;
+mod words;
+
+pub use call::check;
+pub use shown::{Shown, Status};

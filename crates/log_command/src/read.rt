@@ -1,0 +1,66 @@
+// Reads the files of a log.
+
+ghost use Rattle.std.specs.Prelude.{◌≡◌, ◌≤◌, ℕ, List, Some, IfOk, IfErr, map, string_bytes, take};
+ghost use Rattle.std.specs.List.{position_or_len};
+ghost use Rattle.outside_io.specs.Fault.{HasRisen};
+ghost use Rattle.log_form.specs.Text.{is_zero, text_of};
+ghost use Rattle.log_command.specs.Call.{Tells, read_text, read_texts};
+
+use all_bytes::{ReadError, read_file};
+use listed::Listed;
+use outside_io::Source;
+use std::alloc::Global;
+
+/// So many bytes of a file are read at most.
+const MOST_FILE_BYTES: usize = 1 << 62;
+
+// Where the first zero byte of a file stands, or where the file ends.
+fn zero_place(file: &[u8]) -> usize
+    ensures { result ≡ position_or_len is_zero file.now }
+{
+    for (i, byte) in file.iter().enumerate() {
+        if *byte == 0 {
+            return i;
+        }
+    }
+    file.len()
+}
+
+// The text of a file.
+fn text_of(file: Vec<u8>) -> Listed<u8>
+    ensures { result ≡ text_of file.items }
+{
+    let end = zero_place(file.as_slice());
+    let mut text = Listed::from_vec(file);
+    text.truncate(end);
+    text
+}
+
+// Reads the text of a file.
+fn read_text<S: Source>(alloc: Global, source: &mut S, name: &str) -> Result<Listed<u8>, ReadError>
+    ensures text { IfOk result (λ text. (file : List ℕ) → S.named source.old name.now ≡ Some file → text ≡ read_text file) }
+    ensures failed { IfErr result (λ e. e ≡ ReadError.Fault → HasRisen (S.faults source.old) (S.faults source.new)) }
+    ensures names { (n : List ℕ) → S.named source.new n ≡ S.named source.old n }
+    ensures never_falls { S.faults source.old ≤ S.faults source.new }
+{
+    let file = read_file(alloc, source, Some(name), MOST_FILE_BYTES)?;
+    Ok(text_of(file))
+}
+
+/// Reads the texts of files.
+pub(crate) fn read_texts<S: Source>(
+    alloc: Global,
+    source: &mut S,
+    names: &[String],
+) -> Result<Listed<Listed<u8>>, ReadError>
+    ensures texts { IfOk result (λ texts. (files : List (List ℕ)) → Tells (S.named source.old) (map string_bytes names.now) files → texts ≡ read_texts files) }
+    ensures failed { IfErr result (λ e. e ≡ ReadError.Fault → HasRisen (S.faults source.old) (S.faults source.new)) }
+    ensures never_falls { S.faults source.old ≤ S.faults source.new }
+{
+    let mut texts = Listed::new(alloc);
+    for name in names {
+        let text = read_text(alloc, source, name.as_str())?;
+        texts.push(text)?;
+    }
+    Ok(texts)
+}

@@ -1,0 +1,6 @@
+// What a log of a fork-join program says as a whole: the acts of its strands, in their order, and its first fault.
+#![tactic(auto)]
+
+mod fault;
+
+pub use fault::{Fault, Found, Position};

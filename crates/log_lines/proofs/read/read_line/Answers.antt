@@ -1,0 +1,7 @@
+use Rattle.std.proofs.Common.{IfOk, sym, subst}
+use Rattle.log_lines.specs.Limits.{IsLine}
+use Rattle.log_lines.proofs.Within.{lines_within}
+use Rattle.log_lines.proofs.read.read_line.Goals as goal
+
+pub returns-clause-within : goal.returns-clause-within
+returns-clause-within c = subst (λ r. IfOk r IsLine) (sym c.line_of.ensures) (lines_within c.args.line.now)

@@ -1,0 +1,7 @@
+use Rattle.std.proofs.Common.{ap, ◌∙◌}
+use Rattle.std.specs.Prelude.{not}
+use Rattle.log_lines.proofs.Pieces.{left_by}
+use Rattle.log_lines.proofs.words.is_left.Goals as goal
+
+pub returns : goal.returns
+returns c = ap not c.is_empty.ensures ∙ left_by c.args.rest.now

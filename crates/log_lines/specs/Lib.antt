@@ -1,0 +1,6 @@
+pub mod Words
+pub mod Limits
+pub mod Grammar
+pub mod Rest
+pub mod Writing
+pub mod Laws

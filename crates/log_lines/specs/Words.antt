@@ -1,0 +1,70 @@
+-- The words of a line, and the numbers that they write.
+use Rattle.std.specs.Prelude.{◌≡◌, ℕ, ◌==◌, ◌&&◌, ◌||◌, Bool, true, false, not, Option, Some, None, Result, Ok, Err, List, [], ◌∷◌, length, drop, nat_lt, nat_le, slice_index, if◌then◌else◌}
+use Rattle.std.specs.List.{slice_split}
+use Rattle.std.specs.Str.{all_ascii_digits}
+use Rattle.std.specs.Str.Parse.{digits_value}
+use Rattle.log_lines.specs.declared.cause.Cause.{Cause}
+use Rattle.log_lines.specs.declared.cause.Cause.TheVariants.{BadNumber, WrongCount}
+
+-- one step after another; a cause ends them
+infixl 10 ◌>>=◌
+abbrev pub ◌>>=◌ : {A B : Type 0} → Result A Cause → (A → Result B Cause) → Result B Cause
+(Ok x) >>= f = f x
+(Err e) >>= f = Err e
+
+-- a line is cut into words at each space
+abbrev pub is_space : ℕ → Bool
+is_space c = c == 32
+
+abbrev pub words_of : List ℕ → List (List ℕ)
+words_of line = slice_split is_space line
+
+-- decimal digits without a leading zero, at most 18 of them
+abbrev pub has_length : List ℕ → Bool
+has_length [] = false
+has_length (c ∷ cs) = nat_le (length (c ∷ cs)) 18
+
+abbrev pub has_leading_zero : List ℕ → Bool
+has_leading_zero [] = false
+has_leading_zero (c ∷ []) = false
+has_leading_zero (c ∷ d ∷ ds) = c == 48
+
+abbrev pub digits_number : List ℕ → Option ℕ
+digits_number ds = if all_ascii_digits ds then Some (digits_value 10 ds) else None
+
+abbrev pub number_of : List ℕ → Option ℕ
+number_of w = if has_length w && not (has_leading_zero w) then digits_number w else None
+
+abbrev pub or_bad : Option ℕ → Result ℕ Cause
+or_bad (Some n) = Ok n
+or_bad None = Err BadNumber
+
+-- the next word's number, and the words behind it
+abbrev pub number_at : List (List ℕ) → Result (ℕ × List (List ℕ)) Cause
+number_at [] = Err WrongCount
+number_at (w ∷ ws) = or_bad (number_of w) >>= λ n. Ok (n, ws)
+
+-- a word is left
+abbrev pub is_left : List (List ℕ) → Bool
+is_left [] = false
+is_left (w ∷ ws) = true
+
+abbrev pub nothing_left : List (List ℕ) → Result (Unit {0}) Cause
+nothing_left ws = if is_left ws then Err WrongCount else Ok tt
+
+-- a site is written with an at sign before its number
+abbrev pub is_site : List ℕ → Bool
+is_site [] = false
+is_site (c ∷ cs) = c == 64
+
+-- a site, where there is one, is the last word
+abbrev pub site_at : List (List ℕ) → Result (Option ℕ) Cause
+site_at [] = Ok None
+site_at (w ∷ ws) =
+    if is_site w then (or_bad (number_of (drop 1 w)) >>= λ site. nothing_left ws >>= λ _. Ok (Some site))
+    else Err WrongCount
+
+-- a word is left that is no site
+abbrev pub goes_on : List (List ℕ) → Bool
+goes_on [] = false
+goes_on (w ∷ ws) = not (is_site w)

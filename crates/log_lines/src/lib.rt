@@ -1,0 +1,16 @@
+// One line of the log of a fork-join program: what it says, or why it is none.
+#![tactic(auto)]
+
+mod cause;
+mod laws;
+mod line;
+mod number;
+mod place;
+mod read;
+mod verb;
+mod words;
+
+pub use cause::Cause;
+pub use laws::{lines_are_read_again, lines_are_within_limits};
+pub use line::{Access, AccessKind, Act, Line, Place, Reference};
+pub use read::read_line;

@@ -1,0 +1,5 @@
+pub mod Known
+pub mod Whole
+pub mod Steps
+pub mod Along
+pub mod OverFiles

@@ -1,0 +1,4 @@
+pub mod Claims
+pub mod Walk
+pub mod Pieces
+pub mod Log

@@ -1,0 +1,12 @@
+// The pieces of a log's strands: which bytes of which file say what a strand does, and which line is the first that is
+// at fault.
+#![tactic(auto)]
+
+mod claims;
+mod files;
+mod log;
+mod piece;
+mod walk;
+
+pub use log::{CutLog, LogError, cut_log};
+pub use piece::Piece;

@@ -1,0 +1,59 @@
+// A log without a faulty line, cut into pieces.
+
+ghost use Rattle.std.specs.Prelude.{◌≡◌, IfOk, IfErr, None};
+ghost use Rattle.log_form.specs.Events.{events_of, is_cut};
+ghost use Rattle.log_form.specs.Faults.{log_fault};
+ghost use Rattle.log_pieces.specs.Pieces.{events_of_pieces};
+ghost use Rattle.log_pieces.specs.Log.{IsRefused};
+
+use crate::piece::Piece;
+use crate::walk::Walk;
+use listed::Listed;
+use log_form::Found;
+use std::alloc::{AllocError, Global};
+
+/// A log that has no faulty line.
+#[derive(Drop)]
+pub struct CutLog {
+    /// Pieces of its files, in their order, that have all that happens.
+    pub pieces: Listed<Piece>,
+    /// Whether the end of a file is missing.
+    pub is_cut: bool,
+}
+
+/// Why a log wasn't read.
+#[derive(Clone, Copy)]
+pub enum LogError {
+    /// This line is its first faulty one.
+    Refused(Found),
+    /// Out of memory.
+    NoMemory,
+}
+
+impl From<AllocError> for LogError {
+    ghost use Rattle.std.specs.Prelude.{◌≡◌};
+    ghost use Rattle.log_pieces.specs.declared.log.LogError.TheVariants.{NoMemory};
+
+    ghost from_gives = { λ _ e. e ≡ NoMemory };
+
+    fn from(_: AllocError) -> LogError {
+        LogError::NoMemory
+    }
+}
+
+/// Cuts the texts of a log's files into pieces.
+pub fn cut_log(alloc: Global, texts: &[Listed<u8>]) -> Result<CutLog, LogError>
+    ensures whole { IfOk result (λ log. log_fault texts.now ≡ None) }
+    ensures cut { IfOk result (λ log. log.is_cut ≡ is_cut texts.now) }
+    ensures pieces { IfOk result (λ log. events_of_pieces texts.now log.pieces ≡ events_of texts.now) }
+    ensures refused { IfErr result (IsRefused (log_fault texts.now)) }
+{
+    let mut walk = Walk::new(alloc);
+    match walk.take_files(texts)? {
+        Ok(is_cut) => Ok(CutLog {
+            pieces: walk.into_pieces(),
+            is_cut,
+        }),
+        Err(found) => Err(LogError::Refused(found)),
+    }
+}
