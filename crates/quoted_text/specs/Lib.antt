@@ -1,3 +1,4 @@
 pub mod Quoted
+pub mod Guarded
 pub mod Balanced
 pub mod Labels

@@ -1,6 +1,7 @@
 // What balances.
 
 ghost use Rattle.quoted_text.specs.Balanced.{QuotedBalance, PlainBalance, JoinedBalance};
+ghost use Rattle.quoted_text.specs.Guarded.{GuardedHasNoTag};
 
 /// Any word in quotes balances, whatever its bytes are.
 pub fn quoted_balance()
@@ -15,4 +16,9 @@ pub fn plain_balance()
 /// Texts that balance do so one behind the other, and in brackets.
 pub fn joined_balance()
     ensures { JoinedBalance }
+{}
+
+/// A guarded word in quotes has no `<`, whatever its bytes are.
+pub fn guarded_has_no_tag()
+    ensures { GuardedHasNoTag }
 {}

@@ -1,0 +1,56 @@
+-- The data of a run behind the program's lines: the settings, where the run starts, its entries and its end.
+use Rattle.std.specs.Prelude.{ℕ, List, [], ◌∷◌, ◌++◌, codes}
+use Rattle.std.specs.Fmt.{decimal}
+use Rattle.hh_lang.specs.Form.{ProgramText}
+use Rattle.hh_model.specs.declared.data.State.{State}
+use Rattle.hh_model.specs.declared.data.End.{End}
+use Rattle.hh_model.specs.declared.data.End.TheVariants.{Done, Trapped, Entangled}
+use Rattle.hh_model.specs.Step.{start}
+use Rattle.run_trace.specs.Entry.{EntryValue}
+use Rattle.run_trace.specs.Settings.{SettingsValue, field_limit, version_number}
+use Rattle.run_ledger.specs.declared.data.RunEnd.{RunEnd}
+use Rattle.run_ledger.specs.declared.data.RunEnd.TheVariants.{Machine, Fuel, Pool}
+use Rattle.run_ledger.specs.Text.{trap_word}
+use Rattle.run_deltas.specs.Tasks.{now_free}
+use Rattle.run_deltas.specs.Deltas.{machine_after, delta}
+use Rattle.page_data.specs.Values.{more, member}
+use Rattle.page_data.specs.Deltas.{word, more_number, task_now, entry}
+
+-- some bytes with a number behind them
+unfoldable pub named : List ℕ → ℕ → List ℕ
+named bytes n = bytes ++ decimal n
+
+unfoldable pub limits_text : SettingsValue → List ℕ
+limits_text s = named (codes "{\"workers\":") s.workers ++ named (codes ",\"fuel\":") s.fuel ++ named (codes ",\"chunks\":") s.chunks
+
+unfoldable pub settings_text : SettingsValue → List ℕ
+settings_text s =
+    limits_text s ++ named (codes ",\"leaf\":") s.leaf ++ named (codes ",\"inner\":") s.inner
+    ++ named (codes ",\"version\":") (version_number s.version) ++ 125 ∷ []
+
+-- where the run starts: an entry of no worker
+unfoldable pub start_text : ProgramText → ℕ → List ℕ
+start_text p limit = codes "{\"e\":[]" ++ member (codes ",\"task\":[") task_now (now_free p (start p limit) 0) ++ 125 ∷ []
+
+-- what stands between the program's lines and the entries
+unfoldable pub settings_and_start : ProgramText → SettingsValue → List ℕ
+settings_and_start p s = codes "],\n\"settings\":" ++ settings_text s ++ codes ",\n\"entries\":[\n" ++ start_text p (field_limit s.version)
+
+-- the entries from one on in front of which the machine is this
+abbrev pub entries_from : ProgramText → State → List EntryValue → List ℕ
+entries_from p m [] = []
+entries_from p m (e ∷ es) = entry p e (delta p m e.kind) ++ entries_from p (machine_after p m e.kind) es
+
+abbrev pub machine_end : End → List ℕ
+machine_end Done = word (codes "done")
+machine_end (Trapped kind t line) = word (codes "trap") ++ more (word (trap_word kind)) ++ more_number t ++ more_number line
+machine_end (Entangled reader owner) = word (codes "entangled") ++ more_number reader ++ more_number owner
+
+-- how the run ended
+abbrev pub end_text : RunEnd → List ℕ
+end_text (Machine e) = machine_end e
+end_text (Fuel steps) = word (codes "fuel") ++ more_number steps
+end_text (Pool chunks) = word (codes "pool") ++ more_number chunks
+
+abbrev pub ending : RunEnd → List ℕ
+ending e = codes "],\n\"end\":[" ++ end_text e ++ codes "]}"

@@ -1,0 +1,78 @@
+-- What a step does to an object, or prints.
+use Rattle.std.specs.Prelude.{ℕ, ℤ, pos, ◌+◌, ◌==◌, Option, Some, None, List, slice_get, length, if◌then◌else◌, unwrap_or}
+use Rattle.std.specs.Option.{option_flatten}
+use Rattle.hh_lang.specs.declared.instr.Instr.{Instr}
+use Rattle.hh_lang.specs.declared.instr.Instr.TheVariants.{Newm, Pack, Getr, Geti, Putr, Puti, Cntr, Cnti, Freeze, Cas, Out}
+use Rattle.hh_lang.specs.declared.program.Line.{Line}
+use Rattle.hh_lang.specs.Form.{ProgramText}
+use Rattle.hh_model.specs.declared.data.Name.{Name}
+use Rattle.hh_model.specs.declared.data.Object.{Object}
+use Rattle.hh_model.specs.declared.data.Frame.{Frame}
+use Rattle.hh_model.specs.declared.data.Task.{Task}
+use Rattle.hh_model.specs.declared.data.State.{State}
+use Rattle.hh_model.specs.Effect.{object_at, int_in, ref_in, counts_in, place_in, same_name}
+use Rattle.hh_model.specs.Names.{next_name}
+use Rattle.hh_model.specs.Step.{can_step, fetched, owner_of}
+use Rattle.run_deltas.specs.declared.data.Value.TheVariants.{Reference, Number}
+use Rattle.run_deltas.specs.declared.data.Deed.{Deed}
+use Rattle.run_deltas.specs.declared.data.Deed.TheVariants.{Allocates, Reads, Counts, Writes, Swaps, Freezes, Prints}
+use Rattle.run_deltas.specs.declared.data.Act.{Act}
+
+-- goes on with what is there
+abbrev pub if_there : {A B : Type 0} → Option A → (A → Option B) → Option B
+if_there None go = None
+if_there (Some x) go = go x
+
+-- the object of a reference register
+abbrev pub with_object : Frame → List (List Object) → ℕ → (Name → Object → Option Deed) → Option Deed
+with_object f store o go = if_there (ref_in f o) (λ n. if_there (object_at store n) (go n))
+
+-- and a reference field, or a number field, of it: where the index register says
+abbrev pub with_reference : Frame → List (List Object) → ℕ → ℕ → (Name → Object → ℕ → Option Deed) → Option Deed
+with_reference f store o k go = with_object f store o (λ n x. if_there (place_in (length x.refs) (int_in f k)) (go n x))
+
+abbrev pub with_number : Frame → List (List Object) → ℕ → ℕ → (Name → Object → ℕ → Option Deed) → Option Deed
+with_number f store o k go = with_object f store o (λ n x. if_there (place_in (length x.ints) (int_in f k)) (go n x))
+
+-- the place of a number among all fields of an object, of which the references come first
+abbrev pub number_place : Object → ℕ → ℕ
+number_place x at = length x.refs + at
+
+-- what a reference field holds, and what a number field holds
+abbrev pub reference_in : Object → ℕ → Option Name
+reference_in x at = option_flatten (slice_get x.refs at)
+
+abbrev pub number_in : Object → ℕ → ℤ
+number_in x at = unwrap_or (slice_get x.ints at) (pos 0)
+
+-- nothing is done to an object that is immutable
+abbrev pub unless_frozen : Object → Deed → Option Deed
+unless_frozen x d = if x.mutable then Some d else None
+
+-- what an instruction does, in a frame of the task t of this state
+abbrev pub deed : State → ℕ → Frame → Instr → Option Deed
+deed m t f (Newm d a b) = if_there (counts_in m.field_limit (int_in f a) (int_in f b)) (λ n. Some (Allocates (next_name t m.store)))
+deed m t f (Pack d r i) = Some (Allocates (next_name t m.store))
+deed m t f (Getr d o k) = with_reference f m.store o k (λ n x at. Some (Reads n at (Reference (reference_in x at))))
+deed m t f (Geti d o k) = with_number f m.store o k (λ n x at. Some (Reads n (number_place x at) (Number (number_in x at))))
+deed m t f (Putr o k v) = with_reference f m.store o k (λ n x at. unless_frozen x (Writes n at (Reference (ref_in f v))))
+deed m t f (Puti o k v) = with_number f m.store o k (λ n x at. unless_frozen x (Writes n (number_place x at) (Number (int_in f v))))
+deed m t f (Cas d o k e v) =
+    with_reference f m.store o k (λ n x at. unless_frozen x (Swaps n at (ref_in f v) (same_name (reference_in x at) (ref_in f e))))
+deed m t f (Cntr d o) = with_object f m.store o (λ n x. Some (Counts n))
+deed m t f (Cnti d o) = with_object f m.store o (λ n x. Some (Counts n))
+deed m t f (Freeze o) = with_object f m.store o (λ n x. if owner_of m.tasks n.task == t then Some (Freezes n) else None)
+deed m t f (Out a) = Some (Prints (int_in f a))
+deed m t f _ = None
+
+abbrev pub act_line : State → ℕ → Task → Option Line → Option Act
+act_line m t x None = None
+act_line m t x (Some line) = Some (record { line = line.number; instr = line.instr; deed = deed m t x.top line.instr })
+
+abbrev pub act_by : ProgramText → State → ℕ → Option Task → Option Act
+act_by p m t None = None
+act_by p m t (Some x) = act_line m t x (fetched p x.top)
+
+-- the next step of a task, where it can take one
+abbrev pub act_of : ProgramText → State → ℕ → Option Act
+act_of p m t = if can_step m t then act_by p m t (slice_get m.tasks t) else None

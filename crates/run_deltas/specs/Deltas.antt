@@ -1,0 +1,36 @@
+-- The deltas of a journal: what each entry changes.
+use Rattle.std.specs.Prelude.{ℕ, List, [], ◌∷◌, length, slice_get}
+use Rattle.hh_lang.specs.Form.{ProgramText}
+use Rattle.hh_model.specs.declared.data.State.{State}
+use Rattle.hh_model.specs.Step.{start}
+use Rattle.run_trace.specs.declared.entry.Kind.{Kind}
+use Rattle.run_trace.specs.declared.entry.Kind.TheVariants.{Took, Ran}
+use Rattle.run_trace.specs.Entry.{EntryValue}
+use Rattle.run_deltas.specs.declared.data.Delta.{Delta}
+use Rattle.run_deltas.specs.Steps.{unchanged, stepped, changes}
+use Rattle.run_deltas.specs.Tasks.{now_out, moved, children}
+
+-- the machine after an entry: its steps move it, and nothing else does
+abbrev pub machine_after : ProgramText → State → Kind → State
+machine_after p m (Ran t k) = stepped p m t k
+machine_after p m _ = m
+
+-- what an entry changes in front of which the machine is this
+abbrev pub delta : ProgramText → State → Kind → Delta
+delta p m (Took t) = record { children = []; tasks = now_out p m t; changes = unchanged }
+delta p m (Ran t k) =
+    let after = stepped p m t k in
+    record {
+      children = children after (length m.tasks) (length after.tasks);
+      tasks = moved p after (length m.tasks) t (slice_get after.tasks t);
+      changes = changes p m t k;
+    }
+delta p m _ = record { children = []; tasks = []; changes = unchanged }
+
+abbrev pub deltas_from : ProgramText → State → List EntryValue → List Delta
+deltas_from p m [] = []
+deltas_from p m (e ∷ es) = delta p m e.kind ∷ deltas_from p (machine_after p m e.kind) es
+
+-- the deltas of a journal, whose objects have at most so many fields
+abbrev pub deltas : ProgramText → ℕ → List EntryValue → List Delta
+deltas p limit journal = deltas_from p (start p limit) journal

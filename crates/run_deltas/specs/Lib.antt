@@ -1,0 +1,4 @@
+pub mod Deeds
+pub mod Steps
+pub mod Tasks
+pub mod Deltas
