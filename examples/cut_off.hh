@@ -12,7 +12,7 @@ fn sum
   par first second
   add i0 i0 i1
   ret
-lab few
+lab few            # a loop adds the rest
   set i5 0
   set i6 1
 lab next

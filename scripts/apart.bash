@@ -1,11 +1,48 @@
-# What the scripts share: what they say, a folder that goes with the script, and calls that end with it.
+# What the scripts share: what they say and write, a folder that goes with the script, and calls that end with it.
 
-# The folder, if there is one, and the process group of the call under way.
+# The folder, if there is one; the process under way, or its process group as a negative number; what is said when a
+# signal ends it.
 room=
 job=
+parting=
 
 say() {
   printf '%s: %s\n' "$crate" "$*" >&2
+}
+
+# Ends the script where standard output doesn't take all.
+fail_write() {
+  say "standard output can't be written, or took only a first part"
+  exit 9
+}
+
+# Writes a text and the end of its line.
+write() {
+  printf '%s\n' "$1" 2>/dev/null || fail_write
+}
+
+# Writes a file.
+write_file() {
+  cat -- "$1" 2>/dev/null || fail_write
+}
+
+# The most bytes that the program reads, and one more.
+limit=16777217
+
+# Copies a file, or where it is - standard input, to another, as far as the program would read it.
+copy_input() {
+  if [ "$1" = - ]; then
+    head -c "$limit"
+  else
+    head -c "$limit" <"$1"
+  fi >"$2" 2>/dev/null || fail_read "$1"
+}
+
+fail_read() {
+  local name=$1
+  [ "$name" != - ] || name="standard input"
+  say "$name can't be read"
+  exit 8
 }
 
 # Makes the folder.
@@ -32,28 +69,45 @@ need_kit() {
 stop() {
   trap '' HUP INT TERM
   if [ -n "$job" ]; then
-    kill -TERM -- "-$job"
-    wait "$job"
+    kill -TERM -- "$job"
+    wait "${job#-}"
   fi 2>/dev/null
+  [ -z "$parting" ] || say "$parting"
   exit "$1"
 }
 
-# Runs a command in a process group of its own, waits for it, and gives its status.
-run_apart() {
+# Waits for the process under way, and gives its status.
+wait_job() {
   local status
-  set -m
-  "$@" &
-  job=$!
-  set +m
-  wait "$job"
+  wait "${job#-}"
   status=$?
   job=
   return "$status"
 }
 
+# Runs a command in a process group of its own.
+run_apart() {
+  set -m
+  "$@" &
+  job=-$!
+  set +m
+  wait_job
+}
+
+# Runs a command on standard input below the script. (One in the foreground wouldn't end with the script.)
+run_below() {
+  "$@" <&0 &
+  job=$!
+  wait_job
+}
+
 # What was built is in out/ at the top. One call at a time proves, and one builds unproved.
 lock_out() {
-  mkdir -p "$top/out" && exec 9>"$top/out/lock$1" || exit 1
+  if ! mkdir -p "$top/out" 2>/dev/null || ! { : >>"$top/out/lock$1"; } 2>/dev/null; then
+    say "nothing can be written to $top/out, where what is built is kept"
+    exit 1
+  fi
+  exec 9>>"$top/out/lock$1"
   if ! flock -n 9; then
     say "another call is building the program: waiting for it"
     flock 9
@@ -64,7 +118,7 @@ lock_out() {
 put_program() {
   local kind=${program##*/}
   cp "$1" "$program.new" && mv -f "$program.new" "$program" || exit 1
-  find "$top/out" -maxdepth 1 -name "${kind%-*}-*" -mmin +1440 ! -path "$program" -delete
+  find "$top/out" -maxdepth 1 -name "${kind%-*}-*" -mmin +1440 ! -path "$program*" -delete
 }
 
 trap leave_room EXIT

@@ -1,102 +1,171 @@
-# The scripts' own commands: `record`, `again`, `example`.
+# Calls of the program, and the scripts' own commands `record`, `again`, `example`.
 
-# Whether these words are the options of a run that a trace depends on, each with its number.
-are_options() {
-  local word last=
-  for word in "$@"; do
-    if [ -n "$last" ]; then
-      [[ $word != -* ]] || return
-      last=
-    elif [[ $word =~ ^--(workers|fuel|chunks|leaf|inner)(=[^=]+)?$ ]]; then
-      [ -n "${BASH_REMATCH[2]}" ] || last=$word
-    else
-      return 1
-    fi
-  done
-  [ -z "$last" ]
+# A copy of standard input, where it was made.
+kept_input=
+
+# Answers words that are no command line, by the program or, where none is there yet, as it would, and says what is wrong.
+refuse_call() {
+  local status=2
+  if is_there; then
+    "$program" "$@" </dev/null
+    status=$?
+  elif [ "${stream_of[$crate]}" = out ]; then
+    write 'end: words refused'
+  else
+    echo 'end: words refused' >&2
+  fi
+  is_quiet || [ "$status" != 2 ] || say "$fault"
+  exit "$status"
+}
+
+# Keeps standard input, where the program reads it and it can't be read again.
+keep_input() {
+  [[ ${operands_of[$crate $1]} = *FILE* && (${#operands[@]} = 0 || ${operands[0]} = -) && ! -f /dev/stdin ]] || return
+  make_room call
+  copy_input - "$room/input"
+  kept_input=$room/input
+}
+
+# Runs the program with words that were read: in place of the script where nothing is to be said after it.
+run_program() {
+  local status command=$1
+  if ! wants_hints && ! shows_faults "$command"; then
+    leave_room
+    exec "$program" "${passed[@]}"
+  fi
+  if keep_input "$command"; then
+    run_below "$program" "${passed[@]}" <"$kept_input"
+  else
+    run_below "$program" "${passed[@]}"
+  fi
+  status=$?
+  explain "$status" "$command"
+  exit "$status"
+}
+
+# Answers a command of the program.
+answer() {
+  if ! has_command "$crate" "$1"; then
+    fault_of_command "$1"
+  else
+    read_words "$@"
+  fi
+  [ -z "$fault" ] || refuse_call "$@"
+  "$find"
+  run_program "$1"
 }
 
 # Writes a trace file: the program, a comment with the options, and the trace of a run.
 record() {
-  local file status last
-  [ $# -gt 0 ] && [[ $1 != --* ]] || refuse_words "record takes the FILE of a program, and options"
-  file=$1
-  shift
-  are_options "$@" || refuse_words "record takes --workers, --fuel, --chunks, --leaf and --inner, each with a number"
+  local status
+  read_words record "$@"
+  [ -z "$fault" ] || refuse_words "$fault"
   "$find"
   make_room record
-  if ! cat -- "$file" >"$room/text" 2>/dev/null; then
-    say "$file can't be read"
-    exit 8
-  fi
-  "$program" run --trace "$@" <"$room/text" >"$room/written"
+  copy_input "${operands[0]}" "$room/text"
+  run_below "$program" run --trace "${settings[@]}" <"$room/text" >"$room/written"
   status=$?
-  last=$(tail -n 1 "$room/written")
   case $status in
-    0 | 4 | 5 | 6 | 7) write_trace "$@" ;;
+    0 | 4 | 5 | 6 | 7)
+      trace_file >"$room/trace" 2>/dev/null || fail_room
+      write_file "$room/trace"
+      [ "$status" = 0 ] || is_quiet || say "the run that was recorded ended so: $(tail -n 1 "$room/written")"
+      ;;
+    9) fail_room ;;
     *)
-      [ -z "$last" ] || printf '%s\n' "$last" >&2
-      if wants_hints; then
-        hint "$status" run "$room/text"
-      fi
+      tail -n 1 "$room/written" >&2
+      kept_input=$room/text operands=()
+      explain "$status" record
       ;;
   esac
   exit "$status"
 }
 
-write_trace() {
-  cat "$room/text"
-  [ -z "$(tail -c 1 "$room/text")" ] || echo
-  printf '# options:%s\n' "${*:+ $*}"
+fail_room() {
+  say "the temporary files have no room for the run's trace"
+  exit 9
+}
+
+trace_file() {
+  cat "$room/text" || return
+  [ -z "$(tail -c 1 "$room/text")" ] || echo || return
+  printf '# options:%s\n' "${settings[*]:+ ${settings[*]}}" || return
   sed -n '/^trace 2$/,$p' "$room/written" | sed '$d'
 }
 
 # The options that stand in a trace file, on the last such line before the trace.
 options_in() {
-  sed '/^[[:blank:]]*trace[[:blank:]]/,$d' <"$1" 2>/dev/null | sed -n 's/^# options://p' | tail -n 1
+  sed '/^[[:blank:]]*trace[[:blank:]]/,$d' <"$1" | sed -n 's/^# options://p' | tail -n 1
 }
 
 # Gives a command a trace file with the options that stand in it.
 again() {
-  local command file options
-  case ${1-} in
-    replay | model | races | image) command=$1 ;;
-    *) refuse_words "again takes replay, model, races or image, and the FILE of a recorded trace" ;;
+  local command=${1-} file options given
+  case $command in
+    replay | model | races | image) shift ;;
+    *) refuse_words "again takes replay, model, races or image, and the FILE of a trace that $called record wrote" ;;
   esac
-  [ $# -gt 1 ] || refuse_words "again takes the FILE of a recorded trace"
-  file=$2
-  shift 2
-  read -ra options <<<"$(options_in "$file")"
-  are_options "${options[@]}" || refuse_words "what stands in $file behind # options: are none"
+  read_words "$command" "$@"
+  [[ -n $fault || ${#operands[@]} = 1 ]] || find_fault "again $command takes the FILE of a trace that $called record wrote"
+  [ -z "$fault" ] || refuse_words "$fault"
+  file=${operands[0]}
+  given=("${settings[@]}")
+  make_room again
+  copy_input "$file" "$room/trace"
+  read -ra options <<<"$(options_in "$room/trace")"
+  read_words record "${options[@]}" -- "$file"
+  [ -z "$fault" ] || refuse_words "the line # options: of $file has other words than options: $fault"
+  read_words "$command" "${options[@]}" "${given[@]}" -- "$file"
+  [ -z "$fault" ] || refuse_words "$fault ($file has ${options[*]} on its line # options:)"
   "$find"
-  run_program "$command" "${options[@]}" "$@" -- "$file"
+  kept_input=$room/trace operands=() passed=("$command" "${settings[@]}")
+  run_below "$program" "${passed[@]}" <"$room/trace"
+  status=$?
+  explain "$status" "$command"
+  exit "$status"
 }
 
-# Lists the examples, each with its first sentence; or shows one, runs it and shows what it writes.
-example() {
-  local file words
-  if [ $# -eq 0 ]; then
-    list_examples
-    exit 0
-  fi
-  for file in "$top/examples/$1".{hh,trace,image}; do
-    if [[ $1 != */* && -f $file ]]; then
-      words=$(sed -n 's/^# words: //p' "$file")
-      "$find"
-      cat "$file"
-      printf '\n$ ./hheap %s < examples/%s\n' "$words" "${file##*/}"
-      read -ra words <<<"$words"
-      run_program "${words[@]}" <"$file"
-    fi
-  done
-  refuse_words "there is no example $1: ./hheap example lists them"
+# The files of the examples.
+example_files() {
+  find "$top/examples/" -maxdepth 1 \( -name '*.hh' -o -name '*.trace' -o -name '*.image' \) | LC_ALL=C sort
 }
 
+# Lists the examples, each with its first sentence.
 list_examples() {
   local file about
-  for file in "$top"/examples/*.{hh,trace,image}; do
+  while IFS= read -r file; do
     about=$(sed -n '1,/^# words:/s/^# //p' "$file" | tr '\n' ' ')
     file=${file##*/}
     printf '%-18s %s\n' "${file%.*}" "${about%%[.:] *}"
-  done
+  done < <(example_files)
+}
+
+# Lists the examples; or shows one, runs it and shows what it writes.
+example() {
+  local file name words
+  if [ $# = 0 ]; then
+    show list_examples
+    exit 0
+  fi
+  [ $# = 1 ] || refuse_words "example takes one NAME, and '$2' is a word too many"
+  file=$(example_files | while IFS= read -r it; do
+    name=${it##*/}
+    [ "${name%.*}" != "$1" ] || printf '%s' "$it"
+  done)
+  [ -n "$file" ] || refuse_example "$1"
+  words=$(sed -n 's/^# words: //p' "$file")
+  "$find"
+  write_file "$file"
+  write "
+\$ $called $words < examples/${file##*/}"
+  read -ra words <<<"$words"
+  read_words "${words[@]}"
+  run_program "${words[0]}" <"$file"
+}
+
+refuse_example() {
+  local names near
+  mapfile -t names < <(example_files | sed 's|.*/||; s|\.[a-z]*$||')
+  near=$(nearest "$1" "${names[@]}")
+  refuse_words "there is no example '$1'; ${near:+the nearest is $near, and }$called example lists them"
 }

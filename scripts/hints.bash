@@ -1,40 +1,37 @@
-# What a person can do after a call, by its status: one line on standard error.
+# What a person can do after a call, by its status, on standard error.
+
+# Whether nothing is added to what the program writes.
+is_quiet() {
+  [[ -n $quiet || ${HHEAP_HINTS-} = 0 ]]
+}
 
 wants_hints() {
-  case ${HHEAP_HINTS-} in
-    1) true ;;
-    '') [ -t 2 ] ;;
-    *) false ;;
-  esac
+  ! is_quiet && [[ ${HHEAP_HINTS-} = 1 || -t 2 ]]
 }
 
-# The file that a command line names, if it does.
-file_of() {
-  shift
-  while [ $# -gt 0 ]; do
-    case $1 in
-      --) printf '%s' "${2-}" && return ;;
-      --report | --trace | --run | --*=*) shift ;;
-      --*) shift $(($# > 1 ? 2 : 1)) ;;
-      *) printf '%s' "$1" && return ;;
-    esac
-  done
-}
-
-# The last line of a call that is refused as it was before, where its input can be read once more.
-refused_line() {
-  if [ -n "$(file_of "$@")" ]; then
-    "$program" "$@" </dev/null
+# The file that a call reads, if it is one that can be read again.
+input_of() {
+  if [[ ${#operands[@]} -gt 0 && ${operands[0]} != - ]]; then
+    printf '%s' "${operands[0]}"
+  elif [ -n "$kept_input" ]; then
+    printf '%s' "$kept_input"
   elif [ -f /dev/stdin ]; then
-    "$program" "$@" </dev/stdin
-  fi 2>/dev/null | tail -n 1
+    printf '/dev/stdin'
+  fi
+}
+
+# The last line of a call that is refused as it was before, on whichever stream.
+refused_line() {
+  local file
+  file=$(input_of)
+  [ -z "$file" ] || "$program" "$1" "${settings[@]}" -- "$file" 2>&1 | tail -n 1
 }
 
 meaning_of() {
   case $1 in
     toolong) echo "the input has more bytes than the command takes" ;;
     notutf8) echo "the line isn't UTF-8" ;;
-    word) echo "the line's first word is none that may stand there, as a word that is no instruction" ;;
+    word) echo "the line's first word may not stand there: it is no instruction, or stands outside a function" ;;
     operand) echo "an operand is missing, one too many, not of its kind, or a number out of range" ;;
     noend) echo "a function isn't closed by a line \`end\` before the next one, or before the text's end" ;;
     twonames) echo "a second function, or a second label in one function, has the same name" ;;
@@ -58,41 +55,85 @@ meaning_of() {
 
 hint_refused() {
   local line meaning
-  line=$(refused_line "$@")
+  line=$(refused_line "$1")
   meaning=$(meaning_of "${line##* }")
   if [[ $line != end:*refused\ line\ * || -z $meaning ]]; then
-    meaning="the end line tells the first line with a fault, and its cause"
+    meaning="the end line has the first line with a fault, and its cause"
   fi
   say "$meaning (all causes: docs/USAGE.md)"
 }
 
 hint() {
-  local status=$1 file
-  shift
+  local status=$1 command=$2
   case $status in
-    2) say "these words are no command line: ./hheap help shows the commands and their options" ;;
-    3 | 13) hint_refused "$@" ;;
-    4) say "a step couldn't be done; the end line tells why, the task and the line (traps: docs/LANGUAGE.md)" ;;
-    5) say "a task read what one beside it allocated; \`races\` of a trace file (./hheap record) tells both lines" ;;
-    6) say "the steps have reached the fuel: --fuel N gives more (without it 1000000, at most 1000000000)" ;;
-    7) say "too few chunks were free: --chunks N gives more (without it 4096, at most 65536)" ;;
-    8)
-      file=$(file_of "$@")
-      say "${file:-standard input} can't be read"
-      ;;
+    2) say "these words are no command line: $called help shows the commands and their options" ;;
+    3 | 13) hint_refused "$command" ;;
+    4) say "a step couldn't be done; the end line has why, the task and the line (traps: docs/LANGUAGE.md)" ;;
+    5) say "a task read what a concurrent one allocated; \`races\` of a trace file ($called record) reports both lines" ;;
+    6) say "the steps have reached the fuel: --fuel N gives more (default 1000000, at most 1000000000)" ;;
+    7) say "too few chunks were free: --chunks N gives more (default 4096, at most 65536)" ;;
+    8) say "${operands[0]:-standard input} can't be read" ;;
     9) say "standard output took only a first part of what was to be written" ;;
-    10) say "no more memory was to be had; fewer --chunks, fewer workers, or a run without --report need less" ;;
-    11) say "no trace of this program under these options: are they those of the run? ./hheap record keeps them" ;;
-    12) say "two accesses of each field told are in no order: a join between them puts them in order (docs/RACES.md)" ;;
+    10) say "out of memory; fewer --chunks, fewer workers, or a run without --report need less" ;;
+    11) say "no trace of this program under these options: are they those of the run? $called record keeps them" ;;
+    12) say "of each field, two accesses are unordered: a join between them orders them (docs/RACES.md)" ;;
   esac
 }
 
-# Runs the program in place of the script, or, where a hint may follow, below it.
-run_program() {
-  local status
-  wants_hints || exec "$program" "$@"
-  "$program" "$@"
-  status=$?
-  hint "$status" "$@"
-  exit "$status"
+# The most lines of faults that are shown.
+shown=20
+
+# Sets `viewer` to the program hhview where it is there already, proved or not.
+find_viewer() {
+  viewer=$(
+    crate=hhview
+    place_program
+    [ -x "$program" ] || program=$tried
+    [ ! -x "$program" ] || printf '%s' "$program"
+  )
+  [ -n "$viewer" ]
+}
+
+# Whether some hhview is there. (Whether it is that of these sources is asked when it is needed.)
+has_viewer() {
+  local file
+  ! is_installed || return 0
+  for file in "$top"/out/*hhview-*; do
+    [ ! -x "$file" ] || return 0
+  done
+  return 1
+}
+
+# Whether the faults of a refused program can be shown after this command.
+shows_faults() {
+  ! is_quiet && [ "$crate" = hheap ] && has_command hhview faults && has_viewer &&
+    case $1 in check | run | replay | model | races | image | record) true ;; *) false ;; esac
+}
+
+# The program of a call's input: what stands before the trace, where the command takes one.
+program_of() {
+  case $1 in
+    check | run | record) cat -- "$2" ;;
+    *) sed '/^[[:blank:]]*trace\([[:blank:]]\|$\)/,$d' -- "$2" ;;
+  esac
+}
+
+# Shows the faults of a program, as the second program tells them, on standard error.
+show_faults() {
+  local text more
+  text=$(program_of "$1" "$2" | "$viewer" faults 2>/dev/null)
+  [ -n "$text" ] || return
+  printf '%s\n' "$text" | head -n "$shown" >&2
+  more=$(($(printf '%s\n' "$text" | wc -l) - shown))
+  ((more <= 0)) || say "and $more lines more: ./hhview faults FILE shows them all"
+}
+
+# Says what a person can do after a call.
+explain() {
+  local status=$1 command=$2 file
+  if [ "$status" = 3 ] && shows_faults "$command" && find_viewer; then
+    file=$(input_of)
+    [ -z "$file" ] || { show_faults "$command" "$file" && return; }
+  fi
+  ! wants_hints || hint "$status" "$command"
 }

@@ -10,7 +10,7 @@ fi
 hheap=$(realpath "$1")
 hhview=$(realpath "$2")
 . "$top/scripts/room.bash"
-copy_top && put_built hheap "$hheap" && put_built hhview "$hhview" && cp -r "$top/docs" "$top/README.md" "$room" || exit 1
+copy_top && put_built hheap "$hheap" && put_built hhview "$hhview" || exit 1
 # (whoever has no Graphviz sees its input)
 mkdir "$room/bin" || exit 1
 command -v dot >/dev/null || { printf '#!/usr/bin/env bash\ncat\n' >"$room/bin/dot" && chmod +x "$room/bin/dot"; }
@@ -50,13 +50,24 @@ compare() {
   [[ $(cat "$file") == ${said//../*} ]] || fail "$page: $(tail -n 1 script): wrote $(cat "$file")"
 }
 
-typed README.md 0 1 'report tasks 3 steps 55 turns 17' 'report leaf 0 putoff 0 freed 0' 'report inner 0 freed 0' \
-  'report chunks 3 peak 3' 'report held 3 words 10' 'end: done' <<'END'
-./hheap run --report < examples/board.hh
+typed README.md 0 1 'report tasks 3 steps 55 turns 17' .. 'end: done' <<'END'
+./hheap run --report examples/board.hh
 END
-typed README.md 0 1 'report tasks 3 steps 55 turns 17' 'report leaf 0 putoff 0 freed 0' 'report inner 0 freed 0' \
-  'report chunks 3 peak 3' 'report held 3 words 10' 'end: done' <<'END'
-./hheap try run --report < examples/board.hh
+typed README.md 0 <<'END'
+./hheap example squares
+END
+cmp -s <(tail -n 1 written) <(echo 'end: done') || fail "README.md: the example"
+typed README.md 0 <<'END'
+./hheap record examples/squares.hh > squares.trace
+./hhview schedules squares.trace
+END
+grep -qx 'end: every schedule agrees' written || fail "README.md: its schedules"
+typed README.md 5 <<'END'
+./hheap run examples/peeked.hh
+END
+typed README.md 12 <<'END'
+./hheap record examples/peeked.hh > peeked.trace
+./hheap again races peeked.trace
 END
 
 usage=docs/USAGE.md
@@ -186,10 +197,53 @@ for picture in race.svg docs/pictures/race.svg docs/pictures/down_pointer.svg do
   [ -s $picture ] || fail "$picture is empty"
 done
 
+typed docs/LANGUAGE.md 0 <<'END'
+for n in 5 10 20; do
+  sed "s/^  set i0 20\$/  set i0 $n/" examples/recursion.hh | ./hheap run
+done
+END
+cmp -s written <(printf '%s\nend: done\n' 120 3628800 2432902008176640000) || fail "docs/LANGUAGE.md: the factorials"
+typed docs/LANGUAGE.md 0 <<'END'
+{ echo 'fn data'; for n in 5 41 17; do echo "set i0 $n"; echo 'call push'; done; echo 'end'; sed '/^fn data/,/^end/d' examples/data.hh; } > other.hh
+./hheap run other.hh
+END
+cmp -s written <(printf '41\nend: done\n') || fail "docs/LANGUAGE.md: other data"
+
+# The page of options has the ranges and defaults of the table of words.
+while IFS='|' read -r _ name value least most default _; do
+  grep -qF "| \`--$name $value\` | $least to $most | $default |" docs/USAGE.md || fail "docs/USAGE.md has no row of --$name like the table's"
+done < <(grep -E '^option\|(workers|fuel|chunks|leaf|inner)\|' scripts/words.table)
+
+# Each call that the table of words shows as a sample works.
+for program in hheap hhview; do
+  sed -n "s/^sample|$program|[a-z]*|/.\/$program /p" scripts/words.table
+done >samples
+while IFS= read -r command; do
+  HOME=$room bash -c "$command" >written 2>said </dev/null
+  is=$?
+  [ "$is" = 0 ] || [[ $is = 12 && $command = *' races '* ]] || fail "$command: status $is: $(cat said)"
+done <samples
+
+# Each piece of a program on these pages, line by line but for what stands before the lines, stands in an example, which
+# has a stored output. A piece ends at a line without words, or at one of `..`.
+for page in README.md docs/LANGUAGE.md docs/TUTORIAL.md; do
+  awk '
+    function words(line) { sub(/^ */, "", line); return line "\n" }
+    FILENAME != page { if (FNR == 1) text = text "\n\n"; text = text words($0); next }
+    /^    / && !/^ *\.\.$/ { piece = piece words($0); next }
+    { told() }
+    END { told() }
+    function told() {
+      if (piece ~ /^(fn|set|add|lt|eq|nil|same|newm|par|pfor|call|geti) / && !index(text, "\n" piece)) print page ": " piece
+      piece = ""
+    }' page="$page" examples/*.hh "$page"
+done >pieces
+[ ! -s pieces ] || fail "no example has: $(cat pieces)"
+
 # Each command that a page tells to type was typed.
 for page in README.md docs/*.md; do
   case $page in docs/WORKING.md | docs/BENCHMARKS.md) continue ;; esac
-  sed -n 's/  *# .*//; s/^    \(\(\.\/hh\|cmp \|sed \|awk \|echo .* >\|{ cat\|(cat\).*\)$/\1/p' "$page" |
+  sed -n 's/  *# .*//; s/^    \(\(\.\/hh\|cmp \|sed \|awk \|echo .* >\|{ cat\|{ echo\|for \|(cat\).*\)$/\1/p' "$page" |
     while IFS= read -r command; do
       grep -qxF -e "$command" typed || echo "$page: $command"
     done

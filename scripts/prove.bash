@@ -2,10 +2,10 @@
 # this has proved before on the machine isn't proved again, whoever is interrupted, in whatever copy of the repository.
 
 # By crate: its line in crates.txt, and the libraries that it names.
-declare -A line_of libraries_of
-# The crates that the program consists of, lowest first, and those that are proved.
+declare -A line_of=() libraries_of=()
+# The crates that the program consists of, lowest first; those that are proved; how much there is to prove of each.
 needed=()
-declare -A is_proved
+declare -A is_proved=() work_of=()
 
 read_crates() {
   local line name
@@ -26,6 +26,12 @@ need() {
     need "$name"
   done
   needed+=("$1")
+}
+
+need_crates() {
+  [ "${#line_of[@]}" != 0 ] || read_crates
+  needed=()
+  need "$crate"
 }
 
 # The sum of all that is proved and built in this folder.
@@ -60,21 +66,80 @@ in_proof() {
     done
     found+=" $name"
   done
-  printf '%s' "${found:- the program, built and tried}"
+  printf '%s' "${found:- the program, built and run}"
 }
 
-# Keeps what the proof says, and tells how far it is.
+# How much there is to do of each crate: its bytes, as much as 250,000 for what each proof begins with, and as much as
+# 500,000 for the program, which two compilers build.
+weigh_crates() {
+  local name bytes
+  for name in "${needed[@]}"; do
+    bytes=$(find "$top/crates/$name" \( -name out -o -name must-fail \) -prune -o -type f -print0 | xargs -0 cat | wc -c)
+    work_of[$name]=$((bytes + 250000))
+  done
+  work_of[$crate]=$((work_of[$crate] + 500000))
+}
+
+# Sets `left` to what is left: the sum of it for each of four processors, or if that is more, the longest chain of crates
+# of which each waits for the one before.
+sum_left() {
+  local name library above longest=0 sum=0
+  local -A chain
+  for name in "${needed[@]}"; do
+    above=0
+    for library in ${libraries_of[$name]}; do
+      ((${chain[$library]-0} <= above)) || above=${chain[$library]}
+    done
+    if [ -z "${is_proved[$name]+x}" ]; then
+      above=$((above + work_of[$name]))
+      sum=$((sum + work_of[$name]))
+    fi
+    chain[$name]=$above
+    ((above <= longest)) || longest=$above
+  done
+  left=$((sum / lanes))
+  ((left >= longest)) || left=$longest
+}
+
+# How long the proof takes from here: at the pace so far, once a tenth of it is done.
+time_left() {
+  local seconds
+  if ((10 * (whole - left) < whole || whole == left || SECONDS == 0)); then
+    printf '%s in all' "${text_of[proof]}"
+  else
+    seconds=$((left * SECONDS / (whole - left)))
+    if ((seconds < 90)); then
+      printf 'about a minute left'
+    else
+      printf 'about %s minutes left' $(((seconds + 30) / 60))
+    fi
+  fi
+}
+
+# Keeps what the proof says, and tells how far it is. (What is kept from before takes no time, so it doesn't count as
+# done, but as never to do.)
 tell_progress() {
-  local line when count=0 of=${#needed[@]}
-  say "the program isn't proved as its sources stand: proving its $of crates; first$(in_proof)"
+  local line count=0 of=${#needed[@]} left whole before lanes
+  lanes=$(nproc 2>/dev/null || echo 4)
+  ((lanes <= 4)) || lanes=4
+  weigh_crates
+  sum_left
+  whole=$left
+  say "proving $crate, which is $of crates, ${text_of[proof]} where nothing is proved yet; first$(in_proof)"
   while IFS= read -r line; do
     printf '%s\n' "$line" >>"$top/out/proof.log"
     [[ $line != rt:\ *waiting* && $line != rt:\ note:* ]] || say "${line#rt: }"
     [[ $line =~ ^rt:\ ([a-z0-9_]+)\ (proved$|is\ kept:) ]] || continue
     is_proved[${BASH_REMATCH[1]}]=1
     count=$((count + 1))
-    [ "${BASH_REMATCH[2]}" = proved ] && when="after $SECONDS s" || when=earlier
-    say "$count of $of ${BASH_REMATCH[1]} proved $when; now$(in_proof)"
+    before=$left
+    sum_left
+    if [ "${BASH_REMATCH[2]}" = proved ]; then
+      say "$count of $of: ${BASH_REMATCH[1]} proved after $SECONDS s, $(time_left); now$(in_proof)"
+    else
+      whole=$((whole - before + left))
+      say "$count of $of: ${BASH_REMATCH[1]} was proved earlier"
+    fi
   done
 }
 
@@ -83,38 +148,50 @@ prove_in() {
   cd "$1" && rt ci 2>&1 | tell_progress
 }
 
-# Proves the program, one call at a time in this copy of the repository.
-prove() {
-  local left
+# Proves the program and sets `program` to it, one call at a time in this copy of the repository.
+prove_program() {
   need_kit
   lock_out ""
-  program=$top/out/$crate-$(sum_of "$top")
-  [ ! -x "$program" ] || return 0
+  [ -x "$program" ] || prove_copy
+  exec 9>&-
+}
+
+prove_copy() {
+  local old
   # (a call that was killed left its folder)
-  left=$(cat "$top/out/proving" 2>/dev/null)
-  [[ $left != */hheap-proof-* ]] || rm -rf "$left"
+  old=$(cat "$top/out/proving" 2>/dev/null)
+  [[ $old != */hheap-proof-* ]] || rm -rf "$old"
   make_room proof
   printf '%s\n' "$room" >"$top/out/proving"
   : >"$top/out/proof.log"
   copy_to "$room" || exit 1
   program=$top/out/$crate-$(sum_of "$room")
+  parting="stopped; what was proved is kept, and $called prove goes on from there"
   if ! run_apart prove_in "$room" </dev/null >&2 9>&-; then
     grep -E '^rt: .*(NOT PROVED|FAILED|refused)|error' "$top/out/proof.log" | tail -n 20 >&2
     say "the program could not be proved and built; all that was said is in $top/out/proof.log"
     exit 1
   fi
+  parting=
+  rt version >"$program.kit" 2>/dev/null
   put_program "$room/crates/$crate/out/$crate"
   leave_room
   rm -f "$top/out/proving"
 }
 
-# Sets `program` to the proved program.
-find_program() {
-  read_crates
-  need "$crate"
-  program=$top/out/$crate-$(sum_of "$top")
-  if [ ! -x "$program" ]; then
-    prove
-    exec 9>&-
+# The command: proves the program where it isn't proved as its sources stand.
+prove() {
+  [ $# = 0 ] || refuse_words "prove takes no words, and '$1' is one too many"
+  if is_installed; then
+    say "an installed program is as it is: ./hheap prove is for a copy of the repository"
+    exit 1
   fi
+  place_program
+  if [ -x "$program" ]; then
+    say "it is proved as its sources stand"
+  else
+    prove_program
+    say "proved in $SECONDS s: $called answers by it from now on"
+  fi
+  exit 0
 }

@@ -15,8 +15,8 @@ fail() {
 use_just() {
   local tool
   mkdir -p "$room/bin" || exit 1
-  for tool in bash cat chmod cmp cp cut dirname find flock grep ln mkdir mkfifo mktemp mv realpath rm sed sha256sum sleep \
-    sort tail tar tr wc xargs "$@"; do
+  for tool in bash cat chmod cmp cp cut dirname find flock grep head ln mkdir mkfifo mktemp mv nproc realpath rm sed \
+    sha256sum sleep sort tail tar tr wc xargs "$@"; do
     [ -e "$room/bin/$tool" ] || ln -s "$(command -v "$tool")" "$room/bin/$tool" || exit 1
   done
   PATH=$room/bin
@@ -26,8 +26,8 @@ use_just() {
 # of sources are quick.
 copy_top() {
   local name
-  cp -r "$top/hheap" "$top/hhview" "$top/scripts" "$top/examples" "$top/crates.txt" "$top/HANDLES" "$room" &&
-    mkdir "$room/out" || return
+  cp -r "$top/hheap" "$top/hhview" "$top/scripts" "$top/examples" "$top/docs" "$top/README.md" "$top/crates.txt" \
+    "$top/HANDLES" "$room" && mkdir "$room/out" || return
   sed -n 's/^\([a-z][a-z_]*\).*:.*/\1/p' "$top/crates.txt" >"$room/names"
   while read -r name; do
     mkdir -p "$room/crates/$name/src" && echo "// $name" >"$room/crates/$name/src/lib.rt" || return
@@ -39,9 +39,9 @@ put_built() {
   local sum
   sum=$(
     top=$room
+    crate=$1
     . "$room/scripts/prove.bash"
-    read_crates
-    need "$1"
+    need_crates
     sum_of "$room"
   )
   cp "$2" "$room/out/$1-$sum" && cp "$2" "$room/out/tried-$1-$sum"
