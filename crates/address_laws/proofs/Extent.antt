@@ -10,8 +10,7 @@ use Rattle.object_layout.specs.Chunks.{cell_of}
 use Rattle.listed.proofs.Members.{In}
 use Rattle.object_layout.proofs.PlaceLemmas.{cell_at-past}
 use Rattle.address_laws.specs.Alike.{AreAlike}
-use Rattle.address_laws.specs.Laws.{SameByAddress}
-use Rattle.address_laws.proofs.Numbers.{numbers, Distinct, alike_numbers, apart_distinct}
+use Rattle.address_laws.proofs.Numbers.{numbers, Distinct, alike_numbers}
 
 cells_same : (cs ds : List Cell) → map size_of ds ≡ map size_of cs → ((at : ℕ) → cell_at cs at ≡ cell_at ds at) → cs ≡ ds
 cells_same [] [] s e = refl
@@ -69,9 +68,6 @@ same_chunks (k ∷ ks) (l ∷ ls) a d e =
               nowhere ks x out ∙ sym (nowhere ls x (λ i. out (subst (λ (ns : List ℕ). In ns x.chunk) (alike_numbers ks ls a.1) i)))
           | inr n ↦ sym (later k ks x n) ∙ (e x ∙ later l ls x (λ q. n (sym a.0.0 ∙ q)))
         ]
-
-pub same_by_address : SameByAddress
-same_by_address ks ls a d e = same_chunks ks ls a (apart_distinct ks d) e
 
 -- ---- chunks together
 

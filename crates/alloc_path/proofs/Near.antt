@@ -2,15 +2,13 @@
 use Rattle.std.proofs.Common.{◌≡◌, ℕ, zero, suc, ◌+◌, ◌<◌, ◌≤◌, List, [], ◌∷◌, length, refl, sym, subst, arith, inl, inr, eqb, All}
 use Rattle.std.proofs.lemmas.Bool.{cases_Bool, cases_lt}
 use Rattle.std.proofs.lemmas.List.Elements.{All-cons, All-head, All-nil, All-tail}
-use Rattle.listed.proofs.Members.{In, contains_from_in}
-use Rattle.object_layout.specs.Cell.{Cell, IsObject, Mark, size_of}
+use Rattle.listed.proofs.Members.{In}
+use Rattle.object_layout.specs.Cell.{Cell, size_of}
 use Rattle.object_layout.specs.ChunkValue.{ChunkValue}
 use Rattle.object_layout.specs.Place.{cell_at, words_in, IsCellAt}
-use Rattle.object_layout.specs.Objects.{Located, objects_in}
-use Rattle.object_layout.proofs.ObjectLemmas.{objects_lie_there}
+use Rattle.object_layout.specs.Objects.{Located}
 use Rattle.object_layout.proofs.PlaceLemmas as place
 use Rattle.alloc_path.specs.LeafHeapValue.{AreNear, AreTidy, AreWithin, IsTidy}
-use Rattle.alloc_path.specs.PlaceLaws.{ObjectsAreNear}
 
 -- the only cell begins at 0
 only_first : (cs : List Cell) (at : ℕ) → length cs ≤ 1 → IsCellAt cs at → at ≡ 0
@@ -39,8 +37,3 @@ are_near (k ∷ ks) t w = λ a o.
 all_from : (os : List Located) → ((o : Located) → In os o → o.at.offset < 1024) → All (λ (o : Located). o.at.offset < 1024) os
 all_from [] f = All-nil (λ (o : Located). o.at.offset < 1024)
 all_from (o ∷ os) f = All-cons (λ (x : Located). x.at.offset < 1024) o os (f o (inl refl)) (all_from os (λ x i. f x (inr i)))
-
-pub objects_are_near : ObjectsAreNear
-objects_are_near ks apart near =
-    all_from (objects_in ks)
-    (λ o i. near o.at (subst (λ (m : Mark). IsObject m) (sym ((objects_lie_there ks apart o).0 (contains_from_in (objects_in ks) o i)).mark) tt))

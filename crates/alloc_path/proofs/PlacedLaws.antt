@@ -4,10 +4,10 @@ use Rattle.std.proofs.lemmas.Bool.{cases_Bool, eq-eqb, ne_eqb}
 use Rattle.std.proofs.lemmas.List.{get_or-set_same}
 use Rattle.object_layout.specs.declared.word.Addr.{Addr}
 use Rattle.object_layout.specs.Cell.{Cell, IsObject}
-use Rattle.object_layout.specs.Chunks.{cell_of, chunk_at, next_address, no_chunk, place_of, push_object, put_object}
+use Rattle.object_layout.specs.Chunks.{cell_of, chunk_at, next_address, no_chunk, place_of, push_object}
 use Rattle.object_layout.specs.ChunkValue.{ChunkValue}
 use Rattle.object_layout.specs.Place.{cell_at, words_in}
-use Rattle.object_layout.proofs.ChunkLaws.{cell_of-found, put_object-pushed}
+use Rattle.object_layout.proofs.ChunkLaws.{cell_of-found}
 use Rattle.object_layout.proofs.PlaceLemmas as place
 use Rattle.alloc_path.specs.LeafHeapValue.{AreApart, IsFresh}
 use Rattle.alloc_path.proofs.HeapLemmas as heap
@@ -60,10 +60,3 @@ pub apart_set : (ks : List ChunkValue) (i : ℕ) (k : ChunkValue) → k.number �
 apart_set [] i k e h = h
 apart_set (x ∷ xs) zero k e h = (rw e h.0, h.1)
 apart_set (x ∷ xs) (suc i) k e h = (heap.place_in-set xs i k no_chunk e x.number ∙ h.0, apart_set xs i k e h.1)
-
--- another cell is put in place of the one that was placed
-pub put_where_placed : (ks : List ChunkValue) (i : ℕ) (c d : Cell) → AreApart ks → i < length ks → put_object (push_object ks i c) (next_address (chunk_at ks i)) d ≡ push_object ks i d
-put_where_placed ks i c d h l = put_object-pushed ks i c d (place_of-own ks h i l) l
-
-pub placed_is_read : (ks : List ChunkValue) (i : ℕ) (c : Cell) → AreApart ks → i < length ks → cell_of (push_object ks i c) (next_address (chunk_at ks i)) ≡ c
-placed_is_read ks i c h l = cell_of-placed ks h i c l

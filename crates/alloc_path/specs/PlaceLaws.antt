@@ -1,26 +1,10 @@
 -- What a put changes where an object was placed.
 use Rattle.std.specs.Prelude.{◌≡◌, ℕ, ◌<◌, All, List, length}
 use Rattle.object_layout.specs.declared.word.Addr.{Addr}
-use Rattle.object_layout.specs.Cell.{Cell, size_of, chunk_words}
+use Rattle.object_layout.specs.Cell.{Cell, size_of}
 use Rattle.object_layout.specs.ChunkValue.{ChunkValue}
 use Rattle.object_layout.specs.Place.{words_in}
-use Rattle.object_layout.specs.Chunks.{cell_of, chunk_at, held_words, next_address, object_count, push_object, put_object, small_words}
-use Rattle.object_layout.specs.Objects.{objects_in}
-use Rattle.alloc_path.specs.LeafHeapValue.{AreApart, AreNear}
-
--- another object is put in place of the one that was placed
-abbrev pub PutWherePlaced : Type 0
-PutWherePlaced =
-    (ks : List ChunkValue) (i : ℕ) (c d : Cell)
-    → AreApart ks → i < length ks
-    → put_object (push_object ks i c) (next_address (chunk_at ks i)) d ≡ push_object ks i d
-
--- a placed object is read where it was placed
-abbrev pub PlacedIsRead : Type 0
-PlacedIsRead =
-    (ks : List ChunkValue) (i : ℕ) (c : Cell)
-    → AreApart ks → i < length ks
-    → cell_of (push_object ks i c) (next_address (chunk_at ks i)) ≡ c
+use Rattle.object_layout.specs.Chunks.{cell_of, chunk_at, held_words, object_count, put_object, small_words}
 
 -- the chunk has the same number, the same words in all, and as many of them in use
 pub record KeepsShape (old new : ChunkValue) : Type 0 where
@@ -40,7 +24,3 @@ abbrev pub WritesKeepCounts : Type 0
 WritesKeepCounts =
     (ks : List ChunkValue) (a : Addr) (c : Cell)
     → c.mark ≡ (cell_of ks a).mark → size_of c ≡ size_of (cell_of ks a) → KeepsCounts ks (put_object ks a c)
-
--- where each object begins near, so does each that is read
-abbrev pub ObjectsAreNear : Type 0
-ObjectsAreNear = (ks : List ChunkValue) → AreApart ks → AreNear ks → All (λ o. o.at.offset < chunk_words) (objects_in ks)

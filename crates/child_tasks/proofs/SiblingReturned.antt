@@ -42,7 +42,7 @@ use Rattle.shared_value.proofs.HeapCounts.{counted_from}
 use Rattle.shared_value.proofs.PartFitsMachine as link
 use Rattle.shared_value.proofs.TaskTaken.{HasCalls, has_calls}
 use Rattle.own_steps.proofs.LastStepEntry as last
-use Rattle.own_steps.proofs.LastStepEntry.{AsksLast, last_entry}
+use Rattle.own_steps.proofs.LastStepEntry.{AsksLast}
 use Rattle.child_tasks.specs.ChildEnds.{running_parent, where_running}
 use Rattle.child_tasks.proofs.ChildReturns as steps
 use Rattle.child_tasks.proofs.ChildReturns.{AsksEnd}

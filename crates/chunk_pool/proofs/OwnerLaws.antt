@@ -5,7 +5,7 @@ use Rattle.std.proofs.lemmas.Bool.{cases_eq, cond-true, cond-false, false≢true
 use Rattle.object_layout.specs.Chunks.{has_chunk}
 use Rattle.chunk_pool.specs.declared.pool.Slot.{Slot}
 use Rattle.chunk_pool.specs.PoolValue.{PoolValue, slot_at, one_unit, owner_of, KeepsOthers}
-use Rattle.chunk_pool.specs.Laws.{OwnersAreTold, OwnersFrom, OwnersStay, TakenAreOwned}
+use Rattle.chunk_pool.specs.Laws.{OwnersFrom, OwnersStay, TakenAreOwned}
 
 stay : (old new : PoolValue) (n : ℕ) → KeepsOthers old new n → OwnersStay old new n
 stay old new n kept = λ k ne. ap (λ (o : Option Slot). option_map (λ (h : Slot). h.owner) o) (kept.others k ne)
@@ -24,17 +24,6 @@ relabelled : (new : PoolValue) (n o : ℕ) (was : Option Slot) → IsSome was �
 relabelled new n o None used r u e = absurd (false≢true used)
 relabelled new n o (Some h) used r u e = mapped (record h { owner = o }) u (slot_at new n) r e
 
-pub owners_are_told : OwnersAreTold
-owners_are_told = record {
-  taken = λ old new n held t. (from old new n held.owner t.rest (λ u e. mapped held u (slot_at new n) t.taken e), stay old new n t.rest);
-  relabelled = λ old new n o used r. (from old new n o r.rest (relabelled new n o (slot_at old n) used r.relabelled), stay old new n r.rest);
-  given = λ old new n g. (
-    (λ k u e. elim (cases_eq k n) [
-      | inl is ↦ absurd (let q : None ≡ Some u = ap (λ (x : Option Slot). option_map (λ (y : Slot). y.owner) x) (sym g.free) ∙ (ap (owner_of new) (sym is) ∙ e) in cc)
-      | inr ne ↦ sym (stay old new n g.rest k ne) ∙ e
-    ]),
-    stay old new n g.rest,
-  );
 }
 
 pub taken_are_owned : TakenAreOwned

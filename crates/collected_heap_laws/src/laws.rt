@@ -1,15 +1,10 @@
 // Laws of collected heaps, each the clause of a function that does nothing.
 
-ghost use Rattle.collected_heap_laws.specs.Laws.{NoChunkIsLost, LargeAreRead, MovedAreRead, MovesAreTold};
+ghost use Rattle.collected_heap_laws.specs.Laws.{NoChunkIsLost, MovedAreRead, MovesAreTold};
 
 /// What is read at a new address is the object that was moved there.
 pub fn moved_are_read()
     ensures { MovedAreRead }
-{}
-
-/// What is read where a large survivor was is that object.
-pub fn large_are_read()
-    ensures { LargeAreRead }
 {}
 
 /// A relocation list holds places and leads as the moves do, and an address elsewhere stays.

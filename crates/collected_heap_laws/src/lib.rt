@@ -3,4 +3,4 @@
 
 mod laws;
 
-pub use laws::{large_are_read, moved_are_read, moves_are_told, no_chunk_is_lost};
+pub use laws::{moved_are_read, moves_are_told, no_chunk_is_lost};

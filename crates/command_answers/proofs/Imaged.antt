@@ -25,7 +25,7 @@ use Rattle.refusal_lines.specs.Refusals.{refusal_of}
 use Rattle.command_answers.specs.declared.answer.Status.{Status}
 use Rattle.command_answers.specs.declared.answer.Status.TheVariants.{Done}
 use Rattle.command_answers.specs.declared.answer.Answer.{Answer}
-use Rattle.command_answers.specs.Answers.{AnswersImage, AnswersImaging, AnswersTrace, IsImageOf, IsImaged, IsText, Refuses, WhereTraced, WhereWhole, short_of}
+use Rattle.command_answers.specs.Answers.{AnswersImage, AnswersTrace, IsImageOf, IsImaged, IsText, Refuses, WhereTraced, WhereWhole, short_of}
 use Rattle.command_answers.specs.Laws.{ImagesAreVerified, ImagesHaveJustHeld}
 use Rattle.command_answers.proofs.Runs.{short_journal, whole_journal}
 use Rattle.command_answers.proofs.Traces.{trace_told}

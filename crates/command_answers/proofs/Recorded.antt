@@ -12,7 +12,7 @@ use Rattle.run_trace.specs.Settings.{SettingsValue}
 use Rattle.run_trace.specs.Trace.{trace_text}
 use Rattle.trace_input.specs.declared.input.InputFault.{InputFault}
 use Rattle.trace_input.specs.declared.input.TraceInput.{TraceInput}
-use Rattle.trace_input.specs.Input.{IsInput, input_fault, settings_for, too_long}
+use Rattle.trace_input.specs.Input.{settings_for, too_long}
 use Rattle.round_trip_laws.specs.RoundTrip.{CanFollow, IsReadAs}
 use Rattle.round_trip_laws.proofs.Inputs.{recorded_inputs_are_read}
 use Rattle.run_ledger.specs.declared.data.RunEnd.{RunEnd}

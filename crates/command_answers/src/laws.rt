@@ -1,7 +1,7 @@
 // What the contract of the top call comes to.
 
 ghost use Rattle.command_answers.specs.Headline.{RunsHoldTheHeadline};
-ghost use Rattle.command_answers.specs.Laws.{ImagesAreVerified, ImagesHaveJustHeld, MadeAreAccepted, MadeAreRead, MadeAreRun, ModelWritesTheSame, NoFaultGivesAll, ProgramsAreRun, RacelessAreDisentangled, RecordedRunsAreAlike, TracesAreDrawn, TracesAreReplayed};
+ghost use Rattle.command_answers.specs.Laws.{ImagesAreVerified, ImagesHaveJustHeld, MadeAreAccepted, MadeAreRead, MadeAreRun, ModelWritesTheSame, NoFaultGivesAll, ProgramsAreRun, RacelessAreDisentangled, RecordedRunsAreAlike, TracesAreReplayed};
 ghost use Rattle.command_answers.specs.Status.{StatusesOfEnds};
 
 /// A command and its input, and no fault that rose: all bytes and the status of its answer, or want of memory.
@@ -33,12 +33,6 @@ pub fn made_are_accepted()
 /// want of memory.
 pub fn traces_are_replayed()
     ensures { TracesAreReplayed }
-{}
-
-/// `image` with a program and its trace, and no fault that rose: the heaps that it leaves or a refused trace, or want
-/// of memory.
-pub fn traces_are_drawn()
-    ensures { TracesAreDrawn }
 {}
 
 /// What `image` writes of a whole run is verified by `verify`, unless it is too long for it.

@@ -10,11 +10,10 @@ use Rattle.clap.proofs.OnLiterals.{clap_on_literals}
 use Rattle.run_trace.specs.Settings.{SettingsValue, usual_settings}
 use Rattle.command_line.specs.CommandLine.{file_in, options_in}
 use Rattle.command_line.specs.Examples.{usual_options}
-use Rattle.command_line.specs.Operands.{IsOperand, OptionsSet, Sets, SetsEach}
+use Rattle.command_line.specs.Operands.{IsOperand, Sets}
 use Rattle.command_line.specs.declared.line.CommandLine.{CommandLine}
-use Rattle.command_line.specs.declared.line.CommandLine.TheVariants.{Run, Replay, Model}
 use Rattle.command_line.specs.declared.line.Options.{Options}
-use Rattle.command_line.proofs.Operands.{IsRunner, level, line_by, model_is, no_dashes, no_long, no_short, replay_is, run_is, value_kinds_by}
+use Rattle.command_line.proofs.Operands.{IsRunner, level, line_by, no_dashes, no_long, no_short, value_kinds_by}
 use Rattle.command_line.proofs.Shapes.{runner_shape}
 
 -- the rules are those of any name
@@ -105,14 +104,4 @@ inner_is : IsLimit (codes "--inner") (codes "inner") 16 1000000 (λ n. record us
 unfolding clap_on_literals
 inner_is = record { waits = refl; none = λ name. refl; kinds = λ name word. refl; file = λ word. refl; options = λ word. refl }
 
-sets_each : (name : Text) (line : Option Text → Options → CommandLine) → IsRunner name line → SetsEach name line
-sets_each name line is = (
-  sets (codes "--workers") (codes "workers") 1 64 (λ n. record usual_settings { workers = n }) workers_is name line is,
-  sets (codes "--fuel") (codes "fuel") 1 1000000000 (λ n. record usual_settings { fuel = n }) fuel_is name line is,
-  sets (codes "--chunks") (codes "chunks") 2 65536 (λ n. record usual_settings { chunks = n }) chunks_is name line is,
-  sets (codes "--leaf") (codes "leaf") 16 1000000 (λ n. record usual_settings { leaf = n }) leaf_is name line is,
-  sets (codes "--inner") (codes "inner") 16 1000000 (λ n. record usual_settings { inner = n }) inner_is name line is,
 )
-
-pub options_set : OptionsSet
-options_set = (sets_each (codes "run") Run run_is, sets_each (codes "replay") Replay replay_is, sets_each (codes "model") Model model_is)

@@ -14,8 +14,7 @@ use Rattle.clap.specs.declared.error.kind.ErrorKind.TheVariants as kind
 use Rattle.clap.proofs.OnLiterals.{clap_on_literals}
 use Rattle.run_trace.specs.Settings.{SettingsValue}
 use Rattle.command_line.specs.CommandLine.{asked, command_line, file_in, options_in, settings_in}
-use Rattle.command_line.specs.Examples.{usual_options}
-use Rattle.command_line.specs.Operands.{IsOperand, Makes, OperandsMake, OperandsNameFiles}
+use Rattle.command_line.specs.Operands.{IsOperand, Makes}
 use Rattle.command_line.specs.declared.line.CommandLine.{CommandLine}
 use Rattle.command_line.specs.declared.line.CommandLine.TheVariants.{Check, Run, Replay, Model, Races, Image, Make, Verify}
 use Rattle.command_line.specs.declared.line.Options.{Options}
@@ -137,18 +136,6 @@ runner_none : (name file : Text) → level (runner_shape name) (file_kinds (runn
 unfolding defaults_fault
 runner_none name file = refl
 
-runner_file : (name file : Text) → file_in (finished (runner_shape name).rules (file_walk (runner_shape name) file).held) ≡ Some file
-runner_file name file = refl
-
-runner_usual : (name file : Text) → options_in (finished (runner_shape name).rules (file_walk (runner_shape name) file).held) ≡ usual_options
-runner_usual name file = refl
-
-runner_named : (name : Text) (line : Option Text → Options → CommandLine) → IsRunner name line → (file : Text) → IsOperand file
-    → command_line (name ∷ file ∷ []) ≡ Some (line (Some file) usual_options)
-runner_named name line is file h =
-    named name (runner_shape name) (λ rows. line (file_in rows) (options_in rows)) is file h (runner_none name file)
-    ∙ ap₂ (λ f o. Some (line f o)) (runner_file name file) (runner_usual name file)
-
 check_none : (file : Text) → level check_shape (file_kinds check_shape) (file_walk check_shape file) ≡ []
 unfolding defaults_fault
 check_none file = refl
@@ -161,15 +148,6 @@ verify_none : (file : Text) → level verify_shape (file_kinds verify_shape) (fi
 unfolding defaults_fault
 verify_none file = refl
 
-pub files_named : OperandsNameFiles
-files_named file h = (
-  named (codes "check") check_shape _ check_is file h (check_none file),
-  runner_named (codes "run") Run run_is file h,
-  runner_named (codes "replay") Replay replay_is file h,
-  runner_named (codes "model") Model model_is file h,
-  named (codes "races") (limited_shape (codes "races")) _ races_is file h (limited_none (codes "races") file),
-  named (codes "image") (limited_shape (codes "image")) _ image_is file h (limited_none (codes "image") file),
-  named (codes "verify") verify_shape _ verify_is file h (verify_none file),
 )
 
 -- ---- `make`
@@ -249,24 +227,8 @@ by_both true false x = refl
 by_both false true x = refl
 by_both false false x = refl
 
-by_flagged : {X : Type 0} (a b : Bool) (x : Option X) → cond (is_empty (or_else (flagged_kinds a b) [])) x None ≡ cond (a && b) x None
-by_flagged true true x = refl
-by_flagged true false x = refl
-by_flagged false true x = refl
-by_flagged false false x = refl
-
 made : Makes [] false
 made seed size h1 h2 =
     line_of_make seed size
     ∙ ap₂ (line_by (codes "make")) (make_level seed size h1 h2 [] ∙ both_level seed size h1 h2) (make_rows seed size h1 h2 [])
     ∙ by_both (is_unsigned_in 0 4294967295 seed) (is_unsigned_in 1 1000 size) _
-
-made_to_run : Makes run_flag true
-made_to_run seed size h1 h2 =
-    line_of_flagged seed size
-    ∙ ap₂ (line_by (codes "make")) (make_level seed size h1 h2 run_flag ∙ flagged_level seed size h1 h2) (make_rows seed size h1 h2 run_flag)
-    ∙ ap (λ (x : Option CommandLine). cond (is_empty (or_else (flagged_kinds (is_unsigned_in 0 4294967295 seed) (is_unsigned_in 1 1000 size)) [])) x None) (asked_flagged seed size h1 h2)
-    ∙ by_flagged (is_unsigned_in 0 4294967295 seed) (is_unsigned_in 1 1000 size) _
-
-pub numbers_made : OperandsMake
-numbers_made = (made, made_to_run)

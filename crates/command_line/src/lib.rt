@@ -2,11 +2,9 @@
 #![tactic(auto)]
 
 mod command;
-mod laws;
 mod line;
 mod read;
 
 pub use command::with_argument;
-pub use laws::{operands_are_read, words_are_read};
 pub use line::{CommandLine, FileName, Options};
 pub use read::read_command_line;

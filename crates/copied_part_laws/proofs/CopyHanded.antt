@@ -41,12 +41,6 @@ use Rattle.copied_part_laws.proofs.BeforeTheCopy.{Old}
 use Rattle.copied_part_laws.proofs.CopyCounts as counting
 use Rattle.copied_part_laws.proofs.CopySays.{numbers_are_said}
 
--- one of the numbers that are summed
-one_of_sum : {A : Type 0} (g : A → ℕ) (xs : List A) (t : ℕ) (x : A) → slice_get xs t ≡ Some x → g x ≤ sum_by g xs
-one_of_sum g [] t x e = absurd cc
-one_of_sum g (y ∷ ys) zero x e = let s = sum_by-cons g y ys in let q : g y ≡ g x = ap g (let z : y ≡ x = cc in z) in omega (arith, s, q)
-one_of_sum g (y ∷ ys) (suc t) x e = let s = sum_by-cons g y ys in let r = one_of_sum g ys t x e in omega (arith, s, r)
-
 aside_least : (l : Ledger) (t : ℕ) → units_in (aside l).machine (heap_of (aside l) t) ≤ in_use l
 aside_least l t = few_units l t
 

@@ -127,11 +127,6 @@ module _ (f : Option Addr → Option Addr) where
   lists_led [] = refl
   lists_led (k ∷ ks) = ap (λ zs. names_in (map (led_cell f) k.cells) ∷ zs) (lists_led ks) ∙ ap (λ ns. ns ∷ lists_of ks) (names_led k.cells)
 
-  pub room_led : (ks : List ChunkValue) → room_in (map (led_chunk f) ks) ≡ room_in ks
-  room_led [] = refl
-  room_led (k ∷ []) = ap (λ n. k.size - n) (used_led f k.cells)
-  room_led (k ∷ (l ∷ ks)) = room_led (l ∷ ks)
-
   pub told_led : (m : State) (ks : List ChunkValue) → Told m ks → Told m (map (led_chunk f) ks)
   told_led m [] t = tt
   told_led m (k ∷ ks) t = ((t.0.0, ap (words_sum m) (names_led k.cells) ∙ (t.0.1 ∙ sym (used_led f k.cells))), told_led m ks t.1)

@@ -3,4 +3,4 @@
 
 mod laws;
 
-pub use laws::{begun_can_copy, begun_is_copying, copied_fits, copies_fit, numbers_are_said};
+pub use laws::{copied_fits};

@@ -1,8 +1,6 @@
 -- The laws of leaf collections that have begun, of copies and of marks.
-use Rattle.core_relation.specs.Whole.{BegunStands, Begins}
 use Rattle.core_relation.specs.Copies.{PartFits, CopyFits, EndsAt, before}
 use Rattle.run_ledger.specs.declared.data.Heap.{Heap}
-use Rattle.core_relation.specs.Begins.{AreRoots}
 use Rattle.std.specs.List.{IsDistinct}
 use Rattle.std.specs.Prelude.{◌≡◌, ℕ, true, Some, None, slice_get, ◌↔◌, List}
 use Rattle.object_layout.specs.declared.word.Addr.{Addr}
@@ -11,7 +9,6 @@ use Rattle.hh_lang.specs.Form.{ProgramText}
 use Rattle.run_trace.specs.Settings.{SettingsValue}
 use Rattle.hh_model.specs.declared.data.Status.TheVariants.{Running}
 use Rattle.hh_model.specs.declared.data.Task.{Task}
-use Rattle.hh_model.specs.Step.{is_waiting}
 use Rattle.run_ledger.specs.declared.data.Ledger.{Ledger}
 use Rattle.run_ledger.specs.Heaps.{heap_of, with_heap, collected, held_in, left_in}
 use Rattle.run_ledger.specs.Reachable.{is_name}
@@ -19,31 +16,12 @@ use Rattle.hh_model.specs.declared.data.Name.{Name}
 use Rattle.core_relation.specs.Marking.{MarksStand}
 use Rattle.run_ledger.specs.Sound.{SoundLedger}
 use Rattle.core_relation.specs.Memory.{Belongings, Memory, In, object_name, objects}
-use Rattle.ledger_step_laws.specs.Accounts.{Rests, rested, AlikeFor}
-use Rattle.task_machine.specs.declared.part.Begun.{Begun}
+use Rattle.ledger_step_laws.specs.Accounts.{Rests, rested}
 use Rattle.core_relation.specs.Stands.{Stands}
 use Rattle.core_relation.specs.Fits.{with_belongings}
 use Rattle.core_relation.specs.Changes.{Moves}
-use Rattle.core_relation.specs.Worker.{WorkerFits}
-
--- COLLECTIONS THAT HAVE BEGUN
-
-abbrev pub CollectionsBegin : Type 0
-CollectionsBegin =
-    (v v' : Memory) (l l' : Ledger) (t : ℕ) (x : Task) (b : Begun) → SoundLedger l → Stands v l → slice_get l.machine.tasks t ≡ Some x → x.status ≡ Running → Rests l t
-    → ((u : ℕ) → is_waiting (slice_get l.machine.tasks u) ≡ true → Rests l u) → AreRoots v l t b.roots → Begins v v' l l' t b → BegunStands v' l' t b
-
-abbrev pub BegunStays : Type 0
-BegunStays =
-    (v v' : Memory) (l l' : Ledger) (t : ℕ) (b : Begun) → v'.belongings t ≡ v.belongings t → ((k : ℕ) → v.owner k ≡ Some t → v'.owner k ≡ Some t) → heap_of l' t ≡ heap_of l t → BegunStands v l t b → BegunStands v' l' t b
 
 -- COPIES: what copying made of a part fits for the end of its collection alone
-
--- whatever others enter before that
-abbrev pub CopiesStay : Type 0
-CopiesStay =
-    (p : ProgramText) (s : SettingsValue) (t : ℕ) (h h' : Belongings) (f : Addr → Addr) (v v' : Memory) (l l' : Ledger) → SoundLedger l → AlikeFor t l l' → ((k : ℕ) → v.owner k ≡ Some t → v'.owner k ≡ Some t)
-    → l'.machine.end ≡ None → WorkerFits p s (before s t h) v' l' → CopyFits p s t h h' f v l → CopyFits p s t h h' f v' l'
 
 -- the end of the collection is what the law on collections asks for, and after it the part fits
 abbrev pub CopiesEnd : Type 0

@@ -6,7 +6,7 @@ use Rattle.core_relation.specs.Counts.{CountsGo, IsQuiet, IsMarked}
 use Rattle.core_relation.specs.RanCounts.{RanCounts}
 use Rattle.run_trace.specs.Entry.{EntryValue}
 use Rattle.run_trace.specs.declared.entry.Kind.TheVariants.{Took, Ran, Sweep, End}
-use Rattle.run_ledger.specs.Journals.{ledger_of, is_legal, opening}
+use Rattle.run_ledger.specs.Journals.{ledger_of, is_legal}
 use Rattle.run_ledger.specs.Entries.{refusal, after, out_from}
 use Rattle.run_ledger.specs.Steps.{task_steps}
 use Rattle.core_relation.specs.Since.{AllNoted, MarksOn, NotesStay, OthersNotes}
@@ -24,13 +24,10 @@ use Rattle.ledger_step_laws.specs.Accounts.{Rests}
 use Rattle.core_relation.specs.Stands.{Stands}
 use Rattle.core_relation.specs.Fits.{part_for}
 use Rattle.core_relation.specs.Changes.{KeepsJust, SameBut, SameObjects}
-use Rattle.core_entry_laws.specs.First.{first, first_tree_counts}
+use Rattle.core_entry_laws.specs.First.{first}
 use Rattle.core_relation.specs.Worker.{WorkerFits}
 
 -- THE WHOLE RELATION before any entry
-
-abbrev pub FirstStandsFor : Type 0
-FirstStandsFor = (p : ProgramText) (s : SettingsValue) → StandsForAll (first p) first_tree_counts (opening p s)
 
 -- and past each accepted one
 
@@ -82,12 +79,6 @@ WholeStands =
 
 abbrev pub WholeNotes : Type 0
 WholeNotes = (v : Memory) (c : TreeCounts) (l : Ledger) → StandsFor v c l → AllNoted v l
-
--- the tree and the counts past each accepted entry that isn't of steps
-abbrev pub CountsStand : Type 0
-CountsStand =
-    (p : ProgramText) (s : SettingsValue) (journal : List EntryValue) → IsProgram p → is_legal p s journal ≡ true → (c c' : TreeCounts) → let l : Ledger = ledger_of p s journal in TreeCountsStand c l
-    → (e : EntryValue) → refusal p s l e ≡ None → CountsGo p s l c c' e.worker e.kind → TreeCountsStand c' (after p s l e)
 
 -- the task that a worker holds is the first that the accounts say it holds
 abbrev pub TasksOutAreTold : Type 0

@@ -3,17 +3,11 @@ use Rattle.std.specs.Prelude.{◌≡◌, ◌⊎◌, ◌↔◌, ℕ, true, Some, 
 use Rattle.walk_laws.specs.Reached.{IsReached}
 use Rattle.object_layout.specs.declared.word.Addr.{Addr}
 use Rattle.object_layout.specs.Objects.{Located}
-use Rattle.hh_model.specs.declared.data.Task.{Task}
-use Rattle.hh_model.specs.Step.{is_waiting}
 use Rattle.run_ledger.specs.declared.data.Ledger.{Ledger}
-use Rattle.run_ledger.specs.Heaps.{heap_of}
-use Rattle.run_ledger.specs.Sound.{SoundLedger}
 use Rattle.task_frames.specs.declared.frames.Frame.{Frame}
-use Rattle.ledger_step_laws.specs.Accounts.{Rests}
-use Rattle.core_relation.specs.Memory.{In, Memory, object_name, objects}
-use Rattle.core_relation.specs.Stands.{Stands}
+use Rattle.core_relation.specs.Memory.{In, Memory}
 use Rattle.core_relation.specs.Begins.{IsAt, IsRoot, LeadsAt}
-use Rattle.core_relation.specs.Since.{Since, kept}
+use Rattle.core_relation.specs.Since.{kept}
 
 -- walks start at an object that a register or a root names, or that was kept
 abbrev pub StartsNow : Memory → Ledger → ℕ → Addr → Type 0
@@ -21,9 +15,3 @@ StartsNow v l t a = (o : Located) × IsAt (v.belongings t) a o × (((f : Frame) 
 
 abbrev pub IsReachedNow : Memory → Ledger → ℕ → Addr → Type 0
 IsReachedNow v l t a = IsReached (StartsNow v l t) (LeadsAt (v.belongings t)) a
-
--- that is its snapshot
-abbrev pub SnapshotsAreNow : Type 0
-SnapshotsAreNow =
-    (v : Memory) (l : Ledger) (t : ℕ) (x : Task) → SoundLedger l → Stands v l → slice_get l.machine.tasks t ≡ Some x → is_waiting (slice_get l.machine.tasks t) ≡ true → Rests l t → Since v l t
-    → (q : Located) → In (objects v t) q → IsReachedNow v l t q.at ↔ In (heap_of l t).snapshot (object_name q)

@@ -13,9 +13,9 @@ use Rattle.run_ledger.specs.Journals.{ledger_of, is_legal}
 use Rattle.run_ledger.specs.Steps.{task_steps}
 use Rattle.hh_model.specs.declared.data.Frame.{Frame as ModelFrame}
 use Rattle.task_frames.specs.declared.frames.Frame.{Frame}
-use Rattle.ledger_step_laws.specs.Accounts.{AlikeFor, Knows, StepsAlone, rested}
+use Rattle.ledger_step_laws.specs.Accounts.{Knows, StepsAlone, rested}
 use Rattle.ledger_step_laws.specs.Kinds.{onward_with}
-use Rattle.ledger_step_laws.specs.Last.{GoesOn, Runs, stepped_by}
+use Rattle.ledger_step_laws.specs.Last.{Runs, stepped_by}
 use Rattle.core_relation.specs.Memory.{Belongings, Memory}
 use Rattle.core_relation.specs.Changes.{KeepsJust, SameBut, SameObjects, gone_on}
 use Rattle.core_relation.specs.Reads.{FrameIsRead}
@@ -108,9 +108,3 @@ NumbersGo =
 abbrev pub AllFitTogether : Type 0
 AllFitTogether =
     (p : ProgramText) (s : SettingsValue) (qs : List Part) (v : Memory) (l : Ledger) → Knows l → l.machine.end ≡ None → Stands v l → WorkersFit p s qs v l → Stands (with_all_belongings v qs) (all_ahead p qs l)
-
--- an entry of steps leaves the accounts alike for each other task with a part
-abbrev pub RanAlike : Type 0
-RanAlike =
-    (p : ProgramText) (s : SettingsValue) (v : Memory) (l l' : Ledger) (t w k : ℕ) (h : Belongings) → (E : Runs p s l l' t w k) → WorkerFits p s (part_for s t h (taken_by E.splits.kind k)) v l
-    → (r : Part) → (t ≡ r.task → ⊥) → WorkerFits p s r v l → GoesOn E.splits.kind → AlikeFor r.task l l'

@@ -4,21 +4,17 @@ use Rattle.std.proofs.lemmas.Bool.{cases_Bool, cases_eq}
 use Rattle.object_layout.specs.ChunkValue.{ChunkValue}
 use Rattle.object_layout.specs.Chunks.{has_chunk}
 use Rattle.heap_tree.specs.Walk.{IsUpFrom}
-use Rattle.heap_tree.specs.Node.{Node, forked, parent_of}
+use Rattle.heap_tree.specs.Node.{Node, parent_of}
 use Rattle.chunk_pool.specs.PoolValue.{PoolValue}
 use Rattle.remembered_set.specs.declared.remembered.Source.{Source}
 use Rattle.remembered_set.specs.Sources.{lifted}
 use Rattle.remembered_set.proofs.LiftLemmas.{lifted_are_there}
 use Rattle.fork_join.specs.Joined.{joined_nodes}
 use Rattle.fork_join.specs.Placement.{Field, IsPlaced, Owns}
-use Rattle.fork_join.specs.Laws.{ForksKeepPlacement, JoinsKeepPlacement, Merges}
+use Rattle.fork_join.specs.Laws.{Merges}
 use Rattle.fork_join.proofs.Owners.{some_same, Moved, moved}
-use Rattle.fork_join.proofs.Walks.{forked_parent, joined_parent, up_kept, up_more, up_over}
+use Rattle.fork_join.proofs.Walks.{joined_parent, up_kept, up_more, up_over}
 
-pub forks_keep_placement : ForksKeepPlacement
-forks_keep_placement = λ fields nodes pool sources after t grow placed f is from into a b. elim (placed f is from into a b) [
-  | inl up ↦ inl (up_kept (parent_of nodes) (parent_of (forked nodes t)) (forked_parent nodes t) from into up)
-  | inr noted ↦ inr (grow into (record { object = f.object; field = f.number }) noted)
 ]
 
 module _ (nodes : List Node) (old new : PoolValue) (sources after : ℕ → List Source) (p c d : ℕ) (ks ls rs : List ChunkValue) (op : Owns old p ks) (oc : Owns old c ls) (od : Owns old d rs)
@@ -96,6 +92,3 @@ module _ (nodes : List Node) (old new : PoolValue) (sources after : ℕ → List
         | inl up ↦ inl (up_after f.object.chunk f.target.chunk from into u.0 z.0 u.1 z.1 up)
         | inr noted ↦ noted_after s f.target.chunk from into u.0 z.0 u.1 z.1 noted
       ])
-
-pub joins_keep_placement : JoinsKeepPlacement
-joins_keep_placement = λ fields nodes old new sources after p c d ks ls rs op oc od pc pd J placed f is. placed_after nodes old new sources after p c d ks ls rs op oc od pc pd J f (placed f is)

@@ -3,8 +3,8 @@ use Rattle.std.proofs.Common.{◌≡◌, ℕ, zero, suc, ◌<◌, refl, sym, ap,
 use Rattle.std.specs.Prelude.{option_and_then}
 use Rattle.heap_tree.specs.declared.state.State.TheVariants.{Ready, Joined}
 use Rattle.heap_tree.specs.Walk.{ancestor, IsUpFrom}
-use Rattle.heap_tree.specs.Node.{Node, forked, parent_in, parent_of, with_state}
-use Rattle.heap_tree.proofs.ChangeLemmas.{old_parent, states_change}
+use Rattle.heap_tree.specs.Node.{Node, parent_in, parent_of, with_state}
+use Rattle.heap_tree.proofs.ChangeLemmas.{states_change}
 use Rattle.fork_join.specs.Joined.{joined_nodes}
 use Rattle.fork_join.proofs.Owners.{some_same}
 
@@ -48,6 +48,3 @@ within : (xs : List Node) (u q : ℕ) → parent_in (slice_get xs u) ≡ Some q 
 within [] u q e = absurd (let m : None ≡ Some q = e in cc)
 within (x ∷ xs) zero q e = omega arith
 within (x ∷ xs) (suc u) q e = let h : u < length xs = within xs u q e in omega arith
-
-pub forked_parent : (nodes : List Node) (t u q : ℕ) → parent_of nodes u ≡ Some q → parent_of (forked nodes t) u ≡ Some q
-forked_parent nodes t u q e = old_parent nodes t u (within nodes u q e) ∙ e

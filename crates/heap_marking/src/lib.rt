@@ -3,16 +3,12 @@
 
 mod causes;
 mod forks;
-mod laws;
 mod pace;
 mod starts;
 mod sweep;
 
 pub use causes::{marking_cause, waiting_cause, words_cause};
 pub use forks::fork_in;
-pub use laws::{
-    marked_heap_stands, marks_begin, marks_count, marks_enter, marks_go_further, marks_refuse,
-};
-pub use pace::{Fork, Pace, PreviousKind, is_joined, paces_stay};
+pub use pace::{Fork, Pace, PreviousKind, is_joined};
 pub use starts::begin_marking;
 pub use sweep::{drop_unmarked, forget_kept};

@@ -1,7 +1,7 @@
 // What is kept of a worker's own entries, as far as the pace of inner collections asks.
 
 ghost use Rattle.std.specs.Prelude.{◌≡◌, ◌∷◌, ◌++◌, ◌<◌, ◌-◌, [], OnOk};
-ghost use Rattle.heap_marking.specs.Pace.{is_state_joined, previous_of, PacesStay};
+ghost use Rattle.heap_marking.specs.Pace.{is_state_joined, previous_of};
 ghost use Rattle.listed.specs.Options.{option_is};
 
 use heap_tree::State;
@@ -83,11 +83,6 @@ impl Pace {
         self.previous = PreviousKind::Other;
     }
 }
-
-/// An accepted entry keeps what is kept of each worker.
-pub fn paces_stay()
-    ensures { PacesStay }
-{}
 
 /// Whether a task that is at this has joined.
 pub fn is_joined(state: Option<State>) -> bool

@@ -7,7 +7,7 @@ use Rattle.heap_tree.specs.declared.state.State.{State}
 use Rattle.heap_tree.specs.declared.state.State.TheVariants.{Waiting}
 use Rattle.heap_tree.specs.Node.{Node, parent_in, parent_of, set_at, state_of, with_state, child_of, forked}
 use Rattle.heap_tree.specs.Pairs.{ArePaired, sibling}
-use Rattle.heap_tree.specs.Laws.{ForkMakes, ForksMake, PairsStay, StatesChange}
+use Rattle.heap_tree.specs.Laws.{ForkMakes, StatesChange}
 use Rattle.listed.proofs.Members.{got_front, got_other, view_step}
 use Rattle.listed.proofs.Places.{got_last, got_none, got_set}
 
@@ -96,9 +96,6 @@ module _ (nodes : List Node) (t : ℕ) where
     others = λ u lt ne. ap state (old_node u lt) ∙ (changes_by nodes t Waiting (slice_get nodes t) refl).3 u ne;
   }
 
-pub forks_make : ForksMake
-forks_make nodes t made = makes nodes t made
-
 -- ---- siblings
 
 sibling_left : (t : ℕ) → t % 2 ≡ 1 → sibling t ≡ t + 1
@@ -146,9 +143,4 @@ module _ (nodes : List Node) (t : ℕ) (pairs : ArePaired nodes) where
     shared = λ u made child. shared_by u (subst (λ (n : ℕ). u < n) (all nodes t) made) child (cases_lt u (length nodes));
   }
 
-pub pairs_stay : PairsStay
-pairs_stay = record {
-  first = record { odd = refl; shared = λ u made child. absurd (child (omega arith)) };
-  forks = forks;
-  states = states;
 }

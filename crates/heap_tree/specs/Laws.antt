@@ -27,9 +27,6 @@ pub record ForkMakes (nodes : List Node) (t : ℕ) : Type 0 where
   pub right_ready : state_of (forked nodes t) (length nodes + 1) ≡ Some Ready
   pub others : (u : ℕ) → u < length nodes → u ≢ t → state_of (forked nodes t) u ≡ state_of nodes u
 
-abbrev pub ForksMake : Type 0
-ForksMake = (nodes : List Node) (t : ℕ) → t < length nodes → ForkMakes nodes t
-
 -- the tasks of the root alone are paired, and forks and changes of state keep them so
 pub record PairsStay : Type 0 where
   pub first : ArePaired (root_node ∷ [])

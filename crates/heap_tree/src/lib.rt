@@ -2,12 +2,10 @@
 #![tactic(auto)]
 
 mod entries;
-mod laws;
 mod links;
 mod state;
 mod tree;
 
 pub use far_links::LinkCount;
-pub use laws::{forks_make, pairs_stay, states_change};
 pub use state::State;
 pub use tree::Tree;

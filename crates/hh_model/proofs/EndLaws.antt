@@ -2,7 +2,6 @@
 use Rattle.std.proofs.Common.{◌≡◌, ℕ, true, false, Option, Some, None, List, [], ◌∷◌, ◌++◌, slice_get, slice_set, ◌⊎◌, inl, inr, refl, ap, sym, subst, ◌∙◌, is_some, append_assoc}
 use Rattle.std.proofs.lemmas.Bool.{cases_eq, false≢true}
 use Rattle.std.proofs.lemmas.Option.{same_Some}
-use Rattle.listed.proofs.Members.{got_same, got_other}
 use Rattle.listed.proofs.Options.{none_some}
 use Rattle.hh_lang.specs.Form.{ProgramText}
 use Rattle.hh_model.specs.declared.data.Task.{Task}
@@ -11,10 +10,10 @@ use Rattle.hh_model.specs.declared.data.End.TheVariants.{Done}
 use Rattle.hh_model.specs.declared.data.State.{State}
 use Rattle.hh_model.specs.Step.{can_step, ended_task, goes_on, is_running, result_of, run, run_from, start, step}
 use Rattle.hh_model.specs.Tree.{IsForkJoinState}
-use Rattle.hh_model.specs.Ends.{EndsAreSteps, EndsDone, IsEnded, RunningIsARun, unended}
+use Rattle.hh_model.specs.Ends.{EndsDone, IsEnded, unended}
 use Rattle.hh_model.proofs.Counts.{run_push}
 use Rattle.hh_model.proofs.ForkJoinStates.{run_is_fork_join_state, start_is_fork_join_state}
-use Rattle.hh_model.proofs.Root.{OneRoot, one_root, run_root}
+use Rattle.hh_model.proofs.Root.{OneRoot, run_root}
 use Rattle.hh_model.proofs.Steps.{step_cases}
 use Rattle.hh_model.proofs.Taken.{step_idle}
 
@@ -87,37 +86,3 @@ module _ (p : ProgramText) (limit : ℕ) (all : List ℕ) (e : End) where
         → run_from p (step p (At before) t) rest ≡ At all → (o : Option End) → (step p (At before) t).end ≡ o → IsEnded p limit all e
     ends_by before t rest more is going whole None ends = more (ap (λ (m : State). m.end) (run_push p (start p limit) before t) ∙ ends)
     ends_by before t rest more is going whole (Some q) ends = ends_here before t rest q is going ends whole h
-
-    ends_from : (rest before : List ℕ) → all ≡ before ++ rest → (At before).end ≡ None → run_from p (At before) rest ≡ At all → IsEnded p limit all e
-    ends_from [] before is going whole = none_some (sym going ∙ (ap (λ (m : State). m.end) whole ∙ h))
-    ends_from (t ∷ rest) before is going whole =
-        ends_by before t rest
-        (λ none. ends_from rest (before ++ t ∷ []) (is ∙ sym (append_assoc before (t ∷ []) rest)) none (ap (λ m. run_from p m rest) (run_push p (start p limit) before t) ∙ whole))
-        is going whole (step p (At before) t).end refl
-
-pub ends_are_steps : EndsAreSteps
-ends_are_steps p limit ts e h = ends_from p limit ts e h ts [] refl refl refl
-
-module _ (p : ProgramText) (limit : ℕ) (ts : List ℕ) (t : ℕ) (runs : is_running (slice_get (run p limit ts).tasks t) ≡ true) where
-  root_ran : (e : End) (E : IsEnded p limit ts e) → EndsDone (run p limit E.before) e (run p limit ts) → ⊥
-  root_ran e E D =
-      let b : State = run p limit E.before in
-      let tasks : (run p limit ts).tasks ≡ slice_set b.tasks 0 (ended_task D.root (result_of D.root.top)) = ap (λ (m : State). m.tasks) D.ended in
-      let runs' : is_running (slice_get (slice_set b.tasks 0 (ended_task D.root (result_of D.root.top))) t) ≡ true = ap (λ xs. is_running (slice_get xs t)) (sym tasks) ∙ runs in
-      elim (cases_eq t 0) [
-        | inl first ↦
-            false≢true (ap is_running (sym (got_same b.tasks 0 D.root (ended_task D.root (result_of D.root.top)) D.is))
-            ∙ (ap (λ k. is_running (slice_get (slice_set b.tasks 0 (ended_task D.root (result_of D.root.top))) k)) (sym first) ∙ runs'))
-        | inr other ↦
-            other ((one_root b (run_is_fork_join_state p (start p limit) E.before (start_is_fork_join_state p limit)) (run_root p limit E.before)).alone t (ap is_running D.is ∙ D.running)
-            (ap is_running (sym (got_other b.tasks 0 t (ended_task D.root (result_of D.root.top)) other)) ∙ runs'))
-      ]
-
-  running_by : (o : Option End) → (run p limit ts).end ≡ o → (us : List ℕ) × (unended (run p limit ts) ≡ run p limit us)
-  running_by None h = (ts, still (run p limit ts) h)
-  running_by (Some e) h =
-      let E = ends_are_steps p limit ts e h in
-      elim (E.changes) [ inl same ↦ (E.before, same) | inr D ↦ absurd (root_ran e E D) ]
-
-pub running_is_a_run : RunningIsARun
-running_is_a_run p limit ts t runs = running_by p limit ts t runs (run p limit ts).end refl

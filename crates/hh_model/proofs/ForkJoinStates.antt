@@ -23,7 +23,6 @@ use Rattle.hh_model.proofs.Walks.{decides_none, same_itself}
 use Rattle.hh_model.proofs.Tree.{Known}
 use Rattle.hh_model.proofs.Stores.{StandsAs, Keeps, effect_keeps}
 use Rattle.hh_model.proofs.Runs.{waiting, joins_of, joins_in, TreeOf, same_tree, running_tells, ended_tells, grown_length, grown_view, fork_tree, join_tree, join_joins, join_length}
-use Rattle.hh_model.specs.Tree.{RunsAreForkJoinStates}
 pub use Rattle.hh_model.specs.Tree.{StoreOf, IsForkJoinStateIn, IsForkJoinState}
 
 store_wider : (n n' : ℕ) (js js' : ℕ → ℕ) (store : List (List Object)) → n ≤ n' → ((u : ℕ) → js u ≤ js' u) → StoreOf n js store → StoreOf n' js' store
@@ -238,6 +237,3 @@ path_is_precedence_in m K t x n o is run e =
 
 pub path_is_precedence : PathIsPrecedence
 path_is_precedence p limit ts = path_is_precedence_in (run p limit ts) (run_is_fork_join_state p (start p limit) ts (start_is_fork_join_state p limit))
-
-pub runs_are_fork_join_states : RunsAreForkJoinStates
-runs_are_fork_join_states p limit ts = run_is_fork_join_state p (start p limit) ts (start_is_fork_join_state p limit)

@@ -8,10 +8,10 @@ use Rattle.hh_model.specs.declared.data.Status.TheVariants.{Waiting}
 use Rattle.hh_model.specs.declared.data.Task.{Task}
 use Rattle.hh_model.specs.declared.data.State.{State}
 use Rattle.hh_model.specs.Effect.{onward}
-use Rattle.hh_model.specs.Step.{step, run, start, parent_of, child, joined_task, resumed, ended_task, result_of}
-use Rattle.hh_model.specs.Store.{TasksStay, MakesChildren, TasksAreNumbered}
+use Rattle.hh_model.specs.Step.{step, run, parent_of, child, joined_task, resumed, ended_task, result_of}
+use Rattle.hh_model.specs.Store.{TasksStay, MakesChildren}
 use Rattle.hh_model.proofs.Runs.{grown_length, grown_left, grown_right}
-use Rattle.hh_model.proofs.ForkJoinStates.{IsForkJoinState, start_is_fork_join_state, run_is_fork_join_state}
+use Rattle.hh_model.proofs.ForkJoinStates.{IsForkJoinState}
 use Rattle.hh_model.proofs.Steps.{step_cases}
 
 -- a task that stands where another stood, of the same parent and depth
@@ -76,6 +76,3 @@ module _ (p : ProgramText) (m : State) (t : ℕ) (K : IsForkJoinState m) where
       ip2 l parent xl xr xp ip il ir pl =
           let lt : parent < l = K.tree.low l parent (ap parent_of il ∙ pl) in
           got_other (slice_set m.tasks l (joined_task xl)) (l + 1) parent (joined_task xr) (λ e. omega arith) ∙ (got_other m.tasks l parent (joined_task xl) (λ e. omega arith) ∙ ip)
-
-pub tasks_are_numbered : TasksAreNumbered
-tasks_are_numbered p limit ts t = numbered p (run p limit ts) t (run_is_fork_join_state p (start p limit) ts (start_is_fork_join_state p limit))

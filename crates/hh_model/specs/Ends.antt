@@ -29,12 +29,3 @@ pub record IsEnded (p : ProgramText) (limit : ℕ) (ts : List ℕ) (e : End) : T
   pub going : (run p limit before).end ≡ None
   pub after : run p limit ts ≡ step p (run p limit before) last
   pub changes : (unended (run p limit ts) ≡ run p limit before) ⊎ EndsDone (run p limit before) e (run p limit ts)
-
-abbrev pub EndsAreSteps : Type 0
-EndsAreSteps = (p : ProgramText) (limit : ℕ) (ts : List ℕ) (e : End) → (run p limit ts).end ≡ Some e → IsEnded p limit ts e
-
--- so where a task still runs the state is that of a run but for its end
-abbrev pub RunningIsARun : Type 0
-RunningIsARun =
-    (p : ProgramText) (limit : ℕ) (ts : List ℕ) (t : ℕ) → is_running (slice_get (run p limit ts).tasks t) ≡ true
-    → (us : List ℕ) × (unended (run p limit ts) ≡ run p limit us)

@@ -39,12 +39,6 @@ pub record StaysAs (old new : Object) : Type 0 where
   pub ints : length new.ints ≡ length old.ints
   pub frozen : old.mutable ≡ false → new ≡ old
 
--- a step leaves every object in the store, and each as it was but the one that it writes by a putr, puti, cas or freeze
-abbrev pub NothingLeaves : Type 0
-NothingLeaves =
-    (p : ProgramText) (limit : ℕ) (ts : List ℕ) (t : ℕ) (n : Name) (o : Object) → object_at (run p limit ts).store n ≡ Some o
-    → (new : Object) × (object_at (step p (run p limit ts) t).store n ≡ Some new) × StaysAs o new × ((new ≡ o) ⊎ WritesNext p (run p limit ts) t n)
-
 -- so each object is there after any further steps
 abbrev pub ObjectsStay : Type 0
 ObjectsStay =
@@ -89,9 +83,3 @@ abbrev pub TasksStay : State → State → Type 0
 TasksStay m m' =
     (u : ℕ) (x : Task) → slice_get m.tasks u ≡ Some x
     → (y : Task) × (slice_get m'.tasks u ≡ Some y) × (y.parent ≡ x.parent) × (y.depth ≡ x.depth)
-
--- tasks are numbered in the order of the forks, left and then right
-abbrev pub TasksAreNumbered : Type 0
-TasksAreNumbered =
-    (p : ProgramText) (limit : ℕ) (ts : List ℕ) (t : ℕ)
-    → let m = run p limit ts in TasksStay m (step p m t) × ((length (step p m t).tasks ≡ length m.tasks) ⊎ MakesChildren p m (step p m t) t)

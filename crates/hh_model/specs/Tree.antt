@@ -10,7 +10,7 @@ use Rattle.hh_model.specs.declared.data.Task.{Task}
 use Rattle.hh_model.specs.declared.data.State.{State}
 use Rattle.hh_model.specs.Effect.{object_at}
 use Rattle.hh_model.specs.Precedence.{Precedes, precedes}
-use Rattle.hh_model.specs.Step.{is_waiting, is_running, is_on_path, parents, joined, owner_in, path_in, strand, sibling, step, run}
+use Rattle.hh_model.specs.Step.{is_waiting, is_running, is_on_path, parents, joined, owner_in, path_in, strand, sibling, run}
 
 -- WHICH TASKS WAIT, AND HOW OFTEN EACH WAS JOINED
 
@@ -70,12 +70,6 @@ pub record IsForkJoinStateIn (tasks : List Task) (edges : List Edge) (store : Li
 
 abbrev pub IsForkJoinState : State → Type 0
 IsForkJoinState m = IsForkJoinStateIn m.tasks m.edges m.store
-
-abbrev pub RunsAreForkJoinStates : Type 0
-RunsAreForkJoinStates = (p : ProgramText) (limit : ℕ) (ts : List ℕ) → IsForkJoinState (run p limit ts)
-
-abbrev pub StepsKeep : Type 0
-StepsKeep = (p : ProgramText) (m : State) (t : ℕ) → IsForkJoinState m → IsForkJoinState (step p m t)
 
 -- THE FIRST TASK
 

@@ -1,7 +1,7 @@
 -- Tasks, and the chunks that they own, in what was read.
 use Rattle.std.specs.Prelude.{◌≡◌, ◌<◌, ◌↔◌, ℕ, zero, suc, ◌==◌, ◌||◌, Bool, true, false, Option, Some, None, List, length, if◌then◌else◌}
 use Rattle.image_check.specs.declared.line.State.{State}
-use Rattle.image_check.specs.declared.line.State.TheVariants.{Running, Waiting, Ended}
+use Rattle.image_check.specs.declared.line.State.TheVariants.{Running}
 use Rattle.image_check.specs.declared.line.Task.{Task}
 use Rattle.image_check.specs.declared.line.Chunk.{Chunk}
 use Rattle.image_check.specs.declared.tasks.Relation.{Relation}

@@ -5,7 +5,7 @@ use Rattle.std.proofs.lemmas.List.{append-nil}
 use Rattle.std.specs.List.{IsDistinct}
 use Rattle.object_layout.specs.declared.word.Addr.{Addr}
 use Rattle.object_layout.proofs.Distinct.{Once, distinct_from, once_from, once_push, same_is, same_self}
-use Rattle.listed.proofs.Members.{In, any_from_in, in_from_any, in_append_left, in_append_right, in_append_cases, contains_from_in, in_from_contains}
+use Rattle.listed.proofs.Members.{In, any_from_in, in_from_any, in_append_left, in_append_right, in_append_cases, contains_from_in}
 use Rattle.inner_mark_gc.specs.MarkingValue.{has_address, noted, same_address}
 
 pub has_in : (xs : List Addr) (a : Addr) → has_address xs a ≡ true → In xs a

@@ -1,6 +1,6 @@
 // Laws of the snapshot, of a marking between two calls, and of a sweep.
 
-ghost use Rattle.inner_mark_gc.specs.Laws.{AllMarkedIsDone, SweptChunksHold, MarkingGoesOn, MarkingStaysOf, SnapshotIsOfRoots, SweptAreRead, SweptIsSnapshot};
+ghost use Rattle.inner_mark_gc.specs.Laws.{SweptChunksHold, MarkingGoesOn, MarkingStaysOf, SnapshotIsOfRoots, SweptAreRead, SweptIsSnapshot};
 
 /// What a marking starts from leads to just what the roots at the fork lead to, where each start is of that.
 pub fn snapshot_is_of_roots()
@@ -15,11 +15,6 @@ pub fn marking_goes_on()
 /// A marking stays one of its heap while only fields are written and more is kept.
 pub fn marking_stays_of()
     ensures { MarkingStaysOf }
-{}
-
-/// Where the whole snapshot is marked, all that was found is.
-pub fn all_marked_is_done()
-    ensures { AllMarkedIsDone }
 {}
 
 /// Once a heap is swept, what was marked is read as it was, and nothing else is there.

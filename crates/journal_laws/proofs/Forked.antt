@@ -21,16 +21,11 @@ use Rattle.path_laws.proofs.Leaves.{fork_owner, rows_same}
 use Rattle.hh_model.proofs.Paths.{path_same}
 use Rattle.hh_model.proofs.Runs.{running_tells, grown_at, grown_view_front, three_left, three_right, below}
 use Rattle.hh_model.proofs.Steps.{step_cases}
-use Rattle.run_ledger.specs.declared.data.Ledger.{Ledger}
-use Rattle.journal_laws.specs.Frozen.{ForksSetDown}
-use Rattle.run_ledger.specs.Heaps.{frames_of, heap_of, held, held_in, is_above, within}
+use Rattle.run_ledger.specs.Heaps.{frames_of, is_above, within}
 use Rattle.run_ledger.specs.Reachable.{reached, reached_by}
-use Rattle.run_ledger.specs.Steps.{allocated_by, allocated_in, at_fork, stepped_to, task_step}
-use Rattle.journal_laws.proofs.History.{fork_set_down, forks_at}
 use Rattle.run_ledger.proofs.Reached.{once_by}
-use Rattle.run_ledger.proofs.Machine.{stepped_machine}
 use Rattle.run_ledger.proofs.Booked.{wait_run}
-use Rattle.run_ledger.proofs.Steps.{can_tells, heap_of_task}
+use Rattle.run_ledger.proofs.Steps.{can_tells}
 
 -- WHAT IS REACHED, in stores with the same references
 
@@ -48,15 +43,6 @@ pub record SeesSame (m m' : State) (t : ℕ) : Type 0 where
   pub registers : registers (frames_of (slice_get m'.tasks t)) ≡ registers (frames_of (slice_get m.tasks t))
   pub above : (n : Name) → is_above m'.tasks (owner_of m'.tasks n.task) t ≡ is_above m.tasks (owner_of m.tasks n.task) t
   pub refs : (n : Name) → refs_at m'.store n ≡ refs_at m.store n
-
-within_sees : (l : Ledger) (m' : State) (n t : ℕ) → SeesSame l.machine m' t → within (record l { machine = m'; steps = n }) t ≡ within l t
-within_sees l m' n t V =
-    let refs : refs_at m'.store ≡ refs_at l.machine.store = fun_ext V.refs in
-    let names : List Name = held_in (heap_of l t) in
-    reached_same l.machine.store m'.store refs names _ (length names)
-    ∙ ap (reached l.machine.store names)
-    (ap₂ (λ a b. a ++ b) V.registers
-    (ap₂ (λ f above. flat_map f (filter above (held l))) refs (fun_ext V.above)))
 
 module _ (p : ProgramText) (m : State) (t : ℕ) (K : IsForkJoinState m) (can : can_step m t ≡ true) where
   abbrev Forked : State → Type 0
@@ -103,16 +89,3 @@ module _ (p : ProgramText) (m : State) (t : ℕ) (K : IsForkJoinState m) (can : 
     where
       idle : Forked m
       idle w = absurd (wait_run m t w (can_tells m t can).1)
-
-pub forks_set_down : ForksSetDown
-forks_set_down p l t S can w =
-    let m' : State = step p l.machine t in
-    let k : Ledger = stepped_to (allocated_in p l t) t m' in
-    let taken : task_step p l t ≡ k = cond-true (can_step l.machine t) k (record l { steps = l.steps + 1 }) can in
-    let w1 : waiting k.machine.tasks t ≡ true = ap (λ (q : Ledger). waiting q.machine.tasks t) (sym taken) ∙ w in
-    let w2 : waiting m'.tasks t ≡ true = ap (λ (m : State). waiting m.tasks t) (sym (stepped_machine (allocated_in p l t) t m')) ∙ w1 in
-    let F = forked p l.machine t S.0.fork_join can w2 in
-    let nothing : allocated_in p l t ≡ l = ap (allocated_by l t) F.0 in
-    let c : Ledger = record l { machine = m'; steps = l.steps + 1 } in
-    let forks : k ≡ at_fork c t = ap (λ b. stepped_to b t m') nothing ∙ forks_at p l l t S can w2 in
-    ap (λ (q : Ledger). (heap_of q t).snapshot) (taken ∙ forks) ∙ (fork_set_down c t (heap_of_task l t S.0 (can_tells l.machine t can).1).0 (heap_of_task l t S.0 (can_tells l.machine t can).1).1 ∙ within_sees l m' (l.steps + 1) t F.1)

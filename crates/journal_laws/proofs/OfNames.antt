@@ -9,9 +9,8 @@ use Rattle.hh_model.specs.Names.{registers, refs_at}
 use Rattle.hh_model.specs.Step.{owner_of}
 use Rattle.run_ledger.specs.declared.data.Heap.{Heap}
 use Rattle.run_ledger.specs.declared.data.Ledger.{Ledger}
-use Rattle.run_ledger.specs.Heaps.{fresh, held, frames_of, held_in, heap_at, heap_of, is_above, or_fresh, with_heap_at, within}
+use Rattle.run_ledger.specs.Heaps.{fresh, held, frames_of, held_in, heap_of, is_above, or_fresh, within}
 use Rattle.run_ledger.specs.Reachable.{reached}
-use Rattle.run_ledger.specs.Laws.{WithinIsOfNames}
 
 -- the names of all heaps, where one heap's account is written with the same names
 pub flat_set : (heaps : List Heap) (t : ℕ) (h h' : Heap) → slice_get heaps t ≡ Some h → held_in h' ≡ held_in h → flat_map held_in (slice_set heaps t h') ≡ flat_map held_in heaps
@@ -48,10 +47,3 @@ within_of l u ns hs =
 -- the same machine and the same names
 pub within_same : (l : Ledger) (heaps : List Heap) (u : ℕ) → flat_map held_in heaps ≡ held l → held_in (or_fresh (slice_get heaps u)) ≡ held_in (heap_of l u) → within (record l { heaps = heaps }) u ≡ within l u
 within_same l heaps u all own = ap₂ (within_of l u) own all
-
-pub within_is_of_names : WithinIsOfNames
-within_is_of_names l t u f same = by (heap_at l t) refl
-  where
-    by : (o : Option Heap) → heap_at l t ≡ o → within (with_heap_at l t f o) u ≡ within l u
-    by None e = refl
-    by (Some h) e = within_same l (slice_set l.heaps t (f h)) u (flat_set l.heaps t h (f h) e (same h)) (held_set l.heaps t h (f h) e (same h) u)

@@ -25,7 +25,7 @@ use Rattle.run_ledger.specs.Entries.{after, after_kind, is_fuel, kind_refusal, r
 use Rattle.run_ledger.specs.Journals.{after_all, is_legal, is_legal_from, ledger_of, opening}
 use Rattle.run_ledger.specs.Pace.{fork_of, gives, idle, is_mark_of, is_more_of, is_sweep_of, is_to_mark, is_under_way, is_unmarked, marked_at_once, more_of, noted, or_idle, owed, owed_after, owed_to_marks, pace_after, pace_after_all, pace_at_end, pace_of, pace_opening, previous_by, waits_on, waits_since}
 use Rattle.run_ledger.specs.Cuts.{Paced}
-use Rattle.journal_laws.specs.PaceLaw.{GoesOnMarking, IsLastBy, IsNewest, IsPaceOf, IsPrevious, IsToMark, IsUnderWay, KeepsRules, KeepsThePace, NoneBy, PaceIsOfEntries, PacedKeepsThePace, WaitsOn, fork_by, fork_marked, marked_forks, marked_task}
+use Rattle.journal_laws.specs.PaceLaw.{GoesOnMarking, IsLastBy, IsNewest, IsPaceOf, IsPrevious, IsToMark, IsUnderWay, KeepsRules, KeepsThePace, NoneBy, PacedKeepsThePace, WaitsOn, fork_by, fork_marked, marked_forks, marked_task}
 use Rattle.run_ledger.proofs.Cuts.{cut_legal}
 use Rattle.run_ledger.proofs.Journals.{none_unless, none_where}
 use Rattle.run_ledger.proofs.Machine.{heap_machine}
@@ -266,9 +266,6 @@ module _ (p : ProgramText) (s : SettingsValue) where
         marks_are journal (opening p s) (pace_opening s) w (length_opening s.workers) legal
         ∙ (ap (λ (y : WorkerPace). marked_forks p s w (opening p s) journal ++ y.marks) (idle_at s.workers w) ∙ append-nil (marked_forks p s w (opening p s) journal));
   }
-
-pub pace_is_of_entries : PaceIsOfEntries
-pace_is_of_entries p s journal w legal = pace_is p s journal w legal
 
 -- A WORKER'S LAST ENTRY IS ONE
 

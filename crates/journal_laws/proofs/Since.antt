@@ -17,7 +17,7 @@ use Rattle.run_ledger.specs.declared.data.RunEnd.TheVariants.{Pool}
 use Rattle.run_ledger.specs.Heaps.{heap_of, or_fresh, with_heap, with_heap_at, placed, is_small, chunk_words, in_use, collected, swept_heap}
 use Rattle.run_ledger.specs.Steps.{allocated_by, allocated_in, stepped_to, task_step, task_steps, on_asked}
 use Rattle.run_ledger.specs.Entries.{kind_refusal, after_kind, with_chunk, chunk_units}
-use Rattle.run_ledger.specs.Journals.{opening, after_all, ledger_of, is_legal, is_legal_from}
+use Rattle.run_ledger.specs.Journals.{opening, after_all, ledger_of, is_legal_from}
 use Rattle.run_ledger.specs.Space.{AsksAtMost, CountsFew, SinceIsBounded}
 use Rattle.run_trace.specs.declared.settings.Version.{Version}
 use Rattle.run_trace.specs.declared.settings.Version.TheVariants.{One, Two}
@@ -119,16 +119,6 @@ one_of : (heaps : List Heap) (t : ℕ) → (or_fresh (slice_get heaps t)).since 
 one_of [] t = omega arith
 one_of (h ∷ heaps) zero = let a = sum_by-cons since_in h heaps in omega arith
 one_of (h ∷ heaps) (suc t) = let a = sum_by-cons since_in h heaps in let b = one_of heaps t in omega arith
-
--- with any number that bounds what a step asks for
-pub since_is_bounded : (p : ProgramText) (s : SettingsValue) (journal : List EntryValue) (most : ℕ) → is_legal p s journal ≡ true → AsksAtMost p (field_limit s.version) most
-    → let l = ledger_of p s journal in (t : ℕ) → (heap_of l t).since ≤ most * l.steps
-since_is_bounded p s journal most legal asks t =
-    let l : Ledger = ledger_of p s journal in
-    let I = journal_bounded p (field_limit s.version) most asks s journal (opening p s) (opening_sound p s) (refl, omega arith) legal in
-    let a = one_of l.heaps t in
-    let b = I.1 in
-    omega arith
 
 pub limit_small : (v : Version) → field_limit v ≤ 1000000
 limit_small One = omega arith

@@ -7,13 +7,11 @@ use Rattle.run_trace.specs.Entry.{EntryValue}
 use Rattle.run_trace.specs.Settings.{SettingsValue}
 use Rattle.hh_lang.specs.Form.{ProgramText}
 use Rattle.hh_model.specs.declared.data.Name.{Name}
-use Rattle.hh_model.specs.Step.{can_step, is_waiting}
+use Rattle.hh_model.specs.Step.{is_waiting}
 use Rattle.run_ledger.specs.declared.data.Ledger.{Ledger}
 use Rattle.run_ledger.specs.Reachable.{is_name}
 use Rattle.run_ledger.specs.Heaps.{heap_of, held_in, within}
 use Rattle.run_ledger.specs.Journals.{ledger_of, is_legal}
-use Rattle.run_ledger.specs.Sound.{SoundAt}
-use Rattle.run_ledger.specs.Steps.{task_step}
 
 -- an entry begins a leaf collection of t
 abbrev pub begins : ℕ → Kind → Bool
@@ -58,12 +56,6 @@ abbrev pub SnapshotsAreWithin : Type 0
 SnapshotsAreWithin =
     (p : ProgramText) (s : SettingsValue) (journal : List EntryValue) (t : ℕ) → is_legal p s journal ≡ true
     → is_waiting (slice_get (ledger_of p s journal).machine.tasks t) ≡ true → ForkedWith p s journal t
-
--- a step after which its task waits is a fork, and sets down what was reached just before it
-abbrev pub ForksSetDown : Type 0
-ForksSetDown =
-    (p : ProgramText) (l : Ledger) (t : ℕ) → SoundAt t l → can_step l.machine t ≡ true → let l' = task_step p l t in is_waiting (slice_get l'.machine.tasks t) ≡ true
-    → (heap_of l' t).snapshot ≡ within l t
 
 -- the snapshot of a task that waits has each name once, and all of it is held in its heap
 pub record HoldsSnapshot (l : Ledger) (t : ℕ) : Type 0 where

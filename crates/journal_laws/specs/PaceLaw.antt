@@ -17,7 +17,7 @@ use Rattle.run_ledger.specs.declared.data.WorkerPace.{WorkerPace}
 use Rattle.run_ledger.specs.Heaps.{heap_of, left_in, words_in}
 use Rattle.run_ledger.specs.Entries.{after, is_fuel}
 use Rattle.run_ledger.specs.Journals.{is_legal, ledger_of, opening}
-use Rattle.run_ledger.specs.Pace.{fork_of, is_paced, marked_at_once, pace_at_end, pace_of}
+use Rattle.run_ledger.specs.Pace.{fork_of, is_paced, marked_at_once}
 
 -- A WORKER'S PREVIOUS ENTRY
 
@@ -72,10 +72,6 @@ marked_forks p s w l (e ∷ es) = marked_forks p s w (after p s l e) es ++ fork_
 pub record IsPaceOf (p : ProgramText) (s : SettingsValue) (w : ℕ) (journal : List EntryValue) (x : WorkerPace) : Type 0 where
   pub previous : IsPrevious p s w journal x.previous
   pub marks : x.marks ≡ marked_forks p s w (opening p s) journal
-
-abbrev pub PaceIsOfEntries : Type 0
-PaceIsOfEntries =
-    (p : ProgramText) (s : SettingsValue) (journal : List EntryValue) (w : ℕ) → is_legal p s journal ≡ true → IsPaceOf p s w journal (pace_of (pace_at_end p s journal) w)
 
 -- THREE RULES for an entry of a worker whose previous entry, at the end of `upto`, are steps of t
 

@@ -1,4 +1,3 @@
-pub mod Lists
 pub mod Laid
 pub mod Meets
 pub mod Owned

@@ -21,7 +21,6 @@ use Rattle.run_ledger.specs.Heaps.{let_go}
 use Rattle.run_ledger.specs.Steps.{is_private, touched}
 use Rattle.run_ledger.proofs.Machine.{heap_machine}
 use Rattle.ledger_step_laws.specs.Last.{LastKind, Private, Reading, Writing, Printing, Forking, Ending, Joining, Finishing, Halting, IsOfKind, IsApart, IsAt, JustReads, Wrote}
-use Rattle.ledger_step_laws.specs.Laws.{KindsExclude}
 
 -- WHAT A COMPARE AND SWAP FINDS
 
@@ -167,6 +166,3 @@ module _ (p : ProgramText) (l l' : Ledger) (t : ℕ) (x : Task) (line : Line) (I
   kind_is Finishing K a = by_all a _ (ap (λ (m : State). slice_get m.tasks t) (sym (heap_machine l' t let_go)) ∙ K.ends.ended) l'.machine.end refl ∙ ap by_parent K.root
   kind_is Halting K a =
       by_all a (Some x) (ap (λ (m : State). slice_get m.tasks t) K.machine ∙ I.task) (Some K.end) (ap (λ (m : State). m.end) K.machine) ∙ ap (λ s. by_status s x.parent Halting) I.runs
-
-pub kinds_exclude : KindsExclude
-kinds_exclude p l l' t x line I on a b K J L M = sym (kind_is p l l' t x line I on a K J) ∙ kind_is p l l' t x line I on b L M

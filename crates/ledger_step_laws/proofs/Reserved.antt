@@ -9,10 +9,8 @@ use Rattle.run_ledger.specs.declared.data.Ledger.{Ledger}
 use Rattle.run_ledger.specs.Heaps.{or_fresh}
 use Rattle.run_ledger.specs.Steps.{standing, task_step}
 use Rattle.run_ledger.proofs.Booked.{BookedLedger}
-use Rattle.run_ledger.proofs.Space.{legal_booked}
 use Rattle.ledger_step_laws.specs.Accounts.{ArePrivate}
 use Rattle.ledger_step_laws.specs.Last.{OnlyAskersReserve}
-use Rattle.ledger_step_laws.specs.Laws.{AskersReserve}
 
 pub booked_askers : (p : ProgramText) (s : SettingsValue) (l : Ledger) → BookedLedger p s l → OnlyAskersReserve p l
 booked_askers p s l B u none = by (slice_get l.heaps u) refl
@@ -24,9 +22,6 @@ booked_askers p s l B u none = by (slice_get l.heaps u) refl
     by : (o : Option Heap) → slice_get l.heaps u ≡ o → (or_fresh o).reserved ≡ 0
     by None e = refl
     by (Some h) e = zero_is h e (cases_lt 0 h.reserved)
-
-pub askers_reserve : AskersReserve
-askers_reserve p s journal legal = booked_askers p s _ (legal_booked p s journal legal)
 
 -- private steps that are neither due nor in need can stand in one entry
 pub private_stand : (p : ProgramText) (s : SettingsValue) (t k : ℕ) (l : Ledger) → ArePrivate p s l t k → k ≤ standing s p l t k

@@ -18,9 +18,9 @@ use Rattle.hh_model.specs.Effect.{Effect, Goes, Stops, Setting, effect, int_in, 
 use Rattle.hh_model.specs.Precedence.{Precedes, precedes}
 use Rattle.hh_model.specs.Step.{can_step, ended_by, ended_task, follow, goes_on, is_running, joined, owner_of, parents, result_of, run, setting, start, step, strand_of}
 use Rattle.hh_model.specs.Tree.{IsForkJoinState, waiting, joins_in}
-use Rattle.path_laws.specs.ReadLaws.{IsDecided, IsRead, IsStopped, ReadsAreDecided, ReadsNext, StopsAreReads, StopsRead}
+use Rattle.path_laws.specs.ReadLaws.{IsDecided, IsRead, IsStopped, ReadsAreDecided, ReadsNext, StopsRead}
 use Rattle.hh_model.proofs.ForkJoinStates.{run_is_fork_join_state, start_is_fork_join_state}
-use Rattle.hh_model.proofs.Steps.{Halts, step_cases}
+use Rattle.hh_model.proofs.Steps.{Halts}
 use Rattle.hh_model.proofs.Taken.{step_taken}
 use Rattle.hh_model.proofs.Tree.{owner_not_joined}
 use Rattle.listed.proofs.Options.{none_some}
@@ -136,12 +136,3 @@ module _ (p : ProgramText) (m : State) (t : ℕ) (K : IsForkJoinState m) (going 
       done : Some Done ≡ Some (Entangled reader owner) → ⊥
       done a = cc
   ends x parent e is run' pp (inr child) reader owner h = same (record m { tasks = slice_set m.tasks t (ended_task x (result_of x.top)); end = e }) child.1 reader owner h
-
-  stopped_step : Stopped (step p m t)
-  stopped_step =
-      step_cases p m t K Stopped (same m refl) halts (λ x y store outs is run ep ed es ej names fields alters grows. same (record m { tasks = slice_set m.tasks t y; store = store; outputs = outs }) refl)
-      (λ x parent e is run pp which result. ends x parent e is run pp which) (λ x g h is run next top reader owner q. same m refl reader owner q)
-      (λ parent l xp xl xr rl rr ip il ir pl left dl dr wl wr nl nr side reader owner q. same m refl reader owner q)
-
-pub stops_are_reads : StopsAreReads
-stops_are_reads p limit ts t reader owner going h = stopped_step p (run p limit ts) t (run_is_fork_join_state p (start p limit) ts (start_is_fork_join_state p limit)) going reader owner h

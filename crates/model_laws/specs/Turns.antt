@@ -1,12 +1,8 @@
 -- Runs step by step.
 use Rattle.std.specs.Prelude.{◌≡◌, ℕ, ◌+◌, true, Some, None, List, take, slice_get}
-use Rattle.hh_lang.specs.declared.program.Line.{Line}
 use Rattle.hh_lang.specs.Form.{ProgramText}
-use Rattle.hh_model.specs.declared.data.Task.{Task}
 use Rattle.hh_model.specs.declared.data.State.{State}
-use Rattle.hh_model.specs.Effect.{effect}
-use Rattle.hh_model.specs.Step.{can_step, follow, run, setting, step}
-use Rattle.hh_model.specs.Store.{IsNext}
+use Rattle.hh_model.specs.Step.{can_step, run, step}
 
 module _ (p : ProgramText) (limit : ℕ) (ts : List ℕ) where
   -- the machine after the first so many steps of the list
@@ -22,12 +18,3 @@ module _ (p : ProgramText) (limit : ℕ) (ts : List ℕ) where
   pub record GoesOn (i : ℕ) : Type 0 where
     pub next : (t : ℕ) → slice_get ts i ≡ Some t → after (i + 1) ≡ step p (after i) t
     pub past : slice_get ts i ≡ None → after (i + 1) ≡ after i
-
-abbrev pub RunsGoOn : Type 0
-RunsGoOn = (p : ProgramText) (limit : ℕ) (ts : List ℕ) (i : ℕ) → GoesOn p limit ts i
-
--- a step that can be taken does what the next instruction does
-abbrev pub StepsAreTaken : Type 0
-StepsAreTaken =
-    (p : ProgramText) (m : State) (t : ℕ) (x : Task) (line : Line) → can_step m t ≡ true → IsNext p m t x line
-    → step p m t ≡ follow m t x line.number (effect (setting m t x) x.top m.store line.instr)

@@ -3,9 +3,4 @@
 
 mod laws;
 
-pub use laws::{
-    always_next, ends_are_steps, limit_stays, one_winner, packs_are_few, path_is_precedence,
-    reads_are_decided, running_is_a_run, runs_are_counted, runs_are_fork_join_states, runs_go_on,
-    runs_have_one_root, sizes_are_bounded, some_cas_wins, steps_are_taken, steps_count, steps_keep,
-    stops_are_reads, tasks_are_numbered,
-};
+pub use laws::{one_winner, path_is_precedence, reads_are_decided, some_cas_wins};

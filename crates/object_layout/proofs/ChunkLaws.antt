@@ -7,9 +7,9 @@ use Rattle.std.proofs.lemmas.List.{get_or-set_same}
 use Rattle.object_layout.specs.declared.word.Addr.{Addr}
 use Rattle.object_layout.specs.Cell.{Cell, Mark, Born, Moved, Hole, IsBorn, IsObject, as_object, no_cell, with_ref, size_of}
 use Rattle.object_layout.specs.ChunkValue.{ChunkValue}
-use Rattle.object_layout.specs.Place.{cell_at, put_cell, words_in}
+use Rattle.object_layout.specs.Place.{cell_at, put_cell}
 use Rattle.object_layout.proofs.PlaceLemmas as place
-use Rattle.object_layout.specs.Chunks.{cell_of, chunk_at, next_address, no_chunk, object_of, place_in, place_of, push_object, put_object, with_cell}
+use Rattle.object_layout.specs.Chunks.{cell_of, chunk_at, next_address, object_of, place_in, place_of, push_object, put_object, with_cell}
 use Rattle.object_layout.proofs.PlaceLemmas.{object_of_born}
 
 -- ---- where a chunk is found
@@ -239,26 +239,3 @@ cell_of-push_other (k ∷ ks) (suc i) c b ne =
     (λ (e : eqb k.number b.chunk ≡ true). rw e)
     (λ (e : eqb k.number b.chunk ≡ false). rw e (cell_of-push_other ks i c b ne))
     (cases_Bool (eqb k.number b.chunk))
-
-place_of-push : (ks : List ChunkValue) (i : ℕ) (c : Cell) (n : ℕ) → place_of (push_object ks i c) n ≡ place_of ks n
-place_of-push [] i c n = refl
-place_of-push (k ∷ ks) zero c n = refl
-place_of-push (k ∷ ks) (suc i) c n = rw (place_of-push ks i c n)
-
-set_again : (ks : List ChunkValue) (i : ℕ) (x y : ChunkValue) → set (set ks i x) i y ≡ set ks i y
-set_again [] i x y = refl
-set_again (k ∷ ks) zero x y = refl
-set_again (k ∷ ks) (suc i) x y = ap (λ (xs : List ChunkValue). k ∷ xs) (set_again ks i x y)
-
-pub put_object-pushed : (ks : List ChunkValue) (i : ℕ) (c d : Cell) → place_of ks (chunk_at ks i).number ≡ i → i < length ks →
-    put_object (push_object ks i c) (next_address (chunk_at ks i)) d ≡ push_object ks i d
-put_object-pushed ks i c d found l =
-    let fuller : ChunkValue = record (chunk_at ks i) { cells = (chunk_at ks i).cells ++ c ∷ [] } in
-    let where' : place_of (push_object ks i c) (chunk_at ks i).number ≡ i = place_of-push ks i c (chunk_at ks i).number ∙ found in
-    let inside : place_of (push_object ks i c) (chunk_at ks i).number < length (push_object ks i c) = rw (where', length-set) l in
-    let there : get_or (push_object ks i c) i no_chunk ≡ fuller = get_or-set_same ks i fuller no_chunk l in
-    put_object-found (push_object ks i c) (next_address (chunk_at ks i)) d no_chunk inside
-    ∙ (ap (λ (n : ℕ). set (push_object ks i c) n (with_cell (get_or (push_object ks i c) n no_chunk) (words_in (chunk_at ks i).cells) d)) where'
-    ∙ (ap (λ (k : ChunkValue). set (push_object ks i c) i (with_cell k (words_in (chunk_at ks i).cells) d)) there
-    ∙ (set_again ks i fuller (with_cell fuller (words_in (chunk_at ks i).cells) d)
-    ∙ ap (λ (cs : List Cell). set ks i (record (chunk_at ks i) { cells = cs })) (place.put_cell-last (chunk_at ks i).cells c d))))

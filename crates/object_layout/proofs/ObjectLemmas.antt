@@ -9,7 +9,7 @@ use Rattle.object_layout.specs.ChunkValue.{ChunkValue}
 use Rattle.object_layout.specs.Chunks.{cell_of, chunk_at, has_chunk, AreApart}
 use Rattle.object_layout.specs.Place.{cell_at}
 use Rattle.object_layout.specs.Objects.{Located, located, located_by, objects_from, objects_in, objects_of}
-use Rattle.object_layout.specs.ObjectLaws.{LiesThere, ObjectsHaveChunks, ObjectsLieThere}
+use Rattle.object_layout.specs.ObjectLaws.{LiesThere, ObjectsLieThere}
 use Rattle.object_layout.proofs.Owning.{found_any, fresh_none}
 use Rattle.object_layout.proofs.PlaceLemmas.{cell_at-past}
 
@@ -146,9 +146,3 @@ objects_lie_there ks A o = (
       lies ks c.1 o A (got_in ks c.0 c.1 c.2) (read_cell c.1.cells c.1.number 0 o c.3)),
   (λ h. contains_from_in (objects_in ks) o (subst (In (objects_in ks)) (sym h.is) (object_read ks o.at o.birth h.mark))),
 )
-
-pub objects_have_chunks : ObjectsHaveChunks
-objects_have_chunks ks o h =
-    let c = flat_in objects_of ks o (in_from_contains (objects_in ks) o h) in
-    let f = read_cell c.1.cells c.1.number 0 o c.3 in
-    has_own ks c.1 o.at.chunk (got_in ks c.0 c.1 c.2) (ap (λ (x : Located). x.at.chunk) (sym f.is))

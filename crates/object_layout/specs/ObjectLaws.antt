@@ -5,7 +5,7 @@ use Rattle.object_layout.specs.declared.word.Birth.{Birth}
 use Rattle.object_layout.specs.Cell.{Born, Cell, size_of}
 use Rattle.object_layout.specs.ChunkValue.{ChunkValue}
 use Rattle.object_layout.specs.Place.{words_in}
-use Rattle.object_layout.specs.Chunks.{cell_of, has_chunk, put_object, AreApart}
+use Rattle.object_layout.specs.Chunks.{cell_of, put_object, AreApart}
 use Rattle.object_layout.specs.Objects.{Located, changed_at, led_chunk, led_object, located, objects_in, objects_of, sifted}
 
 -- the object lies at its address
@@ -16,10 +16,6 @@ pub record LiesThere (ks : List ChunkValue) (o : Located) : Type 0 where
 -- the objects that are read are just those that lie at addresses
 abbrev pub ObjectsLieThere : Type 0
 ObjectsLieThere = (ks : List ChunkValue) → AreApart ks → (o : Located) → Contains (objects_in ks) o ↔ LiesThere ks o
-
--- and in chunks of the list
-abbrev pub ObjectsHaveChunks : Type 0
-ObjectsHaveChunks = (ks : List ChunkValue) (o : Located) → Contains (objects_in ks) o → has_chunk ks o.at.chunk ≡ true
 
 -- an object appended stands behind the others of its chunk
 abbrev pub AppendedIsLast : Type 0

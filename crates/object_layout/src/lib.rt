@@ -14,11 +14,7 @@ pub use chunk::{
     write_filled, write_new,
 };
 pub use chunk_sizes::{CHUNK_WORDS, units};
-pub use laws::{
-    apart_together, appended_is_last, chunks_are_found, fresh_has_none, led_are_read,
-    objects_have_chunks, objects_lie_there, push_leaves_others, put_changes_one,
-    put_moves_no_chunk, put_where_pushed, same_address, second_put_stays, sifted_are_filtered,
-};
+pub use laws::{appended_is_last, led_are_read, objects_lie_there, put_changes_one, sifted_are_filtered};
 pub use piece::Piece;
 pub use reference::is_same_reference;
 pub use word::{Addr, Birth, Header};

@@ -13,5 +13,4 @@ pub mod StoreKinds
 pub mod StoresByCalls
 pub mod StoreEntries
 pub mod SetRooms
-pub mod StoppedReads
 pub mod BeyondOther

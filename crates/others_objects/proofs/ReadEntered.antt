@@ -21,7 +21,7 @@ use Rattle.shared_value.proofs.StepsMade.{MakesSteps, steps_world}
 use Rattle.shared_value.proofs.UnitsMeasured.{all_kept}
 use Rattle.own_steps.specs.Alone.{GoesAlone, alone_entry}
 use Rattle.own_steps.proofs.LastStepEntry as last
-use Rattle.own_steps.proofs.LastStepEntry.{AsksLast, goes_alone, last_enters, last_entry, last_steps}
+use Rattle.own_steps.proofs.LastStepEntry.{AsksLast, goes_alone, last_enters, last_steps}
 use Rattle.own_steps.proofs.OtherStepKinds.{reading}
 use Rattle.others_objects.specs.Other.{ReadsTo, then_places}
 

@@ -40,7 +40,7 @@ use Rattle.shared_value.proofs.PartFitsMachine as link
 use Rattle.shared_value.proofs.FreeChunks.{refs_long}
 use Rattle.own_steps.specs.Alone.{GoesAlone}
 use Rattle.own_steps.proofs.LastStepEntry as last
-use Rattle.own_steps.proofs.LastStepEntry.{AsksLast, last_entry}
+use Rattle.own_steps.proofs.LastStepEntry.{AsksLast}
 use Rattle.own_steps.proofs.OtherStepKinds.{same_object, writing}
 use Rattle.others_objects.proofs.ForeignObject.{IsForeign, in_register, x}
 use Rattle.others_objects.proofs.ObjectWritten as other

@@ -24,7 +24,7 @@ use Rattle.shared_value.proofs.UnitsMeasured.{all_kept}
 use Rattle.own_steps.specs.Alone.{GoesAlone, Tells, alone_entry}
 use Rattle.own_steps.proofs.LastKinds.{prints}
 use Rattle.own_steps.proofs.LastStepEntry as last
-use Rattle.own_steps.proofs.LastStepEntry.{AsksLast, goes_alone, last_enters, last_entry, last_steps}
+use Rattle.own_steps.proofs.LastStepEntry.{AsksLast, goes_alone, last_enters, last_steps}
 
 abbrev register_of : Instr → ℕ
 register_of (Out a) = a

@@ -19,7 +19,7 @@ use Rattle.shared_value.proofs.UnitsMeasured.{all_kept}
 use Rattle.shared_value.proofs.BeforeTheEnd.{end_now}
 use Rattle.own_steps.specs.Alone.{HaltsAlone, alone_entry}
 use Rattle.own_steps.proofs.LastStepEntry as last
-use Rattle.own_steps.proofs.LastStepEntry.{AsksLast, last_enters, last_entry, last_steps}
+use Rattle.own_steps.proofs.LastStepEntry.{AsksLast, last_enters, last_steps}
 use Rattle.own_steps.proofs.OtherStepKinds.{halts_by}
 
 module _ {w : SharedValue} {k : ℕ} {p : Private} (asks : AsksLast w k p) (x : End) (other : x ≡ Done → ⊥) (is : step w.program (task_steps w.program (accounts w) p.task p.fresh).machine p.task ≡ ended_by (task_steps w.program (accounts w) p.task p.fresh).machine x) where

@@ -7,11 +7,6 @@ use Rattle.task_machine.specs.Run.{KeepsRest, Runs}
 use Rattle.shared_value.specs.SharedValue.{SharedValue, accounts}
 use Rattle.shared_value.specs.Stands.{IsSharedValue}
 use Rattle.shared_value.specs.Fits.{Fits}
-use Rattle.shared_value.specs.Links.{FitsFirst}
-
--- before the run's end a part that fits the shared value fits the machine after its fresh steps
-abbrev pub SecondGivesFirst : Type 0
-SecondGivesFirst = (w : SharedValue) (k : ℕ) (p : Private) → IsSharedValue w → Fits w k p → (accounts w).end ≡ None → FitsFirst w p
 
 -- before the run's end, amid no leaf collection, it fits the shared value again after private steps, as many as one
 -- entry holds at most

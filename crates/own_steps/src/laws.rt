@@ -1,11 +1,6 @@
 // The laws of parts, each the clause of a function that does nothing.
 
-ghost use Rattle.own_steps.specs.Laws.{PartsFitAgain, SecondGivesFirst};
-
-/// A part that fits the shared value may run.
-pub fn second_gives_first()
-    ensures { SecondGivesFirst }
-{}
+ghost use Rattle.own_steps.specs.Laws.{PartsFitAgain};
 
 /// After private steps it fits again.
 pub fn parts_fit_again()

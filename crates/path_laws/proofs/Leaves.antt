@@ -11,13 +11,11 @@ use Rattle.hh_model.specs.declared.data.Task.{Task}
 use Rattle.hh_model.specs.declared.data.End.{End}
 use Rattle.hh_model.specs.declared.data.State.{State}
 use Rattle.hh_model.specs.Effect.{object_at, onward, put_object, row_of}
-use Rattle.hh_model.specs.Step.{can_step, child, ended_task, goes_on, is_joined, is_left, is_on_path, is_over, is_running, is_waiting, joined, joined_task, owner_in, owner_of, parent_of, parents, result_of, resumed, run, runs, start, step, waits}
+use Rattle.hh_model.specs.Step.{can_step, child, ended_task, goes_on, is_joined, is_left, is_on_path, is_over, is_running, is_waiting, joined, joined_task, owner_in, owner_of, parent_of, parents, result_of, resumed, run, runs, step, waits}
 use Rattle.hh_model.specs.Tree.{IsForkJoinState, waiting, joins_in}
 use Rattle.path_laws.specs.Disentangled.{Disentangled}
-use Rattle.path_laws.specs.Leaves.{LeavesOwner, StepsLeaveOwners, StepsWaitAlone, WaitsAlone}
+use Rattle.path_laws.specs.Leaves.{LeavesOwner, WaitsAlone}
 use Rattle.hh_model.proofs.Closed.{grown_cases, three_cases, waits_is}
-use Rattle.path_laws.proofs.FreeReads.{run_disentangled}
-use Rattle.hh_model.proofs.ForkJoinStates.{run_is_fork_join_state, start_is_fork_join_state}
 use Rattle.hh_model.proofs.Paths.{owner_joins, owner_same}
 use Rattle.hh_model.proofs.Root.{runs_tell}
 use Rattle.hh_model.proofs.Runs.{running_tells, grown_other, grown_view, grown_view_front, three_left, three_right, three_other, three_view, parl, parr, below, drest, wp, joiner_live}
@@ -221,9 +219,6 @@ module _ (p : ProgramText) (m : State) (t : ℕ) (K : IsForkJoinState m) (D : Di
       (λ x g h is run next top. forked x g h is run (m.store ++ [] ∷ [] ∷ []) refl _ refl refl)
       (λ parent l xp xl xr rl rr ip il ir pl left dl dr wl wr nl nr side. joins parent l xp xl xr rl rr ip il ir pl left dl dr wl wr side _ refl refl)
 
-pub steps_leave_owners : StepsLeaveOwners
-steps_leave_owners p limit ts t u ne run_u = leaves_owner p (run p limit ts) t (run_is_fork_join_state p (start p limit) ts (start_is_fork_join_state p limit)) (run_disentangled p limit ts) u ne run_u
-
 -- WAITING
 
 pub wait_task : (o : Option Task) → is_waiting o ≡ true → (x : Task) × (o ≡ Some x) × (waits x.status ≡ true)
@@ -297,6 +292,3 @@ module _ (p : ProgramText) (m : State) (t : ℕ) (K : IsForkJoinState m) where
 
   pub waits_alone : WaitsAlone p m t
   waits_alone = record { others = λ u ne. waited u ne; own = waits_on }
-
-pub steps_wait_alone : StepsWaitAlone
-steps_wait_alone p limit ts t = waits_alone p (run p limit ts) t (run_is_fork_join_state p (start p limit) ts (start_is_fork_join_state p limit))

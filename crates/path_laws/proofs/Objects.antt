@@ -11,7 +11,7 @@ use Rattle.hh_model.specs.declared.data.Task.{Task}
 use Rattle.hh_model.specs.declared.data.State.{State}
 use Rattle.hh_model.specs.Effect.{row_of, object_at, put_object}
 use Rattle.hh_model.specs.Step.{step, run, run_from, start, setting}
-use Rattle.hh_model.specs.Store.{IsWriteTo, WritesNext, StaysAs, NothingLeaves, ObjectsStay, OutputsGrow}
+use Rattle.hh_model.specs.Store.{IsWriteTo, WritesNext, StaysAs, ObjectsStay, OutputsGrow}
 use Rattle.hh_model.proofs.Stores.{in_row}
 use Rattle.hh_model.proofs.Changes.{SetsRef, SetsInt, Freezes}
 use Rattle.hh_model.proofs.ForkJoinStates.{IsForkJoinState, start_is_fork_join_state, run_is_fork_join_state, step_is_fork_join_state}
@@ -140,9 +140,6 @@ module _ (p : ProgramText) (m : State) (t : ℕ) (K : IsForkJoinState m) where
     where
       same : (outs : List ℤ) × (m.outputs ≡ m.outputs ++ outs)
       same = ([], sym (append-nil m.outputs))
-
-pub nothing_leaves : NothingLeaves
-nothing_leaves p limit ts t n o is = object_later p (run p limit ts) t (run_is_fork_join_state p (start p limit) ts (start_is_fork_join_state p limit)) n o is
 
 objects_from : (p : ProgramText) (m : State) (more : List ℕ) (n : Name) (o : Object) → IsForkJoinState m → object_at m.store n ≡ Some o
     → (new : Object) × (object_at (run_from p m more).store n ≡ Some new) × StaysAs o new

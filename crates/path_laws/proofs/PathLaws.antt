@@ -3,8 +3,8 @@ use Rattle.std.proofs.Common.{◌≡◌, ℕ, zero, suc, Bool, true, false, cond
 use Rattle.std.proofs.lemmas.Bool.{or_cases, or_right, false≢true, false_from_ne_true, both_ways}
 use Rattle.hh_model.specs.Step.{through, owner_by, path_by, path_in}
 use Rattle.hh_model.specs.Tree.{AreLow}
-use Rattle.path_laws.specs.Paths.{IsWalkUp, IsWalkOfJoined, PathsAreWalks, OwnersAreWalks, OwnersJoin, PathsStay}
-use Rattle.hh_model.proofs.Paths.{path_child, path_itself, path_le, path_through, path_parent, path_along, path_same, on_one_path, owner_joins, owner_same}
+use Rattle.path_laws.specs.Paths.{IsWalkUp, IsWalkOfJoined, PathsAreWalks, OwnersAreWalks}
+use Rattle.hh_model.proofs.Paths.{path_child, path_itself, path_le, path_through, path_parent, path_along, on_one_path}
 use Rattle.hh_model.proofs.Tree.{live_up, not_above, owner_not_joined}
 use Rattle.hh_model.proofs.Climbs.{owner_here}
 
@@ -65,9 +65,3 @@ owners_are_walks n par jd wt js es I = record {
   joined = λ a t j live. false_from_ne_true (path_in par a t) (λ h. both_ways (jd a) (live_up n par jd wt js es I t a t h live) j);
   leaf = not_above n par jd wt js es I;
 }
-
-pub owners_join : OwnersJoin
-owners_join par jd jd' l r p low J = owner_joins par low jd jd' l r p J.left J.right J.left_live J.right_live J.parent J.left_joined J.right_joined J.others
-
-pub paths_stay : PathsStay
-paths_stay par par' n low agree = ((λ a t lt. path_same par par' low n agree a t lt), (λ jd a lt. owner_same par par' low n agree jd a a lt))

@@ -1,15 +1,12 @@
 -- Names are on the path: a task names only what its path owns, and an object refers only along a path.
 use Rattle.std.specs.Prelude.{◌≡◌, ℕ, ◌<◌, Bool, true, Option, Some, List, length, slice_get}
 use Rattle.listed.specs.Members.{In}
-use Rattle.hh_lang.specs.Form.{ProgramText}
 use Rattle.hh_model.specs.declared.data.Name.{Name}
 use Rattle.hh_model.specs.declared.data.Object.{Object}
 use Rattle.hh_model.specs.declared.data.Task.{Task}
-use Rattle.hh_model.specs.declared.data.State.{State}
 use Rattle.hh_model.specs.Names.{refs_at, task_names}
-use Rattle.hh_model.specs.Step.{parents, joined, owner_in, path_in, step, run}
+use Rattle.hh_model.specs.Step.{parents, joined, owner_in, path_in}
 use Rattle.path_laws.specs.Paths.{OnePath}
-use Rattle.hh_model.specs.Tree.{IsForkJoinState}
 
 -- the owner of a name stands on the path of the task u, where n tasks have these parents
 abbrev pub IsOnPathOf : ℕ → (ℕ → Option ℕ) → (ℕ → Bool) → ℕ → Name → Type 0
@@ -26,9 +23,3 @@ pub record Apart (n : ℕ) (par : ℕ → Option ℕ) (jd : ℕ → Bool) (tasks
 
 abbrev pub Disentangled : List Task → List (List Object) → Type 0
 Disentangled tasks store = Apart (length tasks) (parents tasks) (joined tasks) tasks store
-
-abbrev pub NamesAreOnPath : Type 0
-NamesAreOnPath = (p : ProgramText) (limit : ℕ) (ts : List ℕ) → let m = run p limit ts in Disentangled m.tasks m.store
-
-abbrev pub StepsDisentangle : Type 0
-StepsDisentangle = (p : ProgramText) (m : State) (t : ℕ) → IsForkJoinState m → Disentangled m.tasks m.store → let m' = step p m t in Disentangled m'.tasks m'.store

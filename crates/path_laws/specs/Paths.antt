@@ -60,10 +60,6 @@ OwnersAreWalks = (n : ℕ) (par : ℕ → Option ℕ) (jd wt : ℕ → Bool) (js
 
 -- AFTER A JOIN
 
--- p owns then what l or r owned, and each other task what it owned
-abbrev pub OwnerMoves : ℕ → ℕ → ℕ → ℕ → ℕ → Type 0
-OwnerMoves l r p now before = ((now ≡ p) × ((before ≡ l) ⊎ (before ≡ r))) ⊎ ((now ≡ before) × ((before ≡ l → ⊥) × (before ≡ r → ⊥)))
-
 -- where two children l and r of p have joined since, and nobody else
 pub record JoinsTwo (par : ℕ → Option ℕ) (jd jd' : ℕ → Bool) (l r p : ℕ) : Type 0 where
   pub left : par l ≡ Some p
@@ -74,16 +70,3 @@ pub record JoinsTwo (par : ℕ → Option ℕ) (jd jd' : ℕ → Bool) (l r p : 
   pub right_joined : jd' r ≡ true
   pub parent : jd' p ≡ false
   pub others : (u : ℕ) → (u ≡ l → ⊥) → (u ≡ r → ⊥) → jd' u ≡ jd u
-
-abbrev pub OwnersJoin : Type 0
-OwnersJoin =
-    (par : ℕ → Option ℕ) (jd jd' : ℕ → Bool) (l r p : ℕ) → AreLow par → JoinsTwo par jd jd' l r p
-    → (a : ℕ) → OwnerMoves l r p (owner_in par jd' a) (owner_in par jd a)
-
--- AFTER A FORK
-
--- where the first n tasks have the parents that they had, their paths and owners stay
-abbrev pub PathsStay : Type 0
-PathsStay =
-    (par par' : ℕ → Option ℕ) (n : ℕ) → AreLow par → ((u : ℕ) → u < n → par' u ≡ par u)
-    → ((a t : ℕ) → t < n → path_in par' a t ≡ path_in par a t) × ((jd : ℕ → Bool) (a : ℕ) → a < n → owner_in par' jd a ≡ owner_in par jd a)

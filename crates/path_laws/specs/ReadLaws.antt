@@ -112,9 +112,3 @@ pub record StopsRead (p : ProgramText) (m : State) (t owner : ℕ) : Type 0 wher
   pub reads : ReadsNext p m t task register name object
   pub apart : Precedes m.edges object.strand (strand_of t task) → ⊥
   pub owns : owner ≡ owner_of m.tasks name.task
-
--- and nothing else ends the machine as entangled
-abbrev pub StopsAreReads : Type 0
-StopsAreReads =
-    (p : ProgramText) (limit : ℕ) (ts : List ℕ) (t reader owner : ℕ)
-    → let m = run p limit ts in m.end ≡ None → (step p m t).end ≡ Some (Entangled reader owner) → (reader ≡ t) × StopsRead p m t owner

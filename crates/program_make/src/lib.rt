@@ -2,9 +2,7 @@
 #![tactic(auto)]
 
 mod draws;
-mod laws;
 mod text;
 mod whole;
 
-pub use laws::made_are_short;
 pub use whole::{SIZE_LIMIT, make};

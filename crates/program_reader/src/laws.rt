@@ -1,12 +1,7 @@
 // Laws over the definitions, each the `ensures` of a function that does nothing.
 
-ghost use Rattle.program_reader.specs.Laws.{NoFaultLaw, FirstFaultLaw};
+ghost use Rattle.program_reader.specs.Laws.{FirstFaultLaw};
 ghost use Rattle.program_reader.specs.LoopLaw.{LoopsAreRead};
-
-/// A text without a first fault has no line with a fault.
-pub fn no_fault_on_any_line()
-    ensures { NoFaultLaw }
-{}
 
 /// The first fault is a fault of its line, and no line before has one.
 pub fn first_fault_is_first()

@@ -20,5 +20,5 @@ mod names;
 mod outline;
 
 pub use cause::{Cause, Refused};
-pub use laws::{first_fault_is_first, loops_are_read, no_fault_on_any_line};
+pub use laws::{first_fault_is_first, loops_are_read};
 pub use read::read_program;

@@ -19,9 +19,6 @@ mod sight;
 mod watch;
 
 pub use data::{Access, Field, Race, Sight};
-pub use laws::{
-    labels_tell_precedence, raceless_is_disentangled, raceless_journals_are_disentangled,
-    stopped_reads_race,
-};
+pub use laws::{labels_tell_precedence, raceless_journals_are_disentangled, stopped_reads_race};
 pub use report::{races, races_of, races_of_run};
 pub use text::{pair_lines, races_text};

@@ -3,19 +3,15 @@ use Rattle.std.proofs.Common.{◌≡◌, Bool, true, false, cond, List, [], ◌�
 use Rattle.std.specs.Prelude.{not}
 use Rattle.std.proofs.lemmas.Bool.{not-true}
 use Rattle.object_layout.specs.Chunks.{has_chunk}
-use Rattle.listed.proofs.Members.{In, any_from_in, contains_from_in, in_append_cases, in_append_left, in_append_right, in_from_any, in_from_contains, in_from_kept, in_kept}
+use Rattle.listed.proofs.Members.{In, contains_from_in, in_append_cases, in_append_left, in_append_right, in_from_any, in_from_contains, in_from_kept, in_kept}
 use Rattle.remembered_set.specs.declared.remembered.Source.{Source}
 use Rattle.remembered_set.specs.Sources.{has_source, lifted, noted, outside, same_source}
-use Rattle.remembered_set.specs.Laws.{KnownAreThere, LiftedAreThere, NotedAreThere}
-use Rattle.remembered_set.proofs.Noting.{same_is, same_self}
+use Rattle.remembered_set.specs.Laws.{LiftedAreThere}
+use Rattle.remembered_set.proofs.Noting.{same_is}
 
 pub source_in : (xs : List Source) (s : Source) → has_source xs s ≡ true → In xs s
 source_in xs s e = let f = in_from_any (same_source s) xs e in subst (λ (y : Source). In xs y) (sym (same_is s f.0 f.2)) f.1
 
-pub known_are_there : KnownAreThere
-known_are_there xs s = (
-  (λ e. contains_from_in xs s (source_in xs s e)),
-  (λ h. any_from_in (same_source s) xs s (in_from_contains xs s h) (same_self s)),
 )
 
 old_by : (b : Bool) (xs : List Source) (s t : Source) → In xs t → In (cond b xs (xs ++ s ∷ [])) t
@@ -30,13 +26,6 @@ cases_by : (b : Bool) (xs : List Source) (s t : Source) → In (cond b xs (xs ++
 cases_by true xs s t h = inl h
 cases_by false xs s t h = elim (in_append_cases xs (s ∷ []) t h) [ inl i ↦ inl i | inr i ↦ elim i [ inl e ↦ inr e | inr n ↦ absurd n ] ]
 
-pub noted_are_there : NotedAreThere
-noted_are_there xs s t = (
-  (λ h. elim (cases_by (has_source xs s) xs s t (in_from_contains (noted xs s) t h)) [ inl i ↦ inl (contains_from_in xs t i) | inr e ↦ inr e ]),
-  (λ h. contains_from_in (noted xs s) t (elim h [
-    | inl i ↦ old_by (has_source xs s) xs s t (in_from_contains xs t i)
-    | inr e ↦ subst (λ (x : Source). In (noted xs s) x) e (new_by (has_source xs s) xs s refl)
-  ])),
 )
 
 in_all_old : (ys xs : List Source) (t : Source) → In xs t → In (fold noted xs ys) t

@@ -7,14 +7,6 @@ use Rattle.remembered_set.specs.declared.remembered.Source.{Source}
 use Rattle.remembered_set.specs.Sources.{has_source, lifted, noted, StandOnce}
 use Rattle.remembered_set.specs.Moved.{led_by, redirected, AreFields}
 
--- a source is known exactly where the list has it
-abbrev pub KnownAreThere : Type 0
-KnownAreThere = (xs : List Source) (s : Source) → (has_source xs s ≡ true) ↔ Contains xs s
-
--- one source more
-abbrev pub NotedAreThere : Type 0
-NotedAreThere = (xs : List Source) (s t : Source) → Contains (noted xs s) t ↔ (Contains xs t ⊎ (s ≡ t))
-
 -- of another set those whose object lies outside these chunks
 abbrev pub LiftedAreThere : Type 0
 LiftedAreThere =

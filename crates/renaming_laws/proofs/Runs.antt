@@ -11,7 +11,7 @@ use Rattle.hh_model.proofs.Counts.{counted_step, run_counted, start_counted}
 use Rattle.hh_model.proofs.ForkJoinStates.{run_is_fork_join_state, start_is_fork_join_state, step_is_fork_join_state}
 use Rattle.hh_model.proofs.Steps.{step_cases}
 use Rattle.renaming_laws.specs.Alike.{AreAlike}
-use Rattle.renaming_laws.specs.Laws.{RunsAreCarried, StepsAreCarried}
+use Rattle.renaming_laws.specs.Laws.{RunsAreCarried}
 use Rattle.renaming_laws.specs.Renaming.{IsRenaming}
 use Rattle.renaming_laws.proofs.Stepped.{step_to}
 
@@ -49,10 +49,6 @@ module _ (p : ProgramText) (limit : ℕ) (ts : List ℕ) where
 
   pub counted_here : Counted (length ts) (run_from p (start p limit) ts).tasks (run_from p (start p limit) ts).store
   counted_here = run_counted p (start p limit) ts 0 (start_is_fork_join_state p limit) (start_counted p limit) (length ts) (omega arith)
-
-pub steps_are_carried : StepsAreCarried
-steps_are_carried p n limit f g ts us t R made A =
-    step_to p n f g R (run_from p (start p limit) ts) (run_from p (start p limit) us) (fork_join_here p limit ts) (fork_join_here p limit us) (counted_here p limit ts).rows (counted_here p limit us).rows made A t
 
 pub runs_are_carried : RunsAreCarried
 runs_are_carried p n limit f g ts us more R made A =

@@ -3,7 +3,7 @@ use Rattle.std.proofs.Common.{◌≡◌, ℕ, ◌+◌, ◌-◌, ◌%◌, ◌==�
 use Rattle.std.proofs.lemmas.Bool.{cases_lt, cond-true, cond-false, lt-ltb, le-ltb}
 use Rattle.hh_model.specs.Step.{is_left, sibling}
 use Rattle.renaming_laws.specs.Renaming.{IsRenaming}
-use Rattle.renaming_laws.specs.Laws.{swap, SwapsRename}
+use Rattle.renaming_laws.specs.Laws.{swap}
 
 -- SIBLINGS
 
@@ -131,6 +131,3 @@ module _ (n : ℕ) (odd : n % 2 ≡ 1) where
 
   pub swapped : IsRenaming (n + 4) (swap n) (swap n)
   swapped = record { back = back; forth = back; root = first_stays; beyond = at_high; sides = sides; siblings = siblings }
-
-pub swaps_rename : SwapsRename
-swaps_rename n h = swapped n (eqb-true (n % 2) 1 h)

@@ -4,7 +4,4 @@
 
 mod laws;
 
-pub use laws::{
-    places_are_carried, places_are_names, runs_are_carried, steps_are_carried, swaps_rename,
-    walks_are_carried,
-};
+pub use laws::{places_are_names, runs_are_carried};

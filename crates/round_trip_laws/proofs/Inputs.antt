@@ -12,7 +12,6 @@ use Rattle.run_trace.specs.declared.settings.Version.{Version}
 use Rattle.run_trace.specs.declared.trace.Trace.{Trace}
 use Rattle.run_trace.specs.Trace.{AreTraceLines, fault_in, trace_text, version_by, version_of, version_of_words}
 use Rattle.run_trace.proofs.ReadAgain.{texts_are_read_again}
-use Rattle.trace_input.specs.declared.input.InputFault.{InputFault}
 use Rattle.trace_input.specs.declared.input.InputFault.TheVariants.{Source}
 use Rattle.trace_input.specs.declared.input.TraceInput.{TraceInput}
 use Rattle.trace_input.specs.Cut.{begins_trace, bytes_above, is_trace_line, lines_above, program_part, trace_lines, trace_number, with_feeds}

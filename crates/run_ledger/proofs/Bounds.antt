@@ -13,13 +13,12 @@ use Rattle.hh_model.specs.declared.data.End.{End}
 use Rattle.hh_model.specs.Step.{is_left, can_step, step, asked}
 use Rattle.run_ledger.specs.declared.data.Heap.{Heap}
 use Rattle.run_ledger.specs.declared.data.Ledger.{Ledger}
-use Rattle.run_ledger.specs.Heaps.{with_heap, with_heap_at, heap_at, heap_of, within, fresh, let_go, emptied, forked_heap, in_use, lacks_room}
-use Rattle.run_ledger.specs.Steps.{join_heaps, moved_on, moved_to, settled, stepped_to, allocated_by, allocated_in, task_step, task_steps, on_asked, is_due, is_in_need, is_private, most_steps, standing}
+use Rattle.run_ledger.specs.Heaps.{with_heap, with_heap_at, heap_at, within, fresh, let_go, emptied, forked_heap, in_use, lacks_room}
+use Rattle.run_ledger.specs.Steps.{join_heaps, moved_on, moved_to, settled, stepped_to, allocated_by, allocated_in, task_step, task_steps, on_asked, most_steps, standing}
 use Rattle.run_ledger.specs.Entries.{after_kind, after, chunk_units, refusal, long_at}
-use Rattle.run_ledger.specs.Journals.{after_all, opening, ledger_of, is_legal_from}
-use Rattle.run_ledger.specs.Space.{StepsAreBounded, AllocatesInBounds, AllocationsAreInBounds}
+use Rattle.run_ledger.specs.Journals.{after_all, opening, is_legal_from}
+use Rattle.run_ledger.specs.Space.{StepsAreBounded}
 use Rattle.run_ledger.proofs.Journals.{entry_tells, out_tells, none_unless}
-use Rattle.run_ledger.proofs.Cuts.{cut_legal}
 
 -- STEPS
 
@@ -128,24 +127,3 @@ module _ (p : ProgramText) (s : SettingsValue) (t : ℕ) where
   stands_by l k true b rest h = absurd (omega arith)
   stands_by l k false true rest h = inl (refl, (refl, omega arith))
   stands_by l k false false rest h = inr (refl, omega arith)
-
-  in_bounds : (k : ℕ) (l : Ledger) → k ≤ standing s p l t k → AllocatesInBounds p s l t k
-  in_bounds zero l h j w lt e = absurd (omega arith)
-  in_bounds (suc k) l h j w lt e =
-      elim (stands_by l k (is_due s p l t || is_in_need p l t) (is_private p l.machine t) (standing s p (task_step p l t) t k) h) [
-        | inl f ↦ first j f.0 (λ i less q. in_bounds k (task_step p l t) f.1.1 i w less q) lt e
-        | inr f ↦ first j f.0 (λ i less q. absurd (let z : k ≡ 0 = f.1 in omega arith)) lt e
-      ]
-    where
-      first : (i : ℕ) → (is_due s p l t || is_in_need p l t) ≡ false
-          → ((i' : ℕ) → i' < k → asked p (task_steps p (task_step p l t) t i').machine t ≡ Some w → ((heap_of (task_steps p (task_step p l t) t i') t).since < s.leaf) × (lacks_room (heap_of (task_steps p (task_step p l t) t i') t) w ≡ false))
-          → i < suc k → asked p (task_steps p l t i).machine t ≡ Some w → ((heap_of (task_steps p l t i) t).since < s.leaf) × (lacks_room (heap_of (task_steps p l t i) t) w ≡ false)
-      first zero f more less q = asked_bounds s (heap_of l t) (asked p l.machine t) w q f
-      first (suc i) f more less q = more i (omega arith) q
-
-pub allocations_are_in_bounds : AllocationsAreInBounds
-allocations_are_in_bounds p s before rest w t k legal =
-    let e : EntryValue = record { worker = w; kind = Ran t k } in
-    let c = cut_legal p s before (e ∷ rest) (opening p s) legal in
-    let r = ran_tells p s (ledger_of p s before) w t k (and_parts (is_none (refusal p s (ledger_of p s before) e)) (is_legal_from p s (after p s (ledger_of p s before) e) rest) c.1).0 in
-    in_bounds p s t k (ledger_of p s before) r.1

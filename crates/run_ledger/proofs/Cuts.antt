@@ -10,7 +10,7 @@ use Rattle.run_ledger.specs.declared.data.Refused.{Refused}
 use Rattle.run_ledger.specs.declared.data.RefusedAt.{RefusedAt}
 use Rattle.run_ledger.specs.Entries.{refusal, after}
 use Rattle.run_ledger.specs.Journals.{opening, after_all, ledger_of, is_legal, is_legal_from, refused_or, first_refused_from}
-use Rattle.run_ledger.specs.Cuts.{LegalIsUnrefused, JournalsCanBeCut, FirstRefusedIsFirst}
+use Rattle.run_ledger.specs.Cuts.{JournalsCanBeCut, FirstRefusedIsFirst}
 
 module _ (p : ProgramText) (s : SettingsValue) where
   pub after_cut : (first rest : List EntryValue) (l : Ledger) → after_all p s l (first ++ rest) ≡ after_all p s (after_all p s l first) rest
@@ -41,12 +41,6 @@ module _ (p : ProgramText) (s : SettingsValue) where
   unrefused journal l h before e rest is =
       let g = cut_legal before (e ∷ rest) l (subst (λ j. is_legal_from p s l j ≡ true) is h) in
       none_is (refusal p s (after_all p s l before) e) (and_parts (is_none (refusal p s (after_all p s l before) e)) (is_legal_from p s (after p s (after_all p s l before) e) rest) g.1).0
-
-  from_unrefused : (journal : List EntryValue) (l : Ledger) → Unrefused l journal → is_legal_from p s l journal ≡ true
-  from_unrefused [] l u = refl
-  from_unrefused (e ∷ es) l u =
-      and_from (is_none (refusal p s l e)) (is_legal_from p s (after p s l e) es) (ap is_none (u [] e es refl))
-      (from_unrefused es (after p s l e) (λ before f rest is. u (e ∷ before) f rest (ap (λ j. e ∷ j) is)))
 
   -- the first refused entry, counted on
   pub record Found (l : Ledger) (at : ℕ) (journal : List EntryValue) (r : RefusedAt) : Type 0 where
@@ -106,9 +100,6 @@ module _ (p : ProgramText) (s : SettingsValue) where
   legal_none (e ∷ es) l at h =
       let both = and_parts (is_none (refusal p s l e)) (is_legal_from p s (after p s l e) es) h in
       ap (λ o. refused_or o at (first_refused_from p s (after p s l e) (at + 1) es)) (none_is (refusal p s l e) both.0) ∙ legal_none es (after p s l e) (at + 1) both.1
-
-pub legal_is_unrefused : LegalIsUnrefused
-legal_is_unrefused p s journal = (unrefused p s journal (opening p s), from_unrefused p s journal (opening p s))
 
 pub journals_can_be_cut : JournalsCanBeCut
 journals_can_be_cut p s first rest = record {

@@ -31,7 +31,6 @@ use Rattle.listed.specs.Options.{option_is}
 use Rattle.run_ledger.specs.Journals.{opening, after_all, ledger_of, is_legal_from, is_legal}
 use Rattle.run_ledger.specs.Laws.{IsNamedByTask, Refers, KeepsReachable, NothingReachableIsFreed}
 use Rattle.run_ledger.proofs.Held.{chunk_down, chunk_up, collected_down, collected_up, swept_down, swept_up}
-use Rattle.run_ledger.specs.Sound.{ChangesKeepSound, EntriesKeepSound}
 use Rattle.run_ledger.proofs.Sound.{InHeaps, Keeps, Spares, collecting, snapshot_at, survivors_at, Sound, SoundLedger, closed_same, frozen, renewed, changed, cut, spares_kept, up_with, down, in_held, held_keeps}
 use Rattle.run_ledger.proofs.Steps.{named_live, task_steps_sound}
 
@@ -177,12 +176,6 @@ accepted_on p s l e accepted = none_of l.end (entry_tells p s l e (ap is_none ac
 
 pub entry_sound : (p : ProgramText) (s : SettingsValue) (l : Ledger) (e : EntryValue) → SoundLedger l → is_none (refusal p s l e) ≡ true → SoundLedger (after p s l e)
 entry_sound p s l e S h = kind_sound p s l e.worker e.kind S (entry_tells p s l e h).2
-
-pub changes_keep_sound : ChangesKeepSound
-changes_keep_sound l t f S names eb es en = plain l t f S (λ h n i. subst (λ ns. In ns n) (names h) i) (λ h n i. subst (λ ns. In ns n) (sym (names h)) i) eb es en
-
-pub entries_keep_sound : EntriesKeepSound
-entries_keep_sound p s l e S h = entry_sound p s l e S (ap is_none h)
 
 -- what each entry that is taken keeps, a legal journal keeps
 pub journal_keeps : (P : Ledger → Type 0) (p : ProgramText) (s : SettingsValue) → ((l : Ledger) (w : ℕ) (kind : Kind) → SoundLedger l → is_none (kind_refusal p s l w kind) ≡ true → P l → P (after_kind p s l w kind)) → (journal : List EntryValue) (l : Ledger) → SoundLedger l → P l

@@ -3,12 +3,11 @@ use Rattle.std.proofs.Common.{◌≡◌, ◌+◌, Bool, true, false, cond, Optio
 use Rattle.std.proofs.lemmas.Bool.{false≢true, cond-true}
 use Rattle.hh_model.specs.declared.data.Task.{Task}
 use Rattle.hh_model.specs.declared.data.State.{State}
-use Rattle.hh_model.specs.Step.{is_running, is_waiting, step, can_step}
+use Rattle.hh_model.specs.Step.{is_running, step, can_step}
 use Rattle.hh_model.proofs.Steps.{runs_is}
 use Rattle.run_ledger.specs.declared.data.Ledger.{Ledger}
 use Rattle.run_ledger.specs.Steps.{allocated_in, moved_on, moved_to, settled, stepped_to}
-use Rattle.run_ledger.specs.Laws.{StepsLeaveHeaps, StepsRunOn}
-use Rattle.run_ledger.proofs.Steps.{step_leaves}
+use Rattle.run_ledger.specs.Laws.{StepsRunOn}
 
 running : (o : Option Task) → is_running o ≡ true → (x : Task) × (o ≡ Some x) × (is_running (Some x) ≡ true)
 running None h = absurd (false≢true h)
@@ -22,12 +21,3 @@ steps_run_on p l t can going runs =
     let x = running (slice_get m.tasks t) runs in
     cond-true (can_step l.machine t) (stepped_to b t m) (record l { steps = l.steps + 1 }) can
     ∙ (ap (settled c t) going ∙ (ap (moved_to c t) x.1 ∙ ap (moved_on c t (x.0).parent) (runs_is (x.0).status x.2)))
-
-pub steps_leave_heaps : StepsLeaveHeaps
-steps_leave_heaps p l t u S ne = by (can_step l.machine t) refl
-  where
-    by : (v : Bool) → can_step l.machine t ≡ v
-        → let l' = cond v (stepped_to (allocated_in p l t) t (step p l.machine t)) (record l { steps = l.steps + 1 }) in
-        (is_running (slice_get l.machine.tasks u) ≡ true) ⊎ (is_waiting (slice_get l'.machine.tasks u) ≡ true) → slice_get l'.heaps u ≡ slice_get l.heaps u
-    by true can h = (step_leaves p l t S can).4 u ne h
-    by false can h = refl

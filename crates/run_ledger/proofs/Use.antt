@@ -32,7 +32,7 @@ use Rattle.run_ledger.proofs.Space.{begun_none, legal_booked}
 use Rattle.run_ledger.proofs.Steps.{SoundAt, StepLeaves, heap_of_task, task_step_sound}
 use Rattle.run_ledger.proofs.Stocks.{StockedLedger, L, task_step_stocked, legal_stocked}
 use Rattle.run_ledger.proofs.Weights.{total, total_set, moves_total, kept_weight}
-use Rattle.run_ledger.specs.Use.{ChunkGoes, UseGoes, EntriesUse, StepsUseNone, ChunksAreUsed}
+use Rattle.run_ledger.specs.Use.{ChunkGoes, UseGoes, EntriesUse, ChunksAreUsed}
 use Rattle.run_ledger.proofs.Exact.{PacksAreSmall, large_exact}
 use Rattle.hh_model.proofs.Next.{packs_are_few}
 
@@ -253,9 +253,6 @@ module _ (p : ProgramText) (s : SettingsValue) (journal : List EntryValue) (pack
 
 pub entries_use : EntriesUse
 entries_use p s journal e I legal accepted = use_by_entry p s journal (packs_are_few p I) legal e accepted
-
-pub steps_use_none : StepsUseNone
-steps_use_none p s journal t k I legal S stand = steps_use p s (packs_are_few p I) k (ledger_of p s journal) t S (legal_stocked p s journal legal) (legal_booked p s journal legal) stand
 
 -- WHAT CHUNKS ARE THERE FOR
 

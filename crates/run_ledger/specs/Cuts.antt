@@ -10,14 +10,10 @@ use Rattle.run_ledger.specs.declared.data.Owed.{Owed}
 use Rattle.run_ledger.specs.declared.data.Owed.TheVariants.{Mark as OwesMark, More as OwesMore, Sweep as OwesSweep, Nothing}
 use Rattle.run_ledger.specs.Heaps.{heap_of, sweep_number}
 use Rattle.run_ledger.specs.Entries.{refusal, is_fuel, kind_refusal}
-use Rattle.run_ledger.specs.Journals.{after_all, ledger_of, is_legal, is_legal_from, Legal, first_refused}
+use Rattle.run_ledger.specs.Journals.{after_all, ledger_of, is_legal, is_legal_from, first_refused}
 use Rattle.run_ledger.specs.Pace.{gives, owed, pace_of, pace_at_end, is_paced, marked_at_once}
 
 -- CUTS AND REFUSALS
-
--- the test of legal journals is what is meant
-abbrev pub LegalIsUnrefused : Type 0
-LegalIsUnrefused = (p : ProgramText) (s : SettingsValue) (journal : List EntryValue) → (is_legal p s journal ≡ true) ↔ Legal p s journal
 
 -- wherever a journal is cut, the accounts of the whole go on from those of its first part, and so does legality
 pub record GoesOn (p : ProgramText) (s : SettingsValue) (first rest : List EntryValue) : Type 0 where

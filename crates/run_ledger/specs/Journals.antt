@@ -59,11 +59,6 @@ is_legal_from p s l (e ∷ es) = is_none (refusal p s l e) && is_legal_from p s 
 abbrev pub is_legal : ProgramText → SettingsValue → List EntryValue → Bool
 is_legal p s journal = is_legal_from p s (opening p s) journal
 
--- the same in words: wherever the journal is cut before an entry, the accounts of what comes before don't refuse it
-abbrev pub Legal : ProgramText → SettingsValue → List EntryValue → Type 0
-Legal p s journal =
-    (before : List EntryValue) (e : EntryValue) (rest : List EntryValue) → journal ≡ before ++ e ∷ rest → refusal p s (ledger_of p s before) e ≡ None
-
 -- the first part of a journal
 abbrev pub IsPrefix : List EntryValue → List EntryValue → Type 0
 IsPrefix first journal = (rest : List EntryValue) × (journal ≡ first ++ rest)

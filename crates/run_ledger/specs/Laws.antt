@@ -19,10 +19,9 @@ use Rattle.run_ledger.specs.Steps.{allocated_in, task_step}
 use Rattle.run_ledger.specs.declared.data.Ledger.{Ledger}
 use Rattle.run_ledger.specs.declared.data.Heap.{Heap}
 use Rattle.run_ledger.specs.Reachable.{is_name, reached, IsReachedWithin}
-use Rattle.run_ledger.specs.Heaps.{held_in, held, heap_of, with_heap, roots_of, within, name_le, small_in, small_survivors, collected, swept_heap}
+use Rattle.run_ledger.specs.Heaps.{held_in, held, heap_of, name_le, small_in, small_survivors, collected, swept_heap}
 use Rattle.run_ledger.specs.Entries.{after}
 use Rattle.run_ledger.specs.Journals.{opening, ledger_of, machine_of, is_legal, tasks_in}
-use Rattle.run_ledger.specs.Sound.{SoundAt}
 
 -- of these names, exactly those are reached to which a walk through them leads
 abbrev pub ReachedIsWalks : Type 0
@@ -33,10 +32,6 @@ ReachedIsWalks =
 -- the ledger's machine is the machine that never collects, over the journal's steps
 abbrev pub MachineIsRun : Type 0
 MachineIsRun = (p : ProgramText) (s : SettingsValue) (journal : List EntryValue) → (ledger_of p s journal).machine ≡ machine_of p s journal
-
--- and each step and each entry moves it by its steps alone
-abbrev pub StepsMoveMachine : Type 0
-StepsMoveMachine = (p : ProgramText) (l : Ledger) (t : ℕ) → (task_step p l t).machine ≡ step p l.machine t
 
 abbrev pub EntriesMoveMachine : Type 0
 EntriesMoveMachine = (p : ProgramText) (s : SettingsValue) (l : Ledger) (e : EntryValue) → (after p s l e).machine ≡ run_from p l.machine (tasks_in e.kind)
@@ -71,29 +66,9 @@ NothingReachableIsFreed =
 
 -- WHAT IS REACHED WITHIN A HEAP
 
--- a walk through all that the task t owns, held or not, begins at a root of its heap
-abbrev pub StartsOwned : Ledger → ℕ → Name → Type 0
-StartsOwned l t n = (owner_of l.machine.tasks n.task ≡ t) × Contains (roots_of l t) n
-
--- and goes on along a reference to a name that t owns
-abbrev pub LeadsOwned : Ledger → ℕ → Name → Name → Type 0
-LeadsOwned l t m n = (owner_of l.machine.tasks n.task ≡ t) × Refers l.machine m n
-
 -- the task t runs or waits
 abbrev pub IsAtWork : Ledger → ℕ → Type 0
 IsAtWork l t = (is_running (slice_get l.machine.tasks t) ≡ true) ⊎ (is_waiting (slice_get l.machine.tasks t) ≡ true)
-
--- after a legal journal it makes no difference that only held names are walked through
-abbrev pub WithinIsOwned : Type 0
-WithinIsOwned =
-    (p : ProgramText) (s : SettingsValue) (journal : List EntryValue) → is_legal p s journal ≡ true
-    → let l = ledger_of p s journal in (t : ℕ) (n : Name) → IsAtWork l t → Contains (within l t) n ↔ IsReached (StartsOwned l t) (LeadsOwned l t) n
-
--- and what is reached within a heap depends on nothing of the accounts but the names that are held: not on who holds a
--- task, nor on any count
-abbrev pub WithinIsOfNames : Type 0
-WithinIsOfNames =
-    (l : Ledger) (t u : ℕ) (f : Heap → Heap) → ((h : Heap) → held_in (f h) ≡ held_in h) → within (with_heap l t f) u ≡ within l u
 
 -- EACH HELD NAME IS HELD ONCE
 
@@ -152,13 +127,6 @@ StepsRunOn =
     (p : ProgramText) (l : Ledger) (t : ℕ) → can_step l.machine t ≡ true
     → let m = step p l.machine t in
     let b = allocated_in p l t in m.end ≡ None → is_running (slice_get m.tasks t) ≡ true → task_step p l t ≡ record b { machine = m; steps = b.steps + 1 }
-
--- a step leaves the heaps of the other tasks that ran before it or wait after it
-abbrev pub StepsLeaveHeaps : Type 0
-StepsLeaveHeaps =
-    (p : ProgramText) (l : Ledger) (t u : ℕ) → SoundAt t l
-    → let l' = task_step p l t in (u ≡ t → ⊥) → (is_running (slice_get l.machine.tasks u) ≡ true) ⊎ (is_waiting (slice_get l'.machine.tasks u) ≡ true)
-    → slice_get l'.heaps u ≡ slice_get l.heaps u
 
 -- WHAT AN ENTRY LEAVES ALONE
 

@@ -1,9 +1,6 @@
 -- Sound accounts: what every legal journal keeps of its heaps.
 use Rattle.std.specs.Prelude.{◌≡◌, ℕ, ◌<◌, Bool, true, false, Option, Some, None, List, [], length, slice_get, is_some}
 use Rattle.listed.specs.Members.{In}
-use Rattle.run_trace.specs.Entry.{EntryValue}
-use Rattle.run_trace.specs.Settings.{SettingsValue}
-use Rattle.hh_lang.specs.Form.{ProgramText}
 use Rattle.hh_model.specs.declared.data.Name.{Name}
 use Rattle.hh_model.specs.declared.data.Object.{Object}
 use Rattle.hh_model.specs.declared.data.Edge.{Edge}
@@ -14,10 +11,7 @@ use Rattle.hh_model.specs.Closed.{Closed}
 use Rattle.path_laws.specs.Disentangled.{Disentangled}
 use Rattle.run_ledger.specs.declared.data.Heap.{Heap}
 use Rattle.run_ledger.specs.declared.data.Ledger.{Ledger}
-use Rattle.run_ledger.specs.Heaps.{held_in, or_fresh, with_heap}
-use Rattle.run_ledger.specs.Steps.{task_step}
-use Rattle.run_ledger.specs.Entries.{refusal, after}
-use Rattle.run_ledger.specs.Journals.{ledger_of, is_legal}
+use Rattle.run_ledger.specs.Heaps.{held_in, or_fresh}
 
 -- HELD NAMES, over the heaps by task
 
@@ -74,22 +68,6 @@ pub record Sound (tasks : List Task) (edges : List Edge) (store : List (List Obj
 abbrev pub SoundLedger : Ledger → Type 0
 SoundLedger l = Sound l.machine.tasks l.machine.edges l.machine.store l.heaps
 
-abbrev pub JournalsAreSound : Type 0
-JournalsAreSound = (p : ProgramText) (s : SettingsValue) (journal : List EntryValue) → is_legal p s journal ≡ true → SoundLedger (ledger_of p s journal)
-
--- an entry that isn't refused keeps accounts sound
-abbrev pub EntriesKeepSound : Type 0
-EntriesKeepSound = (p : ProgramText) (s : SettingsValue) (l : Ledger) (e : EntryValue) → SoundLedger l → refusal p s l e ≡ None → SoundLedger (after p s l e)
-
--- so does a change of a heap's account that leaves its names, its collection and what was set down at the fork
-abbrev pub ChangesKeepSound : Type 0
-ChangesKeepSound =
-    (l : Ledger) (t : ℕ) (f : Heap → Heap) → SoundLedger l → ((h : Heap) → held_in (f h) ≡ held_in h) → ((h : Heap) → (f h).begun ≡ h.begun) → ((h : Heap) → (f h).survivors ≡ h.survivors)
-    → ((h : Heap) → (f h).snapshot ≡ h.snapshot) → SoundLedger (with_heap l t f)
-
 -- and so does a step of a task that isn't amid a leaf collection
 abbrev pub SoundAt : ℕ → Ledger → Type 0
 SoundAt t l = SoundLedger l × (collecting (slice_get l.heaps t) ≡ false)
-
-abbrev pub StepsKeepSound : Type 0
-StepsKeepSound = (p : ProgramText) (l : Ledger) (t : ℕ) → SoundAt t l → SoundAt t (task_step p l t)

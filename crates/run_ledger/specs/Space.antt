@@ -1,6 +1,6 @@
 -- Laws of space by count.
 use Rattle.std.specs.Prelude.{◌≡◌, ℕ, ◌+◌, ◌*◌, ◌<◌, ◌≤◌, true, false, List, [], ◌∷◌, ◌++◌, Some, length, Contains, sum_by}
-use Rattle.run_trace.specs.declared.entry.Kind.TheVariants.{Ran, End, Sweep}
+use Rattle.run_trace.specs.declared.entry.Kind.TheVariants.{End, Sweep}
 use Rattle.run_trace.specs.Entry.{EntryValue, private_limit}
 use Rattle.run_trace.specs.Settings.{SettingsValue, field_limit}
 use Rattle.hh_lang.specs.Form.{ProgramText, IsProgram}
@@ -11,7 +11,7 @@ use Rattle.hh_model.specs.declared.data.State.{State}
 use Rattle.hh_model.specs.Step.{asked}
 use Rattle.run_ledger.specs.declared.data.Heap.{Heap}
 use Rattle.run_ledger.specs.declared.data.Ledger.{Ledger}
-use Rattle.run_ledger.specs.Heaps.{chunk_words, words_sum, held, heap_of, lacks_room, begun_in, take_of, in_use, words_of}
+use Rattle.run_ledger.specs.Heaps.{chunk_words, words_sum, held, heap_of, begun_in, take_of, in_use, words_of}
 use Rattle.run_ledger.specs.Steps.{task_steps}
 use Rattle.run_ledger.specs.Entries.{after}
 use Rattle.run_ledger.specs.Journals.{ledger_of, is_legal, tasks_of}
@@ -22,18 +22,6 @@ use Rattle.run_ledger.specs.Report.{report_of}
 -- the steps of a legal journal are at most the fuel and the private steps of one entry more
 abbrev pub StepsAreBounded : Type 0
 StepsAreBounded = (p : ProgramText) (s : SettingsValue) (journal : List EntryValue) → is_legal p s journal ≡ true → (ledger_of p s journal).steps ≤ s.fuel + private_limit
-
--- before each allocation among k steps of t, its words since the last collection are below the limit, and the object
--- has its place
-abbrev pub AllocatesInBounds : ProgramText → SettingsValue → Ledger → ℕ → ℕ → Type 0
-AllocatesInBounds p s l t k =
-    (j w : ℕ) → j < k → asked p (task_steps p l t j).machine t ≡ Some w
-    → let h = heap_of (task_steps p l t j) t in (h.since < s.leaf) × (lacks_room h w ≡ false)
-
-abbrev pub AllocationsAreInBounds : Type 0
-AllocationsAreInBounds =
-    (p : ProgramText) (s : SettingsValue) (before rest : List EntryValue) (w t k : ℕ) → is_legal p s (before ++ record { worker = w; kind = Ran t k } ∷ rest) ≡ true
-    → AllocatesInBounds p s (ledger_of p s before) t k
 
 -- each list has a name
 abbrev pub EachHasName : List (List Name) → Type 0

@@ -9,10 +9,8 @@ use Rattle.hh_model.specs.Step.{asked, is_running}
 use Rattle.run_ledger.specs.declared.data.Ledger.{Ledger}
 use Rattle.run_ledger.specs.declared.data.RunEnd.TheVariants.{Pool}
 use Rattle.run_ledger.specs.Heaps.{heap_of, in_use, is_small, take_of, units}
-use Rattle.run_ledger.specs.Steps.{standing, task_steps}
 use Rattle.run_ledger.specs.Entries.{refusal, after, chunk_units}
 use Rattle.run_ledger.specs.Journals.{ledger_of, is_legal}
-use Rattle.run_ledger.specs.Sound.{SoundAt}
 
 -- CHUNKS IN USE
 
@@ -35,12 +33,6 @@ abbrev pub EntriesUse : Type 0
 EntriesUse =
     (p : ProgramText) (s : SettingsValue) (journal : List EntryValue) (e : EntryValue) → IsProgram p → is_legal p s journal ≡ true
     → let l = ledger_of p s journal in refusal p s l e ≡ None → UseGoes p s l (after p s l e) e.kind
-
--- steps that can stand in one entry leave them as they are
-abbrev pub StepsUseNone : Type 0
-StepsUseNone =
-    (p : ProgramText) (s : SettingsValue) (journal : List EntryValue) (t k : ℕ) → IsProgram p → is_legal p s journal ≡ true
-    → let l = ledger_of p s journal in SoundAt t l → k ≤ standing s p l t k → in_use (task_steps p l t k) ≡ in_use l
 
 -- WHAT CHUNKS ARE THERE FOR
 

@@ -1,14 +1,8 @@
 // Laws of schedules, each the contract of a function that does nothing.
 
-ghost use Rattle.schedule_laws.specs.Steps.{RunningTasksAreApart, FieldsStay, StepsLeaveSteps, ClashesStay, StepsCommute};
+ghost use Rattle.schedule_laws.specs.Steps.{FieldsStay, StepsLeaveSteps, StepsCommute};
 ghost use Rattle.schedule_laws.specs.Laws.{OneRunSpeaksForAll, EveryEndAgrees, EveryRunGoesOn, JournalsAgree, SomeRunSpeaksUp};
 ghost use Rattle.schedule_laws.specs.Ordered.{OrderedIsRaceFree};
-
-/// Of two tasks that run at one time neither's strand precedes the other's, by the edges made by then or at any time
-/// after.
-pub fn running_tasks_are_apart()
-    ensures { RunningTasksAreApart }
-{}
 
 /// Of an object a step changes only the field that its access writes, and whether it is mutable only by a freeze by its
 /// owner.
@@ -19,11 +13,6 @@ pub fn fields_stay()
 /// A task's next step is the same whatever a task that runs beside it does, unless their accesses clash.
 pub fn steps_leave_steps()
     ensures { StepsLeaveSteps }
-{}
-
-/// Where the next accesses of two tasks clash, they do so after the step of one of them too.
-pub fn clashes_stay()
-    ensures { ClashesStay }
 {}
 
 /// Steps of two tasks that run at one time, whose accesses don't clash, come to the same in either order, but for the

@@ -7,12 +7,9 @@ use Rattle.hh_model.specs.Effect.{object_at}
 use Rattle.hh_model.specs.Step.{is_running, owner_of}
 use Rattle.run_ledger.specs.declared.data.Ledger.{Ledger}
 use Rattle.run_ledger.specs.Heaps.{heap_of, held_in}
-use Rattle.shared_value.specs.Stands.{IsSharedValue}
-use Rattle.shared_value.specs.SharedValue.{SharedValue, accounts}
 use Rattle.heap_image.specs.declared.picture.Picked.{Picked}
 use Rattle.heap_image.specs.declared.picture.Picture.{Picture}
 use Rattle.heap_image.specs.Picture.{IsOwned}
-use Rattle.shared_image.specs.Drawn.{AreHeldInWords, IsPictureOf}
 
 -- it bears the name
 abbrev pub Bears : Picked → Name → Type 0
@@ -51,6 +48,3 @@ IsHeldNotRunning l n = (t : ℕ) × (is_running (slice_get l.machine.tasks t) �
 pub record HasJustHeld (p : Picture) (l : Ledger) : Type 0 where
   pub each : (q : Picked) → In p.objects q → (n : Name) × IsHeldNotRunning l n × StandsFor p l q n
   pub all : (n : Name) → IsHeldNotRunning l n → (q : Picked) × In p.objects q × StandsFor p l q n
-
-abbrev pub PicturesHaveJustHeld : Type 0
-PicturesHaveJustHeld = (w : SharedValue) (p : Picture) → IsSharedValue w → AreHeldInWords w → IsPictureOf w p → HasJustHeld p (accounts w)

@@ -1,4 +1,3 @@
 pub mod Drawn
-pub mod Laws
 pub mod Drawing
 pub mod Held

@@ -11,7 +11,7 @@ use Rattle.run_ledger.specs.Heaps.{placed, with_heap_at}
 use Rattle.run_ledger.specs.Steps.{allocated_by, task_steps}
 use Rattle.run_ledger.proofs.RunOn.{steps_run_on}
 use Rattle.run_ledger.proofs.Steps.{goes_tells, steps_last}
-use Rattle.task_machine.specs.Accounts.{AccountsAreSteps, FollowsSteps, account_after, account_by}
+use Rattle.task_machine.specs.Accounts.{FollowsSteps, account_after, account_by}
 use Rattle.task_machine.specs.Outline.{steps}
 
 -- what an allocation makes of the account
@@ -40,6 +40,3 @@ module _ (p : ProgramText) (l : Ledger) (t : ℕ) (h : Heap) (there : slice_get 
             ∙ (allocated_account b t (account_after p l.machine t h k) (asked p b.machine t) F.account
             ∙ ap (λ (m : State). Some (account_by m t (account_after p l.machine t h k) (asked p m t))) F.machine);
       }
-
-pub accounts_are_steps : AccountsAreSteps
-accounts_are_steps p l t k h can there = follows p l t h there k can

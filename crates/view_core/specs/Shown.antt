@@ -11,7 +11,6 @@ use Rattle.image_check.specs.Fault.{image_fault}
 use Rattle.trace_input.specs.declared.input.InputFault.{InputFault}
 use Rattle.trace_input.specs.declared.input.TraceInput.{TraceInput}
 use Rattle.trace_input.specs.Input.{input_fault, settings_for, IsInput}
-use Rattle.refusal_lines.specs.declared.refusal.Refusal.{Refusal}
 use Rattle.refusal_lines.specs.declared.refusal.Refusal.TheVariants.{Entry, Image}
 use Rattle.refusal_lines.specs.Refusals.{refusal_of}
 use Rattle.refusal_replies.specs.Refused.{Refuses}

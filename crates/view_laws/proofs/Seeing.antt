@@ -9,7 +9,6 @@ use Rattle.hh_model.specs.Effect.{object_at}
 use Rattle.hh_model.specs.Names.{refs_of}
 use Rattle.hh_model.specs.Step.{start}
 use Rattle.hh_model.proofs.Carried.{named_from_in}
-use Rattle.path_laws.proofs.Frozen.{run_upward}
 use Rattle.path_laws.proofs.Objects.{objects_stay}
 use Rattle.hh_model.proofs.Counts.{run_on}
 use Rattle.run_ledger.specs.declared.data.Ledger.{Ledger}
@@ -18,13 +17,9 @@ use Rattle.run_ledger.specs.Sound.{Keeps, SoundLedger, collecting}
 use Rattle.run_ledger.specs.Steps.{task_steps}
 use Rattle.run_ledger.proofs.Steps.{task_steps_sound}
 use Rattle.ledger_step_laws.proofs.Known.{legal_knows}
-use Rattle.object_layout.specs.Objects.{Located}
-use Rattle.core_relation.specs.Memory.{In, Memory, objects}
-use Rattle.core_relation.specs.Stands.{BelongingsStand}
-use Rattle.core_relation.proofs.objects.Members.{in_chunk}
 use Rattle.task_machine.specs.Run.{Runs}
 use Rattle.shared_value.proofs.PartFitsMachine as link
-use Rattle.view_laws.specs.Laws.{FrozenReferUp, FrozenStay, LeadTo, LevelsAreApart, ReadsStay, SeenNamesAreHeld}
+use Rattle.view_laws.specs.Laws.{FrozenStay, LeadTo, ReadsStay, SeenNamesAreHeld}
 
 -- ---- IMMUTABLE OBJECTS
 
@@ -32,9 +27,6 @@ pub frozen_stay : FrozenStay
 frozen_stay p limit ts more n o is frozen =
     let r = objects_stay p limit ts more n o is in
     ap (λ (m : State). object_at m.store n) (run_on p ts more (start p limit)) ∙ (r.1 ∙ ap Some (r.2.frozen frozen))
-
-pub frozen_refer_up : FrozenReferUp
-frozen_refer_up p limit ts n k o is frozen at = run_upward p limit ts n k o is frozen at
 
 -- ---- HELD NAMES
 
@@ -52,24 +44,6 @@ seen_names_are_held p s journal t k legal c x n m by is i leads =
     led_held (task_steps p (ledger_of p s journal) t k) S by n m (S.all.of_task t x n is i) leads
 
 -- ---- LEVELS
-
--- the chunk in which an object of a task lies is its task's
-lies_own : (v : Memory) (l : Ledger) (u : ℕ) (o : Located) → BelongingsStand v l u → In (objects v u) o → v.owner o.at.chunk ≡ Some u
-lies_own v l u o H i =
-    let c = in_chunk (v.belongings u).chunks o i in
-    ap v.owner (H.inside c.0 o c.1 c.2) ∙ H.owned c.0 c.1
-
-pub levels_are_apart : LevelsAreApart
-levels_are_apart v l t u V r live up ne w ru =
-    let G = V.gives t u r live up ne w ru in
-    record {
-      place = G.place;
-      behind = G.behind;
-      levels = λ i level o lt at has there. G.apart i o.at.chunk level lt at has (lies_own v l u o (V.belongings u ru) there);
-      own = λ o has there.
-          let mine : v.owner o.at.chunk ≡ Some t = ap v.owner (sym has.2) ∙ (V.belongings t r).owned has.0 has.1 in
-          ne (same_Some u t (sym (lies_own v l u o (V.belongings u ru) there) ∙ mine));
-    }
 
 -- ---- READS
 

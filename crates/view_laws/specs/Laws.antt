@@ -5,21 +5,19 @@ use Rattle.listed.specs.Members.{In as InList}
 use Rattle.hh_lang.specs.Form.{ProgramText}
 use Rattle.hh_model.specs.declared.data.Name.{Name}
 use Rattle.hh_model.specs.declared.data.Object.{Object}
-use Rattle.hh_model.specs.declared.data.State.{State}
 use Rattle.hh_model.specs.declared.data.Task.{Task}
 use Rattle.hh_model.specs.Effect.{object_at}
 use Rattle.hh_model.specs.Names.{task_names}
-use Rattle.hh_model.specs.Step.{is_joined, is_on_path, is_waiting, owner_of, run}
+use Rattle.hh_model.specs.Step.{run}
 use Rattle.run_trace.specs.Entry.{EntryValue}
 use Rattle.run_trace.specs.Settings.{SettingsValue}
 use Rattle.run_ledger.specs.declared.data.Ledger.{Ledger}
 use Rattle.run_ledger.specs.Journals.{is_legal, ledger_of}
 use Rattle.run_ledger.specs.Sound.{Keeps, collecting}
 use Rattle.run_ledger.specs.Steps.{task_steps}
-use Rattle.ledger_step_laws.specs.Accounts.{Rests}
 use Rattle.object_layout.specs.Objects.{Located}
 use Rattle.core_relation.specs.Memory.{Chunk, In, Memory, objects}
-use Rattle.core_relation.specs.Stands.{HasNumber, Stands}
+use Rattle.core_relation.specs.Stands.{HasNumber}
 use Rattle.task_machine.specs.declared.part.Private.{Private}
 use Rattle.task_machine.specs.Run.{Ran, Runs}
 use Rattle.shared_value.specs.SharedValue.{SharedValue, accounts, value_of}
@@ -33,12 +31,6 @@ use Rattle.shared_value.specs.Links.{above_of}
 abbrev pub FrozenStay : Type 0
 FrozenStay =
     (p : ProgramText) (limit : ℕ) (ts more : List ℕ) (n : Name) (o : Object) → object_at (run p limit ts).store n ≡ Some o → o.mutable ≡ false → object_at (run p limit (ts ++ more)).store n ≡ Some o
-
--- and the owner of each object that it refers to stands on its owner's path
-abbrev pub FrozenReferUp : Type 0
-FrozenReferUp =
-    (p : ProgramText) (limit : ℕ) (ts : List ℕ) (n k : Name) (o : Object) → let m : State = run p limit ts in
-    object_at m.store n ≡ Some o → o.mutable ≡ false → InList o.refs (Some k) → is_on_path m.tasks (owner_of m.tasks k.task) (owner_of m.tasks n.task) ≡ true
 
 -- ---- HELD NAMES
 
@@ -64,11 +56,6 @@ pub record IsApart (v : Memory) (u t : ℕ) : Type 0 where
   pub behind : drop (suc place) (v.belongings t).view ≡ (v.belongings u).view
   pub levels : (i : ℕ) (level : List Chunk) (o : Located) → i < place → slice_get (v.belongings t).view i ≡ Some level → HasNumber level o.at.chunk → In (objects v u) o → ⊥
   pub own : (o : Located) → HasNumber (v.belongings t).chunks o.at.chunk → In (objects v u) o → ⊥
-
-abbrev pub LevelsAreApart : Type 0
-LevelsAreApart =
-    (v : Memory) (l : Ledger) (t u : ℕ) → Stands v l → Rests l t → is_joined (slice_get l.machine.tasks t) ≡ false
-    → is_on_path l.machine.tasks u t ≡ true → u ≢ t → is_waiting (slice_get l.machine.tasks u) ≡ true → Rests l u → IsApart v u t
 
 -- ---- READS
 

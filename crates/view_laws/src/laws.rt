@@ -1,27 +1,16 @@
 // The laws, each the contract of a function that does nothing.
 
-ghost use Rattle.view_laws.specs.Laws.{FrozenReferUp, FrozenStay, LevelsAreApart, ReadsStay, SeenNamesAreHeld};
+ghost use Rattle.view_laws.specs.Laws.{FrozenStay, ReadsStay, SeenNamesAreHeld};
 
 /// An immutable object is never written.
 pub fn frozen_stay()
     ensures { FrozenStay }
 {}
 
-/// It refers to nothing that is owned below its owner.
-pub fn frozen_refer_up()
-    ensures { FrozenReferUp }
-{}
-
 /// Each name that a task holds, or that is reached from there, is in the account of some heap: so nothing that was
 /// swept is looked up.
 pub fn seen_names_are_held()
     ensures { SeenNamesAreHeld }
-{}
-
-/// Where two levels of a view have one chunk, or a level and the task's own heap do, no object of the farther heap lies
-/// in it.
-pub fn levels_are_apart()
-    ensures { LevelsAreApart }
 {}
 
 /// Private steps come to the same before and after each entry of another worker, those that read what a view shows too.

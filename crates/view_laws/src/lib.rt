@@ -3,4 +3,4 @@
 
 mod laws;
 
-pub use laws::{frozen_refer_up, frozen_stay, levels_are_apart, reads_stay, seen_names_are_held};
+pub use laws::{frozen_stay, reads_stay, seen_names_are_held};

@@ -191,6 +191,3 @@ module _ (p : ProgramText) (s : SettingsValue) (v : Memory) (l l' : Ledger) (t w
         (low F (j.left + 1) j.can.right_idle (held_then p s q r v l l' E.task y E.knows F G out (j.left + 1) j.can.right_rests)) left.limit left.end left.heap j.joins)
     alike_by Finishing n F g = absurd g
     alike_by Halting n F g = absurd g
-
-    pub ran_alike : FitsAt p s (part_for s t h (taken_by S.kind k)) v l → GoesOn S.kind → AlikeFor r.task l l'
-    ran_alike = alike_by S.kind S.last

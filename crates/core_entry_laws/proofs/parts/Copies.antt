@@ -18,7 +18,7 @@ use Rattle.run_ledger.proofs.Machine.{heap_machine}
 use Rattle.core_relation.specs.Memory.{Belongings, Memory, In, object_name, objects_in, sources, copied_object, rewritten_belongings}
 use Rattle.task_frames.specs.FramesValue.{led_frame}
 use Rattle.core_relation.specs.Layout.{AreLaidOut}
-use Rattle.core_relation.specs.Stands.{names_of, small_chunks, large_chunks, HasNames, BelongingsStand, Stands}
+use Rattle.core_relation.specs.Stands.{names_of, small_chunks, large_chunks, BelongingsStand, Stands}
 use Rattle.core_relation.specs.Fits.{Part, FitsAt, with_belongings, ahead}
 use Rattle.ledger_step_laws.specs.Accounts.{rested, ChangesHeap}
 use Rattle.core_relation.specs.Changes.{Moves}
@@ -46,33 +46,6 @@ part_stays p s q v v' l l' owner heap F G = record {
 
 pub rested_heap : (l l' : Ledger) (t : ℕ) → slice_get l'.heaps t ≡ slice_get l.heaps t → heap_of (rested l' t) t ≡ heap_of (rested l t) t
 rested_heap l l' t e = ap or_fresh (with_at l' t let_go ∙ (ap (heap_then let_go) e ∙ sym (with_at l t let_go)))
-
--- and a copy
-pub copy_stays : (p : ProgramText) (s : SettingsValue) (t : ℕ) (h h' : Belongings) (f : Addr → Addr) (v v' : Memory) (l l' : Ledger) → ((k : ℕ) → v.owner k ≡ Some t → v'.owner k ≡ Some t) → slice_get l'.heaps t ≡ slice_get l.heaps t
-    → collected l'.machine (heap_of l t) ≡ collected l.machine (heap_of l t) → FitsAt p s (before s t h) v' l' → CopyFits p s t h h' f v l → CopyFits p s t h h' f v' l'
-copy_stays p s t h h' f v v' l l' owner heap same F C =
-    let e : heap_of l' t ≡ heap_of l t = ap or_fresh heap in
-    let a : collected l'.machine (heap_of l' t) ≡ collected l.machine (heap_of l t) = ap (collected l'.machine) e ∙ same in
-    record {
-      old = part_stays p s (before s t h) v v' l l' owner (rested_heap l l' t heap) F C.old;
-      collects = ap (λ (z : Heap). is_some z.begun) e ∙ C.collects;
-      copy = record {
-        names = subst (HasNames h'.chunks) (sym a) C.copy.names;
-        room = C.copy.room ∙ ap (λ (z : Heap). z.room) (sym a);
-        since = C.copy.since;
-        count = C.copy.count;
-        inside = C.copy.inside;
-        once = C.copy.once;
-        named = C.copy.named;
-        laid = subst (λ (z : Heap). AreLaidOut h'.chunks z.reserved) (sym e) C.copy.laid;
-        owned = λ c i. owner c.number (C.copy.owned c i);
-        copied = λ o i j. C.copy.copied o i (subst (λ (z : Heap). In z.survivors (object_name o)) e j);
-        only = λ o i. (let r = C.copy.only o i in (r.0, r.1, subst (λ (z : Heap). In z.survivors (object_name r.0)) (sym e) r.2, r.3));
-        frames = C.copy.frames;
-        view = C.copy.view;
-        same = C.copy.same;
-      };
-    }
 
 -- THE END OF THE COLLECTION
 

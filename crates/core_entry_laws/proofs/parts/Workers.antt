@@ -21,7 +21,7 @@ use Rattle.core_relation.specs.Frames.{AreOut, IsOut, IsSteady}
 use Rattle.core_relation.specs.Copies.{PartFits}
 use Rattle.core_relation.specs.Makes.{Stores, Makes, taken_by}
 use Rattle.core_relation.specs.Worker.{WorkerFits}
-use Rattle.core_entry_laws.specs.WorkerLaws.{RanAlike, RanLeaves}
+use Rattle.core_entry_laws.specs.WorkerLaws.{RanLeaves}
 use Rattle.core_entry_laws.proofs.parts.Alike as alike
 use Rattle.core_entry_laws.proofs.parts.Along.{alike_alone}
 use Rattle.core_entry_laws.proofs.parts.Copies.{part_stays, rested_heap}
@@ -163,8 +163,3 @@ ran_leaves p s v v' l l' t w k h E Q C r ne R =
     let alive = alive_machine p s l l' t w k E in
     let F = (part_now p s (part_for s t h (taken_by E.splits.kind k)) v l alive Q).fits in
     by p s v v' l l' t w k h E r ne R E.splits.kind E.splits.last E.splits.on F C (ran.ran_leaves_still p s v v' l l' t w k h E r R.task (out p s r v l alive R) ne (part_now p s r v l alive R).fits F C)
-
-pub ran_alike : RanAlike
-ran_alike p s v l l' t w k h E Q r ne R g =
-    let alive = alive_machine p s l l' t w k E in
-    alike.alike_by p s v l l' t w k h E (E.splits.on g) r R.task (out p s r v l alive R) ne (part_now p s r v l alive R).fits E.splits.kind E.splits.last (part_now p s (part_for s t h (taken_by E.splits.kind k)) v l alive Q).fits g

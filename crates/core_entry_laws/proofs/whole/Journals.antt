@@ -17,13 +17,9 @@ use Rattle.ledger_step_laws.specs.Accounts.{Rests}
 use Rattle.core_relation.specs.Stands.{Place, BelongingsStand, Stands}
 pub use Rattle.core_entry_laws.specs.First.{first}
 use Rattle.core_entry_laws.specs.First.{first_tree_counts}
-use Rattle.core_relation.specs.Since.{NotedAt}
-use Rattle.core_relation.specs.Whole.{TreeCountsStand, state_by}
-use Rattle.core_entry_laws.specs.EntryLaws.{FirstStandsFor}
+use Rattle.core_relation.specs.Whole.{state_by}
 use Rattle.run_ledger.specs.Heaps.{heap_of}
 use Rattle.core_relation.proofs.objects.LaidOut.{none_laid}
-use Rattle.core_relation.proofs.notes.Notes.{no_notes}
-use Rattle.core_entry_laws.proofs.whole.Together.{whole_stands}
 
 nils : (at : Name → Addr → Type 0) (n : ℕ) → AllRead at (replicate n None) (replicate n None)
 nils at zero = tt
@@ -81,14 +77,6 @@ first_stands p s = record {
 
 -- THE WHOLE
 
-first_tree : (p : ProgramText) (s : SettingsValue) → TreeCountsStand first_tree_counts (opening p s)
-first_tree p s = record {
-  node = node;
-  task_out = λ w t. ((λ e. none_some e), (λ e. none_some (sym (worker t) ∙ e)));
-  used = refl;
-  steps = refl;
-  outputs = refl;
-  end = refl;
 }
   where
     worker : (t : ℕ) → (heap_of (opening p s) t).worker ≡ None
@@ -98,18 +86,3 @@ first_tree p s = record {
     node : (t : ℕ) → first_tree_counts.node t ≡ option_map (λ (x : Task). record { parent = x.parent; state = state_by x.status (heap_of (opening p s) t).worker }) (slice_get (opening p s).machine.tasks t)
     node zero = refl
     node (suc t) = refl
-
-pub first_stands_for : FirstStandsFor
-first_stands_for p s = whole_stands (first p) first_tree_counts (opening p s) (first_stands p s) (first_tree p s) (λ t r. idle t) (λ t r. begun t) notes
-  where
-    idle : (t : ℕ) → (heap_of (opening p s) t).begun ≡ None
-    idle zero = refl
-    idle (suc t) = refl
-
-    begun : (t : ℕ) → ((first p).belongings t).begun ≡ None
-    begun zero = refl
-    begun (suc t) = refl
-
-    notes : (t : ℕ) → NotedAt (first p) (opening p s) t
-    notes zero = no_notes (first p) (opening p s) 0 (record { keeps = refl; needless = refl })
-    notes (suc t) = no_notes (first p) (opening p s) (suc t) (record { keeps = refl; needless = refl })

@@ -6,9 +6,7 @@ use Rattle.core_relation.specs.Memory.{Memory}
 use Rattle.ledger_step_laws.specs.Accounts.{rested}
 use Rattle.core_relation.specs.Whole.{BegunBy, by_end, handed}
 use Rattle.ledger_step_laws.specs.Last.{EndsDone}
-use Rattle.core_relation.specs.Copies.{PartFits, before}
-use Rattle.core_entry_laws.proofs.parts.Quiet.{aside_is}
-use Rattle.core_entry_laws.specs.CopyLaws.{CopiesStay, CopiesEnd}
+use Rattle.core_entry_laws.specs.CopyLaws.{CopiesEnd}
 use Rattle.core_entry_laws.specs.EntryLaws.{WholeStands, WholeNotes}
 use Rattle.core_entry_laws.proofs.parts.Statements.{CopiesLeave}
 use Rattle.core_relation.specs.Frames.{IsOut}
@@ -20,13 +18,8 @@ use Rattle.run_ledger.specs.Heaps.{with_heap, collected}
 use Rattle.ledger_step_laws.proofs.Ahead.{with_off}
 use Rattle.ledger_step_laws.proofs.Entries.{end_changes}
 use Rattle.core_entry_laws.proofs.parts.Ends.{fits_end}
-use Rattle.core_entry_laws.proofs.parts.Copies.{copy_stays, copy_fits, moves}
-use Rattle.ledger_step_laws.proofs.SameWords.{collected_alike}
+use Rattle.core_entry_laws.proofs.parts.Copies.{copy_fits, moves}
 use Rattle.task_machine.specs.declared.part.Begun.{Begun}
-
-pub copies_stay : CopiesStay
-copies_stay p s t h h' f v v' l l' S A owner on F C =
-    copy_stays p s t h h' f v v' l l' owner A.heap (collected_alike l l' t S A) (subst (PartFits p s (before s t h) v') (aside_is l' on) F.part).fits C
 
 pub copies_end : CopiesEnd
 copies_end p s t h h' f v v' l x hs S is runs there C E none = (moves p s t h h' f v v' l x 0 S is runs hs there C E, copy_fits p s t h h' f v v' l x 0 S is runs hs there C E none)

@@ -1,6 +1,5 @@
 use Rattle.std.proofs.Common.{◌≡◌, ◌∙◌, Some, ap, sym, subst, true}
 use Rattle.std.proofs.lemmas.Bool.{eqb-true}
-use Rattle.chunk_pieces.specs.PiecesValue.{is_among}
 use Rattle.chunk_pieces.proofs.Levels as levels
 use Rattle.chunk_pieces.proofs.pieces.ends_in.Goals as goal
 

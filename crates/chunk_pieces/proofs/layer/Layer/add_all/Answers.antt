@@ -1,7 +1,6 @@
 use Rattle.std.proofs.Common.{◌≡◌, ◌∙◌, ◌++◌, ◌∷◌, [], ℕ, Option, ap, sym, take, rules}
 use Rattle.std.specs.Option.{option_or}
 use Rattle.std.proofs.lemmas.List.{map-append, take_more}
-use Rattle.object_layout.specs.ChunkValue.{ChunkValue}
 use Rattle.object_layout.specs.Piece.{PieceValue, frozen_of}
 use Rattle.chunk_pieces.specs.Level.{level_of, piece_in}
 use Rattle.chunk_pieces.proofs.Levels as levels

@@ -1,5 +1,0 @@
-use Rattle.command_answers.proofs.Given as given
-use Rattle.command_answers.proofs.laws.traces_are_drawn.Goals as goal
-
-pub returns : goal.returns
-returns c = given.traces_are_drawn

@@ -1,5 +1,0 @@
-use Rattle.core_entry_laws.proofs.notes.Begun as proved
-use Rattle.core_entry_laws.proofs.laws.begun_stays.Goals as goal
-
-pub returns : goal.returns
-returns c = proved.begun_stays

@@ -1,5 +1,0 @@
-use Rattle.journal_laws.proofs.History as proved
-use Rattle.journal_laws.proofs.laws.snapshots_are_held.Goals as goal
-
-pub returns : goal.returns
-returns c = proved.snapshots_are_held

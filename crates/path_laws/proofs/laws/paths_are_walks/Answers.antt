@@ -1,5 +1,0 @@
-use Rattle.path_laws.proofs.PathLaws as proved
-use Rattle.path_laws.proofs.laws.paths_are_walks.Goals as goal
-
-pub returns : goal.returns
-returns c = proved.paths_are_walks

@@ -1,5 +1,0 @@
-use Rattle.path_laws.proofs.Disentangled as proved
-use Rattle.path_laws.proofs.laws.steps_disentangle.Goals as goal
-
-pub returns : goal.returns
-returns c = proved.disentangled_step

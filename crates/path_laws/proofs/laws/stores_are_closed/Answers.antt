@@ -1,5 +1,0 @@
-use Rattle.path_laws.proofs.Stored as proved
-use Rattle.path_laws.proofs.laws.stores_are_closed.Goals as goal
-
-pub returns : goal.returns
-returns c = proved.run_stored

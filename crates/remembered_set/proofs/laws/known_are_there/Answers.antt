@@ -1,5 +1,0 @@
-use Rattle.remembered_set.proofs.LiftLemmas as lemmas
-use Rattle.remembered_set.proofs.laws.known_are_there.Goals as goal
-
-pub returns : goal.returns
-returns c = lemmas.known_are_there
