@@ -8,7 +8,7 @@ use text_lines::word_is;
 
 /// The word that an instruction begins with.
 #[derive(Clone, Copy)]
-pub(crate) enum Verb {
+pub enum Verb {
     Set,
     Mov,
     Movr,
@@ -36,7 +36,7 @@ pub(crate) enum Verb {
 
 /// What kind of line a line is, by its first word.
 #[derive(Clone, Copy)]
-pub(crate) enum Head {
+pub enum Head {
     /// It has no word.
     Blank,
     /// `fn`
@@ -148,7 +148,7 @@ fn verb_of_word(word: &[u8]) -> Option<Verb>
 }
 
 /// What kind of line begins with this word.
-pub(crate) fn head_of(word: &[u8]) -> Head
+pub fn head_of(word: &[u8]) -> Head
     ensures { result ≡ head_of_word word.now }
 {
     if word_is(word, b"fn") {

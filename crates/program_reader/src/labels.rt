@@ -13,7 +13,7 @@ use text_lines::{behind, line_end};
 
 /// Labels, each with the number of the instructions before it; and how many instructions there are.
 #[derive(Drop)]
-pub(crate) struct Labels<'a> {
+pub struct Labels<'a> {
     pub entries: Table<'a>,
     pub next: u32,
 }
@@ -29,7 +29,7 @@ impl<'a> Labels<'a> {
     ghost use Rattle.program_reader.specs.Around.{label_line};
 
     /// No labels.
-    pub(crate) fn new(alloc: Global) -> Labels<'a>
+    pub fn new(alloc: Global) -> Labels<'a>
         ensures { result ≡ no_labels }
     {
         Labels {
@@ -55,7 +55,7 @@ impl<'a> Labels<'a> {
 }
 
 /// The labels of the function whose lines begin here.
-pub(crate) fn read_labels<'a>(alloc: Global, lines: &'a [u8]) -> Result<Labels<'a>, AllocError>
+pub fn read_labels<'a>(alloc: Global, lines: &'a [u8]) -> Result<Labels<'a>, AllocError>
     requires { length lines.now ≤ most_bytes }
     ensures { IfOk result (λ labels. labels ≡ labels_onto no_labels (lines_of lines.now)) }
 {

@@ -37,7 +37,7 @@ fn are_name_parts(word: &[u8]) -> bool
 }
 
 /// Whether a word is a name: 1 to 32 ASCII letters, digits or `_`, of which the first is no digit.
-pub(crate) fn is_name_word(word: &[u8]) -> bool
+pub fn is_name_word(word: &[u8]) -> bool
     ensures { result ≡ is_name word.now }
 {
     begins_as_name(word) && word.len() <= 32 && are_name_parts(word)
@@ -45,7 +45,7 @@ pub(crate) fn is_name_word(word: &[u8]) -> bool
 
 /// Names in the order in which they were noted, each once, and with each a number.
 #[derive(Drop)]
-pub(crate) struct Table<'a> {
+pub struct Table<'a> {
     numbers: IndexMap<&'a [u8], u32>,
 }
 
@@ -60,7 +60,7 @@ impl<'a> Model for Table<'a> {
 
 impl<'a> Table<'a> {
     /// No names.
-    pub(crate) fn new(alloc: Global) -> Table<'a>
+    pub fn new(alloc: Global) -> Table<'a>
         ensures { result ≡ [] }
     {
         Table {
@@ -83,7 +83,7 @@ impl<'a> Table<'a> {
     }
 
     /// The name at a place, and its number.
-    pub(crate) fn entry(&self, place: usize) -> Option<(&'a [u8], u32)>
+    pub fn entry(&self, place: usize) -> Option<(&'a [u8], u32)>
         ensures { option_map (λ e. noted_name_of e.0.now e.1) result ≡ slice_get self.now place }
     {
         let (name, number) = self.numbers.get_index(place)?;
@@ -91,7 +91,7 @@ impl<'a> Table<'a> {
     }
 
     /// Whether a name is there.
-    pub(crate) fn has(&self, name: &[u8]) -> bool
+    pub fn has(&self, name: &[u8]) -> bool
         ensures { result ≡ is_noted self.now name.now }
     {
         self.numbers.contains_key(name)
@@ -108,14 +108,14 @@ impl<'a> Table<'a> {
     }
 
     /// The number that was noted with a name.
-    pub(crate) fn number(&self, name: &[u8]) -> Option<u32>
+    pub fn number(&self, name: &[u8]) -> Option<u32>
         ensures { result ≡ numbered_of self.now name.now }
     {
         self.numbers.get(name).copied()
     }
 
     /// Notes a name with a number, unless the name is there.
-    pub(crate) fn note(&mut self, name: &'a [u8], number: u32) -> Result<(), AllocError>
+    pub fn note(&mut self, name: &'a [u8], number: u32) -> Result<(), AllocError>
         ensures ok { OnOk result (self.new ≡ noted self.old name.now number) }
         ensures err { OnErr result (self.new ≡ self.old) }
     {

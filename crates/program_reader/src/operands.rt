@@ -22,7 +22,7 @@ fn read_register(digits: &[u8]) -> Option<u8>
 }
 
 /// The number register that a word names.
-pub(crate) fn read_int_register(word: &[u8]) -> Option<IntReg>
+pub fn read_int_register(word: &[u8]) -> Option<IntReg>
     ensures { result ≡ int_register word.now }
 {
     match word {
@@ -32,7 +32,7 @@ pub(crate) fn read_int_register(word: &[u8]) -> Option<IntReg>
 }
 
 /// The reference register that a word names.
-pub(crate) fn read_ref_register(word: &[u8]) -> Option<RefReg>
+pub fn read_ref_register(word: &[u8]) -> Option<RefReg>
     ensures { result ≡ ref_register word.now }
 {
     match word {
@@ -42,7 +42,7 @@ pub(crate) fn read_ref_register(word: &[u8]) -> Option<RefReg>
 }
 
 /// How many registers a `pack` takes.
-pub(crate) fn read_field_count(word: &[u8]) -> Option<FieldCount>
+pub fn read_field_count(word: &[u8]) -> Option<FieldCount>
     ensures { result ≡ field_count word.now }
 {
     let count = read_u32(word)?;

@@ -25,7 +25,7 @@ pub(crate) fn split_line(line: &[u8]) -> (Head, &[u8])
 }
 
 /// Notes a name, if there is one.
-pub(crate) fn note_if<'a>(
+pub fn note_if<'a>(
     table: &mut Table<'a>,
     name: Option<&'a [u8]>,
     number: u32,
@@ -60,7 +60,7 @@ fn read_looped(head: Head, rest: &[u8]) -> Option<&[u8]>
 
 impl<'a> Outline<'a> {
     /// No names.
-    pub(crate) fn new(alloc: Global) -> Outline<'a>
+    pub fn new(alloc: Global) -> Outline<'a>
         ensures { result ≡ no_names }
     {
         Outline {
@@ -79,7 +79,7 @@ impl<'a> Outline<'a> {
     }
 
     /// Notes what the lines of a text name.
-    pub(crate) fn add_lines(&mut self, text: &'a [u8]) -> Result<(), AllocError>
+    pub fn add_lines(&mut self, text: &'a [u8]) -> Result<(), AllocError>
         requires sized { length text.now ≤ most_bytes }
         requires nothing { self.old ≡ no_names }
         ensures value { OnOk result (self.new ≡ outline_of text.now) }

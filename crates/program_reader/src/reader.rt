@@ -20,10 +20,10 @@ use std::alloc::{AllocError, Global};
 use std::mem;
 
 /// The most functions of a text.
-const FUNCTION_LIMIT: usize = 1024;
+pub const FUNCTION_LIMIT: usize = 1024;
 
 /// The most instructions of a text.
-const ORDER_LIMIT: u32 = 65536;
+pub const ORDER_LIMIT: u32 = 65536;
 
 /// What the lines so far made: the functions that are closed, and the open one.
 #[derive(Drop)]
@@ -73,14 +73,15 @@ fn no_label(sense: &Sense) -> bool
     matches!(sense, Sense::NoSuchLabel)
 }
 
-fn begins_function(head: Head) -> bool
+/// Whether such a line begins a function.
+pub fn begins_function(head: Head) -> bool
     ensures { result ≡ is_begin head }
 {
     matches!(head, Head::Begin)
 }
 
-// Whether a function is open behind such a line.
-fn open_after(head: Head, inside: bool) -> bool
+/// Whether a function is open behind such a line.
+pub fn open_after(head: Head, inside: bool) -> bool
     ensures { result ≡ is_open_after head inside }
 {
     match head {
@@ -90,8 +91,8 @@ fn open_after(head: Head, inside: bool) -> bool
     }
 }
 
-// Whether bytes are UTF-8.
-fn is_text(line: &[u8]) -> bool
+/// Whether bytes are UTF-8.
+pub fn is_text(line: &[u8]) -> bool
     ensures { result ≡ is_utf8 line.now }
 {
     match str::from_utf8(line) {

@@ -13,7 +13,7 @@ use text_lines::next_word;
 
 /// What the operands of a line say.
 #[derive(Drop)]
-pub(crate) enum Sense {
+pub enum Sense {
     /// They fit, and the line isn't an instruction.
     Fits,
     /// They fit, and the line is this instruction.
@@ -26,7 +26,7 @@ pub(crate) enum Sense {
 /// The names of the functions of a text, and of those that its loops name, each with the line on
 /// which it first stands.
 #[derive(Drop)]
-pub(crate) struct Outline<'a> {
+pub struct Outline<'a> {
     pub functions: Table<'a>,
     pub loops: Table<'a>,
 }
