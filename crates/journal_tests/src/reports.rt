@@ -1,10 +1,9 @@
-// What is written of runs, and the pace of their journals.
+// What is written of runs.
 
 use crate::programs::{
     LARGE, LARGE_AND_SMALL, LISTS, Limits, SWEEPS, TWO_OBJECTS, joined, read, settings,
 };
-use run_journal::replayed;
-use run_report::{Extras, is_paced, report_of, whole_run};
+use run_report::{Extras, whole_run};
 use std::alloc::Global;
 use trace_input::TraceInput;
 
@@ -153,29 +152,14 @@ fn writes_report(alloc: Global, read: &TraceInput, limits: Limits, text: &str) -
     }
 }
 
-// The leaf collections that the report of a legal journal counts.
-fn leaf_collections(alloc: Global, read: &TraceInput, limits: Limits) -> Option<u64> {
-    let (settings, entries) = (settings(limits), read.trace.entries.as_slice());
-    if replayed(alloc, &read.program, settings, entries).is_err() {
-        return None;
-    }
-    match report_of(alloc, &read.program, settings, entries) {
-        Ok(report) => Some(report.leaf),
-        Err(_) => None,
-    }
-}
+// The most chunks, the journal, and what is written.
+type Pool = (u32, &'static str, &'static str);
 
-// The most chunks, the leaf collections that are counted, the journal, and what is written.
-type Pool = (u32, u64, &'static str, &'static str);
-
-// Whether both are as they should be.
-fn runs_out(alloc: Global, (chunks, leaf, journal, text): Pool) -> bool {
+// Whether what should be is written.
+fn runs_out(alloc: Global, (chunks, journal, text): Pool) -> bool {
     let limits = (1, 1_000_000, chunks, 1000, 8192);
     match read(alloc, LISTS, &[journal]) {
-        Some(read) => {
-            writes_report(alloc, &read, limits, text)
-                && leaf_collections(alloc, &read, limits) == Some(leaf)
-        }
+        Some(read) => writes_report(alloc, &read, limits, text),
         None => false,
     }
 }
@@ -183,13 +167,11 @@ fn runs_out(alloc: Global, (chunks, leaf, journal, text): Pool) -> bool {
 const POOLS: &[Pool] = &[
     (
         2,
-        0,
         PUT_OFF,
         "report tasks 1 steps 12 turns 8\nreport leaf 0 putoff 1 freed 0\nreport inner 0 freed 0\nreport chunks 2 peak 2\nreport held 0 words 0\nend: pool 2\n",
     ),
     (
         5,
-        1,
         COLLECTED,
         "report tasks 1 steps 27 turns 16\nreport leaf 1 putoff 1 freed 0\nreport inner 0 freed 0\nreport chunks 5 peak 5\nreport held 0 words 0\nend: pool 5\n",
     ),
@@ -198,51 +180,6 @@ const POOLS: &[Pool] = &[
 #[test]
 fn pools_run_out(rt: HostRuntime) {
     for &pool in POOLS {
-        assert!(rt; runs_out(rt.alloc(), pool), "{}", pool.3);
-    }
-}
-
-// Whether a journal that was read keeps the pace, if it is legal.
-fn keeps_pace(alloc: Global, read: &TraceInput, limits: Limits) -> Option<bool> {
-    let (settings, entries) = (settings(limits), read.trace.entries.as_slice());
-    if replayed(alloc, &read.program, settings, entries).is_err() {
-        return None;
-    }
-    is_paced(alloc, &read.program, settings, entries).ok()
-}
-
-// A run's limits, its program, the parts of its journal, and whether it keeps the pace.
-type Paced = (Limits, &'static str, &'static [&'static str], bool);
-
-// Whether a legal journal keeps the pace or not, as it should.
-fn is_told_apart(alloc: Global, (limits, program, journal, paced): Paced) -> bool {
-    match read(alloc, program, journal) {
-        Some(read) => keeps_pace(alloc, &read, limits) == Some(paced),
-        None => false,
-    }
-}
-
-const PACES: &[Paced] = &[
-    ((1, 1_000_000, 2, 1000, 8192), LISTS, &[PUT_OFF], true),
-    (INNER, SWEEPS, &[TO_SWEEP, SWEPT], true),
-    (INNER, SWEEPS, &[TO_SWEEP, "0 took 1\n"], false),
-    (
-        INNER,
-        SWEEPS,
-        &[TO_SWEEP, "0 mark 0\n0 took 1\n0 ran 1 1\n0 some 0 63\n"],
-        false,
-    ),
-    (
-        INNER,
-        SWEEPS,
-        &[TO_SWEEP, "0 mark 0\n0 took 1\n0 ran 1 1\n0 ran 1 1\n"],
-        false,
-    ),
-];
-
-#[test]
-fn paces_are_told_apart(rt: HostRuntime) {
-    for &case in PACES {
-        assert!(rt; is_told_apart(rt.alloc(), case), "{:?}", case.2);
+        assert!(rt; runs_out(rt.alloc(), pool), "{}", pool.2);
     }
 }

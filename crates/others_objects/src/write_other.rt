@@ -16,9 +16,8 @@ use remembered_set::Source;
 use std::alloc::AllocError;
 use task_frames::Frames;
 use task_homes::Heaps;
-use write_barrier::{heap_of, noted_in};
+use write_barrier::note_write;
 
-#[tactic(auto, using(write_barrier::proofs::Owned::owned_used, write_barrier::proofs::Owned::owned_made))]
 /// Writes a reference, and notes what the collections of the heaps need of that.
 pub fn write_reference(
     tree: &Tree,
@@ -40,11 +39,14 @@ pub fn write_reference(
     ensures no_sets { OnErr result ((t : ℕ) → content_at heaps.new.homes.sets t ≡ content_at heaps.old.homes.sets t) }
 {
     let overwritten = heaps.ref_field(object, field);
-    let heap = heap_of(&heaps.pool, overwritten);
-    let into = noted_in(tree, &heaps.pool, object, value);
-    heaps.homes.reserve_kept(heap)?;
-    heaps.homes.note_source(into, Source { object, field })?;
-    heaps.homes.keep(heap, overwritten);
+    note_write(
+        tree,
+        &heaps.pool,
+        &mut heaps.homes,
+        Source { object, field },
+        overwritten,
+        value,
+    )?;
     heaps.set_ref_field(object, field, value);
     Ok(())
 }

@@ -1,3 +1,2 @@
 pub mod BookValue
-pub mod Strands
 pub mod Replay

@@ -4,17 +4,14 @@ ghost use Rattle.std.specs.Prelude.{◌≡◌, None, true, false, IfOk, OnOk, On
 ghost use Rattle.run_ledger.specs.Heaps.{in_use};
 ghost use Rattle.run_ledger.specs.Entries.{refusal, after};
 ghost use Rattle.run_ledger.specs.Journals.{opening};
-ghost use Rattle.run_ledger.specs.Pace.{noted};
-ghost use Rattle.run_ledger.specs.Pace.{owed as owed_by};
 ghost use Rattle.run_accounts.specs.Accounts.{FailsFor};
 ghost use Rattle.run_journal.specs.BookValue.{BookValue, IsOpened, IsLegalLedger, cause_in};
 
-use crate::pace::{note, owed};
 use hh_lang::Program;
 use hh_model::State;
 use run_accounts::{Accounts, ApplyError};
-use run_ledger::{Owed, Refused, RunEnd, WorkerPace};
-use run_trace::{Entry, Kind, Settings};
+use run_ledger::{Refused, RunEnd};
+use run_trace::{Entry, Settings};
 use std::alloc::{AllocError, Global};
 use std::marker::Model;
 
@@ -122,22 +119,5 @@ impl<'p> Book<'p> {
         ensures { IsLegalLedger self.now.program self.now.settings self.now.ledger }
     {
         let _ = &self.accounts;
-    }
-
-    /// What the pace of inner collections demands of a worker's next entry, by what is kept of the worker.
-    pub fn owed(&self, pace: &WorkerPace) -> Owed
-        requires { self.now.stopped ≡ false }
-        ensures { result ≡ owed_by self.now.settings self.now.ledger pace.now }
-    {
-        self.accounts.bounds();
-        owed(&self.accounts, pace)
-    }
-
-    /// Keeps of a worker what its entry leaves, which was the last to be entered. Want of memory changes nothing.
-    pub fn note(&self, pace: &mut WorkerPace, kind: Kind) -> Result<(), AllocError>
-        ensures ok { OnOk result (pace.new ≡ noted self.now.ledger pace.old kind) }
-        ensures err { OnErr result (pace.new ≡ pace.old) }
-    {
-        note(&self.accounts, pace, kind)
     }
 }

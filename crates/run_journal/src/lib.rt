@@ -1,8 +1,7 @@
-// Journals replayed: books of accounts that entries are entered into, the pace, and how the run of a journal ended.
+// Journals replayed: books of accounts that entries are entered into, and how the run of a journal ended.
 #![tactic(auto)]
 
 mod book;
-mod pace;
 mod reads;
 mod replay;
 

@@ -2,7 +2,6 @@
 
 ghost use Rattle.std.specs.Prelude.{◌≡◌, ◌++◌, Some, None, false, IfOk, OnOk, IfErr};
 ghost use Rattle.run_ledger.specs.Journals.{opening, ledger_of, first_refused, end_of, refused_as_run};
-ghost use Rattle.run_ledger.specs.Report.{report_of};
 ghost use Rattle.run_ledger.specs.Text.{end_words, end_line, out_text};
 ghost use Rattle.run_journal.specs.Replay.{ReplayFails};
 ghost use Rattle.run_report.specs.Totals.{totals_from};
@@ -13,7 +12,7 @@ use crate::texts::{end_text, outputs_text, report_text};
 use hh_lang::Program;
 use listed::Listed;
 use run_journal::ReplayError;
-use run_ledger::{Refused, RefusedAt, Report, RunEnd};
+use run_ledger::{Refused, RefusedAt, RunEnd};
 use run_trace::{Entry, Settings, Version, trace_text};
 use std::alloc::{AllocError, Global};
 
@@ -30,26 +29,6 @@ pub struct WholeRun {
     pub end: RunEnd,
     /// The outputs, the report and the trace where they are asked for, and the end line.
     pub text: Listed<u8>,
-}
-
-/// The report of a journal.
-pub fn report_of(
-    alloc: Global,
-    program: &Program,
-    settings: Settings,
-    journal: &[Entry],
-) -> Result<Report, AllocError>
-    requires { first_refused program.now settings journal.now ≡ None }
-    ensures { IfOk result (λ r. r ≡ report_of program.now settings journal.now) }
-{
-    match count(alloc, program, settings, journal) {
-        Ok(counted) => {
-            let report = report(&counted.book, journal.len(), counted.totals);
-            drop(counted);
-            Ok(report)
-        }
-        Err(_) => Err(AllocError),
-    }
 }
 
 // Adds the lines of the report to a text, where it is asked for.

@@ -6,9 +6,9 @@ ghost use Rattle.object_layout.specs.Chunks.{cell_of, object_of, put_object};
 ghost use Rattle.alloc_path.specs.FieldLaws.{with_ref_of};
 ghost use Rattle.remembered_set.specs.Sources.{StandOnce};
 ghost use Rattle.write_barrier.specs.Forms.{bare};
-ghost use Rattle.write_barrier.specs.Stored.{content_at, with_kept, with_source, IsRoomy};
+ghost use Rattle.write_barrier.specs.Stored.{content_at, with_source, IsRoomy};
 ghost use Rattle.task_homes.specs.declared.task_at_rest.Rest.{Rest as RestOf};
-ghost use Rattle.task_homes.specs.HomesValue.{kept_of, keeping, keeps_of, marking_in, marks_at, refs_of_rest, rest_at, rest_in, set_in, sources_of, IsSameRest};
+ghost use Rattle.task_homes.specs.HomesValue.{beside_sets, kept_of, keeping, keeps_of, marking_in, marks_at, refs_of_rest, rest_at, rest_in, set_in, sources_of, IsSameRest};
 
 use crate::task_at_rest::Rest;
 use inner_mark_gc::Marking;
@@ -18,7 +18,7 @@ use remembered_set::Source;
 use std::alloc::{AllocError, Global};
 use std::marker::Model;
 use std::mem;
-use write_barrier::SetOf;
+use write_barrier::{HoldsSets, SetOf};
 
 /// What belongs to a task.
 #[derive(Drop)]
@@ -77,9 +77,9 @@ impl Homes {
     ghost use Rattle.alloc_path.specs.FieldLaws.{with_ref_of};
     ghost use Rattle.remembered_set.specs.Sources.{StandOnce};
     ghost use Rattle.write_barrier.specs.Forms.{bare};
-    ghost use Rattle.write_barrier.specs.Stored.{content_at, with_kept, with_source, IsRoomy};
+    ghost use Rattle.write_barrier.specs.Stored.{content_at, with_source, IsRoomy};
     ghost use Rattle.task_homes.specs.declared.task_at_rest.Rest.{Rest as RestOf};
-    ghost use Rattle.task_homes.specs.HomesValue.{kept_of, keeping, keeps_of, marking_in, marks_at, refs_of_rest, rest_at, rest_in, set_in, sources_of, IsSameRest};
+    ghost use Rattle.task_homes.specs.HomesValue.{beside_sets, kept_of, keeping, keeps_of, marking_in, marks_at, refs_of_rest, rest_at, rest_in, set_in, sources_of, IsSameRest};
 
     /// The home of the root, which no worker holds yet.
     pub fn new(alloc: Global, root: Rest) -> Result<Homes, AllocError>
@@ -398,75 +398,56 @@ impl Homes {
         }
     }
 
-    /// Makes a place for one overwritten reference more, if the heap keeps such.
-    pub fn reserve_kept(&mut self, heap: Option<u32>) -> Result<(), AllocError>
-        requires made { IfSome heap (λ h. h < length self.old.rests) }
-        ensures homes { self.new ≡ record self.old { sets = self.new.sets } }
-        ensures many { length self.new.sets ≡ length self.old.sets }
-        ensures same { (t : ℕ) → content_at self.new.sets t ≡ content_at self.old.sets t }
-        ensures room { OnOk result (IfSome heap (λ h. IsRoomy self.new.sets h)) }
-    {
-        let Some(h) = heap else {
-            return Ok(());
-        };
-        if !self.keeps(h) {
-            return Ok(());
-        }
-        match &mut self.list[h as usize] {
-            Some(home) => home.get_mut().set.reserve_kept(),
-            None => unreachable!(),
-        }
-    }
-
     // Notes a field that points down into the heap of a task that has a block, unless it is noted.
-    fn note(&mut self, t: u32, source: Source) -> Result<(), AllocError>
+    fn note_in_block(&mut self, t: u32, source: Source) -> Result<(), AllocError>
         requires block { slice_get self.old.blocks t ≡ Some true }
-        ensures homes { self.new ≡ record self.old { sets = self.new.sets } }
-        ensures many { length self.new.sets ≡ length self.old.sets }
+        ensures rests { self.new.rests ≡ self.old.rests }
+        ensures beside { beside_sets self.new ≡ beside_sets self.old }
         ensures ok { OnOk result ((u : ℕ) → content_at self.new.sets u ≡ option_map (with_source (Some t) source u) (content_at self.old.sets u)) }
         ensures err { OnErr result ((u : ℕ) → content_at self.new.sets u ≡ content_at self.old.sets u) }
-        ensures kept { (h : ℕ) → IsRoomy self.old.sets h → IsRoomy self.new.sets h }
+        ensures places { (h : ℕ) → IsRoomy self.old.sets h → IsRoomy self.new.sets h }
     {
         match &mut self.list[t as usize] {
             Some(home) => home.get_mut().set.note(source),
             None => unreachable!(),
         }
     }
+}
 
-    /// Notes a field that points down into a heap, unless it is noted.
-    pub fn note_source(&mut self, into: Option<u32>, source: Source) -> Result<(), AllocError>
-        requires made { IfSome into (λ h. h < length self.old.rests) }
-        ensures homes { self.new ≡ record self.old { sets = self.new.sets; blocks = self.new.blocks } }
-        ensures many { length self.new.sets ≡ length self.old.sets }
-        ensures ok { OnOk result ((t : ℕ) → content_at self.new.sets t ≡ option_map (with_source into source t) (content_at self.old.sets t)) }
-        ensures err { OnErr result ((t : ℕ) → content_at self.new.sets t ≡ content_at self.old.sets t) }
-        ensures kept { (h : ℕ) → IsRoomy self.old.sets h → IsRoomy self.new.sets h }
-    {
-        let Some(h) = into else {
+/// The sets of the heaps.
+impl HoldsSets for Homes {
+    ghost use Rattle.std.specs.Prelude.{length};
+    ghost use Rattle.write_barrier.specs.Stored.{content_at, IsRoomy};
+    ghost use Rattle.task_homes.specs.HomesValue.{beside_sets};
+
+    ghost count = { λ h. length h.rests };
+
+    ghost content = { λ h t. content_at h.sets t };
+
+    ghost has_place = { λ h t. IsRoomy h.sets t };
+
+    ghost beside = { beside_sets };
+
+    fn reserve_kept(&mut self, heap: u32) -> Result<(), AllocError> {
+        if !self.keeps(heap) {
             return Ok(());
-        };
-        self.make_block(h)?;
-        self.note(h, source)
+        }
+        match &mut self.list[heap as usize] {
+            Some(home) => home.get_mut().set.reserve_kept(),
+            None => unreachable!(),
+        }
     }
 
-    /// Keeps an overwritten reference, for which there is a place, if the heap into which it points keeps such.
-    pub fn keep(&mut self, heap: Option<u32>, overwritten: Option<Addr>)
-        requires made { IfSome heap (λ h. h < length self.old.rests) }
-        requires room { IfSome heap (λ h. IsRoomy self.old.sets h) }
-        ensures homes { self.new ≡ record self.old { sets = self.new.sets } }
-        ensures many { length self.new.sets ≡ length self.old.sets }
-        ensures kept { (t : ℕ) → content_at self.new.sets t ≡ option_map (with_kept heap overwritten t) (content_at self.old.sets t) }
-    {
-        let Some(h) = heap else {
-            return;
-        };
-        let Some(reference) = overwritten else {
-            return;
-        };
-        if !self.keeps(h) {
+    fn note(&mut self, heap: u32, source: Source) -> Result<(), AllocError> {
+        self.make_block(heap)?;
+        self.note_in_block(heap, source)
+    }
+
+    fn keep(&mut self, heap: u32, reference: Addr) {
+        if !self.keeps(heap) {
             return;
         }
-        match &mut self.list[h as usize] {
+        match &mut self.list[heap as usize] {
             Some(home) => home.get_mut().set.push_kept(reference),
             None => unreachable!(),
         }

@@ -1,78 +1,15 @@
--- The root before its first step fits the machine before its first; and parts that entries have changed fit still.
-use Rattle.std.proofs.Common.{◌≡◌, ℕ, Option, None, List, [], replicate, refl, ap, sym, subst, ◌∙◌, arith}
-use Rattle.std.specs.Prelude.{pos}
-use Rattle.std.proofs.lemmas.Option.{none-some}
-use Rattle.object_layout.specs.declared.word.Birth.{Birth}
-use Rattle.object_layout.specs.Cell.{Born, Hole}
-use Rattle.object_layout.specs.ChunkValue.{ChunkValue}
-use Rattle.alloc_path.specs.LeafHeapValue.{AreApart, LeafHeapValue, IsCurrent, IsReserved, with_places}
+-- Parts that entries have changed fit still.
+use Rattle.std.proofs.Common.{◌≡◌, ℕ, Option, ap, sym, subst, ◌∙◌, arith}
+use Rattle.alloc_path.specs.LeafHeapValue.{LeafHeapValue}
 use Rattle.hh_lang.specs.Form.{ProgramText}
 use Rattle.hh_model.specs.declared.data.State.{State}
-use Rattle.hh_model.specs.Step.{is_running, owner_of, root, start}
+use Rattle.hh_model.specs.Step.{is_running, owner_of}
 use Rattle.hh_model.proofs.EndLaws.{still}
 use Rattle.task_machine.specs.declared.part.Begun.{Begun}
 use Rattle.task_machine.specs.declared.part.Private.{Private}
 use Rattle.task_machine.specs.Place.{Places}
-use Rattle.task_machine.specs.Begin.{FitsAsWell, FitsFromThere, nowhere}
+use Rattle.task_machine.specs.Begin.{FitsAsWell, FitsFromThere}
 use Rattle.task_machine.specs.Fits.{Fits, FitsNow, HeapStands, IsShaped, after_fresh}
-use Rattle.task_machine.proofs.Stands.{at_nils}
-
--- its part
-abbrev pub first_part : ProgramText → LeafHeapValue → ℕ → ℕ → Private
-first_part p h leaf limit = record {
-  task = 0;
-  frames = record { below = []; top = record { function = p.main; next = 0; ints = replicate 16 (pos 0); refs = replicate 16 None } };
-  heap = h;
-  view = [];
-  allocations = 0;
-  leaf_limit = leaf;
-  field_limit = limit;
-  fresh = 0;
-  begun = None;
-}
-
-no_birth : (b : Birth) → Hole ≡ Born b → ⊥
-no_birth b e = cc
-
-empty_stands : (p : ProgramText) (limit : ℕ) → HeapStands nowhere (owner_of (start p limit).tasks) 0 (start p limit).store [] nowhere
-empty_stands p limit = record {
-  objects = λ a b e. absurd (no_birth b e);
-  own = λ n a o e. absurd (none-some a e);
-  others = λ n o. refl;
-  once = λ n k a e f. absurd (none-some a e);
-  apart = λ n a e. absurd (none-some a e);
-  within = λ n a e. absurd (none-some a e);
-}
-
-empty_shape : (h : LeafHeapValue) → h.chunks ≡ [] → h.current ≡ None → h.reserved ≡ None → IsShaped h
-empty_shape h k c r = record {
-  apart = subst AreApart (sym k) tt;
-  current = subst (IsCurrent h.chunks) (sym c) tt;
-  reserved = subst (IsReserved h.chunks) (sym r) tt;
-}
-
-pub root_now : (p : ProgramText) (h : LeafHeapValue) (leaf limit : ℕ) → h.chunks ≡ [] → h.current ≡ None → h.reserved ≡ None → FitsNow p (first_part p h leaf limit) (start p limit) nowhere
-root_now p h leaf limit k c r =
-    let Q : List ChunkValue → Type 0 = λ ks. HeapStands nowhere (owner_of (start p limit).tasks) 0 (start p limit).store ks nowhere in
-    record {
-      reached = (limit, [], refl);
-      going = refl;
-      task = root p;
-      is = refl;
-      running = refl;
-      limit = refl;
-      count = refl;
-      place = nowhere;
-      stack = record { top = record { function = refl; next = refl; ints = refl; refs = at_nils nowhere 16 }; below = tt };
-      heap = subst Q (sym k) (empty_stands p limit);
-      shape = empty_shape h k c r;
-      shown = λ n a o e. absurd (none-some a e);
-    }
-
-pub root_fits : (p : ProgramText) (h : LeafHeapValue) (leaf limit : ℕ) → h.chunks ≡ [] → h.current ≡ None → h.reserved ≡ None → Fits p (first_part p h leaf limit) (start p limit) nowhere
-root_fits p h leaf limit k c r = record { running = refl; private = λ i lt. absurd (omega arith); now = root_now p h leaf limit k c r }
-
--- ---- WHAT ENTRIES CHANGE
 
 -- a part that differs in its heap, its fresh steps and its collection
 abbrev pub changed : Private → LeafHeapValue → ℕ → Option Begun → Private
@@ -107,22 +44,11 @@ with_since h n = record h { since = n }
 since_shape : (h : LeafHeapValue) (n : ℕ) → IsShaped h → IsShaped (with_since h n)
 since_shape h n S = record { apart = S.apart; current = S.current; reserved = S.reserved }
 
-places_shape : (h : LeafHeapValue) (slots spare : ℕ) → IsShaped h → IsShaped (with_places h slots spare)
-places_shape h slots spare S = record { apart = S.apart; current = S.current; reserved = S.reserved }
-
 pub since_fits : (old : Private) (n : ℕ) → FitsAsWell old (record old { heap = with_since old.heap n })
 since_fits old n = record {
   now = λ p m above F. now_changed p old m above F (with_since old.heap n) old.fresh old.begun F.heap (since_shape old.heap n F.shape);
   behind = λ p m above F. behind_changed p old m above F (with_since old.heap n) old.begun F.now.heap (since_shape old.heap n F.now.shape);
 }
-
-pub places_fit : (old new : Private) (slots spare : ℕ) → new ≡ record old { heap = with_places old.heap slots spare } → FitsAsWell old new
-places_fit old new slots spare is =
-    let P : Private → Type 0 = λ z. FitsAsWell old z in
-    subst P (sym is) (record {
-      now = λ p m above F. now_changed p old m above F (with_places old.heap slots spare) old.fresh old.begun F.heap (places_shape old.heap slots spare F.shape);
-      behind = λ p m above F. behind_changed p old m above F (with_places old.heap slots spare) old.begun F.now.heap (places_shape old.heap slots spare F.now.shape);
-    })
 
 pub begun_fits : (old : Private) (begun : Option Begun) → FitsAsWell old (record old { begun = begun })
 begun_fits old begun = record {

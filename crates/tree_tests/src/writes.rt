@@ -1,58 +1,58 @@
-// Writes of references into an object of a root that has two children.
+// What writes of references into an object of a root that has two children note in the sets of the three heaps.
 
-ghost use Rattle.std.specs.Prelude.{◌≡◌, ◌<◌, IsTrue, None, Some, length, slice_index_or};
-ghost use Rattle.object_layout.specs.Cell.{IsPlace};
-ghost use Rattle.object_layout.specs.Chunks.{object_of};
+ghost use Rattle.std.specs.Prelude.{IsTrue, length};
 ghost use Rattle.write_barrier.specs.Stored.{IsOwned};
 
-use alloc_path::LeafHeap;
+use alloc_path::{LeafHeap, View};
 use chunk_pool::Pool;
 use heap_tree::Tree;
-use memory_scenes::{add_taken, at, has_forked, holds, is_live, one_frame, place};
-use object_layout::{Addr, CHUNK_WORDS};
+use memory_scenes::{add_taken, at, has_forked, one_frame};
+use object_layout::Addr;
+use remembered_set::Source;
 use std::alloc::Global;
-use write_barrier::{SetOf, store};
+use task_homes::{Homes, Rest, Work, home_block};
+use write_barrier::note_write;
 
-// Whether a reference, if it isn't nil, leads to a place in a chunk of a task of the tree.
+// Whether a reference, if it isn't nil, leads into a chunk of a task of the tree.
 fn is_owned(tree: &Tree, pool: &Pool, reference: Option<Addr>) -> bool
-    ensures owned { IsTrue result → IsOwned (length tree.now) pool.now reference }
-    ensures place { IsTrue result → IsPlace reference }
+    ensures { IsTrue result → IsOwned (length tree.now) pool.now reference }
 {
     let Some(to) = reference else {
         return true;
     };
     match pool.slot(to.chunk) {
         None => false,
-        Some(held) => held.owner < tree.made() && to.offset < CHUNK_WORDS as u32,
+        Some(held) => held.owner < tree.made(),
     }
 }
 
-// Whether an object with a reference lies there.
-fn has_reference(heap: &LeafHeap, object: Addr) -> bool
-    ensures { IsTrue result → 0 < length (object_of heap.now.chunks object).refs }
-{
-    is_live(heap.chunks(), object) && heap.own_header(object).nrefs > 0
+// Notes a write, if the barrier may be asked to.
+fn note_checked(
+    tree: &Tree,
+    pool: &Pool,
+    homes: &mut Homes,
+    source: Source,
+    overwritten: Option<Addr>,
+    value: Option<Addr>,
+) -> bool {
+    if homes.len() < tree.made() as usize || !is_owned(tree, pool, Some(source.object)) {
+        return false;
+    }
+    if !is_owned(tree, pool, overwritten) || !is_owned(tree, pool, value) {
+        return false;
+    }
+    note_write(tree, pool, homes, source, overwritten, value).is_ok()
 }
 
-// The first reference of an object.
-#[tactic(auto, using(std::proofs::lemmas::Option::get_or_from_slice_get))]
-fn first_reference(heap: &LeafHeap, object: Addr) -> Option<Addr>
-    requires { 0 < length (object_of heap.now.chunks object).refs }
-    ensures { slice_index_or (object_of heap.now.chunks object).refs 0 None ≡ result }
-{
-    heap.own_ref(object, 0)
-}
-
-// A root with an object of one reference, and the sets of the three heaps.
+// A root that has forked, and what belongs to the three tasks.
 #[derive(Drop)]
 struct Scene {
     tree: Tree,
     pool: Pool,
-    heap: LeafHeap,
-    sets: Vec<SetOf>,
+    homes: Homes,
 }
 
-// Where the object lies.
+// Where the object lies whose field is written.
 const OBJECT: Addr = Addr {
     chunk: 0,
     offset: 0,
@@ -71,124 +71,98 @@ fn family(alloc: Global) -> Option<Tree> {
     }
 }
 
-// Puts an object of one reference into a heap, in the chunk 0, which is the root's, and says whether it did.
-fn put_object(pool: &mut Pool, heap: &mut LeafHeap) -> bool {
-    add_taken(pool, heap, 0).is_some() && place(heap, 1, 0, 0)
+// A task without objects.
+fn bare_rest(alloc: Global) -> Rest {
+    Rest {
+        work: Work::Result(0, None),
+        heap: LeafHeap::new(alloc),
+        view: View::none(),
+        allocations: 0,
+    }
 }
 
-// Adds an empty set for each of the three heaps, and says whether it did.
-fn add_sets(alloc: Global, sets: &mut Vec<SetOf>) -> bool {
-    let Ok(()) = sets.reserve(3) else {
-        return false;
+// What belongs to three such tasks.
+fn three_homes(alloc: Global) -> Option<Homes> {
+    let mut homes = Homes::new(alloc, bare_rest(alloc)).ok()?;
+    let Ok(()) = homes.reserve(2) else {
+        return None;
     };
-    sets.push_reserved(SetOf::new(alloc));
-    sets.push_reserved(SetOf::new(alloc));
-    sets.push_reserved(SetOf::new(alloc));
-    true
+    let left = home_block(alloc).ok()?;
+    let right = home_block(alloc).ok()?;
+    homes.push(bare_rest(alloc), left);
+    homes.push(bare_rest(alloc), right);
+    Some(homes)
 }
 
-// The number of sources and of kept references of a set.
-fn count(set: &SetOf) -> (usize, usize) {
-    (set.sources().len(), set.kept().len())
+// Takes a chunk for a task, and says its number.
+fn take_chunk(alloc: Global, pool: &mut Pool, owner: u32) -> Option<u32> {
+    let mut heap = LeafHeap::new(alloc);
+    add_taken(pool, &mut heap, owner)
 }
 
-// Each change says whether it was made.
 impl Scene {
+    // The root has the chunk 0.
     fn new(alloc: Global) -> Option<Scene> {
         let tree = family(alloc)?;
-        let mut scene = Scene {
-            tree,
-            pool: Pool::new(alloc, 4),
-            heap: LeafHeap::new(alloc),
-            sets: Vec::new(alloc),
+        let homes = three_homes(alloc)?;
+        let mut pool = Pool::new(alloc, 4);
+        match take_chunk(alloc, &mut pool, 0) {
+            Some(0) => Some(Scene { tree, pool, homes }),
+            _ => None,
+        }
+    }
+
+    // Notes the write of a reference in place of another one, and says whether it did.
+    fn write(&mut self, overwritten: Option<Addr>, value: Option<Addr>) -> bool {
+        let source = Source {
+            object: OBJECT,
+            field: 0,
         };
-        if scene.fill(alloc) { Some(scene) } else { None }
-    }
-
-    // Puts the object and the sets into it.
-    fn fill(&mut self, alloc: Global) -> bool {
-        put_object(&mut self.pool, &mut self.heap) && add_sets(alloc, &mut self.sets)
-    }
-
-    // Writes the reference of the object.
-    fn write(&mut self, value: Option<Addr>) -> bool {
-        store_checked(
+        note_checked(
             &self.tree,
             &self.pool,
-            &mut self.heap,
-            &mut self.sets,
-            OBJECT,
+            &mut self.homes,
+            source,
+            overwritten,
             value,
         )
     }
 
     // Whether the root's heap keeps from now on.
     fn set_keeps(&mut self, keeps: bool) {
-        if let Some(set) = self.sets.first_mut() {
-            if set.keeps() != keeps {
-                set.set_keeps(keeps);
-            }
+        if self.homes.keeps(0) != keeps && self.homes.len() > 0 && self.homes.has_block(0) {
+            self.homes.set_keeps(0, keeps);
         }
     }
 
-    // The numbers of sources and of kept references of the three sets.
-    fn counts(&self) -> Option<[(usize, usize); 3]> {
-        match self.sets.as_slice() {
-            [root, left, right] => Some([count(root), count(left), count(right)]),
-            _ => None,
-        }
+    // The numbers of sources and of kept references of the three heaps.
+    fn counts(&self) -> [(usize, usize); 3] {
+        [self.count(0), self.count(1), self.count(2)]
     }
-}
 
-// Whether the first reference of an object may be written.
-fn may_store(tree: &Tree, pool: &Pool, heap: &LeafHeap, object: Addr, value: Option<Addr>) -> bool
-    ensures field { IsTrue result → 0 < length (object_of heap.now.chunks object).refs }
-    ensures place { IsTrue result → IsPlace value }
-    ensures object { IsTrue result → IsOwned (length tree.now) pool.now (Some object) }
-    ensures value { IsTrue result → IsOwned (length tree.now) pool.now value }
-    ensures overwritten { IsTrue result → IsOwned (length tree.now) pool.now (slice_index_or (object_of heap.now.chunks object).refs 0 None) }
-{
-    has_reference(heap, object)
-        && is_owned(tree, pool, Some(object))
-        && is_owned(tree, pool, value)
-        && is_owned(tree, pool, first_reference(heap, object))
-}
-
-// Writes the first reference of an object, if that may be.
-fn store_checked(
-    tree: &Tree,
-    pool: &Pool,
-    heap: &mut LeafHeap,
-    sets: &mut [SetOf],
-    object: Addr,
-    value: Option<Addr>,
-) -> bool {
-    if sets.len() < tree.made() as usize || !may_store(tree, pool, heap, object, value) {
-        return false;
+    fn count(&self, task: u32) -> (usize, usize) {
+        (self.homes.sources(task).len(), self.homes.kept(task).len())
     }
-    store(tree, pool, heap, sets, object, 0, value).is_ok()
 }
 
 // The place behind eight words of a chunk of the left child.
 fn place_below(alloc: Global, pool: &mut Pool) -> Option<Addr> {
-    let mut heap = LeafHeap::new(alloc);
-    Some(at(add_taken(pool, &mut heap, 1)?, 8))
+    Some(at(take_chunk(alloc, pool, 1)?, 8))
 }
 
-// Whether a reference that points down is written twice, and seen then; and what the sets hold.
-fn points_down(
-    alloc: Global,
-    scene: &mut Scene,
-) -> Option<([bool; 3], Option<[(usize, usize); 3]>)> {
-    let down = place_below(alloc, &mut scene.pool)?;
-    let first = scene.write(Some(down));
-    let seen = holds(&scene.heap, &[((0, 0), 0, Some((down.chunk, 8)))]);
-    let second = scene.write(Some(down));
-    Some(([first, seen, second], scene.counts()))
+// Whether a reference that points down is written twice, and what the sets hold then.
+fn points_down(alloc: Global, scene: &mut Scene) -> Option<(bool, bool, [(usize, usize); 3])> {
+    let down = place_below(alloc, &mut scene.pool);
+    if down.is_none() {
+        return None;
+    }
+    let first = scene.write(None, down);
+    let second = scene.write(down, down);
+    Some((first, second, scene.counts()))
 }
 
 // The same of a new scene.
-fn points_down_in_new_scene(alloc: Global) -> Option<([bool; 3], Option<[(usize, usize); 3]>)> {
+fn points_down_in_new_scene(alloc: Global) -> Option<(bool, bool, [(usize, usize); 3])> {
     let mut scene = Scene::new(alloc)?;
     points_down(alloc, &mut scene)
 }
@@ -196,22 +170,34 @@ fn points_down_in_new_scene(alloc: Global) -> Option<([bool; 3], Option<[(usize,
 // The field is noted once in the set of the child into whose chunk it points.
 #[test]
 fn a_down_pointer_is_noted_once(rt: HostRuntime) {
-    let noted = Some([(0, 0), (1, 0), (0, 0)]);
-    assert!(rt; points_down_in_new_scene(rt.alloc()) == Some(([true; 3], noted)));
+    let noted = [(0, 0), (1, 0), (0, 0)];
+    assert!(rt; points_down_in_new_scene(rt.alloc()) == Some((true, true, noted)));
 }
 
-// Whether a reference is written while the root's heap keeps or not, and so many are kept in its set alone then.
-fn keeps(scene: &mut Scene, value: Option<Addr>, keeps: bool, kept: usize) -> bool {
+// Whether the root's heap keeps, what is overwritten, what is written, and how many references are kept then.
+type Write = (bool, Option<Addr>, Option<Addr>, usize);
+
+const WRITES: &[Write] = &[
+    (false, None, Some(OBJECT), 0),
+    (false, Some(OBJECT), Some(OBJECT), 0),
+    (true, Some(OBJECT), None, 1),
+    (true, None, Some(OBJECT), 1),
+];
+
+// Whether a reference is written, and so many are kept in the root's set alone then.
+fn keeps(scene: &mut Scene, (keeps, overwritten, value, kept): Write) -> bool {
     scene.set_keeps(keeps);
-    scene.write(value) && scene.counts() == Some([(0, kept), (0, 0), (0, 0)])
+    scene.write(overwritten, value) && scene.counts() == [(0, kept), (0, 0), (0, 0)]
 }
 
 // Whether the reference that is overwritten is kept, each time that it should be.
 fn keeps_overwritten(scene: &mut Scene) -> bool {
-    keeps(scene, Some(OBJECT), false, 0)
-        && keeps(scene, Some(OBJECT), false, 0)
-        && keeps(scene, None, true, 1)
-        && keeps(scene, Some(OBJECT), true, 1)
+    for &write in WRITES {
+        if !keeps(scene, write) {
+            return false;
+        }
+    }
+    true
 }
 
 // The same of a new scene.

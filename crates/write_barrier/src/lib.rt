@@ -2,8 +2,10 @@
 #![tactic(auto)]
 
 mod barrier;
+mod holder;
 mod noting;
 mod sets;
 
-pub use barrier::{heap_of, noted_in, store};
+pub use barrier::note_write;
+pub use holder::HoldsSets;
 pub use sets::{Noted, SetOf};

@@ -1,61 +1,59 @@
-// What a write changes in the sets of the heaps, of which there is one for each task.
+// What a write changes in the set of a heap, where there is one to change.
 
-ghost use Rattle.std.specs.Prelude.{◌≡◌, ℕ, ◌<◌, OnErr, OnOk, IfSome, length, option_map};
-ghost use Rattle.write_barrier.specs.Stored.{content_at, with_kept, with_source, IsRoomy};
+ghost use Rattle.std.specs.Prelude.{◌≡◌, ℕ, ◌<◌, OnErr, OnOk, IfSome, option_map};
+ghost use Rattle.write_barrier.specs.Stored.{with_kept, with_source};
 
-use crate::sets::SetOf;
+use crate::holder::HoldsSets;
 use object_layout::Addr;
 use remembered_set::Source;
 use std::alloc::AllocError;
 
 // Makes a place for one reference more, if the heap keeps.
-pub(crate) fn reserve_kept(sets: &mut [SetOf], heap: Option<u32>) -> Result<(), AllocError>
-    requires { IfSome heap (λ h. h < length sets.old) }
-    ensures same { (t : ℕ) → content_at sets.new t ≡ content_at sets.old t }
-    ensures room { OnOk result (IfSome heap (λ h. IsRoomy sets.new h)) }
+pub(crate) fn reserve_kept<H: HoldsSets>(sets: &mut H, heap: Option<u32>) -> Result<(), AllocError>
+    requires { IfSome heap (λ h. h < H.count sets.old) }
+    ensures same { (t : ℕ) → H.content sets.new t ≡ H.content sets.old t }
+    ensures place { OnOk result (IfSome heap (λ h. H.has_place sets.new h)) }
+    ensures count { H.count sets.new ≡ H.count sets.old }
+    ensures beside { H.beside sets.new ≡ H.beside sets.old }
 {
-    let Some(h) = heap else {
-        return Ok(());
-    };
-    let set = &mut sets[h as usize];
-    if !set.keeps() {
-        return Ok(());
+    match heap {
+        Some(heap) => sets.reserve_kept(heap),
+        None => Ok(()),
     }
-    set.reserve_kept()
 }
 
 // Notes a down-pointer into a heap.
-pub(crate) fn note_source(
-    sets: &mut [SetOf],
+pub(crate) fn note<H: HoldsSets>(
+    sets: &mut H,
     into: Option<u32>,
     source: Source,
 ) -> Result<(), AllocError>
-    requires { IfSome into (λ h. h < length sets.old) }
-    ensures ok { OnOk result ((t : ℕ) → content_at sets.new t ≡ option_map (with_source into source t) (content_at sets.old t)) }
-    ensures err { OnErr result ((t : ℕ) → content_at sets.new t ≡ content_at sets.old t) }
-    ensures kept { (h : ℕ) → IsRoomy sets.old h → IsRoomy sets.new h }
+    requires { IfSome into (λ h. h < H.count sets.old) }
+    ensures ok { OnOk result ((t : ℕ) → H.content sets.new t ≡ option_map (with_source into source t) (H.content sets.old t)) }
+    ensures err { OnErr result ((t : ℕ) → H.content sets.new t ≡ H.content sets.old t) }
+    ensures places { (h : ℕ) → H.has_place sets.old h → H.has_place sets.new h }
+    ensures count { H.count sets.new ≡ H.count sets.old }
+    ensures beside { H.beside sets.new ≡ H.beside sets.old }
 {
-    let Some(h) = into else {
-        return Ok(());
-    };
-    let set = &mut sets[h as usize];
-    set.note(source)
+    match into {
+        Some(heap) => sets.note(heap, source),
+        None => Ok(()),
+    }
 }
 
 // Keeps an overwritten reference, if the heap into which it points keeps such.
-pub(crate) fn keep(sets: &mut [SetOf], heap: Option<u32>, overwritten: Option<Addr>)
-    requires made { IfSome heap (λ h. h < length sets.old) }
-    requires room { IfSome heap (λ h. IsRoomy sets.old h) }
-    ensures { (t : ℕ) → content_at sets.new t ≡ option_map (with_kept heap overwritten t) (content_at sets.old t) }
+pub(crate) fn keep<H: HoldsSets>(sets: &mut H, heap: Option<u32>, overwritten: Option<Addr>)
+    requires made { IfSome heap (λ h. h < H.count sets.old) }
+    requires place { IfSome heap (λ h. H.has_place sets.old h) }
+    ensures kept { (t : ℕ) → H.content sets.new t ≡ option_map (with_kept heap overwritten t) (H.content sets.old t) }
+    ensures count { H.count sets.new ≡ H.count sets.old }
+    ensures beside { H.beside sets.new ≡ H.beside sets.old }
 {
-    let Some(h) = heap else {
+    let Some(heap) = heap else {
         return;
     };
     let Some(reference) = overwritten else {
         return;
     };
-    let set = &mut sets[h as usize];
-    if set.keeps() {
-        set.push_kept(reference);
-    }
+    sets.keep(heap, reference);
 }

@@ -1,5 +1,0 @@
-use Rattle.task_machine.proofs.Entries.{begun_fits}
-use Rattle.task_machine.proofs.part.Private.end_collection.Goals as goal
-
-pub returns-clause-fits : goal.returns-clause-fits
-returns-clause-fits c = begun_fits c.args.self.now c.take.new.self
