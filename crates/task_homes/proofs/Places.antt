@@ -7,12 +7,11 @@ use Rattle.std.proofs.lemmas.Option.{same_Some, slice_get_within}
 use Rattle.listed.proofs.Members.{got_other, got_same}
 use Rattle.listed.proofs.Places.{got_map}
 use Rattle.write_barrier.specs.declared.sets.SetOf.{SetOf}
-use Rattle.write_barrier.specs.Forms.{bare}
 use Rattle.write_barrier.specs.Stored.{Content, IsRoomy, content_at, content_of}
 use Rattle.inner_mark_gc.specs.MarkingValue.{MarkingValue}
 use Rattle.task_homes.specs.declared.homes.Home.{Home}
 use Rattle.task_homes.specs.declared.task_at_rest.Rest.{Rest}
-use Rattle.task_homes.specs.HomesValue.{HomesValue, beside_sets, has_block, homes_value, marking_in, marks_at, rest_at, rest_in, set_in}
+use Rattle.task_homes.specs.HomesValue.{HomesValue, has_block, homes_value, marking_in, marks_at, rest_at, rest_in, set_in}
 
 map_same : {A B : Type 0} (f : A → B) (xs : List A) (k : ℕ) (x y : A) → slice_get xs k ≡ Some y → f x ≡ f y → map f (slice_set xs k x) ≡ map f xs
 map_same f [] k x y e same = refl
@@ -91,19 +90,16 @@ module _ (hs : List (Option Home)) (cap t : ℕ) (o x : Option Home) (there : sl
       subst (λ w. after ≡ record w { rests = slice_set w.rests t (rest_in x); sets = slice_set w.sets t (set_in x); marks = slice_set w.marks t (marking_in x); blocks = slice_set w.blocks t (has_block x) }) is
       (same_homes _ _ _ _ _ _ _ _ _ _ (map-set rest_in hs t x) (map-set set_in hs t x) (map-set marking_in hs t x) (map-set has_block hs t x) room)
 
-  pub beside_put : rest_in x ≡ rest_in o → marking_in x ≡ marking_in o → beside_sets after ≡ beside_sets old
-  beside_put r m =
-      subst (λ w. beside_sets after ≡ beside_sets w) is
-      (same_homes _ _ _ _ _ _ _ _ _ _ (map_same rest_in hs t x o there r) blank_same (map_same marking_in hs t x o there m) refl room)
-    where
-      blank : SetOf → SetOf
-      blank s = bare false
-
-      blank_same : map (λ s. bare false) (map set_in (slice_set hs t x)) ≡ map (λ s. bare false) (map set_in hs)
-      blank_same = ap (map blank) (map-set set_in hs t x) ∙ map_same blank (map set_in hs) t (set_in x) (set_in o) (got_map set_in hs t o there) refl
-
   pub rests_put : rest_in x ≡ rest_in o → after.rests ≡ old.rests
   rests_put r = map_same rest_in hs t x o there r ∙ ap (λ (w : HomesValue). w.rests) is
+
+  pub sets_put : length after.sets ≡ length old.sets
+  sets_put = ap length (map-set set_in hs t x) ∙ (length-set (map set_in hs) t (set_in x) ∙ ap (λ (w : HomesValue). length w.sets) is)
+
+  pub block_set_put : rest_in x ≡ rest_in o → marking_in x ≡ marking_in o → after ≡ record old { sets = after.sets; blocks = after.blocks }
+  block_set_put r m =
+      subst (λ w. after ≡ record w { sets = after.sets; blocks = after.blocks }) is
+      (same_homes _ _ _ _ _ _ _ _ _ _ (map_same rest_in hs t x o there r) refl (map_same marking_in hs t x o there m) refl room)
 
   -- what there was
   pub rest_was : rest_at old.rests t ≡ rest_in o

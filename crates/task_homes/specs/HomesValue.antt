@@ -45,10 +45,6 @@ has_block (Some h) = true
 abbrev pub homes_value : List (Option Home) → ℕ → HomesValue
 homes_value hs room = record { rests = map rest_in hs; sets = map set_in hs; marks = map marking_in hs; blocks = map has_block hs; room = room }
 
--- all that there is beside what is noted: how many sets there are, and nothing of what they hold, nor in which blocks
-abbrev pub beside_sets : HomesValue → HomesValue
-beside_sets h = record h { sets = map (λ s. bare false) h.sets; blocks = [] }
-
 -- ---- OF ONE TASK
 
 abbrev pub rest_at : List (Option Rest) → ℕ → Option Rest

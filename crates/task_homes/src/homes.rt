@@ -8,7 +8,7 @@ ghost use Rattle.remembered_set.specs.Sources.{StandOnce};
 ghost use Rattle.write_barrier.specs.Forms.{bare};
 ghost use Rattle.write_barrier.specs.Stored.{content_at, with_source, IsRoomy};
 ghost use Rattle.task_homes.specs.declared.task_at_rest.Rest.{Rest as RestOf};
-ghost use Rattle.task_homes.specs.HomesValue.{beside_sets, kept_of, keeping, keeps_of, marking_in, marks_at, refs_of_rest, rest_at, rest_in, set_in, sources_of, IsSameRest};
+ghost use Rattle.task_homes.specs.HomesValue.{kept_of, keeping, keeps_of, marking_in, marks_at, refs_of_rest, rest_at, rest_in, set_in, sources_of, IsSameRest};
 
 use crate::task_at_rest::Rest;
 use inner_mark_gc::Marking;
@@ -79,7 +79,7 @@ impl Homes {
     ghost use Rattle.write_barrier.specs.Forms.{bare};
     ghost use Rattle.write_barrier.specs.Stored.{content_at, with_source, IsRoomy};
     ghost use Rattle.task_homes.specs.declared.task_at_rest.Rest.{Rest as RestOf};
-    ghost use Rattle.task_homes.specs.HomesValue.{beside_sets, kept_of, keeping, keeps_of, marking_in, marks_at, refs_of_rest, rest_at, rest_in, set_in, sources_of, IsSameRest};
+    ghost use Rattle.task_homes.specs.HomesValue.{kept_of, keeping, keeps_of, marking_in, marks_at, refs_of_rest, rest_at, rest_in, set_in, sources_of, IsSameRest};
 
     /// The home of the root, which no worker holds yet.
     pub fn new(alloc: Global, root: Rest) -> Result<Homes, AllocError>
@@ -401,11 +401,11 @@ impl Homes {
     // Notes a field that points down into the heap of a task that has a block, unless it is noted.
     fn note_in_block(&mut self, t: u32, source: Source) -> Result<(), AllocError>
         requires block { slice_get self.old.blocks t ≡ Some true }
-        ensures rests { self.new.rests ≡ self.old.rests }
-        ensures beside { beside_sets self.new ≡ beside_sets self.old }
+        ensures homes { self.new ≡ record self.old { sets = self.new.sets } }
+        ensures many { length self.new.sets ≡ length self.old.sets }
         ensures ok { OnOk result ((u : ℕ) → content_at self.new.sets u ≡ option_map (with_source (Some t) source u) (content_at self.old.sets u)) }
         ensures err { OnErr result ((u : ℕ) → content_at self.new.sets u ≡ content_at self.old.sets u) }
-        ensures places { (h : ℕ) → IsRoomy self.old.sets h → IsRoomy self.new.sets h }
+        ensures kept { (h : ℕ) → IsRoomy self.old.sets h → IsRoomy self.new.sets h }
     {
         match &mut self.list[t as usize] {
             Some(home) => home.get_mut().set.note(source),
@@ -416,17 +416,19 @@ impl Homes {
 
 /// The sets of the heaps.
 impl HoldsSets for Homes {
-    ghost use Rattle.std.specs.Prelude.{length};
+    ghost use Rattle.std.specs.Prelude.{length, refl};
     ghost use Rattle.write_barrier.specs.Stored.{content_at, IsRoomy};
-    ghost use Rattle.task_homes.specs.HomesValue.{beside_sets};
 
-    ghost count = { λ h. length h.rests };
+    ghost task_count = { λ h. length h.rests };
+
+    ghost set_count = { λ h. length h.sets };
 
     ghost content = { λ h t. content_at h.sets t };
 
     ghost has_place = { λ h t. IsRoomy h.sets t };
 
-    ghost beside = { beside_sets };
+    // a set that gets its first source is put into a block
+    ghost with_sets = { λ h w. record h { sets = w.sets; blocks = w.blocks } };
 
     fn reserve_kept(&mut self, heap: u32) -> Result<(), AllocError> {
         if !self.keeps(heap) {
@@ -452,4 +454,8 @@ impl HoldsSets for Homes {
             None => unreachable!(),
         }
     }
+
+    ghost with_own_sets = { λ h. refl };
+
+    ghost with_sets_twice = { λ a b c. refl };
 }

@@ -68,11 +68,11 @@ pub fn note_write<H: HoldsSets>(
     requires object { IsOwned (length tree.now) pool.now (Some source.object) }
     requires value { IsOwned (length tree.now) pool.now value }
     requires overwritten { IsOwned (length tree.now) pool.now overwritten }
-    requires sets { length tree.now ≤ H.count sets.old }
+    requires sets { length tree.now ≤ H.task_count sets.old }
     ensures noted { OnOk result ((t : ℕ) → H.content sets.new t ≡ option_map (content_after tree.now pool.now source overwritten value t) (H.content sets.old t)) }
     ensures same { OnErr result ((t : ℕ) → H.content sets.new t ≡ H.content sets.old t) }
-    ensures count { H.count sets.new ≡ H.count sets.old }
-    ensures beside { H.beside sets.new ≡ H.beside sets.old }
+    ensures sets { H.set_count sets.new ≡ H.set_count sets.old }
+    ensures others { sets.new ≡ H.with_sets sets.old sets.new }
 {
     let heap = heap_of(pool, overwritten);
     let into = noted_in(tree, pool, source.object, value);

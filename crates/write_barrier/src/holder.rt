@@ -10,7 +10,10 @@ use std::alloc::AllocError;
 /// A value that has a set for each task, by its number: what is noted for the collections of the task's heap.
 pub trait HoldsSets {
     // the number of tasks
-    ghost count: { Self → ℕ };
+    ghost task_count: { Self → ℕ };
+
+    // the number of sets
+    ghost set_count: { Self → ℕ };
 
     // what the set of a task's heap holds; None where there is no such set
     ghost content: { Self → ℕ → Option Content };
@@ -18,32 +21,39 @@ pub trait HoldsSets {
     // the set of a task's heap, if that keeps, has a place for one reference more
     ghost has_place: { Self → ℕ → Type 0 };
 
-    // all that the value has beside what is noted
-    ghost beside: { Self → Self };
+    // the first value with the sets of the second
+    ghost with_sets: { Self → Self → Self };
 
     /// Makes a place for one overwritten reference more in the set of a heap, if that keeps such.
     fn reserve_kept(&mut self, heap: u32) -> Result<(), AllocError>
-        requires { heap < count self.old }
+        requires { heap < task_count self.old }
         ensures same { (t : ℕ) → content self.new t ≡ content self.old t }
         ensures place { OnOk result (has_place self.new heap) }
-        ensures count { count self.new ≡ count self.old }
-        ensures beside { beside self.new ≡ beside self.old };
+        ensures tasks { task_count self.new ≡ task_count self.old }
+        ensures sets { set_count self.new ≡ set_count self.old }
+        ensures others { self.new ≡ with_sets self.old self.new };
 
     /// Notes in the set of a heap a field that points down into it, unless it is noted.
     fn note(&mut self, heap: u32, source: Source) -> Result<(), AllocError>
-        requires { heap < count self.old }
+        requires { heap < task_count self.old }
         ensures ok { OnOk result ((t : ℕ) → content self.new t ≡ option_map (with_source (Some heap) source t) (content self.old t)) }
         ensures err { OnErr result ((t : ℕ) → content self.new t ≡ content self.old t) }
         ensures places { (t : ℕ) → has_place self.old t → has_place self.new t }
-        ensures count { count self.new ≡ count self.old }
-        ensures beside { beside self.new ≡ beside self.old };
+        ensures tasks { task_count self.new ≡ task_count self.old }
+        ensures sets { set_count self.new ≡ set_count self.old }
+        ensures others { self.new ≡ with_sets self.old self.new };
 
     /// Keeps an overwritten reference in the set of the heap into which it points, for which there is a place, if that
     /// heap keeps such.
     fn keep(&mut self, heap: u32, reference: Addr)
-        requires made { heap < count self.old }
+        requires made { heap < task_count self.old }
         requires place { has_place self.old heap }
         ensures kept { (t : ℕ) → content self.new t ≡ option_map (with_kept (Some heap) (Some reference) t) (content self.old t) }
-        ensures count { count self.new ≡ count self.old }
-        ensures beside { beside self.new ≡ beside self.old };
+        ensures tasks { task_count self.new ≡ task_count self.old }
+        ensures sets { set_count self.new ≡ set_count self.old }
+        ensures others { self.new ≡ with_sets self.old self.new };
+
+    ghost with_own_sets: { (s : Self) → s ≡ with_sets s s };
+
+    ghost with_sets_twice: { (a b c : Self) → with_sets (with_sets a b) c ≡ with_sets a c };
 }

@@ -10,11 +10,12 @@ use std::alloc::AllocError;
 
 // Makes a place for one reference more, if the heap keeps.
 pub(crate) fn reserve_kept<H: HoldsSets>(sets: &mut H, heap: Option<u32>) -> Result<(), AllocError>
-    requires { IfSome heap (λ h. h < H.count sets.old) }
+    requires { IfSome heap (λ h. h < H.task_count sets.old) }
     ensures same { (t : ℕ) → H.content sets.new t ≡ H.content sets.old t }
     ensures place { OnOk result (IfSome heap (λ h. H.has_place sets.new h)) }
-    ensures count { H.count sets.new ≡ H.count sets.old }
-    ensures beside { H.beside sets.new ≡ H.beside sets.old }
+    ensures tasks { H.task_count sets.new ≡ H.task_count sets.old }
+    ensures sets { H.set_count sets.new ≡ H.set_count sets.old }
+    ensures others { sets.new ≡ H.with_sets sets.old sets.new }
 {
     match heap {
         Some(heap) => sets.reserve_kept(heap),
@@ -28,12 +29,13 @@ pub(crate) fn note<H: HoldsSets>(
     into: Option<u32>,
     source: Source,
 ) -> Result<(), AllocError>
-    requires { IfSome into (λ h. h < H.count sets.old) }
+    requires { IfSome into (λ h. h < H.task_count sets.old) }
     ensures ok { OnOk result ((t : ℕ) → H.content sets.new t ≡ option_map (with_source into source t) (H.content sets.old t)) }
     ensures err { OnErr result ((t : ℕ) → H.content sets.new t ≡ H.content sets.old t) }
     ensures places { (h : ℕ) → H.has_place sets.old h → H.has_place sets.new h }
-    ensures count { H.count sets.new ≡ H.count sets.old }
-    ensures beside { H.beside sets.new ≡ H.beside sets.old }
+    ensures tasks { H.task_count sets.new ≡ H.task_count sets.old }
+    ensures sets { H.set_count sets.new ≡ H.set_count sets.old }
+    ensures others { sets.new ≡ H.with_sets sets.old sets.new }
 {
     match into {
         Some(heap) => sets.note(heap, source),
@@ -43,11 +45,12 @@ pub(crate) fn note<H: HoldsSets>(
 
 // Keeps an overwritten reference, if the heap into which it points keeps such.
 pub(crate) fn keep<H: HoldsSets>(sets: &mut H, heap: Option<u32>, overwritten: Option<Addr>)
-    requires made { IfSome heap (λ h. h < H.count sets.old) }
+    requires made { IfSome heap (λ h. h < H.task_count sets.old) }
     requires place { IfSome heap (λ h. H.has_place sets.old h) }
     ensures kept { (t : ℕ) → H.content sets.new t ≡ option_map (with_kept heap overwritten t) (H.content sets.old t) }
-    ensures count { H.count sets.new ≡ H.count sets.old }
-    ensures beside { H.beside sets.new ≡ H.beside sets.old }
+    ensures tasks { H.task_count sets.new ≡ H.task_count sets.old }
+    ensures sets { H.set_count sets.new ≡ H.set_count sets.old }
+    ensures others { sets.new ≡ H.with_sets sets.old sets.new }
 {
     let Some(heap) = heap else {
         return;

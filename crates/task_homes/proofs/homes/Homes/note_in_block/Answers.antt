@@ -3,25 +3,17 @@ use Rattle.std.proofs.lemmas.Result.{on_ok_weaker, on_err_weaker}
 use Rattle.std.specs.Vec.{vec_capacity}
 use Rattle.listed.proofs.Places.{got_item}
 use Rattle.write_barrier.specs.Stored.{content_of, with_source}
-use Rattle.task_homes.proofs.Places.{block_within, same_contents, beside_put, rests_put, changed_content, roomy_stays}
+use Rattle.task_homes.proofs.Places.{block_within, same_contents, set_only, changed_content, roomy_stays}
 use Rattle.task_homes.proofs.Contents.{keeps_same, source_here, source_off}
 use Rattle.task_homes.proofs.homes.Homes.note_in_block.Goals as goal
 
-pub returns-clause-rests : goal.returns-clause-rests
-returns-clause-rests c =
+pub returns-clause-homes : goal.returns-clause-homes
+returns-clause-homes c =
     let lt : c.args.t < length c.self.inside.list.items = block_within c.self.inside.list.items _ c.args.self.now c.self.view_is c.args.t c.requires.block in
     let there0 : slice_get c.self.inside.list.items c.args.t ≡ Some c.index_mut.result.now = got_item c.self.inside.list.items c.args.t c.index_mut.result.now lt (search rules) in
     let here : c.index_mut.result.now ≡ Some c.get_mut.result.now = search rules in
     let there : slice_get c.self.inside.list.items c.args.t ≡ Some (Some c.get_mut.result.now) = there0 ∙ ap Some here in
-    rests_put c.self.inside.list.items (vec_capacity c.self.inside.list) c.args.t (Some c.get_mut.result.now) (Some (record c.get_mut.result.now { set = c.note.new.self })) there c.args.self.now c.self.view_is refl
-
-pub returns-clause-beside : goal.returns-clause-beside
-returns-clause-beside c =
-    let lt : c.args.t < length c.self.inside.list.items = block_within c.self.inside.list.items _ c.args.self.now c.self.view_is c.args.t c.requires.block in
-    let there0 : slice_get c.self.inside.list.items c.args.t ≡ Some c.index_mut.result.now = got_item c.self.inside.list.items c.args.t c.index_mut.result.now lt (search rules) in
-    let here : c.index_mut.result.now ≡ Some c.get_mut.result.now = search rules in
-    let there : slice_get c.self.inside.list.items c.args.t ≡ Some (Some c.get_mut.result.now) = there0 ∙ ap Some here in
-    beside_put c.self.inside.list.items (vec_capacity c.self.inside.list) c.args.t (Some c.get_mut.result.now) (Some (record c.get_mut.result.now { set = c.note.new.self })) there c.args.self.now c.self.view_is refl refl
+    set_only c.self.inside.list.items (vec_capacity c.self.inside.list) c.args.t (Some c.get_mut.result.now) (Some (record c.get_mut.result.now { set = c.note.new.self })) there c.args.self.now c.self.view_is refl refl refl
 
 pub returns-clause-ok : goal.returns-clause-ok
 returns-clause-ok c =
@@ -41,8 +33,8 @@ returns-clause-err c =
     let there : slice_get c.self.inside.list.items c.args.t ≡ Some (Some c.get_mut.result.now) = there0 ∙ ap Some here in
     on_err_weaker c.note.result (λ e. same_contents c.self.inside.list.items (vec_capacity c.self.inside.list) c.args.t (Some c.get_mut.result.now) (Some (record c.get_mut.result.now { set = c.note.new.self })) there c.args.self.now c.self.view_is e) c.note.ensures.err
 
-pub returns-clause-places : goal.returns-clause-places
-returns-clause-places c =
+pub returns-clause-kept : goal.returns-clause-kept
+returns-clause-kept c =
     let lt : c.args.t < length c.self.inside.list.items = block_within c.self.inside.list.items _ c.args.self.now c.self.view_is c.args.t c.requires.block in
     let there0 : slice_get c.self.inside.list.items c.args.t ≡ Some c.index_mut.result.now = got_item c.self.inside.list.items c.args.t c.index_mut.result.now lt (search rules) in
     let here : c.index_mut.result.now ≡ Some c.get_mut.result.now = search rules in

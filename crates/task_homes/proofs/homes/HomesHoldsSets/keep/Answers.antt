@@ -3,7 +3,7 @@ use Rattle.std.specs.Vec.{vec_capacity}
 use Rattle.listed.proofs.Places.{got_item}
 use Rattle.task_homes.specs.HomesValue.{keeps_of}
 use Rattle.write_barrier.specs.Stored.{content_of, with_kept}
-use Rattle.task_homes.proofs.Places.{made_within, set_was, changed_content, beside_put, rests_put}
+use Rattle.task_homes.proofs.Places.{made_within, set_was, changed_content, block_set_put, rests_put, sets_put}
 use Rattle.task_homes.proofs.Contents.{kept_here, kept_off}
 use Rattle.task_homes.proofs.homes.HomesHoldsSets.keep.Goals as goal
 
@@ -18,18 +18,26 @@ returns-clause-kept c =
     (c.push_kept.ensures ∙ sym (kept_here c.args.heap c.args.reference (content_of c.get_mut.result.now.set) keeps))
     (λ u k off. kept_off c.args.heap u c.args.reference k off)
 
-pub returns-clause-count : goal.returns-clause-count
-returns-clause-count c =
+pub returns-clause-tasks : goal.returns-clause-tasks
+returns-clause-tasks c =
     let lt : c.args.heap < length c.self.inside.list.items = made_within c.self.inside.list.items _ c.args.self.now c.self.view_is c.args.heap c.requires.made in
     let there0 : slice_get c.self.inside.list.items c.args.heap ≡ Some c.index_mut.result.now = got_item c.self.inside.list.items c.args.heap c.index_mut.result.now lt (search rules) in
     let here : c.index_mut.result.now ≡ Some c.get_mut.result.now = search rules in
     let there : slice_get c.self.inside.list.items c.args.heap ≡ Some (Some c.get_mut.result.now) = there0 ∙ ap Some here in
     ap length (rests_put c.self.inside.list.items (vec_capacity c.self.inside.list) c.args.heap (Some c.get_mut.result.now) (Some (record c.get_mut.result.now { set = c.push_kept.new.self })) there c.args.self.now c.self.view_is refl)
 
-pub returns-clause-beside : goal.returns-clause-beside
-returns-clause-beside c =
+pub returns-clause-sets : goal.returns-clause-sets
+returns-clause-sets c =
     let lt : c.args.heap < length c.self.inside.list.items = made_within c.self.inside.list.items _ c.args.self.now c.self.view_is c.args.heap c.requires.made in
     let there0 : slice_get c.self.inside.list.items c.args.heap ≡ Some c.index_mut.result.now = got_item c.self.inside.list.items c.args.heap c.index_mut.result.now lt (search rules) in
     let here : c.index_mut.result.now ≡ Some c.get_mut.result.now = search rules in
     let there : slice_get c.self.inside.list.items c.args.heap ≡ Some (Some c.get_mut.result.now) = there0 ∙ ap Some here in
-    beside_put c.self.inside.list.items (vec_capacity c.self.inside.list) c.args.heap (Some c.get_mut.result.now) (Some (record c.get_mut.result.now { set = c.push_kept.new.self })) there c.args.self.now c.self.view_is refl refl
+    sets_put c.self.inside.list.items (vec_capacity c.self.inside.list) c.args.heap (Some c.get_mut.result.now) (Some (record c.get_mut.result.now { set = c.push_kept.new.self })) there c.args.self.now c.self.view_is
+
+pub returns-clause-others : goal.returns-clause-others
+returns-clause-others c =
+    let lt : c.args.heap < length c.self.inside.list.items = made_within c.self.inside.list.items _ c.args.self.now c.self.view_is c.args.heap c.requires.made in
+    let there0 : slice_get c.self.inside.list.items c.args.heap ≡ Some c.index_mut.result.now = got_item c.self.inside.list.items c.args.heap c.index_mut.result.now lt (search rules) in
+    let here : c.index_mut.result.now ≡ Some c.get_mut.result.now = search rules in
+    let there : slice_get c.self.inside.list.items c.args.heap ≡ Some (Some c.get_mut.result.now) = there0 ∙ ap Some here in
+    block_set_put c.self.inside.list.items (vec_capacity c.self.inside.list) c.args.heap (Some c.get_mut.result.now) (Some (record c.get_mut.result.now { set = c.push_kept.new.self })) there c.args.self.now c.self.view_is refl refl
