@@ -27,7 +27,11 @@ pub use delivery::{deliver, nothing, return_wanted};
 pub use ended::{amid, answer_ended, extras_of};
 pub use image::answer_image;
 pub use input::{program_in, read_input};
-pub use laws::{images_are_verified, images_have_just_held, made_are_accepted, made_are_read, made_are_run, model_writes_the_same, no_fault_gives_all, programs_are_run, raceless_are_disentangled, recorded_runs_are_alike, runs_hold_the_headline, statuses_of_ends, traces_are_replayed};
+pub use laws::{
+    images_are_verified, images_have_just_held, made_are_accepted, made_are_read, made_are_run,
+    model_writes_the_same, no_fault_gives_all, programs_are_run, raceless_are_disentangled,
+    recorded_runs_are_alike, runs_hold_the_headline, statuses_of_ends, traces_are_replayed,
+};
 pub use model::answer_model;
 pub use races::answer_races;
 pub use refusals::{bytes_alone, refused};

@@ -3,4 +3,4 @@
 
 mod laws;
 
-pub use laws::{copied_fits};
+pub use laws::copied_fits;

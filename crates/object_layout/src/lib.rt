@@ -14,7 +14,9 @@ pub use chunk::{
     write_filled, write_new,
 };
 pub use chunk_sizes::{CHUNK_WORDS, units};
-pub use laws::{appended_is_last, led_are_read, objects_lie_there, put_changes_one, sifted_are_filtered};
+pub use laws::{
+    appended_is_last, led_are_read, objects_lie_there, put_changes_one, sifted_are_filtered,
+};
 pub use piece::Piece;
 pub use reference::is_same_reference;
 pub use word::{Addr, Birth, Header};

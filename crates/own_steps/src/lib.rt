@@ -5,4 +5,4 @@ mod alone;
 mod laws;
 
 pub use alone::at_end;
-pub use laws::{parts_fit_again};
+pub use laws::parts_fit_again;

@@ -1,4 +1,3 @@
 // Laws of noted and lifted sources.
 
-
 use object_layout::Words;

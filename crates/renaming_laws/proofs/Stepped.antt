@@ -131,5 +131,4 @@ module _ (p : ProgramText) (n : ℕ) (f g : ℕ → ℕ) (R : IsRenaming n f g) 
         (subst (λ o. Alike (child_ended_by m t x q (result_of x.top) (result_at (slice_get m.tasks (sibling t)))) (child_ended_by m' (f t) x' (f q) (result_to f (result_of x.top)) o))
         (sym (ap (λ k. result_at (slice_get m'.tasks k)) (R.siblings t) ∙ (ap result_at (A.tasks (sibling t)) ∙ kept_to f (slice_get m.tasks (sibling t)))))
         (by_other q e (result_at (slice_get m.tasks (sibling t)))))
-
     -- STEPS

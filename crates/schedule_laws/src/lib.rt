@@ -3,4 +3,7 @@
 
 mod laws;
 
-pub use laws::{every_end_agrees, every_run_goes_on, fields_stay, journals_agree, one_run_speaks_for_all, ordered_is_race_free, some_run_speaks_up, steps_commute, steps_leave_steps};
+pub use laws::{
+    every_end_agrees, every_run_goes_on, fields_stay, journals_agree, one_run_speaks_for_all,
+    ordered_is_race_free, some_run_speaks_up, steps_commute, steps_leave_steps,
+};

@@ -68,4 +68,3 @@ root_now p h leaf limit k c r =
       shape = empty_shape h k c r;
       shown = λ n a o e. absurd (none-some a e);
     }
-
