@@ -24,8 +24,6 @@ relabelled : (new : PoolValue) (n o : ℕ) (was : Option Slot) → IsSome was �
 relabelled new n o None used r u e = absurd (false≢true used)
 relabelled new n o (Some h) used r u e = mapped (record h { owner = o }) u (slot_at new n) r e
 
-}
-
 pub taken_are_owned : TakenAreOwned
 taken_are_owned old new o count was is t k = (
   (λ e. ap (λ (x : Option Slot). option_map (λ (y : Slot). y.owner) x) (t.numbers.numbered.each k ∙ cond-true (has_chunk t.numbers.chunks k) (Some (one_unit o)) (slot_at old k) e)),

@@ -103,5 +103,3 @@ leaf_is = record { waits = refl; none = λ name. refl; kinds = λ name word. ref
 inner_is : IsLimit (codes "--inner") (codes "inner") 16 1000000 (λ n. record usual_settings { inner = n })
 unfolding clap_on_literals
 inner_is = record { waits = refl; none = λ name. refl; kinds = λ name word. refl; file = λ word. refl; options = λ word. refl }
-
-)

@@ -148,8 +148,6 @@ verify_none : (file : Text) → level verify_shape (file_kinds verify_shape) (fi
 unfolding defaults_fault
 verify_none file = refl
 
-)
-
 -- ---- `make`
 
 abbrev run_flag : List Text

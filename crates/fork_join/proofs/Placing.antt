@@ -15,8 +15,6 @@ use Rattle.fork_join.specs.Laws.{Merges}
 use Rattle.fork_join.proofs.Owners.{some_same, Moved, moved}
 use Rattle.fork_join.proofs.Walks.{joined_parent, up_kept, up_more, up_over}
 
-]
-
 module _ (nodes : List Node) (old new : PoolValue) (sources after : ℕ → List Source) (p c d : ℕ) (ks ls rs : List ChunkValue) (op : Owns old p ks) (oc : Owns old c ls) (od : Owns old d rs)
     (pc : parent_of nodes c ≡ Some p) (pd : parent_of nodes d ≡ Some p) (J : Merges old new sources after p c d ks ls rs) where
   abbrev par : ℕ → Option ℕ

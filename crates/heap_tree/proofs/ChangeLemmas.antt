@@ -142,5 +142,3 @@ module _ (nodes : List Node) (t : ℕ) (pairs : ArePaired nodes) where
     odd = ap (λ (n : ℕ). n % 2) (all nodes t) ∙ (let o : length nodes % 2 ≡ 1 = pairs.odd in let e : (length nodes + 2) % 2 ≡ 1 = omega arith in e);
     shared = λ u made child. shared_by u (subst (λ (n : ℕ). u < n) (all nodes t) made) child (cases_lt u (length nodes));
   }
-
-}

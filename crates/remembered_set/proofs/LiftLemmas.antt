@@ -12,8 +12,6 @@ use Rattle.remembered_set.proofs.Noting.{same_is}
 pub source_in : (xs : List Source) (s : Source) → has_source xs s ≡ true → In xs s
 source_in xs s e = let f = in_from_any (same_source s) xs e in subst (λ (y : Source). In xs y) (sym (same_is s f.0 f.2)) f.1
 
-)
-
 old_by : (b : Bool) (xs : List Source) (s t : Source) → In xs t → In (cond b xs (xs ++ s ∷ [])) t
 old_by true xs s t h = h
 old_by false xs s t h = in_append_left xs (s ∷ []) t h
@@ -25,8 +23,6 @@ new_by false xs s e = in_append_right xs (s ∷ []) s (inl refl)
 cases_by : (b : Bool) (xs : List Source) (s t : Source) → In (cond b xs (xs ++ s ∷ [])) t → In xs t ⊎ (s ≡ t)
 cases_by true xs s t h = inl h
 cases_by false xs s t h = elim (in_append_cases xs (s ∷ []) t h) [ inl i ↦ inl i | inr i ↦ elim i [ inl e ↦ inr e | inr n ↦ absurd n ] ]
-
-)
 
 in_all_old : (ys xs : List Source) (t : Source) → In xs t → In (fold noted xs ys) t
 in_all_old [] xs t h = h

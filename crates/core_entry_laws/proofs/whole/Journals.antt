@@ -16,9 +16,6 @@ use Rattle.core_relation.specs.Reads.{AllRead, TaskIsRead}
 use Rattle.ledger_step_laws.specs.Accounts.{Rests}
 use Rattle.core_relation.specs.Stands.{Place, BelongingsStand, Stands}
 pub use Rattle.core_entry_laws.specs.First.{first}
-use Rattle.core_entry_laws.specs.First.{first_tree_counts}
-use Rattle.core_relation.specs.Whole.{state_by}
-use Rattle.run_ledger.specs.Heaps.{heap_of}
 use Rattle.core_relation.proofs.objects.LaidOut.{none_laid}
 
 nils : (at : Name → Addr → Type 0) (n : ℕ) → AllRead at (replicate n None) (replicate n None)
@@ -74,15 +71,3 @@ first_stands p s = record {
         subst (λ (y : Task). TaskIsRead (Place (first p) (opening p s)) ((first p).belongings 0) y) (same_Some (root p) x is)
         (record { function = refl; next = refl; ints = refl; refs = nils (Place (first p) (opening p s)) 16 }, tt)
     task (suc t) x r is = absurd cc
-
--- THE WHOLE
-
-}
-  where
-    worker : (t : ℕ) → (heap_of (opening p s) t).worker ≡ None
-    worker zero = refl
-    worker (suc t) = refl
-
-    node : (t : ℕ) → first_tree_counts.node t ≡ option_map (λ (x : Task). record { parent = x.parent; state = state_by x.status (heap_of (opening p s) t).worker }) (slice_get (opening p s).machine.tasks t)
-    node zero = refl
-    node (suc t) = refl
