@@ -15,15 +15,15 @@ use Rattle.run_ledger.specs.declared.data.RunEnd.TheVariants.{Machine, Fuel, Poo
 use Rattle.run_ledger.specs.declared.data.RefusedAt.{RefusedAt}
 use Rattle.run_ledger.specs.Journals.{refused_as_run}
 use Rattle.command_line.specs.declared.line.Options.{Options}
-use Rattle.command_line.specs.declared.line.CommandLine.TheVariants.{Run, Replay, Model, Image, Make}
+use Rattle.command_line.specs.declared.line.CommandLine.TheVariants.{Run, Replay, Model, Make}
 use Rattle.command_answers.specs.declared.answer.Status.{Status}
 use Rattle.command_answers.specs.declared.answer.Status.TheVariants.{Done, Source as RefusedSource, NoMemory, Trace}
 use Rattle.command_answers.specs.declared.answer.Answer.{Answer}
 use Rattle.command_answers.specs.declared.answer.Ran.{Ran}
 use Rattle.command_answers.specs.Status.{status_of_end}
-use Rattle.command_answers.specs.Answers.{AnswersLine, AnswersMake, AnswersProgram, AnswersRun, AnswersTrace, AnswersTraced, IsImaged, IsModelled, IsProgramInput, IsReplay, LeavesLine, LeavesMake, WhereProgram, WhereTraced, WhereWhole}
+use Rattle.command_answers.specs.Answers.{AnswersLine, AnswersMake, AnswersProgram, AnswersRun, AnswersTrace, AnswersTraced, IsModelled, IsProgramInput, IsReplay, LeavesLine, LeavesMake, WhereProgram, WhereTraced, WhereWhole}
 use Rattle.command_answers.specs.Delivery.{DeliversBy}
-use Rattle.command_answers.specs.Laws.{GivesAll, HasProgram, IsEnd, MadeAreAccepted, MadeAreRun, NoFaultGivesAll, ProgramsAreRun, TracesAreDrawn, TracesAreReplayed}
+use Rattle.command_answers.specs.Laws.{GivesAll, HasProgram, IsEnd, MadeAreAccepted, MadeAreRun, NoFaultGivesAll, ProgramsAreRun, TracesAreReplayed}
 use Rattle.command_answers.proofs.Deliveries.{gives_all}
 
 pub no_fault_gives_all : NoFaultGivesAll
@@ -103,7 +103,3 @@ traces_are_replayed = λ file o input r before after has d none. elim d [
   | inl replay ↦ given_end IsEnd _ r before after (λ a. traced_end IsEnd (IsReplay o) o.settings input a (λ p s entries h. (h.0.end, h.0.status)) has) (no_fault_gives_all (Replay file o) input r before after replay none)
   | inr model ↦ given_end IsEnd _ r before after (λ a. traced_end IsEnd (IsModelled o) o.settings input a (λ p s entries h. (h.end, h.text.status)) has) (no_fault_gives_all (Model file o) input r before after model none)
 ]
-
-pub traces_are_drawn : TracesAreDrawn
-traces_are_drawn = λ file l input r before after has d none.
-    given_end (λ status. status ≡ Done) _ r before after (λ a. traced_end (λ status. status ≡ Done) IsImaged l input a (λ p s entries h. h.text.status) has) (no_fault_gives_all (Image file l) input r before after d none)

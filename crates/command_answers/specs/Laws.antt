@@ -22,7 +22,7 @@ use Rattle.heap_image.specs.Text.{text_of}
 use Rattle.shared_image.specs.Held.{HasJustHeld}
 use Rattle.command_line.specs.declared.line.Options.{Options}
 use Rattle.command_line.specs.declared.line.CommandLine.{CommandLine}
-use Rattle.command_line.specs.declared.line.CommandLine.TheVariants.{Run, Replay, Model, Image, Make}
+use Rattle.command_line.specs.declared.line.CommandLine.TheVariants.{Run, Replay, Model, Make}
 use Rattle.command_answers.specs.declared.answer.Status.{Status}
 use Rattle.command_answers.specs.declared.answer.Status.TheVariants.{Done, Source, Entangled, ReadFault, WriteFault, NoMemory, Trace}
 use Rattle.command_answers.specs.declared.answer.Answer.{Answer}
@@ -82,12 +82,6 @@ TracesAreReplayed =
     (file : Option (List ℕ)) (o : Options) (input : List ℕ) (r : Ran) (before after : Option (List ℕ)) → HasProgram input
     → (DeliversLine (Replay file o) input r before after ⊎ DeliversLine (Model file o) input r before after) → NoFault r
     → (r.status ≡ NoMemory) ⊎ ((r.status ≡ Trace) ⊎ IsEnd r.status)
-
--- the heaps that a trace leaves are drawn, whatever its end, or the trace is refused
-abbrev pub TracesAreDrawn : Type 0
-TracesAreDrawn =
-    (file : Option (List ℕ)) (l : SettingsValue) (input : List ℕ) (r : Ran) (before after : Option (List ℕ)) → HasProgram input → DeliversLine (Image file l) input r before after → NoFault r
-    → (r.status ≡ NoMemory) ⊎ ((r.status ≡ Trace) ⊎ (r.status ≡ Done))
 
 -- what `image` writes of a whole run is verified by `verify`, unless it is too long for it
 abbrev pub ImagesAreVerified : Type 0

@@ -129,6 +129,15 @@ module _ (w : SharedValue) (I : IsSharedValue w) where
   word_once : (a b : Addr) → a.offset < 1024 → b.offset < 1024 → word_of_ref (Some a) ≡ word_of_ref (Some b) → (a.chunk ≡ b.chunk) × (a.offset ≡ b.offset)
   word_once a b na nb e = let f : a.chunk * 1024 + a.offset + 1 ≡ b.chunk * 1024 + b.offset + 1 = e in (omega (arith, na, nb, f), omega (arith, na, nb, f))
 
+  -- a task that wasn't made has none
+  pub none_noted : (t : ℕ) → length w.tree ≤ t → AreAll FieldBefore (IsNoted w t) []
+  none_noted t past =
+      let none : sources (value_of w) t ≡ [] = ap (λ o. (noted_in o).sources) (slice_get_past w.sets t (subst (λ n. n ≤ t) (sym I.noted) past)) in
+      record {
+        rising = tt;
+        each = λ f. ((λ i. absurd i), (λ h. absurd (subst (λ xs. In xs h.0) none h.1)));
+      }
+
   module _ (t : ℕ) (set : SetOf) (is : slice_get w.sets t ≡ Some set) where
     abbrev ss : List Source
     ss = set.remembered.sources

@@ -3,6 +3,10 @@ use Rattle.std.proofs.Common.{◌≡◌, ℕ, zero, suc, ◌<◌, Some, List, []
 use Rattle.std.proofs.lemmas.List.{set-set, set-append_left}
 use Rattle.hh_model.specs.Step.{last_of, front_of}
 
+-- the last write stays, in the words of a step (`returns.rt` cites it)
+pub set_again : {A : Type 0} (xs : List A) (k : ℕ) (x y : A) → slice_set (slice_set xs k x) k y ≡ slice_set xs k y
+set_again xs k x y = set-set xs k x y
+
 -- what stands there already changes nothing
 pub set_got : {A : Type 0} (xs : List A) (k : ℕ) (x : A) → slice_get xs k ≡ Some x → slice_set xs k x ≡ xs
 set_got [] k x e = refl
@@ -23,3 +27,7 @@ pub front_push : {A : Type 0} (xs : List A) (x : A) → front_of (xs ++ x ∷ []
 front_push [] x = refl
 front_push (y ∷ []) x = refl
 front_push (y ∷ z ∷ xs) x = ap (λ zs. y ∷ zs) (front_push (z ∷ xs) x)
+
+-- a write to the first of two lists, in the words of a step (`fork.rt` cites it)
+pub set_front : {A : Type 0} (xs ys : List A) (k : ℕ) (x : A) → k < length xs → slice_set (xs ++ ys) k x ≡ slice_set xs k x ++ ys
+set_front xs ys k x lt = set-append_left xs ys k x lt

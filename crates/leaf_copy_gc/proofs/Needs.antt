@@ -48,3 +48,6 @@ born_chunks (k ∷ ks) t =
 
 pub needs_are_counted : (ks : List ChunkValue) → IsSettled ks → (small_words ks ≡ sum_of small_part ks) × (live_count ks ≡ object_count ks)
 needs_are_counted ks s = (small_chunks ks s.tidy, born_chunks ks s.tidy)
+
+pub live_is_counted : (ks : List ChunkValue) → IsSettled ks → live_count ks ≡ object_count ks
+live_is_counted ks s = born_chunks ks s.tidy

@@ -5,12 +5,20 @@ use Rattle.listed.specs.Members.{is_empty}
 use Rattle.hh_model.specs.declared.data.Name.{Name}
 use Rattle.run_ledger.specs.declared.data.Heap.{Heap}
 use Rattle.run_ledger.specs.Reachable.{holds_name}
-use Rattle.run_ledger.specs.Heaps.{in_snapshot, without_empty}
+use Rattle.run_ledger.specs.Heaps.{in_snapshot, is_last_empty, without_empty}
 
 -- whether the last of some lists has no name, or what it was before where there are none
 abbrev pub ends_empty : Bool → List (List Name) → Bool
 ends_empty b [] = b
 ends_empty b (ns ∷ rest) = ends_empty (is_empty ns) rest
+
+ends_is : (ns : List Name) (rest : List (List Name)) → ends_empty (is_empty ns) rest ≡ is_last_empty (ns ∷ rest)
+ends_is ns [] = refl
+ends_is ns (ms ∷ rest) = ends_is ms rest
+
+pub ends_last : (lists : List (List Name)) → ends_empty false lists ≡ is_last_empty lists
+ends_last [] = refl
+ends_last (ns ∷ rest) = ends_is ns rest
 
 -- tests that agree keep the same
 pub same_kept : (p q : Name → Bool) (ns : List Name) → ((n : Name) → p n ≡ q n) → filter p ns ≡ filter q ns

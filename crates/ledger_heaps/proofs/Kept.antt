@@ -4,8 +4,9 @@ use Rattle.hh_model.specs.declared.data.Name.{Name}
 use Rattle.hh_model.specs.declared.data.State.{State}
 use Rattle.run_ledger.specs.declared.data.Heap.{Heap}
 use Rattle.run_ledger.specs.Reachable.{holds_name}
-use Rattle.run_ledger.specs.Heaps.{in_snapshot, large_survivors, units, units_sum, without_empty, words_at, words_in, words_sum}
-use Rattle.run_ledger.proofs.Weights.{kept_weight, weight_parts}
+use Rattle.run_ledger.specs.Heaps.{collected, in_snapshot, large_survivors, small_survivors, units, units_sum, without_empty, words_at, words_in, words_sum}
+use Rattle.run_ledger.proofs.Weights.{kept_weight, survivors_weight, weight_parts}
+use Rattle.run_ledger.proofs.Held.{laid_flat}
 use Rattle.run_ledger.proofs.Reached.{length_kept}
 use Rattle.std.proofs.Common.{not}
 use Rattle.std.proofs.lemmas.List.{length-map}
@@ -17,6 +18,28 @@ survivors_units m h ns e = subst (λ k. units_sum m k ≤ units_sum m h.large) (
 
 pub snapshot_units : (m : State) (h : Heap) (ns : List Name) → ns ≡ in_snapshot h h.large → units_sum m ns ≤ units_sum m h.large
 snapshot_units m h ns e = subst (λ k. units_sum m k ≤ units_sum m h.large) (sym e) (kept_weight (λ n. units (words_at m n)) (holds_name h.snapshot) h.large)
+
+pub left_words : (m : State) (h : Heap) (small large : List Name) → small ≡ small_survivors h → large ≡ large_survivors h → words_sum m small + words_sum m large ≡ words_in m (collected m h)
+left_words m h small large e k =
+    let parts = weight_parts (words_at m) (collected m h) in
+    let flat = ap (words_sum m) (laid_flat m (small_survivors h)) in
+    let a = ap (words_sum m) e in
+    let b = ap (words_sum m) k in
+    omega arith
+
+pub small_bound : (m : State) (h : Heap) (small : List Name) → small ≡ small_survivors h → words_sum m small ≤ words_in m h
+small_bound m h small e =
+    let a = survivors_weight (words_at m) h in
+    let b = weight_parts (words_at m) h in
+    let d = ap (words_sum m) e in
+    omega arith
+
+pub large_bound : (m : State) (h : Heap) (large : List Name) → large ≡ large_survivors h → words_sum m large ≤ words_in m h
+large_bound m h large e =
+    let a = kept_weight (words_at m) (holds_name h.survivors) h.large in
+    let b = weight_parts (words_at m) h in
+    let d = ap (words_sum m) e in
+    omega arith
 
 pub fewer_chunks : (h : Heap) (lists : List (List Name)) → lists ≡ without_empty (map (in_snapshot h) h.chunks) → length lists ≤ length h.chunks
 fewer_chunks h lists e =

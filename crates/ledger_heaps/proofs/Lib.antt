@@ -1,3 +1,4 @@
+pub mod Lists
 pub mod Laid
 pub mod Meets
 pub mod Owned

@@ -65,6 +65,22 @@ module _ (s : AccountsValue) (A : Agrees s) (w : ℕ) where
       by (inl f) = f.0
       by (inr f) = absurd (none-some _ (sym none ∙ last f.0 f.2))
 
+  -- who holds a task holds the one that was taken last
+  pub holds_last : (t : ℕ) → unwrap_or (slice_get s.taken w) None ≡ Some t → worker_of s.ledger t ≡ Some w → out_from w 0 s.ledger.heaps ≡ Some t
+  holds_last t is e = by (found w 0 s.ledger.heaps)
+    where
+      by : Found w 0 s.ledger.heaps → out_from w 0 s.ledger.heaps ≡ Some t
+      by (inl f) = absurd (f.1 t e)
+      by (inr f) = f.1 ∙ (ap Some (let q : 0 + f.0 ≡ f.0 = omega arith in q) ∙ (sym (last f.0 f.2) ∙ is))
+
+  -- and nothing, once that is held no more
+  pub holds_no_more : (t : ℕ) → unwrap_or (slice_get s.taken w) None ≡ Some t → (worker_of s.ledger t ≡ Some w → ⊥) → out_from w 0 s.ledger.heaps ≡ None
+  holds_no_more t is other = by (found w 0 s.ledger.heaps)
+    where
+      by : Found w 0 s.ledger.heaps → out_from w 0 s.ledger.heaps ≡ None
+      by (inl f) = f.0
+      by (inr f) = absurd (other (subst (λ v. worker_of s.ledger v ≡ Some w) (same_Some f.0 t (sym (last f.0 f.2) ∙ is)) f.2))
+
 -- NO STEP MAKES A WORKER HOLD A TASK
 
 -- who holds a task in one ledger held it in the other

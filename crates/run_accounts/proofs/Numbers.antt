@@ -3,7 +3,7 @@ use Rattle.std.proofs.Common.{◌≡◌, ℕ, ◌+◌, ◌-◌, ◌<◌, ◌≤�
 use Rattle.std.proofs.lemmas.List.Sums.{sum_by-append}
 use Rattle.hh_model.specs.declared.data.State.{State}
 use Rattle.run_ledger.specs.declared.data.Heap.{Heap}
-use Rattle.run_ledger.specs.Heaps.{words_at, words_in, units_in, units_sum, small_in, begun_in, take_of, collected, end_numbers, sweep_number}
+use Rattle.run_ledger.specs.Heaps.{words_at, words_in, units_in, units_sum, small_in, begun_in, take_of, collected, end_numbers, sweep_number, left_in, marked_in}
 use Rattle.run_ledger.proofs.Weights.{collected_weight}
 use Rattle.run_ledger.proofs.Laid.{collected_bound}
 
@@ -28,3 +28,7 @@ end_few m h words few taken given left is =
 -- and that of a sweep
 pub sweep_few : (m : State) (h : Heap) → units_in m h < 2 ^ 20 → (given : ℕ) → given ≡ sweep_number m h → given < 2 ^ 32
 sweep_few m h few given is = omega arith
+
+-- the objects that are marked
+pub marked_few : (h : Heap) (marked count : ℕ) → length h.snapshot < 2 ^ 31 → marked ≡ marked_in h → marked < 2 ^ 32 → marked + min count (left_in h) < 2 ^ 32
+marked_few h marked count few is fits = omega arith
