@@ -4,11 +4,22 @@ use Rattle.std.specs.Option.{option_map}
 use Rattle.std.proofs.lemmas.Bool.{cases_eq, cases_lt}
 use Rattle.std.proofs.lemmas.Option.{slice_get-map}
 use Rattle.listed.proofs.Members.{In, got_front, got_back, got_other}
+use Rattle.hh_model.specs.Step.{last_of, front_of}
 
 pub got_set : {A : Type 0} (xs : List A) (k : ℕ) (x : A) → slice_get (slice_set xs k x) k ≡ option_map (λ y. x) (slice_get xs k)
 got_set [] k x = refl
 got_set (y ∷ ys) zero x = refl
 got_set (y ∷ ys) (suc k) x = got_set ys k x
+
+pub last_map : {A B : Type 0} (h : A → B) (xs : List A) → last_of (map h xs) ≡ option_map h (last_of xs)
+last_map h [] = refl
+last_map h (x ∷ []) = refl
+last_map h (x ∷ y ∷ xs) = last_map h (y ∷ xs)
+
+pub front_map : {A B : Type 0} (h : A → B) (xs : List A) → front_of (map h xs) ≡ map h (front_of xs)
+front_map h [] = refl
+front_map h (x ∷ []) = refl
+front_map h (x ∷ y ∷ xs) = ap (λ zs. h x ∷ zs) (front_map h (y ∷ xs))
 
 pub from_map : {A B : Type 0} (h : A → B) (k : B → A) → ((x : A) → k (h x) ≡ x) → (xs : List A) (x : A) → In (map h xs) (h x) → In xs x
 from_map h k back [] x i = absurd i

@@ -6,21 +6,26 @@ use Rattle.std.proofs.lemmas.List.{length-map, map-append}
 use Rattle.std.proofs.Math.Seq.{map-set}
 use Rattle.std.proofs.lemmas.Option.{slice_get-map}
 use Rattle.hh_lang.specs.declared.instr.Instr.{Instr}
+use Rattle.hh_lang.specs.declared.program.Line.{Line}
 use Rattle.hh_lang.specs.Form.{ProgramText}
 use Rattle.hh_model.specs.declared.data.Name.{Name}
 use Rattle.hh_model.specs.declared.data.Object.{Object}
+use Rattle.hh_model.specs.declared.data.Frame.{Frame}
+use Rattle.hh_model.specs.declared.data.Status.TheVariants.{Waiting}
 use Rattle.hh_model.specs.declared.data.Task.{Task}
-use Rattle.hh_model.specs.declared.data.End.TheVariants.{Done}
+use Rattle.hh_model.specs.declared.data.Trap.TheVariants.{Depth}
+use Rattle.hh_model.specs.declared.data.End.TheVariants.{Done, Trapped, Entangled}
 use Rattle.hh_model.specs.declared.data.State.{State}
-use Rattle.hh_model.specs.Effect.{Effect, Setting, effect, int_in, object_at, row_of}
-use Rattle.hh_model.specs.Step.{child_ended_by, ended_task, is_left, join_of, result_at, last_return, or_same, owner_of, parent_of, parents, result_of, setting, sibling, step, strand, with_task}
+use Rattle.hh_model.specs.Effect.{Effect, Goes, Prints, Calls, Forks, Returns, Traps, Stops, Setting, effect, int_in, object_at, onward, ref_in, row_of, with_int, with_ref}
+use Rattle.hh_model.specs.Step.{back_in, called, can_step, child, child_ended_by, depth_limit, ended_by, ended_task, entry_frame, fetched, follow, forked, frame_limit, front_of, is_left, join_of, result_at, last_of, last_return, or_same, owner_of, parent_of, parents, result_of, returned, returned_to, setting, sibling, step, stepped, strand, with_task}
 use Rattle.hh_model.specs.Tree.{IsForkJoinState}
 use Rattle.renaming_laws.specs.Renaming.{IsRenaming, ref_to, object_to, frame_to, task_to}
 use Rattle.renaming_laws.specs.Alike.{AreAlike}
-use Rattle.renaming_laws.proofs.Effects.{EffectTo, Sees, SeenTo, TestTo, effect_carried, ref_carried, same_task}
-use Rattle.renaming_laws.proofs.Lists.{set_to}
+use Rattle.renaming_laws.proofs.Changed.{Change, Same, Grows, Edits, Edit, SetRef, SetNumber, Freezes, change_to, changed, edit_to, edited, put_in}
+use Rattle.renaming_laws.proofs.Effects.{EffectTo, Sees, SeenTo, TestTo, effect_carried, ref_carried, same_task, set_carried}
+use Rattle.renaming_laws.proofs.Lists.{front_map, last_map, set_to}
 use Rattle.renaming_laws.proofs.Owners.{owner_to, test_to}
-use Rattle.renaming_laws.proofs.Follows.{StoreTo, halted, joins, kept_to, object_there, result_to, row_to, written}
+use Rattle.renaming_laws.proofs.Follows.{StoreTo, can_to, forks, halted, joins, kept_to, object_there, own, result_to, row_to, written}
 
 module _ (p : ProgramText) (n : ℕ) (f g : ℕ → ℕ) (R : IsRenaming n f g) (m m' : State) (K : IsForkJoinState m) (K' : IsForkJoinState m') (rows : length m.store ≡ length m.tasks) (rows' : length m'.store ≡ length m'.tasks)
     (made : n ≤ length m.tasks) (A : AreAlike f m m') (t : ℕ) where
@@ -74,6 +79,26 @@ module _ (p : ProgramText) (n : ℕ) (f g : ℕ → ℕ) (R : IsRenaming n f g) 
 
     rows_at : (u : ℕ) → row_of (slice_get m'.store (f u)) ≡ map (object_to f) (row_of (slice_get m.store u))
     rows_at u = ap row_of (A.objects u) ∙ row_to f (slice_get m.store u)
+
+    edit_there : (e : Edit) (o : Object) → edited (edit_to f e) (object_to f o) ≡ object_to f (edited e o)
+    edit_there (SetRef at v) o = ap (λ rs. record (object_to f o) { refs = rs }) (sym (map-set (ref_to f) o.refs at v))
+    edit_there (SetNumber at k) o = refl
+    edit_there Freezes o = refl
+
+    put_there : (row : List Object) (c : ℕ) (e : Edit) (o : Option Object) → put_in (map (object_to f) row) c (edit_to f e) (option_map (object_to f) o) ≡ map (object_to f) (put_in row c e o)
+    put_there row c e None = refl
+    put_there row c e (Some o) = ap (slice_set (map (object_to f) row) c) (edit_there e o) ∙ sym (map-set (object_to f) row c (edited e o))
+
+    change_there : (op : Change) → StoreTo n f g R m m' A (changed op t m.store) (changed (change_to f op) (f t) m'.store)
+    change_there Same = A.objects
+    change_there (Grows o) =
+        row_set t (row_of (slice_get m.store t) ++ o ∷ []) (row_of (slice_get m'.store (f t)) ++ object_to f o ∷ [])
+        (ap (λ w. w ++ object_to f o ∷ []) (rows_at t) ∙ sym (map-append (object_to f) (row_of (slice_get m.store t)) (o ∷ [])))
+    change_there (Edits k e) =
+        let row : List Object = row_of (slice_get m.store k.task) in
+        row_set k.task (put_in row k.count e (slice_get row k.count)) (put_in (row_of (slice_get m'.store (f k.task))) k.count (edit_to f e) (slice_get (row_of (slice_get m'.store (f k.task))) k.count))
+        (ap (λ w. put_in w k.count (edit_to f e) (slice_get w k.count)) (rows_at k.task)
+        ∙ (ap (put_in (map (object_to f) row) k.count (edit_to f e)) (slice_get-map (object_to f) row k.count) ∙ put_there row k.count e (slice_get row k.count)))
 
     -- RETURNS
 
@@ -131,4 +156,48 @@ module _ (p : ProgramText) (n : ℕ) (f g : ℕ → ℕ) (R : IsRenaming n f g) 
         (subst (λ o. Alike (child_ended_by m t x q (result_of x.top) (result_at (slice_get m.tasks (sibling t)))) (child_ended_by m' (f t) x' (f q) (result_to f (result_of x.top)) o))
         (sym (ap (λ k. result_at (slice_get m'.tasks k)) (R.siblings t) ∙ (ap result_at (A.tasks (sibling t)) ∙ kept_to f (slice_get m.tasks (sibling t)))))
         (by_other q e (result_at (slice_get m.tasks (sibling t)))))
+
+    by_frame : (o : Option Frame) → Alike (returned_to m t x o) (returned_to m' (f t) x' (option_map (frame_to f) o))
+    by_frame None = by_parent x.parent refl
+    by_frame (Some a) =
+        written n f g R m m' A t (record x { top = back_in a x.top; below = front_of x.below }) (record x' { top = back_in (frame_to f a) (frame_to f x.top); below = front_of (map (frame_to f) x.below) })
+        (λ j. record x' { top = back_there a j; below = front_map (frame_to f) x.below j })
+      where
+        back_there : (a : Frame) → back_in (frame_to f a) (frame_to f x.top) ≡ frame_to f (back_in a x.top)
+        back_there a = ap (with_ref (frame_to f (with_int a 0 (int_in x.top 0))) 0) (ref_carried f g R.back x.top 0) ∙ set_carried f g R.back (with_int a 0 (int_in x.top 0)) 0 (ref_in x.top 0)
+
     -- STEPS
+
+    pub follow_to : (line : ℕ) (i : Instr) (e e' : Effect) → Acts i e e' → Alike (follow m t x line e) (follow m' (f t) x' line e')
+    follow_to line i (Goes a st) (Goes b st') h =
+        own n f g R m m' A t (record x { top = a }) (record x' { top = b }) st st' m.outputs m'.outputs (ap (λ w. record x' { top = w }) h.1) (shift st st' _ _ h.2 h.3 (change_there h.0))
+    follow_to line i (Prints k) (Prints l) h = own n f g R m m' A t (record x { top = onward x.top }) _ m.store m'.store (m.outputs ++ k ∷ []) (m'.outputs ++ l ∷ []) refl A.objects
+    follow_to line i (Calls a) (Calls b) h =
+        subst (λ c. Alike (called m t x a line) (called m' (f t) x' c line)) (sym h)
+        (subst (λ k. Alike (called m t x a line) (cond (nat_lt (k + 1) frame_limit) (with_task m' (f t) (record x' { top = entry_frame a (frame_to f x.top); below = map (frame_to f) x.below ++ onward (frame_to f x.top) ∷ [] })) (ended_by m' (Trapped Depth (f t) line))))
+        (sym (length-map x.below (frame_to f)))
+        (either (nat_lt (length x.below + 1) frame_limit) _ _ _ _
+        (written n f g R m m' A t (record x { top = entry_frame a x.top; below = x.below ++ onward x.top ∷ [] }) _ (ap (λ fs. record x' { top = entry_frame a (frame_to f x.top); below = fs }) (sym (map-append (frame_to f) x.below (onward x.top ∷ [])))))
+        (halted n f g R m m' A (Trapped Depth t line))))
+    follow_to line i (Forks a b) (Forks c d) h =
+        subst (λ (w : ℕ × ℕ). Alike (forked m t x a b line) (forked m' (f t) x' w.0 w.1 line)) (λ j. (sym h.0 j, sym h.1 j))
+        (either (nat_lt x.depth depth_limit) _ _ _ _
+        (forks n f g R m m' A made rows rows' t x (record x { status = Waiting; top = onward x.top }) (child t (x.depth + 1) a x.top) (child t (x.depth + 1) b x.top) _ _ x.joins refl refl)
+        (halted n f g R m m' A (Trapped Depth t line)))
+    follow_to line i Returns Returns h = subst (λ o. Alike (returned m t x) (returned_to m' (f t) x' o)) (sym (last_map (frame_to f) x.below)) (by_frame (last_of x.below))
+    follow_to line i (Traps a) (Traps b) h = subst (λ k. Alike (ended_by m (Trapped a t line)) (ended_by m' (Trapped k (f t) line))) (sym h) (halted n f g R m m' A (Trapped a t line))
+    follow_to line i (Stops a) (Stops b) h =
+        subst (λ k. Alike (ended_by m (Entangled t (owner_of m.tasks a.task))) (ended_by m' (Entangled (f t) k)))
+        (sym (ap (λ (w : Name). owner_of m'.tasks w.task) h ∙ owner_to n f g R m m' K K' A a.task)) (halted n f g R m m' A (Entangled t (owner_of m.tasks a.task)))
+    follow_to line i _ _ h = absurd h
+
+    line_to : (o : Option Line) → Alike (stepped p m t x o) (stepped p m' (f t) x' o)
+    line_to None = A
+    line_to (Some line) = follow_to line.number line.instr (effect s x.top m.store line.instr) _ (acts line.instr)
+
+  pub step_to : Alike (step p m t) (step p m' (f t))
+  step_to =
+      subst (λ b. Alike (step p m t) (cond b (or_same m' (slice_get m'.tasks (f t)) (λ y. stepped p m' (f t) y (fetched p y.top))) m')) (sym (can_to n f g R m m' A t))
+      (either (can_step m t) _ m _ m'
+      (subst (λ o. Alike (or_same m (slice_get m.tasks t) (λ y. stepped p m t y (fetched p y.top))) (or_same m' o (λ y. stepped p m' (f t) y (fetched p y.top)))) (sym (A.tasks t))
+      (or_to (slice_get m.tasks t) _ _ (λ x is. line_to x is (fetched p x.top)))) A)
