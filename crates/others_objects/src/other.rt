@@ -184,25 +184,22 @@ fn comparing(
     ensures { result ≡ or_range (place_in (length (object_of heap.now.chunks object).refs) (int_of part.now.frames.top index)) (λ i. or_frozen (object_of heap.now.chunks object) (swaps register object (unwrap_or (slice_get (object_of heap.now.chunks object).refs i) None) (ref_of part.now.frames.top expected) i (ref_of part.now.frames.top value))) }
 {
     let header = heap.own_header(object);
-    match field_index(header.nrefs, part.int(index)) {
-        None => OtherStep::Traps(Trap::Range),
-        Some(field) => {
-            if header.mutable {
-                let held = heap.own_ref(object, field);
-                let expected = part.reference(expected);
-                swapping(
-                    register,
-                    object,
-                    held,
-                    expected,
-                    field,
-                    part.reference(value),
-                )
-            } else {
-                OtherStep::Traps(Trap::Frozen)
-            }
-        }
+    let Some(field) = field_index(header.nrefs, part.int(index)) else {
+        return OtherStep::Traps(Trap::Range);
+    };
+    if !header.mutable {
+        return OtherStep::Traps(Trap::Frozen);
     }
+    let held = heap.own_ref(object, field);
+    let expected = part.reference(expected);
+    swapping(
+        register,
+        object,
+        held,
+        expected,
+        field,
+        part.reference(value),
+    )
 }
 
 /// What an instruction does with the object of another task at an address, in that task's heap.
