@@ -4,5 +4,6 @@
 mod read;
 mod write;
 
+pub use outside_io::{Failed, Sink, Source};
 pub use read::{ReadError, read_file};
 pub use write::write_all;

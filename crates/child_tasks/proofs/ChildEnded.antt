@@ -1,22 +1,16 @@
 -- A child's last frame returns, and its sibling goes on.
 use Rattle.std.proofs.Common.{◌≡◌, ℕ, false, Some, None, slice_get, refl, ap, sym, ◌∙◌, if◌then◌else◌}
-use Rattle.listed.proofs.Members.{got_other, got_same}
-use Rattle.listed.specs.RoomyValue.{RoomyValue}
-use Rattle.hh_model.specs.declared.data.State.{State}
-use Rattle.hh_model.specs.declared.data.Task.{Task}
-use Rattle.hh_model.specs.Step.{child_ended_by, ended_task, is_running, parent_of, parents, result_of, with_task}
-use Rattle.path_laws.proofs.Leaves.{waiting_stops}
-use Rattle.run_trace.specs.Entry.{EntryValue}
-use Rattle.run_ledger.specs.declared.data.Ledger.{Ledger}
-use Rattle.heap_tree.specs.declared.state.State.TheVariants.{Ended}
-use Rattle.heap_tree.specs.Node.{state_of as state_in_tree}
-use Rattle.ledger_step_laws.specs.Last.{EndsFirst, Ending, Runs}
-use Rattle.task_machine.specs.declared.part.Private.{Private}
-use Rattle.shared_value.specs.SharedValue.{SharedValue}
-use Rattle.shared_value.specs.Stands.{IsSharedValue}
-use Rattle.shared_value.proofs.EntryMade.{accounts_are, still_goes}
-use Rattle.shared_value.proofs.StepsMade.{MakesSteps, steps_others, steps_world}
-use Rattle.shared_value.proofs.TaskTaken.{lets_go}
+use Rattle.own_steps.proofs.below.listed.{got_other, got_same}
+use Rattle.own_steps.specs.below.listed.{RoomyValue}
+use Rattle.own_steps.specs.below.hh_model.{State, Task, child_ended_by, ended_task, is_running, parent_of, parents, result_of, with_task}
+use Rattle.own_steps.proofs.below.path_laws.{waiting_stops}
+use Rattle.own_steps.specs.below.run_trace.{EntryValue}
+use Rattle.own_steps.specs.below.run_ledger.{Ledger}
+use Rattle.own_steps.specs.below.heap_tree.{Ended, state_of as state_in_tree}
+use Rattle.own_steps.specs.below.ledger_step_laws.{EndsFirst, Ending, Runs}
+use Rattle.own_steps.specs.below.task_machine.{Private}
+use Rattle.own_steps.specs.below.shared_value.{SharedValue, IsSharedValue}
+use Rattle.own_steps.proofs.below.shared_value.{accounts_are, still_goes, MakesSteps, steps_others, steps_world, lets_go}
 use Rattle.own_steps.proofs.LastStepEntry as last
 use Rattle.own_steps.proofs.LastStepEntry.{AsksLast, last_entry, last_steps}
 use Rattle.own_steps.proofs.TaskEnds as ending

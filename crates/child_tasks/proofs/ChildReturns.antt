@@ -2,34 +2,17 @@
 use Rattle.std.proofs.Common.{◌≡◌, ℕ, ℤ, ◌+◌, ◌-◌, ◌<◌, ◌&&◌, arith, not, Bool, true, false, Option, Some, None, List, [], ◌∷◌, length, slice_get, option_map, is_some, refl, ap, sym, subst, ◌∙◌}
 use Rattle.std.proofs.lemmas.Bool.{and_parts, cond-false, cond-true, false≢true}
 use Rattle.std.proofs.lemmas.Option.{same_Some}
-use Rattle.listed.proofs.Options.{none_some}
-use Rattle.hh_lang.specs.declared.instr.Instr.{Instr}
-use Rattle.hh_lang.specs.declared.instr.Instr.TheVariants.{Ret}
-use Rattle.hh_lang.specs.declared.program.Line.{Line}
-use Rattle.hh_model.specs.declared.data.Frame.{Frame}
-use Rattle.hh_model.specs.declared.data.Name.{Name}
-use Rattle.hh_model.specs.declared.data.State.{State as MachineState}
-use Rattle.hh_model.specs.declared.data.Status.{Status}
-use Rattle.hh_model.specs.declared.data.Status.TheVariants.{Running, Waiting as WaitingOf, Ended as EndedWith, Joined as JoinedOf}
-use Rattle.hh_model.specs.declared.data.Task.{Task}
-use Rattle.hh_model.specs.Effect.{effect}
-use Rattle.hh_model.specs.Step.{child_ended_by, fetched, follow, is_joined, is_left, is_over, is_waiting, result_at, last_of, last_return, parent_of, parents, result_in, result_of, returned_to, setting, sibling, step}
-use Rattle.hh_model.specs.Tree.{TreeOf}
-use Rattle.run_ledger.specs.Steps.{has_no_caller, is_open, is_private_by, is_private_line}
-use Rattle.heap_tree.specs.declared.state.State.{State}
-use Rattle.heap_tree.specs.declared.state.State.TheVariants.{Ended}
-use Rattle.heap_tree.specs.Node.{Node, parent_of as parent_in_tree, state_of as state_in_tree}
-use Rattle.core_relation.specs.Whole.{state_by, as_node}
-use Rattle.task_machine.specs.declared.part.Private.{Private}
-use Rattle.task_machine.proofs.Allocations.{is_some_place}
-use Rattle.shared_value.specs.Entered.{refused}
-use Rattle.shared_value.specs.Fits.{Fits}
-use Rattle.shared_value.specs.Stands.{IsSharedValue}
-use Rattle.shared_value.specs.SharedValue.{SharedValue, accounts}
-use Rattle.shared_value.proofs.PartFitsMachine as link
-use Rattle.shared_value.proofs.BeforeTheEnd.{node_now}
-use Rattle.shared_value.proofs.StepAccounts.{After}
-use Rattle.shared_value.proofs.TaskTaken.{parent_is as tree_parent_is}
+use Rattle.own_steps.proofs.below.listed.{none_some}
+use Rattle.own_steps.specs.below.hh_lang.{Instr, Ret, Line}
+use Rattle.own_steps.specs.below.hh_model.{Frame, Name, State as MachineState, Status, Running, Waiting as WaitingOf, Ended as EndedWith, Joined as JoinedOf, Task, effect, child_ended_by, fetched, follow, is_joined, is_left, is_over, is_waiting, result_at, last_of, last_return, parent_of, parents, result_in, result_of, returned_to, setting, sibling, step, TreeOf}
+use Rattle.own_steps.specs.below.run_ledger.{has_no_caller, is_open, is_private_by, is_private_line}
+use Rattle.own_steps.specs.below.heap_tree.{State, Ended, Node, parent_of as parent_in_tree, state_of as state_in_tree}
+use Rattle.own_steps.specs.below.core_relation.{state_by, as_node}
+use Rattle.own_steps.specs.below.task_machine.{Private}
+use Rattle.own_steps.proofs.below.task_machine.{is_some_place}
+use Rattle.own_steps.specs.below.shared_value.{refused, Fits, IsSharedValue, SharedValue, accounts}
+use Rattle.own_steps.proofs.below.shared_value.PartFitsMachine as link
+use Rattle.own_steps.proofs.below.shared_value.{node_now, After, parent_is as tree_parent_is}
 use Rattle.own_steps.specs.Alone.{IsShared, alone_entry, machine_after}
 use Rattle.own_steps.proofs.AloneEntries as own
 use Rattle.own_steps.proofs.AloneEntries.{AsksAlone, node_there, runs_on}

@@ -3,49 +3,26 @@ use Rattle.std.proofs.Common.{◌≡◌, ◌⊎◌, ℕ, zero, suc, ◌+◌, ◌
 use Rattle.std.specs.Option.{option_flatten}
 use Rattle.std.proofs.lemmas.Bool.{cases_eq, cases_lt, cond-true, lt-ltb}
 use Rattle.std.proofs.lemmas.Option.{same_Some}
-use Rattle.listed.proofs.Members.{got_back, got_front, got_other, got_past}
-use Rattle.listed.specs.RoomyValue.{RoomyValue}
-use Rattle.listed.proofs.Places.{got_some}
-use Rattle.hh_lang.specs.declared.instr.Instr.{Instr}
-use Rattle.hh_lang.specs.declared.instr.Instr.TheVariants.{Par}
-use Rattle.hh_model.specs.declared.data.State.{State}
-use Rattle.hh_model.specs.declared.data.Status.TheVariants.{Waiting as WaitingOf}
-use Rattle.hh_model.specs.declared.data.Task.{Task}
-use Rattle.hh_model.specs.Effect.{onward}
-use Rattle.hh_model.specs.Step.{child, depth_limit, edge, strand, strand_of}
-use Rattle.hh_model.proofs.Runs.{grown_at}
-use Rattle.run_trace.specs.Entry.{EntryValue}
-use Rattle.object_layout.specs.declared.word.Addr.{Addr}
-use Rattle.chunk_rows.specs.View.{view_below}
-use Rattle.heap_tree.specs.declared.state.State.TheVariants.{Waiting}
-use Rattle.heap_tree.specs.Node.{Node, child_of, depth_of, forked, with_state}
-use Rattle.heap_tree.proofs.ChangeLemmas.{all}
-use Rattle.write_barrier.specs.declared.sets.SetOf.{SetOf}
-use Rattle.write_barrier.specs.Stored.{content_at, content_of}
-use Rattle.inner_mark_gc.specs.MarkingValue.{MarkingValue}
-use Rattle.ledger_step_laws.specs.Accounts.{rested}
-use Rattle.ledger_step_laws.specs.Last.{Forking, ForksOn, Runs}
-use Rattle.core_relation.specs.Memory.{Belongings, Noted, Memory, sources}
-use Rattle.core_relation.specs.Begins.{AreRoots}
-use Rattle.core_relation.specs.Changes.{ForksBelongings, advanced, child_belongings}
-use Rattle.core_relation.specs.Fits.{with_belongings}
-use Rattle.core_relation.specs.RanCounts.{NodesFork}
-use Rattle.core_relation.specs.Since.{ForksNotes}
-use Rattle.core_relation.proofs.changes.With.{at_belongings, off_belongings}
-use Rattle.task_machine.specs.declared.part.Private.{Private}
-use Rattle.task_homes.specs.declared.task_at_rest.Rest.{Rest}
-use Rattle.task_homes.specs.HomesValue.{keeping}
-use Rattle.shared_value.specs.Objects.{levels_of}
-use Rattle.shared_value.specs.SharedValue.{SharedValue, marks_at, belongings_in, belongings_of, noted_in, tree_counts_of, value_of}
-use Rattle.shared_value.specs.Stands.{IsSharedValue}
-use Rattle.shared_value.proofs.FieldsNoted.{noted_of}
-use Rattle.shared_value.proofs.EntryMade.{RestIsWell, RestStays, each_form, free_before, still_goes, task_is_out, well_at}
-use Rattle.shared_value.proofs.StepsMade.{MakesSteps, steps_others, steps_world}
-use Rattle.shared_value.proofs.UnitsMeasured.{all_kept}
-use Rattle.shared_value.proofs.Levels.{level_is}
-use Rattle.shared_value.proofs.PartFitsMachine as link
-use Rattle.shared_value.proofs.BeforeTheEnd.{tree_long}
-use Rattle.shared_value.proofs.TaskTaken.{made_by, node_by, node_off, lets_go}
+use Rattle.own_steps.proofs.below.listed.{got_back, got_front, got_other, got_past, got_some}
+use Rattle.own_steps.specs.below.listed.{RoomyValue}
+use Rattle.own_steps.specs.below.hh_lang.{Instr, Par}
+use Rattle.own_steps.specs.below.hh_model.{State, Waiting as WaitingOf, Task, onward, child, depth_limit, edge, strand, strand_of}
+use Rattle.own_steps.proofs.below.hh_model.{grown_at}
+use Rattle.own_steps.specs.below.run_trace.{EntryValue}
+use Rattle.own_steps.specs.below.object_layout.{Addr}
+use Rattle.own_steps.specs.below.chunk_rows.{view_below}
+use Rattle.own_steps.specs.below.heap_tree.{Waiting, Node, child_of, depth_of, forked, with_state}
+use Rattle.own_steps.proofs.below.heap_tree.{all}
+use Rattle.own_steps.specs.below.write_barrier.{SetOf, content_at, content_of}
+use Rattle.own_steps.specs.below.inner_mark_gc.{MarkingValue}
+use Rattle.own_steps.specs.below.ledger_step_laws.{rested, Forking, ForksOn, Runs}
+use Rattle.own_steps.specs.below.core_relation.{Belongings, Noted, Memory, sources, AreRoots, ForksBelongings, advanced, child_belongings, with_belongings, NodesFork, ForksNotes}
+use Rattle.own_steps.proofs.below.core_relation.{at_belongings, off_belongings}
+use Rattle.own_steps.specs.below.task_machine.{Private}
+use Rattle.own_steps.specs.below.task_homes.{Rest, keeping}
+use Rattle.own_steps.specs.below.shared_value.{levels_of, SharedValue, marks_at, belongings_in, belongings_of, noted_in, tree_counts_of, value_of, IsSharedValue}
+use Rattle.own_steps.proofs.below.shared_value.{noted_of, RestIsWell, RestStays, each_form, free_before, still_goes, task_is_out, well_at, MakesSteps, steps_others, steps_world, all_kept, level_is, tree_long, made_by, node_by, node_off, lets_go}
+use Rattle.own_steps.proofs.below.shared_value.PartFitsMachine as link
 use Rattle.own_steps.specs.Alone.{alone_entry}
 use Rattle.own_steps.proofs.AloneEntries.{node_there}
 use Rattle.own_steps.proofs.LastStepEntry as last

@@ -2,21 +2,16 @@
 use Rattle.std.proofs.Common.{◌≡◌, true, ℕ, zero, suc, ◌+◌, ◌<◌, ◌++◌, arith, false, option_map, Option, Some, None, List, [], ◌∷◌, length, length-append, length-set, slice_get, slice_set, inl, inr, refl, ap, sym, subst, ◌∙◌}
 use Rattle.std.specs.Option.{option_flatten}
 use Rattle.std.proofs.lemmas.Bool.{cases_lt}
-use Rattle.listed.proofs.Members.{got_back, got_front, got_other, got_past}
-use Rattle.listed.specs.RoomyValue.{RoomyValue}
-use Rattle.listed.proofs.Places.{got_set}
-use Rattle.run_trace.specs.Entry.{EntryValue}
-use Rattle.heap_tree.specs.Node.{depth_of}
-use Rattle.write_barrier.specs.declared.sets.SetOf.{SetOf}
-use Rattle.write_barrier.specs.Forms.{bare}
-use Rattle.write_barrier.specs.Stored.{content_at, content_of}
-use Rattle.inner_mark_gc.specs.MarkingValue.{MarkingValue}
-use Rattle.fork_join.specs.declared.forks.Child.{Child}
-use Rattle.task_machine.specs.declared.part.Private.{Private}
-use Rattle.task_homes.specs.declared.task_at_rest.Rest.{Rest}
-use Rattle.task_homes.specs.HomesValue.{keeping}
-use Rattle.shared_value.specs.SharedValue.{SharedValue, marks_at, rest_at}
-use Rattle.shared_value.specs.Stands.{IsSharedValue}
+use Rattle.own_steps.proofs.below.listed.{got_back, got_front, got_other, got_past, got_set}
+use Rattle.own_steps.specs.below.listed.{RoomyValue}
+use Rattle.own_steps.specs.below.run_trace.{EntryValue}
+use Rattle.own_steps.specs.below.heap_tree.{depth_of}
+use Rattle.own_steps.specs.below.write_barrier.{SetOf, bare, content_at, content_of}
+use Rattle.own_steps.specs.below.inner_mark_gc.{MarkingValue}
+use Rattle.own_steps.specs.below.fork_join.{Child}
+use Rattle.own_steps.specs.below.task_machine.{Private}
+use Rattle.own_steps.specs.below.task_homes.{Rest, keeping}
+use Rattle.own_steps.specs.below.shared_value.{SharedValue, marks_at, rest_at, IsSharedValue}
 use Rattle.child_tasks.specs.Forks.{ForksOn, ForksTo, RestsFork, SetsFork, begun_rest, part_child, waiting_rest}
 use Rattle.child_tasks.proofs.ForkEntered as fork
 use Rattle.child_tasks.proofs.NextStepForks.{AsksFork}

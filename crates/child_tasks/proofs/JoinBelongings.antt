@@ -4,36 +4,25 @@ use Rattle.std.specs.Prelude.{Contains}
 use Rattle.std.proofs.lemmas.Bool.{cases_Bool, false≢true}
 use Rattle.std.proofs.lemmas.List.{map-append}
 use Rattle.std.proofs.lemmas.Option.{same_Some}
-use Rattle.listed.proofs.Members.{any_from_in, contains_from_in, in_append_cases, in_append_left, in_append_right, in_from_contains}
-use Rattle.listed.proofs.Places.{in_map, map_in}
-use Rattle.run_ledger.specs.declared.data.Ledger.{Ledger}
-use Rattle.object_layout.specs.declared.word.Addr.{Addr}
-use Rattle.object_layout.specs.Chunks.{has_chunk}
-use Rattle.object_layout.specs.ChunkValue.{ChunkValue}
-use Rattle.object_layout.proofs.Owning.{found_any}
-use Rattle.chunk_pool.specs.PoolValue.{PoolValue, owner_of}
-use Rattle.alloc_path.specs.LeafHeapValue.{LeafHeapValue, counted, merged, room_of, with_places}
-use Rattle.chunk_rows.specs.View.{Level}
-use Rattle.task_frames.specs.FramesValue.{FramesValue}
-use Rattle.remembered_set.specs.declared.remembered.Source.{Source}
-use Rattle.remembered_set.specs.Sources.{lifted}
-use Rattle.remembered_set.proofs.LiftLemmas.{lifted_are_there}
-use Rattle.write_barrier.specs.Stored.{Content}
-use Rattle.fork_join.specs.Joined.{AreRelabelled, with_results as with_both}
-use Rattle.fork_join.proofs.Owners.{joined_are_owned}
-use Rattle.ledger_step_laws.specs.Accounts.{Rests, own}
-use Rattle.core_relation.specs.Memory.{Chunk, Belongings, no_belongings, In, Memory, sources}
-use Rattle.core_relation.specs.Changes.{IsLifted, JoinsBelongings, top_with_results}
-use Rattle.core_relation.specs.Stands.{Stands}
-use Rattle.core_relation.proofs.objects.Members.{in_chunk}
-use Rattle.task_homes.specs.declared.task_at_rest.Work.{Work}
-use Rattle.task_homes.specs.declared.task_at_rest.Work.TheVariants.{Calls, Result}
-use Rattle.shared_value.specs.Objects.{chunk_of, chunks_of}
-use Rattle.shared_value.specs.SharedValue.{belongings_by}
-use Rattle.shared_value.proofs.FieldsLed.{by_chunks}
-use Rattle.shared_value.proofs.FieldsNoted.{noted_of}
-use Rattle.shared_value.proofs.RootsHeld.{chunk_in}
-use Rattle.shared_value.proofs.UnitsMeasured.{owner_held}
+use Rattle.own_steps.proofs.below.listed.{any_from_in, contains_from_in, in_append_cases, in_append_left, in_append_right, in_from_contains, in_map, map_in}
+use Rattle.own_steps.specs.below.run_ledger.{Ledger}
+use Rattle.own_steps.specs.below.object_layout.{Addr, has_chunk, ChunkValue}
+use Rattle.own_steps.proofs.below.object_layout.{found_any}
+use Rattle.own_steps.specs.below.chunk_pool.{PoolValue, owner_of}
+use Rattle.own_steps.specs.below.alloc_path.{LeafHeapValue, counted, merged, room_of, with_places}
+use Rattle.own_steps.specs.below.chunk_rows.{Level}
+use Rattle.own_steps.specs.below.task_frames.{FramesValue}
+use Rattle.own_steps.specs.below.remembered_set.{Source, lifted}
+use Rattle.own_steps.proofs.below.remembered_set.{lifted_are_there}
+use Rattle.own_steps.specs.below.write_barrier.{Content}
+use Rattle.own_steps.specs.below.fork_join.{AreRelabelled, with_results as with_both}
+use Rattle.own_steps.proofs.below.fork_join.{joined_are_owned}
+use Rattle.own_steps.specs.below.ledger_step_laws.{Rests, own}
+use Rattle.own_steps.specs.below.core_relation.{Chunk, Belongings, no_belongings, In, Memory, sources, IsLifted, JoinsBelongings, top_with_results, Stands}
+use Rattle.own_steps.proofs.below.core_relation.{in_chunk}
+use Rattle.own_steps.specs.below.task_homes.{Work, Calls, Result}
+use Rattle.own_steps.specs.below.shared_value.{chunk_of, chunks_of, belongings_by}
+use Rattle.own_steps.proofs.below.shared_value.{by_chunks, noted_of, chunk_in, owner_held}
 use Rattle.child_tasks.specs.Joins.{sources_by}
 
 -- ---- CHUNKS BY NUMBER

@@ -2,37 +2,23 @@
 use Rattle.std.proofs.Common.{◌≡◌, ◌⊎◌, ℕ, ◌+◌, ◌++◌, arith, Option, Some, None, List, [], ◌∷◌, length-set, slice_get, slice_set, inl, inr, refl, ap, sym, subst, ◌∙◌}
 use Rattle.std.proofs.lemmas.Bool.{cases_eq}
 use Rattle.std.proofs.lemmas.Option.{same_Some}
-use Rattle.listed.specs.RoomyValue.{RoomyValue}
-use Rattle.hh_model.specs.declared.data.Task.{Task}
-use Rattle.run_trace.specs.Entry.{EntryValue}
-use Rattle.run_ledger.specs.declared.data.Ledger.{Ledger}
-use Rattle.chunk_pool.specs.PoolValue.{PoolValue}
-use Rattle.alloc_path.specs.LeafHeapValue.{LeafHeapValue, merged, room_of, with_places}
-use Rattle.chunk_rows.specs.View.{Level}
-use Rattle.heap_tree.specs.declared.state.State.TheVariants.{Ended}
-use Rattle.heap_tree.specs.Node.{Node, state_of as state_in_tree, with_state}
-use Rattle.write_barrier.specs.declared.sets.SetOf.{SetOf}
-use Rattle.write_barrier.specs.Stored.{Content, content_at}
-use Rattle.inner_mark_gc.specs.MarkingValue.{MarkingValue}
-use Rattle.fork_join.specs.Joined.{AreRelabelled, joined_nodes, with_results}
-use Rattle.ledger_step_laws.specs.Accounts.{rested}
-use Rattle.ledger_step_laws.specs.Last.{EndsLast, Runs}
-use Rattle.core_relation.specs.Memory.{Noted, Memory, sources}
-use Rattle.core_relation.specs.Changes.{JoinsBelongings}
-use Rattle.core_relation.specs.Fits.{with_belongings}
-use Rattle.core_relation.specs.RanCounts.{NodesJoin}
-use Rattle.core_relation.specs.Since.{JoinsNotes}
-use Rattle.core_relation.specs.Stands.{Stands}
-use Rattle.task_machine.specs.declared.part.Private.{Private}
-use Rattle.task_homes.specs.declared.task_at_rest.Rest.{Rest}
-use Rattle.task_homes.specs.declared.task_at_rest.Work.{Work}
-use Rattle.task_homes.specs.declared.task_at_rest.Work.TheVariants.{Calls}
-use Rattle.shared_value.specs.SharedValue.{SharedValue, no_belongings, noted_in, belongings_by, belongings_in, marks_at, tree_counts_of, value_of}
-use Rattle.shared_value.specs.Stands.{HeapForm, IsSharedValue}
-use Rattle.shared_value.proofs.FieldsNoted.{noted_of}
-use Rattle.shared_value.proofs.EntryMade.{RestIsWell, RestStays, accounts_are, each_form, free_before, none_at, still_goes, task_is_out, well_at}
-use Rattle.shared_value.proofs.StepsMade.{MakesSteps, steps_others, steps_world}
-use Rattle.shared_value.proofs.TaskTaken.{lets_go}
+use Rattle.own_steps.specs.below.listed.{RoomyValue}
+use Rattle.own_steps.specs.below.hh_model.{Task}
+use Rattle.own_steps.specs.below.run_trace.{EntryValue}
+use Rattle.own_steps.specs.below.run_ledger.{Ledger}
+use Rattle.own_steps.specs.below.chunk_pool.{PoolValue}
+use Rattle.own_steps.specs.below.alloc_path.{LeafHeapValue, merged, room_of, with_places}
+use Rattle.own_steps.specs.below.chunk_rows.{Level}
+use Rattle.own_steps.specs.below.heap_tree.{Ended, Node, state_of as state_in_tree, with_state}
+use Rattle.own_steps.specs.below.write_barrier.{SetOf, Content, content_at}
+use Rattle.own_steps.specs.below.inner_mark_gc.{MarkingValue}
+use Rattle.own_steps.specs.below.fork_join.{AreRelabelled, joined_nodes, with_results}
+use Rattle.own_steps.specs.below.ledger_step_laws.{rested, EndsLast, Runs}
+use Rattle.own_steps.specs.below.core_relation.{Noted, Memory, sources, JoinsBelongings, with_belongings, NodesJoin, JoinsNotes, Stands}
+use Rattle.own_steps.specs.below.task_machine.{Private}
+use Rattle.own_steps.specs.below.task_homes.{Rest, Work, Calls}
+use Rattle.own_steps.specs.below.shared_value.{SharedValue, no_belongings, noted_in, belongings_by, belongings_in, marks_at, tree_counts_of, value_of, HeapForm, IsSharedValue}
+use Rattle.own_steps.proofs.below.shared_value.{noted_of, RestIsWell, RestStays, accounts_are, each_form, free_before, none_at, still_goes, task_is_out, well_at, MakesSteps, steps_others, steps_world, lets_go}
 use Rattle.own_steps.specs.Alone.{alone_entry}
 use Rattle.own_steps.proofs.LastStepEntry as last
 use Rattle.own_steps.proofs.LastStepEntry.{AsksLast, last_enters, last_entry, last_steps}

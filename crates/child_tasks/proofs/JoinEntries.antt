@@ -5,33 +5,22 @@ use Rattle.std.specs.Option.{option_flatten}
 use Rattle.std.specs.Prelude.{IfSome, IsSome}
 use Rattle.std.proofs.lemmas.Bool.{cases_eq}
 use Rattle.std.proofs.lemmas.Option.{same_Some}
-use Rattle.listed.proofs.Members.{got_other, got_within}
-use Rattle.listed.specs.RoomyValue.{RoomyValue}
-use Rattle.listed.proofs.Places.{got_some}
-use Rattle.listed.proofs.Options.{none_some}
-use Rattle.run_trace.specs.Entry.{EntryValue}
-use Rattle.chunk_pool.specs.PoolValue.{PoolValue}
-use Rattle.task_frames.specs.FramesValue.{FramesValue}
-use Rattle.heap_tree.specs.declared.state.State.{State}
-use Rattle.heap_tree.specs.declared.state.State.TheVariants.{Ended, Waiting}
-use Rattle.heap_tree.specs.Node.{Node, parent_of as parent_in_tree, state_of as state_in_tree, with_state}
-use Rattle.heap_tree.specs.Pairs.{is_left, sibling}
-use Rattle.heap_tree.proofs.ChangeLemmas.{states_change}
-use Rattle.remembered_set.specs.Sources.{RememberedValue, lifted}
-use Rattle.write_barrier.specs.declared.sets.SetOf.{SetOf}
-use Rattle.write_barrier.specs.Stored.{content_at}
-use Rattle.inner_mark_gc.specs.MarkingValue.{MarkingValue}
-use Rattle.fork_join.specs.declared.sides.EndedChild.{EndedChild}
-use Rattle.fork_join.specs.Joined.{AreRelabelled, HasRoom, HaveEnded, Joins, joined_nodes, with_results}
-use Rattle.task_machine.specs.declared.part.Private.{Private}
-use Rattle.task_homes.specs.declared.task_at_rest.Rest.{Rest}
-use Rattle.task_homes.specs.declared.task_at_rest.Work.TheVariants.{Calls}
-use Rattle.shared_value.specs.SharedValue.{SharedValue, marks_at, rest_at}
-use Rattle.shared_value.specs.Stands.{IsSharedValue}
-use Rattle.shared_value.specs.Fits.{IsAtWork}
-use Rattle.shared_value.proofs.BeforeTheEnd.{stands_now}
-use Rattle.shared_value.proofs.TaskTaken.{HasCalls, parent_is as tree_parent_is, some_calls}
-use Rattle.core_relation.specs.Whole.{as_node}
+use Rattle.own_steps.proofs.below.listed.{got_other, got_within, got_some, none_some}
+use Rattle.own_steps.specs.below.listed.{RoomyValue}
+use Rattle.own_steps.specs.below.run_trace.{EntryValue}
+use Rattle.own_steps.specs.below.chunk_pool.{PoolValue}
+use Rattle.own_steps.specs.below.task_frames.{FramesValue}
+use Rattle.own_steps.specs.below.heap_tree.{State, Ended, Waiting, Node, parent_of as parent_in_tree, state_of as state_in_tree, with_state, is_left, sibling}
+use Rattle.own_steps.proofs.below.heap_tree.{states_change}
+use Rattle.own_steps.specs.below.remembered_set.{RememberedValue, lifted}
+use Rattle.own_steps.specs.below.write_barrier.{SetOf, content_at}
+use Rattle.own_steps.specs.below.inner_mark_gc.{MarkingValue}
+use Rattle.own_steps.specs.below.fork_join.{EndedChild, AreRelabelled, HasRoom, HaveEnded, Joins, joined_nodes, with_results}
+use Rattle.own_steps.specs.below.task_machine.{Private}
+use Rattle.own_steps.specs.below.task_homes.{Rest, Calls}
+use Rattle.own_steps.specs.below.shared_value.{SharedValue, marks_at, rest_at, IsSharedValue, IsAtWork}
+use Rattle.own_steps.proofs.below.shared_value.{stands_now, HasCalls, parent_is as tree_parent_is, some_calls}
+use Rattle.own_steps.specs.below.core_relation.{as_node}
 use Rattle.own_steps.specs.Alone.{alone_entry}
 use Rattle.own_steps.proofs.LastStepEntry as last
 use Rattle.child_tasks.specs.ChildEnds.{EndsChild}

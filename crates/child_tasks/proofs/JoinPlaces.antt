@@ -4,25 +4,16 @@ use Rattle.std.specs.Prelude.{IfSome}
 use Rattle.std.proofs.lemmas.Bool.{cases_eq}
 use Rattle.std.proofs.lemmas.Option.{same_Some}
 use Rattle.std.proofs.Math.Path.{fun_ext}
-use Rattle.listed.proofs.Options.{none_some}
-use Rattle.alloc_path.specs.LeafHeapValue.{LeafHeapValue, with_places}
-use Rattle.chunk_rows.specs.View.{Level}
-use Rattle.heap_tree.specs.Pairs.{sibling}
-use Rattle.write_barrier.specs.declared.sets.SetOf.{SetOf}
-use Rattle.write_barrier.specs.Stored.{content_at, content_of}
-use Rattle.core_relation.specs.Memory.{Belongings, Noted, Memory}
-use Rattle.core_relation.specs.Whole.{StandsForAll}
-use Rattle.core_relation.specs.Worker.{WorkerFits}
-use Rattle.task_machine.specs.declared.part.Private.{Private}
-use Rattle.task_homes.specs.declared.task_at_rest.Rest.{Rest}
-use Rattle.task_homes.specs.declared.task_at_rest.Work.{Work}
-use Rattle.task_homes.specs.declared.task_at_rest.Work.TheVariants.{Calls, Result}
-use Rattle.shared_value.specs.SharedValue.{SharedValue, accounts, marks_at, belongings_by, belongings_in, rest_at, tree_counts_of, value_of}
-use Rattle.shared_value.specs.Measured.{AreMeasured, IsFree}
-use Rattle.shared_value.specs.Stands.{HeapForm, IsSharedValue}
-use Rattle.shared_value.specs.Fits.{Fits, part_of}
-use Rattle.shared_value.proofs.FieldsNoted.{noted_of}
-use Rattle.shared_value.proofs.HeapForms.{places_form}
+use Rattle.own_steps.proofs.below.listed.{none_some}
+use Rattle.own_steps.specs.below.alloc_path.{LeafHeapValue, with_places}
+use Rattle.own_steps.specs.below.chunk_rows.{Level}
+use Rattle.own_steps.specs.below.heap_tree.{sibling}
+use Rattle.own_steps.specs.below.write_barrier.{SetOf, content_at, content_of}
+use Rattle.own_steps.specs.below.core_relation.{Belongings, Noted, Memory, StandsForAll, WorkerFits}
+use Rattle.own_steps.specs.below.task_machine.{Private}
+use Rattle.own_steps.specs.below.task_homes.{Rest, Work, Calls, Result}
+use Rattle.own_steps.specs.below.shared_value.{SharedValue, accounts, marks_at, belongings_by, belongings_in, rest_at, tree_counts_of, value_of, AreMeasured, IsFree, HeapForm, IsSharedValue, Fits, part_of}
+use Rattle.own_steps.proofs.below.shared_value.{noted_of, places_form}
 use Rattle.own_steps.specs.Alone.{alone_entry}
 use Rattle.child_tasks.specs.ChildEnds.{EndsChild}
 use Rattle.child_tasks.specs.Joins.{HasPlaces, IsSameRest, SameButPlaces, chunk_count, sources_at, sources_by}

@@ -1,20 +1,14 @@
 -- Homes that a join takes from and puts into, one after another.
 use Rattle.std.proofs.Common.{◌≡◌, ℕ, ◌<◌, false, Option, Some, None, List, length, length-set, slice_get, slice_set, option_map, ap, sym, subst, ◌∙◌}
 use Rattle.std.specs.Option.{option_flatten}
-use Rattle.listed.proofs.Members.{got_other}
-use Rattle.listed.proofs.Places.{got_set}
-use Rattle.alloc_path.specs.LeafHeapValue.{LeafHeapValue}
-use Rattle.task_frames.specs.FramesValue.{FramesValue}
-use Rattle.write_barrier.specs.declared.sets.SetOf.{SetOf}
-use Rattle.write_barrier.specs.Forms.{bare}
-use Rattle.write_barrier.specs.Stored.{Content, content_at, content_of}
-use Rattle.inner_mark_gc.specs.MarkingValue.{MarkingValue}
-use Rattle.task_machine.specs.declared.part.Private.{Private}
-use Rattle.task_homes.specs.declared.homes.Home.{Home}
-use Rattle.task_homes.specs.declared.task_at_rest.Rest.{Rest}
-use Rattle.task_homes.specs.declared.task_at_rest.Work.TheVariants.{Calls}
-use Rattle.task_homes.specs.HomesValue.{HomesValue}
-use Rattle.shared_value.specs.SharedValue.{marks_at, rest_at}
+use Rattle.own_steps.proofs.below.listed.{got_other, got_set}
+use Rattle.own_steps.specs.below.alloc_path.{LeafHeapValue}
+use Rattle.own_steps.specs.below.task_frames.{FramesValue}
+use Rattle.own_steps.specs.below.write_barrier.{SetOf, bare, Content, content_at, content_of}
+use Rattle.own_steps.specs.below.inner_mark_gc.{MarkingValue}
+use Rattle.own_steps.specs.below.task_machine.{Private}
+use Rattle.own_steps.specs.below.task_homes.{Home, Rest, Calls, HomesValue}
+use Rattle.own_steps.specs.below.shared_value.{marks_at, rest_at}
 use Rattle.child_tasks.specs.Forks.{nothing_noted}
 use Rattle.child_tasks.specs.Joins.{RestsJoin}
 

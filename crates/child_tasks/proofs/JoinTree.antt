@@ -2,23 +2,15 @@
 use Rattle.std.proofs.Common.{◌≡◌, ◌⊎◌, ℕ, ℤ, true, Option, Some, None, List, length, slice_get, option_map, inl, inr, refl, ap, ap₂, sym, ◌∙◌}
 use Rattle.std.proofs.lemmas.Bool.{cases_eq}
 use Rattle.std.proofs.lemmas.Option.{same_Some}
-use Rattle.hh_model.specs.declared.data.Name.{Name}
-use Rattle.hh_model.specs.declared.data.State.{State as MachineState}
-use Rattle.hh_model.specs.declared.data.Status.{Status}
-use Rattle.hh_model.specs.declared.data.Status.TheVariants.{Running, Waiting as WaitingOf, Ended as EndedOf, Joined as JoinedOf}
-use Rattle.hh_model.specs.declared.data.Task.{Task}
-use Rattle.hh_model.specs.Step.{is_over, result_at, result_in}
-use Rattle.alloc_path.specs.LeafHeapValue.{LeafHeapValue, room_of}
-use Rattle.chunk_rows.specs.View.{Level}
-use Rattle.heap_tree.specs.declared.state.State.TheVariants.{Ended, Joined, Ready}
-use Rattle.heap_tree.specs.declared.state.State.{State}
-use Rattle.heap_tree.specs.Node.{Node, with_state}
-use Rattle.fork_join.specs.Joined.{joined_nodes}
-use Rattle.core_relation.specs.RanCounts.{node_then}
-use Rattle.task_homes.specs.declared.task_at_rest.Work.{Work}
-use Rattle.task_homes.specs.declared.task_at_rest.Work.TheVariants.{Calls, Result}
-use Rattle.shared_value.specs.SharedValue.{belongings_by}
-use Rattle.shared_value.proofs.TaskTaken.{made_by, node_by, node_off}
+use Rattle.own_steps.specs.below.hh_model.{Name, State as MachineState, Status, Running, Waiting as WaitingOf, Ended as EndedOf, Joined as JoinedOf, Task, is_over, result_at, result_in}
+use Rattle.own_steps.specs.below.alloc_path.{LeafHeapValue, room_of}
+use Rattle.own_steps.specs.below.chunk_rows.{Level}
+use Rattle.own_steps.specs.below.heap_tree.{Ended, Joined, Ready, State, Node, with_state}
+use Rattle.own_steps.specs.below.fork_join.{joined_nodes}
+use Rattle.own_steps.specs.below.core_relation.{node_then}
+use Rattle.own_steps.specs.below.task_homes.{Work, Calls, Result}
+use Rattle.own_steps.specs.below.shared_value.{belongings_by}
+use Rattle.own_steps.proofs.below.shared_value.{made_by, node_by, node_off}
 
 -- ---- THE TREE
 

@@ -1,27 +1,20 @@
 -- A join: the pool has the chunks of each heap with their units still.
 use Rattle.std.proofs.Common.{◌≡◌, ℕ, ◌+◌, ◌++◌, Option, Some, None, List, option_map, inl, inr, refl, ap, sym, subst, ◌∙◌}
 use Rattle.std.proofs.lemmas.Option.{same_Some}
-use Rattle.listed.proofs.Members.{in_append_cases, in_append_left, in_append_right}
-use Rattle.run_ledger.specs.declared.data.Heap.{Heap}
-use Rattle.run_ledger.specs.declared.data.Ledger.{Ledger}
-use Rattle.object_layout.specs.ChunkValue.{ChunkValue}
-use Rattle.chunk_pool.specs.declared.pool.Slot.{Slot}
-use Rattle.chunk_pool.specs.PoolValue.{PoolValue, slot_at}
-use Rattle.alloc_path.specs.LeafHeapValue.{LeafHeapValue, merged, with_places}
-use Rattle.heap_tree.specs.declared.state.State.TheVariants.{Ended}
-use Rattle.heap_tree.specs.Node.{state_of as state_in_tree}
-use Rattle.fork_join.specs.Joined.{AreRelabelled, with_results}
-use Rattle.ledger_step_laws.specs.Accounts.{Rests, rested}
-use Rattle.core_relation.specs.Memory.{In}
-use Rattle.task_machine.specs.declared.part.Private.{Private}
-use Rattle.task_homes.specs.declared.task_at_rest.Rest.{Rest}
-use Rattle.shared_value.specs.SharedValue.{SharedValue, accounts, rest_at}
-use Rattle.shared_value.specs.Measured.{AreMeasured, IsMeasured, IsFree, KeepsUnits}
-use Rattle.shared_value.specs.Fits.{Fits}
-use Rattle.shared_value.proofs.EntryMade.{task_is_out, tasks_apart, free_at_rest}
-use Rattle.shared_value.proofs.PartFitsMachine as link
-use Rattle.shared_value.proofs.UnitsMeasured.{measured_both, measured_kept, part_kept, relabelled_keeps, relabelled_measured, relabelled_own}
-use Rattle.shared_value.proofs.RootsHeld.{chunk_in}
+use Rattle.own_steps.proofs.below.listed.{in_append_cases, in_append_left, in_append_right}
+use Rattle.own_steps.specs.below.run_ledger.{Heap, Ledger}
+use Rattle.own_steps.specs.below.object_layout.{ChunkValue}
+use Rattle.own_steps.specs.below.chunk_pool.{Slot, PoolValue, slot_at}
+use Rattle.own_steps.specs.below.alloc_path.{LeafHeapValue, merged, with_places}
+use Rattle.own_steps.specs.below.heap_tree.{Ended, state_of as state_in_tree}
+use Rattle.own_steps.specs.below.fork_join.{AreRelabelled, with_results}
+use Rattle.own_steps.specs.below.ledger_step_laws.{Rests, rested}
+use Rattle.own_steps.specs.below.core_relation.{In}
+use Rattle.own_steps.specs.below.task_machine.{Private}
+use Rattle.own_steps.specs.below.task_homes.{Rest}
+use Rattle.own_steps.specs.below.shared_value.{SharedValue, accounts, rest_at, AreMeasured, IsMeasured, IsFree, KeepsUnits, Fits}
+use Rattle.own_steps.proofs.below.shared_value.{task_is_out, tasks_apart, free_at_rest, measured_both, measured_kept, part_kept, relabelled_keeps, relabelled_measured, relabelled_own, chunk_in}
+use Rattle.own_steps.proofs.below.shared_value.PartFitsMachine as link
 use Rattle.child_tasks.specs.Joins.{AreSides, RestsJoin, IsRestOf}
 use Rattle.own_steps.proofs.LastStepEntry as last
 use Rattle.child_tasks.proofs.ChildReturns as steps

@@ -1,26 +1,17 @@
 -- What the code takes and puts for a join, and the shared value that it makes.
 use Rattle.std.proofs.Common.{◌≡◌, ℕ, ◌+◌, ◌<◌, ◌++◌, false, Some, None, [], ◌∷◌, length, slice_get, slice_set, refl, ap, ap₂, sym, subst, ◌∙◌}
 use Rattle.std.specs.Prelude.{IfSome}
-use Rattle.listed.specs.RoomyValue.{RoomyValue}
-use Rattle.run_trace.specs.Entry.{EntryValue}
-use Rattle.chunk_pool.specs.PoolValue.{PoolValue}
-use Rattle.task_frames.specs.FramesValue.{FramesValue}
-use Rattle.heap_tree.specs.declared.state.State.TheVariants.{Ended}
-use Rattle.heap_tree.specs.Node.{parent_of as parent_in_tree, state_of as state_in_tree, with_state}
-use Rattle.heap_tree.specs.Pairs.{is_left, sibling}
-use Rattle.remembered_set.specs.Sources.{RememberedValue}
-use Rattle.write_barrier.specs.declared.sets.SetOf.{SetOf}
-use Rattle.write_barrier.specs.Stored.{content_at, content_of}
-use Rattle.fork_join.specs.declared.sides.EndedChild.{EndedChild}
-use Rattle.fork_join.specs.Joined.{AreRelabelled, Joins, joined_nodes, with_results}
-use Rattle.task_machine.specs.declared.part.Private.{Private}
-use Rattle.task_homes.specs.declared.homes.Home.{Home}
-use Rattle.task_homes.specs.declared.task_at_rest.Rest.{Rest}
-use Rattle.task_homes.specs.declared.task_at_rest.Work.TheVariants.{Calls}
-use Rattle.task_homes.specs.HomesValue.{HomesValue}
-use Rattle.shared_value.specs.SharedValue.{SharedValue, marks_at, rest_at}
-use Rattle.shared_value.specs.Stands.{IsSharedValue}
-use Rattle.shared_value.specs.Fits.{IsAtWork}
+use Rattle.own_steps.specs.below.listed.{RoomyValue}
+use Rattle.own_steps.specs.below.run_trace.{EntryValue}
+use Rattle.own_steps.specs.below.chunk_pool.{PoolValue}
+use Rattle.own_steps.specs.below.task_frames.{FramesValue}
+use Rattle.own_steps.specs.below.heap_tree.{Ended, parent_of as parent_in_tree, state_of as state_in_tree, with_state, is_left, sibling}
+use Rattle.own_steps.specs.below.remembered_set.{RememberedValue}
+use Rattle.own_steps.specs.below.write_barrier.{SetOf, content_at, content_of}
+use Rattle.own_steps.specs.below.fork_join.{EndedChild, AreRelabelled, Joins, joined_nodes, with_results}
+use Rattle.own_steps.specs.below.task_machine.{Private}
+use Rattle.own_steps.specs.below.task_homes.{Home, Rest, Calls, HomesValue}
+use Rattle.own_steps.specs.below.shared_value.{SharedValue, marks_at, rest_at, IsSharedValue, IsAtWork}
 use Rattle.own_steps.specs.Alone.{alone_entry}
 use Rattle.child_tasks.specs.ChildEnds.{EndsChild}
 use Rattle.child_tasks.specs.Joins.{CanJoin, HasPlaces, RestsJoin, IsRestOf, SetsJoin, left_of, other_child, own_child, parent_side, right_of, sources_at}

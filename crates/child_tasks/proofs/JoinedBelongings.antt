@@ -3,45 +3,28 @@ use Rattle.std.proofs.Common.{◌≡◌, ◌⊎◌, ℕ, ℤ, ◌+◌, ◌<◌, 
 use Rattle.std.specs.Prelude.{IsSome}
 use Rattle.std.proofs.lemmas.Bool.{cases_Bool, or_from}
 use Rattle.std.proofs.lemmas.Option.{same_Some}
-use Rattle.listed.proofs.Places.{all_from, in_map}
-use Rattle.hh_model.specs.declared.data.Name.{Name}
-use Rattle.hh_model.specs.declared.data.State.{State}
-use Rattle.hh_model.specs.declared.data.Task.{Task}
-use Rattle.hh_model.specs.Step.{result_at, result_of}
-use Rattle.run_ledger.specs.declared.data.Ledger.{Ledger}
-use Rattle.run_ledger.specs.Heaps.{heap_of}
-use Rattle.object_layout.specs.declared.word.Addr.{Addr}
-use Rattle.object_layout.specs.Chunks.{AreApart, has_chunk}
-use Rattle.object_layout.proofs.Owning.{apart_together, has_append}
-use Rattle.chunk_pool.specs.PoolValue.{slot_at}
-use Rattle.alloc_path.specs.LeafHeapValue.{LeafHeapValue}
-use Rattle.chunk_rows.specs.View.{Level}
-use Rattle.task_frames.specs.FramesValue.{FramesValue}
-use Rattle.heap_tree.specs.declared.state.State.TheVariants.{Ended}
-use Rattle.heap_tree.specs.Node.{state_of as state_in_tree}
-use Rattle.fork_join.specs.Joined.{AreInUse}
-use Rattle.ledger_step_laws.specs.Accounts.{Rests, rested}
-use Rattle.ledger_step_laws.specs.Last.{EndsLast}
-use Rattle.core_relation.specs.Memory.{Chunk, Belongings, In, Memory}
-use Rattle.core_relation.specs.Changes.{HasResult}
-use Rattle.core_relation.specs.Fits.{with_belongings}
-use Rattle.core_relation.specs.Stands.{Stands}
-use Rattle.task_machine.specs.declared.part.Private.{Private}
-use Rattle.task_machine.specs.Accounts.{AreReserved}
-use Rattle.task_homes.specs.declared.task_at_rest.Rest.{Rest}
-use Rattle.task_homes.specs.declared.task_at_rest.Work.{Work}
-use Rattle.task_homes.specs.declared.task_at_rest.Work.TheVariants.{Calls, Result}
-use Rattle.shared_value.specs.Objects.{chunk_of}
-use Rattle.shared_value.specs.SharedValue.{SharedValue, belongings_by, belongings_in, belongings_of, rest_at}
-use Rattle.shared_value.specs.Stands.{HeapForm}
-use Rattle.shared_value.proofs.RootsHeld.{chunk_in}
+use Rattle.own_steps.proofs.below.listed.{all_from, in_map}
+use Rattle.own_steps.specs.below.hh_model.{Name, State, Task, result_at, result_of}
+use Rattle.own_steps.specs.below.run_ledger.{Ledger, heap_of}
+use Rattle.own_steps.specs.below.object_layout.{Addr, AreApart, has_chunk}
+use Rattle.own_steps.proofs.below.object_layout.{apart_together, has_append}
+use Rattle.own_steps.specs.below.chunk_pool.{slot_at}
+use Rattle.own_steps.specs.below.alloc_path.{LeafHeapValue}
+use Rattle.own_steps.specs.below.chunk_rows.{Level}
+use Rattle.own_steps.specs.below.task_frames.{FramesValue}
+use Rattle.own_steps.specs.below.heap_tree.{Ended, state_of as state_in_tree}
+use Rattle.own_steps.specs.below.fork_join.{AreInUse}
+use Rattle.own_steps.specs.below.ledger_step_laws.{Rests, rested, EndsLast}
+use Rattle.own_steps.specs.below.core_relation.{Chunk, Belongings, In, Memory, HasResult, with_belongings, Stands}
+use Rattle.own_steps.specs.below.task_machine.{Private, AreReserved}
+use Rattle.own_steps.specs.below.task_homes.{Rest, Work, Calls, Result}
+use Rattle.own_steps.specs.below.shared_value.{chunk_of, SharedValue, belongings_by, belongings_in, belongings_of, rest_at, HeapForm}
+use Rattle.own_steps.proofs.below.shared_value.{chunk_in, by_chunks, owner_held}
 use Rattle.own_steps.proofs.LastStepEntry as last
 use Rattle.child_tasks.specs.Joins.{AreSides, IsRestOf, part_result, work_result}
 use Rattle.child_tasks.proofs.ChildReturns as steps
 use Rattle.child_tasks.proofs.ChildReturns.{AsksEnd}
 use Rattle.child_tasks.proofs.SetsNoted.{empty_form}
-use Rattle.shared_value.proofs.FieldsLed.{by_chunks}
-use Rattle.shared_value.proofs.UnitsMeasured.{owner_held}
 use Rattle.child_tasks.proofs.JoinBelongings.{in_has}
 use Rattle.child_tasks.proofs.JoinTree.{kept_is}
 use Rattle.child_tasks.proofs.MergedHeapForm.{none_reserved}

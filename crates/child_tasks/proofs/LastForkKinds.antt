@@ -2,18 +2,12 @@
 use Rattle.std.proofs.Common.{◌≡◌, ℕ, true, false, Some, None, slice_get, ap, sym, subst, ◌∙◌}
 use Rattle.std.proofs.lemmas.Bool.{both_ways, false≢true}
 use Rattle.std.proofs.lemmas.Option.{same_Some}
-use Rattle.listed.proofs.Options.{none_some}
-use Rattle.hh_lang.specs.declared.instr.Instr.TheVariants.{Par}
-use Rattle.hh_lang.specs.declared.program.Line.{Line}
-use Rattle.hh_lang.specs.Form.{ProgramText}
-use Rattle.hh_model.specs.declared.data.State.{State}
-use Rattle.hh_model.specs.declared.data.Task.{Task}
-use Rattle.hh_model.specs.Step.{is_over, waits}
-use Rattle.hh_model.proofs.Closed.{waits_is}
-use Rattle.run_ledger.specs.declared.data.Ledger.{Ledger}
-use Rattle.run_ledger.specs.Steps.{is_private}
-use Rattle.ledger_step_laws.specs.Last.{ForksOn, IsOfKind, JustReads, LastKind, Wrote}
-use Rattle.ledger_step_laws.specs.Last.{Private, Reading, Writing, Printing, Forking, Ending, Joining, Finishing, Halting}
+use Rattle.own_steps.proofs.below.listed.{none_some}
+use Rattle.own_steps.specs.below.hh_lang.{Par, Line, ProgramText}
+use Rattle.own_steps.specs.below.hh_model.{State, Task, is_over, waits}
+use Rattle.own_steps.proofs.below.hh_model.{waits_is}
+use Rattle.own_steps.specs.below.run_ledger.{Ledger, is_private}
+use Rattle.own_steps.specs.below.ledger_step_laws.{ForksOn, IsOfKind, JustReads, LastKind, Wrote, Private, Reading, Writing, Printing, Forking, Ending, Joining, Finishing, Halting}
 use Rattle.own_steps.proofs.LastKinds.{forks_not, joined_not}
 
 module _ (p : ProgramText) (m l' : Ledger) (t : ℕ) (x : Task) (line : Line) (shared : is_private p m.machine t ≡ false) (g h : ℕ) (by : line.instr ≡ Par g h) (y : Task) (is : slice_get l'.machine.tasks t ≡ Some y) (wait : waits y.status ≡ true) (goes : l'.machine.end ≡ None) where

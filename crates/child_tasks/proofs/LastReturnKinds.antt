@@ -2,17 +2,11 @@
 use Rattle.std.proofs.Common.{◌≡◌, ℕ, true, false, Some, None, slice_get, ap, sym, subst, ◌∙◌}
 use Rattle.std.proofs.lemmas.Bool.{both_ways, false≢true}
 use Rattle.std.proofs.lemmas.Option.{same_Some}
-use Rattle.listed.proofs.Options.{none_some}
-use Rattle.hh_lang.specs.declared.instr.Instr.TheVariants.{Out, Par, Ret}
-use Rattle.hh_lang.specs.declared.program.Line.{Line}
-use Rattle.hh_lang.specs.Form.{ProgramText}
-use Rattle.hh_model.specs.declared.data.State.{State}
-use Rattle.hh_model.specs.declared.data.Task.{Task}
-use Rattle.hh_model.specs.Step.{is_over}
-use Rattle.run_ledger.specs.declared.data.Ledger.{Ledger}
-use Rattle.run_ledger.specs.Steps.{is_private}
-use Rattle.ledger_step_laws.specs.Last.{EndsFirst, EndsLast, IsOfKind, JustReads, LastKind, Wrote}
-use Rattle.ledger_step_laws.specs.Last.{Private, Reading, Writing, Printing, Forking, Ending, Joining, Finishing, Halting}
+use Rattle.own_steps.proofs.below.listed.{none_some}
+use Rattle.own_steps.specs.below.hh_lang.{Out, Par, Ret, Line, ProgramText}
+use Rattle.own_steps.specs.below.hh_model.{State, Task, is_over}
+use Rattle.own_steps.specs.below.run_ledger.{Ledger, is_private}
+use Rattle.own_steps.specs.below.ledger_step_laws.{EndsFirst, EndsLast, IsOfKind, JustReads, LastKind, Wrote, Private, Reading, Writing, Printing, Forking, Ending, Joining, Finishing, Halting}
 use Rattle.own_steps.proofs.LastKinds.{joined_not}
 
 prints_not : {A : Type 0} {a : ℕ} → Ret ≡ Out a → A

@@ -19,3 +19,4 @@ pub mod JoinEntries
 pub mod JoinTakes
 pub mod JoinUnits
 pub mod JoinValue
+pub mod below

@@ -3,20 +3,14 @@ use Rattle.std.proofs.Common.{◌≡◌, ◌⊎◌, ℕ, ◌+◌, ◌-◌, ◌*�
 use Rattle.std.proofs.lemmas.Bool.{cases_lt}
 use Rattle.std.proofs.lemmas.List.{get_or_append_left, get_or-append-add}
 use Rattle.std.proofs.lemmas.List.Elements.{All-append}
-use Rattle.listed.proofs.Members.{in_append_cases}
-use Rattle.listed.proofs.Places.{in_map, map_in}
-use Rattle.listed.proofs.Options.{none_some}
-use Rattle.object_layout.specs.Chunks.{AreApart, chunk_at, no_chunk}
-use Rattle.object_layout.specs.ChunkValue.{ChunkValue}
-use Rattle.object_layout.specs.Place.{words_in}
-use Rattle.object_layout.specs.Objects.{Located}
-use Rattle.alloc_path.specs.LeafHeapValue.{LeafHeapValue, IsCurrent, IsReserved, IsTidy, counted, merged, with_places}
-use Rattle.fork_join.proofs.Room.{behind}
-use Rattle.core_relation.specs.Memory.{Chunk, In, objects_in}
-use Rattle.core_relation.proofs.objects.Members.{in_chunk, in_objects}
-use Rattle.task_machine.specs.Accounts.{AreReserved, IsLastLarge, IsLastSmall}
-use Rattle.shared_value.specs.Objects.{chunk_of, chunks_of}
-use Rattle.shared_value.specs.Stands.{HeapForm}
+use Rattle.own_steps.proofs.below.listed.{in_append_cases, in_map, map_in, none_some}
+use Rattle.own_steps.specs.below.object_layout.{AreApart, chunk_at, no_chunk, ChunkValue, words_in, Located}
+use Rattle.own_steps.specs.below.alloc_path.{LeafHeapValue, IsCurrent, IsReserved, IsTidy, counted, merged, with_places}
+use Rattle.own_steps.proofs.below.fork_join.{behind}
+use Rattle.own_steps.specs.below.core_relation.{Chunk, In, objects_in}
+use Rattle.own_steps.proofs.below.core_relation.{in_chunk, in_objects}
+use Rattle.own_steps.specs.below.task_machine.{AreReserved, IsLastLarge, IsLastSmall}
+use Rattle.own_steps.specs.below.shared_value.{chunk_of, chunks_of, HeapForm}
 
 -- the content that an object lies in
 pub object_content : (ks : List ChunkValue) (o : Located) → In (objects_in (chunks_of ks)) o → (c : ChunkValue) × In ks c × In (chunk_of c).objects o

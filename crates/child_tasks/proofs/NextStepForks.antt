@@ -2,40 +2,18 @@
 use Rattle.std.proofs.Common.{◌≡◌, ℕ, ◌<◌, ◌≤◌, ◌^◌, ◌&&◌, arith, not, nat_lt, Bool, true, false, Option, Some, None, length, slice_get, option_map, is_some, inl, inr, refl, ap, ap₂, sym, subst, ◌∙◌}
 use Rattle.std.proofs.lemmas.Bool.{cases_eq, cond-false, ltb-true}
 use Rattle.std.proofs.lemmas.Option.{same_Some}
-use Rattle.hh_lang.specs.declared.instr.Instr.{Instr}
-use Rattle.hh_lang.specs.declared.instr.Instr.TheVariants.{Par}
-use Rattle.hh_lang.specs.declared.program.Line.{Line}
-use Rattle.hh_model.specs.declared.data.End.TheVariants.{Trapped}
-use Rattle.hh_model.specs.declared.data.State.{State}
-use Rattle.hh_model.specs.declared.data.Task.{Task}
-use Rattle.hh_model.specs.declared.data.Trap.TheVariants.{Depth}
-use Rattle.hh_model.specs.Effect.{effect}
-use Rattle.hh_model.specs.Step.{depth_limit, ended_by, fetched, follow, forked as forked_machine, parents, setting, step}
-use Rattle.hh_model.specs.Tree.{AreLow}
-use Rattle.run_ledger.specs.Heaps.{heap_of}
-use Rattle.run_ledger.specs.Steps.{is_open, is_private_by, is_private_line}
-use Rattle.run_ledger.proofs.Bounds.{steps_are_bounded}
-use Rattle.journal_laws.proofs.Counted.{journals_are_counted}
-use Rattle.heap_tree.specs.declared.state.State.TheVariants.{Out}
-use Rattle.heap_tree.specs.Node.{Node, depth_of, parent_of as parent_in_tree, state_of as state_in_tree}
-use Rattle.core_relation.specs.Whole.{StandsFor, state_by, as_node}
-use Rattle.task_machine.specs.declared.part.Private.{Private}
-use Rattle.task_machine.specs.Fits.{FitsNow as FitsMachine}
-use Rattle.task_machine.specs.Place.{Places}
-use Rattle.task_machine.proofs.Agreement.{same_line}
-use Rattle.shared_value.specs.declared.next_step.Ending.TheVariants.{Traps}
-use Rattle.shared_value.specs.Entered.{refused}
-use Rattle.shared_value.specs.Fits.{Fits}
-use Rattle.shared_value.specs.Links.{above_of}
-use Rattle.shared_value.specs.Next.{next_line}
-use Rattle.shared_value.specs.Stands.{IsSharedValue}
-use Rattle.shared_value.specs.SharedValue.{SharedValue, accounts, tree_counts_of, value_of}
-use Rattle.shared_value.proofs.PartFitsMachine as link
-use Rattle.shared_value.proofs.BeforeTheEnd.{stands_now, tree_long}
-use Rattle.shared_value.proofs.StepsEntered.{status}
-use Rattle.shared_value.proofs.StepAccounts.{After}
-use Rattle.shared_value.proofs.SameLength.{same_length}
-use Rattle.shared_value.proofs.TaskTaken.{parent_is}
+use Rattle.own_steps.specs.below.hh_lang.{Instr, Par, Line}
+use Rattle.own_steps.specs.below.hh_model.{Trapped, State, Task, Depth, effect, depth_limit, ended_by, fetched, follow, forked as forked_machine, parents, setting, step, AreLow}
+use Rattle.own_steps.specs.below.run_ledger.{heap_of, is_open, is_private_by, is_private_line}
+use Rattle.own_steps.proofs.below.run_ledger.{steps_are_bounded}
+use Rattle.own_steps.proofs.below.journal_laws.{journals_are_counted}
+use Rattle.own_steps.specs.below.heap_tree.{Out, Node, depth_of, parent_of as parent_in_tree, state_of as state_in_tree}
+use Rattle.own_steps.specs.below.core_relation.{StandsFor, state_by, as_node}
+use Rattle.own_steps.specs.below.task_machine.{Private, FitsNow as FitsMachine, Places}
+use Rattle.own_steps.proofs.below.task_machine.{same_line}
+use Rattle.own_steps.specs.below.shared_value.{Traps, refused, Fits, above_of, next_line, IsSharedValue, SharedValue, accounts, tree_counts_of, value_of}
+use Rattle.own_steps.proofs.below.shared_value.PartFitsMachine as link
+use Rattle.own_steps.proofs.below.shared_value.{stands_now, tree_long, status, After, same_length, parent_is}
 use Rattle.own_steps.specs.Alone.{IsShared, Tells, alone_entry, machine_after}
 use Rattle.own_steps.proofs.AloneEntries as own
 use Rattle.own_steps.proofs.AloneEntries.{AsksAlone, runs_on}

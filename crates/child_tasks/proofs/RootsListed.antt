@@ -2,16 +2,13 @@
 use Rattle.std.proofs.Common.{◌≡◌, ◌↔◌, ℕ, Option, Some, None, List, [], ◌∷◌, slice_get, inl, inr, refl, ap, sym, subst, ◌∙◌}
 use Rattle.std.proofs.lemmas.Bool.{cases_eq}
 use Rattle.std.proofs.lemmas.Option.{same_Some}
-use Rattle.listed.proofs.Options.{none_some}
-use Rattle.run_ledger.specs.declared.data.Ledger.{Ledger}
-use Rattle.object_layout.specs.declared.word.Addr.{Addr}
-use Rattle.object_layout.specs.Objects.{Located}
-use Rattle.remembered_set.specs.declared.remembered.Source.{Source}
-use Rattle.ledger_step_laws.specs.Accounts.{Rests, own}
-use Rattle.core_relation.specs.Memory.{In, Memory, objects, sources}
-use Rattle.core_relation.specs.Begins.{AreRoots}
-use Rattle.core_relation.specs.Stands.{IsSource, Stands}
-use Rattle.core_relation.proofs.objects.Members.{lies_in}
+use Rattle.own_steps.proofs.below.listed.{none_some}
+use Rattle.own_steps.specs.below.run_ledger.{Ledger}
+use Rattle.own_steps.specs.below.object_layout.{Addr, Located}
+use Rattle.own_steps.specs.below.remembered_set.{Source}
+use Rattle.own_steps.specs.below.ledger_step_laws.{Rests, own}
+use Rattle.own_steps.specs.below.core_relation.{In, Memory, objects, sources, AreRoots, IsSource, Stands}
+use Rattle.own_steps.proofs.below.core_relation.{lies_in}
 
 -- this remembered field holds the root
 pub record RootBy (v : Memory) (l : Ledger) (t : ℕ) (s : Source) (a : Addr) : Type 0 where

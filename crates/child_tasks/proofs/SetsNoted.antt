@@ -1,11 +1,9 @@
 -- What is noted of a heap by what its set holds, and the form of an empty heap and of one at rest.
 use Rattle.std.proofs.Common.{◌≡◌, true, ℕ, arith, Option, Some, None, List, [], slice_get, option_map, refl}
-use Rattle.write_barrier.specs.declared.sets.SetOf.{SetOf}
-use Rattle.write_barrier.specs.Stored.{Content, content_at}
-use Rattle.task_homes.specs.HomesValue.{keeping}
-use Rattle.shared_value.specs.SharedValue.{noted_in}
-use Rattle.shared_value.specs.Stands.{HeapForm}
-use Rattle.shared_value.proofs.FieldsNoted.{noted_is, noted_of}
+use Rattle.own_steps.specs.below.write_barrier.{SetOf, Content, content_at}
+use Rattle.own_steps.specs.below.task_homes.{keeping}
+use Rattle.own_steps.specs.below.shared_value.{noted_in, HeapForm}
+use Rattle.own_steps.proofs.below.shared_value.{noted_is, noted_of}
 
 -- ---- WHAT IS NOTED, by what a set holds
 

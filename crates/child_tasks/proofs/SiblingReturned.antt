@@ -2,51 +2,31 @@
 use Rattle.std.proofs.Common.{◌≡◌, ◌⊎◌, ℕ, ℤ, suc, ◌+◌, ◌-◌, ◌*◌, ◌≤◌, is_none, arith, Bool, true, false, cond, Option, Some, None, List, map, slice_get, slice_set, inl, inr, refl, ap, sym, subst, ◌∙◌, if◌then◌else◌}
 use Rattle.std.proofs.lemmas.Bool.{cases_eq}
 use Rattle.std.proofs.lemmas.Option.{same_Some}
-use Rattle.listed.proofs.Members.{got_other, got_same}
-use Rattle.hh_model.specs.declared.data.Name.{Name}
-use Rattle.hh_model.specs.declared.data.State.{State}
-use Rattle.hh_model.specs.declared.data.Status.TheVariants.{Waiting as WaitingOf, Ended as EndedOf}
-use Rattle.hh_model.specs.declared.data.Task.{Task}
-use Rattle.hh_model.specs.Step.{child_ended_by, is_joined, is_left, is_running, is_waiting, join_of, joined_task, result_at, or_same, parents, result_of, resumed}
-use Rattle.hh_model.proofs.Closed.{waits_is}
-use Rattle.path_laws.proofs.Leaves.{wait_there}
-use Rattle.run_trace.specs.Entry.{private_limit}
-use Rattle.run_ledger.specs.declared.data.Ledger.{Ledger}
-use Rattle.run_ledger.specs.Heaps.{heap_of, let_go, or_fresh}
-use Rattle.run_ledger.specs.Space.{CountsFew}
-use Rattle.run_ledger.proofs.Bounds.{ran_tells, task_steps_steps}
-use Rattle.journal_laws.proofs.Since.{since_is_few}
-use Rattle.run_ledger.proofs.Machine.{heap_machine}
-use Rattle.alloc_path.specs.LeafHeapValue.{LeafHeapValue}
-use Rattle.chunk_rows.specs.View.{Level}
-use Rattle.heap_tree.specs.declared.state.State.TheVariants.{Ended}
-use Rattle.heap_tree.specs.Node.{state_of as state_in_tree}
-use Rattle.ledger_step_laws.specs.Accounts.{Rests, rested}
-use Rattle.ledger_step_laws.specs.Last.{EndsLast, Joining, Runs}
-use Rattle.ledger_step_laws.proofs.Ahead.{with_off}
-use Rattle.ledger_step_laws.proofs.Rested.{rested_view}
-use Rattle.core_relation.specs.Memory.{Chunk, Belongings, Memory}
-use Rattle.core_relation.specs.Fits.{part_for, with_belongings}
-use Rattle.core_relation.specs.Layout.{reserved_chunks, reserved_units}
-use Rattle.core_relation.specs.Reads.{HoldsRead, TaskIsRead}
-use Rattle.core_relation.specs.Stands.{HasNames, BelongingsStand, Place, Stands}
-use Rattle.core_relation.specs.Worker.{WorkerFits}
-use Rattle.core_relation.proofs.changes.With.{at_belongings, off_belongings}
-use Rattle.task_machine.specs.declared.part.Private.{Private}
-use Rattle.task_machine.specs.Accounts.{IsCounted}
-use Rattle.task_homes.specs.declared.task_at_rest.Work.{Work}
-use Rattle.task_homes.specs.declared.task_at_rest.Work.TheVariants.{Calls}
-use Rattle.shared_value.specs.SharedValue.{SharedValue, belongings_by, rest_at}
-use Rattle.shared_value.specs.Stands.{HeapForm}
-use Rattle.shared_value.proofs.HeapCounts.{counted_from}
-use Rattle.shared_value.proofs.PartFitsMachine as link
-use Rattle.shared_value.proofs.TaskTaken.{HasCalls, has_calls}
+use Rattle.own_steps.proofs.below.listed.{got_other, got_same}
+use Rattle.own_steps.specs.below.hh_model.{Name, State, Waiting as WaitingOf, Ended as EndedOf, Task, child_ended_by, is_joined, is_left, is_running, is_waiting, join_of, joined_task, result_at, or_same, parents, result_of, resumed}
+use Rattle.own_steps.proofs.below.hh_model.{waits_is}
+use Rattle.own_steps.proofs.below.path_laws.{wait_there}
+use Rattle.own_steps.specs.below.run_trace.{private_limit}
+use Rattle.own_steps.specs.below.run_ledger.{Ledger, heap_of, let_go, or_fresh, CountsFew}
+use Rattle.own_steps.proofs.below.run_ledger.{ran_tells, task_steps_steps, heap_machine}
+use Rattle.own_steps.proofs.below.journal_laws.{since_is_few}
+use Rattle.own_steps.specs.below.alloc_path.{LeafHeapValue}
+use Rattle.own_steps.specs.below.chunk_rows.{Level}
+use Rattle.own_steps.specs.below.heap_tree.{Ended, state_of as state_in_tree}
+use Rattle.own_steps.specs.below.ledger_step_laws.{Rests, rested, EndsLast, Joining, Runs}
+use Rattle.own_steps.proofs.below.ledger_step_laws.{with_off, rested_view}
+use Rattle.own_steps.specs.below.core_relation.{Chunk, Belongings, Memory, part_for, with_belongings, reserved_chunks, reserved_units, HoldsRead, TaskIsRead, HasNames, BelongingsStand, Place, Stands, WorkerFits}
+use Rattle.own_steps.proofs.below.core_relation.{at_belongings, off_belongings}
+use Rattle.own_steps.specs.below.task_machine.{Private, IsCounted}
+use Rattle.own_steps.specs.below.task_homes.{Work, Calls}
+use Rattle.own_steps.specs.below.shared_value.{SharedValue, belongings_by, rest_at, HeapForm}
+use Rattle.own_steps.proofs.below.shared_value.{counted_from, HasCalls, has_calls, by_chunks}
+use Rattle.own_steps.proofs.below.shared_value.PartFitsMachine as link
 use Rattle.own_steps.proofs.LastStepEntry as last
 use Rattle.own_steps.proofs.LastStepEntry.{AsksLast}
 use Rattle.child_tasks.specs.ChildEnds.{running_parent, where_running}
 use Rattle.child_tasks.proofs.ChildReturns as steps
 use Rattle.child_tasks.proofs.ChildReturns.{AsksEnd}
-use Rattle.shared_value.proofs.FieldsLed.{by_chunks}
 use Rattle.child_tasks.proofs.JoinBelongings.{by_since}
 use Rattle.child_tasks.proofs.JoinTree.{IsOver, by_room, kept_is}
 use Rattle.child_tasks.proofs.LastReturnKinds.{joins}

@@ -2,17 +2,14 @@
 use Rattle.std.proofs.Common.{◌≡◌, ℕ, ◌+◌, ◌-◌, ◌%◌, ◌<◌, arith, Bool, true, false, Option, Some, None, length, option_map, inl, inr, refl, ap, sym, ◌∙◌, eq-eqb}
 use Rattle.std.proofs.lemmas.Bool.{cond-false, cond-true, eqb-false}
 use Rattle.std.proofs.lemmas.Option.{same_Some}
-use Rattle.listed.proofs.Options.{none_some}
-use Rattle.hh_model.specs.declared.data.Status.TheVariants.{Waiting as WaitingOf}
-use Rattle.hh_model.specs.declared.data.Task.{Task}
-use Rattle.heap_tree.specs.declared.state.State.TheVariants.{Waiting}
-use Rattle.heap_tree.specs.Node.{Node}
-use Rattle.heap_tree.specs.Pairs.{is_left, sibling}
-use Rattle.remembered_set.specs.Sources.{RememberedValue}
-use Rattle.fork_join.specs.declared.sides.EndedChild.{EndedChild}
-use Rattle.task_machine.specs.declared.part.Private.{Private}
-use Rattle.task_homes.specs.declared.task_at_rest.Rest.{Rest}
-use Rattle.core_relation.specs.Whole.{as_node}
+use Rattle.own_steps.proofs.below.listed.{none_some}
+use Rattle.own_steps.specs.below.hh_model.{Waiting as WaitingOf, Task}
+use Rattle.own_steps.specs.below.heap_tree.{Waiting, Node, is_left, sibling}
+use Rattle.own_steps.specs.below.remembered_set.{RememberedValue}
+use Rattle.own_steps.specs.below.fork_join.{EndedChild}
+use Rattle.own_steps.specs.below.task_machine.{Private}
+use Rattle.own_steps.specs.below.task_homes.{Rest}
+use Rattle.own_steps.specs.below.core_relation.{as_node}
 use Rattle.child_tasks.specs.Joins.{AreSides, IsRestOf, chunk_count, left_of, other_child, own_child, right_of}
 
 -- ---- A TASK THAT WAITS, in the tree

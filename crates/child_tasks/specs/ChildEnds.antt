@@ -1,17 +1,11 @@
 -- An entry of a part's fresh steps and the last return of a task that another one forked.
 use Rattle.std.specs.Prelude.{◌≡◌, ◌≤◌, ℕ, ◌&&◌, Bool, true, false, Option, Some, None, List, is_some, slice_get, if◌then◌else◌}
-use Rattle.hh_lang.specs.declared.instr.Instr.{Instr}
-use Rattle.hh_lang.specs.declared.instr.Instr.TheVariants.{Ret}
-use Rattle.hh_lang.specs.declared.program.Line.{Line}
-use Rattle.hh_lang.specs.Form.{ProgramText}
-use Rattle.hh_model.specs.declared.data.Task.{Task}
-use Rattle.hh_model.specs.Step.{fetched, is_running, parents}
-use Rattle.run_trace.specs.Entry.{private_limit}
-use Rattle.run_ledger.specs.Steps.{has_no_caller}
-use Rattle.task_machine.specs.declared.part.Private.{Private}
-use Rattle.shared_value.specs.SharedValue.{SharedValue, accounts}
-use Rattle.shared_value.specs.Fits.{OthersFit}
-use Rattle.shared_value.specs.Entered.{Enters}
+use Rattle.own_steps.specs.below.hh_lang.{Instr, Ret, Line, ProgramText}
+use Rattle.own_steps.specs.below.hh_model.{Task, fetched, is_running, parents}
+use Rattle.own_steps.specs.below.run_trace.{private_limit}
+use Rattle.own_steps.specs.below.run_ledger.{has_no_caller}
+use Rattle.own_steps.specs.below.task_machine.{Private}
+use Rattle.own_steps.specs.below.shared_value.{SharedValue, accounts, OthersFit, Enters}
 use Rattle.own_steps.specs.Alone.{alone_entry, machine_after}
 
 -- ---- WHEN IT COMES

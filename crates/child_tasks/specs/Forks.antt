@@ -1,26 +1,17 @@
 -- An entry of a part's fresh steps and a fork.
 use Rattle.std.specs.Prelude.{◌≡◌, ◌≢◌, ◌≤◌, ℕ, ◌+◌, Bool, true, false, Option, Some, None, List, [], length, option_map, slice_get}
-use Rattle.hh_lang.specs.declared.instr.Instr.TheVariants.{Par}
-use Rattle.hh_lang.specs.declared.program.Line.{Line}
-use Rattle.hh_lang.specs.Form.{ProgramText}
-use Rattle.hh_model.specs.declared.data.Task.{Task}
-use Rattle.hh_model.specs.Step.{fetched}
-use Rattle.run_trace.specs.Entry.{private_limit}
-use Rattle.run_ledger.specs.Steps.{task_steps}
-use Rattle.chunk_rows.specs.View.{view_below}
-use Rattle.task_frames.specs.FramesValue.{with_next}
-use Rattle.write_barrier.specs.declared.sets.SetOf.{SetOf}
-use Rattle.write_barrier.specs.Stored.{Content, content_at}
-use Rattle.fork_join.specs.declared.forks.Child.{Child}
-use Rattle.fork_join.specs.Forked.{new_child}
-use Rattle.task_machine.specs.declared.part.Private.{Private}
-pub use Rattle.task_machine.specs.Run.{is_fork, is_par}
-use Rattle.task_homes.specs.HomesValue.{keeping}
-use Rattle.task_homes.specs.declared.task_at_rest.Rest.{Rest}
-use Rattle.task_homes.specs.declared.task_at_rest.Work.TheVariants.{Calls}
-use Rattle.shared_value.specs.SharedValue.{SharedValue, accounts, rest_at}
-use Rattle.shared_value.specs.Fits.{OthersFit}
-use Rattle.shared_value.specs.Entered.{Enters}
+use Rattle.own_steps.specs.below.hh_lang.{Par, Line, ProgramText}
+use Rattle.own_steps.specs.below.hh_model.{Task, fetched}
+use Rattle.own_steps.specs.below.run_trace.{private_limit}
+use Rattle.own_steps.specs.below.run_ledger.{task_steps}
+use Rattle.own_steps.specs.below.chunk_rows.{view_below}
+use Rattle.own_steps.specs.below.task_frames.{with_next}
+use Rattle.own_steps.specs.below.write_barrier.{SetOf, Content, content_at}
+use Rattle.own_steps.specs.below.fork_join.{Child, new_child}
+use Rattle.own_steps.specs.below.task_machine.{Private}
+pub use Rattle.own_steps.specs.below.task_machine.{is_fork, is_par}
+use Rattle.own_steps.specs.below.task_homes.{keeping, Rest, Calls}
+use Rattle.own_steps.specs.below.shared_value.{SharedValue, accounts, rest_at, OthersFit, Enters}
 use Rattle.own_steps.specs.Alone.{HaltsAlone, alone_entry, machine_after}
 use Rattle.child_tasks.specs.declared.fork.Forking.{Forking}
 use Rattle.child_tasks.specs.declared.fork.Forking.TheVariants.{Forked, Over}

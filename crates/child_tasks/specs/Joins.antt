@@ -1,28 +1,17 @@
 -- What a join leaves of homes and sets.
 use Rattle.std.specs.Prelude.{◌≡◌, ◌≢◌, ◌⊎◌, ℕ, ℤ, pos, ◌+◌, ◌≤◌, Bool, false, if◌then◌else◌, Option, Some, None, List, [], IfSome, length, slice_get}
-use Rattle.object_layout.specs.declared.word.Addr.{Addr}
-use Rattle.object_layout.specs.ChunkValue.{ChunkValue}
-use Rattle.chunk_pool.specs.PoolValue.{PoolValue}
-use Rattle.alloc_path.specs.LeafHeapValue.{AreApart, LeafHeapValue, merged}
-use Rattle.task_frames.specs.FramesValue.{FramesValue, int_of, ref_of}
-use Rattle.heap_tree.specs.Pairs.{sibling}
-use Rattle.heap_tree.specs.Node.{Node}
-use Rattle.remembered_set.specs.declared.remembered.Source.{Source}
-use Rattle.remembered_set.specs.Sources.{RememberedValue, lifted}
-use Rattle.write_barrier.specs.declared.sets.SetOf.{SetOf}
-use Rattle.write_barrier.specs.Stored.{Content, content_at}
-use Rattle.fork_join.specs.Forked.{no_heap}
-use Rattle.fork_join.specs.declared.sides.EndedChild.{EndedChild}
-use Rattle.fork_join.specs.declared.sides.Side.{Side}
-use Rattle.fork_join.specs.Joined.{AreInUse, HasRoom, HaveEnded}
-use Rattle.task_machine.specs.declared.part.Private.{Private}
-pub use Rattle.task_homes.specs.HomesValue.{IsSameRest}
-use Rattle.task_homes.specs.declared.task_at_rest.Rest.{Rest}
-use Rattle.task_homes.specs.declared.task_at_rest.Work.{Work}
-use Rattle.task_homes.specs.declared.task_at_rest.Work.TheVariants.{Calls, Result}
-use Rattle.shared_value.specs.declared.answer.NotEntered.{NotEntered}
-use Rattle.shared_value.specs.declared.answer.NotEntered.TheVariants.{NoMemory, Refuses}
-use Rattle.shared_value.specs.SharedValue.{SharedValue, rest_at}
+use Rattle.own_steps.specs.below.object_layout.{Addr, ChunkValue}
+use Rattle.own_steps.specs.below.chunk_pool.{PoolValue}
+use Rattle.own_steps.specs.below.alloc_path.{AreApart, LeafHeapValue, merged}
+use Rattle.own_steps.specs.below.task_frames.{FramesValue, int_of, ref_of}
+use Rattle.own_steps.specs.below.heap_tree.{sibling, Node}
+use Rattle.own_steps.specs.below.remembered_set.{Source, RememberedValue, lifted}
+use Rattle.own_steps.specs.below.write_barrier.{SetOf, Content, content_at}
+use Rattle.own_steps.specs.below.fork_join.{no_heap, EndedChild, Side, AreInUse, HasRoom, HaveEnded}
+use Rattle.own_steps.specs.below.task_machine.{Private}
+pub use Rattle.own_steps.specs.below.task_homes.{IsSameRest}
+use Rattle.own_steps.specs.below.task_homes.{Rest, Work, Calls, Result}
+use Rattle.own_steps.specs.below.shared_value.{NotEntered, NoMemory, Refuses, SharedValue, rest_at}
 use Rattle.child_tasks.specs.Forks.{nothing_noted}
 
 -- the result of a task that has ended

@@ -2,3 +2,4 @@ pub mod Forks
 pub mod ChildEnds
 pub mod Joins
 pub mod NoTask
+pub mod below

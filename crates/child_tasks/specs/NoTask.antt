@@ -1,8 +1,8 @@
 -- Who holds nothing once a task has forked or ended.
 use Rattle.std.specs.Prelude.{◌≡◌, ◌≢◌, ℕ, Option, Some, None, List, slice_set}
-use Rattle.run_ledger.specs.Heaps.{heap_of}
-use Rattle.core_relation.specs.Whole.{handed}
-use Rattle.shared_value.specs.SharedValue.{SharedValue, accounts}
+use Rattle.own_steps.specs.below.run_ledger.{heap_of}
+use Rattle.own_steps.specs.below.core_relation.{handed}
+use Rattle.own_steps.specs.below.shared_value.{SharedValue, accounts}
 use Rattle.child_tasks.specs.declared.fork.Forking.{Forking}
 use Rattle.child_tasks.specs.declared.fork.Forking.TheVariants.{Forked, Over}
 

@@ -1,17 +1,12 @@
 // What belongs to the root before the first entry.
 
 ghost use Rattle.std.specs.Prelude.{◌≡◌, ◌∷◌, [], IfOk, None, Some, false, replicate};
-ghost use Rattle.write_barrier.specs.Forms.{bare};
-ghost use Rattle.shared_value.specs.SharedValue.{first_rest};
-ghost use Rattle.task_homes.specs.declared.task_at_rest.Rest.{Rest as RestOf};
+ghost use Rattle.own_steps.specs.below.write_barrier.{bare};
+ghost use Rattle.own_steps.specs.below.shared_value.{first_rest};
+ghost use Rattle.own_steps.specs.below.task_homes.{Rest as RestOf};
 
-use alloc_path::{LeafHeap, View};
-use hh_lang::Program;
-use listed::Listed;
-use object_layout::Addr;
+use own_steps::{Addr, Frames, Homes, LeafHeap, Listed, Program, Rest, View, Work};
 use std::alloc::{AllocError, Global};
-use task_frames::Frames;
-use task_homes::{Homes, Rest, Work};
 
 const NIL: Option<Addr> = None;
 

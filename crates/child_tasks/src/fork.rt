@@ -1,18 +1,15 @@
 // What a fork makes of the tree and the homes.
 
 ghost use Rattle.std.specs.Prelude.{◌≡◌, ◌<◌, ◌≤◌, ◌+◌, ◌^◌, ◌++◌, ◌∷◌, [], OnErr, OnOk, IfOk, None, Some, true, length, slice_get, slice_set};
-ghost use Rattle.hh_model.specs.Step.{depth_limit};
-ghost use Rattle.heap_tree.specs.Node.{depth_of, forked, state_of};
-ghost use Rattle.task_homes.specs.HomesValue.{marks_at};
+ghost use Rattle.own_steps.specs.below.hh_model.{depth_limit};
+ghost use Rattle.own_steps.specs.below.heap_tree.{depth_of, forked, state_of};
+ghost use Rattle.own_steps.specs.below.task_homes.{marks_at};
 ghost use Rattle.child_tasks.specs.Forks.{begun_rest, part_child, waiting_rest, SetsFork};
 
-use fork_join::{Child, fork};
-use heap_tree::{State, Tree};
-use inner_mark_gc::Marking;
-use out_of_line::Apart;
+use own_steps::{
+    Apart, Child, Home, Homes, Marking, Private, Rest, State, Tree, Work, fork, home_block,
+};
 use std::alloc::{AllocError, Global};
-use task_homes::{Home, Homes, Rest, Work, home_block};
-use task_machine::Private;
 
 /// What a part comes to whose next step is a fork.
 #[derive(Drop)]

@@ -1,25 +1,20 @@
 // What a join takes out of the shared value, and the places that it needs.
 
 ghost use Rattle.std.specs.Prelude.{◌≡◌, ◌<◌, ◌+◌, ◌^◌, ◌↔◌, IsSome, IsTrue, OnOk, IfOk, None, Some, ◌≢◌, ◌≤◌, ◌++◌, ℕ, IfSome, [], false, length, slice_get};
-ghost use Rattle.task_frames.specs.FramesValue.{FramesValue};
-ghost use Rattle.heap_tree.specs.Pairs.{sibling, is_left};
-ghost use Rattle.remembered_set.specs.Sources.{notes_in};
-ghost use Rattle.write_barrier.specs.Stored.{content_at};
-ghost use Rattle.fork_join.specs.Joined.{joined_nodes, with_results, AreRelabelled, Joins};
-ghost use Rattle.task_homes.specs.declared.task_at_rest.Rest.{Rest as RestOf};
-ghost use Rattle.shared_value.specs.Fits.{IsAtWork};
-ghost use Rattle.shared_value.specs.SharedValue.{rest_at};
+ghost use Rattle.own_steps.specs.below.task_frames.{FramesValue};
+ghost use Rattle.own_steps.specs.below.heap_tree.{sibling, is_left};
+ghost use Rattle.own_steps.specs.below.remembered_set.{notes_in};
+ghost use Rattle.own_steps.specs.below.write_barrier.{content_at};
+ghost use Rattle.own_steps.specs.below.fork_join.{joined_nodes, with_results, AreRelabelled, Joins};
+ghost use Rattle.own_steps.specs.below.task_homes.{Rest as RestOf};
+ghost use Rattle.own_steps.specs.below.shared_value.{IsAtWork, rest_at};
 ghost use Rattle.child_tasks.specs.Joins.{chunk_count, left_of, other_child, own_child, parent_side, right_of, sources_at, work_result, CanJoin, IsRestOf, IsSameRest};
 
-use alloc_path::{LeafHeap, View};
-use chunk_pool::Pool;
-use fork_join::{EndedChild, Side, join, places, sibling_of};
-use heap_tree::{State, Tree};
-use object_layout::Addr;
-use remembered_set::Remembered;
+use own_steps::{
+    Addr, EndedChild, Home, Homes, LeafHeap, Pool, Private, Remembered, Rest, Side, State, Tree,
+    View, Work, join, places, sibling_of,
+};
 use std::alloc::{AllocError, Global};
-use task_homes::{Home, Homes, Rest, Work};
-use task_machine::Private;
 
 /// Whether a task that is at this has ended, and hasn't joined.
 pub fn is_ended(state: Option<State>) -> bool

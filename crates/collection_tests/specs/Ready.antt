@@ -1,9 +1,8 @@
 -- What is checked before a collection.
 use Rattle.std.specs.Prelude.{ℕ, ◌≤◌, List, Option, All}
-use Rattle.object_layout.specs.declared.word.Addr.{Addr}
-use Rattle.object_layout.specs.Chunks.{object_of}
-use Rattle.alloc_path.specs.LeafHeapValue.{LeafHeapValue, IsFresh}
-use Rattle.task_frames.specs.FramesValue.{FramesValue}
+use Rattle.memory_scenes.specs.below.object_layout.{Addr, object_of}
+use Rattle.memory_scenes.specs.below.alloc_path.{LeafHeapValue, IsFresh}
+use Rattle.memory_scenes.specs.below.task_frames.{FramesValue}
 use Rattle.leaf_copy_gc.specs.Survivors.{IsClosed, IsSound, outside}
 use Rattle.leaf_copy_gc.specs.Laid.{small_words}
 

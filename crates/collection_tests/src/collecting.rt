@@ -3,13 +3,13 @@
 ghost use Rattle.std.specs.Prelude.{IsTrue};
 ghost use Rattle.collection_tests.specs.Ready.{IsReady};
 
-use alloc_path::LeafHeap;
 use leaf_copy_gc::{Moved, ToChunks, copy};
-use memory_scenes::{is_fit_heap, is_fresh, outside_is_sound, small_in_all};
-use object_layout::{Addr, CHUNK_WORDS, Chunk};
+use memory_scenes::{
+    Addr, CHUNK_WORDS, Chunk, Frames, LeafHeap, is_fit_heap, is_fresh, outside_is_sound,
+    small_in_all,
+};
 use outside_io::EmptyGate;
 use std::alloc::Global;
-use task_frames::Frames;
 
 // Whether the heap, the frames and the roots are as a collection into one new chunk of this number asks.
 fn is_ready(heap: &LeafHeap, frames: &Frames, roots: &[Addr], number: u32) -> bool

@@ -1,12 +1,9 @@
 // Collections of whole heaps.
 
 use crate::collecting::collect;
-use alloc_path::LeafHeap;
 use leaf_copy_gc::Moved;
-use memory_scenes::{Put, Seen, Spot, at_spot, heap_of, holds, one_frame};
-use object_layout::Addr;
+use memory_scenes::{Addr, Frames, LeafHeap, Put, Seen, Spot, at_spot, heap_of, holds, one_frame};
 use std::alloc::Global;
-use task_frames::Frames;
 
 // A heap, what refers to its objects, and what a collection into the chunk 20 makes of them.
 struct Case {

@@ -1,14 +1,12 @@
 // Families: a root and its descendants, of which the right child of each fork may fork again.
 
-use alloc_path::LeafHeap;
-use chunk_pool::Pool;
 use fork_join::{Child, EndedChild, Side};
 use heap_tree::{State, Tree};
-use memory_scenes::{add_taken, at, ended, forked, joined, owner, place};
-use object_layout::{Addr, Chunk};
+use memory_scenes::{
+    Addr, Chunk, Frames, LeafHeap, Pool, add_taken, at, ended, forked, joined, owner, place,
+};
 use remembered_set::{Remembered, Source};
 use std::alloc::Global;
-use task_frames::Frames;
 
 /// What a child hands back.
 pub type Outcome = (i64, Option<Addr>);

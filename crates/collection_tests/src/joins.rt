@@ -1,13 +1,10 @@
 // Forks and joins: what children begin with, in which order they end, and what their parent takes over.
 
 use crate::families::{Family, Field, Outcome};
-use alloc_path::LeafHeap;
 use fork_join::Child;
 use heap_tree::{State, Tree};
-use memory_scenes::{ended, forked, has_forked, one_frame};
-use object_layout::Addr;
+use memory_scenes::{Addr, Frames, LeafHeap, ended, forked, has_forked, one_frame};
 use std::alloc::Global;
-use task_frames::Frames;
 
 const LEFT: Option<Addr> = Some(Addr {
     chunk: 1,

@@ -5,9 +5,7 @@ ghost use Rattle.remembered_set.specs.Moved.{AreFields};
 ghost use Rattle.collection_tests.specs.Ready.{fields_of};
 
 use crate::families::{Field, are_sources, note_all};
-use alloc_path::LeafHeap;
-use memory_scenes::{Put, Seen, at, heap_of, holds, is_live};
-use object_layout::{Addr, CHUNK_WORDS, Chunk};
+use memory_scenes::{Addr, CHUNK_WORDS, Chunk, LeafHeap, Put, Seen, at, heap_of, holds, is_live};
 use remembered_set::{Remembered, Source};
 use std::alloc::Global;
 

@@ -1,11 +1,10 @@
 // Markings and sweeps of whole heaps.
 
 use crate::collecting::collect;
-use alloc_path::LeafHeap;
 use memory_scenes::{
-    Put, Seen, Spot, at, at_spot, heap_of, holds, mark_and_sweep, mark_and_sweep_twice, one_frame,
+    Addr, LeafHeap, Put, Seen, Spot, at, at_spot, heap_of, holds, mark_and_sweep,
+    mark_and_sweep_twice, one_frame,
 };
-use object_layout::Addr;
 use std::alloc::Global;
 
 // A heap, and what a marking from a root and an overwritten reference, so many objects at a time, and a sweep make of

@@ -1,21 +1,11 @@
 -- `replay` and `model` write the same.
 use Rattle.std.proofs.Common.{◌≡◌, ◌∙◌, ℕ, List, [], ◌∷◌, ap, ap₂, sym, subst}
 use Rattle.std.specs.Prelude.{Option, Some, None, unwrap_or}
-use Rattle.text_lines.specs.Lines.{lines_of}
-use Rattle.hh_lang.specs.Form.{ProgramText}
-use Rattle.run_trace.specs.Entry.{EntryValue}
-use Rattle.run_trace.specs.Settings.{SettingsValue}
-use Rattle.run_trace.specs.Trace.{AreTraceLines}
-use Rattle.run_trace.specs.declared.settings.Version.{Version}
-use Rattle.run_trace.specs.declared.trace.Trace.{Trace}
-use Rattle.trace_input.specs.declared.input.InputFault.{InputFault}
-use Rattle.trace_input.specs.declared.input.TraceInput.{TraceInput}
-use Rattle.trace_input.specs.Cut.{trace_lines}
-use Rattle.trace_input.specs.Input.{IsInput, input_fault, settings_for}
-use Rattle.run_ledger.specs.declared.data.RefusedAt.{RefusedAt}
-use Rattle.run_ledger.specs.declared.data.RunEnd.{RunEnd}
-use Rattle.run_ledger.specs.Journals.{end_of, refused_as_run}
-use Rattle.run_ledger.specs.Text.{out_text}
+use Rattle.made_program_laws.specs.below.text_lines.{lines_of}
+use Rattle.made_program_laws.specs.below.hh_lang.{ProgramText}
+use Rattle.made_program_laws.specs.below.run_trace.{EntryValue, SettingsValue, AreTraceLines, Version, Trace}
+use Rattle.round_trip_laws.specs.below.trace_input.{InputFault, TraceInput, trace_lines, IsInput, input_fault, settings_for}
+use Rattle.race_report.specs.below.run_ledger.{RefusedAt, RunEnd, end_of, refused_as_run, out_text}
 use Rattle.command_line.specs.declared.line.Options.{Options}
 use Rattle.command_answers.specs.declared.answer.Status.{Status}
 use Rattle.command_answers.specs.declared.answer.Answer.{Answer}

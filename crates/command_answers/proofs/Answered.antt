@@ -1,23 +1,15 @@
 -- Every answer has a status that is written.
 use Rattle.std.proofs.Common.{◌∙◌, ◌≡◌, ℕ, List, [], ◌∷◌, Bool, true, false, sym, subst, inl, inr}
 use Rattle.std.specs.Prelude.{Option, Some, None, Result, Ok, Err}
-use Rattle.hh_lang.specs.Form.{ProgramText}
-use Rattle.program_reader.specs.declared.cause.Refused.{Refused}
-use Rattle.hh_model.specs.declared.data.End.{End}
-use Rattle.hh_model.specs.declared.data.End.TheVariants.{Done, Trapped, Entangled}
-use Rattle.run_trace.specs.Entry.{EntryValue}
-use Rattle.run_trace.specs.Settings.{SettingsValue}
-use Rattle.trace_input.specs.declared.input.InputFault.{InputFault}
-use Rattle.trace_input.specs.declared.input.TraceInput.{TraceInput}
-use Rattle.trace_input.specs.Input.{input_fault, settings_for}
-use Rattle.run_ledger.specs.declared.data.RunEnd.{RunEnd}
-use Rattle.run_ledger.specs.declared.data.RunEnd.TheVariants.{Machine, Fuel, Pool}
-use Rattle.run_ledger.specs.declared.data.RefusedAt.{RefusedAt}
-use Rattle.run_ledger.specs.Journals.{refused_as_run}
-use Rattle.run_report.specs.declared.whole.Extras.{Extras}
+use Rattle.made_program_laws.specs.below.hh_lang.{ProgramText}
+use Rattle.made_program_laws.specs.below.program_reader.{Refused}
+use Rattle.race_report.specs.below.hh_model.{End, Done, Trapped, Entangled}
+use Rattle.made_program_laws.specs.below.run_trace.{EntryValue, SettingsValue}
+use Rattle.round_trip_laws.specs.below.trace_input.{InputFault, TraceInput, input_fault, settings_for}
+use Rattle.race_report.specs.below.run_ledger.{RunEnd, Machine, Fuel, Pool, RefusedAt, refused_as_run}
+use Rattle.refusal_lines.specs.below.run_report.{Extras}
 use Rattle.race_report.specs.declared.data.Race.{Race}
-use Rattle.image_check.specs.declared.cause.Fault.{Fault}
-use Rattle.image_check.specs.Fault.{image_fault, objects_in}
+use Rattle.shared_image.specs.below.image_check.{Fault, image_fault, objects_in}
 use Rattle.refusal_lines.specs.declared.refusal.Refusal.{Refusal}
 use Rattle.refusal_lines.specs.declared.refusal.Refusal.TheVariants.{Words, Source, Line, Entry, Image as ImageRefused}
 use Rattle.refusal_lines.specs.Refusals.{refusal_of}

@@ -1,9 +1,9 @@
 -- An answer that was delivered is what the call answers.
 use Rattle.std.proofs.Common.{◌⊎◌, ◌≡◌, ◌≤◌, ◌+◌, ℕ, List, [], length, refl, sym, subst, inl, inr, arith}
 use Rattle.std.specs.Prelude.{Option, Some, Result, Ok, Err, IfOk, IfErr}
-use Rattle.outside_io.specs.Told.{with_more}
-use Rattle.run_trace.specs.Entry.{EntryValue}
-use Rattle.shared_value.specs.SharedValue.{SharedValue}
+use Rattle.all_bytes.specs.below.outside_io.{with_more}
+use Rattle.made_program_laws.specs.below.run_trace.{EntryValue}
+use Rattle.world_core.specs.below.shared_value.{SharedValue}
 use Rattle.command_answers.specs.declared.answer.Status.{Status}
 use Rattle.command_answers.specs.declared.answer.Status.TheVariants.{Done, Words, Source, Trap, Entangled, Fuel, Pool, ReadFault, WriteFault, NoMemory, Trace, Races, Image}
 use Rattle.command_answers.specs.declared.answer.Answer.{Answer}

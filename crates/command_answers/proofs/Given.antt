@@ -1,19 +1,12 @@
 -- What a command gives where no fault rose.
 use Rattle.std.proofs.Common.{◌≡◌, ◌∙◌, ◌⊎◌, ℕ, List, Bool, true, false, subst, sym, inl, inr, refl}
 use Rattle.std.specs.Prelude.{Option, Some, None, Result}
-use Rattle.hh_lang.specs.Form.{ProgramText}
-use Rattle.program_reader.specs.declared.cause.Refused.{Refused}
-use Rattle.run_trace.specs.Entry.{EntryValue}
-use Rattle.run_trace.specs.Settings.{SettingsValue}
-use Rattle.trace_input.specs.declared.input.InputFault.{InputFault}
-use Rattle.trace_input.specs.declared.input.InputFault.TheVariants.{Source, BadLine}
-use Rattle.trace_input.specs.declared.input.TraceInput.{TraceInput}
-use Rattle.trace_input.specs.Input.{input_fault, settings_for}
-use Rattle.hh_model.specs.declared.data.End.TheVariants.{Done as Finished, Trapped, Entangled}
-use Rattle.run_ledger.specs.declared.data.RunEnd.{RunEnd}
-use Rattle.run_ledger.specs.declared.data.RunEnd.TheVariants.{Machine, Fuel, Pool}
-use Rattle.run_ledger.specs.declared.data.RefusedAt.{RefusedAt}
-use Rattle.run_ledger.specs.Journals.{refused_as_run}
+use Rattle.made_program_laws.specs.below.hh_lang.{ProgramText}
+use Rattle.made_program_laws.specs.below.program_reader.{Refused}
+use Rattle.made_program_laws.specs.below.run_trace.{EntryValue, SettingsValue}
+use Rattle.round_trip_laws.specs.below.trace_input.{InputFault, Source, BadLine, TraceInput, input_fault, settings_for}
+use Rattle.race_report.specs.below.hh_model.{Done as Finished, Trapped, Entangled}
+use Rattle.race_report.specs.below.run_ledger.{RunEnd, Machine, Fuel, Pool, RefusedAt, refused_as_run}
 use Rattle.command_line.specs.declared.line.Options.{Options}
 use Rattle.command_line.specs.declared.line.CommandLine.TheVariants.{Run, Replay, Model, Make}
 use Rattle.command_answers.specs.declared.answer.Status.{Status}

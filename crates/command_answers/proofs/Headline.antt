@@ -1,29 +1,19 @@
 -- Every whole run keeps what is reachable, decides its reads by precedence, and hands back just what is held.
 use Rattle.std.proofs.Common.{◌≡◌, ◌∙◌, ◌++◌, ◌∷◌, ℕ, List, Option, Some, true, refl, sym, ap, subst}
-use Rattle.listed.proofs.Members.{contains_from_in, in_from_contains}
-use Rattle.hh_lang.specs.Form.{IsProgram, ProgramText}
-use Rattle.hh_model.specs.declared.data.State.{State}
-use Rattle.hh_model.specs.Effect.{object_at}
-use Rattle.hh_model.specs.Step.{run}
-use Rattle.model_laws.proofs.Stopped.{reads_are_decided}
-use Rattle.path_laws.proofs.Leaves.{can_going}
-use Rattle.run_trace.specs.Entry.{EntryValue}
-use Rattle.run_trace.specs.Settings.{SettingsValue, field_limit}
-use Rattle.run_ledger.specs.declared.data.Ledger.{Ledger}
-use Rattle.run_ledger.specs.Heaps.{heap_of, held_in}
-use Rattle.run_ledger.specs.Journals.{IsPrefix, is_legal, ledger_of, tasks_of}
-use Rattle.run_ledger.proofs.Cuts.{journals_can_be_cut}
-use Rattle.journal_laws.proofs.Drops.{held_is_undropped}
-use Rattle.run_ledger.proofs.Journals.{nothing_reachable_is_freed}
-use Rattle.ledger_step_laws.specs.Accounts.{Rests}
-use Rattle.core_relation.specs.Stands.{BelongingsStand}
-use Rattle.core_relation.specs.Memory.{In, Memory, object_name}
-use Rattle.core_relation.specs.Whole.{handed}
-use Rattle.core_relation.proofs.objects.Members.{held_object, object_held}
-use Rattle.shared_value.specs.Stands.{IsSharedValue}
-use Rattle.shared_value.specs.SharedValue.{SharedValue, accounts, value_of, without_journal}
-use Rattle.heap_reading.proofs.KeptNames.{handed_held}
-use Rattle.heap_reading.proofs.TreeNow.{same_machine}
+use Rattle.race_report.proofs.below.listed.{contains_from_in, in_from_contains}
+use Rattle.made_program_laws.specs.below.hh_lang.{IsProgram, ProgramText}
+use Rattle.race_report.specs.below.hh_model.{State, object_at, run}
+use Rattle.race_report.proofs.below.model_laws.{reads_are_decided}
+use Rattle.race_report.proofs.below.path_laws.{can_going}
+use Rattle.made_program_laws.specs.below.run_trace.{EntryValue, SettingsValue, field_limit}
+use Rattle.race_report.specs.below.run_ledger.{Ledger, heap_of, held_in, IsPrefix, is_legal, ledger_of, tasks_of}
+use Rattle.race_report.proofs.below.run_ledger.{journals_can_be_cut, nothing_reachable_is_freed}
+use Rattle.race_report.proofs.below.journal_laws.{held_is_undropped}
+use Rattle.world_core.specs.below.ledger_step_laws.{Rests}
+use Rattle.world_core.specs.below.core_relation.{BelongingsStand, In, Memory, object_name, handed}
+use Rattle.world_core.proofs.below.core_relation.{held_object, object_held}
+use Rattle.world_core.specs.below.shared_value.{IsSharedValue, SharedValue, accounts, value_of, without_journal}
+use Rattle.world_core.proofs.below.heap_reading.{handed_held, same_machine}
 use Rattle.command_answers.specs.Runs.{ReturnsRun}
 use Rattle.command_answers.specs.Headline.{FreesNoReachable, HeapIsHeld, HeapsAreHeld, RunsHoldTheHeadline, StopsUnordered}
 use Rattle.command_answers.proofs.Taken.{step_taken}

@@ -1,25 +1,16 @@
 -- What is answered of the heaps that a trace leaves.
 use Rattle.std.proofs.Common.{◌≡◌, ◌∙◌, ◌≤◌, ℕ, List, refl, sym, ap, subst, length}
 use Rattle.std.specs.Prelude.{Option, Some, None}
-use Rattle.text_lines.specs.Lines.{most_bytes}
-use Rattle.hh_lang.specs.Form.{ProgramText}
-use Rattle.run_trace.specs.Entry.{EntryValue}
-use Rattle.run_trace.specs.Settings.{SettingsValue}
-use Rattle.trace_input.specs.declared.input.InputFault.{InputFault}
-use Rattle.trace_input.specs.declared.input.InputFault.TheVariants.{Source as SourceFault, BadLine}
-use Rattle.trace_input.specs.declared.input.TraceInput.{TraceInput}
-use Rattle.trace_input.specs.Input.{input_fault, settings_for, IsInput}
-use Rattle.run_ledger.specs.declared.data.RunEnd.{RunEnd}
-use Rattle.run_ledger.specs.declared.data.RefusedAt.{RefusedAt}
-use Rattle.run_ledger.specs.Journals.{ledger_of, refused_as_run}
-use Rattle.shared_value.specs.SharedValue.{SharedValue, accounts}
-use Rattle.shared_value.specs.Stands.{IsSharedValue}
-use Rattle.image_check.specs.declared.cause.Fault.{Fault}
-use Rattle.image_check.specs.Fault.{image_fault, objects_in}
-use Rattle.heap_image.specs.declared.picture.Picture.{Picture}
-use Rattle.heap_image.specs.Text.{text_of}
+use Rattle.made_program_laws.specs.below.text_lines.{most_bytes}
+use Rattle.made_program_laws.specs.below.hh_lang.{ProgramText}
+use Rattle.made_program_laws.specs.below.run_trace.{EntryValue, SettingsValue}
+use Rattle.round_trip_laws.specs.below.trace_input.{InputFault, Source as SourceFault, BadLine, TraceInput, input_fault, settings_for, IsInput}
+use Rattle.race_report.specs.below.run_ledger.{RunEnd, RefusedAt, ledger_of, refused_as_run}
+use Rattle.world_core.specs.below.shared_value.{SharedValue, accounts, IsSharedValue}
+use Rattle.shared_image.specs.below.image_check.{Fault, image_fault, objects_in}
+use Rattle.shared_image.specs.below.heap_image.{Picture, text_of}
 use Rattle.shared_image.specs.Held.{HasJustHeld}
-use Rattle.heap_image.proofs.Faultless.{sound_is_faultless}
+use Rattle.shared_image.proofs.below.heap_image.{sound_is_faultless}
 use Rattle.refusal_lines.specs.declared.refusal.Refusal.TheVariants.{Entry}
 use Rattle.refusal_lines.specs.Refusals.{refusal_of}
 use Rattle.command_answers.specs.declared.answer.Status.{Status}

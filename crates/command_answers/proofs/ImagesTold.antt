@@ -2,9 +2,8 @@
 use Rattle.std.proofs.Common.{◌≡◌, ℕ, List, [], ◌∷◌, codes, sym, subst}
 use Rattle.std.specs.Prelude.{Some, None}
 use Rattle.std.specs.Fmt.{decimal}
-use Rattle.run_ledger.specs.Text.{end_line}
-use Rattle.image_check.specs.declared.cause.Fault.{Fault}
-use Rattle.image_check.specs.Fault.{image_fault, objects_in}
+use Rattle.race_report.specs.below.run_ledger.{end_line}
+use Rattle.shared_image.specs.below.image_check.{Fault, image_fault, objects_in}
 use Rattle.refusal_lines.specs.declared.refusal.Refusal.TheVariants.{Image}
 use Rattle.command_answers.specs.declared.answer.Status.TheVariants.{Done}
 use Rattle.command_answers.specs.declared.answer.Answer.{Answer}

@@ -1,18 +1,11 @@
 -- A trace without races is never one of an entangled run.
 use Rattle.std.proofs.Common.{◌≡◌, ◌≢◌, ◌∙◌, ℕ, List, [], ◌∷◌, sym, subst}
 use Rattle.std.specs.Prelude.{Option, Some, None}
-use Rattle.hh_lang.specs.Form.{ProgramText}
-use Rattle.hh_model.specs.declared.data.End.TheVariants.{Done as IsDone, Trapped, Entangled as Stopped}
-use Rattle.run_trace.specs.Entry.{EntryValue}
-use Rattle.run_trace.specs.Settings.{SettingsValue, field_limit}
-use Rattle.trace_input.specs.declared.input.InputFault.{InputFault}
-use Rattle.trace_input.specs.declared.input.InputFault.TheVariants.{Source as InProgram, BadLine}
-use Rattle.trace_input.specs.declared.input.TraceInput.{TraceInput}
-use Rattle.trace_input.specs.Input.{input_fault, settings_for}
-use Rattle.run_ledger.specs.declared.data.RefusedAt.{RefusedAt}
-use Rattle.run_ledger.specs.declared.data.RunEnd.{RunEnd}
-use Rattle.run_ledger.specs.declared.data.RunEnd.TheVariants.{Machine, Fuel as FuelEnd, Pool as PoolEnd}
-use Rattle.run_ledger.specs.Journals.{end_of, machine_of, refused_as_run, tasks_of}
+use Rattle.made_program_laws.specs.below.hh_lang.{ProgramText}
+use Rattle.race_report.specs.below.hh_model.{Done as IsDone, Trapped, Entangled as Stopped}
+use Rattle.made_program_laws.specs.below.run_trace.{EntryValue, SettingsValue, field_limit}
+use Rattle.round_trip_laws.specs.below.trace_input.{InputFault, Source as InProgram, BadLine, TraceInput, input_fault, settings_for}
+use Rattle.race_report.specs.below.run_ledger.{RefusedAt, RunEnd, Machine, Fuel as FuelEnd, Pool as PoolEnd, end_of, machine_of, refused_as_run, tasks_of}
 use Rattle.race_report.specs.declared.data.Race.{Race}
 use Rattle.race_report.specs.Accesses.{accesses}
 use Rattle.race_report.specs.Report.{IsReport}

@@ -1,24 +1,13 @@
 -- A run's trace behind its program's text is replayed as the run went.
 use Rattle.std.proofs.Common.{◌≡◌, ◌∙◌, ◌++◌, ℕ, Bool, cond, true, false, List, length, inl, inr, refl, ap, sym, subst}
 use Rattle.std.specs.Prelude.{Option, Some, None, Result, Ok, Err, nat_le}
-use Rattle.hh_lang.specs.Form.{ProgramText}
-use Rattle.hh_lang.specs.Limits.{program_limit}
-use Rattle.program_reader.specs.declared.cause.Refused.{Refused}
-use Rattle.program_reader.specs.Program.{reading_of}
-use Rattle.run_trace.specs.declared.settings.Version.TheVariants.{Two}
-use Rattle.run_trace.specs.declared.trace.Trace.{Trace}
-use Rattle.run_trace.specs.Entry.{EntryValue}
-use Rattle.run_trace.specs.Settings.{SettingsValue}
-use Rattle.run_trace.specs.Trace.{trace_text}
-use Rattle.trace_input.specs.declared.input.InputFault.{InputFault}
-use Rattle.trace_input.specs.declared.input.TraceInput.{TraceInput}
-use Rattle.trace_input.specs.Input.{settings_for, too_long}
+use Rattle.made_program_laws.specs.below.hh_lang.{ProgramText, program_limit}
+use Rattle.made_program_laws.specs.below.program_reader.{Refused, reading_of}
+use Rattle.made_program_laws.specs.below.run_trace.{Two, Trace, EntryValue, SettingsValue, trace_text}
+use Rattle.round_trip_laws.specs.below.trace_input.{InputFault, TraceInput, settings_for, too_long}
 use Rattle.round_trip_laws.specs.RoundTrip.{CanFollow, IsReadAs}
 use Rattle.round_trip_laws.proofs.Inputs.{recorded_inputs_are_read}
-use Rattle.run_ledger.specs.declared.data.RunEnd.{RunEnd}
-use Rattle.run_ledger.specs.declared.data.RefusedAt.{RefusedAt}
-use Rattle.run_ledger.specs.Journals.{end_of, refused_as_run}
-use Rattle.run_ledger.specs.Text.{out_text}
+use Rattle.race_report.specs.below.run_ledger.{RunEnd, RefusedAt, end_of, refused_as_run, out_text}
 use Rattle.command_line.specs.declared.line.Options.{Options}
 use Rattle.command_answers.specs.declared.answer.Answer.{Answer}
 use Rattle.command_answers.specs.Status.{status_of_end}

@@ -1,19 +1,13 @@
 -- What is answered of runs.
 use Rattle.std.proofs.Common.{◌∙◌, ◌≡◌, ◌+◌, List, [], true, ap, ap₂, refl, sym, subst, append-nil, length}
 use Rattle.std.specs.Prelude.{Option, Some, None, Result, Ok, Err}
-use Rattle.hh_lang.specs.Form.{ProgramText}
-use Rattle.run_trace.specs.Entry.{EntryValue}
-use Rattle.run_trace.specs.Settings.{SettingsValue}
-use Rattle.trace_input.specs.declared.input.TraceInput.{TraceInput}
-use Rattle.trace_input.specs.Input.{settings_for}
-use Rattle.run_ledger.specs.declared.data.RunEnd.{RunEnd}
-use Rattle.run_ledger.specs.declared.data.RefusedAt.{RefusedAt}
-use Rattle.run_ledger.specs.Journals.{IsPrefix, end_of, first_refused, is_legal, or_short, refused_as_run}
-use Rattle.run_ledger.specs.Text.{out_text}
-use Rattle.run_ledger.proofs.Cuts.{first_refused_is_first}
-use Rattle.run_report.specs.declared.whole.Extras.{Extras}
-use Rattle.shared_value.specs.SharedValue.{SharedValue, accounts, without_journal}
-use Rattle.shared_value.specs.Stands.{IsSharedValue}
+use Rattle.made_program_laws.specs.below.hh_lang.{ProgramText}
+use Rattle.made_program_laws.specs.below.run_trace.{EntryValue, SettingsValue}
+use Rattle.round_trip_laws.specs.below.trace_input.{TraceInput, settings_for}
+use Rattle.race_report.specs.below.run_ledger.{RunEnd, RefusedAt, IsPrefix, end_of, first_refused, is_legal, or_short, refused_as_run, out_text}
+use Rattle.race_report.proofs.below.run_ledger.{first_refused_is_first}
+use Rattle.refusal_lines.specs.below.run_report.{Extras}
+use Rattle.world_core.specs.below.shared_value.{SharedValue, accounts, without_journal, IsSharedValue}
 use Rattle.world_core.specs.declared.replaying.ReplayStop.{ReplayStop}
 use Rattle.world_core.specs.declared.replaying.ReplayStop.TheVariants.{RefusedAt as Stops, NoMemory as WantsMemory}
 use Rattle.world_core.specs.Replay.{ReplayGives}

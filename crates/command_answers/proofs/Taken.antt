@@ -2,21 +2,15 @@
 use Rattle.std.proofs.Common.{◌≡◌, ℕ, zero, suc, ◌+◌, true, None, List, [], ◌∷◌, ◌++◌, length, replicate, is_none, ◌⊎◌, inl, inr, refl, ap, sym, subst, ◌∙◌, arith, append_assoc}
 use Rattle.std.proofs.lemmas.Bool.{and_parts}
 use Rattle.std.proofs.lemmas.List.{length-append, length-replicate}
-use Rattle.listed.proofs.Options.{none_is}
-use Rattle.hh_lang.specs.Form.{IsProgram, ProgramText}
-use Rattle.hh_model.specs.Step.{can_step, run, run_from}
-use Rattle.hh_model.proofs.Counts.{run_on}
-use Rattle.run_trace.specs.declared.entry.Kind.{Kind}
-use Rattle.run_trace.specs.declared.entry.Kind.TheVariants.{Took, Ran, Chunk, Begin, End as EndOf, PutOff, Mark, More, Sweep, Fuel}
-use Rattle.run_trace.specs.Entry.{EntryValue}
-use Rattle.run_trace.specs.Settings.{SettingsValue, field_limit}
-use Rattle.run_ledger.specs.declared.data.Ledger.{Ledger}
-use Rattle.run_ledger.specs.Entries.{after, refusal}
-use Rattle.run_ledger.specs.Journals.{is_legal, is_legal_from, ledger_of, tasks_in, tasks_of}
-use Rattle.run_ledger.proofs.Cuts.{journals_can_be_cut}
-use Rattle.journal_laws.proofs.Fewer.{fewer_steps_are_legal}
-use Rattle.run_ledger.proofs.Machine.{entries_move_machine, kind_machine}
-use Rattle.ledger_step_laws.proofs.Split.{split_leaves}
+use Rattle.race_report.proofs.below.listed.{none_is}
+use Rattle.made_program_laws.specs.below.hh_lang.{IsProgram, ProgramText}
+use Rattle.race_report.specs.below.hh_model.{can_step, run, run_from}
+use Rattle.race_report.proofs.below.hh_model.{run_on}
+use Rattle.made_program_laws.specs.below.run_trace.{Kind, Took, Ran, Chunk, Begin, End as EndOf, PutOff, Mark, More, Sweep, Fuel, EntryValue, SettingsValue, field_limit}
+use Rattle.race_report.specs.below.run_ledger.{Ledger, after, refusal, is_legal, is_legal_from, ledger_of, tasks_in, tasks_of}
+use Rattle.race_report.proofs.below.run_ledger.{journals_can_be_cut, entries_move_machine, kind_machine}
+use Rattle.race_report.proofs.below.journal_laws.{fewer_steps_are_legal}
+use Rattle.world_core.proofs.below.ledger_step_laws.{split_leaves}
 
 -- LISTS OF STEPS
 

@@ -2,19 +2,14 @@
 use Rattle.std.proofs.Common.{◌≡◌, ◌∙◌, ◌≤◌, ℕ, Bool, List, true, false, ap, length, sym, subst}
 use Rattle.std.specs.Prelude.{Option, Result, Some, Ok, nat_le}
 use Rattle.std.proofs.lemmas.Bool.{le-leb}
-use Rattle.hh_lang.specs.Form.{ProgramText}
-use Rattle.program_reader.specs.Program.{program_of, reading_of}
-use Rattle.program_make.specs.Text.{made_text}
-use Rattle.program_make.proofs.Lengths.{made_are_short}
+use Rattle.made_program_laws.specs.below.hh_lang.{ProgramText, program_limit}
+use Rattle.made_program_laws.specs.below.program_reader.{program_of, reading_of}
+use Rattle.made_program_laws.specs.below.program_make.{made_text}
+use Rattle.made_program_laws.proofs.below.program_make.{made_are_short}
 use Rattle.made_program_laws.proofs.Made.{made_are_programs}
-use Rattle.run_trace.specs.Entry.{EntryValue}
-use Rattle.run_trace.specs.Settings.{SettingsValue, usual_settings}
-use Rattle.trace_input.specs.declared.input.TraceInput.{TraceInput}
-use Rattle.trace_input.specs.Input.{settings_for}
-use Rattle.run_ledger.specs.declared.data.RunEnd.{RunEnd}
-use Rattle.run_ledger.specs.declared.data.RefusedAt.{RefusedAt}
-use Rattle.run_ledger.specs.Journals.{end_of, refused_as_run}
-use Rattle.run_ledger.specs.Text.{out_text}
+use Rattle.made_program_laws.specs.below.run_trace.{EntryValue, SettingsValue, usual_settings}
+use Rattle.round_trip_laws.specs.below.trace_input.{TraceInput, settings_for}
+use Rattle.race_report.specs.below.run_ledger.{RunEnd, RefusedAt, end_of, refused_as_run, out_text}
 use Rattle.command_line.specs.declared.line.Options.{Options}
 use Rattle.command_answers.specs.declared.answer.Status.{Status}
 use Rattle.command_answers.specs.declared.answer.Status.TheVariants.{Done}
@@ -22,7 +17,6 @@ use Rattle.command_answers.specs.declared.answer.Answer.{Answer}
 use Rattle.command_answers.specs.declared.wanted.Wanted.{Wanted}
 use Rattle.command_answers.specs.declared.wanted.Wanted.TheVariants.{Amid, Before}
 use Rattle.command_answers.specs.Status.{status_of_end}
-use Rattle.hh_lang.specs.Limits.{program_limit}
 use Rattle.command_answers.specs.Input.{program_in}
 use Rattle.command_answers.specs.Answers.{AnswersMake, AnswersProgram, AnswersRun, AnswersTrace, IsModelled, IsText, LeavesMake, LeavesRun, WhereProgram, WhereWhole, summary}
 use Rattle.command_answers.specs.Delivery.{IsWanted}

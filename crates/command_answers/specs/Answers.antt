@@ -1,35 +1,23 @@
 -- What each command answers to its input: the bytes, the status, and what is handed back.
 use Rattle.std.specs.Prelude.{◌≡◌, ◌+◌, ℕ, true, false, Bool, Option, Some, None, List, [], ◌∷◌, Result, Ok, Err, length, codes}
 use Rattle.std.specs.Fmt.{decimal}
-use Rattle.hh_lang.specs.Form.{ProgramText}
-use Rattle.program_reader.specs.declared.cause.Refused.{Refused}
-use Rattle.program_reader.specs.Program.{program_of}
-use Rattle.program_make.specs.Text.{made_text}
-use Rattle.run_trace.specs.Settings.{SettingsValue, field_limit, usual_settings}
-use Rattle.run_trace.specs.Entry.{EntryValue}
-use Rattle.trace_input.specs.declared.input.InputFault.{InputFault}
-use Rattle.trace_input.specs.declared.input.TraceInput.{TraceInput}
-use Rattle.trace_input.specs.Input.{input_fault, settings_for, IsInput}
-use Rattle.run_ledger.specs.declared.data.RunEnd.{RunEnd}
-use Rattle.run_ledger.specs.declared.data.Refused.TheVariants.{Short}
-use Rattle.run_ledger.specs.declared.data.RefusedAt.{RefusedAt}
-use Rattle.run_ledger.specs.Journals.{end_of, refused_as_run, machine_of, tasks_of}
-use Rattle.run_ledger.specs.Text.{end_line, out_text}
-use Rattle.run_report.specs.declared.whole.Extras.{Extras}
+use Rattle.made_program_laws.specs.below.hh_lang.{ProgramText}
+use Rattle.made_program_laws.specs.below.program_reader.{Refused, program_of}
+use Rattle.made_program_laws.specs.below.program_make.{made_text}
+use Rattle.made_program_laws.specs.below.run_trace.{SettingsValue, field_limit, usual_settings, EntryValue}
+use Rattle.round_trip_laws.specs.below.trace_input.{InputFault, TraceInput, input_fault, settings_for, IsInput}
+use Rattle.race_report.specs.below.run_ledger.{RunEnd, Short, RefusedAt, end_of, refused_as_run, machine_of, tasks_of, end_line, out_text}
+use Rattle.refusal_lines.specs.below.run_report.{Extras}
 use Rattle.race_report.specs.declared.data.Race.{Race}
 use Rattle.race_report.specs.Accesses.{accesses}
 use Rattle.race_report.specs.Report.{IsReport}
 use Rattle.race_report.specs.Text.{races_text}
-use Rattle.shared_value.specs.SharedValue.{SharedValue, accounts}
-use Rattle.shared_value.specs.Stands.{IsSharedValue}
+use Rattle.world_core.specs.below.shared_value.{SharedValue, accounts, IsSharedValue}
 use Rattle.world_core.specs.WorldValue.{WorldValue}
 use Rattle.world_core.specs.declared.replaying.ReplayStop.{ReplayStop}
 use Rattle.world_core.specs.declared.replaying.ReplayStop.TheVariants.{RefusedAt as Stops, NoMemory as WantsMemory}
-use Rattle.image_check.specs.declared.cause.Fault.{Fault}
-use Rattle.image_check.specs.Fault.{image_fault, objects_in}
-use Rattle.heap_image.specs.declared.picture.Picture.{Picture}
-use Rattle.heap_image.specs.Picture.{IsSoundPicture}
-use Rattle.heap_image.specs.Text.{text_of}
+use Rattle.shared_image.specs.below.image_check.{Fault, image_fault, objects_in}
+use Rattle.shared_image.specs.below.heap_image.{Picture, IsSoundPicture, text_of}
 use Rattle.shared_image.specs.Drawn.{IsPictureOf}
 use Rattle.shared_image.specs.Held.{HasJustHeld}
 use Rattle.refusal_lines.specs.declared.refusal.Refusal.{Refusal}

@@ -1,8 +1,8 @@
 -- How an answer reaches the sink, and what a call hands back.
 use Rattle.std.specs.Prelude.{◌≡◌, ◌⊎◌, ℕ, Option, Some, None, List, [], Result, Ok, Err, take}
-use Rattle.outside_io.specs.Told.{with_more}
-use Rattle.run_trace.specs.Entry.{EntryValue}
-use Rattle.shared_value.specs.SharedValue.{SharedValue, without_journal}
+use Rattle.all_bytes.specs.below.outside_io.{with_more}
+use Rattle.made_program_laws.specs.below.run_trace.{EntryValue}
+use Rattle.world_core.specs.below.shared_value.{SharedValue, without_journal}
 use Rattle.world_core.specs.WorldValue.{WorldValue}
 use Rattle.world_core.specs.declared.replaying.ReplayStop.{ReplayStop}
 use Rattle.world_core.specs.declared.replaying.ReplayStop.TheVariants.{RefusedAt, NoMemory as WantsMemory}

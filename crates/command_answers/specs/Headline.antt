@@ -1,29 +1,16 @@
 -- What holds of every whole run, in one law: nothing reachable is freed, reads are stopped exactly where they have to
 -- be, and the heaps handed back hold just what the definitions say.
 use Rattle.std.specs.Prelude.{◌≡◌, true, ◌↔◌, ◌++◌, ℕ, Option, Some, List, ◌∷◌, Contains}
-use Rattle.hh_lang.specs.Form.{ProgramText}
-use Rattle.hh_model.specs.declared.data.Name.{Name}
-use Rattle.hh_model.specs.declared.data.Object.{Object}
-use Rattle.hh_model.specs.declared.data.State.{State}
-use Rattle.hh_model.specs.declared.data.Task.{Task}
-use Rattle.hh_model.specs.Effect.{object_at}
-use Rattle.path_laws.specs.ReadLaws.{IsDecided, ReadsNext}
-use Rattle.hh_model.specs.Step.{can_step, run}
-use Rattle.hh_model.specs.Store.{IsStored}
-use Rattle.run_trace.specs.Entry.{EntryValue}
-use Rattle.run_trace.specs.Settings.{SettingsValue, field_limit}
-use Rattle.run_ledger.specs.declared.data.Ledger.{Ledger}
-use Rattle.run_ledger.specs.Heaps.{heap_of, held, held_in}
-use Rattle.run_ledger.specs.Journals.{IsPrefix, ledger_of, opening, tasks_of}
-use Rattle.run_ledger.specs.Laws.{IsDropped, KeepsReachable}
-use Rattle.run_report.specs.declared.whole.Extras.{Extras}
-use Rattle.ledger_step_laws.specs.Accounts.{Rests}
-use Rattle.core_relation.specs.Reads.{IsRead}
-use Rattle.core_relation.specs.Stands.{Place}
-use Rattle.object_layout.specs.Objects.{Located}
-use Rattle.core_relation.specs.Memory.{In, Memory, object_name, objects}
-use Rattle.core_relation.specs.Whole.{handed}
-use Rattle.shared_value.specs.SharedValue.{SharedValue, value_of}
+use Rattle.made_program_laws.specs.below.hh_lang.{ProgramText}
+use Rattle.race_report.specs.below.hh_model.{Name, Object, State, Task, object_at, can_step, run, IsStored}
+use Rattle.race_report.specs.below.path_laws.{IsDecided, ReadsNext}
+use Rattle.made_program_laws.specs.below.run_trace.{EntryValue, SettingsValue, field_limit}
+use Rattle.race_report.specs.below.run_ledger.{Ledger, heap_of, held, held_in, IsPrefix, ledger_of, opening, tasks_of, IsDropped, KeepsReachable}
+use Rattle.refusal_lines.specs.below.run_report.{Extras}
+use Rattle.world_core.specs.below.ledger_step_laws.{Rests}
+use Rattle.world_core.specs.below.core_relation.{IsRead, Place, In, Memory, object_name, objects, handed}
+use Rattle.world_core.specs.below.object_layout.{Located}
+use Rattle.world_core.specs.below.shared_value.{SharedValue, value_of}
 use Rattle.command_answers.specs.declared.answer.Answer.{Answer}
 use Rattle.command_answers.specs.Runs.{IsWholeRun}
 

@@ -1,12 +1,10 @@
 -- The inputs of commands: whose bytes they are, and how many of them are read at most.
 use Rattle.std.specs.Prelude.{ℕ, Bool, true, false, List, [], Option, Some, None, Result, Err, length, nat_le, if◌then◌else◌}
-use Rattle.text_lines.specs.Lines.{most_bytes}
+use Rattle.made_program_laws.specs.below.text_lines.{most_bytes}
 use Rattle.all_bytes.specs.Bytes.{source_bytes}
-use Rattle.hh_lang.specs.Form.{ProgramText}
-use Rattle.hh_lang.specs.Limits.{program_limit}
-use Rattle.program_reader.specs.declared.cause.Refused.{Refused}
-use Rattle.program_reader.specs.Program.{reading_of}
-use Rattle.trace_input.specs.Input.{too_long}
+use Rattle.made_program_laws.specs.below.hh_lang.{ProgramText, program_limit}
+use Rattle.made_program_laws.specs.below.program_reader.{Refused, reading_of}
+use Rattle.round_trip_laws.specs.below.trace_input.{too_long}
 use Rattle.command_line.specs.declared.line.CommandLine.{CommandLine}
 use Rattle.command_line.specs.declared.line.CommandLine.TheVariants.{Check, Run, Replay, Model, Races, Image, Make, Verify}
 

@@ -1,24 +1,16 @@
 -- What the answers come to.
 use Rattle.std.specs.Prelude.{◌≡◌, ◌≢◌, ◌≤◌, ◌⊎◌, ◌++◌, Bool, List, ℕ, Option, Some, true, length}
 use Rattle.std.specs.List.{All}
-use Rattle.text_lines.specs.Lines.{most_bytes}
-use Rattle.outside_io.specs.Told.{with_more}
-use Rattle.hh_lang.specs.Form.{ProgramText}
-use Rattle.program_reader.specs.declared.cause.Refused.{Refused}
-use Rattle.program_reader.specs.Program.{program_of}
-use Rattle.program_make.specs.Text.{made_text, size_limit}
-use Rattle.run_trace.specs.declared.settings.Version.TheVariants.{Two}
-use Rattle.run_trace.specs.Entry.{EntryValue, IsEntry}
-use Rattle.run_trace.specs.Settings.{SettingsValue}
-use Rattle.run_trace.specs.Trace.{trace_text}
+use Rattle.made_program_laws.specs.below.text_lines.{most_bytes}
+use Rattle.all_bytes.specs.below.outside_io.{with_more}
+use Rattle.made_program_laws.specs.below.hh_lang.{ProgramText}
+use Rattle.made_program_laws.specs.below.program_reader.{Refused, program_of}
+use Rattle.made_program_laws.specs.below.program_make.{made_text, size_limit}
+use Rattle.made_program_laws.specs.below.run_trace.{Two, EntryValue, IsEntry, SettingsValue, trace_text}
 use Rattle.round_trip_laws.specs.RoundTrip.{EndsInFeed}
-use Rattle.trace_input.specs.declared.input.InputFault.TheVariants.{Source as SourceFault}
-use Rattle.trace_input.specs.declared.input.TraceInput.{TraceInput}
-use Rattle.trace_input.specs.Input.{input_fault, settings_for, IsInput}
-use Rattle.run_ledger.specs.declared.data.RunEnd.{RunEnd}
-use Rattle.run_ledger.specs.Journals.{ledger_of}
-use Rattle.heap_image.specs.declared.picture.Picture.{Picture}
-use Rattle.heap_image.specs.Text.{text_of}
+use Rattle.round_trip_laws.specs.below.trace_input.{Source as SourceFault, TraceInput, input_fault, settings_for, IsInput}
+use Rattle.race_report.specs.below.run_ledger.{RunEnd, ledger_of}
+use Rattle.shared_image.specs.below.heap_image.{Picture, text_of}
 use Rattle.shared_image.specs.Held.{HasJustHeld}
 use Rattle.command_line.specs.declared.line.Options.{Options}
 use Rattle.command_line.specs.declared.line.CommandLine.{CommandLine}

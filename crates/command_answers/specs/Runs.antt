@@ -1,15 +1,10 @@
 -- What is answered of runs, and what is handed back of them.
 use Rattle.std.specs.Prelude.{◌≡◌, true, Option, Some, List}
-use Rattle.hh_lang.specs.Form.{ProgramText}
-use Rattle.run_trace.specs.Entry.{EntryValue}
-use Rattle.run_trace.specs.Settings.{SettingsValue}
-use Rattle.run_ledger.specs.declared.data.RunEnd.{RunEnd}
-use Rattle.run_ledger.specs.Journals.{IsPrefix, end_of, is_legal}
-use Rattle.run_ledger.specs.Pace.{is_paced}
-use Rattle.run_ledger.specs.Text.{out_text}
-use Rattle.run_report.specs.declared.whole.Extras.{Extras}
-use Rattle.shared_value.specs.SharedValue.{SharedValue, without_journal}
-use Rattle.shared_value.specs.Stands.{IsSharedValue}
+use Rattle.made_program_laws.specs.below.hh_lang.{ProgramText}
+use Rattle.made_program_laws.specs.below.run_trace.{EntryValue, SettingsValue}
+use Rattle.race_report.specs.below.run_ledger.{RunEnd, IsPrefix, end_of, is_legal, is_paced, out_text}
+use Rattle.refusal_lines.specs.below.run_report.{Extras}
+use Rattle.world_core.specs.below.shared_value.{SharedValue, without_journal, IsSharedValue}
 use Rattle.command_answers.specs.declared.answer.Answer.{Answer}
 use Rattle.command_answers.specs.Status.{status_of_end}
 

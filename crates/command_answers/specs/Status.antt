@@ -1,10 +1,7 @@
 -- Statuses and their numbers.
 use Rattle.std.specs.Prelude.{◌≡◌, ℕ}
-use Rattle.hh_model.specs.declared.data.End.{End}
-use Rattle.hh_model.specs.declared.data.End.TheVariants.{Done as MachineDone, Trapped, Entangled as MachineEntangled}
-use Rattle.run_ledger.specs.declared.data.RunEnd.{RunEnd}
-use Rattle.run_ledger.specs.declared.data.RunEnd.TheVariants.{Machine, Fuel as FuelEnd, Pool as PoolEnd}
-use Rattle.run_ledger.specs.Text.{end_status}
+use Rattle.race_report.specs.below.hh_model.{End, Done as MachineDone, Trapped, Entangled as MachineEntangled}
+use Rattle.race_report.specs.below.run_ledger.{RunEnd, Machine, Fuel as FuelEnd, Pool as PoolEnd, end_status}
 use Rattle.refusal_lines.specs.declared.refusal.Refusal.{Refusal}
 use Rattle.refusal_lines.specs.declared.refusal.Refusal.TheVariants.{Words as WordsRefused, Source as SourceRefused, Line, Entry, Image as ImageRefused}
 use Rattle.command_answers.specs.declared.answer.Status.{Status}

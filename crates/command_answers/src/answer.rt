@@ -3,11 +3,8 @@
 ghost use Rattle.std.specs.Prelude.{◌≡◌};
 ghost use Rattle.command_answers.specs.Status.{code_of_status, status_of_end, status_of_machine};
 
-use hh_model::End;
-use listed::Listed;
-use run_ledger::RunEnd;
-use run_trace::Entry;
-use shared_tree::Remains;
+use race_report::{End, Entry, Listed, RunEnd};
+use world_core::Remains;
 
 /// How a call ended.
 #[derive(Clone, Copy)]

@@ -1,7 +1,7 @@
 // The answer of `check`.
 
 ghost use Rattle.std.specs.Prelude.{◌∷◌, [], codes, IfOk};
-ghost use Rattle.run_ledger.specs.Text.{end_line};
+ghost use Rattle.race_report.specs.below.run_ledger.{end_line};
 ghost use Rattle.command_answers.specs.Answers.{IsText, AnswersCheck};
 
 use crate::answer::{Answer, Status};

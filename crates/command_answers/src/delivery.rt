@@ -1,14 +1,13 @@
 // Writes an answer.
 
 ghost use Rattle.std.specs.Prelude.{◌≡◌};
-ghost use Rattle.outside_io.specs.Fault.{HasRisen};
+ghost use Rattle.all_bytes.specs.below.outside_io.{HasRisen};
 ghost use Rattle.command_answers.specs.Delivery.{IsAnswered, Delivered, Gives, ReturnsNothing};
 
 use crate::answer::{Answer, Ran, Status};
 use crate::wanted::Wanted;
-use all_bytes::write_all;
-use listed::Listed;
-use outside_io::{Failed, Sink};
+use all_bytes::{Failed, Sink, write_all};
+use race_report::Listed;
 use std::alloc::Global;
 
 /// What is handed back where nothing was answered.

@@ -1,23 +1,19 @@
 // The answer of a run that has ended.
 
 ghost use Rattle.std.specs.Prelude.{◌≡◌, IfOk, IfErr, Some, length, string_bytes};
-ghost use Rattle.run_report.specs.Written.{report_part, text_from, trace_part};
-ghost use Rattle.shared_value.specs.Stands.{IsSharedValue};
-ghost use Rattle.shared_value.specs.SharedValue.{accounts, without_journal};
-ghost use Rattle.counted_tree.specs.Counts.{totals_of};
+ghost use Rattle.refusal_lines.specs.below.run_report.{report_part, text_from, trace_part};
+ghost use Rattle.world_core.specs.below.shared_value.{IsSharedValue, accounts, without_journal};
+ghost use Rattle.world_core.specs.below.counted_tree.{totals_of};
 ghost use Rattle.command_answers.specs.Answers.{extras_of};
 ghost use Rattle.command_answers.specs.Runs.{IsReplayedRun};
 
 use crate::answer::{Answer, Status};
 use crate::wanted::Wanted;
 use command_line::Options;
-use counted_tree::Counted;
-use listed::Listed;
-use run_ledger::RunEnd;
-use run_report::{Extras, end_text, outputs_text, report_text};
-use run_trace::trace_text;
-use shared_tree::Shared;
+use race_report::{Listed, RunEnd, trace_text};
+use refusal_lines::{Extras, end_text, outputs_text, report_text};
 use std::alloc::{AllocError, Global};
+use world_core::{Counted, Shared};
 
 /// What is written beside the outputs and the end line.
 pub fn extras_of(options: Options) -> Extras

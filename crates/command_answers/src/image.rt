@@ -1,19 +1,16 @@
 // The answer of `image`.
 
 ghost use Rattle.std.specs.Prelude.{List, ℕ, IfOk};
-ghost use Rattle.run_ledger.specs.Journals.{refused_as_run};
+ghost use Rattle.race_report.specs.below.run_ledger.{refused_as_run};
 ghost use Rattle.command_answers.specs.Answers.{AnswersImaging, AnswersTrace, IsImageOf, IsImaged, IsText, WhereWhole};
 
 use crate::answer::{Answer, Status};
 use crate::refusals::{bytes_alone, refused, trace_short};
-use listed::Listed;
-use refusal_lines::Refusal;
-use run_trace::Settings;
+use race_report::{Listed, Settings};
+use refusal_lines::{InputError, Refusal, TraceInput, read_trace_input};
 use shared_image::image_text;
-use shared_tree::Shared;
 use std::alloc::{AllocError, Global};
-use trace_input::{InputError, TraceInput, read_trace_input};
-use world_core::{ReplayStop, replay};
+use world_core::{ReplayStop, Shared, replay};
 
 // The answer of the heaps that are left.
 fn answer_drawn(alloc: Global, shared: &Shared) -> Result<Answer, AllocError>

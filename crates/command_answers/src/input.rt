@@ -1,19 +1,17 @@
 // Reads an input.
 
 ghost use Rattle.std.specs.Prelude.{◌≡◌, ◌≤◌, ◌+◌, true, false, length, drop, option_map, IfOk, OnOk, IfErr, Some, List, ℕ};
-ghost use Rattle.text_lines.specs.Lines.{most_bytes};
-ghost use Rattle.outside_io.specs.Fault.{HasRisen};
+ghost use Rattle.made_program_laws.specs.below.text_lines.{most_bytes};
+ghost use Rattle.all_bytes.specs.below.outside_io.{HasRisen};
 ghost use Rattle.all_bytes.specs.Bytes.{input_of, source_bytes};
 ghost use Rattle.command_answers.specs.Input.{limit_of, is_reading, program_in, source_bytes_for};
 
-use all_bytes::{ReadError, read_file};
+use all_bytes::{ReadError, Source, read_file};
 use command_line::{CommandLine, FileName};
-use hh_lang::{PROGRAM_LIMIT, Program};
-use outside_io::Source;
-use program_reader::{Refused, read_program};
+use race_report::{PROGRAM_LIMIT, Program};
+use refusal_lines::{Refused, TOO_LONG, read_program};
+use shared_image::MOST_BYTES;
 use std::alloc::{AllocError, Global};
-use text_lines::MOST_BYTES;
-use trace_input::TOO_LONG;
 
 /// The program that an input is, or why it is refused.
 pub fn program_in(alloc: Global, input: &[u8]) -> Result<Result<Program, Refused>, AllocError>

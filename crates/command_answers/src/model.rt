@@ -7,11 +7,9 @@ use crate::answer::{Answer, Status};
 use crate::ended::extras_of;
 use crate::refusals::{bytes_alone, refused};
 use command_line::Options;
-use refusal_lines::Refusal;
-use run_journal::ReplayError;
-use run_report::whole_run;
+use race_report::ReplayError;
+use refusal_lines::{InputError, Refusal, TraceInput, read_trace_input, whole_run};
 use std::alloc::{AllocError, Global};
-use trace_input::{InputError, TraceInput, read_trace_input};
 
 // Replays a trace on the machine that never collects.
 fn answer_trace(alloc: Global, options: Options, read: &TraceInput) -> Result<Answer, AllocError>

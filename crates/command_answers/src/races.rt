@@ -6,13 +6,9 @@ ghost use Rattle.command_answers.specs.Answers.{IsText, IsRaceAnswer, AnswersRac
 
 use crate::answer::{Answer, Status};
 use crate::refusals::{bytes_alone, refused};
-use listed::Listed;
-use race_report::{Race, races_of_run, races_text};
-use refusal_lines::Refusal;
-use run_journal::ReplayError;
-use run_trace::Settings;
+use race_report::{Listed, Race, ReplayError, Settings, races_of_run, races_text};
+use refusal_lines::{InputError, Refusal, TraceInput, read_trace_input};
 use std::alloc::{AllocError, Global};
-use trace_input::{InputError, TraceInput, read_trace_input};
 
 // The status where these races were found.
 fn status_of(races: &[Race]) -> Status

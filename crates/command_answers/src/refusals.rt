@@ -6,10 +6,8 @@ ghost use Rattle.command_answers.specs.Status.{status_of_refusal};
 ghost use Rattle.command_answers.specs.Answers.{IsText, Refuses, short_of};
 
 use crate::answer::{Answer, Status};
-use listed::Listed;
+use race_report::{Entry, Listed, Refused, RefusedAt};
 use refusal_lines::{Refusal, refusal_text};
-use run_ledger::{Refused, RefusedAt};
-use run_trace::Entry;
 use std::alloc::{AllocError, Global};
 
 /// Bytes alone.

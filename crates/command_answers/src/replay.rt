@@ -1,10 +1,9 @@
 // The answer of `replay`.
 
 ghost use Rattle.std.specs.Prelude.{◌≡◌, IfOk, IfErr};
-ghost use Rattle.run_ledger.specs.Journals.{refused_as_run};
-ghost use Rattle.shared_value.specs.Stands.{IsSharedValue};
-ghost use Rattle.shared_value.specs.SharedValue.{without_journal};
-ghost use Rattle.trace_input.specs.Input.{settings_for};
+ghost use Rattle.race_report.specs.below.run_ledger.{refused_as_run};
+ghost use Rattle.world_core.specs.below.shared_value.{IsSharedValue, without_journal};
+ghost use Rattle.round_trip_laws.specs.below.trace_input.{settings_for};
 ghost use Rattle.command_answers.specs.Answers.{AnswersReplay, AnswersReplayed, AnswersTrace, IsReplay, LeavesReplay, Refuses, StandsReplayed, WhereWhole, short_of};
 ghost use Rattle.command_answers.specs.Delivery.{IsWanted, remains_by};
 ghost use Rattle.command_answers.specs.Runs.{IsReplayedRun, LeavesPrefix};
@@ -14,12 +13,9 @@ use crate::ended::{amid, answer_ended, extras_of};
 use crate::refusals::{refused, trace_short};
 use crate::wanted::Wanted;
 use command_line::Options;
-use counted_tree::Counted;
-use refusal_lines::Refusal;
-use run_report::Extras;
+use refusal_lines::{Extras, InputError, Refusal, TraceInput, read_trace_input};
 use std::alloc::{AllocError, Global};
-use trace_input::{InputError, TraceInput, read_trace_input};
-use world_core::{ReplayStop, World, replay};
+use world_core::{Counted, ReplayStop, World, replay};
 
 // The answer where all entries are made, and the run has no end.
 fn answer_short(alloc: Global, shared: Counted) -> Result<Answer, Wanted>

@@ -3,13 +3,13 @@
 ghost use Rattle.std.specs.Prelude.{◌≡◌, ◌∷◌, [], codes, IfOk};
 ghost use Rattle.std.specs.String.{string_bytes};
 ghost use Rattle.std.specs.Fmt.{decimal};
-ghost use Rattle.run_ledger.specs.Text.{end_line};
+ghost use Rattle.race_report.specs.below.run_ledger.{end_line};
 ghost use Rattle.command_answers.specs.Answers.{AnswersVerify};
 
 use crate::answer::{Answer, Status};
 use crate::refusals::{refused, text_alone};
-use image_check::{VerifyError, verify};
 use refusal_lines::Refusal;
+use shared_image::{VerifyError, verify};
 use std::alloc::{AllocError, Global};
 
 // The end line of an image of so many objects.

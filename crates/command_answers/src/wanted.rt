@@ -1,9 +1,8 @@
 // Want of memory in the making of an answer.
 
-use listed::Listed;
-use run_trace::Entry;
-use shared_tree::Remains;
+use race_report::{Entry, Listed};
 use std::alloc::AllocError;
+use world_core::Remains;
 
 /// Where memory was wanting.
 #[derive(Drop)]

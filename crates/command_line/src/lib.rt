@@ -7,4 +7,5 @@ mod read;
 
 pub use command::with_argument;
 pub use line::{CommandLine, FileName, Options};
+pub use program_make::{SIZE_LIMIT, make};
 pub use read::read_command_line;

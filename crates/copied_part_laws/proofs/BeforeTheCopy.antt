@@ -2,29 +2,19 @@
 use Rattle.std.proofs.Common.{◌≡◌, ℕ, ◌+◌, ◌≤◌, ◌==◌, arith, Bool, true, false, cond, List, [], ◌∷◌, ◌++◌, inl, inr, refl, ap, sym, ◌∙◌}
 use Rattle.std.specs.List.{flat_map}
 use Rattle.std.proofs.lemmas.Bool.{eqb-true}
-use Rattle.listed.proofs.Members.{in_append_cases, in_append_left, in_append_right}
-use Rattle.listed.proofs.Places.{in_map}
-use Rattle.hh_model.specs.declared.data.Name.{Name}
-use Rattle.hh_model.specs.declared.data.State.{State}
-use Rattle.run_ledger.specs.declared.data.Heap.{Heap}
-use Rattle.run_ledger.specs.Heaps.{words_at}
-use Rattle.object_layout.specs.Cell.{Born, Cell, Hole, Mark, Moved, size_of}
-use Rattle.object_layout.specs.ChunkValue.{ChunkValue}
-use Rattle.object_layout.specs.Objects.{Located, located, objects_from}
-use Rattle.object_layout.proofs.ObjectLemmas.{behind, first}
-use Rattle.alloc_path.specs.LeafHeapValue.{AreApart, LeafHeapValue}
-use Rattle.leaf_copy_gc.specs.declared.lists.Survivor.{Survivor}
-use Rattle.leaf_copy_gc.specs.Survivors.{olds}
-use Rattle.core_relation.specs.Memory.{In, object_name, objects_in}
-use Rattle.core_relation.specs.Layout.{AreLaidOut, words}
-use Rattle.core_relation.specs.Stands.{HasNames}
-use Rattle.core_relation.proofs.objects.Members.{in_objects}
-use Rattle.task_machine.specs.Accounts.{named_by, names_in, small_lists}
-use Rattle.task_machine.specs.Place.{name_of}
-use Rattle.shared_value.specs.Objects.{chunk_of, chunks_of}
-use Rattle.shared_value.specs.Stands.{HeapForm}
-use Rattle.shared_value.proofs.CellsRead.{fresh_off}
-use Rattle.core_entry_laws.proofs.notes.MarksAll.{NamedOnce}
+use Rattle.leaf_collections.proofs.below.listed.{in_append_cases, in_append_left, in_append_right, in_map}
+use Rattle.leaf_collections.specs.below.hh_model.{Name, State}
+use Rattle.leaf_collections.specs.below.run_ledger.{Heap, words_at}
+use Rattle.leaf_collections.specs.below.object_layout.{Born, Cell, Hole, Mark, Moved, size_of, ChunkValue, Located, located, objects_from}
+use Rattle.leaf_collections.proofs.below.object_layout.{behind, first}
+use Rattle.leaf_collections.specs.below.alloc_path.{AreApart, LeafHeapValue}
+use Rattle.leaf_collections.specs.below.leaf_copy_gc.{Survivor, olds}
+use Rattle.leaf_collections.specs.below.core_relation.{In, object_name, objects_in, AreLaidOut, words, HasNames}
+use Rattle.leaf_collections.proofs.below.core_relation.{in_objects}
+use Rattle.leaf_collections.specs.below.task_machine.{named_by, names_in, small_lists, name_of}
+use Rattle.leaf_collections.specs.below.shared_value.{chunk_of, chunks_of, HeapForm}
+use Rattle.leaf_collections.proofs.below.shared_value.{fresh_off}
+use Rattle.leaf_collections.proofs.below.core_entry_laws.{NamedOnce}
 use Rattle.copied_part_laws.proofs.ObjectsApart.{span}
 
 -- a heap with these survivors, and its account in this state of the machine

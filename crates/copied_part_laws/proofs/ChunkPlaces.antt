@@ -1,13 +1,12 @@
 -- Which chunk stands where, behind laid and kept ones.
 use Rattle.std.proofs.Common.{◌≡◌, ℕ, zero, suc, ◌+◌, ◌-◌, ◌<◌, ◌≤◌, arith, Option, Some, None, List, [], ◌∷◌, ◌++◌, length, length-append, refl, ap, sym, subst, ◌∙◌}
-use Rattle.hh_model.specs.declared.data.State.{State}
-use Rattle.object_layout.specs.ChunkValue.{ChunkValue}
-use Rattle.object_layout.specs.Chunks.{chunk_at}
-use Rattle.object_layout.proofs.ObjectLemmas.{chunk_there}
-use Rattle.alloc_path.specs.LeafHeapValue.{IsCurrent, IsReserved}
-use Rattle.leaf_copy_gc.specs.Exchanged.{last_place, reserved_of, reserved_place}
-use Rattle.core_relation.specs.Memory.{In}
-use Rattle.task_machine.specs.Accounts.{IsLastLarge, IsLastSmall}
+use Rattle.leaf_collections.specs.below.hh_model.{State}
+use Rattle.leaf_collections.specs.below.object_layout.{ChunkValue, chunk_at}
+use Rattle.leaf_collections.proofs.below.object_layout.{chunk_there}
+use Rattle.leaf_collections.specs.below.alloc_path.{IsCurrent, IsReserved}
+use Rattle.leaf_collections.specs.below.leaf_copy_gc.{last_place, reserved_of, reserved_place}
+use Rattle.leaf_collections.specs.below.core_relation.{In}
+use Rattle.leaf_collections.specs.below.task_machine.{IsLastLarge, IsLastSmall}
 use Rattle.copied_part_laws.proofs.NamesLaid.{Told}
 
 -- ---- PLACES IN LISTS OF CHUNKS

@@ -3,25 +3,17 @@ use Rattle.std.proofs.Common.{◌≡◌, ℕ, ◌+◌, ◌==◌, arith, Bool, tr
 use Rattle.std.specs.List.{flat_map}
 use Rattle.std.proofs.lemmas.List.{length-map}
 use Rattle.std.proofs.lemmas.List.Sums.{sum_by-append, sum_by-cons}
-use Rattle.listed.proofs.Members.{in_append_left, in_append_right}
-use Rattle.hh_model.specs.declared.data.State.{State}
-use Rattle.run_ledger.specs.Heaps.{words_at, words_sum}
-use Rattle.object_layout.specs.declared.word.Addr.{Addr}
-use Rattle.object_layout.specs.Cell.{Born, Cell, Hole, Mark, Moved, moved_to, size_of}
-use Rattle.object_layout.specs.ChunkValue.{ChunkValue, number_of}
-use Rattle.object_layout.specs.Chunks.{cell_of, object_words_in as held_cells, held_size, held_words}
-use Rattle.object_layout.specs.Objects.{Located, located, objects_from}
-use Rattle.object_layout.proofs.ObjectLemmas.{behind, first}
-use Rattle.alloc_path.specs.LeafHeapValue.{units}
-use Rattle.alloc_path.specs.Units.{unit_count}
-use Rattle.leaf_copy_gc.specs.Laid.{AreNew, Laying, laid_all, laid_one, room_in}
-use Rattle.leaf_copy_gc.specs.Exchanged.{emptied}
+use Rattle.leaf_collections.proofs.below.listed.{in_append_left, in_append_right}
+use Rattle.leaf_collections.specs.below.hh_model.{State}
+use Rattle.leaf_collections.specs.below.run_ledger.{words_at, words_sum}
+use Rattle.leaf_collections.specs.below.object_layout.{Addr, Born, Cell, Hole, Mark, Moved, moved_to, size_of, ChunkValue, number_of, cell_of, object_words_in as held_cells, held_size, held_words, Located, located, objects_from}
+use Rattle.leaf_collections.proofs.below.object_layout.{behind, first}
+use Rattle.leaf_collections.specs.below.alloc_path.{units, unit_count}
+use Rattle.leaf_collections.specs.below.leaf_copy_gc.{AreNew, Laying, laid_all, laid_one, room_in, emptied}
 use Rattle.address_laws.proofs.Numbers.{numbers}
-use Rattle.core_relation.specs.Memory.{In, object_name, objects_in}
-use Rattle.core_relation.specs.Layout.{words}
-use Rattle.task_machine.specs.Accounts.{large_names, named_by, names_in, small_lists}
-use Rattle.task_machine.specs.Place.{name_of}
-use Rattle.shared_value.specs.Objects.{chunks_of}
+use Rattle.leaf_collections.specs.below.core_relation.{In, object_name, objects_in, words}
+use Rattle.leaf_collections.specs.below.task_machine.{large_names, named_by, names_in, small_lists, name_of}
+use Rattle.leaf_collections.specs.below.shared_value.{chunks_of}
 use Rattle.copied_part_laws.proofs.ObjectsPlaced.{opened_new}
 
 -- ---- WORDS HELD

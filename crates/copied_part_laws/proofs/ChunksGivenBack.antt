@@ -4,34 +4,23 @@ use Rattle.std.specs.Prelude.{reverse}
 use Rattle.std.proofs.lemmas.Bool.{false≢true}
 use Rattle.std.proofs.lemmas.List.{reverse-append}
 use Rattle.std.specs.Prelude.{option_map}
-use Rattle.listed.proofs.Members.{in_append_cases, in_append_left, in_append_right, in_from_kept}
-use Rattle.listed.proofs.Places.{all_from, map_in}
-use Rattle.hh_model.specs.declared.data.State.{State}
-use Rattle.run_ledger.specs.declared.data.Heap.{Heap}
-use Rattle.object_layout.specs.declared.word.Addr.{Addr}
-use Rattle.object_layout.specs.ChunkValue.{ChunkValue, number_of}
-use Rattle.chunk_pool.specs.declared.pool.Slot.{Slot}
-use Rattle.chunk_pool.specs.PoolValue.{PoolValue, slot_at, owner_of, slot_units}
-use Rattle.alloc_path.specs.LeafHeapValue.{AreApart, LeafHeapValue, IsFresh}
-use Rattle.alloc_path.specs.Units.{unit_count}
-use Rattle.leaf_copy_gc.specs.declared.lists.Survivor.{Survivor}
-use Rattle.leaf_copy_gc.specs.Survivors.{olds}
-use Rattle.leaf_copy_gc.specs.Laid.{AreNew, Laying, before, smalls}
-use Rattle.leaf_copy_gc.specs.Redirected.{led_chunk}
-use Rattle.leaf_copy_gc.specs.Exchanged.{emptied, reserved_of, unreserved}
-use Rattle.leaf_copy_gc.specs.Collected.{AreSurvivors, back_of, keeps, large_of, laid_of, laying_of, leaves}
-use Rattle.leaf_copy_gc.specs.Laws.{CanTake}
+use Rattle.leaf_collections.proofs.below.listed.{in_append_cases, in_append_left, in_append_right, in_from_kept, all_from, map_in}
+use Rattle.leaf_collections.specs.below.hh_model.{State}
+use Rattle.leaf_collections.specs.below.run_ledger.{Heap}
+use Rattle.leaf_collections.specs.below.object_layout.{Addr, ChunkValue, number_of}
+use Rattle.leaf_collections.specs.below.chunk_pool.{Slot, PoolValue, slot_at, owner_of, slot_units}
+use Rattle.leaf_collections.specs.below.alloc_path.{AreApart, LeafHeapValue, IsFresh, unit_count}
+use Rattle.leaf_collections.specs.below.leaf_copy_gc.{Survivor, olds, AreNew, Laying, before, smalls, led_chunk, emptied, reserved_of, unreserved, AreSurvivors, back_of, keeps, large_of, laid_of, laying_of, leaves, CanTake}
 use Rattle.address_laws.proofs.Extent as extent
 use Rattle.address_laws.proofs.Numbers.{Distinct, numbers}
 use Rattle.address_laws.proofs.Numbers as nums
-use Rattle.leaf_copy_gc.proofs.NewNumbers as new_numbers
-use Rattle.leaf_copy_gc.proofs.NewNumbers.{within_at}
-use Rattle.leaf_copy_gc.proofs.Naming.{in_unreserved}
+use Rattle.leaf_collections.proofs.below.leaf_copy_gc.NewNumbers as new_numbers
+use Rattle.leaf_collections.proofs.below.leaf_copy_gc.{within_at, in_unreserved}
 use Rattle.collected_heap_laws.proofs.Reading as reading
-use Rattle.inner_mark_gc.specs.Swept.{units_in_slots}
-use Rattle.core_relation.specs.Memory.{In}
-use Rattle.shared_value.specs.Measured.{AreMeasured}
-use Rattle.shared_value.proofs.HeapLaidOut.{same_chunk}
+use Rattle.leaf_collections.specs.below.inner_mark_gc.{units_in_slots}
+use Rattle.leaf_collections.specs.below.core_relation.{In}
+use Rattle.leaf_collections.specs.below.shared_value.{AreMeasured}
+use Rattle.leaf_collections.proofs.below.shared_value.{same_chunk}
 use Rattle.copied_part_laws.proofs.ChunkWords as units_of
 use Rattle.copied_part_laws.proofs.CopiedForm.{told_in}
 use Rattle.copied_part_laws.proofs.BeforeTheCopy.{Old}

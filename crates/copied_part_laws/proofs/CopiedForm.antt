@@ -4,39 +4,20 @@ use Rattle.std.specs.Option.{option_map}
 use Rattle.std.specs.Prelude.{reverse}
 use Rattle.std.proofs.lemmas.Bool.{cases_lt, cond-false, cond-true, false≢true}
 use Rattle.std.proofs.lemmas.List.{length-map}
-use Rattle.listed.specs.Members.{is_empty}
-use Rattle.listed.proofs.Members.{in_append_cases}
-use Rattle.listed.proofs.Places.{all_from, in_map, map_in, read_in}
-use Rattle.hh_model.specs.declared.data.State.{State}
-use Rattle.run_ledger.specs.declared.data.Heap.{Heap}
-use Rattle.run_ledger.specs.Heaps.{units}
-use Rattle.object_layout.specs.declared.word.Addr.{Addr}
-use Rattle.object_layout.specs.Cell.{Cell, size_of}
-use Rattle.object_layout.specs.ChunkValue.{ChunkValue}
-use Rattle.object_layout.specs.Place.{words_in}
-use Rattle.object_layout.specs.Chunks.{cell_of, chunk_at}
-use Rattle.object_layout.specs.Objects.{Located, led_object, objects_from}
-use Rattle.object_layout.proofs.ObjectChanges.{led_are_read}
-use Rattle.object_layout.proofs.PlaceLemmas.{words_in-push}
-use Rattle.object_layout.proofs.ObjectLemmas.{chunk_there}
-use Rattle.alloc_path.specs.LeafHeapValue.{LeafHeapValue, IsReserved, room_of, with_places}
-use Rattle.leaf_copy_gc.specs.declared.lists.Survivor.{Survivor}
-use Rattle.leaf_copy_gc.specs.Survivors.{olds}
-use Rattle.leaf_copy_gc.specs.Laid.{AreNew, HaveRoom, Laying, before, laid_all, laid_one, open_next, opened, placed, room_in, smalls}
-use Rattle.leaf_copy_gc.specs.Redirected.{led_cell, led_chunk}
-use Rattle.leaf_copy_gc.specs.Exchanged.{reserved_of, unreserved}
-use Rattle.leaf_copy_gc.specs.Collected.{AreSurvivors, collected, keeps, large_of, laid_of, laying_of}
-use Rattle.leaf_copy_gc.specs.Laws.{CanTake}
-use Rattle.leaf_copy_gc.proofs.NewNumbers.{new_reverse, within_at}
+use Rattle.leaf_collections.specs.below.listed.{is_empty}
+use Rattle.leaf_collections.proofs.below.listed.{in_append_cases, all_from, in_map, map_in, read_in}
+use Rattle.leaf_collections.specs.below.hh_model.{State}
+use Rattle.leaf_collections.specs.below.run_ledger.{Heap, units}
+use Rattle.leaf_collections.specs.below.object_layout.{Addr, Cell, size_of, ChunkValue, words_in, cell_of, chunk_at, Located, led_object, objects_from}
+use Rattle.leaf_collections.proofs.below.object_layout.{led_are_read, words_in-push, chunk_there}
+use Rattle.leaf_collections.specs.below.alloc_path.{LeafHeapValue, IsReserved, room_of, with_places}
+use Rattle.leaf_collections.specs.below.leaf_copy_gc.{Survivor, olds, AreNew, HaveRoom, Laying, before, laid_all, laid_one, open_next, opened, placed, room_in, smalls, led_cell, led_chunk, reserved_of, unreserved, AreSurvivors, collected, keeps, large_of, laid_of, laying_of, CanTake}
+use Rattle.leaf_collections.proofs.below.leaf_copy_gc.{new_reverse, within_at, all_tidy, used_led}
 use Rattle.collected_heap_laws.proofs.Reading as reading
-use Rattle.leaf_copy_gc.proofs.Tidied.{all_tidy}
-use Rattle.leaf_copy_gc.proofs.Packing.{used_led}
-use Rattle.core_relation.specs.Memory.{Chunk, In, objects_in}
-use Rattle.core_relation.specs.Layout.{AreLaidOut, HoldsLarge, reserved_chunks, reserved_units, words}
-use Rattle.task_machine.specs.Accounts.{AreReserved, IsCounted}
-use Rattle.shared_value.specs.Objects.{chunk_of, chunks_of}
-use Rattle.shared_value.specs.Stands.{HeapForm}
-use Rattle.shared_value.proofs.HeapCounts.{counted_from, is_spare}
+use Rattle.leaf_collections.specs.below.core_relation.{Chunk, In, objects_in, AreLaidOut, HoldsLarge, reserved_chunks, reserved_units, words}
+use Rattle.leaf_collections.specs.below.task_machine.{AreReserved, IsCounted}
+use Rattle.leaf_collections.specs.below.shared_value.{chunk_of, chunks_of, HeapForm}
+use Rattle.leaf_collections.proofs.below.shared_value.{counted_from, is_spare}
 use Rattle.copied_part_laws.proofs.BeforeTheCopy.{Old}
 use Rattle.copied_part_laws.proofs.NamesLaid.{Told}
 use Rattle.copied_part_laws.proofs.ObjectsApart.{Holds, held_by, laid_out, span}

@@ -4,47 +4,24 @@ use Rattle.std.specs.Prelude.{reverse}
 use Rattle.std.specs.List.{flat_map, list_any}
 use Rattle.std.proofs.lemmas.Bool.{cases_Bool, cases_lt, cond-false, cond-true, eqb-true, false≢true, le-leb, leb-true, lt-leb, not-true}
 use Rattle.std.proofs.lemmas.List.{append-nil}
-use Rattle.listed.proofs.Members.{in_append_cases, in_flat, in_from_kept, in_kept}
-use Rattle.listed.proofs.Places.{in_map, map_in, read_in}
-use Rattle.hh_model.specs.declared.data.Name.{Name}
-use Rattle.hh_model.specs.declared.data.State.{State}
-use Rattle.run_ledger.specs.declared.data.Heap.{Heap}
-use Rattle.run_ledger.specs.Heaps.{laid_onto, large_survivors, room_behind, small_in, small_survivors, units, words_at}
-use Rattle.run_ledger.specs.Reachable.{holds_name}
-use Rattle.run_ledger.proofs.Members.{holds_from_in, in_from_holds}
-use Rattle.object_layout.specs.declared.word.Addr.{Addr}
-use Rattle.object_layout.specs.Cell.{Born, Cell, size_of}
-use Rattle.object_layout.specs.ChunkValue.{ChunkValue}
-use Rattle.object_layout.specs.Place.{cell_at, words_in}
-use Rattle.object_layout.specs.Chunks.{cell_of}
-use Rattle.object_layout.proofs.Distinct.{Once, once_from}
-use Rattle.object_layout.specs.Objects.{Located, located, objects_from}
-use Rattle.object_layout.proofs.ObjectLemmas.{cell_in}
-use Rattle.alloc_path.specs.LeafHeapValue.{LeafHeapValue, IsReserved, IsSettled}
-use Rattle.remembered_set.specs.Moved.{same_address}
-use Rattle.leaf_copy_gc.specs.declared.lists.Survivor.{Survivor}
-use Rattle.leaf_copy_gc.specs.Survivors.{olds, old_of}
-use Rattle.leaf_copy_gc.specs.Laid.{HaveRoom, Laying, before, is_small, laid_all, room_in}
-use Rattle.leaf_copy_gc.specs.Redirected.{led_chunk}
-use Rattle.leaf_copy_gc.specs.Exchanged.{reserved_of, unreserved}
-use Rattle.leaf_copy_gc.specs.Collected.{AreSurvivors, keeps, large_of, laid_of, laying_of}
-use Rattle.leaf_copy_gc.specs.Laws.{CanTake}
-use Rattle.leaf_copy_gc.proofs.Moves.{in_small, olds_small, small_ones}
-use Rattle.leaf_copy_gc.proofs.Moves as moves
-use Rattle.leaf_copy_gc.proofs.Naming.{in_unreserved}
-use Rattle.leaf_copy_gc.proofs.NewNumbers.{new_reverse}
+use Rattle.leaf_collections.proofs.below.listed.{in_append_cases, in_flat, in_from_kept, in_kept, in_map, map_in, read_in}
+use Rattle.leaf_collections.specs.below.hh_model.{Name, State}
+use Rattle.leaf_collections.specs.below.run_ledger.{Heap, laid_onto, large_survivors, room_behind, small_in, small_survivors, units, words_at, holds_name}
+use Rattle.leaf_collections.proofs.below.run_ledger.{holds_from_in, in_from_holds}
+use Rattle.leaf_collections.specs.below.object_layout.{Addr, Born, Cell, size_of, ChunkValue, cell_at, words_in, cell_of, Located, located, objects_from}
+use Rattle.leaf_collections.proofs.below.object_layout.{Once, once_from, cell_in}
+use Rattle.leaf_collections.specs.below.alloc_path.{LeafHeapValue, IsReserved, IsSettled}
+use Rattle.leaf_collections.specs.below.remembered_set.{same_address}
+use Rattle.leaf_collections.specs.below.leaf_copy_gc.{Survivor, olds, old_of, HaveRoom, Laying, before, is_small, laid_all, room_in, led_chunk, reserved_of, unreserved, AreSurvivors, keeps, large_of, laid_of, laying_of, CanTake}
+use Rattle.leaf_collections.proofs.below.leaf_copy_gc.{in_small, olds_small, small_ones, in_unreserved, new_reverse, any_here, any_none, first_of}
+use Rattle.leaf_collections.proofs.below.leaf_copy_gc.Moves as moves
 use Rattle.collected_heap_laws.proofs.Reading as reading
-use Rattle.leaf_copy_gc.proofs.Rebuilt.{any_here, any_none, first_of}
-use Rattle.core_relation.specs.Memory.{Chunk, In, object_name, objects_in}
-use Rattle.core_relation.specs.Layout.{words}
-use Rattle.core_relation.specs.Stands.{HasNames, names_of, small_chunks}
-use Rattle.core_relation.proofs.objects.Members.{from_flat, in_objects}
-use Rattle.task_machine.specs.Accounts.{large_names, names_in, small_lists}
-use Rattle.shared_value.specs.Objects.{chunk_of, chunks_of}
-use Rattle.shared_value.proofs.CellsRead.{object_seen, seen_object}
-use Rattle.shared_value.proofs.HeapCounts.{large_are, names_are, small_names}
-use Rattle.shared_value.proofs.HeapLaidOut.{inside_from}
-use Rattle.core_entry_laws.proofs.notes.MarksAll.{NamedOnce}
+use Rattle.leaf_collections.specs.below.core_relation.{Chunk, In, object_name, objects_in, words, HasNames, names_of, small_chunks}
+use Rattle.leaf_collections.proofs.below.core_relation.{from_flat, in_objects}
+use Rattle.leaf_collections.specs.below.task_machine.{large_names, names_in, small_lists}
+use Rattle.leaf_collections.specs.below.shared_value.{chunk_of, chunks_of}
+use Rattle.leaf_collections.proofs.below.shared_value.{object_seen, seen_object, large_are, names_are, small_names, inside_from}
+use Rattle.leaf_collections.proofs.below.core_entry_laws.{NamedOnce}
 use Rattle.copied_part_laws.proofs.SurvivorOrder.{single_names, small_survivors_are, sorted_names}
 use Rattle.copied_part_laws.proofs.BeforeTheCopy.{Old, single_small}
 use Rattle.copied_part_laws.proofs.LargeNames.{large_both, large_led, large_unreserved, none_large}

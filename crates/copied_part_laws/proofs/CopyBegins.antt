@@ -1,12 +1,11 @@
 -- A part that has just begun its collection can be copied.
 use Rattle.std.proofs.Common.{◌≡◌, ℕ, ◌+◌, ◌*◌, ◌/◌, ◌≤◌, arith, All, length, refl, ap, sym, subst, ◌∙◌}
-use Rattle.object_layout.specs.ChunkValue.{ChunkValue}
-use Rattle.object_layout.specs.Chunks.{small_words}
-use Rattle.alloc_path.specs.LeafHeapValue.{IsFresh}
-use Rattle.leaf_copy_gc.specs.Laid.{small_words as small_laid}
-use Rattle.leaf_copy_gc.proofs.Needs.{needs_are_counted}
-use Rattle.task_machine.specs.declared.part.Private.{Private}
-use Rattle.shared_value.specs.Due.{take_by}
+use Rattle.leaf_collections.specs.below.object_layout.{ChunkValue, small_words}
+use Rattle.leaf_collections.specs.below.alloc_path.{IsFresh}
+use Rattle.leaf_collections.specs.below.leaf_copy_gc.{small_words as small_laid}
+use Rattle.leaf_collections.proofs.below.leaf_copy_gc.{needs_are_counted}
+use Rattle.leaf_collections.specs.below.task_machine.{Private}
+use Rattle.leaf_collections.specs.below.shared_value.{take_by}
 use Rattle.copied_part_laws.specs.Handed.{BegunIsCopying}
 
 enough_taken : (needed counted n : ℕ) → needed ≡ counted → n ≡ take_by counted → 2 * ((needed + 1023) / 1024) ≤ n + 1

@@ -5,42 +5,23 @@ use Rattle.std.specs.List.{flat_map}
 use Rattle.std.proofs.lemmas.Bool.{cases_Bool, cond-false, eqb-true, false≢true}
 use Rattle.std.proofs.lemmas.List.{length-map, length-reverse}
 use Rattle.std.proofs.lemmas.List.Sums.{sum_by-append, sum_by-cons}
-use Rattle.listed.proofs.Places.{in_map, map_in, read_in}
-use Rattle.hh_model.specs.declared.data.Name.{Name}
-use Rattle.hh_model.specs.declared.data.State.{State}
-use Rattle.run_ledger.specs.declared.data.Heap.{Heap}
-use Rattle.run_ledger.specs.Heaps.{begun_in, chunk_words, collected as account_collected, small_in, units, units_in, units_sum, words_at, words_in as words_held, words_sum}
-use Rattle.run_ledger.specs.Reachable.{holds_name}
-use Rattle.run_ledger.proofs.Chunks.{Full, heap_words}
-use Rattle.run_ledger.proofs.Weights.{kept_weight}
-use Rattle.object_layout.specs.declared.word.Addr.{Addr}
-use Rattle.object_layout.specs.Cell.{Cell, moved_to}
-use Rattle.object_layout.specs.ChunkValue.{ChunkValue}
-use Rattle.object_layout.specs.Place.{words_in}
-use Rattle.object_layout.specs.Chunks.{chunk_at, held_words}
-use Rattle.object_layout.specs.Objects.{Located, objects_from}
-use Rattle.alloc_path.specs.LeafHeapValue.{AreTidy, LeafHeapValue, IsReserved, IsTidy}
-use Rattle.alloc_path.specs.Units.{counted32, unit_count}
-use Rattle.leaf_copy_gc.specs.declared.lists.Survivor.{Survivor}
-use Rattle.leaf_copy_gc.specs.Survivors.{olds}
-use Rattle.leaf_copy_gc.specs.Laid.{Laying, before, smalls}
-use Rattle.leaf_copy_gc.specs.Exchanged.{emptied, reserved_of, unreserved}
-use Rattle.leaf_copy_gc.specs.Collected.{AreSurvivors, back_of, keeps, large_of, laid_of, laying_of, leaves}
-use Rattle.leaf_copy_gc.specs.Laws.{CanTake}
-use Rattle.leaf_copy_gc.proofs.NewNumbers.{new_reverse, within_at}
+use Rattle.leaf_collections.proofs.below.listed.{in_map, map_in, read_in}
+use Rattle.leaf_collections.specs.below.hh_model.{Name, State}
+use Rattle.leaf_collections.specs.below.run_ledger.{Heap, begun_in, chunk_words, collected as account_collected, small_in, units, units_in, units_sum, words_at, words_in as words_held, words_sum, holds_name}
+use Rattle.leaf_collections.proofs.below.run_ledger.{Full, heap_words, kept_weight}
+use Rattle.leaf_collections.specs.below.object_layout.{Addr, Cell, moved_to, ChunkValue, words_in, chunk_at, held_words, Located, objects_from}
+use Rattle.leaf_collections.specs.below.alloc_path.{AreTidy, LeafHeapValue, IsReserved, IsTidy, counted32, unit_count}
+use Rattle.leaf_collections.specs.below.leaf_copy_gc.{Survivor, olds, Laying, before, smalls, emptied, reserved_of, unreserved, AreSurvivors, back_of, keeps, large_of, laid_of, laying_of, leaves, CanTake}
+use Rattle.leaf_collections.proofs.below.leaf_copy_gc.{new_reverse, within_at, all_tidy, in_unreserved}
 use Rattle.address_laws.proofs.Numbers.{numbers, removed_at}
-use Rattle.leaf_copy_gc.proofs.NewNumbers as new_numbers
+use Rattle.leaf_collections.proofs.below.leaf_copy_gc.NewNumbers as new_numbers
 use Rattle.address_laws.proofs.Extent as extent
-use Rattle.leaf_copy_gc.proofs.Tidied.{all_tidy}
-use Rattle.leaf_copy_gc.proofs.Naming.{in_unreserved}
 use Rattle.collected_heap_laws.proofs.Reading as reading
-use Rattle.core_relation.specs.Memory.{In, object_name, objects_in}
-use Rattle.core_relation.specs.Layout.{words}
-use Rattle.core_relation.proofs.objects.Members.{in_objects}
-use Rattle.task_machine.specs.Accounts.{large_names, names_in, small_lists}
-use Rattle.shared_value.specs.Objects.{chunk_of, chunks_of}
-use Rattle.shared_value.proofs.HeapCounts.{large_are, names_are, small_names}
-use Rattle.shared_value.proofs.HeapLaidOut.{place_there}
+use Rattle.leaf_collections.specs.below.core_relation.{In, object_name, objects_in, words}
+use Rattle.leaf_collections.proofs.below.core_relation.{in_objects}
+use Rattle.leaf_collections.specs.below.task_machine.{large_names, names_in, small_lists}
+use Rattle.leaf_collections.specs.below.shared_value.{chunk_of, chunks_of}
+use Rattle.leaf_collections.proofs.below.shared_value.{large_are, names_are, small_names, place_there}
 use Rattle.copied_part_laws.proofs.CopiedForm as forming
 use Rattle.copied_part_laws.proofs.BeforeTheCopy.{Old}
 use Rattle.copied_part_laws.proofs.NamesLaid.{Told}
@@ -48,7 +29,7 @@ use Rattle.copied_part_laws.proofs.LargeNames.{large_unreserved}
 use Rattle.copied_part_laws.proofs.ObjectsMoved as moving
 use Rattle.copied_part_laws.proofs.ChunkWords.{chunks_held, count_numbers, spare_new, units_emptied, units_new}
 use Rattle.copied_part_laws.proofs.CopiedNames as naming
-use Rattle.inner_mark_gc.proofs.Giving.{unit_sum}
+use Rattle.leaf_collections.proofs.below.inner_mark_gc.{unit_sum}
 
 module _ (h : LeafHeapValue) (from : List (Option Addr)) (ss : List Survivor) (news : List ChunkValue) (S : AreSurvivors h.chunks from ss) (T : CanTake h.chunks news) (m : State) (a : Heap) (O : Old h ss m a) where
   abbrev L : List ChunkValue

@@ -3,33 +3,22 @@ use Rattle.std.proofs.Common.{◌≡◌, ℕ, zero, suc, ◌/◌, ◌++◌, ◌�
 use Rattle.std.specs.Prelude.{pos, reverse}
 use Rattle.std.proofs.lemmas.List.{length-map}
 use Rattle.std.proofs.lemmas.List.Sums.{sum_by-cons}
-use Rattle.listed.proofs.Places.{in_map}
-use Rattle.run_ledger.specs.declared.data.Ledger.{Ledger}
-use Rattle.run_ledger.specs.Heaps.{end_numbers, heap_of, in_use, units_in}
-use Rattle.run_ledger.proofs.Space.{use_is_bounded}
-use Rattle.object_layout.specs.ChunkValue.{ChunkValue}
-use Rattle.chunk_pool.specs.declared.pool.Slot.{Slot}
-use Rattle.chunk_pool.specs.PoolValue.{owner_of}
-use Rattle.alloc_path.specs.LeafHeapValue.{AreApart, LeafHeapValue, IsFresh}
-use Rattle.alloc_path.specs.Units.{counted32, unit_count}
-use Rattle.task_frames.specs.FramesValue.{FramesValue}
-use Rattle.leaf_copy_gc.specs.declared.lists.Moved.{Moved}
-use Rattle.leaf_copy_gc.specs.Survivors.{outside}
-use Rattle.leaf_copy_gc.specs.Collected.{back_of}
-use Rattle.leaf_copy_gc.specs.Lists.{IsCollected}
+use Rattle.leaf_collections.proofs.below.listed.{in_map}
+use Rattle.leaf_collections.specs.below.run_ledger.{Ledger, end_numbers, heap_of, in_use, units_in}
+use Rattle.leaf_collections.proofs.below.run_ledger.{use_is_bounded}
+use Rattle.leaf_collections.specs.below.object_layout.{ChunkValue}
+use Rattle.leaf_collections.specs.below.chunk_pool.{Slot, owner_of}
+use Rattle.leaf_collections.specs.below.alloc_path.{AreApart, LeafHeapValue, IsFresh, counted32, unit_count}
+use Rattle.leaf_collections.specs.below.task_frames.{FramesValue}
+use Rattle.leaf_collections.specs.below.leaf_copy_gc.{Moved, outside, back_of, IsCollected}
 use Rattle.collected_heap_laws.proofs.Telling.{moves_are_told}
-use Rattle.inner_mark_gc.specs.Swept.{units_in_slots}
-use Rattle.ledger_step_laws.specs.Accounts.{aside}
-use Rattle.ledger_step_laws.proofs.Rested.{rested_view}
-use Rattle.core_relation.specs.Copies.{PartFits, before}
-use Rattle.core_relation.specs.Fits.{part_for}
-use Rattle.core_relation.specs.Memory.{Belongings, In}
-use Rattle.task_machine.specs.declared.part.Begun.{Begun}
-use Rattle.task_machine.specs.declared.part.Private.{Private}
-use Rattle.shared_value.specs.Fits.{belongings_of_part}
-use Rattle.shared_value.specs.Measured.{AreMeasured, AreUnits, news_of}
-use Rattle.shared_value.proofs.UnitsMeasured.{measured_both}
-use Rattle.shared_value.specs.SharedValue.{SharedValue, accounts, frames_down, belongings_with, value_of}
+use Rattle.leaf_collections.specs.below.inner_mark_gc.{units_in_slots}
+use Rattle.leaf_collections.specs.below.ledger_step_laws.{aside}
+use Rattle.leaf_collections.proofs.below.ledger_step_laws.{rested_view}
+use Rattle.leaf_collections.specs.below.core_relation.{PartFits, before, part_for, Belongings, In}
+use Rattle.leaf_collections.specs.below.task_machine.{Begun, Private}
+use Rattle.leaf_collections.specs.below.shared_value.{belongings_of_part, AreMeasured, AreUnits, news_of, SharedValue, accounts, frames_down, belongings_with, value_of}
+use Rattle.leaf_collections.proofs.below.shared_value.{measured_both}
 use Rattle.leaf_collections.specs.LeafEnd.{AreBack, FitsCopied}
 use Rattle.heap_marking.proofs.SweptUnits.{few_units}
 use Rattle.copied_part_laws.specs.Copied.{IsBegun, part_belongings}

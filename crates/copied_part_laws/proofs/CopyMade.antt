@@ -2,49 +2,26 @@
 use Rattle.std.proofs.Common.{◌≡◌, ℕ, ◌+◌, arith, Option, Some, None, is_some, List, [], ◌∷◌, ◌++◌, length, map, filter, inl, inr, refl, ap, ap₂, sym, subst, ◌∙◌}
 use Rattle.std.specs.Option.{option_map}
 use Rattle.std.specs.Prelude.{reverse, unwrap_or}
-use Rattle.listed.proofs.Members.{contains_from_in, in_append_cases, in_from_contains}
-use Rattle.listed.proofs.Places.{in_map, map_in}
-use Rattle.hh_lang.specs.Form.{ProgramText}
-use Rattle.hh_model.specs.declared.data.Object.{Object}
-use Rattle.hh_model.specs.declared.data.State.{State}
-use Rattle.hh_model.specs.Effect.{object_at}
-use Rattle.run_trace.specs.Settings.{SettingsValue}
-use Rattle.run_ledger.specs.declared.data.Heap.{Heap}
-use Rattle.run_ledger.specs.declared.data.Ledger.{Ledger}
-use Rattle.run_ledger.specs.Heaps.{heap_of, let_go, words_at, words_of}
-use Rattle.run_ledger.proofs.Machine.{heap_machine}
-use Rattle.object_layout.specs.declared.word.Addr.{Addr}
-use Rattle.object_layout.specs.ChunkValue.{ChunkValue, number_of}
-use Rattle.object_layout.specs.Objects.{Located}
-use Rattle.alloc_path.specs.LeafHeapValue.{LeafHeapValue, with_places}
-use Rattle.chunk_rows.specs.View.{Level}
-use Rattle.task_frames.specs.declared.frames.Frame.{Frame}
-use Rattle.task_frames.specs.FramesValue.{FramesValue, frames_of, led_frame}
-use Rattle.leaf_copy_gc.specs.declared.lists.Moved.{Moved}
-use Rattle.leaf_copy_gc.specs.declared.lists.Survivor.{Survivor}
-use Rattle.leaf_copy_gc.specs.Survivors.{olds, outside}
-use Rattle.leaf_copy_gc.specs.Redirected.{led_chunk, new_address}
-use Rattle.leaf_copy_gc.specs.Exchanged.{reserved_of, unreserved}
-use Rattle.leaf_copy_gc.specs.Collected.{AreSurvivors, collected, keeps, large_of, laid_of}
-use Rattle.leaf_copy_gc.specs.Lists.{IsCollected}
+use Rattle.leaf_collections.proofs.below.listed.{contains_from_in, in_append_cases, in_from_contains, in_map, map_in}
+use Rattle.leaf_collections.specs.below.hh_lang.{ProgramText}
+use Rattle.leaf_collections.specs.below.hh_model.{Object, State, object_at}
+use Rattle.leaf_collections.specs.below.run_trace.{SettingsValue}
+use Rattle.leaf_collections.specs.below.run_ledger.{Heap, Ledger, heap_of, let_go, words_at, words_of}
+use Rattle.leaf_collections.proofs.below.run_ledger.{heap_machine}
+use Rattle.leaf_collections.specs.below.object_layout.{Addr, ChunkValue, number_of, Located}
+use Rattle.leaf_collections.specs.below.alloc_path.{LeafHeapValue, with_places}
+use Rattle.leaf_collections.specs.below.chunk_rows.{Level}
+use Rattle.leaf_collections.specs.below.task_frames.{Frame, FramesValue, frames_of, led_frame}
+use Rattle.leaf_collections.specs.below.leaf_copy_gc.{Moved, Survivor, olds, outside, led_chunk, new_address, reserved_of, unreserved, AreSurvivors, collected, keeps, large_of, laid_of, IsCollected}
 use Rattle.address_laws.proofs.Extent as extent
 use Rattle.collected_heap_laws.proofs.Telling.{moves_are_told}
-use Rattle.ledger_step_laws.specs.Accounts.{rested}
-use Rattle.ledger_step_laws.proofs.Rested.{rested_view, rested_worker}
-use Rattle.task_machine.specs.declared.part.Begun.{Begun}
-use Rattle.core_relation.specs.Memory.{Chunk, Belongings, In, Memory, copied_object, object_name, objects_in}
-use Rattle.core_relation.specs.Layout.{AreLaidOut, words}
-use Rattle.core_relation.specs.Begins.{IsReachedAt}
-use Rattle.core_relation.specs.Stands.{HasNames, BelongingsStand, Place, Stands}
-use Rattle.core_relation.specs.Fits.{with_belongings}
-use Rattle.core_relation.specs.Whole.{BegunStands}
-use Rattle.core_relation.specs.Copies.{CopyFits, IsCopy}
-use Rattle.core_relation.proofs.changes.With.{at_belongings}
-use Rattle.shared_value.specs.Objects.{chunk_of, chunks_of}
-use Rattle.shared_value.specs.Stands.{HeapForm}
-use Rattle.shared_value.specs.SharedValue.{frames_down}
-use Rattle.shared_value.proofs.FreeChunks.{refs_long}
-use Rattle.shared_value.proofs.HeapLaidOut.{inside_from}
+use Rattle.leaf_collections.specs.below.ledger_step_laws.{rested}
+use Rattle.leaf_collections.proofs.below.ledger_step_laws.{rested_view, rested_worker}
+use Rattle.leaf_collections.specs.below.task_machine.{Begun}
+use Rattle.leaf_collections.specs.below.core_relation.{Chunk, Belongings, In, Memory, copied_object, object_name, objects_in, AreLaidOut, words, IsReachedAt, HasNames, BelongingsStand, Place, Stands, with_belongings, BegunStands, CopyFits, IsCopy}
+use Rattle.leaf_collections.proofs.below.core_relation.{at_belongings}
+use Rattle.leaf_collections.specs.below.shared_value.{chunk_of, chunks_of, HeapForm, frames_down}
+use Rattle.leaf_collections.proofs.below.shared_value.{refs_long, inside_from}
 use Rattle.copied_part_laws.specs.Copied.{CopiesFit, IsBegun, part_belongings}
 use Rattle.copied_part_laws.proofs.CopiedForm as forming
 use Rattle.copied_part_laws.proofs.BeforeTheCopy.{Old}

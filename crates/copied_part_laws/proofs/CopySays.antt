@@ -1,35 +1,21 @@
 -- What a collection says, and where it can begin to copy.
 use Rattle.std.proofs.Common.{◌≡◌, ℕ, All, Option, Some, None, List, [], ◌∷◌, length, map, slice_get, inl, inr, refl, ap, sym, subst, ◌∙◌}
 use Rattle.std.proofs.lemmas.Option.{same_Some}
-use Rattle.listed.proofs.Members.{flat_in, got_in, in_append_cases}
-use Rattle.listed.proofs.Places.{all_from, read_in}
-use Rattle.hh_lang.specs.Form.{ProgramText}
-use Rattle.hh_model.specs.declared.data.Frame.{Frame as ModelFrame}
-use Rattle.hh_model.specs.declared.data.Name.{Name}
-use Rattle.hh_model.specs.declared.data.State.{State}
-use Rattle.hh_model.specs.declared.data.Status.TheVariants.{Running}
-use Rattle.hh_model.specs.declared.data.Task.{Task}
-use Rattle.run_trace.specs.Settings.{SettingsValue}
-use Rattle.run_ledger.specs.declared.data.Ledger.{Ledger}
-use Rattle.run_ledger.specs.Heaps.{heap_of, let_go}
-use Rattle.run_ledger.proofs.Machine.{heap_machine}
-use Rattle.object_layout.specs.declared.word.Addr.{Addr}
-use Rattle.object_layout.specs.ChunkValue.{ChunkValue}
-use Rattle.object_layout.specs.Chunks.{held_words}
-use Rattle.object_layout.specs.Graph.{IsClosed, IsSound}
-use Rattle.alloc_path.specs.LeafHeapValue.{LeafHeapValue}
-use Rattle.alloc_path.specs.Units.{counted32, unit_count}
-use Rattle.chunk_rows.specs.View.{Level}
-use Rattle.task_frames.specs.declared.frames.Frame.{Frame}
-use Rattle.task_frames.specs.FramesValue.{FramesValue, frames_of}
-use Rattle.leaf_copy_gc.specs.Survivors.{as_reference, frame_references as refs_held, outside, references_in}
-use Rattle.ledger_step_laws.proofs.Rested.{rested_view, rested_worker}
-use Rattle.task_machine.specs.declared.part.Begun.{Begun}
-use Rattle.core_relation.specs.Memory.{Belongings, In, Memory}
-use Rattle.core_relation.specs.Reads.{AllRead, FramesAreRead, HoldsRead, TaskIsRead}
-use Rattle.core_relation.specs.Stands.{Place}
-use Rattle.shared_value.specs.Objects.{chunks_of}
-use Rattle.shared_value.specs.SharedValue.{frames_down}
+use Rattle.leaf_collections.proofs.below.listed.{flat_in, got_in, in_append_cases, all_from, read_in}
+use Rattle.leaf_collections.specs.below.hh_lang.{ProgramText}
+use Rattle.leaf_collections.specs.below.hh_model.{Frame as ModelFrame, Name, State, Running, Task}
+use Rattle.leaf_collections.specs.below.run_trace.{SettingsValue}
+use Rattle.leaf_collections.specs.below.run_ledger.{Ledger, heap_of, let_go}
+use Rattle.leaf_collections.proofs.below.run_ledger.{heap_machine}
+use Rattle.leaf_collections.specs.below.object_layout.{Addr, ChunkValue, held_words, IsClosed, IsSound}
+use Rattle.leaf_collections.specs.below.alloc_path.{LeafHeapValue, counted32, unit_count}
+use Rattle.leaf_collections.specs.below.chunk_rows.{Level}
+use Rattle.leaf_collections.specs.below.task_frames.{Frame, FramesValue, frames_of}
+use Rattle.leaf_collections.specs.below.leaf_copy_gc.{as_reference, frame_references as refs_held, outside, references_in}
+use Rattle.leaf_collections.proofs.below.ledger_step_laws.{rested_view, rested_worker}
+use Rattle.leaf_collections.specs.below.task_machine.{Begun}
+use Rattle.leaf_collections.specs.below.core_relation.{Belongings, In, Memory, AllRead, FramesAreRead, HoldsRead, TaskIsRead, Place}
+use Rattle.leaf_collections.specs.below.shared_value.{chunks_of, frames_down}
 use Rattle.heap_marking.proofs.HeapClosed as reads
 use Rattle.copied_part_laws.specs.Copied.{BegunCanCopy, CanCopy, IsBegun, NumbersAreSaid}
 use Rattle.copied_part_laws.proofs.CopyMade as copying

@@ -1,15 +1,12 @@
 -- The names of large objects in lists of chunks.
 use Rattle.std.proofs.Common.{◌≡◌, ℕ, zero, suc, ◌==◌, Bool, true, false, cond, Option, Some, None, List, [], ◌∷◌, ◌++◌, map, inl, inr, refl, ap, ap₂, sym, ◌∙◌}
 use Rattle.std.specs.Prelude.{remove}
-use Rattle.hh_model.specs.declared.data.Name.{Name}
-use Rattle.object_layout.specs.declared.word.Addr.{Addr}
-use Rattle.object_layout.specs.ChunkValue.{ChunkValue}
-use Rattle.object_layout.specs.Chunks.{chunk_at}
-use Rattle.alloc_path.specs.LeafHeapValue.{IsReserved}
-use Rattle.leaf_copy_gc.specs.Redirected.{led_chunk}
-use Rattle.leaf_copy_gc.specs.Exchanged.{unreserved}
-use Rattle.core_relation.specs.Memory.{In}
-use Rattle.task_machine.specs.Accounts.{large_names, names_in}
+use Rattle.leaf_collections.specs.below.hh_model.{Name}
+use Rattle.leaf_collections.specs.below.object_layout.{Addr, ChunkValue, chunk_at}
+use Rattle.leaf_collections.specs.below.alloc_path.{IsReserved}
+use Rattle.leaf_collections.specs.below.leaf_copy_gc.{led_chunk, unreserved}
+use Rattle.leaf_collections.specs.below.core_relation.{In}
+use Rattle.leaf_collections.specs.below.task_machine.{large_names, names_in}
 use Rattle.copied_part_laws.proofs.NamesLaid.{names_led}
 
 -- ---- LARGE NAMES

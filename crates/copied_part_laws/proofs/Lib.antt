@@ -16,3 +16,4 @@ pub mod CopySays
 pub mod ChunksGivenBack
 pub mod CopyHanded
 pub mod CopyBegins
+pub mod below

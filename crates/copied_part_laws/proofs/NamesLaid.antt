@@ -2,28 +2,16 @@
 use Rattle.std.proofs.Common.{◌≡◌, ◌+◌, ◌-◌, ◌<◌, ◌≤◌, ◌==◌, arith, Bool, true, false, cond, Option, Some, List, [], ◌∷◌, ◌++◌, length, map, nat_le, nat_lt, inl, inr, refl, ap, sym, subst, ◌∙◌, eq-eqb, ne_eqb}
 use Rattle.std.proofs.lemmas.Bool.{cond-false, cond-true, le-leb, lt-leb, ltb-true}
 use Rattle.std.proofs.lemmas.List.Sums.{sum_by-append, sum_by-cons}
-use Rattle.hh_model.specs.declared.data.Name.{Name}
-use Rattle.hh_model.specs.declared.data.State.{State}
-use Rattle.run_ledger.specs.Heaps.{chunk_words, lay, laid_onto, room_behind, words_at, words_sum}
-use Rattle.object_layout.specs.declared.word.Addr.{Addr}
-use Rattle.object_layout.specs.declared.word.Birth.{Birth}
-use Rattle.object_layout.specs.Cell.{Born, Cell, size_of}
-use Rattle.object_layout.specs.ChunkValue.{ChunkValue}
-use Rattle.object_layout.specs.Place.{words_in}
-use Rattle.object_layout.specs.Chunks.{cell_of}
-use Rattle.object_layout.proofs.PlaceLemmas.{words_in-push}
-use Rattle.alloc_path.specs.LeafHeapValue.{room_at}
-use Rattle.leaf_copy_gc.specs.declared.lists.Survivor.{Survivor}
-use Rattle.leaf_copy_gc.specs.Survivors.{olds}
-use Rattle.leaf_copy_gc.specs.Laid.{AreNew, HasRoom, HaveRoom, Laying, laid_all, laid_one, open_next, opened, placed, room_in}
-use Rattle.leaf_copy_gc.specs.Redirected.{led_cell, led_chunk}
-use Rattle.leaf_copy_gc.specs.Exchanged.{last_place}
-use Rattle.leaf_copy_gc.proofs.LastChunk.{some_room}
-use Rattle.leaf_copy_gc.proofs.Packing.{used_led}
-use Rattle.core_relation.specs.Memory.{In}
-use Rattle.task_machine.specs.Accounts.{large_names, named_by, names_in, small_lists}
-use Rattle.task_machine.specs.Place.{name_of}
-use Rattle.task_machine.proofs.Counted.{names-push}
+use Rattle.leaf_collections.specs.below.hh_model.{Name, State}
+use Rattle.leaf_collections.specs.below.run_ledger.{chunk_words, lay, laid_onto, room_behind, words_at, words_sum}
+use Rattle.leaf_collections.specs.below.object_layout.{Addr, Birth, Born, Cell, size_of, ChunkValue, words_in, cell_of}
+use Rattle.leaf_collections.proofs.below.object_layout.{words_in-push}
+use Rattle.leaf_collections.specs.below.alloc_path.{room_at}
+use Rattle.leaf_collections.specs.below.leaf_copy_gc.{Survivor, olds, AreNew, HasRoom, HaveRoom, Laying, laid_all, laid_one, open_next, opened, placed, room_in, led_cell, led_chunk, last_place}
+use Rattle.leaf_collections.proofs.below.leaf_copy_gc.{some_room, used_led}
+use Rattle.leaf_collections.specs.below.core_relation.{In}
+use Rattle.leaf_collections.specs.below.task_machine.{large_names, named_by, names_in, small_lists, name_of}
+use Rattle.leaf_collections.proofs.below.task_machine.{names-push}
 use Rattle.copied_part_laws.proofs.ObjectsPlaced.{opened_new}
 
 abbrev pub lists_of : List ChunkValue → List (List Name)

@@ -1,18 +1,13 @@
 -- Where the objects of chunks lie: each within its own chunk, and none over another.
 use Rattle.std.proofs.Common.{◌≡◌, ◌⊎◌, ℕ, ◌+◌, ◌*◌, ◌/◌, ◌≤◌, arith, true, List, [], ◌∷◌, map, inl, inr, refl, ap, sym, subst, ◌∙◌}
 use Rattle.std.proofs.lemmas.Bool.{cases_eq}
-use Rattle.listed.proofs.Places.{map_in}
-use Rattle.object_layout.specs.declared.word.Addr.{Addr}
-use Rattle.object_layout.specs.Cell.{Born, Cell, Hole, Mark, Moved, size_of}
-use Rattle.object_layout.specs.ChunkValue.{ChunkValue}
-use Rattle.object_layout.specs.Place.{words_in}
-use Rattle.object_layout.specs.Objects.{Located, located_by, objects_from}
-use Rattle.alloc_path.specs.LeafHeapValue.{AreApart}
-use Rattle.core_relation.specs.Memory.{Chunk, In, objects_in}
-use Rattle.core_relation.specs.Layout.{AreApart as ObjectsApart, AreLaidOut, HoldsLarge, reserved_chunks, reserved_units, words}
-use Rattle.core_relation.proofs.objects.Members.{in_chunk}
-use Rattle.shared_value.specs.Objects.{chunk_of, chunks_of}
-use Rattle.shared_value.proofs.HeapLaidOut.{apart_here, distinct_from, same_chunk}
+use Rattle.leaf_collections.proofs.below.listed.{map_in}
+use Rattle.leaf_collections.specs.below.object_layout.{Addr, Born, Cell, Hole, Mark, Moved, size_of, ChunkValue, words_in, Located, located_by, objects_from}
+use Rattle.leaf_collections.specs.below.alloc_path.{AreApart}
+use Rattle.leaf_collections.specs.below.core_relation.{Chunk, In, objects_in, AreApart as ObjectsApart, AreLaidOut, HoldsLarge, reserved_chunks, reserved_units, words}
+use Rattle.leaf_collections.proofs.below.core_relation.{in_chunk}
+use Rattle.leaf_collections.specs.below.shared_value.{chunk_of, chunks_of}
+use Rattle.leaf_collections.proofs.below.shared_value.{apart_here, distinct_from, same_chunk}
 use Rattle.leaf_collections.proofs.MoreChunksLaid.{small_units}
 
 -- ---- IN ONE CHUNK

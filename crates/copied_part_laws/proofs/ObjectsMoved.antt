@@ -5,44 +5,26 @@ use Rattle.std.specs.Option.{option_map}
 use Rattle.std.specs.Prelude.{nat_le, reverse, unwrap_or}
 use Rattle.std.specs.List.{list_any}
 use Rattle.std.proofs.lemmas.Bool.{and_parts, cases_Bool, cases_lt, false≢true, le-leb, leb-true}
-use Rattle.listed.proofs.Members.{contains_from_in, in_append_cases, in_append_left, in_from_any, in_from_kept}
-use Rattle.listed.proofs.Places.{in_map, map_in, read_in}
-use Rattle.object_layout.specs.declared.word.Addr.{Addr}
-use Rattle.object_layout.specs.declared.word.Birth.{Birth}
-use Rattle.object_layout.specs.Cell.{Born, Cell, size_of}
-use Rattle.object_layout.specs.ChunkValue.{ChunkValue}
-use Rattle.object_layout.specs.Place.{cell_at}
-use Rattle.object_layout.specs.Chunks.{cell_of}
-use Rattle.object_layout.proofs.Distinct.{once_from, same_is}
-use Rattle.object_layout.proofs.ObjectChanges.{led_are_read}
-use Rattle.object_layout.specs.Objects.{Located, led_object, located, located_by, objects_from}
-use Rattle.object_layout.proofs.ObjectLemmas.{chunk_there}
-use Rattle.alloc_path.specs.LeafHeapValue.{AreApart, LeafHeapValue, IsReserved, IsSettled, IsTidy}
-use Rattle.remembered_set.specs.Moved.{same_address}
-use Rattle.leaf_copy_gc.specs.declared.lists.Survivor.{Survivor}
-use Rattle.leaf_copy_gc.specs.Survivors.{olds, old_of}
-use Rattle.leaf_copy_gc.specs.Laid.{Laying, before, is_small, smalls}
-use Rattle.leaf_copy_gc.specs.Redirected.{led_cell, led_chunk, new_address}
-use Rattle.leaf_copy_gc.specs.Exchanged.{reserved_of, unreserved}
-use Rattle.leaf_copy_gc.specs.Collected.{AreSurvivors, keeps, large_of, laid_of, laying_of, moves_of, redirection}
-use Rattle.leaf_copy_gc.specs.Laws.{CanTake}
+use Rattle.leaf_collections.proofs.below.listed.{contains_from_in, in_append_cases, in_append_left, in_from_any, in_from_kept, in_map, map_in, read_in}
+use Rattle.leaf_collections.specs.below.object_layout.{Addr, Birth, Born, Cell, size_of, ChunkValue, cell_at, cell_of, Located, led_object, located, located_by, objects_from}
+use Rattle.leaf_collections.proofs.below.object_layout.{once_from, same_is, led_are_read, chunk_there}
+use Rattle.leaf_collections.specs.below.alloc_path.{AreApart, LeafHeapValue, IsReserved, IsSettled, IsTidy}
+use Rattle.leaf_collections.specs.below.remembered_set.{same_address}
+use Rattle.leaf_collections.specs.below.leaf_copy_gc.{Survivor, olds, old_of, Laying, before, is_small, smalls, led_cell, led_chunk, new_address, reserved_of, unreserved, AreSurvivors, keeps, large_of, laid_of, laying_of, moves_of, redirection, CanTake}
 use Rattle.address_laws.proofs.Extent as extent
-use Rattle.leaf_copy_gc.proofs.Moves as moves
-use Rattle.leaf_copy_gc.proofs.Naming as naming
+use Rattle.leaf_collections.proofs.below.leaf_copy_gc.Moves as moves
+use Rattle.leaf_collections.proofs.below.leaf_copy_gc.Naming as naming
 use Rattle.address_laws.proofs.Numbers as nums
-use Rattle.leaf_copy_gc.proofs.NewNumbers as new_numbers
-use Rattle.leaf_copy_gc.proofs.NewNumbers.{within_at}
+use Rattle.leaf_collections.proofs.below.leaf_copy_gc.NewNumbers as new_numbers
+use Rattle.leaf_collections.proofs.below.leaf_copy_gc.{within_at, first_in, firsts, in_first, first_of, none_at, in_unreserved}
 use Rattle.address_laws.proofs.Numbers.{numbers}
-use Rattle.leaf_copy_gc.proofs.Order.{first_in, firsts, in_first}
 use Rattle.collected_heap_laws.proofs.Reading as reading
 use Rattle.collected_heap_laws.proofs.Telling.{once_moves, some_by}
-use Rattle.leaf_copy_gc.proofs.Rebuilt as rebuilt
-use Rattle.leaf_copy_gc.proofs.Rebuilt.{first_of, none_at}
-use Rattle.leaf_copy_gc.proofs.Naming.{in_unreserved}
-use Rattle.core_relation.specs.Memory.{In, copied_object, objects_in}
-use Rattle.core_relation.proofs.objects.Members.{in_objects}
-use Rattle.shared_value.specs.Objects.{chunk_of, chunks_of}
-use Rattle.shared_value.proofs.CellsRead.{object_seen, seen_object}
+use Rattle.leaf_collections.proofs.below.leaf_copy_gc.Rebuilt as rebuilt
+use Rattle.leaf_collections.specs.below.core_relation.{In, copied_object, objects_in}
+use Rattle.leaf_collections.proofs.below.core_relation.{in_objects}
+use Rattle.leaf_collections.specs.below.shared_value.{chunk_of, chunks_of}
+use Rattle.leaf_collections.proofs.below.shared_value.{object_seen, seen_object}
 use Rattle.copied_part_laws.proofs.ObjectsApart.{Holds, held_by}
 use Rattle.copied_part_laws.proofs.ObjectsPlaced.{laid_objects, seen_only}
 

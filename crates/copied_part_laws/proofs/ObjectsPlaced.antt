@@ -1,18 +1,12 @@
 -- Objects that are laid into new chunks, as they are read there.
 use Rattle.std.proofs.Common.{◌≡◌, ◌⊎◌, ℕ, ◌+◌, arith, Bool, true, false, cond, List, [], ◌∷◌, ◌++◌, inl, inr, refl, subst}
 use Rattle.std.specs.Prelude.{nat_lt}
-use Rattle.listed.proofs.Members.{in_append_cases, in_append_left, in_append_right}
-use Rattle.object_layout.specs.declared.word.Addr.{Addr}
-use Rattle.object_layout.specs.declared.word.Birth.{Birth}
-use Rattle.object_layout.specs.Cell.{Born, Cell, Hole, Mark, Moved, size_of}
-use Rattle.object_layout.specs.ChunkValue.{ChunkValue}
-use Rattle.object_layout.specs.Place.{words_in}
-use Rattle.object_layout.specs.Chunks.{cell_of}
-use Rattle.object_layout.specs.Objects.{Located, located, located_by, objects_from}
-use Rattle.object_layout.proofs.ObjectChanges.{objects_appended}
-use Rattle.leaf_copy_gc.specs.Laid.{AreNew, Laying, laid_all, laid_at, laid_one, next_place, open_next, opened, placed, relocations, room_in}
-use Rattle.core_relation.specs.Memory.{In, objects_in}
-use Rattle.shared_value.specs.Objects.{chunks_of}
+use Rattle.leaf_collections.proofs.below.listed.{in_append_cases, in_append_left, in_append_right}
+use Rattle.leaf_collections.specs.below.object_layout.{Addr, Birth, Born, Cell, Hole, Mark, Moved, size_of, ChunkValue, words_in, cell_of, Located, located, located_by, objects_from}
+use Rattle.leaf_collections.proofs.below.object_layout.{objects_appended}
+use Rattle.leaf_collections.specs.below.leaf_copy_gc.{AreNew, Laying, laid_all, laid_at, laid_one, next_place, open_next, opened, placed, relocations, room_in}
+use Rattle.leaf_collections.specs.below.core_relation.{In, objects_in}
+use Rattle.leaf_collections.specs.below.shared_value.{chunks_of}
 
 -- ---- OBJECTS LAID INTO NEW CHUNKS
 

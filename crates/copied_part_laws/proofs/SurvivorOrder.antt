@@ -1,21 +1,14 @@
 -- Survivors in order of birth: there is one list of the same names in that order.
 use Rattle.std.proofs.Common.{◌≡◌, ℕ, suc, ◌+◌, ◌<◌, ◌≤◌, arith, Bool, true, false, cond, List, [], ◌∷◌, length, get_or, map, filter, is_lt, inl, inr, refl, ap₂, sym, subst, ◌∙◌, eq-eqb}
 use Rattle.std.proofs.lemmas.Bool.{cases_lt, false≢true, le-ltb, lt-ltb}
-use Rattle.listed.proofs.Members.{contains_from_in, in_from_contains, in_from_kept, in_kept}
-use Rattle.listed.proofs.Places.{in_map, map_in}
-use Rattle.hh_model.specs.declared.data.Name.{Name}
-use Rattle.hh_model.specs.declared.data.State.{State}
-use Rattle.run_ledger.specs.declared.data.Heap.{Heap}
-use Rattle.run_ledger.specs.Heaps.{by_birth, insert_name, name_le, small_in, small_survivors}
-use Rattle.run_ledger.specs.Laws.{AreByBirth}
-use Rattle.run_ledger.specs.Reachable.{holds_name}
-use Rattle.run_ledger.proofs.Collections.{Born, born_from, born_is, born_on, collections_keep_just, born_both}
-use Rattle.run_ledger.proofs.Held.{birth_cases, in_birth, insert_cases}
-use Rattle.object_layout.proofs.Distinct.{Once}
-use Rattle.leaf_copy_gc.specs.declared.lists.Survivor.{Survivor}
-use Rattle.leaf_copy_gc.specs.Survivors.{olds, old_of, survivor_order}
-use Rattle.core_relation.specs.Memory.{In}
-use Rattle.core_entry_laws.proofs.notes.MarksAll.{NamedOnce}
+use Rattle.leaf_collections.proofs.below.listed.{contains_from_in, in_from_contains, in_from_kept, in_kept, in_map, map_in}
+use Rattle.leaf_collections.specs.below.hh_model.{Name, State}
+use Rattle.leaf_collections.specs.below.run_ledger.{Heap, by_birth, insert_name, name_le, small_in, small_survivors, AreByBirth, holds_name}
+use Rattle.leaf_collections.proofs.below.run_ledger.{Born, born_from, born_is, born_on, collections_keep_just, born_both, birth_cases, in_birth, insert_cases}
+use Rattle.leaf_collections.proofs.below.object_layout.{Once}
+use Rattle.leaf_collections.specs.below.leaf_copy_gc.{Survivor, olds, old_of, survivor_order}
+use Rattle.leaf_collections.specs.below.core_relation.{In}
+use Rattle.leaf_collections.proofs.below.core_entry_laws.{NamedOnce}
 use Rattle.copied_part_laws.proofs.NamesLaid.{birth_name}
 
 -- ---- BIRTHS

@@ -1,21 +1,13 @@
 -- The survivors of a leaf collection are what the registers and the roots reach, as the relation has it.
 use Rattle.std.proofs.Common.{◌≡◌, ℕ, zero, suc, Option, Some, List, [], ◌∷◌, map, inl, inr, ap, sym, subst, ◌∙◌}
-use Rattle.listed.proofs.Members.{contains_from_in, flat_in, got_in, in_append_cases, in_append_left, in_append_right, in_flat, in_from_contains}
-use Rattle.listed.proofs.Places.{in_map, map_in}
-use Rattle.walk_laws.specs.Reached.{IsWalk}
-use Rattle.object_layout.specs.declared.word.Addr.{Addr}
-use Rattle.object_layout.specs.Chunks.{cell_of}
-use Rattle.object_layout.specs.ChunkValue.{ChunkValue}
-use Rattle.object_layout.specs.Graph.{HasObjectAt, Leads}
-use Rattle.object_layout.specs.Objects.{Located}
-use Rattle.alloc_path.specs.LeafHeapValue.{AreApart}
-use Rattle.task_frames.specs.declared.frames.Frame.{Frame}
-use Rattle.task_frames.specs.FramesValue.{FramesValue, frames_of}
-use Rattle.leaf_copy_gc.specs.Survivors.{IsSurvivor, Starts, as_reference, frame_references, outside, references_in}
-use Rattle.core_relation.specs.Memory.{Belongings, In, objects_in}
-use Rattle.core_relation.specs.Begins.{IsAt, IsReachedAt, LeadsAt, StartsAt}
-use Rattle.shared_value.specs.Objects.{chunks_of}
-use Rattle.shared_value.specs.SharedValue.{frames_down}
+use Rattle.leaf_collections.proofs.below.listed.{contains_from_in, flat_in, got_in, in_append_cases, in_append_left, in_append_right, in_flat, in_from_contains, in_map, map_in}
+use Rattle.leaf_collections.specs.below.walk_laws.{IsWalk}
+use Rattle.leaf_collections.specs.below.object_layout.{Addr, cell_of, ChunkValue, HasObjectAt, Leads, Located}
+use Rattle.leaf_collections.specs.below.alloc_path.{AreApart}
+use Rattle.leaf_collections.specs.below.task_frames.{Frame, FramesValue, frames_of}
+use Rattle.leaf_collections.specs.below.leaf_copy_gc.{IsSurvivor, Starts, as_reference, frame_references, outside, references_in}
+use Rattle.leaf_collections.specs.below.core_relation.{Belongings, In, objects_in, IsAt, IsReachedAt, LeadsAt, StartsAt}
+use Rattle.leaf_collections.specs.below.shared_value.{chunks_of, frames_down}
 use Rattle.heap_marking.proofs.HeapClosed.{held_seen, seen_held}
 
 -- the frames of a stack, from the bottom, are those from the top

@@ -1,27 +1,17 @@
 -- What a leaf collection makes of a part: the belongings before it and after it, and where it leads addresses.
 use Rattle.std.specs.Prelude.{◌≡◌, ℕ, ◌≤◌, pos, All, Some, None, List, Option, length, map, slice_get}
-use Rattle.hh_lang.specs.Form.{ProgramText}
-use Rattle.hh_model.specs.declared.data.Status.TheVariants.{Running}
-use Rattle.hh_model.specs.declared.data.Task.{Task}
-use Rattle.run_trace.specs.Settings.{SettingsValue}
-use Rattle.run_ledger.specs.declared.data.Ledger.{Ledger}
-use Rattle.run_ledger.specs.Heaps.{end_numbers, heap_of, units_in}
-use Rattle.object_layout.specs.declared.word.Addr.{Addr}
-use Rattle.object_layout.specs.ChunkValue.{ChunkValue}
-use Rattle.object_layout.specs.Graph.{IsClosed, IsSound}
-use Rattle.alloc_path.specs.LeafHeapValue.{LeafHeapValue}
-use Rattle.chunk_rows.specs.View.{Level}
-use Rattle.task_frames.specs.FramesValue.{FramesValue}
-use Rattle.leaf_copy_gc.specs.declared.lists.Moved.{Moved}
-use Rattle.leaf_copy_gc.specs.Laws.{CanTake}
-use Rattle.leaf_copy_gc.specs.Lists.{IsCollected}
-use Rattle.leaf_copy_gc.specs.Redirected.{new_address}
-use Rattle.leaf_copy_gc.specs.Survivors.{as_reference, outside}
-use Rattle.task_machine.specs.declared.part.Begun.{Begun}
-use Rattle.core_relation.specs.Memory.{Belongings, In, Memory}
-use Rattle.core_relation.specs.Copies.{CopyFits, PartFits, before}
-use Rattle.shared_value.specs.Stands.{HeapForm}
-use Rattle.shared_value.specs.SharedValue.{frames_down, belongings_with}
+use Rattle.leaf_collections.specs.below.hh_lang.{ProgramText}
+use Rattle.leaf_collections.specs.below.hh_model.{Running, Task}
+use Rattle.leaf_collections.specs.below.run_trace.{SettingsValue}
+use Rattle.leaf_collections.specs.below.run_ledger.{Ledger, end_numbers, heap_of, units_in}
+use Rattle.leaf_collections.specs.below.object_layout.{Addr, ChunkValue, IsClosed, IsSound}
+use Rattle.leaf_collections.specs.below.alloc_path.{LeafHeapValue}
+use Rattle.leaf_collections.specs.below.chunk_rows.{Level}
+use Rattle.leaf_collections.specs.below.task_frames.{FramesValue}
+use Rattle.leaf_collections.specs.below.leaf_copy_gc.{Moved, CanTake, IsCollected, new_address, as_reference, outside}
+use Rattle.leaf_collections.specs.below.task_machine.{Begun}
+use Rattle.leaf_collections.specs.below.core_relation.{Belongings, In, Memory, CopyFits, PartFits, before}
+use Rattle.leaf_collections.specs.below.shared_value.{HeapForm, frames_down, belongings_with}
 
 -- the belongings of a part, with the collection that it has begun, or none
 abbrev pub part_belongings : LeafHeapValue → List Level → ℕ → FramesValue → Option Begun → Belongings

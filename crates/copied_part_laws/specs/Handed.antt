@@ -1,19 +1,11 @@
 -- A part that was copied fits the shared value for the end of its collection.
 use Rattle.std.specs.Prelude.{◌≡◌, ℕ, Some, List, map}
-use Rattle.object_layout.specs.ChunkValue.{ChunkValue, number_of}
-use Rattle.object_layout.specs.declared.word.Addr.{Addr}
-use Rattle.alloc_path.specs.LeafHeapValue.{LeafHeapValue}
-use Rattle.task_frames.specs.FramesValue.{FramesValue}
-use Rattle.leaf_copy_gc.specs.declared.lists.Moved.{Moved}
-use Rattle.leaf_copy_gc.specs.declared.lists.ToChunks.{ToChunks}
-use Rattle.leaf_copy_gc.specs.Laws.{CanTake}
-use Rattle.leaf_copy_gc.specs.Lists.{IsCollected}
-use Rattle.task_machine.specs.declared.part.Begun.{Begun}
-use Rattle.task_machine.specs.declared.part.Private.{Private}
-use Rattle.shared_value.specs.Fits.{Fits}
-use Rattle.shared_value.specs.LeafBegin.{HasBegun}
-use Rattle.shared_value.specs.Stands.{IsSharedValue}
-use Rattle.shared_value.specs.SharedValue.{SharedValue}
+use Rattle.leaf_collections.specs.below.object_layout.{ChunkValue, number_of, Addr}
+use Rattle.leaf_collections.specs.below.alloc_path.{LeafHeapValue}
+use Rattle.leaf_collections.specs.below.task_frames.{FramesValue}
+use Rattle.leaf_collections.specs.below.leaf_copy_gc.{Moved, ToChunks, CanTake, IsCollected}
+use Rattle.leaf_collections.specs.below.task_machine.{Begun, Private}
+use Rattle.leaf_collections.specs.below.shared_value.{Fits, HasBegun, IsSharedValue, SharedValue}
 use Rattle.leaf_collections.specs.LeafEnd.{FitsCopied}
 
 -- a part that fits with its begun collection, before the run's end, and the chunks that this took

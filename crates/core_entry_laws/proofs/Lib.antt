@@ -1,3 +1,4 @@
 pub mod parts
 pub mod notes
 pub mod whole
+pub mod below

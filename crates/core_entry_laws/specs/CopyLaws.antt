@@ -1,22 +1,15 @@
 -- The laws of leaf collections that have begun, of copies and of marks.
 use Rattle.core_relation.specs.Copies.{PartFits, CopyFits, EndsAt, before}
-use Rattle.run_ledger.specs.declared.data.Heap.{Heap}
+use Rattle.core_relation.specs.below.run_ledger.{Heap, Ledger, heap_of, with_heap, collected, held_in, left_in, is_name, SoundLedger}
 use Rattle.std.specs.List.{IsDistinct}
 use Rattle.std.specs.Prelude.{◌≡◌, ℕ, true, Some, None, slice_get, ◌↔◌, List}
-use Rattle.object_layout.specs.declared.word.Addr.{Addr}
-use Rattle.object_layout.specs.Objects.{Located}
-use Rattle.hh_lang.specs.Form.{ProgramText}
-use Rattle.run_trace.specs.Settings.{SettingsValue}
-use Rattle.hh_model.specs.declared.data.Status.TheVariants.{Running}
-use Rattle.hh_model.specs.declared.data.Task.{Task}
-use Rattle.run_ledger.specs.declared.data.Ledger.{Ledger}
-use Rattle.run_ledger.specs.Heaps.{heap_of, with_heap, collected, held_in, left_in}
-use Rattle.run_ledger.specs.Reachable.{is_name}
-use Rattle.hh_model.specs.declared.data.Name.{Name}
+use Rattle.core_relation.specs.below.object_layout.{Addr, Located}
+use Rattle.core_relation.specs.below.hh_lang.{ProgramText}
+use Rattle.core_relation.specs.below.run_trace.{SettingsValue}
+use Rattle.core_relation.specs.below.hh_model.{Running, Task, Name}
 use Rattle.core_relation.specs.Marking.{MarksStand}
-use Rattle.run_ledger.specs.Sound.{SoundLedger}
 use Rattle.core_relation.specs.Memory.{Belongings, Memory, In, object_name, objects}
-use Rattle.ledger_step_laws.specs.Accounts.{Rests, rested}
+use Rattle.core_relation.specs.below.ledger_step_laws.{Rests, rested}
 use Rattle.core_relation.specs.Stands.{Stands}
 use Rattle.core_relation.specs.Fits.{with_belongings}
 use Rattle.core_relation.specs.Changes.{Moves}

@@ -1,26 +1,19 @@
 -- The laws of the whole relation: past each accepted entry, from whole to whole.
-use Rattle.ledger_step_laws.specs.Last.{Runs}
+use Rattle.core_relation.specs.below.ledger_step_laws.{Runs, Rests}
 use Rattle.core_relation.specs.Makes.{Makes, taken_by}
 use Rattle.core_relation.specs.Marks.{Marks}
 use Rattle.core_relation.specs.Counts.{CountsGo, IsQuiet, IsMarked}
 use Rattle.core_relation.specs.RanCounts.{RanCounts}
-use Rattle.run_trace.specs.Entry.{EntryValue}
-use Rattle.run_trace.specs.declared.entry.Kind.TheVariants.{Took, Ran, Sweep, End}
-use Rattle.run_ledger.specs.Journals.{ledger_of, is_legal}
-use Rattle.run_ledger.specs.Entries.{refusal, after, out_from}
-use Rattle.run_ledger.specs.Steps.{task_steps}
+use Rattle.core_relation.specs.below.run_trace.{EntryValue, Took, Ran, Sweep, End, SettingsValue}
+use Rattle.core_relation.specs.below.run_ledger.{ledger_of, is_legal, refusal, after, out_from, task_steps, Ledger, heap_of}
 use Rattle.core_relation.specs.Since.{AllNoted, MarksOn, NotesStay, OthersNotes}
 use Rattle.core_relation.specs.Whole.{StandsForAll, handed, TreeCounts, TreeCountsStand, StandsFor}
 use Rattle.core_relation.specs.Copies.{CopyFits, EndsAt}
 use Rattle.std.specs.Prelude.{◌≡◌, ℕ, suc, true, None, List, Some}
-use Rattle.object_layout.specs.declared.word.Addr.{Addr}
-use Rattle.hh_lang.specs.Form.{ProgramText, IsProgram}
-use Rattle.run_trace.specs.Settings.{SettingsValue}
-use Rattle.hh_model.specs.declared.data.End.TheVariants.{Done}
-use Rattle.run_ledger.specs.declared.data.Ledger.{Ledger}
-use Rattle.run_ledger.specs.Heaps.{heap_of}
+use Rattle.core_relation.specs.below.object_layout.{Addr}
+use Rattle.core_relation.specs.below.hh_lang.{ProgramText, IsProgram}
+use Rattle.core_relation.specs.below.hh_model.{Done}
 use Rattle.core_relation.specs.Memory.{Belongings, Memory}
-use Rattle.ledger_step_laws.specs.Accounts.{Rests}
 use Rattle.core_relation.specs.Stands.{Stands}
 use Rattle.core_relation.specs.Fits.{part_for}
 use Rattle.core_relation.specs.Changes.{KeepsJust, SameBut, SameObjects}

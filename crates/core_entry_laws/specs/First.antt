@@ -1,6 +1,6 @@
 -- The memory before any entry: the root is ready, with one frame, and nothing else is there.
 use Rattle.std.specs.Prelude.{ℕ, zero, suc, pos, false, Option, Some, None, [], ◌∷◌, replicate}
-use Rattle.hh_lang.specs.Form.{ProgramText}
+use Rattle.core_relation.specs.below.hh_lang.{ProgramText}
 use Rattle.core_relation.specs.Memory.{Belongings, no_belongings, Memory}
 
 abbrev pub first_belongings : ProgramText → ℕ → Belongings

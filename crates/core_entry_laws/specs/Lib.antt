@@ -3,3 +3,4 @@ pub mod First
 pub mod EntryLaws
 pub mod WorkerLaws
 pub mod CopyLaws
+pub mod below

@@ -1,10 +1,9 @@
 -- What is reached now of a heap that waits.
 use Rattle.std.specs.Prelude.{◌≡◌, ◌⊎◌, ◌↔◌, ℕ, true, Some, slice_get}
-use Rattle.walk_laws.specs.Reached.{IsReached}
-use Rattle.object_layout.specs.declared.word.Addr.{Addr}
-use Rattle.object_layout.specs.Objects.{Located}
-use Rattle.run_ledger.specs.declared.data.Ledger.{Ledger}
-use Rattle.task_frames.specs.declared.frames.Frame.{Frame}
+use Rattle.core_relation.specs.below.walk_laws.{IsReached}
+use Rattle.core_relation.specs.below.object_layout.{Addr, Located}
+use Rattle.core_relation.specs.below.run_ledger.{Ledger}
+use Rattle.core_relation.specs.below.task_frames.{Frame}
 use Rattle.core_relation.specs.Memory.{In, Memory}
 use Rattle.core_relation.specs.Begins.{IsAt, IsRoot, LeadsAt}
 use Rattle.core_relation.specs.Since.{kept}

@@ -1,21 +1,13 @@
 -- The laws of what workers hold: an entry of one leaves what every other holds fitting, and what it makes of its own
 -- fits.
 use Rattle.std.specs.Prelude.{◌≡◌, ℕ, ℤ, true, Option, None, List, ◌∷◌, slice_set}
-use Rattle.object_layout.specs.declared.word.Addr.{Addr}
-use Rattle.hh_lang.specs.Form.{ProgramText}
-use Rattle.run_trace.specs.Entry.{EntryValue}
-use Rattle.run_trace.specs.Settings.{SettingsValue}
-use Rattle.run_trace.specs.declared.entry.Kind.TheVariants.{Took, Sweep, End}
-use Rattle.run_ledger.specs.declared.data.Ledger.{Ledger}
-use Rattle.run_ledger.specs.Entries.{refusal, after}
-use Rattle.run_ledger.specs.Heaps.{heap_of}
-use Rattle.run_ledger.specs.Journals.{ledger_of, is_legal}
-use Rattle.run_ledger.specs.Steps.{task_steps}
-use Rattle.hh_model.specs.declared.data.Frame.{Frame as ModelFrame}
-use Rattle.task_frames.specs.declared.frames.Frame.{Frame}
-use Rattle.ledger_step_laws.specs.Accounts.{Knows, StepsAlone, rested}
-use Rattle.ledger_step_laws.specs.Kinds.{onward_with}
-use Rattle.ledger_step_laws.specs.Last.{Runs, stepped_by}
+use Rattle.core_relation.specs.below.object_layout.{Addr}
+use Rattle.core_relation.specs.below.hh_lang.{ProgramText}
+use Rattle.core_relation.specs.below.run_trace.{EntryValue, SettingsValue, Took, Sweep, End}
+use Rattle.core_relation.specs.below.run_ledger.{Ledger, refusal, after, heap_of, ledger_of, is_legal, task_steps}
+use Rattle.core_relation.specs.below.hh_model.{Frame as ModelFrame}
+use Rattle.core_relation.specs.below.task_frames.{Frame}
+use Rattle.core_relation.specs.below.ledger_step_laws.{Knows, StepsAlone, rested, onward_with, Runs, stepped_by}
 use Rattle.core_relation.specs.Memory.{Belongings, Memory}
 use Rattle.core_relation.specs.Changes.{KeepsJust, SameBut, SameObjects, gone_on}
 use Rattle.core_relation.specs.Reads.{FrameIsRead}

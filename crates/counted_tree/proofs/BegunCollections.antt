@@ -2,39 +2,16 @@
 use Rattle.std.proofs.Common.{◌≡◌, ℕ, zero, suc, ◌+◌, ◌&&◌, ◌==◌, not, nat_le, Bool, true, false, cond, Option, Some, None, List, [], ◌∷◌, ◌++◌, slice_get, nat_lt, inl, inr, refl, ap, ap₂, sym, subst, ◌∙◌, is_some, is_none}
 use Rattle.std.proofs.lemmas.Bool.{false≢true, both_ways, cases_eq, and_parts, eqb-false, eqb-true}
 use Rattle.std.proofs.lemmas.List.Sums.{sum_by-cons}
-use Rattle.listed.proofs.Members.{In, contains_from_in}
-use Rattle.hh_lang.specs.Form.{ProgramText}
-use Rattle.run_trace.specs.declared.entry.Kind.{Kind}
-use Rattle.run_trace.specs.declared.entry.Kind.TheVariants.{Took, Ran, Chunk, Begin, End as EndOf, PutOff, Mark, More, Sweep, Fuel}
-use Rattle.run_trace.specs.Entry.{EntryValue}
-use Rattle.run_trace.specs.Settings.{SettingsValue}
-use Rattle.hh_model.specs.declared.data.Name.{Name}
-use Rattle.hh_model.specs.declared.data.State.{State}
-use Rattle.hh_model.specs.Effect.{object_at}
-use Rattle.hh_model.specs.Step.{asked, can_step, is_running, is_waiting, step}
-use Rattle.run_ledger.specs.declared.data.Heap.{Heap}
-use Rattle.run_ledger.specs.declared.data.Ledger.{Ledger}
-use Rattle.run_ledger.specs.declared.data.RunEnd.TheVariants.{Fuel as FuelEnd, Pool}
-use Rattle.run_ledger.specs.declared.data.Refused.{Refused}
-use Rattle.journal_laws.specs.Frozen.{begins}
-use Rattle.run_ledger.specs.Heaps.{chunk_words, collected, end_numbers, heap_of, held_in, in_use, is_small, or_fresh, swept_heap, take_of, with_heap, within, words_at, words_in, words_of, words_sum}
-use Rattle.run_ledger.specs.Steps.{allocated_in, on_asked, stepped_to, task_step, task_steps}
-use Rattle.run_ledger.specs.Entries.{after, after_kind, chunk_units, ends_as, is_fuel, is_out, is_ready, kind_refusal, on_waiting, refusal, refused_unless, with_chunk}
-use Rattle.listed.specs.Options.{option_is}
-use Rattle.listed.proofs.Options.{none_some}
-use Rattle.run_ledger.specs.Journals.{is_legal, ledger_of}
-use Rattle.run_ledger.specs.Laws.{HoldsOnce, TasksAreOut, LeavesTask}
-use Rattle.run_ledger.specs.Sound.{SoundAt, SoundLedger, collecting}
-use Rattle.run_ledger.proofs.Cuts.{legal_then, none_is}
-use Rattle.run_ledger.proofs.Frames.{entries_leave_others, held_is, left_step, heap_off, heap_view}
-use Rattle.run_ledger.proofs.Holders.{tasks_are_out_once}
-use Rattle.run_ledger.proofs.Journals.{collecting_is, entry_tells, legal_sound, none_unless, none_where, out_tells, wait_tells}
-use Rattle.run_ledger.proofs.Steps.{task_step_sound, task_steps_sound}
-use Rattle.run_ledger.proofs.Stocks.{names_are_held_once}
-use Rattle.journal_laws.proofs.Waiters.{waiters_are_free}
-use Rattle.journal_laws.proofs.History.{idle_then}
-use Rattle.run_ledger.proofs.Machine.{heap_machine}
-use Rattle.ledger_step_laws.proofs.Ahead.{heap_then, with_at}
+use Rattle.heap_reading.proofs.below.listed.{In, contains_from_in, none_some}
+use Rattle.heap_reading.specs.below.hh_lang.{ProgramText}
+use Rattle.heap_reading.specs.below.run_trace.{Kind, Took, Ran, Chunk, Begin, End as EndOf, PutOff, Mark, More, Sweep, Fuel, EntryValue, SettingsValue}
+use Rattle.heap_reading.specs.below.hh_model.{Name, State, object_at, asked, can_step, is_running, is_waiting, step}
+use Rattle.heap_reading.specs.below.run_ledger.{Heap, Ledger, Fuel as FuelEnd, Pool, Refused, chunk_words, collected, end_numbers, heap_of, held_in, in_use, is_small, or_fresh, swept_heap, take_of, with_heap, within, words_at, words_in, words_of, words_sum, allocated_in, on_asked, stepped_to, task_step, task_steps, after, after_kind, chunk_units, ends_as, is_fuel, is_out, is_ready, kind_refusal, on_waiting, refusal, refused_unless, with_chunk, is_legal, ledger_of, HoldsOnce, TasksAreOut, LeavesTask, SoundAt, SoundLedger, collecting}
+use Rattle.heap_reading.specs.below.journal_laws.{begins}
+use Rattle.heap_reading.specs.below.listed.{option_is}
+use Rattle.heap_reading.proofs.below.run_ledger.{legal_then, none_is, entries_leave_others, held_is, left_step, heap_off, heap_view, tasks_are_out_once, collecting_is, entry_tells, legal_sound, none_unless, none_where, out_tells, wait_tells, task_step_sound, task_steps_sound, names_are_held_once, heap_machine}
+use Rattle.heap_reading.proofs.below.journal_laws.{waiters_are_free, idle_then}
+use Rattle.heap_reading.proofs.below.ledger_step_laws.{heap_then, with_at}
 
 -- STEPS of a task begin no leaf collection of another one
 module _ (p : ProgramText) (t u : ℕ) (ne : t ≡ u → ⊥) where

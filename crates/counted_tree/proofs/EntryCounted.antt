@@ -2,44 +2,29 @@
 use Rattle.std.proofs.Common.{◌≡◌, ℕ, zero, suc, ◌+◌, ◌-◌, ◌<◌, ◌==◌, ◌^◌, Bool, true, false, cond, Some, None, List, [], ◌∷◌, ◌++◌, length, length-set, slice_get, slice_set, inl, inr, refl, ap, ap₂, sym, subst, ◌∙◌, is_some, arith, length-append}
 use Rattle.std.proofs.lemmas.Bool.{cases_eq, eqb-true, ltb-true}
 use Rattle.std.proofs.lemmas.Option.{same_Some}
-use Rattle.listed.proofs.Members.{got_back, got_other}
-use Rattle.listed.proofs.Places.{got_set}
-use Rattle.hh_lang.specs.Form.{ProgramText}
-use Rattle.run_trace.specs.declared.entry.Kind.{Kind}
-use Rattle.run_trace.specs.declared.entry.Kind.TheVariants.{Took, Ran, Chunk, Begin, End as EndOf, PutOff, Mark, More, Sweep, Fuel}
-use Rattle.run_trace.specs.Entry.{EntryValue}
-use Rattle.run_trace.specs.Settings.{SettingsValue}
-use Rattle.hh_model.specs.declared.data.State.{State}
-use Rattle.hh_model.specs.Step.{is_running, is_waiting}
-use Rattle.path_laws.proofs.Leaves.{waiting_stops}
-use Rattle.run_ledger.specs.declared.data.Ledger.{Ledger}
-use Rattle.run_ledger.specs.Entries.{after, after_kind}
-use Rattle.journal_laws.specs.Frozen.{begins}
-use Rattle.run_ledger.specs.Heaps.{collected, heap_of, held_in, in_use, swept_heap, with_heap, words_in, words_sum}
-use Rattle.run_ledger.specs.Journals.{ledger_of, opening}
-use Rattle.run_ledger.specs.Report.{lost}
-use Rattle.run_ledger.proofs.Machine.{heap_machine}
-use Rattle.run_ledger.proofs.Cuts.{legal_then}
-use Rattle.object_layout.specs.Chunks.{held_words}
-use Rattle.alloc_path.specs.LeafHeapValue.{counted as counted64}
+use Rattle.heap_reading.proofs.below.listed.{got_back, got_other, got_set}
+use Rattle.heap_reading.specs.below.hh_lang.{ProgramText}
+use Rattle.heap_reading.specs.below.run_trace.{Kind, Took, Ran, Chunk, Begin, End as EndOf, PutOff, Mark, More, Sweep, Fuel, EntryValue, SettingsValue}
+use Rattle.heap_reading.specs.below.hh_model.{State, is_running, is_waiting}
+use Rattle.heap_reading.proofs.below.path_laws.{waiting_stops}
+use Rattle.heap_reading.specs.below.run_ledger.{Ledger, after, after_kind, collected, heap_of, held_in, in_use, swept_heap, with_heap, words_in, words_sum, ledger_of, opening, lost}
+use Rattle.heap_reading.specs.below.journal_laws.{begins}
+use Rattle.heap_reading.proofs.below.run_ledger.{heap_machine, legal_then}
+use Rattle.heap_reading.specs.below.object_layout.{held_words}
+use Rattle.heap_reading.specs.below.alloc_path.{counted as counted64}
 use Rattle.run_report.specs.Totals.{AreFew, cleared_words, counted, entry_totals, joined, no_totals, totals_from}
 use Rattle.run_report.proofs.Sums.{legal_few, lost_is, totals_last}
-use Rattle.task_machine.specs.declared.part.Private.{Private}
-use Rattle.shared_value.specs.declared.answer.NotEntered.{NotEntered}
-use Rattle.shared_value.specs.declared.answer.NotEntered.TheVariants.{NoMemory, Refuses}
-use Rattle.shared_value.specs.Entered.{Enters, refused}
-use Rattle.shared_value.specs.Fits.{Fits}
-use Rattle.shared_value.specs.Stands.{IsSharedValue}
-use Rattle.shared_value.specs.SharedValue.{SharedValue, accounts}
-use Rattle.own_steps.specs.Alone.{alone_entry}
-use Rattle.child_tasks.specs.Joins.{IsUnchanged}
+use Rattle.heap_reading.specs.below.task_machine.{Private}
+use Rattle.heap_reading.specs.below.shared_value.{NotEntered, NoMemory, Refuses, Enters, refused, Fits, IsSharedValue, SharedValue, accounts}
+use Rattle.shared_tree.specs.below.own_steps.{alone_entry}
+use Rattle.shared_tree.specs.below.child_tasks.{IsUnchanged}
 use Rattle.shared_tree.specs.declared.ran.Ran.{Ran as RanOf}
 use Rattle.shared_tree.specs.declared.ran.Ran.TheVariants.{Forked as ForksInto, Ended as EndsWith, Over as IsOver, Done as IsDone}
 use Rattle.shared_tree.specs.declared.ran_lent.Leaving.{Leaving}
 use Rattle.shared_tree.specs.declared.ran_lent.Lent.{Lent}
 use Rattle.shared_tree.specs.declared.ran_lent.Lent.TheVariants.{Goes as GoesOn, Over as HasEnded, Leaves}
 use Rattle.shared_tree.specs.Ran.{LentTo, RanTo}
-use Rattle.heap_marking.proofs.ForksTold.{entered_accounts}
+use Rattle.shared_tree.proofs.below.heap_marking.{entered_accounts}
 use Rattle.heap_reading.specs.HeldNames.{held_unless_running}
 use Rattle.heap_reading.proofs.KeptNames.{counted_few}
 use Rattle.counted_tree.specs.declared.counting.Counts.{Counts}

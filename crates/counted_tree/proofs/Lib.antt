@@ -1,3 +1,4 @@
 pub mod BegunCollections
 pub mod EntryCounted
 pub mod PartWords
+pub mod below

@@ -2,25 +2,17 @@
 use Rattle.std.proofs.Common.{◌≡◌, ℕ, zero, suc, ◌+◌, ◌*◌, ◌^◌, ◌≤◌, arith, List, [], ◌∷◌, ◌++◌, slice_get, sum_by, refl, ap, sym, ◌∙◌}
 use Rattle.std.specs.List.{flat_map}
 use Rattle.std.proofs.lemmas.List.Sums.{sum_by-append}
-use Rattle.hh_model.specs.declared.data.Name.{Name}
-use Rattle.hh_model.specs.declared.data.State.{State}
-use Rattle.hh_model.specs.Effect.{object_at}
-use Rattle.run_ledger.specs.declared.data.Heap.{Heap}
-use Rattle.run_ledger.specs.declared.data.Ledger.{Ledger}
-use Rattle.run_ledger.specs.Heaps.{heap_of, held, held_in, in_use, let_go, or_fresh, words_at, words_in, words_of, words_sum}
-use Rattle.run_ledger.proofs.Space.{heaps_fit, use_is_bounded}
-use Rattle.run_ledger.proofs.Machine.{heap_machine}
-use Rattle.object_layout.specs.Chunks.{held_words}
-use Rattle.ledger_step_laws.specs.Accounts.{aside, rested}
-use Rattle.ledger_step_laws.proofs.Rested.{rested_view, rested_worker}
-use Rattle.core_relation.specs.Fits.{with_belongings}
-use Rattle.core_relation.specs.Memory.{Belongings, Memory}
-use Rattle.core_relation.proofs.changes.With.{at_belongings}
-use Rattle.task_machine.specs.declared.part.Private.{Private}
-use Rattle.shared_value.specs.Fits.{Fits, belongings_of_part}
-use Rattle.shared_value.specs.Stands.{IsSharedValue}
-use Rattle.shared_value.specs.SharedValue.{SharedValue, accounts, value_of}
-use Rattle.shared_value.proofs.HeapWords.{words_are}
+use Rattle.heap_reading.specs.below.hh_model.{Name, State, object_at}
+use Rattle.heap_reading.specs.below.run_ledger.{Heap, Ledger, heap_of, held, held_in, in_use, let_go, or_fresh, words_at, words_in, words_of, words_sum}
+use Rattle.heap_reading.proofs.below.run_ledger.{heaps_fit, use_is_bounded, heap_machine}
+use Rattle.heap_reading.specs.below.object_layout.{held_words}
+use Rattle.heap_reading.specs.below.ledger_step_laws.{aside, rested}
+use Rattle.heap_reading.proofs.below.ledger_step_laws.{rested_view, rested_worker}
+use Rattle.heap_reading.specs.below.core_relation.{with_belongings, Belongings, Memory}
+use Rattle.heap_reading.proofs.below.core_relation.{at_belongings}
+use Rattle.heap_reading.specs.below.task_machine.{Private}
+use Rattle.heap_reading.specs.below.shared_value.{Fits, belongings_of_part, IsSharedValue, SharedValue, accounts, value_of}
+use Rattle.heap_reading.proofs.below.shared_value.{words_are}
 
 -- A HEAP IS SMALL
 heap_least : (g : List Name → ℕ) → ((xs ys : List Name) → g (xs ++ ys) ≡ g xs + g ys) → (heaps : List Heap) (t : ℕ) → g (held_in (or_fresh (slice_get heaps t))) ≤ g (flat_map held_in heaps) + g []

@@ -1,16 +1,10 @@
 -- What is kept of the entries of a journal beside the shared value.
 use Rattle.std.specs.Prelude.{◌≡◌, ℕ, true, Some, None, List, length, slice_get, slice_set, is_some}
-use Rattle.run_trace.specs.declared.entry.Kind.{Kind}
-use Rattle.run_trace.specs.declared.entry.Kind.TheVariants.{Begin, Sweep}
-use Rattle.run_trace.specs.Entry.{EntryValue}
-use Rattle.run_ledger.specs.declared.data.Ledger.{Ledger}
-use Rattle.run_ledger.specs.Heaps.{heap_of, words_in}
-use Rattle.run_ledger.specs.Journals.{opening}
+use Rattle.heap_reading.specs.below.run_trace.{Kind, Begin, Sweep, EntryValue}
+use Rattle.heap_reading.specs.below.run_ledger.{Ledger, heap_of, words_in, opening}
 use Rattle.run_report.specs.declared.totals.Totals.{Totals}
 use Rattle.run_report.specs.Totals.{totals_from}
-use Rattle.shared_value.specs.Entered.{Enters, refused}
-use Rattle.shared_value.specs.Stands.{IsSharedValue}
-use Rattle.shared_value.specs.SharedValue.{SharedValue, accounts}
+use Rattle.heap_reading.specs.below.shared_value.{Enters, refused, IsSharedValue, SharedValue, accounts}
 use Rattle.counted_tree.specs.declared.counting.Counts.{Counts}
 
 -- the totals of the journal

@@ -1,19 +1,14 @@
 // The shared value and the totals of its journal.
 
 ghost use Rattle.std.specs.Prelude.{◌≡◌, ◌<◌, [], ℕ, IfOk, OnOk, Some, false, true};
-ghost use Rattle.run_ledger.specs.Report.{report_of};
-ghost use Rattle.task_machine.specs.declared.part.Private.{Private as PrivateOf};
-ghost use Rattle.shared_value.specs.Fits.{AllFit, Fits};
-ghost use Rattle.shared_value.specs.Stands.{IsSharedValue};
-ghost use Rattle.shared_value.specs.SharedValue.{rest_at, without_journal};
-ghost use Rattle.task_homes.specs.declared.task_at_rest.Rest.{Rest as RestOf};
+ghost use Rattle.heap_reading.specs.below.run_ledger.{report_of};
+ghost use Rattle.heap_reading.specs.below.task_machine.{Private as PrivateOf};
+ghost use Rattle.heap_reading.specs.below.shared_value.{AllFit, Fits, IsSharedValue, rest_at, without_journal};
+ghost use Rattle.heap_reading.specs.below.task_homes.{Rest as RestOf};
 
 use crate::counting::Counts;
 use crate::held_words::held;
-use hh_lang::Program;
-use listed::Listed;
-use run_ledger::Report;
-use run_trace::{Entry, Settings};
+use heap_reading::{Entry, Listed, Program, Report, Settings};
 use shared_tree::{Remains, Shared};
 use std::alloc::{AllocError, Global};
 use std::marker::Model;
@@ -34,7 +29,7 @@ impl Drop for Counted {
 }
 
 impl Model for Counted {
-    ghost use Rattle.shared_value.specs.SharedValue.{SharedValue};
+    ghost use Rattle.heap_reading.specs.below.shared_value.{SharedValue};
     ghost use Rattle.counted_tree.specs.Counts.{KeepsCounts};
 
     ghost Value = { SharedValue };

@@ -1,16 +1,14 @@
 // What the entries of a journal come to, counted on after each.
 
 ghost use Rattle.std.specs.Prelude.{◌≡◌, ◌-◌, ◌<◌, ◌^◌, IfOk, length};
-ghost use Rattle.run_trace.specs.Entry.{EntryValue};
+ghost use Rattle.heap_reading.specs.below.run_trace.{EntryValue};
 ghost use Rattle.run_report.specs.Totals.{cleared_words, joined, no_totals, AreFew};
-ghost use Rattle.shared_value.specs.SharedValue.{SharedValue, accounts};
-ghost use Rattle.shared_value.specs.Entered.{Enters};
+ghost use Rattle.heap_reading.specs.below.shared_value.{SharedValue, accounts, Enters};
 ghost use Rattle.counted_tree.specs.Counts.{IsMade, KeepsCounts, begun_with};
 
 use crate::held_words::words_held;
-use listed::Listed;
+use heap_reading::{Entry, Kind, Listed};
 use run_report::Totals;
-use run_trace::{Entry, Kind};
 use shared_tree::Shared;
 use std::alloc::{AllocError, Global};
 

@@ -1,10 +1,9 @@
 // What lies in the heaps of the tasks that don't run.
 
 ghost use Rattle.std.specs.Prelude.{◌≡◌, ◌<◌, length};
-ghost use Rattle.run_ledger.specs.Heaps.{words_sum};
-ghost use Rattle.run_ledger.specs.Report.{held_not_running};
-ghost use Rattle.alloc_path.specs.LeafHeapValue.{counted};
-ghost use Rattle.shared_value.specs.SharedValue.{accounts};
+ghost use Rattle.heap_reading.specs.below.run_ledger.{words_sum, held_not_running};
+ghost use Rattle.heap_reading.specs.below.alloc_path.{counted};
+ghost use Rattle.heap_reading.specs.below.shared_value.{accounts};
 ghost use Rattle.heap_reading.specs.HeldNames.{held_unless_running};
 
 use heap_reading::is_running;

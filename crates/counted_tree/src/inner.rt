@@ -1,12 +1,12 @@
 // Marking and sweeping the heaps of waiting tasks are entered.
 
 ghost use Rattle.std.specs.Prelude.{◌<◌, ◌≤◌};
-ghost use Rattle.run_trace.specs.Entry.{mark_limit};
+ghost use Rattle.heap_reading.specs.below.run_trace.{mark_limit};
 ghost use Rattle.shared_tree.specs.Calls.{BeginsMarking, MarksMore, SweepsHeap};
 
 use crate::counted::Counted;
 use crate::held_words::words_held;
-use run_ledger::Refused;
+use heap_reading::Refused;
 use shared_tree::NotEntered;
 
 impl Counted {

@@ -1,16 +1,13 @@
 // Chunks and leaf collections of parts are entered.
 
 ghost use Rattle.std.specs.Prelude.{◌≡◌, ◌<◌};
-ghost use Rattle.shared_value.specs.Fits.{Fits};
-ghost use Rattle.leaf_collections.specs.LeafEnd.{FitsCopied};
+ghost use Rattle.heap_reading.specs.below.shared_value.{Fits};
+ghost use Rattle.shared_tree.specs.below.leaf_collections.{FitsCopied};
 ghost use Rattle.shared_tree.specs.Calls.{BeginsLeaf, EndsLeaf, GetsChunk, PutsOff};
 
 use crate::counted::Counted;
-use leaf_copy_gc::{Moved, ToChunks};
-use object_layout::Addr;
-use run_ledger::Refused;
+use heap_reading::{Addr, Moved, Private, Refused, ToChunks};
 use shared_tree::{NotEnded, NotEntered};
-use task_machine::Private;
 
 impl Counted {
     /// A part gets the chunk that its next step needs. Where too few units are free the run ends.

@@ -9,4 +9,12 @@ mod leaf;
 mod steps;
 
 pub use counted::Counted;
+pub use heap_reading::{
+    Addr, Apart, End, Entry, Kind, Listed, MARKED_AT_ONCE, Moved, Owed, PRIVATE_LIMIT, Paused,
+    Private, Program, Refused, RefusedAt, RunEnd, Settings, ToChunks, Version, copy, run_local,
+};
 pub use held_words::held;
+pub use shared_tree::{
+    Fork, Leaving, Lent, NotEnded, NotEntered, NotRan, Pace, PreviousKind, Ran, Remains, Shared,
+    fork_in, is_joined, marking_cause, waiting_cause,
+};

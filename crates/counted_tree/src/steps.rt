@@ -1,16 +1,14 @@
 // A worker takes a task, and steps are entered; or the run ends for spent fuel.
 
 ghost use Rattle.std.specs.Prelude.{◌≡◌, ◌<◌, None};
-ghost use Rattle.shared_value.specs.Entered.{refused};
-ghost use Rattle.shared_value.specs.Fits.{Fits};
-ghost use Rattle.own_steps.specs.Alone.{alone_entry, IsShared};
+ghost use Rattle.heap_reading.specs.below.shared_value.{refused, Fits};
+ghost use Rattle.shared_tree.specs.below.own_steps.{alone_entry, IsShared};
 ghost use Rattle.shared_tree.specs.Calls.{EndsForFuel, EntersLeaving, EntersLent, EntersSteps, TakesTask};
 ghost use Rattle.shared_tree.specs.Ran.{LeavesBy};
 
 use crate::counted::Counted;
-use run_ledger::Refused;
+use heap_reading::{Private, Refused};
 use shared_tree::{Leaving, Lent, NotEntered, NotRan, Ran};
-use task_machine::Private;
 
 impl Counted {
     /// The worker takes a ready task, and gets its part.

@@ -14,3 +14,4 @@ pub mod Steps
 pub mod Had
 pub mod Faultless
 pub mod Sample
+pub mod below

@@ -2,3 +2,4 @@ pub mod Form
 pub mod Picture
 pub mod Text
 pub mod Told
+pub mod below

@@ -1,28 +1,13 @@
 -- What an accepted entry leaves of forks and of the heaps of the tasks that wait.
 use Rattle.std.proofs.Common.{◌≡◌, ℕ, zero, suc, ◌+◌, ◌<◌, ◌≤◌, Bool, true, false, cond, Option, Some, None, List, [], ◌∷◌, ◌++◌, slice_get, slice_set, inl, inr, refl, ap, sym, subst, ◌∙◌, arith, is_none, nat_lt}
 use Rattle.std.proofs.lemmas.Bool.{cases_eq}
-use Rattle.listed.proofs.Members.{got_other, got_same}
-use Rattle.hh_lang.specs.Form.{ProgramText}
-use Rattle.hh_model.specs.declared.data.Task.{Task}
-use Rattle.hh_model.specs.declared.data.State.{State}
-use Rattle.hh_model.specs.Step.{asked, can_step, is_waiting, step, waits}
-use Rattle.run_trace.specs.declared.entry.Kind.{Kind}
-use Rattle.run_trace.specs.declared.entry.Kind.TheVariants.{Took, Ran, Chunk, Begin, End, PutOff, Mark, More, Sweep, Fuel}
-use Rattle.run_trace.specs.Entry.{EntryValue}
-use Rattle.run_trace.specs.Settings.{SettingsValue}
-use Rattle.run_ledger.specs.declared.data.Heap.{Heap}
-use Rattle.run_ledger.specs.declared.data.Ledger.{Ledger}
-use Rattle.run_ledger.specs.declared.data.RunEnd.TheVariants.{Pool}
-use Rattle.run_ledger.specs.Heaps.{chunk_words, collected, heap_of, in_use, is_small, or_fresh, swept_heap, with_heap}
-use Rattle.run_ledger.specs.Steps.{allocated_in, on_asked, stepped_to, task_step, task_steps}
-use Rattle.run_ledger.specs.Entries.{after, after_kind, chunk_units, kind_refusal, refusal, with_chunk}
-use Rattle.run_ledger.specs.Sound.{SoundAt, SoundLedger}
-use Rattle.run_ledger.proofs.Journals.{entry_tells, out_tells}
-use Rattle.run_ledger.proofs.Machine.{stepped_machine}
+use Rattle.shared_value.proofs.below.listed.{got_other, got_same}
+use Rattle.shared_value.specs.below.hh_lang.{ProgramText}
+use Rattle.shared_value.specs.below.hh_model.{Task, State, asked, can_step, is_waiting, step, waits}
+use Rattle.shared_value.specs.below.run_trace.{Kind, Took, Ran, Chunk, Begin, End, PutOff, Mark, More, Sweep, Fuel, EntryValue, SettingsValue}
+use Rattle.shared_value.specs.below.run_ledger.{Heap, Ledger, Pool, chunk_words, collected, heap_of, in_use, is_small, or_fresh, swept_heap, with_heap, allocated_in, on_asked, stepped_to, task_step, task_steps, after, after_kind, chunk_units, kind_refusal, refusal, with_chunk, SoundAt, SoundLedger}
+use Rattle.shared_value.proofs.below.run_ledger.{entry_tells, out_tells, stepped_machine, can_tells, step_leaves, task_step_sound, with_heap_any, wait_run}
 use Rattle.journal_laws.proofs.OwedEntries.{Touched, joins_grow}
-use Rattle.run_ledger.proofs.Steps.{can_tells, step_leaves, task_step_sound}
-use Rattle.run_ledger.proofs.Stocks.{with_heap_any}
-use Rattle.run_ledger.proofs.Booked.{wait_run}
 use Rattle.heap_marking.proofs.StepsKeepForks.{TreeMoves, step_moves, tree_same}
 
 -- a heap that is marked or swept stays so

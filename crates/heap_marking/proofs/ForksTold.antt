@@ -1,24 +1,14 @@
 -- What the shared value tells of forks and markings, before the run's end.
 use Rattle.std.proofs.Common.{◌≡◌, ℕ, ◌<◌, ◌&&◌, not, Bool, true, false, Option, Some, None, option_map, slice_get, inl, inr, refl, ap, sym, subst, ◌∙◌, ◌-◌, ◌^◌, arith, is_some, is_none, nat_le, ap₂}
 use Rattle.std.proofs.lemmas.Bool.{false≢true, both_ways, and_parts, cases_lt, le-leb, false_from_ne_true}
-use Rattle.listed.proofs.Options.{none_is}
-use Rattle.hh_model.specs.declared.data.Status.{Status}
-use Rattle.hh_model.specs.declared.data.Status.TheVariants.{Running, Waiting, Ended, Joined}
-use Rattle.hh_model.specs.declared.data.State.{State}
-use Rattle.hh_model.specs.Step.{is_joined, is_over, is_waiting, joined, parents}
-use Rattle.hh_model.specs.Tree.{waiting}
-use Rattle.run_trace.specs.Settings.{field_limit}
-use Rattle.run_trace.specs.Entry.{EntryValue}
-use Rattle.run_ledger.specs.declared.data.Ledger.{Ledger}
-use Rattle.run_ledger.specs.declared.data.Refused.TheVariants.{NotMarking, NotWaiting, Swept}
-use Rattle.run_ledger.specs.Entries.{after, refused_unless}
-use Rattle.run_ledger.specs.Heaps.{heap_of, words_in}
-use Rattle.run_ledger.specs.Journals.{ledger_of, tasks_of}
-use Rattle.run_ledger.proofs.Machine.{machine_is_run}
-use Rattle.run_ledger.proofs.Journals.{legal_sound}
-use Rattle.alloc_path.specs.LeafHeapValue.{counted}
-use Rattle.heap_tree.specs.Node.{Node, state_of as state_in}
-use Rattle.core_relation.specs.Whole.{StandsFor, state_by}
+use Rattle.shared_value.proofs.below.listed.{none_is}
+use Rattle.shared_value.specs.below.hh_model.{Status, Running, Waiting, Ended, Joined, State, is_joined, is_over, is_waiting, joined, parents, waiting}
+use Rattle.shared_value.specs.below.run_trace.{field_limit, EntryValue}
+use Rattle.shared_value.specs.below.run_ledger.{Ledger, NotMarking, NotWaiting, Swept, after, refused_unless, heap_of, words_in, ledger_of, tasks_of}
+use Rattle.shared_value.proofs.below.run_ledger.{machine_is_run, legal_sound}
+use Rattle.shared_value.specs.below.alloc_path.{counted}
+use Rattle.shared_value.specs.below.heap_tree.{Node, state_of as state_in}
+use Rattle.shared_value.specs.below.core_relation.{StandsFor, state_by}
 use Rattle.shared_value.specs.Causes.{or_else}
 use Rattle.shared_value.specs.Entered.{Enters}
 use Rattle.shared_value.specs.Stands.{IsSharedValue}
@@ -29,7 +19,7 @@ use Rattle.shared_value.proofs.TaskTaken.{parent_is}
 use Rattle.heap_marking.specs.declared.pace.Fork.{Fork}
 use Rattle.heap_marking.specs.MarkCauses.{marking_cause, waiting_cause}
 use Rattle.heap_marking.specs.Pace.{IsForkIn, IsForkOf, KeepsPace, PacesStay, is_going, is_live_child, is_state_joined, is_to_begin}
-use Rattle.listed.specs.Options.{option_is}
+use Rattle.shared_value.specs.below.listed.{option_is}
 use Rattle.heap_marking.proofs.ForksStay.{entry_moves}
 use Rattle.heap_marking.proofs.MarkCauses.{marked_by, waits_told}
 use Rattle.heap_marking.proofs.PaceKeeps.{child_from, child_tells, fork_from, keeps_moves, lives_below}

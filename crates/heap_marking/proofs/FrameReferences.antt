@@ -3,10 +3,9 @@ use Rattle.std.proofs.Common.{◌≡◌, ℕ, zero, suc, ◌+◌, ◌<◌, arith
 use Rattle.std.specs.List.{flat_map}
 use Rattle.std.proofs.lemmas.Grind.{flat_map-append}
 use Rattle.std.proofs.lemmas.List.{append-nil}
-use Rattle.object_layout.specs.declared.word.Addr.{Addr}
-use Rattle.task_frames.specs.declared.frames.Frame.{Frame}
-use Rattle.task_frames.specs.FramesValue.{references_of}
-use Rattle.leaf_copy_gc.specs.Survivors.{frame_references}
+use Rattle.shared_value.specs.below.object_layout.{Addr}
+use Rattle.shared_value.specs.below.task_frames.{Frame, references_of}
+use Rattle.shared_value.specs.below.leaf_copy_gc.{frame_references}
 
 pub frames_more : (g : Option Addr → List Addr) (fs : List Frame) (k : ℕ) → k < length fs → flat_map g (frame_references (take (k + 1) fs)) ≡ flat_map g (frame_references (take k fs)) ++ flat_map g (references_of fs k)
 frames_more g [] k lt = absurd (omega (arith, lt))

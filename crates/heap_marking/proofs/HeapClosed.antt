@@ -2,19 +2,13 @@
 use Rattle.std.proofs.Common.{◌≡◌, ℕ, ◌<◌, true, Option, Some, None, List, is_some, length, nat_lt, refl, ap, sym, subst, ◌∙◌}
 use Rattle.std.proofs.lemmas.Bool.{cond-true, lt-ltb}
 use Rattle.std.proofs.lemmas.Option.{same_Some}
-use Rattle.listed.proofs.Places.{all_from, in_got, in_map}
-use Rattle.hh_model.specs.declared.data.Name.{Name}
-use Rattle.run_ledger.specs.declared.data.Ledger.{Ledger}
-use Rattle.object_layout.specs.declared.word.Addr.{Addr}
-use Rattle.object_layout.specs.Cell.{Born, Hole, IsBorn, Mark, Moved}
-use Rattle.object_layout.specs.Chunks.{AreApart, cell_of, has_chunk, place_of}
-use Rattle.object_layout.specs.ChunkValue.{ChunkValue}
-use Rattle.object_layout.specs.Graph.{IsClosed, HasObjectAt, IsSound}
-use Rattle.object_layout.specs.Objects.{Located, located}
-use Rattle.ledger_step_laws.specs.Accounts.{Rests, own}
-use Rattle.core_relation.specs.Memory.{Chunk, In, Memory, objects, objects_in}
-use Rattle.core_relation.specs.Stands.{Place, Stands}
-use Rattle.core_relation.proofs.notes.Roots.{name_at}
+use Rattle.shared_value.proofs.below.listed.{all_from, in_got, in_map}
+use Rattle.shared_value.specs.below.hh_model.{Name}
+use Rattle.shared_value.specs.below.run_ledger.{Ledger}
+use Rattle.shared_value.specs.below.object_layout.{Addr, Born, Hole, IsBorn, Mark, Moved, AreApart, cell_of, has_chunk, place_of, ChunkValue, IsClosed, HasObjectAt, IsSound, Located, located}
+use Rattle.shared_value.specs.below.ledger_step_laws.{Rests, own}
+use Rattle.shared_value.specs.below.core_relation.{Chunk, In, Memory, objects, objects_in, Place, Stands}
+use Rattle.shared_value.proofs.below.core_relation.{name_at}
 use Rattle.shared_value.specs.Objects.{AreNear, chunk_of, chunks_of}
 use Rattle.shared_value.proofs.CellsRead.{object_seen, seen_object}
 use Rattle.shared_value.proofs.RootsHeld.{chunk_in}

@@ -1,30 +1,21 @@
 -- A marking of a heap that waits begins, from the registers and the roots as they are now:
 -- it can go on to the whole snapshot.
 use Rattle.std.proofs.Common.{◌≡◌, ◌⊎◌, ◌↔◌, ℕ, suc, ◌+◌, ◌<◌, ◌≤◌, ◌++◌, true, Some, None, List, [], ◌∷◌, length, slice_get, inl, inr, refl, ap, sym, subst, ◌∙◌}
-use Rattle.listed.proofs.Members.{contains_from_in, in_append_cases, in_append_left, in_append_right, in_from_contains}
-use Rattle.walk_laws.proofs.Reached.{reached_more, reached_start, reached_within}
-use Rattle.hh_model.specs.Step.{is_waiting}
-use Rattle.path_laws.proofs.Leaves.{wait_there, waiting_stops}
-use Rattle.run_ledger.specs.declared.data.Ledger.{Ledger}
-use Rattle.run_ledger.specs.Heaps.{heap_of}
-use Rattle.run_ledger.proofs.Journals.{legal_sound}
-use Rattle.object_layout.specs.declared.word.Addr.{Addr}
-use Rattle.object_layout.specs.Chunks.{cell_of, object_count}
-use Rattle.object_layout.specs.ChunkValue.{ChunkValue}
-use Rattle.object_layout.specs.Graph.{HasObjectAt, Leads}
-use Rattle.object_layout.specs.Objects.{Located}
-use Rattle.task_frames.specs.declared.frames.Frame.{Frame}
-use Rattle.inner_mark_gc.specs.MarkingValue.{IsMarking, IsOf, MarkingValue}
-use Rattle.inner_mark_gc.specs.Snapshot.{Fork, IsInSnapshot, Starts}
-use Rattle.ledger_step_laws.specs.Accounts.{Rests}
-use Rattle.ledger_step_laws.proofs.Split.{legal_idle}
-use Rattle.core_relation.specs.Memory.{In, Memory, object_name, objects, objects_in}
-use Rattle.core_relation.specs.Begins.{IsAt, IsRoot, LeadsAt}
-use Rattle.core_relation.specs.Marking.{GoesOn}
-use Rattle.core_entry_laws.specs.Now.{IsReachedNow, StartsNow}
-use Rattle.core_relation.specs.Since.{kept}
-use Rattle.core_entry_laws.proofs.notes.SnapshotNow.{snapshot_now}
-use Rattle.task_homes.specs.declared.task_at_rest.Rest.{Rest}
+use Rattle.shared_value.proofs.below.listed.{contains_from_in, in_append_cases, in_append_left, in_append_right, in_from_contains}
+use Rattle.shared_value.proofs.below.walk_laws.{reached_more, reached_start, reached_within}
+use Rattle.shared_value.specs.below.hh_model.{is_waiting}
+use Rattle.shared_value.proofs.below.path_laws.{wait_there, waiting_stops}
+use Rattle.shared_value.specs.below.run_ledger.{Ledger, heap_of}
+use Rattle.shared_value.proofs.below.run_ledger.{legal_sound}
+use Rattle.shared_value.specs.below.object_layout.{Addr, cell_of, object_count, ChunkValue, HasObjectAt, Leads, Located}
+use Rattle.shared_value.specs.below.task_frames.{Frame}
+use Rattle.shared_value.specs.below.inner_mark_gc.{IsMarking, IsOf, MarkingValue, Fork, IsInSnapshot, Starts}
+use Rattle.shared_value.specs.below.ledger_step_laws.{Rests}
+use Rattle.shared_value.proofs.below.ledger_step_laws.{legal_idle}
+use Rattle.shared_value.specs.below.core_relation.{In, Memory, object_name, objects, objects_in, IsAt, IsRoot, LeadsAt, GoesOn, kept}
+use Rattle.shared_value.specs.below.core_entry_laws.{IsReachedNow, StartsNow}
+use Rattle.shared_value.proofs.below.core_entry_laws.{snapshot_now}
+use Rattle.shared_value.specs.below.task_homes.{Rest}
 use Rattle.shared_value.specs.Objects.{chunks_of}
 use Rattle.shared_value.specs.SharedValue.{SharedValue, accounts, belongings_in, rest_at, value_of}
 use Rattle.shared_value.specs.Stands.{HeapForm, IsSharedValue}

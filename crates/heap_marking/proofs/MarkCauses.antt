@@ -1,18 +1,10 @@
 -- Entries that mark and sweep are refused as the shared value tells it.
 use Rattle.std.proofs.Common.{◌≡◌, ℕ, ◌==◌, ◌&&◌, not, Bool, true, false, Option, Some, None, is_some, nat_le, option_map, slice_get, refl, ap, sym, ◌∙◌}
-use Rattle.hh_model.specs.declared.data.Status.{Status}
-use Rattle.hh_model.specs.declared.data.Status.TheVariants.{Running, Waiting, Ended, Joined}
-use Rattle.hh_model.specs.Step.{is_waiting, waits}
-use Rattle.run_ledger.specs.declared.data.Ledger.{Ledger}
-use Rattle.run_ledger.specs.declared.data.Refused.{Refused}
-use Rattle.run_ledger.specs.declared.data.Refused.TheVariants.{Left, Marked, Marking, NotDue, NotMarking, NotWaiting, Swept}
-use Rattle.run_ledger.specs.Entries.{counted, refused_if, refused_unless}
-use Rattle.run_ledger.specs.Heaps.{heap_of, left_in, marked_in, sweep_number, words_in}
-use Rattle.heap_tree.specs.Node.{Node, state_of}
-use Rattle.inner_mark_gc.specs.MarkingValue.{MarkingValue}
-use Rattle.core_relation.specs.Marking.{MarkedBy}
-use Rattle.core_relation.specs.Memory.{Memory}
-use Rattle.core_relation.specs.Whole.{StandsFor, state_by}
+use Rattle.shared_value.specs.below.hh_model.{Status, Running, Waiting, Ended, Joined, is_waiting, waits}
+use Rattle.shared_value.specs.below.run_ledger.{Ledger, Refused, Left, Marked, Marking, NotDue, NotMarking, NotWaiting, Swept, counted, refused_if, refused_unless, heap_of, left_in, marked_in, sweep_number, words_in}
+use Rattle.shared_value.specs.below.heap_tree.{Node, state_of}
+use Rattle.shared_value.specs.below.inner_mark_gc.{MarkingValue}
+use Rattle.shared_value.specs.below.core_relation.{MarkedBy, Memory, StandsFor, state_by}
 use Rattle.shared_value.specs.Causes.{or_else}
 use Rattle.shared_value.specs.SharedValue.{SharedValue, accounts, marks_at, noted_in, tree_counts_of, value_of}
 use Rattle.shared_value.specs.Stands.{IsSharedValue}

@@ -4,27 +4,18 @@ use Rattle.std.specs.Prelude.{unwrap_or}
 use Rattle.std.proofs.Math.Nat.{min-eq_left, min-eq_right}
 use Rattle.std.proofs.lemmas.Bool.{cases_lt}
 use Rattle.std.proofs.lemmas.List.{length-take-le}
-use Rattle.listed.proofs.Members.{contains_from_in, in_from_contains}
-use Rattle.listed.proofs.Places.{in_take}
-use Rattle.walk_laws.proofs.Reached.{reached_within}
-use Rattle.hh_model.specs.declared.data.Name.{Name}
-use Rattle.run_ledger.specs.declared.data.Heap.{Heap}
-use Rattle.run_ledger.specs.declared.data.Ledger.{Ledger}
-use Rattle.run_ledger.specs.Heaps.{heap_of, held_in, left_in, marked_in, or_fresh, with_heap}
+use Rattle.shared_value.proofs.below.listed.{contains_from_in, in_from_contains, in_take}
+use Rattle.shared_value.proofs.below.walk_laws.{reached_within}
+use Rattle.shared_value.specs.below.hh_model.{Name}
+use Rattle.shared_value.specs.below.run_ledger.{Heap, Ledger, heap_of, held_in, left_in, marked_in, or_fresh, with_heap}
 use Rattle.journal_laws.proofs.History.{snapshots_are_held}
-use Rattle.object_layout.specs.declared.word.Addr.{Addr}
-use Rattle.object_layout.proofs.Distinct.{distinct_take}
-use Rattle.object_layout.specs.Graph.{HasObjectAt, Leads}
-use Rattle.object_layout.specs.Objects.{Located}
-use Rattle.inner_mark_gc.specs.MarkingValue.{MarkingValue, marked_of}
-use Rattle.inner_mark_gc.specs.Snapshot.{IsInSnapshot, Starts}
-use Rattle.ledger_step_laws.specs.Accounts.{Rests}
-use Rattle.ledger_step_laws.proofs.Ahead.{heap_then, with_at}
-use Rattle.core_relation.specs.Memory.{In, Memory, object_name, objects}
-use Rattle.core_relation.specs.Marking.{GoesOn, MarkedBy}
-use Rattle.core_relation.specs.Since.{kept}
-use Rattle.core_relation.specs.Whole.{StandsFor}
-use Rattle.core_entry_laws.proofs.notes.MarksAll.{all_marked, few_marked}
+use Rattle.shared_value.specs.below.object_layout.{Addr, HasObjectAt, Leads, Located}
+use Rattle.shared_value.proofs.below.object_layout.{distinct_take}
+use Rattle.shared_value.specs.below.inner_mark_gc.{MarkingValue, marked_of, IsInSnapshot, Starts}
+use Rattle.shared_value.specs.below.ledger_step_laws.{Rests}
+use Rattle.shared_value.proofs.below.ledger_step_laws.{heap_then, with_at}
+use Rattle.shared_value.specs.below.core_relation.{In, Memory, object_name, objects, GoesOn, MarkedBy, kept, StandsFor}
+use Rattle.shared_value.proofs.below.core_entry_laws.{all_marked, few_marked}
 use Rattle.shared_value.specs.SharedValue.{accounts, tree_counts_of, value_of}
 use Rattle.shared_value.proofs.BeforeTheEnd.{stands_now}
 use Rattle.heap_marking.specs.Marking.{MarksCount}

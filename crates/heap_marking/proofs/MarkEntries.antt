@@ -3,38 +3,21 @@ use Rattle.std.proofs.Common.{◌≡◌, ◌==◌, ◌↔◌, ℕ, ◌+◌, ◌-
 use Rattle.std.specs.Option.{option_flatten}
 use Rattle.std.specs.Prelude.{IfSome}
 use Rattle.std.proofs.lemmas.Bool.{cases_lt}
-use Rattle.listed.proofs.Members.{got_other, got_same, got_within}
-use Rattle.listed.proofs.Options.{none_of}
-use Rattle.listed.proofs.Places.{got_set}
-use Rattle.run_trace.specs.declared.entry.Kind.TheVariants.{Mark, More}
-use Rattle.run_trace.specs.Entry.{EntryValue}
-use Rattle.run_trace.specs.Settings.{SettingsValue}
-use Rattle.run_ledger.specs.declared.data.Heap.{Heap}
-use Rattle.run_ledger.specs.declared.data.Ledger.{Ledger}
-use Rattle.run_ledger.specs.declared.data.Refused.{Refused}
-use Rattle.run_ledger.specs.declared.data.Refused.TheVariants.{Marked, Marking, NotDue}
-use Rattle.run_ledger.specs.Entries.{after, kind_refusal, refused_if, refused_unless}
-use Rattle.run_ledger.specs.Heaps.{heap_of, left_in, or_fresh, with_heap, words_in}
-use Rattle.run_ledger.specs.Sound.{SoundLedger}
-use Rattle.run_ledger.proofs.Journals.{entry_tells, legal_sound}
-use Rattle.run_ledger.proofs.Steps.{heap_there}
-use Rattle.object_layout.specs.declared.word.Addr.{Addr}
-use Rattle.object_layout.specs.Chunks.{held_words}
-use Rattle.object_layout.specs.Graph.{HasObjectAt}
-use Rattle.alloc_path.specs.LeafHeapValue.{counted}
-use Rattle.remembered_set.specs.Moved.{AreFields}
-use Rattle.write_barrier.specs.declared.sets.SetOf.{SetOf}
-use Rattle.inner_mark_gc.specs.MarkingValue.{IsAllMarked, IsMarking, IsOf, MarkingValue, marked_of}
-use Rattle.inner_mark_gc.specs.Snapshot.{Fork, IsSince}
-use Rattle.ledger_step_laws.proofs.Ahead.{heap_then, with_at}
-use Rattle.core_relation.specs.Marking.{GoesOn}
-use Rattle.core_relation.specs.Since.{kept}
-use Rattle.task_homes.specs.HomesValue.{kept_of}
-use Rattle.task_homes.specs.declared.task_at_rest.Rest.{Rest}
+use Rattle.shared_value.proofs.below.listed.{got_other, got_same, got_within, none_of, got_set}
+use Rattle.shared_value.specs.below.run_trace.{Mark, More, EntryValue, SettingsValue}
+use Rattle.shared_value.specs.below.run_ledger.{Heap, Ledger, Refused, Marked, Marking, NotDue, after, kind_refusal, refused_if, refused_unless, heap_of, left_in, or_fresh, with_heap, words_in, SoundLedger}
+use Rattle.shared_value.proofs.below.run_ledger.{entry_tells, legal_sound, heap_there}
+use Rattle.shared_value.specs.below.object_layout.{Addr, held_words, HasObjectAt}
+use Rattle.shared_value.specs.below.alloc_path.{counted}
+use Rattle.shared_value.specs.below.remembered_set.{AreFields}
+use Rattle.shared_value.specs.below.write_barrier.{SetOf}
+use Rattle.shared_value.specs.below.inner_mark_gc.{IsAllMarked, IsMarking, IsOf, MarkingValue, marked_of, Fork, IsSince}
+use Rattle.shared_value.proofs.below.ledger_step_laws.{heap_then, with_at}
+use Rattle.shared_value.specs.below.core_relation.{GoesOn, kept}
+use Rattle.shared_value.specs.below.task_homes.{kept_of, Rest, refs_in}
 use Rattle.shared_value.specs.Causes.{first_cause, or_else}
 use Rattle.shared_value.specs.Entered.{refused}
 use Rattle.shared_value.specs.Fits.{AllFit}
-use Rattle.task_homes.specs.RestingHeaps.{refs_in}
 use Rattle.shared_value.specs.Roots.{heaps_of, sources_of}
 use Rattle.shared_value.specs.SharedValue.{SharedValue, accounts, marks_at, noted_in, rest_at, value_of}
 use Rattle.shared_value.specs.Stands.{IsSharedValue}

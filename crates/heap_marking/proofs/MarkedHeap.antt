@@ -2,19 +2,12 @@
 use Rattle.std.proofs.Common.{◌≡◌, ◌==◌, ◌↔◌, ℕ, ◌<◌, Bool, true, false, IsTrue, Option, Some, None, List, is_some, length, slice_get, refl, sym, subst}
 use Rattle.std.specs.Option.{option_flatten}
 use Rattle.std.proofs.lemmas.Bool.{eq-eqb, eqb-true}
-use Rattle.listed.proofs.Members.{got_within}
-use Rattle.hh_model.specs.Step.{is_waiting}
-use Rattle.run_ledger.specs.declared.data.Ledger.{Ledger}
-use Rattle.run_ledger.specs.declared.data.Refused.{Refused}
-use Rattle.run_ledger.specs.declared.data.Refused.TheVariants.{NotMarking}
-use Rattle.run_ledger.specs.Entries.{refused_unless}
-use Rattle.run_ledger.specs.Heaps.{heap_of, left_in}
-use Rattle.inner_mark_gc.specs.MarkingValue.{IsAllMarked, IsMarking, MarkingValue}
-use Rattle.inner_mark_gc.specs.Snapshot.{Fork, IsSince}
-use Rattle.core_relation.specs.Marking.{MarkedBy}
-use Rattle.core_relation.specs.Since.{kept}
-use Rattle.core_relation.specs.Memory.{Memory}
-use Rattle.task_homes.specs.declared.task_at_rest.Rest.{Rest}
+use Rattle.shared_value.proofs.below.listed.{got_within}
+use Rattle.shared_value.specs.below.hh_model.{is_waiting}
+use Rattle.shared_value.specs.below.run_ledger.{Ledger, Refused, NotMarking, refused_unless, heap_of, left_in}
+use Rattle.shared_value.specs.below.inner_mark_gc.{IsAllMarked, IsMarking, MarkingValue, Fork, IsSince}
+use Rattle.shared_value.specs.below.core_relation.{MarkedBy, kept, Memory}
+use Rattle.shared_value.specs.below.task_homes.{Rest}
 use Rattle.shared_value.specs.Causes.{or_else}
 use Rattle.shared_value.specs.SharedValue.{SharedValue, accounts, marks_at, rest_at, value_of}
 use Rattle.shared_value.specs.Stands.{IsSharedValue}

@@ -1,36 +1,19 @@
 -- An entry that marks a heap further: the shared value that it leaves, and the parts.
 use Rattle.std.proofs.Common.{◌≡◌, ℕ, ◌+◌, min, Option, Some, None, List, [], ◌∷◌, ◌++◌, Contains, length, slice_get, inl, inr, refl, ap, sym, subst, ◌∙◌}
 use Rattle.std.proofs.lemmas.Bool.{cases_eq}
-use Rattle.listed.proofs.Members.{contains_from_in}
-use Rattle.listed.proofs.Places.{in_take}
-use Rattle.walk_laws.proofs.Reached.{reached_within}
-use Rattle.hh_model.specs.declared.data.State.{State}
-use Rattle.hh_model.specs.Effect.{row_of}
-use Rattle.hh_model.specs.Step.{is_joined}
-use Rattle.run_trace.specs.declared.entry.Kind.TheVariants.{Took, Ran, Chunk, Begin, End, PutOff, Mark, More, Sweep, Fuel}
-use Rattle.run_trace.specs.Entry.{EntryValue}
-use Rattle.run_ledger.specs.declared.data.Heap.{Heap}
-use Rattle.run_ledger.specs.declared.data.Ledger.{Ledger}
-use Rattle.run_ledger.specs.Heaps.{heap_of, left_in, marked_in, or_fresh, with_heap}
-use Rattle.run_ledger.specs.Entries.{after}
-use Rattle.run_ledger.proofs.Machine.{heap_machine}
-use Rattle.object_layout.specs.declared.word.Addr.{Addr}
-use Rattle.object_layout.specs.Graph.{HasObjectAt, Leads}
-use Rattle.object_layout.proofs.Distinct.{distinct_take}
-use Rattle.object_layout.specs.Objects.{Located}
-use Rattle.inner_mark_gc.specs.MarkingValue.{MarkingValue, marked_of}
-use Rattle.inner_mark_gc.specs.Snapshot.{IsInSnapshot, Starts}
-use Rattle.ledger_step_laws.proofs.Ahead.{heap_then, with_at, with_off}
-use Rattle.ledger_step_laws.specs.Accounts.{Rests}
-use Rattle.core_relation.specs.Memory.{In, Memory, object_name, objects}
-use Rattle.core_relation.specs.Changes.{SameObjects}
-use Rattle.core_relation.specs.Counts.{CountsGo, IsMarked, IsQuiet}
-use Rattle.core_relation.specs.Marking.{GoesOn, MarkedBy}
-use Rattle.core_relation.specs.Since.{kept}
-use Rattle.core_relation.specs.Layout.{AreLaidOut}
-use Rattle.core_relation.specs.Stands.{HasNames, BelongingsStand}
-use Rattle.core_relation.proofs.changes.Alone.{belongings_kept}
-use Rattle.core_relation.specs.Worker.{IsBy}
+use Rattle.shared_value.proofs.below.listed.{contains_from_in, in_take}
+use Rattle.shared_value.proofs.below.walk_laws.{reached_within}
+use Rattle.shared_value.specs.below.hh_model.{State, row_of, is_joined}
+use Rattle.shared_value.specs.below.run_trace.{Took, Ran, Chunk, Begin, End, PutOff, Mark, More, Sweep, Fuel, EntryValue}
+use Rattle.shared_value.specs.below.run_ledger.{Heap, Ledger, heap_of, left_in, marked_in, or_fresh, with_heap, after}
+use Rattle.shared_value.proofs.below.run_ledger.{heap_machine}
+use Rattle.shared_value.specs.below.object_layout.{Addr, HasObjectAt, Leads, Located}
+use Rattle.shared_value.proofs.below.object_layout.{distinct_take}
+use Rattle.shared_value.specs.below.inner_mark_gc.{MarkingValue, marked_of, IsInSnapshot, Starts}
+use Rattle.shared_value.proofs.below.ledger_step_laws.{heap_then, with_at, with_off}
+use Rattle.shared_value.specs.below.ledger_step_laws.{Rests}
+use Rattle.shared_value.specs.below.core_relation.{In, Memory, object_name, objects, SameObjects, CountsGo, IsMarked, IsQuiet, GoesOn, MarkedBy, kept, AreLaidOut, HasNames, BelongingsStand, IsBy}
+use Rattle.shared_value.proofs.below.core_relation.{belongings_kept}
 use Rattle.shared_value.specs.SharedValue.{SharedValue, accounts, marks_at, tree_counts_of, value_of}
 use Rattle.shared_value.specs.Stands.{IsSharedValue}
 use Rattle.shared_value.specs.Fits.{AllFit}

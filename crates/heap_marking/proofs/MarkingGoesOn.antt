@@ -1,31 +1,19 @@
 -- A marking that can go on marks more: what it asks of the heap, and that it can go on then.
 use Rattle.std.proofs.Common.{◌≡◌, ◌⊎◌, ◌↔◌, ℕ, ◌+◌, ◌<◌, ◌≤◌, true, Some, None, List, All, Contains, length, slice_get, inl, inr, ap, sym, subst, ◌∙◌}
-use Rattle.listed.proofs.Members.{contains_from_in, in_from_contains}
-use Rattle.listed.proofs.Places.{all_from}
-use Rattle.walk_laws.proofs.Reached.{reached_more, reached_within}
-use Rattle.hh_model.specs.Step.{is_waiting}
-use Rattle.path_laws.proofs.Leaves.{wait_there}
-use Rattle.run_ledger.specs.declared.data.Ledger.{Ledger}
-use Rattle.run_ledger.specs.Heaps.{heap_of, held_in, left_in}
+use Rattle.shared_value.proofs.below.listed.{contains_from_in, in_from_contains, all_from}
+use Rattle.shared_value.proofs.below.walk_laws.{reached_more, reached_within}
+use Rattle.shared_value.specs.below.hh_model.{is_waiting}
+use Rattle.shared_value.proofs.below.path_laws.{wait_there}
+use Rattle.shared_value.specs.below.run_ledger.{Ledger, heap_of, held_in, left_in}
 use Rattle.journal_laws.proofs.History.{snapshots_are_held}
-use Rattle.run_ledger.proofs.Journals.{legal_sound}
-use Rattle.object_layout.specs.declared.word.Addr.{Addr}
-use Rattle.object_layout.specs.Chunks.{cell_of, object_count}
-use Rattle.object_layout.specs.ChunkValue.{ChunkValue}
-use Rattle.object_layout.specs.Graph.{IsClosed, HasObjectAt, Leads}
-use Rattle.object_layout.specs.Objects.{Located}
-use Rattle.inner_mark_gc.specs.MarkingValue.{IsAllMarked, IsMarking, IsOf, MarkingValue, marked_of}
-use Rattle.inner_mark_gc.specs.Snapshot.{Fork, IsInSnapshot, IsSince, Starts}
-use Rattle.core_relation.specs.Memory.{In, Memory, object_name, objects, objects_in}
-use Rattle.core_relation.specs.Begins.{LeadsAt}
-use Rattle.core_relation.specs.Marking.{GoesOn, MarksStand}
-use Rattle.core_entry_laws.proofs.notes.MarksAll.{marks_are_all}
-use Rattle.core_entry_laws.specs.Now.{IsReachedNow, StartsNow}
-use Rattle.core_relation.specs.Since.{kept}
-use Rattle.core_relation.specs.Whole.{StandsFor}
-use Rattle.core_relation.proofs.objects.Members.{lies_in}
-use Rattle.core_entry_laws.proofs.notes.SnapshotNow.{snapshot_now}
-use Rattle.task_homes.specs.declared.task_at_rest.Rest.{Rest}
+use Rattle.shared_value.proofs.below.run_ledger.{legal_sound}
+use Rattle.shared_value.specs.below.object_layout.{Addr, cell_of, object_count, ChunkValue, IsClosed, HasObjectAt, Leads, Located}
+use Rattle.shared_value.specs.below.inner_mark_gc.{IsAllMarked, IsMarking, IsOf, MarkingValue, marked_of, Fork, IsInSnapshot, IsSince, Starts}
+use Rattle.shared_value.specs.below.core_relation.{In, Memory, object_name, objects, objects_in, LeadsAt, GoesOn, MarksStand, kept, StandsFor}
+use Rattle.shared_value.proofs.below.core_entry_laws.{marks_are_all, snapshot_now}
+use Rattle.shared_value.specs.below.core_entry_laws.{IsReachedNow, StartsNow}
+use Rattle.shared_value.proofs.below.core_relation.{lies_in}
+use Rattle.shared_value.specs.below.task_homes.{Rest}
 use Rattle.shared_value.specs.SharedValue.{SharedValue, accounts, rest_at, tree_counts_of, value_of}
 use Rattle.shared_value.specs.Stands.{HeapForm, IsSharedValue}
 use Rattle.shared_value.proofs.ObjectCounts.{objects_counted}

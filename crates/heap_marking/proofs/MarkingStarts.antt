@@ -1,37 +1,19 @@
 -- Where the marking of a waiting heap begins, as its words tell it, is where it begins by the accounts.
 use Rattle.std.proofs.Common.{◌≡◌, ◌↔◌, ℕ, true, All, Option, Some, None, List, [], ◌∷◌, slice_get, inl, inr, refl, ap, sym, subst, ◌∙◌}
 use Rattle.std.specs.List.{flat_map}
-use Rattle.listed.proofs.Members.{in_append_cases, in_append_left, in_append_right, in_flat}
-use Rattle.listed.proofs.Places.{all_from}
-use Rattle.hh_model.specs.declared.data.Status.{Status}
-use Rattle.hh_model.specs.declared.data.Status.TheVariants.{Running, Waiting, Ended, Joined}
-use Rattle.hh_model.specs.declared.data.Task.{Task}
-use Rattle.hh_model.specs.declared.data.Name.{Name}
-use Rattle.hh_model.specs.Step.{is_waiting, waits}
-use Rattle.path_laws.proofs.Leaves.{wait_there}
-use Rattle.run_ledger.specs.declared.data.Ledger.{Ledger}
-use Rattle.object_layout.specs.declared.word.Addr.{Addr}
-use Rattle.object_layout.specs.Chunks.{has_chunk}
-use Rattle.object_layout.specs.ChunkValue.{ChunkValue}
-use Rattle.object_layout.specs.Graph.{HasObjectAt}
-use Rattle.object_layout.specs.Objects.{Located}
-use Rattle.task_frames.specs.declared.frames.Frame.{Frame}
-use Rattle.task_frames.specs.FramesValue.{frames_of}
-use Rattle.remembered_set.specs.declared.remembered.Source.{Source}
-use Rattle.remembered_set.specs.Moved.{AreFields, into, targets_of}
-use Rattle.leaf_copy_gc.specs.Survivors.{references_in}
-use Rattle.ledger_step_laws.specs.Accounts.{Rests}
-use Rattle.core_relation.specs.Begins.{AreRoots, IsAt}
-use Rattle.core_relation.specs.Reads.{FramesAreRead, HoldsRead}
-use Rattle.core_relation.specs.Stands.{Place, Stands}
-use Rattle.core_relation.specs.Memory.{Belongings, In, Memory, objects, objects_in, sources}
-use Rattle.core_relation.proofs.objects.Members.{from_flat, lies_in}
-use Rattle.core_relation.proofs.notes.Roots.{frame_name}
-use Rattle.task_homes.specs.declared.task_at_rest.Rest.{Rest}
-use Rattle.task_homes.specs.declared.task_at_rest.Work.{Work}
-use Rattle.task_homes.specs.declared.task_at_rest.Work.TheVariants.{Calls, Result}
+use Rattle.shared_value.proofs.below.listed.{in_append_cases, in_append_left, in_append_right, in_flat, all_from}
+use Rattle.shared_value.specs.below.hh_model.{Status, Running, Waiting, Ended, Joined, Task, Name, is_waiting, waits}
+use Rattle.shared_value.proofs.below.path_laws.{wait_there}
+use Rattle.shared_value.specs.below.run_ledger.{Ledger}
+use Rattle.shared_value.specs.below.object_layout.{Addr, has_chunk, ChunkValue, HasObjectAt, Located}
+use Rattle.shared_value.specs.below.task_frames.{Frame, frames_of}
+use Rattle.shared_value.specs.below.remembered_set.{Source, AreFields, into, targets_of}
+use Rattle.shared_value.specs.below.leaf_copy_gc.{references_in}
+use Rattle.shared_value.specs.below.ledger_step_laws.{Rests}
+use Rattle.shared_value.specs.below.core_relation.{AreRoots, IsAt, FramesAreRead, HoldsRead, Place, Stands, Belongings, In, Memory, objects, objects_in, sources}
+use Rattle.shared_value.proofs.below.core_relation.{from_flat, lies_in, frame_name}
+use Rattle.shared_value.specs.below.task_homes.{Rest, Work, Calls, Result, refs_in}
 use Rattle.shared_value.specs.Objects.{chunks_of}
-use Rattle.task_homes.specs.RestingHeaps.{refs_in}
 use Rattle.shared_value.specs.Roots.{heaps_of, sources_of}
 use Rattle.shared_value.specs.SharedValue.{SharedValue, accounts, frames_down, belongings_by, belongings_in, belongings_of, rest_at, value_of}
 use Rattle.shared_value.specs.Stands.{IsSharedValue}

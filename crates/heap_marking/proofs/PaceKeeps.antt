@@ -2,17 +2,9 @@
 -- entry more.
 use Rattle.std.proofs.Common.{◌≡◌, ◌⊎◌, ℕ, ◌<◌, ◌≤◌, ◌==◌, ◌&&◌, not, Bool, true, false, cond, Option, Some, None, List, [], ◌∷◌, ◌++◌, slice_get, inl, inr, refl, ap, sym, subst, ◌∙◌, arith, is_some, eq-eqb}
 use Rattle.std.proofs.lemmas.Bool.{both_ways, and_from, and_parts, eqb-true, not-true}
-use Rattle.hh_model.specs.declared.data.Strand.{Strand}
-use Rattle.hh_model.specs.declared.data.Task.{Task}
-use Rattle.hh_model.specs.Step.{is_waiting, joined, parents, strand_of, waits}
-use Rattle.path_laws.proofs.Leaves.{wait_task}
-use Rattle.run_ledger.specs.declared.data.Heap.{Heap}
-use Rattle.run_ledger.specs.declared.data.Ledger.{Ledger}
-use Rattle.run_ledger.specs.declared.data.Previous.{Previous}
-use Rattle.run_ledger.specs.declared.data.Previous.TheVariants.{Other as OtherEntry, Ran as RanEntry, Forked as ForkedEntry}
-use Rattle.run_ledger.specs.declared.data.WorkerPace.{WorkerPace}
-use Rattle.run_ledger.specs.Heaps.{heap_of}
-use Rattle.run_ledger.specs.Pace.{fork_of, previous_by, waits_on, waits_since}
+use Rattle.shared_value.specs.below.hh_model.{Strand, Task, is_waiting, joined, parents, strand_of, waits}
+use Rattle.shared_value.proofs.below.path_laws.{wait_task}
+use Rattle.shared_value.specs.below.run_ledger.{Heap, Ledger, Previous, Other as OtherEntry, Ran as RanEntry, Forked as ForkedEntry, WorkerPace, heap_of, fork_of, previous_by, waits_on, waits_since}
 use Rattle.journal_laws.proofs.OwedEntries.{waits_tells as since_tells}
 use Rattle.journal_laws.proofs.OwedEntries.{Touched}
 use Rattle.heap_marking.specs.declared.pace.Fork.{Fork}
@@ -20,8 +12,8 @@ use Rattle.heap_marking.specs.declared.pace.Pace.{Pace}
 use Rattle.heap_marking.specs.declared.pace.PreviousKind.{PreviousKind}
 use Rattle.heap_marking.specs.declared.pace.PreviousKind.TheVariants.{Other, Ran, Forked}
 use Rattle.heap_marking.specs.Pace.{HasGoneOn, IsForkOf, IsOver, KeepsMarks, KeepsPace, KeepsPrevious, TellsFork, TellsMark, previous_of}
-use Rattle.listed.specs.Options.{option_is}
-use Rattle.run_ledger.proofs.Frames.{held_is}
+use Rattle.shared_value.specs.below.listed.{option_is}
+use Rattle.shared_value.proofs.below.run_ledger.{held_is}
 use Rattle.heap_marking.proofs.ForksStay.{Moves}
 
 -- WAITING ON A FORK

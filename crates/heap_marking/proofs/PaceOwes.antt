@@ -2,19 +2,10 @@
 use Rattle.std.proofs.Common.{◌≡◌, ℕ, ◌+◌, ◌<◌, ◌&&◌, not, Bool, true, false, cond, Option, Some, None, List, [], ◌∷◌, ◌++◌, length, slice_get, inl, inr, refl, ap, sym, subst, ◌∙◌, arith, is_some, nat_le, length-append}
 use Rattle.std.proofs.lemmas.Bool.{both_ways, cases_lt}
 use Rattle.std.proofs.lemmas.Option.{same_Some}
-use Rattle.listed.proofs.Members.{got_back, got_front, got_within}
-use Rattle.listed.proofs.Options.{and_not_parts}
-use Rattle.hh_model.specs.declared.data.Strand.{Strand}
-use Rattle.hh_model.specs.Step.{is_waiting, joined}
-use Rattle.run_trace.specs.Settings.{SettingsValue}
-use Rattle.run_ledger.specs.declared.data.Ledger.{Ledger}
-use Rattle.run_ledger.specs.declared.data.Owed.{Owed}
-use Rattle.run_ledger.specs.declared.data.Owed.TheVariants.{Mark as OwesMark, Nothing}
-use Rattle.run_ledger.specs.declared.data.Previous.{Previous}
-use Rattle.run_ledger.specs.declared.data.Previous.TheVariants.{Other as OtherEntry, Ran as RanEntry, Forked as ForkedEntry}
-use Rattle.run_ledger.specs.declared.data.WorkerPace.{WorkerPace}
-use Rattle.run_ledger.specs.Heaps.{heap_of, words_in}
-use Rattle.run_ledger.specs.Pace.{is_to_mark, is_under_way, is_unmarked, more_of, owed_after, owed_to_marks, waits_on}
+use Rattle.shared_value.proofs.below.listed.{got_back, got_front, got_within, and_not_parts}
+use Rattle.shared_value.specs.below.hh_model.{Strand, is_waiting, joined}
+use Rattle.shared_value.specs.below.run_trace.{SettingsValue}
+use Rattle.shared_value.specs.below.run_ledger.{Ledger, Owed, Mark as OwesMark, Nothing, Previous, Other as OtherEntry, Ran as RanEntry, Forked as ForkedEntry, WorkerPace, heap_of, words_in, is_to_mark, is_under_way, is_unmarked, more_of, owed_after, owed_to_marks, waits_on}
 use Rattle.heap_marking.specs.declared.pace.Fork.{Fork}
 use Rattle.heap_marking.specs.declared.pace.Pace.{Pace}
 use Rattle.heap_marking.specs.declared.pace.PreviousKind.{PreviousKind}

@@ -3,19 +3,10 @@
 use Rattle.std.proofs.Common.{◌≡◌, ◌⊎◌, ℕ, ℤ, zero, suc, ◌+◌, ◌<◌, Bool, true, false, Option, Some, List, [], ◌∷◌, ◌++◌, length, slice_get, slice_set, inl, inr, refl, ap, sym, subst, ◌∙◌, arith}
 use Rattle.std.proofs.lemmas.Bool.{false≢true, both_ways, cases_eq, cases_lt}
 use Rattle.std.proofs.lemmas.Option.{same_Some}
-use Rattle.listed.proofs.Members.{got_other, got_within, view_step}
-use Rattle.hh_lang.specs.Form.{ProgramText}
-use Rattle.hh_model.specs.declared.data.Edge.{Edge}
-use Rattle.hh_model.specs.declared.data.Status.TheVariants.{Waiting}
-use Rattle.hh_model.specs.declared.data.Name.{Name}
-use Rattle.hh_model.specs.declared.data.Task.{Task}
-use Rattle.hh_model.specs.declared.data.State.{State}
-use Rattle.hh_model.specs.Effect.{onward}
-use Rattle.hh_model.specs.Step.{child, ended_task, is_joined, is_left, is_over, is_running, is_waiting, joined, joined_task, parent_of, parents, result_of, resumed, run, run_from, sibling, start, step, waits}
-use Rattle.hh_model.specs.Tree.{IsForkJoinState, TreeOf, waiting}
-use Rattle.hh_model.proofs.ForkJoinStates.{start_is_fork_join_state, step_is_fork_join_state}
-use Rattle.hh_model.proofs.Runs.{below, grown_left, grown_other, grown_past, grown_right, grown_view_front, parl, parr, running_tells, sib, three_left, three_other, three_right, three_top}
-use Rattle.hh_model.proofs.Steps.{step_cases}
+use Rattle.shared_value.proofs.below.listed.{got_other, got_within, view_step}
+use Rattle.shared_value.specs.below.hh_lang.{ProgramText}
+use Rattle.shared_value.specs.below.hh_model.{Edge, Waiting, Name, Task, State, onward, child, ended_task, is_joined, is_left, is_over, is_running, is_waiting, joined, joined_task, parent_of, parents, result_of, resumed, run, run_from, sibling, start, step, waits, IsForkJoinState, TreeOf, waiting}
+use Rattle.shared_value.proofs.below.hh_model.{start_is_fork_join_state, step_is_fork_join_state, below, grown_left, grown_other, grown_past, grown_right, grown_view_front, parl, parr, running_tells, sib, three_left, three_other, three_right, three_top, step_cases}
 
 -- a task that waited waits as before, with the children that it waits for, or has joined with all that it had
 abbrev pub WaitsOn : List Task → List Task → ℕ → Task → Type 0

@@ -4,35 +4,19 @@ use Rattle.std.specs.Option.{option_flatten}
 use Rattle.std.specs.Prelude.{◌≢◌, IsSome}
 use Rattle.std.proofs.lemmas.Bool.{cases_eq, eqb-true}
 use Rattle.std.proofs.lemmas.Option.{same_Some}
-use Rattle.listed.specs.RoomyValue.{RoomyValue}
-use Rattle.listed.proofs.Members.{got_other, got_within}
-use Rattle.listed.proofs.Places.{all_from}
-use Rattle.listed.proofs.Options.{none_some}
-use Rattle.run_trace.specs.declared.entry.Kind.TheVariants.{Sweep}
-use Rattle.run_trace.specs.Entry.{EntryValue}
-use Rattle.run_ledger.specs.declared.data.Ledger.{Ledger}
-use Rattle.run_ledger.specs.declared.data.Refused.{Refused}
-use Rattle.run_ledger.specs.declared.data.Refused.TheVariants.{Count, Left}
-use Rattle.run_ledger.specs.Entries.{refused_unless}
-use Rattle.run_ledger.specs.Heaps.{heap_of, left_in, marked_in, sweep_number, swept_heap, with_heap}
-use Rattle.run_ledger.proofs.Journals.{entry_tells}
-use Rattle.run_ledger.proofs.Machine.{heap_machine}
-use Rattle.object_layout.specs.ChunkValue.{ChunkValue}
-use Rattle.chunk_pool.specs.PoolValue.{PoolValue, slot_at}
-use Rattle.write_barrier.specs.declared.sets.SetOf.{SetOf}
-use Rattle.write_barrier.specs.Stored.{Content, content_at, content_of}
-use Rattle.inner_mark_gc.specs.MarkingValue.{MarkingValue, marked_of}
-use Rattle.inner_mark_gc.specs.Swept.{AreGiven, gone_of}
-use Rattle.core_relation.specs.Changes.{KeepsJust}
-use Rattle.core_relation.specs.Counts.{CountsGo}
-use Rattle.core_relation.specs.Since.{OthersNotes}
-use Rattle.core_relation.specs.Memory.{Belongings, Memory, sources}
-use Rattle.core_relation.specs.Whole.{StandsForAll}
-use Rattle.core_entry_laws.proofs.whole.EntriesWhole.{sweeps_stand_for}
-use Rattle.core_entry_laws.proofs.parts.WorkersPast.{sweeps_leave}
-use Rattle.task_machine.specs.declared.part.Private.{Private}
-use Rattle.task_homes.specs.declared.task_at_rest.Rest.{Rest}
-use Rattle.task_homes.specs.HomesValue.{keeping}
+use Rattle.shared_value.specs.below.listed.{RoomyValue}
+use Rattle.shared_value.proofs.below.listed.{got_other, got_within, all_from, none_some}
+use Rattle.shared_value.specs.below.run_trace.{Sweep, EntryValue}
+use Rattle.shared_value.specs.below.run_ledger.{Ledger, Refused, Count, Left, refused_unless, heap_of, left_in, marked_in, sweep_number, swept_heap, with_heap}
+use Rattle.shared_value.proofs.below.run_ledger.{entry_tells, heap_machine}
+use Rattle.shared_value.specs.below.object_layout.{ChunkValue}
+use Rattle.shared_value.specs.below.chunk_pool.{PoolValue, slot_at}
+use Rattle.shared_value.specs.below.write_barrier.{SetOf, Content, content_at, content_of}
+use Rattle.shared_value.specs.below.inner_mark_gc.{MarkingValue, marked_of, AreGiven, gone_of}
+use Rattle.shared_value.specs.below.core_relation.{KeepsJust, CountsGo, OthersNotes, Belongings, Memory, sources, StandsForAll}
+use Rattle.shared_value.proofs.below.core_entry_laws.{sweeps_stand_for, sweeps_leave}
+use Rattle.shared_value.specs.below.task_machine.{Private}
+use Rattle.shared_value.specs.below.task_homes.{Rest, keeping}
 use Rattle.shared_value.specs.Causes.{or_else}
 use Rattle.shared_value.specs.Entered.{Enters, refused}
 use Rattle.shared_value.specs.Fits.{AllFit, Fits, part_of}

@@ -2,33 +2,18 @@
 use Rattle.std.proofs.Common.{◌≡◌, ℕ, ◌*◌, ◌/◌, arith, All, true, false, Option, Some, None, List, [], ◌∷◌, filter, length, option_map, slice_get, inl, inr, refl, ap, sym, subst, ◌∙◌}
 use Rattle.std.proofs.lemmas.Bool.{false≢true, not-true}
 use Rattle.std.proofs.lemmas.Option.{same_Some}
-use Rattle.listed.proofs.Members.{in_from_kept, in_kept}
-use Rattle.listed.proofs.Places.{all_from, in_map, map_in}
-use Rattle.hh_model.specs.declared.data.State.{State}
-use Rattle.hh_model.specs.Effect.{row_of}
-use Rattle.hh_model.specs.Step.{is_joined}
-use Rattle.run_ledger.specs.declared.data.Heap.{Heap}
-use Rattle.run_ledger.specs.declared.data.Ledger.{Ledger}
-use Rattle.run_ledger.specs.Heaps.{heap_of, left_in, or_fresh, swept_heap, with_heap}
-use Rattle.run_ledger.proofs.Members.{holds_from_in, in_from_holds}
-use Rattle.object_layout.specs.declared.word.Addr.{Addr}
-use Rattle.object_layout.specs.ChunkValue.{ChunkValue}
-use Rattle.object_layout.specs.Objects.{Located}
-use Rattle.chunk_pool.specs.declared.pool.Slot.{Slot}
-use Rattle.chunk_pool.specs.PoolValue.{PoolValue, slot_at, owner_of, slot_units}
-use Rattle.alloc_path.specs.LeafHeapValue.{LeafHeapValue as HeapOfCode, IsFresh, room_of, with_places}
-use Rattle.alloc_path.specs.Units.{unit_count}
-use Rattle.chunk_rows.specs.View.{Level}
-use Rattle.inner_mark_gc.specs.MarkingValue.{marked_of}
-use Rattle.inner_mark_gc.specs.Swept.{AreGiven, gone_of, goes, swept, units_in_slots}
-use Rattle.ledger_step_laws.proofs.Ahead.{heap_then, with_at}
-use Rattle.core_relation.specs.Changes.{KeepsJust}
-use Rattle.core_relation.specs.Layout.{AreLaidOut}
-use Rattle.core_relation.specs.Stands.{HasNames, BelongingsStand}
-use Rattle.core_relation.specs.Memory.{Chunk, Belongings, In, Memory, object_name, objects, objects_in, sources}
-use Rattle.task_homes.specs.declared.task_at_rest.Rest.{Rest}
-use Rattle.task_homes.specs.declared.task_at_rest.Work.{Work}
-use Rattle.task_homes.specs.declared.task_at_rest.Work.TheVariants.{Calls, Result}
+use Rattle.shared_value.proofs.below.listed.{in_from_kept, in_kept, all_from, in_map, map_in}
+use Rattle.shared_value.specs.below.hh_model.{State, row_of, is_joined}
+use Rattle.shared_value.specs.below.run_ledger.{Heap, Ledger, heap_of, left_in, or_fresh, swept_heap, with_heap}
+use Rattle.shared_value.proofs.below.run_ledger.{holds_from_in, in_from_holds}
+use Rattle.shared_value.specs.below.object_layout.{Addr, ChunkValue, Located}
+use Rattle.shared_value.specs.below.chunk_pool.{Slot, PoolValue, slot_at, owner_of, slot_units}
+use Rattle.shared_value.specs.below.alloc_path.{LeafHeapValue as HeapOfCode, IsFresh, room_of, with_places, unit_count}
+use Rattle.shared_value.specs.below.chunk_rows.{Level}
+use Rattle.shared_value.specs.below.inner_mark_gc.{marked_of, AreGiven, gone_of, goes, swept, units_in_slots}
+use Rattle.shared_value.proofs.below.ledger_step_laws.{heap_then, with_at}
+use Rattle.shared_value.specs.below.core_relation.{KeepsJust, AreLaidOut, HasNames, BelongingsStand, Chunk, Belongings, In, Memory, object_name, objects, objects_in, sources}
+use Rattle.shared_value.specs.below.task_homes.{Rest, Work, Calls, Result}
 use Rattle.shared_value.specs.Measured.{AreMeasured}
 use Rattle.shared_value.specs.Objects.{chunk_of, chunks_of}
 use Rattle.shared_value.specs.Stands.{HeapForm, IsSharedValue}

@@ -1,17 +1,12 @@
 -- What a sweep leaves of the objects of one chunk.
 use Rattle.std.proofs.Common.{◌≡◌, ℕ, suc, ◌+◌, arith, Bool, true, false, cond, not, None, List, [], ◌∷◌, All, filter, inl, inr, refl, ap, ap₂, sym, ◌∙◌}
 use Rattle.std.specs.Prelude.{◌||◌}
-use Rattle.listed.specs.Members.{is_empty}
-use Rattle.object_layout.specs.declared.word.Addr.{Addr}
-use Rattle.object_layout.specs.Cell.{Born, Cell, Hole, Mark, Moved, moved_to, size_of}
-use Rattle.object_layout.specs.ChunkValue.{ChunkValue}
-use Rattle.object_layout.specs.Place.{words_in}
-use Rattle.object_layout.specs.Objects.{Located, located, located_by, objects_from}
-use Rattle.object_layout.proofs.ObjectChanges.{sifted_are_filtered}
-use Rattle.inner_mark_gc.specs.MarkingValue.{has_address}
-use Rattle.inner_mark_gc.specs.Swept.{has_object, is_object, swept_cell, swept_cells, swept_chunk}
-use Rattle.inner_mark_gc.proofs.Sweeping.{size_swept}
-use Rattle.core_relation.specs.Layout.{HoldsLarge}
+use Rattle.shared_value.specs.below.listed.{is_empty}
+use Rattle.shared_value.specs.below.object_layout.{Addr, Born, Cell, Hole, Mark, Moved, moved_to, size_of, ChunkValue, words_in, Located, located, located_by, objects_from}
+use Rattle.shared_value.proofs.below.object_layout.{sifted_are_filtered}
+use Rattle.shared_value.specs.below.inner_mark_gc.{has_address, has_object, is_object, swept_cell, swept_cells, swept_chunk}
+use Rattle.shared_value.proofs.below.inner_mark_gc.{size_swept}
+use Rattle.shared_value.specs.below.core_relation.{HoldsLarge}
 use Rattle.shared_value.specs.Objects.{chunk_of}
 
 -- the object stays where its address is kept

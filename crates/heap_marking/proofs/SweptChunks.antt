@@ -4,23 +4,15 @@ use Rattle.std.proofs.lemmas.Bool.{eqb-true, false≢true}
 use Rattle.std.proofs.lemmas.List.Sums.{sum_by-append, sum_by-cons}
 use Rattle.std.proofs.lemmas.List.{map-append}
 use Rattle.std.proofs.lemmas.List.Elements.{filter-append}
-use Rattle.listed.specs.Members.{is_empty}
-use Rattle.listed.proofs.Members.{in_append_left, in_append_right}
-use Rattle.hh_model.specs.declared.data.Name.{Name}
-use Rattle.hh_model.specs.declared.data.State.{State}
-use Rattle.run_ledger.specs.Heaps.{units_sum, without_empty, words_at}
-use Rattle.object_layout.specs.declared.word.Addr.{Addr}
-use Rattle.object_layout.specs.Cell.{moved_to}
-use Rattle.object_layout.specs.ChunkValue.{ChunkValue}
-use Rattle.object_layout.specs.Objects.{Located}
-use Rattle.object_layout.proofs.ObjectChanges.{sifted_are_filtered}
-use Rattle.alloc_path.specs.LeafHeapValue.{units}
-use Rattle.alloc_path.specs.Units.{unit_count}
-use Rattle.inner_mark_gc.specs.MarkingValue.{has_address}
-use Rattle.inner_mark_gc.specs.Swept.{goes, has_object, stays, swept_chunk}
-use Rattle.core_relation.specs.Layout.{HoldsLarge, words}
-use Rattle.core_relation.specs.Stands.{large_chunks, names_of, small_chunks}
-use Rattle.core_relation.specs.Memory.{In, object_name, objects_in}
+use Rattle.shared_value.specs.below.listed.{is_empty}
+use Rattle.shared_value.proofs.below.listed.{in_append_left, in_append_right}
+use Rattle.shared_value.specs.below.hh_model.{Name, State}
+use Rattle.shared_value.specs.below.run_ledger.{units_sum, without_empty, words_at}
+use Rattle.shared_value.specs.below.object_layout.{Addr, moved_to, ChunkValue, Located}
+use Rattle.shared_value.proofs.below.object_layout.{sifted_are_filtered}
+use Rattle.shared_value.specs.below.alloc_path.{units, unit_count}
+use Rattle.shared_value.specs.below.inner_mark_gc.{has_address, goes, has_object, stays, swept_chunk}
+use Rattle.shared_value.specs.below.core_relation.{HoldsLarge, words, large_chunks, names_of, small_chunks, In, object_name, objects_in}
 use Rattle.shared_value.specs.Objects.{chunk_of, chunks_of}
 use Rattle.shared_value.proofs.SmallWords.{SameWords}
 use Rattle.heap_marking.proofs.SweptCells.{is_there, object_left}

@@ -2,27 +2,18 @@
 use Rattle.std.proofs.Common.{◌≡◌, ℕ, ◌-◌, ◌*◌, ◌/◌, ◌≤◌, ◌==◌, arith, Bool, true, false, cond, not, Option, Some, None, List, [], map, refl, ap, sym, subst, ◌∙◌, ne_eqb}
 use Rattle.std.proofs.lemmas.Bool.{false≢true}
 use Rattle.std.proofs.lemmas.List.Elements.{All-get_or}
-use Rattle.listed.specs.Members.{is_empty}
-use Rattle.listed.proofs.Members.{in_from_kept}
-use Rattle.listed.proofs.Places.{all_from, in_map, read_in}
-use Rattle.listed.proofs.Options.{none_some}
-use Rattle.run_ledger.specs.declared.data.Heap.{Heap}
-use Rattle.run_ledger.specs.Heaps.{in_snapshot, is_last_empty, swept_heap}
-use Rattle.run_ledger.specs.Reachable.{holds_name}
-use Rattle.object_layout.specs.declared.word.Addr.{Addr}
-use Rattle.object_layout.specs.Chunks.{chunk_at, no_chunk, place_in}
-use Rattle.object_layout.specs.ChunkValue.{ChunkValue}
-use Rattle.object_layout.specs.Place.{words_in}
-use Rattle.object_layout.specs.Objects.{Located}
-use Rattle.object_layout.proofs.ObjectLemmas.{chunk_there}
-use Rattle.alloc_path.specs.LeafHeapValue.{AreWithin, LeafHeapValue, IsCurrent, IsSettled, IsTidy, room_at, room_of}
-use Rattle.alloc_path.proofs.HeapLemmas as heap
-use Rattle.inner_mark_gc.specs.Swept.{gone_of, number_at, place_at, swept}
-use Rattle.inner_mark_gc.proofs.Kept as kept_chunks
-use Rattle.core_relation.specs.Layout.{HoldsLarge}
-use Rattle.core_relation.specs.Memory.{In, objects_in}
-use Rattle.core_relation.proofs.objects.Members.{in_objects}
-use Rattle.task_machine.specs.Accounts.{IsLastSmall}
+use Rattle.shared_value.specs.below.listed.{is_empty}
+use Rattle.shared_value.proofs.below.listed.{in_from_kept, all_from, in_map, read_in, none_some}
+use Rattle.shared_value.specs.below.run_ledger.{Heap, in_snapshot, is_last_empty, swept_heap, holds_name}
+use Rattle.shared_value.specs.below.object_layout.{Addr, chunk_at, no_chunk, place_in, ChunkValue, words_in, Located}
+use Rattle.shared_value.proofs.below.object_layout.{chunk_there}
+use Rattle.shared_value.specs.below.alloc_path.{AreWithin, LeafHeapValue, IsCurrent, IsSettled, IsTidy, room_at, room_of}
+use Rattle.shared_value.proofs.below.alloc_path.HeapLemmas as heap
+use Rattle.shared_value.specs.below.inner_mark_gc.{gone_of, number_at, place_at, swept}
+use Rattle.shared_value.proofs.below.inner_mark_gc.Kept as kept_chunks
+use Rattle.shared_value.specs.below.core_relation.{HoldsLarge, In, objects_in}
+use Rattle.shared_value.proofs.below.core_relation.{in_objects}
+use Rattle.shared_value.specs.below.task_machine.{IsLastSmall}
 use Rattle.shared_value.specs.Objects.{chunk_of, chunks_of}
 use Rattle.shared_value.specs.Stands.{HeapForm}
 use Rattle.shared_value.proofs.PlacedForm.{Formed}

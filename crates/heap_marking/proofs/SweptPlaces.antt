@@ -1,20 +1,16 @@
 -- Where the chunks stand that a sweep leaves: in the order in which they stood.
 use Rattle.std.proofs.Common.{◌≡◌, ℕ, zero, suc, ◌+◌, ◌<◌, ◌==◌, arith, Bool, true, false, cond, not, Some, None, List, [], ◌∷◌, filter, length, map, refl, ap, sym, subst, ◌∙◌, eq-eqb, ne_eqb}
 use Rattle.std.proofs.lemmas.Bool.{cond-false, cond-true, eqb-true, false≢true}
-use Rattle.listed.specs.Members.{is_empty}
-use Rattle.listed.proofs.Members.{in_from_kept}
-use Rattle.listed.proofs.Places.{map_in}
-use Rattle.hh_model.specs.declared.data.Name.{Name}
-use Rattle.run_ledger.specs.Heaps.{is_last_empty}
-use Rattle.object_layout.specs.declared.word.Addr.{Addr}
-use Rattle.object_layout.specs.Chunks.{chunk_at, place_of}
-use Rattle.object_layout.specs.ChunkValue.{ChunkValue}
-use Rattle.object_layout.proofs.ObjectLemmas.{chunk_there}
-use Rattle.alloc_path.specs.LeafHeapValue.{AreApart, IsFresh}
-use Rattle.inner_mark_gc.specs.Swept.{stays, swept_chunk}
-use Rattle.core_relation.specs.Stands.{names_of, small_chunks}
-use Rattle.core_relation.specs.Memory.{In}
-use Rattle.task_machine.specs.Accounts.{IsLastSmall}
+use Rattle.shared_value.specs.below.listed.{is_empty}
+use Rattle.shared_value.proofs.below.listed.{in_from_kept, map_in}
+use Rattle.shared_value.specs.below.hh_model.{Name}
+use Rattle.shared_value.specs.below.run_ledger.{is_last_empty}
+use Rattle.shared_value.specs.below.object_layout.{Addr, chunk_at, place_of, ChunkValue}
+use Rattle.shared_value.proofs.below.object_layout.{chunk_there}
+use Rattle.shared_value.specs.below.alloc_path.{AreApart, IsFresh}
+use Rattle.shared_value.specs.below.inner_mark_gc.{stays, swept_chunk}
+use Rattle.shared_value.specs.below.core_relation.{names_of, small_chunks, In}
+use Rattle.shared_value.specs.below.task_machine.{IsLastSmall}
 use Rattle.shared_value.specs.Objects.{chunk_of, chunks_of}
 use Rattle.shared_value.proofs.CellsRead.{fresh_off}
 use Rattle.shared_value.proofs.HeapLaidOut.{place_there, same_chunk}

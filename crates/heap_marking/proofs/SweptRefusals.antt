@@ -1,11 +1,8 @@
 -- Why a sweep is refused.
 use Rattle.std.proofs.Common.{◌≡◌, ◌==◌, ℕ, false, Option, None, is_some, ap, ◌∙◌}
-use Rattle.listed.proofs.Options.{none_of}
-use Rattle.run_trace.specs.declared.entry.Kind.TheVariants.{Sweep}
-use Rattle.run_ledger.specs.declared.data.Refused.{Refused}
-use Rattle.run_ledger.specs.declared.data.Refused.TheVariants.{Left}
-use Rattle.run_ledger.specs.Entries.{counted, kind_refusal, refused_unless}
-use Rattle.run_ledger.specs.Heaps.{heap_of, left_in, marked_in, sweep_number}
+use Rattle.shared_value.proofs.below.listed.{none_of}
+use Rattle.shared_value.specs.below.run_trace.{Sweep}
+use Rattle.shared_value.specs.below.run_ledger.{Refused, Left, counted, kind_refusal, refused_unless, heap_of, left_in, marked_in, sweep_number}
 use Rattle.shared_value.specs.Causes.{first_cause, or_else}
 use Rattle.shared_value.specs.Entered.{refused}
 use Rattle.shared_value.specs.Stands.{IsSharedValue}

@@ -1,36 +1,19 @@
 -- What is known of a heap that is marked to its end, before it is swept.
 use Rattle.std.proofs.Common.{◌≡◌, ℕ, zero, suc, arith, not, true, Option, Some, None, slice_get, refl, ap, sym, subst, ◌∙◌}
-use Rattle.listed.proofs.Members.{contains_from_in, in_from_contains}
-use Rattle.listed.proofs.Places.{in_map}
-use Rattle.listed.proofs.Options.{same_truth}
-use Rattle.hh_model.specs.declared.data.Status.{Status}
-use Rattle.hh_model.specs.declared.data.Status.TheVariants.{Running, Waiting, Ended, Joined}
-use Rattle.hh_model.specs.declared.data.Task.{Task}
-use Rattle.hh_model.specs.Step.{is_running, is_waiting, runs, waits}
-use Rattle.run_ledger.specs.declared.data.Heap.{Heap}
-use Rattle.run_ledger.specs.declared.data.Ledger.{Ledger}
-use Rattle.run_ledger.specs.Heaps.{heap_of, held_in, left_in}
-use Rattle.run_ledger.specs.Reachable.{holds_name}
+use Rattle.shared_value.proofs.below.listed.{contains_from_in, in_from_contains, in_map, same_truth}
+use Rattle.shared_value.specs.below.hh_model.{Status, Running, Waiting, Ended, Joined, Task, is_running, is_waiting, runs, waits}
+use Rattle.shared_value.specs.below.run_ledger.{Heap, Ledger, heap_of, held_in, left_in, holds_name}
 use Rattle.journal_laws.proofs.History.{snapshots_are_held}
-use Rattle.run_ledger.proofs.Members.{holds_from_in, in_from_holds}
-use Rattle.run_ledger.proofs.Use.{chunks_are_used}
-use Rattle.alloc_path.specs.LeafHeapValue.{room_of}
-use Rattle.inner_mark_gc.specs.MarkingValue.{IsDone, has_address, marked_of}
-use Rattle.inner_mark_gc.proofs.Addresses.{has_in, in_has}
-use Rattle.inner_mark_gc.proofs.Kept.{all_marked_is_done}
-use Rattle.ledger_step_laws.specs.Accounts.{Rests}
-use Rattle.core_relation.specs.Layout.{AreLaidOut}
-use Rattle.core_relation.specs.Marking.{MarkedBy}
-use Rattle.core_relation.specs.Since.{kept as kept_of}
-use Rattle.core_relation.specs.Stands.{HasNames, BelongingsStand}
-use Rattle.object_layout.specs.Objects.{Located}
-use Rattle.core_relation.specs.Memory.{Belongings, In, Memory, object_name, objects, objects_in}
-use Rattle.core_relation.specs.Whole.{StandsFor}
-use Rattle.core_entry_laws.proofs.notes.MarksAll.{marks_are_all}
-use Rattle.task_machine.specs.Accounts.{AreReserved}
-use Rattle.task_homes.specs.declared.task_at_rest.Rest.{Rest}
-use Rattle.task_homes.specs.declared.task_at_rest.Work.{Work}
-use Rattle.task_homes.specs.declared.task_at_rest.Work.TheVariants.{Calls, Result}
+use Rattle.shared_value.proofs.below.run_ledger.{holds_from_in, in_from_holds, chunks_are_used}
+use Rattle.shared_value.specs.below.alloc_path.{room_of}
+use Rattle.shared_value.specs.below.inner_mark_gc.{IsDone, has_address, marked_of}
+use Rattle.shared_value.proofs.below.inner_mark_gc.{has_in, in_has, all_marked_is_done}
+use Rattle.shared_value.specs.below.ledger_step_laws.{Rests}
+use Rattle.shared_value.specs.below.core_relation.{AreLaidOut, MarkedBy, kept as kept_of, HasNames, BelongingsStand, Belongings, In, Memory, object_name, objects, objects_in, StandsFor}
+use Rattle.shared_value.specs.below.object_layout.{Located}
+use Rattle.shared_value.proofs.below.core_entry_laws.{marks_are_all}
+use Rattle.shared_value.specs.below.task_machine.{AreReserved}
+use Rattle.shared_value.specs.below.task_homes.{Rest, Work, Calls, Result}
 use Rattle.shared_value.specs.Objects.{chunk_of, chunks_of}
 use Rattle.shared_value.specs.SharedValue.{SharedValue, accounts, belongings_by, belongings_in, belongings_of, tree_counts_of, value_of}
 use Rattle.shared_value.specs.Stands.{HeapForm, IsSharedValue}

@@ -5,25 +5,16 @@ use Rattle.std.specs.List.{flat_map}
 use Rattle.std.proofs.lemmas.Option.{same_Some}
 use Rattle.std.proofs.lemmas.List.{length-map, map-append, length-take-le}
 use Rattle.std.proofs.lemmas.List.Sums.{sum_by-append, sum_by-cons}
-use Rattle.listed.proofs.Members.{in_append_left, in_append_right}
-use Rattle.hh_model.specs.declared.data.State.{State}
-use Rattle.run_ledger.specs.declared.data.Heap.{Heap}
-use Rattle.run_ledger.specs.declared.data.Ledger.{Ledger}
-use Rattle.run_ledger.specs.Heaps.{begun_in, heap_of, held, held_in, in_use, left_in, marked_in, or_fresh, small_in, sweep_number, swept_heap, units_in, units_sum, without_empty, words_at, words_sum}
-use Rattle.run_ledger.specs.Reachable.{holds_name}
-use Rattle.run_ledger.proofs.Space.{heaps_fit, use_is_bounded}
-use Rattle.object_layout.specs.declared.word.Addr.{Addr}
-use Rattle.object_layout.specs.ChunkValue.{ChunkValue}
-use Rattle.object_layout.specs.Objects.{Located}
-use Rattle.alloc_path.specs.Units.{counted32, unit_count}
-use Rattle.inner_mark_gc.specs.MarkingValue.{IsDone, MarkingValue, marked_of}
-use Rattle.inner_mark_gc.specs.Swept.{gone_of}
-use Rattle.inner_mark_gc.proofs.Finding.{found_few}
-use Rattle.core_relation.specs.Layout.{words}
-use Rattle.core_relation.specs.Marking.{MarkedBy}
-use Rattle.core_relation.specs.Stands.{HasNames, large_chunks, names_of, small_chunks}
-use Rattle.core_relation.specs.Memory.{In, object_name, objects_in}
-use Rattle.task_homes.specs.declared.task_at_rest.Rest.{Rest}
+use Rattle.shared_value.proofs.below.listed.{in_append_left, in_append_right}
+use Rattle.shared_value.specs.below.hh_model.{State}
+use Rattle.shared_value.specs.below.run_ledger.{Heap, Ledger, begun_in, heap_of, held, held_in, in_use, left_in, marked_in, or_fresh, small_in, sweep_number, swept_heap, units_in, units_sum, without_empty, words_at, words_sum, holds_name}
+use Rattle.shared_value.proofs.below.run_ledger.{heaps_fit, use_is_bounded}
+use Rattle.shared_value.specs.below.object_layout.{Addr, ChunkValue, Located}
+use Rattle.shared_value.specs.below.alloc_path.{counted32, unit_count}
+use Rattle.shared_value.specs.below.inner_mark_gc.{IsDone, MarkingValue, marked_of, gone_of}
+use Rattle.shared_value.proofs.below.inner_mark_gc.{found_few}
+use Rattle.shared_value.specs.below.core_relation.{words, MarkedBy, HasNames, large_chunks, names_of, small_chunks, In, object_name, objects_in}
+use Rattle.shared_value.specs.below.task_homes.{Rest}
 use Rattle.shared_value.specs.Objects.{chunk_of, chunks_of}
 use Rattle.shared_value.specs.SharedValue.{SharedValue, accounts, marks_at, rest_at, value_of}
 use Rattle.shared_value.specs.Stands.{IsSharedValue}

@@ -1,18 +1,12 @@
 -- What is there of a task that waits and whose heap wasn't swept since its fork.
 use Rattle.std.proofs.Common.{◌≡◌, ℕ, true, false, Bool, Option, Some, None, is_some, option_map, slice_get, refl, ap, sym, subst, ◌∙◌}
-use Rattle.hh_model.specs.declared.data.Task.{Task}
-use Rattle.hh_model.specs.Step.{is_waiting}
-use Rattle.hh_model.proofs.Closed.{waits_is}
-use Rattle.path_laws.proofs.Leaves.{wait_there, waiting_stops}
-use Rattle.run_ledger.specs.declared.data.Ledger.{Ledger}
-use Rattle.run_ledger.specs.declared.data.Refused.TheVariants.{NotWaiting, Swept}
-use Rattle.run_ledger.specs.Entries.{refused_unless}
-use Rattle.ledger_step_laws.proofs.Split.{legal_idle}
-use Rattle.core_relation.specs.Reads.{HoldsRead}
-use Rattle.core_relation.specs.Stands.{Place}
-use Rattle.core_relation.specs.Memory.{Memory}
-use Rattle.core_relation.specs.Whole.{StandsFor}
-use Rattle.task_homes.specs.declared.task_at_rest.Rest.{Rest}
+use Rattle.shared_value.specs.below.hh_model.{Task, is_waiting}
+use Rattle.shared_value.proofs.below.hh_model.{waits_is}
+use Rattle.shared_value.proofs.below.path_laws.{wait_there, waiting_stops}
+use Rattle.shared_value.specs.below.run_ledger.{Ledger, NotWaiting, Swept, refused_unless}
+use Rattle.shared_value.proofs.below.ledger_step_laws.{legal_idle}
+use Rattle.shared_value.specs.below.core_relation.{HoldsRead, Place, Memory, StandsFor}
+use Rattle.shared_value.specs.below.task_homes.{Rest}
 use Rattle.shared_value.specs.SharedValue.{SharedValue, accounts, noted_in, rest_at, tree_counts_of, value_of}
 use Rattle.shared_value.specs.Stands.{IsSharedValue}
 use Rattle.shared_value.proofs.BeforeTheEnd.{stands_now}

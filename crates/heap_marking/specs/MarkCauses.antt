@@ -1,16 +1,10 @@
 -- Why the heap of a task is neither marked nor swept, as the shared value tells it.
 use Rattle.std.specs.Prelude.{◌≡◌, ◌==◌, ℕ, Bool, true, false, Option, Some, None, List, is_some, nat_le, slice_get}
-use Rattle.run_trace.specs.declared.entry.Kind.TheVariants.{Mark, More, Sweep}
-use Rattle.run_trace.specs.Settings.{SettingsValue}
-use Rattle.run_ledger.specs.declared.data.Refused.{Refused}
-use Rattle.run_ledger.specs.declared.data.Refused.TheVariants.{Left, Marked, Marking, NotDue, NotMarking, NotWaiting, Swept}
-use Rattle.run_ledger.specs.Entries.{counted, kind_refusal, refused_if, refused_unless}
-use Rattle.run_ledger.specs.Heaps.{heap_of, left_in, marked_in, sweep_number, words_in}
-use Rattle.heap_tree.specs.declared.state.State.{State}
-use Rattle.heap_tree.specs.declared.state.State.TheVariants.{Ready, Out, Waiting, Ended, Joined}
-use Rattle.heap_tree.specs.Node.{Node, state_of}
-use Rattle.write_barrier.specs.declared.sets.SetOf.{SetOf}
-use Rattle.inner_mark_gc.specs.MarkingValue.{MarkingValue}
+use Rattle.shared_value.specs.below.run_trace.{Mark, More, Sweep, SettingsValue}
+use Rattle.shared_value.specs.below.run_ledger.{Refused, Left, Marked, Marking, NotDue, NotMarking, NotWaiting, Swept, counted, kind_refusal, refused_if, refused_unless, heap_of, left_in, marked_in, sweep_number, words_in}
+use Rattle.shared_value.specs.below.heap_tree.{State, Ready, Out, Waiting, Ended, Joined, Node, state_of}
+use Rattle.shared_value.specs.below.write_barrier.{SetOf}
+use Rattle.shared_value.specs.below.inner_mark_gc.{MarkingValue}
 use Rattle.shared_value.specs.Causes.{or_else}
 use Rattle.shared_value.specs.SharedValue.{SharedValue, accounts, marks_at, noted_in}
 use Rattle.shared_value.specs.Stands.{IsSharedValue}

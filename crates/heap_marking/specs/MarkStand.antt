@@ -1,11 +1,10 @@
 -- What there is of a heap that is being marked.
 use Rattle.std.specs.Prelude.{◌≡◌, ◌==◌, ◌↔◌, ℕ, Bool, true, IsTrue, Some, None, slice_get}
-use Rattle.hh_model.specs.Step.{is_waiting}
-use Rattle.run_ledger.specs.Heaps.{heap_of, left_in}
-use Rattle.inner_mark_gc.specs.MarkingValue.{IsAllMarked, IsMarking, MarkingValue}
-use Rattle.inner_mark_gc.specs.Snapshot.{Fork, IsSince}
-use Rattle.core_relation.specs.Since.{kept}
-use Rattle.task_homes.specs.declared.task_at_rest.Rest.{Rest}
+use Rattle.shared_value.specs.below.hh_model.{is_waiting}
+use Rattle.shared_value.specs.below.run_ledger.{heap_of, left_in}
+use Rattle.shared_value.specs.below.inner_mark_gc.{IsAllMarked, IsMarking, MarkingValue, Fork, IsSince}
+use Rattle.shared_value.specs.below.core_relation.{kept}
+use Rattle.shared_value.specs.below.task_homes.{Rest}
 use Rattle.shared_value.specs.SharedValue.{SharedValue, accounts, marks_at, rest_at, value_of}
 use Rattle.shared_value.specs.Stands.{IsSharedValue}
 use Rattle.heap_marking.specs.MarkCauses.{marking_cause}

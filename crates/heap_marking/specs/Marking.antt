@@ -1,28 +1,17 @@
 -- The laws of entries that mark a heap.
 use Rattle.std.specs.Prelude.{◌≡◌, ◌⊎◌, ◌↔◌, ◌++◌, ◌∷◌, ◌+◌, ◌<◌, ◌≤◌, ℕ, min, true, Option, Some, None, List, [], All, length, slice_get}
-use Rattle.hh_model.specs.Step.{is_waiting}
-use Rattle.run_trace.specs.declared.entry.Kind.{Kind}
-use Rattle.run_trace.specs.declared.entry.Kind.TheVariants.{More}
-use Rattle.run_trace.specs.Entry.{EntryValue}
-use Rattle.run_ledger.specs.declared.data.Ledger.{Ledger}
-use Rattle.run_ledger.specs.Heaps.{heap_of, left_in}
-use Rattle.run_ledger.specs.Entries.{after}
-use Rattle.object_layout.specs.declared.word.Addr.{Addr}
-use Rattle.object_layout.specs.Graph.{IsClosed, HasObjectAt}
-use Rattle.object_layout.specs.Objects.{Located}
-use Rattle.task_frames.specs.declared.frames.Frame.{Frame}
-use Rattle.inner_mark_gc.specs.MarkingValue.{IsAllMarked, IsMarking, IsOf, MarkingValue, marked_of}
-use Rattle.inner_mark_gc.specs.Snapshot.{Fork, IsSince}
-use Rattle.core_relation.specs.Memory.{In, Memory}
-use Rattle.core_relation.specs.Begins.{IsAt, IsRoot}
-use Rattle.core_relation.specs.Marking.{GoesOn, MarksStand}
-use Rattle.core_relation.specs.Since.{kept as kept_of}
-use Rattle.task_homes.specs.declared.task_at_rest.Rest.{Rest}
+use Rattle.shared_value.specs.below.hh_model.{is_waiting}
+use Rattle.shared_value.specs.below.run_trace.{Kind, More, EntryValue}
+use Rattle.shared_value.specs.below.run_ledger.{Ledger, heap_of, left_in, after}
+use Rattle.shared_value.specs.below.object_layout.{Addr, IsClosed, HasObjectAt, Located}
+use Rattle.shared_value.specs.below.task_frames.{Frame}
+use Rattle.shared_value.specs.below.inner_mark_gc.{IsAllMarked, IsMarking, IsOf, MarkingValue, marked_of, Fork, IsSince}
+use Rattle.shared_value.specs.below.core_relation.{In, Memory, IsAt, IsRoot, GoesOn, MarksStand, kept as kept_of, IsMarked}
+use Rattle.shared_value.specs.below.task_homes.{Rest}
 use Rattle.shared_value.specs.SharedValue.{SharedValue, accounts, marks_at, rest_at, value_of}
 use Rattle.shared_value.specs.Stands.{IsSharedValue}
 use Rattle.shared_value.specs.Fits.{AllFit}
 use Rattle.shared_value.specs.Entered.{refused}
-use Rattle.core_relation.specs.Counts.{IsMarked}
 
 -- where a marking of the heap of t begins: at an object of it that a register of t names, or to which a remembered
 -- field refers

@@ -1,19 +1,9 @@
 -- What is kept of a worker's own entries, and how it tells what the pace asks.
 use Rattle.std.specs.Prelude.{◌≡◌, ◌⊎◌, ◌&&◌, ◌++◌, ◌∷◌, ◌<◌, ℕ, not, Bool, true, false, Option, Some, None, List, [], is_some, nat_le, slice_get}
-use Rattle.hh_model.specs.declared.data.Strand.{Strand}
-use Rattle.hh_model.specs.declared.data.Task.{Task}
-use Rattle.hh_model.specs.Step.{is_waiting, joined, parents, strand_of, waits}
-use Rattle.run_trace.specs.Entry.{EntryValue}
-use Rattle.run_trace.specs.Settings.{SettingsValue}
-use Rattle.run_ledger.specs.declared.data.Ledger.{Ledger}
-use Rattle.run_ledger.specs.declared.data.Previous.{Previous}
-use Rattle.run_ledger.specs.declared.data.Previous.TheVariants.{Other as OtherEntry, Ran as RanEntry, Forked as ForkedEntry}
-use Rattle.run_ledger.specs.declared.data.WorkerPace.{WorkerPace}
-use Rattle.run_ledger.specs.Heaps.{heap_of, words_in}
-use Rattle.run_ledger.specs.Pace.{is_unmarked, waits_on}
-use Rattle.heap_tree.specs.declared.state.State.{State}
-use Rattle.heap_tree.specs.declared.state.State.TheVariants.{Ready, Out, Waiting, Ended, Joined}
-use Rattle.heap_tree.specs.Node.{Node, parent_of, state_of}
+use Rattle.shared_value.specs.below.hh_model.{Strand, Task, is_waiting, joined, parents, strand_of, waits}
+use Rattle.shared_value.specs.below.run_trace.{EntryValue, SettingsValue}
+use Rattle.shared_value.specs.below.run_ledger.{Ledger, Previous, Other as OtherEntry, Ran as RanEntry, Forked as ForkedEntry, WorkerPace, heap_of, words_in, is_unmarked, waits_on}
+use Rattle.shared_value.specs.below.heap_tree.{State, Ready, Out, Waiting, Ended, Joined, Node, parent_of, state_of}
 use Rattle.shared_value.specs.Entered.{refused, Enters}
 use Rattle.shared_value.specs.Stands.{IsSharedValue}
 use Rattle.shared_value.specs.SharedValue.{SharedValue, accounts}
@@ -22,7 +12,7 @@ use Rattle.heap_marking.specs.declared.pace.Pace.{Pace}
 use Rattle.heap_marking.specs.declared.pace.PreviousKind.{PreviousKind}
 use Rattle.heap_marking.specs.declared.pace.PreviousKind.TheVariants.{Other, Ran, Forked}
 use Rattle.heap_marking.specs.MarkCauses.{is_state_waiting}
-use Rattle.listed.specs.Options.{option_is}
+use Rattle.shared_value.specs.below.listed.{option_is}
 
 -- ---- FORKS
 

@@ -1,19 +1,12 @@
 -- Where the marking of a heap begins: at what its remembered fields hold of it, and at what its task's registers do.
 use Rattle.std.specs.Prelude.{◌≡◌, ◌↔◌, ℕ, Option, Some, None, List, [], ◌++◌, slice_get}
 use Rattle.std.specs.List.{flat_map}
-use Rattle.object_layout.specs.declared.word.Addr.{Addr}
-use Rattle.object_layout.specs.ChunkValue.{ChunkValue}
-use Rattle.object_layout.specs.Graph.{HasObjectAt}
-use Rattle.task_frames.specs.FramesValue.{frames_of}
-use Rattle.remembered_set.specs.declared.remembered.Source.{Source}
-use Rattle.remembered_set.specs.Moved.{into, targets_of}
-use Rattle.leaf_copy_gc.specs.Survivors.{frame_references}
-use Rattle.inner_mark_gc.specs.MarkingValue.{IsMarking, IsOf, MarkingValue}
-use Rattle.inner_mark_gc.specs.Snapshot.{Fork}
-use Rattle.task_homes.specs.declared.task_at_rest.Rest.{Rest}
-use Rattle.task_homes.specs.declared.task_at_rest.Work.{Work}
-use Rattle.task_homes.specs.declared.task_at_rest.Work.TheVariants.{Calls, Result}
-use Rattle.task_homes.specs.RestingHeaps.{Resting, refs_in}
+use Rattle.shared_value.specs.below.object_layout.{Addr, ChunkValue, HasObjectAt}
+use Rattle.shared_value.specs.below.task_frames.{frames_of}
+use Rattle.shared_value.specs.below.remembered_set.{Source, into, targets_of}
+use Rattle.shared_value.specs.below.leaf_copy_gc.{frame_references}
+use Rattle.shared_value.specs.below.inner_mark_gc.{IsMarking, IsOf, MarkingValue, Fork}
+use Rattle.shared_value.specs.below.task_homes.{Rest, Work, Calls, Result, Resting, refs_in}
 use Rattle.shared_value.specs.Roots.{heaps_of, sources_of}
 use Rattle.shared_value.specs.SharedValue.{SharedValue, rest_at}
 

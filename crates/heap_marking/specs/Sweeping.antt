@@ -1,10 +1,9 @@
 -- What a sweep asks of a heap and leaves of it.
 use Rattle.std.specs.Prelude.{◌≡◌, ℕ, All, IsSome, Option, Some, List, slice_set}
-use Rattle.chunk_pool.specs.PoolValue.{PoolValue, slot_at}
-use Rattle.alloc_path.specs.LeafHeapValue.{LeafHeapValue, with_places}
-use Rattle.inner_mark_gc.specs.MarkingValue.{HasRoom, IsDone, MarkingValue, marked_of}
-use Rattle.inner_mark_gc.specs.Swept.{AreGiven, gone_of, swept}
-use Rattle.task_homes.specs.declared.task_at_rest.Rest.{Rest}
+use Rattle.shared_value.specs.below.chunk_pool.{PoolValue, slot_at}
+use Rattle.shared_value.specs.below.alloc_path.{LeafHeapValue, with_places}
+use Rattle.shared_value.specs.below.inner_mark_gc.{HasRoom, IsDone, MarkingValue, marked_of, AreGiven, gone_of, swept}
+use Rattle.shared_value.specs.below.task_homes.{Rest}
 
 -- all that was found is marked, and the heap's chunks are in use
 pub record CanSweep (h : LeafHeapValue) (m : MarkingValue) (pool : PoolValue) : Type 0 where

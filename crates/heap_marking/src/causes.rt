@@ -3,10 +3,7 @@
 ghost use Rattle.std.specs.Prelude.{◌≡◌};
 ghost use Rattle.heap_marking.specs.MarkCauses.{is_state_waiting, marking_cause_in, waiting_cause_in, words_cause};
 
-use heap_tree::{State, Tree};
-use run_ledger::Refused;
-use run_trace::Settings;
-use task_homes::Homes;
+use shared_value::{Homes, Refused, Settings, State, Tree};
 
 /// Of a heap that can be marked, of so many words: why its marking isn't due.
 pub fn words_cause(settings: Settings, words: u64) -> Option<Refused>

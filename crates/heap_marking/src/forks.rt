@@ -5,7 +5,7 @@ ghost use Rattle.heap_marking.specs.Pace.{is_live_child, IsForkIn, IsLiveChild};
 
 use crate::causes::is_waiting;
 use crate::pace::{Fork, is_joined, is_parent};
-use heap_tree::Tree;
+use shared_value::Tree;
 
 // Whether a task is a child of t that hasn't joined.
 fn is_live_child(tree: &Tree, t: u32, child: u32) -> bool

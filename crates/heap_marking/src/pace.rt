@@ -2,10 +2,9 @@
 
 ghost use Rattle.std.specs.Prelude.{◌≡◌, ◌∷◌, ◌++◌, ◌<◌, ◌-◌, [], OnOk};
 ghost use Rattle.heap_marking.specs.Pace.{is_state_joined, previous_of};
-ghost use Rattle.listed.specs.Options.{option_is};
+ghost use Rattle.shared_value.specs.below.listed.{option_is};
 
-use heap_tree::State;
-use listed::Roomy;
+use shared_value::{Roomy, State};
 use std::alloc::{AllocError, Global};
 
 /// A fork: the task that forked, and a child of it, the left one where its number is known.

@@ -2,21 +2,17 @@
 
 ghost use Rattle.std.specs.Prelude.{◌≡◌, ◌++◌, All, IfOk, IfSome, IsSome, OnOk, slice_get};
 ghost use Rattle.std.specs.List.{flat_map};
-ghost use Rattle.object_layout.specs.Graph.{HasObjectAt};
-ghost use Rattle.task_frames.specs.FramesValue.{frames_of};
-ghost use Rattle.remembered_set.specs.Moved.{into, AreFields};
-ghost use Rattle.leaf_copy_gc.specs.Survivors.{frame_references};
-ghost use Rattle.task_homes.specs.RestingHeaps.{refs_in, resting};
+ghost use Rattle.shared_value.specs.below.object_layout.{HasObjectAt};
+ghost use Rattle.shared_value.specs.below.task_frames.{frames_of};
+ghost use Rattle.shared_value.specs.below.remembered_set.{into, AreFields};
+ghost use Rattle.shared_value.specs.below.leaf_copy_gc.{frame_references};
+ghost use Rattle.shared_value.specs.below.task_homes.{refs_in, resting};
 ghost use Rattle.shared_value.specs.Roots.{sources_of};
 ghost use Rattle.shared_value.specs.SharedValue.{rest_at};
 ghost use Rattle.heap_marking.specs.Starts.{starts_in, IsBegun};
 
-use alloc_path::LeafHeap;
-use inner_mark_gc::{Marking, MarkingRoom};
-use object_layout::Addr;
+use shared_value::{Addr, Frames, Heaps, LeafHeap, Marking, MarkingRoom, Rest, Work};
 use std::alloc::{AllocError, Global};
-use task_frames::Frames;
-use task_homes::{Heaps, Rest, Work};
 
 // Adds a reference, if it leads into the heap.
 fn push_own(

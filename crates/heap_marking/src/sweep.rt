@@ -1,15 +1,13 @@
 // What a sweep does to the heap, the marking and the set of a task.
 
 ghost use Rattle.std.specs.Prelude.{◌≡◌, ◌≢◌, ℕ, IsSome, None, Some, false, true, length, option_map, slice_get, slice_set};
-ghost use Rattle.write_barrier.specs.Stored.{content_at};
-ghost use Rattle.inner_mark_gc.specs.MarkingValue.{MarkingValue};
+ghost use Rattle.shared_value.specs.below.write_barrier.{content_at};
+ghost use Rattle.shared_value.specs.below.inner_mark_gc.{MarkingValue};
 ghost use Rattle.shared_value.specs.SharedValue.{marks_at, rest_at};
-ghost use Rattle.task_homes.specs.declared.task_at_rest.Rest.{Rest as RestOf};
-ghost use Rattle.task_homes.specs.HomesValue.{keeping};
+ghost use Rattle.shared_value.specs.below.task_homes.{Rest as RestOf, keeping};
 ghost use Rattle.heap_marking.specs.Sweeping.{CanSweep, SweepsHome};
 
-use inner_mark_gc::MarkingRoom;
-use task_homes::{Heaps, Homes};
+use shared_value::{Heaps, Homes, MarkingRoom};
 
 /// Drops what isn't marked of the heap of a task at rest, and ends its marking, of which it hands out the room.
 pub fn drop_unmarked(heaps: &mut Heaps, t: u32) -> MarkingRoom

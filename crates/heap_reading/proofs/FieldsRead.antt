@@ -8,19 +8,14 @@ use Rattle.std.proofs.lemmas.Bool.{cases_eq, false≢true, or_parts}
 use Rattle.std.proofs.lemmas.Option.{slice_get_past}
 use Rattle.std.proofs.lemmas.List.Sorted.{Contains-permutation, IsPermutation-sym}
 use Rattle.std.proofs.lemmas.Map.Keys.{IsDistinct-IsPermutation, IsDistinct-head, IsDistinct-tail}
-use Rattle.listed.proofs.Members.{In, any_from_in, contains_from_in, in_from_contains}
-use Rattle.listed.proofs.Places.{each_in, in_map, map_in}
-use Rattle.object_layout.specs.declared.word.Addr.{Addr}
-use Rattle.object_layout.specs.Layout.{word_of_ref}
-use Rattle.object_layout.specs.Objects.{Located}
-use Rattle.remembered_set.specs.declared.remembered.Source.{Source}
-use Rattle.remembered_set.specs.Sources.{StandOnce, has_source, same_source}
-use Rattle.remembered_set.proofs.Noting.{same_self}
-use Rattle.write_barrier.specs.declared.sets.SetOf.{SetOf}
-use Rattle.ledger_step_laws.specs.Accounts.{own}
-use Rattle.core_relation.specs.Memory.{objects_in, sources}
-use Rattle.core_relation.specs.Whole.{handed}
-use Rattle.task_homes.specs.declared.task_at_rest.Rest.{Rest}
+use Rattle.shared_value.proofs.below.listed.{In, any_from_in, contains_from_in, in_from_contains, each_in, in_map, map_in}
+use Rattle.shared_value.specs.below.object_layout.{Addr, word_of_ref, Located}
+use Rattle.shared_value.specs.below.remembered_set.{Source, StandOnce, has_source, same_source}
+use Rattle.shared_value.proofs.below.remembered_set.{same_self}
+use Rattle.shared_value.specs.below.write_barrier.{SetOf}
+use Rattle.shared_value.specs.below.ledger_step_laws.{own}
+use Rattle.shared_value.specs.below.core_relation.{objects_in, sources, handed}
+use Rattle.shared_value.specs.below.task_homes.{Rest}
 use Rattle.shared_value.specs.Stands.{IsSharedValue}
 use Rattle.shared_value.specs.SharedValue.{SharedValue, accounts, belongings_in, noted_in, rest_at, value_of}
 use Rattle.shared_value.proofs.FieldsLed.{belongings_chunks}

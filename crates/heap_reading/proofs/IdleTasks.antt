@@ -2,34 +2,16 @@
 -- and no task runs.
 use Rattle.std.proofs.Common.{◌≡◌, ◌⊎◌, ℕ, zero, suc, ◌+◌, Bool, true, false, cond, Option, Some, None, is_none, List, [], ◌∷◌, ◌++◌, ◌&&◌, nat_lt, slice_get, inl, inr, refl, ap, sym, subst, ◌∙◌}
 use Rattle.std.proofs.lemmas.Bool.{cases_eq}
-use Rattle.hh_lang.specs.Form.{IsProgram, ProgramText}
-use Rattle.hh_model.specs.declared.data.End.{End}
-use Rattle.hh_model.specs.declared.data.End.TheVariants.{Done}
-use Rattle.hh_model.specs.declared.data.State.{State}
-use Rattle.hh_model.specs.Step.{asked, can_step, is_running, step}
-use Rattle.path_laws.proofs.Leaves.{goes_tells}
-use Rattle.run_trace.specs.declared.entry.Kind.{Kind}
-use Rattle.run_trace.specs.declared.entry.Kind.TheVariants.{Took, Ran, Chunk, Begin, End as EndOf, PutOff, Mark, More, Sweep, Fuel}
-use Rattle.run_trace.specs.Entry.{EntryValue}
-use Rattle.run_trace.specs.Settings.{SettingsValue}
-use Rattle.run_ledger.specs.declared.data.Ledger.{Ledger}
-use Rattle.run_ledger.specs.declared.data.Refused.{Refused}
-use Rattle.run_ledger.specs.declared.data.RunEnd.{RunEnd}
-use Rattle.run_ledger.specs.declared.data.RunEnd.TheVariants.{Machine, Pool}
-use Rattle.run_ledger.specs.Heaps.{in_use, let_go, or_fresh, with_heap}
-use Rattle.run_ledger.specs.Steps.{allocated_in, settled, stepped_to, task_step, task_steps}
-use Rattle.run_ledger.specs.Entries.{after, chunk_units, refusal, with_chunk}
-use Rattle.run_ledger.specs.Journals.{is_legal, ledger_of}
-use Rattle.run_ledger.proofs.Journals.{accepted_on}
-use Rattle.run_ledger.proofs.Cuts.{journals_can_be_cut, legal_then}
-use Rattle.run_ledger.proofs.Machine.{stepped_machine, heap_machine}
-use Rattle.run_ledger.proofs.Holders.{allocated_end, heap_end, moved_to_end}
-use Rattle.ledger_step_laws.specs.Accounts.{Rests, rested}
-use Rattle.ledger_step_laws.specs.Last.{EndsDone, GoesOn, Halts, IdleRest, IsOfKind, LastKind, Private, Reading, Writing, Printing, Forking, Ending, Joining, Finishing, Halting, Runs}
-use Rattle.ledger_step_laws.proofs.Split.{entry_runs, legal_idle}
-use Rattle.core_relation.specs.Whole.{handed}
-use Rattle.core_entry_laws.proofs.whole.DoneReturns.{done_returns_all, others_idle}
-use Rattle.core_entry_laws.proofs.whole.HandedBack.{handed_halt, handed_on}
+use Rattle.shared_value.specs.below.hh_lang.{IsProgram, ProgramText}
+use Rattle.shared_value.specs.below.hh_model.{End, Done, State, asked, can_step, is_running, step}
+use Rattle.shared_value.proofs.below.path_laws.{goes_tells}
+use Rattle.shared_value.specs.below.run_trace.{Kind, Took, Ran, Chunk, Begin, End as EndOf, PutOff, Mark, More, Sweep, Fuel, EntryValue, SettingsValue}
+use Rattle.shared_value.specs.below.run_ledger.{Ledger, Refused, RunEnd, Machine, Pool, in_use, let_go, or_fresh, with_heap, allocated_in, settled, stepped_to, task_step, task_steps, after, chunk_units, refusal, with_chunk, is_legal, ledger_of}
+use Rattle.shared_value.proofs.below.run_ledger.{accepted_on, journals_can_be_cut, legal_then, stepped_machine, heap_machine, allocated_end, heap_end, moved_to_end}
+use Rattle.shared_value.specs.below.ledger_step_laws.{Rests, rested, EndsDone, GoesOn, Halts, IdleRest, IsOfKind, LastKind, Private, Reading, Writing, Printing, Forking, Ending, Joining, Finishing, Halting, Runs}
+use Rattle.shared_value.proofs.below.ledger_step_laws.{entry_runs, legal_idle}
+use Rattle.shared_value.specs.below.core_relation.{handed}
+use Rattle.shared_value.proofs.below.core_entry_laws.{done_returns_all, others_idle, handed_halt, handed_on}
 use Rattle.shared_value.proofs.JournalGoesOn.{accounts_then}
 
 -- WHILE THE MACHINE GOES ON SO DOES THE RUN, over steps of a task

@@ -1,7 +1,7 @@
 -- Lists that have just the items that are so, each once, in order.
 use Rattle.std.proofs.Common.{◌≡◌, ◌⊎◌, List, [], ◌∷◌, ◌++◌, inl, inr, refl, subst}
-use Rattle.listed.specs.Members.{In}
-use Rattle.listed.proofs.Members.{in_append_cases, in_append_left, in_append_right}
+use Rattle.shared_value.specs.below.listed.{In}
+use Rattle.shared_value.proofs.below.listed.{in_append_cases, in_append_left, in_append_right}
 use Rattle.heap_reading.specs.Image.{AreAll, Rises}
 
 module _ {A : Type 0} (before : A → A → Type 0) where

@@ -4,37 +4,19 @@ use Rattle.std.specs.List.{flat_map}
 use Rattle.std.proofs.lemmas.Bool.{cases_eq}
 use Rattle.std.proofs.lemmas.List.{append-nil, append_assoc}
 use Rattle.std.proofs.lemmas.List.Sums.{sum_by-append}
-use Rattle.listed.proofs.Members.{contains_from_in}
-use Rattle.hh_model.specs.declared.data.Name.{Name}
-use Rattle.hh_model.specs.declared.data.State.{State}
-use Rattle.hh_model.specs.declared.data.Status.{Status}
-use Rattle.hh_model.specs.declared.data.Status.TheVariants.{Running, Waiting, Ended, Joined}
-use Rattle.hh_model.specs.Step.{is_running, runs}
-use Rattle.hh_model.specs.declared.data.End.TheVariants.{Done, Trapped, Entangled}
-use Rattle.run_ledger.specs.declared.data.Heap.{Heap}
-use Rattle.run_ledger.specs.declared.data.Ledger.{Ledger}
-use Rattle.run_ledger.specs.declared.data.RunEnd.{RunEnd}
-use Rattle.run_ledger.specs.declared.data.RunEnd.TheVariants.{Fuel, Machine as MachineEnd, Pool}
-use Rattle.run_ledger.specs.Heaps.{heap_of, held, held_in, in_use, let_go, or_fresh, small_in, words_at, words_sum}
-use Rattle.run_ledger.specs.Report.{held_not_running, held_not_running_from}
-use Rattle.run_ledger.proofs.Holders.{tasks_are_out_once}
-use Rattle.run_ledger.proofs.Bounds.{steps_are_bounded}
+use Rattle.shared_value.proofs.below.listed.{contains_from_in}
+use Rattle.shared_value.specs.below.hh_model.{Name, State, Status, Running, Waiting, Ended, Joined, is_running, runs, Done, Trapped, Entangled}
+use Rattle.shared_value.specs.below.run_ledger.{Heap, Ledger, RunEnd, Fuel, Machine as MachineEnd, Pool, heap_of, held, held_in, in_use, let_go, or_fresh, small_in, words_at, words_sum, held_not_running, held_not_running_from}
+use Rattle.shared_value.proofs.below.run_ledger.{tasks_are_out_once, steps_are_bounded, heaps_fit, use_is_bounded, names_are_held_once}
 use Rattle.journal_laws.proofs.Counted.{journals_are_counted}
-use Rattle.run_ledger.proofs.Space.{heaps_fit, use_is_bounded}
-use Rattle.run_ledger.proofs.Stocks.{names_are_held_once}
 use Rattle.journal_laws.proofs.KeptNames.{stored_most, kept_least}
-use Rattle.object_layout.specs.Chunks.{held_words, object_count}
-use Rattle.object_layout.specs.ChunkValue.{ChunkValue}
-use Rattle.object_layout.specs.Objects.{Located}
-use Rattle.alloc_path.specs.LeafHeapValue.{counted}
-use Rattle.heap_tree.specs.Node.{Node}
-use Rattle.ledger_step_laws.specs.Accounts.{Rests, rested}
-use Rattle.ledger_step_laws.proofs.Ahead.{with_off}
-use Rattle.ledger_step_laws.proofs.Rested.{rested_view}
-use Rattle.core_relation.specs.Stands.{HasNames, large_chunks, names_of, small_chunks}
-use Rattle.core_relation.specs.Memory.{object_name, objects_in}
-use Rattle.core_relation.specs.Whole.{by_end, handed, state_by}
-use Rattle.task_homes.specs.declared.task_at_rest.Rest.{Rest}
+use Rattle.shared_value.specs.below.object_layout.{held_words, object_count, ChunkValue, Located}
+use Rattle.shared_value.specs.below.alloc_path.{counted}
+use Rattle.shared_value.specs.below.heap_tree.{Node}
+use Rattle.shared_value.specs.below.ledger_step_laws.{Rests, rested}
+use Rattle.shared_value.proofs.below.ledger_step_laws.{with_off, rested_view}
+use Rattle.shared_value.specs.below.core_relation.{HasNames, large_chunks, names_of, small_chunks, object_name, objects_in, by_end, handed, state_by}
+use Rattle.shared_value.specs.below.task_homes.{Rest}
 use Rattle.shared_value.specs.Objects.{chunk_of, chunks_of}
 use Rattle.shared_value.specs.SharedValue.{SharedValue, accounts, belongings_in, rest_at, value_of}
 use Rattle.shared_value.specs.Stands.{IsSharedValue}

@@ -5,3 +5,4 @@ pub mod TreeNow
 pub mod InOrder
 pub mod LiveRead
 pub mod FieldsRead
+pub mod below

@@ -1,11 +1,10 @@
 -- The tasks that haven't joined, and the chunks in use, one after another.
 use Rattle.std.proofs.Common.{◌≡◌, ℕ, ◌+◌, ◌<◌, ◌*◌, arith, List, [], ◌∷◌, ◌++◌, slice_get, inl, inr, ap, sym, subst, ◌∙◌}
 use Rattle.std.proofs.lemmas.Option.{same_Some}
-use Rattle.listed.proofs.Numbers.{below_next}
-use Rattle.hh_model.specs.Step.{owner_of}
-use Rattle.chunk_pool.specs.declared.pool.Slot.{Slot}
-use Rattle.chunk_pool.specs.PoolValue.{slot_at}
-use Rattle.heap_tree.specs.Node.{Node}
+use Rattle.shared_value.proofs.below.listed.{below_next}
+use Rattle.shared_value.specs.below.hh_model.{owner_of}
+use Rattle.shared_value.specs.below.chunk_pool.{Slot, slot_at}
+use Rattle.shared_value.specs.below.heap_tree.{Node}
 use Rattle.shared_value.specs.SharedValue.{SharedValue, accounts}
 use Rattle.heap_reading.specs.declared.live.InUse.{InUse}
 use Rattle.heap_reading.specs.declared.live.Live.{Live}

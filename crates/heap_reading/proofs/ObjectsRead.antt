@@ -3,17 +3,12 @@ use Rattle.std.proofs.Common.{◌≡◌, ℕ, zero, suc, ◌+◌, ◌<◌, ◌�
 use Rattle.std.proofs.lemmas.List.{map-append}
 use Rattle.std.proofs.lemmas.List.Elements.{All-append, All-cons, All-nil, All-tail}
 use Rattle.std.proofs.lemmas.Option.{same_Some}
-use Rattle.object_layout.specs.Cell.{Born, Cell, Hole, IsBorn, IsObject, Mark, Moved, moved_to, size_of}
-use Rattle.object_layout.specs.Chunks.{chunk_at, place_in, place_of}
-use Rattle.object_layout.specs.ChunkValue.{ChunkValue}
-use Rattle.object_layout.specs.Place.{cells_from}
-use Rattle.object_layout.specs.declared.word.Birth.{Birth}
-use Rattle.object_layout.specs.Objects.{Located, located, located_by, objects_from}
-use Rattle.chunk_pool.specs.PoolValue.{owner_of}
-use Rattle.alloc_path.proofs.HeapLemmas.{none_there, place_found}
-use Rattle.heap_tree.specs.Node.{state_of}
-use Rattle.core_relation.specs.Memory.{In}
-use Rattle.task_homes.specs.declared.task_at_rest.Rest.{Rest}
+use Rattle.shared_value.specs.below.object_layout.{Born, Cell, Hole, IsBorn, IsObject, Mark, Moved, moved_to, size_of, chunk_at, place_in, place_of, ChunkValue, cells_from, Birth, Located, located, located_by, objects_from}
+use Rattle.shared_value.specs.below.chunk_pool.{owner_of}
+use Rattle.shared_value.proofs.below.alloc_path.{none_there, place_found}
+use Rattle.shared_value.specs.below.heap_tree.{state_of}
+use Rattle.shared_value.specs.below.core_relation.{In}
+use Rattle.shared_value.specs.below.task_homes.{Rest}
 use Rattle.shared_value.specs.Objects.{chunk_of, chunks_of}
 use Rattle.shared_value.specs.SharedValue.{SharedValue, belongings_in, rest_at}
 use Rattle.shared_value.proofs.FieldsLed.{belongings_chunks}

@@ -2,22 +2,13 @@
 use Rattle.std.proofs.Common.{◌≡◌, ℕ, Bool, true, false, Option, Some, None, List, [], ◌∷◌, option_map, slice_get, refl, ap, sym, subst, ◌∙◌}
 use Rattle.std.proofs.lemmas.Bool.{false≢true}
 use Rattle.std.proofs.lemmas.Option.{same_Some}
-use Rattle.hh_model.specs.declared.data.State.{State as MachineState}
-use Rattle.hh_model.specs.declared.data.Status.{Status}
-use Rattle.hh_model.specs.declared.data.Status.TheVariants.{Running, Waiting, Ended, Joined}
-use Rattle.hh_model.specs.declared.data.Task.{Task}
-use Rattle.path_laws.specs.Paths.{AreOwners, IsWalkOfJoined}
-use Rattle.hh_model.specs.Step.{is_joined, is_over, joined, owner_of, parents}
-use Rattle.hh_model.specs.Tree.{TreeOf, joins_in, waiting}
-use Rattle.path_laws.proofs.PathLaws.{owners_are_walks}
-use Rattle.run_ledger.specs.declared.data.Ledger.{Ledger}
-use Rattle.run_ledger.specs.Heaps.{heap_of}
-use Rattle.run_ledger.specs.Sound.{SoundLedger}
-use Rattle.run_ledger.proofs.Journals.{legal_sound}
-use Rattle.heap_tree.specs.declared.state.State.{State}
-use Rattle.heap_tree.specs.declared.state.State.TheVariants.{Ready, Out, Waiting as Waits, Ended as HasEnded, Joined as HasJoined}
-use Rattle.heap_tree.specs.Node.{Node}
-use Rattle.core_relation.specs.Whole.{handed, state_by, as_node}
+use Rattle.shared_value.specs.below.hh_model.{State as MachineState, Status, Running, Waiting, Ended, Joined, Task, is_joined, is_over, joined, owner_of, parents, TreeOf, joins_in, waiting}
+use Rattle.shared_value.specs.below.path_laws.{AreOwners, IsWalkOfJoined}
+use Rattle.shared_value.proofs.below.path_laws.{owners_are_walks}
+use Rattle.shared_value.specs.below.run_ledger.{Ledger, heap_of, SoundLedger}
+use Rattle.shared_value.proofs.below.run_ledger.{legal_sound}
+use Rattle.shared_value.specs.below.heap_tree.{State, Ready, Out, Waiting as Waits, Ended as HasEnded, Joined as HasJoined, Node}
+use Rattle.shared_value.specs.below.core_relation.{handed, state_by, as_node}
 use Rattle.shared_value.specs.SharedValue.{SharedValue, accounts}
 use Rattle.shared_value.specs.Stands.{IsSharedValue}
 use Rattle.shared_value.proofs.BeforeTheEnd.{goes_by}

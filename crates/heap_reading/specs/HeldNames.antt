@@ -1,11 +1,8 @@
 -- What the heaps of tasks hold that don't run, task by task.
 use Rattle.std.specs.Prelude.{ℕ, Bool, true, false, Option, Some, None, List, [], if◌then◌else◌, slice_get}
-use Rattle.hh_model.specs.declared.data.Name.{Name}
-use Rattle.hh_model.specs.Step.{is_running}
-use Rattle.run_ledger.specs.declared.data.Ledger.{Ledger}
-use Rattle.run_ledger.specs.Heaps.{heap_of, held_in}
-use Rattle.heap_tree.specs.declared.state.State.{State}
-use Rattle.heap_tree.specs.declared.state.State.TheVariants.{Ready, Out, Waiting, Ended, Joined}
+use Rattle.shared_value.specs.below.hh_model.{Name, is_running}
+use Rattle.shared_value.specs.below.run_ledger.{Ledger, heap_of, held_in}
+use Rattle.shared_value.specs.below.heap_tree.{State, Ready, Out, Waiting, Ended, Joined}
 
 abbrev pub is_state_running : Option State → Bool
 is_state_running None = false

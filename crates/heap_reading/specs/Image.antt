@@ -1,17 +1,13 @@
 -- What an image is told of the shared value: tasks, chunks, objects and remembered fields, each in rising order.
 use Rattle.std.specs.Prelude.{◌≡◌, ◌⊎◌, ◌↔◌, ◌<◌, ◌*◌, ◌==◌, ℕ, FitsSigned, Option, Some, None, List, [], ◌∷◌, All, map, slice_get, if◌then◌else◌}
 use Rattle.std.specs.Int.{w64}
-use Rattle.listed.specs.Members.{In}
-use Rattle.hh_model.specs.Step.{owner_of}
-use Rattle.object_layout.specs.Cell.{IsRef, chunk_words}
-use Rattle.object_layout.specs.Layout.{word_of_ref}
-use Rattle.object_layout.specs.Objects.{Located}
-use Rattle.chunk_pool.specs.declared.pool.Slot.{Slot}
-use Rattle.chunk_pool.specs.PoolValue.{slot_at, owner_of as holder_of}
-use Rattle.heap_tree.specs.declared.state.State.TheVariants.{Joined}
-use Rattle.heap_tree.specs.Node.{Node, state_of}
-use Rattle.remembered_set.specs.declared.remembered.Source.{Source}
-use Rattle.core_relation.specs.Memory.{Chunk, In as HasItem, sources}
+use Rattle.shared_value.specs.below.listed.{In}
+use Rattle.shared_value.specs.below.hh_model.{owner_of}
+use Rattle.shared_value.specs.below.object_layout.{IsRef, chunk_words, word_of_ref, Located}
+use Rattle.shared_value.specs.below.chunk_pool.{Slot, slot_at, owner_of as holder_of}
+use Rattle.shared_value.specs.below.heap_tree.{Joined, Node, state_of}
+use Rattle.shared_value.specs.below.remembered_set.{Source}
+use Rattle.shared_value.specs.below.core_relation.{Chunk, In as HasItem, sources}
 use Rattle.shared_value.specs.SharedValue.{SharedValue, accounts, value_of}
 use Rattle.heap_reading.specs.declared.live.Live.{Live}
 use Rattle.heap_reading.specs.declared.live.InUse.{InUse}

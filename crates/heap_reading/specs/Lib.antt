@@ -1,2 +1,3 @@
 pub mod HeldNames
 pub mod Image
+pub mod below

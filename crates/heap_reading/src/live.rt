@@ -4,8 +4,7 @@ ghost use Rattle.std.specs.Prelude.{◌≡◌, IfOk, IfSome, None};
 ghost use Rattle.heap_reading.specs.HeldNames.{is_state_running};
 ghost use Rattle.heap_reading.specs.Image.{AreAll, IsLiveIn, LiveBefore};
 
-use heap_tree::{State, Tree};
-use listed::Listed;
+use shared_value::{Listed, State, Tree};
 use std::alloc::{AllocError, Global};
 
 /// A task that hasn't joined.

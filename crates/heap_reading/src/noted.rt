@@ -4,7 +4,7 @@ ghost use Rattle.std.specs.Prelude.{◌≡◌, IfOk, map};
 ghost use Rattle.heap_reading.specs.Image.{field_of};
 
 use crate::seen::number_of;
-use remembered_set::Source;
+use shared_value::Source;
 use std::alloc::{AllocError, Global};
 
 /// A reference field of the object at an address, which is told as a number. Fields are ordered by the object, then by

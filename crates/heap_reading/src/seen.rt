@@ -2,17 +2,13 @@
 
 ghost use Rattle.std.specs.Prelude.{◌≡◌, ◌^◌, ◌<◌, All, IfOk, IfSome, FitsSigned, None, length, map};
 ghost use Rattle.std.specs.Int.{w64};
-ghost use Rattle.object_layout.specs.Cell.{IsBorn, IsRef, moved_to, Born as IsBornAs};
-ghost use Rattle.object_layout.specs.Layout.{word_of_ref};
-ghost use Rattle.object_layout.specs.Place.{cell_at, object_at};
-ghost use Rattle.object_layout.specs.declared.word.Birth.{Birth as BirthOf};
-ghost use Rattle.object_layout.specs.Objects.{located};
+ghost use Rattle.shared_value.specs.below.object_layout.{IsBorn, IsRef, moved_to, Born as IsBornAs, word_of_ref, cell_at, object_at, Birth as BirthOf, located};
 ghost use Rattle.shared_value.specs.Objects.{chunk_of};
 ghost use Rattle.heap_reading.specs.Image.{in_words, AreInWords};
 
-use listed::Listed;
-use object_layout::{
-    Addr, Birth, CHUNK_WORDS, Chunk, birth_at, header_at, int_at, is_object_at, next_at, ref_at,
+use shared_value::{
+    Addr, Birth, CHUNK_WORDS, Chunk, Listed, birth_at, header_at, int_at, is_object_at, next_at,
+    ref_at,
 };
 use std::alloc::{AllocError, Global};
 

@@ -2,26 +2,16 @@
 -- nothing moves.
 use Rattle.std.proofs.Common.{◌≡◌, ◌⊎◌, ℕ, true, false, Option, Some, None, length, slice_get, is_some, inl, inr, refl, ap, sym, subst, ◌∙◌}
 use Rattle.std.proofs.lemmas.Bool.{both_ways, cases_eq}
-use Rattle.hh_model.specs.declared.data.State.{State}
-use Rattle.hh_model.specs.Effect.{row_of}
-use Rattle.hh_model.specs.Step.{is_joined, is_waiting}
-use Rattle.run_ledger.specs.declared.data.Heap.{Heap}
-use Rattle.run_ledger.specs.declared.data.Ledger.{Ledger}
-use Rattle.run_ledger.specs.Heaps.{heap_of, let_go, or_fresh, with_heap}
-use Rattle.run_ledger.proofs.Machine.{heap_machine}
-use Rattle.chunk_pool.specs.PoolValue.{PoolValue, owner_of}
-use Rattle.ledger_step_laws.specs.Accounts.{Rests, rested}
-use Rattle.ledger_step_laws.proofs.Ahead.{heap_then, with_at, with_off}
-use Rattle.core_relation.specs.Changes.{SameObjects}
-use Rattle.core_relation.specs.Fits.{with_belongings}
-use Rattle.object_layout.specs.Objects.{Located}
-use Rattle.core_relation.specs.Layout.{AreLaidOut}
-use Rattle.core_relation.specs.Memory.{Chunk, Belongings, In, Memory, objects, objects_in}
-use Rattle.core_relation.specs.Stands.{HasNames, BelongingsStand}
-use Rattle.core_relation.proofs.changes.Alone.{belongings_kept}
-use Rattle.core_relation.proofs.changes.With.{at_belongings, off_belongings}
-use Rattle.task_machine.specs.declared.part.Begun.{Begun}
-use Rattle.task_machine.specs.declared.part.Private.{Private}
+use Rattle.shared_value.specs.below.hh_model.{State, row_of, is_joined, is_waiting}
+use Rattle.shared_value.specs.below.run_ledger.{Heap, Ledger, heap_of, let_go, or_fresh, with_heap}
+use Rattle.shared_value.proofs.below.run_ledger.{heap_machine}
+use Rattle.shared_value.specs.below.chunk_pool.{PoolValue, owner_of}
+use Rattle.shared_value.specs.below.ledger_step_laws.{Rests, rested}
+use Rattle.shared_value.proofs.below.ledger_step_laws.{heap_then, with_at, with_off}
+use Rattle.shared_value.specs.below.core_relation.{SameObjects, with_belongings, AreLaidOut, Chunk, Belongings, In, Memory, objects, objects_in, HasNames, BelongingsStand}
+use Rattle.shared_value.specs.below.object_layout.{Located}
+use Rattle.shared_value.proofs.below.core_relation.{belongings_kept, at_belongings, off_belongings}
+use Rattle.shared_value.specs.below.task_machine.{Begun, Private}
 use Rattle.shared_value.specs.SharedValue.{SharedValue, accounts, value_by, value_of, with_marks}
 use Rattle.shared_value.specs.Stands.{IsSharedValue}
 use Rattle.shared_value.specs.Fits.{Fits, belongings_of_part}

@@ -1,25 +1,16 @@
 -- A leaf collection begins, as the call has it.
 use Rattle.std.proofs.Common.{◌≡◌, ℕ, ◌+◌, ◌^◌, ◌<◌, ◌≤◌, ◌++◌, arith, Some, None, List, [], ◌∷◌, length, map, All, ap, sym, subst, ◌∙◌}
 use Rattle.std.specs.Prelude.{vec_len}
-use Rattle.listed.specs.RoomyValue.{RoomyValue}
-use Rattle.listed.proofs.Places.{all_from, map_in}
-use Rattle.run_trace.specs.declared.entry.Kind.TheVariants.{Begin}
-use Rattle.run_trace.specs.Entry.{EntryValue}
-use Rattle.object_layout.specs.declared.word.Addr.{Addr}
-use Rattle.object_layout.specs.Cell.{IsBorn}
-use Rattle.object_layout.specs.Chunks.{cell_of, small_words}
-use Rattle.object_layout.specs.ChunkValue.{ChunkValue, number_of}
-use Rattle.object_layout.specs.Graph.{IsSound}
-use Rattle.chunk_pool.specs.PoolValue.{PoolValue, TakesAll, units_in_use}
-use Rattle.alloc_path.specs.LeafHeapValue.{AreApart, IsFresh, counted, with_places}
-use Rattle.leaf_copy_gc.specs.declared.lists.ToChunks.{ToChunks}
-use Rattle.leaf_copy_gc.specs.Laid.{AreNew}
-use Rattle.leaf_copy_gc.specs.Lists.{AreReserved}
-use Rattle.leaf_copy_gc.specs.Survivors.{as_reference}
-use Rattle.leaf_copy_gc.proofs.FoundLemmas.{born_live}
-use Rattle.core_relation.specs.Memory.{In}
-use Rattle.task_machine.specs.declared.part.Private.{Private}
-use Rattle.task_machine.specs.declared.part.Begun.{Begun}
+use Rattle.shared_value.specs.below.listed.{RoomyValue}
+use Rattle.shared_value.proofs.below.listed.{all_from, map_in}
+use Rattle.shared_value.specs.below.run_trace.{Begin, EntryValue}
+use Rattle.shared_value.specs.below.object_layout.{Addr, IsBorn, cell_of, small_words, ChunkValue, number_of, IsSound}
+use Rattle.shared_value.specs.below.chunk_pool.{PoolValue, TakesAll, units_in_use}
+use Rattle.shared_value.specs.below.alloc_path.{AreApart, IsFresh, counted, with_places}
+use Rattle.shared_value.specs.below.leaf_copy_gc.{ToChunks, AreNew, AreReserved, as_reference}
+use Rattle.shared_value.proofs.below.leaf_copy_gc.{born_live}
+use Rattle.shared_value.specs.below.core_relation.{In}
+use Rattle.shared_value.specs.below.task_machine.{Private, Begun}
 use Rattle.shared_value.specs.SharedValue.{SharedValue}
 use Rattle.shared_value.specs.Stands.{IsSharedValue}
 use Rattle.shared_value.specs.Fits.{Fits, OthersFit}

@@ -3,46 +3,21 @@ use Rattle.std.proofs.Common.{◌≡◌, ◌⊎◌, ℕ, ◌+◌, ◌*◌, ◌/�
 use Rattle.std.proofs.lemmas.Bool.{cases_eq, cases_lt, cond-false, cond-true, false≢true, leb-false}
 use Rattle.std.proofs.lemmas.Option.{same_Some}
 use Rattle.std.proofs.lemmas.List.{append-nil}
-use Rattle.listed.specs.RoomyValue.{RoomyValue}
-use Rattle.listed.proofs.Places.{in_map}
-use Rattle.hh_model.specs.declared.data.State.{State}
-use Rattle.hh_model.specs.Effect.{row_of}
-use Rattle.hh_model.specs.Step.{asked, is_joined, is_waiting}
-use Rattle.run_trace.specs.declared.entry.Kind.TheVariants.{Chunk as ChunkOf}
-use Rattle.run_trace.specs.Entry.{EntryValue}
-use Rattle.run_ledger.specs.declared.data.Heap.{Heap}
-use Rattle.run_ledger.specs.declared.data.Ledger.{Ledger}
-use Rattle.run_ledger.specs.declared.data.Refused.{Refused}
-use Rattle.run_ledger.specs.declared.data.Refused.TheVariants.{Collecting, Due, NotNeeded}
-use Rattle.run_ledger.specs.declared.data.RunEnd.{RunEnd}
-use Rattle.run_ledger.specs.declared.data.RunEnd.TheVariants.{Pool as PoolOf}
-use Rattle.run_ledger.specs.Heaps.{chunk_words, heap_of, in_use, is_small, lacks_room, let_go, or_fresh, units, with_heap}
-use Rattle.run_ledger.specs.Entries.{after, chunk_units, kind_refusal, refused_if, refused_unless, with_chunk}
-use Rattle.run_ledger.specs.Steps.{is_due, is_in_need, on_asked}
-use Rattle.run_ledger.proofs.Journals.{entry_tells}
-use Rattle.run_ledger.proofs.Space.{legal_booked}
-use Rattle.run_ledger.proofs.Machine.{heap_machine}
-use Rattle.object_layout.specs.Chunks.{place_in}
-use Rattle.object_layout.specs.ChunkValue.{ChunkValue}
-use Rattle.object_layout.specs.Objects.{Located}
-use Rattle.chunk_pool.specs.declared.pool.Slot.{Slot}
-use Rattle.chunk_pool.specs.PoolValue.{PoolValue, Takes as PoolTakes, units_in_use}
-use Rattle.alloc_path.specs.LeafHeapValue.{LeafHeapValue, IsFresh, added, with_places}
-use Rattle.ledger_step_laws.specs.Accounts.{rested}
-use Rattle.ledger_step_laws.proofs.Ahead.{heap_then, with_at, with_off}
-use Rattle.ledger_step_laws.proofs.Rested.{rested_view}
-use Rattle.core_relation.specs.Memory.{Chunk, Belongings, In, Memory, object_name, objects, objects_in}
-use Rattle.core_relation.specs.Layout.{AreLaidOut, reserved_chunks, reserved_units}
-use Rattle.core_relation.specs.Stands.{HasNames, BelongingsStand, large_chunks}
-use Rattle.core_relation.specs.Changes.{SameObjects}
-use Rattle.core_relation.specs.Counts.{AsksUnits}
-use Rattle.core_relation.specs.Whole.{BegunBy}
-use Rattle.core_relation.specs.Fits.{with_belongings}
-use Rattle.core_relation.proofs.changes.With.{at_belongings}
-use Rattle.task_machine.specs.declared.part.Private.{Private}
-use Rattle.task_machine.specs.Accounts.{AreReserved, IsCounted}
-use Rattle.task_machine.specs.Fits.{IsShaped}
-use Rattle.task_machine.proofs.Added.{chunks_added, shape_added}
+use Rattle.shared_value.specs.below.listed.{RoomyValue}
+use Rattle.shared_value.proofs.below.listed.{in_map}
+use Rattle.shared_value.specs.below.hh_model.{State, row_of, asked, is_joined, is_waiting}
+use Rattle.shared_value.specs.below.run_trace.{Chunk as ChunkOf, EntryValue}
+use Rattle.shared_value.specs.below.run_ledger.{Heap, Ledger, Refused, Collecting, Due, NotNeeded, RunEnd, Pool as PoolOf, chunk_words, heap_of, in_use, is_small, lacks_room, let_go, or_fresh, units, with_heap, after, chunk_units, kind_refusal, refused_if, refused_unless, with_chunk, is_due, is_in_need, on_asked}
+use Rattle.shared_value.proofs.below.run_ledger.{entry_tells, legal_booked, heap_machine}
+use Rattle.shared_value.specs.below.object_layout.{place_in, ChunkValue, Located}
+use Rattle.shared_value.specs.below.chunk_pool.{Slot, PoolValue, Takes as PoolTakes, units_in_use}
+use Rattle.shared_value.specs.below.alloc_path.{LeafHeapValue, IsFresh, added, with_places}
+use Rattle.shared_value.specs.below.ledger_step_laws.{rested}
+use Rattle.shared_value.proofs.below.ledger_step_laws.{heap_then, with_at, with_off, rested_view}
+use Rattle.shared_value.specs.below.core_relation.{Chunk, Belongings, In, Memory, object_name, objects, objects_in, AreLaidOut, reserved_chunks, reserved_units, HasNames, BelongingsStand, large_chunks, SameObjects, AsksUnits, BegunBy, with_belongings}
+use Rattle.shared_value.proofs.below.core_relation.{at_belongings}
+use Rattle.shared_value.specs.below.task_machine.{Private, AreReserved, IsCounted, IsShaped}
+use Rattle.shared_value.proofs.below.task_machine.{chunks_added, shape_added}
 use Rattle.shared_value.specs.Objects.{chunk_of, chunks_of}
 use Rattle.shared_value.specs.SharedValue.{SharedValue, accounts, tree_counts_of, value_of}
 use Rattle.shared_value.specs.Measured.{AreMeasured, IsMeasured, KeepsUnits}

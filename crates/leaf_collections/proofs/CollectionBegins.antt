@@ -2,22 +2,17 @@
 use Rattle.std.proofs.Common.{◌≡◌, ℕ, ◌+◌, true, false, Some, None, List, [], ◌∷◌, ◌++◌, map, slice_get, option_map, is_some, ◌⊎◌, inl, inr, refl, ap, sym, ◌∙◌}
 use Rattle.std.proofs.lemmas.Bool.{cases_Bool}
 use Rattle.std.proofs.lemmas.Option.{same_Some}
-use Rattle.listed.specs.RoomyValue.{RoomyValue}
-use Rattle.listed.proofs.Places.{read_in}
-use Rattle.hh_model.specs.Step.{is_waiting}
-use Rattle.run_trace.specs.declared.entry.Kind.TheVariants.{Begin}
-use Rattle.run_trace.specs.Entry.{EntryValue}
-use Rattle.run_ledger.specs.declared.data.Heap.{Heap}
-use Rattle.run_ledger.specs.declared.data.Ledger.{Ledger}
-use Rattle.run_ledger.specs.Heaps.{take_of, with_heap, within}
-use Rattle.object_layout.specs.Chunks.{has_chunk, small_words}
-use Rattle.object_layout.specs.ChunkValue.{ChunkValue, number_of}
-use Rattle.chunk_pool.specs.PoolValue.{PoolValue, TakesAll, slot_in, units_in_use}
-use Rattle.chunk_pool.proofs.OwnerLaws.{taken_are_owned}
-use Rattle.alloc_path.specs.LeafHeapValue.{LeafHeapValue, with_places}
-use Rattle.core_relation.specs.Memory.{In, Memory}
-use Rattle.task_machine.specs.declared.part.Begun.{Begun}
-use Rattle.task_machine.specs.declared.part.Private.{Private}
+use Rattle.shared_value.specs.below.listed.{RoomyValue}
+use Rattle.shared_value.proofs.below.listed.{read_in}
+use Rattle.shared_value.specs.below.hh_model.{is_waiting}
+use Rattle.shared_value.specs.below.run_trace.{Begin, EntryValue}
+use Rattle.shared_value.specs.below.run_ledger.{Heap, Ledger, take_of, with_heap, within}
+use Rattle.shared_value.specs.below.object_layout.{has_chunk, small_words, ChunkValue, number_of}
+use Rattle.shared_value.specs.below.chunk_pool.{PoolValue, TakesAll, slot_in, units_in_use}
+use Rattle.shared_value.proofs.below.chunk_pool.{taken_are_owned}
+use Rattle.shared_value.specs.below.alloc_path.{LeafHeapValue, with_places}
+use Rattle.shared_value.specs.below.core_relation.{In, Memory}
+use Rattle.shared_value.specs.below.task_machine.{Begun, Private}
 use Rattle.shared_value.specs.SharedValue.{SharedValue, accounts, value_of}
 use Rattle.shared_value.specs.Measured.{KeepsUnits}
 use Rattle.shared_value.specs.Stands.{IsSharedValue}

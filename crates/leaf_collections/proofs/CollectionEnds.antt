@@ -2,66 +2,31 @@
 use Rattle.std.proofs.Common.{◌≡◌, ℕ, ◌+◌, ◌-◌, ◌<◌, ◌&&◌, arith, true, false, not, Option, Some, None, is_some, List, [], ◌∷◌, ◌++◌, fold, length, slice_get, option_map, inl, inr, refl, ap, ap₂, sym, subst, ◌∙◌}
 use Rattle.std.proofs.lemmas.Bool.{cases_eq}
 use Rattle.std.proofs.lemmas.Option.{same_Some}
-use Rattle.listed.specs.RoomyValue.{RoomyValue}
-use Rattle.listed.proofs.Members.{got_within}
-use Rattle.listed.proofs.Places.{each_from, got_some, in_map, map_in, read_in}
-use Rattle.listed.proofs.Options.{none_some}
-use Rattle.hh_model.specs.declared.data.Object.{Object}
-use Rattle.hh_model.specs.Effect.{object_at}
-use Rattle.hh_model.specs.Step.{is_running, is_waiting}
-use Rattle.hh_model.specs.declared.data.State.{State}
-use Rattle.hh_model.proofs.Root.{runs_tell}
-use Rattle.run_trace.specs.Entry.{EntryValue}
-use Rattle.run_trace.specs.declared.entry.Kind.TheVariants.{End}
-use Rattle.run_ledger.specs.declared.data.Heap.{Heap}
-use Rattle.run_ledger.specs.declared.data.Ledger.{Ledger}
-use Rattle.run_ledger.specs.Heaps.{collected, heap_of, or_fresh, with_heap, with_heap_at}
-use Rattle.run_ledger.specs.Journals.{is_legal}
-use Rattle.run_ledger.specs.Sound.{SoundLedger}
-use Rattle.run_ledger.proofs.Holders.{tasks_are_out_once}
-use Rattle.run_ledger.proofs.Journals.{legal_sound}
+use Rattle.shared_value.specs.below.listed.{RoomyValue}
+use Rattle.shared_value.proofs.below.listed.{got_within, each_from, got_some, in_map, map_in, read_in, none_some}
+use Rattle.shared_value.specs.below.hh_model.{Object, object_at, is_running, is_waiting, State}
+use Rattle.shared_value.proofs.below.hh_model.{runs_tell}
+use Rattle.shared_value.specs.below.run_trace.{EntryValue, End}
+use Rattle.shared_value.specs.below.run_ledger.{Heap, Ledger, collected, heap_of, or_fresh, with_heap, with_heap_at, is_legal, SoundLedger}
+use Rattle.shared_value.proofs.below.run_ledger.{tasks_are_out_once, legal_sound, machine_goes_on, heap_machine, legal_then}
 use Rattle.journal_laws.proofs.Waiters.{waiters_are_free}
-use Rattle.run_ledger.proofs.Going.{machine_goes_on}
-use Rattle.run_ledger.proofs.Machine.{heap_machine}
-use Rattle.run_ledger.proofs.Cuts.{legal_then}
-use Rattle.object_layout.specs.declared.word.Addr.{Addr}
-use Rattle.object_layout.specs.Cell.{Born, marked_object}
-use Rattle.object_layout.specs.Chunks.{cell_of}
-use Rattle.object_layout.specs.ChunkValue.{ChunkValue}
-use Rattle.object_layout.specs.Objects.{Located}
-use Rattle.chunk_pool.specs.declared.pool.Slot.{Slot}
-use Rattle.chunk_pool.specs.PoolValue.{PoolValue, slot_at, owner_of, units_in_use}
-use Rattle.alloc_path.specs.LeafHeapValue.{IsFresh}
-use Rattle.remembered_set.specs.declared.remembered.Source.{Source}
-use Rattle.remembered_set.specs.Moved.{AreFields, redirected}
-use Rattle.remembered_set.specs.Sources.{StandOnce}
-use Rattle.leaf_copy_gc.specs.declared.lists.Moved.{Moved}
-use Rattle.leaf_copy_gc.specs.Redirected.{new_address}
-use Rattle.inner_mark_gc.specs.Swept.{AreGiven, units_in_slots}
-use Rattle.ledger_step_laws.specs.Accounts.{Rests, own}
-use Rattle.ledger_step_laws.proofs.Ahead.{heap_then, with_at, with_off}
-use Rattle.ledger_step_laws.proofs.Known.{legal_knows}
-use Rattle.core_relation.specs.Copies.{CopyFits, EndsAt}
-use Rattle.core_relation.specs.Counts.{CountsGo}
-use Rattle.core_relation.specs.Since.{OthersNotes}
-use Rattle.core_relation.specs.Stands.{IsSource, Place}
-use Rattle.core_relation.specs.Memory.{Chunk, Belongings, In, Lies, Memory, objects_in, rewritten_belongings, sources}
-use Rattle.core_relation.specs.Fits.{Part, part_for}
-use Rattle.core_relation.specs.Whole.{StandsFor, StandsForAll, as_node, by_end}
-use Rattle.core_relation.specs.Worker.{WorkerFits}
-use Rattle.core_entry_laws.proofs.whole.EntriesWhole.{ends_stand_for}
-use Rattle.core_entry_laws.proofs.parts.OwnFits.{ends_fit_then}
-use Rattle.core_entry_laws.proofs.parts.WorkersPast.{ends_leave}
-use Rattle.core_entry_laws.proofs.parts.Quiet.{aside_is}
-use Rattle.task_machine.specs.declared.part.Private.{Private}
-use Rattle.task_homes.specs.declared.task_at_rest.Rest.{Rest}
+use Rattle.shared_value.specs.below.object_layout.{Addr, Born, marked_object, cell_of, ChunkValue, Located}
+use Rattle.shared_value.specs.below.chunk_pool.{Slot, PoolValue, slot_at, owner_of, units_in_use}
+use Rattle.shared_value.specs.below.alloc_path.{IsFresh}
+use Rattle.shared_value.specs.below.remembered_set.{Source, AreFields, redirected, StandOnce}
+use Rattle.shared_value.specs.below.leaf_copy_gc.{Moved, new_address}
+use Rattle.shared_value.specs.below.inner_mark_gc.{AreGiven, units_in_slots}
+use Rattle.shared_value.specs.below.ledger_step_laws.{Rests, own}
+use Rattle.shared_value.proofs.below.ledger_step_laws.{heap_then, with_at, with_off, legal_knows}
+use Rattle.shared_value.specs.below.core_relation.{CopyFits, EndsAt, CountsGo, OthersNotes, IsSource, Place, Chunk, Belongings, In, Lies, Memory, objects_in, rewritten_belongings, sources, Part, part_for, StandsFor, StandsForAll, as_node, by_end, WorkerFits}
+use Rattle.shared_value.proofs.below.core_entry_laws.{ends_stand_for, ends_fit_then, ends_leave, aside_is}
+use Rattle.shared_value.specs.below.task_machine.{Private}
+use Rattle.shared_value.specs.below.task_homes.{Rest, refs_of_rest, Resting, refs_for, refs_in, with_ref_in}
 use Rattle.shared_value.specs.Objects.{chunk_of, chunks_of}
 use Rattle.shared_value.specs.SharedValue.{SharedValue, accounts, belongings_in, rest_at, tree_counts_of, value_of}
 use Rattle.shared_value.specs.Measured.{KeepsUnits, RestsAreMeasured}
 use Rattle.shared_value.specs.Stands.{IsSharedValue}
 use Rattle.shared_value.specs.Fits.{Fits, OthersFit, belongings_of_part, part_of}
-use Rattle.task_homes.specs.HomesValue.{refs_of_rest}
-use Rattle.task_homes.specs.RestingHeaps.{Resting, refs_for, refs_in, with_ref_in}
 use Rattle.shared_value.specs.Roots.{heaps_of, sources_of}
 use Rattle.shared_value.specs.Entered.{Enters, refused}
 use Rattle.shared_value.proofs.CellsRead.{fresh_off, seen_object}

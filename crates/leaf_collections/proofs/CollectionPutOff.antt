@@ -1,22 +1,15 @@
 -- A leaf collection of a part is put off.
 use Rattle.std.proofs.Common.{◌≡◌, ℕ, arith, false, None, [], ◌∷◌, ◌++◌, is_none, is_some, inl, refl, ap, sym, subst, ◌∙◌}
-use Rattle.listed.specs.RoomyValue.{RoomyValue}
-use Rattle.run_trace.specs.declared.entry.Kind.TheVariants.{PutOff}
-use Rattle.run_trace.specs.Entry.{EntryValue}
-use Rattle.run_ledger.specs.declared.data.Heap.{Heap}
-use Rattle.run_ledger.specs.declared.data.Ledger.{Ledger}
-use Rattle.run_ledger.specs.declared.data.Refused.TheVariants.{PoolEnough}
-use Rattle.run_ledger.specs.Heaps.{heap_of, in_use, with_heap}
-use Rattle.run_ledger.specs.Entries.{is_pool_enough, on_due, refused_if}
-use Rattle.run_ledger.proofs.Journals.{entry_tells}
-use Rattle.chunk_pool.specs.PoolValue.{units_in_use}
-use Rattle.alloc_path.specs.LeafHeapValue.{LeafHeapValue}
-use Rattle.ledger_step_laws.specs.Accounts.{rested}
-use Rattle.ledger_step_laws.proofs.Rested.{rested_view}
-use Rattle.core_relation.specs.Fits.{with_belongings}
-use Rattle.core_relation.specs.Memory.{Memory}
-use Rattle.core_relation.specs.Whole.{BegunBy}
-use Rattle.task_machine.specs.declared.part.Private.{Private}
+use Rattle.shared_value.specs.below.listed.{RoomyValue}
+use Rattle.shared_value.specs.below.run_trace.{PutOff, EntryValue}
+use Rattle.shared_value.specs.below.run_ledger.{Heap, Ledger, PoolEnough, heap_of, in_use, with_heap, is_pool_enough, on_due, refused_if}
+use Rattle.shared_value.proofs.below.run_ledger.{entry_tells}
+use Rattle.shared_value.specs.below.chunk_pool.{units_in_use}
+use Rattle.shared_value.specs.below.alloc_path.{LeafHeapValue}
+use Rattle.shared_value.specs.below.ledger_step_laws.{rested}
+use Rattle.shared_value.proofs.below.ledger_step_laws.{rested_view}
+use Rattle.shared_value.specs.below.core_relation.{with_belongings, Memory, BegunBy}
+use Rattle.shared_value.specs.below.task_machine.{Private}
 use Rattle.shared_value.specs.SharedValue.{SharedValue, accounts, value_of}
 use Rattle.shared_value.specs.Stands.{HeapForm, IsSharedValue}
 use Rattle.shared_value.specs.Fits.{Fits, OthersFit, belongings_of_part}

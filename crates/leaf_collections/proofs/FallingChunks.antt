@@ -5,11 +5,9 @@ use Rattle.std.specs.List.Sorted.{IsPermutation}
 use Rattle.std.proofs.lemmas.Bool.{cases_eq, eq-eqb, ne_eqb, or_from}
 use Rattle.std.proofs.lemmas.List.Sorted.{All-permutation, IsPermutation-map, length_permutation, list_any-IsPermutation}
 use Rattle.std.proofs.lemmas.Map.Keys.{IsDistinct-IsPermutation}
-use Rattle.object_layout.specs.ChunkValue.{ChunkValue, number_of}
-use Rattle.object_layout.specs.Chunks.{has_chunk, AreApart}
-use Rattle.object_layout.proofs.Owning.{found_any, fresh_none}
-use Rattle.chunk_pool.specs.declared.pool.Slot.{Slot}
-use Rattle.chunk_pool.specs.PoolValue.{PoolValue, IsBlank, NumbersBehind, TakesAll, slot_in, one_unit, units_in}
+use Rattle.shared_value.specs.below.object_layout.{ChunkValue, number_of, has_chunk, AreApart}
+use Rattle.shared_value.proofs.below.object_layout.{found_any, fresh_none}
+use Rattle.shared_value.specs.below.chunk_pool.{Slot, PoolValue, IsBlank, NumbersBehind, TakesAll, slot_in, one_unit, units_in}
 use Rattle.leaf_collections.proofs.NewChunks.{distinct_numbers}
 
 -- THE SAME NUMBERS

@@ -13,3 +13,4 @@ pub mod MoreChunksLaid
 pub mod ChunkGiven
 pub mod CollectionEnds
 pub mod WhyNoEnd
+pub mod below

@@ -2,18 +2,14 @@
 use Rattle.std.proofs.Common.{◌≡◌, ◌⊎◌, ℕ, ◌*◌, ◌/◌, ◌<◌, ◌≤◌, ◌==◌, ◌&&◌, ◌++◌, not, arith, Bool, true, false, cond, Option, Some, None, List, [], ◌∷◌, length, length-append, inl, inr, refl, ap, sym, subst, ◌∙◌, ne_eqb}
 use Rattle.std.specs.List.{AllByRecursion, IsDistinct}
 use Rattle.std.proofs.lemmas.Bool.{cases_lt, cond-true, cond-false, eqb-true}
-use Rattle.listed.specs.Members.{is_empty}
-use Rattle.listed.proofs.Places.{map_in}
-use Rattle.object_layout.specs.Chunks.{chunk_at}
-use Rattle.object_layout.specs.ChunkValue.{ChunkValue}
-use Rattle.object_layout.specs.Place.{words_in}
-use Rattle.alloc_path.specs.LeafHeapValue.{AreTidy, AreWithin, LeafHeapValue, IsFresh, IsTidy, added, with_places}
-use Rattle.alloc_path.proofs.HeapLemmas.{at_push, at_last}
-use Rattle.core_relation.specs.Layout.{AreLaidOut, reserved_chunks, reserved_units}
-use Rattle.core_relation.specs.Memory.{Chunk, In}
-use Rattle.core_relation.proofs.objects.LaidOut.{numbers, units_of}
-use Rattle.task_machine.specs.Accounts.{IsLastLarge, IsLastSmall}
-use Rattle.task_machine.specs.Fits.{IsShaped}
+use Rattle.shared_value.specs.below.listed.{is_empty}
+use Rattle.shared_value.proofs.below.listed.{map_in}
+use Rattle.shared_value.specs.below.object_layout.{chunk_at, ChunkValue, words_in}
+use Rattle.shared_value.specs.below.alloc_path.{AreTidy, AreWithin, LeafHeapValue, IsFresh, IsTidy, added, with_places}
+use Rattle.shared_value.proofs.below.alloc_path.{at_push, at_last}
+use Rattle.shared_value.specs.below.core_relation.{AreLaidOut, reserved_chunks, reserved_units, Chunk, In}
+use Rattle.shared_value.proofs.below.core_relation.{numbers, units_of}
+use Rattle.shared_value.specs.below.task_machine.{IsLastLarge, IsLastSmall, IsShaped}
 use Rattle.shared_value.specs.Objects.{AreNear, chunk_of, chunks_of}
 use Rattle.shared_value.specs.Stands.{HeapForm}
 use Rattle.shared_value.proofs.CellsRead.{fresh_off}

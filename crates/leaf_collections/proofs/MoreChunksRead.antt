@@ -2,20 +2,13 @@
 use Rattle.std.proofs.Common.{◌≡◌, ◌⊎◌, ℕ, zero, suc, ◌-◌, ◌*◌, ◌<◌, ◌≤◌, ◌==◌, arith, Bool, true, false, cond, Option, Some, None, List, [], ◌∷◌, ◌++◌, length, map, All, inl, inr, ne_eqb, refl, ap, sym, subst, ◌∙◌}
 use Rattle.std.proofs.lemmas.Bool.{cases_lt, cond-false, leb-false}
 use Rattle.std.proofs.lemmas.List.{length_push}
-use Rattle.hh_model.specs.declared.data.Name.{Name}
-use Rattle.run_ledger.specs.declared.data.Heap.{Heap}
-use Rattle.run_ledger.specs.Heaps.{chunk_words, is_small, units}
-use Rattle.run_ledger.specs.Entries.{chunk_units, with_chunk}
-use Rattle.object_layout.specs.Chunks.{chunk_at}
-use Rattle.object_layout.specs.ChunkValue.{ChunkValue}
-use Rattle.object_layout.specs.Place.{words_in}
-use Rattle.object_layout.specs.Objects.{Located, objects_from}
-use Rattle.alloc_path.specs.LeafHeapValue.{LeafHeapValue, IsCurrent, IsReserved, added, room_at, with_places}
-use Rattle.alloc_path.proofs.HeapLemmas.{at_push, at_last}
-use Rattle.core_relation.specs.Memory.{Chunk, In, object_name, objects_in}
-use Rattle.core_relation.specs.Stands.{large_chunks}
-use Rattle.task_machine.specs.Accounts.{AreReserved, IsCounted, IsLastLarge, IsLastSmall, large_names, names_in, small_lists}
-use Rattle.task_machine.specs.Fits.{IsShaped}
+use Rattle.shared_value.specs.below.hh_model.{Name}
+use Rattle.shared_value.specs.below.run_ledger.{Heap, chunk_words, is_small, units, chunk_units, with_chunk}
+use Rattle.shared_value.specs.below.object_layout.{chunk_at, ChunkValue, words_in, Located, objects_from}
+use Rattle.shared_value.specs.below.alloc_path.{LeafHeapValue, IsCurrent, IsReserved, added, room_at, with_places}
+use Rattle.shared_value.proofs.below.alloc_path.{at_push, at_last}
+use Rattle.shared_value.specs.below.core_relation.{Chunk, In, object_name, objects_in, large_chunks}
+use Rattle.shared_value.specs.below.task_machine.{AreReserved, IsCounted, IsLastLarge, IsLastSmall, large_names, names_in, small_lists, IsShaped}
 use Rattle.shared_value.specs.Objects.{chunk_of, chunks_of}
 
 -- ---- LISTS OF CHUNKS

@@ -2,17 +2,15 @@
 use Rattle.std.proofs.Common.{◌≡◌, ℕ, suc, ◌==◌, arith, true, false, Option, Some, None, List, [], ◌∷◌, map, All, slice_get, inl, inr, refl, sym, ◌∙◌, ne_eqb}
 use Rattle.std.specs.List.{AllByRecursion, IsDistinct}
 use Rattle.std.proofs.lemmas.Bool.{false≢true}
-use Rattle.hh_model.specs.declared.data.Task.{Task}
-use Rattle.hh_model.specs.Step.{is_running}
-use Rattle.run_ledger.specs.Heaps.{heap_of}
-use Rattle.run_ledger.proofs.Holders.{tasks_are_out_once}
-use Rattle.object_layout.specs.ChunkValue.{ChunkValue, number_of}
-use Rattle.chunk_pool.specs.PoolValue.{IsBlank}
-use Rattle.alloc_path.specs.LeafHeapValue.{AreApart}
-use Rattle.leaf_copy_gc.specs.Laid.{AreNew}
-use Rattle.ledger_step_laws.specs.Accounts.{Rests}
-use Rattle.ledger_step_laws.specs.Last.{IdleRest}
-use Rattle.core_relation.specs.Memory.{In}
+use Rattle.shared_value.specs.below.hh_model.{Task, is_running}
+use Rattle.shared_value.specs.below.run_ledger.{heap_of}
+use Rattle.shared_value.proofs.below.run_ledger.{tasks_are_out_once}
+use Rattle.shared_value.specs.below.object_layout.{ChunkValue, number_of}
+use Rattle.shared_value.specs.below.chunk_pool.{IsBlank}
+use Rattle.shared_value.specs.below.alloc_path.{AreApart}
+use Rattle.shared_value.specs.below.leaf_copy_gc.{AreNew}
+use Rattle.shared_value.specs.below.ledger_step_laws.{Rests, IdleRest}
+use Rattle.shared_value.specs.below.core_relation.{In}
 use Rattle.shared_value.specs.SharedValue.{SharedValue, accounts}
 use Rattle.shared_value.specs.Stands.{IsSharedValue}
 use Rattle.shared_value.proofs.CellsRead.{fresh_off}

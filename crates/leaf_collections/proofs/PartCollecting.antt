@@ -1,35 +1,22 @@
 -- The part once its leaf collection has begun.
 use Rattle.std.proofs.Common.{◌≡◌, ℕ, true, false, Option, Some, None, List, [], length, map, slice_get, is_some, ◌⊎◌, refl, ap, ap₂, sym, subst, ◌∙◌}
 use Rattle.std.proofs.lemmas.List.{length-map}
-use Rattle.listed.specs.RoomyValue.{RoomyValue}
-use Rattle.listed.proofs.Places.{in_map, map_in}
-use Rattle.hh_model.specs.declared.data.State.{State}
-use Rattle.hh_model.specs.Step.{is_waiting}
-use Rattle.run_trace.specs.declared.entry.Kind.TheVariants.{Begin}
-use Rattle.run_trace.specs.Entry.{EntryValue}
-use Rattle.run_ledger.specs.declared.data.Heap.{Heap}
-use Rattle.run_ledger.specs.declared.data.Ledger.{Ledger}
-use Rattle.run_ledger.specs.Heaps.{heap_of, let_go, take_of, with_heap, within}
-use Rattle.run_ledger.proofs.Machine.{heap_machine}
-use Rattle.object_layout.specs.Chunks.{place_in, small_words}
-use Rattle.object_layout.specs.ChunkValue.{ChunkValue, number_of}
-use Rattle.object_layout.proofs.ObjectLemmas.{has_own}
-use Rattle.chunk_pool.specs.PoolValue.{PoolValue, TakesAll}
-use Rattle.alloc_path.specs.LeafHeapValue.{LeafHeapValue, IsFresh, with_places}
-use Rattle.ledger_step_laws.specs.Accounts.{rested}
-use Rattle.ledger_step_laws.proofs.Entries.{within_rested}
-use Rattle.ledger_step_laws.proofs.Known.{legal_knows}
-use Rattle.ledger_step_laws.proofs.Rested.{rested_sound, rested_view, rested_worker}
-use Rattle.ledger_step_laws.proofs.Wrote.{waits_rest}
-use Rattle.core_relation.specs.Changes.{SameObjects}
-use Rattle.core_relation.specs.Fits.{with_belongings}
-use Rattle.core_relation.specs.Stands.{BelongingsStand}
-use Rattle.core_relation.specs.Memory.{Chunk, Belongings, In, Memory}
-use Rattle.core_relation.specs.Whole.{BegunStands, Begins}
-use Rattle.core_entry_laws.proofs.notes.Begun.{begins}
-use Rattle.core_relation.proofs.changes.With.{at_belongings}
-use Rattle.task_machine.specs.declared.part.Begun.{Begun}
-use Rattle.task_machine.specs.declared.part.Private.{Private}
+use Rattle.shared_value.specs.below.listed.{RoomyValue}
+use Rattle.shared_value.proofs.below.listed.{in_map, map_in}
+use Rattle.shared_value.specs.below.hh_model.{State, is_waiting}
+use Rattle.shared_value.specs.below.run_trace.{Begin, EntryValue}
+use Rattle.shared_value.specs.below.run_ledger.{Heap, Ledger, heap_of, let_go, take_of, with_heap, within}
+use Rattle.shared_value.proofs.below.run_ledger.{heap_machine}
+use Rattle.shared_value.specs.below.object_layout.{place_in, small_words, ChunkValue, number_of}
+use Rattle.shared_value.proofs.below.object_layout.{has_own}
+use Rattle.shared_value.specs.below.chunk_pool.{PoolValue, TakesAll}
+use Rattle.shared_value.specs.below.alloc_path.{LeafHeapValue, IsFresh, with_places}
+use Rattle.shared_value.specs.below.ledger_step_laws.{rested}
+use Rattle.shared_value.proofs.below.ledger_step_laws.{within_rested, legal_knows, rested_sound, rested_view, rested_worker, waits_rest}
+use Rattle.shared_value.specs.below.core_relation.{SameObjects, with_belongings, BelongingsStand, Chunk, Belongings, In, Memory, BegunStands, Begins}
+use Rattle.shared_value.proofs.below.core_entry_laws.{begins}
+use Rattle.shared_value.proofs.below.core_relation.{at_belongings}
+use Rattle.shared_value.specs.below.task_machine.{Begun, Private}
 use Rattle.shared_value.specs.Objects.{chunk_of}
 use Rattle.shared_value.specs.SharedValue.{SharedValue, accounts, value_of}
 use Rattle.shared_value.specs.Measured.{IsMeasured}

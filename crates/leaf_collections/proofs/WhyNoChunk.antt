@@ -1,19 +1,12 @@
 -- Why no chunk is given to a part.
 use Rattle.std.proofs.Common.{◌≡◌, ℕ, true, false, Option, Some, None, is_none, is_some, nat_le, refl, ap, ap₂, sym, ◌∙◌}
-use Rattle.listed.proofs.Options.{none_of}
-use Rattle.hh_model.specs.Step.{asked}
-use Rattle.run_trace.specs.declared.entry.Kind.TheVariants.{Chunk}
-use Rattle.run_trace.specs.Entry.{EntryValue}
-use Rattle.run_ledger.specs.declared.data.Heap.{Heap}
-use Rattle.run_ledger.specs.declared.data.Ledger.{Ledger}
-use Rattle.run_ledger.specs.declared.data.Refused.{Refused}
-use Rattle.run_ledger.specs.declared.data.Refused.TheVariants.{Collecting, Due, NotNeeded}
-use Rattle.run_ledger.specs.Heaps.{heap_of, lacks_room}
-use Rattle.run_ledger.specs.Steps.{is_due, is_in_need, on_asked}
-use Rattle.run_ledger.specs.Entries.{is_fuel, kind_refusal, on_running, refused_if, refused_unless}
-use Rattle.alloc_path.specs.LeafHeapValue.{place_for, room_of}
-use Rattle.task_machine.specs.declared.part.Private.{Private}
-use Rattle.task_machine.proofs.Counted.{lacks_same}
+use Rattle.shared_value.proofs.below.listed.{none_of}
+use Rattle.shared_value.specs.below.hh_model.{asked}
+use Rattle.shared_value.specs.below.run_trace.{Chunk, EntryValue}
+use Rattle.shared_value.specs.below.run_ledger.{Heap, Ledger, Refused, Collecting, Due, NotNeeded, heap_of, lacks_room, is_due, is_in_need, on_asked, is_fuel, kind_refusal, on_running, refused_if, refused_unless}
+use Rattle.shared_value.specs.below.alloc_path.{place_for, room_of}
+use Rattle.shared_value.specs.below.task_machine.{Private}
+use Rattle.shared_value.proofs.below.task_machine.{lacks_same}
 use Rattle.shared_value.specs.SharedValue.{SharedValue, accounts}
 use Rattle.shared_value.specs.Stands.{IsSharedValue}
 use Rattle.shared_value.specs.Fits.{Fits}

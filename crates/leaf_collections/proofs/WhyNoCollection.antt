@@ -1,17 +1,12 @@
 -- Why a leaf collection of a part doesn't begin, and what is known where it may.
 use Rattle.std.proofs.Common.{◌≡◌, ℕ, ◌+◌, ◌≤◌, arith, Bool, true, false, Option, None, is_none, is_some, refl, ap, sym, ◌∙◌}
 use Rattle.std.proofs.lemmas.Bool.{false≢true, leb-true}
-use Rattle.run_trace.specs.declared.entry.Kind.TheVariants.{Begin}
-use Rattle.run_trace.specs.Entry.{EntryValue}
-use Rattle.run_ledger.specs.declared.data.Ledger.{Ledger}
-use Rattle.run_ledger.specs.declared.data.Refused.{Refused}
-use Rattle.run_ledger.specs.declared.data.Refused.TheVariants.{PoolShort}
-use Rattle.run_ledger.specs.Heaps.{heap_of, in_use, take_of}
-use Rattle.run_ledger.specs.Entries.{is_pool_enough, on_due, refused_if, refused_unless}
-use Rattle.run_ledger.proofs.Journals.{entry_tells}
-use Rattle.object_layout.specs.Chunks.{small_words}
-use Rattle.chunk_pool.specs.PoolValue.{units_in_use}
-use Rattle.task_machine.specs.declared.part.Private.{Private}
+use Rattle.shared_value.specs.below.run_trace.{Begin, EntryValue}
+use Rattle.shared_value.specs.below.run_ledger.{Ledger, Refused, PoolShort, heap_of, in_use, take_of, is_pool_enough, on_due, refused_if, refused_unless}
+use Rattle.shared_value.proofs.below.run_ledger.{entry_tells}
+use Rattle.shared_value.specs.below.object_layout.{small_words}
+use Rattle.shared_value.specs.below.chunk_pool.{units_in_use}
+use Rattle.shared_value.specs.below.task_machine.{Private}
 use Rattle.shared_value.specs.SharedValue.{SharedValue, accounts}
 use Rattle.shared_value.specs.Stands.{IsSharedValue}
 use Rattle.shared_value.specs.Fits.{Fits}

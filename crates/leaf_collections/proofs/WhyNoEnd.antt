@@ -1,17 +1,13 @@
 -- Why the end of a part's leaf collection is refused: for what comes before it alone.
 use Rattle.std.proofs.Common.{◌≡◌, ℕ, ◌==◌, ◌&&◌, Bool, true, false, Option, Some, None, is_some, slice_get, refl, ap, ap₂, sym, ◌∙◌, eq-eqb}
 use Rattle.std.proofs.lemmas.Bool.{false≢true}
-use Rattle.hh_model.specs.Step.{is_running}
-use Rattle.run_trace.specs.declared.entry.Kind.TheVariants.{End}
-use Rattle.run_ledger.specs.declared.data.Ledger.{Ledger}
-use Rattle.run_ledger.specs.declared.data.Refused.{Refused}
-use Rattle.run_ledger.specs.declared.data.Refused.TheVariants.{Count, NotCollecting, NotOut}
-use Rattle.run_ledger.specs.Entries.{counted, ends_as, is_out, kind_refusal, refused_unless}
-use Rattle.listed.specs.Options.{option_is}
-use Rattle.run_ledger.specs.Heaps.{end_numbers, heap_of}
-use Rattle.run_ledger.proofs.Holders.{tasks_are_out_once}
-use Rattle.leaf_copy_gc.specs.declared.lists.Moved.{Moved}
-use Rattle.task_machine.specs.declared.part.Private.{Private}
+use Rattle.shared_value.specs.below.hh_model.{is_running}
+use Rattle.shared_value.specs.below.run_trace.{End}
+use Rattle.shared_value.specs.below.run_ledger.{Ledger, Refused, Count, NotCollecting, NotOut, counted, ends_as, is_out, kind_refusal, refused_unless, end_numbers, heap_of}
+use Rattle.shared_value.specs.below.listed.{option_is}
+use Rattle.shared_value.proofs.below.run_ledger.{tasks_are_out_once}
+use Rattle.shared_value.specs.below.leaf_copy_gc.{Moved}
+use Rattle.shared_value.specs.below.task_machine.{Private}
 use Rattle.shared_value.specs.SharedValue.{SharedValue, accounts}
 use Rattle.shared_value.specs.Stands.{IsSharedValue}
 use Rattle.shared_value.specs.Causes.{first_cause, or_else}

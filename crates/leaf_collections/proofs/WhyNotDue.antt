@@ -1,21 +1,15 @@
 -- Why a leaf collection of a part neither begins nor is put off.
 use Rattle.std.proofs.Common.{◌≡◌, ℕ, true, false, Bool, Option, None, is_some, nat_le, refl, ap, ap₂, sym, ◌∙◌}
-use Rattle.listed.proofs.Options.{none_of}
-use Rattle.run_trace.specs.declared.entry.Kind.{Kind}
-use Rattle.run_ledger.specs.declared.data.Ledger.{Ledger}
-use Rattle.run_ledger.specs.declared.data.Refused.{Refused}
-use Rattle.run_ledger.specs.declared.data.Refused.TheVariants.{Collecting, NotDue}
-use Rattle.run_ledger.specs.Heaps.{heap_of, in_use}
-use Rattle.run_ledger.specs.Steps.{is_due, on_asked}
-use Rattle.run_ledger.specs.Entries.{is_fuel, kind_refusal, on_due, on_running, refused_if, refused_unless}
-use Rattle.chunk_pool.specs.PoolValue.{units_in_use}
-use Rattle.task_machine.specs.declared.part.Private.{Private}
+use Rattle.shared_value.proofs.below.listed.{none_of}
+use Rattle.shared_value.specs.below.run_trace.{Kind}
+use Rattle.shared_value.specs.below.run_ledger.{Ledger, Refused, Collecting, NotDue, heap_of, in_use, is_due, on_asked, is_fuel, kind_refusal, on_due, on_running, refused_if, refused_unless}
+use Rattle.shared_value.specs.below.chunk_pool.{units_in_use}
+use Rattle.shared_value.specs.below.task_machine.{Private, is_part_due}
 use Rattle.shared_value.specs.SharedValue.{SharedValue, accounts}
 use Rattle.shared_value.specs.Stands.{IsSharedValue}
 use Rattle.shared_value.specs.Fits.{Fits}
 use Rattle.shared_value.specs.Next.{part_asks}
 use Rattle.shared_value.specs.Causes.{first_cause, or_else}
-use Rattle.task_machine.specs.Steps.{is_part_due}
 use Rattle.shared_value.specs.Due.{due_cause}
 use Rattle.shared_value.specs.Entered.{refused}
 use Rattle.shared_value.proofs.NextStepAsks.{asks_is, since_is}

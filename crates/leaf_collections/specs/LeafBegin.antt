@@ -1,7 +1,7 @@
 -- In which order a leaf collection takes its chunks.
 use Rattle.std.specs.Prelude.{List, reverse}
 use Rattle.std.specs.List.Sorted.{IsNonDecreasingBy}
-use Rattle.object_layout.specs.ChunkValue.{ChunkValue}
+use Rattle.shared_value.specs.below.object_layout.{ChunkValue}
 
 -- from the last of these chunks to the first, no number falls
 abbrev pub AreFalling : List ChunkValue → Type 0

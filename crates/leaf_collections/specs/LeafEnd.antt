@@ -1,20 +1,16 @@
 -- A part whose heap was copied: it fits for the end of its leaf collection alone.
 use Rattle.std.specs.Prelude.{◌≡◌, ℕ, All, Some, None, List}
-use Rattle.run_trace.specs.Entry.{EntryValue}
-use Rattle.run_trace.specs.Settings.{field_limit}
-use Rattle.run_trace.specs.declared.entry.Kind.TheVariants.{End}
-use Rattle.run_ledger.specs.Heaps.{end_numbers, heap_of}
-use Rattle.object_layout.specs.ChunkValue.{ChunkValue}
-use Rattle.chunk_pool.specs.PoolValue.{owner_of}
-use Rattle.alloc_path.specs.LeafHeapValue.{AreApart, IsFresh}
-use Rattle.remembered_set.specs.Moved.{AreInOrder, ArePlaces}
-use Rattle.leaf_copy_gc.specs.declared.lists.Moved.{Moved}
-use Rattle.leaf_copy_gc.specs.Redirected.{new_address}
-use Rattle.inner_mark_gc.specs.Swept.{units_in_slots}
-use Rattle.ledger_step_laws.specs.Accounts.{aside}
-use Rattle.core_relation.specs.Copies.{CopyFits}
-use Rattle.core_relation.specs.Memory.{Belongings}
-use Rattle.task_machine.specs.declared.part.Private.{Private}
+use Rattle.shared_value.specs.below.run_trace.{EntryValue, field_limit, End}
+use Rattle.shared_value.specs.below.run_ledger.{end_numbers, heap_of}
+use Rattle.shared_value.specs.below.object_layout.{ChunkValue}
+use Rattle.shared_value.specs.below.chunk_pool.{owner_of}
+use Rattle.shared_value.specs.below.alloc_path.{AreApart, IsFresh}
+use Rattle.shared_value.specs.below.remembered_set.{AreInOrder, ArePlaces}
+use Rattle.shared_value.specs.below.leaf_copy_gc.{Moved, new_address}
+use Rattle.shared_value.specs.below.inner_mark_gc.{units_in_slots}
+use Rattle.shared_value.specs.below.ledger_step_laws.{aside}
+use Rattle.shared_value.specs.below.core_relation.{CopyFits, Belongings}
+use Rattle.shared_value.specs.below.task_machine.{Private}
 use Rattle.shared_value.specs.Fits.{belongings_of_part}
 use Rattle.shared_value.specs.Measured.{AreMeasured}
 use Rattle.shared_value.specs.Stands.{HeapForm}

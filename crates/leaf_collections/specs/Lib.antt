@@ -1,2 +1,3 @@
 pub mod LeafBegin
 pub mod LeafEnd
+pub mod below

@@ -1,12 +1,10 @@
 // How large a chunk a part gets, and why it gets none.
 
 ghost use Rattle.std.specs.Prelude.{◌≡◌, ◌<◌, ◌^◌, IfSome};
-ghost use Rattle.run_ledger.specs.Entries.{chunk_units};
+ghost use Rattle.shared_value.specs.below.run_ledger.{chunk_units};
 ghost use Rattle.shared_value.specs.Causes.{chunk_cause};
 
-use object_layout::{CHUNK_WORDS, units};
-use run_ledger::Refused;
-use task_machine::Private;
+use shared_value::{CHUNK_WORDS, Private, Refused, units};
 
 /// How many units a chunk has for an object of so many words.
 pub fn units_for(words: Option<u32>) -> u32

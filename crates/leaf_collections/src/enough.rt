@@ -3,9 +3,7 @@
 ghost use Rattle.std.specs.Prelude.{◌≡◌, ◌≤◌, ◌^◌};
 ghost use Rattle.shared_value.specs.Due.{due_cause, take_by};
 
-use object_layout::CHUNK_WORDS;
-use run_ledger::Refused;
-use task_machine::Private;
+use shared_value::{CHUNK_WORDS, Private, Refused};
 
 /// How many chunks a leaf collection takes for small objects of so many words.
 pub fn chunks_for(words: u64) -> u64

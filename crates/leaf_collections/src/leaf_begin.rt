@@ -2,19 +2,16 @@
 
 ghost use Rattle.std.specs.Prelude.{◌≡◌, ◌+◌, ◌<◌, ◌≤◌, ◌^◌, ◌↔◌, [], ◌++◌, Err, IfOk, None, OnErr, OnOk, Some, length, map, vec_len};
 ghost use Rattle.std.specs.List.Sorted.{IsPermutation};
-ghost use Rattle.object_layout.specs.ChunkValue.{number_of};
-ghost use Rattle.chunk_pool.specs.PoolValue.{units_in_use, TakesAll};
-ghost use Rattle.alloc_path.specs.LeafHeapValue.{with_places};
-ghost use Rattle.leaf_copy_gc.specs.Lists.{AreReserved};
+ghost use Rattle.shared_value.specs.below.object_layout.{number_of};
+ghost use Rattle.shared_value.specs.below.chunk_pool.{units_in_use, TakesAll};
+ghost use Rattle.shared_value.specs.below.alloc_path.{with_places};
+ghost use Rattle.shared_value.specs.below.leaf_copy_gc.{AreReserved};
 ghost use Rattle.leaf_collections.specs.LeafBegin.{AreFalling};
 
-use alloc_path::LeafHeap;
-use chunk_pool::{NotTaken, Pool};
-use leaf_copy_gc::ToChunks;
-use listed::{Listed, Roomy};
-use object_layout::{Addr, Chunk};
+use shared_value::{
+    Addr, Begun, Chunk, LeafHeap, Listed, NotTaken, Pool, Private, Roomy, ToChunks,
+};
 use std::alloc::{AllocError, Global};
-use task_machine::{Begun, Private};
 
 // What a collection needs beside its chunks: a copy of its roots, a list for the numbers of the chunks, and what is
 // reserved for copying.

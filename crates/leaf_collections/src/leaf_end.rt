@@ -1,17 +1,14 @@
 // What the end of a leaf collection does to the heaps of other tasks and to the pool.
 
 ghost use Rattle.std.specs.Prelude.{◌≡◌, ◌<◌, All, IsSome, fold, length, slice_get};
-ghost use Rattle.chunk_pool.specs.PoolValue.{slot_at};
-ghost use Rattle.alloc_path.specs.LeafHeapValue.{AreApart};
-ghost use Rattle.remembered_set.specs.Moved.{redirected, AreFields, AreInOrder, ArePlaces};
-ghost use Rattle.remembered_set.specs.Sources.{StandOnce};
-ghost use Rattle.inner_mark_gc.specs.Swept.{AreGiven};
-ghost use Rattle.task_homes.specs.RestingHeaps.{refs_in, resting, with_ref_in, with_resting};
+ghost use Rattle.shared_value.specs.below.chunk_pool.{slot_at};
+ghost use Rattle.shared_value.specs.below.alloc_path.{AreApart};
+ghost use Rattle.shared_value.specs.below.remembered_set.{redirected, AreFields, AreInOrder, ArePlaces, StandOnce};
+ghost use Rattle.shared_value.specs.below.inner_mark_gc.{AreGiven};
+ghost use Rattle.shared_value.specs.below.task_homes.{refs_in, resting, with_ref_in, with_resting};
 ghost use Rattle.shared_value.specs.Roots.{sources_of};
 
-use chunk_pool::Pool;
-use object_layout::{Addr, Chunk};
-use task_homes::Heaps;
+use shared_value::{Addr, Chunk, Heaps, Pool};
 
 /// Leads the remembered fields of a heap that still hold old addresses to the new ones.
 pub fn lead(heaps: &mut Heaps, task: u32, moved: &[(Addr, Addr)])

@@ -3,3 +3,4 @@ pub mod Rows
 pub mod Between
 pub mod Functions
 pub mod Made
+pub mod below

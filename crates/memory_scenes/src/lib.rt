@@ -8,8 +8,12 @@ mod scenes;
 mod soundness;
 mod sweeping;
 
+pub use alloc_path::LeafHeap;
 pub use cells::{is_fit_heap, small_in_all};
+pub use chunk_pool::Pool;
+pub use hh_lang::DEPTH_LIMIT;
 pub use joining::{ended, forked, has_forked, joined};
+pub use object_layout::{Addr, CHUNK_WORDS, Chunk};
 pub use pools::{add_taken, is_full, owner, relabel, take, take_and_give};
 pub use scenes::{
     Put, Seen, Spot, at, at_spot, freeze, heap_of, holds, is_mutable, number, one_frame, place,
@@ -17,3 +21,4 @@ pub use scenes::{
 };
 pub use soundness::{is_fresh, is_live, outside_is_sound};
 pub use sweeping::{mark_and_sweep, mark_and_sweep_twice};
+pub use task_frames::Frames;

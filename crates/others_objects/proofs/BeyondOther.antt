@@ -1,13 +1,10 @@
 -- A step that `ran_alone` leaves, and that neither forks nor returns, works on an object of another task.
 use Rattle.std.proofs.Common.{◌≡◌, ℕ, ◌||◌, Bool, true, false, Some, None, refl, ap, ap₂, sym, ◌∙◌}
-use Rattle.hh_model.specs.declared.data.State.{State}
-use Rattle.hh_model.specs.declared.data.Task.{Task}
-use Rattle.run_ledger.specs.Steps.{task_steps}
-use Rattle.task_machine.specs.declared.part.Private.{Private}
-use Rattle.shared_value.specs.SharedValue.{SharedValue, accounts}
-use Rattle.shared_value.specs.Stands.{IsSharedValue}
-use Rattle.shared_value.specs.Fits.{Fits}
-use Rattle.shared_value.proofs.PartFitsMachine as link
+use Rattle.own_steps.specs.below.hh_model.{State, Task}
+use Rattle.own_steps.specs.below.run_ledger.{task_steps}
+use Rattle.own_steps.specs.below.task_machine.{Private}
+use Rattle.own_steps.specs.below.shared_value.{SharedValue, accounts, IsSharedValue, Fits}
+use Rattle.own_steps.proofs.below.shared_value.PartFitsMachine as link
 use Rattle.own_steps.specs.Alone.{IsShared}
 use Rattle.others_objects.proofs.ForeignObject.{x}
 

@@ -2,20 +2,14 @@
 use Rattle.std.proofs.Common.{◌≡◌, ◌==◌, true, Option, Some, None, refl, ap, sym, subst, ◌∙◌, eq-eqb}
 use Rattle.std.proofs.lemmas.Bool.{and_from}
 use Rattle.std.proofs.lemmas.Option.{same_Some}
-use Rattle.hh_model.specs.declared.data.Name.{Name}
-use Rattle.hh_model.specs.Effect.{same_name}
-use Rattle.run_ledger.specs.declared.data.Ledger.{Ledger}
-use Rattle.run_ledger.proofs.Members.{same_from_is_name}
-use Rattle.object_layout.specs.declared.word.Addr.{Addr}
-use Rattle.object_layout.specs.Chunks.{same_address}
-use Rattle.object_layout.specs.References.{same_reference}
-use Rattle.object_layout.specs.Objects.{Located}
-use Rattle.object_layout.proofs.Distinct.{is_same, same_is}
-use Rattle.ledger_step_laws.specs.Accounts.{Rests, own}
-use Rattle.core_relation.specs.Memory.{Lies, Memory, object_name}
-use Rattle.core_relation.specs.Reads.{Reads}
-use Rattle.core_relation.specs.Stands.{Place, Stands}
-use Rattle.listed.proofs.Options.{same_truth}
+use Rattle.own_steps.specs.below.hh_model.{Name, same_name}
+use Rattle.own_steps.specs.below.run_ledger.{Ledger}
+use Rattle.own_steps.proofs.below.run_ledger.{same_from_is_name}
+use Rattle.own_steps.specs.below.object_layout.{Addr, same_address, same_reference, Located}
+use Rattle.own_steps.proofs.below.object_layout.{is_same, same_is}
+use Rattle.own_steps.specs.below.ledger_step_laws.{Rests, own}
+use Rattle.own_steps.specs.below.core_relation.{Lies, Memory, object_name, Reads, Place, Stands}
+use Rattle.own_steps.proofs.below.listed.{same_truth}
 
 module _ (v : Memory) (l : Ledger) (W : Stands v l) where
   -- the second name's owner rests

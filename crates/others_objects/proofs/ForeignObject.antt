@@ -2,39 +2,19 @@
 -- heap, which no worker holds.
 use Rattle.std.proofs.Common.{◌≡◌, ℕ, pos, true, Option, Some, None, ◌∷◌, slice_get, unwrap_or, inl, refl, ap, sym, subst, ◌∙◌}
 use Rattle.std.proofs.lemmas.Option.{same_Some}
-use Rattle.hh_model.specs.declared.data.Name.{Name}
-use Rattle.hh_model.specs.declared.data.Object.{Object}
-use Rattle.hh_model.specs.declared.data.Task.{Task}
-use Rattle.hh_model.specs.Effect.{int_in, object_at, ref_in}
-use Rattle.hh_model.specs.Names.{task_names}
-use Rattle.hh_model.specs.Step.{is_on_path}
-use Rattle.hh_model.proofs.Carried.{at_in}
-use Rattle.hh_model.proofs.Steps.{in_registers, names_run}
-use Rattle.run_ledger.specs.declared.data.Ledger.{Ledger}
-use Rattle.run_ledger.specs.Steps.{task_steps}
-use Rattle.object_layout.specs.declared.word.Addr.{Addr}
-use Rattle.object_layout.specs.declared.word.Birth.{Birth}
-use Rattle.object_layout.specs.Cell.{Born, Cell}
-use Rattle.object_layout.specs.Chunks.{cell_of}
-use Rattle.object_layout.specs.Objects.{Located}
-use Rattle.ledger_step_laws.specs.Accounts.{Rests, own, rested}
-use Rattle.core_relation.specs.Memory.{Belongings, In, Lies, Memory, objects, objects_in}
-use Rattle.core_relation.specs.Fits.{with_belongings}
-use Rattle.core_relation.specs.Reads.{AllRead, FrameIsRead, FramesAreRead, HoldsRead, Reads}
-use Rattle.core_relation.specs.Stands.{Place}
-use Rattle.core_relation.proofs.objects.Carry.{field_of}
-use Rattle.core_relation.proofs.changes.With.{at_belongings}
-use Rattle.task_machine.specs.declared.part.Private.{Private}
-use Rattle.task_frames.specs.FramesValue.{int_of, ref_of}
-use Rattle.task_homes.specs.declared.task_at_rest.Rest.{Rest}
-use Rattle.task_homes.specs.declared.task_at_rest.Work.{Work}
-use Rattle.task_homes.specs.declared.task_at_rest.Work.TheVariants.{Calls, Result}
-use Rattle.shared_value.specs.SharedValue.{SharedValue, accounts, frames_down, belongings_by, belongings_in, rest_at, value_of}
-use Rattle.shared_value.specs.Objects.{chunks_of}
-use Rattle.shared_value.specs.Stands.{IsSharedValue}
-use Rattle.shared_value.specs.Fits.{Fits, belongings_of_part}
-use Rattle.shared_value.proofs.CellsRead.{seen_object}
-use Rattle.shared_value.proofs.PartFitsMachine as link
+use Rattle.own_steps.specs.below.hh_model.{Name, Object, Task, int_in, object_at, ref_in, task_names, is_on_path}
+use Rattle.own_steps.proofs.below.hh_model.{at_in, in_registers, names_run}
+use Rattle.own_steps.specs.below.run_ledger.{Ledger, task_steps}
+use Rattle.own_steps.specs.below.object_layout.{Addr, Birth, Born, Cell, cell_of, Located}
+use Rattle.own_steps.specs.below.ledger_step_laws.{Rests, own, rested}
+use Rattle.own_steps.specs.below.core_relation.{Belongings, In, Lies, Memory, objects, objects_in, with_belongings, AllRead, FrameIsRead, FramesAreRead, HoldsRead, Reads, Place}
+use Rattle.own_steps.proofs.below.core_relation.{field_of, at_belongings}
+use Rattle.own_steps.specs.below.task_machine.{Private}
+use Rattle.own_steps.specs.below.task_frames.{int_of, ref_of}
+use Rattle.own_steps.specs.below.task_homes.{Rest, Work, Calls, Result}
+use Rattle.own_steps.specs.below.shared_value.{SharedValue, accounts, frames_down, belongings_by, belongings_in, rest_at, value_of, chunks_of, IsSharedValue, Fits, belongings_of_part}
+use Rattle.own_steps.proofs.below.shared_value.{seen_object}
+use Rattle.own_steps.proofs.below.shared_value.PartFitsMachine as link
 
 -- as many references are read as there are
 -- the address of a name that is read

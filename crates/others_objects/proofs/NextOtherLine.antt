@@ -4,40 +4,23 @@ use Rattle.std.proofs.Common.{◌≡◌, ℕ, ◌<◌, not, true, Option, Some, 
 use Rattle.std.specs.Prelude.{IsSome}
 use Rattle.std.proofs.lemmas.Bool.{eq-eqb, false≢true}
 use Rattle.std.proofs.lemmas.Option.{same_Some}
-use Rattle.listed.proofs.Options.{none_some}
-use Rattle.hh_lang.specs.declared.instr.Instr.{Instr}
-use Rattle.hh_lang.specs.declared.instr.Instr.TheVariants.{Getr, Geti, Putr, Puti, Cntr, Cnti, Freeze, Cas}
-use Rattle.hh_lang.specs.declared.program.Line.{Line}
-use Rattle.hh_lang.specs.Form.{line_at}
-use Rattle.hh_model.specs.declared.data.Frame.{Frame as ModelFrame}
-use Rattle.hh_model.specs.declared.data.Name.{Name}
-use Rattle.hh_model.specs.declared.data.State.{State}
-use Rattle.hh_model.specs.declared.data.Task.{Task}
-use Rattle.hh_model.specs.Effect.{ref_in}
-use Rattle.hh_model.specs.Step.{fetched, owner_of}
-use Rattle.run_ledger.specs.declared.data.Ledger.{Ledger}
-use Rattle.run_ledger.specs.Steps.{owns, task_steps, touched}
-use Rattle.object_layout.specs.declared.word.Addr.{Addr}
-use Rattle.object_layout.specs.Cell.{Cell}
-use Rattle.object_layout.specs.Chunks.{cell_of, object_of}
-use Rattle.chunk_pool.specs.PoolValue.{slot_at, owner_of as pool_owner}
-use Rattle.task_frames.specs.declared.frames.Frame.{Frame}
-use Rattle.write_barrier.specs.Stored.{IsOwned}
-use Rattle.ledger_step_laws.specs.Accounts.{own, rested}
-use Rattle.core_relation.specs.Memory.{Memory}
-use Rattle.core_relation.specs.Fits.{with_belongings}
-use Rattle.core_relation.specs.Stands.{Place}
-use Rattle.core_relation.proofs.notes.Roots.{name_at}
-use Rattle.task_machine.specs.declared.part.Private.{Private}
-use Rattle.task_frames.specs.FramesValue.{ref_of}
-use Rattle.task_machine.proofs.Owned.{born_is, born_object}
-use Rattle.shared_value.specs.SharedValue.{SharedValue, accounts, rest_at, value_of}
-use Rattle.shared_value.specs.Stands.{IsSharedValue}
-use Rattle.shared_value.specs.Fits.{Fits, belongings_of_part}
-use Rattle.shared_value.specs.Next.{next_line}
-use Rattle.task_homes.specs.declared.task_at_rest.Rest.{Rest}
-use Rattle.shared_value.proofs.PartFitsMachine as link
-use Rattle.shared_value.proofs.UnitsMeasured.{owner_held}
+use Rattle.own_steps.proofs.below.listed.{none_some}
+use Rattle.own_steps.specs.below.hh_lang.{Instr, Getr, Geti, Putr, Puti, Cntr, Cnti, Freeze, Cas, Line, line_at}
+use Rattle.own_steps.specs.below.hh_model.{Frame as ModelFrame, Name, State, Task, ref_in, fetched, owner_of}
+use Rattle.own_steps.specs.below.run_ledger.{Ledger, owns, task_steps, touched}
+use Rattle.own_steps.specs.below.object_layout.{Addr, Cell, cell_of, object_of}
+use Rattle.own_steps.specs.below.chunk_pool.{slot_at, owner_of as pool_owner}
+use Rattle.own_steps.specs.below.task_frames.{Frame, ref_of}
+use Rattle.own_steps.specs.below.write_barrier.{IsOwned}
+use Rattle.own_steps.specs.below.ledger_step_laws.{own, rested}
+use Rattle.own_steps.specs.below.core_relation.{Memory, with_belongings, Place}
+use Rattle.own_steps.proofs.below.core_relation.{name_at}
+use Rattle.own_steps.specs.below.task_machine.{Private}
+use Rattle.own_steps.proofs.below.task_machine.{born_is, born_object}
+use Rattle.own_steps.specs.below.shared_value.{SharedValue, accounts, rest_at, value_of, IsSharedValue, Fits, belongings_of_part, next_line}
+use Rattle.own_steps.specs.below.task_homes.{Rest}
+use Rattle.own_steps.proofs.below.shared_value.PartFitsMachine as link
+use Rattle.own_steps.proofs.below.shared_value.{owner_held}
 use Rattle.own_steps.specs.Alone.{IsShared}
 use Rattle.own_steps.proofs.LastSteps.{machine_same}
 use Rattle.others_objects.specs.Other.{IsOther, IsReadable, SaysOther, TellsOther, is_other, is_other_by, is_other_line, object_named, other_step, then_places}

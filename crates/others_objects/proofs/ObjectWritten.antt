@@ -3,43 +3,23 @@ use Rattle.std.proofs.Common.{◌≡◌, ℕ, ◌<◌, length, cond, Option, Som
 use Rattle.std.specs.Option.{option_flatten}
 use Rattle.std.proofs.lemmas.Bool.{cases_eq, cond-true}
 use Rattle.std.proofs.lemmas.Option.{same_Some}
-use Rattle.listed.proofs.Members.{got_other, got_same, got_within}
-use Rattle.hh_model.specs.declared.data.Name.{Name}
-use Rattle.run_ledger.specs.declared.data.Ledger.{Ledger}
-use Rattle.run_ledger.specs.Heaps.{heap_of}
-use Rattle.run_ledger.specs.Steps.{task_steps}
-use Rattle.object_layout.specs.declared.word.Addr.{Addr}
-use Rattle.object_layout.specs.declared.word.Birth.{Birth}
-use Rattle.object_layout.specs.Cell.{Cell, size_of}
-use Rattle.object_layout.specs.Chunks.{cell_of}
-use Rattle.object_layout.specs.Objects.{Located, located, with_fields}
-use Rattle.alloc_path.specs.LeafHeapValue.{LeafHeapValue, room_of}
-use Rattle.chunk_rows.specs.View.{Level}
-use Rattle.task_frames.specs.declared.frames.Frame.{Frame}
-use Rattle.remembered_set.specs.declared.remembered.Source.{Source}
-use Rattle.write_barrier.specs.declared.sets.SetOf.{SetOf}
-use Rattle.ledger_step_laws.specs.Accounts.{Rests, own, rested}
-use Rattle.core_relation.specs.Memory.{Chunk, Belongings, In, Memory, mapped_chunk, object_name, objects, objects_in, put_at, sources}
-use Rattle.core_relation.specs.Changes.{WritesAt}
-use Rattle.core_relation.specs.Fits.{with_belongings}
-use Rattle.core_relation.specs.Layout.{words}
-use Rattle.core_relation.specs.Stands.{BelongingsStand}
-use Rattle.core_relation.proofs.objects.Members.{in_chunk}
-use Rattle.core_relation.proofs.changes.With.{at_belongings, off_belongings}
-use Rattle.task_machine.specs.declared.part.Private.{Private}
-use Rattle.task_homes.specs.declared.task_at_rest.Rest.{Rest}
-use Rattle.task_homes.specs.declared.task_at_rest.Work.{Work}
-use Rattle.task_homes.specs.declared.task_at_rest.Work.TheVariants.{Calls, Result}
-use Rattle.shared_value.specs.SharedValue.{SharedValue, accounts, belongings_by, belongings_in, belongings_of, no_belongings, rest_at, value_by, value_of, with_marks}
-use Rattle.shared_value.specs.Objects.{chunks_of}
-use Rattle.shared_value.specs.Stands.{HeapForm, IsSharedValue}
-use Rattle.shared_value.proofs.EntryMade.{IsWell, free_at_rest}
-use Rattle.shared_value.specs.Fits.{Fits, belongings_of_part}
-use Rattle.shared_value.proofs.FieldsLed.{by_chunks}
-use Rattle.shared_value.proofs.CellsRead.{seen_object}
-use Rattle.shared_value.proofs.PartFitsMachine as link
-use Rattle.shared_value.proofs.UnitsMeasured.{measured_written}
-use Rattle.shared_value.proofs.ObjectRewritten.{chunks_elsewhere, chunks_put, chunks_same, form_written, room_written}
+use Rattle.own_steps.proofs.below.listed.{got_other, got_same, got_within}
+use Rattle.own_steps.specs.below.hh_model.{Name}
+use Rattle.own_steps.specs.below.run_ledger.{Ledger, heap_of, task_steps}
+use Rattle.own_steps.specs.below.object_layout.{Addr, Birth, Cell, size_of, cell_of, Located, located, with_fields}
+use Rattle.own_steps.specs.below.alloc_path.{LeafHeapValue, room_of}
+use Rattle.own_steps.specs.below.chunk_rows.{Level}
+use Rattle.own_steps.specs.below.task_frames.{Frame}
+use Rattle.own_steps.specs.below.remembered_set.{Source}
+use Rattle.own_steps.specs.below.write_barrier.{SetOf}
+use Rattle.own_steps.specs.below.ledger_step_laws.{Rests, own, rested}
+use Rattle.own_steps.specs.below.core_relation.{Chunk, Belongings, In, Memory, mapped_chunk, object_name, objects, objects_in, put_at, sources, WritesAt, with_belongings, words, BelongingsStand}
+use Rattle.own_steps.proofs.below.core_relation.{in_chunk, at_belongings, off_belongings}
+use Rattle.own_steps.specs.below.task_machine.{Private}
+use Rattle.own_steps.specs.below.task_homes.{Rest, Work, Calls, Result}
+use Rattle.own_steps.specs.below.shared_value.{SharedValue, accounts, belongings_by, belongings_in, belongings_of, no_belongings, rest_at, value_by, value_of, with_marks, chunks_of, HeapForm, IsSharedValue, Fits, belongings_of_part}
+use Rattle.own_steps.proofs.below.shared_value.{IsWell, free_at_rest, by_chunks, seen_object, measured_written, chunks_elsewhere, chunks_put, chunks_same, form_written, room_written}
+use Rattle.own_steps.proofs.below.shared_value.PartFitsMachine as link
 use Rattle.others_objects.specs.Other.{put_rest}
 use Rattle.others_objects.proofs.ForeignObject.{IsForeign}
 

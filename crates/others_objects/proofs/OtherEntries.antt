@@ -1,24 +1,18 @@
 -- Entries of a part's fresh steps and one that works on an object of another task, as the calls have them.
 use Rattle.std.proofs.Common.{◌≡◌, ℕ, ℤ, ◌+◌, ◌++◌, Option, Some, ◌∷◌, [], ap, sym, subst, ◌∙◌}
 use Rattle.std.proofs.lemmas.Option.{same_Some}
-use Rattle.listed.specs.RoomyValue.{RoomyValue}
-use Rattle.hh_lang.specs.declared.program.Line.{Line}
-use Rattle.hh_model.specs.declared.data.Name.{Name}
-use Rattle.hh_model.specs.declared.data.Task.{Task}
-use Rattle.hh_model.specs.Effect.{onward, with_int, with_ref}
-use Rattle.hh_model.specs.Step.{fetched}
-use Rattle.run_trace.specs.Entry.{EntryValue}
-use Rattle.run_ledger.specs.declared.data.Ledger.{Ledger}
-use Rattle.run_ledger.specs.Steps.{task_steps}
-use Rattle.object_layout.specs.declared.word.Addr.{Addr}
-use Rattle.task_frames.specs.FramesValue.{with_int as with_number, with_next, with_reference}
-use Rattle.ledger_step_laws.specs.Last.{Splits}
-use Rattle.core_relation.specs.Reads.{FrameIsRead}
-use Rattle.core_relation.proofs.objects.Carry.{all_set}
-use Rattle.core_relation.proofs.changes.Target.{goes_on}
-use Rattle.task_machine.specs.declared.part.Private.{Private}
-use Rattle.shared_value.specs.SharedValue.{SharedValue, accounts}
-use Rattle.shared_value.specs.Stands.{IsSharedValue}
+use Rattle.own_steps.specs.below.listed.{RoomyValue}
+use Rattle.own_steps.specs.below.hh_lang.{Line}
+use Rattle.own_steps.specs.below.hh_model.{Name, Task, onward, with_int, with_ref, fetched}
+use Rattle.own_steps.specs.below.run_trace.{EntryValue}
+use Rattle.own_steps.specs.below.run_ledger.{Ledger, task_steps}
+use Rattle.own_steps.specs.below.object_layout.{Addr}
+use Rattle.own_steps.specs.below.task_frames.{with_int as with_number, with_next, with_reference}
+use Rattle.own_steps.specs.below.ledger_step_laws.{Splits}
+use Rattle.own_steps.specs.below.core_relation.{FrameIsRead}
+use Rattle.own_steps.proofs.below.core_relation.{all_set, goes_on}
+use Rattle.own_steps.specs.below.task_machine.{Private}
+use Rattle.own_steps.specs.below.shared_value.{SharedValue, accounts, IsSharedValue}
 use Rattle.own_steps.specs.Alone.{GoesAlone, alone_entry}
 use Rattle.own_steps.proofs.AloneEntries as own
 use Rattle.own_steps.proofs.AloneEntries.{AsksAlone}

@@ -2,47 +2,21 @@
 use Rattle.std.proofs.Common.{◌≡◌, ℕ, ℤ, pos, ◌==◌, Bool, true, false, cond, Option, Some, None, List, length, slice_get, slice_set, unwrap_or, inl, inr, refl, ap, ap₂, sym, subst, ◌∙◌}
 use Rattle.std.specs.Option.{option_flatten}
 use Rattle.std.proofs.lemmas.Bool.{cases_eq, cond-false, cond-true, ne_eqb}
-use Rattle.hh_lang.specs.declared.instr.Instr.{Instr}
-use Rattle.hh_lang.specs.declared.instr.Instr.TheVariants.{Set, Mov, Movr, Nil as NilOf, Calc, Same, Jmp, Jz, Newm, Pack, Getr, Geti, Putr, Puti, Cntr, Cnti, Freeze, Cas, Call, Par, Ret, Out}
-use Rattle.hh_lang.specs.declared.program.Line.{Line}
-use Rattle.hh_model.specs.declared.data.Frame.{Frame}
-use Rattle.hh_model.specs.declared.data.Name.{Name}
-use Rattle.hh_model.specs.declared.data.Object.{Object}
-use Rattle.hh_model.specs.declared.data.State.{State}
-use Rattle.hh_model.specs.declared.data.Task.{Task}
-use Rattle.hh_model.specs.declared.data.Trap.{Trap}
-use Rattle.hh_model.specs.declared.data.Trap.TheVariants.{Range, Frozen as FrozenTrap, Nil as NilTrap}
-use Rattle.hh_model.specs.Effect.{Effect, Goes, Stops as StopsBy, Traps as TrapsBy, effect, int_in, object_at, onward, or_trap, place_in, put_object, read_effect, ref_in, same_name, unless_frozen, with_int, with_object, with_ref}
-use Rattle.hh_model.specs.Names.{refs_of}
-use Rattle.hh_model.specs.Precedence.{precedes}
-use Rattle.hh_model.specs.Step.{can_step, fetched, follow, goes_on, is_running, owner_of, runs, setting, step, strand_of}
-use Rattle.hh_model.specs.Store.{IsStored}
-use Rattle.hh_model.specs.Closed.{Closed}
-use Rattle.hh_model.proofs.Carried.{at_in, named_from_in}
-use Rattle.hh_model.proofs.ForkJoinStates.{seen}
-use Rattle.path_laws.proofs.Stored.{run_stored}
-use Rattle.hh_model.proofs.Taken.{step_taken}
-use Rattle.run_ledger.specs.declared.data.Ledger.{Ledger}
-use Rattle.run_ledger.specs.Steps.{task_steps, touched}
-use Rattle.object_layout.specs.declared.word.Addr.{Addr}
-use Rattle.object_layout.specs.Cell.{Cell}
-use Rattle.object_layout.specs.Chunks.{cell_of}
-use Rattle.object_layout.specs.References.{same_reference}
-use Rattle.heap_tree.specs.Node.{is_on_path as tree_path}
-use Rattle.ledger_step_laws.specs.Accounts.{Rests, own, rested}
-use Rattle.ledger_step_laws.specs.Last.{JustReads}
-use Rattle.core_relation.specs.Memory.{In, Memory}
-use Rattle.core_relation.specs.Fits.{with_belongings}
-use Rattle.core_relation.specs.Reads.{Reads}
-use Rattle.core_relation.specs.Stands.{Place}
-use Rattle.core_relation.proofs.objects.Carry.{field_of}
-use Rattle.task_machine.specs.declared.part.Private.{Private}
-use Rattle.task_frames.specs.FramesValue.{int_of, ref_of}
-use Rattle.shared_value.specs.SharedValue.{SharedValue, accounts, value_of}
-use Rattle.shared_value.specs.Stands.{IsSharedValue}
-use Rattle.shared_value.specs.Fits.{Fits, belongings_of_part}
-use Rattle.shared_value.proofs.PartFitsMachine as link
-use Rattle.shared_value.proofs.FreeChunks.{refs_long}
+use Rattle.own_steps.specs.below.hh_lang.{Instr, Set, Mov, Movr, Nil as NilOf, Calc, Same, Jmp, Jz, Newm, Pack, Getr, Geti, Putr, Puti, Cntr, Cnti, Freeze, Cas, Call, Par, Ret, Out, Line}
+use Rattle.own_steps.specs.below.hh_model.{Frame, Name, Object, State, Task, Trap, Range, Frozen as FrozenTrap, Nil as NilTrap, Effect, Goes, Stops as StopsBy, Traps as TrapsBy, effect, int_in, object_at, onward, or_trap, place_in, put_object, read_effect, ref_in, same_name, unless_frozen, with_int, with_object, with_ref, refs_of, precedes, can_step, fetched, follow, goes_on, is_running, owner_of, runs, setting, step, strand_of, IsStored, Closed}
+use Rattle.own_steps.proofs.below.hh_model.{at_in, named_from_in, seen, step_taken}
+use Rattle.own_steps.proofs.below.path_laws.{run_stored}
+use Rattle.own_steps.specs.below.run_ledger.{Ledger, task_steps, touched}
+use Rattle.own_steps.specs.below.object_layout.{Addr, Cell, cell_of, same_reference}
+use Rattle.own_steps.specs.below.heap_tree.{is_on_path as tree_path}
+use Rattle.own_steps.specs.below.ledger_step_laws.{Rests, own, rested, JustReads}
+use Rattle.own_steps.specs.below.core_relation.{In, Memory, with_belongings, Reads, Place}
+use Rattle.own_steps.proofs.below.core_relation.{field_of}
+use Rattle.own_steps.specs.below.task_machine.{Private}
+use Rattle.own_steps.specs.below.task_frames.{int_of, ref_of}
+use Rattle.own_steps.specs.below.shared_value.{SharedValue, accounts, value_of, IsSharedValue, Fits, belongings_of_part}
+use Rattle.own_steps.proofs.below.shared_value.PartFitsMachine as link
+use Rattle.own_steps.proofs.below.shared_value.{refs_long}
 use Rattle.others_objects.specs.declared.other.OtherStep.{OtherStep}
 use Rattle.others_objects.specs.declared.other.OtherStep.TheVariants.{SetsNumber, SetsReference, Stops, Traps, StoresReference, Swaps, StoresNumber}
 use Rattle.others_objects.specs.Other.{ReadsTo, SaysOther, object_named, or_frozen, or_range, other_step, reads_into, swaps, yields}

@@ -1,24 +1,16 @@
 -- A read of an object of another task is entered.
 use Rattle.std.proofs.Common.{◌≡◌, ℕ, ◌+◌, ◌++◌, Some, None, List, [], ◌∷◌, slice_get, slice_set, refl, ap, sym, ◌∙◌}
-use Rattle.listed.proofs.Members.{got_same}
-use Rattle.listed.specs.RoomyValue.{RoomyValue}
-use Rattle.hh_model.specs.declared.data.Frame.{Frame as ModelFrame}
-use Rattle.hh_model.specs.declared.data.Object.{Object}
-use Rattle.hh_model.specs.declared.data.State.{State}
-use Rattle.hh_model.specs.declared.data.Task.{Task}
-use Rattle.hh_model.specs.Effect.{Effect, Goes}
-use Rattle.hh_model.specs.Step.{follow, runs}
-use Rattle.run_trace.specs.Entry.{EntryValue}
-use Rattle.task_frames.specs.declared.frames.Frame.{Frame}
-use Rattle.ledger_step_laws.specs.Last.{Reading, ReadsOther, Runs, stepped_by}
-use Rattle.core_relation.specs.Reads.{FrameIsRead}
-use Rattle.core_entry_laws.proofs.parts.Sets.{frames_go}
-use Rattle.task_machine.specs.declared.part.Private.{Private}
-use Rattle.shared_value.specs.SharedValue.{SharedValue}
-use Rattle.shared_value.specs.Stands.{IsSharedValue}
-use Rattle.shared_value.proofs.EntryMade.{same_form}
-use Rattle.shared_value.proofs.StepsMade.{MakesSteps, steps_world}
-use Rattle.shared_value.proofs.UnitsMeasured.{all_kept}
+use Rattle.own_steps.proofs.below.listed.{got_same}
+use Rattle.own_steps.specs.below.listed.{RoomyValue}
+use Rattle.own_steps.specs.below.hh_model.{Frame as ModelFrame, Object, State, Task, Effect, Goes, follow, runs}
+use Rattle.own_steps.specs.below.run_trace.{EntryValue}
+use Rattle.own_steps.specs.below.task_frames.{Frame}
+use Rattle.own_steps.specs.below.ledger_step_laws.{Reading, ReadsOther, Runs, stepped_by}
+use Rattle.own_steps.specs.below.core_relation.{FrameIsRead}
+use Rattle.own_steps.proofs.below.core_entry_laws.{frames_go}
+use Rattle.own_steps.specs.below.task_machine.{Private}
+use Rattle.own_steps.specs.below.shared_value.{SharedValue, IsSharedValue}
+use Rattle.own_steps.proofs.below.shared_value.{same_form, MakesSteps, steps_world, all_kept}
 use Rattle.own_steps.specs.Alone.{GoesAlone, alone_entry}
 use Rattle.own_steps.proofs.LastStepEntry as last
 use Rattle.own_steps.proofs.LastStepEntry.{AsksLast, goes_alone, last_enters, last_steps}

@@ -1,15 +1,10 @@
 -- The shared value where its sets have more room alone.
 use Rattle.std.proofs.Common.{◌≡◌, ℕ, List, length, slice_get, refl, ap, sym, subst, ◌∙◌}
-use Rattle.write_barrier.specs.declared.sets.SetOf.{SetOf}
-use Rattle.write_barrier.specs.Stored.{content_at}
-use Rattle.core_relation.specs.Memory.{Memory}
-use Rattle.core_relation.specs.Whole.{StandsForAll}
-use Rattle.core_relation.specs.Worker.{WorkerFits}
-use Rattle.task_machine.specs.declared.part.Private.{Private}
-use Rattle.shared_value.specs.SharedValue.{SharedValue, accounts, marks_at, noted_in, tree_counts_of, value_of}
-use Rattle.shared_value.specs.Stands.{IsSharedValue}
-use Rattle.shared_value.specs.Fits.{Fits, part_of}
-use Rattle.shared_value.proofs.FieldsNoted.{noted_is, noted_of}
+use Rattle.own_steps.specs.below.write_barrier.{SetOf, content_at}
+use Rattle.own_steps.specs.below.core_relation.{Memory, StandsForAll, WorkerFits}
+use Rattle.own_steps.specs.below.task_machine.{Private}
+use Rattle.own_steps.specs.below.shared_value.{SharedValue, accounts, marks_at, noted_in, tree_counts_of, value_of, IsSharedValue, Fits, part_of}
+use Rattle.own_steps.proofs.below.shared_value.{noted_is, noted_of}
 use Rattle.others_objects.specs.Other.{SameButRoom}
 
 module _ (w : SharedValue) (sets : List SetOf) (many : length sets ≡ length w.sets) (same : (t : ℕ) → content_at sets t ≡ content_at w.sets t) where

@@ -2,39 +2,23 @@
 use Rattle.std.proofs.Common.{◌≡◌, ℕ, ℤ, pos, ◌+◌, ◌<◌, ◌++◌, Option, Some, None, List, [], ◌∷◌, length, slice_get, slice_set, option_map, refl, ap, sym, subst, ◌∙◌}
 use Rattle.std.specs.Prelude.{IsSome, slice_index_or}
 use Rattle.std.proofs.lemmas.Option.{same_Some, slice_get-get_or}
-use Rattle.listed.specs.RoomyValue.{RoomyValue}
-use Rattle.hh_model.specs.declared.data.Frame.{Frame}
-use Rattle.hh_model.specs.declared.data.Name.{Name}
-use Rattle.hh_model.specs.declared.data.Object.{Object}
-use Rattle.hh_model.specs.declared.data.Task.{Task}
-use Rattle.hh_model.specs.Effect.{ref_in}
-use Rattle.run_trace.specs.Entry.{EntryValue}
-use Rattle.run_ledger.specs.declared.data.Ledger.{Ledger}
-use Rattle.run_ledger.specs.Steps.{task_steps, touched}
-use Rattle.object_layout.specs.declared.word.Addr.{Addr}
-use Rattle.object_layout.specs.Cell.{Cell, IsPlace, with_int as cell_int, with_ref as cell_ref}
-use Rattle.object_layout.specs.Chunks.{cell_of, object_of}
-use Rattle.chunk_pool.specs.PoolValue.{slot_at, owner_of as pool_owner}
-use Rattle.task_frames.specs.FramesValue.{FramesValue, ref_of}
-use Rattle.write_barrier.specs.declared.sets.SetOf.{SetOf}
-use Rattle.write_barrier.specs.Stored.{IsOwned, content_after, content_at}
-use Rattle.ledger_step_laws.specs.Accounts.{own, rested}
-use Rattle.ledger_step_laws.specs.Last.{JustReads, Splits}
-use Rattle.core_relation.specs.Memory.{Belongings, Memory}
-use Rattle.core_relation.specs.Changes.{gone_on}
-use Rattle.core_relation.specs.Fits.{with_belongings}
-use Rattle.core_relation.specs.Makes.{StoresInto}
-use Rattle.core_relation.specs.Since.{StoresNotes}
-use Rattle.core_relation.specs.Stands.{Place}
-use Rattle.core_relation.proofs.notes.Roots.{name_at}
-use Rattle.task_machine.specs.declared.part.Private.{Private}
-use Rattle.task_machine.proofs.Owned.{born_is, born_object}
-use Rattle.task_homes.specs.declared.task_at_rest.Rest.{Rest}
-use Rattle.shared_value.specs.SharedValue.{SharedValue, accounts, rest_at, value_of}
-use Rattle.shared_value.specs.Stands.{IsSharedValue}
-use Rattle.shared_value.specs.Fits.{belongings_of_part}
-use Rattle.shared_value.proofs.PartFitsMachine as link
-use Rattle.shared_value.proofs.UnitsMeasured.{owner_held}
+use Rattle.own_steps.specs.below.listed.{RoomyValue}
+use Rattle.own_steps.specs.below.hh_model.{Frame, Name, Object, Task, ref_in}
+use Rattle.own_steps.specs.below.run_trace.{EntryValue}
+use Rattle.own_steps.specs.below.run_ledger.{Ledger, task_steps, touched}
+use Rattle.own_steps.specs.below.object_layout.{Addr, Cell, IsPlace, with_int as cell_int, with_ref as cell_ref, cell_of, object_of}
+use Rattle.own_steps.specs.below.chunk_pool.{slot_at, owner_of as pool_owner}
+use Rattle.own_steps.specs.below.task_frames.{FramesValue, ref_of}
+use Rattle.own_steps.specs.below.write_barrier.{SetOf, IsOwned, content_after, content_at}
+use Rattle.own_steps.specs.below.ledger_step_laws.{own, rested, JustReads, Splits}
+use Rattle.own_steps.specs.below.core_relation.{Belongings, Memory, gone_on, with_belongings, StoresInto, StoresNotes, Place}
+use Rattle.own_steps.proofs.below.core_relation.{name_at}
+use Rattle.own_steps.specs.below.task_machine.{Private}
+use Rattle.own_steps.proofs.below.task_machine.{born_is, born_object}
+use Rattle.own_steps.specs.below.task_homes.{Rest}
+use Rattle.own_steps.specs.below.shared_value.{SharedValue, accounts, rest_at, value_of, IsSharedValue, belongings_of_part}
+use Rattle.own_steps.proofs.below.shared_value.PartFitsMachine as link
+use Rattle.own_steps.proofs.below.shared_value.{owner_held}
 use Rattle.own_steps.specs.Alone.{GoesAlone, alone_entry}
 use Rattle.own_steps.proofs.AloneEntries as own
 use Rattle.own_steps.proofs.AloneEntries.{AsksAlone}

@@ -3,19 +3,11 @@ use Rattle.std.proofs.Common.{◌≡◌, ℕ, pos, true, Some, None, length, sli
 use Rattle.std.specs.Option.{option_flatten}
 use Rattle.std.proofs.lemmas.Bool.{both_ways}
 use Rattle.std.proofs.lemmas.Option.{same_Some}
-use Rattle.hh_lang.specs.declared.instr.Instr.{Instr}
-use Rattle.hh_lang.specs.declared.instr.Instr.TheVariants.{Putr, Puti, Cas}
-use Rattle.hh_model.specs.declared.data.Frame.{Frame}
-use Rattle.hh_model.specs.declared.data.Object.{Object}
-use Rattle.hh_model.specs.declared.data.Task.{Task}
-use Rattle.hh_model.specs.Effect.{int_in, place_in, ref_in, same_name}
-use Rattle.run_ledger.specs.declared.data.Ledger.{Ledger}
-use Rattle.ledger_step_laws.specs.Last.{JustReads}
-use Rattle.core_relation.specs.Memory.{Belongings, Memory}
-use Rattle.core_relation.specs.Fits.{with_belongings}
-use Rattle.core_relation.specs.Makes.{Stores, BelongingsAfterStore, StoresInto}
-use Rattle.core_relation.specs.Marks.{StoreMarks}
-use Rattle.core_relation.specs.Since.{StoresNotes}
+use Rattle.own_steps.specs.below.hh_lang.{Instr, Putr, Puti, Cas}
+use Rattle.own_steps.specs.below.hh_model.{Frame, Object, Task, int_in, place_in, ref_in, same_name}
+use Rattle.own_steps.specs.below.run_ledger.{Ledger}
+use Rattle.own_steps.specs.below.ledger_step_laws.{JustReads}
+use Rattle.own_steps.specs.below.core_relation.{Belongings, Memory, with_belongings, Stores, BelongingsAfterStore, StoresInto, StoreMarks, StoresNotes}
 
 -- a write by its instruction: what it makes of the value, and of what is noted
 abbrev pub Made : (v v' : Memory) (m : Ledger) (t : ℕ) (h : Belongings) (x : Task) (y : Object) (i : Instr) → Belongings → Type 0

@@ -2,38 +2,22 @@
 use Rattle.std.proofs.Common.{◌≡◌, ◌⊎◌, ℕ, ℤ, ◌+◌, ◌<◌, ◌≤◌, ◌&&◌, not, arith, true, false, Option, Some, None, List, ◌∷◌, length, length-set, slice_get, option_map, inl, inr, refl, ap, ap₂, sym, subst, ◌∙◌}
 use Rattle.std.proofs.lemmas.Option.{same_Some}
 use Rattle.std.proofs.lemmas.Bool.{false_from_ne_true}
-use Rattle.hh_model.specs.declared.data.Name.{Name}
-use Rattle.hh_model.specs.declared.data.Task.{Task}
-use Rattle.hh_model.specs.Effect.{ref_in}
-use Rattle.hh_model.specs.Step.{is_on_path, parents}
-use Rattle.hh_model.proofs.Paths.{path_le}
-use Rattle.run_ledger.specs.declared.data.Ledger.{Ledger}
-use Rattle.run_ledger.specs.Heaps.{heap_of}
-use Rattle.object_layout.specs.declared.word.Addr.{Addr}
-use Rattle.object_layout.specs.declared.word.Birth.{Birth}
-use Rattle.object_layout.specs.Cell.{Cell, size_of, with_int as cell_int, with_ref as cell_ref}
-use Rattle.object_layout.specs.Objects.{Located, located}
-use Rattle.chunk_pool.specs.PoolValue.{owner_of as pool_owner}
-use Rattle.task_frames.specs.declared.frames.Frame.{Frame}
-use Rattle.heap_tree.specs.Node.{is_on_path as tree_path}
-use Rattle.remembered_set.specs.declared.remembered.Source.{Source}
-use Rattle.write_barrier.specs.declared.sets.SetOf.{SetOf}
-use Rattle.write_barrier.specs.Stored.{content_after, content_at}
-use Rattle.ledger_step_laws.specs.Accounts.{own}
-use Rattle.core_relation.specs.Memory.{Belongings, In, Memory, objects, sources}
-use Rattle.core_relation.specs.Changes.{StoresAt, StoresNumberAt, gone_on, with_field, with_number}
-use Rattle.task_frames.specs.FramesValue.{ref_of, int_of}
-use Rattle.core_relation.specs.Fits.{with_belongings}
-use Rattle.core_relation.specs.Reads.{Reads}
-use Rattle.core_relation.specs.Since.{Keeps, OthersNotes, StoresNotes}
-use Rattle.core_relation.specs.Stands.{Place}
-use Rattle.core_relation.proofs.changes.Store as store
-use Rattle.task_machine.specs.declared.part.Private.{Private}
-use Rattle.shared_value.specs.SharedValue.{SharedValue, accounts, value_of}
-use Rattle.shared_value.specs.Stands.{IsSharedValue}
-use Rattle.shared_value.specs.Fits.{Fits, belongings_of_part}
-use Rattle.shared_value.proofs.PartFitsMachine as link
-use Rattle.shared_value.proofs.BeforeTheEnd.{part_idle, stands_now}
+use Rattle.own_steps.specs.below.hh_model.{Name, Task, ref_in, is_on_path, parents}
+use Rattle.own_steps.proofs.below.hh_model.{path_le}
+use Rattle.own_steps.specs.below.run_ledger.{Ledger, heap_of}
+use Rattle.own_steps.specs.below.object_layout.{Addr, Birth, Cell, size_of, with_int as cell_int, with_ref as cell_ref, Located, located}
+use Rattle.own_steps.specs.below.chunk_pool.{owner_of as pool_owner}
+use Rattle.own_steps.specs.below.task_frames.{Frame, ref_of, int_of}
+use Rattle.own_steps.specs.below.heap_tree.{is_on_path as tree_path}
+use Rattle.own_steps.specs.below.remembered_set.{Source}
+use Rattle.own_steps.specs.below.write_barrier.{SetOf, content_after, content_at}
+use Rattle.own_steps.specs.below.ledger_step_laws.{own}
+use Rattle.own_steps.specs.below.core_relation.{Belongings, In, Memory, objects, sources, StoresAt, StoresNumberAt, gone_on, with_field, with_number, with_belongings, Reads, Keeps, OthersNotes, StoresNotes, Place}
+use Rattle.own_steps.proofs.below.core_relation.Store as store
+use Rattle.own_steps.specs.below.task_machine.{Private}
+use Rattle.own_steps.specs.below.shared_value.{SharedValue, accounts, value_of, IsSharedValue, Fits, belongings_of_part}
+use Rattle.own_steps.proofs.below.shared_value.PartFitsMachine as link
+use Rattle.own_steps.proofs.below.shared_value.{part_idle, stands_now}
 use Rattle.others_objects.proofs.ForeignObject.{IsForeign, holds, register_at, x}
 use Rattle.others_objects.proofs.WriteNoted as noting
 use Rattle.others_objects.proofs.ObjectWritten as other

@@ -2,42 +2,24 @@
 use Rattle.std.proofs.Common.{◌≡◌, ℕ, ℤ, ◌<◌, Option, Some, None, List, length, slice_get, slice_set, option_map, refl, ap, sym, subst, ◌∙◌}
 use Rattle.std.specs.Prelude.{slice_index_or}
 use Rattle.std.proofs.lemmas.Option.{same_Some, slice_get-get_or}
-use Rattle.listed.proofs.Members.{got_same}
-use Rattle.listed.specs.RoomyValue.{RoomyValue}
-use Rattle.hh_lang.specs.declared.instr.Instr.{Instr}
-use Rattle.hh_lang.specs.declared.instr.Instr.TheVariants.{Puti}
-use Rattle.hh_model.specs.declared.data.Frame.{Frame as ModelFrame}
-use Rattle.hh_model.specs.declared.data.Name.{Name}
-use Rattle.hh_model.specs.declared.data.Object.{Object}
-use Rattle.hh_model.specs.declared.data.State.{State}
-use Rattle.hh_model.specs.declared.data.Task.{Task}
-use Rattle.hh_model.specs.Effect.{Goes, effect, int_in, object_at, place_in, ref_in}
-use Rattle.hh_model.specs.Step.{follow, owner_of, runs, setting}
-use Rattle.hh_model.proofs.Changes.{place_within}
-use Rattle.run_trace.specs.Entry.{EntryValue}
-use Rattle.run_ledger.specs.Steps.{touched}
-use Rattle.object_layout.specs.declared.word.Addr.{Addr}
-use Rattle.object_layout.specs.Cell.{Cell, size_of, with_int as cell_int, with_ref as cell_ref}
-use Rattle.object_layout.specs.Chunks.{cell_of, object_of}
-use Rattle.task_frames.specs.declared.frames.Frame.{Frame}
-use Rattle.write_barrier.specs.declared.sets.SetOf.{SetOf}
-use Rattle.write_barrier.specs.Stored.{content_after, content_at}
-use Rattle.ledger_step_laws.specs.Accounts.{own, rested}
-use Rattle.ledger_step_laws.specs.Last.{JustReads, WritesOther}
-use Rattle.core_relation.specs.Memory.{Belongings, Memory}
-use Rattle.core_relation.specs.Changes.{StoresAt, gone_on, with_field, with_number as number_field}
-use Rattle.core_relation.specs.Fits.{with_belongings}
-use Rattle.core_relation.specs.Makes.{StoresInto}
-use Rattle.core_relation.specs.Since.{StoresNotes}
-use Rattle.task_machine.specs.declared.part.Private.{Private}
-use Rattle.task_frames.specs.FramesValue.{int_of, ref_of}
-use Rattle.task_machine.proofs.Owned.{born_object}
-use Rattle.task_homes.specs.declared.task_at_rest.Rest.{Rest}
-use Rattle.shared_value.specs.SharedValue.{SharedValue, value_of}
-use Rattle.shared_value.specs.Stands.{IsSharedValue}
-use Rattle.shared_value.specs.Fits.{belongings_of_part}
-use Rattle.shared_value.proofs.PartFitsMachine as link
-use Rattle.shared_value.proofs.FreeChunks.{refs_long}
+use Rattle.own_steps.proofs.below.listed.{got_same}
+use Rattle.own_steps.specs.below.listed.{RoomyValue}
+use Rattle.own_steps.specs.below.hh_lang.{Instr, Puti}
+use Rattle.own_steps.specs.below.hh_model.{Frame as ModelFrame, Name, Object, State, Task, Goes, effect, int_in, object_at, place_in, ref_in, follow, owner_of, runs, setting}
+use Rattle.own_steps.proofs.below.hh_model.{place_within}
+use Rattle.own_steps.specs.below.run_trace.{EntryValue}
+use Rattle.own_steps.specs.below.run_ledger.{touched}
+use Rattle.own_steps.specs.below.object_layout.{Addr, Cell, size_of, with_int as cell_int, with_ref as cell_ref, cell_of, object_of}
+use Rattle.own_steps.specs.below.task_frames.{Frame, int_of, ref_of}
+use Rattle.own_steps.specs.below.write_barrier.{SetOf, content_after, content_at}
+use Rattle.own_steps.specs.below.ledger_step_laws.{own, rested, JustReads, WritesOther}
+use Rattle.own_steps.specs.below.core_relation.{Belongings, Memory, StoresAt, gone_on, with_field, with_number as number_field, with_belongings, StoresInto, StoresNotes}
+use Rattle.own_steps.specs.below.task_machine.{Private}
+use Rattle.own_steps.proofs.below.task_machine.{born_object}
+use Rattle.own_steps.specs.below.task_homes.{Rest}
+use Rattle.own_steps.specs.below.shared_value.{SharedValue, value_of, IsSharedValue, belongings_of_part}
+use Rattle.own_steps.proofs.below.shared_value.PartFitsMachine as link
+use Rattle.own_steps.proofs.below.shared_value.{refs_long}
 use Rattle.own_steps.specs.Alone.{GoesAlone}
 use Rattle.own_steps.proofs.LastStepEntry as last
 use Rattle.own_steps.proofs.LastStepEntry.{AsksLast}

@@ -2,17 +2,13 @@
 use Rattle.std.proofs.Common.{◌≡◌, ℕ, zero, suc, ◌<◌, ◌==◌, ◌||◌, Bool, true, false, Option, Some, None, length, slice_get, option_map, is_some, refl, ap, ◌∙◌}
 use Rattle.std.proofs.lemmas.Bool.{false≢true}
 use Rattle.std.proofs.lemmas.Option.{same_Some}
-use Rattle.listed.proofs.Members.{got_within}
-use Rattle.hh_model.specs.declared.data.Task.{Task}
-use Rattle.hh_model.specs.Step.{is_on_path, parents, path_by, through}
-use Rattle.run_ledger.specs.declared.data.Ledger.{Ledger}
-use Rattle.run_ledger.specs.Heaps.{heap_of}
-use Rattle.heap_tree.specs.Node.{Node, parent_of as tree_parent, is_on_path as tree_path}
-use Rattle.shared_value.specs.SharedValue.{SharedValue, accounts}
-use Rattle.shared_value.specs.Stands.{IsSharedValue}
-use Rattle.shared_value.proofs.BeforeTheEnd.{stands_now}
-use Rattle.shared_value.proofs.TaskTaken.{parent_is}
-use Rattle.core_relation.specs.Whole.{as_node}
+use Rattle.own_steps.proofs.below.listed.{got_within}
+use Rattle.own_steps.specs.below.hh_model.{Task, is_on_path, parents, path_by, through}
+use Rattle.own_steps.specs.below.run_ledger.{Ledger, heap_of}
+use Rattle.own_steps.specs.below.heap_tree.{Node, parent_of as tree_parent, is_on_path as tree_path}
+use Rattle.own_steps.specs.below.shared_value.{SharedValue, accounts, IsSharedValue}
+use Rattle.own_steps.proofs.below.shared_value.{stands_now, parent_is}
+use Rattle.own_steps.specs.below.core_relation.{as_node}
 
 same_through : (f g : ℕ → Bool) → ((u : ℕ) → f u ≡ g u) → (o q : Option ℕ) → o ≡ q → through o false f ≡ through q false g
 same_through f g e None None h = refl

@@ -2,46 +2,23 @@
 use Rattle.std.proofs.Common.{◌≡◌, ℕ, ◌+◌, ◌++◌, true, Option, Some, None, List, [], ◌∷◌, length, slice_get, inl, inr, refl, ap, sym, subst, ◌∙◌}
 use Rattle.std.proofs.lemmas.Bool.{cases_eq, false≢true}
 use Rattle.std.proofs.lemmas.Option.{same_Some}
-use Rattle.listed.proofs.Members.{got_other, got_same}
-use Rattle.listed.specs.RoomyValue.{RoomyValue}
-use Rattle.listed.proofs.Options.{none_some}
-use Rattle.hh_model.specs.declared.data.Name.{Name}
-use Rattle.hh_model.specs.declared.data.Task.{Task}
-use Rattle.hh_model.specs.Step.{is_running, is_waiting}
-use Rattle.path_laws.proofs.Leaves.{waiting_stops}
-use Rattle.run_trace.specs.Entry.{EntryValue}
-use Rattle.run_ledger.specs.declared.data.Heap.{Heap}
-use Rattle.run_ledger.specs.declared.data.Ledger.{Ledger}
-use Rattle.run_ledger.specs.Heaps.{heap_of, or_fresh}
-use Rattle.run_ledger.proofs.Holders.{tasks_are_out_once}
-use Rattle.object_layout.specs.declared.word.Addr.{Addr}
-use Rattle.object_layout.specs.declared.word.Birth.{Birth}
-use Rattle.object_layout.specs.Cell.{Cell, size_of}
-use Rattle.object_layout.specs.Objects.{Located, located, with_fields}
-use Rattle.task_frames.specs.declared.frames.Frame.{Frame}
-use Rattle.write_barrier.specs.declared.sets.SetOf.{SetOf}
-use Rattle.ledger_step_laws.specs.Accounts.{Rests}
-use Rattle.ledger_step_laws.specs.Last.{Runs, Writing, WritesOther}
-use Rattle.core_relation.specs.Memory.{Belongings, Memory}
-use Rattle.core_relation.specs.Fits.{part_for, with_belongings}
-use Rattle.core_relation.specs.Makes.{Stores, BelongingsAfterStore}
-use Rattle.core_relation.specs.Marks.{StoreMarks}
-use Rattle.core_relation.specs.RanCounts.{RanCounts}
-use Rattle.core_relation.specs.Whole.{StandsFor, StandsForAll, by_end}
-use Rattle.core_relation.specs.Worker.{WorkerFits}
-use Rattle.core_entry_laws.proofs.parts.RanFits.{ran_fits_then}
-use Rattle.core_entry_laws.proofs.whole.RanWhole.{ran_stands_for}
-use Rattle.core_entry_laws.proofs.parts.Workers.{ran_leaves}
-use Rattle.task_machine.specs.declared.part.Private.{Private}
-use Rattle.task_homes.specs.declared.task_at_rest.Rest.{Rest}
-use Rattle.shared_value.specs.SharedValue.{SharedValue, tree_counts_of, value_of}
-use Rattle.shared_value.specs.Stands.{IsSharedValue}
-use Rattle.shared_value.specs.Fits.{OthersFit, belongings_of_part, part_of}
-use Rattle.shared_value.specs.Entered.{Enters}
-use Rattle.shared_value.proofs.EntryMade.{ChangesRest, IsWell, changed_form, entered_world, part_fits, still_goes, tasks_apart}
-use Rattle.shared_value.proofs.UnitsMeasured.{all_kept}
-use Rattle.shared_value.proofs.HeldTasks.{fits_held, stands_for_held}
-use Rattle.shared_value.proofs.BeforeTheEnd.{stands_now}
+use Rattle.own_steps.proofs.below.listed.{got_other, got_same, none_some}
+use Rattle.own_steps.specs.below.listed.{RoomyValue}
+use Rattle.own_steps.specs.below.hh_model.{Name, Task, is_running, is_waiting}
+use Rattle.own_steps.proofs.below.path_laws.{waiting_stops}
+use Rattle.own_steps.specs.below.run_trace.{EntryValue}
+use Rattle.own_steps.specs.below.run_ledger.{Heap, Ledger, heap_of, or_fresh}
+use Rattle.own_steps.proofs.below.run_ledger.{tasks_are_out_once}
+use Rattle.own_steps.specs.below.object_layout.{Addr, Birth, Cell, size_of, Located, located, with_fields}
+use Rattle.own_steps.specs.below.task_frames.{Frame}
+use Rattle.own_steps.specs.below.write_barrier.{SetOf}
+use Rattle.own_steps.specs.below.ledger_step_laws.{Rests, Runs, Writing, WritesOther}
+use Rattle.own_steps.specs.below.core_relation.{Belongings, Memory, part_for, with_belongings, Stores, BelongingsAfterStore, StoreMarks, RanCounts, StandsFor, StandsForAll, by_end, WorkerFits}
+use Rattle.own_steps.proofs.below.core_entry_laws.{ran_fits_then, ran_stands_for, ran_leaves}
+use Rattle.own_steps.specs.below.task_machine.{Private}
+use Rattle.own_steps.specs.below.task_homes.{Rest}
+use Rattle.own_steps.specs.below.shared_value.{SharedValue, tree_counts_of, value_of, IsSharedValue, OthersFit, belongings_of_part, part_of, Enters}
+use Rattle.own_steps.proofs.below.shared_value.{ChangesRest, IsWell, changed_form, entered_world, part_fits, still_goes, tasks_apart, all_kept, fits_held, stands_for_held, stands_now}
 use Rattle.own_steps.specs.Alone.{GoesAlone, alone_entry}
 use Rattle.own_steps.proofs.LastStepEntry as last
 use Rattle.own_steps.proofs.LastStepEntry.{AsksLast, last_enters, last_entry, last_steps}

@@ -4,21 +4,18 @@ use Rattle.std.specs.Prelude.{option_to_list}
 use Rattle.std.proofs.lemmas.Bool.{and_parts, cond-true, false≢true, both_ways, not-true}
 use Rattle.std.proofs.lemmas.Option.{same_Some}
 use Rattle.std.proofs.lemmas.List.{append-nil}
-use Rattle.listed.proofs.Members.{in_append_cases, in_append_left, in_append_right}
-use Rattle.listed.proofs.Places.{got_none}
-use Rattle.object_layout.specs.declared.word.Addr.{Addr}
-use Rattle.chunk_pool.specs.PoolValue.{PoolValue, owner_of}
-use Rattle.heap_tree.specs.Node.{Node, is_on_path}
-use Rattle.remembered_set.specs.declared.remembered.Source.{Source}
-use Rattle.remembered_set.specs.Sources.{has_source, noted}
-use Rattle.remembered_set.proofs.LiftLemmas.{source_in}
-use Rattle.write_barrier.specs.declared.sets.SetOf.{SetOf}
-use Rattle.write_barrier.specs.Stored.{Content, content_after, content_at, content_of, heap_of, is_down, noted_in as noted_heap, with_source}
-use Rattle.listed.specs.Options.{option_is}
-use Rattle.run_ledger.proofs.Frames.{held_is}
-use Rattle.core_relation.specs.Memory.{In, Noted}
-use Rattle.shared_value.specs.SharedValue.{noted_in}
-use Rattle.shared_value.proofs.FieldsNoted.{noted_is, noted_of}
+use Rattle.own_steps.proofs.below.listed.{in_append_cases, in_append_left, in_append_right, got_none}
+use Rattle.own_steps.specs.below.object_layout.{Addr}
+use Rattle.own_steps.specs.below.chunk_pool.{PoolValue, owner_of}
+use Rattle.own_steps.specs.below.heap_tree.{Node, is_on_path}
+use Rattle.own_steps.specs.below.remembered_set.{Source, has_source, noted}
+use Rattle.own_steps.proofs.below.remembered_set.{source_in}
+use Rattle.own_steps.specs.below.write_barrier.{SetOf, Content, content_after, content_at, content_of, heap_of, is_down, noted_in as noted_heap, with_source}
+use Rattle.own_steps.specs.below.listed.{option_is}
+use Rattle.own_steps.proofs.below.run_ledger.{held_is}
+use Rattle.own_steps.specs.below.core_relation.{In, Noted}
+use Rattle.own_steps.specs.below.shared_value.{noted_in}
+use Rattle.own_steps.proofs.below.shared_value.{noted_is, noted_of}
 
 -- ---- ONE SET
 

@@ -2,39 +2,19 @@
 -- the pool tell it.
 use Rattle.std.specs.Prelude.{◌≡◌, ℕ, ◌+◌, ◌<◌, pos, not, Bool, true, false, Option, Some, None, List, IsSome, length, slice_get, slice_index_or, unwrap_or, if◌then◌else◌}
 use Rattle.std.specs.Option.{option_flatten}
-use Rattle.hh_lang.specs.declared.instr.Instr.{Instr}
-use Rattle.hh_lang.specs.declared.instr.Instr.TheVariants.{Getr, Geti, Putr, Puti, Cntr, Cnti, Freeze, Cas}
-use Rattle.hh_lang.specs.declared.program.Line.{Line}
-use Rattle.hh_lang.specs.Form.{ProgramText}
-use Rattle.hh_model.specs.declared.data.End.TheVariants.{Entangled, Trapped}
-use Rattle.hh_model.specs.declared.data.Frame.{Frame as ModelFrame}
-use Rattle.hh_model.specs.declared.data.Name.{Name}
-use Rattle.hh_model.specs.declared.data.Object.{Object}
-use Rattle.hh_model.specs.declared.data.State.{State}
-use Rattle.hh_model.specs.declared.data.Task.{Task}
-use Rattle.hh_model.specs.declared.data.Trap.TheVariants.{Nil as NilTrap, Range, Frozen as FrozenTrap}
-use Rattle.hh_model.specs.Effect.{Goes, effect, int_in, object_at, onward, place_in, ref_in, same_name, with_int, with_ref}
-use Rattle.hh_model.specs.Step.{ended_by, fetched, setting, step}
-use Rattle.run_ledger.specs.Steps.{owns, touched}
-use Rattle.object_layout.specs.declared.word.Addr.{Addr}
-use Rattle.object_layout.specs.Cell.{Cell, IsObject}
-use Rattle.object_layout.specs.Chunks.{cell_of, object_of, put_object}
-use Rattle.object_layout.specs.ChunkValue.{ChunkValue}
-use Rattle.object_layout.specs.References.{same_reference}
-use Rattle.chunk_pool.specs.PoolValue.{PoolValue, slot_at, owner_of}
-use Rattle.task_frames.specs.declared.frames.Frame.{Frame}
-use Rattle.task_frames.specs.FramesValue.{FramesValue, with_int as with_number, with_next, int_of, ref_of}
-use Rattle.heap_tree.specs.Node.{Node, is_on_path}
-use Rattle.write_barrier.specs.Stored.{content_at, IsOwned}
-use Rattle.ledger_step_laws.specs.Accounts.{rested}
-use Rattle.ledger_step_laws.specs.Last.{JustReads}
-use Rattle.core_relation.specs.Fits.{with_belongings}
-use Rattle.core_relation.specs.Reads.{Reads}
-use Rattle.core_relation.specs.Stands.{Place}
-use Rattle.task_machine.specs.declared.part.Private.{Private}
-use Rattle.task_homes.specs.declared.task_at_rest.Rest.{Rest}
-use Rattle.shared_value.specs.SharedValue.{SharedValue, rest_at, value_of}
-use Rattle.shared_value.specs.Fits.{Fits, belongings_of_part}
+use Rattle.own_steps.specs.below.hh_lang.{Instr, Getr, Geti, Putr, Puti, Cntr, Cnti, Freeze, Cas, Line, ProgramText}
+use Rattle.own_steps.specs.below.hh_model.{Entangled, Trapped, Frame as ModelFrame, Name, Object, State, Task, Nil as NilTrap, Range, Frozen as FrozenTrap, Goes, effect, int_in, object_at, onward, place_in, ref_in, same_name, with_int, with_ref, ended_by, fetched, setting, step}
+use Rattle.own_steps.specs.below.run_ledger.{owns, touched}
+use Rattle.own_steps.specs.below.object_layout.{Addr, Cell, IsObject, cell_of, object_of, put_object, ChunkValue, same_reference}
+use Rattle.own_steps.specs.below.chunk_pool.{PoolValue, slot_at, owner_of}
+use Rattle.own_steps.specs.below.task_frames.{Frame, FramesValue, with_int as with_number, with_next, int_of, ref_of}
+use Rattle.own_steps.specs.below.heap_tree.{Node, is_on_path}
+use Rattle.own_steps.specs.below.write_barrier.{content_at, IsOwned}
+use Rattle.own_steps.specs.below.ledger_step_laws.{rested, JustReads}
+use Rattle.own_steps.specs.below.core_relation.{with_belongings, Reads, Place}
+use Rattle.own_steps.specs.below.task_machine.{Private}
+use Rattle.own_steps.specs.below.task_homes.{Rest}
+use Rattle.own_steps.specs.below.shared_value.{SharedValue, rest_at, value_of, Fits, belongings_of_part}
 use Rattle.own_steps.specs.Alone.{machine_after, then_accounts}
 use Rattle.others_objects.specs.declared.other.OtherStep.{OtherStep}
 use Rattle.others_objects.specs.declared.other.OtherStep.TheVariants.{SetsNumber, SetsReference, Stops, Traps, StoresReference, Swaps, StoresNumber}

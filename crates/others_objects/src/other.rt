@@ -1,21 +1,16 @@
 // What the next instruction of a part does with an object that another task owns.
 
 ghost use Rattle.std.specs.Prelude.{◌≡◌, ◌<◌, pos, length, slice_get, unwrap_or, Some, None};
-ghost use Rattle.hh_model.specs.Effect.{place_in};
-ghost use Rattle.object_layout.specs.Cell.{IsObject};
-ghost use Rattle.object_layout.specs.Chunks.{cell_of, object_of};
-ghost use Rattle.write_barrier.specs.Stored.{IsOwned};
-ghost use Rattle.task_frames.specs.FramesValue.{int_of, ref_of};
+ghost use Rattle.own_steps.specs.below.hh_model.{place_in};
+ghost use Rattle.own_steps.specs.below.object_layout.{IsObject, cell_of, object_of};
+ghost use Rattle.own_steps.specs.below.write_barrier.{IsOwned};
+ghost use Rattle.own_steps.specs.below.task_frames.{int_of, ref_of};
 ghost use Rattle.others_objects.specs.Other.{object_named, or_frozen, or_range, other_step, reads_into, swaps, IsReadable};
 
-use alloc_path::LeafHeap;
-use chunk_pool::Pool;
-use heap_tree::Tree;
-use hh_lang::{Instr, IntReg, RefReg};
-use hh_model::Trap;
-use object_layout::{Addr, is_same_reference};
-use shared_value::field_index;
-use task_machine::Private;
+use own_steps::{
+    Addr, Instr, IntReg, LeafHeap, Pool, Private, RefReg, Trap, Tree, field_index,
+    is_same_reference,
+};
 
 /// What a step does with an object that another task owns.
 #[derive(Clone, Copy)]

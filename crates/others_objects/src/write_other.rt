@@ -1,22 +1,15 @@
 // A write of an object in the heap of a task that no worker holds, and of the frames that go on after it.
 
 ghost use Rattle.std.specs.Prelude.{◌≡◌, ◌<◌, ◌+◌, ◌^◌, OnErr, OnOk, None, ◌≤◌, ℕ, IsSome, Some, length, option_map, slice_index_or, slice_set};
-ghost use Rattle.object_layout.specs.Cell.{with_int, with_ref, IsPlace};
-ghost use Rattle.object_layout.specs.Chunks.{cell_of, object_of};
-ghost use Rattle.chunk_pool.specs.PoolValue.{slot_at, owner_of};
-ghost use Rattle.write_barrier.specs.Stored.{content_after, content_at, IsOwned};
-ghost use Rattle.shared_value.specs.SharedValue.{rest_at};
-ghost use Rattle.task_homes.specs.declared.task_at_rest.Rest.{Rest as RestOf};
+ghost use Rattle.own_steps.specs.below.object_layout.{with_int, with_ref, IsPlace, cell_of, object_of};
+ghost use Rattle.own_steps.specs.below.chunk_pool.{slot_at, owner_of};
+ghost use Rattle.own_steps.specs.below.write_barrier.{content_after, content_at, IsOwned};
+ghost use Rattle.own_steps.specs.below.shared_value.{rest_at};
+ghost use Rattle.own_steps.specs.below.task_homes.{Rest as RestOf};
 ghost use Rattle.others_objects.specs.Other.{store_frames, put_rest, IsWritable};
 
-use heap_tree::Tree;
-use hh_lang::IntReg;
-use object_layout::{Addr, Words};
-use remembered_set::Source;
+use own_steps::{Addr, Frames, Heaps, IntReg, Source, Tree, Words, note_write};
 use std::alloc::AllocError;
-use task_frames::Frames;
-use task_homes::Heaps;
-use write_barrier::note_write;
 
 /// Writes a reference, and notes what the collections of the heaps need of that.
 pub fn write_reference(

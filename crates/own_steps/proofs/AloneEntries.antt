@@ -1,23 +1,15 @@
 -- Entries of a part's fresh steps and a last one, as the calls have them.
 use Rattle.std.proofs.Common.{◌≡◌, ℕ, ℤ, suc, ◌+◌, ◌<◌, ◌≤◌, ◌^◌, ◌||◌, ◌&&◌, arith, not, true, Option, Some, None, [], slice_get, is_none, is_some, length, refl, ap, ap₂, sym, subst, ◌∙◌}
 use Rattle.std.proofs.lemmas.Bool.{or_left}
-use Rattle.listed.specs.RoomyValue.{RoomyValue}
-use Rattle.hh_lang.specs.declared.instr.Instr.{Instr}
-use Rattle.hh_lang.specs.declared.instr.Instr.TheVariants.{Ret}
-use Rattle.hh_lang.specs.declared.program.Line.{Line}
-use Rattle.hh_model.specs.declared.data.End.{End}
-use Rattle.hh_model.specs.declared.data.End.TheVariants.{Done, Trapped}
-use Rattle.hh_model.specs.declared.data.State.{State}
-use Rattle.hh_model.specs.declared.data.Task.{Task}
-use Rattle.hh_model.specs.declared.data.Trap.{Trap}
-use Rattle.hh_model.specs.Step.{ended_by, fetched, step}
-use Rattle.run_trace.specs.Entry.{EntryValue, private_limit}
-use Rattle.run_ledger.specs.Steps.{has_no_caller, owns, touched}
-use Rattle.run_ledger.proofs.Bounds.{ran_tells}
-use Rattle.task_frames.specs.FramesValue.{with_next}
-use Rattle.task_machine.specs.declared.part.Private.{Private}
-use Rattle.task_machine.specs.Ready.{FitsSome, IsSafe}
-use Rattle.task_machine.proofs.Agreement.{some_next, some_safe}
+use Rattle.shared_value.specs.below.listed.{RoomyValue}
+use Rattle.shared_value.specs.below.hh_lang.{Instr, Ret, Line}
+use Rattle.shared_value.specs.below.hh_model.{End, Done, Trapped, State, Task, Trap, ended_by, fetched, step}
+use Rattle.shared_value.specs.below.run_trace.{EntryValue, private_limit}
+use Rattle.shared_value.specs.below.run_ledger.{has_no_caller, owns, touched}
+use Rattle.shared_value.proofs.below.run_ledger.{ran_tells}
+use Rattle.shared_value.specs.below.task_frames.{with_next}
+use Rattle.shared_value.specs.below.task_machine.{Private, FitsSome, IsSafe}
+use Rattle.shared_value.proofs.below.task_machine.{some_next, some_safe}
 use Rattle.shared_value.specs.declared.next_step.Ending.TheVariants.{Beyond, Prints, Returns, Traps}
 use Rattle.shared_value.specs.SharedValue.{SharedValue, accounts}
 use Rattle.shared_value.specs.Stands.{IsSharedValue}

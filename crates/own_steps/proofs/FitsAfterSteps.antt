@@ -1,38 +1,20 @@
 -- A part that fits the shared value fits it again after private steps.
 use Rattle.std.proofs.Common.{arith, ◌≡◌, ℕ, ◌+◌, ◌-◌, ◌*◌, ◌/◌, ◌≤◌, ◌^◌, not, Some, None, min, ne_eqb, inr, refl, ap, sym, subst, ◌∙◌}
 use Rattle.std.proofs.lemmas.List.Elements.{All-from_get_or, All-get_or}
-use Rattle.listed.proofs.Places.{in_map}
-use Rattle.hh_model.specs.declared.data.Name.{Name}
-use Rattle.run_ledger.specs.declared.data.Ledger.{Ledger}
-use Rattle.run_ledger.specs.Heaps.{heap_of}
-use Rattle.run_ledger.specs.Steps.{task_steps}
-use Rattle.object_layout.specs.declared.word.Addr.{Addr}
-use Rattle.object_layout.specs.ChunkValue.{ChunkValue}
-use Rattle.object_layout.specs.Chunks.{chunk_at, no_chunk}
-use Rattle.object_layout.specs.Place.{words_in}
-use Rattle.object_layout.specs.Cell.{IsObject}
-use Rattle.object_layout.proofs.ObjectLemmas.{chunk_there}
-use Rattle.chunk_pool.specs.declared.pool.Slot.{Slot}
-use Rattle.chunk_pool.specs.PoolValue.{slot_at}
-use Rattle.alloc_path.specs.LeafHeapValue.{AreTidy, AreWithin, IsTidy}
-use Rattle.alloc_path.proofs.Near.{are_near}
-use Rattle.ledger_step_laws.specs.Accounts.{Rests, own, rested}
-use Rattle.ledger_step_laws.proofs.Rested.{rested_worker}
-use Rattle.core_relation.specs.Memory.{Belongings, In, Lies, Memory, objects, objects_in}
-use Rattle.core_relation.specs.Changes.{StepsInBelongings}
-use Rattle.core_relation.specs.Copies.{PartFits}
-use Rattle.core_relation.specs.Fits.{with_belongings}
-use Rattle.core_relation.specs.Stands.{BelongingsStand, Place, Stands}
-use Rattle.core_relation.proofs.objects.Members.{in_chunk}
-use Rattle.core_relation.proofs.changes.Own.{stepped}
-use Rattle.core_relation.specs.Whole.{BegunBy}
-use Rattle.core_relation.proofs.changes.With.{at_belongings, off_belongings}
-use Rattle.core_entry_laws.proofs.parts.Quiet.{aside_is}
-use Rattle.task_machine.specs.declared.part.Private.{Private}
-use Rattle.task_machine.specs.Accounts.{IsCounted, KeepsAccounts}
-use Rattle.task_machine.specs.Fits.{FitsNow as FitsMachine}
-use Rattle.task_machine.specs.Place.{Places}
-use Rattle.task_machine.specs.Run.{KeepsRest, Ran, Runs}
+use Rattle.shared_value.proofs.below.listed.{in_map}
+use Rattle.shared_value.specs.below.hh_model.{Name}
+use Rattle.shared_value.specs.below.run_ledger.{Ledger, heap_of, task_steps}
+use Rattle.shared_value.specs.below.object_layout.{Addr, ChunkValue, chunk_at, no_chunk, words_in, IsObject}
+use Rattle.shared_value.proofs.below.object_layout.{chunk_there}
+use Rattle.shared_value.specs.below.chunk_pool.{Slot, slot_at}
+use Rattle.shared_value.specs.below.alloc_path.{AreTidy, AreWithin, IsTidy}
+use Rattle.shared_value.proofs.below.alloc_path.{are_near}
+use Rattle.shared_value.specs.below.ledger_step_laws.{Rests, own, rested}
+use Rattle.shared_value.proofs.below.ledger_step_laws.{rested_worker}
+use Rattle.shared_value.specs.below.core_relation.{Belongings, In, Lies, Memory, objects, objects_in, StepsInBelongings, PartFits, with_belongings, BelongingsStand, Place, Stands, BegunBy}
+use Rattle.shared_value.proofs.below.core_relation.{in_chunk, stepped, at_belongings, off_belongings}
+use Rattle.shared_value.proofs.below.core_entry_laws.{aside_is}
+use Rattle.shared_value.specs.below.task_machine.{Private, IsCounted, KeepsAccounts, FitsNow as FitsMachine, Places, KeepsRest, Ran, Runs}
 use Rattle.shared_value.specs.Again.{KeepsPlaces}
 use Rattle.shared_value.specs.Objects.{chunk_of}
 use Rattle.shared_value.specs.SharedValue.{SharedValue, accounts, value_of}

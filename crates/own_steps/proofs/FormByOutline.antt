@@ -2,23 +2,13 @@
 use Rattle.std.proofs.Common.{◌≡◌, ℕ, zero, suc, pos, ◌+◌, ◌-◌, ◌*◌, ◌<◌, ◌≤◌, arith, false, Option, Some, None, List, [], ◌∷◌, length, map, replicate, slice_get, All, inl, inr, refl, ap, sym, subst, ◌∙◌}
 use Rattle.std.proofs.lemmas.List.{length-map, length-replicate}
 use Rattle.std.proofs.lemmas.List.Elements.{All-cons, All-head, All-map, All-nil, All-tail, All-weaker}
-use Rattle.hh_lang.specs.Form.{ProgramText}
-use Rattle.hh_model.specs.declared.data.State.{State}
-use Rattle.hh_model.specs.Effect.{row_of}
-use Rattle.hh_model.specs.Step.{asked}
-use Rattle.object_layout.specs.Cell.{Born, Cell, Hole, Mark, Moved, moved_to, size_of}
-use Rattle.object_layout.specs.Chunks.{chunk_at}
-use Rattle.object_layout.specs.ChunkValue.{ChunkValue}
-use Rattle.object_layout.specs.Objects.{Located, located_by, objects_from}
-use Rattle.alloc_path.specs.LeafHeapValue.{LeafHeapValue, IsTidy, place_for, placed, units}
-use Rattle.core_relation.specs.Layout.{HoldsLarge, words}
-use Rattle.task_machine.specs.declared.part.Private.{Private}
-use Rattle.task_machine.specs.Fits.{IsShaped}
-use Rattle.task_machine.specs.Outline.{blank, outline_after, outline_by, outline_of, outline_of_cell, outline_of_chunk, steps}
-use Rattle.task_machine.specs.Place.{Places}
-use Rattle.task_machine.specs.Run.{Ran}
-use Rattle.task_machine.proofs.Outlines.{outline_at, outline_size, outline_words}
-use Rattle.task_machine.proofs.Accounted.{outline_apart, outline_current, outline_kept, words_by}
+use Rattle.shared_value.specs.below.hh_lang.{ProgramText}
+use Rattle.shared_value.specs.below.hh_model.{State, row_of, asked}
+use Rattle.shared_value.specs.below.object_layout.{Born, Cell, Hole, Mark, Moved, moved_to, size_of, chunk_at, ChunkValue, Located, located_by, objects_from}
+use Rattle.shared_value.specs.below.alloc_path.{LeafHeapValue, IsTidy, place_for, placed, units}
+use Rattle.shared_value.specs.below.core_relation.{HoldsLarge, words}
+use Rattle.shared_value.specs.below.task_machine.{Private, IsShaped, blank, outline_after, outline_by, outline_of, outline_of_cell, outline_of_chunk, steps, Places, Ran}
+use Rattle.shared_value.proofs.below.task_machine.{outline_at, outline_size, outline_words, outline_apart, outline_current, outline_kept, words_by}
 use Rattle.shared_value.specs.Objects.{chunk_of}
 use Rattle.shared_value.proofs.PlacedForm.{Formed, IsFormed, formed_placed}
 use Rattle.journal_laws.proofs.Asked.{asked_at_line}

@@ -2,19 +2,12 @@
 use Rattle.std.proofs.Common.{◌≡◌, ◌⊎◌, ℕ, ◌+◌, true, false, Some, None, slice_get, inl, inr, ap, sym, ◌∙◌}
 use Rattle.std.proofs.lemmas.Bool.{both_ways, false≢true}
 use Rattle.std.proofs.lemmas.Option.{same_Some}
-use Rattle.listed.proofs.Options.{none_some}
-use Rattle.hh_lang.specs.declared.instr.Instr.TheVariants.{Out, Par}
-use Rattle.hh_lang.specs.declared.program.Line.{Line}
-use Rattle.hh_lang.specs.Form.{ProgramText}
-use Rattle.hh_model.specs.declared.data.End.TheVariants.{Done}
-use Rattle.hh_model.specs.declared.data.State.{State}
-use Rattle.hh_model.specs.declared.data.Task.{Task}
-use Rattle.hh_model.specs.Step.{is_joined, is_over, runs}
-use Rattle.hh_model.proofs.Runs.{running_tells}
-use Rattle.run_ledger.specs.declared.data.Ledger.{Ledger}
-use Rattle.run_ledger.specs.Steps.{is_private, touched}
-use Rattle.ledger_step_laws.specs.Last.{EndsDone, EndsLast, GoesOn, IsOfKind, LastKind, Prints}
-use Rattle.ledger_step_laws.specs.Last.{Private, Reading, Writing, Printing, Forking, Ending, Joining, Finishing, Halting}
+use Rattle.shared_value.proofs.below.listed.{none_some}
+use Rattle.shared_value.specs.below.hh_lang.{Out, Par, Line, ProgramText}
+use Rattle.shared_value.specs.below.hh_model.{Done, State, Task, is_joined, is_over, runs}
+use Rattle.shared_value.proofs.below.hh_model.{running_tells}
+use Rattle.shared_value.specs.below.run_ledger.{Ledger, is_private, touched}
+use Rattle.shared_value.specs.below.ledger_step_laws.{EndsDone, EndsLast, GoesOn, IsOfKind, LastKind, Prints, Private, Reading, Writing, Printing, Forking, Ending, Joining, Finishing, Halting}
 
 pub forks_not : {A : Type 0} {g h a : ℕ} → Par g h ≡ Out a → A
 forks_not e = absurd cc

@@ -3,29 +3,18 @@ use Rattle.std.proofs.Common.{◌≡◌, ℕ, suc, ◌+◌, true, false, Option,
 use Rattle.std.specs.Option.{option_flatten}
 use Rattle.std.proofs.lemmas.Bool.{cases_eq}
 use Rattle.std.proofs.lemmas.Option.{same_Some}
-use Rattle.listed.proofs.Options.{none_of}
-use Rattle.hh_lang.specs.declared.program.Line.{Line}
-use Rattle.hh_model.specs.declared.data.Task.{Task}
-use Rattle.hh_model.specs.Effect.{effect}
-use Rattle.hh_model.specs.Step.{can_step, fetched, follow, goes_on, is_running, is_waiting, parent_of, parents, runs, setting, step}
-use Rattle.hh_model.proofs.Taken.{step_taken}
-use Rattle.run_trace.specs.declared.entry.Kind.TheVariants.{Ran}
-use Rattle.run_trace.specs.Entry.{EntryValue}
-use Rattle.run_ledger.specs.declared.data.Ledger.{Ledger}
-use Rattle.run_ledger.specs.Heaps.{heap_of}
-use Rattle.run_ledger.specs.Steps.{is_private, most_steps, standing, task_steps}
-use Rattle.run_ledger.specs.Entries.{after, long_at}
-use Rattle.run_ledger.proofs.Journals.{entry_tells}
-use Rattle.run_ledger.proofs.Machine.{task_step_machine}
-use Rattle.task_frames.specs.FramesValue.{FramesValue}
-use Rattle.ledger_step_laws.specs.Accounts.{Knows}
-use Rattle.ledger_step_laws.specs.Last.{Runs, Splits}
-use Rattle.ledger_step_laws.proofs.Along.{steps_know}
-use Rattle.ledger_step_laws.proofs.Split.{entry_runs}
-use Rattle.core_relation.specs.Makes.{BelongingsAfter}
-use Rattle.core_relation.specs.Memory.{Belongings, Memory}
-use Rattle.core_relation.specs.Worker.{WorkerFits}
-use Rattle.task_machine.specs.declared.part.Private.{Private}
+use Rattle.shared_value.proofs.below.listed.{none_of}
+use Rattle.shared_value.specs.below.hh_lang.{Line}
+use Rattle.shared_value.specs.below.hh_model.{Task, effect, can_step, fetched, follow, goes_on, is_running, is_waiting, parent_of, parents, runs, setting, step}
+use Rattle.shared_value.proofs.below.hh_model.{step_taken}
+use Rattle.shared_value.specs.below.run_trace.{Ran, EntryValue}
+use Rattle.shared_value.specs.below.run_ledger.{Ledger, heap_of, is_private, most_steps, standing, task_steps, after, long_at}
+use Rattle.shared_value.proofs.below.run_ledger.{entry_tells, task_step_machine}
+use Rattle.shared_value.specs.below.task_frames.{FramesValue}
+use Rattle.shared_value.specs.below.ledger_step_laws.{Knows, Runs, Splits}
+use Rattle.shared_value.proofs.below.ledger_step_laws.{steps_know, entry_runs}
+use Rattle.shared_value.specs.below.core_relation.{BelongingsAfter, Belongings, Memory, WorkerFits}
+use Rattle.shared_value.specs.below.task_machine.{Private}
 use Rattle.shared_value.specs.SharedValue.{SharedValue, accounts, value_of}
 use Rattle.shared_value.specs.Measured.{IsMeasured}
 use Rattle.shared_value.specs.Stands.{IsSharedValue}

@@ -1,27 +1,16 @@
 -- A part whose next step isn't private, before the run's end: what that step does, and how an entry with it splits.
 use Rattle.std.proofs.Common.{◌≡◌, ℕ, zero, suc, ◌+◌, ◌≤◌, ◌||◌, arith, true, false, cond, min, nat_le, Option, Some, None, is_some, refl, ap, ap₂, sym, subst, ◌∙◌, le-leb}
 use Rattle.std.proofs.lemmas.Bool.{cond-false, cond-true}
-use Rattle.listed.proofs.Options.{none_of}
-use Rattle.hh_lang.specs.declared.program.Line.{Line}
-use Rattle.hh_lang.specs.Form.{ProgramText}
-use Rattle.hh_model.specs.declared.data.State.{State}
-use Rattle.hh_model.specs.Step.{asked, fetched}
-use Rattle.run_trace.specs.declared.entry.Kind.TheVariants.{Ran}
-use Rattle.run_trace.specs.Entry.{EntryValue, private_limit}
-use Rattle.run_trace.specs.Settings.{SettingsValue}
-use Rattle.run_ledger.specs.declared.data.Ledger.{Ledger}
-use Rattle.run_ledger.specs.declared.data.Refused.{Refused}
-use Rattle.run_ledger.specs.declared.data.Refused.TheVariants.{Collecting, Long}
-use Rattle.run_ledger.specs.Heaps.{heap_of, lacks_room}
-use Rattle.run_ledger.specs.Steps.{is_due, is_in_need, is_private, most_steps, on_asked, standing, task_step, task_steps}
-use Rattle.run_ledger.specs.Entries.{kind_refusal, refused_if, refused_unless}
-use Rattle.ledger_step_laws.specs.Accounts.{ArePrivate}
-use Rattle.core_relation.specs.Fits.{ahead}
-use Rattle.core_entry_laws.proofs.parts.Quiet.{aside_is}
-use Rattle.task_machine.specs.declared.part.Private.{Private}
-use Rattle.task_machine.specs.Fits.{FitsNow as FitsMachine}
-use Rattle.task_machine.specs.Place.{Places}
-use Rattle.task_machine.proofs.Agreement.{has_line, same_line}
+use Rattle.shared_value.proofs.below.listed.{none_of}
+use Rattle.shared_value.specs.below.hh_lang.{Line, ProgramText}
+use Rattle.shared_value.specs.below.hh_model.{State, asked, fetched}
+use Rattle.shared_value.specs.below.run_trace.{Ran, EntryValue, private_limit, SettingsValue}
+use Rattle.shared_value.specs.below.run_ledger.{Ledger, Refused, Collecting, Long, heap_of, lacks_room, is_due, is_in_need, is_private, most_steps, on_asked, standing, task_step, task_steps, kind_refusal, refused_if, refused_unless}
+use Rattle.shared_value.specs.below.ledger_step_laws.{ArePrivate}
+use Rattle.shared_value.specs.below.core_relation.{ahead}
+use Rattle.shared_value.proofs.below.core_entry_laws.{aside_is}
+use Rattle.shared_value.specs.below.task_machine.{Private, FitsNow as FitsMachine, Places}
+use Rattle.shared_value.proofs.below.task_machine.{has_line, same_line}
 use Rattle.shared_value.specs.SharedValue.{SharedValue, accounts, value_of}
 use Rattle.shared_value.specs.Stands.{IsSharedValue}
 use Rattle.shared_value.specs.Fits.{Fits, part_of}

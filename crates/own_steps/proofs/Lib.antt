@@ -17,3 +17,4 @@ pub mod FitsAfterSteps
 pub mod MoreSteps
 pub mod TaskNotOut
 pub mod OtherStepKinds
+pub mod below

@@ -1,15 +1,10 @@
 -- A part after private steps, more of which may be fresh already: it fits again, and what comes next is told of the
 -- machine then.
 use Rattle.std.proofs.Common.{◌≡◌, ℕ, ◌+◌, ◌≤◌, None, refl, ap, sym, subst, ◌∙◌}
-use Rattle.hh_lang.specs.Form.{ProgramText}
-use Rattle.hh_model.specs.declared.data.State.{State}
-use Rattle.task_machine.specs.declared.part.Private.{Private}
-use Rattle.task_machine.specs.declared.part.Paused.{Paused}
-use Rattle.task_machine.specs.Accounts.{KeepsAccounts}
-use Rattle.task_machine.specs.Fits.{unended}
-use Rattle.task_machine.specs.Outline.{steps}
-use Rattle.task_machine.specs.Run.{KeepsRest, Pauses, PausesBy, Ran, Runs}
-use Rattle.task_machine.proofs.Behind.{steps_more}
+use Rattle.shared_value.specs.below.hh_lang.{ProgramText}
+use Rattle.shared_value.specs.below.hh_model.{State}
+use Rattle.shared_value.specs.below.task_machine.{Private, Paused, KeepsAccounts, unended, steps, KeepsRest, Pauses, PausesBy, Ran, Runs}
+use Rattle.shared_value.proofs.below.task_machine.{steps_more}
 use Rattle.shared_value.specs.SharedValue.{SharedValue, accounts, value_of}
 use Rattle.shared_value.specs.Stands.{IsSharedValue}
 use Rattle.shared_value.specs.Fits.{Fits}

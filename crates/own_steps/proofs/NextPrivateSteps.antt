@@ -1,25 +1,13 @@
 -- A part's next private steps, in the accounts: they are private there, neither due nor in need, and the heap follows.
 use Rattle.std.proofs.Common.{◌≡◌, ℕ, zero, suc, ◌+◌, ◌<◌, ◌≤◌, ◌^◌, arith, true, false, Some, None, slice_get, nat_le, refl, ap, ap₂, sym, subst, ◌∙◌}
-use Rattle.hh_lang.specs.Form.{ProgramText}
-use Rattle.hh_model.specs.declared.data.Status.TheVariants.{Running}
-use Rattle.hh_model.specs.declared.data.Task.{Task}
-use Rattle.hh_model.specs.declared.data.State.{State}
-use Rattle.hh_model.specs.Step.{asked, step}
-use Rattle.run_trace.specs.Settings.{SettingsValue}
-use Rattle.run_ledger.specs.declared.data.Heap.{Heap}
-use Rattle.run_ledger.specs.declared.data.Ledger.{Ledger}
-use Rattle.run_ledger.specs.Heaps.{heap_of, or_fresh, lacks_room}
-use Rattle.run_ledger.specs.Steps.{is_due, is_in_need, is_private, on_asked, task_step, task_steps}
-use Rattle.run_ledger.proofs.Machine.{task_step_machine}
-use Rattle.run_ledger.proofs.Steps.{steps_last}
-use Rattle.ledger_step_laws.specs.Accounts.{ArePrivate}
-use Rattle.task_machine.specs.declared.part.Private.{Private}
-use Rattle.task_machine.specs.Accounts.{IsCounted, KeepsAccounts, RanBy, account_after, account_by}
-use Rattle.task_machine.specs.Fits.{FitsNow as FitsMachine}
-use Rattle.task_machine.specs.Outline.{steps}
-use Rattle.task_machine.specs.Place.{Places}
-use Rattle.task_machine.specs.Run.{Ran, Runs}
-use Rattle.task_machine.proofs.Ledgers.{allocated_account}
+use Rattle.shared_value.specs.below.hh_lang.{ProgramText}
+use Rattle.shared_value.specs.below.hh_model.{Running, Task, State, asked, step}
+use Rattle.shared_value.specs.below.run_trace.{SettingsValue}
+use Rattle.shared_value.specs.below.run_ledger.{Heap, Ledger, heap_of, or_fresh, lacks_room, is_due, is_in_need, is_private, on_asked, task_step, task_steps}
+use Rattle.shared_value.proofs.below.run_ledger.{task_step_machine, steps_last}
+use Rattle.shared_value.specs.below.ledger_step_laws.{ArePrivate}
+use Rattle.shared_value.specs.below.task_machine.{Private, IsCounted, KeepsAccounts, RanBy, account_after, account_by, FitsNow as FitsMachine, steps, Places, Ran, Runs}
+use Rattle.shared_value.proofs.below.task_machine.{allocated_account}
 use Rattle.shared_value.proofs.StepAccounts.{After, after_none, after_both, after_one, step_is}
 
 module _ (p : ProgramText) (s : SettingsValue) (t : ℕ) where

@@ -3,34 +3,14 @@ use Rattle.std.proofs.Common.{◌≡◌, ℕ, ℤ, pos, ◌+◌, ◌==◌, ◌||
 use Rattle.std.specs.Option.{option_flatten}
 use Rattle.std.proofs.lemmas.Bool.{both_ways, cond-false, cond-true}
 use Rattle.std.proofs.Math.Bool.{or-true}
-use Rattle.hh_lang.specs.declared.instr.Instr.{Instr}
-use Rattle.hh_lang.specs.declared.instr.Instr.TheVariants.{Set, Mov, Movr, Nil as NilOf, Calc, Same, Jmp, Jz, Newm, Pack, Getr, Geti, Putr, Puti, Cntr, Cnti, Freeze, Cas, Call, Par, Ret, Out}
-use Rattle.hh_lang.specs.declared.instr.Operator.{Operator}
-use Rattle.hh_lang.specs.declared.program.Line.{Line}
-use Rattle.hh_lang.specs.Form.{ProgramText}
-use Rattle.hh_model.specs.declared.data.Frame.{Frame}
-use Rattle.hh_model.specs.declared.data.Name.{Name}
-use Rattle.hh_model.specs.declared.data.Object.{Object}
-use Rattle.hh_model.specs.declared.data.End.TheVariants.{Trapped}
-use Rattle.hh_model.specs.declared.data.State.{State}
-use Rattle.hh_model.specs.declared.data.Trap.{Trap}
-use Rattle.hh_model.specs.declared.data.Trap.TheVariants.{Div as DivTrap, Nil as NilTrap, Range, Frozen as FrozenTrap, Size as SizeTrap, Depth as DepthTrap}
-use Rattle.hh_model.specs.Effect.{Effect, Goes, Calls, Returns as ReturnsBy, Traps as TrapsBy, calculated, counts_in, int_in, made, onward, or_trap, place_in, put_object, read_effect, ref_in, same_name, unless_frozen, with_int}
-use Rattle.hh_model.specs.Names.{words_for}
-use Rattle.hh_model.specs.Step.{ended_by, entry_frame, fetched, frame_limit, last_of, owner_of, returned_to, setting, step, with_task}
-use Rattle.hh_model.proofs.Lists.{last_there}
-use Rattle.run_ledger.specs.Steps.{has_no_caller, is_open, is_private, owns, touched}
-use Rattle.object_layout.specs.declared.word.Addr.{Addr}
-use Rattle.object_layout.specs.Cell.{Cell}
-use Rattle.object_layout.specs.Chunks.{object_of, place_in as chunk_in}
-use Rattle.task_machine.specs.declared.part.Private.{Private}
-use Rattle.task_machine.specs.Fits.{FitsNow as Fits}
-use Rattle.task_machine.specs.Place.{IsAt, Places}
-use Rattle.task_frames.specs.FramesValue.{int_of, ref_of}
-use Rattle.task_machine.proofs.Fitting.{is_alone, step_by, x}
-use Rattle.task_machine.proofs.Owned.{other_at, own_object}
-use Rattle.task_machine.proofs.OwnReads.{Own, ints_index, nil_effect, object_effect, owned_here, reads, refs_index}
-use Rattle.task_machine.proofs.Registers.{does, int_here, ref_here}
+use Rattle.shared_value.specs.below.hh_lang.{Instr, Set, Mov, Movr, Nil as NilOf, Calc, Same, Jmp, Jz, Newm, Pack, Getr, Geti, Putr, Puti, Cntr, Cnti, Freeze, Cas, Call, Par, Ret, Out, Operator, Line, ProgramText}
+use Rattle.shared_value.specs.below.hh_model.{Frame, Name, Object, Trapped, State, Trap, Div as DivTrap, Nil as NilTrap, Range, Frozen as FrozenTrap, Size as SizeTrap, Depth as DepthTrap, Effect, Goes, Calls, Returns as ReturnsBy, Traps as TrapsBy, calculated, counts_in, int_in, made, onward, or_trap, place_in, put_object, read_effect, ref_in, same_name, unless_frozen, with_int, words_for, ended_by, entry_frame, fetched, frame_limit, last_of, owner_of, returned_to, setting, step, with_task}
+use Rattle.shared_value.proofs.below.hh_model.{last_there}
+use Rattle.shared_value.specs.below.run_ledger.{has_no_caller, is_open, is_private, owns, touched}
+use Rattle.shared_value.specs.below.object_layout.{Addr, Cell, object_of, place_in as chunk_in}
+use Rattle.shared_value.specs.below.task_machine.{Private, FitsNow as Fits, IsAt, Places}
+use Rattle.shared_value.specs.below.task_frames.{int_of, ref_of}
+use Rattle.shared_value.proofs.below.task_machine.{is_alone, step_by, x, other_at, own_object, Own, ints_index, nil_effect, object_effect, owned_here, reads, refs_index, does, int_here, ref_here}
 use Rattle.shared_value.specs.declared.next_step.Ending.{Ending}
 use Rattle.shared_value.specs.declared.next_step.Ending.TheVariants.{Prints, Returns, Traps, Beyond}
 use Rattle.shared_value.specs.Next.{ending, instr_asks, is_joint, on_own, on_own_cell, unwritten}

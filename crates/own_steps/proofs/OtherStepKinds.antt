@@ -3,27 +3,13 @@ use Rattle.std.proofs.Common.{◌≡◌, ◌⊎◌, ℕ, true, false, Option, So
 use Rattle.std.specs.Option.{option_flatten}
 use Rattle.std.proofs.lemmas.Bool.{both_ways, false≢true}
 use Rattle.std.proofs.lemmas.Option.{same_Some}
-use Rattle.listed.proofs.Options.{none_some}
-use Rattle.hh_lang.specs.declared.instr.Instr.{Instr}
-use Rattle.hh_lang.specs.declared.instr.Instr.TheVariants.{Putr, Puti, Cas}
-use Rattle.hh_lang.specs.declared.program.Line.{Line}
-use Rattle.hh_lang.specs.Form.{ProgramText}
-use Rattle.hh_model.specs.declared.data.End.{End}
-use Rattle.hh_model.specs.declared.data.End.TheVariants.{Done}
-use Rattle.hh_model.specs.declared.data.Frame.{Frame}
-use Rattle.hh_model.specs.declared.data.Name.{Name}
-use Rattle.hh_model.specs.declared.data.Object.{Object}
-use Rattle.hh_model.specs.declared.data.State.{State}
-use Rattle.hh_model.specs.declared.data.Task.{Task}
-use Rattle.hh_model.specs.Effect.{int_in, object_at, place_in, ref_in, same_name}
-use Rattle.hh_model.specs.Step.{ended_by, runs}
-use Rattle.hh_model.proofs.Runs.{running_tells}
-use Rattle.run_ledger.specs.declared.data.Ledger.{Ledger}
-use Rattle.run_ledger.specs.Heaps.{let_go}
-use Rattle.run_ledger.specs.Steps.{is_private, touched}
-use Rattle.run_ledger.proofs.Machine.{heap_machine}
-use Rattle.ledger_step_laws.specs.Last.{GoesOn, Halts, IsOfKind, JustReads, LastKind, ReadsOther, WritesOther, Wrote}
-use Rattle.ledger_step_laws.specs.Last.{Private, Reading, Writing, Printing, Forking, Ending, Joining, Finishing, Halting}
+use Rattle.shared_value.proofs.below.listed.{none_some}
+use Rattle.shared_value.specs.below.hh_lang.{Instr, Putr, Puti, Cas, Line, ProgramText}
+use Rattle.shared_value.specs.below.hh_model.{End, Done, Frame, Name, Object, State, Task, int_in, object_at, place_in, ref_in, same_name, ended_by, runs}
+use Rattle.shared_value.proofs.below.hh_model.{running_tells}
+use Rattle.shared_value.specs.below.run_ledger.{Ledger, let_go, is_private, touched}
+use Rattle.shared_value.proofs.below.run_ledger.{heap_machine}
+use Rattle.shared_value.specs.below.ledger_step_laws.{GoesOn, Halts, IsOfKind, JustReads, LastKind, ReadsOther, WritesOther, Wrote, Private, Reading, Writing, Printing, Forking, Ending, Joining, Finishing, Halting}
 use Rattle.own_steps.proofs.LastKinds.{joined_not}
 
 -- what an instruction reads and writes nothing of, it doesn't write

@@ -1,19 +1,15 @@
 -- An output is entered.
 use Rattle.std.proofs.Common.{◌≡◌, ℕ, ℤ, ◌+◌, ◌++◌, true, Some, None, [], ◌∷◌, slice_get, slice_set, refl, ap, sym, ◌∙◌}
-use Rattle.listed.proofs.Members.{got_same}
-use Rattle.listed.specs.RoomyValue.{RoomyValue}
-use Rattle.hh_lang.specs.declared.instr.Instr.{Instr}
-use Rattle.hh_lang.specs.declared.instr.Instr.TheVariants.{Out}
-use Rattle.hh_model.specs.declared.data.State.{State}
-use Rattle.hh_model.specs.declared.data.Task.{Task}
-use Rattle.hh_model.specs.Effect.{effect, int_in, onward}
-use Rattle.hh_model.specs.Step.{follow, runs, setting}
-use Rattle.run_trace.specs.Entry.{EntryValue}
-use Rattle.task_frames.specs.FramesValue.{with_next}
-use Rattle.ledger_step_laws.specs.Last.{Printing, Prints, Runs}
-use Rattle.core_relation.specs.Makes.{StepsTo}
-use Rattle.core_entry_laws.proofs.parts.Sets.{numbers_go}
-use Rattle.task_machine.specs.declared.part.Private.{Private}
+use Rattle.shared_value.proofs.below.listed.{got_same}
+use Rattle.shared_value.specs.below.listed.{RoomyValue}
+use Rattle.shared_value.specs.below.hh_lang.{Instr, Out}
+use Rattle.shared_value.specs.below.hh_model.{State, Task, effect, int_in, onward, follow, runs, setting}
+use Rattle.shared_value.specs.below.run_trace.{EntryValue}
+use Rattle.shared_value.specs.below.task_frames.{with_next}
+use Rattle.shared_value.specs.below.ledger_step_laws.{Printing, Prints, Runs}
+use Rattle.shared_value.specs.below.core_relation.{StepsTo}
+use Rattle.shared_value.proofs.below.core_entry_laws.{numbers_go}
+use Rattle.shared_value.specs.below.task_machine.{Private}
 use Rattle.shared_value.specs.declared.next_step.Ending.TheVariants.{Prints as PrintsOf}
 use Rattle.shared_value.specs.SharedValue.{SharedValue}
 use Rattle.shared_value.specs.Stands.{IsSharedValue}

@@ -3,34 +3,16 @@
 use Rattle.std.proofs.Common.{◌≡◌, ℕ, ◌-◌, ◌<◌, ◌^◌, arith, Option, Some, None, List, [], ◌∷◌, min, slice_get, inl, inr, refl, ap, ap₂, sym, subst, ◌∙◌}
 use Rattle.std.proofs.lemmas.Bool.{cases_eq}
 use Rattle.std.proofs.lemmas.Option.{same_Some}
-use Rattle.hh_lang.specs.Form.{ProgramText}
-use Rattle.hh_model.specs.declared.data.Frame.{Frame as ModelFrame}
-use Rattle.hh_model.specs.declared.data.Name.{Name}
-use Rattle.hh_model.specs.declared.data.Object.{Object}
-use Rattle.hh_model.specs.declared.data.Task.{Task}
-use Rattle.hh_model.specs.Effect.{object_at}
-use Rattle.hh_model.proofs.Steps.{runs_is}
-use Rattle.run_ledger.specs.declared.data.Heap.{Heap}
-use Rattle.run_ledger.specs.declared.data.Ledger.{Ledger}
-use Rattle.run_ledger.specs.Heaps.{heap_of}
-use Rattle.object_layout.specs.declared.word.Addr.{Addr}
-use Rattle.object_layout.specs.Cell.{Born}
-use Rattle.object_layout.specs.Chunks.{cell_of}
-use Rattle.object_layout.specs.ChunkValue.{ChunkValue}
-use Rattle.object_layout.specs.Objects.{Located, located}
-use Rattle.object_layout.specs.ObjectLaws.{LiesThere}
-use Rattle.task_frames.specs.declared.frames.Frame.{Frame}
-use Rattle.ledger_step_laws.specs.Accounts.{own}
-use Rattle.core_relation.specs.Memory.{Chunk, Belongings, In, Lies, Memory, object_name, objects, objects_in}
-use Rattle.core_relation.specs.Changes.{BelongingsAreRead}
-use Rattle.core_relation.specs.Layout.{AreLaidOut}
-use Rattle.core_relation.specs.Reads.{AllRead, FrameIsRead, FramesAreRead, HoldsRead, IsRead, TaskIsRead}
-use Rattle.core_relation.specs.Stands.{HasNames, BelongingsStand, Place}
-use Rattle.core_relation.proofs.objects.Members.{in_chunk}
-use Rattle.task_machine.specs.declared.part.Private.{Private}
-use Rattle.task_machine.specs.Accounts.{IsCounted}
-use Rattle.task_machine.specs.Fits.{FitsNow as FitsMachine}
-use Rattle.task_machine.specs.Place.{AreAt, FrameStands, FramesStand, Places, birth_of}
+use Rattle.shared_value.specs.below.hh_lang.{ProgramText}
+use Rattle.shared_value.specs.below.hh_model.{Frame as ModelFrame, Name, Object, Task, object_at}
+use Rattle.shared_value.proofs.below.hh_model.{runs_is}
+use Rattle.shared_value.specs.below.run_ledger.{Heap, Ledger, heap_of}
+use Rattle.shared_value.specs.below.object_layout.{Addr, Born, cell_of, ChunkValue, Located, located, LiesThere}
+use Rattle.shared_value.specs.below.task_frames.{Frame}
+use Rattle.shared_value.specs.below.ledger_step_laws.{own}
+use Rattle.shared_value.specs.below.core_relation.{Chunk, Belongings, In, Lies, Memory, object_name, objects, objects_in, BelongingsAreRead, AreLaidOut, AllRead, FrameIsRead, FramesAreRead, HoldsRead, IsRead, TaskIsRead, HasNames, BelongingsStand, Place}
+use Rattle.shared_value.proofs.below.core_relation.{in_chunk}
+use Rattle.shared_value.specs.below.task_machine.{Private, IsCounted, FitsNow as FitsMachine, AreAt, FrameStands, FramesStand, Places, birth_of}
 use Rattle.shared_value.specs.Objects.{chunks_of}
 use Rattle.shared_value.specs.Fits.{belongings_of_part}
 use Rattle.shared_value.proofs.CellsRead.{object_seen, seen_object}

@@ -1,24 +1,15 @@
 -- The root's last frame returns, and the run is done: the root is handed back.
 use Rattle.std.proofs.Common.{◌≡◌, ℕ, ◌<◌, arith, Option, Some, None, List, [], slice_get, refl, ap, sym, subst, ◌∙◌}
-use Rattle.listed.proofs.Members.{got_same}
-use Rattle.listed.specs.RoomyValue.{RoomyValue}
-use Rattle.hh_lang.specs.declared.instr.Instr.{Instr}
-use Rattle.hh_lang.specs.declared.instr.Instr.TheVariants.{Ret}
-use Rattle.hh_model.specs.declared.data.End.TheVariants.{Done}
-use Rattle.hh_model.specs.declared.data.Frame.{Frame}
-use Rattle.hh_model.specs.declared.data.State.{State}
-use Rattle.hh_model.specs.declared.data.Task.{Task}
-use Rattle.hh_model.specs.Effect.{effect}
-use Rattle.hh_model.specs.Step.{ended_by, ended_task, follow, last_of, last_return, parent_of, result_of, returned_to, runs, setting, with_task}
-use Rattle.run_trace.specs.Entry.{EntryValue}
-use Rattle.run_ledger.specs.declared.data.Ledger.{Ledger}
-use Rattle.run_ledger.specs.declared.data.RunEnd.{RunEnd}
-use Rattle.run_ledger.specs.declared.data.RunEnd.TheVariants.{Machine}
-use Rattle.ledger_step_laws.specs.Accounts.{Rests}
-use Rattle.ledger_step_laws.specs.Last.{EndsDone, Finishing, Runs}
-use Rattle.core_relation.specs.Whole.{handed}
-use Rattle.core_entry_laws.proofs.whole.DoneReturns.{done_returns_all}
-use Rattle.task_machine.specs.declared.part.Private.{Private}
+use Rattle.shared_value.proofs.below.listed.{got_same}
+use Rattle.shared_value.specs.below.listed.{RoomyValue}
+use Rattle.shared_value.specs.below.hh_lang.{Instr, Ret}
+use Rattle.shared_value.specs.below.hh_model.{Done, Frame, State, Task, effect, ended_by, ended_task, follow, last_of, last_return, parent_of, result_of, returned_to, runs, setting, with_task}
+use Rattle.shared_value.specs.below.run_trace.{EntryValue}
+use Rattle.shared_value.specs.below.run_ledger.{Ledger, RunEnd, Machine}
+use Rattle.shared_value.specs.below.ledger_step_laws.{Rests, EndsDone, Finishing, Runs}
+use Rattle.shared_value.specs.below.core_relation.{handed}
+use Rattle.shared_value.proofs.below.core_entry_laws.{done_returns_all}
+use Rattle.shared_value.specs.below.task_machine.{Private}
 use Rattle.shared_value.specs.declared.next_step.Ending.TheVariants.{Returns}
 use Rattle.shared_value.specs.SharedValue.{SharedValue}
 use Rattle.shared_value.specs.Stands.{IsSharedValue}

@@ -1,16 +1,12 @@
 -- The run ends by a step that can't be done, or by a read that is stopped.
 use Rattle.std.proofs.Common.{◌≡◌, ℕ, ◌+◌, ◌++◌, Some, [], ◌∷◌, refl, ap, sym, ◌∙◌}
 use Rattle.std.proofs.lemmas.Option.{same_Some}
-use Rattle.listed.specs.RoomyValue.{RoomyValue}
-use Rattle.hh_model.specs.declared.data.End.{End}
-use Rattle.hh_model.specs.declared.data.End.TheVariants.{Done}
-use Rattle.hh_model.specs.declared.data.State.{State}
-use Rattle.hh_model.specs.Step.{ended_by, step}
-use Rattle.run_trace.specs.Entry.{EntryValue}
-use Rattle.run_ledger.specs.declared.data.RunEnd.TheVariants.{Machine}
-use Rattle.run_ledger.specs.Steps.{task_steps}
-use Rattle.ledger_step_laws.specs.Last.{Halting, Halts, Runs}
-use Rattle.task_machine.specs.declared.part.Private.{Private}
+use Rattle.shared_value.specs.below.listed.{RoomyValue}
+use Rattle.shared_value.specs.below.hh_model.{End, Done, State, ended_by, step}
+use Rattle.shared_value.specs.below.run_trace.{EntryValue}
+use Rattle.shared_value.specs.below.run_ledger.{Machine, task_steps}
+use Rattle.shared_value.specs.below.ledger_step_laws.{Halting, Halts, Runs}
+use Rattle.shared_value.specs.below.task_machine.{Private}
 use Rattle.shared_value.specs.SharedValue.{SharedValue, accounts}
 use Rattle.shared_value.specs.Stands.{IsSharedValue}
 use Rattle.shared_value.proofs.EntryMade.{same_form}

@@ -1,28 +1,15 @@
 -- The accounts after a part's private steps, and how its heap is counted then.
 use Rattle.std.proofs.Common.{arith, ◌≡◌, ℕ, ◌+◌, ◌<◌, ◌≤◌, ◌^◌, Bool, Option, Some, None, List, slice_get, refl, ap, sym, subst, ◌∙◌}
-use Rattle.hh_model.specs.declared.data.Name.{Name}
-use Rattle.hh_model.specs.declared.data.State.{State}
-use Rattle.hh_model.specs.declared.data.Status.TheVariants.{Running}
-use Rattle.run_trace.specs.Settings.{field_limit}
-use Rattle.run_ledger.specs.declared.data.Heap.{Heap}
-use Rattle.run_ledger.specs.declared.data.Ledger.{Ledger}
-use Rattle.run_ledger.specs.Heaps.{heap_of, let_go, or_fresh}
-use Rattle.run_ledger.specs.Steps.{task_steps}
-use Rattle.run_ledger.proofs.Sound.{SoundLedger}
+use Rattle.shared_value.specs.below.hh_model.{Name, State, Running}
+use Rattle.shared_value.specs.below.run_trace.{field_limit}
+use Rattle.shared_value.specs.below.run_ledger.{Heap, Ledger, heap_of, let_go, or_fresh, task_steps}
+use Rattle.shared_value.proofs.below.run_ledger.{SoundLedger, heap_machine, task_steps_more, task_steps_sound}
 use Rattle.journal_laws.proofs.Since.{limit_small}
-use Rattle.run_ledger.proofs.Machine.{heap_machine, task_steps_more}
-use Rattle.run_ledger.proofs.Steps.{task_steps_sound}
-use Rattle.alloc_path.specs.LeafHeapValue.{LeafHeapValue as HeapOfCode}
-use Rattle.ledger_step_laws.specs.Accounts.{ArePrivate, StepsAlone, own, rested}
-use Rattle.ledger_step_laws.proofs.Ahead.{heap_then, rested_alone, steps_alone_all, with_at}
-use Rattle.ledger_step_laws.proofs.Rested.{rested_sound, rested_view}
-use Rattle.core_relation.specs.Memory.{Memory}
-use Rattle.task_machine.specs.declared.part.Private.{Private}
-use Rattle.task_machine.specs.Accounts.{IsCounted, KeepsAccounts, RanBy, account_after}
-use Rattle.task_machine.specs.Fits.{FitsNow as FitsMachine}
-use Rattle.task_machine.specs.Outline.{steps}
-use Rattle.task_machine.specs.Place.{Places}
-use Rattle.task_machine.specs.Run.{Ran, Runs}
+use Rattle.shared_value.specs.below.alloc_path.{LeafHeapValue as HeapOfCode}
+use Rattle.shared_value.specs.below.ledger_step_laws.{ArePrivate, StepsAlone, own, rested}
+use Rattle.shared_value.proofs.below.ledger_step_laws.{heap_then, rested_alone, steps_alone_all, with_at, rested_sound, rested_view, alone_along, alone_back}
+use Rattle.shared_value.specs.below.core_relation.{Memory}
+use Rattle.shared_value.specs.below.task_machine.{Private, IsCounted, KeepsAccounts, RanBy, account_after, FitsNow as FitsMachine, steps, Places, Ran, Runs}
 use Rattle.shared_value.specs.SharedValue.{SharedValue, accounts, value_of}
 use Rattle.shared_value.specs.Stands.{IsSharedValue}
 use Rattle.shared_value.specs.Fits.{Fits}
@@ -36,7 +23,6 @@ use Rattle.shared_value.proofs.StepAccounts.{After, hold_same}
 use Rattle.own_steps.proofs.WordsFew.{asks_few, since_after}
 use Rattle.own_steps.proofs.NextPrivateSteps.{Follows, follows, private_more, ran_machine, ran_private}
 use Rattle.own_steps.proofs.LastSteps.{fits_machine}
-use Rattle.ledger_step_laws.proofs.Alone.{alone_along, alone_back}
 
 -- ---- ACCOUNTS
 

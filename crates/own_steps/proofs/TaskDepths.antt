@@ -3,18 +3,11 @@ use Rattle.std.proofs.Common.{◌≡◌, ℕ, zero, suc, ◌+◌, ◌<◌, ◌�
 use Rattle.std.proofs.lemmas.Bool.{cases_eq, cases_lt}
 use Rattle.std.proofs.lemmas.Option.{same_Some}
 use Rattle.std.proofs.Math.Path.{fun_ext}
-use Rattle.listed.proofs.Members.{got_within}
-use Rattle.listed.proofs.Options.{some_none}
-use Rattle.listed.proofs.Places.{got_some}
-use Rattle.hh_lang.specs.Form.{ProgramText}
-use Rattle.hh_model.specs.declared.data.State.{State}
-use Rattle.hh_model.specs.declared.data.Task.{Task}
-use Rattle.hh_model.specs.Step.{parent_of, parents, run, run_from, start, step}
-use Rattle.hh_model.specs.Store.{MakesChildren, TasksStay}
-use Rattle.hh_model.specs.Tree.{AreLow, IsForkJoinState}
-use Rattle.hh_model.proofs.ForkJoinStates.{start_is_fork_join_state, step_is_fork_join_state}
-use Rattle.hh_model.proofs.Numbers.{numbered}
-use Rattle.heap_tree.specs.Walk.{depth_by, depth_in, through}
+use Rattle.shared_value.proofs.below.listed.{got_within, some_none, got_some}
+use Rattle.shared_value.specs.below.hh_lang.{ProgramText}
+use Rattle.shared_value.specs.below.hh_model.{State, Task, parent_of, parents, run, run_from, start, step, MakesChildren, TasksStay, AreLow, IsForkJoinState}
+use Rattle.shared_value.proofs.below.hh_model.{start_is_fork_join_state, step_is_fork_join_state, numbered}
+use Rattle.shared_value.specs.below.heap_tree.{depth_by, depth_in, through}
 
 -- a task without a parent has none above it, and a child one more than its parent
 pub record AreDeep (tasks : List Task) : Type 0 where

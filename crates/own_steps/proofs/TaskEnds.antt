@@ -2,25 +2,15 @@
 -- shared value, whether the run ends with the task or goes on.
 use Rattle.std.proofs.Common.{◌≡◌, ℕ, ◌+◌, ◌++◌, ◌<◌, ◌&&◌, not, Option, Some, None, List, [], ◌∷◌, length, length-set, slice_get, slice_set, option_map, refl, ap, sym, subst, ◌∙◌}
 use Rattle.std.proofs.lemmas.Option.{same_Some}
-use Rattle.listed.proofs.Members.{got_within}
-use Rattle.run_ledger.specs.declared.data.RunEnd.{RunEnd}
-use Rattle.heap_tree.specs.Node.{with_state}
-use Rattle.run_ledger.specs.Heaps.{heap_of}
-use Rattle.task_frames.specs.declared.frames.Frame.{Frame}
-use Rattle.heap_tree.specs.declared.state.State.TheVariants.{Ended}
-use Rattle.ledger_step_laws.specs.Last.{Runs}
-use Rattle.core_relation.specs.Memory.{Belongings, Memory}
-use Rattle.core_relation.specs.Changes.{EndsBelongings}
-use Rattle.core_relation.specs.Fits.{part_for, with_belongings}
-use Rattle.core_relation.specs.Makes.{Makes, taken_by}
-use Rattle.core_relation.specs.Marks.{Marks}
-use Rattle.core_relation.specs.RanCounts.{NodeGoes, RanCounts}
-use Rattle.core_relation.specs.Since.{OthersNotes}
-use Rattle.core_relation.specs.Whole.{StandsFor, as_node}
-use Rattle.core_relation.specs.Worker.{WorkerFits}
-use Rattle.core_relation.proofs.changes.With.{at_belongings, off_belongings}
-use Rattle.task_machine.specs.declared.part.Private.{Private}
-use Rattle.task_homes.specs.declared.task_at_rest.Rest.{Rest}
+use Rattle.shared_value.proofs.below.listed.{got_within}
+use Rattle.shared_value.specs.below.run_ledger.{RunEnd, heap_of}
+use Rattle.shared_value.specs.below.heap_tree.{with_state, Ended}
+use Rattle.shared_value.specs.below.task_frames.{Frame}
+use Rattle.shared_value.specs.below.ledger_step_laws.{Runs}
+use Rattle.shared_value.specs.below.core_relation.{Belongings, Memory, EndsBelongings, part_for, with_belongings, Makes, taken_by, Marks, NodeGoes, RanCounts, OthersNotes, StandsFor, as_node, WorkerFits}
+use Rattle.shared_value.proofs.below.core_relation.{at_belongings, off_belongings}
+use Rattle.shared_value.specs.below.task_machine.{Private}
+use Rattle.shared_value.specs.below.task_homes.{Rest}
 use Rattle.shared_value.specs.SharedValue.{SharedValue, belongings_in, belongings_of, tree_counts_of, value_of}
 use Rattle.shared_value.specs.Entered.{Enters}
 use Rattle.shared_value.proofs.EntryMade.{ChangesRest, IsWell, changed_form, free_before, rest_off, rest_then, task_is_out}

@@ -2,16 +2,11 @@
 use Rattle.std.proofs.Common.{◌≡◌, ◌≢◌, ℕ, ◌⊎◌, Bool, true, false, Option, Some, None, slice_get, refl, ap, sym, ◌∙◌, inl, inr}
 use Rattle.std.proofs.lemmas.Option.{same_Some}
 use Rattle.std.proofs.lemmas.Bool.{and_right}
-use Rattle.hh_model.specs.Step.{is_running}
-use Rattle.run_trace.specs.declared.entry.Kind.{Kind}
-use Rattle.run_trace.specs.declared.entry.Kind.TheVariants.{Took, Ran, Chunk, Begin, End, PutOff, Mark, More, Sweep, Fuel}
-use Rattle.run_ledger.specs.declared.data.RunEnd.{RunEnd}
-use Rattle.run_ledger.specs.declared.data.Refused.{Refused}
-use Rattle.run_ledger.specs.declared.data.Refused.TheVariants.{NotOut}
-use Rattle.run_ledger.specs.Heaps.{heap_of}
-use Rattle.run_ledger.specs.Entries.{is_fuel, is_out, kind_refusal, refused_unless}
-use Rattle.listed.specs.Options.{option_is}
-use Rattle.run_ledger.proofs.Frames.{held_is}
+use Rattle.shared_value.specs.below.hh_model.{is_running}
+use Rattle.shared_value.specs.below.run_trace.{Kind, Took, Ran, Chunk, Begin, End, PutOff, Mark, More, Sweep, Fuel}
+use Rattle.shared_value.specs.below.run_ledger.{RunEnd, Refused, NotOut, heap_of, is_fuel, is_out, kind_refusal, refused_unless}
+use Rattle.shared_value.specs.below.listed.{option_is}
+use Rattle.shared_value.proofs.below.run_ledger.{held_is}
 use Rattle.shared_value.specs.SharedValue.{SharedValue, accounts}
 use Rattle.shared_value.specs.Stands.{IsSharedValue}
 use Rattle.shared_value.specs.Causes.{first_cause, or_else, task_asked}

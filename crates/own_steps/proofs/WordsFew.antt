@@ -2,21 +2,12 @@
 use Rattle.std.proofs.Common.{◌≡◌, ℕ, zero, suc, ◌+◌, ◌<◌, ◌≤◌, ◌^◌, arith, false, Option, Some, None, length, slice_get, nat_le, refl, subst}
 use Rattle.std.proofs.lemmas.Bool.{leb-false}
 use Rattle.std.proofs.lemmas.Option.{same_Some}
-use Rattle.hh_lang.specs.declared.instr.Instr.{Instr}
-use Rattle.hh_lang.specs.declared.instr.Instr.TheVariants.{Newm, Pack}
-use Rattle.hh_lang.specs.Form.{ProgramText}
-use Rattle.hh_model.specs.declared.data.Frame.{Frame}
-use Rattle.hh_model.specs.declared.data.State.{State}
-use Rattle.hh_model.specs.Effect.{int_in, row_of}
-use Rattle.hh_model.specs.Names.{words_asked}
-use Rattle.hh_model.specs.Step.{asked}
-use Rattle.run_ledger.specs.declared.data.Heap.{Heap}
-use Rattle.run_ledger.specs.Space.{AsksAtMost}
-use Rattle.run_ledger.specs.Steps.{on_asked}
-use Rattle.run_ledger.proofs.Held.{placed_since}
+use Rattle.shared_value.specs.below.hh_lang.{Instr, Newm, Pack, ProgramText}
+use Rattle.shared_value.specs.below.hh_model.{Frame, State, int_in, row_of, words_asked, asked}
+use Rattle.shared_value.specs.below.run_ledger.{Heap, AsksAtMost, on_asked}
+use Rattle.shared_value.proofs.below.run_ledger.{placed_since}
 use Rattle.journal_laws.proofs.Asked.{counts_few, asked_at_line}
-use Rattle.task_machine.specs.Accounts.{account_after, account_by}
-use Rattle.task_machine.specs.Outline.{steps}
+use Rattle.shared_value.specs.below.task_machine.{account_after, account_by, steps}
 use Rattle.shared_value.proofs.Packs.{IsFew, PacksFew}
 
 instr_few : (limit : ℕ) (f : Frame) (i : Instr) (w : ℕ) → IsFew i → words_asked limit f i ≡ Some w → w ≤ limit + 34

@@ -1,28 +1,16 @@
 -- An entry of a part's fresh steps and its next one, which isn't private.
 use Rattle.std.specs.Prelude.{◌≤◌, ◌≡◌, ◌≢◌, ℕ, ◌+◌, ◌||◌, not, true, false, Option, Some, None, [], slice_get}
-use Rattle.hh_lang.specs.declared.instr.Instr.TheVariants.{Out, Ret}
-use Rattle.hh_lang.specs.declared.program.Line.{Line}
-use Rattle.hh_lang.specs.Form.{ProgramText}
-use Rattle.hh_model.specs.declared.data.End.{End}
-use Rattle.hh_model.specs.declared.data.End.TheVariants.{Done, Trapped}
-use Rattle.hh_model.specs.declared.data.State.{State}
-use Rattle.hh_model.specs.declared.data.Task.{Task}
-use Rattle.hh_model.specs.Effect.{int_in}
-use Rattle.hh_model.specs.Step.{ended_by, fetched, step}
-use Rattle.run_trace.specs.declared.entry.Kind.TheVariants.{Ran}
-use Rattle.run_trace.specs.Entry.{EntryValue, private_limit}
-use Rattle.run_ledger.specs.declared.data.Ledger.{Ledger}
-use Rattle.run_ledger.specs.declared.data.RunEnd.{RunEnd}
-use Rattle.run_ledger.specs.declared.data.RunEnd.TheVariants.{Machine}
-use Rattle.run_ledger.specs.Steps.{is_private, owns, task_steps, touched}
-use Rattle.ledger_step_laws.specs.Accounts.{Rests}
-use Rattle.core_relation.specs.Whole.{handed}
-use Rattle.task_machine.specs.declared.part.Private.{Private}
-use Rattle.task_frames.specs.FramesValue.{int_of, ref_of}
+use Rattle.shared_value.specs.below.hh_lang.{Out, Ret, Line, ProgramText}
+use Rattle.shared_value.specs.below.hh_model.{End, Done, Trapped, State, Task, int_in, ended_by, fetched, step}
+use Rattle.shared_value.specs.below.run_trace.{Ran, EntryValue, private_limit}
+use Rattle.shared_value.specs.below.run_ledger.{Ledger, RunEnd, Machine, is_private, owns, task_steps, touched}
+use Rattle.shared_value.specs.below.ledger_step_laws.{Rests}
+use Rattle.shared_value.specs.below.core_relation.{handed}
+use Rattle.shared_value.specs.below.task_machine.{Private}
+use Rattle.shared_value.specs.below.task_frames.{int_of, ref_of}
 use Rattle.shared_value.specs.declared.next_step.Ending.{Ending}
 use Rattle.shared_value.specs.declared.next_step.Ending.TheVariants.{Prints, Returns, Traps, Beyond}
-use Rattle.task_homes.specs.declared.task_at_rest.Rest.{Rest}
-use Rattle.task_homes.specs.declared.task_at_rest.Work.TheVariants.{Result}
+use Rattle.shared_value.specs.below.task_homes.{Rest, Result}
 use Rattle.shared_value.specs.SharedValue.{SharedValue, accounts}
 use Rattle.shared_value.specs.Fits.{Fits, OthersFit, beyond}
 use Rattle.shared_value.specs.Next.{is_beyond, is_joint}

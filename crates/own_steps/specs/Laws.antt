@@ -1,9 +1,7 @@
 -- The laws of the two meanings of a part that fits.
 use Rattle.std.specs.Prelude.{◌≡◌, ℕ, ◌+◌, ◌≤◌, None}
-use Rattle.run_ledger.specs.Steps.{most_steps}
-use Rattle.task_machine.specs.declared.part.Private.{Private}
-use Rattle.task_machine.specs.Accounts.{KeepsAccounts}
-use Rattle.task_machine.specs.Run.{KeepsRest, Runs}
+use Rattle.shared_value.specs.below.run_ledger.{most_steps}
+use Rattle.shared_value.specs.below.task_machine.{Private, KeepsAccounts, KeepsRest, Runs}
 use Rattle.shared_value.specs.SharedValue.{SharedValue, accounts}
 use Rattle.shared_value.specs.Stands.{IsSharedValue}
 use Rattle.shared_value.specs.Fits.{Fits}

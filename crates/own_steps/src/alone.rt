@@ -3,8 +3,7 @@
 ghost use Rattle.std.specs.Prelude.{◌≡◌};
 ghost use Rattle.own_steps.specs.Alone.{ended_rest};
 
-use task_homes::{Rest, Work};
-use task_machine::Private;
+use shared_value::{Private, Rest, Work};
 
 /// What goes with a task whose last frame returned.
 pub fn at_end(part: Private) -> Rest

@@ -1,19 +1,13 @@
 -- What is kept before the first entry, and where no entry is made.
 use Rattle.std.proofs.Common.{◌≡◌, ℕ, List, [], slice_get, inl, inr, ap, sym, subst, ◌∙◌}
 use Rattle.std.proofs.lemmas.Bool.{cases_eq}
-use Rattle.run_trace.specs.Settings.{SettingsValue}
-use Rattle.run_ledger.specs.Journals.{ledger_of}
-use Rattle.run_ledger.specs.Pace.{idle, is_paced, pace_at_end, pace_of}
-use Rattle.run_ledger.specs.declared.data.Ledger.{Ledger}
-use Rattle.journal_laws.proofs.PaceLaw.{idle_at}
-use Rattle.shared_value.specs.declared.answer.NotEntered.{NotEntered}
-use Rattle.shared_value.specs.declared.answer.NotEntered.TheVariants.{NoMemory, Refuses}
-use Rattle.shared_value.specs.SharedValue.{SharedValue, accounts}
-use Rattle.child_tasks.specs.Joins.{IsUnchanged}
-use Rattle.heap_marking.specs.declared.pace.Pace.{Pace}
-use Rattle.heap_marking.specs.declared.pace.PreviousKind.TheVariants.{Other}
-use Rattle.heap_marking.specs.Pace.{KeepsPace, KeepsPrevious}
-use Rattle.heap_marking.proofs.PaceKeeps.{keeps_items}
+use Rattle.counted_tree.specs.below.run_trace.{SettingsValue}
+use Rattle.counted_tree.specs.below.run_ledger.{ledger_of, idle, is_paced, pace_at_end, pace_of, Ledger}
+use Rattle.counted_tree.proofs.below.journal_laws.{idle_at}
+use Rattle.counted_tree.specs.below.shared_value.{NotEntered, NoMemory, Refuses, SharedValue, accounts}
+use Rattle.counted_tree.specs.below.child_tasks.{IsUnchanged}
+use Rattle.counted_tree.specs.below.heap_marking.{Pace, Other, KeepsPace, KeepsPrevious}
+use Rattle.counted_tree.proofs.below.heap_marking.{keeps_items}
 use Rattle.paced_tree.specs.Owed.{AreIdle, KeepsPaces, NotesAt, SameMarks, worker_pace}
 
 idle_kept : (l : Ledger) (q : Pace) → q.previous ≡ Other → q.marks.items ≡ [] → KeepsPace l q idle

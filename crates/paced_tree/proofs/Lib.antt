@@ -1,3 +1,4 @@
 pub mod Noted
 pub mod MarkNotes
 pub mod Idle
+pub mod below

@@ -1,24 +1,14 @@
 -- What the entry that begins a marking tells of the accounts after it.
 use Rattle.std.proofs.Common.{◌≡◌, ℕ, ◌<◌, true, Option, Some, None, List, length, slice_get, refl, ap, ◌∙◌, arith, is_some, is_none}
-use Rattle.listed.proofs.Members.{got_within}
-use Rattle.listed.proofs.Places.{got_some}
-use Rattle.hh_model.specs.declared.data.State.{State}
-use Rattle.hh_model.specs.declared.data.Task.{Task}
-use Rattle.hh_model.specs.Step.{is_waiting}
-use Rattle.run_trace.specs.declared.entry.Kind.TheVariants.{Mark}
-use Rattle.run_ledger.specs.declared.data.Heap.{Heap}
-use Rattle.run_ledger.specs.declared.data.Ledger.{Ledger}
-use Rattle.run_ledger.specs.Heaps.{heap_of, or_fresh, with_heap}
-use Rattle.run_ledger.specs.Sound.{SoundLedger}
-use Rattle.run_ledger.proofs.Journals.{entry_tells, legal_sound, wait_tells}
-use Rattle.run_ledger.proofs.Holders.{heap_end}
-use Rattle.run_ledger.proofs.Machine.{heap_machine}
-use Rattle.ledger_step_laws.proofs.Ahead.{heap_then, with_at}
-use Rattle.shared_value.specs.Entered.{refused, Enters}
-use Rattle.shared_value.specs.Stands.{IsSharedValue}
-use Rattle.shared_value.specs.SharedValue.{SharedValue, accounts}
-use Rattle.shared_value.proofs.EntryMade.{entry_on}
-use Rattle.heap_marking.proofs.ForksTold.{entered_accounts}
+use Rattle.counted_tree.proofs.below.listed.{got_within, got_some}
+use Rattle.counted_tree.specs.below.hh_model.{State, Task, is_waiting}
+use Rattle.counted_tree.specs.below.run_trace.{Mark}
+use Rattle.counted_tree.specs.below.run_ledger.{Heap, Ledger, heap_of, or_fresh, with_heap, SoundLedger}
+use Rattle.counted_tree.proofs.below.run_ledger.{entry_tells, legal_sound, wait_tells, heap_end, heap_machine}
+use Rattle.counted_tree.proofs.below.ledger_step_laws.{heap_then, with_at}
+use Rattle.counted_tree.specs.below.shared_value.{refused, Enters, IsSharedValue, SharedValue, accounts}
+use Rattle.counted_tree.proofs.below.shared_value.{entry_on}
+use Rattle.counted_tree.proofs.below.heap_marking.{entered_accounts}
 
 made_by : (ts : List Task) (t : ℕ) (o : Option Task) → slice_get ts t ≡ o → is_waiting o ≡ true → t < length ts
 made_by ts t None e w = absurd (let q : is_waiting None ≡ true = w in cc)

@@ -2,32 +2,15 @@
 use Rattle.std.proofs.Common.{◌≡◌, ◌≢◌, ◌⊎◌, ℕ, zero, suc, ◌<◌, ◌≤◌, true, Option, Some, None, List, [], ◌∷◌, ◌++◌, length, slice_get, slice_set, inl, inr, refl, ap, sym, subst, ◌∙◌, arith, length-set, is_some}
 use Rattle.std.proofs.lemmas.Bool.{cases_eq}
 use Rattle.std.specs.Prelude.{OnErr, OnOk, Result, Ok, Err}
-use Rattle.listed.proofs.Members.{got_other, got_within}
-use Rattle.hh_lang.specs.Form.{ProgramText}
-use Rattle.run_trace.specs.declared.entry.Kind.{Kind}
-use Rattle.run_trace.specs.declared.entry.Kind.TheVariants.{Fuel, Mark, Ran}
-use Rattle.run_trace.specs.Entry.{EntryValue}
-use Rattle.run_trace.specs.Settings.{SettingsValue}
-use Rattle.run_ledger.specs.declared.data.Ledger.{Ledger}
-use Rattle.run_ledger.specs.declared.data.Previous.TheVariants.{Other as OtherEntry}
-use Rattle.run_ledger.specs.declared.data.WorkerPace.{WorkerPace}
-use Rattle.run_ledger.specs.Entries.{after, is_fuel}
-use Rattle.run_ledger.specs.Heaps.{heap_of}
-use Rattle.run_ledger.specs.Journals.{after_all, opening}
-use Rattle.run_ledger.specs.Pace.{is_paced, noted, or_idle, pace_after, pace_after_all, pace_at_end, pace_of, pace_opening}
-use Rattle.journal_laws.proofs.Paced.{pace_goes_on}
-use Rattle.run_ledger.specs.declared.data.Refused.{Refused}
-use Rattle.journal_laws.proofs.PaceLaw.{length_opening, pace_same}
-use Rattle.shared_value.specs.Entered.{cause_of, refused, Enters}
-use Rattle.shared_value.specs.Stands.{IsSharedValue}
-use Rattle.shared_value.specs.SharedValue.{SharedValue, accounts}
-use Rattle.shared_value.proofs.EntryMade.{entry_on}
-use Rattle.heap_marking.specs.declared.pace.Pace.{Pace}
-use Rattle.heap_marking.specs.declared.pace.PreviousKind.TheVariants.{Other}
-use Rattle.heap_marking.specs.declared.pace.Fork.{Fork}
-use Rattle.heap_marking.specs.Pace.{IsForkOf, KeepsPace, previous_of}
-use Rattle.heap_marking.proofs.PaceKeeps.{mark_kept, steps_kept}
-use Rattle.heap_marking.proofs.ForksTold.{entered_accounts, paces_stay}
+use Rattle.counted_tree.proofs.below.listed.{got_other, got_within}
+use Rattle.counted_tree.specs.below.hh_lang.{ProgramText}
+use Rattle.counted_tree.specs.below.run_trace.{Kind, Fuel, Mark, Ran, EntryValue, SettingsValue}
+use Rattle.counted_tree.specs.below.run_ledger.{Ledger, Other as OtherEntry, WorkerPace, after, is_fuel, heap_of, after_all, opening, is_paced, noted, or_idle, pace_after, pace_after_all, pace_at_end, pace_of, pace_opening, Refused}
+use Rattle.counted_tree.proofs.below.journal_laws.{pace_goes_on, length_opening, pace_same}
+use Rattle.counted_tree.specs.below.shared_value.{cause_of, refused, Enters, IsSharedValue, SharedValue, accounts}
+use Rattle.counted_tree.proofs.below.shared_value.{entry_on}
+use Rattle.counted_tree.specs.below.heap_marking.{Pace, Other, Fork, IsForkOf, KeepsPace, previous_of}
+use Rattle.counted_tree.proofs.below.heap_marking.{mark_kept, steps_kept, entered_accounts, paces_stay}
 use Rattle.paced_tree.specs.Owed.{KeepsNoted, KeepsPaces, NotesAt, NotesOther, Pays, worker_pace}
 
 -- WHAT IS NOTED after one entry more

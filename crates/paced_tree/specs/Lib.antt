@@ -1,2 +1,3 @@
-pub use Rattle.shared_tree.specs.Ran
+pub use Rattle.counted_tree.specs.below.shared_tree.Ran as Ran
 pub mod Owed
+pub mod below

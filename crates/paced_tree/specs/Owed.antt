@@ -1,15 +1,9 @@
 -- What a worker owes by the journal, and what is kept to know it.
 use Rattle.std.specs.Prelude.{◌≡◌, ◌≢◌, ◌<◌, ℕ, true, Some, None, List, [], length, slice_get}
-use Rattle.run_trace.specs.declared.entry.Kind.{Kind}
-use Rattle.run_trace.specs.Entry.{EntryValue}
-use Rattle.run_ledger.specs.declared.data.Ledger.{Ledger}
-use Rattle.run_ledger.specs.declared.data.Owed.{Owed}
-use Rattle.run_ledger.specs.declared.data.WorkerPace.{WorkerPace}
-use Rattle.run_ledger.specs.Pace.{gives, is_paced, noted, owed, pace_at_end, pace_of}
-use Rattle.shared_value.specs.SharedValue.{SharedValue, accounts}
-use Rattle.heap_marking.specs.declared.pace.Pace.{Pace}
-use Rattle.heap_marking.specs.declared.pace.PreviousKind.TheVariants.{Other}
-use Rattle.heap_marking.specs.Pace.{KeepsPace}
+use Rattle.counted_tree.specs.below.run_trace.{Kind, EntryValue}
+use Rattle.counted_tree.specs.below.run_ledger.{Ledger, Owed, WorkerPace, gives, is_paced, noted, owed, pace_at_end, pace_of}
+use Rattle.counted_tree.specs.below.shared_value.{SharedValue, accounts}
+use Rattle.counted_tree.specs.below.heap_marking.{Pace, Other, KeepsPace}
 
 -- what the journal keeps of the worker's entries
 abbrev pub worker_pace : SharedValue → ℕ → WorkerPace

@@ -1,11 +1,10 @@
 // The fork on which a task waits, and what that tells of the marking of its heap.
 
 ghost use Rattle.std.specs.Prelude.{◌≡◌, None, slice_get};
-ghost use Rattle.shared_value.specs.SharedValue.{accounts};
-ghost use Rattle.heap_marking.specs.Pace.{is_going, is_to_begin, IsForkOf};
+ghost use Rattle.counted_tree.specs.below.shared_value.{accounts};
+ghost use Rattle.counted_tree.specs.below.heap_marking.{is_going, is_to_begin, IsForkOf};
 
-use heap_marking::{fork_in, is_joined, waiting_cause};
-use shared_tree::{Fork, Shared};
+use counted_tree::{Fork, Shared, fork_in, is_joined, waiting_cause};
 
 // Whether the marking after a fork is under way.
 pub(crate) fn is_going(shared: &Shared, fork: Fork) -> bool

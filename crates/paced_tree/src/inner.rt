@@ -1,16 +1,14 @@
 // Marking and sweeping the heaps of waiting tasks are entered.
 
 ghost use Rattle.std.specs.Prelude.{◌<◌, ◌≤◌};
-ghost use Rattle.run_trace.specs.Entry.{mark_limit};
-ghost use Rattle.shared_value.specs.Entered.{refused, IsCaused};
-ghost use Rattle.shared_tree.specs.Calls.{BeginsMarking, MarksMore, SweepsHeap};
+ghost use Rattle.counted_tree.specs.below.run_trace.{mark_limit};
+ghost use Rattle.counted_tree.specs.below.shared_value.{refused, IsCaused};
+ghost use Rattle.counted_tree.specs.below.shared_tree.{BeginsMarking, MarksMore, SweepsHeap};
 ghost use Rattle.paced_tree.specs.Owed.{Pays};
 
 use crate::noting::{note_mark, note_other, reserve_mark};
 use crate::paced::Paced;
-use run_ledger::Refused;
-use run_trace::Kind;
-use shared_tree::{NotEntered, Shared};
+use counted_tree::{Kind, NotEntered, Refused, Shared};
 
 // Why the entry that begins a marking isn't made, where there is no memory to note it.
 fn no_place(shared: &Shared, worker: u32, t: u32) -> NotEntered

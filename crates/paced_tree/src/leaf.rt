@@ -1,19 +1,14 @@
 // Chunks and leaf collections of parts are entered.
 
 ghost use Rattle.std.specs.Prelude.{◌≡◌, ◌<◌};
-ghost use Rattle.shared_value.specs.Fits.{Fits};
-ghost use Rattle.leaf_collections.specs.LeafEnd.{end_entry, FitsCopied};
-ghost use Rattle.shared_tree.specs.Calls.{BeginsLeaf, EndsLeaf, GetsChunk, PutsOff};
+ghost use Rattle.counted_tree.specs.below.shared_value.{Fits};
+ghost use Rattle.counted_tree.specs.below.leaf_collections.{end_entry, FitsCopied};
+ghost use Rattle.counted_tree.specs.below.shared_tree.{BeginsLeaf, EndsLeaf, GetsChunk, PutsOff};
 ghost use Rattle.paced_tree.specs.Owed.{Pays};
 
 use crate::noting::note_other;
 use crate::paced::Paced;
-use leaf_copy_gc::{Moved, ToChunks};
-use object_layout::Addr;
-use run_ledger::Refused;
-use run_trace::Kind;
-use shared_tree::{NotEnded, NotEntered};
-use task_machine::Private;
+use counted_tree::{Addr, Kind, Moved, NotEnded, NotEntered, Private, Refused, ToChunks};
 
 impl Paced {
     /// A part gets the chunk that its next step needs. Where too few units are free the run ends.

@@ -9,6 +9,8 @@ mod owing;
 mod paced;
 mod steps;
 
-pub use counted_tree::Counted;
+pub use counted_tree::{
+    Addr, Apart, Counted, Entry, Leaving, Lent, MARKED_AT_ONCE, Moved, NotEntered, Owed,
+    PRIVATE_LIMIT, Paused, Private, Program, Ran, RunEnd, Settings, ToChunks, copy, run_local,
+};
 pub use paced::Paced;
-pub use shared_tree::{Leaving, Lent, NotEntered, Ran};

@@ -1,16 +1,15 @@
 // What is kept of a worker's entries, noted anew after each.
 
 ghost use Rattle.std.specs.Prelude.{◌≡◌, ◌<◌, ℕ, IfOk, OnOk, None, is_some, length, slice_get, true};
-ghost use Rattle.hh_model.specs.Step.{is_waiting};
-ghost use Rattle.run_trace.specs.declared.entry.Kind.TheVariants.{Mark, Ran};
-ghost use Rattle.run_ledger.specs.Heaps.{heap_of};
-ghost use Rattle.shared_value.specs.SharedValue.{accounts};
+ghost use Rattle.counted_tree.specs.below.hh_model.{is_waiting};
+ghost use Rattle.counted_tree.specs.below.run_trace.{Mark, Ran};
+ghost use Rattle.counted_tree.specs.below.run_ledger.{heap_of};
+ghost use Rattle.counted_tree.specs.below.shared_value.{accounts};
 ghost use Rattle.paced_tree.specs.Owed.{AreIdle, HasRoom, KeepsNoted, NotesAt, NotesOther, SameMarks};
 
 use crate::forks_of::fork_of;
 use crate::owing::forget;
-use listed::Listed;
-use shared_tree::{Pace, PreviousKind, Shared};
+use counted_tree::{Listed, Pace, PreviousKind, Shared};
 use std::alloc::{AllocError, Global};
 
 // What is kept of workers without an entry.

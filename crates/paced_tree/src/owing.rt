@@ -1,16 +1,13 @@
 // What a worker owes by the pace of inner collections.
 
 ghost use Rattle.std.specs.Prelude.{◌≡◌, ◌≤◌, List, None};
-ghost use Rattle.hh_model.specs.declared.data.Strand.{Strand};
-ghost use Rattle.run_ledger.specs.Pace.{owed, owed_to_marks};
-ghost use Rattle.run_ledger.specs.declared.data.WorkerPace.{WorkerPace};
-ghost use Rattle.shared_value.specs.SharedValue.{accounts};
-ghost use Rattle.heap_marking.specs.Pace.{IsLastGoing, KeepsMarks, KeepsPace};
+ghost use Rattle.counted_tree.specs.below.hh_model.{Strand};
+ghost use Rattle.counted_tree.specs.below.run_ledger.{owed, owed_to_marks, WorkerPace};
+ghost use Rattle.counted_tree.specs.below.shared_value.{accounts};
+ghost use Rattle.counted_tree.specs.below.heap_marking.{IsLastGoing, KeepsMarks, KeepsPace};
 
 use crate::forks_of::{is_going, is_to_begin};
-use heap_marking::marking_cause;
-use run_ledger::Owed;
-use shared_tree::{Fork, Pace, PreviousKind, Shared};
+use counted_tree::{Fork, Owed, Pace, PreviousKind, Shared, marking_cause};
 
 // The last of these markings that is under way.
 fn last_going(shared: &Shared, forks: &[Fork]) -> Option<Fork>

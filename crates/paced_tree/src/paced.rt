@@ -1,23 +1,15 @@
 // The shared value, and what each worker owes.
 
 ghost use Rattle.std.specs.Prelude.{◌≡◌, ◌<◌, [], ℕ, IfOk, OnOk, None, Some, false, true};
-ghost use Rattle.run_ledger.specs.Pace.{is_paced};
-ghost use Rattle.task_machine.specs.declared.part.Private.{Private as PrivateOf};
-ghost use Rattle.shared_value.specs.Fits.{AllFit, Fits};
-ghost use Rattle.shared_value.specs.Stands.{IsSharedValue};
-ghost use Rattle.shared_value.specs.SharedValue.{accounts, rest_at};
-ghost use Rattle.task_homes.specs.declared.task_at_rest.Rest.{Rest as RestOf};
+ghost use Rattle.counted_tree.specs.below.run_ledger.{is_paced};
+ghost use Rattle.counted_tree.specs.below.task_machine.{Private as PrivateOf};
+ghost use Rattle.counted_tree.specs.below.shared_value.{AllFit, Fits, IsSharedValue, accounts, rest_at};
+ghost use Rattle.counted_tree.specs.below.task_homes.{Rest as RestOf};
 ghost use Rattle.paced_tree.specs.Owed.{owed_by};
 
 use crate::noting::idle_paces;
 use crate::owing::owed;
-use counted_tree::Counted;
-use hh_lang::Program;
-use listed::Listed;
-use out_of_line::Apart;
-use run_ledger::Owed;
-use run_trace::Settings;
-use shared_tree::{Pace, Shared};
+use counted_tree::{Apart, Counted, Listed, Owed, Pace, Program, Settings, Shared};
 use std::alloc::{AllocError, Global};
 use std::marker::Model;
 
@@ -40,7 +32,7 @@ impl Drop for Paced {
 }
 
 impl Model for Paced {
-    ghost use Rattle.shared_value.specs.SharedValue.{SharedValue};
+    ghost use Rattle.counted_tree.specs.below.shared_value.{SharedValue};
     ghost use Rattle.paced_tree.specs.Owed.{KeepsPaces};
 
     ghost Value = { SharedValue };

@@ -1,19 +1,14 @@
 // A worker takes a task, and steps are entered; or the run ends for spent fuel.
 
 ghost use Rattle.std.specs.Prelude.{◌≡◌, ◌<◌, None};
-ghost use Rattle.shared_value.specs.Entered.{refused};
-ghost use Rattle.shared_value.specs.Fits.{Fits};
-ghost use Rattle.own_steps.specs.Alone.{alone_entry, IsShared};
-ghost use Rattle.shared_tree.specs.Calls.{EndsForFuel, EntersLeaving, EntersLent, EntersSteps, TakesTask};
-ghost use Rattle.shared_tree.specs.Ran.{LeavesBy};
+ghost use Rattle.counted_tree.specs.below.shared_value.{refused, Fits};
+ghost use Rattle.counted_tree.specs.below.own_steps.{alone_entry, IsShared};
+ghost use Rattle.counted_tree.specs.below.shared_tree.{EndsForFuel, EntersLeaving, EntersLent, EntersSteps, TakesTask, LeavesBy};
 ghost use Rattle.paced_tree.specs.Owed.{Pays};
 
 use crate::noting::{note_other, note_ran};
 use crate::paced::Paced;
-use run_ledger::Refused;
-use run_trace::Kind;
-use shared_tree::{Leaving, Lent, NotEntered, NotRan, Ran};
-use task_machine::Private;
+use counted_tree::{Kind, Leaving, Lent, NotEntered, NotRan, Private, Ran, Refused};
 
 // The left child that a step has made, or 0.
 fn left_in(ran: &Ran) -> u32 {

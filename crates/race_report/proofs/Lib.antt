@@ -18,3 +18,4 @@ pub mod Reported
 pub mod StepCounts
 pub mod Watched
 pub mod Raceless
+pub mod below

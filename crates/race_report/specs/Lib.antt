@@ -11,3 +11,4 @@ pub mod Watch
 pub mod Scan
 pub mod Report
 pub mod Text
+pub mod below

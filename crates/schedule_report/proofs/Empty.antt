@@ -1,6 +1,6 @@
 -- A report is empty exactly where nothing races.
 use Rattle.std.proofs.Common.{◌≡◌, ℕ, List, [], ◌∷◌, inl, refl}
-use Rattle.listed.proofs.Members.{contains_from_in, in_from_contains}
+use Rattle.race_report.proofs.below.listed.{contains_from_in, in_from_contains}
 use Rattle.hh_model.specs.declared.data.Edge.{Edge}
 use Rattle.race_report.specs.declared.data.Access.{Access}
 use Rattle.race_report.specs.declared.data.Race.{Race}

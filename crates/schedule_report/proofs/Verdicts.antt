@@ -1,9 +1,8 @@
 -- Verdicts are exact, and speak for all schedules.
 use Rattle.std.proofs.Common.{◌≡◌, ℕ, ◌+◌, ◌-◌, ◌^◌, ◌<◌, ◌==◌, min, lit<, cond, Option, Some, None, List, [], ◌∷◌, length, refl, ap, sym, subst, ◌∙◌, arith}
-use Rattle.listed.proofs.Numbers.{not_zero}
-use Rattle.hh_lang.specs.Form.{ProgramText}
-use Rattle.run_trace.specs.Entry.{EntryValue}
-use Rattle.run_trace.specs.Settings.{SettingsValue, field_limit}
+use Rattle.race_report.proofs.below.listed.{not_zero}
+use Rattle.race_report.specs.below.hh_lang.{ProgramText}
+use Rattle.race_report.specs.below.run_trace.{EntryValue, SettingsValue, field_limit}
 use Rattle.hh_model.specs.declared.data.End.{End}
 use Rattle.hh_model.specs.declared.data.End.TheVariants.{Done}
 use Rattle.hh_model.specs.declared.data.Edge.{Edge}

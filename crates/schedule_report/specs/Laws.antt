@@ -1,8 +1,7 @@
 -- What the pairs of one whole run say of all schedules.
 use Rattle.std.specs.Prelude.{◌≡◌, ℕ, Option, Some, None, List}
-use Rattle.hh_lang.specs.Form.{ProgramText}
-use Rattle.run_trace.specs.Entry.{EntryValue}
-use Rattle.run_trace.specs.Settings.{SettingsValue, field_limit}
+use Rattle.race_report.specs.below.hh_lang.{ProgramText}
+use Rattle.race_report.specs.below.run_trace.{EntryValue, SettingsValue, field_limit}
 use Rattle.hh_model.specs.declared.data.End.{End}
 use Rattle.hh_model.specs.declared.data.End.TheVariants.{Done}
 use Rattle.hh_model.specs.Step.{run}

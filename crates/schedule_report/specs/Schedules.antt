@@ -1,8 +1,7 @@
 -- The pairs of a run that the graph doesn't put in order, and what they say of other schedules.
 use Rattle.std.specs.Prelude.{◌≡◌, ℕ, ◌==◌, Option, Some, None, List, length, if◌then◌else◌}
-use Rattle.hh_lang.specs.Form.{ProgramText}
-use Rattle.run_trace.specs.Entry.{EntryValue}
-use Rattle.run_trace.specs.Settings.{SettingsValue, field_limit}
+use Rattle.race_report.specs.below.hh_lang.{ProgramText}
+use Rattle.race_report.specs.below.run_trace.{EntryValue, SettingsValue, field_limit}
 use Rattle.hh_model.specs.declared.data.End.TheVariants.{Done}
 use Rattle.run_ledger.specs.declared.data.RunEnd.TheVariants.{Machine}
 use Rattle.run_ledger.specs.Journals.{end_of, machine_of, tasks_of}

@@ -3,8 +3,7 @@
 ghost use Rattle.std.specs.Prelude.{◌≡◌};
 ghost use Rattle.schedule_report.specs.Schedules.{clash_count, verdict_of};
 
-use listed::Listed;
-use race_report::Race;
+use race_report::{Listed, Race};
 
 /// The pairs of a whole run that the graph doesn't put in order.
 #[derive(Drop)]

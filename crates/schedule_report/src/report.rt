@@ -6,13 +6,10 @@ ghost use Rattle.run_journal.specs.Replay.{ReplayFails};
 ghost use Rattle.schedule_report.specs.Schedules.{AreClashes, IsAnswer};
 
 use crate::data::Clashes;
-use hh_lang::Program;
 use hh_model::End;
-use listed::Listed;
-use race_report::{Sight, races_of};
+use race_report::{Entry, Listed, Program, Settings, Sight, races_of};
 use run_journal::{ReplayError, model_replay};
 use run_ledger::RunEnd;
-use run_trace::{Entry, Settings};
 use std::alloc::{AllocError, Global};
 
 // Whether a run ended by the return of main.

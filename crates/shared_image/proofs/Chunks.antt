@@ -3,21 +3,16 @@ use Rattle.std.proofs.Common.{◌≡◌, ℕ, ◌+◌, ◌*◌, ◌<◌, ◌≤�
 use Rattle.std.specs.List.{IsDistinct}
 use Rattle.std.proofs.lemmas.Bool.{eq-eqb, false≢true}
 use Rattle.std.proofs.lemmas.Map.Keys.{IsDistinct-head, IsDistinct-tail}
-use Rattle.listed.proofs.Places.{each_in, in_map, map_in}
-use Rattle.object_layout.specs.Cell.{Born, Cell, Hole, Mark, Moved, size_of}
-use Rattle.object_layout.specs.ChunkValue.{ChunkValue}
-use Rattle.object_layout.specs.Objects.{Located, located_by, objects_from}
-use Rattle.chunk_pool.specs.PoolValue.{owner_of}
-use Rattle.heap_tree.specs.Node.{state_of}
-use Rattle.core_relation.specs.Memory.{Chunk, In, Memory, objects}
-use Rattle.core_relation.proofs.objects.Members.{in_objects}
-use Rattle.task_homes.specs.declared.task_at_rest.Rest.{Rest}
-use Rattle.shared_value.specs.Objects.{chunk_of, chunks_of}
-use Rattle.shared_value.specs.Stands.{IsSharedValue}
-use Rattle.shared_value.specs.SharedValue.{SharedValue, belongings_in, rest_at, value_of}
-use Rattle.shared_value.proofs.FieldsLed.{belongings_chunks}
-use Rattle.heap_reading.specs.HeldNames.{is_state_running}
-use Rattle.heap_reading.specs.Image.{AreAll, Rises, in_words, objects_numbered, objects_of, objects_owned}
+use Rattle.heap_image.proofs.below.listed.{each_in, in_map, map_in}
+use Rattle.tree_reading.specs.below.object_layout.{Born, Cell, Hole, Mark, Moved, size_of, ChunkValue, Located, located_by, objects_from}
+use Rattle.tree_reading.specs.below.chunk_pool.{owner_of}
+use Rattle.tree_reading.specs.below.heap_tree.{state_of}
+use Rattle.tree_reading.specs.below.core_relation.{Chunk, In, Memory, objects}
+use Rattle.tree_reading.proofs.below.core_relation.{in_objects}
+use Rattle.tree_reading.specs.below.task_homes.{Rest}
+use Rattle.tree_reading.specs.below.shared_value.{chunk_of, chunks_of, IsSharedValue, SharedValue, belongings_in, rest_at, value_of}
+use Rattle.tree_reading.proofs.below.shared_value.{belongings_chunks}
+use Rattle.tree_reading.specs.below.heap_reading.{is_state_running, AreAll, Rises, in_words, objects_numbered, objects_of, objects_owned}
 use Rattle.heap_image.specs.declared.picture.Picked.{Picked}
 use Rattle.heap_image.specs.Picture.{ObjectBefore}
 use Rattle.shared_image.specs.Drawn.{IsHandedBack, drawn_object}

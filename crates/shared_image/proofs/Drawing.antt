@@ -3,33 +3,19 @@ use Rattle.std.proofs.Common.{◌≡◌, ◌⊎◌, ℕ, ◌+◌, ◌*◌, ◌<�
 use Rattle.std.proofs.lemmas.Bool.{cases_Bool}
 use Rattle.std.proofs.lemmas.List.{length-map}
 use Rattle.std.proofs.lemmas.Option.{same_Some, slice_get-map}
-use Rattle.listed.proofs.Places.{got_some, in_got, map_in, read_in}
-use Rattle.listed.proofs.Members.{got_in}
-use Rattle.hh_model.specs.declared.data.Name.{Name}
-use Rattle.hh_model.specs.declared.data.Object.{Object}
-use Rattle.hh_model.specs.declared.data.Task.{Task}
-use Rattle.hh_model.specs.Effect.{object_at}
-use Rattle.hh_model.specs.Step.{joined}
-use Rattle.path_laws.proofs.Leaves.{waiting_stops}
-use Rattle.object_layout.specs.declared.word.Addr.{Addr}
-use Rattle.object_layout.specs.Cell.{IsRef}
-use Rattle.object_layout.specs.Layout.{word_of_ref}
-use Rattle.object_layout.specs.Objects.{Located}
-use Rattle.chunk_pool.specs.declared.pool.Slot.{Slot}
-use Rattle.chunk_pool.specs.PoolValue.{slot_at}
-use Rattle.heap_tree.specs.Node.{state_of}
-use Rattle.remembered_set.specs.declared.remembered.Source.{Source}
-use Rattle.ledger_step_laws.specs.Accounts.{Rests, own}
-use Rattle.core_relation.specs.Layout.{words}
-use Rattle.core_relation.specs.Reads.{IsRead}
-use Rattle.core_relation.specs.Stands.{BelongingsStand, IsSource, Place}
-use Rattle.core_relation.specs.Memory.{Chunk as ChunkOf, In, Memory, object_name, objects, sources}
-use Rattle.core_relation.proofs.notes.Roots.{name_at}
-use Rattle.shared_value.specs.Stands.{IsSharedValue}
-use Rattle.shared_value.specs.SharedValue.{SharedValue, value_of}
-use Rattle.shared_value.proofs.FreeChunks.{refs_long}
-use Rattle.heap_reading.specs.HeldNames.{is_state_running}
-use Rattle.heap_reading.specs.Image.{field_of, in_words}
+use Rattle.heap_image.proofs.below.listed.{got_some, in_got, map_in, read_in, got_in}
+use Rattle.tree_reading.specs.below.hh_model.{Name, Object, Task, object_at, joined}
+use Rattle.tree_reading.proofs.below.path_laws.{waiting_stops}
+use Rattle.tree_reading.specs.below.object_layout.{Addr, IsRef, word_of_ref, Located}
+use Rattle.tree_reading.specs.below.chunk_pool.{Slot, slot_at}
+use Rattle.tree_reading.specs.below.heap_tree.{state_of}
+use Rattle.tree_reading.specs.below.remembered_set.{Source}
+use Rattle.tree_reading.specs.below.ledger_step_laws.{Rests, own}
+use Rattle.tree_reading.specs.below.core_relation.{words, IsRead, BelongingsStand, IsSource, Place, Chunk as ChunkOf, In, Memory, object_name, objects, sources}
+use Rattle.tree_reading.proofs.below.core_relation.{name_at}
+use Rattle.tree_reading.specs.below.shared_value.{IsSharedValue, SharedValue, value_of}
+use Rattle.tree_reading.proofs.below.shared_value.{refs_long}
+use Rattle.tree_reading.specs.below.heap_reading.{is_state_running, field_of, in_words}
 use Rattle.image_check.specs.declared.line.Remembered.{Remembered}
 use Rattle.image_check.specs.Place.{offset}
 use Rattle.heap_image.specs.declared.picture.Picked.{Picked}

@@ -1,28 +1,17 @@
 -- The objects of a picture are those that the heaps handed back hold.
 use Rattle.std.proofs.Common.{◌≡◌, ℕ, Option, Some, None, List, [], ◌∷◌, map, slice_get, inl, inr, refl, ap, sym, subst, ◌∙◌}
 use Rattle.std.proofs.lemmas.Bool.{cases_Bool}
-use Rattle.listed.proofs.Places.{read_in}
-use Rattle.hh_model.specs.declared.data.Name.{Name}
-use Rattle.hh_model.specs.declared.data.State.{State}
-use Rattle.hh_model.specs.Effect.{object_at}
-use Rattle.hh_model.specs.Step.{is_running, owner_of}
-use Rattle.run_ledger.specs.declared.data.Ledger.{Ledger}
-use Rattle.run_ledger.specs.Heaps.{heap_of, held_in}
-use Rattle.object_layout.specs.declared.word.Addr.{Addr}
-use Rattle.object_layout.specs.Cell.{IsRef}
-use Rattle.object_layout.specs.Layout.{word_of_ref}
-use Rattle.object_layout.specs.Objects.{Located}
-use Rattle.heap_tree.specs.Node.{state_of}
-use Rattle.ledger_step_laws.specs.Accounts.{own}
-use Rattle.core_relation.specs.Reads.{AllRead}
-use Rattle.core_relation.specs.Stands.{Place}
-use Rattle.core_relation.specs.Memory.{In, Memory, object_name, objects}
-use Rattle.core_relation.proofs.objects.Members.{held_object, object_held}
-use Rattle.shared_value.specs.Stands.{IsSharedValue}
-use Rattle.shared_value.specs.SharedValue.{SharedValue, accounts, value_of}
-use Rattle.heap_reading.specs.HeldNames.{is_state_running}
-use Rattle.heap_reading.specs.Image.{in_words}
-use Rattle.heap_reading.proofs.KeptNames.{handed_held}
+use Rattle.heap_image.proofs.below.listed.{read_in}
+use Rattle.tree_reading.specs.below.hh_model.{Name, State, object_at, is_running, owner_of}
+use Rattle.tree_reading.specs.below.run_ledger.{Ledger, heap_of, held_in}
+use Rattle.tree_reading.specs.below.object_layout.{Addr, IsRef, word_of_ref, Located}
+use Rattle.tree_reading.specs.below.heap_tree.{state_of}
+use Rattle.tree_reading.specs.below.ledger_step_laws.{own}
+use Rattle.tree_reading.specs.below.core_relation.{AllRead, Place, In, Memory, object_name, objects}
+use Rattle.tree_reading.proofs.below.core_relation.{held_object, object_held}
+use Rattle.tree_reading.specs.below.shared_value.{IsSharedValue, SharedValue, accounts, value_of}
+use Rattle.tree_reading.specs.below.heap_reading.{is_state_running, in_words}
+use Rattle.tree_reading.proofs.below.heap_reading.{handed_held}
 use Rattle.heap_image.specs.declared.picture.Picture.{Picture}
 use Rattle.heap_image.specs.Picture.{IsOwned}
 use Rattle.shared_image.specs.Drawn.{AreHeldInWords, IsHandedBack, IsPictureOf, drawn_object}

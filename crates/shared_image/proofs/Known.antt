@@ -2,40 +2,21 @@
 use Rattle.std.proofs.Common.{◌≡◌, ℕ, ◌+◌, ◌^◌, ◌<◌, ◌≤◌, arith, false, Option, Some, None, List, length, max, slice_get, refl, ap, sym, subst, ◌∙◌}
 use Rattle.std.proofs.lemmas.Bool.{false≢true}
 use Rattle.std.proofs.lemmas.Option.{slice_get_within}
-use Rattle.listed.specs.Members.{In}
-use Rattle.hh_model.specs.declared.data.Name.{Name}
-use Rattle.hh_model.specs.declared.data.Object.{Object}
-use Rattle.hh_model.specs.declared.data.State.{State}
-use Rattle.hh_model.specs.declared.data.Task.{Task}
-use Rattle.hh_model.specs.Counts.{Counted}
-use Rattle.hh_model.specs.Effect.{object_at, row_of}
-use Rattle.path_laws.specs.Paths.{AreOwners, ArePaths}
-use Rattle.hh_model.specs.Step.{is_running, joined, owner_of, parents, run}
-use Rattle.hh_model.specs.Tree.{HasOneRoot, TreeOf, joins_in, waiting}
-use Rattle.path_laws.proofs.PathLaws.{owners_are_walks, paths_are_walks}
-use Rattle.hh_model.proofs.Root.{runs_have_one_root}
-use Rattle.hh_model.proofs.Sizes.{limit_stays, sizes_are_bounded}
-use Rattle.run_trace.specs.declared.settings.Version.{Version}
-use Rattle.run_trace.specs.declared.settings.Version.TheVariants.{One, Two}
-use Rattle.run_trace.specs.Settings.{field_limit}
-use Rattle.run_ledger.specs.declared.data.Ledger.{Ledger}
-use Rattle.run_ledger.specs.Heaps.{heap_of, held_in}
-use Rattle.run_ledger.specs.Journals.{tasks_of}
-use Rattle.run_ledger.proofs.Bounds.{steps_are_bounded}
-use Rattle.journal_laws.proofs.Counted.{journals_are_counted}
-use Rattle.run_ledger.proofs.Machine.{machine_is_run}
-use Rattle.heap_tree.specs.declared.state.State.TheVariants.{Joined as IsJoined}
-use Rattle.heap_tree.specs.Node.{state_of}
-use Rattle.ledger_step_laws.specs.Accounts.{Rests}
-use Rattle.core_relation.specs.Whole.{handed}
-use Rattle.shared_value.specs.Stands.{IsSharedValue}
-use Rattle.shared_value.specs.SharedValue.{SharedValue, accounts}
-use Rattle.heap_reading.specs.declared.live.Live.{Live}
-use Rattle.heap_reading.specs.HeldNames.{is_state_running}
-use Rattle.heap_reading.specs.Image.{IsLive}
-use Rattle.heap_reading.proofs.IdleTasks.{journal_idle}
-use Rattle.heap_reading.proofs.KeptNames.{handed_held, runs_is}
-use Rattle.heap_reading.proofs.TreeNow.{joined_now, live_now, node_at, same_machine, sound, task_of, tree_of}
+use Rattle.heap_image.specs.below.listed.{In}
+use Rattle.tree_reading.specs.below.hh_model.{Name, Object, State, Task, Counted, object_at, row_of, is_running, joined, owner_of, parents, run, HasOneRoot, TreeOf, joins_in, waiting}
+use Rattle.tree_reading.specs.below.path_laws.{AreOwners, ArePaths}
+use Rattle.tree_reading.proofs.below.path_laws.{owners_are_walks, paths_are_walks}
+use Rattle.tree_reading.proofs.below.hh_model.{runs_have_one_root, limit_stays, sizes_are_bounded}
+use Rattle.heap_image.specs.below.run_trace.{Version, One, Two, field_limit}
+use Rattle.tree_reading.specs.below.run_ledger.{Ledger, heap_of, held_in, tasks_of}
+use Rattle.tree_reading.proofs.below.run_ledger.{steps_are_bounded, machine_is_run}
+use Rattle.tree_reading.proofs.below.journal_laws.{journals_are_counted}
+use Rattle.tree_reading.specs.below.heap_tree.{Joined as IsJoined, state_of}
+use Rattle.tree_reading.specs.below.ledger_step_laws.{Rests}
+use Rattle.tree_reading.specs.below.core_relation.{handed}
+use Rattle.tree_reading.specs.below.shared_value.{IsSharedValue, SharedValue, accounts}
+use Rattle.tree_reading.specs.below.heap_reading.{Live, is_state_running, IsLive}
+use Rattle.tree_reading.proofs.below.heap_reading.{journal_idle, handed_held, runs_is, joined_now, live_now, node_at, same_machine, sound, task_of, tree_of}
 
 few_by : (v : Version) → max (field_limit v) 32 ≤ 1000000
 few_by One = omega arith

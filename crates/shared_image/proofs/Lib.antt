@@ -8,3 +8,4 @@ pub mod Orders
 pub mod Chunks
 pub mod Rounds
 pub mod Keeping
+pub mod below

@@ -2,25 +2,16 @@
 use Rattle.std.proofs.Common.{◌≡◌, ◌⊎◌, ℕ, zero, suc, ◌*◌, ◌<◌, true, false, Option, Some, None, List, [], ◌∷◌, length, option_map, slice_get, inl, inr, refl, ap, sym, subst, ◌∙◌}
 use Rattle.std.proofs.lemmas.Bool.{false≢true}
 use Rattle.std.proofs.lemmas.Option.{same_Some}
-use Rattle.listed.specs.Members.{In}
-use Rattle.listed.proofs.Places.{got_some}
-use Rattle.hh_model.specs.declared.data.State.{State as MachineState}
-use Rattle.hh_model.specs.declared.data.Task.{Task}
-use Rattle.path_laws.specs.Paths.{IsWalkUp}
-use Rattle.hh_model.specs.Step.{is_on_path, joined, owner_of, parent_of, parents}
-use Rattle.object_layout.specs.declared.word.Addr.{Addr}
-use Rattle.object_layout.specs.Layout.{word_of_ref}
-use Rattle.chunk_pool.specs.declared.pool.Slot.{Slot}
-use Rattle.chunk_pool.specs.PoolValue.{slot_at}
-use Rattle.heap_tree.specs.declared.state.State.{State}
-use Rattle.heap_tree.specs.declared.state.State.TheVariants.{Ready, Out, Waiting, Ended, Joined}
-use Rattle.heap_tree.specs.Node.{Node, state_of}
-use Rattle.core_relation.specs.Memory.{Memory}
-use Rattle.shared_value.specs.Stands.{IsSharedValue}
-use Rattle.shared_value.specs.SharedValue.{SharedValue, accounts, value_of}
-use Rattle.heap_reading.specs.declared.live.InUse.{InUse}
-use Rattle.heap_reading.specs.HeldNames.{is_state_running}
-use Rattle.heap_reading.specs.Image.{IsInUse}
+use Rattle.heap_image.specs.below.listed.{In}
+use Rattle.heap_image.proofs.below.listed.{got_some}
+use Rattle.tree_reading.specs.below.hh_model.{State as MachineState, Task, is_on_path, joined, owner_of, parent_of, parents}
+use Rattle.tree_reading.specs.below.path_laws.{IsWalkUp}
+use Rattle.tree_reading.specs.below.object_layout.{Addr, word_of_ref}
+use Rattle.tree_reading.specs.below.chunk_pool.{Slot, slot_at}
+use Rattle.tree_reading.specs.below.heap_tree.{State, Ready, Out, Waiting, Ended, Joined, Node, state_of}
+use Rattle.tree_reading.specs.below.core_relation.{Memory}
+use Rattle.tree_reading.specs.below.shared_value.{IsSharedValue, SharedValue, accounts, value_of}
+use Rattle.tree_reading.specs.below.heap_reading.{InUse, is_state_running, IsInUse}
 use Rattle.image_check.specs.declared.line.State.TheVariants.{Running}
 use Rattle.image_check.specs.declared.line.Task.{Task as Drawn}
 use Rattle.image_check.specs.declared.line.Chunk.{Chunk}

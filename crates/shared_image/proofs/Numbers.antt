@@ -1,10 +1,9 @@
 -- Addresses as numbers, sizes of chunks, and numbers of 64 bits.
 use Rattle.std.proofs.Common.{◌≡◌, ℕ, zero, suc, ◌+◌, ◌-◌, ◌*◌, ◌/◌, ◌%◌, ◌^◌, ◌<◌, arith, Some, List, [], ◌∷◌, refl, subst}
 use Rattle.std.proofs.lemmas.Option.{same_Some}
-use Rattle.listed.proofs.Members.{got_in}
-use Rattle.object_layout.specs.declared.word.Addr.{Addr}
-use Rattle.object_layout.specs.Layout.{word_of_ref}
-use Rattle.heap_reading.specs.Image.{Rises}
+use Rattle.heap_image.proofs.below.listed.{got_in}
+use Rattle.tree_reading.specs.below.object_layout.{Addr, word_of_ref}
+use Rattle.tree_reading.specs.below.heap_reading.{Rises}
 use Rattle.image_check.specs.Place.{chunk_number, offset}
 use Rattle.heap_image.specs.Picture.{Rises as RisesAt}
 

@@ -1,9 +1,8 @@
 -- Lists in order, put together.
 use Rattle.std.proofs.Common.{◌≡◌, ◌⊎◌, ℕ, zero, suc, Some, List, [], ◌∷◌, ◌++◌, map, slice_get, take, inl, inr, refl, sym, subst}
-use Rattle.listed.specs.Members.{In}
-use Rattle.listed.proofs.Members.{in_append_cases, in_append_left, in_append_right, got_in}
-use Rattle.listed.proofs.Places.{in_map, map_in}
-use Rattle.heap_reading.specs.Image.{AreAll, Rises}
+use Rattle.heap_image.specs.below.listed.{In}
+use Rattle.heap_image.proofs.below.listed.{in_append_cases, in_append_left, in_append_right, got_in, in_map, map_in}
+use Rattle.tree_reading.specs.below.heap_reading.{AreAll, Rises}
 
 pub rises_append : {A : Type 0} (before : A → A → Type 0) (xs ys : List A) → Rises before xs → Rises before ys → ((x y : A) → In xs x → In ys y → before x y) → Rises before (xs ++ ys)
 rises_append before [] ys up vp both = vp

@@ -2,25 +2,17 @@
 use Rattle.std.proofs.Common.{◌≡◌, ℕ, ◌<◌, true, false, Option, Some, None, List, length, is_some, slice_get, refl, ap, subst, ◌∙◌}
 use Rattle.std.proofs.lemmas.Bool.{false≢true}
 use Rattle.std.proofs.lemmas.Option.{slice_get_within}
-use Rattle.listed.proofs.Places.{map_in}
-use Rattle.hh_model.specs.declared.data.Object.{Object}
-use Rattle.hh_model.specs.declared.data.Task.{Task}
-use Rattle.hh_model.specs.Effect.{object_at}
-use Rattle.hh_model.specs.Step.{joined}
-use Rattle.run_ledger.specs.Heaps.{heap_of}
-use Rattle.object_layout.specs.Objects.{Located}
-use Rattle.chunk_pool.specs.PoolValue.{slot_at}
-use Rattle.ledger_step_laws.specs.Accounts.{Rests, own}
-use Rattle.core_relation.specs.Reads.{IsRead}
-use Rattle.core_relation.specs.Stands.{BelongingsStand, Place, Stands}
-use Rattle.core_relation.specs.Memory.{Chunk as ChunkOf, In, Memory, object_name, objects, objects_in}
-use Rattle.core_relation.proofs.objects.Members.{in_chunk, object_held}
-use Rattle.task_homes.specs.declared.task_at_rest.Rest.{Rest}
-use Rattle.shared_value.specs.Measured.{IsFree}
-use Rattle.shared_value.specs.Objects.{chunk_of}
-use Rattle.shared_value.specs.Stands.{IsSharedValue}
-use Rattle.shared_value.specs.SharedValue.{SharedValue, belongings_in, rest_at, value_of}
-use Rattle.shared_value.proofs.FieldsLed.{belongings_chunks}
+use Rattle.heap_image.proofs.below.listed.{map_in}
+use Rattle.tree_reading.specs.below.hh_model.{Object, Task, object_at, joined}
+use Rattle.tree_reading.specs.below.run_ledger.{heap_of}
+use Rattle.tree_reading.specs.below.object_layout.{Located}
+use Rattle.tree_reading.specs.below.chunk_pool.{slot_at}
+use Rattle.tree_reading.specs.below.ledger_step_laws.{Rests, own}
+use Rattle.tree_reading.specs.below.core_relation.{IsRead, BelongingsStand, Place, Stands, Chunk as ChunkOf, In, Memory, object_name, objects, objects_in}
+use Rattle.tree_reading.proofs.below.core_relation.{in_chunk, object_held}
+use Rattle.tree_reading.specs.below.task_homes.{Rest}
+use Rattle.tree_reading.specs.below.shared_value.{IsFree, chunk_of, IsSharedValue, SharedValue, belongings_in, rest_at, value_of}
+use Rattle.tree_reading.proofs.below.shared_value.{belongings_chunks}
 use Rattle.shared_image.specs.Drawn.{IsHandedBack}
 use Rattle.shared_image.proofs.Known.{T, k, owned, owners, rests}
 

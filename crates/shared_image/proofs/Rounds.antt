@@ -1,18 +1,13 @@
 -- A picture grows chunk by chunk, and task by task.
 use Rattle.std.proofs.Common.{◌≡◌, ◌⊎◌, ℕ, ◌+◌, ◌*◌, ◌<◌, Option, Some, None, List, ◌++◌, map, option_map, slice_get, take, inl, inr, refl, sym, subst}
-use Rattle.listed.proofs.Places.{got_in_take, in_take_more, take_more_in}
-use Rattle.hh_model.specs.Step.{owner_of}
-use Rattle.chunk_pool.specs.declared.pool.Slot.{Slot}
-use Rattle.chunk_pool.specs.PoolValue.{slot_at}
-use Rattle.object_layout.specs.Objects.{Located}
-use Rattle.core_relation.specs.Memory.{In, objects}
-use Rattle.shared_value.specs.Stands.{IsSharedValue}
-use Rattle.shared_value.specs.SharedValue.{SharedValue, accounts, value_of}
-use Rattle.heap_reading.specs.declared.live.InUse.{InUse}
-use Rattle.heap_reading.specs.declared.live.Live.{Live}
-use Rattle.heap_reading.specs.declared.noted.Field.{Field}
-use Rattle.heap_reading.specs.Image.{AreAll, AreInWords, FieldBefore as NotedBefore, InUseBefore, IsInUse, IsLive, IsNoted, LiveBefore, in_words, objects_of}
-use Rattle.heap_reading.proofs.InOrder.{all_same}
+use Rattle.heap_image.proofs.below.listed.{got_in_take, in_take_more, take_more_in}
+use Rattle.tree_reading.specs.below.hh_model.{owner_of}
+use Rattle.tree_reading.specs.below.chunk_pool.{Slot, slot_at}
+use Rattle.tree_reading.specs.below.object_layout.{Located}
+use Rattle.tree_reading.specs.below.core_relation.{In, objects}
+use Rattle.tree_reading.specs.below.shared_value.{IsSharedValue, SharedValue, accounts, value_of}
+use Rattle.tree_reading.specs.below.heap_reading.{InUse, Live, Field, AreAll, AreInWords, FieldBefore as NotedBefore, InUseBefore, IsInUse, IsLive, IsNoted, LiveBefore, in_words, objects_of}
+use Rattle.tree_reading.proofs.below.heap_reading.{all_same}
 use Rattle.image_check.specs.declared.line.Remembered.{Remembered}
 use Rattle.heap_image.specs.declared.picture.Picked.{Picked}
 use Rattle.heap_image.specs.Picture.{ChunkBefore, FieldBefore, ObjectBefore, TaskBefore}

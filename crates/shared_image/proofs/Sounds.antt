@@ -4,27 +4,18 @@ use Rattle.std.specs.Prelude.{FitsSigned}
 use Rattle.std.specs.Int.{w64}
 use Rattle.std.proofs.lemmas.List.{length-map}
 use Rattle.std.proofs.lemmas.Option.{slice_get_within}
-use Rattle.listed.proofs.Places.{map_in, read_in}
-use Rattle.hh_lang.proofs.Tests.{fits_passes}
-use Rattle.hh_model.specs.declared.data.State.{State}
-use Rattle.hh_model.specs.declared.data.Task.{Task as TaskOf}
-use Rattle.hh_model.specs.Step.{joined, owner_of, parent_of as parents_in, parents}
-use Rattle.hh_model.proofs.Paths.{owner_le}
-use Rattle.run_ledger.specs.Heaps.{in_use}
-use Rattle.run_ledger.proofs.Space.{use_is_bounded}
-use Rattle.object_layout.specs.declared.word.Addr.{Addr}
-use Rattle.object_layout.specs.Cell.{IsRef}
-use Rattle.object_layout.specs.Layout.{word_of_ref}
-use Rattle.object_layout.specs.Objects.{Located}
-use Rattle.chunk_pool.specs.declared.pool.Slot.{Slot}
-use Rattle.chunk_pool.specs.PoolValue.{AreChunks, slot_at, slot_in, slot_units, units_in, units_in_use}
-use Rattle.core_relation.specs.Stands.{Place}
-use Rattle.core_relation.specs.Memory.{In, Memory, object_name, objects}
-use Rattle.shared_value.specs.Stands.{IsSharedValue}
-use Rattle.shared_value.specs.SharedValue.{SharedValue, accounts, value_of}
-use Rattle.shared_value.proofs.BeforeTheEnd.{used_now}
-use Rattle.shared_value.proofs.FreeChunks.{refs_long}
-use Rattle.heap_reading.specs.Image.{in_words}
+use Rattle.heap_image.proofs.below.listed.{map_in, read_in}
+use Rattle.heap_image.proofs.below.hh_lang.{fits_passes}
+use Rattle.tree_reading.specs.below.hh_model.{State, Task as TaskOf, joined, owner_of, parent_of as parents_in, parents}
+use Rattle.tree_reading.proofs.below.hh_model.{owner_le}
+use Rattle.tree_reading.specs.below.run_ledger.{in_use}
+use Rattle.tree_reading.proofs.below.run_ledger.{use_is_bounded}
+use Rattle.tree_reading.specs.below.object_layout.{Addr, IsRef, word_of_ref, Located}
+use Rattle.tree_reading.specs.below.chunk_pool.{Slot, AreChunks, slot_at, slot_in, slot_units, units_in, units_in_use}
+use Rattle.tree_reading.specs.below.core_relation.{Place, In, Memory, object_name, objects}
+use Rattle.tree_reading.specs.below.shared_value.{IsSharedValue, SharedValue, accounts, value_of}
+use Rattle.tree_reading.proofs.below.shared_value.{used_now, refs_long}
+use Rattle.tree_reading.specs.below.heap_reading.{in_words}
 use Rattle.image_check.specs.declared.line.Birth.{Birth}
 use Rattle.image_check.specs.declared.line.Task.{Task}
 use Rattle.image_check.specs.declared.line.Chunk.{Chunk}

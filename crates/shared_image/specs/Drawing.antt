@@ -1,12 +1,9 @@
 -- A picture as it is drawn: chunk by chunk, and task by task.
 use Rattle.std.specs.Prelude.{◌≡◌, List}
-use Rattle.object_layout.specs.Objects.{Located}
-use Rattle.core_relation.specs.Memory.{In}
-use Rattle.shared_value.specs.SharedValue.{SharedValue}
-use Rattle.heap_reading.specs.declared.live.InUse.{InUse}
-use Rattle.heap_reading.specs.declared.live.Live.{Live}
-use Rattle.heap_reading.specs.declared.noted.Field.{Field}
-use Rattle.heap_reading.specs.Image.{IsNoted, in_words, objects_of}
+use Rattle.tree_reading.specs.below.object_layout.{Located}
+use Rattle.tree_reading.specs.below.core_relation.{In}
+use Rattle.tree_reading.specs.below.shared_value.{SharedValue}
+use Rattle.tree_reading.specs.below.heap_reading.{InUse, Live, Field, IsNoted, in_words, objects_of}
 use Rattle.image_check.specs.declared.line.Remembered.{Remembered}
 use Rattle.heap_image.specs.declared.picture.Picked.{Picked}
 use Rattle.shared_image.specs.Drawn.{drawn_field, drawn_object}

@@ -1,17 +1,10 @@
 -- What a picture draws of the shared value.
 use Rattle.std.specs.Prelude.{◌≡◌, ℕ, false}
-use Rattle.heap_tree.specs.declared.state.State.{State}
-use Rattle.heap_tree.specs.declared.state.State.TheVariants.{Ready, Out, Waiting, Ended, Joined}
-use Rattle.heap_tree.specs.Node.{state_of}
-use Rattle.object_layout.specs.Objects.{Located}
-use Rattle.core_relation.specs.Memory.{In, objects}
-use Rattle.shared_value.specs.SharedValue.{SharedValue, value_of}
-use Rattle.heap_reading.specs.declared.live.InUse.{InUse}
-use Rattle.heap_reading.specs.declared.live.Live.{Live}
-use Rattle.heap_reading.specs.declared.noted.Field.{Field}
-use Rattle.heap_reading.specs.declared.seen.Seen.{Seen}
-use Rattle.heap_reading.specs.HeldNames.{is_state_running}
-use Rattle.heap_reading.specs.Image.{AreAll, IsInUse, IsInWords, IsLive, IsNoted, in_words}
+use Rattle.tree_reading.specs.below.heap_tree.{State, Ready, Out, Waiting, Ended, Joined, state_of}
+use Rattle.tree_reading.specs.below.object_layout.{Located}
+use Rattle.tree_reading.specs.below.core_relation.{In, objects}
+use Rattle.tree_reading.specs.below.shared_value.{SharedValue, value_of}
+use Rattle.tree_reading.specs.below.heap_reading.{InUse, Live, Field, Seen, is_state_running, AreAll, IsInUse, IsInWords, IsLive, IsNoted, in_words}
 use Rattle.image_check.specs.declared.line.State.{State as Drawn}
 use Rattle.image_check.specs.declared.line.State.TheVariants.{Running as IsRunning, Waiting as IsWaiting, Ended as HasEnded}
 use Rattle.image_check.specs.declared.line.Task.{Task}

@@ -1,12 +1,8 @@
 -- The objects of a picture are those that the heaps handed back hold, as they stand in the machine's store.
 use Rattle.std.specs.Prelude.{◌≡◌, ◌⊎◌, ℕ, true, false, Option, Some, None, List, [], ◌∷◌, slice_get}
-use Rattle.listed.specs.Members.{In}
-use Rattle.hh_model.specs.declared.data.Name.{Name}
-use Rattle.hh_model.specs.declared.data.Object.{Object}
-use Rattle.hh_model.specs.Effect.{object_at}
-use Rattle.hh_model.specs.Step.{is_running, owner_of}
-use Rattle.run_ledger.specs.declared.data.Ledger.{Ledger}
-use Rattle.run_ledger.specs.Heaps.{heap_of, held_in}
+use Rattle.heap_image.specs.below.listed.{In}
+use Rattle.tree_reading.specs.below.hh_model.{Name, Object, object_at, is_running, owner_of}
+use Rattle.tree_reading.specs.below.run_ledger.{Ledger, heap_of, held_in}
 use Rattle.heap_image.specs.declared.picture.Picked.{Picked}
 use Rattle.heap_image.specs.declared.picture.Picture.{Picture}
 use Rattle.heap_image.specs.Picture.{IsOwned}

@@ -1,3 +1,4 @@
 pub mod Drawn
 pub mod Drawing
 pub mod Held
+pub mod below

@@ -1,21 +1,18 @@
 // A picture is drawn of the shared value.
 
 ghost use Rattle.std.specs.Prelude.{◌≡◌, ◌++◌, IfOk, OnOk, map};
-ghost use Rattle.chunk_pool.specs.PoolValue.{AreChunks};
-ghost use Rattle.heap_reading.specs.Image.{AreAll, InUseBefore, IsInUse, IsLive, LiveBefore};
+ghost use Rattle.tree_reading.specs.below.chunk_pool.{AreChunks};
+ghost use Rattle.tree_reading.specs.below.heap_reading.{AreAll, InUseBefore, IsInUse, IsLive, LiveBefore};
 ghost use Rattle.heap_image.specs.Picture.{FieldBefore, IsSoundPicture, ObjectBefore};
-ghost use Rattle.shared_value.specs.SharedValue.{accounts};
+ghost use Rattle.tree_reading.specs.below.shared_value.{accounts};
 ghost use Rattle.shared_image.specs.Drawn.{AreHeldInWords, IsPictureOf, drawn_chunk, drawn_field, drawn_object, drawn_state, drawn_task};
 ghost use Rattle.shared_image.specs.Drawing.{AreFieldsOf, AreObjectsOf};
 ghost use Rattle.shared_image.specs.Held.{HasJustHeld};
 
-use heap_image::{Picked, Picture};
-use heap_reading::{Field, InUse, Live, Seen};
-use heap_tree::State;
+use heap_image::{Listed, Picked, Picture};
 use image_check::{Birth, Chunk, Remembered, State as DrawnState, Task};
-use listed::Listed;
-use shared_tree::Shared;
 use std::alloc::{AllocError, Global};
+use tree_reading::{Field, InUse, Live, Seen, Shared, State};
 
 fn draw_state(state: State) -> DrawnState
     ensures { result ≡ drawn_state state }

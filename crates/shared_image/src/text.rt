@@ -4,14 +4,14 @@ ghost use Rattle.std.specs.Prelude.{◌≡◌, IfOk};
 ghost use Rattle.heap_image.specs.Text.{text_of};
 ghost use Rattle.heap_image.specs.Picture.{IsSoundPicture};
 ghost use Rattle.heap_image.specs.declared.picture.Picture.{Picture as PictureOf};
-ghost use Rattle.shared_value.specs.SharedValue.{accounts};
+ghost use Rattle.tree_reading.specs.below.shared_value.{accounts};
 ghost use Rattle.shared_image.specs.Drawn.{IsPictureOf};
 ghost use Rattle.shared_image.specs.Held.{HasJustHeld};
 
 use crate::picture::draw;
 use heap_image::picture_text;
-use shared_tree::Shared;
 use std::alloc::{AllocError, Global};
+use tree_reading::Shared;
 
 /// The text of a shared value's picture, which is sound, and has just the objects that the heaps handed back hold.
 pub fn image_text(alloc: Global, shared: &Shared) -> Result<Vec<u8>, AllocError>

@@ -1,9 +1,7 @@
 -- What a call says of its failure, where it is another one's that it hands on.
 use Rattle.std.proofs.Common.{◌≡◌, Result, Ok, Err, sym, subst}
 use Rattle.std.specs.Prelude.{IsErrAnd}
-use Rattle.shared_value.specs.declared.answer.NotEntered.{NotEntered}
-use Rattle.shared_value.specs.declared.answer.NotEntered.TheVariants.{NoMemory}
-use Rattle.shared_value.specs.SharedValue.{SharedValue}
+use Rattle.leaf_collections.specs.below.shared_value.{NotEntered, NoMemory, SharedValue}
 
 -- all that is so of the call that failed is so of the other, of a value before that is the same
 pub handed_on : {A E : Type 0} → (P : SharedValue → Result A E → Type 0) (w z : SharedValue) → w ≡ z → (r : Result A E) (e : E) → IsErrAnd r (λ y. y ≡ e) → P w (Err e) → P z r

@@ -1,11 +1,10 @@
 -- The value once the heaps, the steps and the journal have changed.
 use Rattle.std.proofs.Common.{◌≡◌, ℕ, Option, List, ap₂, sym, ◌∙◌}
-use Rattle.listed.specs.RoomyValue.{RoomyValue}
-use Rattle.run_trace.specs.Entry.{EntryValue}
-use Rattle.write_barrier.specs.declared.sets.SetOf.{SetOf}
-use Rattle.task_homes.specs.declared.heaps.Heaps.{Heaps}
-use Rattle.task_homes.specs.declared.task_at_rest.Rest.{Rest}
-use Rattle.shared_value.specs.SharedValue.{SharedValue}
+use Rattle.leaf_collections.specs.below.listed.{RoomyValue}
+use Rattle.leaf_collections.specs.below.run_trace.{EntryValue}
+use Rattle.leaf_collections.specs.below.write_barrier.{SetOf}
+use Rattle.leaf_collections.specs.below.task_homes.{Heaps, Rest}
+use Rattle.leaf_collections.specs.below.shared_value.{SharedValue}
 
 abbrev pub with_heaps : SharedValue → Heaps → ℕ → RoomyValue EntryValue → SharedValue
 with_heaps w h n j = record w { pool = h.pool; rests = h.homes.rests; sets = h.homes.sets; marks = h.homes.marks; steps = n; journal = j }

@@ -2,36 +2,17 @@
 use Rattle.std.specs.Result.{IfErr, OnErr}
 use Rattle.std.proofs.Common.{◌≡◌, ℕ, Result, Ok, Err, ◌||◌, not, true, Option, Some, None, List, length, slice_get, slice_set, option_map, is_some, refl, ap, sym, subst, ◌∙◌}
 use Rattle.std.specs.Option.{option_flatten}
-use Rattle.listed.proofs.Options.{or_false}
-use Rattle.listed.proofs.Places.{got_set}
-use Rattle.hh_lang.specs.declared.instr.Instr.{Instr}
-use Rattle.hh_lang.specs.declared.instr.Instr.TheVariants.{Par, Ret}
-use Rattle.hh_lang.specs.declared.program.Line.{Line}
-use Rattle.hh_model.specs.declared.data.State.{State}
-use Rattle.hh_model.specs.declared.data.Task.{Task}
-use Rattle.hh_model.specs.Step.{fetched}
-use Rattle.run_ledger.specs.declared.data.Ledger.{Ledger}
-use Rattle.run_ledger.specs.Steps.{owns, task_steps, touched}
-use Rattle.run_ledger.specs.declared.data.Refused.{Refused}
-use Rattle.write_barrier.specs.declared.sets.SetOf.{SetOf}
-use Rattle.write_barrier.specs.Stored.{content_of}
-use Rattle.task_machine.specs.declared.part.Private.{Private}
-use Rattle.task_machine.specs.Fits.{FitsNow as FitsMachine}
-use Rattle.task_machine.specs.Place.{Places}
-use Rattle.task_machine.proofs.Agreement.{same_line}
-use Rattle.shared_value.specs.SharedValue.{SharedValue, accounts, rest_at, value_of}
-use Rattle.shared_value.specs.Stands.{IsSharedValue}
-use Rattle.shared_value.specs.Fits.{AllFit, Fits}
-use Rattle.shared_value.specs.Entered.{Answers, IsCaused, refused}
-use Rattle.shared_value.specs.declared.answer.NotEntered.{NotEntered}
-use Rattle.shared_value.specs.declared.answer.NotEntered.TheVariants.{NoMemory, Refuses}
-use Rattle.shared_value.specs.Links.{above_of}
-use Rattle.shared_value.specs.Next.{is_beyond, is_beyond_by, is_beyond_line, is_joint, next_line}
-use Rattle.shared_value.proofs.SameLength.{same_length}
-use Rattle.shared_value.proofs.TaskTaken.{worker_there}
-use Rattle.own_steps.specs.Alone.{IsShared, alone_entry, machine_after}
-use Rattle.own_steps.proofs.AloneEntries.{runs_on}
-use Rattle.own_steps.proofs.LastSteps.{fits_machine, machine_same}
+use Rattle.leaf_collections.proofs.below.listed.{or_false, got_set}
+use Rattle.leaf_collections.specs.below.hh_lang.{Instr, Par, Ret, Line}
+use Rattle.leaf_collections.specs.below.hh_model.{State, Task, fetched}
+use Rattle.leaf_collections.specs.below.run_ledger.{Ledger, owns, task_steps, touched, Refused}
+use Rattle.leaf_collections.specs.below.write_barrier.{SetOf, content_of}
+use Rattle.leaf_collections.specs.below.task_machine.{Private, FitsNow as FitsMachine, Places}
+use Rattle.leaf_collections.proofs.below.task_machine.{same_line}
+use Rattle.leaf_collections.specs.below.shared_value.{SharedValue, accounts, rest_at, value_of, IsSharedValue, AllFit, Fits, Answers, IsCaused, refused, NotEntered, NoMemory, Refuses, above_of, is_beyond, is_beyond_by, is_beyond_line, is_joint, next_line}
+use Rattle.leaf_collections.proofs.below.shared_value.{same_length, worker_there}
+use Rattle.child_tasks.specs.below.own_steps.{IsShared, alone_entry, machine_after}
+use Rattle.child_tasks.proofs.below.own_steps.{runs_on, fits_machine, machine_same}
 use Rattle.child_tasks.specs.ChildEnds.{IsAtEnd, is_last, is_last_by, is_last_line}
 use Rattle.child_tasks.specs.Forks.{ForkAnswered, IsAtFork, is_fork, is_fork_by, is_par}
 use Rattle.child_tasks.specs.NoTask.{HoldsNone, GivesTaskUp}

@@ -1,10 +1,10 @@
 -- What follows from the entry of a part's fresh steps and its next one, as the one function that makes it leaves it.
 use Rattle.std.proofs.Common.{◌≡◌, ℕ, ◌+◌, ◌-◌, ◌++◌, [], ◌∷◌, sym, subst}
-use Rattle.listed.specs.RoomyValue.{RoomyValue}
-use Rattle.run_trace.specs.Entry.{EntryValue}
-use Rattle.task_machine.specs.declared.part.Private.{Private}
-use Rattle.shared_value.specs.SharedValue.{SharedValue}
-use Rattle.own_steps.specs.Alone.{alone_entry}
+use Rattle.leaf_collections.specs.below.listed.{RoomyValue}
+use Rattle.leaf_collections.specs.below.run_trace.{EntryValue}
+use Rattle.leaf_collections.specs.below.task_machine.{Private}
+use Rattle.leaf_collections.specs.below.shared_value.{SharedValue}
+use Rattle.child_tasks.specs.below.own_steps.{alone_entry}
 
 -- the journal with that entry
 abbrev pub entered : SharedValue → ℕ → Private → RoomyValue EntryValue

@@ -3,21 +3,14 @@
 -- changes nothing then.
 use Rattle.std.specs.Prelude.{◌≡◌, ℕ, Some, None, Result, Vec, IfErr, IfOk, OnErr, OnOk, min}
 use Rattle.std.specs.declared.alloc.Global.{Global}
-use Rattle.run_trace.specs.declared.entry.Kind.TheVariants.{Took, Ran, Chunk, Begin, PutOff, Mark, More, Sweep, Fuel}
-use Rattle.run_ledger.specs.declared.data.Refused.{Refused}
-use Rattle.run_ledger.specs.Heaps.{heap_of, left_in}
-use Rattle.object_layout.specs.declared.word.Addr.{Addr}
-use Rattle.leaf_copy_gc.specs.declared.lists.Moved.{Moved}
-use Rattle.leaf_copy_gc.specs.declared.lists.ToChunks.{ToChunks}
-use Rattle.task_machine.specs.declared.part.Private.{Private}
-use Rattle.shared_value.specs.declared.answer.NotEntered.{NotEntered}
-use Rattle.shared_value.specs.declared.answer.NotRan.{NotRan}
-use Rattle.task_homes.specs.declared.task_at_rest.Rest.{Rest}
-use Rattle.shared_value.specs.SharedValue.{SharedValue, accounts, rest_at}
-use Rattle.shared_value.specs.Fits.{AllFit, Fits, OthersFit}
-use Rattle.shared_value.specs.Entered.{Answers, Enters, IsSamePart, RanAnswers, cause_of, refused}
-use Rattle.shared_value.specs.LeafBegin.{HasBegun}
-use Rattle.own_steps.specs.Alone.{alone_entry}
+use Rattle.leaf_collections.specs.below.run_trace.{Took, Ran, Chunk, Begin, PutOff, Mark, More, Sweep, Fuel}
+use Rattle.leaf_collections.specs.below.run_ledger.{Refused, heap_of, left_in}
+use Rattle.leaf_collections.specs.below.object_layout.{Addr}
+use Rattle.leaf_collections.specs.below.leaf_copy_gc.{Moved, ToChunks}
+use Rattle.leaf_collections.specs.below.task_machine.{Private}
+use Rattle.leaf_collections.specs.below.shared_value.{NotEntered, NotRan, SharedValue, accounts, rest_at, AllFit, Fits, OthersFit, Answers, Enters, IsSamePart, RanAnswers, cause_of, refused, HasBegun}
+use Rattle.leaf_collections.specs.below.task_homes.{Rest}
+use Rattle.child_tasks.specs.below.own_steps.{alone_entry}
 use Rattle.child_tasks.specs.Joins.{IsUnchanged}
 use Rattle.leaf_collections.specs.LeafEnd.{end_entry, ended}
 use Rattle.shared_tree.specs.declared.leaf_end.NotEnded.{NotEnded}

@@ -1,6 +1,6 @@
 -- The end of a leaf collection that is refused.
 use Rattle.std.specs.Prelude.{Option, Some, None, Result, Ok, Err}
-use Rattle.run_ledger.specs.declared.data.Refused.{Refused}
+use Rattle.leaf_collections.specs.below.run_ledger.{Refused}
 use Rattle.shared_tree.specs.declared.leaf_end.NotEnded.{NotEnded}
 
 -- why the end was refused

@@ -1,12 +1,8 @@
 -- The one entry of a part's fresh steps and its next one, which isn't private, whatever that is.
 use Rattle.std.specs.Prelude.{◌≡◌, ℕ, true, Option, Some, None}
-use Rattle.task_machine.specs.declared.part.Private.{Private}
-use Rattle.shared_value.specs.declared.next_step.Ending.TheVariants.{Returns}
-use Rattle.shared_value.specs.SharedValue.{SharedValue}
-use Rattle.shared_value.specs.Fits.{Fits}
-use Rattle.shared_value.specs.Entered.{refused}
-use Rattle.shared_value.specs.Next.{is_beyond}
-use Rattle.own_steps.specs.Alone.{FinishesAlone, GoesAlone, HaltsAlone, IsBeyond, Tells, alone_entry, machine_after}
+use Rattle.leaf_collections.specs.below.task_machine.{Private}
+use Rattle.leaf_collections.specs.below.shared_value.{Returns, SharedValue, Fits, refused, is_beyond}
+use Rattle.child_tasks.specs.below.own_steps.{FinishesAlone, GoesAlone, HaltsAlone, IsBeyond, Tells, alone_entry, machine_after}
 use Rattle.child_tasks.specs.ChildEnds.{EndsChild, IsAtEnd}
 use Rattle.child_tasks.specs.Forks.{ForksOn, IsAtFork}
 use Rattle.child_tasks.specs.NoTask.{HoldsNone}

@@ -1,18 +1,15 @@
 // A part gets a chunk.
 
 ghost use Rattle.std.specs.Prelude.{◌≡◌, ◌<◌, OnErr, OnOk, None};
-ghost use Rattle.shared_value.specs.Entered.{refused, Enters, IsSamePart};
-ghost use Rattle.shared_value.specs.Fits.{Fits, OthersFit};
+ghost use Rattle.leaf_collections.specs.below.shared_value.{refused, Enters, IsSamePart, Fits, OthersFit};
 ghost use Rattle.shared_tree.specs.Calls.{GetsChunk};
 
 use crate::shared::Shared;
-use chunk_pool::NotTaken;
-use leaf_collections::{cause_by, units_for};
-use run_ledger::{Refused, RunEnd};
-use run_trace::{Entry, Kind};
-use shared_value::{NotEntered, first_cause, words_asked};
+use leaf_collections::{
+    Entry, Kind, NotEntered, NotTaken, Private, Refused, RunEnd, cause_by, first_cause, units_for,
+    words_asked,
+};
 use std::alloc::AllocError;
-use task_machine::Private;
 
 impl Shared {
     // Why the entry is refused.

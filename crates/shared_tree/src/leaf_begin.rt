@@ -1,20 +1,15 @@
 // A leaf collection of a part begins.
 
 ghost use Rattle.std.specs.Prelude.{◌≡◌, ◌<◌, IfOk, OnErr, OnOk, None};
-ghost use Rattle.shared_value.specs.Entered.{refused, Enters, IsSamePart};
-ghost use Rattle.shared_value.specs.Fits.{Fits, OthersFit};
-ghost use Rattle.shared_value.specs.LeafBegin.{HasBegun};
+ghost use Rattle.leaf_collections.specs.below.shared_value.{refused, Enters, IsSamePart, Fits, OthersFit, HasBegun};
 ghost use Rattle.shared_tree.specs.Calls.{BeginsLeaf};
 
 use crate::shared::Shared;
-use leaf_collections::{begin_with, chunks_for, due_cause};
-use leaf_copy_gc::ToChunks;
-use object_layout::Addr;
-use run_ledger::Refused;
-use run_trace::{Entry, Kind};
-use shared_value::{NotEntered, first_cause, words_asked};
+use leaf_collections::{
+    Addr, Entry, Kind, NotEntered, Private, Refused, ToChunks, begin_with, chunks_for, due_cause,
+    first_cause, words_asked,
+};
 use std::alloc::AllocError;
-use task_machine::Private;
 
 impl Shared {
     // Why the entry is refused.

@@ -1,18 +1,12 @@
 // The leaf collection of a part ends.
 
 ghost use Rattle.std.specs.Prelude.{◌≡◌, ◌<◌, None};
-ghost use Rattle.shared_value.specs.Entered.{refused, Enters};
-ghost use Rattle.shared_value.specs.Fits.{Fits, OthersFit};
+ghost use Rattle.leaf_collections.specs.below.shared_value.{refused, Enters, Fits, OthersFit};
 ghost use Rattle.leaf_collections.specs.LeafEnd.{end_entry, ended, FitsCopied};
 ghost use Rattle.shared_tree.specs.Calls.{EndsLeaf};
 
 use crate::shared::Shared;
-use leaf_collections::{give_all, lead};
-use leaf_copy_gc::Moved;
-use run_ledger::Refused;
-use run_trace::{Entry, Kind};
-use shared_value::first_cause;
-use task_machine::Private;
+use leaf_collections::{Entry, Kind, Moved, Private, Refused, first_cause, give_all, lead};
 
 /// Why a leaf collection didn't end, and what copying came to.
 #[derive(Drop)]

@@ -1,12 +1,10 @@
 // What the shared value is made of, to be read.
 
 ghost use Rattle.std.specs.Prelude.{◌≡◌, length};
-ghost use Rattle.shared_value.specs.SharedValue.{accounts};
+ghost use Rattle.leaf_collections.specs.below.shared_value.{accounts};
 
 use crate::shared::Shared;
-use chunk_pool::Pool;
-use heap_tree::Tree;
-use task_homes::Heaps;
+use leaf_collections::{Heaps, Pool, Tree};
 
 impl Shared {
     /// How many tasks were made.

@@ -1,20 +1,16 @@
 // The marking of a heap begins.
 
 ghost use Rattle.std.specs.Prelude.{◌≡◌, ◌<◌, ℕ, IfOk, OnErr, OnOk, None};
-ghost use Rattle.run_ledger.specs.Heaps.{heap_of};
-ghost use Rattle.core_relation.specs.Marking.{GoesOn};
-ghost use Rattle.shared_value.specs.Entered.{refused, Enters};
-ghost use Rattle.shared_value.specs.Fits.{AllFit};
-ghost use Rattle.shared_value.specs.SharedValue.{accounts, value_of};
+ghost use Rattle.leaf_collections.specs.below.run_ledger.{heap_of};
+ghost use Rattle.leaf_collections.specs.below.core_relation.{GoesOn};
+ghost use Rattle.leaf_collections.specs.below.shared_value.{refused, Enters, AllFit, accounts, value_of};
 ghost use Rattle.shared_tree.specs.Calls.{BeginsMarking};
 
 use crate::shared::Shared;
 use heap_marking::{begin_marking, waiting_cause, words_cause};
-use inner_mark_gc::{Marking, MarkingRoom};
-use out_of_line::Apart;
-use run_ledger::Refused;
-use run_trace::{Entry, Kind};
-use shared_value::{NotEntered, first_cause};
+use leaf_collections::{
+    Apart, Entry, Kind, Marking, MarkingRoom, NotEntered, Refused, first_cause,
+};
 use std::alloc::AllocError;
 use std::mem;
 

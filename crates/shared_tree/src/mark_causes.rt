@@ -1,9 +1,9 @@
 // What there is of the heap of a waiting task, and what is left of it to mark.
 
 ghost use Rattle.std.specs.Prelude.{◌≡◌, ◌==◌, None};
-ghost use Rattle.run_ledger.specs.Heaps.{heap_of, left_in, words_in};
-ghost use Rattle.alloc_path.specs.LeafHeapValue.{counted};
-ghost use Rattle.shared_value.specs.SharedValue.{accounts};
+ghost use Rattle.leaf_collections.specs.below.run_ledger.{heap_of, left_in, words_in};
+ghost use Rattle.leaf_collections.specs.below.alloc_path.{counted};
+ghost use Rattle.leaf_collections.specs.below.shared_value.{accounts};
 ghost use Rattle.heap_marking.specs.MarkCauses.{marking_cause, waiting_cause};
 
 use crate::shared::Shared;

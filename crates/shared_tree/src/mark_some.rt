@@ -1,18 +1,14 @@
 // Objects of a heap are marked.
 
 ghost use Rattle.std.specs.Prelude.{◌≡◌, ◌<◌, ◌≤◌, ℕ, None, min};
-ghost use Rattle.run_trace.specs.Entry.{mark_limit};
-ghost use Rattle.run_ledger.specs.Heaps.{heap_of, left_in};
-ghost use Rattle.shared_value.specs.Entered.{refused, Enters};
-ghost use Rattle.shared_value.specs.Fits.{AllFit};
-ghost use Rattle.shared_value.specs.SharedValue.{accounts};
+ghost use Rattle.leaf_collections.specs.below.run_trace.{mark_limit};
+ghost use Rattle.leaf_collections.specs.below.run_ledger.{heap_of, left_in};
+ghost use Rattle.leaf_collections.specs.below.shared_value.{refused, Enters, AllFit, accounts};
 ghost use Rattle.shared_tree.specs.Calls.{MarksMore};
 
 use crate::shared::Shared;
 use heap_marking::marking_cause;
-use run_ledger::Refused;
-use run_trace::{Entry, Kind};
-use shared_value::first_cause;
+use leaf_collections::{Entry, Kind, Refused, first_cause};
 
 impl Shared {
     // Why the entry is refused.

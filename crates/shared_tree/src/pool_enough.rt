@@ -1,13 +1,11 @@
 // Whether the free chunks are enough for a leaf collection of a part.
 
 ghost use Rattle.std.specs.Prelude.{◌≡◌};
-ghost use Rattle.run_ledger.specs.Entries.{is_pool_enough};
-ghost use Rattle.shared_value.specs.Due.{IsOutPart};
-ghost use Rattle.shared_value.specs.SharedValue.{accounts};
+ghost use Rattle.leaf_collections.specs.below.run_ledger.{is_pool_enough};
+ghost use Rattle.leaf_collections.specs.below.shared_value.{IsOutPart, accounts};
 
 use crate::shared::Shared;
-use leaf_collections::chunks_for;
-use task_machine::Private;
+use leaf_collections::{Private, chunks_for};
 
 impl Shared {
     /// Whether the free chunks are enough for a leaf collection of a part.

@@ -1,16 +1,11 @@
 // A leaf collection is put off.
 
 ghost use Rattle.std.specs.Prelude.{◌≡◌, ◌<◌, None};
-ghost use Rattle.shared_value.specs.Entered.{refused, Enters};
-ghost use Rattle.shared_value.specs.Fits.{Fits, OthersFit};
+ghost use Rattle.leaf_collections.specs.below.shared_value.{refused, Enters, Fits, OthersFit};
 ghost use Rattle.shared_tree.specs.Calls.{PutsOff};
 
 use crate::shared::Shared;
-use leaf_collections::due_cause;
-use run_ledger::Refused;
-use run_trace::{Entry, Kind};
-use shared_value::{first_cause, words_asked};
-use task_machine::Private;
+use leaf_collections::{Entry, Kind, Private, Refused, due_cause, first_cause, words_asked};
 
 impl Shared {
     // Why the entry is refused.

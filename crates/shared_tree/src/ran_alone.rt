@@ -1,10 +1,9 @@
 // A part's steps are entered with one that isn't private, and in which no other task has part.
 
 ghost use Rattle.std.specs.Prelude.{◌≡◌, ◌≢◌, ◌<◌, ℕ, OnErr, OnOk, IfOk, None};
-ghost use Rattle.hh_model.specs.Step.{ended_by, step};
-ghost use Rattle.shared_value.specs.Entered.{refused, Answers};
-ghost use Rattle.shared_value.specs.Fits.{Fits};
-ghost use Rattle.own_steps.specs.Alone.{alone_entry, then_accounts, GoesAlone, HaltsAlone, IsShared, Tells};
+ghost use Rattle.leaf_collections.specs.below.hh_model.{ended_by, step};
+ghost use Rattle.leaf_collections.specs.below.shared_value.{refused, Answers, Fits};
+ghost use Rattle.child_tasks.specs.below.own_steps.{alone_entry, then_accounts, GoesAlone, HaltsAlone, IsShared, Tells};
 ghost use Rattle.shared_tree.specs.Calls.{EntersLeaving};
 ghost use Rattle.shared_tree.specs.Ran.{AloneTo, MayBeEntered};
 
@@ -12,13 +11,11 @@ use crate::ran::Ran;
 use crate::ran_lent::{Leaving, Lent};
 use crate::shared::Shared;
 use crate::steps_entered::enter_alone;
-use heap_tree::State;
-use hh_model::End;
-use own_steps::at_end;
-use run_ledger::{Refused, RunEnd};
-use shared_value::{Ending, NotEntered, NotRan, first_cause, last_step};
+use child_tasks::at_end;
+use leaf_collections::{
+    End, Ending, NotEntered, NotRan, Private, Refused, RunEnd, State, first_cause, last_step,
+};
 use std::alloc::AllocError;
-use task_machine::Private;
 
 impl Shared {
     // Why the entry is refused.

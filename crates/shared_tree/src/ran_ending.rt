@@ -1,25 +1,18 @@
 // A part's steps are entered with the last return of a task that another one forked.
 
 ghost use Rattle.std.specs.Prelude.{◌≡◌, ◌<◌, OnErr, OnOk, IfErr, IfOk, None, Some, slice_set};
-ghost use Rattle.heap_tree.specs.Node.{parent_of, state_of};
-ghost use Rattle.heap_tree.specs.Pairs.{sibling};
-ghost use Rattle.shared_value.specs.Entered.{refused, RanAnswers};
-ghost use Rattle.shared_value.specs.Fits.{AllFit, Fits};
-ghost use Rattle.own_steps.specs.Alone.{alone_entry};
+ghost use Rattle.leaf_collections.specs.below.heap_tree.{parent_of, state_of, sibling};
+ghost use Rattle.leaf_collections.specs.below.shared_value.{refused, RanAnswers, AllFit, Fits};
+ghost use Rattle.child_tasks.specs.below.own_steps.{alone_entry};
 ghost use Rattle.child_tasks.specs.ChildEnds.{EndsChild, IsAtEnd};
 ghost use Rattle.child_tasks.specs.Joins.{HasPlaces, IsUnchanged, SameButPlaces};
 ghost use Rattle.shared_tree.specs.Ran.{MayBeEntered};
 
 use crate::shared::Shared;
 use crate::steps_entered::enter_alone;
-use child_tasks::{in_order, is_ended, join_children, make_places, other_child, own_child};
-use fork_join::sibling_of;
-use heap_tree::State;
-use own_steps::at_end;
-use shared_value::{NotEntered, NotRan};
+use child_tasks::{at_end, in_order, is_ended, join_children, make_places, other_child, own_child};
+use leaf_collections::{NotEntered, NotRan, Private, SetOf, State, sibling_of};
 use std::alloc::AllocError;
-use task_machine::Private;
-use write_barrier::SetOf;
 
 impl Shared {
     // Enters the end of a child whose sibling goes on, where there is memory for what goes with it then.

@@ -1,11 +1,10 @@
 // A part's steps are entered with a fork.
 
 ghost use Rattle.std.specs.Prelude.{◌≡◌, ◌<◌, ℕ, OnErr, IfErr, IfOk, None};
-ghost use Rattle.hh_model.specs.Step.{depth_limit};
-ghost use Rattle.heap_tree.specs.Node.{depth_of};
-ghost use Rattle.shared_value.specs.Entered.{refused, RanAnswers};
-ghost use Rattle.shared_value.specs.Fits.{Fits};
-ghost use Rattle.own_steps.specs.Alone.{alone_entry};
+ghost use Rattle.leaf_collections.specs.below.hh_model.{depth_limit};
+ghost use Rattle.leaf_collections.specs.below.heap_tree.{depth_of};
+ghost use Rattle.leaf_collections.specs.below.shared_value.{refused, RanAnswers, Fits};
+ghost use Rattle.child_tasks.specs.below.own_steps.{alone_entry};
 ghost use Rattle.child_tasks.specs.NoTask.{GivesTaskUp};
 ghost use Rattle.child_tasks.specs.Forks.{ForkAnswered, ForksTo, IsAtFork};
 ghost use Rattle.shared_tree.specs.Ran.{MayBeEntered};
@@ -13,13 +12,10 @@ ghost use Rattle.shared_tree.specs.Ran.{MayBeEntered};
 use crate::shared::Shared;
 use crate::steps_entered::enter_alone;
 use child_tasks::{ForkBlocks, Forking, fork_homes, grow};
-use hh_lang::{DEPTH_LIMIT, Instr};
-use hh_model::{End, Trap};
-use inner_mark_gc::{Marking, MarkingRoom};
-use out_of_line::Apart;
-use shared_value::{NotEntered, NotRan};
+use leaf_collections::{
+    Apart, DEPTH_LIMIT, End, Instr, Marking, MarkingRoom, NotEntered, NotRan, Private, Trap,
+};
 use std::mem;
-use task_machine::Private;
 
 // The room for the next marking: that of the marking that is given up, if there is one, or else the room that was kept.
 fn room_kept(marked: Option<Apart<Marking>>, room: MarkingRoom) -> MarkingRoom {

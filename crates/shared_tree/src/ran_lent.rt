@@ -1,17 +1,14 @@
 // A part's steps are entered with its next one, which isn't private, where that one doesn't give the part up.
 
 ghost use Rattle.std.specs.Prelude.{◌≡◌, ◌<◌, OnErr, IfErr, IfOk, None};
-ghost use Rattle.shared_value.specs.Entered.{refused, Answers};
-ghost use Rattle.shared_value.specs.Fits.{AllFit, Fits};
-ghost use Rattle.own_steps.specs.Alone.{alone_entry, IsShared};
+ghost use Rattle.leaf_collections.specs.below.shared_value.{refused, Answers, AllFit, Fits};
+ghost use Rattle.child_tasks.specs.below.own_steps.{alone_entry, IsShared};
 ghost use Rattle.child_tasks.specs.Joins.{IsUnchanged};
 ghost use Rattle.shared_tree.specs.Calls.{EntersLent};
 ghost use Rattle.shared_tree.specs.Ran.{ComesTo, IsJoint, LentTo, MayBeEntered};
 
 use crate::shared::Shared;
-use hh_lang::Instr;
-use shared_value::NotEntered;
-use task_machine::Private;
+use leaf_collections::{Instr, NotEntered, Private};
 
 /// How a step gives a part up.
 #[derive(Clone, Copy)]

@@ -1,9 +1,8 @@
 // A part's steps are entered with one that works on an object of another task.
 
 ghost use Rattle.std.specs.Prelude.{◌≡◌, ◌<◌, ℕ, OnErr, IfErr, IfOk, None};
-ghost use Rattle.shared_value.specs.Entered.{refused, Answers};
-ghost use Rattle.shared_value.specs.Fits.{AllFit, Fits};
-ghost use Rattle.own_steps.specs.Alone.{alone_entry, GoesAlone, IsShared};
+ghost use Rattle.leaf_collections.specs.below.shared_value.{refused, Answers, AllFit, Fits};
+ghost use Rattle.child_tasks.specs.below.own_steps.{alone_entry, GoesAlone, IsShared};
 ghost use Rattle.child_tasks.specs.Joins.{IsUnchanged};
 ghost use Rattle.others_objects.specs.Other.{IsOther, SameButRoom, TellsOther};
 ghost use Rattle.shared_tree.specs.Ran.{LentTo, MayBeEntered};
@@ -11,12 +10,8 @@ ghost use Rattle.shared_tree.specs.Ran.{LentTo, MayBeEntered};
 use crate::ran_lent::Lent;
 use crate::shared::Shared;
 use crate::steps_entered::enter_alone;
-use hh_lang::{IntReg, RefReg};
-use hh_model::End;
-use object_layout::Addr;
+use leaf_collections::{Addr, End, IntReg, NotEntered, Private, RefReg};
 use others_objects::{OtherStep, named, step_on};
-use shared_value::NotEntered;
-use task_machine::Private;
 
 impl Shared {
     // What the part's next step does, and the line of the text where it stands.

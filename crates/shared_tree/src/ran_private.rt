@@ -1,15 +1,11 @@
 // A part's private steps are entered.
 
 ghost use Rattle.std.specs.Prelude.{◌≡◌, ◌<◌, None};
-ghost use Rattle.shared_value.specs.Entered.{refused, Enters};
-ghost use Rattle.shared_value.specs.Fits.{Fits, OthersFit};
+ghost use Rattle.leaf_collections.specs.below.shared_value.{refused, Enters, Fits, OthersFit};
 ghost use Rattle.shared_tree.specs.Calls.{EntersSteps};
 
 use crate::shared::Shared;
-use run_ledger::Refused;
-use run_trace::{Entry, Kind};
-use shared_value::first_cause;
-use task_machine::Private;
+use leaf_collections::{Entry, Kind, Private, Refused, first_cause};
 
 impl Shared {
     // Makes the entry.

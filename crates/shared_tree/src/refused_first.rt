@@ -1,12 +1,10 @@
 // The program, and why an entry is refused whatever it says.
 
 ghost use Rattle.std.specs.Prelude.{◌≡◌, false};
-ghost use Rattle.shared_value.specs.Causes.{first_cause};
+ghost use Rattle.leaf_collections.specs.below.shared_value.{first_cause};
 
 use crate::shared::Shared;
-use hh_lang::Program;
-use run_ledger::Refused;
-use shared_value::first_cause;
+use leaf_collections::{Program, Refused, first_cause};
 
 impl Shared {
     /// The program that is run.

@@ -1,16 +1,11 @@
 // What a run leaves, and its journal.
 
 ghost use Rattle.std.specs.Prelude.{◌≡◌};
-ghost use Rattle.shared_value.specs.SharedValue.{without_journal};
+ghost use Rattle.leaf_collections.specs.below.shared_value.{without_journal};
 
 use crate::shared::Shared;
-use heap_tree::Tree;
-use hh_lang::Program;
-use listed::Listed;
-use run_ledger::RunEnd;
-use run_trace::{Entry, Settings};
+use leaf_collections::{Entry, Heaps, Listed, Program, RunEnd, Settings, Tree};
 use std::marker::Model;
-use task_homes::Heaps;
 
 /// What a run leaves beside its journal: what belongs to each task, and the totals. No
 /// entry can be made any more.
@@ -29,7 +24,7 @@ pub struct Remains {
 
 impl Model for Remains {
     ghost use Rattle.std.specs.Prelude.{[]};
-    ghost use Rattle.shared_value.specs.SharedValue.{SharedValue};
+    ghost use Rattle.leaf_collections.specs.below.shared_value.{SharedValue};
 
     ghost Value = { SharedValue };
 

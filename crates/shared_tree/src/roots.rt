@@ -1,14 +1,11 @@
 // The roots of a part's heap.
 
 ghost use Rattle.std.specs.Prelude.{◌≡◌, ℕ, IfOk, None};
-ghost use Rattle.shared_value.specs.Fits.{Fits};
-ghost use Rattle.shared_value.specs.Roots.{roots_of};
-ghost use Rattle.shared_value.specs.SharedValue.{accounts};
+ghost use Rattle.leaf_collections.specs.below.shared_value.{Fits, roots_of, accounts};
 
 use crate::shared::Shared;
-use object_layout::Addr;
+use leaf_collections::{Addr, Private};
 use std::alloc::AllocError;
-use task_machine::Private;
 
 impl Shared {
     /// What the remembered fields that point down into the heap of a part hold now.

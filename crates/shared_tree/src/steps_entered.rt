@@ -1,13 +1,10 @@
 // A part's steps are entered, whatever the last of them does.
 
 ghost use Rattle.std.specs.Prelude.{◌≡◌, ◌≤◌, ◌<◌, ◌+◌, ◌-◌, ◌++◌, ◌∷◌, []};
-ghost use Rattle.run_trace.specs.Entry.{private_limit};
-ghost use Rattle.run_trace.specs.Settings.{fuel_limit, worker_limit};
-ghost use Rattle.own_steps.specs.Alone.{alone_entry};
+ghost use Rattle.leaf_collections.specs.below.run_trace.{private_limit, fuel_limit, worker_limit};
+ghost use Rattle.child_tasks.specs.below.own_steps.{alone_entry};
 
-use listed::Roomy;
-use run_trace::{Entry, Kind};
-use task_machine::Private;
+use leaf_collections::{Entry, Kind, Private, Roomy};
 
 /// Counts the fresh steps of a part and its next one, and makes the one entry of all of them.
 pub(crate) fn enter_alone(steps: &mut u64, journal: &mut Roomy<Entry>, worker: u32, part: &Private)

@@ -1,21 +1,17 @@
 // A part's steps are entered with one that writes an object of another task.
 
 ghost use Rattle.std.specs.Prelude.{◌≡◌, ◌<◌, ℕ, OnErr, OnOk, IfOk, None};
-ghost use Rattle.shared_value.specs.Entered.{refused, Answers};
-ghost use Rattle.shared_value.specs.Fits.{Fits};
-ghost use Rattle.own_steps.specs.Alone.{alone_entry, GoesAlone, IsShared};
+ghost use Rattle.leaf_collections.specs.below.shared_value.{refused, Answers, Fits};
+ghost use Rattle.child_tasks.specs.below.own_steps.{alone_entry, GoesAlone, IsShared};
 ghost use Rattle.others_objects.specs.Other.{store_of, SameButRoom, TellsOther};
 ghost use Rattle.shared_tree.specs.Ran.{LentTo};
 
 use crate::ran_lent::Lent;
 use crate::shared::Shared;
 use crate::steps_entered::enter_alone;
-use hh_lang::IntReg;
-use object_layout::Addr;
+use leaf_collections::{Addr, IntReg, NotEntered, Private};
 use others_objects::{OtherStep, go_on, write_number, write_reference};
-use shared_value::NotEntered;
 use std::alloc::AllocError;
-use task_machine::Private;
 
 impl Shared {
     // Enters the write of a reference, which may be one of a compare and swap.

@@ -1,19 +1,14 @@
 // The heap of a waiting task is swept.
 
 ghost use Rattle.std.specs.Prelude.{◌≡◌, ◌==◌, ◌<◌, None};
-ghost use Rattle.run_ledger.specs.Entries.{counted, refused_unless};
-ghost use Rattle.run_ledger.specs.Heaps.{heap_of, left_in, marked_in, sweep_number};
-ghost use Rattle.shared_value.specs.Entered.{refused, Enters};
-ghost use Rattle.shared_value.specs.Fits.{AllFit};
-ghost use Rattle.shared_value.specs.SharedValue.{accounts};
+ghost use Rattle.leaf_collections.specs.below.run_ledger.{counted, refused_unless, heap_of, left_in, marked_in, sweep_number};
+ghost use Rattle.leaf_collections.specs.below.shared_value.{refused, Enters, AllFit, accounts};
 ghost use Rattle.heap_marking.specs.MarkCauses.{marking_cause};
 ghost use Rattle.shared_tree.specs.Calls.{SweepsHeap};
 
 use crate::shared::Shared;
 use heap_marking::{drop_unmarked, forget_kept, marking_cause};
-use run_ledger::Refused;
-use run_trace::{Entry, Kind};
-use shared_value::first_cause;
+use leaf_collections::{Entry, Kind, Refused, first_cause};
 
 impl Shared {
     // Why a heap that is being marked isn't swept with so many units given back.

@@ -1,28 +1,18 @@
 -- What the shared value keeps, of the accounts themselves; and before the run's end, of the parts that fit.
 use Rattle.std.proofs.Common.{◌≡◌, ℕ, false, Option, Some, None, is_some, length, option_map, slice_get, refl, ap, sym, subst, ◌∙◌}
 use Rattle.std.specs.Option.{option_flatten}
-use Rattle.hh_model.specs.declared.data.End.TheVariants.{Done, Trapped, Entangled}
-use Rattle.hh_model.specs.declared.data.State.{State}
-use Rattle.hh_model.specs.declared.data.Status.TheVariants.{Running}
-use Rattle.hh_model.specs.declared.data.Task.{Task}
-use Rattle.hh_model.specs.Step.{is_waiting}
-use Rattle.hh_model.proofs.Runs.{runs_idle}
-use Rattle.hh_model.proofs.Steps.{runs_is}
-use Rattle.run_ledger.specs.declared.data.Heap.{Heap}
-use Rattle.run_ledger.specs.declared.data.Ledger.{Ledger}
-use Rattle.run_ledger.specs.declared.data.RunEnd.{RunEnd}
-use Rattle.run_ledger.specs.declared.data.RunEnd.TheVariants.{Fuel, Machine, Pool}
-use Rattle.run_ledger.specs.Heaps.{heap_at, heap_of, in_use, let_go, units_in, with_heap_at}
-use Rattle.run_ledger.specs.Entries.{out_from}
-use Rattle.run_ledger.proofs.Going.{machine_goes_on}
-use Rattle.chunk_pool.specs.PoolValue.{units_in_use}
-use Rattle.heap_tree.specs.Node.{Node}
+use Rattle.core_relation.specs.below.hh_model.{Done, Trapped, Entangled, State, Running, Task, is_waiting}
+use Rattle.core_relation.proofs.below.hh_model.{runs_idle, runs_is}
+use Rattle.core_relation.specs.below.run_ledger.{Heap, Ledger, RunEnd, Fuel, Machine, Pool, heap_at, heap_of, in_use, let_go, units_in, with_heap_at, out_from}
+use Rattle.core_relation.proofs.below.run_ledger.{machine_goes_on}
+use Rattle.task_homes.specs.below.chunk_pool.{units_in_use}
+use Rattle.core_relation.specs.below.heap_tree.{Node}
 use Rattle.core_relation.specs.Copies.{PartFits}
 use Rattle.core_relation.specs.Fits.{FitsAt}
 use Rattle.core_relation.specs.Whole.{StandsFor, as_node, by_end, handed}
 use Rattle.core_entry_laws.proofs.whole.TasksOut.{tasks_out_are_told}
 use Rattle.core_entry_laws.proofs.parts.Workers as workers
-use Rattle.task_machine.specs.declared.part.Private.{Private}
+use Rattle.core_relation.specs.below.task_machine.{Private}
 use Rattle.shared_value.specs.SharedValue.{SharedValue, accounts, tree_counts_of, value_of}
 use Rattle.shared_value.specs.Stands.{IsSharedValue}
 use Rattle.shared_value.specs.Fits.{Fits, part_of}

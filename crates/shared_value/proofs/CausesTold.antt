@@ -1,18 +1,11 @@
 -- What the shared value tells of causes is what the accounts say.
 use Rattle.std.proofs.Common.{◌≡◌, ℕ, ◌<◌, ◌&&◌, not, Bool, true, false, Option, Some, None, slice_get, option_map, is_some, is_none, nat_le, nat_lt, refl, ap, ap₂, sym, ◌∙◌}
 use Rattle.std.proofs.lemmas.Bool.{ltb-true}
-use Rattle.listed.proofs.Options.{none_of}
-use Rattle.hh_model.specs.declared.data.Status.{Status}
-use Rattle.hh_model.specs.declared.data.Status.TheVariants.{Running, Waiting, Ended, Joined}
-use Rattle.hh_model.specs.Step.{is_running, runs}
-use Rattle.run_trace.specs.declared.entry.Kind.TheVariants.{Took}
-use Rattle.run_trace.specs.Entry.{EntryValue}
-use Rattle.run_ledger.specs.declared.data.Ledger.{Ledger}
-use Rattle.run_ledger.specs.declared.data.Refused.{Refused}
-use Rattle.run_ledger.specs.declared.data.Refused.TheVariants.{Over, Spent, NoWorker, NotReady}
-use Rattle.run_ledger.specs.Heaps.{heap_of}
-use Rattle.run_ledger.specs.Entries.{kind_refusal, is_fuel, refused_if, refused_unless, refused_holding}
-use Rattle.heap_tree.specs.Node.{Node}
+use Rattle.core_relation.proofs.below.listed.{none_of}
+use Rattle.core_relation.specs.below.hh_model.{Status, Running, Waiting, Ended, Joined, is_running, runs}
+use Rattle.core_relation.specs.below.run_trace.{Took, EntryValue}
+use Rattle.core_relation.specs.below.run_ledger.{Ledger, Refused, Over, Spent, NoWorker, NotReady, heap_of, kind_refusal, is_fuel, refused_if, refused_unless, refused_holding}
+use Rattle.core_relation.specs.below.heap_tree.{Node}
 use Rattle.core_relation.specs.Whole.{state_by}
 use Rattle.shared_value.specs.SharedValue.{SharedValue, accounts}
 use Rattle.shared_value.specs.Stands.{IsSharedValue}

@@ -1,15 +1,9 @@
 -- The objects that are read from cells, and the cells.
 use Rattle.std.proofs.Common.{◌≡◌, ℕ, suc, ◌+◌, ◌<◌, ◌==◌, arith, Bool, true, false, cond, Some, None, List, [], ◌∷◌, ◌++◌, length, nat_lt, ◌⊎◌, inl, inr, refl, ap, sym, subst, ◌∙◌, eq-eqb, le-leb}
 use Rattle.std.proofs.lemmas.Bool.{cond-true, false≢true}
-use Rattle.listed.proofs.Members.{contains_from_in}
-use Rattle.object_layout.specs.declared.word.Addr.{Addr}
-use Rattle.object_layout.specs.declared.word.Birth.{Birth}
-use Rattle.object_layout.specs.Cell.{Born, Cell, Hole, Mark, Moved, size_of}
-use Rattle.object_layout.specs.ChunkValue.{ChunkValue}
-use Rattle.object_layout.specs.Chunks.{cell_of, place_in, place_of}
-use Rattle.object_layout.specs.Objects.{Located, located, located_by, objects_from, objects_in as located_in, objects_of}
-use Rattle.object_layout.specs.ObjectLaws.{LiesThere}
-use Rattle.object_layout.proofs.ObjectLemmas.{object_read, objects_lie_there}
+use Rattle.core_relation.proofs.below.listed.{contains_from_in}
+use Rattle.core_relation.specs.below.object_layout.{Addr, Birth, Born, Cell, Hole, Mark, Moved, size_of, ChunkValue, cell_of, place_in, place_of, Located, located, located_by, objects_from, objects_in as located_in, objects_of, LiesThere}
+use Rattle.core_relation.proofs.below.object_layout.{object_read, objects_lie_there}
 use Rattle.alloc_path.specs.LeafHeapValue.{AreApart}
 use Rattle.core_relation.specs.Memory.{In, objects_in}
 use Rattle.shared_value.specs.Objects.{chunks_of}

@@ -1,25 +1,16 @@
 -- A part has begun a leaf collection exactly where its account says so.
 use Rattle.std.proofs.Common.{◌≡◌, ℕ, Bool, true, false, Option, Some, None, List, slice_get, is_none, is_some, refl, ap, sym, ◌∙◌, eq-eqb}
 use Rattle.std.proofs.lemmas.Bool.{and_from, false≢true}
-use Rattle.listed.proofs.Options.{none_of}
-use Rattle.hh_model.specs.declared.data.Name.{Name}
-use Rattle.hh_model.specs.Step.{is_running}
-use Rattle.run_ledger.specs.declared.data.Heap.{Heap}
-use Rattle.run_ledger.specs.declared.data.Ledger.{Ledger}
-use Rattle.run_ledger.specs.declared.data.Refused.{Refused}
-use Rattle.run_ledger.specs.declared.data.Refused.TheVariants.{Collecting, NotOut}
-use Rattle.run_ledger.specs.Heaps.{heap_of, or_fresh}
-use Rattle.run_ledger.specs.Steps.{task_steps}
-use Rattle.run_ledger.specs.Entries.{is_out, on_running, refused_if, refused_unless}
-use Rattle.listed.specs.Options.{option_is}
-use Rattle.run_ledger.specs.Sound.{collecting}
-use Rattle.ledger_step_laws.specs.Accounts.{rested}
-use Rattle.ledger_step_laws.proofs.Rested.{rested_view}
+use Rattle.core_relation.proofs.below.listed.{none_of}
+use Rattle.core_relation.specs.below.hh_model.{Name, is_running}
+use Rattle.core_relation.specs.below.run_ledger.{Heap, Ledger, Refused, Collecting, NotOut, heap_of, or_fresh, task_steps, is_out, on_running, refused_if, refused_unless, collecting}
+use Rattle.core_relation.specs.below.listed.{option_is}
+use Rattle.core_relation.specs.below.ledger_step_laws.{rested}
+use Rattle.core_relation.proofs.below.ledger_step_laws.{rested_view}
 use Rattle.core_relation.specs.Fits.{with_belongings}
 use Rattle.core_relation.specs.Memory.{Memory}
 use Rattle.core_relation.specs.Whole.{BegunBy}
-use Rattle.task_machine.specs.declared.part.Begun.{Begun}
-use Rattle.task_machine.specs.declared.part.Private.{Private}
+use Rattle.core_relation.specs.below.task_machine.{Begun, Private}
 use Rattle.shared_value.specs.SharedValue.{SharedValue, accounts, value_of}
 use Rattle.shared_value.specs.Fits.{Fits, belongings_of_part}
 use Rattle.shared_value.proofs.BeforeTheEnd.{alive, part_now, status}

@@ -3,28 +3,18 @@ use Rattle.std.proofs.Common.{◌≡◌, ◌⊎◌, ℕ, ◌<◌, Option, Some, 
 use Rattle.std.specs.Option.{option_flatten}
 use Rattle.std.proofs.lemmas.Bool.{cases_eq}
 use Rattle.std.proofs.lemmas.Option.{same_Some}
-use Rattle.listed.proofs.Members.{got_other}
-use Rattle.listed.proofs.Places.{got_set}
-use Rattle.listed.proofs.Options.{none_of, none_some}
-use Rattle.hh_lang.specs.Form.{IsProgram}
-use Rattle.hh_model.specs.declared.data.End.TheVariants.{Done, Trapped, Entangled}
-use Rattle.run_trace.specs.Entry.{EntryValue}
-use Rattle.run_trace.specs.Settings.{AreSettings, SettingsValue, field_limit}
-use Rattle.run_ledger.specs.declared.data.Ledger.{Ledger}
-use Rattle.run_ledger.specs.declared.data.RunEnd.{RunEnd}
-use Rattle.run_ledger.specs.Heaps.{heap_of, let_go, or_fresh}
-use Rattle.run_ledger.specs.Entries.{after}
-use Rattle.run_ledger.proofs.Journals.{entry_tells}
-use Rattle.run_ledger.specs.declared.data.RunEnd.TheVariants.{Fuel, Machine, Pool}
-use Rattle.run_ledger.specs.Journals.{is_legal, ledger_of}
-use Rattle.run_ledger.proofs.Cuts.{legal_then}
-use Rattle.chunk_pool.specs.PoolValue.{PoolValue}
-use Rattle.ledger_step_laws.specs.Accounts.{Rests, rested}
-use Rattle.ledger_step_laws.proofs.Ahead.{with_off}
-use Rattle.ledger_step_laws.proofs.Rested.{rested_worker}
+use Rattle.core_relation.proofs.below.listed.{got_other, got_set, none_of, none_some}
+use Rattle.core_relation.specs.below.hh_lang.{IsProgram}
+use Rattle.core_relation.specs.below.hh_model.{Done, Trapped, Entangled}
+use Rattle.core_relation.specs.below.run_trace.{EntryValue, AreSettings, SettingsValue, field_limit}
+use Rattle.core_relation.specs.below.run_ledger.{Ledger, RunEnd, heap_of, let_go, or_fresh, after, Fuel, Machine, Pool, is_legal, ledger_of}
+use Rattle.core_relation.proofs.below.run_ledger.{entry_tells, legal_then}
+use Rattle.task_homes.specs.below.chunk_pool.{PoolValue}
+use Rattle.core_relation.specs.below.ledger_step_laws.{Rests, rested}
+use Rattle.core_relation.proofs.below.ledger_step_laws.{with_off, rested_worker}
 use Rattle.core_relation.specs.Whole.{StandsForAll, by_end}
 use Rattle.core_relation.specs.Worker.{WorkerFits}
-use Rattle.task_machine.specs.declared.part.Private.{Private}
+use Rattle.core_relation.specs.below.task_machine.{Private}
 use Rattle.task_homes.specs.declared.task_at_rest.Rest.{Rest}
 use Rattle.shared_value.specs.SharedValue.{SharedValue, accounts, rest_at, tree_counts_of, value_of}
 use Rattle.shared_value.specs.Measured.{AreMeasured, IsMeasured, IsFree, KeepsUnits, RestsAreMeasured}

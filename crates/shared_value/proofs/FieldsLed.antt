@@ -6,25 +6,18 @@ use Rattle.std.specs.Prelude.{slice_index_or, slice_set, unwrap_or}
 use Rattle.std.proofs.lemmas.Bool.{cases_eq, false≢true}
 use Rattle.std.proofs.lemmas.List.{length-set}
 use Rattle.std.proofs.lemmas.Option.{same_Some}
-use Rattle.listed.proofs.Members.{got_other, got_same}
-use Rattle.listed.proofs.Places.{map_in}
-use Rattle.object_layout.specs.declared.word.Addr.{Addr}
-use Rattle.object_layout.specs.declared.word.Birth.{Birth}
-use Rattle.object_layout.specs.Cell.{Born, Cell, marked_object, size_of, with_ref}
-use Rattle.object_layout.specs.Chunks.{cell_of, put_object, same_address, with_cell}
-use Rattle.object_layout.specs.ChunkValue.{ChunkValue}
-use Rattle.object_layout.proofs.ChunkLaws as laws
-use Rattle.object_layout.proofs.Distinct.{is_same, same_is}
-use Rattle.object_layout.specs.Objects.{Located, with_fields}
-use Rattle.chunk_pool.specs.PoolValue.{PoolValue, owner_of}
+use Rattle.core_relation.proofs.below.listed.{got_other, got_same, map_in}
+use Rattle.core_relation.specs.below.object_layout.{Addr, Birth, Born, Cell, marked_object, size_of, with_ref, cell_of, put_object, same_address, with_cell, ChunkValue, Located, with_fields}
+use Rattle.core_relation.proofs.below.object_layout.ChunkLaws as laws
+use Rattle.core_relation.proofs.below.object_layout.{is_same, same_is}
+use Rattle.task_homes.specs.below.chunk_pool.{PoolValue, owner_of}
 use Rattle.alloc_path.specs.LeafHeapValue.{LeafHeapValue, room_of}
 use Rattle.alloc_path.specs.FieldLaws.{with_ref_of}
 use Rattle.alloc_path.specs.LeafHeapValue.{room_at}
 use Rattle.alloc_path.specs.PlaceLaws.{KeepsCounts}
 use Rattle.chunk_rows.specs.View.{Level}
 use Rattle.alloc_path.proofs.Counting.{writes_keep_counts}
-use Rattle.remembered_set.specs.declared.remembered.Source.{Source}
-use Rattle.remembered_set.specs.Moved.{target_of, new_reference, redirected, written}
+use Rattle.core_relation.specs.below.remembered_set.{Source, target_of, new_reference, redirected, written}
 use Rattle.leaf_copy_gc.specs.Redirected.{new_address}
 use Rattle.core_relation.specs.Memory.{Chunk, In, mapped_chunk, mapped_belongings, objects_in, put_at, rewritten_belongings}
 use Rattle.core_relation.proofs.objects.Members.{in_chunk}

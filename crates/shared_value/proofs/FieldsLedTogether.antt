@@ -4,9 +4,8 @@ use Rattle.std.specs.Option.{option_map}
 use Rattle.std.specs.Prelude.{slice_index_or, slice_set}
 use Rattle.std.specs.List.{list_any}
 use Rattle.std.proofs.lemmas.Bool.{eqb-true, false≢true}
-use Rattle.object_layout.specs.declared.word.Addr.{Addr}
-use Rattle.object_layout.specs.Objects.{Located}
-use Rattle.remembered_set.specs.declared.remembered.Source.{Source}
+use Rattle.core_relation.specs.below.object_layout.{Addr, Located}
+use Rattle.core_relation.specs.below.remembered_set.{Source}
 use Rattle.core_relation.specs.Memory.{Chunk, Belongings, In, is_source, mapped_chunk, mapped_belongings, objects_in, rewritten, rewritten_belongings, rewritten_refs}
 use Rattle.core_relation.proofs.objects.Members.{in_chunk, in_objects}
 

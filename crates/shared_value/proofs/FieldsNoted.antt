@@ -3,17 +3,13 @@ use Rattle.std.proofs.Common.{◌≡◌, ℕ, ◌==◌, ◌&&◌, Bool, true, fa
 use Rattle.std.specs.List.{list_any}
 use Rattle.std.proofs.lemmas.Bool.{eqb-true, false≢true, cases_eq}
 use Rattle.std.proofs.lemmas.List.Elements.{All-head, All-tail}
-use Rattle.listed.proofs.Members.{any_from_in, in_from_any}
-use Rattle.listed.proofs.Options.{none_some}
-use Rattle.object_layout.specs.ChunkValue.{ChunkValue}
-use Rattle.chunk_pool.specs.declared.pool.Slot.{Slot}
-use Rattle.chunk_pool.specs.PoolValue.{PoolValue, slot_at, owner_of}
+use Rattle.core_relation.proofs.below.listed.{any_from_in, in_from_any, none_some}
+use Rattle.core_relation.specs.below.object_layout.{ChunkValue}
+use Rattle.task_homes.specs.below.chunk_pool.{Slot, PoolValue, slot_at, owner_of}
 use Rattle.alloc_path.specs.LeafHeapValue.{IsFresh}
 use Rattle.alloc_path.proofs.HeapLemmas.{fresh_cons}
-use Rattle.remembered_set.specs.declared.remembered.Source.{Source}
-use Rattle.remembered_set.specs.Sources.{StandOnce, same_source}
-use Rattle.write_barrier.specs.declared.sets.SetOf.{SetOf}
-use Rattle.write_barrier.specs.Stored.{Content, content_of}
+use Rattle.core_relation.specs.below.remembered_set.{Source, StandOnce, same_source}
+use Rattle.task_homes.specs.below.write_barrier.{SetOf, Content, content_of}
 use Rattle.core_relation.specs.Memory.{In, Noted, is_source}
 use Rattle.shared_value.specs.SharedValue.{noted_in}
 use Rattle.shared_value.specs.Roots.{sources_of}

@@ -1,7 +1,7 @@
 -- The first of two causes, where there is one.
 use Rattle.std.proofs.Common.{◌≡◌, true, false, Option, Some, None, is_some, refl, sym}
 use Rattle.std.proofs.lemmas.Bool.{false≢true}
-use Rattle.run_ledger.specs.declared.data.Refused.{Refused}
+use Rattle.core_relation.specs.below.run_ledger.{Refused}
 use Rattle.shared_value.specs.Causes.{or_else}
 
 -- the first of two causes

@@ -4,20 +4,16 @@ use Rattle.std.specs.Option.{option_flatten}
 use Rattle.std.proofs.lemmas.Bool.{false≢true}
 use Rattle.std.proofs.lemmas.Option.{same_Some}
 use Rattle.std.proofs.Math.Path.{fun_ext}
-use Rattle.listed.specs.RoomyValue.{RoomyValue}
-use Rattle.hh_lang.specs.Form.{IsProgram, ProgramText}
-use Rattle.hh_model.specs.Step.{is_waiting}
-use Rattle.run_trace.specs.Settings.{SettingsValue, AreSettings}
-use Rattle.run_trace.specs.Entry.{EntryValue}
-use Rattle.run_ledger.specs.declared.data.Ledger.{Ledger}
-use Rattle.run_ledger.specs.Heaps.{heap_of}
-use Rattle.run_ledger.specs.Journals.{opening}
-use Rattle.chunk_pool.specs.PoolValue.{PoolValue}
-use Rattle.heap_tree.specs.Node.{Node, root_node}
-use Rattle.write_barrier.specs.declared.sets.SetOf.{SetOf}
-use Rattle.write_barrier.specs.Stored.{content_of, Content}
-use Rattle.inner_mark_gc.specs.MarkingValue.{MarkingValue}
-use Rattle.ledger_step_laws.specs.Accounts.{Rests}
+use Rattle.core_relation.specs.below.listed.{RoomyValue}
+use Rattle.core_relation.specs.below.hh_lang.{IsProgram, ProgramText}
+use Rattle.core_relation.specs.below.hh_model.{is_waiting}
+use Rattle.core_relation.specs.below.run_trace.{SettingsValue, AreSettings, EntryValue}
+use Rattle.core_relation.specs.below.run_ledger.{Ledger, heap_of, opening}
+use Rattle.task_homes.specs.below.chunk_pool.{PoolValue}
+use Rattle.core_relation.specs.below.heap_tree.{Node, root_node}
+use Rattle.task_homes.specs.below.write_barrier.{SetOf, content_of, Content}
+use Rattle.core_relation.specs.below.inner_mark_gc.{MarkingValue}
+use Rattle.core_relation.specs.below.ledger_step_laws.{Rests}
 use Rattle.core_relation.specs.Memory.{Noted, Memory}
 use Rattle.core_relation.specs.Stands.{Stands}
 use Rattle.core_relation.specs.Whole.{BegunBy, StandsFor, as_node}

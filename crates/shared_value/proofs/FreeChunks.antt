@@ -2,22 +2,15 @@
 use Rattle.std.proofs.Common.{◌≡◌, ℕ, suc, ◌+◌, ◌-◌, ◌^◌, ◌<◌, ◌≤◌, arith, Option, None, List, [], ◌∷◌, length, map, nat_le, inl, inr, refl, ap, ap₂, sym, subst, ◌∙◌}
 use Rattle.std.specs.List.{flat_map}
 use Rattle.std.proofs.lemmas.Bool.{cases_lt, lt-leb}
-use Rattle.listed.proofs.Places.{in_map}
-use Rattle.hh_model.specs.declared.data.Name.{Name}
-use Rattle.hh_model.specs.declared.data.State.{State}
-use Rattle.hh_model.specs.Effect.{object_at}
-use Rattle.run_ledger.specs.declared.data.Heap.{Heap}
-use Rattle.run_ledger.specs.declared.data.Ledger.{Ledger}
-use Rattle.run_ledger.specs.Heaps.{heap_of, let_go, small_in, take_of, words_of, words_sum}
-use Rattle.run_ledger.specs.Entries.{is_pool_enough}
-use Rattle.run_ledger.proofs.Machine.{heap_machine}
-use Rattle.object_layout.specs.declared.word.Addr.{Addr}
-use Rattle.object_layout.specs.Chunks.{small_words}
-use Rattle.object_layout.specs.Objects.{Located}
-use Rattle.chunk_pool.specs.PoolValue.{units_in_use}
+use Rattle.core_relation.proofs.below.listed.{in_map}
+use Rattle.core_relation.specs.below.hh_model.{Name, State, object_at}
+use Rattle.core_relation.specs.below.run_ledger.{Heap, Ledger, heap_of, let_go, small_in, take_of, words_of, words_sum, is_pool_enough}
+use Rattle.core_relation.proofs.below.run_ledger.{heap_machine}
+use Rattle.core_relation.specs.below.object_layout.{Addr, small_words, Located}
+use Rattle.task_homes.specs.below.chunk_pool.{units_in_use}
 use Rattle.alloc_path.specs.LeafHeapValue.{counted}
-use Rattle.ledger_step_laws.specs.Accounts.{aside, rested}
-use Rattle.ledger_step_laws.proofs.Rested.{rested_view, rested_worker}
+use Rattle.core_relation.specs.below.ledger_step_laws.{aside, rested}
+use Rattle.core_relation.proofs.below.ledger_step_laws.{rested_view, rested_worker}
 use Rattle.core_relation.specs.Layout.{AreLaidOut}
 use Rattle.core_relation.specs.Fits.{with_belongings}
 use Rattle.core_relation.specs.Reads.{AllRead}
@@ -25,8 +18,7 @@ use Rattle.core_relation.specs.Stands.{BelongingsStand, Stands, names_of, small_
 use Rattle.core_relation.specs.Memory.{Belongings, In, Memory, object_name, objects_in}
 use Rattle.core_relation.proofs.objects.Members.{in_objects}
 use Rattle.core_relation.proofs.changes.With.{at_belongings}
-use Rattle.task_machine.specs.declared.part.Private.{Private}
-use Rattle.task_machine.specs.Accounts.{small_lists}
+use Rattle.core_relation.specs.below.task_machine.{Private, small_lists}
 use Rattle.shared_value.specs.Objects.{chunk_of}
 use Rattle.shared_value.specs.SharedValue.{SharedValue, accounts, value_of}
 use Rattle.shared_value.specs.Stands.{IsSharedValue}

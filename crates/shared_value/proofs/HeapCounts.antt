@@ -1,23 +1,19 @@
 -- A heap is as its account says, by what of it alone is known and what its belongings are read as.
 use Rattle.std.proofs.Common.{◌≡◌, ℕ, zero, suc, ◌+◌, ◌*◌, ◌/◌, ◌<◌, ◌^◌, ◌==◌, ◌&&◌, ◌++◌, not, arith, Bool, true, false, cond, Option, Some, None, List, [], ◌∷◌, length, map, inl, inr, refl, ap, ap₂, sym, subst, ◌∙◌, ne_eqb}
 use Rattle.std.proofs.lemmas.Bool.{cond-true, false≢true}
-use Rattle.hh_model.specs.declared.data.Name.{Name}
-use Rattle.run_ledger.specs.declared.data.Heap.{Heap}
-use Rattle.object_layout.specs.Cell.{Born, Cell, Hole, Mark, Moved, size_of}
-use Rattle.object_layout.specs.Chunks.{chunk_at}
-use Rattle.object_layout.specs.ChunkValue.{ChunkValue}
-use Rattle.object_layout.specs.Objects.{Located, located_by, objects_from}
-use Rattle.object_layout.proofs.ObjectLemmas.{chunk_there}
+use Rattle.core_relation.specs.below.hh_model.{Name}
+use Rattle.core_relation.specs.below.run_ledger.{Heap}
+use Rattle.core_relation.specs.below.object_layout.{Born, Cell, Hole, Mark, Moved, size_of, chunk_at, ChunkValue, Located, located_by, objects_from}
+use Rattle.core_relation.proofs.below.object_layout.{chunk_there}
 use Rattle.alloc_path.specs.LeafHeapValue.{LeafHeapValue, IsReserved, room_of}
 use Rattle.core_relation.specs.Layout.{reserved_chunks, reserved_units}
 use Rattle.core_relation.specs.Stands.{HasNames, large_chunks, names_of, small_chunks}
 use Rattle.core_relation.specs.Memory.{Chunk, In, object_name, objects_in}
-use Rattle.task_machine.specs.Accounts.{AreReserved, IsCounted, large_names, named_by, names_in, small_lists}
-use Rattle.task_machine.specs.Place.{name_of}
+use Rattle.core_relation.specs.below.task_machine.{AreReserved, IsCounted, large_names, named_by, names_in, small_lists, name_of}
 use Rattle.shared_value.specs.Objects.{chunk_of, chunks_of}
 use Rattle.shared_value.specs.Stands.{HeapForm}
-use Rattle.listed.specs.Members.{is_empty}
-use Rattle.listed.proofs.Options.{none_some}
+use Rattle.core_relation.specs.below.listed.{is_empty}
+use Rattle.core_relation.proofs.below.listed.{none_some}
 
 -- ---- NAMES
 

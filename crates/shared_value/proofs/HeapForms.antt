@@ -1,8 +1,8 @@
 -- The form of a heap: without a chunk that is reserved, and with places for more.
 use Rattle.std.proofs.Common.{◌≡◌, ℕ, ◌*◌, ◌<◌, arith, Option, Some, None, refl, subst}
-use Rattle.object_layout.specs.Chunks.{chunk_at}
+use Rattle.core_relation.specs.below.object_layout.{chunk_at}
 use Rattle.alloc_path.specs.LeafHeapValue.{LeafHeapValue, IsReserved, with_places}
-use Rattle.task_machine.specs.Accounts.{AreReserved}
+use Rattle.core_relation.specs.below.task_machine.{AreReserved}
 use Rattle.shared_value.specs.Stands.{HeapForm}
 
 pub reserved_none : (h : LeafHeapValue) (F : HeapForm h) (o : Option ℕ) → h.reserved ≡ o → AreReserved h.chunks h.reserved 0 → o ≡ None

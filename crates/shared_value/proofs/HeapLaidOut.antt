@@ -3,19 +3,14 @@ use Rattle.std.proofs.Common.{◌≡◌, ◌⊎◌, ℕ, zero, suc, ◌+◌, ◌
 use Rattle.std.specs.List.{AllByRecursion, IsDistinct}
 use Rattle.std.proofs.lemmas.Bool.{cases_eq, cond-true, cond-false, eqb-true, false≢true, false_from_ne_true}
 use Rattle.std.proofs.lemmas.Option.{same_Some}
-use Rattle.listed.specs.Members.{is_empty}
-use Rattle.listed.proofs.Places.{map_in}
-use Rattle.object_layout.specs.declared.word.Birth.{Birth}
-use Rattle.object_layout.specs.Cell.{Born, Cell, Hole, Mark, Moved, size_of}
-use Rattle.object_layout.specs.Chunks.{chunk_at}
-use Rattle.object_layout.specs.ChunkValue.{ChunkValue}
-use Rattle.object_layout.specs.Place.{words_in}
-use Rattle.object_layout.specs.Objects.{Located, located, located_by, objects_from}
+use Rattle.core_relation.specs.below.listed.{is_empty}
+use Rattle.core_relation.proofs.below.listed.{map_in}
+use Rattle.core_relation.specs.below.object_layout.{Birth, Born, Cell, Hole, Mark, Moved, size_of, chunk_at, ChunkValue, words_in, Located, located, located_by, objects_from}
 use Rattle.alloc_path.specs.LeafHeapValue.{AreApart as HaveNumbersApart, LeafHeapValue, IsReserved}
 use Rattle.core_relation.specs.Memory.{Chunk, In, objects_in}
 use Rattle.core_relation.specs.Layout.{AreApart, AreLaidOut, HoldsLarge, reserved_chunks, reserved_units, words}
 use Rattle.core_relation.proofs.objects.Members.{in_chunk}
-use Rattle.task_machine.specs.Accounts.{AreReserved}
+use Rattle.core_relation.specs.below.task_machine.{AreReserved}
 use Rattle.shared_value.specs.Objects.{chunk_of, chunks_of}
 use Rattle.shared_value.proofs.CellsRead.{fresh_off, numbered}
 use Rattle.shared_value.proofs.HeapCounts.{is_spare, spare_tells}

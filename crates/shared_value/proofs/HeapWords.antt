@@ -2,22 +2,17 @@
 use Rattle.std.proofs.Common.{◌≡◌, ℕ, suc, ◌+◌, ◌==◌, arith, All, Bool, true, false, cond, None, List, [], ◌∷◌, ◌++◌, inl, inr, length, map, refl, ap, ap₂, sym, subst, ◌∙◌}
 use Rattle.std.specs.List.{flat_map}
 use Rattle.std.proofs.lemmas.List.Sums.{sum_by-append, sum_by-cons}
-use Rattle.listed.proofs.Places.{in_map}
-use Rattle.hh_model.specs.declared.data.State.{State}
-use Rattle.run_ledger.specs.declared.data.Ledger.{Ledger}
-use Rattle.run_ledger.specs.Heaps.{heap_of, small_in, words_at, words_in, words_of, words_sum}
-use Rattle.object_layout.specs.Cell.{Born, Cell, Hole, Mark, Moved, moved_to, size_of}
-use Rattle.object_layout.specs.Chunks.{object_words_in, held_size, held_words}
-use Rattle.object_layout.specs.ChunkValue.{ChunkValue}
-use Rattle.object_layout.specs.Objects.{Located, located, located_by, objects_from}
-use Rattle.object_layout.proofs.ObjectLemmas.{behind}
+use Rattle.core_relation.proofs.below.listed.{in_map}
+use Rattle.core_relation.specs.below.hh_model.{State}
+use Rattle.core_relation.specs.below.run_ledger.{Ledger, heap_of, small_in, words_at, words_in, words_of, words_sum}
+use Rattle.core_relation.specs.below.object_layout.{Born, Cell, Hole, Mark, Moved, moved_to, size_of, object_words_in, held_size, held_words, ChunkValue, Located, located, located_by, objects_from}
+use Rattle.core_relation.proofs.below.object_layout.{behind}
 use Rattle.alloc_path.specs.LeafHeapValue.{AreTidy}
-use Rattle.ledger_step_laws.specs.Accounts.{Rests}
+use Rattle.core_relation.specs.below.ledger_step_laws.{Rests}
 use Rattle.core_relation.specs.Stands.{BelongingsStand, Stands, large_chunks, names_of, small_chunks}
 use Rattle.core_relation.specs.Memory.{Chunk, In, Memory, object_name, objects, objects_in}
 use Rattle.core_relation.proofs.objects.Members.{in_objects}
-use Rattle.task_machine.specs.Accounts.{large_names, named_by, names_in, small_lists}
-use Rattle.task_machine.specs.Place.{name_of}
+use Rattle.core_relation.specs.below.task_machine.{large_names, named_by, names_in, small_lists, name_of}
 use Rattle.shared_value.specs.Objects.{chunk_of, chunks_of}
 use Rattle.shared_value.proofs.HeapCounts.{large_are, small_names}
 use Rattle.shared_value.proofs.FreeChunks.{refs_long}

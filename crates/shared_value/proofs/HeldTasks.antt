@@ -2,20 +2,14 @@
 -- accounts, and the same parts fit them.
 use Rattle.std.proofs.Common.{length, ◌≡◌, ℕ, true, not, Option, Some, None, slice_get, inl, inr, refl, ap, sym, subst, ◌∙◌}
 use Rattle.std.proofs.lemmas.Bool.{cases_eq, and_parts}
-use Rattle.hh_lang.specs.Form.{ProgramText}
-use Rattle.hh_model.specs.declared.data.Name.{Name}
-use Rattle.hh_model.specs.Step.{is_waiting}
-use Rattle.run_trace.specs.Settings.{SettingsValue}
-use Rattle.run_ledger.specs.declared.data.Heap.{Heap}
-use Rattle.run_ledger.specs.declared.data.Ledger.{Ledger}
-use Rattle.run_ledger.specs.Heaps.{heap_of}
-use Rattle.run_ledger.specs.Sound.{SoundLedger}
-use Rattle.object_layout.specs.declared.word.Addr.{Addr}
-use Rattle.object_layout.specs.Objects.{Located}
-use Rattle.ledger_step_laws.specs.Accounts.{Rests, own}
-use Rattle.ledger_step_laws.proofs.Rested.{rested_worker}
-use Rattle.ledger_step_laws.specs.Accounts.{StepsAlone}
-use Rattle.task_machine.specs.declared.part.Begun.{Begun}
+use Rattle.core_relation.specs.below.hh_lang.{ProgramText}
+use Rattle.core_relation.specs.below.hh_model.{Name, is_waiting}
+use Rattle.core_relation.specs.below.run_trace.{SettingsValue}
+use Rattle.core_relation.specs.below.run_ledger.{Heap, Ledger, heap_of, SoundLedger}
+use Rattle.core_relation.specs.below.object_layout.{Addr, Located}
+use Rattle.core_relation.specs.below.ledger_step_laws.{Rests, own, StepsAlone}
+use Rattle.core_relation.proofs.below.ledger_step_laws.{rested_worker}
+use Rattle.core_relation.specs.below.task_machine.{Begun}
 use Rattle.core_relation.specs.Memory.{Belongings, In, Lies, Memory, objects, objects_in, shown_at}
 use Rattle.core_relation.specs.Reads.{TaskIsRead}
 use Rattle.core_relation.specs.Stands.{Place, Stands}

@@ -1,14 +1,12 @@
 -- A journal with an entry more: its accounts go on from those before it.
 use Rattle.std.proofs.Common.{◌≡◌, ℕ, ◌-◌, true, Option, List, [], ◌∷◌, ◌++◌, ap, sym, subst, ◌∙◌}
-use Rattle.listed.specs.RoomyValue.{RoomyValue}
-use Rattle.hh_lang.specs.Form.{ProgramText}
-use Rattle.run_trace.specs.Entry.{EntryValue}
-use Rattle.run_trace.specs.Settings.{SettingsValue}
-use Rattle.run_ledger.specs.Entries.{after}
-use Rattle.run_ledger.specs.Journals.{ledger_of}
-use Rattle.run_ledger.proofs.Cuts.{journals_can_be_cut}
-use Rattle.heap_tree.specs.Node.{Node}
-use Rattle.task_machine.specs.declared.part.Private.{Private}
+use Rattle.core_relation.specs.below.listed.{RoomyValue}
+use Rattle.core_relation.specs.below.hh_lang.{ProgramText}
+use Rattle.core_relation.specs.below.run_trace.{EntryValue, SettingsValue}
+use Rattle.core_relation.specs.below.run_ledger.{after, ledger_of}
+use Rattle.core_relation.proofs.below.run_ledger.{journals_can_be_cut}
+use Rattle.core_relation.specs.below.heap_tree.{Node}
+use Rattle.core_relation.specs.below.task_machine.{Private}
 use Rattle.task_homes.specs.declared.task_at_rest.Rest.{Rest}
 use Rattle.shared_value.specs.SharedValue.{SharedValue}
 use Rattle.shared_value.specs.Fits.{Fits}

@@ -4,12 +4,7 @@ use Rattle.std.specs.Prelude.{option_map}
 use Rattle.std.specs.Option.{option_or}
 use Rattle.std.proofs.lemmas.Bool.{cond-true, cond-false, eqb-true, false≢true}
 use Rattle.std.proofs.lemmas.Option.{same_Some}
-use Rattle.object_layout.specs.declared.word.Addr.{Addr}
-use Rattle.object_layout.specs.declared.word.Birth.{Birth}
-use Rattle.object_layout.specs.Cell.{Born, Cell, Hole, Mark, Moved, size_of}
-use Rattle.object_layout.specs.ChunkValue.{ChunkValue}
-use Rattle.object_layout.specs.Piece.{PieceValue, frozen_at, frozen_from, lasts}
-use Rattle.object_layout.specs.Objects.{Located, located, located_by, objects_from}
+use Rattle.core_relation.specs.below.object_layout.{Addr, Birth, Born, Cell, Hole, Mark, Moved, size_of, ChunkValue, PieceValue, frozen_at, frozen_from, lasts, Located, located, located_by, objects_from}
 use Rattle.chunk_rows.specs.View.{Level, level_of, nearest, piece_in}
 use Rattle.chunk_rows.specs.View.{seen_at as view_at, seen_in as view_in}
 use Rattle.core_relation.specs.Memory.{Chunk, chunk_among, frozen_chunks, seen_at, seen_in, shown_at}

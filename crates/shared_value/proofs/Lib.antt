@@ -34,3 +34,4 @@ pub mod FieldsLedTogether
 pub mod FieldsLed
 pub mod FieldsNoted
 pub mod UnitsMeasured
+pub mod below

@@ -3,34 +3,18 @@
 use Rattle.std.proofs.Common.{◌≡◌, ℕ, ◌+◌, ◌≤◌, arith, Option, Some, None, slice_get, refl, ap, ap₂, sym, subst, ◌∙◌}
 use Rattle.std.proofs.lemmas.Bool.{cond-true}
 use Rattle.std.proofs.lemmas.Option.{same_Some}
-use Rattle.hh_lang.specs.declared.instr.Instr.{Instr}
-use Rattle.hh_lang.specs.declared.instr.Instr.TheVariants.{Newm, Pack}
-use Rattle.hh_lang.specs.declared.program.Line.{Line}
-use Rattle.hh_lang.specs.Form.{ProgramText}
-use Rattle.hh_model.specs.declared.data.Frame.{Frame as ModelFrame}
-use Rattle.hh_model.specs.declared.data.State.{State}
-use Rattle.hh_model.specs.Effect.{counts_in}
-use Rattle.hh_model.specs.Names.{words_asked, words_for}
-use Rattle.hh_model.specs.Step.{asked, asked_by, asked_line, fetched, is_running}
-use Rattle.run_ledger.specs.declared.data.Heap.{Heap}
-use Rattle.run_ledger.specs.declared.data.Ledger.{Ledger}
-use Rattle.run_ledger.specs.Heaps.{heap_of, or_fresh}
-use Rattle.run_ledger.specs.Steps.{task_steps}
+use Rattle.core_relation.specs.below.hh_lang.{Instr, Newm, Pack, Line, ProgramText}
+use Rattle.core_relation.specs.below.hh_model.{Frame as ModelFrame, State, counts_in, words_asked, words_for, asked, asked_by, asked_line, fetched, is_running}
+use Rattle.core_relation.specs.below.run_ledger.{Heap, Ledger, heap_of, or_fresh, task_steps}
 use Rattle.alloc_path.specs.LeafHeapValue.{counted, room_of}
-use Rattle.task_frames.specs.declared.frames.Frame.{Frame}
-use Rattle.ledger_step_laws.proofs.Rested.{rested_view, rested_worker}
+use Rattle.core_relation.specs.below.task_frames.{Frame, int_of}
+use Rattle.core_relation.proofs.below.ledger_step_laws.{rested_view, rested_worker}
 use Rattle.core_relation.specs.Stands.{BelongingsStand}
 use Rattle.core_relation.specs.Fits.{ahead, with_belongings}
 use Rattle.core_relation.specs.Memory.{Belongings}
 use Rattle.core_relation.proofs.changes.With.{at_belongings}
-use Rattle.task_machine.specs.declared.part.Private.{Private}
-use Rattle.task_machine.specs.Accounts.{AreReserved, IsCounted}
-use Rattle.task_machine.specs.Fits.{FitsNow as FitsMachine}
-use Rattle.task_machine.specs.Place.{FrameStands, Places}
-use Rattle.task_frames.specs.FramesValue.{int_of}
-use Rattle.task_machine.proofs.Agreement.{same_line}
-use Rattle.task_machine.proofs.Fitting.{int_same}
-use Rattle.task_machine.proofs.Accounted.{words_for_some}
+use Rattle.core_relation.specs.below.task_machine.{Private, AreReserved, IsCounted, FitsNow as FitsMachine, FrameStands, Places}
+use Rattle.core_relation.proofs.below.task_machine.{same_line, int_same, words_for_some}
 use Rattle.shared_value.specs.SharedValue.{SharedValue, accounts, value_of}
 use Rattle.shared_value.specs.Stands.{IsSharedValue}
 use Rattle.shared_value.specs.Fits.{Fits, belongings_of_part, part_of}

@@ -1,19 +1,12 @@
 -- Entries that move nothing: the end of fuel, a chunk, and the end of the pool.
 use Rattle.std.proofs.Common.{◌≡◌, ℕ, Option, Some, None, [], ◌∷◌, ◌++◌, length, slice_get, inl, refl, ap, sym, ◌∙◌}
 use Rattle.std.specs.Option.{option_flatten}
-use Rattle.listed.specs.RoomyValue.{RoomyValue}
-use Rattle.hh_model.specs.declared.data.State.{State}
-use Rattle.hh_model.specs.Effect.{row_of}
-use Rattle.hh_model.specs.Step.{is_joined}
-use Rattle.run_trace.specs.declared.entry.Kind.TheVariants.{Fuel}
-use Rattle.run_trace.specs.Entry.{EntryValue}
-use Rattle.run_ledger.specs.declared.data.Heap.{Heap}
-use Rattle.run_ledger.specs.declared.data.Ledger.{Ledger}
-use Rattle.run_ledger.specs.declared.data.RunEnd.TheVariants.{Fuel as FuelEnd}
-use Rattle.run_ledger.specs.Heaps.{heap_of}
-use Rattle.run_ledger.specs.Entries.{after}
+use Rattle.core_relation.specs.below.listed.{RoomyValue}
+use Rattle.core_relation.specs.below.hh_model.{State, row_of, is_joined}
+use Rattle.core_relation.specs.below.run_trace.{Fuel, EntryValue}
+use Rattle.core_relation.specs.below.run_ledger.{Heap, Ledger, Fuel as FuelEnd, heap_of, after}
 use Rattle.alloc_path.specs.LeafHeapValue.{LeafHeapValue as HeapOf}
-use Rattle.ledger_step_laws.specs.Accounts.{Rests, rested}
+use Rattle.core_relation.specs.below.ledger_step_laws.{Rests, rested}
 use Rattle.core_relation.specs.Memory.{Memory}
 use Rattle.core_relation.specs.Changes.{SameObjects}
 use Rattle.core_relation.specs.Counts.{CountsGo, IsMarked, IsQuiet}
@@ -26,8 +19,7 @@ use Rattle.core_relation.proofs.changes.Alone.{belongings_kept}
 use Rattle.core_entry_laws.proofs.parts.OwnFits.{quiet_fits_then}
 use Rattle.core_entry_laws.proofs.whole.EntriesWhole.{quiet_stands_for}
 use Rattle.core_entry_laws.proofs.parts.WorkersPast.{quiet_leaves}
-use Rattle.task_machine.specs.declared.part.Begun.{Begun}
-use Rattle.task_machine.specs.declared.part.Private.{Private}
+use Rattle.core_relation.specs.below.task_machine.{Begun, Private}
 use Rattle.shared_value.specs.SharedValue.{SharedValue, accounts, tree_counts_of, value_of}
 use Rattle.shared_value.specs.Measured.{IsMeasured, KeepsUnits}
 use Rattle.shared_value.specs.Stands.{HeapForm, IsSharedValue}

@@ -1,10 +1,7 @@
 -- The objects that are read of chunks: their names, and how many there are.
 use Rattle.std.proofs.Common.{◌≡◌, ℕ, ◌+◌, ◌++◌, arith, None, List, [], ◌∷◌, All, length, length-append, refl}
 use Rattle.std.proofs.lemmas.List.Elements.{All-head, All-tail}
-use Rattle.object_layout.specs.Cell.{Born, Cell, Hole, Mark, Moved, moved_to, size_of}
-use Rattle.object_layout.specs.Chunks.{held_size, object_count, one_each, sum_in}
-use Rattle.object_layout.specs.ChunkValue.{ChunkValue}
-use Rattle.object_layout.specs.Objects.{located_by, objects_from}
+use Rattle.core_relation.specs.below.object_layout.{Born, Cell, Hole, Mark, Moved, moved_to, size_of, held_size, object_count, one_each, sum_in, ChunkValue, located_by, objects_from}
 use Rattle.alloc_path.specs.LeafHeapValue.{AreTidy, IsTidy}
 use Rattle.core_relation.specs.Memory.{objects_in}
 use Rattle.shared_value.specs.Objects.{chunk_of, chunks_of}

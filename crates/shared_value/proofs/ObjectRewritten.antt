@@ -3,23 +3,14 @@ use Rattle.std.proofs.Common.{◌≡◌, ℕ, ◌+◌, ◌-◌, ◌*◌, ◌/◌
 use Rattle.std.proofs.lemmas.Bool.{cond-true, eqb-true, false≢true}
 use Rattle.std.proofs.lemmas.List.{length-map}
 use Rattle.std.proofs.lemmas.List.Elements.{All-cons, All-head, All-nil, All-tail}
-use Rattle.listed.proofs.Places.{in_map, map_in}
-use Rattle.object_layout.specs.declared.word.Addr.{Addr}
-use Rattle.object_layout.specs.Cell.{Born, Cell, Hole, Mark, Moved, moved_to, size_of}
-use Rattle.object_layout.specs.Chunks.{cell_of, chunk_at, put_object, same_address, with_cell}
-use Rattle.object_layout.specs.ChunkValue.{ChunkValue}
-use Rattle.object_layout.specs.Place.{cell_at, words_in}
-use Rattle.object_layout.specs.Objects.{Located, changed_at, located_by, objects_from, objects_of, with_fields}
-use Rattle.object_layout.proofs.ChunkLaws.{length-put}
-use Rattle.object_layout.proofs.ObjectChanges.{put_changes_one}
-use Rattle.object_layout.proofs.Distinct.{same_is}
+use Rattle.core_relation.proofs.below.listed.{in_map, map_in}
+use Rattle.core_relation.specs.below.object_layout.{Addr, Born, Cell, Hole, Mark, Moved, moved_to, size_of, cell_of, chunk_at, put_object, same_address, with_cell, ChunkValue, cell_at, words_in, Located, changed_at, located_by, objects_from, objects_of, with_fields}
+use Rattle.core_relation.proofs.below.object_layout.{length-put, put_changes_one, same_is}
 use Rattle.alloc_path.specs.LeafHeapValue.{AreApart, LeafHeapValue, IsTidy, room_at, room_of, units}
 use Rattle.core_relation.specs.Memory.{Chunk, In, mapped_chunk, objects_in, put_at}
 use Rattle.core_relation.proofs.objects.Members.{in_chunk, in_objects}
-use Rattle.task_machine.specs.Accounts.{IsLastLarge, IsLastSmall}
-use Rattle.task_machine.specs.Outline.{outline_of_cell, outline_of_chunk}
-use Rattle.task_machine.proofs.Outlines.{outline_at, outline_size, written_outline}
-use Rattle.task_machine.proofs.Written.{shape_written}
+use Rattle.core_relation.specs.below.task_machine.{IsLastLarge, IsLastSmall, outline_of_cell, outline_of_chunk}
+use Rattle.core_relation.proofs.below.task_machine.{outline_at, outline_size, written_outline, shape_written}
 use Rattle.shared_value.specs.Objects.{AreNear, chunk_of, chunks_of}
 use Rattle.shared_value.specs.Stands.{HeapForm}
 use Rattle.shared_value.proofs.CellsRead.{fresh_off, numbered}

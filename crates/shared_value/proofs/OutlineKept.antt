@@ -1,23 +1,14 @@
 -- A run of private steps keeps the places of objects: it only adds to chunks that are there.
 use Rattle.std.proofs.Common.{◌≡◌, ℕ, zero, suc, ◌-◌, Bool, true, false, cond, Option, Some, None, List, [], ◌∷◌, map, nat_le, slice_set, ◌==◌, inl, inr, refl, ap, sym, subst, ◌∙◌}
-use Rattle.listed.proofs.Places.{in_map, map_in}
-use Rattle.hh_lang.specs.Form.{ProgramText}
-use Rattle.hh_model.specs.declared.data.State.{State}
-use Rattle.hh_model.specs.Step.{asked}
-use Rattle.object_layout.specs.declared.word.Addr.{Addr}
-use Rattle.object_layout.specs.Cell.{Cell, no_cell, size_of}
-use Rattle.object_layout.specs.Chunks.{cell_of, chunk_at}
-use Rattle.object_layout.specs.ChunkValue.{ChunkValue}
-use Rattle.object_layout.specs.Place.{cell_at}
+use Rattle.core_relation.proofs.below.listed.{in_map, map_in}
+use Rattle.core_relation.specs.below.hh_lang.{ProgramText}
+use Rattle.core_relation.specs.below.hh_model.{State, asked}
+use Rattle.core_relation.specs.below.object_layout.{Addr, Cell, no_cell, size_of, cell_of, chunk_at, ChunkValue, cell_at}
 use Rattle.alloc_path.specs.LeafHeapValue.{LeafHeapValue, place_for, placed}
 use Rattle.alloc_path.proofs.PlacedLaws.{cell_of-others}
 use Rattle.core_relation.specs.Memory.{In}
-use Rattle.task_machine.specs.declared.part.Private.{Private}
-use Rattle.task_machine.specs.Outline.{outline_after, outline_by, outline_of, outline_of_cell, outline_of_chunk, steps}
-use Rattle.task_machine.specs.Place.{Places}
-use Rattle.task_machine.specs.Run.{Ran}
-use Rattle.task_machine.proofs.Outlines.{outline_size}
-use Rattle.task_machine.proofs.Owned.{born_is}
+use Rattle.core_relation.specs.below.task_machine.{Private, outline_after, outline_by, outline_of, outline_of_cell, outline_of_chunk, steps, Places, Ran}
+use Rattle.core_relation.proofs.below.task_machine.{outline_size, born_is}
 use Rattle.shared_value.specs.Again.{KeepsPlaces}
 
 mark_at : (cs : List Cell) (off : ℕ) → (cell_at (map outline_of_cell cs) off).mark ≡ (cell_at cs off).mark

@@ -1,11 +1,7 @@
 -- In a program a pack takes few registers.
 use Rattle.std.proofs.Common.{◌≡◌, ℕ, ◌≤◌, Option, Some, None, length, slice_get, refl}
-use Rattle.listed.proofs.Places.{all_at}
-use Rattle.hh_lang.specs.declared.instr.Instr.{Instr}
-use Rattle.hh_lang.specs.declared.instr.Instr.TheVariants.{Pack}
-use Rattle.hh_lang.specs.declared.program.Fun.{Fun}
-use Rattle.hh_lang.specs.declared.program.Line.{Line}
-use Rattle.hh_lang.specs.Form.{IsFunction, IsProgram, NamesExist, ProgramText, code_of, line_at}
+use Rattle.core_relation.proofs.below.listed.{all_at}
+use Rattle.core_relation.specs.below.hh_lang.{Instr, Pack, Fun, Line, IsFunction, IsProgram, NamesExist, ProgramText, code_of, line_at}
 
 abbrev pub IsFew : Instr → Type 0
 IsFew (Pack d r i) = (r ≤ 16) × (i ≤ 16)

@@ -3,47 +3,17 @@ use Rattle.std.proofs.Common.{◌≡◌, ℕ, ◌+◌, ◌<◌, ◌≤◌, ◌==
 use Rattle.std.specs.Prelude.{option_map}
 use Rattle.std.proofs.lemmas.Bool.{cases_eq, cond-true, cond-false, eqb-true, ltb-true, false≢true, both_ways}
 use Rattle.std.proofs.lemmas.Option.{same_Some}
-use Rattle.listed.proofs.Places.{in_got, in_map}
-use Rattle.hh_model.specs.declared.data.Frame.{Frame as ModelFrame}
-use Rattle.hh_model.specs.declared.data.Name.{Name}
-use Rattle.hh_model.specs.declared.data.Object.{Object}
-use Rattle.hh_model.specs.declared.data.Status.TheVariants.{Running}
-use Rattle.hh_model.specs.declared.data.State.{State}
-use Rattle.hh_model.specs.Effect.{object_at}
-use Rattle.hh_model.specs.Step.{is_joined, is_on_path, is_waiting, owner_of, parents, run, run_from, runs, start}
-use Rattle.hh_model.proofs.Counts.{run_on}
-use Rattle.hh_model.proofs.ForkJoinStates.{start_is_fork_join_state}
-use Rattle.hh_model.proofs.Paths.{path_along, path_le}
-use Rattle.hh_model.proofs.Runs.{runs_idle, runs_live}
-use Rattle.hh_model.proofs.Sizes.{limit_from}
-use Rattle.run_trace.specs.Settings.{field_limit}
-use Rattle.run_trace.specs.declared.entry.Kind.TheVariants.{Ran}
-use Rattle.run_ledger.specs.declared.data.Heap.{Heap}
-use Rattle.run_ledger.specs.declared.data.Ledger.{Ledger}
-use Rattle.run_ledger.specs.Heaps.{heap_of, let_go}
-use Rattle.run_ledger.specs.Journals.{tasks_of}
-use Rattle.run_ledger.specs.Reachable.{is_name}
-use Rattle.run_ledger.specs.Steps.{task_steps}
-use Rattle.run_ledger.proofs.Holders.{tasks_are_out_once}
-use Rattle.run_ledger.proofs.Machine.{kind_machine, machine_is_run, heap_machine}
-use Rattle.run_ledger.proofs.Members.{is_name_itself, same_from_is_name}
-use Rattle.run_ledger.proofs.Sound.{SoundLedger}
-use Rattle.run_ledger.proofs.Going.{machine_goes_on}
-use Rattle.run_ledger.proofs.Booked.{wait_run}
-use Rattle.object_layout.specs.declared.word.Addr.{Addr}
-use Rattle.object_layout.specs.declared.word.Birth.{Birth}
-use Rattle.object_layout.specs.Cell.{Born, Cell}
-use Rattle.object_layout.specs.Chunks.{cell_of, place_in, place_of}
-use Rattle.object_layout.specs.ChunkValue.{ChunkValue}
-use Rattle.object_layout.specs.Objects.{Located, located}
+use Rattle.core_relation.proofs.below.listed.{in_got, in_map}
+use Rattle.core_relation.specs.below.hh_model.{Frame as ModelFrame, Name, Object, Running, State, object_at, is_joined, is_on_path, is_waiting, owner_of, parents, run, run_from, runs, start}
+use Rattle.core_relation.proofs.below.hh_model.{run_on, start_is_fork_join_state, path_along, path_le, runs_idle, runs_live, limit_from}
+use Rattle.core_relation.specs.below.run_trace.{field_limit, Ran}
+use Rattle.core_relation.specs.below.run_ledger.{Heap, Ledger, heap_of, let_go, tasks_of, is_name, task_steps}
+use Rattle.core_relation.proofs.below.run_ledger.{tasks_are_out_once, kind_machine, machine_is_run, heap_machine, is_name_itself, same_from_is_name, SoundLedger, machine_goes_on, wait_run}
+use Rattle.core_relation.specs.below.object_layout.{Addr, Birth, Born, Cell, cell_of, place_in, place_of, ChunkValue, Located, located}
 use Rattle.chunk_rows.specs.View.{seen_at}
-use Rattle.task_frames.specs.declared.frames.Frame.{Frame}
-use Rattle.ledger_step_laws.specs.Accounts.{Rests, own}
-use Rattle.ledger_step_laws.specs.Accounts.{Knows}
-use Rattle.ledger_step_laws.specs.Accounts.{StepsAlone}
-use Rattle.ledger_step_laws.proofs.Rested.{rested_worker}
-use Rattle.ledger_step_laws.proofs.Known.{legal_knows}
-use Rattle.ledger_step_laws.proofs.Tree.{leaf_alone}
+use Rattle.core_relation.specs.below.task_frames.{Frame}
+use Rattle.core_relation.specs.below.ledger_step_laws.{Rests, own, Knows, StepsAlone}
+use Rattle.core_relation.proofs.below.ledger_step_laws.{rested_worker, legal_knows, leaf_alone}
 use Rattle.core_relation.specs.Memory.{Chunk, Belongings, In, Lies, Memory, as_shown, object_name, objects, objects_in, shown_at}
 use Rattle.core_relation.specs.Reads.{AllRead, FrameIsRead, FramesAreRead, HoldsRead, IsRead, Reads, TaskIsRead}
 use Rattle.core_relation.specs.Stands.{BelongingsStand, Place, Stands}
@@ -55,9 +25,7 @@ use Rattle.core_entry_laws.proofs.parts.Parts.{ahead_alone, ahead_sound}
 use Rattle.core_relation.proofs.changes.Shown.{noted_mutable}
 use Rattle.core_relation.proofs.changes.With.{at_belongings, off_belongings}
 use Rattle.core_entry_laws.proofs.parts.Quiet.{aside_is}
-use Rattle.task_machine.specs.declared.part.Private.{Private}
-use Rattle.task_machine.specs.Place.{AreAt, FrameStands, FramesStand, IsAt, birth_of, name_of}
-use Rattle.task_machine.specs.Fits.{FitsNow as FitsMachine, HeapStands, IsOwn, IsRun, IsShownBy, StackStands}
+use Rattle.core_relation.specs.below.task_machine.{Private, AreAt, FrameStands, FramesStand, IsAt, birth_of, name_of, FitsNow as FitsMachine, HeapStands, IsOwn, IsRun, IsShownBy, StackStands}
 use Rattle.shared_value.specs.Objects.{chunk_of}
 use Rattle.shared_value.specs.SharedValue.{SharedValue, accounts, frames_down, rest_at, value_of, belongings_in, belongings_by}
 use Rattle.task_homes.specs.declared.task_at_rest.Rest.{Rest}

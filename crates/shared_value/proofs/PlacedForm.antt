@@ -4,21 +4,14 @@ use Rattle.std.proofs.lemmas.Bool.{cases_eq, cases_lt, cond-true}
 use Rattle.std.proofs.lemmas.Option.{same_Some}
 use Rattle.std.proofs.lemmas.List.{get_or_default, get_or-set_other, get_or-set_same}
 use Rattle.std.proofs.lemmas.List.Elements.{All-from_get_or, All-get_or}
-use Rattle.object_layout.specs.declared.word.Birth.{Birth}
-use Rattle.object_layout.specs.Cell.{Born, Cell, moved_to, size_of}
-use Rattle.object_layout.specs.Chunks.{chunk_at, held_words, no_chunk, object_count, place_in, push_object, small_words}
-use Rattle.object_layout.specs.ChunkValue.{ChunkValue}
-use Rattle.object_layout.specs.Place.{words_in}
-use Rattle.object_layout.specs.Objects.{located, located_by, objects_from}
-use Rattle.object_layout.proofs.ObjectChanges.{appended_is_last}
-use Rattle.object_layout.proofs.PlaceLemmas.{words_in-push}
+use Rattle.core_relation.specs.below.object_layout.{Birth, Born, Cell, moved_to, size_of, chunk_at, held_words, no_chunk, object_count, place_in, push_object, small_words, ChunkValue, words_in, located, located_by, objects_from}
+use Rattle.core_relation.proofs.below.object_layout.{appended_is_last, words_in-push}
 use Rattle.alloc_path.specs.LeafHeapValue.{AreTidy, LeafHeapValue, AgreesWithChunks, IsTidy, counted, place_for, placed_at, units}
 use Rattle.alloc_path.proofs.HeapLemmas as heap
 use Rattle.alloc_path.proofs.Settled.{settled_placed}
 use Rattle.core_relation.specs.Layout.{HoldsLarge}
-use Rattle.task_machine.specs.Fits.{IsShaped}
-use Rattle.task_machine.proofs.Counted.{size_pushed}
-use Rattle.task_machine.proofs.Placed.{shape_placed}
+use Rattle.core_relation.specs.below.task_machine.{IsShaped}
+use Rattle.core_relation.proofs.below.task_machine.{size_pushed, shape_placed}
 use Rattle.shared_value.specs.Objects.{chunk_of}
 
 -- a chunk: a large one holds nothing, or one object that has just its units

@@ -1,21 +1,17 @@
 -- The roots of a part's heap are those by the accounts: what remembered fields hold, as far as it points into the heap.
 use Rattle.std.proofs.Common.{◌≡◌, ℕ, Option, Some, None, List, slice_get, refl, ap, sym, subst, ◌∙◌}
-use Rattle.run_ledger.specs.declared.data.Ledger.{Ledger}
-use Rattle.object_layout.specs.declared.word.Addr.{Addr}
-use Rattle.object_layout.specs.Cell.{Born, Cell, marked_object}
-use Rattle.object_layout.specs.Chunks.{cell_of, object_of}
-use Rattle.object_layout.specs.Objects.{Located}
-use Rattle.remembered_set.specs.declared.remembered.Source.{Source}
-use Rattle.remembered_set.specs.Moved.{AreFields}
-use Rattle.ledger_step_laws.specs.Accounts.{Rests, rested}
-use Rattle.ledger_step_laws.proofs.Rested.{rested_worker}
+use Rattle.core_relation.specs.below.run_ledger.{Ledger}
+use Rattle.core_relation.specs.below.object_layout.{Addr, Born, Cell, marked_object, cell_of, object_of, Located}
+use Rattle.core_relation.specs.below.remembered_set.{Source, AreFields}
+use Rattle.core_relation.specs.below.ledger_step_laws.{Rests, rested}
+use Rattle.core_relation.proofs.below.ledger_step_laws.{rested_worker}
 use Rattle.core_relation.specs.Begins.{AreRoots}
 use Rattle.core_relation.specs.Fits.{with_belongings}
 use Rattle.core_relation.specs.Stands.{Stands}
 use Rattle.core_relation.specs.Memory.{Belongings, In, Memory, objects, objects_in, sources}
 use Rattle.core_relation.proofs.objects.Members.{in_chunk}
 use Rattle.core_relation.proofs.changes.With.{at_belongings, off_belongings}
-use Rattle.task_machine.specs.declared.part.Private.{Private}
+use Rattle.core_relation.specs.below.task_machine.{Private}
 use Rattle.task_homes.specs.declared.task_at_rest.Rest.{Rest}
 use Rattle.shared_value.specs.Objects.{chunks_of}
 use Rattle.shared_value.specs.SharedValue.{SharedValue, accounts, belongings_in, rest_at, value_of}

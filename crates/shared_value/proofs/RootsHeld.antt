@@ -3,20 +3,13 @@ use Rattle.std.proofs.Common.{◌≡◌, ℕ, ◌<◌, arith, Bool, true, false,
 use Rattle.std.specs.Prelude.{slice_index_or}
 use Rattle.std.proofs.lemmas.Bool.{false≢true}
 use Rattle.std.proofs.lemmas.Option.{get_or_from_slice_get, same_Some, slice_get-get_or}
-use Rattle.listed.proofs.Members.{in_append_cases, in_append_left, in_append_right}
-use Rattle.listed.proofs.Places.{each_from, in_map, map_in}
-use Rattle.hh_model.specs.declared.data.Name.{Name}
-use Rattle.hh_model.specs.declared.data.Object.{Object}
-use Rattle.hh_model.specs.Effect.{object_at}
-use Rattle.run_ledger.specs.declared.data.Ledger.{Ledger}
-use Rattle.object_layout.specs.declared.word.Addr.{Addr}
-use Rattle.object_layout.specs.Chunks.{has_chunk, place_in}
-use Rattle.object_layout.specs.ChunkValue.{ChunkValue}
-use Rattle.object_layout.specs.Objects.{Located}
-use Rattle.object_layout.proofs.ObjectLemmas.{has_own}
-use Rattle.remembered_set.specs.declared.remembered.Source.{Source}
-use Rattle.remembered_set.specs.Moved.{AreFields, target_of, into, targets_of}
-use Rattle.ledger_step_laws.specs.Accounts.{Rests, own}
+use Rattle.core_relation.proofs.below.listed.{in_append_cases, in_append_left, in_append_right, each_from, in_map, map_in}
+use Rattle.core_relation.specs.below.hh_model.{Name, Object, object_at}
+use Rattle.core_relation.specs.below.run_ledger.{Ledger}
+use Rattle.core_relation.specs.below.object_layout.{Addr, has_chunk, place_in, ChunkValue, Located}
+use Rattle.core_relation.proofs.below.object_layout.{has_own}
+use Rattle.core_relation.specs.below.remembered_set.{Source, AreFields, target_of, into, targets_of}
+use Rattle.core_relation.specs.below.ledger_step_laws.{Rests, own}
 use Rattle.core_relation.specs.Begins.{AreRoots, IsRoot}
 use Rattle.core_relation.specs.Stands.{IsSource, Place, Stands}
 use Rattle.core_relation.specs.Memory.{Chunk, In, Lies, Memory, objects, objects_in, sources}

@@ -3,19 +3,14 @@ use Rattle.std.proofs.Common.{◌≡◌, ℕ, suc, ◌+◌, ◌*◌, ◌/◌, �
 use Rattle.std.specs.List.{flat_map}
 use Rattle.std.proofs.lemmas.Bool.{cond-true, cond-false, eqb-true}
 use Rattle.std.proofs.lemmas.List.Sums.{sum_by-append, sum_by-cons}
-use Rattle.hh_model.specs.declared.data.State.{State}
-use Rattle.run_ledger.specs.Heaps.{words_at, words_sum}
-use Rattle.object_layout.specs.Cell.{Born, Cell, Hole, Mark, Moved, moved_to, size_of}
-use Rattle.object_layout.specs.Chunks.{held_size, small_part, small_words, sum_in}
-use Rattle.object_layout.specs.ChunkValue.{ChunkValue}
-use Rattle.object_layout.specs.Place.{words_in}
-use Rattle.object_layout.specs.Objects.{Located, located, located_by, objects_from}
-use Rattle.object_layout.proofs.ObjectLemmas.{behind}
+use Rattle.core_relation.specs.below.hh_model.{State}
+use Rattle.core_relation.specs.below.run_ledger.{words_at, words_sum}
+use Rattle.core_relation.specs.below.object_layout.{Born, Cell, Hole, Mark, Moved, moved_to, size_of, held_size, small_part, small_words, sum_in, ChunkValue, words_in, Located, located, located_by, objects_from}
+use Rattle.core_relation.proofs.below.object_layout.{behind}
 use Rattle.alloc_path.specs.LeafHeapValue.{AreTidy, AreWithin}
 use Rattle.core_relation.specs.Layout.{HoldsLarge, words}
 use Rattle.core_relation.specs.Memory.{In, object_name}
-use Rattle.task_machine.specs.Accounts.{named_by, names_in, small_lists}
-use Rattle.task_machine.specs.Place.{name_of}
+use Rattle.core_relation.specs.below.task_machine.{named_by, names_in, small_lists, name_of}
 use Rattle.shared_value.specs.Objects.{chunk_of}
 
 -- the machine's object of this name has as many words

@@ -1,22 +1,14 @@
 -- What private steps of a task leave of the accounts.
 use Rattle.std.proofs.Common.{◌≡◌, ℕ, zero, suc, ◌+◌, ◌-◌, ◌++◌, ◌||◌, Bool, true, false, cond, Option, Some, None, List, [], ◌∷◌, slice_get, option_map, refl, ap, ap₂, sym, subst, ◌∙◌}
 use Rattle.std.proofs.lemmas.Bool.{cond-true, cond-false}
-use Rattle.listed.proofs.Members.{got_same, got_other}
-use Rattle.hh_lang.specs.Form.{ProgramText}
-use Rattle.hh_model.specs.declared.data.Name.{Name}
-use Rattle.hh_model.specs.declared.data.Status.TheVariants.{Running}
-use Rattle.hh_model.specs.declared.data.Task.{Task}
-use Rattle.hh_model.specs.declared.data.State.{State}
-use Rattle.hh_model.specs.Step.{step, can_step, goes_on, is_running, runs, asked}
-use Rattle.run_trace.specs.Settings.{SettingsValue}
-use Rattle.run_ledger.specs.declared.data.Heap.{Heap}
-use Rattle.run_ledger.specs.declared.data.Ledger.{Ledger}
-use Rattle.run_ledger.specs.Heaps.{or_fresh, fresh, placed, put_last, is_small}
-use Rattle.run_ledger.specs.Steps.{allocated_by, allocated_in, settled, moved_to, moved_on, stepped_to, task_step, task_steps, is_private, is_due, is_in_need, standing}
-use Rattle.run_ledger.proofs.Holders.{allocated_end}
-use Rattle.ledger_step_laws.specs.Accounts.{ArePrivate}
-use Rattle.ledger_step_laws.proofs.Ahead.{private_off, with_at, heap_then}
-use Rattle.ledger_step_laws.proofs.Private.{GoesOn, private_on}
+use Rattle.core_relation.proofs.below.listed.{got_same, got_other}
+use Rattle.core_relation.specs.below.hh_lang.{ProgramText}
+use Rattle.core_relation.specs.below.hh_model.{Name, Running, Task, State, step, can_step, goes_on, is_running, runs, asked}
+use Rattle.core_relation.specs.below.run_trace.{SettingsValue}
+use Rattle.core_relation.specs.below.run_ledger.{Heap, Ledger, or_fresh, fresh, placed, put_last, is_small, allocated_by, allocated_in, settled, moved_to, moved_on, stepped_to, task_step, task_steps, is_private, is_due, is_in_need, standing}
+use Rattle.core_relation.proofs.below.run_ledger.{allocated_end}
+use Rattle.core_relation.specs.below.ledger_step_laws.{ArePrivate}
+use Rattle.core_relation.proofs.below.ledger_step_laws.{private_off, with_at, heap_then, GoesOn, private_on}
 
 -- what of an account no allocation changes
 abbrev pub hold : Heap → Option ℕ × Option ℕ × List Name × Bool

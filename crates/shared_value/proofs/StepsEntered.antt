@@ -1,31 +1,15 @@
 -- Private steps are entered.
 use Rattle.std.proofs.Common.{◌≡◌, ℕ, zero, suc, ◌+◌, ◌-◌, ◌<◌, ◌≤◌, true, false, min, Bool, Option, Some, None, [], ◌∷◌, ◌++◌, map, slice_get, nat_le, is_none, is_some, inl, inr, refl, ap, sym, subst, ◌∙◌, arith, eq-eqb, le-leb}
 use Rattle.std.proofs.lemmas.Bool.{and_from}
-use Rattle.listed.specs.RoomyValue.{RoomyValue}
-use Rattle.hh_lang.specs.Form.{ProgramText}
-use Rattle.hh_model.specs.declared.data.Status.TheVariants.{Running}
-use Rattle.hh_model.specs.declared.data.State.{State}
-use Rattle.hh_model.specs.Step.{is_running, step}
-use Rattle.run_trace.specs.declared.entry.Kind.TheVariants.{Ran}
-use Rattle.run_trace.specs.Entry.{EntryValue}
-use Rattle.run_trace.specs.Settings.{SettingsValue}
-use Rattle.run_ledger.specs.declared.data.Ledger.{Ledger}
-use Rattle.run_ledger.specs.declared.data.Refused.{Refused}
-use Rattle.run_ledger.specs.declared.data.Refused.TheVariants.{NotOut, Collecting, Long}
-use Rattle.run_ledger.specs.Heaps.{heap_of, let_go}
-use Rattle.run_ledger.specs.Steps.{is_private, task_step, task_steps, most_steps, standing}
-use Rattle.run_ledger.specs.Entries.{after, is_out, kind_refusal, refused_if, refused_unless}
-use Rattle.listed.specs.Options.{option_is}
-use Rattle.listed.proofs.Options.{none_of}
-use Rattle.run_ledger.proofs.Bounds.{ran_tells}
-use Rattle.run_ledger.proofs.Sound.{collecting}
-use Rattle.run_ledger.proofs.Journals.{collecting_is}
-use Rattle.run_ledger.proofs.Machine.{heap_machine, task_step_machine}
-use Rattle.run_ledger.proofs.Steps.{steps_last}
-use Rattle.ledger_step_laws.specs.Accounts.{ArePrivate, aside}
-use Rattle.ledger_step_laws.specs.Last.{Private as PrivateKind, Runs}
-use Rattle.ledger_step_laws.proofs.Rested.{rested_worker}
-use Rattle.ledger_step_laws.proofs.Split.{entry_runs}
+use Rattle.core_relation.specs.below.listed.{RoomyValue, option_is}
+use Rattle.core_relation.specs.below.hh_lang.{ProgramText}
+use Rattle.core_relation.specs.below.hh_model.{Running, State, is_running, step}
+use Rattle.core_relation.specs.below.run_trace.{Ran, EntryValue, SettingsValue}
+use Rattle.core_relation.specs.below.run_ledger.{Ledger, Refused, NotOut, Collecting, Long, heap_of, let_go, is_private, task_step, task_steps, most_steps, standing, after, is_out, kind_refusal, refused_if, refused_unless}
+use Rattle.core_relation.proofs.below.listed.{none_of}
+use Rattle.core_relation.proofs.below.run_ledger.{ran_tells, collecting, collecting_is, heap_machine, task_step_machine, steps_last}
+use Rattle.core_relation.specs.below.ledger_step_laws.{ArePrivate, aside, Private as PrivateKind, Runs}
+use Rattle.core_relation.proofs.below.ledger_step_laws.{rested_worker, entry_runs}
 use Rattle.core_relation.specs.Layout.{reserved_chunks, reserved_units}
 use Rattle.core_relation.specs.Memory.{Chunk, Belongings, Memory}
 use Rattle.core_relation.specs.Fits.{ahead, part_for, with_belongings}
@@ -33,10 +17,7 @@ use Rattle.core_relation.specs.Frames.{IsSteady}
 use Rattle.core_relation.specs.Stands.{HasNames, BelongingsStand}
 use Rattle.core_relation.specs.Worker.{WorkerFits}
 use Rattle.core_relation.proofs.changes.With.{at_belongings}
-use Rattle.task_machine.specs.declared.part.Private.{Private}
-use Rattle.task_machine.specs.Accounts.{IsCounted}
-use Rattle.task_machine.specs.Fits.{unended}
-use Rattle.task_machine.specs.Outline.{steps}
+use Rattle.core_relation.specs.below.task_machine.{Private, IsCounted, unended, steps}
 use Rattle.shared_value.specs.SharedValue.{SharedValue, accounts, value_of}
 use Rattle.shared_value.specs.Stands.{IsSharedValue}
 use Rattle.shared_value.specs.Fits.{Fits, OthersFit, beyond, belongings_of_part, part_of}

@@ -2,13 +2,10 @@
 -- shared value, which the parts of other workers fit, and that of its own where it goes on.
 use Rattle.std.proofs.Common.{◌≡◌, ℕ, suc, None, slice_get, refl}
 use Rattle.std.specs.Option.{option_flatten}
-use Rattle.run_trace.specs.declared.entry.Kind.TheVariants.{Ran}
-use Rattle.run_trace.specs.Entry.{EntryValue}
-use Rattle.run_ledger.specs.declared.data.Ledger.{Ledger}
-use Rattle.run_ledger.specs.Entries.{after}
-use Rattle.run_ledger.specs.Steps.{task_steps}
-use Rattle.task_frames.specs.FramesValue.{FramesValue}
-use Rattle.ledger_step_laws.specs.Last.{LastKind, Private as PrivateKind, Reading, Writing, Printing, Forking, Ending, Joining, Finishing, Halting, Runs}
+use Rattle.core_relation.specs.below.run_trace.{Ran, EntryValue}
+use Rattle.core_relation.specs.below.run_ledger.{Ledger, after, task_steps}
+use Rattle.core_relation.specs.below.task_frames.{FramesValue}
+use Rattle.core_relation.specs.below.ledger_step_laws.{LastKind, Private as PrivateKind, Reading, Writing, Printing, Forking, Ending, Joining, Finishing, Halting, Runs}
 use Rattle.core_relation.specs.Fits.{part_for}
 use Rattle.core_relation.specs.Makes.{BelongingsAfter, Makes, taken_by}
 use Rattle.core_relation.specs.Marks.{Marks}
@@ -18,7 +15,7 @@ use Rattle.core_relation.specs.Worker.{WorkerFits}
 use Rattle.core_entry_laws.proofs.parts.RanFits.{ran_fits_then}
 use Rattle.core_entry_laws.proofs.parts.Workers.{ran_leaves}
 use Rattle.core_entry_laws.proofs.whole.RanWhole.{ran_stands_for}
-use Rattle.task_machine.specs.declared.part.Private.{Private}
+use Rattle.core_relation.specs.below.task_machine.{Private}
 use Rattle.shared_value.specs.SharedValue.{SharedValue, accounts, tree_counts_of, value_of}
 use Rattle.shared_value.specs.Measured.{IsMeasured}
 use Rattle.shared_value.specs.Stands.{IsSharedValue}

@@ -3,30 +3,17 @@ use Rattle.std.proofs.Common.{◌≡◌, ℕ, ◌<◌, Bool, true, false, not, �
 use Rattle.std.specs.Option.{option_flatten}
 use Rattle.std.specs.Prelude.{IsSome}
 use Rattle.std.proofs.lemmas.Bool.{and_parts, false≢true, ltb-true}
-use Rattle.listed.specs.RoomyValue.{RoomyValue}
-use Rattle.listed.proofs.Members.{got_same, got_other, got_within}
-use Rattle.listed.proofs.Places.{got_set}
-use Rattle.listed.proofs.Options.{none_is, none_some}
-use Rattle.hh_model.specs.declared.data.Name.{Name}
-use Rattle.hh_model.specs.declared.data.Task.{Task}
-use Rattle.hh_model.specs.declared.data.Status.TheVariants.{Running}
-use Rattle.hh_model.specs.Step.{is_running, parent_of, parents}
-use Rattle.hh_model.proofs.Steps.{runs_is}
-use Rattle.run_trace.specs.declared.entry.Kind.TheVariants.{Took}
-use Rattle.run_trace.specs.Entry.{EntryValue}
-use Rattle.run_trace.specs.Settings.{field_limit}
-use Rattle.run_ledger.specs.declared.data.Ledger.{Ledger}
-use Rattle.run_ledger.specs.Heaps.{heap_of}
-use Rattle.run_ledger.specs.declared.data.Refused.{Refused}
-use Rattle.run_ledger.specs.declared.data.Refused.TheVariants.{NoWorker, Over, Spent}
-use Rattle.run_ledger.specs.Entries.{after, out_from, is_fuel, is_ready, kind_refusal, refused_holding, refused_if, refused_unless}
-use Rattle.run_ledger.proofs.Journals.{entry_tells, none_unless}
-use Rattle.object_layout.specs.declared.word.Addr.{Addr}
-use Rattle.task_frames.specs.FramesValue.{FramesValue}
-use Rattle.heap_tree.specs.declared.state.State.{State}
-use Rattle.heap_tree.specs.declared.state.State.TheVariants.{Out}
-use Rattle.heap_tree.specs.Node.{Node, set_at, with_state, parent_in, parent_of as parent_in_tree}
-use Rattle.ledger_step_laws.specs.Accounts.{Rests}
+use Rattle.core_relation.specs.below.listed.{RoomyValue}
+use Rattle.core_relation.proofs.below.listed.{got_same, got_other, got_within, got_set, none_is, none_some}
+use Rattle.core_relation.specs.below.hh_model.{Name, Task, Running, is_running, parent_of, parents}
+use Rattle.core_relation.proofs.below.hh_model.{runs_is}
+use Rattle.core_relation.specs.below.run_trace.{Took, EntryValue, field_limit}
+use Rattle.core_relation.specs.below.run_ledger.{Ledger, heap_of, Refused, NoWorker, Over, Spent, after, out_from, is_fuel, is_ready, kind_refusal, refused_holding, refused_if, refused_unless}
+use Rattle.core_relation.proofs.below.run_ledger.{entry_tells, none_unless}
+use Rattle.core_relation.specs.below.object_layout.{Addr}
+use Rattle.core_relation.specs.below.task_frames.{FramesValue}
+use Rattle.core_relation.specs.below.heap_tree.{State, Out, Node, set_at, with_state, parent_in, parent_of as parent_in_tree}
+use Rattle.core_relation.specs.below.ledger_step_laws.{Rests}
 use Rattle.core_relation.specs.Memory.{Belongings, Memory}
 use Rattle.core_relation.specs.Changes.{SameBut}
 use Rattle.core_relation.specs.Counts.{TakesNode}
@@ -39,7 +26,7 @@ use Rattle.core_relation.specs.Whole.{StandsFor}
 use Rattle.core_entry_laws.proofs.whole.EntriesWhole.{took_stands_for}
 use Rattle.core_entry_laws.proofs.parts.TookFits.{took_fits_then}
 use Rattle.core_entry_laws.proofs.parts.WorkersPast.{took_leaves}
-use Rattle.task_machine.specs.declared.part.Private.{Private}
+use Rattle.core_relation.specs.below.task_machine.{Private}
 use Rattle.task_homes.specs.declared.task_at_rest.Rest.{Rest}
 use Rattle.task_homes.specs.declared.task_at_rest.Work.{Work}
 use Rattle.task_homes.specs.declared.task_at_rest.Work.TheVariants.{Calls, Result}

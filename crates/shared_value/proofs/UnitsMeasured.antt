@@ -3,19 +3,14 @@ use Rattle.std.proofs.Common.{◌≡◌, ℕ, ◌*◌, ◌/◌, ◌==◌, ◌++�
 use Rattle.std.specs.Prelude.{IsSome}
 use Rattle.std.proofs.lemmas.Bool.{cases_Bool, cases_eq, cond-false, cond-true, false≢true}
 use Rattle.std.proofs.lemmas.Option.{same_Some}
-use Rattle.listed.proofs.Options.{none_some}
-use Rattle.listed.proofs.Places.{map_in, read_in}
-use Rattle.object_layout.specs.declared.word.Addr.{Addr}
-use Rattle.object_layout.specs.Cell.{Cell}
-use Rattle.object_layout.specs.Chunks.{has_chunk, place_in, put_object, with_cell}
-use Rattle.object_layout.specs.ChunkValue.{ChunkValue, number_of}
-use Rattle.chunk_pool.specs.declared.pool.Slot.{Slot}
-use Rattle.chunk_pool.specs.PoolValue.{PoolValue, Takes, TakesAll, slot_at, slot_in, one_unit, owner_of}
+use Rattle.core_relation.proofs.below.listed.{none_some, map_in, read_in}
+use Rattle.core_relation.specs.below.object_layout.{Addr, Cell, has_chunk, place_in, put_object, with_cell, ChunkValue, number_of}
+use Rattle.task_homes.specs.below.chunk_pool.{Slot, PoolValue, Takes, TakesAll, slot_at, slot_in, one_unit, owner_of}
 use Rattle.alloc_path.specs.LeafHeapValue.{IsFresh}
-use Rattle.inner_mark_gc.specs.Swept.{AreGiven}
+use Rattle.core_relation.specs.below.inner_mark_gc.{AreGiven}
 use Rattle.fork_join.specs.Joined.{AreRelabelled, with_owner}
 use Rattle.core_relation.specs.Memory.{In}
-use Rattle.task_machine.specs.declared.part.Private.{Private}
+use Rattle.core_relation.specs.below.task_machine.{Private}
 use Rattle.shared_value.specs.Measured.{AreMeasured, AreUnits, IsMeasured, KeepsUnits}
 use Rattle.shared_value.proofs.CellsRead.{fresh_off}
 use Rattle.shared_value.proofs.FieldsNoted.{fresh_by}

@@ -2,18 +2,11 @@
 use Rattle.std.specs.Prelude.{ℕ, ◌&&◌, not, Bool, true, false, Option, Some, None, is_some, nat_le, nat_lt}
 use Rattle.std.specs.Option.{option_flatten}
 use Rattle.std.specs.Prelude.{slice_get}
-use Rattle.run_trace.specs.declared.entry.Kind.{Kind}
-use Rattle.run_trace.specs.declared.entry.Kind.TheVariants.{Took, Ran, Chunk, Begin, End, PutOff, Mark, More, Sweep, Fuel}
-use Rattle.run_trace.specs.Settings.{SettingsValue}
-use Rattle.run_ledger.specs.declared.data.Refused.{Refused}
-use Rattle.run_ledger.specs.declared.data.Refused.TheVariants.{Collecting, Due, Over, Spent, NoWorker, NotNeeded, NotReady, NotSpent}
-use Rattle.run_ledger.specs.declared.data.RunEnd.{RunEnd}
-use Rattle.run_ledger.specs.Entries.{refused_if, refused_unless, refused_holding}
+use Rattle.core_relation.specs.below.run_trace.{Kind, Took, Ran, Chunk, Begin, End, PutOff, Mark, More, Sweep, Fuel, SettingsValue}
+use Rattle.core_relation.specs.below.run_ledger.{Refused, Collecting, Due, Over, Spent, NoWorker, NotNeeded, NotReady, NotSpent, RunEnd, refused_if, refused_unless, refused_holding}
 use Rattle.alloc_path.specs.LeafHeapValue.{place_for, room_of}
-use Rattle.heap_tree.specs.declared.state.State.{State}
-use Rattle.heap_tree.specs.declared.state.State.TheVariants.{Ready, Out, Waiting, Ended, Joined}
-use Rattle.heap_tree.specs.Node.{state_of}
-use Rattle.task_machine.specs.declared.part.Private.{Private}
+use Rattle.core_relation.specs.below.heap_tree.{State, Ready, Out, Waiting, Ended, Joined, state_of}
+use Rattle.core_relation.specs.below.task_machine.{Private}
 use Rattle.shared_value.specs.SharedValue.{SharedValue}
 
 -- the causes that come before what the entry says

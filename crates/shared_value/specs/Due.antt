@@ -1,11 +1,7 @@
 -- When a leaf collection of a part is due, why it neither begins nor is put off, and how many chunks it takes.
 use Rattle.std.specs.Prelude.{ℕ, ◌*◌, ◌-◌, Option, None, max, is_some}
-use Rattle.run_ledger.specs.declared.data.Refused.{Refused}
-use Rattle.run_ledger.specs.declared.data.Refused.TheVariants.{Collecting, NotDue}
-use Rattle.run_ledger.specs.Entries.{refused_if, refused_unless}
-use Rattle.run_ledger.specs.Heaps.{units}
-use Rattle.task_machine.specs.declared.part.Private.{Private}
-use Rattle.task_machine.specs.Steps.{is_part_due}
+use Rattle.core_relation.specs.below.run_ledger.{Refused, Collecting, NotDue, refused_if, refused_unless, units}
+use Rattle.core_relation.specs.below.task_machine.{Private, is_part_due}
 use Rattle.shared_value.specs.SharedValue.{SharedValue}
 use Rattle.shared_value.specs.Fits.{Fits}
 

@@ -1,10 +1,9 @@
 -- What a call answers by the ledger's refusal, and the journal after an entry.
 use Rattle.std.specs.Prelude.{◌≡◌, ◌++◌, ◌∷◌, [], Option, Some, None, Result, Ok, Err}
-use Rattle.run_trace.specs.Entry.{EntryValue}
-use Rattle.run_ledger.specs.declared.data.Refused.{Refused}
-use Rattle.run_ledger.specs.Entries.{refusal}
+use Rattle.core_relation.specs.below.run_trace.{EntryValue}
+use Rattle.core_relation.specs.below.run_ledger.{Refused, refusal}
 use Rattle.alloc_path.specs.LeafHeapValue.{with_places}
-use Rattle.task_machine.specs.declared.part.Private.{Private}
+use Rattle.core_relation.specs.below.task_machine.{Private}
 use Rattle.shared_value.specs.declared.answer.NotEntered.{NotEntered}
 use Rattle.shared_value.specs.declared.answer.NotEntered.TheVariants.{NoMemory, Refuses}
 use Rattle.shared_value.specs.declared.answer.NotRan.{NotRan}

@@ -1,16 +1,14 @@
 -- The part that a worker holds fits the shared value.
 use Rattle.std.specs.Prelude.{◌≡◌, ◌≢◌, ℕ, pos, Some, None}
-use Rattle.hh_lang.specs.Form.{ProgramText}
-use Rattle.run_trace.specs.Settings.{SettingsValue, field_limit}
-use Rattle.run_ledger.specs.declared.data.Ledger.{Ledger}
-use Rattle.run_ledger.specs.Heaps.{heap_of}
-use Rattle.run_ledger.specs.Steps.{task_steps}
-use Rattle.task_frames.specs.FramesValue.{FramesValue}
-use Rattle.ledger_step_laws.specs.Accounts.{aside, rested}
+use Rattle.core_relation.specs.below.hh_lang.{ProgramText}
+use Rattle.core_relation.specs.below.run_trace.{SettingsValue, field_limit}
+use Rattle.core_relation.specs.below.run_ledger.{Ledger, heap_of, task_steps}
+use Rattle.core_relation.specs.below.task_frames.{FramesValue}
+use Rattle.core_relation.specs.below.ledger_step_laws.{aside, rested}
 use Rattle.core_relation.specs.Memory.{Belongings}
 use Rattle.core_relation.specs.Fits.{Part, part_for}
 use Rattle.core_relation.specs.Worker.{WorkerFits}
-use Rattle.task_machine.specs.declared.part.Private.{Private}
+use Rattle.core_relation.specs.below.task_machine.{Private}
 use Rattle.task_homes.specs.declared.task_at_rest.Rest.{Rest}
 use Rattle.task_homes.specs.declared.task_at_rest.Work.{Work}
 use Rattle.task_homes.specs.declared.task_at_rest.Work.TheVariants.{Calls, Result}

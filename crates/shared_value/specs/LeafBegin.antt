@@ -1,15 +1,12 @@
 -- What a part and its worker have once its leaf collection has begun.
 use Rattle.std.specs.Prelude.{◌≡◌, All, List, Some, length, map, vec_len}
-use Rattle.object_layout.specs.declared.word.Addr.{Addr}
-use Rattle.object_layout.specs.Chunks.{small_words}
-use Rattle.object_layout.specs.ChunkValue.{number_of}
-use Rattle.object_layout.specs.Graph.{IsSound}
+use Rattle.core_relation.specs.below.object_layout.{Addr, small_words, number_of, IsSound}
 use Rattle.alloc_path.specs.LeafHeapValue.{AreApart, IsFresh, with_places}
 use Rattle.leaf_copy_gc.specs.declared.lists.ToChunks.{ToChunks}
 use Rattle.leaf_copy_gc.specs.Laid.{AreNew}
 use Rattle.leaf_copy_gc.specs.Lists.{AreReserved}
 use Rattle.leaf_copy_gc.specs.Survivors.{as_reference}
-use Rattle.task_machine.specs.declared.part.Private.{Private}
+use Rattle.core_relation.specs.below.task_machine.{Private}
 use Rattle.shared_value.specs.Due.{take_by}
 
 -- the part keeps the roots and the numbers of the new chunks; these are empty, so many as the collection takes, and

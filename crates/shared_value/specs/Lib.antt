@@ -11,3 +11,4 @@ pub mod LeafBegin
 pub mod Links
 pub mod Again
 pub mod Measured
+pub mod below

@@ -1,17 +1,12 @@
 -- The first meaning of a part that fits: the machine after its fresh steps, and where the shared value has the names of
 -- the tasks above it.
 use Rattle.std.specs.Prelude.{ℕ, ◌==◌, Option, Some, None, List, [], ◌∷◌, if◌then◌else◌, is_none}
-use Rattle.hh_model.specs.declared.data.Name.{Name}
-use Rattle.run_ledger.specs.declared.data.Ledger.{Ledger}
-use Rattle.run_ledger.specs.Heaps.{heap_of}
-use Rattle.run_ledger.specs.Reachable.{is_name}
-use Rattle.object_layout.specs.declared.word.Addr.{Addr}
-use Rattle.object_layout.specs.Objects.{Located}
-use Rattle.ledger_step_laws.specs.Accounts.{own}
+use Rattle.core_relation.specs.below.hh_model.{Name}
+use Rattle.core_relation.specs.below.run_ledger.{Ledger, heap_of, is_name}
+use Rattle.core_relation.specs.below.object_layout.{Addr, Located}
+use Rattle.core_relation.specs.below.ledger_step_laws.{own}
 use Rattle.core_relation.specs.Memory.{Memory, object_name, objects}
-use Rattle.task_machine.specs.declared.part.Private.{Private}
-use Rattle.task_machine.specs.Place.{Places}
-use Rattle.task_machine.specs.Fits.{FitsNow as FitsMachine}
+use Rattle.core_relation.specs.below.task_machine.{Private, Places, FitsNow as FitsMachine}
 use Rattle.shared_value.specs.SharedValue.{SharedValue, accounts, value_of}
 use Rattle.shared_value.specs.Fits.{beyond}
 

@@ -1,12 +1,10 @@
 -- The pool knows as many units of a chunk as the chunk has words for.
 use Rattle.std.specs.Prelude.{◌≡◌, ◌≢◌, ℕ, ◌/◌, Option, Some, None, List, [], slice_get}
 use Rattle.std.specs.Option.{option_flatten}
-use Rattle.object_layout.specs.ChunkValue.{ChunkValue}
-use Rattle.object_layout.specs.Cell.{chunk_words}
-use Rattle.chunk_pool.specs.PoolValue.{PoolValue, slot_at, one_unit}
+use Rattle.core_relation.specs.below.object_layout.{ChunkValue, chunk_words}
+use Rattle.task_homes.specs.below.chunk_pool.{PoolValue, slot_at, one_unit}
 use Rattle.core_relation.specs.Memory.{In}
-use Rattle.task_machine.specs.declared.part.Begun.{Begun}
-use Rattle.task_machine.specs.declared.part.Private.{Private}
+use Rattle.core_relation.specs.below.task_machine.{Begun, Private}
 use Rattle.task_homes.specs.declared.task_at_rest.Rest.{Rest}
 use Rattle.shared_value.specs.SharedValue.{rest_at}
 

@@ -1,24 +1,12 @@
 -- What the next instruction of a part comes to, as its own frames and heap tell: the words that it allocates, and what
 -- it does where it comes to no private step.
 use Rattle.std.specs.Prelude.{ℕ, ◌+◌, ◌&&◌, ◌||◌, not, Bool, true, false, Option, Some, None, List, length, slice_get, is_some, if◌then◌else◌}
-use Rattle.hh_lang.specs.declared.instr.Instr.{Instr}
-use Rattle.hh_lang.specs.declared.instr.Instr.TheVariants.{Newm, Pack, Calc, Getr, Geti, Putr, Puti, Cntr, Cnti, Freeze, Cas, Call, Par, Ret, Out}
-use Rattle.hh_lang.specs.declared.program.Line.{Line}
-use Rattle.hh_lang.specs.Form.{ProgramText, line_at}
-use Rattle.hh_model.specs.declared.data.State.{State}
-use Rattle.hh_model.specs.declared.data.Task.{Task}
-use Rattle.hh_model.specs.declared.data.Trap.TheVariants.{Div as DivTrap, Nil as NilTrap, Range, Frozen as FrozenTrap, Size as SizeTrap, Depth as DepthTrap}
-use Rattle.hh_model.specs.Effect.{counts_in, place_in as place_in_count}
-use Rattle.hh_model.specs.Names.{words_for}
-use Rattle.hh_model.specs.Step.{fetched}
-use Rattle.run_ledger.specs.Steps.{has_no_caller, owns, touched}
-use Rattle.object_layout.specs.declared.word.Addr.{Addr}
-use Rattle.object_layout.specs.Cell.{Cell}
-use Rattle.object_layout.specs.Chunks.{object_of, place_in}
-use Rattle.object_layout.specs.ChunkValue.{ChunkValue}
-use Rattle.task_frames.specs.declared.frames.Frame.{Frame}
-use Rattle.task_machine.specs.declared.part.Private.{Private}
-use Rattle.task_frames.specs.FramesValue.{int_of, ref_of}
+use Rattle.core_relation.specs.below.hh_lang.{Instr, Newm, Pack, Calc, Getr, Geti, Putr, Puti, Cntr, Cnti, Freeze, Cas, Call, Par, Ret, Out, Line, ProgramText, line_at}
+use Rattle.core_relation.specs.below.hh_model.{State, Task, Div as DivTrap, Nil as NilTrap, Range, Frozen as FrozenTrap, Size as SizeTrap, Depth as DepthTrap, counts_in, place_in as place_in_count, words_for, fetched}
+use Rattle.core_relation.specs.below.run_ledger.{has_no_caller, owns, touched}
+use Rattle.core_relation.specs.below.object_layout.{Addr, Cell, object_of, place_in, ChunkValue}
+use Rattle.core_relation.specs.below.task_frames.{Frame, int_of, ref_of}
+use Rattle.core_relation.specs.below.task_machine.{Private}
 use Rattle.shared_value.specs.declared.next_step.Ending.{Ending}
 use Rattle.shared_value.specs.declared.next_step.Ending.TheVariants.{Prints, Returns, Traps, Beyond}
 

@@ -1,8 +1,8 @@
 -- The roots of a part's heap: what the remembered fields that point down into it hold now.
 use Rattle.std.specs.Prelude.{List, slice_get}
-use Rattle.object_layout.specs.declared.word.Addr.{Addr}
-use Rattle.remembered_set.specs.Moved.{targets_of}
-use Rattle.task_machine.specs.declared.part.Private.{Private}
+use Rattle.core_relation.specs.below.object_layout.{Addr}
+use Rattle.core_relation.specs.below.remembered_set.{targets_of}
+use Rattle.core_relation.specs.below.task_machine.{Private}
 pub use Rattle.task_homes.specs.HomesValue.{sources_of}
 use Rattle.task_homes.specs.RestingHeaps.{Resting, refs_in}
 use Rattle.shared_value.specs.SharedValue.{SharedValue}

@@ -1,22 +1,18 @@
 -- The shared value as contracts see it, and what it holds as the relation to the accounts speaks of it.
 use Rattle.std.specs.Prelude.{ℕ, ℤ, pos, Bool, false, Option, Some, None, List, [], ◌∷◌, replicate, slice_get}
 use Rattle.std.specs.Option.{option_flatten}
-use Rattle.listed.specs.RoomyValue.{RoomyValue}
-use Rattle.hh_lang.specs.Form.{ProgramText}
-use Rattle.run_trace.specs.Entry.{EntryValue}
-use Rattle.run_trace.specs.Settings.{SettingsValue}
-use Rattle.run_ledger.specs.declared.data.Ledger.{Ledger}
-use Rattle.run_ledger.specs.declared.data.RunEnd.{RunEnd}
-use Rattle.run_ledger.specs.Journals.{ledger_of}
-use Rattle.object_layout.specs.declared.word.Addr.{Addr}
-use Rattle.chunk_pool.specs.PoolValue.{PoolValue, owner_of, units_in_use}
+use Rattle.core_relation.specs.below.listed.{RoomyValue}
+use Rattle.core_relation.specs.below.hh_lang.{ProgramText}
+use Rattle.core_relation.specs.below.run_trace.{EntryValue, SettingsValue}
+use Rattle.core_relation.specs.below.run_ledger.{Ledger, RunEnd, ledger_of}
+use Rattle.core_relation.specs.below.object_layout.{Addr}
+use Rattle.task_homes.specs.below.chunk_pool.{PoolValue, owner_of, units_in_use}
 use Rattle.alloc_path.specs.LeafHeapValue.{LeafHeapValue, room_of}
 use Rattle.chunk_rows.specs.View.{Level}
-use Rattle.task_frames.specs.declared.frames.Frame.{Frame}
-use Rattle.task_frames.specs.FramesValue.{FramesValue}
-use Rattle.heap_tree.specs.Node.{Node}
-use Rattle.write_barrier.specs.declared.sets.SetOf.{SetOf}
-use Rattle.inner_mark_gc.specs.MarkingValue.{MarkingValue}
+use Rattle.core_relation.specs.below.task_frames.{Frame, FramesValue}
+use Rattle.core_relation.specs.below.heap_tree.{Node}
+use Rattle.task_homes.specs.below.write_barrier.{SetOf}
+use Rattle.core_relation.specs.below.inner_mark_gc.{MarkingValue}
 pub use Rattle.core_relation.specs.Memory.{no_belongings}
 pub use Rattle.task_homes.specs.HomesValue.{marks_at, rest_at}
 use Rattle.core_relation.specs.Memory.{Belongings, Noted, Memory}

@@ -1,16 +1,13 @@
 -- What every shared value keeps.
 use Rattle.std.specs.Prelude.{◌≡◌, ℕ, ◌<◌, ◌*◌, ◌/◌, ◌^◌, true, Some, [], length}
-use Rattle.hh_lang.specs.Form.{IsProgram}
-use Rattle.run_trace.specs.Settings.{AreSettings}
-use Rattle.run_ledger.specs.Journals.{is_legal}
-use Rattle.object_layout.specs.Chunks.{chunk_at}
-use Rattle.object_layout.specs.ChunkValue.{ChunkValue}
-use Rattle.object_layout.specs.Cell.{chunk_words}
+use Rattle.core_relation.specs.below.hh_lang.{IsProgram}
+use Rattle.core_relation.specs.below.run_trace.{AreSettings}
+use Rattle.core_relation.specs.below.run_ledger.{is_legal}
+use Rattle.core_relation.specs.below.object_layout.{chunk_at, ChunkValue, chunk_words}
 use Rattle.alloc_path.specs.LeafHeapValue.{AreTidy, AreWithin, LeafHeapValue}
 use Rattle.core_relation.specs.Memory.{In}
 use Rattle.core_relation.specs.Whole.{StandsForAll}
-use Rattle.task_machine.specs.Accounts.{IsLastLarge, IsLastSmall}
-use Rattle.task_machine.specs.Fits.{IsShaped}
+use Rattle.core_relation.specs.below.task_machine.{IsLastLarge, IsLastSmall, IsShaped}
 use Rattle.task_homes.specs.declared.task_at_rest.Rest.{Rest}
 use Rattle.shared_value.specs.Measured.{RestsAreMeasured}
 use Rattle.shared_value.specs.Objects.{AreNear, chunk_of}

@@ -1,8 +1,7 @@
 // Why a call made no entry.
 
-use run_ledger::Refused;
+use core_relation::{Private, Refused};
 use std::alloc::AllocError;
-use task_machine::Private;
 
 /// Why a call made no entry.
 #[derive(Clone, Copy)]

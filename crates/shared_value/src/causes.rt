@@ -3,8 +3,7 @@
 ghost use Rattle.std.specs.Prelude.{◌≡◌};
 ghost use Rattle.shared_value.specs.Causes.{first_cause};
 
-use run_ledger::{Refused, RunEnd};
-use run_trace::Settings;
+use core_relation::{Refused, RunEnd, Settings};
 
 /// The causes that come before what an entry says.
 pub fn first_cause(

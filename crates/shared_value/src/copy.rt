@@ -2,8 +2,7 @@
 
 ghost use Rattle.std.specs.Prelude.{◌≡◌, IfOk};
 
-use hh_lang::{Fun, Program};
-use listed::Listed;
+use core_relation::{Fun, Listed, Program};
 use std::alloc::{AllocError, Global};
 
 fn copy_function(alloc: Global, function: &Fun) -> Result<Fun, AllocError>

@@ -1,14 +1,12 @@
 // What the next instruction of a part comes to, as its own frames and heap tell.
 
 ghost use Rattle.std.specs.Prelude.{◌≡◌, ◌<◌, ◌^◌, length, IfSome};
-ghost use Rattle.hh_model.specs.Effect.{counts_in, place_in};
-ghost use Rattle.task_frames.specs.FramesValue.{int_of};
-ghost use Rattle.task_machine.specs.Ready.{IsSafe};
+ghost use Rattle.core_relation.specs.below.hh_model.{counts_in, place_in};
+ghost use Rattle.core_relation.specs.below.task_frames.{int_of};
+ghost use Rattle.core_relation.specs.below.task_machine.{IsSafe};
 ghost use Rattle.shared_value.specs.Next.{ending, instr_asks, on_own, part_asks, unwritten};
 
-use hh_lang::{Instr, IntReg, Program, RefReg};
-use hh_model::Trap;
-use task_machine::Private;
+use core_relation::{Instr, IntReg, Private, Program, RefReg, Trap};
 
 // The counts of fields that two numbers ask for, where both are counts and together within the limit.
 fn field_counts(limit: u32, refs: i64, ints: i64) -> Option<(u32, u32)>

@@ -1,11 +1,11 @@
 // The part of a task that a worker takes.
 
 ghost use Rattle.std.specs.Prelude.{◌≡◌, None};
-ghost use Rattle.task_frames.specs.FramesValue.{FramesValue};
+ghost use Rattle.core_relation.specs.below.task_frames.{FramesValue};
 ghost use Rattle.shared_value.specs.Fits.{taken_part, IsAtWork};
 
+use core_relation::Private;
 use task_homes::{Rest, Work};
-use task_machine::Private;
 
 /// The part of a task that no worker held.
 pub fn opened(rest: Rest, task: u32, leaf_limit: u64, field_limit: u32) -> Private

@@ -1,3 +1,4 @@
 pub mod Contents
 pub mod Led
 pub mod Places
+pub mod below

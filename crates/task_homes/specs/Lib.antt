@@ -1,2 +1,3 @@
 pub mod HomesValue
 pub mod RestingHeaps
+pub mod below

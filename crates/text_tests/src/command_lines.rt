@@ -1,7 +1,7 @@
 // Words that are command lines or not, and what they ask for.
 
 use command_line::{CommandLine, FileName, Options, read_command_line};
-use run_trace::Settings;
+use heap_image::Settings;
 use std::alloc::{AllocError, Global};
 
 // What words ask for: the command, its file, its numbers and its switches.

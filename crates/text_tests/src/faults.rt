@@ -1,10 +1,10 @@
 // Texts with their first faults, and codes that are programs or not.
 
+use heap_image::MOST_BYTES;
 use hh_lang::{Fun, Instr, IntReg, Line, Program, is_program};
 use listed::Listed;
 use program_reader::read_program;
 use std::alloc::{AllocError, Global};
-use text_lines::MOST_BYTES;
 
 // The line and the cause of a text's first fault; none where it has no fault.
 fn fault_of(alloc: Global, text: &[u8]) -> Option<(u32, &'static str)> {

@@ -1,9 +1,9 @@
 // What instructions are read as: the line, the name and the operands, a register as its number.
 
+use heap_image::MOST_BYTES;
 use hh_lang::{Fun, Instr, IntReg, Operator, Program, RefReg};
 use program_reader::read_program;
 use std::alloc::Global;
-use text_lines::MOST_BYTES;
 
 fn name_of(operator: Operator) -> &'static str {
     match operator {

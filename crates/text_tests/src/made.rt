@@ -1,6 +1,6 @@
 // Texts of made programs, against texts and sums that were made from the table by other means.
 
-use program_make::{SIZE_LIMIT, make};
+use command_line::{SIZE_LIMIT, make};
 use std::alloc::Global;
 
 const ONE: &[u8] =

@@ -1,9 +1,10 @@
 // Traces, settings, and inputs of a program and a trace.
 
+use heap_image::{
+    Entry, Kind, MOST_BYTES, Settings, Trace, TraceError, Version, read_trace, trace_text,
+};
 use program_reader::Cause;
-use run_trace::{Entry, Kind, Settings, Trace, TraceError, Version, read_trace, trace_text};
 use std::alloc::Global;
-use text_lines::MOST_BYTES;
 use trace_input::{InputError, InputFault, read_trace_input};
 
 const TEXT: &[u8] =

@@ -1,7 +1,7 @@
 // Lines, words and numbers of a text.
 
+use heap_image::{next_line, next_word};
 use hh_lang::{read_i64, read_u32};
-use text_lines::{next_line, next_word};
 
 // A text, its first line, and the text behind it.
 const LINES: &[(&[u8], &[u8], Option<&[u8]>)] = &[

@@ -5,6 +5,8 @@ mod objects_seen;
 mod remembered_fields;
 mod tasks_and_chunks;
 
+pub use heap_reading::{Field, InUse, Live, Seen, State};
 pub use objects_seen::objects;
 pub use remembered_fields::remembered;
+pub use shared_tree::Shared;
 pub use tasks_and_chunks::{chunk_list, live};

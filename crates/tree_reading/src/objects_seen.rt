@@ -1,13 +1,11 @@
 // The objects of the heaps of tasks that don't run, chunk by chunk.
 
 ghost use Rattle.std.specs.Prelude.{◌≡◌, All, IfOk, IfSome, None, [], map};
-ghost use Rattle.object_layout.specs.Cell.{moved_to};
-ghost use Rattle.shared_value.specs.Objects.{chunk_of};
+ghost use Rattle.heap_reading.specs.below.object_layout.{moved_to};
+ghost use Rattle.heap_reading.specs.below.shared_value.{chunk_of};
 ghost use Rattle.heap_reading.specs.Image.{objects_of, in_words, AreInWords};
 
-use heap_reading::{Seen, is_running, seen_in};
-use listed::Listed;
-use object_layout::Chunk;
+use heap_reading::{Chunk, Listed, Seen, is_running, seen_in};
 use shared_tree::Shared;
 use std::alloc::{AllocError, Global};
 

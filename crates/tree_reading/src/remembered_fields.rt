@@ -3,8 +3,7 @@
 ghost use Rattle.std.specs.Prelude.{IfOk};
 ghost use Rattle.heap_reading.specs.Image.{AreAll, FieldBefore, IsNoted};
 
-use heap_reading::{Field, fields_of};
-use listed::Listed;
+use heap_reading::{Field, Listed, fields_of};
 use shared_tree::Shared;
 use std::alloc::{AllocError, Global};
 

@@ -1,16 +1,13 @@
 // Which tasks haven't joined, and which chunks are in use.
 
 ghost use Rattle.std.specs.Prelude.{◌≡◌, IfOk, IfSome, None};
-ghost use Rattle.hh_model.specs.Step.{owner_of};
-ghost use Rattle.chunk_pool.specs.PoolValue.{AreChunks};
-ghost use Rattle.shared_value.specs.SharedValue.{accounts};
+ghost use Rattle.heap_reading.specs.below.hh_model.{owner_of};
+ghost use Rattle.heap_reading.specs.below.chunk_pool.{AreChunks};
+ghost use Rattle.heap_reading.specs.below.shared_value.{accounts};
 ghost use Rattle.heap_reading.specs.Image.{AreAll, InUseBefore, IsInUse, IsLive, LiveBefore};
 
-use heap_marking::is_joined;
-use heap_reading::{InUse, Live, live_in};
-use listed::Listed;
-use object_layout::CHUNK_WORDS;
-use shared_tree::Shared;
+use heap_reading::{CHUNK_WORDS, InUse, Listed, Live, live_in};
+use shared_tree::{Shared, is_joined};
 use std::alloc::{AllocError, Global};
 
 /// The tasks that haven't joined, by rising number.

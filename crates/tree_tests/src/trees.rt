@@ -5,13 +5,12 @@ ghost use Rattle.heap_tree.specs.Node.{depth_of};
 
 use chunk_pool::Pool;
 use heap_tree::{LinkCount, State, Tree};
-use hh_lang::DEPTH_LIMIT;
-use memory_scenes::{relabel, take};
-use object_layout::Addr;
+use memory_scenes::{DEPTH_LIMIT, relabel, take};
 use read_barrier::{Stop, check};
 use std::alloc::Global;
 use std::marker::Brand;
 use std::sync::ledger::{Blank, Ledger};
+use task_homes::Addr;
 
 // Forks a task; its children's numbers.
 fn forked(tree: &mut Tree, t: u32) -> Option<(u32, u32)> {

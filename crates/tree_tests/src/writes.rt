@@ -3,14 +3,11 @@
 ghost use Rattle.std.specs.Prelude.{IsTrue, length};
 ghost use Rattle.write_barrier.specs.Stored.{IsOwned};
 
-use alloc_path::{LeafHeap, View};
 use chunk_pool::Pool;
 use heap_tree::Tree;
 use memory_scenes::{add_taken, at, has_forked, one_frame};
-use object_layout::Addr;
-use remembered_set::Source;
 use std::alloc::Global;
-use task_homes::{Homes, Rest, Work, home_block};
+use task_homes::{Addr, Homes, LeafHeap, Rest, Source, View, Work, home_block};
 use write_barrier::note_write;
 
 // Whether a reference, if it isn't nil, leads into a chunk of a task of the tree.

@@ -1,14 +1,9 @@
 -- Which entry comes next.
 use Rattle.std.proofs.Common.{◌≡◌, ℕ, ◌<◌, ◌==◌, ◌||◌, Bool, true, false, Option, Some, None, is_some, ap, sym, subst, ◌∙◌, if◌then◌else◌, nat_le, eq-eqb, ne_eqb, arith}
-use Rattle.run_trace.specs.declared.entry.Kind.{Kind}
-use Rattle.run_trace.specs.declared.entry.Kind.TheVariants.{Begin, Fuel, PutOff, Ran}
-use Rattle.run_ledger.specs.declared.data.Refused.{Refused}
-use Rattle.run_ledger.specs.Entries.{is_pool_enough}
-use Rattle.task_machine.specs.declared.part.Private.{Private}
-use Rattle.task_machine.specs.declared.part.Paused.{Paused}
-use Rattle.shared_value.specs.Causes.{first_cause}
-use Rattle.shared_value.specs.Stands.{IsSharedValue}
-use Rattle.shared_value.specs.SharedValue.{SharedValue, accounts}
+use Rattle.paced_tree.specs.below.run_trace.{Kind, Begin, Fuel, PutOff, Ran}
+use Rattle.paced_tree.specs.below.run_ledger.{Refused, is_pool_enough}
+use Rattle.paced_tree.specs.below.task_machine.{Private, Paused}
+use Rattle.paced_tree.specs.below.shared_value.{first_cause, IsSharedValue, SharedValue, accounts}
 use Rattle.paced_tree.specs.Owed.{owed_by}
 use Rattle.turn_entries.specs.declared.act.Acted.{Acted}
 use Rattle.turn_entries.specs.declared.between_turns.Ready.{Ready}

@@ -1,41 +1,17 @@
 -- Entries that aren't refused, where the worker may make one.
 use Rattle.std.proofs.Common.{◌≡◌, ℕ, ◌<◌, ◌&&◌, true, false, Bool, Option, Some, None, is_none, is_some, nat_le, nat_lt, refl, ap, sym, subst, ◌∙◌, arith}
 use Rattle.std.proofs.lemmas.Bool.{false≢true}
-use Rattle.hh_model.specs.Step.{asked}
-use Rattle.run_trace.specs.declared.entry.Kind.TheVariants.{Ran, Chunk, Begin, PutOff, Fuel, Mark, More, Sweep}
-use Rattle.run_trace.specs.Settings.{SettingsValue}
-use Rattle.run_ledger.specs.declared.data.Owed.TheVariants.{Mark as OwesMark, More as OwesMore, Sweep as OwesSweep}
-use Rattle.run_ledger.specs.declared.data.Refused.{Refused}
-use Rattle.run_ledger.specs.declared.data.Refused.TheVariants.{Collecting, Due as DueCause, NoWorker, NotDue, NotNeeded, NotSpent, Over, PoolEnough, PoolShort, Spent}
-use Rattle.run_ledger.specs.declared.data.RunEnd.{RunEnd}
-use Rattle.run_ledger.specs.Cuts.{CanBeGiven}
-use Rattle.run_ledger.specs.Entries.{is_pool_enough, kind_refusal, refused_if, refused_unless}
-use Rattle.run_ledger.specs.Heaps.{heap_of, sweep_number}
-use Rattle.run_ledger.specs.Steps.{on_asked}
-use Rattle.journal_laws.proofs.OwedEntries.{owed_can_be_given}
-use Rattle.journal_laws.proofs.Accepted.{not_refused}
-use Rattle.chunk_pool.specs.PoolValue.{units_in_use}
-use Rattle.alloc_path.specs.LeafHeapValue.{place_for, room_of}
-use Rattle.task_machine.specs.declared.part.Private.{Private}
-use Rattle.task_machine.specs.declared.part.Paused.TheVariants.{Due, NeedChunk}
-use Rattle.task_machine.specs.Steps.{is_part_due, lacks_place}
-use Rattle.shared_value.specs.declared.answer.NotEntered.{NotEntered}
-use Rattle.shared_value.specs.declared.answer.NotEntered.TheVariants.{NoMemory, Refuses}
-use Rattle.shared_value.specs.Causes.{first_cause, need_cause, or_else}
-use Rattle.shared_value.specs.Due.{due_cause}
-use Rattle.shared_value.specs.Entered.{IsCaused, refused}
-use Rattle.shared_value.specs.Fits.{Fits}
-use Rattle.shared_value.specs.Next.{part_asks}
-use Rattle.shared_value.specs.Stands.{IsSharedValue}
-use Rattle.shared_value.specs.SharedValue.{SharedValue, accounts}
-use Rattle.shared_value.proofs.NextStepAsks.{asked_same}
-use Rattle.shared_value.proofs.BeforeTheEnd.{end_now, steps_now}
-use Rattle.shared_value.proofs.CausesTold.{refused_is}
-use Rattle.shared_value.proofs.StepsEntered.{ran_answer}
-use Rattle.own_steps.specs.Alone.{machine_after}
-use Rattle.leaf_collections.proofs.WhyNoCollection.{begin_answer}
-use Rattle.leaf_collections.proofs.WhyNoChunk.{chunk_answer}
-use Rattle.leaf_collections.proofs.CollectionPutOff.{put_off_answer, without_fresh}
+use Rattle.paced_tree.specs.below.hh_model.{asked}
+use Rattle.paced_tree.specs.below.run_trace.{Ran, Chunk, Begin, PutOff, Fuel, Mark, More, Sweep, SettingsValue}
+use Rattle.paced_tree.specs.below.run_ledger.{Mark as OwesMark, More as OwesMore, Sweep as OwesSweep, Refused, Collecting, Due as DueCause, NoWorker, NotDue, NotNeeded, NotSpent, Over, PoolEnough, PoolShort, Spent, RunEnd, CanBeGiven, is_pool_enough, kind_refusal, refused_if, refused_unless, heap_of, sweep_number, on_asked}
+use Rattle.paced_tree.proofs.below.journal_laws.{owed_can_be_given, not_refused}
+use Rattle.paced_tree.specs.below.chunk_pool.{units_in_use}
+use Rattle.paced_tree.specs.below.alloc_path.{place_for, room_of}
+use Rattle.paced_tree.specs.below.task_machine.{Private, Due, NeedChunk, is_part_due, lacks_place}
+use Rattle.paced_tree.specs.below.shared_value.{NotEntered, NoMemory, Refuses, first_cause, need_cause, or_else, due_cause, IsCaused, refused, Fits, part_asks, IsSharedValue, SharedValue, accounts}
+use Rattle.paced_tree.proofs.below.shared_value.{asked_same, end_now, steps_now, refused_is, ran_answer}
+use Rattle.paced_tree.specs.below.own_steps.{machine_after}
+use Rattle.paced_tree.proofs.below.leaf_collections.{begin_answer, chunk_answer, put_off_answer, without_fresh}
 use Rattle.paced_tree.specs.Owed.{owed_by}
 use Rattle.turn_entries.specs.Parts.{IsPaused}
 use Rattle.turn_entries.proofs.Stepping.{first}

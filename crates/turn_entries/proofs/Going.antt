@@ -1,13 +1,11 @@
 -- Parts that may take steps.
 use Rattle.std.proofs.Common.{◌≡◌, ℕ, ◌<◌, None, ap, ◌∙◌, arith}
-use Rattle.alloc_path.specs.LeafHeapValue.{LeafHeapValue}
-use Rattle.leaf_copy_gc.specs.declared.lists.Moved.{Moved}
-use Rattle.task_machine.specs.declared.part.Private.{Private}
-use Rattle.task_machine.specs.declared.part.Paused.TheVariants.{Shared}
-use Rattle.shared_value.specs.Fits.{Fits}
-use Rattle.shared_value.specs.SharedValue.{SharedValue}
-use Rattle.own_steps.specs.Alone.{IsShared}
-use Rattle.leaf_collections.specs.LeafEnd.{FitsCopied, ended}
+use Rattle.paced_tree.specs.below.alloc_path.{LeafHeapValue}
+use Rattle.paced_tree.specs.below.leaf_copy_gc.{Moved}
+use Rattle.paced_tree.specs.below.task_machine.{Private, Shared}
+use Rattle.paced_tree.specs.below.shared_value.{Fits, SharedValue}
+use Rattle.paced_tree.specs.below.own_steps.{IsShared}
+use Rattle.paced_tree.specs.below.leaf_collections.{FitsCopied, ended}
 use Rattle.turn_entries.specs.Parts.{IsPaused, MayRun}
 
 module _ (w : SharedValue) (k : ℕ) (part : Private) where

@@ -4,3 +4,4 @@ mod Paying
 mod Going
 pub mod Stepping
 mod Free
+pub mod below

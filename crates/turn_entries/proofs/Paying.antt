@@ -1,20 +1,11 @@
 -- Entries that give what is owed.
 use Rattle.std.proofs.Common.{◌≡◌, ℕ, ◌==◌, ◌&&◌, Bool, true, false, Option, None, refl, ap, sym, subst, ◌∙◌, eq-eqb, arith}
-use Rattle.run_trace.specs.declared.entry.Kind.{Kind}
-use Rattle.run_trace.specs.declared.entry.Kind.TheVariants.{Mark, More, Sweep}
-use Rattle.run_ledger.specs.declared.data.Owed.TheVariants.{Mark as OwesMark, More as OwesMore, Sweep as OwesSweep, Nothing}
-use Rattle.run_ledger.specs.declared.data.Refused.{Refused}
-use Rattle.run_ledger.specs.declared.data.Refused.TheVariants.{Left}
-use Rattle.run_ledger.specs.Cuts.{CanBeGiven}
-use Rattle.run_ledger.specs.Entries.{kind_refusal, refused_unless}
-use Rattle.run_ledger.specs.Heaps.{heap_of, left_in, marked_in, sweep_number}
-use Rattle.run_ledger.specs.Pace.{gives}
-use Rattle.journal_laws.proofs.OwedEntries.{owed_can_be_given}
-use Rattle.shared_value.specs.Stands.{IsSharedValue}
-use Rattle.shared_value.specs.SharedValue.{SharedValue, accounts}
-use Rattle.heap_marking.specs.MarkCauses.{marking_cause}
-use Rattle.heap_marking.proofs.MarkCauses.{marks_refuse}
-use Rattle.heap_marking.proofs.MarkEntries.{or_none}
+use Rattle.paced_tree.specs.below.run_trace.{Kind, Mark, More, Sweep}
+use Rattle.paced_tree.specs.below.run_ledger.{Mark as OwesMark, More as OwesMore, Sweep as OwesSweep, Nothing, Refused, Left, CanBeGiven, kind_refusal, refused_unless, heap_of, left_in, marked_in, sweep_number, gives}
+use Rattle.paced_tree.proofs.below.journal_laws.{owed_can_be_given}
+use Rattle.paced_tree.specs.below.shared_value.{IsSharedValue, SharedValue, accounts}
+use Rattle.paced_tree.specs.below.heap_marking.{marking_cause}
+use Rattle.paced_tree.proofs.below.heap_marking.{marks_refuse, or_none}
 use Rattle.paced_tree.specs.Owed.{Pays, owed_by}
 
 module _ (w : SharedValue) (k : ℕ) where

@@ -1,35 +1,17 @@
 -- A part after private steps, whatever value it fits.
 use Rattle.std.proofs.Common.{◌≡◌, ℕ, zero, suc, ◌+◌, ◌<◌, ◌≤◌, None, length, slice_get, refl, ap, sym, subst, ◌∙◌, arith}
-use Rattle.hh_lang.specs.Form.{ProgramText}
-use Rattle.hh_model.specs.declared.data.State.{State}
-use Rattle.hh_model.specs.Counts.{Counted}
-use Rattle.hh_model.specs.Effect.{row_of}
-use Rattle.hh_model.specs.Tree.{IsForkJoinState}
-use Rattle.hh_model.proofs.Counts.{steps_count}
-use Rattle.hh_model.proofs.ForkJoinStates.{run_is_fork_join_state, start_is_fork_join_state, step_is_fork_join_state}
-use Rattle.run_trace.specs.Settings.{field_limit}
-use Rattle.run_trace.specs.Entry.{private_limit}
-use Rattle.run_ledger.specs.declared.data.Ledger.{Ledger}
-use Rattle.run_ledger.specs.Journals.{tasks_of}
-use Rattle.run_ledger.proofs.Bounds.{steps_are_bounded}
-use Rattle.journal_laws.proofs.Counted.{journals_are_counted}
-use Rattle.run_ledger.proofs.Machine.{machine_is_run}
-use Rattle.task_machine.specs.declared.part.Private.{Private}
-use Rattle.task_machine.specs.declared.part.Paused.{Paused}
-use Rattle.task_machine.specs.declared.part.Paused.TheVariants.{Spent}
-use Rattle.task_machine.specs.Accounts.{KeepsAccounts}
-use Rattle.task_machine.specs.Fits.{unended}
-use Rattle.task_machine.specs.Outline.{steps}
-use Rattle.task_machine.specs.Ready.{FitsSome}
-use Rattle.task_machine.specs.Run.{KeepsRest, PausesBy, Runs}
-use Rattle.shared_value.specs.Fits.{Fits}
-use Rattle.shared_value.specs.Links.{FitsFirst}
-use Rattle.shared_value.specs.Stands.{IsSharedValue}
-use Rattle.shared_value.specs.SharedValue.{SharedValue, accounts}
-use Rattle.shared_value.proofs.PartFitsMachine.{second_gives_first}
-use Rattle.shared_value.proofs.StepsEntered.{beyond_machine}
-use Rattle.own_steps.specs.Alone.{machine_after}
-use Rattle.own_steps.proofs.MoreSteps.{fits_on, next_on, ran}
+use Rattle.paced_tree.specs.below.hh_lang.{ProgramText}
+use Rattle.paced_tree.specs.below.hh_model.{State, Counted, row_of, IsForkJoinState}
+use Rattle.paced_tree.proofs.below.hh_model.{steps_count, run_is_fork_join_state, start_is_fork_join_state, step_is_fork_join_state}
+use Rattle.paced_tree.specs.below.run_trace.{field_limit, private_limit}
+use Rattle.paced_tree.specs.below.run_ledger.{Ledger, tasks_of}
+use Rattle.paced_tree.proofs.below.run_ledger.{steps_are_bounded, machine_is_run}
+use Rattle.paced_tree.proofs.below.journal_laws.{journals_are_counted}
+use Rattle.paced_tree.specs.below.task_machine.{Private, Paused, Spent, KeepsAccounts, unended, steps, FitsSome, KeepsRest, PausesBy, Runs}
+use Rattle.paced_tree.specs.below.shared_value.{Fits, FitsFirst, IsSharedValue, SharedValue, accounts}
+use Rattle.paced_tree.proofs.below.shared_value.{second_gives_first, beyond_machine}
+use Rattle.paced_tree.specs.below.own_steps.{machine_after}
+use Rattle.paced_tree.proofs.below.own_steps.{fits_on, next_on, ran}
 use Rattle.turn_entries.specs.Parts.{AtSome, HasGrown, IsPaused, MayRun}
 
 -- ---- ITS OBJECTS are counted

@@ -1,21 +1,11 @@
 -- Values before and after a turn.
 use Rattle.std.proofs.Common.{◌≡◌, ℕ, ◌+◌, ◌++◌, ◌∷◌, [], ◌||◌, Bool, true, false, List, Option, Some, None, is_some, length, refl, ap, sym, subst, ◌∙◌, inl, inr}
 use Rattle.std.proofs.lemmas.Bool.{false≢true, or_right}
-use Rattle.run_trace.specs.Entry.{EntryValue}
-use Rattle.run_trace.specs.declared.entry.Kind.{Kind}
-use Rattle.run_trace.specs.declared.entry.Kind.TheVariants.{Ran, Took}
-use Rattle.run_ledger.specs.declared.data.RunEnd.{RunEnd}
-use Rattle.task_machine.specs.declared.part.Paused.TheVariants.{Shared}
-use Rattle.task_machine.specs.declared.part.Private.{Private}
-use Rattle.shared_value.specs.Entered.{Enters, refused}
-use Rattle.shared_value.specs.Fits.{AllFit, Fits, OthersFit}
-use Rattle.shared_value.specs.declared.answer.NotEntered.{NotEntered}
-use Rattle.shared_value.specs.declared.answer.NotEntered.TheVariants.{NoMemory, Refuses}
-use Rattle.shared_value.specs.Stands.{IsSharedValue}
-use Rattle.shared_value.specs.SharedValue.{SharedValue, accounts}
-use Rattle.child_tasks.specs.ChildEnds.{running_parent}
-use Rattle.child_tasks.specs.NoTask.{HoldsNone}
-use Rattle.child_tasks.specs.Joins.{IsUnchanged, SameButPlaces}
+use Rattle.paced_tree.specs.below.run_trace.{EntryValue, Kind, Ran, Took}
+use Rattle.paced_tree.specs.below.run_ledger.{RunEnd}
+use Rattle.paced_tree.specs.below.task_machine.{Shared, Private}
+use Rattle.paced_tree.specs.below.shared_value.{Enters, refused, AllFit, Fits, OthersFit, NotEntered, NoMemory, Refuses, IsSharedValue, SharedValue, accounts}
+use Rattle.paced_tree.specs.below.child_tasks.{running_parent, HoldsNone, IsUnchanged, SameButPlaces}
 use Rattle.turn_entries.specs.declared.act.Acted.{Acted}
 use Rattle.turn_entries.specs.declared.act.Acted.TheVariants.{Entered, Same}
 use Rattle.turn_entries.specs.declared.between_turns.Next.{Next}
@@ -27,7 +17,7 @@ use Rattle.turn_entries.specs.Acts.{ActsFor, after_end, EndsHalted, Follows, Goe
 use Rattle.turn_entries.specs.Next.{going_kind, is_wanting}
 use Rattle.turn_entries.specs.Parts.{BringsTo, next_after}
 use Rattle.turn_entries.specs.Values.{EntersOne, IsSame, is_over}
-use Rattle.listed.proofs.Options.{none_of}
+use Rattle.paced_tree.proofs.below.listed.{none_of}
 
 -- ---- NO ENTRY
 

@@ -1,15 +1,9 @@
 -- What a worker does in its turn.
 use Rattle.std.specs.Prelude.{◌≡◌, ◌⊎◌, ℕ, ◌+◌, true, false, Option, Some, None, is_some, length}
-use Rattle.run_trace.specs.declared.entry.Kind.{Kind}
-use Rattle.run_trace.specs.declared.entry.Kind.TheVariants.{Took}
-use Rattle.task_machine.specs.declared.part.Private.{Private}
-use Rattle.task_machine.specs.declared.part.Paused.TheVariants.{Shared}
-use Rattle.shared_value.specs.Entered.{refused}
-use Rattle.shared_value.specs.Fits.{AllFit, Fits}
-use Rattle.shared_value.specs.Stands.{IsSharedValue}
-use Rattle.shared_value.specs.SharedValue.{SharedValue, accounts}
-use Rattle.child_tasks.specs.ChildEnds.{running_parent}
-use Rattle.child_tasks.specs.NoTask.{HoldsNone}
+use Rattle.paced_tree.specs.below.run_trace.{Kind, Took}
+use Rattle.paced_tree.specs.below.task_machine.{Private, Shared}
+use Rattle.paced_tree.specs.below.shared_value.{refused, AllFit, Fits, IsSharedValue, SharedValue, accounts}
+use Rattle.paced_tree.specs.below.child_tasks.{running_parent, HoldsNone}
 use Rattle.turn_entries.specs.declared.act.Acted.{Acted}
 use Rattle.turn_entries.specs.declared.act.Acted.TheVariants.{Entered, Same}
 use Rattle.turn_entries.specs.declared.between_turns.Next.{Next}

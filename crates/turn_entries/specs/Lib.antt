@@ -4,3 +4,4 @@ pub mod Values
 pub mod Parts
 pub mod Next
 pub mod Acts
+pub mod below

@@ -1,16 +1,9 @@
 -- Which entry a worker makes in its turn.
 use Rattle.std.specs.Prelude.{ℕ, ◌+◌, ◌==◌, ◌||◌, Bool, true, false, Option, Some, None, if◌then◌else◌, nat_le}
-use Rattle.run_trace.specs.declared.entry.Kind.{Kind}
-use Rattle.run_trace.specs.declared.entry.Kind.TheVariants.{Took, Ran, Chunk, Begin, End, PutOff, Fuel, Mark, More, Sweep}
-use Rattle.run_ledger.specs.declared.data.Owed.{Owed}
-use Rattle.run_ledger.specs.declared.data.Owed.TheVariants.{Mark as OwesMark, More as OwesMore, Sweep as OwesSweep, Nothing}
-use Rattle.run_ledger.specs.Entries.{is_pool_enough}
-use Rattle.run_ledger.specs.Heaps.{heap_of, sweep_number}
-use Rattle.run_ledger.specs.Pace.{marked_at_once}
-use Rattle.task_machine.specs.declared.part.Private.{Private}
-use Rattle.task_machine.specs.declared.part.Paused.{Paused}
-use Rattle.task_machine.specs.declared.part.Paused.TheVariants.{Due, NeedChunk, Shared, Spent}
-use Rattle.shared_value.specs.SharedValue.{SharedValue, accounts}
+use Rattle.paced_tree.specs.below.run_trace.{Kind, Took, Ran, Chunk, Begin, End, PutOff, Fuel, Mark, More, Sweep}
+use Rattle.paced_tree.specs.below.run_ledger.{Owed, Mark as OwesMark, More as OwesMore, Sweep as OwesSweep, Nothing, is_pool_enough, heap_of, sweep_number, marked_at_once}
+use Rattle.paced_tree.specs.below.task_machine.{Private, Paused, Due, NeedChunk, Shared, Spent}
+use Rattle.paced_tree.specs.below.shared_value.{SharedValue, accounts}
 use Rattle.paced_tree.specs.Owed.{owed_by}
 use Rattle.turn_entries.specs.declared.between_turns.Ready.{Ready}
 use Rattle.turn_entries.specs.declared.between_turns.Ready.TheVariants.{Paused as HasPaused, Copied as IsCopied, Found, Wanting}

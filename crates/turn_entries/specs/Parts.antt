@@ -1,18 +1,12 @@
 -- What a worker holds between its turns, and how it goes on.
 use Rattle.std.specs.Prelude.{◌≡◌, ℕ, ◌≤◌, Option, Some, None}
 use Rattle.std.specs.declared.snapshot.Snapshot.{Snapshot}
-use Rattle.hh_lang.specs.Form.{ProgramText}
-use Rattle.run_trace.specs.Entry.{EntryValue, private_limit}
-use Rattle.task_machine.specs.declared.part.Private.{Private}
-use Rattle.task_machine.specs.declared.part.Paused.{Paused}
-use Rattle.task_machine.specs.declared.part.Paused.TheVariants.{Spent}
-use Rattle.task_machine.specs.Run.{Pauses}
-use Rattle.shared_value.specs.Fits.{Fits}
-use Rattle.shared_value.specs.LeafBegin.{HasBegun}
-use Rattle.shared_value.specs.Stands.{IsSharedValue}
-use Rattle.shared_value.specs.SharedValue.{SharedValue, accounts}
-use Rattle.own_steps.specs.Alone.{machine_after}
-use Rattle.leaf_collections.specs.LeafEnd.{FitsCopied}
+use Rattle.paced_tree.specs.below.hh_lang.{ProgramText}
+use Rattle.paced_tree.specs.below.run_trace.{EntryValue, private_limit}
+use Rattle.paced_tree.specs.below.task_machine.{Private, Paused, Spent, Pauses}
+use Rattle.paced_tree.specs.below.shared_value.{Fits, HasBegun, IsSharedValue, SharedValue, accounts}
+use Rattle.paced_tree.specs.below.own_steps.{machine_after}
+use Rattle.paced_tree.specs.below.leaf_collections.{FitsCopied}
 use Rattle.turn_lock.specs.declared.view.View.{View}
 use Rattle.turn_entries.specs.declared.between_turns.Collecting.{Collecting}
 use Rattle.turn_entries.specs.declared.between_turns.Copied.{Copied}

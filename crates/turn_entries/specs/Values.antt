@@ -1,14 +1,10 @@
 -- The shared value in turns, as the turn is told of it.
 use Rattle.std.specs.Prelude.{◌≡◌, ◌<◌, ℕ, ◌||◌, Bool, false, None, List, is_some}
 use Rattle.std.specs.declared.snapshot.Snapshot.{Snapshot}
-use Rattle.run_trace.specs.Entry.{EntryValue}
-use Rattle.run_trace.specs.declared.entry.Kind.{Kind}
-use Rattle.run_ledger.specs.declared.data.Owed.{Owed}
-use Rattle.task_machine.specs.declared.part.Private.{Private}
-use Rattle.shared_value.specs.Causes.{first_cause}
-use Rattle.shared_value.specs.Entered.{Enters}
-use Rattle.shared_value.specs.Fits.{AllFit, Fits, OthersFit}
-use Rattle.shared_value.specs.SharedValue.{SharedValue, accounts}
+use Rattle.paced_tree.specs.below.run_trace.{EntryValue, Kind}
+use Rattle.paced_tree.specs.below.run_ledger.{Owed}
+use Rattle.paced_tree.specs.below.task_machine.{Private}
+use Rattle.paced_tree.specs.below.shared_value.{first_cause, Enters, AllFit, Fits, OthersFit, SharedValue, accounts}
 use Rattle.paced_tree.specs.Owed.{owed_by}
 use Rattle.turn_entries.specs.declared.run.Run.{Run}
 use Rattle.turn_entries.specs.declared.run.Setup.{Setup}

@@ -1,6 +1,6 @@
 //! What a worker does with the shared value in its turn: at most one entry.
 ghost use Rattle.std.specs.Prelude.{◌≡◌, ◌<◌, None, false};
-ghost use Rattle.shared_value.specs.SharedValue.{accounts};
+ghost use Rattle.paced_tree.specs.below.shared_value.{accounts};
 ghost use Rattle.paced_tree.specs.Owed.{owed_by};
 ghost use Rattle.turn_entries.specs.Acts.{Acts, ActsFor, EndsEntered, EndsHalted};
 ghost use Rattle.turn_entries.specs.Next.{going_kind, is_wanting, owing_kind};
@@ -9,8 +9,7 @@ ghost use Rattle.turn_entries.specs.Values.{MayEnter};
 
 use crate::between_turns::{Next, Ready};
 use crate::run::Run;
-use paced_tree::NotEntered;
-use run_ledger::Owed;
+use paced_tree::{NotEntered, Owed};
 use std::alloc::Global;
 
 /// What has come of a turn.

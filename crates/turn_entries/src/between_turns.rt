@@ -3,11 +3,8 @@ ghost use Rattle.std.specs.Prelude.{◌≡◌};
 ghost use Rattle.turn_entries.specs.Next.{is_wanting};
 
 use crate::part_block::PartInBlock;
-use leaf_copy_gc::{Moved, ToChunks};
-use object_layout::Addr;
-use out_of_line::Apart;
+use paced_tree::{Addr, Apart, Moved, Paused, Private, ToChunks};
 use std::snapshot::Snapshot;
-use task_machine::{Paused, Private};
 
 /// A part whose leaf collection has begun, with its roots, and the new chunks with all that copying needs.
 #[derive(Drop)]

@@ -1,10 +1,9 @@
 //! The entries of leaf collections.
 ghost use Rattle.std.specs.Prelude.{◌≡◌, true, false};
-ghost use Rattle.run_trace.specs.declared.entry.Kind.{Kind as KindOf};
-ghost use Rattle.run_ledger.specs.declared.data.Owed.{Owed as OwedOf};
-ghost use Rattle.run_ledger.specs.Entries.{is_pool_enough};
-ghost use Rattle.shared_value.specs.SharedValue.{accounts};
-ghost use Rattle.leaf_collections.specs.LeafEnd.{FitsCopied};
+ghost use Rattle.paced_tree.specs.below.run_trace.{Kind as KindOf};
+ghost use Rattle.paced_tree.specs.below.run_ledger.{Owed as OwedOf, is_pool_enough};
+ghost use Rattle.paced_tree.specs.below.shared_value.{accounts};
+ghost use Rattle.paced_tree.specs.below.leaf_collections.{FitsCopied};
 ghost use Rattle.turn_entries.specs.Acts.{ActsAnyhow};
 ghost use Rattle.turn_entries.specs.Next.{due_kind};
 ghost use Rattle.turn_entries.specs.Parts.{IsPaused};
@@ -14,10 +13,8 @@ use crate::act::Acted;
 use crate::between_turns::{Collecting, Copied, Next};
 use crate::part_block::PartInBlock;
 use crate::run::Run;
-use leaf_copy_gc::{Moved, ToChunks};
-use out_of_line::Apart;
+use paced_tree::{Apart, Moved, Paused, ToChunks};
 use std::alloc::{AllocError, Global};
-use task_machine::Paused;
 
 // A block for new chunks and lists, without any.
 fn chunks_block(alloc: Global) -> Result<Apart<ToChunks>, AllocError> {

@@ -12,6 +12,9 @@ mod steps;
 
 pub use act::Acted;
 pub use between_turns::{Collecting, Copied, Next, Ready};
-pub use paced_tree::{Counted, Paced};
+pub use paced_tree::{
+    Counted, PRIVATE_LIMIT, Paced, Paused, Private, Program, RunEnd, Settings, copy, run_local,
+};
 pub use part_block::{PartBlock, PartInBlock};
 pub use run::{Run, Setup};
+pub use turn_lock::{Seat, Turn};

@@ -1,10 +1,10 @@
 //! A part in a block of its own, so that what hands it on moves a pointer.
 ghost use Rattle.std.specs.Prelude.{◌≡◌};
 
+use paced_tree::Private;
 use std::alloc::{AllocError, Global};
 use std::marker::Model;
 use std::snapshot::Snapshot;
-use task_machine::Private;
 
 /// A block for a part. It takes the place of a pointer. It is no `Apart`, since a part that is there before the first
 /// one would take memory of its own, for a frame.
@@ -21,7 +21,7 @@ pub struct PartInBlock {
 
 impl Model for PartInBlock {
     ghost use Rattle.std.specs.Prelude.{◌≡◌, is_some, true};
-    ghost use Rattle.task_machine.specs.declared.part.Private.{Private};
+    ghost use Rattle.paced_tree.specs.below.task_machine.{Private};
     ghost use Rattle.turn_entries.specs.Blocks.{part_in};
 
     ghost Value = { Private };

@@ -1,11 +1,8 @@
 //! The entries that a worker owes to the collections of waiting tasks' heaps, and the end for spent fuel.
 ghost use Rattle.std.specs.Prelude.{◌≡◌, ◌<◌, Some, None, is_some, true, false};
-ghost use Rattle.run_trace.specs.declared.entry.Kind.{Kind as KindOf};
-ghost use Rattle.run_ledger.specs.declared.data.Owed.{Owed as OwedOf};
-ghost use Rattle.run_ledger.specs.Heaps.{heap_of, sweep_number};
-ghost use Rattle.run_ledger.specs.Pace.{marked_at_once};
-ghost use Rattle.shared_value.specs.Causes.{first_cause};
-ghost use Rattle.shared_value.specs.SharedValue.{accounts};
+ghost use Rattle.paced_tree.specs.below.run_trace.{Kind as KindOf};
+ghost use Rattle.paced_tree.specs.below.run_ledger.{Owed as OwedOf, heap_of, sweep_number, marked_at_once};
+ghost use Rattle.paced_tree.specs.below.shared_value.{first_cause, accounts};
 ghost use Rattle.turn_entries.specs.Acts.{ActsAnyhow, ActsFor, EndsPaid};
 ghost use Rattle.turn_entries.specs.Next.{is_wanting};
 ghost use Rattle.turn_entries.specs.Parts.{next_after, BringsTo};
@@ -14,7 +11,7 @@ ghost use Rattle.turn_entries.specs.Values.{MayEnter};
 use crate::act::Acted;
 use crate::between_turns::{Next, Ready};
 use crate::run::Run;
-use run_ledger::MARKED_AT_ONCE;
+use paced_tree::MARKED_AT_ONCE;
 
 // How a worker goes on that came with this, once it has paid what it owed.
 fn next_after(ready: Ready) -> Next

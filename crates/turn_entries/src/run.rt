@@ -2,11 +2,8 @@
 ghost use Rattle.std.specs.Prelude.{◌≡◌, ◌<◌, ◌^◌, not, length};
 ghost use Rattle.turn_entries.specs.Values.{worker_of, setup_of, is_over, FitsSnapshot};
 
-use hh_lang::Program;
-use paced_tree::Paced;
-use run_trace::{Entry, Settings};
+use paced_tree::{Entry, Paced, Private, Program, Settings};
 use std::snapshot::Snapshot;
-use task_machine::Private;
 use turn_lock::Kept;
 
 /// The shared value of a run by workers.

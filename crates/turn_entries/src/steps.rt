@@ -1,8 +1,8 @@
 //! The entries that a worker comes for.
 ghost use Rattle.std.specs.Prelude.{◌≡◌, ◌+◌, ◌<◌, Some, false};
-ghost use Rattle.run_trace.specs.declared.entry.Kind.{Kind as KindOf};
-ghost use Rattle.run_ledger.specs.declared.data.Owed.{Owed as OwedOf};
-ghost use Rattle.shared_tree.specs.Ran.{LeavesBy};
+ghost use Rattle.paced_tree.specs.below.run_trace.{Kind as KindOf};
+ghost use Rattle.paced_tree.specs.below.run_ledger.{Owed as OwedOf};
+ghost use Rattle.paced_tree.specs.below.shared_tree.{LeavesBy};
 ghost use Rattle.turn_entries.specs.Acts.{after_end, ActsAnyhow, ActsFor};
 ghost use Rattle.turn_entries.specs.Next.{brought_kind, is_wanting, paused_kind};
 ghost use Rattle.turn_entries.specs.Parts.{BringsTo, IsPaused, MayRun};
@@ -12,9 +12,8 @@ use crate::act::Acted;
 use crate::between_turns::{Next, Ready};
 use crate::part_block::{PartBlock, PartInBlock};
 use crate::run::Run;
-use paced_tree::{Leaving, Lent, Ran};
+use paced_tree::{Leaving, Lent, Paused, Private, Ran};
 use std::alloc::Global;
-use task_machine::{Paused, Private};
 
 // How a worker goes on whose task has ended.
 fn after_end(resumed: Option<u32>) -> Next

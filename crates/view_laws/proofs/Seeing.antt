@@ -1,23 +1,15 @@
 -- The laws of what tasks see.
 use Rattle.std.proofs.Common.{◌≡◌, ℕ, false, Some, List, [], ◌∷◌, ◌⊎◌, inl, inr, slice_get, ap, sym, subst, ◌∙◌}
 use Rattle.std.proofs.lemmas.Option.{same_Some}
-use Rattle.listed.specs.Members.{In as InList}
-use Rattle.hh_lang.specs.Form.{ProgramText}
-use Rattle.hh_model.specs.declared.data.Name.{Name}
-use Rattle.hh_model.specs.declared.data.State.{State}
-use Rattle.hh_model.specs.Effect.{object_at}
-use Rattle.hh_model.specs.Names.{refs_of}
-use Rattle.hh_model.specs.Step.{start}
-use Rattle.hh_model.proofs.Carried.{named_from_in}
-use Rattle.path_laws.proofs.Objects.{objects_stay}
-use Rattle.hh_model.proofs.Counts.{run_on}
-use Rattle.run_ledger.specs.declared.data.Ledger.{Ledger}
-use Rattle.run_ledger.specs.Journals.{ledger_of}
-use Rattle.run_ledger.specs.Sound.{Keeps, SoundLedger, collecting}
-use Rattle.run_ledger.specs.Steps.{task_steps}
-use Rattle.run_ledger.proofs.Steps.{task_steps_sound}
-use Rattle.ledger_step_laws.proofs.Known.{legal_knows}
-use Rattle.task_machine.specs.Run.{Runs}
+use Rattle.shared_value.specs.below.listed.{In as InList}
+use Rattle.shared_value.specs.below.hh_lang.{ProgramText}
+use Rattle.shared_value.specs.below.hh_model.{Name, State, object_at, refs_of, start}
+use Rattle.shared_value.proofs.below.hh_model.{named_from_in, run_on}
+use Rattle.shared_value.proofs.below.path_laws.{objects_stay}
+use Rattle.shared_value.specs.below.run_ledger.{Ledger, ledger_of, Keeps, SoundLedger, collecting, task_steps}
+use Rattle.shared_value.proofs.below.run_ledger.{task_steps_sound}
+use Rattle.shared_value.proofs.below.ledger_step_laws.{legal_knows}
+use Rattle.shared_value.specs.below.task_machine.{Runs}
 use Rattle.shared_value.proofs.PartFitsMachine as link
 use Rattle.view_laws.specs.Laws.{FrozenStay, LeadTo, ReadsStay, SeenNamesAreHeld}
 

@@ -1,25 +1,14 @@
 -- What tasks see of the heaps above them: what they see is never written and refers only up; all of it is held; no
 -- level is hidden where it would be looked up; and reads of it come to the same whatever others do.
 use Rattle.std.specs.Prelude.{◌≡◌, ◌≢◌, ◌⊎◌, ℕ, suc, ◌<◌, ◌++◌, true, false, Some, None, List, [], ◌∷◌, drop, slice_get}
-use Rattle.listed.specs.Members.{In as InList}
-use Rattle.hh_lang.specs.Form.{ProgramText}
-use Rattle.hh_model.specs.declared.data.Name.{Name}
-use Rattle.hh_model.specs.declared.data.Object.{Object}
-use Rattle.hh_model.specs.declared.data.Task.{Task}
-use Rattle.hh_model.specs.Effect.{object_at}
-use Rattle.hh_model.specs.Names.{task_names}
-use Rattle.hh_model.specs.Step.{run}
-use Rattle.run_trace.specs.Entry.{EntryValue}
-use Rattle.run_trace.specs.Settings.{SettingsValue}
-use Rattle.run_ledger.specs.declared.data.Ledger.{Ledger}
-use Rattle.run_ledger.specs.Journals.{is_legal, ledger_of}
-use Rattle.run_ledger.specs.Sound.{Keeps, collecting}
-use Rattle.run_ledger.specs.Steps.{task_steps}
-use Rattle.object_layout.specs.Objects.{Located}
-use Rattle.core_relation.specs.Memory.{Chunk, In, Memory, objects}
-use Rattle.core_relation.specs.Stands.{HasNumber}
-use Rattle.task_machine.specs.declared.part.Private.{Private}
-use Rattle.task_machine.specs.Run.{Ran, Runs}
+use Rattle.shared_value.specs.below.listed.{In as InList}
+use Rattle.shared_value.specs.below.hh_lang.{ProgramText}
+use Rattle.shared_value.specs.below.hh_model.{Name, Object, Task, object_at, task_names, run}
+use Rattle.shared_value.specs.below.run_trace.{EntryValue, SettingsValue}
+use Rattle.shared_value.specs.below.run_ledger.{Ledger, is_legal, ledger_of, Keeps, collecting, task_steps}
+use Rattle.shared_value.specs.below.object_layout.{Located}
+use Rattle.shared_value.specs.below.core_relation.{Chunk, In, Memory, objects, HasNumber}
+use Rattle.shared_value.specs.below.task_machine.{Private, Ran, Runs}
 use Rattle.shared_value.specs.SharedValue.{SharedValue, accounts, value_of}
 use Rattle.shared_value.specs.Stands.{IsSharedValue}
 use Rattle.shared_value.specs.Fits.{Fits, OthersFit, beyond}

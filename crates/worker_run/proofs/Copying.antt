@@ -1,22 +1,15 @@
 -- The copy of a part whose collection has begun.
 use Rattle.std.proofs.Common.{◌≡◌, ℕ, All, List, map, ap, sym, subst, ◌∙◌}
-use Rattle.hh_lang.specs.Form.{ProgramText}
-use Rattle.object_layout.specs.ChunkValue.{ChunkValue, number_of}
-use Rattle.alloc_path.specs.LeafHeapValue.{LeafHeapValue}
-use Rattle.task_frames.specs.FramesValue.{FramesValue}
-use Rattle.leaf_copy_gc.specs.declared.lists.Moved.{Moved}
-use Rattle.leaf_copy_gc.specs.declared.lists.ToChunks.{ToChunks}
-use Rattle.leaf_copy_gc.specs.Laws.{CanTake}
-use Rattle.leaf_copy_gc.specs.Lists.{IsCollected}
-use Rattle.leaf_copy_gc.specs.Survivors.{IsSound, as_reference}
-use Rattle.ledger_step_laws.specs.Accounts.{aside}
-use Rattle.task_machine.specs.declared.part.Begun.{Begun}
-use Rattle.task_machine.specs.declared.part.Private.{Private}
-use Rattle.shared_value.specs.Fits.{Fits}
-use Rattle.shared_value.specs.LeafBegin.{HasBegun}
-use Rattle.shared_value.specs.SharedValue.{SharedValue, accounts, value_of}
-use Rattle.shared_value.proofs.StepsEntered.{status}
-use Rattle.leaf_collections.specs.LeafEnd.{FitsCopied}
+use Rattle.copied_part_laws.specs.below.hh_lang.{ProgramText}
+use Rattle.copied_part_laws.specs.below.object_layout.{ChunkValue, number_of}
+use Rattle.copied_part_laws.specs.below.alloc_path.{LeafHeapValue}
+use Rattle.copied_part_laws.specs.below.task_frames.{FramesValue}
+use Rattle.copied_part_laws.specs.below.leaf_copy_gc.{Moved, ToChunks, CanTake, IsCollected, IsSound, as_reference}
+use Rattle.copied_part_laws.specs.below.ledger_step_laws.{aside}
+use Rattle.copied_part_laws.specs.below.task_machine.{Begun, Private}
+use Rattle.copied_part_laws.specs.below.shared_value.{Fits, HasBegun, SharedValue, accounts, value_of}
+use Rattle.copied_part_laws.proofs.below.shared_value.{status}
+use Rattle.copied_part_laws.specs.below.leaf_collections.{FitsCopied}
 use Rattle.copied_part_laws.specs.Copied.{CanCopy}
 use Rattle.copied_part_laws.specs.Handed.{IsCopying}
 use Rattle.copied_part_laws.proofs.CopyBegins.{begun_is_copying}

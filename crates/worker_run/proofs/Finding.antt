@@ -3,7 +3,7 @@ use Rattle.std.proofs.Common.{◌≡◌, ◌≢◌, ◌⊎◌, inl, inr, ℕ, ze
 use Rattle.std.proofs.Math.Nat.{mul-le-mul_left}
 use Rattle.std.proofs.lemmas.Bool.{cases_order}
 use Rattle.std.proofs.lemmas.Option.{slice_get_within, slice_get-get_or}
-use Rattle.hh_lang.specs.Form.{ProgramText}
+use Rattle.copied_part_laws.specs.below.hh_lang.{ProgramText}
 use Rattle.steal_scheduler.specs.declared.hand.Hand.{Hand}
 use Rattle.steal_scheduler.specs.declared.theft.Theft.{Theft}
 use Rattle.steal_scheduler.specs.Hands.{AreNewHands, ChangesAt, KeepsOwn, SameHand, TookNone, empty_pops, thefts}

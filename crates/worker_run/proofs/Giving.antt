@@ -3,17 +3,12 @@ use Rattle.std.proofs.Common.{◌≡◌, ℕ, suc, ◌^◌, ◌<◌, ◌≤◌, 
 use Rattle.std.specs.declared.snapshot.Snapshot.{Snapshot}
 use Rattle.std.proofs.lemmas.Option.{same_Some}
 use Rattle.atomic_table.specs.Seated.{TableId}
-use Rattle.hh_lang.specs.Form.{ProgramText}
-use Rattle.run_trace.specs.Entry.{EntryValue}
-use Rattle.run_trace.specs.Settings.{SettingsValue}
-use Rattle.run_trace.specs.declared.entry.Kind.{Kind}
-use Rattle.task_machine.specs.declared.part.Private.{Private}
-use Rattle.shared_value.specs.Fits.{Fits}
-use Rattle.shared_value.specs.Stands.{IsSharedValue}
-use Rattle.shared_value.specs.SharedValue.{SharedValue}
-use Rattle.turn_lock.specs.Journal.{entries_by}
-use Rattle.turn_lock.specs.Seats.{view, Extends, HasTurn, IsAlike, Knows, own_entries, with_taken}
-use Rattle.turn_lock.proofs.Laws.{own_of_taken}
+use Rattle.copied_part_laws.specs.below.hh_lang.{ProgramText}
+use Rattle.copied_part_laws.specs.below.run_trace.{EntryValue, SettingsValue, Kind}
+use Rattle.copied_part_laws.specs.below.task_machine.{Private}
+use Rattle.copied_part_laws.specs.below.shared_value.{Fits, IsSharedValue, SharedValue}
+use Rattle.turn_entries.specs.below.turn_lock.{entries_by, view, Extends, HasTurn, IsAlike, Knows, own_entries, with_taken}
+use Rattle.turn_entries.proofs.below.turn_lock.{own_of_taken}
 use Rattle.turn_entries.specs.declared.between_turns.Collecting.{Collecting}
 use Rattle.turn_entries.specs.declared.between_turns.Copied.{Copied}
 use Rattle.turn_entries.specs.declared.between_turns.Next.{Next}

@@ -1,6 +1,6 @@
 -- Rounds of a worker, one after the other.
 use Rattle.std.proofs.Common.{suc}
-use Rattle.hh_lang.specs.Form.{ProgramText}
+use Rattle.copied_part_laws.specs.below.hh_lang.{ProgramText}
 use Rattle.turn_entries.specs.declared.between_turns.Next.{Next}
 use Rattle.worker_run.specs.declared.desk.Desk.{Desk}
 use Rattle.worker_run.specs.Rounds.{GoesRound, MakesRound}

@@ -4,19 +4,13 @@ use Rattle.std.proofs.lemmas.Option.{slice_get_within, slice_get-get_or, same_So
 use Rattle.std.proofs.lemmas.List.{map-append, length-map}
 use Rattle.atomic_table.specs.Seated.{TableId}
 use Rattle.atomic_table.specs.declared.shared.Seat.{Seat}
-use Rattle.listed.proofs.Places.{got_map, map_got}
-use Rattle.hh_lang.specs.Form.{ProgramText}
-use Rattle.run_trace.specs.Entry.{EntryValue}
-use Rattle.run_trace.specs.Settings.{SettingsValue}
-use Rattle.run_ledger.specs.declared.data.RunEnd.{RunEnd}
-use Rattle.run_ledger.specs.Journals.{end_of, is_legal}
-use Rattle.run_ledger.specs.Pace.{is_paced}
-use Rattle.shared_value.specs.Stands.{IsSharedValue}
-use Rattle.shared_value.specs.SharedValue.{SharedValue, accounts}
-use Rattle.turn_lock.specs.Journal.{entries_by}
-use Rattle.turn_lock.specs.Seats.{view, HasNoTurn, HasOwnEntries, SameWorker, AreNewSeats, AreAllSeats, IsFinalFor}
-use Rattle.turn_lock.proofs.Laws.{first_there, new_are_all, kept_are_all}
-use Rattle.turn_lock.proofs.SeatLists.{removed_first}
+use Rattle.copied_part_laws.proofs.below.listed.{got_map, map_got}
+use Rattle.copied_part_laws.specs.below.hh_lang.{ProgramText}
+use Rattle.copied_part_laws.specs.below.run_trace.{EntryValue, SettingsValue}
+use Rattle.copied_part_laws.specs.below.run_ledger.{RunEnd, end_of, is_legal, is_paced}
+use Rattle.copied_part_laws.specs.below.shared_value.{IsSharedValue, SharedValue, accounts}
+use Rattle.turn_entries.specs.below.turn_lock.{entries_by, view, HasNoTurn, HasOwnEntries, SameWorker, AreNewSeats, AreAllSeats, IsFinalFor}
+use Rattle.turn_entries.proofs.below.turn_lock.{first_there, new_are_all, kept_are_all, removed_first}
 use Rattle.turn_entries.specs.declared.run.Run.{Run}
 use Rattle.turn_entries.specs.declared.run.Setup.{Setup}
 use Rattle.turn_entries.specs.Parts.{Sight}

@@ -1,13 +1,10 @@
 -- The desks of the workers.
 use Rattle.std.specs.Prelude.{◌≡◌, ◌⊎◌, ℕ, ◌^◌, ◌<◌, ◌≤◌, true, List, [], ◌∷◌, ◌++◌, Some, length, map, slice_get}
 use Rattle.atomic_table.specs.Seated.{TableId}
-use Rattle.hh_lang.specs.Form.{ProgramText}
-use Rattle.run_trace.specs.Entry.{EntryValue}
-use Rattle.run_trace.specs.declared.entry.Kind.{Kind}
-use Rattle.run_trace.specs.Settings.{SettingsValue}
-use Rattle.shared_value.specs.Stands.{IsSharedValue}
-use Rattle.turn_lock.specs.Journal.{NoneBy, entries_by}
-use Rattle.turn_lock.specs.Seats.{view, own_entries, AreAllSeats, HasNoTurn, HasTurn, Knows, SameWorker}
+use Rattle.copied_part_laws.specs.below.hh_lang.{ProgramText}
+use Rattle.copied_part_laws.specs.below.run_trace.{EntryValue, Kind, SettingsValue}
+use Rattle.copied_part_laws.specs.below.shared_value.{IsSharedValue}
+use Rattle.turn_entries.specs.below.turn_lock.{NoneBy, entries_by, view, own_entries, AreAllSeats, HasNoTurn, HasTurn, Knows, SameWorker}
 use Rattle.steal_scheduler.specs.declared.hand.Hand.{Hand}
 use Rattle.steal_scheduler.specs.Hands.{thefts}
 use Rattle.turn_entries.specs.declared.act.Acted.TheVariants.{Entered, Same}

@@ -1,14 +1,10 @@
 -- What a run by workers leaves.
 use Rattle.std.specs.Prelude.{◌≡◌, List, Option, Some, None, true}
 use Rattle.atomic_table.specs.Seated.{TableId}
-use Rattle.hh_lang.specs.Form.{ProgramText}
-use Rattle.run_trace.specs.Entry.{EntryValue}
-use Rattle.run_trace.specs.Settings.{SettingsValue}
-use Rattle.run_ledger.specs.declared.data.RunEnd.{RunEnd}
-use Rattle.run_ledger.specs.Journals.{is_legal}
-use Rattle.run_ledger.specs.Pace.{is_paced}
-use Rattle.shared_value.specs.Stands.{IsSharedValue}
-use Rattle.shared_value.specs.SharedValue.{SharedValue}
+use Rattle.copied_part_laws.specs.below.hh_lang.{ProgramText}
+use Rattle.copied_part_laws.specs.below.run_trace.{EntryValue, SettingsValue}
+use Rattle.copied_part_laws.specs.below.run_ledger.{RunEnd, is_legal, is_paced}
+use Rattle.copied_part_laws.specs.below.shared_value.{IsSharedValue, SharedValue}
 use Rattle.worker_run.specs.declared.desk.Desk.{Desk}
 use Rattle.worker_run.specs.declared.end.Finish.{Finish}
 use Rattle.worker_run.specs.declared.end.Finish.TheVariants.{Ended, NoMemory}

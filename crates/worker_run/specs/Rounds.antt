@@ -1,6 +1,6 @@
 -- What a worker does from round to round.
 use Rattle.std.specs.Prelude.{◌≡◌, ℕ, zero, suc, List, Some, slice_get}
-use Rattle.hh_lang.specs.Form.{ProgramText}
+use Rattle.copied_part_laws.specs.below.hh_lang.{ProgramText}
 use Rattle.turn_entries.specs.declared.between_turns.Next.{Next}
 use Rattle.turn_entries.specs.declared.between_turns.Next.TheVariants.{Idle, Stop}
 use Rattle.turn_entries.specs.declared.between_turns.Ready.{Ready}

@@ -1,6 +1,6 @@
 -- What becomes of tasks at a worker's hand: k is the worker.
 use Rattle.std.specs.Prelude.{◌≡◌, ◌≢◌, ◌⊎◌, ℕ, ◌+◌, ◌%◌, ◌<◌, List, Option, Some, None, slice_get, length}
-use Rattle.hh_lang.specs.Form.{ProgramText}
+use Rattle.copied_part_laws.specs.below.hh_lang.{ProgramText}
 use Rattle.steal_scheduler.specs.declared.hand.Hand.{Hand}
 use Rattle.steal_scheduler.specs.declared.theft.Theft.{Theft}
 use Rattle.steal_scheduler.specs.Hands.{AreNewHands, ChangesAt, KeepsOwn, PutOnDeque, PutOnList, SameHand, TookFromDeque, TookFromList, TookNone, empty_pops, thefts}

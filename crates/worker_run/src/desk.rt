@@ -1,10 +1,8 @@
 //! The desks of the workers.
 
-use run_trace::Settings;
 use std::alloc::Global;
 use steal_scheduler::Hand;
-use turn_entries::Run;
-use turn_lock::Seat;
+use turn_entries::{Run, Seat, Settings};
 
 /// A worker's place at a run: its seat at the turn and its hand at the deques.
 #[derive(Drop)]

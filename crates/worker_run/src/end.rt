@@ -1,7 +1,6 @@
 //! What a run leaves.
 
-use run_ledger::RunEnd;
-use turn_entries::Counted;
+use turn_entries::{Counted, RunEnd};
 
 /// How a run finished.
 #[derive(Clone, Copy)]

@@ -1,16 +1,15 @@
 //! What a worker does outside the turn, on values that it owns.
 ghost use Rattle.std.specs.Prelude.{◌≡◌, IfOk};
-ghost use Rattle.hh_lang.specs.Form.{ProgramText};
+ghost use Rattle.copied_part_laws.specs.below.hh_lang.{ProgramText};
 ghost use Rattle.turn_entries.specs.Parts.{AtSome, GrowsTo, HasGrown, MayCopy, MayRun, WasCopied};
 
-use hh_lang::Program;
-use leaf_copy_gc::copy;
 use outside_io::Gate;
-use run_trace::PRIVATE_LIMIT;
 use std::alloc::AllocError;
 use std::snapshot::Snapshot;
-use task_machine::{Paused, Private, run_local};
-use turn_entries::{Collecting, Copied, PartInBlock, Ready};
+use turn_entries::{
+    Collecting, Copied, PRIVATE_LIMIT, PartInBlock, Paused, Private, Program, Ready, copy,
+    run_local,
+};
 
 // Takes steps of a part until they pause, at most as many as one entry holds, and settles its heap where a fork comes
 // next.

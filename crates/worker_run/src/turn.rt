@@ -1,8 +1,7 @@
 //! One turn of a worker.
 ghost use Rattle.std.specs.Prelude.{◌≡◌, IfSome, option_map};
-ghost use Rattle.shared_value.specs.Fits.{Fits};
-ghost use Rattle.turn_lock.specs.Seats.{view};
-ghost use Rattle.turn_lock.specs.Turn.{identity};
+ghost use Rattle.copied_part_laws.specs.below.shared_value.{Fits};
+ghost use Rattle.turn_entries.specs.below.turn_lock.{view, identity};
 ghost use Rattle.turn_entries.specs.Parts.{ComesWith, GoesWith, TakesFrom};
 ghost use Rattle.worker_run.specs.Desks.{GivesOne, HasEntry, HasGiven, IsDesk, KeepsPlace, SameDesk, TakesTurn};
 
@@ -10,9 +9,7 @@ use crate::desk::Desk;
 use crate::workshop::Workshop;
 use std::snapshot::Snapshot;
 use std::sync::Wait;
-use task_machine::Private;
-use turn_entries::{Acted, Next, Ready, Run};
-use turn_lock::Turn;
+use turn_entries::{Acted, Next, Private, Ready, Run, Turn};
 
 // Gives the value back with the entry that was made; the worker keeps the part.
 fn give_entry(turn: &Turn<Run>, desk: &mut Desk, run: Run, kept: Option<&Snapshot<Private>>)

@@ -1,9 +1,9 @@
 //! The workers in threads.
 ghost use Rattle.std.specs.Prelude.{◌≡◌, ◌<◌, ◌≤◌, ◌^◌, [], map, IfNone, IfOk, IfSome, vec_len, vec_capacity};
-ghost use Rattle.hh_lang.specs.Form.{ProgramText};
-ghost use Rattle.run_trace.specs.Settings.{SettingsValue};
-ghost use Rattle.run_ledger.specs.Journals.{end_of};
-ghost use Rattle.turn_lock.specs.Turn.{identity};
+ghost use Rattle.copied_part_laws.specs.below.hh_lang.{ProgramText};
+ghost use Rattle.copied_part_laws.specs.below.run_trace.{SettingsValue};
+ghost use Rattle.copied_part_laws.specs.below.run_ledger.{end_of};
+ghost use Rattle.turn_entries.specs.below.turn_lock.{identity};
 ghost use Rattle.worker_run.specs.Desks.{AreAllDesks, AreHands, AreNewDesks, AreOpened, HasOfEach, HasStopped, HaveSeen, HaveStopped, IsDesk, SameDesk};
 ghost use Rattle.worker_run.specs.Outcomes.{finish_of, IsRun, WasGivenBack};
 ghost use Rattle.worker_run.specs.Rounds.{AllGoRound, GoesRound};
@@ -14,16 +14,13 @@ use crate::desk::Desk;
 use crate::end::{Finish, Outcome};
 use crate::working::work;
 use crate::workshop::Workshop;
-use hh_lang::Program;
 use outside_io::Gate;
-use run_trace::Settings;
 use std::alloc::{AllocError, Global};
 use std::sync::Wait;
 use std::thread;
 use std::thread::Threads;
 use steal_scheduler::{Deques, Hand};
-use turn_entries::{Counted, Next, Paced, Run};
-use turn_lock::{Seat, Turn};
+use turn_entries::{Counted, Next, Paced, Program, Run, Seat, Settings, Turn};
 
 /// Each worker works at its desk in a thread of its own, until the run is over.
 pub fn all_work<R: Threads + Wait + Sync, G: Gate>(rt: &R, shop: &Workshop<G>, desks: &mut [Desk])

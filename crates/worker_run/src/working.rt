@@ -1,7 +1,6 @@
 //! What a worker does until the run is over.
 ghost use Rattle.std.specs.Prelude.{◌≡◌, IfNone, IfSome};
-ghost use Rattle.turn_lock.specs.Seats.{view};
-ghost use Rattle.turn_lock.specs.Turn.{identity};
+ghost use Rattle.turn_entries.specs.below.turn_lock.{view, identity};
 ghost use Rattle.turn_entries.specs.Parts.{ComesWith, GoesWith};
 ghost use Rattle.worker_run.specs.Desks.{ChangesHand, FewThefts, HasStopped, IsDesk, SameDesk};
 ghost use Rattle.worker_run.specs.Rounds.{GoesRound};

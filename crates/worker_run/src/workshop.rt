@@ -1,9 +1,7 @@
 //! What the workers of a run use together.
 
 use crate::bell::Bell;
-use hh_lang::Program;
-use turn_entries::Run;
-use turn_lock::Turn;
+use turn_entries::{Program, Run, Turn};
 
 /// What each worker of a run works with: the turn of the shared value, the bell, the gate that it passes, and the
 /// program.

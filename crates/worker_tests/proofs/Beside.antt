@@ -1,13 +1,12 @@
 -- The desks of two workers, and what they keep.
 use Rattle.std.proofs.Common.{◌≡◌, ◌<◌, List, [], ◌∷◌, length, get_or, remove, slice_get, sym, subst, arith, Some}
 use Rattle.atomic_table.specs.Seated.{TableId}
-use Rattle.hh_lang.specs.Form.{ProgramText}
-use Rattle.run_trace.specs.Settings.{SettingsValue}
-use Rattle.turn_lock.specs.Seats.{view}
+use Rattle.world_core.specs.below.hh_lang.{ProgramText}
+use Rattle.world_core.specs.below.run_trace.{SettingsValue}
+use Rattle.worker_run.specs.below.turn_lock.{view}
 use Rattle.worker_run.specs.declared.desk.Desk.{Desk}
-use Rattle.turn_entries.specs.declared.between_turns.Ready.{Ready}
+use Rattle.worker_run.specs.below.turn_entries.{Ready, ComesWith}
 use Rattle.worker_run.specs.Desks.{AreAllDesks, ChangesHand, IsDesk}
-use Rattle.turn_entries.specs.Parts.{ComesWith}
 use Rattle.worker_run.proofs.Rows.{first_of}
 
 -- what the worker comes with rests on nothing of its hand

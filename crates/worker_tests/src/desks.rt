@@ -1,26 +1,19 @@
 // Two workers at their desks, in one thread: the order of their turns is given.
 ghost use Rattle.std.specs.Prelude.{IfSome};
 ghost use Rattle.atomic_table.specs.Seated.{TableId};
-ghost use Rattle.hh_lang.specs.Form.{ProgramText};
-ghost use Rattle.run_trace.specs.Settings.{SettingsValue};
-ghost use Rattle.turn_lock.specs.Seats.{view, HasNoTurn};
-ghost use Rattle.turn_lock.specs.Turn.{identity};
+ghost use Rattle.world_core.specs.below.hh_lang.{ProgramText};
+ghost use Rattle.world_core.specs.below.run_trace.{SettingsValue};
+ghost use Rattle.worker_run.specs.below.turn_lock.{view, HasNoTurn, identity};
 ghost use Rattle.worker_run.specs.Desks.{AreAllDesks, ChangesHand, FewThefts, IsDesk};
-ghost use Rattle.turn_entries.specs.Parts.{ComesWith, GoesWith};
+ghost use Rattle.worker_run.specs.below.turn_entries.{ComesWith, GoesWith};
 
-use counted_tree::held;
-use hh_lang::Program;
-use hh_model::End;
-use outside_io::EmptyGate;
-use run_ledger::RunEnd;
-use run_trace::{Entry, Kind, Settings, Version};
-use shared_tree::Shared;
 use std::alloc::Global;
 use std::sync::Wait;
 use trace_input::read_trace_input;
-use turn_lock::Turn;
-use worker_run::{Bell, Desk, Next, Ready, Run, Workshop, opened, prepare, take_turn};
-use world_core::{World, replay};
+use worker_run::{Bell, Desk, Next, Ready, Run, Turn, Workshop, opened, prepare, take_turn};
+use world_core::{
+    EmptyGate, End, Entry, Kind, Program, RunEnd, Settings, Shared, Version, World, held, replay,
+};
 
 const COLLECTS: &str =
     "fn left\nset i0 0\nset i1 14\nnewm r1 i0 i1\nputr r0 i0 r1\nnil r1\nnewm r2 i0 i1\nret\nend\nfn right\nset i0 0\nnil r1\nputr r0 i0 r1\nret\nend\nfn main\nset i0 1\nset i1 0\nnewm r0 i0 i1\npar left right\nset i2 0\ngetr r3 r0 i2\nnil r4\nsame i3 r3 r4\nout i3\nret\nend\ntrace 1\n0 took 0\n0 ran 0 2\n0 chunk 0\n0 ran 0 2\n0 took 1\n1 took 2\n0 ran 1 2\n0 chunk 1\n0 ran 1 2\n0 ran 1 1\n0 begin 1\n1 ran 2 3\n0 end 1 1 1 16\n0 ran 1 2\n1 ran 2 1\n1 took 0\n1 ran 0 5\n1 ran 0 1\n";

@@ -1,20 +1,17 @@
 // Four workers in threads take one turn again and again.
 ghost use Rattle.std.specs.Prelude.{◌≡◌, ℕ, Some, slice_get};
-ghost use Rattle.turn_lock.specs.Seats.{HasNoTurn};
-ghost use Rattle.turn_lock.specs.Turn.{identity};
+ghost use Rattle.worker_run.specs.below.turn_lock.{HasNoTurn, identity};
 ghost use Rattle.worker_run.specs.declared.desk.Desk.{Desk};
 
-use hh_lang::Program;
 use program_reader::read_program;
-use run_trace::{Settings, Version};
 use std::alloc::Global;
 use std::hint::spin_loop;
 use std::sync::Wait;
 use std::sync::atomic::{AtomicBool, AtomicU64, Ordering};
 use std::thread;
 use std::thread::Threads;
-use turn_lock::Turn;
-use worker_run::{Desk, Run, opened};
+use worker_run::{Desk, Run, Turn, opened};
+use world_core::{Program, Settings, Version};
 
 // How often each worker takes the turn, and how long it keeps it.
 const ROUNDS: u32 = 1000;

@@ -1,21 +1,12 @@
 -- What an entry makes of all holdings, from what it makes of its worker's.
 use Rattle.std.proofs.Common.{◌≡◌, ℕ, true, false, Some, Result, Ok, Err, List, [], ◌∷◌, ◌++◌, length, slice_get, slice_set, refl, ap, sym, subst, ◌∙◌}
 use Rattle.std.proofs.lemmas.Bool.{false≢true}
-use Rattle.run_trace.specs.Entry.{EntryValue}
-use Rattle.run_trace.specs.declared.entry.Kind.{Kind}
-use Rattle.run_trace.specs.declared.entry.Kind.TheVariants.{Took, Ran, Chunk, Begin, End, PutOff, Mark, More, Sweep, Fuel}
-use Rattle.run_ledger.specs.declared.data.Refused.{Refused}
-use Rattle.run_ledger.specs.Entries.{is_fuel, kind_refusal}
-use Rattle.write_barrier.specs.Stored.{content_at}
-use Rattle.shared_value.specs.declared.answer.NotEntered.{NotEntered}
-use Rattle.shared_value.specs.declared.answer.NotEntered.TheVariants.{NoMemory, Refuses}
-use Rattle.shared_value.specs.Causes.{first_cause, or_else}
-use Rattle.shared_value.specs.Entered.{refused}
-use Rattle.shared_value.specs.Fits.{AllFit}
-use Rattle.shared_value.specs.Stands.{IsSharedValue}
-use Rattle.shared_value.specs.SharedValue.{SharedValue, accounts, rest_at}
-use Rattle.shared_value.proofs.CausesTold.{refused_is}
-use Rattle.child_tasks.specs.Joins.{IsSameRest, SameButPlaces}
+use Rattle.counted_tree.specs.below.run_trace.{EntryValue, Kind, Took, Ran, Chunk, Begin, End, PutOff, Mark, More, Sweep, Fuel}
+use Rattle.counted_tree.specs.below.run_ledger.{Refused, is_fuel, kind_refusal}
+use Rattle.counted_tree.specs.below.write_barrier.{content_at}
+use Rattle.counted_tree.specs.below.shared_value.{NotEntered, NoMemory, Refuses, first_cause, or_else, refused, AllFit, IsSharedValue, SharedValue, accounts, rest_at}
+use Rattle.counted_tree.proofs.below.shared_value.{refused_is}
+use Rattle.counted_tree.specs.below.child_tasks.{IsSameRest, SameButPlaces}
 use Rattle.world_core.specs.declared.out_part.OutPart.{OutPart}
 use Rattle.world_core.specs.Applied.{AnswersAll, AnswersApart, AnswersFor, RefusesAll, SameButReserved, SameButRoomier, WantsAll, is_own}
 use Rattle.world_core.specs.WorldValue.{AllHold, Holds}

@@ -1,17 +1,14 @@
 -- What holds of accounts holds of them with the machine's end left aside.
 use Rattle.std.proofs.Common.{ℕ}
-use Rattle.hh_lang.specs.Form.{ProgramText}
-use Rattle.hh_model.specs.declared.data.Name.{Name}
-use Rattle.run_trace.specs.Settings.{SettingsValue}
-use Rattle.run_ledger.specs.declared.data.Ledger.{Ledger}
-use Rattle.object_layout.specs.declared.word.Addr.{Addr}
-use Rattle.remembered_set.specs.declared.remembered.Source.{Source}
-use Rattle.ledger_step_laws.specs.Accounts.{Knows, aside}
-use Rattle.core_relation.specs.Fits.{Part}
-use Rattle.core_relation.specs.Stands.{BelongingsStand, IsSource, Place, Stands}
-use Rattle.core_relation.specs.Memory.{Memory}
-use Rattle.core_relation.specs.Worker.{WorkerFits}
-use Rattle.core_relation.proofs.objects.Carry.{object_kept, task_kept}
+use Rattle.counted_tree.specs.below.hh_lang.{ProgramText}
+use Rattle.counted_tree.specs.below.hh_model.{Name}
+use Rattle.counted_tree.specs.below.run_trace.{SettingsValue}
+use Rattle.counted_tree.specs.below.run_ledger.{Ledger}
+use Rattle.counted_tree.specs.below.object_layout.{Addr}
+use Rattle.counted_tree.specs.below.remembered_set.{Source}
+use Rattle.counted_tree.specs.below.ledger_step_laws.{Knows, aside}
+use Rattle.counted_tree.specs.below.core_relation.{Part, BelongingsStand, IsSource, Place, Stands, Memory, WorkerFits}
+use Rattle.counted_tree.proofs.below.core_relation.{object_kept, task_kept}
 
 pub knows_aside : (l : Ledger) → Knows l → Knows (aside l)
 knows_aside l K = record { sound = K.sound; stored = K.stored; rows = K.rows }

@@ -1,28 +1,17 @@
 -- A part whose leaf collection has begun can be copied, and holds as a copy then.
 use Rattle.std.proofs.Common.{◌≡◌, ℕ, All, Some, None, List, map, refl, ap, sym, subst, ◌∙◌}
-use Rattle.run_trace.specs.declared.entry.Kind.TheVariants.{Begin}
-use Rattle.run_ledger.specs.declared.data.Ledger.{Ledger}
-use Rattle.run_ledger.specs.Heaps.{take_of, within}
-use Rattle.run_ledger.proofs.Holders.{heap_end}
-use Rattle.object_layout.specs.declared.word.Addr.{Addr}
-use Rattle.object_layout.specs.ChunkValue.{ChunkValue, number_of}
-use Rattle.alloc_path.specs.LeafHeapValue.{LeafHeapValue}
-use Rattle.task_frames.specs.FramesValue.{FramesValue}
-use Rattle.leaf_copy_gc.specs.declared.lists.Moved.{Moved}
-use Rattle.leaf_copy_gc.specs.declared.lists.ToChunks.{ToChunks}
-use Rattle.leaf_copy_gc.specs.Laws.{CanTake}
-use Rattle.leaf_copy_gc.specs.Lists.{IsCollected}
-use Rattle.leaf_copy_gc.specs.Survivors.{IsSound, as_reference}
-use Rattle.ledger_step_laws.specs.Accounts.{aside}
-use Rattle.task_machine.specs.declared.part.Begun.{Begun}
-use Rattle.task_machine.specs.declared.part.Private.{Private}
-use Rattle.shared_value.specs.Entered.{Enters}
-use Rattle.shared_value.specs.Fits.{Fits}
-use Rattle.shared_value.specs.LeafBegin.{HasBegun}
-use Rattle.shared_value.specs.Stands.{IsSharedValue}
-use Rattle.shared_value.specs.SharedValue.{SharedValue, accounts, value_of}
-use Rattle.shared_value.proofs.StepsEntered.{status}
-use Rattle.heap_marking.proofs.ForksTold.{entered_accounts}
+use Rattle.counted_tree.specs.below.run_trace.{Begin}
+use Rattle.counted_tree.specs.below.run_ledger.{Ledger, take_of, within}
+use Rattle.counted_tree.proofs.below.run_ledger.{heap_end}
+use Rattle.counted_tree.specs.below.object_layout.{Addr, ChunkValue, number_of}
+use Rattle.counted_tree.specs.below.alloc_path.{LeafHeapValue}
+use Rattle.counted_tree.specs.below.task_frames.{FramesValue}
+use Rattle.counted_tree.specs.below.leaf_copy_gc.{Moved, ToChunks, CanTake, IsCollected, IsSound, as_reference}
+use Rattle.counted_tree.specs.below.ledger_step_laws.{aside}
+use Rattle.counted_tree.specs.below.task_machine.{Begun, Private}
+use Rattle.counted_tree.specs.below.shared_value.{Enters, Fits, HasBegun, IsSharedValue, SharedValue, accounts, value_of}
+use Rattle.counted_tree.proofs.below.shared_value.{status}
+use Rattle.copied_part_laws.proofs.below.heap_marking.{entered_accounts}
 use Rattle.copied_part_laws.specs.Copied.{CanCopy}
 use Rattle.copied_part_laws.specs.Handed.{IsCopying}
 use Rattle.copied_part_laws.proofs.CopyBegins.{begun_is_copying}

@@ -1,19 +1,13 @@
 -- What lemmas of several entries need: refusals, how few allocations there are, and good results.
 use Rattle.std.proofs.Common.{◌≡◌, ℕ, ◌+◌, ◌<◌, ◌≤◌, Result, Ok, Err, length, slice_get, refl, ap, ◌∙◌, arith}
 use Rattle.std.specs.Result.{IfOk}
-use Rattle.hh_model.specs.declared.data.State.{State}
-use Rattle.hh_model.specs.Effect.{row_of}
-use Rattle.run_ledger.specs.declared.data.Ledger.{Ledger}
-use Rattle.run_ledger.proofs.Bounds.{steps_are_bounded}
-use Rattle.journal_laws.proofs.Counted.{journals_are_counted}
-use Rattle.task_machine.specs.declared.part.Private.{Private}
-use Rattle.task_machine.specs.Outline.{steps}
-use Rattle.task_machine.specs.Fits.{unended}
-use Rattle.shared_value.specs.SharedValue.{SharedValue, accounts}
-use Rattle.shared_value.specs.Stands.{IsSharedValue}
-use Rattle.shared_value.specs.Fits.{beyond}
-use Rattle.shared_value.specs.Links.{FitsFirst}
-use Rattle.shared_value.proofs.StepsEntered.{beyond_machine}
+use Rattle.counted_tree.specs.below.hh_model.{State, row_of}
+use Rattle.counted_tree.specs.below.run_ledger.{Ledger}
+use Rattle.counted_tree.proofs.below.run_ledger.{steps_are_bounded}
+use Rattle.counted_tree.proofs.below.journal_laws.{journals_are_counted}
+use Rattle.counted_tree.specs.below.task_machine.{Private, steps, unended}
+use Rattle.counted_tree.specs.below.shared_value.{SharedValue, accounts, IsSharedValue, beyond, FitsFirst}
+use Rattle.counted_tree.proofs.below.shared_value.{beyond_machine}
 
 -- ---- REFUSALS
 

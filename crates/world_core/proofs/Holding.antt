@@ -2,23 +2,18 @@
 use Rattle.std.proofs.Common.{◌≡◌, ◌≢◌, ℕ, Bool, true, false, Some, None, List, slice_get, slice_set, inl, inr, ap, sym, subst, ◌∙◌}
 use Rattle.std.proofs.lemmas.Bool.{cases_eq, false≢true}
 use Rattle.std.proofs.lemmas.Option.{same_Some}
-use Rattle.listed.proofs.Members.{got_other, got_same}
-use Rattle.run_trace.specs.Entry.{EntryValue}
-use Rattle.run_ledger.specs.declared.data.Ledger.{Ledger}
-use Rattle.run_ledger.specs.Entries.{after}
-use Rattle.run_ledger.specs.Heaps.{heap_of}
-use Rattle.leaf_copy_gc.specs.declared.lists.Moved.{Moved}
-use Rattle.core_relation.specs.Whole.{handed}
-use Rattle.core_entry_laws.proofs.whole.HandedBack.{handed_on}
-use Rattle.task_machine.specs.declared.part.Private.{Private}
-use Rattle.shared_value.specs.Entered.{Enters, refused}
-use Rattle.shared_value.specs.Fits.{AllFit, Fits, OthersFit}
-use Rattle.shared_value.specs.SharedValue.{SharedValue, accounts}
-use Rattle.shared_value.proofs.EntryMade.{entry_on, worker_by_end}
-use Rattle.heap_marking.proofs.ForksTold.{entered_accounts}
-use Rattle.child_tasks.specs.NoTask.{HoldsNone}
-use Rattle.child_tasks.specs.Joins.{SameButPlaces}
-use Rattle.child_tasks.proofs.JoinPlaces.{same_world}
+use Rattle.counted_tree.proofs.below.listed.{got_other, got_same}
+use Rattle.counted_tree.specs.below.run_trace.{EntryValue}
+use Rattle.counted_tree.specs.below.run_ledger.{Ledger, after, heap_of}
+use Rattle.counted_tree.specs.below.leaf_copy_gc.{Moved}
+use Rattle.counted_tree.specs.below.core_relation.{handed}
+use Rattle.counted_tree.proofs.below.core_entry_laws.{handed_on}
+use Rattle.counted_tree.specs.below.task_machine.{Private}
+use Rattle.counted_tree.specs.below.shared_value.{Enters, refused, AllFit, Fits, OthersFit, SharedValue, accounts}
+use Rattle.counted_tree.proofs.below.shared_value.{entry_on, worker_by_end}
+use Rattle.copied_part_laws.proofs.below.heap_marking.{entered_accounts}
+use Rattle.counted_tree.specs.below.child_tasks.{HoldsNone, SameButPlaces}
+use Rattle.counted_tree.proofs.below.child_tasks.{same_world}
 use Rattle.world_core.specs.declared.out_part.OutPart.{OutPart}
 use Rattle.world_core.specs.declared.out_part.OutPart.TheVariants.{Nothing, Part, Copied}
 use Rattle.world_core.specs.Applied.{is_own}

@@ -1,33 +1,20 @@
 -- Why an entry of a worker is refused by what the worker holds.
 use Rattle.std.proofs.Common.{◌≡◌, ◌≢◌, ℕ, ◌==◌, Bool, true, false, cond, min, Option, Some, None, slice_get, is_some, refl, ap, sym, subst, ◌∙◌, eq-eqb}
 use Rattle.std.proofs.lemmas.Bool.{and_from, eqb-true, false≢true}
-use Rattle.hh_model.specs.Step.{is_running}
-use Rattle.run_trace.specs.declared.entry.Kind.{Kind}
-use Rattle.run_trace.specs.declared.entry.Kind.TheVariants.{Begin, Chunk, End, PutOff, Ran}
-use Rattle.run_ledger.specs.Laws.{TasksAreOut}
-use Rattle.run_ledger.specs.declared.data.Ledger.{Ledger}
-use Rattle.run_ledger.specs.declared.data.Refused.{Refused}
-use Rattle.run_ledger.specs.declared.data.Refused.TheVariants.{Collecting, Count, Due, NotCollecting, NotNeeded, NotOut, PoolEnough, PoolShort}
-use Rattle.run_ledger.specs.Entries.{ends_as, is_fuel, is_out, is_pool_enough, kind_refusal, long_at, on_due, on_running, refused_if, refused_unless}
-use Rattle.listed.specs.Options.{option_is}
-use Rattle.run_ledger.specs.Heaps.{end_numbers, heap_of, in_use}
-use Rattle.run_ledger.specs.Steps.{is_due, is_in_need, most_steps, standing}
-use Rattle.run_ledger.proofs.Holders.{tasks_are_out_once}
-use Rattle.leaf_copy_gc.specs.declared.lists.Moved.{Moved}
-use Rattle.core_entry_laws.proofs.whole.HandedBack.{handed_on}
-use Rattle.task_machine.specs.declared.part.Begun.{Begun}
-use Rattle.task_machine.specs.declared.part.Private.{Private}
-use Rattle.shared_value.specs.Causes.{first_cause, or_else, task_asked}
-use Rattle.shared_value.specs.Entered.{refused}
-use Rattle.shared_value.specs.Fits.{Fits}
-use Rattle.shared_value.specs.Stands.{IsSharedValue}
-use Rattle.shared_value.specs.SharedValue.{SharedValue, accounts}
-use Rattle.shared_value.proofs.CollectionUnderWay.{at_part, begun_is}
-use Rattle.shared_value.proofs.CausesTold.{on_is, refused_is}
-use Rattle.own_steps.proofs.TaskNotOut.{apart_cause, unless_false}
-use Rattle.child_tasks.specs.NoTask.{HoldsNone}
-use Rattle.leaf_collections.specs.LeafEnd.{FitsCopied}
-use Rattle.leaf_collections.proofs.WhyNoEnd.{unless_true}
+use Rattle.counted_tree.specs.below.hh_model.{is_running}
+use Rattle.counted_tree.specs.below.run_trace.{Kind, Begin, Chunk, End, PutOff, Ran}
+use Rattle.counted_tree.specs.below.run_ledger.{TasksAreOut, Ledger, Refused, Collecting, Count, Due, NotCollecting, NotNeeded, NotOut, PoolEnough, PoolShort, ends_as, is_fuel, is_out, is_pool_enough, kind_refusal, long_at, on_due, on_running, refused_if, refused_unless, end_numbers, heap_of, in_use, is_due, is_in_need, most_steps, standing}
+use Rattle.counted_tree.specs.below.listed.{option_is}
+use Rattle.counted_tree.proofs.below.run_ledger.{tasks_are_out_once}
+use Rattle.counted_tree.specs.below.leaf_copy_gc.{Moved}
+use Rattle.counted_tree.proofs.below.core_entry_laws.{handed_on}
+use Rattle.counted_tree.specs.below.task_machine.{Begun, Private}
+use Rattle.counted_tree.specs.below.shared_value.{first_cause, or_else, task_asked, refused, Fits, IsSharedValue, SharedValue, accounts}
+use Rattle.counted_tree.proofs.below.shared_value.{at_part, begun_is, on_is, refused_is}
+use Rattle.counted_tree.proofs.below.own_steps.{apart_cause, unless_false}
+use Rattle.counted_tree.specs.below.child_tasks.{HoldsNone}
+use Rattle.copied_part_laws.specs.below.leaf_collections.{FitsCopied}
+use Rattle.copied_part_laws.proofs.below.leaf_collections.{unless_true}
 use Rattle.copied_part_laws.specs.Handed.{IsCopying}
 use Rattle.copied_part_laws.proofs.CopyHanded.{copied_fits}
 use Rattle.world_core.specs.declared.out_part.OutPart.{OutPart}

@@ -9,3 +9,4 @@ pub mod Making
 pub mod BegunPart
 pub mod Applying
 pub mod Replayed
+pub mod below

@@ -2,26 +2,16 @@
 use Rattle.std.proofs.Common.{◌≡◌, ℕ, true, false, Some, None, Result, Ok, Err, refl, ap, sym, subst, ◌∙◌}
 use Rattle.std.specs.Result.{OnErr, OnOk}
 use Rattle.std.proofs.lemmas.Bool.{false≢true}
-use Rattle.listed.proofs.Options.{none_some}
-use Rattle.run_trace.specs.Entry.{EntryValue}
-use Rattle.run_trace.specs.declared.entry.Kind.TheVariants.{End}
-use Rattle.run_ledger.specs.declared.data.Refused.{Refused}
-use Rattle.run_ledger.specs.Entries.{ends_as}
-use Rattle.leaf_copy_gc.specs.declared.lists.Moved.{Moved}
-use Rattle.task_machine.specs.declared.part.Private.{Private}
-use Rattle.shared_value.specs.declared.answer.NotEntered.{NotEntered}
-use Rattle.shared_value.specs.declared.answer.NotEntered.TheVariants.{NoMemory, Refuses}
-use Rattle.shared_value.specs.Causes.{first_cause}
-use Rattle.shared_value.specs.Entered.{Answers, Enters, IsCaused, IsSamePart, refused}
-use Rattle.shared_value.specs.Fits.{AllFit, Fits, OthersFit}
-use Rattle.shared_value.specs.Stands.{IsSharedValue}
-use Rattle.shared_value.specs.SharedValue.{SharedValue}
-use Rattle.own_steps.specs.Alone.{GoesAlone, HaltsAlone, alone_entry}
-use Rattle.child_tasks.specs.Joins.{IsUnchanged}
-use Rattle.shared_tree.specs.declared.ran.Ran.{Ran}
-use Rattle.shared_tree.specs.declared.ran.Ran.TheVariants.{Done, Ended, Forked, Over}
-use Rattle.shared_tree.specs.Ran.{RanTo}
-use Rattle.shared_tree.proofs.Joints.{fit_by}
+use Rattle.counted_tree.proofs.below.listed.{none_some}
+use Rattle.counted_tree.specs.below.run_trace.{EntryValue, End}
+use Rattle.counted_tree.specs.below.run_ledger.{Refused, ends_as}
+use Rattle.counted_tree.specs.below.leaf_copy_gc.{Moved}
+use Rattle.counted_tree.specs.below.task_machine.{Private}
+use Rattle.counted_tree.specs.below.shared_value.{NotEntered, NoMemory, Refuses, first_cause, Answers, Enters, IsCaused, IsSamePart, refused, AllFit, Fits, OthersFit, IsSharedValue, SharedValue}
+use Rattle.counted_tree.specs.below.own_steps.{GoesAlone, HaltsAlone, alone_entry}
+use Rattle.counted_tree.specs.below.child_tasks.{IsUnchanged}
+use Rattle.counted_tree.specs.below.shared_tree.{Ran, Done, Ended, Forked, Over, RanTo}
+use Rattle.counted_tree.proofs.below.shared_tree.{fit_by}
 use Rattle.world_core.specs.declared.out_part.OutPart.{OutPart}
 use Rattle.world_core.specs.declared.out_part.OutPart.TheVariants.{Part, Copied}
 use Rattle.world_core.specs.declared.out_part.Made.{Made}

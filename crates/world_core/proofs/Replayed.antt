@@ -2,16 +2,11 @@
 use Rattle.std.proofs.Common.{◌≡◌, ℕ, ◌+◌, ◌<◌, true, false, List, [], ◌∷◌, ◌++◌, drop, get_or, length, take, refl, ap, sym, subst, ◌∙◌, add-one, append_assoc}
 use Rattle.std.proofs.Math.Seq.{take-suc}
 use Rattle.std.proofs.lemmas.List.{drop_more}
-use Rattle.hh_lang.specs.Form.{ProgramText}
-use Rattle.run_trace.specs.Entry.{EntryValue}
-use Rattle.run_trace.specs.Settings.{SettingsValue}
-use Rattle.run_ledger.specs.declared.data.Ledger.{Ledger}
-use Rattle.run_ledger.specs.Entries.{after, refusal}
-use Rattle.run_ledger.specs.Journals.{first_refused, first_refused_from, is_legal, ledger_of, opening, refused_or}
-use Rattle.shared_value.specs.Entered.{refused}
-use Rattle.shared_value.specs.Stands.{IsSharedValue}
-use Rattle.shared_value.specs.SharedValue.{SharedValue, accounts}
-use Rattle.heap_marking.proofs.ForksTold.{entered_accounts}
+use Rattle.counted_tree.specs.below.hh_lang.{ProgramText}
+use Rattle.counted_tree.specs.below.run_trace.{EntryValue, SettingsValue}
+use Rattle.counted_tree.specs.below.run_ledger.{Ledger, after, refusal, first_refused, first_refused_from, is_legal, ledger_of, opening, refused_or}
+use Rattle.counted_tree.specs.below.shared_value.{refused, IsSharedValue, SharedValue, accounts}
+use Rattle.copied_part_laws.proofs.below.heap_marking.{entered_accounts}
 use Rattle.world_core.specs.Applied.{Applies, WantedMemory}
 use Rattle.world_core.specs.Replay.{HasCome}
 use Rattle.world_core.specs.WorldValue.{WorldValue}

@@ -1,34 +1,17 @@
 -- How many of a part's next steps can stand in one entry: its private steps, and one more that isn't.
 use Rattle.std.proofs.Common.{◌≡◌, ◌≢◌, ℕ, zero, suc, ◌+◌, ◌-◌, ◌<◌, ◌≤◌, ◌||◌, true, false, cond, min, nat_le, Option, Some, None, is_some, inl, inr, refl, ap, ap₂, sym, ◌∙◌, arith}
 use Rattle.std.proofs.lemmas.Bool.{cases_lt, cond-false, cond-true, false≢true, or_left, or_right}
-use Rattle.hh_lang.specs.Form.{ProgramText}
-use Rattle.hh_model.specs.declared.data.State.{State}
-use Rattle.hh_model.specs.Step.{asked}
-use Rattle.run_trace.specs.declared.entry.Kind.TheVariants.{Ran}
-use Rattle.run_trace.specs.Settings.{SettingsValue}
-use Rattle.run_trace.specs.Entry.{private_limit}
-use Rattle.run_ledger.specs.declared.data.Ledger.{Ledger}
-use Rattle.run_ledger.specs.declared.data.Refused.TheVariants.{Collecting, Long}
-use Rattle.run_ledger.specs.Entries.{long_at, refused_if}
-use Rattle.run_ledger.specs.Heaps.{heap_of, lacks_room}
-use Rattle.run_ledger.specs.Steps.{is_due, is_in_need, is_private, most_steps, on_asked, standing, task_step, task_steps}
-use Rattle.ledger_step_laws.specs.Accounts.{ArePrivate}
-use Rattle.task_machine.specs.declared.part.Paused.{Paused}
-use Rattle.task_machine.specs.declared.part.Paused.TheVariants.{Shared, Due, NeedChunk, Spent}
-use Rattle.task_machine.specs.declared.part.Private.{Private}
-use Rattle.task_machine.specs.Steps.{is_part_due, is_part_in_need, lacks_place}
-use Rattle.task_machine.proofs.Counted.{lacks_same}
-use Rattle.shared_value.specs.Causes.{first_cause}
-use Rattle.shared_value.specs.Entered.{refused}
-use Rattle.shared_value.specs.Fits.{Fits}
-use Rattle.shared_value.specs.Next.{next_line}
-use Rattle.shared_value.specs.Stands.{IsSharedValue}
-use Rattle.shared_value.specs.SharedValue.{SharedValue, accounts}
-use Rattle.shared_value.proofs.NextStepAsks.{asks_is, asks_two, counted_is, since_is}
-use Rattle.shared_value.proofs.CollectionUnderWay.{at_part}
-use Rattle.shared_value.proofs.BeforeTheEnd.{fits_now}
-use Rattle.own_steps.specs.Alone.{IsShared, machine_after}
-use Rattle.own_steps.proofs.LastSteps as last
+use Rattle.counted_tree.specs.below.hh_lang.{ProgramText}
+use Rattle.counted_tree.specs.below.hh_model.{State, asked}
+use Rattle.counted_tree.specs.below.run_trace.{Ran, SettingsValue, private_limit}
+use Rattle.counted_tree.specs.below.run_ledger.{Ledger, Collecting, Long, long_at, refused_if, heap_of, lacks_room, is_due, is_in_need, is_private, most_steps, on_asked, standing, task_step, task_steps}
+use Rattle.counted_tree.specs.below.ledger_step_laws.{ArePrivate}
+use Rattle.counted_tree.specs.below.task_machine.{Paused, Shared, Due, NeedChunk, Spent, Private, is_part_due, is_part_in_need, lacks_place}
+use Rattle.counted_tree.proofs.below.task_machine.{lacks_same}
+use Rattle.counted_tree.specs.below.shared_value.{first_cause, refused, Fits, next_line, IsSharedValue, SharedValue, accounts}
+use Rattle.counted_tree.proofs.below.shared_value.{asks_is, asks_two, counted_is, since_is, at_part, fits_now}
+use Rattle.counted_tree.specs.below.own_steps.{IsShared, machine_after}
+use Rattle.counted_tree.proofs.below.own_steps.LastSteps as last
 use Rattle.world_core.specs.Next.{IsNext, standing_by}
 use Rattle.world_core.proofs.HoldingCauses.{behind, on}
 

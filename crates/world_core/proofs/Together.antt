@@ -2,34 +2,18 @@
 use Rattle.std.proofs.Common.{◌≡◌, ℕ, zero, suc, Bool, Option, Some, None, List, [], ◌∷◌, slice_get, inl, inr, refl, ap, sym, subst, ◌∙◌, arith}
 use Rattle.std.proofs.lemmas.Bool.{false≢true}
 use Rattle.std.proofs.lemmas.Option.{same_Some}
-use Rattle.listed.proofs.Members.{got_within}
-use Rattle.listed.proofs.Places.{got_some}
-use Rattle.listed.proofs.Options.{none_some}
-use Rattle.hh_lang.specs.Form.{ProgramText}
-use Rattle.hh_model.specs.Step.{is_running}
-use Rattle.hh_model.specs.declared.data.End.TheVariants.{Done, Entangled, Trapped}
-use Rattle.run_ledger.specs.Heaps.{heap_of, let_go}
-use Rattle.run_ledger.specs.Laws.{TasksAreOut}
-use Rattle.run_ledger.specs.Steps.{task_steps}
-use Rattle.run_ledger.specs.declared.data.Ledger.{Ledger}
-use Rattle.run_ledger.proofs.Holders.{tasks_are_out_once}
-use Rattle.run_ledger.specs.declared.data.RunEnd.{RunEnd}
-use Rattle.run_ledger.specs.declared.data.RunEnd.TheVariants.{Fuel, Machine, Pool}
-use Rattle.ledger_step_laws.specs.Accounts.{Knows, Rests, aside}
-use Rattle.ledger_step_laws.proofs.Known.{legal_knows}
-use Rattle.ledger_step_laws.proofs.Rested.{rested_knows, rested_worker}
-use Rattle.core_relation.specs.Fits.{Part as PartOf, ahead}
-use Rattle.core_relation.specs.Frames.{NotOf, all_ahead}
-use Rattle.core_relation.specs.Memory.{In}
-use Rattle.core_relation.specs.Worker.{WorkerFits, WorkersFit}
-use Rattle.core_entry_laws.proofs.parts.All.{all_fit_together}
-use Rattle.core_relation.specs.Whole.{by_end, handed}
-use Rattle.shared_value.specs.Fits.{part_of}
-use Rattle.shared_value.specs.Stands.{IsSharedValue}
-use Rattle.shared_value.specs.SharedValue.{SharedValue, accounts, value_of}
-use Rattle.shared_value.proofs.EntryMade.{worker_by_end}
-use Rattle.shared_value.proofs.TaskTaken.{some_flat}
-use Rattle.heap_reading.proofs.IdleTasks.{done_idles}
+use Rattle.counted_tree.proofs.below.listed.{got_within, got_some, none_some}
+use Rattle.counted_tree.specs.below.hh_lang.{ProgramText}
+use Rattle.counted_tree.specs.below.hh_model.{is_running, Done, Entangled, Trapped}
+use Rattle.counted_tree.specs.below.run_ledger.{heap_of, let_go, TasksAreOut, task_steps, Ledger, RunEnd, Fuel, Machine, Pool}
+use Rattle.counted_tree.proofs.below.run_ledger.{tasks_are_out_once}
+use Rattle.counted_tree.specs.below.ledger_step_laws.{Knows, Rests, aside}
+use Rattle.counted_tree.proofs.below.ledger_step_laws.{legal_knows, rested_knows, rested_worker}
+use Rattle.counted_tree.specs.below.core_relation.{Part as PartOf, ahead, NotOf, all_ahead, In, WorkerFits, WorkersFit, by_end, handed}
+use Rattle.counted_tree.proofs.below.core_entry_laws.{all_fit_together}
+use Rattle.counted_tree.specs.below.shared_value.{part_of, IsSharedValue, SharedValue, accounts, value_of}
+use Rattle.counted_tree.proofs.below.shared_value.{worker_by_end, some_flat}
+use Rattle.counted_tree.proofs.below.heap_reading.{done_idles}
 use Rattle.world_core.specs.declared.out_part.OutPart.{OutPart}
 use Rattle.world_core.specs.declared.out_part.OutPart.TheVariants.{Nothing, Part, Copied}
 use Rattle.world_core.specs.Together.{AreParts, HoldsOneOf, IsPartIn, PartsStand, StandsTogether, with_parts}

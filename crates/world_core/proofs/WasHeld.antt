@@ -2,26 +2,12 @@
 use Rattle.std.proofs.Common.{◌≡◌, ◌≢◌, ℕ, zero, suc, ◌+◌, ◌-◌, Bool, true, false, cond, Option, Some, None, List, [], ◌∷◌, ◌++◌, slice_get, nat_lt, inl, inr, ap, sym, ◌∙◌}
 use Rattle.std.proofs.lemmas.Bool.{cases_eq}
 use Rattle.std.proofs.lemmas.Option.{same_Some}
-use Rattle.listed.proofs.Options.{none_some}
-use Rattle.hh_lang.specs.Form.{ProgramText}
-use Rattle.hh_model.specs.declared.data.End.{End}
-use Rattle.hh_model.specs.declared.data.Name.{Name}
-use Rattle.hh_model.specs.declared.data.State.{State}
-use Rattle.hh_model.specs.declared.data.Status.{Status}
-use Rattle.hh_model.specs.declared.data.Status.TheVariants.{Running, Waiting, Ended, Joined}
-use Rattle.hh_model.specs.declared.data.Task.{Task}
-use Rattle.hh_model.specs.Step.{asked, can_step, is_left, step}
-use Rattle.run_trace.specs.Settings.{SettingsValue}
-use Rattle.run_trace.specs.declared.entry.Kind.{Kind}
-use Rattle.run_trace.specs.declared.entry.Kind.TheVariants.{Took, Ran, Chunk, Begin, End as EndOf, PutOff, Mark, More, Sweep, Fuel}
-use Rattle.run_ledger.specs.declared.data.Heap.{Heap}
-use Rattle.run_ledger.specs.declared.data.Ledger.{Ledger}
-use Rattle.run_ledger.specs.declared.data.RunEnd.{RunEnd}
-use Rattle.run_ledger.specs.declared.data.RunEnd.TheVariants.{Pool}
-use Rattle.run_ledger.specs.Entries.{after_kind, chunk_units, with_chunk}
-use Rattle.run_ledger.specs.Heaps.{chunk_words, collected, emptied, forked_heap, fresh, heap_of, in_use, is_small, let_go, merged, or_fresh, placed, put_last, swept_heap, with_heap, within}
-use Rattle.run_ledger.specs.Steps.{allocated_by, allocated_in, at_fork, join_heaps, moved_on, moved_to, on_asked, settled, stepped_to, task_step, task_steps}
-use Rattle.ledger_step_laws.proofs.Ahead.{heap_then, with_at, with_off}
+use Rattle.counted_tree.proofs.below.listed.{none_some}
+use Rattle.counted_tree.specs.below.hh_lang.{ProgramText}
+use Rattle.counted_tree.specs.below.hh_model.{End, Name, State, Status, Running, Waiting, Ended, Joined, Task, asked, can_step, is_left, step}
+use Rattle.counted_tree.specs.below.run_trace.{SettingsValue, Kind, Took, Ran, Chunk, Begin, End as EndOf, PutOff, Mark, More, Sweep, Fuel}
+use Rattle.counted_tree.specs.below.run_ledger.{Heap, Ledger, RunEnd, Pool, after_kind, chunk_units, with_chunk, chunk_words, collected, emptied, forked_heap, fresh, heap_of, in_use, is_small, let_go, merged, or_fresh, placed, put_last, swept_heap, with_heap, within, allocated_by, allocated_in, at_fork, join_heaps, moved_on, moved_to, on_asked, settled, stepped_to, task_step, task_steps}
+use Rattle.counted_tree.proofs.below.ledger_step_laws.{heap_then, with_at, with_off}
 use Rattle.world_core.specs.Applied.{is_own}
 
 -- who holds a task in the one held it in the other

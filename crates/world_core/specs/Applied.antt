@@ -1,18 +1,10 @@
 -- What the world makes of an entry.
 use Rattle.std.specs.Prelude.{◌≡◌, ℕ, ◌==◌, Bool, true, false, Option, Some, None, List, Result, Ok, Err, if◌then◌else◌}
-use Rattle.run_trace.specs.declared.entry.Kind.{Kind}
-use Rattle.run_trace.specs.declared.entry.Kind.TheVariants.{Fuel, Mark, More, Sweep}
-use Rattle.run_trace.specs.Entry.{EntryValue}
-use Rattle.run_ledger.specs.declared.data.Refused.{Refused}
-use Rattle.run_ledger.specs.declared.data.Refused.TheVariants.{Collecting, NotCollecting, NotOut}
-use Rattle.shared_value.specs.declared.answer.NotEntered.{NotEntered}
-use Rattle.shared_value.specs.declared.answer.NotEntered.TheVariants.{NoMemory, Refuses}
-use Rattle.shared_value.specs.Entered.{Enters, refused}
-use Rattle.shared_value.specs.Fits.{AllFit, OthersFit}
-use Rattle.shared_value.specs.SharedValue.{SharedValue}
-use Rattle.child_tasks.specs.Joins.{SameButPlaces}
-use Rattle.shared_tree.specs.declared.ran.Ran.{Ran}
-use Rattle.shared_tree.specs.declared.ran.Ran.TheVariants.{Done, Ended, Forked, Over}
+use Rattle.counted_tree.specs.below.run_trace.{Kind, Fuel, Mark, More, Sweep, EntryValue}
+use Rattle.counted_tree.specs.below.run_ledger.{Refused, Collecting, NotCollecting, NotOut}
+use Rattle.counted_tree.specs.below.shared_value.{NotEntered, NoMemory, Refuses, Enters, refused, AllFit, OthersFit, SharedValue}
+use Rattle.counted_tree.specs.below.child_tasks.{SameButPlaces}
+use Rattle.counted_tree.specs.below.shared_tree.{Ran, Done, Ended, Forked, Over}
 use Rattle.world_core.specs.declared.out_part.OutPart.{OutPart}
 use Rattle.world_core.specs.declared.out_part.OutPart.TheVariants.{Nothing, Part, Copied}
 use Rattle.world_core.specs.declared.out_part.Made.{Made}

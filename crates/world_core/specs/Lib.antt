@@ -3,3 +3,4 @@ pub mod WorldValue
 pub mod Applied
 pub mod Together
 pub mod Replay
+pub mod below

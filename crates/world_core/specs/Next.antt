@@ -1,11 +1,8 @@
 -- What comes next after a part's private steps.
 use Rattle.std.specs.Prelude.{◌+◌, ℕ}
-use Rattle.task_machine.specs.declared.part.Private.{Private}
-use Rattle.task_machine.specs.declared.part.Paused.{Paused}
-use Rattle.task_machine.specs.declared.part.Paused.TheVariants.{Shared, Due, NeedChunk, Spent}
-use Rattle.task_machine.specs.Run.{Pauses}
-use Rattle.shared_value.specs.SharedValue.{SharedValue}
-use Rattle.own_steps.specs.Alone.{machine_after}
+use Rattle.counted_tree.specs.below.task_machine.{Private, Paused, Shared, Due, NeedChunk, Spent, Pauses}
+use Rattle.counted_tree.specs.below.shared_value.{SharedValue}
+use Rattle.counted_tree.specs.below.own_steps.{machine_after}
 
 -- what comes next of the part's task, by the machine after its fresh steps
 abbrev pub IsNext : SharedValue → Private → Paused → Type 0

@@ -1,9 +1,8 @@
 -- What a replay comes to.
 use Rattle.std.specs.Prelude.{◌≡◌, true, false, Some, None, List, Result, Ok, Err}
-use Rattle.hh_lang.specs.Form.{ProgramText}
-use Rattle.run_trace.specs.Entry.{EntryValue}
-use Rattle.run_trace.specs.Settings.{SettingsValue}
-use Rattle.run_ledger.specs.Journals.{IsPrefix, first_refused, is_legal}
+use Rattle.counted_tree.specs.below.hh_lang.{ProgramText}
+use Rattle.counted_tree.specs.below.run_trace.{EntryValue, SettingsValue}
+use Rattle.counted_tree.specs.below.run_ledger.{IsPrefix, first_refused, is_legal}
 use Rattle.world_core.specs.declared.replaying.ReplayStop.{ReplayStop}
 use Rattle.world_core.specs.declared.replaying.ReplayStop.TheVariants.{NoMemory, RefusedAt}
 use Rattle.world_core.specs.WorldValue.{WorldValue}

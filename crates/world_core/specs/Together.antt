@@ -1,18 +1,13 @@
 -- All parts together: with the belongings of each part that a worker holds put into the shared value, that stands for
 -- the accounts.
 use Rattle.std.specs.Prelude.{◌≡◌, ℕ, Some, List, slice_get}
-use Rattle.run_ledger.specs.declared.data.Ledger.{Ledger}
-use Rattle.leaf_copy_gc.specs.declared.lists.Moved.{Moved}
-use Rattle.ledger_step_laws.specs.Accounts.{Rests, aside}
-use Rattle.core_relation.specs.Fits.{Part as PartOf}
-use Rattle.core_relation.specs.Frames.{all_ahead, with_all_belongings}
-use Rattle.core_relation.specs.Stands.{Stands}
-use Rattle.core_relation.specs.Memory.{In}
-use Rattle.core_relation.specs.Whole.{handed}
-use Rattle.task_machine.specs.declared.part.Private.{Private}
-use Rattle.shared_value.specs.Fits.{part_of}
-use Rattle.shared_value.specs.SharedValue.{SharedValue, accounts, value_of}
-use Rattle.leaf_collections.specs.LeafEnd.{FitsCopied}
+use Rattle.counted_tree.specs.below.run_ledger.{Ledger}
+use Rattle.counted_tree.specs.below.leaf_copy_gc.{Moved}
+use Rattle.counted_tree.specs.below.ledger_step_laws.{Rests, aside}
+use Rattle.counted_tree.specs.below.core_relation.{Part as PartOf, all_ahead, with_all_belongings, Stands, In, handed}
+use Rattle.counted_tree.specs.below.task_machine.{Private}
+use Rattle.counted_tree.specs.below.shared_value.{part_of, SharedValue, accounts, value_of}
+use Rattle.copied_part_laws.specs.below.leaf_collections.{FitsCopied}
 use Rattle.world_core.specs.declared.out_part.OutPart.{OutPart}
 use Rattle.world_core.specs.declared.out_part.OutPart.TheVariants.{Nothing, Part, Copied}
 use Rattle.world_core.specs.WorldValue.{HoldsCopy, WorldValue}

@@ -1,14 +1,10 @@
 -- The whole world as one value: the shared value, and what each worker holds.
 use Rattle.std.specs.Prelude.{◌≡◌, ℕ, Bool, false, Some, None, List, length, map, slice_get}
-use Rattle.object_layout.specs.ChunkValue.{ChunkValue, number_of}
-use Rattle.leaf_copy_gc.specs.declared.lists.Moved.{Moved}
-use Rattle.leaf_copy_gc.specs.Laws.{CanTake}
-use Rattle.leaf_copy_gc.specs.Lists.{IsCollected}
-use Rattle.task_machine.specs.declared.part.Begun.{Begun}
-use Rattle.task_machine.specs.declared.part.Private.{Private}
-use Rattle.shared_value.specs.Fits.{Fits}
-use Rattle.shared_value.specs.SharedValue.{SharedValue}
-use Rattle.child_tasks.specs.NoTask.{HoldsNone}
+use Rattle.counted_tree.specs.below.object_layout.{ChunkValue, number_of}
+use Rattle.counted_tree.specs.below.leaf_copy_gc.{Moved, CanTake, IsCollected}
+use Rattle.counted_tree.specs.below.task_machine.{Begun, Private}
+use Rattle.counted_tree.specs.below.shared_value.{Fits, SharedValue}
+use Rattle.counted_tree.specs.below.child_tasks.{HoldsNone}
 use Rattle.world_core.specs.declared.out_part.OutPart.{OutPart}
 use Rattle.world_core.specs.declared.out_part.OutPart.TheVariants.{Nothing, Part, Copied}
 

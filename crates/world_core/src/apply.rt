@@ -1,8 +1,8 @@
 // The world makes an entry, whatever kind it is of.
 
 ghost use Rattle.std.specs.Prelude.{◌≡◌, ◌<◌, None, false, length, true};
-ghost use Rattle.run_trace.specs.Entry.{IsKind};
-ghost use Rattle.shared_value.specs.Causes.{first_cause};
+ghost use Rattle.counted_tree.specs.below.run_trace.{IsKind};
+ghost use Rattle.counted_tree.specs.below.shared_value.{first_cause};
 ghost use Rattle.world_core.specs.Applied.{is_own, AnswersAll, MakesFor};
 ghost use Rattle.world_core.specs.WorldValue.{AllHold, Holds};
 
@@ -14,10 +14,7 @@ use crate::apply_put_off::apply_put_off;
 use crate::apply_ran::apply_ran;
 use crate::apply_took::apply_took;
 use crate::out_part::{Made, OutPart};
-use counted_tree::Counted;
-use listed::Listed;
-use run_trace::{Entry, Kind};
-use shared_tree::NotEntered;
+use counted_tree::{Counted, Entry, Kind, Listed, NotEntered};
 use std::mem;
 
 // A worker that may make entries makes one for a task that it takes or holds.

@@ -1,12 +1,10 @@
 // Entries for a task that no worker holds: its heap is marked and swept; and the end for spent fuel.
 
 ghost use Rattle.std.specs.Prelude.{◌≡◌, ◌<◌, false};
-ghost use Rattle.run_trace.specs.Entry.{IsKind};
+ghost use Rattle.counted_tree.specs.below.run_trace.{IsKind};
 ghost use Rattle.world_core.specs.Applied.{is_own, AnswersApart};
 
-use counted_tree::Counted;
-use run_trace::Kind;
-use shared_tree::NotEntered;
+use counted_tree::{Counted, Kind, NotEntered};
 
 // Up to so many objects more of a heap are marked.
 fn mark_more(shared: &mut Counted, worker: u32, t: u32, n: u32) -> Result<(), NotEntered>

@@ -1,21 +1,14 @@
 // A leaf collection of a task begins.
 
 ghost use Rattle.std.specs.Prelude.{◌≡◌, ◌<◌, None, false};
-ghost use Rattle.task_machine.specs.declared.part.Private.{Private as PrivateOf};
-ghost use Rattle.shared_value.specs.Causes.{first_cause};
-ghost use Rattle.shared_value.specs.LeafBegin.{HasBegun};
-ghost use Rattle.shared_value.specs.Fits.{Fits};
-ghost use Rattle.shared_value.specs.SharedValue.{accounts};
+ghost use Rattle.counted_tree.specs.below.task_machine.{Private as PrivateOf};
+ghost use Rattle.counted_tree.specs.below.shared_value.{first_cause, HasBegun, Fits, accounts};
 ghost use Rattle.world_core.specs.Applied.{MakesFor};
 ghost use Rattle.world_core.specs.WorldValue.{Holds, HoldsCopy, HoldsPart};
 
 use crate::out_part::{Made, OutPart, idle_part};
-use counted_tree::Counted;
-use leaf_copy_gc::{Moved, ToChunks, copy};
-use object_layout::Addr;
+use counted_tree::{Addr, Counted, Kind, Moved, Private, ToChunks, copy};
 use outside_io::EmptyGate;
-use run_trace::Kind;
-use task_machine::Private;
 
 // Copies the heap of a part whose collection has begun.
 fn copy_begun(

@@ -1,14 +1,12 @@
 // A task gets a chunk.
 
 ghost use Rattle.std.specs.Prelude.{◌≡◌, ◌<◌, None, false};
-ghost use Rattle.shared_value.specs.Causes.{first_cause};
+ghost use Rattle.counted_tree.specs.below.shared_value.{first_cause};
 ghost use Rattle.world_core.specs.Applied.{MakesFor};
 ghost use Rattle.world_core.specs.WorldValue.{Holds, HoldsPart};
 
 use crate::out_part::{Made, OutPart, idle_part};
-use counted_tree::Counted;
-use run_trace::Kind;
-use task_machine::Private;
+use counted_tree::{Counted, Kind, Private};
 
 // The part gets it.
 fn give_chunk(shared: &mut Counted, worker: u32, part: Private) -> Made

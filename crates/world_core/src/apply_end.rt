@@ -1,18 +1,13 @@
 // The leaf collection of a task ends.
 
 ghost use Rattle.std.specs.Prelude.{◌≡◌, ◌<◌, None, false};
-ghost use Rattle.run_ledger.specs.Entries.{ends_as};
-ghost use Rattle.shared_value.specs.Causes.{first_cause};
+ghost use Rattle.counted_tree.specs.below.run_ledger.{ends_as};
+ghost use Rattle.counted_tree.specs.below.shared_value.{first_cause};
 ghost use Rattle.world_core.specs.Applied.{MakesFor};
 ghost use Rattle.world_core.specs.WorldValue.{Holds, HoldsCopy};
 
 use crate::out_part::{Made, OutPart, copied_part};
-use counted_tree::Counted;
-use leaf_copy_gc::Moved;
-use run_ledger::Refused;
-use run_trace::Kind;
-use shared_tree::NotEntered;
-use task_machine::Private;
+use counted_tree::{Counted, Kind, Moved, NotEntered, Private, Refused};
 
 // The first of the three numbers that is wrong.
 fn miscounted(moved: &Moved, taken: u32, given: u32, left: u32) -> Option<Refused>

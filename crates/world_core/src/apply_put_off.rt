@@ -1,15 +1,12 @@
 // A due leaf collection of a task is put off.
 
 ghost use Rattle.std.specs.Prelude.{◌≡◌, ◌<◌, None, false};
-ghost use Rattle.shared_value.specs.Causes.{first_cause};
+ghost use Rattle.counted_tree.specs.below.shared_value.{first_cause};
 ghost use Rattle.world_core.specs.Applied.{MakesFor};
 ghost use Rattle.world_core.specs.WorldValue.{Holds, HoldsPart};
 
 use crate::out_part::{Made, OutPart, idle_part};
-use counted_tree::Counted;
-use run_trace::Kind;
-use shared_tree::NotEntered;
-use task_machine::Private;
+use counted_tree::{Counted, Kind, NotEntered, Private};
 
 // That of the part is.
 fn put_off(shared: &mut Counted, worker: u32, part: Private) -> Made

@@ -1,23 +1,21 @@
 // A task takes steps.
 
 ghost use Rattle.std.specs.Prelude.{◌≡◌, ◌<◌, ◌≤◌, ◌+◌, ◌^◌, IfOk, None, false};
-ghost use Rattle.run_ledger.specs.Steps.{most_steps};
-ghost use Rattle.shared_value.specs.Causes.{first_cause};
-ghost use Rattle.shared_value.specs.Fits.{Fits};
-ghost use Rattle.own_steps.specs.Alone.{alone_entry, IsShared};
-ghost use Rattle.shared_tree.specs.Ran.{LeavesBy};
+ghost use Rattle.counted_tree.specs.below.run_ledger.{most_steps};
+ghost use Rattle.counted_tree.specs.below.shared_value.{first_cause, Fits};
+ghost use Rattle.counted_tree.specs.below.own_steps.{alone_entry, IsShared};
+ghost use Rattle.counted_tree.specs.below.shared_tree.{LeavesBy};
 ghost use Rattle.world_core.specs.Applied.{holding_of, MakesFor};
 ghost use Rattle.world_core.specs.Next.{standing_by, IsNext};
 ghost use Rattle.world_core.specs.WorldValue.{Holds, HoldsPart};
 
 use crate::out_part::{Made, OutPart, idle_part};
-use counted_tree::Counted;
+use counted_tree::{
+    Counted, Kind, Leaving, Lent, NotEntered, PRIVATE_LIMIT, Paused, Private, Ran, Refused, Shared,
+    run_local,
+};
 use outside_io::EmptyGate;
-use run_ledger::Refused;
-use run_trace::{Kind, PRIVATE_LIMIT};
-use shared_tree::{Leaving, Lent, NotEntered, Ran, Shared};
 use std::alloc::AllocError;
-use task_machine::{Paused, Private, run_local};
 
 // Takes more private steps, as many as the budget or as come before one that isn't, and says what comes next.
 fn run_more(

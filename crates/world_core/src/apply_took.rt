@@ -1,14 +1,12 @@
 // A worker takes a task.
 
 ghost use Rattle.std.specs.Prelude.{◌≡◌, ◌<◌, None, false};
-ghost use Rattle.shared_value.specs.Causes.{first_cause};
+ghost use Rattle.counted_tree.specs.below.shared_value.{first_cause};
 ghost use Rattle.world_core.specs.Applied.{MakesFor};
 ghost use Rattle.world_core.specs.WorldValue.{Holds};
 
 use crate::out_part::{Made, OutPart};
-use counted_tree::Counted;
-use run_trace::Kind;
-use shared_tree::NotEntered;
+use counted_tree::{Counted, Kind, NotEntered};
 
 /// A worker takes a task, and holds its part then.
 pub(crate) fn apply_took(shared: &mut Counted, worker: u32, holding: OutPart, t: u32) -> Made

@@ -16,5 +16,9 @@ mod apply_put_off;
 mod apply_ran;
 mod apply_took;
 
+pub use counted_tree::{
+    Counted, End, Entry, Kind, Program, Remains, RunEnd, Settings, Shared, Version, held,
+};
+pub use outside_io::EmptyGate;
 pub use replaying::{ReplayStop, replay};
 pub use world::{NotApplied, World};

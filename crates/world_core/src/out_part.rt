@@ -3,10 +3,7 @@
 ghost use Rattle.std.specs.Prelude.{◌≡◌, IfErr, IfOk, Some};
 ghost use Rattle.world_core.specs.Applied.{copied_cause, idle_cause};
 
-use leaf_copy_gc::Moved;
-use run_ledger::Refused;
-use shared_tree::NotEntered;
-use task_machine::Private;
+use counted_tree::{Moved, NotEntered, Private, Refused};
 
 /// What a worker holds.
 #[derive(Drop)]

@@ -4,9 +4,7 @@ ghost use Rattle.std.specs.Prelude.{◌≡◌, [], IfOk, false};
 ghost use Rattle.world_core.specs.Replay.{ReplayGives};
 
 use crate::world::{NotApplied, World};
-use hh_lang::Program;
-use run_ledger::RefusedAt;
-use run_trace::{Entry, Settings};
+use counted_tree::{Entry, Program, RefusedAt, Settings};
 use std::alloc::{AllocError, Global};
 
 /// Why a replay stopped before the last entry.

@@ -1,19 +1,14 @@
 // The whole as one value: the shared value and what every worker holds, to which entries are applied one by one.
 
 ghost use Rattle.std.specs.Prelude.{◌≡◌, [], IfOk, false, replicate};
-ghost use Rattle.shared_value.specs.Stands.{IsSharedValue};
+ghost use Rattle.counted_tree.specs.below.shared_value.{IsSharedValue};
 ghost use Rattle.world_core.specs.Applied.{AppliesTo};
 ghost use Rattle.world_core.specs.Together.{StandsTogether};
 ghost use Rattle.world_core.specs.WorldValue.{IsWhole};
 
 use crate::apply::make_entry;
 use crate::out_part::OutPart;
-use counted_tree::Counted;
-use hh_lang::Program;
-use listed::Listed;
-use run_ledger::Refused;
-use run_trace::{Entry, Settings};
-use shared_tree::{NotEntered, Shared};
+use counted_tree::{Counted, Entry, Listed, NotEntered, Program, Refused, Settings, Shared};
 use std::alloc::{AllocError, Global};
 use std::marker::Model;
 

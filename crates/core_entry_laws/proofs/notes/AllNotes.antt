@@ -2,30 +2,18 @@
 use Rattle.std.proofs.Common.{◌≡◌, ◌⊎◌, ℕ, ℤ, Bool, true, false, ◌++◌, Option, Some, None, List, length, slice_get, inl, inr, refl, ap, ap₂, sym, subst, ◌∙◌}
 use Rattle.std.specs.Prelude.{◌&&◌, not}
 use Rattle.std.proofs.lemmas.Bool.{both_ways, cases_eq, false≢true}
-use Rattle.object_layout.specs.declared.word.Addr.{Addr}
-use Rattle.object_layout.specs.Objects.{Located}
-use Rattle.hh_model.specs.declared.data.Name.{Name}
-use Rattle.hh_model.specs.declared.data.Object.{Object}
-use Rattle.hh_model.specs.declared.data.State.{State}
-use Rattle.hh_model.specs.declared.data.Status.{Status}
-use Rattle.hh_model.specs.declared.data.Status.TheVariants.{Running, Waiting, Ended, Joined}
-use Rattle.hh_model.specs.declared.data.Task.{Task}
-use Rattle.hh_model.specs.Step.{is_waiting, is_joined, is_over, waits}
-use Rattle.hh_model.proofs.Runs.{runs_idle}
-use Rattle.run_ledger.specs.declared.data.Heap.{Heap}
-use Rattle.run_ledger.specs.declared.data.Ledger.{Ledger}
-use Rattle.run_ledger.specs.Heaps.{heap_of, within}
-use Rattle.run_ledger.specs.Sound.{SoundLedger}
+use Rattle.core_relation.specs.below.object_layout.{Addr, Located}
+use Rattle.core_relation.specs.below.hh_model.{Name, Object, State, Status, Running, Waiting, Ended, Joined, Task, is_waiting, is_joined, is_over, waits}
+use Rattle.core_relation.proofs.below.hh_model.{runs_idle}
+use Rattle.core_relation.specs.below.run_ledger.{Heap, Ledger, heap_of, within, SoundLedger}
 use Rattle.core_relation.specs.Memory.{Belongings, In, Memory, object_name, objects, objects_in, put_at, rewritten, sources}
-use Rattle.listed.proofs.Members.{in_append_right}
-use Rattle.task_frames.specs.declared.frames.Frame.{Frame}
-use Rattle.ledger_step_laws.specs.Accounts.{Rests, StepsAlone, ChangesHeap}
+use Rattle.core_relation.proofs.below.listed.{in_append_right}
+use Rattle.core_relation.specs.below.task_frames.{Frame, ref_of}
+use Rattle.core_relation.specs.below.ledger_step_laws.{Rests, StepsAlone, ChangesHeap, CanJoin, ForksTask, JoinsTasks, StoresOne, StoresNumber}
 use Rattle.core_relation.specs.Stands.{Stands}
 use Rattle.core_relation.specs.Begins.{AreRoots, IsRoot}
 use Rattle.core_relation.specs.Since.{NotedAt, SameNotes, AllNoted, NotesStay, Noting, ForksNotes, JoinsNotes, OthersNotes, StoresNotes}
 use Rattle.core_relation.specs.Changes.{KeepsJust, Moves, ForksBelongings, JoinsBelongings, StoresAt, StoresNumberAt, WritesAt, with_number}
-use Rattle.task_frames.specs.FramesValue.{ref_of}
-use Rattle.ledger_step_laws.specs.Kinds.{CanJoin, ForksTask, JoinsTasks, StoresOne, StoresNumber}
 use Rattle.core_relation.proofs.objects.Mapped.{to_mapped}
 use Rattle.core_relation.proofs.objects.Members.{in_chunk, in_objects}
 use Rattle.core_relation.proofs.notes.Rooted.{noted_by, rewritten_at, root_apart, root_by, root_kept, root_same}

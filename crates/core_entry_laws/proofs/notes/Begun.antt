@@ -1,15 +1,10 @@
 -- A collection that has begun stands: when it begins, and past what others enter.
 use Rattle.std.proofs.Common.{◌≡◌, ℕ, true, Some, slice_get, ap, sym, subst, ◌∙◌}
-use Rattle.hh_model.specs.declared.data.Status.TheVariants.{Running}
-use Rattle.hh_model.specs.declared.data.Task.{Task}
-use Rattle.hh_model.specs.Step.{is_waiting}
-use Rattle.run_ledger.specs.declared.data.Heap.{Heap}
-use Rattle.run_ledger.specs.declared.data.Ledger.{Ledger}
-use Rattle.run_ledger.specs.Heaps.{heap_of}
-use Rattle.run_ledger.specs.Sound.{SoundLedger}
+use Rattle.core_relation.specs.below.hh_model.{Running, Task, is_waiting}
+use Rattle.core_relation.specs.below.run_ledger.{Heap, Ledger, heap_of, SoundLedger}
 use Rattle.core_relation.specs.Memory.{Belongings, Memory, In, object_name, objects_in}
-use Rattle.ledger_step_laws.specs.Accounts.{Rests}
-use Rattle.task_machine.specs.declared.part.Begun.{Begun}
+use Rattle.core_relation.specs.below.ledger_step_laws.{Rests}
+use Rattle.core_relation.specs.below.task_machine.{Begun}
 use Rattle.core_relation.specs.Stands.{Stands}
 use Rattle.core_relation.specs.Begins.{IsReachedAt, AreRoots}
 use Rattle.core_relation.specs.Whole.{BegunStands, Begins}

@@ -2,16 +2,12 @@
 use Rattle.std.proofs.Common.{◌≡◌, ◌⊎◌, ◌-◌, ◌≤◌, ℕ, suc, Bool, true, false, cond, arith, Option, List, [], ◌∷◌, length, unwrap_or, inl, inr, refl, ap, sym, subst, ◌∙◌}
 use Rattle.std.specs.List.{AllByRecursion, IsDistinct}
 use Rattle.std.proofs.lemmas.Bool.{both_ways}
-use Rattle.object_layout.specs.declared.word.Addr.{Addr}
-use Rattle.object_layout.specs.Chunks.{same_address}
-use Rattle.object_layout.specs.Objects.{Located}
-use Rattle.object_layout.proofs.Distinct.{none_from}
-use Rattle.hh_model.specs.declared.data.Name.{Name}
-use Rattle.run_ledger.specs.declared.data.Ledger.{Ledger}
-use Rattle.run_ledger.specs.Heaps.{held_in, heap_of, marked_in}
-use Rattle.run_ledger.specs.Reachable.{is_name}
-use Rattle.run_ledger.proofs.Members.{same_from_is_name, is_name_itself}
-use Rattle.ledger_step_laws.specs.Accounts.{Rests}
+use Rattle.core_relation.specs.below.object_layout.{Addr, same_address, Located}
+use Rattle.core_relation.proofs.below.object_layout.{none_from}
+use Rattle.core_relation.specs.below.hh_model.{Name}
+use Rattle.core_relation.specs.below.run_ledger.{Ledger, held_in, heap_of, marked_in, is_name}
+use Rattle.core_relation.proofs.below.run_ledger.{same_from_is_name, is_name_itself}
+use Rattle.core_relation.specs.below.ledger_step_laws.{Rests}
 use Rattle.core_relation.specs.Memory.{Memory, In, object_name, objects}
 use Rattle.core_relation.specs.Stands.{Stands}
 use Rattle.core_entry_laws.specs.CopyLaws.{MarksAreAll}

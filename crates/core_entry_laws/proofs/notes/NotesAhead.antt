@@ -1,20 +1,19 @@
 -- The notes of a memory with a part's belongings in it, by the accounts with the part's steps, and back.
 use Rattle.std.proofs.Common.{◌≡◌, false, slice_get, refl, ap, sym, subst, ◌∙◌}
 use Rattle.std.specs.Prelude.{◌&&◌, not}
-use Rattle.hh_model.specs.declared.data.State.{State}
-use Rattle.hh_model.specs.Step.{is_waiting}
-use Rattle.hh_model.proofs.Runs.{running_tells}
-use Rattle.run_ledger.specs.Heaps.{heap_of, let_go}
-use Rattle.run_ledger.proofs.Machine.{heap_machine}
-use Rattle.ledger_step_laws.specs.Accounts.{Rests, rested}
+use Rattle.core_relation.specs.below.hh_model.{State, is_waiting}
+use Rattle.core_relation.proofs.below.hh_model.{running_tells}
+use Rattle.core_relation.specs.below.run_ledger.{heap_of, let_go}
+use Rattle.core_relation.proofs.below.run_ledger.{heap_machine}
+use Rattle.core_relation.specs.below.ledger_step_laws.{Rests, rested}
 use Rattle.core_relation.specs.Fits.{with_belongings}
 use Rattle.core_relation.proofs.notes.Rooted.{root_apart}
-use Rattle.ledger_step_laws.proofs.Ahead.{rested_back}
+use Rattle.core_relation.proofs.below.ledger_step_laws.{rested_back}
 use Rattle.core_entry_laws.proofs.parts.Statements.{NotesAhead, NotesBack}
 use Rattle.core_entry_laws.proofs.notes.AllNotes.{steps_note}
 use Rattle.core_entry_laws.proofs.parts.Parts.{ahead_alone}
 use Rattle.core_relation.proofs.changes.With.{off_belongings}
-use Rattle.listed.proofs.Options.{none_some}
+use Rattle.core_relation.proofs.below.listed.{none_some}
 
 pub notes_ahead : NotesAhead
 notes_ahead p s q v l x K F O H =

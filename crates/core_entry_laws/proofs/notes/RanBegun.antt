@@ -1,23 +1,14 @@
 -- An entry of steps leaves no collection that has begun among the belongings of a task at rest.
 use Rattle.std.proofs.Common.{◌≡◌, ℕ, ◌+◌, Some, None, List, length, slice_get, inl, inr, refl, ap, sym, subst, ◌∙◌}
 use Rattle.std.proofs.lemmas.Bool.{cases_eq}
-use Rattle.listed.proofs.Options.{none_some}
-use Rattle.hh_lang.specs.declared.instr.Instr.{Instr}
-use Rattle.hh_lang.specs.declared.instr.Instr.TheVariants.{Set, Mov, Movr, Nil as NilOf, Calc, Same, Jmp, Jz, Newm, Pack, Getr, Geti, Putr, Puti, Cntr, Cnti, Freeze, Cas, Call, Par, Ret, Out}
-use Rattle.hh_lang.specs.Form.{ProgramText}
-use Rattle.run_trace.specs.Settings.{SettingsValue}
-use Rattle.run_ledger.specs.declared.data.Heap.{Heap}
-use Rattle.run_ledger.specs.declared.data.Ledger.{Ledger}
-use Rattle.run_ledger.specs.Heaps.{heap_of, or_fresh, let_go}
-use Rattle.run_ledger.specs.Steps.{task_steps}
-use Rattle.task_frames.specs.declared.frames.Frame.{Frame}
-use Rattle.ledger_step_laws.specs.Accounts.{Rests, StepsAlone, rested}
-use Rattle.ledger_step_laws.specs.Kinds.{EndsTask}
-use Rattle.ledger_step_laws.specs.Last.{WritesOther, LastKind, Private, Reading, Writing, Printing, Forking, Ending, Joining, Finishing, Halting, IsOfKind, GoesOn, Splits, Runs}
-use Rattle.ledger_step_laws.proofs.Ahead.{private_alone, with_off}
-use Rattle.ledger_step_laws.proofs.Rested.{rested_view}
-use Rattle.ledger_step_laws.proofs.Split.{worker_step}
-use Rattle.ledger_step_laws.proofs.BeforeLast as before_last
+use Rattle.core_relation.proofs.below.listed.{none_some}
+use Rattle.core_relation.specs.below.hh_lang.{Instr, Set, Mov, Movr, Nil as NilOf, Calc, Same, Jmp, Jz, Newm, Pack, Getr, Geti, Putr, Puti, Cntr, Cnti, Freeze, Cas, Call, Par, Ret, Out, ProgramText}
+use Rattle.core_relation.specs.below.run_trace.{SettingsValue}
+use Rattle.core_relation.specs.below.run_ledger.{Heap, Ledger, heap_of, or_fresh, let_go, task_steps}
+use Rattle.core_relation.specs.below.task_frames.{Frame}
+use Rattle.core_relation.specs.below.ledger_step_laws.{Rests, StepsAlone, rested, EndsTask, WritesOther, LastKind, Private, Reading, Writing, Printing, Forking, Ending, Joining, Finishing, Halting, IsOfKind, GoesOn, Splits, Runs}
+use Rattle.core_relation.proofs.below.ledger_step_laws.{private_alone, with_off, rested_view, worker_step}
+use Rattle.core_relation.proofs.below.ledger_step_laws.BeforeLast as before_last
 use Rattle.core_relation.specs.Memory.{Belongings, Memory}
 use Rattle.core_relation.specs.Fits.{with_belongings}
 use Rattle.core_relation.specs.Changes.{EndsBelongings}

@@ -2,22 +2,13 @@
 -- its snapshot.
 use Rattle.std.proofs.Common.{◌≡◌, ◌⊎◌, ◌↔◌, ℕ, true, Some, List, ◌∷◌, slice_get, inl, inr, refl, ap, sym, subst, ◌∙◌}
 use Rattle.std.proofs.lemmas.Option.{same_Some}
-use Rattle.listed.proofs.Members.{got_in}
-use Rattle.listed.proofs.Places.{in_got}
-use Rattle.walk_laws.proofs.Reached.{reached_more, reached_start, reached_within}
-use Rattle.object_layout.specs.declared.word.Addr.{Addr}
-use Rattle.object_layout.specs.Objects.{Located}
-use Rattle.hh_model.specs.declared.data.Name.{Name}
-use Rattle.hh_model.specs.declared.data.Status.{Status}
-use Rattle.hh_model.specs.declared.data.Status.TheVariants.{Running, Waiting, Ended, Joined}
-use Rattle.hh_model.specs.declared.data.Task.{Task}
-use Rattle.hh_model.specs.Names.{names_from, registers}
-use Rattle.hh_model.specs.Step.{is_waiting, waits}
-use Rattle.run_ledger.specs.declared.data.Ledger.{Ledger}
-use Rattle.run_ledger.specs.Heaps.{heap_at, heap_of}
-use Rattle.run_ledger.specs.Sound.{InHeaps, Keeps, SoundLedger, names_of, snapshot_at}
-use Rattle.task_frames.specs.declared.frames.Frame.{Frame}
-use Rattle.ledger_step_laws.specs.Accounts.{Rests, own}
+use Rattle.core_relation.proofs.below.listed.{got_in, in_got}
+use Rattle.core_relation.proofs.below.walk_laws.{reached_more, reached_start, reached_within}
+use Rattle.core_relation.specs.below.object_layout.{Addr, Located}
+use Rattle.core_relation.specs.below.hh_model.{Name, Status, Running, Waiting, Ended, Joined, Task, names_from, registers, is_waiting, waits}
+use Rattle.core_relation.specs.below.run_ledger.{Ledger, heap_at, heap_of, InHeaps, Keeps, SoundLedger, names_of, snapshot_at}
+use Rattle.core_relation.specs.below.task_frames.{Frame}
+use Rattle.core_relation.specs.below.ledger_step_laws.{Rests, own}
 use Rattle.core_relation.specs.Memory.{In, Memory, object_name, objects}
 use Rattle.core_relation.specs.Reads.{FramesAreRead, HoldsRead}
 use Rattle.core_relation.specs.Stands.{Place, Stands}

@@ -1,30 +1,14 @@
 -- An entry of steps leaves the accounts alike for each other task that is out.
 use Rattle.std.proofs.Common.{◌≡◌, ℕ, ◌+◌, true, false, Some, None, ◌∷◌, length, slice_get, inl, refl, ap, sym, subst, ◌∙◌}
-use Rattle.hh_lang.specs.declared.instr.Instr.{Instr}
-use Rattle.hh_lang.specs.declared.instr.Instr.TheVariants.{Set, Mov, Movr, Nil as NilOf, Calc, Same, Jmp, Jz, Newm, Pack, Getr, Geti, Putr, Puti, Cntr, Cnti, Freeze, Cas, Call, Par, Ret, Out}
-use Rattle.hh_lang.specs.Form.{ProgramText}
-use Rattle.run_trace.specs.Settings.{SettingsValue}
-use Rattle.hh_model.specs.declared.data.Name.{Name}
-use Rattle.hh_model.specs.declared.data.Object.{Object}
-use Rattle.hh_model.specs.declared.data.Frame.{Frame}
-use Rattle.hh_model.specs.declared.data.Task.{Task}
-use Rattle.hh_model.specs.declared.data.State.{State}
-use Rattle.hh_model.specs.Effect.{ref_in, object_at, row_of}
-use Rattle.hh_model.specs.Names.{task_names}
-use Rattle.hh_model.specs.Step.{is_joined, is_on_path, is_waiting, owner_of}
-use Rattle.hh_model.proofs.Runs.{running_tells}
-use Rattle.hh_model.proofs.Carried.{at_in}
-use Rattle.hh_model.proofs.Steps.{names_run, in_registers}
-use Rattle.run_ledger.specs.declared.data.Heap.{Heap}
-use Rattle.run_ledger.specs.declared.data.Ledger.{Ledger}
-use Rattle.run_ledger.specs.Heaps.{heap_of, let_go}
-use Rattle.run_ledger.specs.Steps.{task_steps, touched}
-use Rattle.run_ledger.proofs.Machine.{heap_machine}
-use Rattle.ledger_step_laws.specs.Accounts.{StepsAlone, AlikeFor, Leaves, own, rested}
-use Rattle.ledger_step_laws.specs.Last.{Wrote, WritesOther, LastKind, Private, Reading, Writing, Printing, Forking, Ending, Joining, Finishing, Halting, IsOfKind, GoesOn, Splits, Runs}
-use Rattle.ledger_step_laws.proofs.Ahead.{private_alone, with_off}
-use Rattle.ledger_step_laws.proofs.Tree.{leaf_alone}
-use Rattle.ledger_step_laws.proofs.BeforeLast as before_last
+use Rattle.core_relation.specs.below.hh_lang.{Instr, Set, Mov, Movr, Nil as NilOf, Calc, Same, Jmp, Jz, Newm, Pack, Getr, Geti, Putr, Puti, Cntr, Cnti, Freeze, Cas, Call, Par, Ret, Out, ProgramText}
+use Rattle.core_relation.specs.below.run_trace.{SettingsValue}
+use Rattle.core_relation.specs.below.hh_model.{Name, Object, Frame, Task, State, ref_in, object_at, row_of, task_names, is_joined, is_on_path, is_waiting, owner_of}
+use Rattle.core_relation.proofs.below.hh_model.{running_tells, at_in, names_run, in_registers}
+use Rattle.core_relation.specs.below.run_ledger.{Heap, Ledger, heap_of, let_go, task_steps, touched}
+use Rattle.core_relation.proofs.below.run_ledger.{heap_machine}
+use Rattle.core_relation.specs.below.ledger_step_laws.{StepsAlone, AlikeFor, Leaves, own, rested, Wrote, WritesOther, LastKind, Private, Reading, Writing, Printing, Forking, Ending, Joining, Finishing, Halting, IsOfKind, GoesOn, Splits, Runs}
+use Rattle.core_relation.proofs.below.ledger_step_laws.{private_alone, with_off, leaf_alone, alone_along}
+use Rattle.core_relation.proofs.below.ledger_step_laws.BeforeLast as before_last
 use Rattle.core_relation.specs.Memory.{Belongings, Memory, In}
 use Rattle.core_relation.specs.Makes.{taken_by}
 use Rattle.core_relation.specs.Fits.{Part, FitsAt, ahead, part_for}
@@ -35,7 +19,6 @@ use Rattle.core_entry_laws.proofs.parts.Goes.{not_own}
 use Rattle.core_entry_laws.proofs.parts.Leave.{held, held_then}
 use Rattle.core_entry_laws.proofs.parts.Pair as pair
 use Rattle.core_entry_laws.proofs.parts.Ran as ran
-use Rattle.ledger_step_laws.proofs.Alone.{alone_along}
 
 pub alike_then : (u : ℕ) (a b c : Ledger) → AlikeFor u a b → AlikeFor u b c → AlikeFor u a c
 alike_then u a b c A B = record {

@@ -1,12 +1,10 @@
 -- All parts that fit a memory fit it together.
 use Rattle.std.proofs.Common.{None, ◌≡◌, List, [], ◌∷◌, ap, ap₂, ◌∙◌}
-use Rattle.hh_lang.specs.Form.{ProgramText}
-use Rattle.run_trace.specs.Settings.{SettingsValue}
-use Rattle.hh_model.specs.declared.data.Task.{Task}
-use Rattle.hh_model.specs.Step.{goes_on, is_running}
-use Rattle.run_ledger.specs.declared.data.Ledger.{Ledger}
-use Rattle.run_ledger.specs.Heaps.{or_fresh}
-use Rattle.ledger_step_laws.specs.Accounts.{Knows}
+use Rattle.core_relation.specs.below.hh_lang.{ProgramText}
+use Rattle.core_relation.specs.below.run_trace.{SettingsValue}
+use Rattle.core_relation.specs.below.hh_model.{Task, goes_on, is_running}
+use Rattle.core_relation.specs.below.run_ledger.{Ledger, or_fresh}
+use Rattle.core_relation.specs.below.ledger_step_laws.{Knows}
 use Rattle.core_relation.specs.Memory.{Memory}
 use Rattle.core_relation.specs.Stands.{Stands}
 use Rattle.core_relation.specs.Fits.{Part, FitsAt, with_belongings, ahead}

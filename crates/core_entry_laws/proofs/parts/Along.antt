@@ -1,26 +1,18 @@
 -- Any number of private steps, and the frame law for the private steps of another task.
 use Rattle.std.proofs.Common.{◌≡◌, ℕ, true, false, Some, length, slice_get, ap, sym, ◌∙◌}
-use Rattle.hh_lang.specs.Form.{ProgramText}
-use Rattle.run_trace.specs.Settings.{SettingsValue}
-use Rattle.hh_model.specs.declared.data.Task.{Task}
-use Rattle.hh_model.specs.declared.data.State.{State}
-use Rattle.hh_model.specs.Effect.{object_at, row_of}
-use Rattle.hh_model.specs.Step.{can_step, is_joined, is_on_path, is_running, is_waiting, owner_of}
-use Rattle.hh_model.proofs.Runs.{running_tells}
-use Rattle.run_ledger.specs.declared.data.Heap.{Heap}
-use Rattle.run_ledger.specs.declared.data.Ledger.{Ledger}
-use Rattle.run_ledger.specs.Heaps.{heap_of, or_fresh, let_go}
-use Rattle.run_ledger.specs.Steps.{task_steps}
-use Rattle.run_ledger.proofs.Machine.{heap_machine}
+use Rattle.core_relation.specs.below.hh_lang.{ProgramText}
+use Rattle.core_relation.specs.below.run_trace.{SettingsValue}
+use Rattle.core_relation.specs.below.hh_model.{Task, State, object_at, row_of, can_step, is_joined, is_on_path, is_running, is_waiting, owner_of}
+use Rattle.core_relation.proofs.below.hh_model.{running_tells}
+use Rattle.core_relation.specs.below.run_ledger.{Heap, Ledger, heap_of, or_fresh, let_go, task_steps}
+use Rattle.core_relation.proofs.below.run_ledger.{heap_machine}
 use Rattle.core_relation.specs.Memory.{Memory}
-use Rattle.ledger_step_laws.specs.Accounts.{own, rested, StepsAlone, AlikeFor, Knows}
+use Rattle.core_relation.specs.below.ledger_step_laws.{own, rested, StepsAlone, AlikeFor, Knows}
 use Rattle.core_relation.specs.Fits.{Part, FitsAt, ahead}
 use Rattle.core_relation.specs.Frames.{IsSteady}
-use Rattle.ledger_step_laws.proofs.Ahead.{with_at, heap_then}
+use Rattle.core_relation.proofs.below.ledger_step_laws.{with_at, heap_then, alike_steps, leaf_alone}
 use Rattle.core_entry_laws.proofs.parts.Parts.{ahead_alone, ahead_sound}
 use Rattle.core_entry_laws.proofs.parts.Frame.{step_frame}
-use Rattle.ledger_step_laws.proofs.Along.{alike_steps}
-use Rattle.ledger_step_laws.proofs.Tree.{leaf_alone}
 use Rattle.core_relation.proofs.changes.Steady.{steady_same}
 use Rattle.core_relation.proofs.changes.Lifts.{alone_too}
 

@@ -3,27 +3,20 @@
 use Rattle.std.proofs.Common.{◌≡◌, ℕ, true, false, Some, slice_get, ◌⊎◌, inl, inr, ap, sym, subst, ◌∙◌}
 use Rattle.std.proofs.lemmas.Bool.{cases_eq, both_ways}
 use Rattle.std.proofs.lemmas.Option.{same_Some}
-use Rattle.object_layout.specs.declared.word.Addr.{Addr}
-use Rattle.object_layout.specs.Objects.{Located}
-use Rattle.hh_model.specs.declared.data.Name.{Name}
-use Rattle.hh_model.specs.declared.data.Object.{Object}
-use Rattle.hh_model.specs.declared.data.Task.{Task}
-use Rattle.hh_model.specs.Effect.{object_at}
-use Rattle.hh_model.specs.Step.{is_waiting, is_joined, is_on_path}
-use Rattle.run_ledger.specs.declared.data.Heap.{Heap}
-use Rattle.run_ledger.specs.declared.data.Ledger.{Ledger}
-use Rattle.run_ledger.specs.Sound.{SoundLedger}
-use Rattle.remembered_set.specs.declared.remembered.Source.{Source}
+use Rattle.core_relation.specs.below.object_layout.{Addr, Located}
+use Rattle.core_relation.specs.below.hh_model.{Name, Object, Task, object_at, is_waiting, is_joined, is_on_path}
+use Rattle.core_relation.specs.below.run_ledger.{Heap, Ledger, SoundLedger}
+use Rattle.core_relation.specs.below.remembered_set.{Source}
 use Rattle.core_relation.specs.Memory.{Belongings, Memory, In, object_name, objects, objects_in, sources, Lies, shown_at}
 use Rattle.core_relation.specs.Reads.{IsRead, TaskIsRead}
-use Rattle.ledger_step_laws.specs.Accounts.{own, Rests, StepsAlone}
+use Rattle.core_relation.specs.below.ledger_step_laws.{own, Rests, StepsAlone}
 use Rattle.core_relation.specs.Stands.{Gives, Place, BelongingsStand, IsSource, Stands, IsShown}
 use Rattle.core_relation.specs.Changes.{SameBut}
 use Rattle.core_relation.proofs.objects.Carry.{object_kept, task_kept, object_both, task_both}
 use Rattle.core_relation.proofs.changes.Alone.{belongings_own, belongings_kept}
 use Rattle.core_relation.proofs.changes.Sweep.{refers}
 use Rattle.core_relation.proofs.changes.Giving.{gives_kept}
-use Rattle.ledger_step_laws.proofs.Tree.{leaf_alone}
+use Rattle.core_relation.proofs.below.ledger_step_laws.{leaf_alone}
 use Rattle.core_relation.proofs.changes.Same.{source_alone}
 
 -- v1 has t's belongings, v2 has u's, and v has both; l1 and l2 are the accounts for them. What the tasks own is apart:

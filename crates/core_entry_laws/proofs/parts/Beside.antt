@@ -2,21 +2,14 @@
 use Rattle.std.proofs.Common.{◌≡◌, ℕ, ℤ, true, Option, slice_get, inl, inr, refl, ap, sym, ◌∙◌}
 use Rattle.std.proofs.lemmas.Bool.{both_ways}
 use Rattle.std.proofs.lemmas.Option.{same_Some}
-use Rattle.object_layout.specs.declared.word.Addr.{Addr}
-use Rattle.hh_model.specs.declared.data.Name.{Name}
-use Rattle.hh_model.specs.declared.data.Object.{Object}
-use Rattle.hh_model.specs.declared.data.Status.TheVariants.{Running}
-use Rattle.hh_model.specs.declared.data.Task.{Task}
-use Rattle.hh_model.specs.Effect.{object_at}
-use Rattle.hh_model.specs.Step.{is_on_path}
-use Rattle.run_ledger.specs.declared.data.Heap.{Heap}
-use Rattle.run_ledger.specs.declared.data.Ledger.{Ledger}
+use Rattle.core_relation.specs.below.object_layout.{Addr}
+use Rattle.core_relation.specs.below.hh_model.{Name, Object, Running, Task, object_at, is_on_path}
+use Rattle.core_relation.specs.below.run_ledger.{Heap, Ledger}
 use Rattle.core_relation.specs.Memory.{Belongings, Memory}
 use Rattle.core_relation.specs.Reads.{Reads}
-use Rattle.ledger_step_laws.specs.Accounts.{own, Rests, StepsAlone, WritesOne, AlikeFor}
+use Rattle.core_relation.specs.below.ledger_step_laws.{own, Rests, StepsAlone, WritesOne, AlikeFor, ForksTask, JoinsTasks, CanJoin}
 use Rattle.core_relation.specs.Stands.{Place, Stands}
 use Rattle.core_relation.specs.Fits.{with_belongings}
-use Rattle.ledger_step_laws.specs.Kinds.{ForksTask, JoinsTasks, CanJoin}
 use Rattle.core_relation.specs.Changes.{ForksBelongings, JoinsBelongings}
 use Rattle.core_entry_laws.proofs.parts.Assemble.{assembled}
 use Rattle.core_relation.specs.Frames.{Beside}

@@ -2,34 +2,25 @@
 use Rattle.std.proofs.Common.{◌≡◌, ℕ, Option, Some, None, map, length, slice_get, refl, ap, sym, subst, ◌∙◌, arith, is_some}
 use Rattle.std.specs.Option.{option_map}
 use Rattle.std.proofs.lemmas.Option.{same_Some}
-use Rattle.object_layout.specs.declared.word.Addr.{Addr}
-use Rattle.hh_lang.specs.Form.{ProgramText}
-use Rattle.run_trace.specs.Settings.{SettingsValue}
-use Rattle.hh_model.specs.declared.data.Status.TheVariants.{Running}
-use Rattle.hh_model.specs.declared.data.Task.{Task}
-use Rattle.hh_model.specs.declared.data.State.{State}
-use Rattle.hh_model.specs.Effect.{row_of}
-use Rattle.hh_model.specs.Step.{is_joined}
-use Rattle.run_ledger.specs.declared.data.Heap.{Heap}
-use Rattle.run_ledger.specs.declared.data.Ledger.{Ledger}
-use Rattle.run_ledger.specs.Heaps.{heap_of, or_fresh, let_go, collected, with_heap}
-use Rattle.run_ledger.specs.Sound.{SoundLedger}
-use Rattle.run_ledger.proofs.Machine.{heap_machine}
+use Rattle.core_relation.specs.below.object_layout.{Addr}
+use Rattle.core_relation.specs.below.hh_lang.{ProgramText}
+use Rattle.core_relation.specs.below.run_trace.{SettingsValue}
+use Rattle.core_relation.specs.below.hh_model.{Running, Task, State, row_of, is_joined}
+use Rattle.core_relation.specs.below.run_ledger.{Heap, Ledger, heap_of, or_fresh, let_go, collected, with_heap, SoundLedger}
+use Rattle.core_relation.proofs.below.run_ledger.{heap_machine}
 use Rattle.core_relation.specs.Memory.{Belongings, Memory, In, object_name, objects_in, sources, copied_object, rewritten_belongings}
-use Rattle.task_frames.specs.FramesValue.{led_frame}
+use Rattle.core_relation.specs.below.task_frames.{led_frame}
 use Rattle.core_relation.specs.Layout.{AreLaidOut}
 use Rattle.core_relation.specs.Stands.{names_of, small_chunks, large_chunks, BelongingsStand, Stands}
 use Rattle.core_relation.specs.Fits.{Part, FitsAt, with_belongings, ahead}
-use Rattle.ledger_step_laws.specs.Accounts.{rested, ChangesHeap}
+use Rattle.core_relation.specs.below.ledger_step_laws.{rested, ChangesHeap}
 use Rattle.core_relation.specs.Changes.{Moves}
 use Rattle.core_relation.specs.Whole.{BegunBy}
 use Rattle.core_relation.specs.Copies.{PartFits, before, CopyFits, EndsAt}
-use Rattle.ledger_step_laws.proofs.Ahead.{with_at, heap_then}
+use Rattle.core_relation.proofs.below.ledger_step_laws.{with_at, heap_then, rested_changes, rested_worker, rested_view, rested_sound, end_changes}
 use Rattle.core_entry_laws.proofs.notes.Begun.{begun_stays}
 use Rattle.core_relation.proofs.changes.Collect.{collected as collection}
-use Rattle.ledger_step_laws.proofs.Rested.{rested_changes, rested_worker, rested_view, rested_sound}
-use Rattle.ledger_step_laws.proofs.Entries.{end_changes}
-use Rattle.task_machine.specs.declared.part.Begun.{Begun}
+use Rattle.core_relation.specs.below.task_machine.{Begun}
 use Rattle.core_relation.proofs.changes.With.{at_belongings, off_belongings}
 
 -- a begun collection stands past what leaves its part

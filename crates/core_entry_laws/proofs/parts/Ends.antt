@@ -1,25 +1,19 @@
 -- The end of a leaf collection keeps each part of another task fitting.
 use Rattle.std.proofs.Common.{◌≡◌, ℕ, true, Some, slice_get, inl, inr, refl, ap, sym, ◌∙◌, is_some}
 use Rattle.std.proofs.lemmas.Bool.{cases_eq}
-use Rattle.object_layout.specs.declared.word.Addr.{Addr}
-use Rattle.hh_lang.specs.Form.{ProgramText}
-use Rattle.run_trace.specs.Settings.{SettingsValue}
-use Rattle.hh_model.specs.declared.data.Status.TheVariants.{Running}
-use Rattle.hh_model.specs.declared.data.Task.{Task}
-use Rattle.hh_model.specs.declared.data.State.{State}
-use Rattle.run_ledger.specs.declared.data.Heap.{Heap}
-use Rattle.run_ledger.specs.declared.data.Ledger.{Ledger}
-use Rattle.run_ledger.specs.Heaps.{heap_of, or_fresh, let_go}
-use Rattle.run_ledger.specs.Steps.{task_steps}
-use Rattle.run_ledger.proofs.Machine.{heap_machine}
+use Rattle.core_relation.specs.below.object_layout.{Addr}
+use Rattle.core_relation.specs.below.hh_lang.{ProgramText}
+use Rattle.core_relation.specs.below.run_trace.{SettingsValue}
+use Rattle.core_relation.specs.below.hh_model.{Running, Task, State}
+use Rattle.core_relation.specs.below.run_ledger.{Heap, Ledger, heap_of, or_fresh, let_go, task_steps}
+use Rattle.core_relation.proofs.below.run_ledger.{heap_machine}
 use Rattle.core_relation.specs.Memory.{Belongings, Memory}
-use Rattle.ledger_step_laws.specs.Accounts.{ArePrivate, rested, StepsAlone, ChangesHeap, Knows}
+use Rattle.core_relation.specs.below.ledger_step_laws.{ArePrivate, rested, StepsAlone, ChangesHeap, Knows}
 use Rattle.core_relation.specs.Fits.{Part, FitsAt, ahead, with_belongings, part_for}
 use Rattle.core_relation.specs.Changes.{Moves}
 use Rattle.core_relation.specs.Frames.{IsSteady, IsOut, Beside, EndsBeside}
-use Rattle.ledger_step_laws.proofs.Ahead.{SameOf, with_off}
+use Rattle.core_relation.proofs.below.ledger_step_laws.{SameOf, with_off, rested_changes, rested_sound, rested_worker, rested_view}
 use Rattle.core_entry_laws.proofs.parts.Parts.{ahead_alone, ahead_same}
-use Rattle.ledger_step_laws.proofs.Rested.{rested_changes, rested_sound, rested_worker, rested_view}
 use Rattle.core_entry_laws.proofs.parts.Pair.{beside}
 use Rattle.core_entry_laws.proofs.parts.Frame.{collect_frame}
 use Rattle.core_relation.proofs.changes.Steady.{steady_same}

@@ -2,19 +2,13 @@
 use Rattle.std.proofs.Common.{◌≡◌, ℕ, true, false, Some, slice_get, refl, ap, sym, subst, ◌∙◌}
 use Rattle.std.proofs.lemmas.Bool.{both_ways}
 use Rattle.std.proofs.lemmas.Option.{same_Some}
-use Rattle.object_layout.specs.declared.word.Addr.{Addr}
-use Rattle.object_layout.specs.Objects.{Located}
-use Rattle.hh_model.specs.declared.data.Task.{Task}
-use Rattle.hh_model.specs.declared.data.State.{State}
-use Rattle.hh_model.specs.Step.{is_waiting, is_joined}
-use Rattle.hh_model.proofs.Runs.{runs_idle, runs_live}
-use Rattle.run_ledger.specs.declared.data.Heap.{Heap}
-use Rattle.run_ledger.specs.declared.data.Ledger.{Ledger}
-use Rattle.run_ledger.specs.Heaps.{heap_of}
-use Rattle.run_ledger.specs.Sound.{SoundLedger}
-use Rattle.remembered_set.specs.declared.remembered.Source.{Source}
+use Rattle.core_relation.specs.below.object_layout.{Addr, Located}
+use Rattle.core_relation.specs.below.hh_model.{Task, State, is_waiting, is_joined}
+use Rattle.core_relation.proofs.below.hh_model.{runs_idle, runs_live}
+use Rattle.core_relation.specs.below.run_ledger.{Heap, Ledger, heap_of, SoundLedger}
+use Rattle.core_relation.specs.below.remembered_set.{Source}
 use Rattle.core_relation.specs.Memory.{Belongings, Memory, In, objects, objects_in, sources}
-use Rattle.ledger_step_laws.specs.Accounts.{own, Rests, StepsAlone, ChangesHeap}
+use Rattle.core_relation.specs.below.ledger_step_laws.{own, Rests, StepsAlone, ChangesHeap}
 use Rattle.core_relation.specs.Stands.{Stands}
 use Rattle.core_relation.specs.Fits.{with_belongings}
 use Rattle.core_relation.specs.Changes.{KeepsJust, Moves}

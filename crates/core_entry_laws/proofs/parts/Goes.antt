@@ -3,40 +3,26 @@
 use Rattle.std.proofs.Common.{◌≡◌, ℕ, ℤ, false, Option, Some, List, slice_get, inl, inr, refl, ap, sym, subst, ◌∙◌}
 use Rattle.std.proofs.lemmas.Bool.{cases_eq}
 use Rattle.std.proofs.lemmas.Option.{same_Some}
-use Rattle.object_layout.specs.declared.word.Addr.{Addr}
-use Rattle.object_layout.specs.Objects.{Located}
-use Rattle.hh_lang.specs.Form.{ProgramText}
-use Rattle.run_trace.specs.Settings.{SettingsValue}
-use Rattle.hh_model.specs.declared.data.Name.{Name}
-use Rattle.hh_model.specs.declared.data.Object.{Object}
-use Rattle.hh_model.specs.declared.data.Status.TheVariants.{Running}
-use Rattle.hh_model.specs.declared.data.Task.{Task}
-use Rattle.hh_model.specs.declared.data.State.{State}
-use Rattle.hh_model.specs.Step.{is_waiting, is_joined, is_on_path}
-use Rattle.hh_model.specs.Names.{task_names}
-use Rattle.run_ledger.specs.declared.data.Heap.{Heap}
-use Rattle.run_ledger.specs.declared.data.Ledger.{Ledger}
-use Rattle.run_ledger.specs.Heaps.{heap_of, or_fresh, let_go}
-use Rattle.run_ledger.specs.Steps.{task_steps}
-use Rattle.run_ledger.proofs.Machine.{heap_machine}
-use Rattle.task_frames.specs.declared.frames.Frame.{Frame}
+use Rattle.core_relation.specs.below.object_layout.{Addr, Located}
+use Rattle.core_relation.specs.below.hh_lang.{ProgramText}
+use Rattle.core_relation.specs.below.run_trace.{SettingsValue}
+use Rattle.core_relation.specs.below.hh_model.{Name, Object, Running, Task, State, is_waiting, is_joined, is_on_path, task_names}
+use Rattle.core_relation.specs.below.run_ledger.{Heap, Ledger, heap_of, or_fresh, let_go, task_steps}
+use Rattle.core_relation.proofs.below.run_ledger.{heap_machine}
+use Rattle.core_relation.specs.below.task_frames.{Frame, ref_of}
 use Rattle.core_relation.specs.Memory.{Belongings, Memory, In, objects, objects_in}
-use Rattle.ledger_step_laws.specs.Accounts.{own, Rests, ArePrivate, rested, StepsAlone, AlikeFor, Knows}
+use Rattle.core_relation.specs.below.ledger_step_laws.{own, Rests, ArePrivate, rested, StepsAlone, AlikeFor, Knows, StoresOne, StoresNumber}
 use Rattle.core_relation.specs.Stands.{Stands}
 use Rattle.core_relation.specs.Fits.{Part, FitsAt, ahead, with_belongings}
-use Rattle.ledger_step_laws.specs.Kinds.{StoresOne, StoresNumber}
 use Rattle.core_relation.specs.Changes.{StoresAt, StoresNumberAt}
-use Rattle.task_frames.specs.FramesValue.{ref_of}
 use Rattle.core_relation.specs.Frames.{IsSteady, IsOut, Beside}
-use Rattle.ledger_step_laws.proofs.Ahead.{SameOf, with_off}
+use Rattle.core_relation.proofs.below.ledger_step_laws.{SameOf, with_off, rested_worker, rested_knows, leaf_alone}
 use Rattle.core_entry_laws.proofs.parts.Beside.{alike_writes}
-use Rattle.ledger_step_laws.proofs.Rested.{rested_worker, rested_knows}
 use Rattle.core_relation.proofs.changes.Lifts.{stores_too, stores_with, numbers_too, numbers_with}
 use Rattle.core_relation.proofs.objects.Members.{in_chunk}
 use Rattle.core_entry_laws.proofs.parts.Pair.{beside}
 use Rattle.core_entry_laws.proofs.parts.Parts.{ahead_alone, ahead_same}
 use Rattle.core_relation.proofs.changes.Release.{released}
-use Rattle.ledger_step_laws.proofs.Tree.{leaf_alone}
 use Rattle.core_relation.proofs.changes.With.{at_belongings, off_belongings, with_both}
 use Rattle.core_entry_laws.proofs.parts.Others.{private', out', alone', alike'}
 use Rattle.core_relation.proofs.changes.Numbers as numbers

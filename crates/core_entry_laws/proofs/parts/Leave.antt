@@ -1,17 +1,14 @@
 -- What an entry leaves to others: the laws, from the lemmas.
 use Rattle.std.proofs.Common.{◌≡◌, ℕ, true, false, slice_get, ap, sym, ◌∙◌}
-use Rattle.listed.proofs.Options.{none_some}
-use Rattle.hh_lang.specs.Form.{ProgramText}
-use Rattle.run_trace.specs.Settings.{SettingsValue}
-use Rattle.hh_model.specs.declared.data.Task.{Task}
-use Rattle.hh_model.specs.Step.{is_joined, is_on_path, is_waiting}
-use Rattle.hh_model.proofs.Runs.{running_tells}
-use Rattle.ledger_step_laws.proofs.Tree.{leaf_alone}
-use Rattle.run_ledger.specs.declared.data.Heap.{Heap}
-use Rattle.run_ledger.specs.declared.data.Ledger.{Ledger}
-use Rattle.run_ledger.specs.Heaps.{heap_of, or_fresh}
+use Rattle.core_relation.proofs.below.listed.{none_some}
+use Rattle.core_relation.specs.below.hh_lang.{ProgramText}
+use Rattle.core_relation.specs.below.run_trace.{SettingsValue}
+use Rattle.core_relation.specs.below.hh_model.{Task, is_joined, is_on_path, is_waiting}
+use Rattle.core_relation.proofs.below.hh_model.{running_tells}
+use Rattle.core_relation.proofs.below.ledger_step_laws.{leaf_alone}
+use Rattle.core_relation.specs.below.run_ledger.{Heap, Ledger, heap_of, or_fresh}
 use Rattle.core_relation.specs.Memory.{Memory}
-use Rattle.ledger_step_laws.specs.Accounts.{Rests, Knows, Leaves}
+use Rattle.core_relation.specs.below.ledger_step_laws.{Rests, Knows, Leaves}
 use Rattle.core_relation.specs.Fits.{Part, FitsAt, ahead}
 use Rattle.core_relation.specs.Frames.{AreOut}
 use Rattle.core_entry_laws.proofs.parts.Statements.{ForksLeaveFitting, JoinsLeaveFitting, FinishesLeaveFitting, StoresLeaveFitting, NumbersLeaveFitting, TakingsLeaveFitting, QuietLeavesFitting}

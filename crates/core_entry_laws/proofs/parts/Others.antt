@@ -1,38 +1,29 @@
 -- What the worker of one task enters leaves the parts of others fitting: a fork, a join, a store.
 use Rattle.std.proofs.Common.{◌≡◌, ℕ, ℤ, pos, true, unwrap_or, Option, Some, List, ◌∷◌, slice_get, inl, inr, ap, ap₂, sym, subst, ◌∙◌}
-use Rattle.object_layout.specs.declared.word.Addr.{Addr}
-use Rattle.hh_lang.specs.Form.{ProgramText}
-use Rattle.run_trace.specs.Settings.{SettingsValue}
-use Rattle.hh_model.specs.declared.data.Name.{Name}
-use Rattle.hh_model.specs.declared.data.Status.TheVariants.{Running}
-use Rattle.hh_model.specs.declared.data.Task.{Task}
-use Rattle.hh_model.specs.Step.{can_step, goes_on, is_running}
-use Rattle.run_ledger.specs.declared.data.Heap.{Heap}
-use Rattle.run_ledger.specs.declared.data.Ledger.{Ledger}
-use Rattle.run_ledger.specs.Heaps.{heap_of, or_fresh}
-use Rattle.run_ledger.specs.Steps.{task_steps}
-use Rattle.task_frames.specs.declared.frames.Frame.{Frame}
+use Rattle.core_relation.specs.below.object_layout.{Addr}
+use Rattle.core_relation.specs.below.hh_lang.{ProgramText}
+use Rattle.core_relation.specs.below.run_trace.{SettingsValue}
+use Rattle.core_relation.specs.below.hh_model.{Name, Running, Task, can_step, goes_on, is_running}
+use Rattle.core_relation.specs.below.run_ledger.{Heap, Ledger, heap_of, or_fresh, task_steps}
+use Rattle.core_relation.specs.below.task_frames.{Frame, ref_of}
 use Rattle.core_relation.specs.Memory.{Belongings, Memory}
 use Rattle.core_relation.specs.Reads.{Reads, FramesAreRead, HoldsRead}
-use Rattle.ledger_step_laws.specs.Accounts.{Rests, ArePrivate, StepsAlone, AlikeFor, Knows}
+use Rattle.core_relation.specs.below.ledger_step_laws.{Rests, ArePrivate, StepsAlone, AlikeFor, Knows, ForksTask, JoinsTasks, CanJoin, EndsTask}
 use Rattle.core_relation.specs.Stands.{Place, Stands}
 use Rattle.core_relation.specs.Fits.{Part, FitsAt, ahead, with_belongings}
-use Rattle.ledger_step_laws.specs.Kinds.{ForksTask, JoinsTasks, CanJoin, EndsTask}
 use Rattle.core_relation.specs.Changes.{ForksBelongings, JoinsBelongings, EndsBelongings, HasResult}
-use Rattle.task_frames.specs.FramesValue.{ref_of}
 use Rattle.core_relation.specs.Frames.{IsSteady, IsOut, Beside}
-use Rattle.ledger_step_laws.proofs.Along.{alike_steps}
+use Rattle.core_relation.proofs.below.ledger_step_laws.{alike_steps, rested_worker}
 use Rattle.core_entry_laws.proofs.parts.Along.{rested_alike, alone_ahead}
 use Rattle.core_entry_laws.proofs.parts.Beside.{together, fork_frame, join_frame}
 use Rattle.core_relation.proofs.objects.Carry.{field_of}
-use Rattle.ledger_step_laws.proofs.Rested.{rested_worker}
 use Rattle.core_relation.proofs.changes.Lifts.{can_too, ends_too, ends_with}
 use Rattle.core_relation.proofs.changes.Finish.{finished}
 use Rattle.core_entry_laws.proofs.parts.Pair.{beside}
 use Rattle.core_entry_laws.proofs.parts.Parts.{ahead_alone, ahead_sound}
 use Rattle.core_relation.proofs.changes.With.{off_belongings}
 use Rattle.core_entry_laws.proofs.parts.Pair as pair
-use Rattle.listed.proofs.Options.{none_some}
+use Rattle.core_relation.proofs.below.listed.{none_some}
 use Rattle.core_relation.proofs.changes.Steady.{steady_same}
 
 -- RESULTS

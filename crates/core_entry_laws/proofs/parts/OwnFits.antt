@@ -1,19 +1,13 @@
 -- After an entry of its own that isn't of steps what a worker holds fits.
 use Rattle.std.proofs.Common.{◌≡◌, None, is_none, slice_get, inl, refl, ap, sym, subst, ◌∙◌}
 use Rattle.std.proofs.lemmas.Bool.{and_parts}
-use Rattle.listed.proofs.Options.{none_of}
-use Rattle.run_trace.specs.Entry.{EntryValue}
-use Rattle.run_trace.specs.declared.entry.Kind.TheVariants.{End as EndOf}
-use Rattle.hh_model.specs.declared.data.State.{State}
-use Rattle.hh_model.specs.Step.{is_running}
-use Rattle.hh_model.proofs.Steps.{runs_is}
-use Rattle.run_ledger.specs.declared.data.Ledger.{Ledger}
-use Rattle.run_ledger.specs.Entries.{after, is_out}
-use Rattle.run_ledger.specs.Journals.{ledger_of}
-use Rattle.run_ledger.proofs.Journals.{none_unless, entry_tells, legal_sound, accepted_on}
-use Rattle.run_ledger.proofs.Steps.{heap_of_task, running_at}
-use Rattle.ledger_step_laws.proofs.Entries.{end_changes}
-use Rattle.ledger_step_laws.proofs.Split.{legal_alive}
+use Rattle.core_relation.proofs.below.listed.{none_of}
+use Rattle.core_relation.specs.below.run_trace.{EntryValue, End as EndOf}
+use Rattle.core_relation.specs.below.hh_model.{State, is_running}
+use Rattle.core_relation.proofs.below.hh_model.{runs_is}
+use Rattle.core_relation.specs.below.run_ledger.{Ledger, after, is_out, ledger_of}
+use Rattle.core_relation.proofs.below.run_ledger.{none_unless, entry_tells, legal_sound, accepted_on, heap_of_task, running_at}
+use Rattle.core_relation.proofs.below.ledger_step_laws.{end_changes, legal_alive}
 use Rattle.core_relation.specs.Copies.{PartFits}
 use Rattle.core_relation.specs.Fits.{part_for}
 use Rattle.core_entry_laws.specs.WorkerLaws.{QuietFits, EndsFit}

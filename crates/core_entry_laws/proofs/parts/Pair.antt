@@ -1,27 +1,20 @@
 -- Two parts that fit a memory fit it together.
 use Rattle.std.proofs.Common.{◌≡◌, ap, sym, ◌∙◌}
-use Rattle.hh_lang.specs.Form.{ProgramText}
-use Rattle.run_trace.specs.Settings.{SettingsValue}
-use Rattle.hh_model.specs.declared.data.Task.{Task}
-use Rattle.hh_model.specs.declared.data.State.{State}
-use Rattle.hh_model.specs.Step.{is_waiting, is_joined}
-use Rattle.hh_model.proofs.Runs.{running_tells}
-use Rattle.run_ledger.specs.declared.data.Ledger.{Ledger}
-use Rattle.run_ledger.specs.Heaps.{let_go}
-use Rattle.run_ledger.specs.Steps.{task_steps}
-use Rattle.run_ledger.proofs.Machine.{heap_machine}
+use Rattle.core_relation.specs.below.hh_lang.{ProgramText}
+use Rattle.core_relation.specs.below.run_trace.{SettingsValue}
+use Rattle.core_relation.specs.below.hh_model.{Task, State, is_waiting, is_joined}
+use Rattle.core_relation.proofs.below.hh_model.{running_tells}
+use Rattle.core_relation.specs.below.run_ledger.{Ledger, let_go, task_steps}
+use Rattle.core_relation.proofs.below.run_ledger.{heap_machine}
 use Rattle.core_relation.specs.Memory.{Memory}
 use Rattle.core_relation.specs.Stands.{Stands}
 use Rattle.core_relation.specs.Fits.{Part, FitsAt, ahead, with_belongings}
-use Rattle.ledger_step_laws.specs.Accounts.{ArePrivate, StepsAlone, AlikeFor, Knows}
+use Rattle.core_relation.specs.below.ledger_step_laws.{ArePrivate, StepsAlone, AlikeFor, Knows}
 use Rattle.core_relation.specs.Frames.{IsSteady, IsOut, Beside}
-use Rattle.ledger_step_laws.proofs.Ahead.{with_off}
-use Rattle.ledger_step_laws.proofs.Along.{alike_steps, steps_limit, steps_end, steps_off, steps_know}
+use Rattle.core_relation.proofs.below.ledger_step_laws.{with_off, alike_steps, steps_limit, steps_end, steps_off, steps_know, rested_knows, leaf_alone}
 use Rattle.core_entry_laws.proofs.parts.Along.{rested_alike, alone_ahead, alike_alone}
 use Rattle.core_entry_laws.proofs.parts.Beside.{together}
 use Rattle.core_entry_laws.proofs.parts.Parts.{ahead_alone, ahead_sound}
-use Rattle.ledger_step_laws.proofs.Rested.{rested_knows}
-use Rattle.ledger_step_laws.proofs.Tree.{leaf_alone}
 use Rattle.core_relation.proofs.changes.Steady.{steady_same}
 
 pub knows_ahead : (p : ProgramText) (s : SettingsValue) (q : Part) (v : Memory) (l : Ledger) (x : Task) → Knows l → FitsAt p s q v l → IsOut l q x → Knows (ahead p q l)

@@ -1,24 +1,19 @@
 -- Sweeps and the ends of leaf collections keep each part of another task fitting: the laws of the ledger that this
 -- needs are proved.
 use Rattle.std.proofs.Common.{◌≡◌, ℕ, true, false, slice_get, ◌⊎◌, inl, inr, refl, ap, sym, subst, ◌∙◌}
-use Rattle.hh_lang.specs.Form.{ProgramText}
-use Rattle.run_trace.specs.Settings.{SettingsValue}
-use Rattle.hh_model.specs.Step.{is_waiting}
-use Rattle.run_ledger.specs.declared.data.Ledger.{Ledger}
-use Rattle.run_ledger.specs.Heaps.{heap_of, or_fresh}
-use Rattle.run_ledger.specs.Steps.{task_steps}
-use Rattle.run_ledger.specs.Sound.{SoundLedger, collecting}
-use Rattle.run_ledger.proofs.Steps.{task_steps_sound}
+use Rattle.core_relation.specs.below.hh_lang.{ProgramText}
+use Rattle.core_relation.specs.below.run_trace.{SettingsValue}
+use Rattle.core_relation.specs.below.hh_model.{is_waiting}
+use Rattle.core_relation.specs.below.run_ledger.{Ledger, heap_of, or_fresh, task_steps, SoundLedger, collecting}
+use Rattle.core_relation.proofs.below.run_ledger.{task_steps_sound}
 use Rattle.core_relation.specs.Memory.{Memory}
-use Rattle.ledger_step_laws.specs.Accounts.{Rests, ArePrivate, StepsAlone, ChangesHeap}
+use Rattle.core_relation.specs.below.ledger_step_laws.{Rests, ArePrivate, StepsAlone, ChangesHeap}
 use Rattle.core_relation.specs.Fits.{Part, FitsAt, ahead}
 use Rattle.core_relation.specs.Changes.{KeepsJust}
 use Rattle.core_relation.specs.Frames.{IsSteady}
-use Rattle.ledger_step_laws.proofs.Ahead.{SameOf, steps_alone_all, steps_same, rested_alone, rested_same}
+use Rattle.core_relation.proofs.below.ledger_step_laws.{SameOf, steps_alone_all, steps_same, rested_alone, rested_same, rested_sound, machine_alone}
 use Rattle.core_entry_laws.proofs.parts.Frame.{sweep_frame}
-use Rattle.ledger_step_laws.proofs.Rested.{rested_sound}
 use Rattle.core_relation.proofs.changes.Steady.{steady_same}
-use Rattle.ledger_step_laws.proofs.Alone.{machine_alone}
 
 module _ (p : ProgramText) (s : SettingsValue) (q : Part) where
   many_alone : (k : ℕ) (l : Ledger) → SoundLedger l → (k ≡ 0) ⊎ (collecting (slice_get l.heaps q.task) ≡ false) → ArePrivate p s l q.task k → StepsAlone l (task_steps p l q.task k) q.task

@@ -1,27 +1,19 @@
 -- Entries that move nothing, and those by which a worker takes a task, leave each part fitting.
 use Rattle.std.proofs.Common.{◌≡◌, ℕ, false, Some, None, length, slice_get, inl, inr, refl, ap, sym, subst, ◌∙◌}
 use Rattle.std.proofs.lemmas.Bool.{cases_eq}
-use Rattle.listed.proofs.Options.{none_some}
-use Rattle.hh_lang.specs.Form.{ProgramText}
-use Rattle.run_trace.specs.Settings.{SettingsValue}
-use Rattle.hh_model.specs.declared.data.State.{State}
-use Rattle.hh_model.specs.Effect.{row_of}
-use Rattle.hh_model.specs.Step.{is_joined, is_waiting}
-use Rattle.run_ledger.specs.declared.data.Heap.{Heap}
-use Rattle.run_ledger.specs.declared.data.Ledger.{Ledger}
-use Rattle.run_ledger.specs.Heaps.{heap_of, or_fresh}
-use Rattle.run_ledger.specs.Steps.{task_steps}
-use Rattle.run_ledger.specs.Sound.{Sound, SoundLedger}
+use Rattle.core_relation.proofs.below.listed.{none_some}
+use Rattle.core_relation.specs.below.hh_lang.{ProgramText}
+use Rattle.core_relation.specs.below.run_trace.{SettingsValue}
+use Rattle.core_relation.specs.below.hh_model.{State, row_of, is_joined, is_waiting}
+use Rattle.core_relation.specs.below.run_ledger.{Heap, Ledger, heap_of, or_fresh, task_steps, Sound, SoundLedger}
 use Rattle.core_relation.specs.Memory.{Belongings, Memory, objects_in}
-use Rattle.ledger_step_laws.specs.Accounts.{Rests, aside, ArePrivate, StepsAlone, Takes, SameTasks}
+use Rattle.core_relation.specs.below.ledger_step_laws.{Rests, aside, ArePrivate, StepsAlone, Takes, SameTasks, Halts}
 use Rattle.core_relation.specs.Stands.{BelongingsStand}
 use Rattle.core_relation.specs.Fits.{StillFits, Part, FitsAt, ahead, with_belongings}
 use Rattle.core_relation.specs.Changes.{SameBut, SameObjects}
 use Rattle.core_relation.specs.Frames.{IsSteady}
-use Rattle.ledger_step_laws.specs.Last.{Halts}
-use Rattle.ledger_step_laws.proofs.Ahead.{SameOf}
+use Rattle.core_relation.proofs.below.ledger_step_laws.{SameOf, rested_worker}
 use Rattle.core_relation.proofs.changes.Alone.{belongings_kept}
-use Rattle.ledger_step_laws.proofs.Rested.{rested_worker}
 use Rattle.core_entry_laws.proofs.parts.Parts.{ahead_alone, ahead_same}
 use Rattle.core_relation.proofs.changes.Release.{released}
 use Rattle.core_relation.proofs.changes.Renew.{renewed}

@@ -1,23 +1,14 @@
 -- What an entry leaves that moves no object and leaves the tasks to whom they are.
 use Rattle.std.proofs.Common.{◌≡◌, ◌⊎◌, ◌+◌, ◌++◌, ◌∷◌, [], ℕ, Bool, true, false, cond, Option, Some, nat_lt, slice_get, inl, inr, refl, ap, sym, ◌∙◌}
 use Rattle.std.proofs.lemmas.Bool.{both_ways, cases_eq}
-use Rattle.hh_lang.specs.Form.{ProgramText}
-use Rattle.run_trace.specs.Settings.{SettingsValue}
-use Rattle.run_trace.specs.declared.entry.Kind.{Kind}
-use Rattle.run_trace.specs.declared.entry.Kind.TheVariants.{Took, Ran, Chunk, Begin, End as EndOf, PutOff, Mark, More, Sweep, Fuel}
-use Rattle.hh_model.specs.Step.{asked, is_waiting}
-use Rattle.run_ledger.specs.declared.data.Heap.{Heap}
-use Rattle.run_ledger.specs.declared.data.Ledger.{Ledger}
-use Rattle.run_ledger.specs.declared.data.RunEnd.TheVariants.{Pool}
-use Rattle.run_ledger.specs.Heaps.{chunk_words, is_small, in_use, heap_of, or_fresh, with_heap}
-use Rattle.run_ledger.specs.Steps.{on_asked}
-use Rattle.run_ledger.specs.Entries.{after_kind, chunk_units, with_chunk, kind_refusal}
-use Rattle.run_ledger.proofs.Journals.{wait_tells}
+use Rattle.core_relation.specs.below.hh_lang.{ProgramText}
+use Rattle.core_relation.specs.below.run_trace.{SettingsValue, Kind, Took, Ran, Chunk, Begin, End as EndOf, PutOff, Mark, More, Sweep, Fuel}
+use Rattle.core_relation.specs.below.hh_model.{asked, is_waiting}
+use Rattle.core_relation.specs.below.run_ledger.{Heap, Ledger, Pool, chunk_words, is_small, in_use, heap_of, or_fresh, with_heap, on_asked, after_kind, chunk_units, with_chunk, kind_refusal}
+use Rattle.core_relation.proofs.below.run_ledger.{wait_tells, heap_view}
 use Rattle.std.proofs.Common.{is_none}
-use Rattle.run_ledger.proofs.Frames.{heap_view}
-use Rattle.ledger_step_laws.specs.Accounts.{SameTasks}
-use Rattle.ledger_step_laws.proofs.Ahead.{with_off}
-use Rattle.ledger_step_laws.proofs.Entries.{same_tasks}
+use Rattle.core_relation.specs.below.ledger_step_laws.{SameTasks}
+use Rattle.core_relation.proofs.below.ledger_step_laws.{with_off, same_tasks}
 use Rattle.core_relation.specs.Counts.{IsQuiet, IsMarked}
 use Rattle.core_relation.specs.Worker.{IsBy}
 use Rattle.core_entry_laws.proofs.whole.Counts.{chunk_worker, chunk_snapshot}

@@ -1,25 +1,12 @@
 -- An entry of steps leaves the parts of others fitting.
 use Rattle.std.proofs.Common.{◌≡◌, ℕ, ℤ, pos, ◌+◌, Option, Some, None, length, slice_get, inl, inr, refl, ap, sym, subst, ◌∙◌}
 use Rattle.std.proofs.lemmas.Option.{same_Some}
-use Rattle.hh_lang.specs.declared.instr.Instr.{Instr}
-use Rattle.hh_lang.specs.declared.instr.Instr.TheVariants.{Set, Mov, Movr, Nil as NilOf, Calc, Same, Jmp, Jz, Newm, Pack, Getr, Geti, Putr, Puti, Cntr, Cnti, Freeze, Cas, Call, Par, Ret, Out}
-use Rattle.hh_lang.specs.Form.{ProgramText}
-use Rattle.run_trace.specs.Settings.{SettingsValue}
-use Rattle.hh_model.specs.declared.data.End.{End}
-use Rattle.hh_model.specs.declared.data.Task.{Task}
-use Rattle.hh_model.specs.declared.data.State.{State}
-use Rattle.hh_model.specs.Effect.{place_in, int_in}
-use Rattle.hh_model.specs.Step.{runs, is_running}
-use Rattle.run_ledger.specs.declared.data.Ledger.{Ledger}
-use Rattle.run_ledger.specs.Heaps.{heap_of, let_go}
-use Rattle.run_ledger.specs.Steps.{task_steps}
-use Rattle.ledger_step_laws.specs.Accounts.{StepsAlone, Knows, Leaves, rested}
-use Rattle.ledger_step_laws.specs.Kinds.{StoresOne}
-use Rattle.ledger_step_laws.specs.Last.{WritesOther, Halts, LastKind, Private, Reading, Writing, Printing, Forking, Ending, Joining, Finishing, Halting, IsOfKind, GoesOn, Splits, Runs}
-use Rattle.ledger_step_laws.proofs.Ahead.{private_alone, with_off}
-use Rattle.ledger_step_laws.proofs.Along.{steps_limit, steps_end, steps_off}
-use Rattle.ledger_step_laws.proofs.Split.{worker_step, steps_worker}
-use Rattle.ledger_step_laws.proofs.Wrote.{is_store, is_swap, is_number}
+use Rattle.core_relation.specs.below.hh_lang.{Instr, Set, Mov, Movr, Nil as NilOf, Calc, Same, Jmp, Jz, Newm, Pack, Getr, Geti, Putr, Puti, Cntr, Cnti, Freeze, Cas, Call, Par, Ret, Out, ProgramText}
+use Rattle.core_relation.specs.below.run_trace.{SettingsValue}
+use Rattle.core_relation.specs.below.hh_model.{End, Task, State, place_in, int_in, runs, is_running}
+use Rattle.core_relation.specs.below.run_ledger.{Ledger, heap_of, let_go, task_steps}
+use Rattle.core_relation.specs.below.ledger_step_laws.{StepsAlone, Knows, Leaves, rested, StoresOne, WritesOther, Halts, LastKind, Private, Reading, Writing, Printing, Forking, Ending, Joining, Finishing, Halting, IsOfKind, GoesOn, Splits, Runs}
+use Rattle.core_relation.proofs.below.ledger_step_laws.{private_alone, with_off, steps_limit, steps_end, steps_off, worker_step, steps_worker, is_store, is_swap, is_number, root_alone, alone_along}
 use Rattle.core_relation.specs.Memory.{Belongings, Memory}
 use Rattle.core_relation.specs.Fits.{Part, FitsAt, StillFits, with_belongings, ahead, part_for}
 use Rattle.core_relation.specs.Changes.{StoresAt, StoresNumberAt}
@@ -29,11 +16,9 @@ use Rattle.core_entry_laws.proofs.parts.Along.{fits_alone}
 use Rattle.core_entry_laws.proofs.parts.Leave as leave
 use Rattle.core_entry_laws.proofs.parts.Quiet.{aside_is, fits_halt}
 use Rattle.core_relation.proofs.changes.Takes.{ran_fits}
-use Rattle.ledger_step_laws.proofs.Root.{root_alone}
-use Rattle.ledger_step_laws.proofs.BeforeLast as before_last
-use Rattle.run_ledger.proofs.Machine.{heap_machine}
+use Rattle.core_relation.proofs.below.ledger_step_laws.BeforeLast as before_last
+use Rattle.core_relation.proofs.below.run_ledger.{heap_machine}
 use Rattle.core_relation.proofs.changes.Steady.{steady_same}
-use Rattle.ledger_step_laws.proofs.Alone.{alone_along}
 
 module _ (p : ProgramText) (s : SettingsValue) (v v' : Memory) (l l' : Ledger) (t w k : ℕ) (h : Belongings) (E : Runs p s l l' t w k) (on : l'.machine.end ≡ None) where
   abbrev q : Part

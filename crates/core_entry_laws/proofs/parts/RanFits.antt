@@ -1,30 +1,15 @@
 -- After an entry of steps what its worker holds fits, where it goes on with the task or the run halts.
 use Rattle.std.proofs.Common.{◌≡◌, ℕ, suc, pos, ℤ, true, false, Option, Some, None, slice_get, slice_set, length, inl, refl, ap, sym, subst, ◌∙◌}
 use Rattle.std.proofs.lemmas.Option.{same_Some}
-use Rattle.listed.proofs.Members.{got_same}
-use Rattle.hh_lang.specs.declared.instr.Instr.{Instr}
-use Rattle.hh_lang.specs.declared.instr.Instr.TheVariants.{Set, Mov, Movr, Nil as NilOf, Calc, Same, Jmp, Jz, Newm, Pack, Getr, Geti, Putr, Puti, Cntr, Cnti, Freeze, Cas, Call, Par, Ret, Out}
-use Rattle.hh_lang.specs.Form.{ProgramText}
-use Rattle.run_trace.specs.Settings.{SettingsValue}
-use Rattle.hh_model.specs.declared.data.State.{State}
-use Rattle.hh_model.specs.declared.data.Task.{Task}
-use Rattle.hh_model.specs.Effect.{int_in, onward, place_in}
-use Rattle.hh_model.specs.Step.{is_running, is_waiting, runs}
-use Rattle.run_ledger.specs.declared.data.Ledger.{Ledger}
-use Rattle.run_ledger.specs.Heaps.{heap_of, or_fresh}
-use Rattle.run_ledger.specs.Steps.{task_steps}
-use Rattle.run_ledger.proofs.Machine.{task_step_machine}
-use Rattle.run_ledger.specs.Sound.{SoundLedger}
-use Rattle.run_ledger.proofs.Steps.{steps_last, task_steps_sound}
-use Rattle.ledger_step_laws.specs.Accounts.{StepsAlone, aside, rested}
-use Rattle.ledger_step_laws.specs.Kinds.{StoresOne}
-use Rattle.ledger_step_laws.specs.Last.{WritesOther, LastKind, Private, Reading, Writing, Printing, Forking, Ending, Joining, Finishing, Halting, IsOfKind, GoesOn, Runs, Splits, stepped_by}
-use Rattle.ledger_step_laws.proofs.Ahead.{both_rested}
-use Rattle.ledger_step_laws.proofs.Private.{private_on}
-use Rattle.ledger_step_laws.proofs.Rested.{rested_sound, rested_view}
-use Rattle.ledger_step_laws.proofs.Split.{steps_go, worker_step}
-use Rattle.ledger_step_laws.proofs.Wrote.{is_store, is_swap, is_number}
-use Rattle.ledger_step_laws.proofs.BeforeLast as before_last
+use Rattle.core_relation.proofs.below.listed.{got_same}
+use Rattle.core_relation.specs.below.hh_lang.{Instr, Set, Mov, Movr, Nil as NilOf, Calc, Same, Jmp, Jz, Newm, Pack, Getr, Geti, Putr, Puti, Cntr, Cnti, Freeze, Cas, Call, Par, Ret, Out, ProgramText}
+use Rattle.core_relation.specs.below.run_trace.{SettingsValue}
+use Rattle.core_relation.specs.below.hh_model.{State, Task, int_in, onward, place_in, is_running, is_waiting, runs}
+use Rattle.core_relation.specs.below.run_ledger.{Ledger, heap_of, or_fresh, task_steps, SoundLedger}
+use Rattle.core_relation.proofs.below.run_ledger.{task_step_machine, steps_last, task_steps_sound}
+use Rattle.core_relation.specs.below.ledger_step_laws.{StepsAlone, aside, rested, StoresOne, WritesOther, LastKind, Private, Reading, Writing, Printing, Forking, Ending, Joining, Finishing, Halting, IsOfKind, GoesOn, Runs, Splits, stepped_by}
+use Rattle.core_relation.proofs.below.ledger_step_laws.{both_rested, private_on, rested_sound, rested_view, steps_go, worker_step, is_store, is_swap, is_number}
+use Rattle.core_relation.proofs.below.ledger_step_laws.BeforeLast as before_last
 use Rattle.core_relation.specs.Memory.{Belongings, Memory}
 use Rattle.core_relation.specs.Fits.{Part, FitsAt, part_for, ahead, with_belongings}
 use Rattle.core_relation.specs.Copies.{PartFits}

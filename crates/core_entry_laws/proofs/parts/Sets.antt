@@ -1,28 +1,14 @@
 -- A step that goes on and sets at most a number register: the part of its worker fits after it.
 use Rattle.std.proofs.Common.{◌≡◌, ℕ, ℤ, false, Some, List, ◌∷◌, length, slice_get, slice_set, refl, ap, sym, subst, ◌∙◌}
 use Rattle.std.proofs.lemmas.Option.{same_Some}
-use Rattle.listed.proofs.Members.{got_same}
-use Rattle.object_layout.specs.declared.word.Addr.{Addr}
-use Rattle.object_layout.specs.Objects.{Located}
-use Rattle.hh_lang.specs.Form.{ProgramText}
-use Rattle.run_trace.specs.Settings.{SettingsValue}
-use Rattle.hh_model.specs.declared.data.Name.{Name}
-use Rattle.hh_model.specs.declared.data.Object.{Object}
-use Rattle.hh_model.specs.declared.data.Status.TheVariants.{Running}
-use Rattle.hh_model.specs.declared.data.Task.{Task}
-use Rattle.hh_model.specs.declared.data.State.{State}
-use Rattle.hh_model.specs.Effect.{object_at, row_of}
-use Rattle.hh_model.specs.Step.{is_waiting}
-use Rattle.run_ledger.specs.declared.data.Ledger.{Ledger}
-use Rattle.run_ledger.specs.Heaps.{heap_of, or_fresh, let_go}
-use Rattle.run_ledger.specs.Steps.{task_steps}
-use Rattle.run_ledger.specs.Sound.{SoundLedger}
-use Rattle.ledger_step_laws.specs.Accounts.{Rests, StepsAlone, rested}
-use Rattle.ledger_step_laws.specs.Kinds.{onward_with}
-use Rattle.ledger_step_laws.specs.Last.{stepped_by}
-use Rattle.ledger_step_laws.proofs.Ahead.{both_rested}
-use Rattle.ledger_step_laws.proofs.Last.{rest_heaps}
-use Rattle.ledger_step_laws.proofs.Rested.{rested_worker, rested_sound}
+use Rattle.core_relation.proofs.below.listed.{got_same}
+use Rattle.core_relation.specs.below.object_layout.{Addr, Located}
+use Rattle.core_relation.specs.below.hh_lang.{ProgramText}
+use Rattle.core_relation.specs.below.run_trace.{SettingsValue}
+use Rattle.core_relation.specs.below.hh_model.{Name, Object, Running, Task, State, object_at, row_of, is_waiting, Frame as ModelFrame}
+use Rattle.core_relation.specs.below.run_ledger.{Ledger, heap_of, or_fresh, let_go, task_steps, SoundLedger}
+use Rattle.core_relation.specs.below.ledger_step_laws.{Rests, StepsAlone, rested, onward_with, stepped_by}
+use Rattle.core_relation.proofs.below.ledger_step_laws.{both_rested, rest_heaps, rested_worker, rested_sound}
 use Rattle.core_relation.specs.Memory.{Belongings, Memory, In, object_name, objects, objects_in, Lies}
 use Rattle.core_relation.specs.Reads.{IsRead, FrameIsRead, FramesAreRead, HoldsRead, TaskIsRead}
 use Rattle.core_relation.specs.Stands.{Place}
@@ -34,10 +20,9 @@ use Rattle.core_entry_laws.proofs.whole.HandedBack.{alive_machine}
 use Rattle.core_entry_laws.proofs.parts.Workers.{part_now}
 use Rattle.core_relation.specs.Makes.{StepsTo}
 use Rattle.core_entry_laws.specs.WorkerLaws.{FramesGo, NumbersGo}
-use Rattle.hh_model.specs.declared.data.Frame.{Frame as ModelFrame}
-use Rattle.run_ledger.proofs.Machine.{heap_machine}
-use Rattle.task_frames.specs.declared.frames.Frame.{Frame}
-use Rattle.ledger_step_laws.proofs.BeforeLast as before_last
+use Rattle.core_relation.proofs.below.run_ledger.{heap_machine}
+use Rattle.core_relation.specs.below.task_frames.{Frame}
+use Rattle.core_relation.proofs.below.ledger_step_laws.BeforeLast as before_last
 use Rattle.core_relation.proofs.changes.Own.{place_own}
 use Rattle.core_relation.proofs.changes.Target.{goes_on}
 use Rattle.core_relation.proofs.changes.With.{at_belongings, off_belongings}

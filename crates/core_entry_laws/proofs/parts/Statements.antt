@@ -1,27 +1,18 @@
 -- What lemmas on parts state, by the accounts as they are.
 use Rattle.core_relation.specs.Since.{AllNoted}
 use Rattle.core_relation.specs.Copies.{CopyFits, EndsAt}
-use Rattle.run_ledger.specs.declared.data.Heap.{Heap}
+use Rattle.core_relation.specs.below.run_ledger.{Heap, Ledger, heap_of, with_heap, collected, SoundLedger}
 use Rattle.std.specs.Prelude.{◌≡◌, ℕ, ℤ, false, Option, Some, List, slice_get}
-use Rattle.object_layout.specs.declared.word.Addr.{Addr}
-use Rattle.hh_lang.specs.Form.{ProgramText}
-use Rattle.run_trace.specs.Settings.{SettingsValue}
-use Rattle.hh_model.specs.declared.data.Name.{Name}
-use Rattle.hh_model.specs.declared.data.Object.{Object}
-use Rattle.hh_model.specs.declared.data.Status.TheVariants.{Running}
-use Rattle.hh_model.specs.declared.data.Task.{Task}
-use Rattle.hh_model.specs.Step.{is_waiting}
-use Rattle.run_ledger.specs.declared.data.Ledger.{Ledger}
-use Rattle.run_ledger.specs.Heaps.{heap_of, with_heap, collected}
-use Rattle.run_ledger.specs.Sound.{SoundLedger}
-use Rattle.task_frames.specs.declared.frames.Frame.{Frame}
+use Rattle.core_relation.specs.below.object_layout.{Addr}
+use Rattle.core_relation.specs.below.hh_lang.{ProgramText}
+use Rattle.core_relation.specs.below.run_trace.{SettingsValue}
+use Rattle.core_relation.specs.below.hh_model.{Name, Object, Running, Task, is_waiting}
+use Rattle.core_relation.specs.below.task_frames.{Frame, ref_of}
 use Rattle.core_relation.specs.Stands.{Stands}
 use Rattle.core_relation.specs.Memory.{Belongings, Memory}
-use Rattle.ledger_step_laws.specs.Accounts.{Rests, rested, StepsAlone, Takes, SameTasks, Knows, Leaves}
+use Rattle.core_relation.specs.below.ledger_step_laws.{Rests, rested, StepsAlone, Takes, SameTasks, Knows, Leaves, JoinsTasks, CanJoin, ForksTask, StoresOne, EndsTask, StoresNumber}
 use Rattle.core_relation.specs.Fits.{Part, FitsAt, with_belongings, ahead, part_for}
 use Rattle.core_relation.specs.Changes.{SameBut, SameObjects, JoinsBelongings, ForksBelongings, StoresAt, StepsInBelongings, BelongingsAreRead, HasResult, EndsBelongings, StoresNumberAt}
-use Rattle.task_frames.specs.FramesValue.{ref_of}
-use Rattle.ledger_step_laws.specs.Kinds.{JoinsTasks, CanJoin, ForksTask, StoresOne, EndsTask, StoresNumber}
 use Rattle.core_relation.specs.Frames.{IsSteady, IsOut, AreOut}
 
 abbrev pub ForksLeaveFitting : Type 0

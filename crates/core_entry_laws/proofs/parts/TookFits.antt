@@ -1,25 +1,15 @@
 -- The belongings of a task that a worker takes fit.
 use Rattle.std.proofs.Common.{length, ◌≡◌, ℕ, Some, None, is_none, slice_get, inl, inr, refl, ap, sym, subst, ◌∙◌}
 use Rattle.std.proofs.lemmas.Bool.{and_parts, cases_eq}
-use Rattle.listed.proofs.Options.{none_is}
-use Rattle.hh_lang.specs.Form.{ProgramText}
-use Rattle.run_trace.specs.Entry.{EntryValue}
-use Rattle.run_trace.specs.Settings.{SettingsValue}
-use Rattle.run_trace.specs.declared.entry.Kind.TheVariants.{Took}
-use Rattle.hh_model.specs.Step.{is_running}
-use Rattle.hh_model.specs.declared.data.State.{State}
-use Rattle.hh_model.proofs.Root.{runs_tell}
-use Rattle.run_ledger.specs.declared.data.Ledger.{Ledger}
-use Rattle.run_ledger.specs.Heaps.{heap_of, or_fresh}
-use Rattle.run_ledger.specs.Entries.{after, is_ready}
-use Rattle.run_ledger.specs.Journals.{ledger_of}
-use Rattle.run_ledger.proofs.Journals.{none_unless, entry_tells, legal_sound, accepted_on}
-use Rattle.run_ledger.proofs.Steps.{heap_of_task, running_at}
-use Rattle.ledger_step_laws.specs.Accounts.{Rests, rested}
-use Rattle.ledger_step_laws.proofs.Ahead.{heap_then, with_at}
-use Rattle.ledger_step_laws.proofs.Entries.{took_takes}
-use Rattle.ledger_step_laws.proofs.Rested.{rested_view}
-use Rattle.ledger_step_laws.proofs.Split.{legal_alive}
+use Rattle.core_relation.proofs.below.listed.{none_is}
+use Rattle.core_relation.specs.below.hh_lang.{ProgramText}
+use Rattle.core_relation.specs.below.run_trace.{EntryValue, SettingsValue, Took}
+use Rattle.core_relation.specs.below.hh_model.{is_running, State}
+use Rattle.core_relation.proofs.below.hh_model.{runs_tell}
+use Rattle.core_relation.specs.below.run_ledger.{Ledger, heap_of, or_fresh, after, is_ready, ledger_of}
+use Rattle.core_relation.proofs.below.run_ledger.{none_unless, entry_tells, legal_sound, accepted_on, heap_of_task, running_at}
+use Rattle.core_relation.specs.below.ledger_step_laws.{Rests, rested}
+use Rattle.core_relation.proofs.below.ledger_step_laws.{heap_then, with_at, took_takes, rested_view, legal_alive}
 use Rattle.core_relation.specs.Memory.{Belongings, Memory, objects_in}
 use Rattle.core_relation.specs.Fits.{Part, FitsAt, part_for, ahead, with_belongings}
 use Rattle.core_relation.specs.Changes.{SameBut}

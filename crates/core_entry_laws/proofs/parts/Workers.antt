@@ -1,20 +1,12 @@
 -- An entry of one worker leaves what every other holds fitting.
 use Rattle.std.proofs.Common.{◌≡◌, ℕ, true, Some, None, slice_get, inr, ap, ap₂, sym, subst, ◌∙◌, ◌+◌}
-use Rattle.hh_lang.specs.declared.instr.Instr.{Instr}
-use Rattle.hh_lang.specs.declared.instr.Instr.TheVariants.{Set, Mov, Movr, Nil as NilOf, Calc, Same, Jmp, Jz, Newm, Pack, Getr, Geti, Putr, Puti, Cntr, Cnti, Freeze, Cas, Call, Par, Ret, Out}
-use Rattle.hh_lang.specs.Form.{ProgramText}
-use Rattle.run_trace.specs.Settings.{SettingsValue}
-use Rattle.hh_model.specs.declared.data.State.{State}
-use Rattle.hh_model.specs.Step.{can_step, goes_on, is_joined, is_running, runs}
-use Rattle.hh_model.proofs.Runs.{running_tells}
-use Rattle.ledger_step_laws.proofs.Tree.{leaf_alone}
-use Rattle.run_ledger.specs.declared.data.Ledger.{Ledger}
-use Rattle.run_ledger.specs.Heaps.{heap_of, or_fresh}
-use Rattle.run_ledger.specs.Steps.{task_steps}
-use Rattle.ledger_step_laws.specs.Accounts.{AlikeFor, ArePrivate, Knows, aside}
-use Rattle.ledger_step_laws.specs.Last.{WritesOther, LastKind, Private, Reading, Writing, Printing, Forking, Ending, Joining, Finishing, Halting, IsOfKind, GoesOn, Halts, Runs, Splits}
-use Rattle.ledger_step_laws.proofs.Ahead.{SameOf}
-use Rattle.ledger_step_laws.proofs.Along.{alike_steps, steps_limit, steps_end, steps_off}
+use Rattle.core_relation.specs.below.hh_lang.{Instr, Set, Mov, Movr, Nil as NilOf, Calc, Same, Jmp, Jz, Newm, Pack, Getr, Geti, Putr, Puti, Cntr, Cnti, Freeze, Cas, Call, Par, Ret, Out, ProgramText}
+use Rattle.core_relation.specs.below.run_trace.{SettingsValue}
+use Rattle.core_relation.specs.below.hh_model.{State, can_step, goes_on, is_joined, is_running, runs}
+use Rattle.core_relation.proofs.below.hh_model.{running_tells}
+use Rattle.core_relation.proofs.below.ledger_step_laws.{leaf_alone, SameOf, alike_steps, steps_limit, steps_end, steps_off, root_alone}
+use Rattle.core_relation.specs.below.run_ledger.{Ledger, heap_of, or_fresh, task_steps}
+use Rattle.core_relation.specs.below.ledger_step_laws.{AlikeFor, ArePrivate, Knows, aside, WritesOther, LastKind, Private, Reading, Writing, Printing, Forking, Ending, Joining, Finishing, Halting, IsOfKind, GoesOn, Halts, Runs, Splits}
 use Rattle.core_relation.specs.Memory.{Belongings, Memory}
 use Rattle.core_relation.specs.Fits.{Part, FitsAt, part_for, ahead}
 use Rattle.core_relation.specs.Frames.{AreOut, IsOut, IsSteady}
@@ -30,8 +22,7 @@ use Rattle.core_entry_laws.proofs.parts.Leave.{held_then}
 use Rattle.core_entry_laws.proofs.parts.Parts.{ahead_same}
 use Rattle.core_entry_laws.proofs.parts.Quiet.{aside_is}
 use Rattle.core_entry_laws.proofs.parts.Ran as ran
-use Rattle.ledger_step_laws.proofs.Root.{root_alone}
-use Rattle.ledger_step_laws.proofs.BeforeLast as before_last
+use Rattle.core_relation.proofs.below.ledger_step_laws.BeforeLast as before_last
 use Rattle.core_relation.proofs.changes.Steady.{steady_same}
 
 module _ (p : ProgramText) (s : SettingsValue) (r : Part) (v : Memory) (l : Ledger) (on : l.machine.end ≡ None) (F : WorkerFits p s r v l) where

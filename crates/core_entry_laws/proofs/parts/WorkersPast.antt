@@ -2,30 +2,16 @@
 use Rattle.std.proofs.Common.{◌≡◌, ℕ, true, false, Some, None, is_none, slice_get, List, refl, ap, sym, subst, ◌∙◌}
 use Rattle.std.proofs.lemmas.Bool.{and_parts}
 use Rattle.std.proofs.Common.{length}
-use Rattle.listed.proofs.Options.{none_is, none_some}
-use Rattle.hh_lang.specs.Form.{ProgramText}
-use Rattle.run_trace.specs.Entry.{EntryValue}
-use Rattle.run_trace.specs.Settings.{SettingsValue}
-use Rattle.run_trace.specs.declared.entry.Kind.TheVariants.{Took, Sweep, End as EndOf}
-use Rattle.hh_model.specs.declared.data.State.{State}
-use Rattle.hh_model.specs.Store.{IsStored}
-use Rattle.hh_model.specs.Step.{is_running, is_waiting}
-use Rattle.hh_model.specs.Closed.{Closed}
-use Rattle.hh_model.proofs.Steps.{runs_is}
-use Rattle.hh_model.proofs.Root.{runs_tell}
+use Rattle.core_relation.proofs.below.listed.{none_is, none_some}
+use Rattle.core_relation.specs.below.hh_lang.{ProgramText}
+use Rattle.core_relation.specs.below.run_trace.{EntryValue, SettingsValue, Took, Sweep, End as EndOf}
+use Rattle.core_relation.specs.below.hh_model.{State, IsStored, is_running, is_waiting, Closed}
+use Rattle.core_relation.proofs.below.hh_model.{runs_is, runs_tell}
 use Rattle.path_laws.proofs.Leaves.{waiting_stops}
-use Rattle.run_ledger.specs.declared.data.Ledger.{Ledger}
-use Rattle.run_ledger.specs.Heaps.{heap_of, collected, swept_heap}
-use Rattle.run_ledger.specs.Entries.{refusal, after, is_ready, is_out}
-use Rattle.run_ledger.specs.Journals.{ledger_of, is_legal}
-use Rattle.run_ledger.proofs.Journals.{none_unless, entry_sound, entry_tells, wait_tells, legal_sound, accepted_on}
-use Rattle.run_ledger.specs.Sound.{SoundLedger}
-use Rattle.run_ledger.proofs.Steps.{heap_of_task, running_at}
-use Rattle.ledger_step_laws.specs.Accounts.{Rests, Knows}
-use Rattle.ledger_step_laws.proofs.Ahead.{with_off}
-use Rattle.ledger_step_laws.proofs.Entries.{took_takes, sweep_changes, end_changes}
-use Rattle.ledger_step_laws.proofs.Known.{legal_knows}
-use Rattle.ledger_step_laws.proofs.Split.{legal_alive, legal_idle}
+use Rattle.core_relation.specs.below.run_ledger.{Ledger, heap_of, collected, swept_heap, refusal, after, is_ready, is_out, ledger_of, is_legal, SoundLedger}
+use Rattle.core_relation.proofs.below.run_ledger.{none_unless, entry_sound, entry_tells, wait_tells, legal_sound, accepted_on, heap_of_task, running_at}
+use Rattle.core_relation.specs.below.ledger_step_laws.{Rests, Knows}
+use Rattle.core_relation.proofs.below.ledger_step_laws.{with_off, took_takes, sweep_changes, end_changes, legal_knows, legal_alive, legal_idle}
 use Rattle.core_relation.specs.Memory.{Memory}
 use Rattle.core_relation.specs.Fits.{Part, FitsAt}
 use Rattle.core_relation.specs.Worker.{WorkerFits}

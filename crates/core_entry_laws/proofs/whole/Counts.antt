@@ -1,36 +1,18 @@
 -- An entry that isn't of steps changes the tree and the counts as the accounts.
 use Rattle.std.proofs.Common.{◌≡◌, ℕ, ◌+◌, Bool, true, false, Option, Some, None, List, [], ◌∷◌, ◌++◌, cond, slice_get, nat_lt, option_map, is_none, inl, inr, refl, ap, ap₂, sym, subst, ◌∙◌, arith}
 use Rattle.std.proofs.lemmas.Bool.{cases_eq, and_parts}
-use Rattle.hh_lang.specs.Form.{ProgramText, IsProgram}
-use Rattle.run_trace.specs.Settings.{SettingsValue}
-use Rattle.run_trace.specs.Entry.{EntryValue}
-use Rattle.run_trace.specs.declared.entry.Kind.{Kind}
-use Rattle.run_trace.specs.declared.entry.Kind.TheVariants.{Took, Ran, Chunk, Begin, End as EndOf, PutOff, Mark, More, Sweep, Fuel}
-use Rattle.hh_model.specs.declared.data.Status.{Status}
-use Rattle.hh_model.specs.declared.data.Status.TheVariants.{Running, Waiting, Ended, Joined}
-use Rattle.hh_model.specs.declared.data.State.{State}
-use Rattle.hh_model.specs.declared.data.Task.{Task}
-use Rattle.hh_model.specs.Step.{asked, is_running, runs}
-use Rattle.run_ledger.specs.declared.data.Heap.{Heap}
-use Rattle.run_ledger.specs.declared.data.Ledger.{Ledger}
-use Rattle.run_ledger.specs.declared.data.RunEnd.TheVariants.{Pool, Fuel as FuelEnd}
-use Rattle.run_ledger.specs.Heaps.{chunk_words, is_small, take_of, heap_of, heap_at, with_heap, with_heap_at, in_use, collected, swept_heap}
-use Rattle.run_ledger.specs.Steps.{on_asked}
-use Rattle.run_ledger.specs.Entries.{refusal, after, after_kind, chunk_units, with_chunk, is_ready, out_from}
-use Rattle.run_ledger.specs.Journals.{ledger_of, is_legal}
-use Rattle.run_ledger.proofs.Journals.{none_unless, entry_tells, legal_sound}
-use Rattle.run_ledger.proofs.Steps.{heap_of_task}
-use Rattle.ledger_step_laws.specs.Accounts.{SameTasks, Takes}
-use Rattle.run_ledger.specs.Use.{ChunkGoes, UseGoes}
-use Rattle.ledger_step_laws.proofs.Entries.{same_tasks, took_takes}
-use Rattle.run_ledger.proofs.Use.{entries_use}
+use Rattle.core_relation.specs.below.hh_lang.{ProgramText, IsProgram}
+use Rattle.core_relation.specs.below.run_trace.{SettingsValue, EntryValue, Kind, Took, Ran, Chunk, Begin, End as EndOf, PutOff, Mark, More, Sweep, Fuel}
+use Rattle.core_relation.specs.below.hh_model.{Status, Running, Waiting, Ended, Joined, State, Task, asked, is_running, runs}
+use Rattle.core_relation.specs.below.run_ledger.{Heap, Ledger, Pool, Fuel as FuelEnd, chunk_words, is_small, take_of, heap_of, heap_at, with_heap, with_heap_at, in_use, collected, swept_heap, on_asked, refusal, after, after_kind, chunk_units, with_chunk, is_ready, out_from, ledger_of, is_legal, ChunkGoes, UseGoes}
+use Rattle.core_relation.proofs.below.run_ledger.{none_unless, entry_tells, legal_sound, heap_of_task, entries_use, none_holding}
+use Rattle.core_relation.specs.below.ledger_step_laws.{SameTasks, Takes}
+use Rattle.core_relation.proofs.below.ledger_step_laws.{same_tasks, took_takes}
 use Rattle.core_entry_laws.proofs.whole.TasksOut.{none_held}
 use Rattle.std.proofs.lemmas.Option.{same_Some}
 use Rattle.std.specs.Prelude.{◌↔◌}
-use Rattle.listed.proofs.Options.{none_is}
-use Rattle.run_ledger.proofs.Holders.{none_holding}
-use Rattle.heap_tree.specs.declared.state.State.TheVariants.{Out}
-use Rattle.heap_tree.specs.Node.{Node}
+use Rattle.core_relation.proofs.below.listed.{none_is}
+use Rattle.core_relation.specs.below.heap_tree.{Out, Node}
 use Rattle.core_relation.specs.Whole.{TreeCounts, TreeCountsStand, state_by}
 use Rattle.core_relation.specs.Counts.{SameCounts, TakesNode, AsksUnits, CountsGo}
 

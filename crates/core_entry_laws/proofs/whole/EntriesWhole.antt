@@ -1,19 +1,11 @@
 -- The whole relation past each accepted entry that isn't of steps, from whole to whole: none of them makes the run
 -- done.
 use Rattle.std.proofs.Common.{◌≡◌, ◌+◌, List, ℕ, Bool, true, false, cond, None, Some, nat_lt, refl, sym, subst, ◌∙◌}
-use Rattle.hh_lang.specs.Form.{ProgramText}
-use Rattle.run_trace.specs.Settings.{SettingsValue}
-use Rattle.run_trace.specs.Entry.{EntryValue}
-use Rattle.run_trace.specs.declared.entry.Kind.{Kind}
-use Rattle.run_trace.specs.declared.entry.Kind.TheVariants.{Took, Ran, Chunk, Begin, End as EndOf, PutOff, Mark, More, Sweep, Fuel}
-use Rattle.hh_model.specs.Step.{asked}
-use Rattle.run_ledger.specs.declared.data.Heap.{Heap}
-use Rattle.run_ledger.specs.declared.data.Ledger.{Ledger}
-use Rattle.run_ledger.specs.declared.data.RunEnd.TheVariants.{Pool}
-use Rattle.run_ledger.specs.Heaps.{in_use, with_heap}
-use Rattle.run_ledger.specs.Entries.{refusal, after_kind, chunk_units, with_chunk}
-use Rattle.run_ledger.specs.Journals.{ledger_of}
-use Rattle.run_ledger.proofs.Journals.{accepted_on}
+use Rattle.core_relation.specs.below.hh_lang.{ProgramText}
+use Rattle.core_relation.specs.below.run_trace.{SettingsValue, EntryValue, Kind, Took, Ran, Chunk, Begin, End as EndOf, PutOff, Mark, More, Sweep, Fuel}
+use Rattle.core_relation.specs.below.hh_model.{asked}
+use Rattle.core_relation.specs.below.run_ledger.{Heap, Ledger, Pool, in_use, with_heap, refusal, after_kind, chunk_units, with_chunk, ledger_of}
+use Rattle.core_relation.proofs.below.run_ledger.{accepted_on}
 use Rattle.core_relation.specs.Memory.{Memory}
 use Rattle.core_relation.specs.Counts.{IsQuiet}
 use Rattle.core_relation.specs.Whole.{TreeCounts, StandsFor, StandsForAll, handed}

@@ -1,14 +1,10 @@
 -- The accounts that hand back the root once the run is done, after each kind of a last step.
 use Rattle.std.proofs.Common.{◌≡◌, ℕ, Some, None, refl, ap, ◌∙◌}
-use Rattle.hh_lang.specs.Form.{ProgramText}
-use Rattle.run_trace.specs.Settings.{SettingsValue}
-use Rattle.hh_model.specs.declared.data.End.{End}
-use Rattle.hh_model.specs.declared.data.End.TheVariants.{Done, Trapped, Entangled}
-use Rattle.run_ledger.specs.declared.data.Ledger.{Ledger}
-use Rattle.run_ledger.specs.declared.data.RunEnd.TheVariants.{Machine}
-use Rattle.run_ledger.specs.Steps.{task_steps}
-use Rattle.ledger_step_laws.specs.Accounts.{rested}
-use Rattle.ledger_step_laws.specs.Last.{EndsDone, Halts, Runs}
+use Rattle.core_relation.specs.below.hh_lang.{ProgramText}
+use Rattle.core_relation.specs.below.run_trace.{SettingsValue}
+use Rattle.core_relation.specs.below.hh_model.{End, Done, Trapped, Entangled}
+use Rattle.core_relation.specs.below.run_ledger.{Ledger, Machine, task_steps}
+use Rattle.core_relation.specs.below.ledger_step_laws.{rested, EndsDone, Halts, Runs}
 use Rattle.core_relation.specs.Whole.{by_end, handed}
 use Rattle.core_entry_laws.proofs.whole.Together.{done_is_handed}
 use Rattle.path_laws.proofs.Leaves.{can_going}

@@ -1,19 +1,16 @@
 -- The memory before any entry stands for the first accounts.
 use Rattle.std.proofs.Common.{◌≡◌, ℕ, zero, suc, true, Some, None, slice_get, option_map, replicate, refl, sym, subst, ◌∙◌}
-use Rattle.hh_lang.specs.Form.{ProgramText}
-use Rattle.run_trace.specs.Settings.{SettingsValue}
-use Rattle.hh_model.specs.Step.{is_waiting, root}
-use Rattle.run_ledger.specs.Journals.{opening}
+use Rattle.core_relation.specs.below.hh_lang.{ProgramText}
+use Rattle.core_relation.specs.below.run_trace.{SettingsValue}
+use Rattle.core_relation.specs.below.hh_model.{is_waiting, root, Name, Task}
+use Rattle.core_relation.specs.below.run_ledger.{opening}
 use Rattle.std.proofs.lemmas.Bool.{false≢true}
 use Rattle.std.proofs.lemmas.Option.{same_Some}
-use Rattle.listed.proofs.Options.{none_some}
-use Rattle.object_layout.specs.declared.word.Addr.{Addr}
-use Rattle.object_layout.specs.Objects.{Located}
-use Rattle.hh_model.specs.declared.data.Name.{Name}
-use Rattle.hh_model.specs.declared.data.Task.{Task}
+use Rattle.core_relation.proofs.below.listed.{none_some}
+use Rattle.core_relation.specs.below.object_layout.{Addr, Located}
 use Rattle.core_relation.specs.Memory.{In, objects}
 use Rattle.core_relation.specs.Reads.{AllRead, TaskIsRead}
-use Rattle.ledger_step_laws.specs.Accounts.{Rests}
+use Rattle.core_relation.specs.below.ledger_step_laws.{Rests}
 use Rattle.core_relation.specs.Stands.{Place, BelongingsStand, Stands}
 pub use Rattle.core_entry_laws.specs.First.{first}
 use Rattle.core_relation.proofs.objects.LaidOut.{none_laid}

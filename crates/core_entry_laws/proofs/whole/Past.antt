@@ -1,34 +1,18 @@
 -- The whole relation past each accepted entry that isn't of steps.
 use Rattle.std.proofs.Common.{◌≡◌, ◌&&◌, not, ℕ, true, false, Option, Some, None, List, [], ◌∷◌, ◌++◌, slice_get, is_none, is_some, inl, inr, refl, ap, ap₂, sym, subst, ◌∙◌}
 use Rattle.std.proofs.lemmas.Bool.{false≢true, cases_eq, and_parts, and_from}
-use Rattle.listed.proofs.Options.{none_of, none_some}
-use Rattle.object_layout.specs.declared.word.Addr.{Addr}
-use Rattle.hh_lang.specs.Form.{ProgramText, IsProgram}
-use Rattle.run_trace.specs.Settings.{SettingsValue}
-use Rattle.run_trace.specs.Entry.{EntryValue}
-use Rattle.run_trace.specs.declared.entry.Kind.TheVariants.{Took, End as EndOf, Sweep}
-use Rattle.hh_model.specs.declared.data.State.{State}
-use Rattle.hh_model.specs.Step.{is_running, is_waiting, runs, can_step, goes_on}
-use Rattle.hh_model.proofs.Steps.{runs_is}
-use Rattle.hh_model.proofs.Root.{runs_tell}
+use Rattle.core_relation.proofs.below.listed.{none_of, none_some}
+use Rattle.core_relation.specs.below.object_layout.{Addr}
+use Rattle.core_relation.specs.below.hh_lang.{ProgramText, IsProgram}
+use Rattle.core_relation.specs.below.run_trace.{SettingsValue, EntryValue, Took, End as EndOf, Sweep}
+use Rattle.core_relation.specs.below.hh_model.{State, is_running, is_waiting, runs, can_step, goes_on}
+use Rattle.core_relation.proofs.below.hh_model.{runs_is, runs_tell}
 use Rattle.path_laws.proofs.Leaves.{waiting_stops}
-use Rattle.run_ledger.specs.declared.data.Heap.{Heap}
-use Rattle.run_ledger.specs.declared.data.Ledger.{Ledger}
-use Rattle.run_ledger.specs.Heaps.{heap_of, or_fresh, with_heap, collected, swept_heap, let_go}
-use Rattle.run_ledger.specs.Entries.{refusal, after, is_ready, is_out}
-use Rattle.run_ledger.specs.Journals.{ledger_of, is_legal, is_legal_from, after_all, opening}
-use Rattle.run_ledger.proofs.Holders.{tasks_are_out_once}
-use Rattle.run_ledger.proofs.Journals.{none_unless, entry_tells, wait_tells, legal_sound, accepted_on}
-use Rattle.run_ledger.specs.Sound.{SoundLedger}
-use Rattle.run_ledger.proofs.Steps.{heap_of_task, running_at}
-use Rattle.run_ledger.proofs.Frames.{heap_view}
-use Rattle.run_ledger.proofs.Machine.{heap_machine}
-use Rattle.ledger_step_laws.specs.Accounts.{Rests, StepsAlone, Takes, rested}
-use Rattle.ledger_step_laws.proofs.Ahead.{with_at, heap_then}
-use Rattle.ledger_step_laws.proofs.Entries.{took_takes, sweep_changes, end_changes}
-use Rattle.ledger_step_laws.proofs.Known.{legal_knows}
-use Rattle.ledger_step_laws.proofs.Split.{legal_alive, legal_idle}
-use Rattle.task_machine.specs.declared.part.Begun.{Begun}
+use Rattle.core_relation.specs.below.run_ledger.{Heap, Ledger, heap_of, or_fresh, with_heap, collected, swept_heap, let_go, refusal, after, is_ready, is_out, ledger_of, is_legal, is_legal_from, after_all, opening, SoundLedger}
+use Rattle.core_relation.proofs.below.run_ledger.{tasks_are_out_once, none_unless, entry_tells, wait_tells, legal_sound, accepted_on, heap_of_task, running_at, heap_view, heap_machine}
+use Rattle.core_relation.specs.below.ledger_step_laws.{Rests, StepsAlone, Takes, rested}
+use Rattle.core_relation.proofs.below.ledger_step_laws.{with_at, heap_then, took_takes, sweep_changes, end_changes, legal_knows, legal_alive, legal_idle, rested_changes, machine_alone}
+use Rattle.core_relation.specs.below.task_machine.{Begun}
 use Rattle.core_relation.specs.Memory.{Belongings, Memory}
 use Rattle.core_relation.specs.Stands.{Stands}
 use Rattle.core_relation.specs.Since.{AllNoted, MarksOn, NotesStay, OthersNotes}
@@ -39,7 +23,6 @@ use Rattle.core_entry_laws.proofs.notes.AllNotes.{sweeps_note, ends_note, steps_
 use Rattle.core_entry_laws.proofs.whole.Counts.{counts_stand}
 use Rattle.core_entry_laws.proofs.parts.QuietEntries.{quiet_by, marked_or}
 use Rattle.core_entry_laws.proofs.notes.NotesAhead.{notes_ahead, notes_back}
-use Rattle.ledger_step_laws.proofs.Rested.{rested_changes}
 use Rattle.core_relation.proofs.notes.Rooted.{root_apart}
 use Rattle.core_relation.proofs.changes.Takes.{ran_stands}
 use Rattle.core_relation.specs.Copies.{CopyFits, EndsAt, before}
@@ -48,7 +31,6 @@ use Rattle.core_relation.proofs.changes.Release.{released}
 use Rattle.core_relation.proofs.changes.Renew.{renewed}
 use Rattle.core_relation.proofs.changes.Sweep.{swept}
 use Rattle.core_entry_laws.proofs.whole.Together.{whole_stands, whole_notes, copies_end}
-use Rattle.ledger_step_laws.proofs.Alone.{machine_alone}
 
 -- ONE ENTRY MORE is legal
 

@@ -3,35 +3,17 @@ use Rattle.std.proofs.Common.{◌≡◌, ℕ, suc, ◌+◌, ◌++◌, ◌∷◌,
 use Rattle.std.proofs.lemmas.Bool.{both_ways, cases_eq, false≢true}
 use Rattle.std.proofs.lemmas.Option.{same_Some}
 use Rattle.std.specs.Prelude.{◌↔◌}
-use Rattle.listed.proofs.Members.{got_same, got_other}
-use Rattle.hh_lang.specs.Form.{ProgramText}
-use Rattle.run_trace.specs.Settings.{SettingsValue}
-use Rattle.hh_model.specs.declared.data.Status.{Status}
-use Rattle.hh_model.specs.declared.data.Status.TheVariants.{Running, Waiting, Ended, Joined}
-use Rattle.hh_model.specs.declared.data.State.{State}
-use Rattle.hh_model.specs.declared.data.Task.{Task}
-use Rattle.hh_model.specs.Effect.{int_in, onward}
-use Rattle.hh_model.specs.Step.{is_joined, is_over, is_running, is_waiting, parents, parent_of, result_of}
-use Rattle.hh_model.proofs.Steps.{runs_is}
-use Rattle.hh_model.proofs.Runs.{runs_idle}
-use Rattle.run_ledger.specs.declared.data.Heap.{Heap}
-use Rattle.run_ledger.specs.declared.data.Ledger.{Ledger}
-use Rattle.run_ledger.specs.Heaps.{heap_of, in_use, or_fresh, let_go}
-use Rattle.run_ledger.specs.Steps.{is_private, task_steps}
-use Rattle.run_ledger.proofs.Bounds.{task_steps_steps}
-use Rattle.run_ledger.proofs.Machine.{task_step_machine, heap_machine}
-use Rattle.run_ledger.proofs.Use.{same_use}
-use Rattle.heap_tree.specs.declared.state.State.TheVariants.{Ready, Out, Waiting as Waits, Ended as HasEnded, Joined as HasJoined}
-use Rattle.heap_tree.specs.Node.{Node}
-use Rattle.ledger_step_laws.specs.Accounts.{StepsAlone, rested}
-use Rattle.ledger_step_laws.specs.Kinds.{ForksTask, EndsTask}
-use Rattle.ledger_step_laws.specs.Last.{LastKind, Private, Reading, Writing, Printing, Forking, Ending, Joining, Finishing, Halting, IsOfKind, GoesOn, EndsLast, Halts, Splits, Runs, stepped_by}
-use Rattle.ledger_step_laws.proofs.Ahead.{private_alone, with_off}
-use Rattle.ledger_step_laws.proofs.Kin.{private_kin, steps_kin}
-use Rattle.ledger_step_laws.proofs.Private.{private_on}
-use Rattle.ledger_step_laws.proofs.Rested.{rested_worker}
-use Rattle.ledger_step_laws.proofs.Split.{worker_step, steps_worker, steps_go}
-use Rattle.ledger_step_laws.proofs.BeforeLast as before_last
+use Rattle.core_relation.proofs.below.listed.{got_same, got_other}
+use Rattle.core_relation.specs.below.hh_lang.{ProgramText}
+use Rattle.core_relation.specs.below.run_trace.{SettingsValue}
+use Rattle.core_relation.specs.below.hh_model.{Status, Running, Waiting, Ended, Joined, State, Task, int_in, onward, is_joined, is_over, is_running, is_waiting, parents, parent_of, result_of}
+use Rattle.core_relation.proofs.below.hh_model.{runs_is, runs_idle}
+use Rattle.core_relation.specs.below.run_ledger.{Heap, Ledger, heap_of, in_use, or_fresh, let_go, is_private, task_steps}
+use Rattle.core_relation.proofs.below.run_ledger.{task_steps_steps, task_step_machine, heap_machine, same_use}
+use Rattle.core_relation.specs.below.heap_tree.{Ready, Out, Waiting as Waits, Ended as HasEnded, Joined as HasJoined, Node}
+use Rattle.core_relation.specs.below.ledger_step_laws.{StepsAlone, rested, ForksTask, EndsTask, LastKind, Private, Reading, Writing, Printing, Forking, Ending, Joining, Finishing, Halting, IsOfKind, GoesOn, EndsLast, Halts, Splits, Runs, stepped_by}
+use Rattle.core_relation.proofs.below.ledger_step_laws.{private_alone, with_off, private_kin, steps_kin, private_on, rested_worker, worker_step, steps_worker, steps_go}
+use Rattle.core_relation.proofs.below.ledger_step_laws.BeforeLast as before_last
 use Rattle.core_relation.specs.Whole.{TreeCounts, TreeCountsStand, state_by, handed}
 use Rattle.core_relation.specs.RanCounts.{node_then, NodesStay, NodeGoes, NodesFork, NodesJoin, TasksOutStay, LetsGo, RanCounts}
 use Rattle.core_entry_laws.proofs.whole.Counts.{node_of, with_steps}

@@ -1,26 +1,14 @@
 -- An entry of steps keeps the relation and what is noted.
 use Rattle.std.proofs.Common.{◌≡◌, ℕ, ℤ, pos, ◌+◌, ◌&&◌, not, false, Option, Some, None, is_some, length, slice_get, inr, refl, ap, sym, subst, ◌∙◌}
 use Rattle.std.proofs.lemmas.Option.{same_Some}
-use Rattle.hh_lang.specs.declared.instr.Instr.{Instr}
-use Rattle.hh_lang.specs.declared.instr.Instr.TheVariants.{Set, Mov, Movr, Nil as NilOf, Calc, Same, Jmp, Jz, Newm, Pack, Getr, Geti, Putr, Puti, Cntr, Cnti, Freeze, Cas, Call, Par, Ret, Out}
-use Rattle.hh_lang.specs.Form.{ProgramText}
-use Rattle.run_trace.specs.Settings.{SettingsValue}
-use Rattle.hh_model.specs.declared.data.State.{State}
-use Rattle.hh_model.specs.Effect.{place_in, int_in, object_at, row_of}
-use Rattle.hh_model.specs.Step.{is_waiting, is_joined, is_on_path, owner_of}
-use Rattle.run_ledger.specs.declared.data.Ledger.{Ledger}
-use Rattle.run_ledger.specs.Heaps.{heap_of, or_fresh, let_go}
-use Rattle.run_ledger.specs.Steps.{task_steps}
-use Rattle.run_ledger.specs.Sound.{SoundLedger}
-use Rattle.run_ledger.proofs.Machine.{heap_machine}
-use Rattle.ledger_step_laws.specs.Accounts.{StepsAlone, rested}
-use Rattle.ledger_step_laws.specs.Kinds.{StoresOne}
-use Rattle.ledger_step_laws.specs.Last.{WritesOther, Halts, LastKind, Private, Reading, Writing, Printing, Forking, Ending, Joining, Finishing, Halting, IsOfKind, GoesOn, Splits, Runs}
-use Rattle.ledger_step_laws.proofs.Ahead.{private_alone}
-use Rattle.ledger_step_laws.proofs.Rested.{rested_worker, rested_sound}
-use Rattle.ledger_step_laws.proofs.Split.{worker_step, steps_worker}
-use Rattle.ledger_step_laws.proofs.Wrote.{is_store, is_swap, is_number, waits_rest}
-use Rattle.ledger_step_laws.proofs.BeforeLast as before_last
+use Rattle.core_relation.specs.below.hh_lang.{Instr, Set, Mov, Movr, Nil as NilOf, Calc, Same, Jmp, Jz, Newm, Pack, Getr, Geti, Putr, Puti, Cntr, Cnti, Freeze, Cas, Call, Par, Ret, Out, ProgramText}
+use Rattle.core_relation.specs.below.run_trace.{SettingsValue}
+use Rattle.core_relation.specs.below.hh_model.{State, place_in, int_in, object_at, row_of, is_waiting, is_joined, is_on_path, owner_of}
+use Rattle.core_relation.specs.below.run_ledger.{Ledger, heap_of, or_fresh, let_go, task_steps, SoundLedger}
+use Rattle.core_relation.proofs.below.run_ledger.{heap_machine}
+use Rattle.core_relation.specs.below.ledger_step_laws.{StepsAlone, rested, StoresOne, WritesOther, Halts, LastKind, Private, Reading, Writing, Printing, Forking, Ending, Joining, Finishing, Halting, IsOfKind, GoesOn, Splits, Runs}
+use Rattle.core_relation.proofs.below.ledger_step_laws.{private_alone, rested_worker, rested_sound, worker_step, steps_worker, is_store, is_swap, is_number, waits_rest, alone_along}
+use Rattle.core_relation.proofs.below.ledger_step_laws.BeforeLast as before_last
 use Rattle.core_relation.specs.Memory.{Belongings, Memory}
 use Rattle.core_relation.specs.Stands.{Stands}
 use Rattle.core_relation.specs.Fits.{Part, FitsAt, with_belongings, part_for}
@@ -41,7 +29,6 @@ use Rattle.core_entry_laws.proofs.notes.NotesAhead.{notes_ahead, notes_back}
 use Rattle.core_entry_laws.proofs.parts.Others.{result_read}
 use Rattle.core_relation.proofs.notes.Rooted.{root_apart}
 use Rattle.core_relation.proofs.changes.Takes.{ran_stands}
-use Rattle.ledger_step_laws.proofs.Alone.{alone_along}
 
 module _ (p : ProgramText) (s : SettingsValue) (v v' : Memory) (l l' : Ledger) (t w k : ℕ) (h : Belongings) (E : Runs p s l l' t w k) (alive : l.end ≡ None) (V : Stands v l) (N : AllNoted v l) where
   abbrev q : Part

@@ -1,19 +1,10 @@
 -- The whole relation past an entry of steps.
 use Rattle.std.proofs.Common.{suc, ◌≡◌, ℕ, false, Option, Some, None, slice_get, refl, subst, ◌∙◌}
-use Rattle.listed.proofs.Options.{none_of}
-use Rattle.run_trace.specs.Entry.{EntryValue}
-use Rattle.run_trace.specs.declared.entry.Kind.TheVariants.{Ran}
-use Rattle.run_ledger.specs.declared.data.Heap.{Heap}
-use Rattle.run_ledger.specs.declared.data.Ledger.{Ledger}
-use Rattle.run_ledger.specs.Heaps.{heap_of, or_fresh}
-use Rattle.run_ledger.specs.Steps.{task_steps}
-use Rattle.run_ledger.specs.Entries.{after}
-use Rattle.run_ledger.specs.Journals.{ledger_of}
-use Rattle.run_ledger.proofs.Journals.{accepted_on}
-use Rattle.run_ledger.specs.Sound.{collecting}
-use Rattle.ledger_step_laws.proofs.Rested.{rested_view}
-use Rattle.run_ledger.proofs.Use.{entries_use}
-use Rattle.run_ledger.proofs.Steps.{task_steps_sound}
+use Rattle.core_relation.proofs.below.listed.{none_of}
+use Rattle.core_relation.specs.below.run_trace.{EntryValue, Ran}
+use Rattle.core_relation.specs.below.run_ledger.{Heap, Ledger, heap_of, or_fresh, task_steps, after, ledger_of, collecting}
+use Rattle.core_relation.proofs.below.run_ledger.{accepted_on, entries_use, task_steps_sound}
+use Rattle.core_relation.proofs.below.ledger_step_laws.{rested_view}
 use Rattle.core_relation.specs.Fits.{part_for, with_belongings}
 use Rattle.core_relation.specs.Makes.{taken_by}
 use Rattle.core_entry_laws.specs.EntryLaws.{RanStandsFor}

@@ -2,13 +2,10 @@
 use Rattle.std.proofs.Common.{◌≡◌, ◌+◌, ℕ, zero, suc, Bool, true, false, cond, arith, Option, Some, None, List, [], ◌∷◌, slice_get, refl, ap, sym, ◌∙◌}
 use Rattle.std.proofs.lemmas.Bool.{false≢true}
 use Rattle.std.proofs.lemmas.Option.{same_Some}
-use Rattle.listed.proofs.Options.{none_some}
-use Rattle.run_ledger.specs.declared.data.Heap.{Heap}
-use Rattle.run_ledger.specs.declared.data.Ledger.{Ledger}
-use Rattle.run_ledger.specs.Heaps.{heap_of, or_fresh}
-use Rattle.run_ledger.specs.Entries.{out_from}
-use Rattle.listed.specs.Options.{option_is}
-use Rattle.run_ledger.proofs.Frames.{held_is, is_held}
+use Rattle.core_relation.proofs.below.listed.{none_some}
+use Rattle.core_relation.specs.below.run_ledger.{Heap, Ledger, heap_of, or_fresh, out_from}
+use Rattle.core_relation.specs.below.listed.{option_is}
+use Rattle.core_relation.proofs.below.run_ledger.{held_is, is_held}
 use Rattle.core_entry_laws.specs.EntryLaws.{TasksOutAreTold}
 
 -- where no heap is found, the worker holds none

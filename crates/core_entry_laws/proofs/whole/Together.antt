@@ -1,25 +1,18 @@
 -- The whole relation from its parts, and the last laws on copies and on the end.
 use Rattle.std.proofs.Common.{refl, subst, ◌≡◌, ℕ, Option, Some, None, ap, sym, ◌∙◌, Bool, true, slice_get, inl}
-use Rattle.run_ledger.specs.declared.data.Ledger.{Ledger}
-use Rattle.run_ledger.specs.Heaps.{heap_of}
+use Rattle.core_relation.specs.below.run_ledger.{Ledger, heap_of, with_heap, collected}
 use Rattle.core_relation.specs.Memory.{Memory}
-use Rattle.ledger_step_laws.specs.Accounts.{rested}
+use Rattle.core_relation.specs.below.ledger_step_laws.{rested, EndsDone}
 use Rattle.core_relation.specs.Whole.{BegunBy, by_end, handed}
-use Rattle.ledger_step_laws.specs.Last.{EndsDone}
 use Rattle.core_entry_laws.specs.CopyLaws.{CopiesEnd}
 use Rattle.core_entry_laws.specs.EntryLaws.{WholeStands, WholeNotes}
 use Rattle.core_entry_laws.proofs.parts.Statements.{CopiesLeave}
 use Rattle.core_relation.specs.Frames.{IsOut}
-use Rattle.hh_model.specs.declared.data.Task.{Task}
-use Rattle.hh_model.specs.declared.data.End.{End}
-use Rattle.hh_model.specs.declared.data.Status.TheVariants.{Running}
-use Rattle.hh_model.specs.Step.{can_step, goes_on, is_running}
-use Rattle.run_ledger.specs.Heaps.{with_heap, collected}
-use Rattle.ledger_step_laws.proofs.Ahead.{with_off}
-use Rattle.ledger_step_laws.proofs.Entries.{end_changes}
+use Rattle.core_relation.specs.below.hh_model.{Task, End, Running, can_step, goes_on, is_running}
+use Rattle.core_relation.proofs.below.ledger_step_laws.{with_off, end_changes}
 use Rattle.core_entry_laws.proofs.parts.Ends.{fits_end}
 use Rattle.core_entry_laws.proofs.parts.Copies.{copy_fits, moves}
-use Rattle.task_machine.specs.declared.part.Begun.{Begun}
+use Rattle.core_relation.specs.below.task_machine.{Begun}
 
 pub copies_end : CopiesEnd
 copies_end p s t h h' f v v' l x hs S is runs there C E none = (moves p s t h h' f v v' l x 0 S is runs hs there C E, copy_fits p s t h h' f v v' l x 0 S is runs hs there C E none)

@@ -1,8 +1,6 @@
 use Rattle.std.proofs.Common.{◌≡◌, true, ◌++◌, ◌∷◌, [], List, false, length, option_map, slice_get, ap, sym, subst, ◌∙◌}
-use Rattle.write_barrier.specs.declared.sets.SetOf.{SetOf}
-use Rattle.write_barrier.specs.Forms.{bare}
-use Rattle.write_barrier.specs.Stored.{content_at}
-use Rattle.task_homes.specs.HomesValue.{HomesValue, keeping}
+use Rattle.own_steps.specs.below.write_barrier.{SetOf, bare, content_at}
+use Rattle.own_steps.specs.below.task_homes.{HomesValue, keeping}
 use Rattle.child_tasks.specs.Forks.{SetsFork}
 use Rattle.child_tasks.proofs.ForkEntries.{sets_fork}
 use Rattle.child_tasks.proofs.fork.fork_homes.Goals as goal

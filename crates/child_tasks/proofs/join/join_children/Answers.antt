@@ -1,9 +1,7 @@
 use Rattle.std.proofs.Common.{◌≡◌, ◌+◌, ◌≤◌, arith, None, List, [], ◌∷◌, length, refl, ap, ◌∙◌}
-use Rattle.object_layout.specs.ChunkValue.{ChunkValue}
-use Rattle.remembered_set.specs.declared.remembered.Source.{Source}
-use Rattle.remembered_set.specs.Sources.{RememberedValue, lifted, notes_in}
-use Rattle.fork_join.specs.declared.sides.Side.{Side}
-use Rattle.fork_join.specs.Joined.{Joins}
+use Rattle.own_steps.specs.below.object_layout.{ChunkValue}
+use Rattle.own_steps.specs.below.remembered_set.{Source, RememberedValue, lifted, notes_in}
+use Rattle.own_steps.specs.below.fork_join.{Side, Joins}
 use Rattle.child_tasks.proofs.join.join_children.Goals as goal
 
 no_sources : (xs : List Source) → length xs ≡ 0 → xs ≡ []

@@ -1,5 +1,5 @@
 use Rattle.std.proofs.Common.{refl}
-use Rattle.shared_value.specs.SharedValue.{rest_at}
+use Rattle.own_steps.specs.below.shared_value.{rest_at}
 use Rattle.child_tasks.proofs.JoinPlaces.{same_itself}
 use Rattle.child_tasks.proofs.join.make_places.Goals as goal
 

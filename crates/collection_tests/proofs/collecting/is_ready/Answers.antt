@@ -1,6 +1,6 @@
 use Rattle.std.proofs.Common.{◌≡◌, ◌∙◌, ◌≤◌, ℕ, List, ap, arith, subst}
-use Rattle.object_layout.specs.ChunkValue.{ChunkValue}
-use Rattle.alloc_path.specs.LeafHeapValue.{IsFresh}
+use Rattle.memory_scenes.specs.below.object_layout.{ChunkValue}
+use Rattle.memory_scenes.specs.below.alloc_path.{IsFresh}
 use Rattle.leaf_copy_gc.specs.Laid.{small_words}
 use Rattle.collection_tests.proofs.collecting.is_ready.Goals as goal
 

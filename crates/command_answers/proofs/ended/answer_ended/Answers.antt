@@ -1,8 +1,8 @@
 use Rattle.std.proofs.Common.{◌∙◌, ap, refl}
 use Rattle.std.specs.Prelude.{Some}
-use Rattle.run_report.proofs.Writing.{whole_text}
-use Rattle.shared_value.specs.SharedValue.{SharedValue, accounts}
-use Rattle.counted_tree.specs.Counts.{totals_of}
+use Rattle.refusal_lines.proofs.below.run_report.{whole_text}
+use Rattle.world_core.specs.below.shared_value.{SharedValue, accounts}
+use Rattle.world_core.specs.below.counted_tree.{totals_of}
 use Rattle.command_answers.proofs.Runs.{ended_run}
 use Rattle.command_answers.proofs.ended.answer_ended.Goals as goal
 

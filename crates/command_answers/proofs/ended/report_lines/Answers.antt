@@ -1,17 +1,12 @@
 use Rattle.std.proofs.Common.{◌≡◌, ℕ, Bool, true, List, length, refl, subst, ◌∙◌}
 use Rattle.std.specs.Prelude.{IfOk, string_bytes}
-use Rattle.hh_lang.specs.Form.{ProgramText}
-use Rattle.run_trace.specs.Entry.{EntryValue}
-use Rattle.run_trace.specs.Settings.{SettingsValue}
-use Rattle.run_ledger.specs.declared.data.Report.{Report}
-use Rattle.run_ledger.specs.Journals.{ledger_of, opening}
-use Rattle.run_ledger.specs.Report.{report_of}
-use Rattle.run_ledger.specs.Text.{report_lines}
-use Rattle.run_report.specs.Totals.{report_from, totals_from}
-use Rattle.run_report.specs.Written.{report_part}
-use Rattle.run_report.proofs.Writing.{report_shown}
-use Rattle.shared_value.specs.SharedValue.{SharedValue, accounts}
-use Rattle.counted_tree.specs.Counts.{totals_of}
+use Rattle.made_program_laws.specs.below.hh_lang.{ProgramText}
+use Rattle.made_program_laws.specs.below.run_trace.{EntryValue, SettingsValue}
+use Rattle.race_report.specs.below.run_ledger.{Report, ledger_of, opening, report_of, report_lines}
+use Rattle.refusal_lines.specs.below.run_report.{report_from, totals_from, report_part}
+use Rattle.refusal_lines.proofs.below.run_report.{report_shown}
+use Rattle.world_core.specs.below.shared_value.{SharedValue, accounts}
+use Rattle.world_core.specs.below.counted_tree.{totals_of}
 use Rattle.command_answers.proofs.ended.report_lines.Goals as goal
 
 from_totals : (p : ProgramText) (s : SettingsValue) (journal : List EntryValue) → report_of p s journal ≡ report_from (ledger_of p s journal) (length journal) (totals_from p s (opening p s) journal)

@@ -1,10 +1,9 @@
 use Rattle.std.proofs.Common.{◌≡◌, ◌∙◌, ap, subst}
 use Rattle.std.specs.Prelude.{Some}
 use Rattle.std.proofs.lemmas.Result.{IfOk-weaker}
-use Rattle.run_ledger.specs.Journals.{first_refused}
+use Rattle.race_report.specs.below.run_ledger.{first_refused, RefusedAt}
 use Rattle.world_core.specs.Replay.{HasReplayed, IsStop, ReplayGives}
-use Rattle.run_ledger.specs.declared.data.RefusedAt.{RefusedAt}
-use Rattle.shared_value.specs.SharedValue.{SharedValue}
+use Rattle.world_core.specs.below.shared_value.{SharedValue}
 use Rattle.refusal_lines.specs.declared.refusal.Refusal.TheVariants.{Entry}
 use Rattle.command_answers.specs.Answers.{IsImaged, Refuses}
 use Rattle.command_answers.proofs.Imaged.{imaged}

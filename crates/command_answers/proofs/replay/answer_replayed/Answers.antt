@@ -1,7 +1,7 @@
 use Rattle.std.proofs.Common.{subst, sym}
 use Rattle.std.specs.Prelude.{IfOk, Result}
-use Rattle.shared_value.specs.SharedValue.{SharedValue}
-use Rattle.run_ledger.specs.Journals.{refused_as_run}
+use Rattle.world_core.specs.below.shared_value.{SharedValue}
+use Rattle.race_report.specs.below.run_ledger.{refused_as_run}
 use Rattle.world_core.specs.WorldValue.{WorldValue}
 use Rattle.world_core.specs.declared.replaying.ReplayStop.{ReplayStop}
 use Rattle.command_answers.specs.Answers.{AnswersReplayed, WhereWhole}

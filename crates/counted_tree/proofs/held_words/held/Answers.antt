@@ -1,11 +1,9 @@
 use Rattle.std.proofs.Common.{◌≡◌, ℕ, Option, List, arith, length, length-append, ap, sym, ◌∙◌}
 use Rattle.std.proofs.lemmas.List.Sums.{sum_by-append}
-use Rattle.run_ledger.specs.declared.data.Ledger.{Ledger}
-use Rattle.run_ledger.specs.Heaps.{words_at, words_sum}
-use Rattle.run_ledger.specs.Report.{held_not_running}
-use Rattle.alloc_path.specs.LeafHeapValue.{counted}
-use Rattle.task_homes.specs.declared.task_at_rest.Rest.{Rest}
-use Rattle.shared_value.specs.SharedValue.{SharedValue, accounts}
+use Rattle.heap_reading.specs.below.run_ledger.{Ledger, words_at, words_sum, held_not_running}
+use Rattle.heap_reading.specs.below.alloc_path.{counted}
+use Rattle.heap_reading.specs.below.task_homes.{Rest}
+use Rattle.heap_reading.specs.below.shared_value.{SharedValue, accounts}
 use Rattle.heap_reading.specs.HeldNames.{held_unless_running}
 use Rattle.heap_reading.proofs.KeptNames.{counted_few, counted_more, homes_few, kept_before, kept_homes, kept_more, objects_few, words_few}
 use Rattle.counted_tree.proofs.held_words.held.Goals as goal

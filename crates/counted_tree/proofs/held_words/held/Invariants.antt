@@ -1,7 +1,7 @@
 use Rattle.std.proofs.Common.{◌≡◌, length}
-use Rattle.run_ledger.specs.Heaps.{words_sum}
-use Rattle.alloc_path.specs.LeafHeapValue.{counted}
-use Rattle.shared_value.specs.SharedValue.{accounts}
+use Rattle.heap_reading.specs.below.run_ledger.{words_sum}
+use Rattle.heap_reading.specs.below.alloc_path.{counted}
+use Rattle.heap_reading.specs.below.shared_value.{accounts}
 use Rattle.heap_reading.proofs.KeptNames.{kept_before}
 use Rattle.counted_tree.proofs.held_words.held.Given as goal
 

@@ -1,11 +1,10 @@
 use Rattle.std.proofs.Common.{◌≡◌, true, false, Option, None, Some, List, length, option_copied, slice_get, ap, sym, ◌∙◌}
-use Rattle.hh_model.specs.declared.data.Name.{Name}
-use Rattle.hh_model.specs.Step.{is_running}
-use Rattle.run_ledger.specs.Heaps.{words_sum}
-use Rattle.alloc_path.specs.LeafHeapValue.{counted}
-use Rattle.heap_tree.specs.Node.{Node, state_of}
-use Rattle.task_homes.specs.declared.task_at_rest.Rest.{Rest}
-use Rattle.shared_value.specs.SharedValue.{SharedValue, accounts, rest_at}
+use Rattle.heap_reading.specs.below.hh_model.{Name, is_running}
+use Rattle.heap_reading.specs.below.run_ledger.{words_sum}
+use Rattle.heap_reading.specs.below.alloc_path.{counted}
+use Rattle.heap_reading.specs.below.heap_tree.{Node, state_of}
+use Rattle.heap_reading.specs.below.task_homes.{Rest}
+use Rattle.heap_reading.specs.below.shared_value.{SharedValue, accounts, rest_at}
 use Rattle.heap_reading.specs.HeldNames.{is_state_running}
 use Rattle.heap_reading.proofs.KeptNames.{none_of, nothing_kept, objects_are, runs_is, words_kept}
 use Rattle.counted_tree.proofs.held_words.held_of.Goals as goal

@@ -1,12 +1,11 @@
 use Rattle.std.proofs.Common.{◌≡◌, ◌≤◌, false, Option, None, List, arith, length, option_map, slice_get, ap, sym, ◌∙◌}
 use Rattle.std.specs.Option.{option_flatten}
-use Rattle.listed.proofs.Members.{got_past}
-use Rattle.hh_model.specs.declared.data.Name.{Name}
-use Rattle.hh_model.specs.Step.{is_running}
-use Rattle.run_ledger.specs.Heaps.{words_sum}
-use Rattle.alloc_path.specs.LeafHeapValue.{counted}
-use Rattle.task_homes.specs.declared.task_at_rest.Rest.{Rest}
-use Rattle.shared_value.specs.SharedValue.{SharedValue, accounts, rest_at}
+use Rattle.heap_reading.proofs.below.listed.{got_past}
+use Rattle.heap_reading.specs.below.hh_model.{Name, is_running}
+use Rattle.heap_reading.specs.below.run_ledger.{words_sum}
+use Rattle.heap_reading.specs.below.alloc_path.{counted}
+use Rattle.heap_reading.specs.below.task_homes.{Rest}
+use Rattle.heap_reading.specs.below.shared_value.{SharedValue, accounts, rest_at}
 use Rattle.heap_reading.specs.HeldNames.{is_state_running}
 use Rattle.heap_reading.proofs.KeptNames.{nothing_kept, runs_is}
 use Rattle.counted_tree.proofs.held_words.words_held.Goals as goal

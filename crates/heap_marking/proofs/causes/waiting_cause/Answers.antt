@@ -1,9 +1,8 @@
 use Rattle.std.proofs.Common.{◌≡◌, ℕ, Bool, true, false, Option, Some, None, List, slice_get, refl, sym, ap, ap₂, ◌∙◌}
-use Rattle.run_ledger.specs.declared.data.Refused.TheVariants.{NotWaiting, Swept}
-use Rattle.run_ledger.specs.Entries.{refused_unless}
-use Rattle.heap_tree.specs.Node.{Node, state_of}
-use Rattle.write_barrier.specs.declared.sets.SetOf.{SetOf}
-use Rattle.task_homes.specs.HomesValue.{keeps_of}
+use Rattle.shared_value.specs.below.run_ledger.{NotWaiting, Swept, refused_unless}
+use Rattle.shared_value.specs.below.heap_tree.{Node, state_of}
+use Rattle.shared_value.specs.below.write_barrier.{SetOf}
+use Rattle.shared_value.specs.below.task_homes.{keeps_of}
 use Rattle.shared_value.specs.SharedValue.{noted_in}
 use Rattle.heap_marking.specs.MarkCauses.{is_state_waiting, waiting_cause_in}
 use Rattle.heap_marking.proofs.causes.waiting_cause.Goals as goal

@@ -1,9 +1,9 @@
 use Rattle.std.proofs.Common.{◌≡◌, ◌≤◌, ◌&&◌, ℕ, not, false, List, Option, option_map, length, inl, inr, arith, below_more, ap, sym, ◌∙◌}
 use Rattle.std.proofs.lemmas.Bool.{cases_lt}
-use Rattle.listed.proofs.Members.{got_past}
-use Rattle.heap_tree.specs.Node.{Node, parent_in}
+use Rattle.shared_value.proofs.below.listed.{got_past}
+use Rattle.shared_value.specs.below.heap_tree.{Node, parent_in}
 use Rattle.heap_marking.specs.Pace.{is_live_child, is_state_joined}
-use Rattle.listed.specs.Options.{option_is}
+use Rattle.shared_value.specs.below.listed.{option_is}
 use Rattle.heap_marking.proofs.forks.live_child.Goals as goal
 
 unmade_child : (tree : List Node) (t c : ℕ) → length tree ≤ c → is_live_child tree t c ≡ false

@@ -1,10 +1,9 @@
 use Rattle.std.proofs.Common.{ℕ, ◌<◌, ◌++◌, List, Option, arith, length, length-append, append_assoc, take, ap, sym, ◌∙◌}
 use Rattle.std.specs.List.{flat_map}
-use Rattle.object_layout.specs.declared.word.Addr.{Addr}
-use Rattle.task_frames.specs.declared.frames.Frame.{Frame}
-use Rattle.task_frames.specs.FramesValue.{frames_of, references_of}
-use Rattle.remembered_set.specs.Moved.{into}
-use Rattle.leaf_copy_gc.specs.Survivors.{frame_references}
+use Rattle.shared_value.specs.below.object_layout.{Addr}
+use Rattle.shared_value.specs.below.task_frames.{Frame, frames_of, references_of}
+use Rattle.shared_value.specs.below.remembered_set.{into}
+use Rattle.shared_value.specs.below.leaf_copy_gc.{frame_references}
 use Rattle.heap_marking.proofs.FrameReferences.{frames_more}
 use Rattle.heap_marking.proofs.starts.push_registers.Goals as goal
 

@@ -1,8 +1,8 @@
 use Rattle.std.proofs.Common.{◌≡◌, ◌++◌, take}
 use Rattle.std.specs.List.{flat_map}
-use Rattle.task_frames.specs.FramesValue.{frames_of}
-use Rattle.remembered_set.specs.Moved.{into}
-use Rattle.leaf_copy_gc.specs.Survivors.{frame_references}
+use Rattle.shared_value.specs.below.task_frames.{frames_of}
+use Rattle.shared_value.specs.below.remembered_set.{into}
+use Rattle.shared_value.specs.below.leaf_copy_gc.{frame_references}
 use Rattle.heap_marking.proofs.starts.push_registers.Given as goal
 
 abbrev pub invariant-loop-frame : goal.invariant-loop-frame

@@ -1,10 +1,9 @@
 use Rattle.std.proofs.Common.{◌≡◌, ℕ, List, Option, Some, None, slice_set, ap, sym, subst, ◌∙◌}
 use Rattle.std.proofs.lemmas.Option.{same_Some}
 use Rattle.std.proofs.lemmas.List.{set-set}
-use Rattle.alloc_path.specs.LeafHeapValue.{LeafHeapValue}
-use Rattle.inner_mark_gc.specs.MarkingValue.{MarkingValue}
-use Rattle.task_homes.specs.HomesValue.{HomesValue, marks_at, rest_at}
-use Rattle.task_homes.specs.declared.task_at_rest.Rest.{Rest}
+use Rattle.shared_value.specs.below.alloc_path.{LeafHeapValue}
+use Rattle.shared_value.specs.below.inner_mark_gc.{MarkingValue}
+use Rattle.shared_value.specs.below.task_homes.{HomesValue, marks_at, rest_at, Rest}
 use Rattle.heap_marking.specs.Sweeping.{SweepsHome}
 use Rattle.heap_marking.proofs.sweep.drop_unmarked.Goals as goal
 

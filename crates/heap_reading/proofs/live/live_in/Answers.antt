@@ -1,6 +1,6 @@
 use Rattle.std.proofs.Common.{◌≡◌, ℕ, ◌+◌, ◌<◌, ◌≤◌, List, refl, subst, sym, ◌∙◌, arith, length}
 use Rattle.std.proofs.lemmas.Option.{slice_get_within}
-use Rattle.heap_tree.specs.Node.{Node}
+use Rattle.shared_value.specs.below.heap_tree.{Node}
 use Rattle.heap_reading.specs.declared.live.Live.{Live}
 use Rattle.heap_reading.specs.Image.{AreAll, IsLiveIn, LiveBefore}
 use Rattle.heap_reading.proofs.LiveRead.{all_below, live_once, one_below, skip_below}

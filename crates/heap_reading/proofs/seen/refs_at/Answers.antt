@@ -1,8 +1,5 @@
 use Rattle.std.proofs.Common.{◌^◌, ◌<◌, ap, ◌∙◌, IfSome, Option, Some, None, ◌++◌, ◌∷◌, [], sym, map, take}
-use Rattle.object_layout.specs.Cell.{IsPlace, IsRef}
-use Rattle.object_layout.specs.declared.word.Addr.{Addr}
-use Rattle.object_layout.specs.Layout.{word_of_ref}
-use Rattle.object_layout.specs.Place.{object_at}
+use Rattle.shared_value.specs.below.object_layout.{IsPlace, IsRef, Addr, word_of_ref, object_at}
 use Rattle.heap_reading.proofs.ObjectsRead.{all_next, map_next}
 use Rattle.heap_reading.proofs.seen.refs_at.Goals as goal
 

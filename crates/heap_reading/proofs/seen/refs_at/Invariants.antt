@@ -1,7 +1,5 @@
 use Rattle.std.proofs.Common.{◌≡◌, All, map, take}
-use Rattle.object_layout.specs.Cell.{IsRef}
-use Rattle.object_layout.specs.Layout.{word_of_ref}
-use Rattle.object_layout.specs.Place.{object_at}
+use Rattle.shared_value.specs.below.object_layout.{IsRef, word_of_ref, object_at}
 use Rattle.heap_reading.proofs.seen.refs_at.Given as goal
 
 abbrev pub invariant-loop-field : goal.invariant-loop-field

@@ -1,8 +1,6 @@
 use Rattle.std.proofs.Common.{◌≡◌, ◌-◌, ◌<◌, ◌≤◌, ◌⊎◌, ◌++◌, All, None, map}
-use Rattle.object_layout.specs.Cell.{moved_to}
-use Rattle.object_layout.specs.Place.{IsCellAt, cells_from}
-use Rattle.object_layout.specs.Objects.{Located, objects_from}
-use Rattle.core_relation.specs.Memory.{In}
+use Rattle.shared_value.specs.below.object_layout.{moved_to, IsCellAt, cells_from, Located, objects_from}
+use Rattle.shared_value.specs.below.core_relation.{In}
 use Rattle.heap_reading.specs.Image.{IsInWords, in_words}
 use Rattle.heap_reading.proofs.seen.seen_in.Given as goal
 

@@ -1,5 +1,5 @@
 use Rattle.std.proofs.Common.{◌≡◌, ◌≤◌, ◌+◌, ◌++◌, length, map, take}
-use Rattle.object_layout.specs.ChunkValue.{number_of}
+use Rattle.shared_value.specs.below.object_layout.{number_of}
 use Rattle.leaf_collections.proofs.leaf_begin.note_numbers.Given as goal
 
 abbrev pub invariant-loop-chunk : goal.invariant-loop-chunk

@@ -3,7 +3,7 @@ use Rattle.std.specs.Prelude.{reverse}
 use Rattle.std.specs.List.Sorted.{IsNonDecreasingBy, IsPermutation}
 use Rattle.std.proofs.lemmas.List.{reverse-reverse}
 use Rattle.std.proofs.lemmas.List.Sorted.{IsNonDecreasingBy-from_sort_by_key, IsPermutation-reverse, IsPermutation-trans}
-use Rattle.object_layout.specs.ChunkValue.{ChunkValue}
+use Rattle.shared_value.specs.below.object_layout.{ChunkValue}
 use Rattle.leaf_collections.proofs.leaf_begin.put_falling.Goals as goal
 
 pub returns-clause-permutation : goal.returns-clause-permutation

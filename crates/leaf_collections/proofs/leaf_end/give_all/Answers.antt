@@ -4,11 +4,11 @@ use Rattle.std.proofs.lemmas.List.Elements.{All-cons, All-get_or, All-nil}
 use Rattle.std.proofs.lemmas.Iterator.Consumers.{YieldsList-turn}
 use Rattle.std.proofs.lemmas.Iterator.Adapters.{YieldsList-from_vec}
 use Rattle.std.specs.Prelude.{IsSome}
-use Rattle.object_layout.specs.ChunkValue.{ChunkValue}
-use Rattle.chunk_pool.specs.PoolValue.{slot_at}
-use Rattle.alloc_path.specs.LeafHeapValue.{IsFresh}
-use Rattle.alloc_path.proofs.HeapLemmas.{apart_before}
-use Rattle.inner_mark_gc.proofs.Giving.{given_both, given_one}
+use Rattle.shared_value.specs.below.object_layout.{ChunkValue}
+use Rattle.shared_value.specs.below.chunk_pool.{slot_at}
+use Rattle.shared_value.specs.below.alloc_path.{IsFresh}
+use Rattle.shared_value.proofs.below.alloc_path.{apart_before}
+use Rattle.shared_value.proofs.below.inner_mark_gc.{given_both, given_one}
 use Rattle.leaf_collections.proofs.leaf_end.give_all.Goals as goal
 
 pub give-requires : goal.give-requires

@@ -1,5 +1,5 @@
 use Rattle.std.proofs.Common.{◌≡◌, length, take}
-use Rattle.inner_mark_gc.specs.Swept.{AreGiven}
+use Rattle.shared_value.specs.below.inner_mark_gc.{AreGiven}
 use Rattle.leaf_collections.proofs.leaf_end.give_all.Given as goal
 
 abbrev pub invariant-loop-chunk : goal.invariant-loop-chunk

@@ -1,7 +1,7 @@
 use Rattle.std.proofs.Common.{List, subst}
-use Rattle.heap_tree.specs.Node.{Node}
-use Rattle.heap_marking.specs.Pace.{IsForkIn}
-use Rattle.heap_marking.proofs.ForksTold.{fork_is}
+use Rattle.counted_tree.specs.below.heap_tree.{Node}
+use Rattle.counted_tree.specs.below.heap_marking.{IsForkIn}
+use Rattle.counted_tree.proofs.below.heap_marking.{fork_is}
 use Rattle.paced_tree.proofs.forks_of.fork_of.Goals as goal
 
 pub returns : goal.returns

@@ -1,13 +1,12 @@
 use Rattle.std.proofs.Common.{◌≡◌, ℕ, Bool, true, false, not, Option, Some, None, List, is_none, is_some, refl, ap, sym, ◌∙◌}
 use Rattle.std.proofs.lemmas.Bool.{false≢true}
-use Rattle.hh_model.specs.Step.{joined}
-use Rattle.run_ledger.specs.declared.data.Refused.{Refused}
-use Rattle.heap_tree.specs.Node.{Node, state_of}
-use Rattle.write_barrier.specs.declared.sets.SetOf.{SetOf}
-use Rattle.shared_value.specs.SharedValue.{SharedValue, accounts}
-use Rattle.heap_marking.specs.MarkCauses.{waiting_cause, waiting_cause_in}
-use Rattle.heap_marking.specs.Pace.{is_state_joined}
-use Rattle.heap_marking.proofs.ForksTold.{goes_free, joined_is, joined_stops}
+use Rattle.counted_tree.specs.below.hh_model.{joined}
+use Rattle.counted_tree.specs.below.run_ledger.{Refused}
+use Rattle.counted_tree.specs.below.heap_tree.{Node, state_of}
+use Rattle.counted_tree.specs.below.write_barrier.{SetOf}
+use Rattle.counted_tree.specs.below.shared_value.{SharedValue, accounts}
+use Rattle.counted_tree.specs.below.heap_marking.{waiting_cause, waiting_cause_in, is_state_joined}
+use Rattle.counted_tree.proofs.below.heap_marking.{goes_free, joined_is, joined_stops}
 use Rattle.paced_tree.proofs.forks_of.is_going.Goals as goal
 
 none_is : (o : Option Refused) (b : Bool) → is_some o ≡ not b → b ≡ is_none o

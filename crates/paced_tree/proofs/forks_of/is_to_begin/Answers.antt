@@ -1,9 +1,9 @@
 use Rattle.std.proofs.Common.{Option, List, nat_le, is_some, ap, ap₂, sym, ◌∙◌}
-use Rattle.listed.proofs.Options.{some_map}
-use Rattle.run_trace.specs.Settings.{SettingsValue}
-use Rattle.inner_mark_gc.specs.MarkingValue.{MarkingValue}
-use Rattle.shared_value.specs.SharedValue.{marks_at}
-use Rattle.heap_marking.proofs.ForksTold.{begin_stops, begin_counted, begin_marked}
+use Rattle.counted_tree.proofs.below.listed.{some_map}
+use Rattle.counted_tree.specs.below.run_trace.{SettingsValue}
+use Rattle.counted_tree.specs.below.inner_mark_gc.{MarkingValue}
+use Rattle.counted_tree.specs.below.shared_value.{marks_at}
+use Rattle.counted_tree.proofs.below.heap_marking.{begin_stops, begin_counted, begin_marked}
 use Rattle.paced_tree.proofs.forks_of.is_to_begin.Goals as goal
 
 pub returns-then-is_going : goal.returns-then-is_going

@@ -1,4 +1,4 @@
-use Rattle.shared_value.specs.SharedValue.{accounts}
+use Rattle.counted_tree.specs.below.shared_value.{accounts}
 use Rattle.paced_tree.proofs.Noted.{steps_noted}
 use Rattle.paced_tree.proofs.noting.after_ran.Goals as goal
 

@@ -1,7 +1,6 @@
 use Rattle.std.proofs.Common.{ap, refl, sym, arith, ◌∙◌}
-use Rattle.shared_value.specs.SharedValue.{accounts}
-use Rattle.heap_marking.proofs.PaceKeeps.{keeps_items}
-use Rattle.heap_marking.proofs.PaceOwes.{drop_keeps}
+use Rattle.counted_tree.specs.below.shared_value.{accounts}
+use Rattle.counted_tree.proofs.below.heap_marking.{keeps_items, drop_keeps}
 use Rattle.paced_tree.proofs.owing.forget.Goals as goal
 
 pub returns-in_default-clause-keeps : goal.returns-in_default-clause-keeps

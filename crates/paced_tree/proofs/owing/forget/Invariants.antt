@@ -1,7 +1,7 @@
 use Rattle.std.proofs.Common.{◌≤◌}
-use Rattle.run_ledger.specs.declared.data.WorkerPace.{WorkerPace}
-use Rattle.shared_value.specs.SharedValue.{accounts}
-use Rattle.heap_marking.specs.Pace.{KeepsPace}
+use Rattle.counted_tree.specs.below.run_ledger.{WorkerPace}
+use Rattle.counted_tree.specs.below.shared_value.{accounts}
+use Rattle.counted_tree.specs.below.heap_marking.{KeepsPace}
 use Rattle.paced_tree.proofs.owing.forget.Given as goal
 
 abbrev pub invariant-loop : goal.invariant-loop

@@ -1,9 +1,8 @@
 use Rattle.std.proofs.Common.{◌≡◌, ◌-◌, ◌<◌, ℕ, Some, false, length, slice_get, inl, inr, ap, sym, subst, arith, get_or, ◌∙◌}
 use Rattle.std.proofs.lemmas.Bool.{cases_eq}
 use Rattle.std.proofs.lemmas.Option.{same_Some, slice_get-get_or}
-use Rattle.shared_value.specs.SharedValue.{accounts}
-use Rattle.heap_marking.specs.declared.pace.Fork.{Fork}
-use Rattle.heap_marking.specs.Pace.{is_going}
+use Rattle.counted_tree.specs.below.shared_value.{accounts}
+use Rattle.counted_tree.specs.below.heap_marking.{Fork, is_going}
 use Rattle.paced_tree.proofs.owing.last_going.Goals as goal
 
 pub loop-i-preserved : goal.loop-i-preserved

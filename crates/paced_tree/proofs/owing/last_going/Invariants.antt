@@ -1,7 +1,6 @@
 use Rattle.std.proofs.Common.{◌≡◌, ◌-◌, ◌≤◌, ℕ, Some, false, length, slice_get}
-use Rattle.shared_value.specs.SharedValue.{accounts}
-use Rattle.heap_marking.specs.declared.pace.Fork.{Fork}
-use Rattle.heap_marking.specs.Pace.{is_going}
+use Rattle.counted_tree.specs.below.shared_value.{accounts}
+use Rattle.counted_tree.specs.below.heap_marking.{Fork, is_going}
 use Rattle.paced_tree.proofs.owing.last_going.Given as goal
 
 abbrev pub invariant-loop-i : goal.invariant-loop-i

@@ -1,10 +1,8 @@
 use Rattle.std.proofs.Common.{cond, ap, sym, subst, ◌∙◌}
-use Rattle.run_ledger.specs.declared.data.Owed.TheVariants.{Mark as OwesMark}
-use Rattle.run_ledger.specs.Pace.{owed_to_marks}
-use Rattle.shared_value.specs.SharedValue.{accounts}
-use Rattle.heap_marking.specs.declared.pace.PreviousKind.TheVariants.{Forked, Ran}
-use Rattle.heap_marking.specs.Pace.{KeepsPrevious}
-use Rattle.heap_marking.proofs.PaceOwes.{owed_is}
+use Rattle.counted_tree.specs.below.run_ledger.{Mark as OwesMark, owed_to_marks}
+use Rattle.counted_tree.specs.below.shared_value.{accounts}
+use Rattle.counted_tree.specs.below.heap_marking.{Forked, Ran, KeepsPrevious}
+use Rattle.counted_tree.proofs.below.heap_marking.{owed_is}
 use Rattle.paced_tree.proofs.owing.owed.Goals as goal
 
 pub returns-in-Ran : goal.returns-in-Ran

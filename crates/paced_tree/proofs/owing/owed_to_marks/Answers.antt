@@ -1,17 +1,13 @@
 use Rattle.std.proofs.Common.{◌≡◌, ℕ, Bool, cond, Option, Some, None, List, ap, subst, sym, ◌∙◌}
 use Rattle.std.specs.Prelude.{is_some}
 use Rattle.std.proofs.lemmas.Bool.{false≢true}
-use Rattle.run_ledger.specs.declared.data.Ledger.{Ledger}
-use Rattle.run_ledger.specs.declared.data.Owed.TheVariants.{Sweep, More}
-use Rattle.heap_tree.specs.Node.{Node}
-use Rattle.write_barrier.specs.declared.sets.SetOf.{SetOf}
-use Rattle.inner_mark_gc.specs.MarkingValue.{MarkingValue}
-use Rattle.shared_value.specs.SharedValue.{SharedValue, accounts}
-use Rattle.heap_marking.specs.MarkCauses.{marking_cause, marking_cause_in}
-use Rattle.heap_marking.specs.declared.pace.Fork.{Fork}
-use Rattle.heap_marking.specs.Pace.{IsLastGoing}
-use Rattle.heap_marking.proofs.PaceOwes.{owed_marks}
-use Rattle.heap_marking.proofs.ForksTold.{marked_free}
+use Rattle.counted_tree.specs.below.run_ledger.{Ledger, Sweep, More}
+use Rattle.counted_tree.specs.below.heap_tree.{Node}
+use Rattle.counted_tree.specs.below.write_barrier.{SetOf}
+use Rattle.counted_tree.specs.below.inner_mark_gc.{MarkingValue}
+use Rattle.counted_tree.specs.below.shared_value.{SharedValue, accounts}
+use Rattle.counted_tree.specs.below.heap_marking.{marking_cause, marking_cause_in, Fork, IsLastGoing}
+use Rattle.counted_tree.proofs.below.heap_marking.{owed_marks, marked_free}
 use Rattle.paced_tree.proofs.owing.owed_to_marks.Goals as goal
 
 pub returns-in_default : goal.returns-in_default

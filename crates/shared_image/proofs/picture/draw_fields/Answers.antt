@@ -1,8 +1,8 @@
 use Rattle.std.proofs.Common.{◌++◌, None, get_or, map, ap, ◌∙◌}
 use Rattle.std.proofs.lemmas.Option.{slice_get-get_or}
-use Rattle.heap_tree.specs.declared.state.State.TheVariants.{Ready}
-use Rattle.shared_value.specs.SharedValue.{SharedValue}
-use Rattle.heap_reading.specs.declared.live.Live.{Live}
+use Rattle.tree_reading.specs.below.heap_tree.{Ready}
+use Rattle.tree_reading.specs.below.shared_value.{SharedValue}
+use Rattle.tree_reading.specs.below.heap_reading.{Live}
 use Rattle.shared_image.specs.Drawn.{drawn_field}
 use Rattle.shared_image.proofs.Rounds.{fields_step}
 use Rattle.shared_image.proofs.picture.draw_fields.Goals as goal

@@ -1,5 +1,5 @@
 use Rattle.std.proofs.Common.{take}
-use Rattle.heap_reading.specs.Image.{AreAll}
+use Rattle.tree_reading.specs.below.heap_reading.{AreAll}
 use Rattle.heap_image.specs.Picture.{FieldBefore}
 use Rattle.shared_image.specs.Drawing.{AreFieldsOf}
 use Rattle.shared_image.proofs.picture.draw_fields.Given as goal

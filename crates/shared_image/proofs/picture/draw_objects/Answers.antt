@@ -1,7 +1,7 @@
 use Rattle.std.proofs.Common.{◌++◌, map, take_all, ap, sym, subst, ◌∙◌}
 use Rattle.std.proofs.lemmas.Option.{slice_get-get_or}
-use Rattle.core_relation.specs.Memory.{In}
-use Rattle.shared_value.specs.SharedValue.{SharedValue}
+use Rattle.tree_reading.specs.below.core_relation.{In}
+use Rattle.tree_reading.specs.below.shared_value.{SharedValue}
 use Rattle.shared_image.specs.Drawn.{drawn_object}
 use Rattle.shared_image.proofs.Rounds.{objects_step, words_all, words_step}
 use Rattle.shared_image.proofs.picture.draw_objects.Goals as goal

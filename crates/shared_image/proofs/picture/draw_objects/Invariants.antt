@@ -1,7 +1,6 @@
 use Rattle.std.proofs.Common.{take}
-use Rattle.core_relation.specs.Memory.{In}
-use Rattle.heap_reading.specs.declared.live.InUse.{InUse}
-use Rattle.heap_reading.specs.Image.{AreAll, AreInWords, objects_of}
+use Rattle.tree_reading.specs.below.core_relation.{In}
+use Rattle.tree_reading.specs.below.heap_reading.{InUse, AreAll, AreInWords, objects_of}
 use Rattle.heap_image.specs.Picture.{ObjectBefore}
 use Rattle.shared_image.specs.Drawing.{AreObjectsOf}
 use Rattle.shared_image.proofs.picture.draw_objects.Given as goal

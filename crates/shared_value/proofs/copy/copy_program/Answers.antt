@@ -1,7 +1,6 @@
 use Rattle.std.proofs.Common.{◌≡◌, ℕ, ◌++◌, ◌∷◌, [], List, ap₂, sym, subst, take_all, ◌∙◌}
 use Rattle.std.proofs.lemmas.List.{take_more}
-use Rattle.hh_lang.specs.declared.program.Fun.{Fun}
-use Rattle.hh_lang.specs.Form.{IsProgram}
+use Rattle.core_relation.specs.below.hh_lang.{Fun, IsProgram}
 use Rattle.shared_value.proofs.copy.copy_program.Goals as goal
 
 pub loop-i-preserved : goal.loop-i-preserved

@@ -1,10 +1,8 @@
 use Rattle.std.proofs.Common.{◌≡◌, Option, Some, None, List, [], IfSome, ap, ◌∙◌, sym, subst, false, option_map, option_copied, true, if◌then◌else◌}
-use Rattle.chunk_pool.specs.declared.pool.Slot.{Slot}
-use Rattle.chunk_pool.specs.PoolValue.{PoolValue, owner_of}
-use Rattle.heap_tree.specs.Node.{Node, state_of}
-use Rattle.task_homes.specs.declared.task_at_rest.Rest.{Rest}
-use Rattle.shared_value.specs.Objects.{chunk_of, chunks_of}
-use Rattle.shared_value.specs.SharedValue.{SharedValue, rest_at, value_of}
+use Rattle.heap_reading.specs.below.chunk_pool.{Slot, PoolValue, owner_of}
+use Rattle.heap_reading.specs.below.heap_tree.{Node, state_of}
+use Rattle.heap_reading.specs.below.task_homes.{Rest}
+use Rattle.heap_reading.specs.below.shared_value.{chunk_of, chunks_of, SharedValue, rest_at, value_of}
 use Rattle.heap_reading.specs.HeldNames.{is_state_running}
 use Rattle.heap_reading.specs.Image.{objects_of, objects_numbered, objects_owned}
 use Rattle.heap_reading.proofs.ObjectsRead.{none_numbered, resting_objects, some_numbered}

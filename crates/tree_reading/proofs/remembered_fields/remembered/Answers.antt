@@ -1,10 +1,10 @@
 use Rattle.std.proofs.Common.{◌≡◌, ◌<◌, arith, ap, sym, ◌∙◌, subst, Some, List, slice_get, length, map}
-use Rattle.listed.proofs.Places.{got_some}
-use Rattle.heap_tree.specs.Node.{Node}
-use Rattle.remembered_set.specs.Sources.{StandOnce}
-use Rattle.write_barrier.specs.declared.sets.SetOf.{SetOf}
-use Rattle.task_homes.specs.HomesValue.{sources_of}
-use Rattle.shared_value.specs.SharedValue.{SharedValue}
+use Rattle.heap_reading.proofs.below.listed.{got_some}
+use Rattle.heap_reading.specs.below.heap_tree.{Node}
+use Rattle.heap_reading.specs.below.remembered_set.{StandOnce}
+use Rattle.heap_reading.specs.below.write_barrier.{SetOf}
+use Rattle.heap_reading.specs.below.task_homes.{sources_of}
+use Rattle.heap_reading.specs.below.shared_value.{SharedValue}
 use Rattle.heap_reading.specs.Image.{AreAll, FieldBefore, IsNoted, field_of}
 use Rattle.heap_reading.proofs.FieldsRead.{noted_in_order}
 use Rattle.tree_reading.proofs.remembered_fields.remembered.Goals as goal

@@ -1,5 +1,5 @@
 use Rattle.std.proofs.Common.{ℕ, ◌+◌, ◌<◌, List, refl, subst, sym, ◌∙◌}
-use Rattle.shared_value.specs.SharedValue.{SharedValue}
+use Rattle.heap_reading.specs.below.shared_value.{SharedValue}
 use Rattle.heap_reading.specs.declared.live.InUse.{InUse}
 use Rattle.heap_reading.specs.Image.{AreAll, InUseBefore, IsInUse}
 use Rattle.heap_reading.proofs.LiveRead.{chunk_once, one_below, skip_below}

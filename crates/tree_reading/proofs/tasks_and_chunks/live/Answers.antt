@@ -1,5 +1,5 @@
 use Rattle.std.proofs.Common.{List, IfOk, subst}
-use Rattle.heap_tree.specs.Node.{Node}
+use Rattle.heap_reading.specs.below.heap_tree.{Node}
 use Rattle.heap_reading.specs.Image.{AreAll, IsLiveIn, LiveBefore}
 use Rattle.tree_reading.proofs.tasks_and_chunks.live.Goals as goal
 

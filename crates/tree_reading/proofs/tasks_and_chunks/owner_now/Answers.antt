@@ -1,13 +1,10 @@
 use Rattle.std.proofs.Common.{◌≡◌, ◌∙◌, ℕ, Option, Some, None, List, true, false, refl, sym, ap}
 use Rattle.std.proofs.lemmas.Bool.{false≢true}
-use Rattle.hh_model.specs.Step.{joined, parents}
-use Rattle.heap_tree.specs.declared.state.State.{State}
-use Rattle.heap_tree.specs.declared.state.State.TheVariants.{Ready, Out, Waiting, Ended, Joined}
-use Rattle.heap_tree.specs.Node.{Node, parent_of, state_of}
-use Rattle.shared_value.specs.Stands.{IsSharedValue}
-use Rattle.shared_value.specs.SharedValue.{SharedValue, accounts}
-use Rattle.shared_value.proofs.TaskTaken.{parent_is}
-use Rattle.heap_marking.specs.Pace.{is_state_joined}
+use Rattle.heap_reading.specs.below.hh_model.{joined, parents}
+use Rattle.heap_reading.specs.below.heap_tree.{State, Ready, Out, Waiting, Ended, Joined, Node, parent_of, state_of}
+use Rattle.heap_reading.specs.below.shared_value.{IsSharedValue, SharedValue, accounts}
+use Rattle.heap_reading.proofs.below.shared_value.{parent_is}
+use Rattle.shared_tree.specs.below.heap_marking.{is_state_joined}
 use Rattle.heap_reading.proofs.TreeNow.{owner_live, owner_up, told_joined, told_live, tree_of}
 use Rattle.tree_reading.proofs.tasks_and_chunks.owner_now.Goals as goal
 

@@ -1,8 +1,7 @@
 use Rattle.std.proofs.Common.{All, sym, subst, ◌∙◌}
-use Rattle.leaf_copy_gc.specs.Lists.{IsCollected}
-use Rattle.leaf_copy_gc.specs.Survivors.{IsSound, outside}
-use Rattle.task_machine.specs.declared.part.Private.{Private}
-use Rattle.leaf_collections.specs.LeafEnd.{FitsCopied}
+use Rattle.copied_part_laws.specs.below.leaf_copy_gc.{IsCollected, IsSound, outside}
+use Rattle.copied_part_laws.specs.below.task_machine.{Private}
+use Rattle.copied_part_laws.specs.below.leaf_collections.{FitsCopied}
 use Rattle.turn_entries.specs.declared.between_turns.Collecting.{Collecting}
 use Rattle.turn_entries.specs.Parts.{MayCopy}
 use Rattle.worker_run.proofs.Copying.{can_copy, copied, may_copy_at, may_copy_out, takes}

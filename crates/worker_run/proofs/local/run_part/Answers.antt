@@ -1,7 +1,7 @@
 use Rattle.std.proofs.Common.{subst, sym}
-use Rattle.task_machine.specs.declared.part.Private.{Private}
+use Rattle.copied_part_laws.specs.below.task_machine.{Private}
 use Rattle.turn_entries.specs.Parts.{AtSome, HasGrown, MayRun}
-use Rattle.shared_value.specs.SharedValue.{SharedValue}
+use Rattle.copied_part_laws.specs.below.shared_value.{SharedValue}
 use Rattle.worker_run.proofs.local.run_part.Goals as goal
 
 pub take_steps-requires-clause-may : goal.take_steps-requires-clause-may

@@ -1,6 +1,6 @@
 use Rattle.std.proofs.Common.{◌-◌, ◌+◌, ◌≤◌, arith, subst, sym}
-use Rattle.run_trace.specs.Entry.{private_limit}
-use Rattle.task_machine.specs.declared.part.Private.{Private}
+use Rattle.copied_part_laws.specs.below.run_trace.{private_limit}
+use Rattle.copied_part_laws.specs.below.task_machine.{Private}
 use Rattle.turn_entries.specs.Parts.{HasGrown}
 use Rattle.turn_entries.proofs.Stepping.{few_then, fits_some, grows}
 use Rattle.worker_run.proofs.local.take_steps.Goals as goal

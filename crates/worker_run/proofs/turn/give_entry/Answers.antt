@@ -1,4 +1,4 @@
-use Rattle.turn_lock.specs.Turn.{identity}
+use Rattle.turn_entries.specs.below.turn_lock.{identity}
 use Rattle.worker_run.proofs.Giving.{extends}
 use Rattle.worker_run.proofs.turn.give_entry.Goals as goal
 

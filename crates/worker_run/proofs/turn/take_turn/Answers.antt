@@ -1,7 +1,6 @@
 use Rattle.std.proofs.Common.{◌≡◌, refl, subst}
-use Rattle.hh_lang.specs.Form.{ProgramText}
-use Rattle.turn_lock.specs.Seats.{view}
-use Rattle.turn_lock.specs.Turn.{identity}
+use Rattle.copied_part_laws.specs.below.hh_lang.{ProgramText}
+use Rattle.turn_entries.specs.below.turn_lock.{view, identity}
 use Rattle.turn_entries.specs.Parts.{GoesWith}
 use Rattle.worker_run.specs.Desks.{IsDesk}
 use Rattle.worker_run.proofs.Giving.{alike, brings, has_entry, program_entered, takes_from}

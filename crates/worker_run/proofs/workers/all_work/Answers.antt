@@ -1,15 +1,15 @@
 use denote.Param.Send.{given_sync, sendable}
 use Rattle.std.proofs.Crossing as std
 use Rattle.std.proofs.MapsCrossing as maps
-use Rattle.hh_lang.proofs.program.Program.TheSendSync as program
+use Rattle.copied_part_laws.proofs.below.hh_lang.ProgramSendSync as program
 use Rattle.atomic_table.proofs.shared.Seat.TheSendSync as seat
-use Rattle.turn_lock.proofs.turn.Turn.TheSendSync as turn
-use Rattle.turn_lock.proofs.view.View.TheSendSync as seen
+use Rattle.turn_entries.proofs.below.turn_lock.TurnSendSync as turn
+use Rattle.turn_entries.proofs.below.turn_lock.ViewSendSync as seen
 use Rattle.steal_scheduler.proofs.hand.Hand.TheSendSync as hand
 use Rattle.worker_run.proofs.bell.Bell.TheSendSync as bell
 use Rattle.std.proofs.Common.{rules, ◌≡◌, ◌<◌, length, refl, ◌∙◌, subst}
 use Rattle.std.proofs.lemmas.Option.{slice_get_read, get_or_from_slice_get, slice_get_within}
-use Rattle.turn_lock.specs.Turn.{identity}
+use Rattle.turn_entries.specs.below.turn_lock.{identity}
 use Rattle.worker_run.specs.contracts.desk.Desk as Desk
 use Rattle.turn_entries.specs.declared.between_turns.Next.TheVariants.{Idle, Stop}
 use Rattle.worker_run.specs.declared.desk.Desk.{Desk}

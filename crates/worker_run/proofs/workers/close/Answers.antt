@@ -1,6 +1,5 @@
 use Rattle.std.proofs.Common.{List, sym, subst}
-use Rattle.turn_lock.specs.Seats.{AreAllSeats}
-use Rattle.turn_lock.specs.Turn.{identity}
+use Rattle.turn_entries.specs.below.turn_lock.{AreAllSeats, identity}
 use Rattle.worker_run.proofs.Rows.{Chair, have_seen, of_each, program_at_end, settings_at_end}
 use Rattle.worker_run.proofs.workers.close.Goals as goal
 

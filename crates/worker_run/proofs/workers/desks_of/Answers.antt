@@ -1,5 +1,5 @@
 use Rattle.std.proofs.Common.{rules, List, suc, ◌≡◌, ◌+◌, ◌<◌, ◌++◌, ◌∷◌, [], ap, ◌∙◌, refl, map, length, length-append, subst, slice_get, Some, sym, arith, vec_len, ◌^◌, append-nil, replicate}
-use Rattle.turn_lock.proofs.SeatLists.{emptied}
+use Rattle.turn_entries.proofs.below.turn_lock.{emptied}
 use Rattle.steal_scheduler.specs.declared.hand.Hand.{Hand}
 use Rattle.steal_scheduler.specs.Hands.{thefts}
 use Rattle.worker_run.specs.declared.desk.Desk.{Desk}

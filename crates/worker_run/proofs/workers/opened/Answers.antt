@@ -1,6 +1,5 @@
 use Rattle.std.proofs.Common.{rules, ℕ, ◌≡◌, ◌<◌, ◌^◌, Some, refl, sym, ap, subst, vec_len, ◌∙◌}
-use Rattle.turn_lock.specs.Seats.{opening_view}
-use Rattle.turn_lock.specs.Turn.{identity}
+use Rattle.turn_entries.specs.below.turn_lock.{opening_view, identity}
 use Rattle.turn_entries.specs.declared.run.Run.{Run}
 use Rattle.turn_entries.specs.Values.{journal_of, setup_of}
 use Rattle.worker_run.specs.Desks.{AreHands}

@@ -1,6 +1,6 @@
 use Rattle.std.proofs.Common.{rules, ◌≡◌, ◌++◌, List, take, drop, length, ap, sym, subst, ◌∙◌}
-use Rattle.shared_value.specs.SharedValue.{SharedValue}
-use Rattle.turn_lock.specs.Turn.{identity}
+use Rattle.copied_part_laws.specs.below.shared_value.{SharedValue}
+use Rattle.turn_entries.specs.below.turn_lock.{identity}
 use Rattle.worker_run.specs.declared.desk.Desk.{Desk}
 use Rattle.worker_run.specs.Desks.{AreAllDesks, HasOfEach, HaveSeen}
 use Rattle.worker_run.specs.Rounds.{AllGoRound}

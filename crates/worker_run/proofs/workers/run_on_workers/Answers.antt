@@ -1,5 +1,5 @@
 use Rattle.std.proofs.Common.{◌∙◌, ap, sym}
-use Rattle.shared_value.specs.SharedValue.{SharedValue, accounts}
+use Rattle.copied_part_laws.specs.below.shared_value.{SharedValue, accounts}
 use Rattle.worker_run.specs.Outcomes.{finish_of}
 use Rattle.worker_run.proofs.Rows.{told_finish}
 use Rattle.worker_run.proofs.workers.run_on_workers.Goals as goal

@@ -1,5 +1,5 @@
 use Rattle.std.proofs.Common.{sym, subst, refl}
-use Rattle.turn_lock.specs.Seats.{view}
+use Rattle.turn_entries.specs.below.turn_lock.{view}
 use Rattle.turn_entries.specs.declared.between_turns.Next.{Next}
 use Rattle.turn_entries.specs.declared.between_turns.Ready.TheVariants.{Copied as IsCopied}
 use Rattle.worker_run.specs.Tasks.{Prepares}

@@ -1,6 +1,5 @@
 use Rattle.std.proofs.Common.{◌≡◌}
-use Rattle.turn_lock.specs.Seats.{view}
-use Rattle.turn_lock.specs.Turn.{identity}
+use Rattle.turn_entries.specs.below.turn_lock.{view, identity}
 use Rattle.turn_entries.specs.declared.between_turns.Next.TheVariants.{Idle, Stop}
 use Rattle.turn_entries.specs.Parts.{GoesWith}
 use Rattle.worker_run.specs.Desks.{HasStopped, IsDesk, SameDesk}

@@ -1,4 +1,4 @@
-use Rattle.turn_lock.specs.Turn.{identity}
+use Rattle.worker_run.specs.below.turn_lock.{identity}
 use Rattle.worker_tests.proofs.desks.at_two.Goals as goal
 
 pub leave_all-requires-clause-first : goal.leave_all-requires-clause-first

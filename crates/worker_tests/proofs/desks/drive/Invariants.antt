@@ -1,7 +1,6 @@
-use Rattle.turn_lock.specs.Seats.{view}
-use Rattle.turn_lock.specs.Turn.{identity}
+use Rattle.worker_run.specs.below.turn_lock.{view, identity}
 use Rattle.worker_run.specs.Desks.{IsDesk}
-use Rattle.turn_entries.specs.Parts.{GoesWith}
+use Rattle.worker_run.specs.below.turn_entries.{GoesWith}
 use Rattle.worker_tests.proofs.desks.drive.Given as goal
 
 abbrev pub invariant-loop-entry : goal.invariant-loop-entry

@@ -1,6 +1,6 @@
 use Rattle.std.proofs.Common.{ap, ◌∙◌}
-use Rattle.turn_lock.specs.Seats.{view}
-use Rattle.turn_entries.specs.Parts.{Sight}
+use Rattle.worker_run.specs.below.turn_lock.{view}
+use Rattle.worker_run.specs.below.turn_entries.{Sight}
 use Rattle.worker_run.proofs.Giving.{goes_still}
 use Rattle.worker_tests.proofs.desks.makes_ready.Goals as goal
 

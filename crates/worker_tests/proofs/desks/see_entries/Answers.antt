@@ -1,4 +1,4 @@
-use Rattle.turn_lock.specs.Turn.{identity}
+use Rattle.worker_run.specs.below.turn_lock.{identity}
 use Rattle.worker_tests.proofs.desks.see_entries.Goals as goal
 
 pub looks-requires-clause-first : goal.looks-requires-clause-first

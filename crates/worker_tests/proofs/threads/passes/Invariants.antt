@@ -1,5 +1,4 @@
-use Rattle.turn_lock.specs.Seats.{HasNoTurn}
-use Rattle.turn_lock.specs.Turn.{identity}
+use Rattle.worker_run.specs.below.turn_lock.{HasNoTurn, identity}
 use Rattle.worker_tests.proofs.threads.passes.Given as goal
 
 abbrev pub invariant-loop : goal.invariant-loop

@@ -1,5 +1,5 @@
 use Rattle.std.proofs.Common.{ap, ap₂, subst, sym, ◌∙◌}
-use Rattle.run_trace.specs.Entry.{EntryValue}
+use Rattle.counted_tree.specs.below.run_trace.{EntryValue}
 use Rattle.world_core.specs.Applied.{AnswersApart, is_own}
 use Rattle.world_core.proofs.Applying.{apart_all}
 use Rattle.world_core.proofs.apply.make.Goals as goal

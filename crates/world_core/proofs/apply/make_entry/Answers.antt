@@ -1,6 +1,6 @@
 use Rattle.std.proofs.Common.{Result}
-use Rattle.shared_value.specs.declared.answer.NotEntered.{NotEntered}
-use Rattle.shared_tree.proofs.HandedOn.{for_memory}
+use Rattle.counted_tree.specs.below.shared_value.{NotEntered}
+use Rattle.counted_tree.proofs.below.shared_tree.{for_memory}
 use Rattle.world_core.specs.Applied.{AnswersAll}
 use Rattle.world_core.proofs.Applying.{all_mid, from_room, wants_room}
 use Rattle.world_core.proofs.apply.make_entry.Goals as goal

@@ -1,7 +1,6 @@
 use Rattle.std.proofs.Common.{false, ap, subst, sym, ◌∙◌}
-use Rattle.run_trace.specs.Entry.{EntryValue}
-use Rattle.shared_value.specs.Causes.{first_cause}
-use Rattle.shared_value.specs.SharedValue.{SharedValue}
+use Rattle.counted_tree.specs.below.run_trace.{EntryValue}
+use Rattle.counted_tree.specs.below.shared_value.{first_cause, SharedValue}
 use Rattle.world_core.specs.Applied.{AnswersAll}
 use Rattle.world_core.proofs.Applying.{made_all, stopped_before}
 use Rattle.world_core.proofs.apply.make_own.Goals as goal

@@ -1,6 +1,5 @@
-use Rattle.run_trace.specs.Entry.{EntryValue}
-use Rattle.run_trace.specs.declared.entry.Kind.TheVariants.{Begin}
-use Rattle.shared_value.proofs.EntryMade.{entry_on}
+use Rattle.counted_tree.specs.below.run_trace.{EntryValue, Begin}
+use Rattle.counted_tree.proofs.below.shared_value.{entry_on}
 use Rattle.world_core.proofs.BegunPart.{begin_on}
 use Rattle.world_core.proofs.Making.{begin_fails}
 use Rattle.world_core.proofs.apply_begin.begin.Goals as goal

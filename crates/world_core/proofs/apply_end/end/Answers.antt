@@ -1,9 +1,9 @@
 use Rattle.std.proofs.Common.{ap, sym, ◌∙◌}
-use Rattle.journal_laws.proofs.Accepted.{not_refused}
-use Rattle.shared_tree.specs.Ends.{end_cause}
+use Rattle.counted_tree.proofs.below.journal_laws.{not_refused}
+use Rattle.counted_tree.specs.below.shared_tree.{end_cause}
 use Rattle.world_core.proofs.HoldingCauses.{copy_fits}
 use Rattle.world_core.proofs.apply_end.end.Goals as goal
-use Rattle.leaf_collections.proofs.WhyNoEnd.{end_free}
+use Rattle.copied_part_laws.proofs.below.leaf_collections.{end_free}
 
 pub leaf_end-requires-clause-fits : goal.leaf_end-requires-clause-fits
 leaf_end-requires-clause-fits c = copy_fits c.args.shared.now c.args.worker c.args.part c.args.moved c.stands.ensures c.requires.holds

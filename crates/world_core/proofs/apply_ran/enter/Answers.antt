@@ -1,6 +1,5 @@
 use Rattle.std.proofs.Common.{ap, refl, sym, ◌∙◌, Option, Some}
-use Rattle.run_ledger.specs.declared.data.Refused.{Refused}
-use Rattle.run_ledger.specs.declared.data.Refused.TheVariants.{Long}
+use Rattle.counted_tree.specs.below.run_ledger.{Refused, Long}
 use Rattle.world_core.proofs.Making.{stopped_part}
 use Rattle.world_core.proofs.Standing.{too_long}
 use Rattle.world_core.proofs.apply_ran.enter.Goals as goal

@@ -1,12 +1,10 @@
 use Rattle.std.proofs.Common.{◌≡◌, ◌<◌, ℕ, false, None, subst}
-use Rattle.task_machine.specs.declared.part.Private.{Private}
-use Rattle.shared_value.specs.Causes.{first_cause}
-use Rattle.shared_value.specs.Fits.{Fits}
-use Rattle.shared_value.specs.SharedValue.{SharedValue}
-use Rattle.own_steps.specs.Alone.{GoesAlone, HaltsAlone, IsShared, alone_entry}
-use Rattle.own_steps.proofs.LastSteps.{alone_free}
-use Rattle.shared_tree.specs.Ran.{LeavesBy, LeavesPart, LentTo}
-use Rattle.shared_tree.proofs.Joints.{before_same, then_same}
+use Rattle.counted_tree.specs.below.task_machine.{Private}
+use Rattle.counted_tree.specs.below.shared_value.{first_cause, Fits, SharedValue}
+use Rattle.counted_tree.specs.below.own_steps.{GoesAlone, HaltsAlone, IsShared, alone_entry}
+use Rattle.counted_tree.proofs.below.own_steps.{alone_free}
+use Rattle.counted_tree.specs.below.shared_tree.{LeavesBy, LeavesPart, LentTo}
+use Rattle.counted_tree.proofs.below.shared_tree.{before_same, then_same}
 use Rattle.world_core.specs.Applied.{MakesFor}
 use Rattle.world_core.proofs.Making.{goes_made, halts_made, ran_fails}
 use Rattle.world_core.proofs.apply_ran.enter_last.Goals as goal

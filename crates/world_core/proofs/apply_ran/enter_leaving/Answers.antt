@@ -1,7 +1,7 @@
 use Rattle.std.proofs.Common.{◌≡◌, None, sym, subst}
-use Rattle.shared_value.specs.Entered.{IsCaused, refused}
-use Rattle.own_steps.specs.Alone.{alone_entry}
-use Rattle.own_steps.proofs.LastSteps.{alone_free}
+use Rattle.counted_tree.specs.below.shared_value.{IsCaused, refused}
+use Rattle.counted_tree.specs.below.own_steps.{alone_entry}
+use Rattle.counted_tree.proofs.below.own_steps.{alone_free}
 use Rattle.world_core.specs.Applied.{EntersFor}
 use Rattle.world_core.proofs.Making.{ran_fails, ran_made}
 use Rattle.world_core.proofs.apply_ran.enter_leaving.Goals as goal

@@ -1,5 +1,5 @@
 use Rattle.std.proofs.Common.{ap, sym, ◌∙◌}
-use Rattle.task_machine.specs.declared.part.Private.{Private}
+use Rattle.counted_tree.specs.below.task_machine.{Private}
 use Rattle.world_core.proofs.Making.{stopped_part}
 use Rattle.world_core.proofs.apply_ran.enter_private.Goals as goal
 

@@ -1,10 +1,8 @@
 use Rattle.std.proofs.Common.{◌≡◌, None, false, refl, subst, sym}
-use Rattle.task_machine.specs.declared.part.Private.{Private}
-use Rattle.shared_value.specs.Causes.{first_cause}
-use Rattle.shared_value.specs.Fits.{Fits}
-use Rattle.shared_value.specs.SharedValue.{SharedValue}
-use Rattle.child_tasks.proofs.JoinPlaces.{same_world}
-use Rattle.shared_tree.proofs.Joints.{fit_by}
+use Rattle.counted_tree.specs.below.task_machine.{Private}
+use Rattle.counted_tree.specs.below.shared_value.{first_cause, Fits, SharedValue}
+use Rattle.counted_tree.proofs.below.child_tasks.{same_world}
+use Rattle.counted_tree.proofs.below.shared_tree.{fit_by}
 use Rattle.world_core.specs.Next.{IsNext}
 use Rattle.world_core.specs.WorldValue.{HoldsPart}
 use Rattle.world_core.proofs.Making.{stopped_part}

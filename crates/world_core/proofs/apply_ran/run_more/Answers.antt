@@ -1,9 +1,9 @@
 use Rattle.std.proofs.Common.{arith, ◌+◌, ◌-◌, ◌≤◌, sym}
 use Rattle.std.proofs.lemmas.Result.{IfOk-at_ok}
-use Rattle.task_machine.specs.Run.{PausesBy}
+use Rattle.counted_tree.specs.below.task_machine.{PausesBy}
 use Rattle.world_core.specs.Next.{IsNext}
 use Rattle.world_core.proofs.HoldingCauses.{on}
-use Rattle.own_steps.proofs.MoreSteps.{few_more, fits_on, next_on}
+use Rattle.counted_tree.proofs.below.own_steps.{few_more, fits_on, next_on}
 use Rattle.world_core.proofs.Entries.{if_ok}
 use Rattle.world_core.proofs.apply_ran.run_more.Goals as goal
 

@@ -1,5 +1,5 @@
 use Rattle.std.proofs.Common.{arith, refl}
-use Rattle.run_trace.specs.Entry.{private_limit}
+use Rattle.counted_tree.specs.below.run_trace.{private_limit}
 use Rattle.world_core.proofs.Entries.{few_allocations}
 use Rattle.world_core.proofs.apply_ran.run_part.Goals as goal
 

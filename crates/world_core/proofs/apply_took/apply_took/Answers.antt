@@ -1,5 +1,5 @@
 use Rattle.std.proofs.Common.{ap, sym, ◌∙◌}
-use Rattle.shared_value.specs.Entered.{cause_of}
+use Rattle.counted_tree.specs.below.shared_value.{cause_of}
 use Rattle.world_core.proofs.Making.{refuses_for}
 use Rattle.world_core.proofs.apply_took.apply_took.Goals as goal
 

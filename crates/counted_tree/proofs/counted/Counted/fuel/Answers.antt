@@ -1,6 +1,6 @@
 use Rattle.std.proofs.Common.{Ok, sym, subst}
-use Rattle.run_trace.specs.declared.entry.Kind.TheVariants.{Fuel}
-use Rattle.shared_value.specs.SharedValue.{SharedValue}
+use Rattle.heap_reading.specs.below.run_trace.{Fuel}
+use Rattle.heap_reading.specs.below.shared_value.{SharedValue}
 use Rattle.shared_tree.specs.Calls.{EndsForFuel}
 use Rattle.shared_tree.proofs.HandedOn.{handed_on}
 use Rattle.counted_tree.specs.Counts.{KeepsCounts}

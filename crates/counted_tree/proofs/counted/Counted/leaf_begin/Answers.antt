@@ -1,9 +1,8 @@
 use Rattle.std.proofs.Common.{◌≡◌, Ok, sym, subst}
-use Rattle.run_trace.specs.declared.entry.Kind.TheVariants.{Begin}
-use Rattle.shared_value.specs.SharedValue.{SharedValue, accounts}
-use Rattle.shared_value.specs.Fits.{Fits}
-use Rattle.run_ledger.specs.Heaps.{heap_of, words_in}
-use Rattle.task_machine.specs.declared.part.Private.{Private}
+use Rattle.heap_reading.specs.below.run_trace.{Begin}
+use Rattle.heap_reading.specs.below.shared_value.{SharedValue, accounts, Fits}
+use Rattle.heap_reading.specs.below.run_ledger.{heap_of, words_in}
+use Rattle.heap_reading.specs.below.task_machine.{Private}
 use Rattle.shared_tree.specs.Calls.{BeginsLeaf}
 use Rattle.shared_tree.proofs.HandedOn.{handed_on}
 use Rattle.counted_tree.specs.Counts.{KeepsCounts}

@@ -1,6 +1,6 @@
 use Rattle.std.proofs.Common.{Ok, sym, subst}
-use Rattle.shared_value.specs.SharedValue.{SharedValue}
-use Rattle.leaf_collections.specs.LeafEnd.{end_entry}
+use Rattle.heap_reading.specs.below.shared_value.{SharedValue}
+use Rattle.shared_tree.specs.below.leaf_collections.{end_entry}
 use Rattle.shared_tree.specs.Calls.{EndsLeaf}
 use Rattle.shared_tree.proofs.HandedOn.{handed_on}
 use Rattle.counted_tree.specs.Counts.{KeepsCounts}

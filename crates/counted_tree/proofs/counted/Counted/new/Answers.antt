@@ -1,5 +1,5 @@
 use Rattle.std.proofs.Common.{ap, sym, ◌∙◌}
-use Rattle.run_trace.specs.Settings.{SettingsValue}
+use Rattle.heap_reading.specs.below.run_trace.{SettingsValue}
 use Rattle.counted_tree.proofs.EntryCounted.{first_kept}
 use Rattle.counted_tree.proofs.counted.Counted.new.Goals as goal
 

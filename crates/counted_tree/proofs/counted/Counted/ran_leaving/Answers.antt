@@ -1,8 +1,6 @@
 use Rattle.std.proofs.Common.{◌≡◌, None, Ok, sym, subst}
-use Rattle.shared_value.specs.SharedValue.{SharedValue}
-use Rattle.shared_value.specs.Entered.{refused}
-use Rattle.shared_value.specs.Fits.{Fits}
-use Rattle.own_steps.specs.Alone.{alone_entry, IsShared}
+use Rattle.heap_reading.specs.below.shared_value.{SharedValue, refused, Fits}
+use Rattle.shared_tree.specs.below.own_steps.{alone_entry, IsShared}
 use Rattle.shared_tree.specs.Calls.{EntersLeaving}
 use Rattle.shared_tree.specs.Ran.{LeavesBy}
 use Rattle.shared_tree.proofs.HandedOn.{handed_on}

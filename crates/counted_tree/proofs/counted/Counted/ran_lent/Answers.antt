@@ -1,8 +1,7 @@
 use Rattle.std.proofs.Common.{Ok, sym, subst}
-use Rattle.task_machine.specs.declared.part.Private.{Private}
-use Rattle.shared_value.specs.SharedValue.{SharedValue}
-use Rattle.shared_value.specs.Fits.{Fits}
-use Rattle.own_steps.specs.Alone.{alone_entry, IsShared}
+use Rattle.heap_reading.specs.below.task_machine.{Private}
+use Rattle.heap_reading.specs.below.shared_value.{SharedValue, Fits}
+use Rattle.shared_tree.specs.below.own_steps.{alone_entry, IsShared}
 use Rattle.shared_tree.specs.Calls.{EntersLent}
 use Rattle.shared_tree.specs.Ran.{LeavesPart, LentTo}
 use Rattle.shared_tree.proofs.HandedOn.{handed_on}

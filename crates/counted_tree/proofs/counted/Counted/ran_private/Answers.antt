@@ -1,7 +1,6 @@
 use Rattle.std.proofs.Common.{Ok, sym, subst}
-use Rattle.run_trace.specs.declared.entry.Kind.TheVariants.{Ran}
-use Rattle.shared_value.specs.SharedValue.{SharedValue}
-use Rattle.shared_value.specs.Fits.{Fits}
+use Rattle.heap_reading.specs.below.run_trace.{Ran}
+use Rattle.heap_reading.specs.below.shared_value.{SharedValue, Fits}
 use Rattle.shared_tree.specs.Calls.{EntersSteps}
 use Rattle.shared_tree.proofs.HandedOn.{handed_on}
 use Rattle.counted_tree.specs.Counts.{KeepsCounts}

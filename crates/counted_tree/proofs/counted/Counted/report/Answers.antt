@@ -1,8 +1,7 @@
 use Rattle.std.proofs.Common.{◌≡◌, ap, ◌∙◌, length}
-use Rattle.run_ledger.specs.declared.data.Report.{Report}
-use Rattle.run_ledger.specs.Report.{report_of}
+use Rattle.heap_reading.specs.below.run_ledger.{Report, report_of}
 use Rattle.run_report.specs.declared.totals.Totals.{Totals}
-use Rattle.shared_value.specs.SharedValue.{SharedValue}
+use Rattle.heap_reading.specs.below.shared_value.{SharedValue}
 use Rattle.counted_tree.proofs.counted.Counted.report.Goals as goal
 
 -- the same numbers

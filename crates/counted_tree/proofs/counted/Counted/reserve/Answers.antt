@@ -1,6 +1,5 @@
 use Rattle.std.proofs.Common.{sym, subst}
-use Rattle.shared_value.specs.Fits.{Fits}
-use Rattle.shared_value.specs.SharedValue.{SharedValue}
+use Rattle.heap_reading.specs.below.shared_value.{Fits, SharedValue}
 use Rattle.counted_tree.proofs.counted.Counted.reserve.Goals as goal
 
 pub returns-clause-fit : goal.returns-clause-fit

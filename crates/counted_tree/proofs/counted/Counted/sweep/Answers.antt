@@ -1,9 +1,7 @@
 use Rattle.std.proofs.Common.{◌≡◌, None, Ok, refl, sym, subst}
-use Rattle.run_trace.specs.Entry.{EntryValue}
-use Rattle.run_trace.specs.declared.entry.Kind.TheVariants.{Sweep}
-use Rattle.shared_value.specs.SharedValue.{SharedValue, accounts}
-use Rattle.shared_value.specs.Entered.{refused}
-use Rattle.run_ledger.specs.Heaps.{heap_of, words_in}
+use Rattle.heap_reading.specs.below.run_trace.{EntryValue, Sweep}
+use Rattle.heap_reading.specs.below.shared_value.{SharedValue, accounts, refused}
+use Rattle.heap_reading.specs.below.run_ledger.{heap_of, words_in}
 use Rattle.shared_tree.specs.Calls.{SweepsHeap}
 use Rattle.shared_tree.proofs.HandedOn.{handed_on}
 use Rattle.counted_tree.specs.Counts.{KeepsCounts}

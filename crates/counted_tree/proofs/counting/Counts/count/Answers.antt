@@ -1,8 +1,8 @@
 use Rattle.std.proofs.Common.{◌≡◌, ap, sym, subst, ◌∙◌}
-use Rattle.run_trace.specs.Entry.{EntryValue}
+use Rattle.heap_reading.specs.below.run_trace.{EntryValue}
 use Rattle.run_report.specs.declared.totals.Totals.{Totals}
 use Rattle.run_report.specs.Totals.{AreFew, counted, joined}
-use Rattle.shared_value.specs.SharedValue.{SharedValue}
+use Rattle.heap_reading.specs.below.shared_value.{SharedValue}
 use Rattle.counted_tree.specs.declared.counting.Counts.{Counts}
 use Rattle.counted_tree.specs.Counts.{IsMade}
 use Rattle.counted_tree.proofs.EntryCounted.{counts_then, totals_few}

@@ -1,6 +1,6 @@
 use Rattle.std.proofs.Common.{subst, ◌∙◌, sym}
-use Rattle.shared_value.specs.SharedValue.{SharedValue}
-use Rattle.shared_tree.specs.Calls.{EndsForFuel}
+use Rattle.counted_tree.specs.below.shared_value.{SharedValue}
+use Rattle.counted_tree.specs.below.shared_tree.{EndsForFuel}
 use Rattle.paced_tree.specs.Owed.{KeepsPaces}
 use Rattle.paced_tree.proofs.Noted.{fuel_kept}
 use Rattle.paced_tree.proofs.paced.Paced.fuel.Goals as goal

@@ -1,6 +1,6 @@
 use Rattle.std.proofs.Common.{◌≡◌, true, subst, sym}
-use Rattle.run_ledger.specs.Pace.{is_paced}
-use Rattle.shared_value.specs.SharedValue.{SharedValue}
+use Rattle.counted_tree.specs.below.run_ledger.{is_paced}
+use Rattle.counted_tree.specs.below.shared_value.{SharedValue}
 use Rattle.paced_tree.proofs.paced.Paced.into_shared.Goals as goal
 
 pub returns-clause-paced : goal.returns-clause-paced

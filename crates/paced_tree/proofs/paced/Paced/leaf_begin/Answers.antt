@@ -1,10 +1,8 @@
 use Rattle.std.proofs.Common.{Ok, refl, sym, subst, ◌∙◌}
-use Rattle.run_trace.specs.Entry.{EntryValue}
-use Rattle.run_trace.specs.declared.entry.Kind.TheVariants.{Begin}
-use Rattle.shared_value.specs.SharedValue.{SharedValue}
-use Rattle.shared_value.specs.Fits.{Fits}
-use Rattle.shared_tree.specs.Calls.{BeginsLeaf}
-use Rattle.shared_tree.proofs.HandedOn.{handed_on}
+use Rattle.counted_tree.specs.below.run_trace.{EntryValue, Begin}
+use Rattle.counted_tree.specs.below.shared_value.{SharedValue, Fits}
+use Rattle.counted_tree.specs.below.shared_tree.{BeginsLeaf}
+use Rattle.counted_tree.proofs.below.shared_tree.{handed_on}
 use Rattle.paced_tree.specs.Owed.{KeepsPaces, Pays}
 use Rattle.paced_tree.proofs.Noted.{other_then}
 use Rattle.paced_tree.proofs.paced.Paced.leaf_begin.Goals as goal

@@ -1,9 +1,9 @@
 use Rattle.std.proofs.Common.{Ok, refl, sym, subst, ◌∙◌}
-use Rattle.run_trace.specs.Entry.{EntryValue}
-use Rattle.shared_value.specs.SharedValue.{SharedValue}
-use Rattle.leaf_collections.specs.LeafEnd.{end_entry}
-use Rattle.shared_tree.specs.Calls.{EndsLeaf}
-use Rattle.shared_tree.proofs.HandedOn.{handed_on}
+use Rattle.counted_tree.specs.below.run_trace.{EntryValue}
+use Rattle.counted_tree.specs.below.shared_value.{SharedValue}
+use Rattle.counted_tree.specs.below.leaf_collections.{end_entry}
+use Rattle.counted_tree.specs.below.shared_tree.{EndsLeaf}
+use Rattle.counted_tree.proofs.below.shared_tree.{handed_on}
 use Rattle.paced_tree.specs.Owed.{KeepsPaces, Pays}
 use Rattle.paced_tree.proofs.Noted.{other_then}
 use Rattle.paced_tree.proofs.paced.Paced.leaf_end.Goals as goal

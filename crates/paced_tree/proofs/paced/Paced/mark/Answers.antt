@@ -1,12 +1,10 @@
 use Rattle.std.proofs.Common.{◌≡◌, None, true, Ok, is_some, slice_get, sym, subst, inr, ◌∙◌}
-use Rattle.hh_model.specs.Step.{is_waiting}
-use Rattle.run_trace.specs.Entry.{EntryValue}
-use Rattle.run_trace.specs.declared.entry.Kind.TheVariants.{Mark}
-use Rattle.run_ledger.specs.Heaps.{heap_of}
-use Rattle.shared_value.specs.SharedValue.{SharedValue, accounts}
-use Rattle.shared_value.specs.Entered.{refused, IsCaused}
-use Rattle.shared_tree.specs.Calls.{BeginsMarking}
-use Rattle.shared_tree.proofs.HandedOn.{handed_on}
+use Rattle.counted_tree.specs.below.hh_model.{is_waiting}
+use Rattle.counted_tree.specs.below.run_trace.{EntryValue, Mark}
+use Rattle.counted_tree.specs.below.run_ledger.{heap_of}
+use Rattle.counted_tree.specs.below.shared_value.{SharedValue, accounts, refused, IsCaused}
+use Rattle.counted_tree.specs.below.shared_tree.{BeginsMarking}
+use Rattle.counted_tree.proofs.below.shared_tree.{handed_on}
 use Rattle.paced_tree.specs.Owed.{KeepsNoted, KeepsPaces, NotesAt, Pays}
 use Rattle.paced_tree.proofs.Idle.{marks_kept}
 use Rattle.paced_tree.proofs.MarkNotes.{mark_goes, mark_marked, mark_waits}

@@ -1,6 +1,6 @@
 use Rattle.std.proofs.Common.{ap, sym, subst, ◌∙◌}
-use Rattle.run_trace.specs.Settings.{SettingsValue}
-use Rattle.shared_value.specs.SharedValue.{SharedValue}
+use Rattle.counted_tree.specs.below.run_trace.{SettingsValue}
+use Rattle.counted_tree.specs.below.shared_value.{SharedValue}
 use Rattle.paced_tree.specs.Owed.{AreIdle, KeepsPaces}
 use Rattle.paced_tree.proofs.Idle.{opening_kept}
 use Rattle.paced_tree.proofs.paced.Paced.new.Goals as goal

@@ -1,5 +1,5 @@
 use Rattle.std.proofs.Common.{◌≡◌, None, ap, sym, subst, ◌∙◌}
-use Rattle.shared_value.specs.SharedValue.{SharedValue, accounts}
+use Rattle.counted_tree.specs.below.shared_value.{SharedValue, accounts}
 use Rattle.paced_tree.specs.Owed.{KeepsPaces, worker_pace, owed_by}
 use Rattle.paced_tree.proofs.paced.Paced.owed.Goals as goal
 

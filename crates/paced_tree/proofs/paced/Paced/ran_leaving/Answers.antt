@@ -1,14 +1,10 @@
 use Rattle.std.proofs.Common.{◌≡◌, ◌+◌, None, Ok, sym, subst, inr, ◌∙◌}
-use Rattle.run_trace.specs.Entry.{EntryValue}
-use Rattle.run_trace.specs.declared.entry.Kind.TheVariants.{Ran}
-use Rattle.task_machine.specs.declared.part.Private.{Private}
-use Rattle.shared_value.specs.SharedValue.{SharedValue, accounts}
-use Rattle.shared_value.specs.Entered.{refused}
-use Rattle.shared_value.specs.Fits.{Fits}
-use Rattle.own_steps.specs.Alone.{alone_entry, IsShared}
-use Rattle.shared_tree.specs.Calls.{EntersLeaving}
-use Rattle.shared_tree.specs.Ran.{LeavesBy}
-use Rattle.shared_tree.proofs.HandedOn.{handed_on}
+use Rattle.counted_tree.specs.below.run_trace.{EntryValue, Ran}
+use Rattle.counted_tree.specs.below.task_machine.{Private}
+use Rattle.counted_tree.specs.below.shared_value.{SharedValue, accounts, refused, Fits}
+use Rattle.counted_tree.specs.below.own_steps.{alone_entry, IsShared}
+use Rattle.counted_tree.specs.below.shared_tree.{EntersLeaving, LeavesBy}
+use Rattle.counted_tree.proofs.below.shared_tree.{handed_on}
 use Rattle.counted_tree.proofs.EntryCounted.{ran_enters}
 use Rattle.paced_tree.specs.Owed.{KeepsNoted, KeepsPaces, NotesAt, Pays}
 use Rattle.paced_tree.proofs.Idle.{unchanged_kept}

@@ -1,10 +1,8 @@
 use Rattle.std.proofs.Common.{◌≡◌, None, Ok, sym, subst, inr, ◌∙◌}
-use Rattle.run_trace.specs.Entry.{EntryValue}
-use Rattle.run_trace.specs.declared.entry.Kind.TheVariants.{Ran}
-use Rattle.shared_value.specs.SharedValue.{SharedValue, accounts}
-use Rattle.shared_value.specs.Fits.{Fits}
-use Rattle.shared_tree.specs.Calls.{EntersSteps}
-use Rattle.shared_tree.proofs.HandedOn.{handed_on}
+use Rattle.counted_tree.specs.below.run_trace.{EntryValue, Ran}
+use Rattle.counted_tree.specs.below.shared_value.{SharedValue, accounts, Fits}
+use Rattle.counted_tree.specs.below.shared_tree.{EntersSteps}
+use Rattle.counted_tree.proofs.below.shared_tree.{handed_on}
 use Rattle.paced_tree.specs.Owed.{KeepsNoted, KeepsPaces, NotesAt, Pays}
 use Rattle.paced_tree.proofs.Noted.{paced_then}
 use Rattle.paced_tree.proofs.paced.Paced.ran_private.Goals as goal

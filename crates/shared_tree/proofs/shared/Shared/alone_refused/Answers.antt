@@ -1,15 +1,10 @@
 use Rattle.std.proofs.Common.{◌≡◌, ℕ, true, false, Option, None, is_some, ap, sym, subst, ◌∙◌}
-use Rattle.run_ledger.specs.declared.data.Refused.{Refused}
-use Rattle.run_ledger.specs.declared.data.Refused.TheVariants.{Collecting}
-use Rattle.run_ledger.specs.Entries.{refused_if}
-use Rattle.task_machine.specs.declared.part.Private.{Private}
-use Rattle.shared_value.specs.Causes.{first_cause, or_else}
-use Rattle.shared_value.specs.SharedValue.{SharedValue}
-use Rattle.shared_value.specs.Fits.{Fits}
-use Rattle.shared_value.specs.Entered.{refused}
-use Rattle.shared_value.proofs.FirstCauses.{found_first, nothing_first}
-use Rattle.own_steps.specs.Alone.{IsShared, alone_entry}
-use Rattle.own_steps.proofs.LastSteps.{alone_answer}
+use Rattle.leaf_collections.specs.below.run_ledger.{Refused, Collecting, refused_if}
+use Rattle.leaf_collections.specs.below.task_machine.{Private}
+use Rattle.leaf_collections.specs.below.shared_value.{first_cause, or_else, SharedValue, Fits, refused}
+use Rattle.leaf_collections.proofs.below.shared_value.{found_first, nothing_first}
+use Rattle.child_tasks.specs.below.own_steps.{IsShared, alone_entry}
+use Rattle.child_tasks.proofs.below.own_steps.{alone_answer}
 use Rattle.shared_tree.specs.contracts.shared.Shared.{the_view}
 use Rattle.shared_tree.proofs.shared.Shared.alone_refused.Goals as goal
 

@@ -1,11 +1,7 @@
 use Rattle.std.proofs.Common.{◌≡◌, false, is_some, ap, sym, subst, ◌∙◌}
-use Rattle.run_trace.specs.declared.entry.Kind.TheVariants.{Chunk}
-use Rattle.task_machine.specs.declared.part.Private.{Private}
-use Rattle.shared_value.specs.SharedValue.{SharedValue}
-use Rattle.shared_value.specs.Causes.{chunk_cause, first_cause}
-use Rattle.shared_value.specs.Entered.{refused}
-use Rattle.shared_value.specs.Fits.{Fits}
-use Rattle.shared_value.specs.Next.{part_asks}
+use Rattle.leaf_collections.specs.below.run_trace.{Chunk}
+use Rattle.leaf_collections.specs.below.task_machine.{Private}
+use Rattle.leaf_collections.specs.below.shared_value.{SharedValue, chunk_cause, first_cause, refused, Fits, part_asks}
 use Rattle.leaf_collections.proofs.WhyNoChunk.{chunk_answer, first_answer}
 use Rattle.shared_tree.specs.contracts.shared.Shared.{the_view}
 use Rattle.shared_tree.proofs.shared.Shared.chunk_refused.Goals as goal

@@ -1,20 +1,12 @@
 use Rattle.std.proofs.Common.{refl, ◌≡◌, ℕ, ◌-◌, ◌++◌, ◌∷◌, [], List, None, Some, map, arith, ap, sym, subst, ◌∙◌, ◌<◌}
-use Rattle.listed.specs.RoomyValue.{RoomyValue}
-use Rattle.run_trace.specs.Entry.{EntryValue}
-use Rattle.run_trace.specs.declared.entry.Kind.TheVariants.{Begin}
-use Rattle.object_layout.specs.Chunks.{small_words}
-use Rattle.object_layout.specs.ChunkValue.{ChunkValue, number_of}
-use Rattle.chunk_pool.specs.PoolValue.{PoolValue}
-use Rattle.alloc_path.specs.LeafHeapValue.{counted, with_places}
-use Rattle.task_machine.specs.declared.part.Private.{Private}
-use Rattle.shared_value.specs.SharedValue.{SharedValue}
-use Rattle.shared_value.specs.Stands.{IsSharedValue}
-use Rattle.shared_value.specs.Fits.{Fits, OthersFit}
-use Rattle.shared_value.specs.Due.{take_by}
-use Rattle.shared_value.specs.Entered.{refused}
-use Rattle.shared_value.specs.LeafBegin.{HasBegun}
-use Rattle.shared_value.specs.Roots.{roots_of}
-use Rattle.shared_value.proofs.JournalGoesOn.{journal_by}
+use Rattle.leaf_collections.specs.below.listed.{RoomyValue}
+use Rattle.leaf_collections.specs.below.run_trace.{EntryValue, Begin}
+use Rattle.leaf_collections.specs.below.object_layout.{small_words, ChunkValue, number_of}
+use Rattle.leaf_collections.specs.below.chunk_pool.{PoolValue}
+use Rattle.leaf_collections.specs.below.alloc_path.{counted, with_places}
+use Rattle.leaf_collections.specs.below.task_machine.{Private}
+use Rattle.leaf_collections.specs.below.shared_value.{SharedValue, IsSharedValue, Fits, OthersFit, take_by, refused, HasBegun, roots_of}
+use Rattle.leaf_collections.proofs.below.shared_value.{journal_by}
 use Rattle.leaf_collections.proofs.BeginEntered.{begin_count, begin_few, begin_free, begins_apart, begins_fit, begins_idle, begins_with, begins_world}
 use Rattle.leaf_collections.proofs.ChunkGiven.{places_fit}
 use Rattle.shared_tree.specs.contracts.shared.Shared.{the_view}

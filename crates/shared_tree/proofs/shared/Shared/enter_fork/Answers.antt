@@ -1,17 +1,15 @@
 use Rattle.std.proofs.Common.{◌≡◌, ℕ, ◌+◌, ◌-◌, ◌<◌, ◌++◌, Option, Some, None, List, [], ◌∷◌, length, slice_set, refl, ap, sym, subst, ◌∙◌}
-use Rattle.listed.specs.RoomyValue.{RoomyValue}
-use Rattle.run_trace.specs.Entry.{EntryValue}
-use Rattle.heap_tree.specs.Node.{Node, depth_of, forked}
-use Rattle.write_barrier.specs.declared.sets.SetOf.{SetOf}
-use Rattle.inner_mark_gc.specs.MarkingValue.{MarkingValue}
-use Rattle.fork_join.specs.declared.forks.Child.{Child}
-use Rattle.task_machine.specs.declared.part.Private.{Private}
-use Rattle.task_homes.specs.declared.task_at_rest.Rest.{Rest}
-use Rattle.task_homes.specs.HomesValue.{HomesValue}
-use Rattle.shared_value.specs.Stands.{IsSharedValue}
-use Rattle.shared_value.specs.SharedValue.{SharedValue}
-use Rattle.shared_value.proofs.JournalGoesOn.{four_changed}
-use Rattle.own_steps.proofs.AloneEntries.{alone_small, home_there, next_small, set_there}
+use Rattle.leaf_collections.specs.below.listed.{RoomyValue}
+use Rattle.leaf_collections.specs.below.run_trace.{EntryValue}
+use Rattle.leaf_collections.specs.below.heap_tree.{Node, depth_of, forked}
+use Rattle.leaf_collections.specs.below.write_barrier.{SetOf}
+use Rattle.leaf_collections.specs.below.inner_mark_gc.{MarkingValue}
+use Rattle.leaf_collections.specs.below.fork_join.{Child}
+use Rattle.leaf_collections.specs.below.task_machine.{Private}
+use Rattle.leaf_collections.specs.below.task_homes.{Rest, HomesValue}
+use Rattle.leaf_collections.specs.below.shared_value.{IsSharedValue, SharedValue}
+use Rattle.leaf_collections.proofs.below.shared_value.{four_changed}
+use Rattle.child_tasks.proofs.below.own_steps.{alone_small, home_there, next_small, set_there}
 use Rattle.child_tasks.specs.Forks.{ForksOn, ForksTo, RestsFork, SetsFork, begun_rest, part_child, waiting_rest}
 use Rattle.child_tasks.proofs.ForkEntries.{alone_forks, alone_world, rests_fork_by}
 use Rattle.child_tasks.proofs.NextStepForks.{AsksFork, asked_alone, asks_fork, few_tasks, on, tree_out}

@@ -1,11 +1,10 @@
 use Rattle.std.proofs.Common.{◌≡◌, ℕ, ◌-◌, Some, [], sym, subst}
-use Rattle.hh_model.specs.Step.{ended_by, step}
-use Rattle.run_ledger.specs.declared.data.RunEnd.TheVariants.{Machine}
-use Rattle.task_machine.specs.declared.part.Private.{Private}
-use Rattle.shared_value.specs.Stands.{IsSharedValue}
-use Rattle.shared_value.specs.SharedValue.{SharedValue}
-use Rattle.own_steps.specs.Alone.{HaltsAlone, then_accounts}
-use Rattle.own_steps.proofs.AloneEntries.{AsksAlone, asks_alone, alone_small, halt_world, halts_alone}
+use Rattle.leaf_collections.specs.below.hh_model.{ended_by, step}
+use Rattle.leaf_collections.specs.below.run_ledger.{Machine}
+use Rattle.leaf_collections.specs.below.task_machine.{Private}
+use Rattle.leaf_collections.specs.below.shared_value.{IsSharedValue, SharedValue}
+use Rattle.child_tasks.specs.below.own_steps.{HaltsAlone, then_accounts}
+use Rattle.child_tasks.proofs.below.own_steps.{AsksAlone, asks_alone, alone_small, halt_world, halts_alone}
 use Rattle.shared_tree.specs.contracts.shared.Shared.{the_view}
 use Rattle.shared_tree.proofs.StepsEntered.{along}
 use Rattle.shared_tree.proofs.shared.Shared.enter_halt.Goals as goal

@@ -1,24 +1,18 @@
 use Rattle.std.proofs.Common.{◌≡◌, ◌<◌, ℕ, ◌+◌, ◌-◌, arith, Some, None, List, [], length, length-set, slice_get, slice_set, refl, ap, sym, subst, ◌∙◌}
 use Rattle.std.specs.Prelude.{IsSome}
-use Rattle.listed.specs.RoomyValue.{RoomyValue}
-use Rattle.listed.proofs.Options.{if_none}
-use Rattle.run_trace.specs.Entry.{EntryValue}
-use Rattle.chunk_pool.specs.PoolValue.{PoolValue}
-use Rattle.heap_tree.specs.declared.state.State.TheVariants.{Ended}
-use Rattle.heap_tree.specs.Node.{Node, parent_of, state_of, with_state}
-use Rattle.heap_tree.specs.Pairs.{sibling}
-use Rattle.remembered_set.specs.Sources.{RememberedValue}
-use Rattle.write_barrier.specs.declared.sets.SetOf.{SetOf}
-use Rattle.fork_join.specs.declared.sides.EndedChild.{EndedChild}
-use Rattle.fork_join.specs.Joined.{joined_nodes}
-use Rattle.task_machine.specs.declared.part.Private.{Private}
-use Rattle.task_homes.specs.declared.homes.Home.{Home}
-use Rattle.task_homes.specs.declared.task_at_rest.Rest.{Rest}
-use Rattle.task_homes.specs.HomesValue.{HomesValue}
-use Rattle.shared_value.specs.SharedValue.{SharedValue, rest_at}
-use Rattle.shared_value.specs.Stands.{IsSharedValue}
-use Rattle.shared_value.proofs.JournalGoesOn.{four_changed}
-use Rattle.own_steps.proofs.AloneEntries.{alone_small}
+use Rattle.leaf_collections.specs.below.listed.{RoomyValue}
+use Rattle.leaf_collections.proofs.below.listed.{if_none}
+use Rattle.leaf_collections.specs.below.run_trace.{EntryValue}
+use Rattle.leaf_collections.specs.below.chunk_pool.{PoolValue}
+use Rattle.leaf_collections.specs.below.heap_tree.{Ended, Node, parent_of, state_of, with_state, sibling}
+use Rattle.leaf_collections.specs.below.remembered_set.{RememberedValue}
+use Rattle.leaf_collections.specs.below.write_barrier.{SetOf}
+use Rattle.leaf_collections.specs.below.fork_join.{EndedChild, joined_nodes}
+use Rattle.leaf_collections.specs.below.task_machine.{Private}
+use Rattle.leaf_collections.specs.below.task_homes.{Home, Rest, HomesValue}
+use Rattle.leaf_collections.specs.below.shared_value.{SharedValue, rest_at, IsSharedValue}
+use Rattle.leaf_collections.proofs.below.shared_value.{four_changed}
+use Rattle.child_tasks.proofs.below.own_steps.{alone_small}
 use Rattle.child_tasks.specs.ChildEnds.{EndsChild}
 use Rattle.child_tasks.specs.Joins.{CanJoin, HasPlaces, parent_side}
 use Rattle.child_tasks.proofs.ChildReturns.{AsksEnd, asked_alone, asks_end, own_made, parent_low}

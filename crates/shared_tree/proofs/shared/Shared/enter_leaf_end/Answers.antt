@@ -1,23 +1,17 @@
 use Rattle.std.proofs.Common.{◌≡◌, ℕ, All, None, Option, fold, is_some, slice_get, true, refl, ap, sym, subst, ◌∙◌, ◌<◌}
 use Rattle.std.specs.Prelude.{IsSome}
-use Rattle.listed.specs.RoomyValue.{RoomyValue}
-use Rattle.listed.proofs.Places.{all_from}
-use Rattle.run_trace.specs.Entry.{EntryValue}
-use Rattle.object_layout.specs.ChunkValue.{ChunkValue}
-use Rattle.chunk_pool.specs.PoolValue.{PoolValue, slot_at}
-use Rattle.remembered_set.specs.Moved.{redirected, AreInOrder, ArePlaces}
-use Rattle.remembered_set.specs.Sources.{StandOnce}
-use Rattle.leaf_copy_gc.specs.declared.lists.Moved.{Moved}
-use Rattle.inner_mark_gc.specs.Swept.{AreGiven}
-use Rattle.task_machine.specs.declared.part.Private.{Private}
-use Rattle.task_homes.specs.declared.heaps.Heaps.{Heaps}
-use Rattle.shared_value.specs.SharedValue.{SharedValue}
-use Rattle.shared_value.specs.Stands.{IsSharedValue}
-use Rattle.shared_value.specs.Fits.{Fits, OthersFit}
-use Rattle.shared_value.specs.Entered.{Enters, refused}
-use Rattle.task_homes.specs.RestingHeaps.{Resting, refs_in, with_ref_in, with_resting}
-use Rattle.shared_value.specs.Roots.{heaps_of, sources_of}
-use Rattle.shared_value.proofs.JournalGoesOn.{journal_by}
+use Rattle.leaf_collections.specs.below.listed.{RoomyValue}
+use Rattle.leaf_collections.proofs.below.listed.{all_from}
+use Rattle.leaf_collections.specs.below.run_trace.{EntryValue}
+use Rattle.leaf_collections.specs.below.object_layout.{ChunkValue}
+use Rattle.leaf_collections.specs.below.chunk_pool.{PoolValue, slot_at}
+use Rattle.leaf_collections.specs.below.remembered_set.{redirected, AreInOrder, ArePlaces, StandOnce}
+use Rattle.leaf_collections.specs.below.leaf_copy_gc.{Moved}
+use Rattle.leaf_collections.specs.below.inner_mark_gc.{AreGiven}
+use Rattle.leaf_collections.specs.below.task_machine.{Private}
+use Rattle.leaf_collections.specs.below.task_homes.{Heaps, Resting, refs_in, with_ref_in, with_resting}
+use Rattle.leaf_collections.specs.below.shared_value.{SharedValue, IsSharedValue, Fits, OthersFit, Enters, refused, heaps_of, sources_of}
+use Rattle.leaf_collections.proofs.below.shared_value.{journal_by}
 use Rattle.leaf_collections.specs.LeafEnd.{FitsCopied, end_entry, ended}
 use Rattle.leaf_collections.proofs.CollectionEnds.{are_fields, back_in_use, fits_so, has_home, others_so, pool_same, world_so}
 use Rattle.shared_tree.specs.contracts.shared.Shared.{the_view}

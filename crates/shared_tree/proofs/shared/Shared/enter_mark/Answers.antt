@@ -1,19 +1,14 @@
 use Rattle.std.proofs.Common.{◌≡◌, ℕ, ◌-◌, ◌++◌, ◌∷◌, [], List, Option, None, Some, is_some, slice_set, ap, sym, subst, ◌∙◌, ◌<◌}
 use Rattle.std.specs.Option.{option_flatten}
-use Rattle.listed.specs.RoomyValue.{RoomyValue}
-use Rattle.listed.proofs.Members.{got_other}
-use Rattle.run_trace.specs.Entry.{EntryValue}
-use Rattle.run_trace.specs.declared.entry.Kind.TheVariants.{Mark}
-use Rattle.run_ledger.specs.Heaps.{heap_of}
-use Rattle.inner_mark_gc.specs.MarkingValue.{MarkingValue}
-use Rattle.core_relation.specs.Marking.{GoesOn}
-use Rattle.task_homes.specs.HomesValue.{HomesValue, marks_at}
-use Rattle.shared_value.specs.Entered.{refused}
-use Rattle.shared_value.specs.Fits.{AllFit}
-use Rattle.shared_value.specs.SharedValue.{SharedValue, accounts, value_of}
-use Rattle.shared_value.specs.Stands.{IsSharedValue}
-use Rattle.shared_value.proofs.EntryMade.{entry_on}
-use Rattle.shared_value.proofs.JournalGoesOn.{journal_by}
+use Rattle.leaf_collections.specs.below.listed.{RoomyValue}
+use Rattle.leaf_collections.proofs.below.listed.{got_other}
+use Rattle.leaf_collections.specs.below.run_trace.{EntryValue, Mark}
+use Rattle.leaf_collections.specs.below.run_ledger.{heap_of}
+use Rattle.leaf_collections.specs.below.inner_mark_gc.{MarkingValue}
+use Rattle.leaf_collections.specs.below.core_relation.{GoesOn}
+use Rattle.leaf_collections.specs.below.task_homes.{HomesValue, marks_at}
+use Rattle.leaf_collections.specs.below.shared_value.{refused, AllFit, SharedValue, accounts, value_of, IsSharedValue}
+use Rattle.leaf_collections.proofs.below.shared_value.{entry_on, journal_by}
 use Rattle.heap_marking.proofs.MarkEntries.{mark_enters, mark_waits}
 use Rattle.heap_marking.proofs.WaitingHome.{rest}
 use Rattle.shared_tree.specs.contracts.shared.Shared.{the_view}

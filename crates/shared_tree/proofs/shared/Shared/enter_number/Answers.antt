@@ -1,12 +1,11 @@
 use Rattle.std.proofs.Common.{◌≡◌, ℕ, ◌+◌, ◌-◌, arith, [], ap, ap₂, sym, subst, ◌∙◌}
 use Rattle.std.proofs.Common.{w64}
 use Rattle.std.proofs.lemmas.Int.{to_z-of_z}
-use Rattle.task_frames.specs.FramesValue.{FramesValue, with_int, with_next}
-use Rattle.task_machine.specs.declared.part.Private.{Private}
-use Rattle.shared_value.specs.Stands.{IsSharedValue}
-use Rattle.shared_value.specs.SharedValue.{SharedValue}
-use Rattle.own_steps.specs.Alone.{GoesAlone}
-use Rattle.own_steps.proofs.AloneEntries.{AsksAlone, asks_alone, alone_small, next_small}
+use Rattle.leaf_collections.specs.below.task_frames.{FramesValue, with_int, with_next}
+use Rattle.leaf_collections.specs.below.task_machine.{Private}
+use Rattle.leaf_collections.specs.below.shared_value.{IsSharedValue, SharedValue}
+use Rattle.child_tasks.specs.below.own_steps.{GoesAlone}
+use Rattle.child_tasks.proofs.below.own_steps.{AsksAlone, asks_alone, alone_small, next_small}
 use Rattle.others_objects.specs.declared.other.OtherStep.TheVariants.{SetsNumber}
 use Rattle.others_objects.specs.Other.{TellsOther}
 use Rattle.others_objects.proofs.OtherEntries.{number_goes, number_world}

@@ -1,8 +1,7 @@
 use Rattle.std.proofs.Common.{ℤ, SFits, w64, rules, ap, sym, subst, ◌∙◌}
 use Rattle.std.proofs.lemmas.Int.{to_z-of_z}
-use Rattle.hh_model.specs.declared.data.End.TheVariants.{Trapped}
-use Rattle.hh_model.specs.Step.{ended_by}
-use Rattle.own_steps.specs.Alone.{then_accounts}
+use Rattle.leaf_collections.specs.below.hh_model.{Trapped, ended_by}
+use Rattle.child_tasks.specs.below.own_steps.{then_accounts}
 use Rattle.others_objects.specs.declared.other.OtherStep.{OtherStep}
 use Rattle.others_objects.specs.declared.other.OtherStep.TheVariants.{SetsNumber, Stops, StoresNumber, Traps}
 use Rattle.others_objects.specs.Other.{TellsOther}

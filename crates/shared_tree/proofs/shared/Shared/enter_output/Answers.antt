@@ -1,13 +1,11 @@
 use Rattle.std.proofs.Common.{◌≡◌, ℕ, ℤ, ◌+◌, ◌-◌, ◌++◌, ◌∷◌, arith, List, [], ap, sym, subst, ◌∙◌}
 use Rattle.std.proofs.Common.{w64}
 use Rattle.std.proofs.lemmas.Int.{to_z-of_z}
-use Rattle.task_frames.specs.FramesValue.{FramesValue, with_next}
-use Rattle.task_machine.specs.declared.part.Private.{Private}
-use Rattle.shared_value.specs.declared.next_step.Ending.TheVariants.{Prints}
-use Rattle.shared_value.specs.Stands.{IsSharedValue}
-use Rattle.shared_value.specs.SharedValue.{SharedValue}
-use Rattle.own_steps.specs.Alone.{GoesAlone, Tells}
-use Rattle.own_steps.proofs.AloneEntries.{AsksAlone, asks_alone, alone_small, next_small, printed_goes, printed_world}
+use Rattle.leaf_collections.specs.below.task_frames.{FramesValue, with_next}
+use Rattle.leaf_collections.specs.below.task_machine.{Private}
+use Rattle.leaf_collections.specs.below.shared_value.{Prints, IsSharedValue, SharedValue}
+use Rattle.child_tasks.specs.below.own_steps.{GoesAlone, Tells}
+use Rattle.child_tasks.proofs.below.own_steps.{AsksAlone, asks_alone, alone_small, next_small, printed_goes, printed_world}
 use Rattle.shared_tree.specs.contracts.shared.Shared.{the_view}
 use Rattle.shared_tree.proofs.StepsEntered.{along, entered}
 use Rattle.shared_tree.proofs.shared.Shared.enter_output.Goals as goal

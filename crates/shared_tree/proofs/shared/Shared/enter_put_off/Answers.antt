@@ -1,13 +1,9 @@
 use Rattle.std.proofs.Common.{◌≡◌, ℕ, ◌-◌, ◌++◌, ◌∷◌, [], None, ap, sym, subst, ◌∙◌}
-use Rattle.listed.specs.RoomyValue.{RoomyValue}
-use Rattle.run_trace.specs.Entry.{EntryValue}
-use Rattle.run_trace.specs.declared.entry.Kind.TheVariants.{PutOff}
-use Rattle.task_machine.specs.declared.part.Private.{Private}
-use Rattle.shared_value.specs.SharedValue.{SharedValue}
-use Rattle.shared_value.specs.Stands.{IsSharedValue}
-use Rattle.shared_value.specs.Fits.{Fits, OthersFit}
-use Rattle.shared_value.specs.Entered.{refused}
-use Rattle.shared_value.proofs.JournalGoesOn.{journal_by}
+use Rattle.leaf_collections.specs.below.listed.{RoomyValue}
+use Rattle.leaf_collections.specs.below.run_trace.{EntryValue, PutOff}
+use Rattle.leaf_collections.specs.below.task_machine.{Private}
+use Rattle.leaf_collections.specs.below.shared_value.{SharedValue, IsSharedValue, Fits, OthersFit, refused}
+use Rattle.leaf_collections.proofs.below.shared_value.{journal_by}
 use Rattle.leaf_collections.proofs.CollectionPutOff.{put_off_apart, put_off_fits, put_off_stands, reset}
 use Rattle.shared_tree.specs.contracts.shared.Shared.{the_view}
 use Rattle.shared_tree.proofs.shared.Shared.enter_put_off.Goals as goal

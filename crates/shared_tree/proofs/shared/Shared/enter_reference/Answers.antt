@@ -1,10 +1,9 @@
 use Rattle.std.proofs.Common.{◌≡◌, ℕ, ◌+◌, ◌-◌, arith, [], ap, ap₂, sym, subst, ◌∙◌}
-use Rattle.task_frames.specs.FramesValue.{FramesValue, with_next, with_reference}
-use Rattle.task_machine.specs.declared.part.Private.{Private}
-use Rattle.shared_value.specs.Stands.{IsSharedValue}
-use Rattle.shared_value.specs.SharedValue.{SharedValue}
-use Rattle.own_steps.specs.Alone.{GoesAlone}
-use Rattle.own_steps.proofs.AloneEntries.{AsksAlone, asks_alone, alone_small, next_small}
+use Rattle.leaf_collections.specs.below.task_frames.{FramesValue, with_next, with_reference}
+use Rattle.leaf_collections.specs.below.task_machine.{Private}
+use Rattle.leaf_collections.specs.below.shared_value.{IsSharedValue, SharedValue}
+use Rattle.child_tasks.specs.below.own_steps.{GoesAlone}
+use Rattle.child_tasks.proofs.below.own_steps.{AsksAlone, asks_alone, alone_small, next_small}
 use Rattle.others_objects.specs.declared.other.OtherStep.TheVariants.{SetsReference}
 use Rattle.others_objects.specs.Other.{TellsOther}
 use Rattle.others_objects.proofs.OtherEntries.{reference_goes, reference_world}

@@ -1,20 +1,13 @@
 use Rattle.std.proofs.Common.{◌≡◌, ℕ, ◌-◌, ◌<◌, ◌++◌, ◌∷◌, [], All, List, Option, Some, None, min, is_some, option_copied, slice_get, slice_set, ap, sym, subst, ◌∙◌}
-use Rattle.listed.specs.RoomyValue.{RoomyValue}
-use Rattle.run_trace.specs.Entry.{EntryValue}
-use Rattle.run_trace.specs.declared.entry.Kind.TheVariants.{More}
-use Rattle.run_ledger.specs.Heaps.{heap_of, left_in}
-use Rattle.object_layout.specs.declared.word.Addr.{Addr}
-use Rattle.object_layout.specs.Graph.{HasObjectAt}
-use Rattle.inner_mark_gc.specs.MarkingValue.{IsAllMarked, IsMarking, IsOf, MarkingValue}
-use Rattle.inner_mark_gc.specs.Snapshot.{Fork, IsSince}
-use Rattle.core_relation.specs.Since.{kept}
-use Rattle.task_homes.specs.HomesValue.{HomesValue, kept_of}
-use Rattle.shared_value.specs.Entered.{refused}
-use Rattle.shared_value.specs.Fits.{AllFit}
-use Rattle.shared_value.specs.SharedValue.{SharedValue, accounts, marks_at, rest_at, value_of}
-use Rattle.shared_value.specs.Stands.{IsSharedValue}
-use Rattle.shared_value.proofs.JournalGoesOn.{journal_by}
-use Rattle.shared_value.proofs.EntryMade.{entry_on}
+use Rattle.leaf_collections.specs.below.listed.{RoomyValue}
+use Rattle.leaf_collections.specs.below.run_trace.{EntryValue, More}
+use Rattle.leaf_collections.specs.below.run_ledger.{heap_of, left_in}
+use Rattle.leaf_collections.specs.below.object_layout.{Addr, HasObjectAt}
+use Rattle.leaf_collections.specs.below.inner_mark_gc.{IsAllMarked, IsMarking, IsOf, MarkingValue, Fork, IsSince}
+use Rattle.leaf_collections.specs.below.core_relation.{kept}
+use Rattle.leaf_collections.specs.below.task_homes.{HomesValue, kept_of}
+use Rattle.leaf_collections.specs.below.shared_value.{refused, AllFit, SharedValue, accounts, marks_at, rest_at, value_of, IsSharedValue}
+use Rattle.leaf_collections.proofs.below.shared_value.{journal_by, entry_on}
 use Rattle.heap_marking.specs.MarkCauses.{marking_cause}
 use Rattle.heap_marking.specs.Marking.{Further}
 use Rattle.heap_marking.proofs.MarkEntries.{kept_noted, put_back, some_count, some_enters, some_marks}

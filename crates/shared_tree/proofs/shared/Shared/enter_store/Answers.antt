@@ -1,18 +1,15 @@
 use Rattle.std.proofs.Common.{◌≡◌, ℕ, ◌+◌, ◌-◌, arith, Some, None, List, [], length, option_map, slice_set, refl, sym, subst, Result, Ok, Err}
 use Rattle.std.specs.Prelude.{OnErr, slice_index_or}
-use Rattle.listed.specs.RoomyValue.{RoomyValue}
-use Rattle.run_trace.specs.Entry.{EntryValue}
-use Rattle.object_layout.specs.Cell.{with_ref}
-use Rattle.object_layout.specs.Chunks.{cell_of, object_of}
-use Rattle.task_frames.specs.FramesValue.{FramesValue}
-use Rattle.write_barrier.specs.declared.sets.SetOf.{SetOf}
-use Rattle.write_barrier.specs.Stored.{content_after, content_at}
-use Rattle.task_machine.specs.declared.part.Private.{Private}
-use Rattle.task_homes.specs.declared.heaps.Heaps.{Heaps}
-use Rattle.shared_value.specs.Stands.{IsSharedValue}
-use Rattle.shared_value.specs.SharedValue.{SharedValue}
-use Rattle.own_steps.specs.Alone.{GoesAlone}
-use Rattle.own_steps.proofs.AloneEntries.{AsksAlone, asks_alone, alone_small, next_small}
+use Rattle.leaf_collections.specs.below.listed.{RoomyValue}
+use Rattle.leaf_collections.specs.below.run_trace.{EntryValue}
+use Rattle.leaf_collections.specs.below.object_layout.{with_ref, cell_of, object_of}
+use Rattle.leaf_collections.specs.below.task_frames.{FramesValue}
+use Rattle.leaf_collections.specs.below.write_barrier.{SetOf, content_after, content_at}
+use Rattle.leaf_collections.specs.below.task_machine.{Private}
+use Rattle.leaf_collections.specs.below.task_homes.{Heaps}
+use Rattle.leaf_collections.specs.below.shared_value.{IsSharedValue, SharedValue}
+use Rattle.child_tasks.specs.below.own_steps.{GoesAlone}
+use Rattle.child_tasks.proofs.below.own_steps.{AsksAlone, asks_alone, alone_small, next_small}
 use Rattle.others_objects.specs.declared.other.OtherStep.{OtherStep}
 use Rattle.others_objects.specs.Other.{SameButRoom, TellsOther, put_rest, store_frames, store_of}
 use Rattle.others_objects.proofs.SetRooms.{roomier_same, roomier_world}

@@ -1,18 +1,14 @@
 use Rattle.std.proofs.Common.{◌≡◌, ℕ, ℤ, ◌+◌, ◌-◌, arith, Option, Some, None, List, [], slice_set, ap, sym, subst, ◌∙◌, w64}
 use Rattle.std.proofs.lemmas.Int.{to_z-of_z}
-use Rattle.listed.specs.RoomyValue.{RoomyValue}
-use Rattle.run_trace.specs.Entry.{EntryValue}
-use Rattle.object_layout.specs.Cell.{with_int}
-use Rattle.object_layout.specs.Chunks.{cell_of}
-use Rattle.task_frames.specs.FramesValue.{FramesValue}
-use Rattle.task_machine.specs.declared.part.Private.{Private}
-use Rattle.task_homes.specs.declared.heaps.Heaps.{Heaps}
-use Rattle.task_homes.specs.declared.task_at_rest.Rest.{Rest}
-use Rattle.task_homes.specs.HomesValue.{HomesValue}
-use Rattle.shared_value.specs.Stands.{IsSharedValue}
-use Rattle.shared_value.specs.SharedValue.{SharedValue}
-use Rattle.own_steps.specs.Alone.{GoesAlone}
-use Rattle.own_steps.proofs.AloneEntries.{AsksAlone, asks_alone, alone_small, next_small}
+use Rattle.leaf_collections.specs.below.listed.{RoomyValue}
+use Rattle.leaf_collections.specs.below.run_trace.{EntryValue}
+use Rattle.leaf_collections.specs.below.object_layout.{with_int, cell_of}
+use Rattle.leaf_collections.specs.below.task_frames.{FramesValue}
+use Rattle.leaf_collections.specs.below.task_machine.{Private}
+use Rattle.leaf_collections.specs.below.task_homes.{Heaps, Rest, HomesValue}
+use Rattle.leaf_collections.specs.below.shared_value.{IsSharedValue, SharedValue}
+use Rattle.child_tasks.specs.below.own_steps.{GoesAlone}
+use Rattle.child_tasks.proofs.below.own_steps.{AsksAlone, asks_alone, alone_small, next_small}
 use Rattle.others_objects.specs.declared.other.OtherStep.TheVariants.{StoresNumber}
 use Rattle.others_objects.specs.Other.{TellsOther, put_rest, store_frames}
 use Rattle.others_objects.proofs.StoreEntries as entries

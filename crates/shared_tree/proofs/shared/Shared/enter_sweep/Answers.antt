@@ -1,12 +1,9 @@
 use Rattle.std.proofs.Common.{◌≡◌, false, ℕ, None, length, option_map, slice_get, slice_set, ap, sym, subst, ◌∙◌}
-use Rattle.run_trace.specs.Entry.{EntryValue}
-use Rattle.run_trace.specs.declared.entry.Kind.TheVariants.{Sweep}
-use Rattle.write_barrier.specs.Stored.{content_at}
-use Rattle.task_homes.specs.HomesValue.{HomesValue, keeping}
-use Rattle.shared_value.specs.SharedValue.{SharedValue}
-use Rattle.shared_value.specs.Fits.{AllFit}
-use Rattle.shared_value.specs.Entered.{refused}
-use Rattle.shared_value.proofs.JournalGoesOn.{journal_by}
+use Rattle.leaf_collections.specs.below.run_trace.{EntryValue, Sweep}
+use Rattle.leaf_collections.specs.below.write_barrier.{content_at}
+use Rattle.leaf_collections.specs.below.task_homes.{HomesValue, keeping}
+use Rattle.leaf_collections.specs.below.shared_value.{SharedValue, AllFit, refused}
+use Rattle.leaf_collections.proofs.below.shared_value.{journal_by}
 use Rattle.heap_marking.specs.Sweeping.{SweepsHome}
 use Rattle.heap_marking.proofs.SweepEntered.{can_all, fits_so, has_home, has_marking, m, marked, r, there, world_so}
 use Rattle.shared_tree.specs.contracts.shared.Shared.{the_view}

@@ -1,14 +1,9 @@
 use Rattle.std.proofs.Common.{◌≡◌, ℕ, Option, Some, None, ap₂, sym, subst, ◌∙◌}
-use Rattle.hh_lang.specs.declared.program.Line.{Line}
-use Rattle.hh_lang.specs.Form.{line_at}
-use Rattle.task_machine.specs.declared.part.Private.{Private}
-use Rattle.shared_value.specs.SharedValue.{SharedValue}
-use Rattle.shared_value.specs.Fits.{Fits}
-use Rattle.shared_value.specs.Entered.{refused}
-use Rattle.shared_value.specs.Next.{next_line}
-use Rattle.own_steps.specs.Alone.{alone_entry}
-use Rattle.own_steps.proofs.AloneEntries.{runs_on}
-use Rattle.own_steps.proofs.LastSteps.{some_line}
+use Rattle.leaf_collections.specs.below.hh_lang.{Line, line_at}
+use Rattle.leaf_collections.specs.below.task_machine.{Private}
+use Rattle.leaf_collections.specs.below.shared_value.{SharedValue, Fits, refused, next_line}
+use Rattle.child_tasks.specs.below.own_steps.{alone_entry}
+use Rattle.child_tasks.proofs.below.own_steps.{runs_on, some_line}
 use Rattle.child_tasks.specs.Forks.{ForksTo, IsAtFork}
 use Rattle.child_tasks.proofs.NextStepForks.{fork_shared, forks_to, is_par_line, par_is}
 use Rattle.shared_tree.specs.Ran.{MayBeEntered}

@@ -1,22 +1,14 @@
 use Rattle.std.proofs.Common.{◌≡◌, ℕ, ◌+◌, ◌-◌, ◌<◌, ◌≤◌, None, Some, [], inl, inr, Ok, Err, refl, ap, sym, subst, ◌∙◌, Result}
 use Rattle.std.proofs.lemmas.Bool.{cases_lt}
 use Rattle.std.specs.Prelude.{OnErr}
-use Rattle.listed.specs.RoomyValue.{RoomyValue}
-use Rattle.run_trace.specs.Entry.{EntryValue}
-use Rattle.run_trace.specs.declared.entry.Kind.TheVariants.{Chunk}
-use Rattle.run_ledger.specs.declared.data.RunEnd.TheVariants.{Pool as PoolOf}
-use Rattle.run_ledger.specs.Entries.{chunk_units}
-use Rattle.chunk_pool.specs.declared.pool.NotTaken.{NotTaken}
-use Rattle.chunk_pool.specs.declared.pool.NotTaken.TheVariants.{Full}
-use Rattle.chunk_pool.specs.PoolValue.{PoolValue, units_in_use}
-use Rattle.alloc_path.specs.LeafHeapValue.{LeafHeapValue, IsFresh, added, with_places}
-use Rattle.task_machine.specs.declared.part.Private.{Private}
-use Rattle.shared_value.specs.SharedValue.{SharedValue}
-use Rattle.shared_value.specs.Stands.{IsSharedValue}
-use Rattle.shared_value.specs.Fits.{Fits, OthersFit}
-use Rattle.shared_value.specs.Next.{part_asks}
-use Rattle.shared_value.specs.Entered.{Enters, refused}
-use Rattle.shared_value.proofs.JournalGoesOn.{journal_by}
+use Rattle.leaf_collections.specs.below.listed.{RoomyValue}
+use Rattle.leaf_collections.specs.below.run_trace.{EntryValue, Chunk}
+use Rattle.leaf_collections.specs.below.run_ledger.{Pool as PoolOf, chunk_units}
+use Rattle.leaf_collections.specs.below.chunk_pool.{NotTaken, Full, PoolValue, units_in_use}
+use Rattle.leaf_collections.specs.below.alloc_path.{LeafHeapValue, IsFresh, added, with_places}
+use Rattle.leaf_collections.specs.below.task_machine.{Private}
+use Rattle.leaf_collections.specs.below.shared_value.{SharedValue, IsSharedValue, Fits, OthersFit, part_asks, Enters, refused}
+use Rattle.leaf_collections.proofs.below.shared_value.{journal_by}
 use Rattle.leaf_collections.proofs.ChunkGiven.{given_fresh, given_others, given_part, given_world, places_fit, pool_others, pool_part, pool_world}
 use Rattle.shared_tree.specs.contracts.shared.Shared.{the_view}
 use Rattle.shared_tree.proofs.shared.Shared.give_chunk.Goals as goal

@@ -1,5 +1,5 @@
 use Rattle.std.proofs.Common.{◌≡◌, ℕ, ◌<◌, ◌^◌, arith, Some, None, option_copied, ap, sym, ◌∙◌}
-use Rattle.shared_value.specs.SharedValue.{SharedValue, accounts, marks_at}
+use Rattle.leaf_collections.specs.below.shared_value.{SharedValue, accounts, marks_at}
 use Rattle.heap_marking.specs.MarkCauses.{marking_cause}
 use Rattle.heap_marking.proofs.SweptUnits.{few_at}
 use Rattle.shared_tree.specs.contracts.shared.Shared.{the_view}

@@ -1,7 +1,6 @@
 use Rattle.std.proofs.Common.{sym, subst}
-use Rattle.shared_value.specs.SharedValue.{SharedValue}
-use Rattle.shared_value.specs.Fits.{Fits}
-use Rattle.shared_value.proofs.JournalGoesOn.{halted_fit}
+use Rattle.leaf_collections.specs.below.shared_value.{SharedValue, Fits}
+use Rattle.leaf_collections.proofs.below.shared_value.{halted_fit}
 use Rattle.shared_tree.specs.contracts.shared.Shared.{the_view}
 use Rattle.shared_tree.proofs.shared.Shared.halt.Goals as goal
 

@@ -1,12 +1,9 @@
 use Rattle.std.proofs.Common.{◌≡◌, ◌==◌, ◌↔◌, ◌≤◌, ℕ, All, IsTrue, List, Some, None, ap, length, option_copied, slice_get, sym, subst, ◌∙◌}
-use Rattle.run_ledger.specs.Heaps.{heap_of, left_in}
-use Rattle.object_layout.specs.declared.word.Addr.{Addr}
-use Rattle.object_layout.specs.ChunkValue.{ChunkValue}
-use Rattle.object_layout.specs.Graph.{HasObjectAt}
-use Rattle.inner_mark_gc.specs.MarkingValue.{IsAllMarked, IsMarking, IsOf}
-use Rattle.inner_mark_gc.specs.Snapshot.{Fork, IsSince}
-use Rattle.core_relation.specs.Since.{kept}
-use Rattle.shared_value.specs.SharedValue.{SharedValue, accounts, marks_at, value_of}
+use Rattle.leaf_collections.specs.below.run_ledger.{heap_of, left_in}
+use Rattle.leaf_collections.specs.below.object_layout.{Addr, ChunkValue, HasObjectAt}
+use Rattle.leaf_collections.specs.below.inner_mark_gc.{IsAllMarked, IsMarking, IsOf, Fork, IsSince}
+use Rattle.leaf_collections.specs.below.core_relation.{kept}
+use Rattle.leaf_collections.specs.below.shared_value.{SharedValue, accounts, marks_at, value_of}
 use Rattle.heap_marking.specs.MarkCauses.{marking_cause}
 use Rattle.heap_marking.specs.Marking.{Further}
 use Rattle.heap_marking.proofs.MarkEntries.{kept_noted}

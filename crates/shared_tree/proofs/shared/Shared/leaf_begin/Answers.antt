@@ -1,9 +1,9 @@
 use Rattle.std.proofs.Common.{Result, refl, sym, ◌∙◌}
 use Rattle.std.specs.Prelude.{Vec}
 use Rattle.std.specs.declared.alloc.Global.{Global}
-use Rattle.object_layout.specs.declared.word.Addr.{Addr}
-use Rattle.leaf_copy_gc.specs.declared.lists.ToChunks.{ToChunks}
-use Rattle.shared_value.specs.declared.answer.NotEntered.{NotEntered}
+use Rattle.leaf_collections.specs.below.object_layout.{Addr}
+use Rattle.leaf_collections.specs.below.leaf_copy_gc.{ToChunks}
+use Rattle.leaf_collections.specs.below.shared_value.{NotEntered}
 use Rattle.shared_tree.specs.Calls.{BeginsLeaf}
 use Rattle.shared_tree.proofs.HandedOn.{for_memory}
 use Rattle.shared_tree.proofs.shared.Shared.leaf_begin.Goals as goal

@@ -1,10 +1,7 @@
 use Rattle.std.proofs.Common.{◌≡◌, ℕ, false, refl, sym, subst, ◌∙◌}
-use Rattle.leaf_copy_gc.specs.declared.lists.Moved.{Moved}
-use Rattle.task_machine.specs.declared.part.Private.{Private}
-use Rattle.shared_value.specs.SharedValue.{SharedValue}
-use Rattle.shared_value.specs.Causes.{first_cause}
-use Rattle.shared_value.specs.Entered.{refused}
-use Rattle.shared_value.specs.Stands.{IsSharedValue}
+use Rattle.leaf_collections.specs.below.leaf_copy_gc.{Moved}
+use Rattle.leaf_collections.specs.below.task_machine.{Private}
+use Rattle.leaf_collections.specs.below.shared_value.{SharedValue, first_cause, refused, IsSharedValue}
 use Rattle.leaf_collections.specs.LeafEnd.{FitsCopied, end_entry}
 use Rattle.leaf_collections.proofs.WhyNoEnd.{end_answer}
 use Rattle.shared_tree.specs.contracts.shared.Shared.{the_view}

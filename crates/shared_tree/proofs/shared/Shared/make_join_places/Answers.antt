@@ -1,16 +1,11 @@
 use Rattle.std.proofs.Common.{◌≡◌, ◌+◌, ℕ, arith, Option, Some, None, List, length, refl, ap, sym, subst, ◌∙◌, Result, Ok, Err}
 use Rattle.std.specs.Prelude.{OnOk}
-use Rattle.heap_tree.specs.declared.state.State.TheVariants.{Ended}
-use Rattle.heap_tree.specs.Node.{parent_of, state_of}
-use Rattle.heap_tree.specs.Pairs.{sibling}
-use Rattle.inner_mark_gc.specs.MarkingValue.{MarkingValue}
-use Rattle.task_machine.specs.declared.part.Private.{Private}
-use Rattle.task_homes.specs.HomesValue.{HomesValue}
-use Rattle.shared_value.specs.SharedValue.{SharedValue, rest_at}
-use Rattle.shared_value.specs.Stands.{IsSharedValue}
-use Rattle.shared_value.specs.Fits.{Fits}
-use Rattle.shared_value.specs.Entered.{refused}
-use Rattle.own_steps.specs.Alone.{alone_entry}
+use Rattle.leaf_collections.specs.below.heap_tree.{Ended, parent_of, state_of, sibling}
+use Rattle.leaf_collections.specs.below.inner_mark_gc.{MarkingValue}
+use Rattle.leaf_collections.specs.below.task_machine.{Private}
+use Rattle.leaf_collections.specs.below.task_homes.{HomesValue}
+use Rattle.leaf_collections.specs.below.shared_value.{SharedValue, rest_at, IsSharedValue, Fits, refused}
+use Rattle.child_tasks.specs.below.own_steps.{alone_entry}
 use Rattle.child_tasks.specs.ChildEnds.{IsAtEnd}
 use Rattle.child_tasks.specs.Joins.{HasPlaces, SameButPlaces, chunk_count, sources_at}
 use Rattle.child_tasks.proofs.ChildReturns.{own_made, parent_low}

@@ -1,9 +1,6 @@
 use Rattle.std.proofs.Common.{◌≡◌, Result, None, refl, sym, subst, ◌∙◌, ◌<◌}
-use Rattle.run_trace.specs.declared.entry.Kind.TheVariants.{Mark}
-use Rattle.shared_value.specs.declared.answer.NotEntered.{NotEntered}
-use Rattle.shared_value.specs.Entered.{refused, Enters}
-use Rattle.shared_value.specs.Fits.{AllFit}
-use Rattle.shared_value.specs.SharedValue.{SharedValue}
+use Rattle.leaf_collections.specs.below.run_trace.{Mark}
+use Rattle.leaf_collections.specs.below.shared_value.{NotEntered, refused, Enters, AllFit, SharedValue}
 use Rattle.shared_tree.specs.Calls.{BeginsMarking}
 use Rattle.shared_tree.proofs.HandedOn.{for_memory}
 use Rattle.shared_tree.proofs.shared.Shared.mark.Goals as goal

@@ -1,12 +1,9 @@
 use Rattle.std.proofs.Common.{◌≡◌, ℕ, true, false, Option, Some, None, is_some, option_copied, refl, ap, sym, subst, ◌∙◌}
 use Rattle.std.specs.Borrow.{Bor}
-use Rattle.run_trace.specs.declared.entry.Kind.TheVariants.{Mark}
-use Rattle.run_ledger.specs.Heaps.{heap_of, words_in}
-use Rattle.alloc_path.specs.LeafHeapValue.{counted}
-use Rattle.shared_value.specs.Causes.{first_cause}
-use Rattle.shared_value.specs.Entered.{refused}
-use Rattle.shared_value.specs.SharedValue.{SharedValue, accounts, marks_at}
-use Rattle.shared_value.specs.Stands.{IsSharedValue}
+use Rattle.leaf_collections.specs.below.run_trace.{Mark}
+use Rattle.leaf_collections.specs.below.run_ledger.{heap_of, words_in}
+use Rattle.leaf_collections.specs.below.alloc_path.{counted}
+use Rattle.leaf_collections.specs.below.shared_value.{first_cause, refused, SharedValue, accounts, marks_at, IsSharedValue}
 use Rattle.leaf_collections.proofs.WhyNoChunk.{first_answer}
 use Rattle.heap_marking.specs.MarkCauses.{waiting_cause, words_cause}
 use Rattle.heap_marking.proofs.MarkEntries.{mark_as_marking, mark_as_waiting, mark_as_words}

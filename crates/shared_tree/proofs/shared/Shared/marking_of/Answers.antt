@@ -1,13 +1,12 @@
 use Rattle.std.proofs.Common.{◌≡◌, ℕ, IfOk, Result, Ok, Err, None, slice_get, is_some, ap, subst, ◌∙◌}
 use Rattle.std.specs.Prelude.{IfSome}
-use Rattle.run_trace.specs.declared.entry.Kind.TheVariants.{Mark}
-use Rattle.run_ledger.specs.Heaps.{heap_of}
-use Rattle.inner_mark_gc.specs.MarkingValue.{MarkingValue}
-use Rattle.core_relation.specs.Marking.{GoesOn}
-use Rattle.task_homes.specs.declared.task_at_rest.Rest.{Rest}
-use Rattle.shared_value.specs.Roots.{heaps_of, sources_of}
-use Rattle.shared_value.specs.SharedValue.{SharedValue, accounts, rest_at, value_of}
-use Rattle.shared_value.proofs.EntryMade.{entry_on}
+use Rattle.leaf_collections.specs.below.run_trace.{Mark}
+use Rattle.leaf_collections.specs.below.run_ledger.{heap_of}
+use Rattle.leaf_collections.specs.below.inner_mark_gc.{MarkingValue}
+use Rattle.leaf_collections.specs.below.core_relation.{GoesOn}
+use Rattle.leaf_collections.specs.below.task_homes.{Rest}
+use Rattle.leaf_collections.specs.below.shared_value.{heaps_of, sources_of, SharedValue, accounts, rest_at, value_of}
+use Rattle.leaf_collections.proofs.below.shared_value.{entry_on}
 use Rattle.heap_marking.specs.MarkCauses.{waiting_cause}
 use Rattle.heap_marking.specs.Starts.{IsBegun, starts_in}
 use Rattle.heap_marking.proofs.MarkEntries.{mark_begun, mark_fields, mark_starts, mark_waits}

@@ -1,14 +1,9 @@
 use Rattle.std.proofs.Common.{◌≡◌, ℕ, Option, Some, None, ap₂, sym, subst, ◌∙◌}
-use Rattle.hh_lang.specs.declared.program.Line.{Line}
-use Rattle.hh_lang.specs.Form.{line_at}
-use Rattle.task_machine.specs.declared.part.Private.{Private}
-use Rattle.shared_value.specs.declared.next_step.Ending.{Ending}
-use Rattle.shared_value.specs.SharedValue.{SharedValue}
-use Rattle.shared_value.specs.Next.{next_line}
-use Rattle.own_steps.specs.Alone.{IsShared}
-use Rattle.own_steps.specs.Alone.{Tells}
-use Rattle.own_steps.proofs.AloneEntries.{AsksAlone, is_safe, runs_on}
-use Rattle.own_steps.proofs.LastSteps.{some_line, tells}
+use Rattle.leaf_collections.specs.below.hh_lang.{Line, line_at}
+use Rattle.leaf_collections.specs.below.task_machine.{Private}
+use Rattle.leaf_collections.specs.below.shared_value.{Ending, SharedValue, next_line}
+use Rattle.child_tasks.specs.below.own_steps.{IsShared, Tells}
+use Rattle.child_tasks.proofs.below.own_steps.{AsksAlone, is_safe, runs_on, some_line, tells}
 use Rattle.shared_tree.specs.Ran.{MayBeEntered}
 use Rattle.shared_tree.specs.contracts.shared.Shared.{the_view}
 use Rattle.shared_tree.proofs.shared.Shared.next_ending.Goals as goal

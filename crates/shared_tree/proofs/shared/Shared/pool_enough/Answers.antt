@@ -1,10 +1,8 @@
 use Rattle.std.proofs.Common.{◌+◌, nat_le, ap, ap₂, sym, subst, ◌∙◌}
-use Rattle.run_ledger.specs.Entries.{is_pool_enough}
-use Rattle.task_machine.specs.declared.part.Private.{Private}
-use Rattle.shared_value.specs.SharedValue.{SharedValue, accounts}
-use Rattle.shared_value.specs.Due.{IsOutPart, take_by}
-use Rattle.shared_value.specs.Fits.{Fits}
-use Rattle.shared_value.proofs.FreeChunks.{enough_is}
+use Rattle.leaf_collections.specs.below.run_ledger.{is_pool_enough}
+use Rattle.leaf_collections.specs.below.task_machine.{Private}
+use Rattle.leaf_collections.specs.below.shared_value.{SharedValue, accounts, IsOutPart, take_by, Fits}
+use Rattle.leaf_collections.proofs.below.shared_value.{enough_is}
 use Rattle.shared_tree.specs.contracts.shared.Shared.{the_view}
 use Rattle.shared_tree.proofs.shared.Shared.pool_enough.Goals as goal
 

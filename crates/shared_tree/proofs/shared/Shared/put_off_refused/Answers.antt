@@ -1,17 +1,10 @@
 use Rattle.std.proofs.Common.{◌≡◌, ℕ, true, false, Some, None, is_some, ap, sym, subst, ◌∙◌}
-use Rattle.run_trace.specs.Entry.{EntryValue}
-use Rattle.run_trace.specs.declared.entry.Kind.TheVariants.{PutOff}
-use Rattle.run_ledger.specs.declared.data.Refused.TheVariants.{PoolEnough}
-use Rattle.run_ledger.specs.Entries.{is_pool_enough, refused_if}
-use Rattle.chunk_pool.specs.PoolValue.{units_in_use}
-use Rattle.task_machine.specs.declared.part.Private.{Private}
-use Rattle.shared_value.specs.SharedValue.{SharedValue, accounts}
-use Rattle.shared_value.specs.Causes.{first_cause, or_else}
-use Rattle.shared_value.specs.Due.{due_cause}
-use Rattle.shared_value.specs.Entered.{refused}
-use Rattle.shared_value.specs.Fits.{Fits}
-use Rattle.shared_value.specs.Next.{part_asks}
-use Rattle.shared_value.proofs.FirstCauses.{found_first, nothing_first}
+use Rattle.leaf_collections.specs.below.run_trace.{EntryValue, PutOff}
+use Rattle.leaf_collections.specs.below.run_ledger.{PoolEnough, is_pool_enough, refused_if}
+use Rattle.leaf_collections.specs.below.chunk_pool.{units_in_use}
+use Rattle.leaf_collections.specs.below.task_machine.{Private}
+use Rattle.leaf_collections.specs.below.shared_value.{SharedValue, accounts, first_cause, or_else, due_cause, refused, Fits, part_asks}
+use Rattle.leaf_collections.proofs.below.shared_value.{found_first, nothing_first}
 use Rattle.leaf_collections.proofs.WhyNoChunk.{first_answer}
 use Rattle.leaf_collections.proofs.CollectionPutOff.{put_off_answer, without_fresh}
 use Rattle.shared_tree.specs.contracts.shared.Shared.{the_view}

@@ -1,14 +1,10 @@
 use Rattle.std.proofs.Common.{◌≡◌, ℕ, ℤ, SFits, w64, rules, Option, None, Result, refl, sym, subst, ◌∙◌}
 use Rattle.std.specs.Prelude.{IfOk, OnErr}
 use Rattle.std.proofs.lemmas.Int.{to_z-of_z}
-use Rattle.task_machine.specs.declared.part.Private.{Private}
-use Rattle.shared_value.specs.declared.answer.NotEntered.{NotEntered}
-use Rattle.shared_value.specs.declared.next_step.Ending.{Ending}
-use Rattle.shared_value.specs.declared.next_step.Ending.TheVariants.{Beyond, Prints, Returns}
-use Rattle.shared_value.specs.SharedValue.{SharedValue}
-use Rattle.shared_value.specs.Entered.{Answers, refused}
-use Rattle.own_steps.specs.Alone.{Tells, alone_entry}
-use Rattle.own_steps.proofs.AloneEntries.{child_beyond, other_beyond, trap_is}
+use Rattle.leaf_collections.specs.below.task_machine.{Private}
+use Rattle.leaf_collections.specs.below.shared_value.{NotEntered, Ending, Beyond, Prints, Returns, SharedValue, Answers, refused}
+use Rattle.child_tasks.specs.below.own_steps.{Tells, alone_entry}
+use Rattle.child_tasks.proofs.below.own_steps.{child_beyond, other_beyond, trap_is}
 use Rattle.shared_tree.specs.declared.ran_lent.Lent.{Lent}
 use Rattle.shared_tree.specs.Ran.{AloneTo}
 use Rattle.shared_tree.proofs.HandedOn.{for_memory}

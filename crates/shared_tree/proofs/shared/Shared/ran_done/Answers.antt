@@ -1,18 +1,13 @@
 use Rattle.std.proofs.Common.{refl, ◌≡◌, ℕ, ◌+◌, ◌-◌, Some, None, Err, [], slice_set, ap, sym, subst, ◌∙◌}
-use Rattle.hh_model.specs.declared.data.End.TheVariants.{Done}
-use Rattle.run_ledger.specs.declared.data.RunEnd.TheVariants.{Machine}
-use Rattle.heap_tree.specs.declared.state.State.TheVariants.{Ended}
-use Rattle.heap_tree.specs.Node.{with_state}
-use Rattle.task_machine.specs.declared.part.Private.{Private}
-use Rattle.shared_value.specs.declared.next_step.Ending.TheVariants.{Returns}
-use Rattle.task_homes.specs.declared.task_at_rest.Rest.{Rest}
-use Rattle.task_homes.specs.HomesValue.{HomesValue}
-use Rattle.shared_value.specs.declared.answer.NotEntered.TheVariants.{NoMemory}
-use Rattle.shared_value.specs.Stands.{IsSharedValue}
-use Rattle.shared_value.specs.SharedValue.{SharedValue}
-use Rattle.shared_value.proofs.JournalGoesOn.{four_changed}
-use Rattle.own_steps.specs.Alone.{FinishesAlone, Tells, ended_rest}
-use Rattle.own_steps.proofs.AloneEntries.{AsksAlone, asks_alone, alone_small, finishes_alone, finished_world, home_there, node_there}
+use Rattle.leaf_collections.specs.below.hh_model.{Done}
+use Rattle.leaf_collections.specs.below.run_ledger.{Machine}
+use Rattle.leaf_collections.specs.below.heap_tree.{Ended, with_state}
+use Rattle.leaf_collections.specs.below.task_machine.{Private}
+use Rattle.leaf_collections.specs.below.shared_value.{Returns, NoMemory, IsSharedValue, SharedValue}
+use Rattle.leaf_collections.specs.below.task_homes.{Rest, HomesValue}
+use Rattle.leaf_collections.proofs.below.shared_value.{four_changed}
+use Rattle.child_tasks.specs.below.own_steps.{FinishesAlone, Tells, ended_rest}
+use Rattle.child_tasks.proofs.below.own_steps.{AsksAlone, asks_alone, alone_small, finishes_alone, finished_world, home_there, node_there}
 use Rattle.child_tasks.proofs.JoinPlaces.{same_world}
 use Rattle.shared_tree.specs.Calls.{EntersLeaving}
 use Rattle.shared_tree.specs.contracts.shared.Shared.{the_view}

@@ -1,15 +1,9 @@
 use Rattle.std.proofs.Common.{false, true, ◌≡◌, ℕ, Option, Some, None, slice_set, ap, sym, ◌∙◌, ◌<◌, arith, refl, subst}
 use Rattle.std.specs.Prelude.{IfErr, OnErr, Result, Ok, Err}
-use Rattle.heap_tree.specs.Node.{parent_of, state_of}
-use Rattle.heap_tree.specs.declared.state.State.{State}
-use Rattle.heap_tree.specs.Pairs.{sibling}
-use Rattle.task_machine.specs.declared.part.Private.{Private}
-use Rattle.shared_value.specs.declared.answer.NotEntered.TheVariants.{NoMemory}
-use Rattle.shared_value.specs.declared.answer.NotRan.{NotRan}
-use Rattle.shared_value.specs.SharedValue.{SharedValue}
-use Rattle.shared_value.specs.Entered.{RanAnswers, refused}
-use Rattle.shared_value.specs.Fits.{AllFit, Fits}
-use Rattle.own_steps.specs.Alone.{alone_entry}
+use Rattle.leaf_collections.specs.below.heap_tree.{parent_of, state_of, State, sibling}
+use Rattle.leaf_collections.specs.below.task_machine.{Private}
+use Rattle.leaf_collections.specs.below.shared_value.{NoMemory, NotRan, SharedValue, RanAnswers, refused, AllFit, Fits}
+use Rattle.child_tasks.specs.below.own_steps.{alone_entry}
 use Rattle.child_tasks.specs.ChildEnds.{IsAtEnd}
 use Rattle.child_tasks.specs.Joins.{IsUnchanged, SameButPlaces}
 use Rattle.child_tasks.proofs.ChildReturns.{end_shared, own_made, parent_low, tree_parent}

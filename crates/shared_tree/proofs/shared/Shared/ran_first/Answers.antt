@@ -1,16 +1,11 @@
 use Rattle.std.proofs.Common.{refl, ◌≡◌, ℕ, ◌+◌, ◌-◌, None, Some, [], slice_set, ap, sym, subst, ◌∙◌, ◌<◌}
-use Rattle.heap_tree.specs.declared.state.State.TheVariants.{Ended}
-use Rattle.heap_tree.specs.Node.{state_of, with_state}
-use Rattle.heap_tree.specs.Pairs.{sibling}
-use Rattle.task_machine.specs.declared.part.Private.{Private}
-use Rattle.task_homes.specs.declared.task_at_rest.Rest.{Rest}
-use Rattle.task_homes.specs.HomesValue.{HomesValue}
-use Rattle.shared_value.specs.Stands.{IsSharedValue}
-use Rattle.shared_value.specs.SharedValue.{SharedValue}
-use Rattle.shared_value.proofs.JournalGoesOn.{four_changed}
-use Rattle.own_steps.specs.Alone.{ended_rest}
-use Rattle.own_steps.proofs.AloneEntries.{alone_small}
-use Rattle.own_steps.proofs.TaskEnds.{has_home, has_node}
+use Rattle.leaf_collections.specs.below.heap_tree.{Ended, state_of, with_state, sibling}
+use Rattle.leaf_collections.specs.below.task_machine.{Private}
+use Rattle.leaf_collections.specs.below.task_homes.{Rest, HomesValue}
+use Rattle.leaf_collections.specs.below.shared_value.{IsSharedValue, SharedValue}
+use Rattle.leaf_collections.proofs.below.shared_value.{four_changed}
+use Rattle.child_tasks.specs.below.own_steps.{ended_rest}
+use Rattle.child_tasks.proofs.below.own_steps.{alone_small, has_home, has_node}
 use Rattle.child_tasks.specs.ChildEnds.{EndsChild}
 use Rattle.child_tasks.proofs.ChildEnded.{alone_ends, alone_world}
 use Rattle.child_tasks.proofs.ChildReturns.{asked, asked_alone, asks_end}

@@ -1,11 +1,10 @@
 use Rattle.std.proofs.Common.{◌≡◌, ◌≤◌, ◌<◌, ℕ, None, length, sym, subst, ◌∙◌}
-use Rattle.hh_model.specs.declared.data.Trap.TheVariants.{Depth}
-use Rattle.heap_tree.specs.Node.{depth_of}
-use Rattle.task_machine.specs.declared.part.Private.{Private}
-use Rattle.shared_value.specs.SharedValue.{SharedValue}
-use Rattle.shared_value.specs.Entered.{refused}
-use Rattle.own_steps.specs.Alone.{alone_entry}
-use Rattle.own_steps.proofs.AloneEntries.{node_there, trap_is}
+use Rattle.leaf_collections.specs.below.hh_model.{Depth}
+use Rattle.leaf_collections.specs.below.heap_tree.{depth_of}
+use Rattle.leaf_collections.specs.below.task_machine.{Private}
+use Rattle.leaf_collections.specs.below.shared_value.{SharedValue, refused}
+use Rattle.child_tasks.specs.below.own_steps.{alone_entry}
+use Rattle.child_tasks.proofs.below.own_steps.{node_there, trap_is}
 use Rattle.child_tasks.proofs.NextStepForks.{deep_traps, fork_shared}
 use Rattle.shared_tree.proofs.shared.Shared.ran_forking.Goals as goal
 

@@ -1,7 +1,5 @@
 use Rattle.std.proofs.Common.{Err, refl, subst}
-use Rattle.shared_value.specs.declared.answer.NotRan.{NotRan}
-use Rattle.shared_value.specs.SharedValue.{SharedValue}
-use Rattle.shared_value.specs.Entered.{IsCaused}
+use Rattle.leaf_collections.specs.below.shared_value.{NotRan, SharedValue, IsCaused}
 use Rattle.child_tasks.specs.declared.fork.Forking.{Forking}
 use Rattle.shared_tree.specs.Calls.{EntersLeaving}
 use Rattle.shared_tree.specs.Ran.{IsAtRootEnd, LeavesBy, RanTo}

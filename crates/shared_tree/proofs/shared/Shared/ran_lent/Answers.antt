@@ -1,10 +1,7 @@
 use Rattle.std.proofs.Common.{◌≡◌, None, Err, refl, sym, subst}
-use Rattle.task_machine.specs.declared.part.Private.{Private}
-use Rattle.shared_value.specs.declared.answer.NotEntered.{NotEntered}
-use Rattle.shared_value.specs.SharedValue.{SharedValue}
-use Rattle.shared_value.specs.Entered.{Answers, refused}
-use Rattle.shared_value.specs.Fits.{Fits}
-use Rattle.own_steps.specs.Alone.{IsBeyond, IsShared, alone_entry}
+use Rattle.leaf_collections.specs.below.task_machine.{Private}
+use Rattle.leaf_collections.specs.below.shared_value.{NotEntered, SharedValue, Answers, refused, Fits}
+use Rattle.child_tasks.specs.below.own_steps.{IsBeyond, IsShared, alone_entry}
 use Rattle.shared_tree.specs.Calls.{EntersLent}
 use Rattle.shared_tree.specs.Ran.{AloneTo, IsJoint}
 use Rattle.shared_tree.proofs.HandedOn.{handed_on}

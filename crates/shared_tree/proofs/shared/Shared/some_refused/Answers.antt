@@ -1,9 +1,6 @@
 use Rattle.std.proofs.Common.{◌≡◌, ℕ, true, false, is_some, ap, sym, subst, ◌∙◌}
-use Rattle.run_trace.specs.declared.entry.Kind.TheVariants.{More}
-use Rattle.shared_value.specs.Causes.{first_cause}
-use Rattle.shared_value.specs.Entered.{refused}
-use Rattle.shared_value.specs.SharedValue.{SharedValue}
-use Rattle.shared_value.specs.Stands.{IsSharedValue}
+use Rattle.leaf_collections.specs.below.run_trace.{More}
+use Rattle.leaf_collections.specs.below.shared_value.{first_cause, refused, SharedValue, IsSharedValue}
 use Rattle.leaf_collections.proofs.WhyNoChunk.{first_answer}
 use Rattle.heap_marking.specs.MarkCauses.{marking_cause}
 use Rattle.heap_marking.proofs.MarkEntries.{some_as_left, some_as_marking}

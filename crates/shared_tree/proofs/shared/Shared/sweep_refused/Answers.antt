@@ -1,10 +1,7 @@
 use Rattle.std.proofs.Common.{◌≡◌, ℕ, true, false, is_some, ap, sym, subst, ◌∙◌}
-use Rattle.run_trace.specs.Entry.{EntryValue}
-use Rattle.run_trace.specs.declared.entry.Kind.TheVariants.{Sweep}
-use Rattle.shared_value.specs.Causes.{first_cause, or_else}
-use Rattle.shared_value.specs.Entered.{refused}
-use Rattle.shared_value.specs.SharedValue.{SharedValue}
-use Rattle.shared_value.proofs.FirstCauses.{found_first, nothing_first}
+use Rattle.leaf_collections.specs.below.run_trace.{EntryValue, Sweep}
+use Rattle.leaf_collections.specs.below.shared_value.{first_cause, or_else, refused, SharedValue}
+use Rattle.leaf_collections.proofs.below.shared_value.{found_first, nothing_first}
 use Rattle.heap_marking.specs.MarkCauses.{marking_cause}
 use Rattle.heap_marking.proofs.SweptRefusals.{sweep_answer, sweep_cause}
 use Rattle.shared_tree.specs.contracts.shared.Shared.{the_view}

@@ -1,6 +1,6 @@
 use Rattle.std.proofs.Common.{length, ap, ◌∙◌}
-use Rattle.shared_value.specs.SharedValue.{SharedValue, accounts}
-use Rattle.shared_value.proofs.BeforeTheEnd.{tree_long}
+use Rattle.leaf_collections.specs.below.shared_value.{SharedValue, accounts}
+use Rattle.leaf_collections.proofs.below.shared_value.{tree_long}
 use Rattle.shared_tree.specs.contracts.shared.Shared.{the_view}
 use Rattle.shared_tree.proofs.shared.Shared.tasks.Goals as goal
 

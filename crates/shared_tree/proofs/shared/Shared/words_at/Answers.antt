@@ -1,7 +1,7 @@
 use Rattle.std.proofs.Common.{◌≡◌, ℕ, Some, None, option_copied, ap, sym, ◌∙◌}
-use Rattle.run_ledger.specs.Heaps.{heap_of, words_in}
-use Rattle.alloc_path.specs.LeafHeapValue.{counted}
-use Rattle.shared_value.specs.SharedValue.{SharedValue, accounts, rest_at}
+use Rattle.leaf_collections.specs.below.run_ledger.{heap_of, words_in}
+use Rattle.leaf_collections.specs.below.alloc_path.{counted}
+use Rattle.leaf_collections.specs.below.shared_value.{SharedValue, accounts, rest_at}
 use Rattle.heap_marking.specs.MarkCauses.{waiting_cause}
 use Rattle.heap_marking.proofs.MarkEntries.{words_now}
 use Rattle.heap_marking.proofs.WaitingHome.{never_gone}

@@ -1,6 +1,6 @@
 use Rattle.std.proofs.Common.{◌≡◌, ℕ, Some, None, option_copied, ap, sym, ◌∙◌}
-use Rattle.run_ledger.specs.Heaps.{heap_of, left_in, sweep_number}
-use Rattle.shared_value.specs.SharedValue.{SharedValue, accounts, marks_at, rest_at}
+use Rattle.leaf_collections.specs.below.run_ledger.{heap_of, left_in, sweep_number}
+use Rattle.leaf_collections.specs.below.shared_value.{SharedValue, accounts, marks_at, rest_at}
 use Rattle.heap_marking.specs.MarkCauses.{marking_cause}
 use Rattle.heap_marking.proofs.MarkedHeap.{never_gone}
 use Rattle.heap_marking.proofs.SweptUnits.{would_be}

@@ -1,6 +1,6 @@
 use Rattle.std.proofs.Common.{◌<◌, ap, sym, subst, ◌∙◌}
-use Rattle.run_trace.specs.Settings.{SettingsValue}
-use Rattle.shared_value.specs.SharedValue.{SharedValue, accounts}
+use Rattle.paced_tree.specs.below.run_trace.{SettingsValue}
+use Rattle.paced_tree.specs.below.shared_value.{SharedValue, accounts}
 use Rattle.turn_entries.specs.Next.{going_kind}
 use Rattle.turn_entries.proofs.Turning.{acts_then, brings_then, not_over, roomier}
 use Rattle.turn_entries.proofs.run.Run.act_next.Goals as goal

@@ -1,6 +1,5 @@
 use Rattle.std.proofs.Common.{ap, false, is_some, refl, sym, ◌∙◌}
-use Rattle.shared_value.specs.Causes.{first_cause}
-use Rattle.shared_value.specs.SharedValue.{SharedValue}
+use Rattle.paced_tree.specs.below.shared_value.{first_cause, SharedValue}
 use Rattle.turn_entries.proofs.Coming.{acts_spent}
 use Rattle.turn_entries.proofs.run.Run.act_on.Goals as goal
 

@@ -1,8 +1,7 @@
 use Rattle.std.proofs.Common.{Some, ap, sym, subst, true, false}
-use Rattle.run_trace.specs.declared.entry.Kind.TheVariants.{Begin, PutOff}
-use Rattle.task_machine.specs.declared.part.Private.{Private}
-use Rattle.shared_value.specs.Fits.{Fits}
-use Rattle.shared_value.specs.SharedValue.{SharedValue}
+use Rattle.paced_tree.specs.below.run_trace.{Begin, PutOff}
+use Rattle.paced_tree.specs.below.task_machine.{Private}
+use Rattle.paced_tree.specs.below.shared_value.{Fits, SharedValue}
 use Rattle.turn_entries.specs.Next.{due_kind}
 use Rattle.turn_entries.proofs.Coming.{acts_same, due_begins, due_waits, enough_is}
 use Rattle.turn_entries.proofs.run.Run.collect.Goals as goal

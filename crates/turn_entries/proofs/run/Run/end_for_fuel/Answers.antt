@@ -1,9 +1,9 @@
 use Rattle.std.proofs.Common.{ap, sym, ◌∙◌, is_some}
-use Rattle.run_trace.specs.declared.entry.Kind.TheVariants.{Fuel}
-use Rattle.run_ledger.specs.declared.data.Ledger.{Ledger}
-use Rattle.journal_laws.proofs.Accepted.{not_refused}
-use Rattle.shared_value.specs.Entered.{cause_of}
-use Rattle.heap_marking.proofs.ForksTold.{entered_accounts}
+use Rattle.paced_tree.specs.below.run_trace.{Fuel}
+use Rattle.paced_tree.specs.below.run_ledger.{Ledger}
+use Rattle.paced_tree.proofs.below.journal_laws.{not_refused}
+use Rattle.paced_tree.specs.below.shared_value.{cause_of}
+use Rattle.paced_tree.proofs.below.heap_marking.{entered_accounts}
 use Rattle.turn_entries.proofs.Free.{fuel_free}
 use Rattle.turn_entries.proofs.Turning.{one_of_all}
 use Rattle.turn_entries.proofs.run.Run.end_for_fuel.Goals as goal

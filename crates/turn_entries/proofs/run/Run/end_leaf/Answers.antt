@@ -1,12 +1,11 @@
 use Rattle.std.proofs.Common.{◌≡◌, ap, sym, subst, ◌∙◌}
-use Rattle.run_trace.specs.declared.entry.Kind.{Kind}
-use Rattle.run_trace.specs.declared.entry.Kind.TheVariants.{End}
-use Rattle.journal_laws.proofs.Accepted.{not_refused}
-use Rattle.task_machine.specs.declared.part.Private.{Private}
-use Rattle.shared_value.specs.Entered.{Enters, refused}
-use Rattle.leaf_collections.specs.LeafEnd.{FitsCopied, end_entry, ended}
-use Rattle.leaf_collections.proofs.WhyNoEnd.{end_free}
-use Rattle.shared_tree.specs.Ends.{end_cause}
+use Rattle.paced_tree.specs.below.run_trace.{Kind, End}
+use Rattle.paced_tree.proofs.below.journal_laws.{not_refused}
+use Rattle.paced_tree.specs.below.task_machine.{Private}
+use Rattle.paced_tree.specs.below.shared_value.{Enters, refused}
+use Rattle.paced_tree.specs.below.leaf_collections.{FitsCopied, end_entry, ended}
+use Rattle.paced_tree.proofs.below.leaf_collections.{end_free}
+use Rattle.paced_tree.specs.below.shared_tree.{end_cause}
 use Rattle.turn_entries.proofs.Going.{may_ended}
 use Rattle.turn_entries.proofs.Paying.{pays_nothing}
 use Rattle.turn_entries.proofs.Turning.{one}

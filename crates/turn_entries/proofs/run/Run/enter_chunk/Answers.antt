@@ -1,8 +1,7 @@
 use Rattle.std.proofs.Common.{◌≡◌, Some, sym, subst}
-use Rattle.run_trace.specs.declared.entry.Kind.TheVariants.{Chunk}
-use Rattle.task_machine.specs.declared.part.Private.{Private}
-use Rattle.shared_value.specs.Entered.{Enters, IsCaused, refused}
-use Rattle.shared_value.specs.Fits.{Fits}
+use Rattle.paced_tree.specs.below.run_trace.{Chunk}
+use Rattle.paced_tree.specs.below.task_machine.{Private}
+use Rattle.paced_tree.specs.below.shared_value.{Enters, IsCaused, refused, Fits}
 use Rattle.turn_entries.proofs.Free.{chunk_free, only_memory}
 use Rattle.turn_entries.proofs.Going.{may_heap}
 use Rattle.turn_entries.proofs.Paying.{pays_nothing}

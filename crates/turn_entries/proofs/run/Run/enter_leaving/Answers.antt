@@ -1,8 +1,7 @@
 use Rattle.std.proofs.Common.{◌+◌, Some, sym, subst}
-use Rattle.run_trace.specs.declared.entry.Kind.TheVariants.{Ran}
-use Rattle.task_machine.specs.declared.part.Private.{Private}
-use Rattle.task_machine.specs.declared.part.Paused.TheVariants.{Shared}
-use Rattle.shared_tree.specs.Ran.{LeavesBy}
+use Rattle.paced_tree.specs.below.run_trace.{Ran}
+use Rattle.paced_tree.specs.below.task_machine.{Private, Shared}
+use Rattle.paced_tree.specs.below.shared_tree.{LeavesBy}
 use Rattle.turn_entries.specs.declared.between_turns.Ready.TheVariants.{Paused as HasPaused}
 use Rattle.turn_entries.specs.Acts.{ActsFor}
 use Rattle.turn_entries.specs.Parts.{IsPaused}

@@ -1,6 +1,6 @@
 use Rattle.std.proofs.Common.{arith}
-use Rattle.run_trace.specs.declared.entry.Kind.TheVariants.{Chunk}
-use Rattle.task_machine.specs.declared.part.Paused.TheVariants.{Due, NeedChunk, Spent}
+use Rattle.paced_tree.specs.below.run_trace.{Chunk}
+use Rattle.paced_tree.specs.below.task_machine.{Due, NeedChunk, Spent}
 use Rattle.turn_entries.specs.declared.between_turns.Ready.TheVariants.{Paused as HasPaused}
 use Rattle.turn_entries.specs.Next.{due_kind}
 use Rattle.turn_entries.proofs.Coming.{acts_at_once, acts_fresh, acts_paused}

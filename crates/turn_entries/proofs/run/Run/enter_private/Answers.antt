@@ -1,10 +1,8 @@
 use Rattle.std.proofs.Common.{◌≡◌, ◌<◌, ap, sym, subst, ◌∙◌}
-use Rattle.run_trace.specs.declared.entry.Kind.{Kind}
-use Rattle.run_trace.specs.declared.entry.Kind.TheVariants.{Ran}
-use Rattle.journal_laws.proofs.Accepted.{not_refused}
-use Rattle.task_machine.specs.declared.part.Private.{Private}
-use Rattle.shared_value.specs.Entered.{Enters, refused}
-use Rattle.shared_value.specs.Fits.{Fits}
+use Rattle.paced_tree.specs.below.run_trace.{Kind, Ran}
+use Rattle.paced_tree.proofs.below.journal_laws.{not_refused}
+use Rattle.paced_tree.specs.below.task_machine.{Private}
+use Rattle.paced_tree.specs.below.shared_value.{Enters, refused, Fits}
 use Rattle.turn_entries.proofs.Free.{private_free}
 use Rattle.turn_entries.proofs.Going.{may_cleared}
 use Rattle.turn_entries.proofs.Paying.{pays_nothing}

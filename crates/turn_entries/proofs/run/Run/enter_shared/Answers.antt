@@ -1,17 +1,12 @@
 use Rattle.std.proofs.Common.{◌≡◌, ℕ, ◌+◌, Option, Some, ap, sym, subst, ◌∙◌}
 use Rattle.std.specs.Prelude.{is_some}
-use Rattle.run_trace.specs.declared.entry.Kind.{Kind}
-use Rattle.run_trace.specs.declared.entry.Kind.TheVariants.{Ran}
-use Rattle.run_ledger.specs.declared.data.Owed.TheVariants.{Nothing}
-use Rattle.run_ledger.specs.declared.data.RunEnd.{RunEnd}
-use Rattle.task_machine.specs.declared.part.Private.{Private}
-use Rattle.task_machine.specs.declared.part.Paused.TheVariants.{Shared}
-use Rattle.shared_value.specs.Entered.{IsCaused, refused}
-use Rattle.shared_value.specs.Fits.{Fits}
-use Rattle.shared_value.specs.SharedValue.{SharedValue}
-use Rattle.own_steps.specs.Alone.{GoesAlone, HaltsAlone, IsShared, alone_entry}
-use Rattle.own_steps.proofs.LastSteps.{alone_free}
-use Rattle.shared_tree.specs.Ran.{LeavesBy, LeavesPart, LentTo}
+use Rattle.paced_tree.specs.below.run_trace.{Kind, Ran}
+use Rattle.paced_tree.specs.below.run_ledger.{Nothing, RunEnd}
+use Rattle.paced_tree.specs.below.task_machine.{Private, Shared}
+use Rattle.paced_tree.specs.below.shared_value.{IsCaused, refused, Fits, SharedValue}
+use Rattle.paced_tree.specs.below.own_steps.{GoesAlone, HaltsAlone, IsShared, alone_entry}
+use Rattle.paced_tree.proofs.below.own_steps.{alone_free}
+use Rattle.paced_tree.specs.below.shared_tree.{LeavesBy, LeavesPart, LentTo}
 use Rattle.turn_entries.specs.declared.between_turns.Ready.TheVariants.{Paused as HasPaused}
 use Rattle.turn_entries.specs.Parts.{IsPaused}
 use Rattle.turn_entries.specs.Values.{MayEnter}

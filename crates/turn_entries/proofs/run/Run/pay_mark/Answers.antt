@@ -1,6 +1,5 @@
 use Rattle.std.proofs.Common.{Some}
-use Rattle.run_trace.specs.declared.entry.Kind.{Kind}
-use Rattle.run_trace.specs.declared.entry.Kind.TheVariants.{Mark}
+use Rattle.paced_tree.specs.below.run_trace.{Kind, Mark}
 use Rattle.turn_entries.proofs.Free.{mark_free, only_memory}
 use Rattle.turn_entries.proofs.Paying.{pays_mark}
 use Rattle.turn_entries.proofs.Turning.{not_over, one_of_all, unchanged}

@@ -1,8 +1,7 @@
 use Rattle.std.proofs.Common.{ap, sym, ◌∙◌}
-use Rattle.run_trace.specs.declared.entry.Kind.{Kind}
-use Rattle.run_trace.specs.declared.entry.Kind.TheVariants.{More}
-use Rattle.journal_laws.proofs.Accepted.{not_refused}
-use Rattle.shared_value.specs.Entered.{cause_of}
+use Rattle.paced_tree.specs.below.run_trace.{Kind, More}
+use Rattle.paced_tree.proofs.below.journal_laws.{not_refused}
+use Rattle.paced_tree.specs.below.shared_value.{cause_of}
 use Rattle.turn_entries.proofs.Free.{more_free}
 use Rattle.turn_entries.proofs.Paying.{pays_more}
 use Rattle.turn_entries.proofs.Turning.{one_of_all}

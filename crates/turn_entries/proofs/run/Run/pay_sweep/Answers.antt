@@ -1,11 +1,9 @@
 use Rattle.std.proofs.Common.{ℕ, Some, subst, ap, sym, ◌∙◌}
-use Rattle.run_trace.specs.declared.entry.Kind.{Kind}
-use Rattle.run_trace.specs.declared.entry.Kind.TheVariants.{Sweep}
-use Rattle.run_ledger.specs.Heaps.{heap_of, left_in, sweep_number}
-use Rattle.journal_laws.proofs.Accepted.{not_refused}
-use Rattle.shared_value.specs.Entered.{cause_of}
-use Rattle.shared_value.specs.SharedValue.{SharedValue, accounts}
-use Rattle.heap_marking.specs.MarkCauses.{marking_cause}
+use Rattle.paced_tree.specs.below.run_trace.{Kind, Sweep}
+use Rattle.paced_tree.specs.below.run_ledger.{heap_of, left_in, sweep_number}
+use Rattle.paced_tree.proofs.below.journal_laws.{not_refused}
+use Rattle.paced_tree.specs.below.shared_value.{cause_of, SharedValue, accounts}
+use Rattle.paced_tree.specs.below.heap_marking.{marking_cause}
 use Rattle.turn_entries.specs.Acts.{ActsFor}
 use Rattle.turn_entries.proofs.Free.{sweep_free}
 use Rattle.turn_entries.proofs.Paying.{pays_sweep, sweep_is_owed}

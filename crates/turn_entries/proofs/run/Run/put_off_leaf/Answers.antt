@@ -1,9 +1,8 @@
 use Rattle.std.proofs.Common.{◌≡◌, ap, sym, subst, ◌∙◌}
-use Rattle.run_trace.specs.declared.entry.Kind.TheVariants.{PutOff}
-use Rattle.journal_laws.proofs.Accepted.{not_refused}
-use Rattle.task_machine.specs.declared.part.Private.{Private}
-use Rattle.shared_value.specs.Entered.{cause_of, Enters, refused}
-use Rattle.shared_value.specs.Fits.{Fits}
+use Rattle.paced_tree.specs.below.run_trace.{PutOff}
+use Rattle.paced_tree.proofs.below.journal_laws.{not_refused}
+use Rattle.paced_tree.specs.below.task_machine.{Private}
+use Rattle.paced_tree.specs.below.shared_value.{cause_of, Enters, refused, Fits}
 use Rattle.turn_entries.proofs.Free.{put_off_free}
 use Rattle.turn_entries.proofs.Going.{may_heap}
 use Rattle.turn_entries.proofs.Paying.{pays_nothing}

@@ -1,15 +1,12 @@
 use Rattle.std.proofs.Common.{◌+◌, Option, Some, None, refl, ap, subst, sym, ◌∙◌}
 use Rattle.std.specs.Prelude.{is_some}
-use Rattle.run_trace.specs.declared.entry.Kind.{Kind}
-use Rattle.run_trace.specs.declared.entry.Kind.TheVariants.{Ran}
-use Rattle.run_ledger.specs.declared.data.RunEnd.{RunEnd}
-use Rattle.task_machine.specs.declared.part.Paused.TheVariants.{Shared}
-use Rattle.own_steps.specs.Alone.{FinishesAlone, HaltsAlone}
-use Rattle.own_steps.proofs.LastSteps.{alone_free}
-use Rattle.child_tasks.specs.ChildEnds.{EndsChild}
-use Rattle.child_tasks.specs.Forks.{ForksOn}
-use Rattle.child_tasks.specs.NoTask.{HoldsNone}
-use Rattle.shared_tree.specs.Ran.{RanTo}
+use Rattle.paced_tree.specs.below.run_trace.{Kind, Ran}
+use Rattle.paced_tree.specs.below.run_ledger.{RunEnd}
+use Rattle.paced_tree.specs.below.task_machine.{Shared}
+use Rattle.paced_tree.specs.below.own_steps.{FinishesAlone, HaltsAlone}
+use Rattle.paced_tree.proofs.below.own_steps.{alone_free}
+use Rattle.paced_tree.specs.below.child_tasks.{EndsChild, ForksOn, HoldsNone}
+use Rattle.paced_tree.specs.below.shared_tree.{RanTo}
 use Rattle.turn_entries.specs.declared.between_turns.Ready.TheVariants.{Paused as HasPaused}
 use Rattle.turn_entries.specs.Acts.{Follows}
 use Rattle.turn_entries.proofs.Free.{only_memory}

@@ -1,7 +1,6 @@
 use Rattle.std.proofs.Common.{refl, ap, sym, subst, ◌∙◌, is_some}
-use Rattle.run_trace.specs.declared.entry.Kind.TheVariants.{Took}
-use Rattle.shared_value.specs.Entered.{cause_of}
-use Rattle.shared_value.specs.SharedValue.{SharedValue}
+use Rattle.paced_tree.specs.below.run_trace.{Took}
+use Rattle.paced_tree.specs.below.shared_value.{cause_of, SharedValue}
 use Rattle.turn_entries.specs.Parts.{MayRun}
 use Rattle.turn_entries.specs.Values.{is_over}
 use Rattle.turn_entries.proofs.Going.{may}

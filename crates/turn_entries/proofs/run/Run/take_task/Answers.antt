@@ -1,5 +1,5 @@
 use Rattle.std.proofs.Common.{refl, Some}
-use Rattle.run_trace.specs.declared.entry.Kind.TheVariants.{Took}
+use Rattle.paced_tree.specs.below.run_trace.{Took}
 use Rattle.turn_entries.proofs.Turning.{not_over, unchanged}
 use Rattle.turn_entries.proofs.run.Run.take_task.Goals as goal
 

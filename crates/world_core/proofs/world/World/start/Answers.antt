@@ -1,12 +1,10 @@
 use Rattle.std.proofs.Common.{◌≡◌, ℕ, zero, suc, false, Some, List, [], replicate, length, slice_get, refl, ap, subst, sym, ◌∙◌}
 use Rattle.std.proofs.lemmas.Option.{same_Some}
-use Rattle.run_trace.specs.Entry.{EntryValue}
-use Rattle.run_trace.specs.Settings.{SettingsValue}
-use Rattle.run_ledger.specs.Heaps.{heap_of}
-use Rattle.run_ledger.specs.Journals.{ledger_of}
-use Rattle.core_relation.specs.Whole.{handed}
-use Rattle.shared_value.specs.SharedValue.{SharedValue}
-use Rattle.child_tasks.specs.NoTask.{HoldsNone}
+use Rattle.counted_tree.specs.below.run_trace.{EntryValue, SettingsValue}
+use Rattle.counted_tree.specs.below.run_ledger.{heap_of, ledger_of}
+use Rattle.counted_tree.specs.below.core_relation.{handed}
+use Rattle.counted_tree.specs.below.shared_value.{SharedValue}
+use Rattle.counted_tree.specs.below.child_tasks.{HoldsNone}
 use Rattle.counted_tree.proofs.EntryCounted.{first_worker}
 use Rattle.world_core.specs.declared.out_part.OutPart.{OutPart}
 use Rattle.world_core.specs.declared.out_part.OutPart.TheVariants.{Nothing}

@@ -1,0 +1,3 @@
+-- What crates above name of `outside_io`.
+pub use Rattle.outside_io.specs.Fault.{HasRisen}
+pub use Rattle.outside_io.specs.Told.{with_more}

@@ -1,0 +1,2 @@
+-- What crates above name of `heap_marking`.
+pub use Rattle.heap_marking.proofs.ForksTold.{entered_accounts}

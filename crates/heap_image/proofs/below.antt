@@ -1,0 +1,3 @@
+-- What crates above name of the crates below.
+pub mod hh_lang
+pub mod listed

@@ -1,0 +1,3 @@
+-- What crates above name of the crates below.
+pub mod listed
+pub mod run_trace

@@ -1,0 +1,2 @@
+-- What crates above name of `listed`.
+pub use Rattle.listed.specs.Members.{In}

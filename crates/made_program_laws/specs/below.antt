@@ -1,0 +1,6 @@
+-- What crates above name of the crates below.
+pub mod hh_lang
+pub mod program_make
+pub mod program_reader
+pub mod run_trace
+pub mod text_lines

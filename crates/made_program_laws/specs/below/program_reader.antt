@@ -1,0 +1,3 @@
+-- What crates above name of `program_reader`.
+pub use Rattle.program_reader.specs.Program.{program_of, reading_of}
+pub use Rattle.program_reader.specs.declared.cause.Refused.{Refused}

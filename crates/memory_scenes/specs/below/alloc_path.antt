@@ -1,0 +1,2 @@
+-- What crates above name of `alloc_path`.
+pub use Rattle.alloc_path.specs.LeafHeapValue.{IsFresh, LeafHeapValue}

@@ -1,0 +1,7 @@
+-- What crates above name of the crates below.
+pub mod hh_model
+pub mod journal_laws
+pub mod listed
+pub mod model_laws
+pub mod path_laws
+pub mod run_ledger

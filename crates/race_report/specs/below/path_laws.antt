@@ -1,0 +1,2 @@
+-- What crates above name of `path_laws`.
+pub use Rattle.path_laws.specs.ReadLaws.{IsDecided, ReadsNext}

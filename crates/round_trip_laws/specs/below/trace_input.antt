@@ -1,0 +1,6 @@
+-- What crates above name of `trace_input`.
+pub use Rattle.trace_input.specs.Cut.{trace_lines}
+pub use Rattle.trace_input.specs.Input.{IsInput, input_fault, settings_for, too_long}
+pub use Rattle.trace_input.specs.declared.input.InputFault.TheVariants.{BadLine, Source}
+pub use Rattle.trace_input.specs.declared.input.InputFault.{InputFault}
+pub use Rattle.trace_input.specs.declared.input.TraceInput.{TraceInput}

@@ -1,0 +1,5 @@
+-- What crates above name of the crates below.
+pub mod child_tasks
+pub mod heap_marking
+pub mod leaf_collections
+pub mod own_steps

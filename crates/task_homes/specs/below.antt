@@ -1,0 +1,3 @@
+-- What crates above name of the crates below.
+pub mod chunk_pool
+pub mod write_barrier

@@ -1,0 +1,2 @@
+-- What crates above name of `hh_model`.
+pub use Rattle.heap_reading.proofs.below.hh_model.{limit_stays, owner_le, runs_have_one_root, sizes_are_bounded}

@@ -1,0 +1,7 @@
+-- What crates above name of `heap_reading`.
+pub use Rattle.heap_reading.specs.HeldNames.{is_state_running}
+pub use Rattle.heap_reading.specs.Image.{AreAll, AreInWords, FieldBefore, InUseBefore, IsInUse, IsInWords, IsLive, IsNoted, LiveBefore, Rises, field_of, in_words, objects_numbered, objects_of, objects_owned}
+pub use Rattle.heap_reading.specs.declared.live.InUse.{InUse}
+pub use Rattle.heap_reading.specs.declared.live.Live.{Live}
+pub use Rattle.heap_reading.specs.declared.noted.Field.{Field}
+pub use Rattle.heap_reading.specs.declared.seen.Seen.{Seen}

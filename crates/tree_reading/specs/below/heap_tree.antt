@@ -1,0 +1,2 @@
+-- What crates above name of `heap_tree`.
+pub use Rattle.heap_reading.specs.below.heap_tree.{Ended, Joined, Node, Out, Ready, State, Waiting, state_of}

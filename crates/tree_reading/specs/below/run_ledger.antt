@@ -1,0 +1,2 @@
+-- What crates above name of `run_ledger`.
+pub use Rattle.heap_reading.specs.below.run_ledger.{Ledger, heap_of, held_in, in_use, tasks_of}

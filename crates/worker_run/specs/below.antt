@@ -1,0 +1,3 @@
+-- What crates above name of the crates below.
+pub mod turn_entries
+pub mod turn_lock
