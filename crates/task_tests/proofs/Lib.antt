@@ -1,0 +1,2 @@
+pub mod ChunkAdded
+pub mod RootPart

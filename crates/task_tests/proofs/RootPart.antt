@@ -9,13 +9,9 @@ use Rattle.alloc_path.specs.LeafHeapValue.{AreApart, LeafHeapValue, IsCurrent, I
 use Rattle.hh_lang.specs.Form.{ProgramText}
 use Rattle.hh_model.specs.Step.{owner_of, root, start}
 use Rattle.task_machine.specs.declared.part.Private.{Private}
-use Rattle.task_machine.specs.Place.{Places}
 use Rattle.task_machine.specs.Fits.{FitsNow, HeapStands, IsShaped}
 use Rattle.task_machine.proofs.Stands.{at_nils}
-
--- no name has an address: the root has no ancestors
-abbrev pub nowhere : Places
-nowhere n = None
+use Rattle.task_tests.specs.Root.{nowhere}
 
 -- its part
 abbrev pub first_part : ProgramText → LeafHeapValue → ℕ → ℕ → Private

@@ -6,7 +6,6 @@ ghost use Rattle.task_machine.specs.Ready.{FitsSome};
 use crate::parts::{AMPLE, Pause, Setup, pause, program_of, root_of};
 use hh_lang::Program;
 use listed::Listed;
-use object_layout::Chunk;
 use std::alloc::Global;
 use task_machine::{Begun, Paused, Private};
 
@@ -30,7 +29,7 @@ fn collected(alloc: Global, program: &Program, part: &mut Private) -> Option<Beg
         roots: Listed::new(alloc),
         news: Listed::new(alloc),
     });
-    let begun = part.end_collection();
+    let begun = part.begun.take();
     part.reset_since();
     part.begin_entry();
     begun
@@ -137,31 +136,4 @@ fn call_is_taken(alloc: Global) -> bool {
 #[test]
 fn a_call_without_memory(rt: HostRuntime) {
     assert!(rt; call_is_taken(rt.alloc()));
-}
-
-// How many chunks a part's heap has, and how deep its frames are, once they are handed over.
-fn handed_over(part: Private) -> (usize, u32) {
-    let (frames, heap) = part.into_parts();
-    (heap.chunks().len(), frames.depth())
-}
-
-// The same of a root that has room for a chunk and is given one without memory.
-fn with_spare_chunk(alloc: Global, program: &Program) -> Option<(usize, u32)> {
-    let mut part = Private::root(alloc, program, 4096, 1022).ok()?;
-    match (part.make_room(1), Chunk::new(alloc, 7, 1)) {
-        (Ok(()), Ok(chunk)) => {
-            part.add_spare_chunk(chunk);
-            Some(handed_over(part))
-        }
-        _ => None,
-    }
-}
-
-#[test]
-fn a_chunk_without_memory(rt: HostRuntime) {
-    let told = match program_of(rt.alloc(), CALL) {
-        Some(program) => with_spare_chunk(rt.alloc(), &program),
-        None => None,
-    };
-    assert!(rt; told == Some((1, 1)));
 }

@@ -1,14 +1,23 @@
 // Programs from texts, the root's part of each, and what comes of its steps.
 
-ghost use Rattle.std.specs.Prelude.{◌≡◌, IfSome, None};
+ghost use Rattle.std.specs.Prelude.{◌≡◌, ◌<◌, ◌≤◌, [], IfSome, IsTrue, None};
+ghost use Rattle.hh_lang.specs.Form.{ProgramText};
+ghost use Rattle.hh_model.specs.declared.data.State.{State};
+ghost use Rattle.hh_model.specs.Step.{start};
+ghost use Rattle.task_machine.specs.Fits.{FitsNow};
 ghost use Rattle.task_machine.specs.Ready.{FitsSome};
+ghost use Rattle.task_tests.specs.Root.{first_frames, nowhere};
 
+use alloc_path::{LeafHeap, View};
 use hh_lang::Program;
-use object_layout::Chunk;
+use object_layout::{Addr, Chunk};
 use outside_io::EmptyGate;
 use program_reader::read_program;
 use std::alloc::Global;
+use task_frames::Frames;
 use task_machine::{Paused, Private, run_local};
+
+const NIL: Option<Addr> = None;
 
 /// A root before its first step: words until a collection, the most fields of an object, and the units of its chunk; 0
 /// for none.
@@ -40,21 +49,53 @@ pub(crate) fn program_of(alloc: Global, text: &str) -> Option<Program> {
     }
 }
 
+// The root before its first step, with these frames and without a chunk.
+fn bare_root(alloc: Global, frames: Frames, setup: Setup) -> Private
+    ensures fits { (p : ProgramText) → frames ≡ first_frames p → FitsNow p result (start p setup.fields) nowhere }
+    ensures empty { result.heap.chunks ≡ [] }
+    ensures idle { result.begun ≡ None }
+{
+    Private {
+        task: 0,
+        frames,
+        heap: LeafHeap::new(alloc),
+        view: View::none(),
+        allocations: 0,
+        leaf_limit: setup.leaf,
+        field_limit: setup.fields,
+        fresh: 0,
+        begun: None,
+    }
+}
+
+// Gives a part that has no chunk one of so many units, and says whether it did.
+fn add_first_chunk(alloc: Global, part: &mut Private, units: u32) -> bool
+    requires units { 0 < units }
+    requires few { units ≤ 100 }
+    requires empty { part.old.heap.chunks ≡ [] }
+    ensures fits { IsTrue result → (p : ProgramText) (m : State) → FitsNow p part.old m nowhere → FitsNow p part.new m nowhere }
+    ensures idle { part.new.begun ≡ part.old.begun }
+{
+    match Chunk::new(alloc, 7, units) {
+        Ok(chunk) => part.heap.add(chunk).is_ok(),
+        Err(_) => false,
+    }
+}
+
 /// The root before its first step.
 pub(crate) fn root_of(alloc: Global, program: &Program, setup: Setup) -> Option<Private>
     ensures fits { IfSome result (λ part. FitsSome program.now part) }
     ensures idle { IfSome result (λ part. part.begun ≡ None) }
 {
-    let Ok(mut part) = Private::root(alloc, program, setup.leaf, setup.fields) else {
-        return None;
-    };
+    let frames = Frames::start(alloc, program.main(), &[0; 16], &[NIL; 16]).ok()?;
+    let mut part = bare_root(alloc, frames, setup);
     if setup.units == 0 || setup.units > 100 {
         return Some(part);
     }
-    let chunk = Chunk::new(alloc, 7, setup.units).ok()?;
-    match part.add_chunk(chunk) {
-        Ok(()) => Some(part),
-        Err(_) => None,
+    if add_first_chunk(alloc, &mut part, setup.units) {
+        Some(part)
+    } else {
+        None
     }
 }
 
