@@ -6,3 +6,4 @@ pub use Rattle.command_answers.specs.Delivery
 pub use Rattle.command_answers.specs.Laws
 pub use Rattle.command_answers.specs.Headline
 pub mod Outcomes
+pub mod Call

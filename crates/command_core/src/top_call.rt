@@ -1,11 +1,12 @@
 // The top call.
 
-ghost use Rattle.std.specs.Prelude.{◌≡◌, ◌≢◌, ◌≤◌, ◌+◌, drop, length, map, Some, None, List, ℕ, true, false, string_bytes, IfOk};
+ghost use Rattle.std.specs.Prelude.{◌≡◌, ◌≢◌, map, Some, string_bytes, IfOk};
 ghost use Rattle.outside_io.specs.Fault.{HasRisen};
 ghost use Rattle.command_line.specs.CommandLine.{command_line, HasSize};
-ghost use Rattle.all_bytes.specs.Bytes.{input_of};
-ghost use Rattle.command_answers.specs.Input.{limit_of, is_reading, source_bytes_for, reads};
+ghost use Rattle.command_answers.specs.Status.{code_of_status};
 ghost use Rattle.command_answers.specs.Delivery.{DeliversLine, DeliversWords, GivesFound, IsAnswered};
+ghost use Rattle.whole_call.specs.Status.{code_of_status as code_of_call};
+ghost use Rattle.command_core.specs.Call.{call_status, Answers};
 
 use crate::answers::answer_line;
 use all_bytes::ReadError;
@@ -18,6 +19,7 @@ use refusal_lines::Refusal;
 use std::alloc::{AllocError, Global};
 use std::sync::Wait;
 use std::thread::Threads;
+use whole_call::{AnswerStatus, Status as CallStatus};
 
 // Answers words that are no command line.
 fn refuse_words<K: Sink>(alloc: Global, sink: &mut K) -> Ran
@@ -61,6 +63,25 @@ fn serve<R: Threads + Wait + Sync, K: Sink, G: Gate>(
     give(alloc, found, sink)
 }
 
+// Reads the input of a command, and answers it.
+fn answer<R: Threads + Wait + Sync, S: Source, K: Sink, G: Gate>(
+    rt: &R,
+    alloc: Global,
+    line: &CommandLine,
+    source: &mut S,
+    sink: &mut K,
+    gate: &G,
+) -> Ran
+    requires { HasSize (Some line.now) }
+    ensures { Answers (Some line.now) result (record { left = S.left source.old; named = S.named source.old; faults = S.faults source.old }) (record { left = S.left source.new; named = S.named source.new; faults = S.faults source.new }) (K.written sink.old) (K.written sink.new) (HasRisen (K.faults sink.old) (K.faults sink.new)) }
+{
+    match read_input(alloc, source, line) {
+        Err(ReadError::Fault) => nothing(alloc, Status::ReadFault),
+        Err(ReadError::NoMemory) => nothing(alloc, Status::NoMemory),
+        Ok(input) => serve(rt, alloc, line, input.as_slice(), sink, gate),
+    }
+}
+
 /// Answers a command line: reads its input from the source, does what it asks for, and writes to the sink.
 ///
 /// `words` are those after the program's name. All bytes are built before the first is written.
@@ -72,31 +93,33 @@ pub fn command<R: Threads + Wait + Sync, S: Source, K: Sink, G: Gate>(
     sink: &mut K,
     gate: &G,
 ) -> Ran
-    // Other words than a command line are refused.
-    ensures words { command_line (map string_bytes words.now) ≡ None → DeliversWords result (K.written sink.old) (K.written sink.new) }
-
-    // A command answers by its input: the bytes of its file or those that are left, as far as one past its limit.
-    ensures input { (line : CommandLine) (whole : List ℕ) → command_line (map string_bytes words.now) ≡ Some line → source_bytes_for (S.left source.old) (S.named source.old) line ≡ Some whole → DeliversLine line (input_of (limit_of line) whole) result (K.written sink.old) (K.written sink.new) }
-
-    // Whatever the source tells, a command answers by some input of at most so many bytes.
-    ensures some_input { (line : CommandLine) → command_line (map string_bytes words.now) ≡ Some line → (input : List ℕ) × (length input ≤ limit_of line + 1) × DeliversLine line input result (K.written sink.old) (K.written sink.new) }
-
-    // All of its input was taken. Where no input is read, the source isn't touched.
-    ensures taken { (line : CommandLine) (whole : List ℕ) → command_line (map string_bytes words.now) ≡ Some line → is_reading line ≡ true → result.status ≢ Status.ReadFault → result.status ≢ Status.NoMemory → source_bytes_for (S.left source.old) (S.named source.old) line ≡ Some whole → S.left source.new ≡ Some (drop (limit_of line + 1) whole) }
-    ensures untouched { reads (command_line (map string_bytes words.now)) ≡ false → S.left source.new ≡ S.left source.old }
-
-    // Faults are told only where one rose.
-    ensures read_fault { result.status ≡ Status.ReadFault → (reads (command_line (map string_bytes words.now)) ≡ true) × HasRisen (S.faults source.old) (S.faults source.new) }
-    ensures write_fault { result.status ≡ Status.WriteFault → HasRisen (K.faults sink.old) (K.faults sink.new) }
+    ensures { Answers (command_line (map string_bytes words.now)) result (record { left = S.left source.old; named = S.named source.old; faults = S.faults source.old }) (record { left = S.left source.new; named = S.named source.new; faults = S.faults source.new }) (K.written sink.old) (K.written sink.new) (HasRisen (K.faults sink.old) (K.faults sink.new)) }
 {
-    let line = match read_command_line(alloc, words) {
-        Err(AllocError) => return nothing(alloc, Status::NoMemory),
-        Ok(None) => return refuse_words(alloc, sink),
-        Ok(Some(line)) => line,
-    };
-    match read_input(alloc, source, &line) {
-        Err(ReadError::Fault) => nothing(alloc, Status::ReadFault),
-        Err(ReadError::NoMemory) => nothing(alloc, Status::NoMemory),
-        Ok(input) => serve(rt, alloc, &line, input.as_slice(), sink, gate),
+    match read_command_line(alloc, words) {
+        Err(AllocError) => nothing(alloc, Status::NoMemory),
+        Ok(None) => refuse_words(alloc, sink),
+        Ok(Some(line)) => answer(rt, alloc, &line, source, sink, gate),
+    }
+}
+
+/// How a call ended, as the calls of each program are told to end.
+pub fn call_status(status: Status) -> CallStatus
+    ensures status { result ≡ call_status status }
+    ensures code { code_of_call result ≡ code_of_status status }
+{
+    match status {
+        Status::Done => CallStatus::Answered(AnswerStatus::Done),
+        Status::Words => CallStatus::Answered(AnswerStatus::Words),
+        Status::Source => CallStatus::Answered(AnswerStatus::Source),
+        Status::Trap => CallStatus::Answered(AnswerStatus::Trap),
+        Status::Entangled => CallStatus::Answered(AnswerStatus::Entangled),
+        Status::Fuel => CallStatus::Answered(AnswerStatus::Fuel),
+        Status::Pool => CallStatus::Answered(AnswerStatus::Pool),
+        Status::ReadFault => CallStatus::ReadFault,
+        Status::WriteFault => CallStatus::WriteFault,
+        Status::NoMemory => CallStatus::NoMemory,
+        Status::Trace => CallStatus::Answered(AnswerStatus::Trace),
+        Status::Races => CallStatus::Answered(AnswerStatus::Races),
+        Status::Image => CallStatus::Answered(AnswerStatus::Image),
     }
 }

@@ -1,17 +1,9 @@
-use Rattle.command_answers.specs.declared.answer.Status.TheVariants.{ReadFault, NoMemory}
-use Rattle.command_answers.specs.Input.{limit_of}
-use Rattle.command_answers.specs.Answers.{AnswersLine, LeavesLine}
-use Rattle.command_answers.proofs.Deliveries.{some_silent}
+use Rattle.std.proofs.Common.{◌∙◌, sym}
+use Rattle.command_core.proofs.Calls.{refused, unread_words}
 use Rattle.command_core.proofs.top_call.command.Goals as goal
 
-pub returns-in-Err-clause-some_input : goal.returns-in-Err-clause-some_input
-returns-in-Err-clause-some_input g c =
-    λ line e. some_silent (AnswersLine line) (LeavesLine line) (limit_of line) c.nothing.result (g.K.Sink.written c.args.sink.now) NoMemory tt c.nothing.ensures
+pub returns-in-Err : goal.returns-in-Err
+returns-in-Err g c = unread_words _ _ _ _ _ c.nothing.ensures
 
-pub returns-in-Err-Fault-clause-some_input : goal.returns-in-Err-Fault-clause-some_input
-returns-in-Err-Fault-clause-some_input g c =
-    λ line e. some_silent (AnswersLine line) (LeavesLine line) (limit_of line) c.nothing-in-Err-Fault.result (g.K.Sink.written c.args.sink.now) ReadFault tt c.nothing-in-Err-Fault.ensures
-
-pub returns-in-Err-NoMemory-clause-some_input : goal.returns-in-Err-NoMemory-clause-some_input
-returns-in-Err-NoMemory-clause-some_input g c =
-    λ line e. some_silent (AnswersLine line) (LeavesLine line) (limit_of line) c.nothing-in-Err-NoMemory.result (g.K.Sink.written c.args.sink.now) NoMemory tt c.nothing-in-Err-NoMemory.ensures
+pub returns-in-Ok-None : goal.returns-in-Ok-None
+returns-in-Ok-None g c = refused _ _ _ _ _ _ (sym c.in-Ok-None.ensures ∙ c.in-Ok-None.field-0-is) c.refuse_words.ensures.answer c.refuse_words.ensures.read c.refuse_words.ensures.write_fault

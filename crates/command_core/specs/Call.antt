@@ -1,0 +1,56 @@
+-- A whole call of `command`, as a call of any program is told.
+use Rattle.std.specs.Prelude.{ℕ, Option, Some, None, List}
+use Rattle.text_lines.specs.Lines.{most_bytes}
+use Rattle.hh_lang.specs.Limits.{program_limit}
+use Rattle.command_line.specs.declared.line.CommandLine.{CommandLine}
+use Rattle.command_line.specs.declared.line.CommandLine.TheVariants.{Check, Run, Replay, Model, Races as RacesOf, Image as ImageOf, Make, Verify}
+use Rattle.command_answers.specs.declared.answer.Status.{Status}
+use Rattle.command_answers.specs.declared.answer.Status.TheVariants.{Done, Words, Source, Trap, Entangled, Fuel, Pool, ReadFault, WriteFault, NoMemory, Trace, Races, Image}
+use Rattle.command_answers.specs.declared.answer.Ran.{Ran}
+use Rattle.command_answers.specs.Delivery.{DeliversLine, DeliversWords}
+use Rattle.whole_call.specs.declared.status.AnswerStatus.TheVariants.{Done as DoneAnswer, Words as WordsAnswer, Source as SourceAnswer, Trap as TrapAnswer, Entangled as EntangledAnswer, Fuel as FuelAnswer, Pool as PoolAnswer, Trace as TraceAnswer, Races as RacesAnswer, Image as ImageAnswer}
+use Rattle.whole_call.specs.declared.status.Status.{Status as CallStatus}
+use Rattle.whole_call.specs.declared.status.Status.TheVariants.{Answered, ReadFault as ReadFailed, WriteFault as WriteFailed, NoMemory as MemoryFailed}
+use Rattle.whole_call.specs.Input.{Reads, ReadsNothing, ReadsUpTo, SourceState}
+use Rattle.whole_call.specs.Call.{IsCall}
+
+-- how a whole call ended that ended so
+abbrev pub call_status : Status → CallStatus
+call_status Done = Answered DoneAnswer
+call_status Words = Answered WordsAnswer
+call_status Source = Answered SourceAnswer
+call_status Trap = Answered TrapAnswer
+call_status Entangled = Answered EntangledAnswer
+call_status Fuel = Answered FuelAnswer
+call_status Pool = Answered PoolAnswer
+call_status ReadFault = ReadFailed
+call_status WriteFault = WriteFailed
+call_status NoMemory = MemoryFailed
+call_status Trace = Answered TraceAnswer
+call_status Races = Answered RacesAnswer
+call_status Image = Answered ImageAnswer
+
+-- what a command reads
+abbrev pub line_reads : CommandLine → Reads
+line_reads (Check file) = ReadsUpTo program_limit file
+line_reads (Run file options) = ReadsUpTo program_limit file
+line_reads (Replay file options) = ReadsUpTo most_bytes file
+line_reads (Model file options) = ReadsUpTo most_bytes file
+line_reads (RacesOf file limits) = ReadsUpTo most_bytes file
+line_reads (ImageOf file limits) = ReadsUpTo most_bytes file
+line_reads (Make seed size run) = ReadsNothing
+line_reads (Verify file) = ReadsUpTo most_bytes file
+
+-- words that are no command line read nothing
+abbrev pub call_reads : Option CommandLine → Reads
+call_reads None = ReadsNothing
+call_reads (Some line) = line_reads line
+
+-- words that are no command line are refused; a command answers its input
+abbrev pub Ends : Option CommandLine → List ℕ → Ran → Option (List ℕ) → Option (List ℕ) → Type 0
+Ends None input = DeliversWords
+Ends (Some line) input = DeliversLine line input
+
+-- a whole call that asks for this, of a source and a sink; `WriteFails` says that the sink failed
+abbrev pub Answers : Option CommandLine → Ran → SourceState → SourceState → Option (List ℕ) → Option (List ℕ) → Type 0 → Type 0
+Answers asked r source left before after WriteFails = IsCall (call_reads asked) (λ input. Ends asked input r before after) WriteFails (call_status r.status) source left
