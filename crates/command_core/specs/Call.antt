@@ -1,12 +1,11 @@
 -- A whole call of `command`, as a call of any program is told.
 use Rattle.std.specs.Prelude.{ℕ, Option, Some, None, List}
-use Rattle.text_lines.specs.Lines.{most_bytes}
-use Rattle.hh_lang.specs.Limits.{program_limit}
 use Rattle.command_line.specs.declared.line.CommandLine.{CommandLine}
 use Rattle.command_line.specs.declared.line.CommandLine.TheVariants.{Check, Run, Replay, Model, Races as RacesOf, Image as ImageOf, Make, Verify}
 use Rattle.command_answers.specs.declared.answer.Status.{Status}
 use Rattle.command_answers.specs.declared.answer.Status.TheVariants.{Done, Words, Source, Trap, Entangled, Fuel, Pool, ReadFault, WriteFault, NoMemory, Trace, Races, Image}
 use Rattle.command_answers.specs.declared.answer.Ran.{Ran}
+use Rattle.command_answers.specs.Input.{limit_of}
 use Rattle.command_answers.specs.Delivery.{DeliversLine, DeliversWords}
 use Rattle.whole_call.specs.declared.status.AnswerStatus.TheVariants.{Done as DoneAnswer, Words as WordsAnswer, Source as SourceAnswer, Trap as TrapAnswer, Entangled as EntangledAnswer, Fuel as FuelAnswer, Pool as PoolAnswer, Trace as TraceAnswer, Races as RacesAnswer, Image as ImageAnswer}
 use Rattle.whole_call.specs.declared.status.Status.{Status as CallStatus}
@@ -30,16 +29,20 @@ call_status Trace = Answered TraceAnswer
 call_status Races = Answered RacesAnswer
 call_status Image = Answered ImageAnswer
 
--- what a command reads
+-- what a command reads: a file or standard input, as far as this limit; `make` reads nothing
+abbrev pub reads_within : ℕ → CommandLine → Reads
+reads_within limit (Check file) = ReadsUpTo limit file
+reads_within limit (Run file options) = ReadsUpTo limit file
+reads_within limit (Replay file options) = ReadsUpTo limit file
+reads_within limit (Model file options) = ReadsUpTo limit file
+reads_within limit (RacesOf file settings) = ReadsUpTo limit file
+reads_within limit (ImageOf file settings) = ReadsUpTo limit file
+reads_within limit (Make seed size run) = ReadsNothing
+reads_within limit (Verify file) = ReadsUpTo limit file
+
+-- it has a limit of its own
 abbrev pub line_reads : CommandLine → Reads
-line_reads (Check file) = ReadsUpTo program_limit file
-line_reads (Run file options) = ReadsUpTo program_limit file
-line_reads (Replay file options) = ReadsUpTo most_bytes file
-line_reads (Model file options) = ReadsUpTo most_bytes file
-line_reads (RacesOf file limits) = ReadsUpTo most_bytes file
-line_reads (ImageOf file limits) = ReadsUpTo most_bytes file
-line_reads (Make seed size run) = ReadsNothing
-line_reads (Verify file) = ReadsUpTo most_bytes file
+line_reads line = reads_within (limit_of line) line
 
 -- words that are no command line read nothing
 abbrev pub call_reads : Option CommandLine → Reads

@@ -11,4 +11,4 @@ pub use command_answers::{
     raceless_are_disentangled, recorded_runs_are_alike, runs_hold_the_headline, statuses_of_ends,
     traces_are_replayed,
 };
-pub use top_call::command;
+pub use top_call::{call_status, command};

@@ -1,11 +1,7 @@
 // The program `hheap`: hands its words, standard input and standard output to the top call.
 #![tactic(auto)]
 
-ghost use Rattle.std.specs.Prelude.{◌≡◌};
-ghost use Rattle.std.specs.Process.{exit_status};
-ghost use Rattle.command_core.specs.Status.{code_of_status};
-
-use command_core::{Status, command};
+use command_core::{Status, call_status, command};
 use outside_io::{EmptyGate, FileSource, OutSink};
 use std::alloc::AllocError;
 use std::io;
@@ -13,7 +9,7 @@ use std::process::ExitCode;
 use std::rt::{Env, Files};
 use std::sync::Wait;
 use std::thread::{Builder, Threads};
-use whole_call::{words_after_name, words_of_call};
+use whole_call::{exit_code, words_after_name, words_of_call};
 
 /// The bytes of stack of the thread that a call is answered in, which are reserved before the call begins.
 const STACK_SIZE: usize = 1048576;
@@ -38,13 +34,6 @@ fn answer_call<R: Threads + Wait + Sync + Env + Files + Input + Print + AllocGlo
     }
 }
 
-// The exit status of a call.
-fn exit_code(status: Status) -> ExitCode
-    ensures { exit_status result ≡ code_of_status status }
-{
-    ExitCode::from(status.code())
-}
-
 // Answers the call in a thread that has its stack already; the stack of the first thread grows as it is used.
 fn main(rt: HostRuntime) -> ExitCode {
     let thread = Builder::new().stack_size(STACK_SIZE);
@@ -52,5 +41,5 @@ fn main(rt: HostRuntime) -> ExitCode {
         Err(_) => Status::NoMemory,
         Ok(handle) => handle.join(&rt),
     };
-    exit_code(status)
+    exit_code(call_status(status))
 }
