@@ -5,3 +5,4 @@ pub mod Answers
 pub mod Delivery
 pub mod Laws
 pub mod Headline
+pub mod below

@@ -21,6 +21,7 @@ mod wanted;
 mod delivery;
 mod laws;
 
+pub use all_bytes::ReadError;
 pub use answer::{Answer, Ran, Status};
 pub use check::answer_check;
 pub use delivery::{deliver, nothing, return_wanted};
@@ -33,6 +34,7 @@ pub use laws::{
     recorded_runs_are_alike, runs_hold_the_headline, statuses_of_ends, traces_are_replayed,
 };
 pub use model::answer_model;
+pub use race_report::{Listed, Program};
 pub use races::answer_races;
 pub use refusals::{bytes_alone, refused};
 pub use replay::answer_replay;

@@ -1,13 +1,11 @@
 -- What is answered of runs by workers.
 use Rattle.std.proofs.Common.{◌≡◌, Bool, true, true≢false, ap, refl, sym, subst}
 use Rattle.std.specs.Prelude.{Option, Some, None, IfSome, false}
-use Rattle.hh_lang.specs.Form.{ProgramText}
-use Rattle.run_trace.specs.Settings.{SettingsValue}
-use Rattle.run_ledger.specs.declared.data.RunEnd.{RunEnd}
-use Rattle.run_ledger.specs.Journals.{end_of}
-use Rattle.run_ledger.specs.Pace.{is_paced}
-use Rattle.run_report.specs.declared.whole.Extras.{Extras}
-use Rattle.shared_value.specs.SharedValue.{SharedValue, accounts, without_journal}
+use Rattle.command_answers.specs.below.hh_lang.{ProgramText}
+use Rattle.command_line.specs.below.run_trace.{SettingsValue}
+use Rattle.refusal_lines.specs.below.run_ledger.{RunEnd, end_of, is_paced}
+use Rattle.refusal_lines.specs.below.run_report.{Extras}
+use Rattle.worker_run.specs.below.shared_value.{SharedValue, accounts, without_journal}
 use Rattle.worker_run.specs.declared.end.Finish.{Finish}
 use Rattle.worker_run.specs.declared.end.Finish.TheVariants.{Ended, NoMemory}
 use Rattle.worker_run.specs.Outcomes.{IsRun, finish_of}

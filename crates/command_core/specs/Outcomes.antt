@@ -1,8 +1,8 @@
 -- What is answered of what workers have left of a run.
 use Rattle.std.specs.Prelude.{◌≡◌, Some}
-use Rattle.run_ledger.specs.declared.data.RunEnd.{RunEnd}
-use Rattle.run_report.specs.declared.whole.Extras.{Extras}
-use Rattle.shared_value.specs.SharedValue.{SharedValue}
+use Rattle.refusal_lines.specs.below.run_ledger.{RunEnd}
+use Rattle.refusal_lines.specs.below.run_report.{Extras}
+use Rattle.worker_run.specs.below.shared_value.{SharedValue}
 use Rattle.worker_run.specs.declared.end.Finish.TheVariants.{Ended}
 use Rattle.worker_run.specs.declared.end.Outcome.{Outcome}
 use Rattle.command_answers.specs.declared.answer.Answer.{Answer}

@@ -1,21 +1,18 @@
 // What each command answers to its input.
 
 ghost use Rattle.std.specs.Prelude.{◌≤◌, IfOk, IfErr, Some};
-ghost use Rattle.program_make.specs.Text.{size_limit};
+ghost use Rattle.command_line.specs.below.program_make.{size_limit};
 ghost use Rattle.command_line.specs.CommandLine.{HasSize};
 ghost use Rattle.command_answers.specs.Answers.{AnswersMake, AnswersLine, LeavesLine, LeavesMake};
 ghost use Rattle.command_answers.specs.Delivery.{IsWanted};
 
 use crate::run::answer_run;
 use command_answers::{
-    Answer, Status, Wanted, answer_check, answer_image, answer_model, answer_races, answer_replay,
-    answer_verify, bytes_alone,
+    Answer, Listed, Status, Wanted, answer_check, answer_image, answer_model, answer_races,
+    answer_replay, answer_verify, bytes_alone,
 };
-use command_line::{CommandLine, Options};
-use listed::Listed;
+use command_line::{CommandLine, Options, Settings, make};
 use outside_io::Gate;
-use program_make::make;
-use run_trace::Settings;
 use std::alloc::Global;
 use std::sync::Wait;
 use std::thread::Threads;

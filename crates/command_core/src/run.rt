@@ -1,19 +1,19 @@
 // The answers of runs.
 
 ghost use Rattle.std.specs.Prelude.{◌≡◌, IfOk, IfErr, Some};
-ghost use Rattle.run_ledger.specs.declared.data.RunEnd.{RunEnd};
-ghost use Rattle.shared_value.specs.SharedValue.{SharedValue, accounts};
+ghost use Rattle.refusal_lines.specs.below.run_ledger.{RunEnd};
+ghost use Rattle.worker_run.specs.below.shared_value.{SharedValue, accounts};
 ghost use Rattle.command_answers.specs.Answers.{AnswersProgram, AnswersRun, LeavesRun};
 ghost use Rattle.command_answers.specs.Delivery.{IsWanted, remains_of};
 ghost use Rattle.command_answers.specs.Runs.{LeavesPaced};
 ghost use Rattle.command_core.specs.Outcomes.{AnswersOutcome};
 
-use command_answers::{Answer, Wanted, amid, answer_ended, extras_of, program_in, refused};
+use command_answers::{
+    Answer, Program, Wanted, amid, answer_ended, extras_of, program_in, refused,
+};
 use command_line::Options;
-use hh_lang::Program;
 use outside_io::Gate;
-use refusal_lines::Refusal;
-use run_report::Extras;
+use refusal_lines::{Extras, Refusal};
 use std::alloc::Global;
 use std::sync::Wait;
 use std::thread::Threads;

@@ -9,9 +9,8 @@ ghost use Rattle.whole_call.specs.Status.{code_of_status as code_of_call};
 ghost use Rattle.command_core.specs.Call.{call_status, Answers};
 
 use crate::answers::answer_line;
-use all_bytes::ReadError;
 use command_answers::{
-    Answer, Ran, Status, Wanted, deliver, nothing, read_input, refused, return_wanted,
+    Answer, Ran, ReadError, Status, Wanted, deliver, nothing, read_input, refused, return_wanted,
 };
 use command_line::{CommandLine, read_command_line};
 use outside_io::{Gate, Sink, Source};

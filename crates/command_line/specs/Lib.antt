@@ -4,3 +4,4 @@ pub mod CommandLine
 pub mod Examples
 pub mod Operands
 pub mod Values
+pub mod below

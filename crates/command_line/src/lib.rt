@@ -9,3 +9,4 @@ pub use command::with_argument;
 pub use line::{CommandLine, FileName, Options};
 pub use program_make::{SIZE_LIMIT, make};
 pub use read::read_command_line;
+pub use run_trace::Settings;

@@ -2,13 +2,11 @@
 
 use crate::machines::{Fields, Pair, Row, are, has_lists, heap_of, machine_of, name, names};
 use chunk_sizes::units;
-use hh_model::State;
 use ledger_heaps::{
     are_owned, collect, fresh, is_countable, place, put_last, sweep, take_of, units_in, within,
     words_at, words_in, words_sum,
 };
-use listed::Listed;
-use run_ledger::Heap;
+use run_journal::{Heap, Listed, State};
 use std::alloc::Global;
 
 // A root and its child: each refers to objects of both.

@@ -5,8 +5,7 @@ ghost use Rattle.ledger_heaps.specs.Accounts.{since_at};
 
 use crate::machines::{are, has_lists, heap_of};
 use ledger_heaps::join;
-use listed::Listed;
-use run_ledger::Heap;
+use run_journal::{Heap, Listed};
 use std::alloc::Global;
 
 // The account of a heap that is to join: a list of one name, a large name, the room and the words since.

@@ -1,9 +1,7 @@
 // Machines and accounts of heaps that tests make from tables.
 
-use hh_model::{Frame, Name, Object, State, Status, Strand, Task};
 use ledger_heaps::fresh;
-use listed::Listed;
-use run_ledger::Heap;
+use run_journal::{Frame, Heap, Listed, Name, Object, State, Status, Strand, Task};
 use std::alloc::Global;
 
 /// A name in a table: the task and the count.

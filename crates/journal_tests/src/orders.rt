@@ -4,9 +4,7 @@ use crate::programs::{
     COLLECTS, Limits, MARKS, PRINTS, SWEEPS, TO_BEGIN, TO_FORK, TOOK, read, settings,
 };
 use crate::refusals::{Case, is_told};
-use run_journal::{ApplyError, Book};
-use run_ledger::Refused;
-use run_trace::Entry;
+use run_journal::{ApplyError, Book, Entry, Refused};
 use std::alloc::Global;
 use trace_input::TraceInput;
 

@@ -1,6 +1,6 @@
 // The programs whose journals are replayed, limits of their runs, and how both are read.
 
-use run_trace::{Settings, Version};
+use run_journal::{Settings, Version};
 use std::alloc::Global;
 use trace_input::{TraceInput, read_trace_input};
 

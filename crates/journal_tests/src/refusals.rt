@@ -1,8 +1,7 @@
 // Replayed journals: how they end, and why their entries are refused.
 
 use crate::programs::{COLLECTS, Limits, MARKS, PRINTS, TO_BEGIN, TO_FORK, TOOK, read, settings};
-use run_journal::{ReplayError, model_replay};
-use run_ledger::RunEnd;
+use run_journal::{ReplayError, RunEnd, model_replay};
 use run_report::{end_text, refused_text};
 use std::alloc::Global;
 use trace_input::TraceInput;

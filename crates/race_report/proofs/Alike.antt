@@ -3,7 +3,7 @@ use Rattle.std.proofs.Common.{◌≡◌, ℕ, zero, suc, ◌<◌, Bool, true, fa
 use Rattle.std.specs.Bool.{beq}
 use Rattle.std.proofs.lemmas.Bool.{or_cases, both_ways, and_parts}
 use Rattle.indexmap.specs.IndexSet.{insert_key}
-use Rattle.listed.proofs.Members.{In, in_append_left, in_append_right, in_append_cases, got_front, got_within, in_from_kept}
+use Rattle.run_journal.proofs.below.listed.{In, in_append_left, in_append_right, in_append_cases, got_front, got_within, in_from_kept}
 use Rattle.race_report.specs.declared.data.Access.{Access}
 use Rattle.race_report.specs.declared.data.Seen.{Seen}
 use Rattle.race_report.specs.declared.data.Open.{Open}

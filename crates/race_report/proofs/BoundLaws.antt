@@ -2,8 +2,8 @@
 use Rattle.std.proofs.Common.{◌≡◌, ℕ, ◌<◌, ◌≤◌, Bool, true, false, cond, not, ◌||◌, ◌&&◌, ◌==◌, List, [], ◌∷◌, ◌++◌, nat_lt, refl, ap, sym, ◌∙◌, arith, eq-eqb, eqb-true, ne_eqb, inl, inr}
 use Rattle.std.proofs.lemmas.Bool.{cases_lt, cases_eq}
 use Rattle.std.proofs.Math.Bool.{and-false, and-true}
-use Rattle.listed.proofs.Members.{In}
-use Rattle.hh_model.specs.declared.data.Strand.{Strand}
+use Rattle.run_journal.proofs.below.listed.{In}
+use Rattle.run_journal.specs.below.hh_model.{Strand}
 use Rattle.race_report.specs.declared.data.Access.{Access}
 use Rattle.race_report.specs.declared.data.Seen.{Seen}
 use Rattle.race_report.specs.declared.data.Bound.{Bound}

@@ -2,8 +2,7 @@
 use Rattle.std.proofs.Common.{◌≡◌, ℕ, zero, suc, ◌<◌, ◌≤◌, Bool, true, false, cond, Option, Some, None, List, [], ◌∷◌, ◌++◌, length, slice_get, filter, ◌⊎◌, inl, inr, refl, ap, sym, subst, ◌∙◌, arith, append_assoc, append-nil}
 use Rattle.std.proofs.lemmas.Bool.{both_ways}
 use Rattle.std.proofs.lemmas.Option.{same_Some}
-use Rattle.listed.proofs.Members.{In, in_kept, got_front, got_within, got_in}
-use Rattle.listed.proofs.Places.{got_last}
+use Rattle.run_journal.proofs.below.listed.{In, in_kept, got_front, got_within, got_in, got_last}
 use Rattle.race_report.specs.declared.data.Seen.{Seen}
 use Rattle.race_report.specs.declared.data.Open.{Open}
 use Rattle.race_report.specs.declared.data.Watch.{Watch}

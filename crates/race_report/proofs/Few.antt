@@ -1,8 +1,6 @@
 -- Objects have few fields where the limit has 32 bits.
 use Rattle.std.proofs.Common.{◌<◌, ◌≤◌, ◌^◌, length, max, sym, subst, arith}
-use Rattle.hh_model.specs.declared.data.State.{State}
-use Rattle.hh_model.specs.Machine.{MachineValue, IsOfRun}
-use Rattle.hh_model.specs.Counts.{SizesIn, SizesAreBounded}
+use Rattle.run_journal.specs.below.hh_model.{State, MachineValue, IsOfRun, SizesIn, SizesAreBounded}
 use Rattle.race_report.specs.Few.{AreFew}
 
 few_in : (m : State) → SizesIn m → m.field_limit < 2 ^ 32 → AreFew m.store

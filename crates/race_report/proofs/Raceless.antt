@@ -1,27 +1,12 @@
 -- A run without races is never entangled.
 use Rattle.std.proofs.Common.{◌≡◌, ℕ, zero, suc, ◌+◌, Bool, true, false, cond, Option, Some, None, List, [], ◌∷◌, slice_get, nat_lt, inl, inr, refl, ap, sym, ◌∙◌}
 use Rattle.std.proofs.lemmas.Bool.{false≢true}
-use Rattle.listed.proofs.Members.{in_from_contains}
-use Rattle.hh_lang.specs.Form.{ProgramText}
-use Rattle.run_trace.specs.declared.entry.Kind.{Kind}
-use Rattle.run_trace.specs.declared.entry.Kind.TheVariants.{Took, Ran, Chunk, Begin, End as EndOf, PutOff, Mark, More, Sweep, Fuel}
-use Rattle.run_trace.specs.Entry.{EntryValue}
-use Rattle.run_trace.specs.Settings.{SettingsValue, field_limit}
-use Rattle.hh_model.specs.declared.data.Edge.{Edge}
-use Rattle.hh_model.specs.declared.data.End.{End}
-use Rattle.hh_model.specs.declared.data.End.TheVariants.{Entangled}
-use Rattle.hh_model.specs.declared.data.State.{State}
-use Rattle.hh_model.specs.declared.data.Task.{Task}
-use Rattle.hh_model.specs.Step.{asked, can_step, goes_on, is_running, run, step}
-use Rattle.run_ledger.specs.declared.data.Heap.{Heap}
-use Rattle.run_ledger.specs.declared.data.Ledger.{Ledger}
-use Rattle.run_ledger.specs.declared.data.RunEnd.TheVariants.{Machine, Pool}
-use Rattle.run_ledger.specs.Heaps.{in_use, with_heap}
-use Rattle.run_ledger.specs.Steps.{allocated_in, moved_to, settled, stepped_to, task_step, task_steps}
-use Rattle.run_ledger.specs.Entries.{after, after_kind, chunk_units, with_chunk}
-use Rattle.run_ledger.specs.Journals.{after_all, end_of, machine_of, opening, tasks_of}
-use Rattle.run_ledger.proofs.Machine.{heap_machine, machine_is_run}
-use Rattle.run_ledger.proofs.Holders.{allocated_end, heap_end, moved_on_end}
+use Rattle.run_journal.proofs.below.listed.{in_from_contains}
+use Rattle.run_journal.specs.below.hh_lang.{ProgramText}
+use Rattle.run_journal.specs.below.run_trace.{Kind, Took, Ran, Chunk, Begin, End as EndOf, PutOff, Mark, More, Sweep, Fuel, EntryValue, SettingsValue, field_limit}
+use Rattle.run_journal.specs.below.hh_model.{Edge, End, Entangled, State, Task, asked, can_step, goes_on, is_running, run, step}
+use Rattle.run_journal.specs.below.run_ledger.{Heap, Ledger, Machine, Pool, in_use, with_heap, allocated_in, moved_to, settled, stepped_to, task_step, task_steps, after, after_kind, chunk_units, with_chunk, after_all, end_of, machine_of, opening, tasks_of}
+use Rattle.run_journal.proofs.below.run_ledger.{heap_machine, machine_is_run, allocated_end, heap_end, moved_on_end}
 use Rattle.race_report.specs.declared.data.Access.{Access}
 use Rattle.race_report.specs.Accesses.{accesses}
 use Rattle.race_report.specs.Report.{IsReport}

@@ -8,14 +8,10 @@ use Rattle.std.specs.BTreeMap.{BTreeMap}
 use Rattle.std.proofs.lemmas.Map.Entries.{btree_map_get_place, place_from_lookup}
 use Rattle.std.proofs.lemmas.Map.Keys.{Less-from_sorted}
 use Rattle.std.proofs.Math.Bool.{not-not}
-use Rattle.listed.proofs.Members.{In, in_from_contains, contains_from_in, got_in, got_within}
-use Rattle.listed.proofs.Places.{got_map, in_got, map_got}
-use Rattle.listed.proofs.Options.{and_not_parts}
-use Rattle.hh_lang.specs.Form.{ProgramText}
-use Rattle.hh_model.specs.declared.data.Edge.{Edge}
-use Rattle.hh_model.specs.Precedence.{Precedes, precedes}
-use Rattle.hh_model.specs.Step.{run, start}
-use Rattle.hh_model.proofs.ForkJoinStates.{IsForkJoinState, run_is_fork_join_state, start_is_fork_join_state}
+use Rattle.run_journal.proofs.below.listed.{In, in_from_contains, contains_from_in, got_in, got_within, got_map, in_got, map_got, and_not_parts}
+use Rattle.run_journal.specs.below.hh_lang.{ProgramText}
+use Rattle.run_journal.specs.below.hh_model.{Edge, Precedes, precedes, run, start}
+use Rattle.run_journal.proofs.below.hh_model.{IsForkJoinState, run_is_fork_join_state, start_is_fork_join_state}
 use Rattle.race_report.specs.declared.data.Field.{Field}
 use Rattle.race_report.specs.declared.data.Access.{Access}
 use Rattle.race_report.specs.declared.data.Race.{Race}

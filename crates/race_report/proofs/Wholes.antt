@@ -1,11 +1,8 @@
 -- A journal of a whole run has no refused entry.
 use Rattle.std.proofs.Common.{◌≡◌, ◌+◌, ℕ, List, Option, Some, None, refl, length}
-use Rattle.hh_lang.specs.Form.{ProgramText}
-use Rattle.run_trace.specs.Entry.{EntryValue}
-use Rattle.run_trace.specs.Settings.{SettingsValue}
-use Rattle.run_ledger.specs.declared.data.RunEnd.{RunEnd}
-use Rattle.run_ledger.specs.declared.data.RefusedAt.{RefusedAt}
-use Rattle.run_ledger.specs.Journals.{first_refused, end_of, or_short, refused_as_run}
+use Rattle.run_journal.specs.below.hh_lang.{ProgramText}
+use Rattle.run_journal.specs.below.run_trace.{EntryValue, SettingsValue}
+use Rattle.run_journal.specs.below.run_ledger.{RunEnd, RefusedAt, first_refused, end_of, or_short, refused_as_run}
 
 by_short : (r : Option RefusedAt) (end : Option RunEnd) (at : ℕ) → or_short r end at ≡ None → r ≡ None
 by_short None end at e = refl

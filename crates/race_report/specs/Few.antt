@@ -1,8 +1,6 @@
 -- How many fields the objects have that are accessed.
 use Rattle.std.specs.Prelude.{◌≡◌, ◌<◌, ◌^◌, Some, List, length}
-use Rattle.hh_model.specs.declared.data.Name.{Name}
-use Rattle.hh_model.specs.declared.data.Object.{Object}
-use Rattle.hh_model.specs.Effect.{object_at}
+use Rattle.run_journal.specs.below.hh_model.{Name, Object, object_at}
 
 -- so few that an index has 32 bits
 abbrev pub AreFew : List (List Object) → Type 0

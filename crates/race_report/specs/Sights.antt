@@ -1,14 +1,8 @@
 -- What a run is looked through for: accesses of fields; those by compare and swap alone, counted like all others; or
 -- prints.
 use Rattle.std.specs.Prelude.{ℕ, Bool, true, false, Option, Some, None, List, [], ◌∷◌, slice_get, if◌then◌else◌}
-use Rattle.hh_lang.specs.declared.instr.Instr.{Instr}
-use Rattle.hh_lang.specs.declared.instr.Instr.TheVariants.{Out}
-use Rattle.hh_lang.specs.declared.program.Line.{Line}
-use Rattle.hh_lang.specs.Form.{ProgramText}
-use Rattle.hh_model.specs.declared.data.Strand.{Strand}
-use Rattle.hh_model.specs.declared.data.Task.{Task}
-use Rattle.hh_model.specs.declared.data.State.{State}
-use Rattle.hh_model.specs.Step.{can_step, fetched, start, step, strand_of}
+use Rattle.run_journal.specs.below.hh_lang.{Instr, Out, Line, ProgramText}
+use Rattle.run_journal.specs.below.hh_model.{Strand, Task, State, can_step, fetched, start, step, strand_of}
 use Rattle.race_report.specs.declared.data.Field.{Field}
 use Rattle.race_report.specs.declared.data.Access.{Access}
 use Rattle.race_report.specs.declared.data.Sight.{Sight}

@@ -2,8 +2,8 @@
 use Rattle.std.specs.Prelude.{ℕ, Bool, true, false, List, [], ◌∷◌, ◌++◌, length, codes}
 use Rattle.std.specs.List.{flat_map}
 use Rattle.std.specs.Fmt.{decimal}
-use Rattle.run_trace.specs.Line.{spaced}
-use Rattle.run_ledger.specs.Text.{line, end_line}
+use Rattle.run_journal.specs.below.run_trace.{spaced}
+use Rattle.run_journal.specs.below.run_ledger.{line, end_line}
 use Rattle.race_report.specs.declared.data.Race.{Race}
 
 -- a reference field or a number field

@@ -1,13 +1,12 @@
 // The access that the next step of a task makes.
 
 ghost use Rattle.std.specs.Prelude.{◌≡◌, ◌<◌, ◌^◌, ℕ, pos, IfSome};
-ghost use Rattle.hh_model.specs.Effect.{Setting, effect, place_in};
+ghost use Rattle.run_journal.specs.below.hh_model.{Setting, effect, place_in};
 ghost use Rattle.race_report.specs.Accesses.{access_of, access_by, unless_trap};
 ghost use Rattle.race_report.specs.Few.{AreFew};
 
 use crate::data::{Access, Field};
-use hh_lang::{Instr, IntReg, Program, RefReg};
-use hh_model::{Frame, State, Strand, is_same};
+use run_journal::{Frame, Instr, IntReg, Program, RefReg, State, Strand, is_same};
 
 // A number as the index of one of so many fields.
 fn field_index(count: usize, index: i64) -> Option<u32>

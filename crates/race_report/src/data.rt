@@ -1,8 +1,7 @@
 // The plain data of accesses and races.
 
 use crate::firsts::Firsts;
-use hh_model::{Name, Strand};
-use listed::Listed;
+use run_journal::{Listed, Name, Strand};
 
 /// A field of an object. Fields are ordered by name, then references before numbers, then by index.
 #[derive(Clone, Copy)]

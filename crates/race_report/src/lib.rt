@@ -19,12 +19,10 @@ mod sight;
 mod watch;
 
 pub use data::{Access, Field, Race, Sight};
-pub use hh_lang::{PROGRAM_LIMIT, Program};
-pub use hh_model::End;
 pub use laws::{labels_tell_precedence, raceless_journals_are_disentangled, stopped_reads_race};
-pub use listed::Listed;
 pub use report::{races, races_of, races_of_run};
-pub use run_journal::ReplayError;
-pub use run_ledger::{Refused, RefusedAt, RunEnd};
-pub use run_trace::{Entry, Settings, trace_text};
+pub use run_journal::{
+    End, Entry, Listed, PROGRAM_LIMIT, Program, Refused, RefusedAt, ReplayError, RunEnd, Settings,
+    trace_text,
+};
 pub use text::{pair_lines, races_text};

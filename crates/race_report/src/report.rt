@@ -1,8 +1,8 @@
 // The races of a journal.
 
 ghost use Rattle.std.specs.Prelude.{◌≡◌, None, OnOk, IfOk, IfErr};
-ghost use Rattle.run_trace.specs.Settings.{field_limit};
-ghost use Rattle.run_ledger.specs.Journals.{first_refused, refused_as_run, machine_of, tasks_of};
+ghost use Rattle.run_journal.specs.below.run_trace.{field_limit};
+ghost use Rattle.run_journal.specs.below.run_ledger.{first_refused, refused_as_run, machine_of, tasks_of};
 ghost use Rattle.run_journal.specs.Replay.{ReplayFails};
 ghost use Rattle.race_report.specs.Accesses.{accesses};
 ghost use Rattle.race_report.specs.Sights.{looked};
@@ -11,9 +11,7 @@ ghost use Rattle.race_report.specs.Report.{IsReport};
 use crate::data::{Race, Sight};
 use crate::scan::scan;
 use crate::watch::races_in;
-use hh_lang::Program;
-use run_journal::{ReplayError, model_replay, replayed};
-use run_trace::{Entry, Settings};
+use run_journal::{Entry, Program, ReplayError, Settings, model_replay, replayed};
 use std::alloc::{AllocError, Global};
 
 /// Of a journal without refused entries, looked through for something: for each field for which two race their pair, in

@@ -2,8 +2,8 @@
 
 ghost use Rattle.std.specs.Prelude.{◌≡◌, ◌+◌, ◌<◌, ◌≤◌, ◌^◌, [], None, length, replicate, OnOk, IfOk};
 ghost use Rattle.std.specs.BTreeMap as tree;
-ghost use Rattle.run_ledger.specs.Journals.{tasks_in, tasks_of};
-ghost use Rattle.hh_model.specs.Step.{step};
+ghost use Rattle.run_journal.specs.below.run_ledger.{tasks_in, tasks_of};
+ghost use Rattle.run_journal.specs.below.hh_model.{step};
 ghost use Rattle.race_report.specs.Accesses.{with_some};
 ghost use Rattle.race_report.specs.Watch.{Key, key_cmp, watched_from, seen, seen_from, seen_of};
 ghost use Rattle.race_report.specs.Scan.{Follows};
@@ -12,10 +12,8 @@ use crate::data::{Seen, Sight, Watch};
 use crate::label::label_of;
 use crate::sight::looked_of;
 use crate::watch::keep;
-use hh_lang::Program;
-use hh_model::{Machine, State, StepError};
 use model_laws::sizes_are_bounded;
-use run_trace::{Entry, Kind};
+use run_journal::{Entry, Kind, Machine, Program, State, StepError};
 use std::alloc::{AllocError, Global};
 use std::collections::BTreeMap;
 

@@ -6,8 +6,7 @@ ghost use Rattle.race_report.specs.Sights.{swap_of, said_of, looked_of};
 
 use crate::access::access_of;
 use crate::data::{Access, Field, Sight};
-use hh_lang::{Instr, Program};
-use hh_model::{Name, State, Strand};
+use run_journal::{Instr, Name, Program, State, Strand};
 
 // All prints count as writes to this one field.
 const PRINT_FIELD: Field = Field {

@@ -4,8 +4,8 @@ ghost use Rattle.std.specs.Prelude.{◌≡◌, ◌++◌, ◌∷◌, [], codes, I
 ghost use Rattle.std.specs.String.{string_bytes};
 ghost use Rattle.std.specs.List.{flat_map};
 ghost use Rattle.std.specs.Fmt.{decimal};
-ghost use Rattle.run_trace.specs.Line.{spaced};
-ghost use Rattle.run_ledger.specs.Text.{end_line};
+ghost use Rattle.run_journal.specs.below.run_trace.{spaced};
+ghost use Rattle.run_journal.specs.below.run_ledger.{end_line};
 ghost use Rattle.race_report.specs.Text.{kind_word, field_words, pair_line, races_text};
 
 use crate::data::Race;

@@ -10,8 +10,7 @@ ghost use Rattle.race_report.specs.Watch.{clash, clashes, first_clash, bound_wit
 use crate::bounds::allows;
 use crate::data::{Access, Bound, Field, Open, Race, Seen, Watch};
 use crate::firsts::Firsts;
-use hh_model::Strand;
-use listed::Listed;
+use run_journal::{Listed, Strand};
 use std::alloc::{AllocError, Global};
 use std::collections::BTreeMap;
 

@@ -2,3 +2,4 @@ pub mod Keeps
 pub mod Opens
 pub mod Replays
 pub mod Steadies
+pub mod below

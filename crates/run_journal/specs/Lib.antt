@@ -1,2 +1,3 @@
 pub mod BookValue
 pub mod Replay
+pub mod below

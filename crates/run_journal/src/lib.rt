@@ -6,5 +6,12 @@ mod reads;
 mod replay;
 
 pub use book::Book;
+pub use hh_lang::{Instr, IntReg, Line, PROGRAM_LIMIT, Program, RefReg};
+pub use hh_model::{
+    End, Frame, Machine, Name, Object, State, Status, StepError, Strand, Task, is_same,
+};
+pub use listed::Listed;
 pub use replay::{ReplayError, model_replay, replayed};
 pub use run_accounts::{ApplyError, Held};
+pub use run_ledger::{Heap, Refused, RefusedAt, RunEnd};
+pub use run_trace::{Entry, Kind, Settings, Version, WORKER_LIMIT, trace_text};

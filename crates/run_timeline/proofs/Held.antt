@@ -1,34 +1,14 @@
 -- The words that are held follow from entry to entry.
 use Rattle.std.proofs.Common.{◌≡◌, ℕ, zero, suc, ◌+◌, ◌-◌, ◌<◌, ◌≤◌, true, false, inl, inr, Option, Some, None, List, [], ◌∷◌, ◌++◌, length, slice_get, replicate, refl, ap, ap₂, sym, subst, ◌∙◌, arith, is_some}
 use Rattle.std.proofs.lemmas.Bool.{cases_Bool, cases_lt}
-use Rattle.listed.proofs.Members.{got_within}
-use Rattle.listed.proofs.Places.{got_some}
-use Rattle.hh_lang.specs.Form.{ProgramText}
-use Rattle.hh_model.specs.declared.data.Name.{Name}
-use Rattle.hh_model.specs.declared.data.State.{State}
-use Rattle.hh_model.specs.Counts.{Counted}
-use Rattle.hh_model.specs.Effect.{row_of}
-use Rattle.hh_model.specs.Store.{IsStored}
-use Rattle.hh_model.specs.Step.{asked, can_step, run_from, start, step}
-use Rattle.hh_model.proofs.Carried.{next_name}
-use Rattle.hh_model.proofs.Counts.{counted_step, runs_are_counted}
-use Rattle.hh_model.proofs.ForkJoinStates.{IsForkJoinState, run_is_fork_join_state, start_is_fork_join_state, step_is_fork_join_state}
-use Rattle.hh_model.proofs.Taken.{can_made, step_idle}
-use Rattle.run_trace.specs.declared.entry.Kind.{Kind}
-use Rattle.run_trace.specs.declared.entry.Kind.TheVariants.{Took, Ran, Chunk, Begin, End, PutOff, Mark, More, Sweep, Fuel}
-use Rattle.run_trace.specs.Entry.{EntryValue}
-use Rattle.run_trace.specs.Settings.{SettingsValue, field_limit}
-use Rattle.run_ledger.specs.declared.data.Ledger.{Ledger}
-use Rattle.run_ledger.specs.Heaps.{collected, held_in, swept_heap, words_at}
-use Rattle.run_ledger.specs.Entries.{after, after_kind, refusal}
-use Rattle.run_ledger.specs.Journals.{after_all, is_legal, ledger_of, opening, tasks_in, tasks_of}
-use Rattle.run_ledger.specs.Report.{freed_by_end, freed_by_sweep, tally}
-use Rattle.run_ledger.specs.Space.{store_words}
-use Rattle.run_ledger.proofs.Cuts.{after_cut, legal_then}
-use Rattle.run_ledger.proofs.Grown.{Grown, grown}
-use Rattle.run_ledger.proofs.Machine.{entries_move_machine, machine_is_run}
-use Rattle.run_ledger.proofs.Weights.{sum_flat}
-use Rattle.journal_laws.proofs.Words.{words_are_accounted}
+use Rattle.run_journal.proofs.below.listed.{got_within, got_some}
+use Rattle.run_journal.specs.below.hh_lang.{ProgramText}
+use Rattle.run_journal.specs.below.hh_model.{Name, State, Counted, row_of, IsStored, asked, can_step, run_from, start, step}
+use Rattle.run_journal.proofs.below.hh_model.{next_name, counted_step, runs_are_counted, IsForkJoinState, run_is_fork_join_state, start_is_fork_join_state, step_is_fork_join_state, can_made, step_idle}
+use Rattle.run_journal.specs.below.run_trace.{Kind, Took, Ran, Chunk, Begin, End, PutOff, Mark, More, Sweep, Fuel, EntryValue, SettingsValue, field_limit}
+use Rattle.run_journal.specs.below.run_ledger.{Ledger, collected, held_in, swept_heap, words_at, after, after_kind, refusal, after_all, is_legal, ledger_of, opening, tasks_in, tasks_of, freed_by_end, freed_by_sweep, tally, store_words}
+use Rattle.run_journal.proofs.below.run_ledger.{after_cut, legal_then, Grown, grown, entries_move_machine, machine_is_run, sum_flat}
+use Rattle.run_journal.proofs.below.journal_laws.{words_are_accounted}
 use Rattle.run_report.specs.Totals.{cleared_words}
 use Rattle.run_report.proofs.Sums.{lost_is}
 use Rattle.run_timeline.specs.Words.{WordsFollowEntries, objects_by, objects_made, words_by, words_held, words_made}

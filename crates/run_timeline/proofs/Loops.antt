@@ -4,20 +4,14 @@ use Rattle.std.specs.Prelude.{◌≢◌, codes, slice_set, Option}
 use Rattle.std.specs.List.{flat_map}
 use Rattle.std.proofs.lemmas.Grind.{flat_map-append}
 use Rattle.std.proofs.Math.Seq.{take-append_seam}
-use Rattle.hh_lang.specs.Form.{ProgramText}
-use Rattle.run_trace.specs.Entry.{EntryValue}
-use Rattle.run_trace.specs.Settings.{SettingsValue}
-use Rattle.run_ledger.specs.declared.data.Ledger.{Ledger}
-use Rattle.run_ledger.specs.Entries.{after}
-use Rattle.run_ledger.specs.declared.data.RefusedAt.{RefusedAt}
-use Rattle.run_ledger.specs.declared.data.RunEnd.{RunEnd}
-use Rattle.run_ledger.specs.Journals.{or_short}
+use Rattle.run_journal.specs.below.hh_lang.{ProgramText}
+use Rattle.run_journal.specs.below.run_trace.{EntryValue, SettingsValue}
+use Rattle.run_journal.specs.below.run_ledger.{Ledger, after, RefusedAt, RunEnd, or_short}
 use Rattle.run_journal.specs.declared.replay.ReplayError.{ReplayError}
 use Rattle.run_journal.specs.declared.replay.ReplayError.TheVariants.{RefusedAt as FailsAt, NoMemory}
 use Rattle.run_journal.specs.Replay.{ReplayFails}
 use Rattle.run_journal.proofs.Replays.{cut}
-use Rattle.quoted_text.specs.Quoted.{quoted}
-use Rattle.quoted_text.specs.Labels.{task_name}
+use Rattle.json_text.specs.below.quoted_text.{quoted, task_name}
 use Rattle.json_text.specs.Json.{Json, Word, NoMember, Member, Members, json, further, more_member, more_members}
 use Rattle.json_text.proofs.Texts.{arrays_are_joined}
 use Rattle.run_timeline.specs.Words.{counts_of}

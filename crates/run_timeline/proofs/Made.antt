@@ -2,7 +2,7 @@
 use Rattle.std.proofs.Common.{◌≡◌, ℕ, List, [], ◌∷◌, ◌++◌, ap, sym, ◌∙◌, append_assoc, append-nil}
 use Rattle.std.specs.Prelude.{codes}
 use Rattle.std.specs.Fmt.{decimal}
-use Rattle.quoted_text.specs.Quoted.{quoted}
+use Rattle.json_text.specs.below.quoted_text.{quoted}
 use Rattle.json_text.specs.Json.{Members, Number, Word, NoMember, Member, json, further, first_members, more_members, first_member, more_member}
 use Rattle.run_timeline.specs.Events.{event, arguments, end_time, middle_time, span, arrow_begins, arrow_ends}
 use Rattle.run_timeline.specs.Pieces.{head, span_head}

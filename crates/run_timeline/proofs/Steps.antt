@@ -2,9 +2,9 @@
 use Rattle.std.proofs.Common.{◌≡◌, ◌<◌, ◌+◌, ℕ, List, ◌++◌, length, drop, get_or, ap, sym, ◌∙◌, append_assoc}
 use Rattle.std.specs.Prelude.{slice_set}
 use Rattle.std.specs.List.{flat_map}
-use Rattle.hh_lang.specs.Form.{ProgramText}
-use Rattle.run_trace.specs.Entry.{EntryValue}
-use Rattle.run_ledger.specs.Entries.{after}
+use Rattle.run_journal.specs.below.hh_lang.{ProgramText}
+use Rattle.run_journal.specs.below.run_trace.{EntryValue}
+use Rattle.run_journal.specs.below.run_ledger.{after}
 use Rattle.run_journal.specs.BookValue.{BookValue}
 use Rattle.json_text.specs.Json.{further}
 use Rattle.run_timeline.specs.Words.{counts_of}

@@ -1,23 +1,11 @@
 -- The events of one entry.
 use Rattle.std.specs.Prelude.{ℕ, ◌+◌, ◌*◌, ◌-◌, ◌==◌, Option, Some, None, List, [], ◌∷◌, ◌++◌, codes, length, slice_get, if◌then◌else◌}
 use Rattle.std.specs.List.{join_with_byte}
-use Rattle.hh_lang.specs.Form.{ProgramText, line_at}
-use Rattle.hh_lang.specs.declared.program.Line.{Line}
-use Rattle.hh_model.specs.declared.data.Status.{Status}
-use Rattle.hh_model.specs.declared.data.Status.TheVariants.{Ended, Joined}
-use Rattle.hh_model.specs.declared.data.End.TheVariants.{Entangled}
-use Rattle.hh_model.specs.declared.data.Task.{Task}
-use Rattle.hh_model.specs.declared.data.State.{State}
-use Rattle.run_trace.specs.declared.entry.Kind.{Kind}
-use Rattle.run_trace.specs.declared.entry.Kind.TheVariants.{Took, Ran, Chunk, Begin, End, PutOff, Mark, More, Sweep, Fuel}
-use Rattle.run_trace.specs.Entry.{EntryValue}
-use Rattle.run_trace.specs.Line.{kind_name}
-use Rattle.run_ledger.specs.declared.data.RunEnd.{RunEnd}
-use Rattle.run_ledger.specs.declared.data.RunEnd.TheVariants.{Machine}
-use Rattle.run_ledger.specs.declared.data.Ledger.{Ledger}
-use Rattle.run_ledger.specs.Heaps.{in_use}
-use Rattle.run_ledger.specs.Text.{end_words}
-use Rattle.quoted_text.specs.Labels.{task_name}
+use Rattle.run_journal.specs.below.hh_lang.{ProgramText, line_at, Line}
+use Rattle.run_journal.specs.below.hh_model.{Status, Ended, Joined, Entangled, Task, State}
+use Rattle.run_journal.specs.below.run_trace.{Kind, Took, Ran, Chunk, Begin, End, PutOff, Mark, More, Sweep, Fuel, EntryValue, kind_name}
+use Rattle.run_journal.specs.below.run_ledger.{RunEnd, Machine, Ledger, in_use, end_words}
+use Rattle.json_text.specs.below.quoted_text.{task_name}
 use Rattle.json_text.specs.Json.{Json, Members, Number, Word, NoMember, Member}
 use Rattle.run_timeline.specs.declared.words.Counts.{Counts}
 use Rattle.run_timeline.specs.Words.{words_held}

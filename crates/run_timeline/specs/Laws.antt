@@ -2,9 +2,8 @@
 use Rattle.std.specs.Prelude.{◌≡◌, ◌+◌, ◌==◌, ℕ, zero, suc, Bool, false, Option, Some, None, List, [], codes, length, slice_get, if◌then◌else◌}
 use Rattle.std.specs.List.{filter}
 use Rattle.std.specs.Str.{bytes_eq}
-use Rattle.hh_lang.specs.Form.{ProgramText}
-use Rattle.run_trace.specs.Entry.{EntryValue, IsEntry}
-use Rattle.run_trace.specs.Settings.{SettingsValue}
+use Rattle.run_journal.specs.below.hh_lang.{ProgramText}
+use Rattle.run_journal.specs.below.run_trace.{EntryValue, IsEntry, SettingsValue}
 use Rattle.json_text.specs.Json.{Json, Word, Object, Member}
 use Rattle.run_timeline.specs.Entries.{slice}
 use Rattle.run_timeline.specs.Timeline.{events_of}

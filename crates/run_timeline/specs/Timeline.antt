@@ -1,11 +1,8 @@
 -- A run as a timeline.
 use Rattle.std.specs.Prelude.{ℕ, zero, suc, ◌+◌, List, [], ◌∷◌, ◌++◌, codes, get_or, slice_set, replicate}
-use Rattle.run_trace.specs.Entry.{EntryValue}
-use Rattle.run_trace.specs.Settings.{SettingsValue, worker_limit}
-use Rattle.hh_lang.specs.Form.{ProgramText}
-use Rattle.run_ledger.specs.declared.data.Ledger.{Ledger}
-use Rattle.run_ledger.specs.Entries.{after}
-use Rattle.run_ledger.specs.Journals.{opening}
+use Rattle.run_journal.specs.below.run_trace.{EntryValue, SettingsValue, worker_limit}
+use Rattle.run_journal.specs.below.hh_lang.{ProgramText}
+use Rattle.run_journal.specs.below.run_ledger.{Ledger, after, opening}
 use Rattle.json_text.specs.Json.{Json, Array, Object, Word, NoMember, Member, json, values}
 use Rattle.run_timeline.specs.Words.{counts_of}
 use Rattle.run_timeline.specs.Events.{process, lane}

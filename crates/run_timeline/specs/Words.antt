@@ -1,15 +1,9 @@
 -- The words that are held, and how they follow from entry to entry.
 use Rattle.std.specs.Prelude.{◌≡◌, ℕ, zero, suc, ◌+◌, ◌-◌, None, length, slice_get, sum_by}
-use Rattle.hh_lang.specs.Form.{ProgramText}
-use Rattle.hh_model.specs.declared.data.State.{State}
-use Rattle.hh_model.specs.Effect.{row_of}
-use Rattle.run_trace.specs.declared.entry.Kind.{Kind}
-use Rattle.run_trace.specs.declared.entry.Kind.TheVariants.{Ran}
-use Rattle.run_trace.specs.Entry.{EntryValue}
-use Rattle.run_trace.specs.Settings.{SettingsValue}
-use Rattle.run_ledger.specs.declared.data.Ledger.{Ledger}
-use Rattle.run_ledger.specs.Heaps.{in_use, words_at, words_in}
-use Rattle.run_ledger.specs.Entries.{after, refusal}
+use Rattle.run_journal.specs.below.hh_lang.{ProgramText}
+use Rattle.run_journal.specs.below.hh_model.{State, row_of}
+use Rattle.run_journal.specs.below.run_trace.{Kind, Ran, EntryValue, SettingsValue}
+use Rattle.run_journal.specs.below.run_ledger.{Ledger, in_use, words_at, words_in, after, refusal}
 use Rattle.run_journal.specs.BookValue.{IsLegalLedger}
 use Rattle.run_report.specs.Totals.{cleared_words}
 use Rattle.run_timeline.specs.declared.words.Counts.{Counts}

@@ -1,13 +1,13 @@
 // An entry as a slice.
 
 ghost use Rattle.std.specs.Prelude.{◌≡◌, ◌++◌, OnOk};
-ghost use Rattle.run_trace.specs.Line.{kind_name};
+ghost use Rattle.run_journal.specs.below.run_trace.{kind_name};
 ghost use Rattle.json_text.specs.Json.{first_members, further, Number, Member, NoMember};
 ghost use Rattle.run_timeline.specs.Entries.{numbers_of, of_task, slice};
 
 use crate::events::{add_comma, begin_arguments, begin_event, end_arguments};
 use json_text::{first_number, more_number};
-use run_trace::Kind;
+use run_journal::Kind;
 use std::alloc::{AllocError, Global};
 
 fn kind_name(kind: Kind) -> &'static str

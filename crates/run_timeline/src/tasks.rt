@@ -4,19 +4,16 @@ ghost use Rattle.std.specs.Prelude.{◌≡◌, ◌<◌, ◌^◌, ◌+◌, ◌-�
 ghost use Rattle.std.specs.List.{flat_map};
 ghost use Rattle.json_text.specs.Json.{further, more_members};
 ghost use Rattle.run_timeline.specs.Events.{arguments, two_numbers};
-ghost use Rattle.quoted_text.specs.Labels.{task_name};
+ghost use Rattle.json_text.specs.below.quoted_text.{task_name};
 ghost use Rattle.run_timeline.specs.Entries.{task_ends, number_of, fork_line, next_line, first_taken, taken, forked, joined, ended, collection, marking, begins_and_ends, counter, counted, end_members, run_end, run_ended};
 
 use crate::events::{
     add_comma, add_span, begin_arguments, begin_arrow, begin_event, begin_span, end_arguments,
     end_arrow, end_event,
 };
-use hh_lang::{Line, Program};
-use hh_model::{End, State, Status, Task};
 use json_text::{first_number, more_number, more_word};
-use run_ledger::RunEnd;
+use run_journal::{End, Kind, Line, Program, RunEnd, State, Status, Task};
 use run_report::end_text;
-use run_trace::Kind;
 use std::alloc::{AllocError, Global};
 
 fn task_name(alloc: Global, task: u32) -> Result<String, AllocError>

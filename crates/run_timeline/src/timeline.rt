@@ -3,10 +3,9 @@
 ghost use Rattle.std.specs.Prelude.{◌≡◌, ◌<◌, ◌^◌, ◌-◌, ◌+◌, ◌++◌, None, false, length, OnOk, IfOk, IfErr};
 ghost use Rattle.std.specs.List.{flat_map};
 ghost use Rattle.json_text.specs.Json.{further};
-ghost use Rattle.run_trace.specs.Settings.{AreSettings};
-ghost use Rattle.run_ledger.specs.Entries.{refusal, after};
-ghost use Rattle.run_ledger.specs.Journals.{opening, ledger_of, first_refused, refused_as_run};
-ghost use Rattle.run_accounts.specs.Accounts.{FailsFor};
+ghost use Rattle.run_journal.specs.below.run_trace.{AreSettings};
+ghost use Rattle.run_journal.specs.below.run_ledger.{refusal, after, opening, ledger_of, first_refused, refused_as_run};
+ghost use Rattle.run_journal.specs.below.run_accounts.{FailsFor};
 ghost use Rattle.run_journal.specs.Replay.{ReplayFails};
 ghost use Rattle.run_timeline.specs.Words.{counts_of, words_held};
 ghost use Rattle.run_timeline.specs.Entries.{entry_events};
@@ -17,11 +16,10 @@ use crate::entry::add_slice;
 use crate::events::{add_lane, add_process};
 use crate::tasks::{add_begins_and_ends, add_counted, add_run_ended};
 use crate::words::{Counts, objects_by, words_behind};
-use hh_lang::Program;
-use run_journal::{ApplyError, Book, ReplayError};
-use run_ledger::{Refused, RefusedAt};
+use run_journal::{
+    ApplyError, Book, Entry, Program, Refused, RefusedAt, ReplayError, Settings, WORKER_LIMIT,
+};
 use run_report::cleared_words;
-use run_trace::{Entry, Settings, WORKER_LIMIT};
 use std::alloc::{AllocError, Global};
 
 /// A text of so many entries has no place in memory.

@@ -4,11 +4,9 @@ ghost use Rattle.std.specs.Prelude.{◌≡◌, ◌+◌, ◌-◌, false, IfSome};
 ghost use Rattle.run_report.specs.Totals.{cleared_words};
 ghost use Rattle.run_timeline.specs.Words.{objects_made, words_made, objects_by, words_by};
 
-use hh_model::{Name, State};
 use ledger_heaps::words_at;
-use run_journal::Book;
+use run_journal::{Book, Kind, Name, State};
 use run_report::cleared_words;
-use run_trace::Kind;
 
 /// Counts of accounts.
 #[derive(Clone, Copy)]

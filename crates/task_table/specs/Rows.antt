@@ -2,18 +2,10 @@
 use Rattle.std.specs.Prelude.{ℕ, ℤ, pos, ◌+◌, ◌-◌, ◌^◌, ◌==◌, Option, Some, None, List, [], ◌∷◌, ◌++◌, length, min, slice_get, slice_set, if◌then◌else◌}
 use Rattle.std.specs.Int.{int_wrapping_add, int_wrapping_sub, w64}
 use Rattle.std.specs.Prelude.{int_div}
-use Rattle.hh_lang.specs.declared.program.Fun.{Fun}
-use Rattle.hh_lang.specs.Form.{ProgramText}
-use Rattle.hh_model.specs.declared.data.Frame.{Frame}
-use Rattle.hh_model.specs.declared.data.Task.{Task}
-use Rattle.hh_model.specs.declared.data.State.{State}
-use Rattle.hh_model.specs.Effect.{int_in}
-use Rattle.run_trace.specs.declared.entry.Kind.{Kind}
-use Rattle.run_trace.specs.declared.entry.Kind.TheVariants.{Took, Ran, Chunk, Begin, End, PutOff, Mark, More, Sweep, Fuel}
-use Rattle.run_trace.specs.Entry.{EntryValue}
-use Rattle.run_trace.specs.Settings.{SettingsValue}
-use Rattle.run_ledger.specs.declared.data.Ledger.{Ledger}
-use Rattle.run_ledger.specs.Entries.{after}
+use Rattle.run_journal.specs.below.hh_lang.{Fun, ProgramText}
+use Rattle.run_journal.specs.below.hh_model.{Frame, Task, State, int_in}
+use Rattle.run_journal.specs.below.run_trace.{Kind, Took, Ran, Chunk, Begin, End, PutOff, Mark, More, Sweep, Fuel, EntryValue, SettingsValue}
+use Rattle.run_journal.specs.below.run_ledger.{Ledger, after}
 use Rattle.run_report.specs.Totals.{cleared_words}
 use Rattle.run_timeline.specs.Entries.{fork_line}
 use Rattle.still_counts.specs.Counts.{raised_by}

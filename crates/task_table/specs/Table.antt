@@ -1,11 +1,9 @@
 -- The table of the tasks of a run.
 use Rattle.std.specs.Prelude.{ℕ, ◌+◌, Option, Some, None, List, [], ◌∷◌, ◌++◌, codes, slice_get}
-use Rattle.hh_lang.specs.Form.{ProgramText}
-use Rattle.hh_model.specs.declared.data.Task.{Task}
-use Rattle.run_trace.specs.Entry.{EntryValue}
-use Rattle.run_trace.specs.Settings.{SettingsValue}
-use Rattle.run_ledger.specs.declared.data.Ledger.{Ledger}
-use Rattle.run_ledger.specs.Journals.{opening, ledger_of}
+use Rattle.run_journal.specs.below.hh_lang.{ProgramText}
+use Rattle.run_journal.specs.below.hh_model.{Task}
+use Rattle.run_journal.specs.below.run_trace.{EntryValue, SettingsValue}
+use Rattle.run_journal.specs.below.run_ledger.{Ledger, opening, ledger_of}
 use Rattle.task_table.specs.declared.row.Row.{Row}
 use Rattle.task_table.specs.Rows.{fresh_row, rows_from}
 use Rattle.task_table.specs.Lines.{task_line}

@@ -4,11 +4,8 @@ ghost use Rattle.std.specs.Prelude.{◌≡◌, ◌<◌, ◌+◌, ◌^◌, ◌++�
 ghost use Rattle.task_table.specs.Rows.{function_name, half_begin, last_byte, loop_number, made_by, fork_of, fresh_row, first_of, entered, row_after, task_in, rows_after, children, rows_by};
 
 use crate::row::{Fork, Row};
-use hh_lang::{IntReg, Program};
-use hh_model::{Frame, State, Task};
-use listed::Listed;
+use run_journal::{Entry, Frame, IntReg, Kind, Listed, Program, State, Task};
 use run_timeline::fork_line;
-use run_trace::{Entry, Kind};
 use std::alloc::AllocError;
 use still_counts::raised_by;
 

@@ -1,10 +1,9 @@
 // The table of the tasks of a run.
 
 ghost use Rattle.std.specs.Prelude.{◌≡◌, ◌++◌, ◌∷◌, [], None, false, slice_get, OnOk, IfOk, IfErr};
-ghost use Rattle.run_trace.specs.Settings.{AreSettings};
-ghost use Rattle.run_ledger.specs.Entries.{refusal, after};
-ghost use Rattle.run_ledger.specs.Journals.{opening, ledger_of, first_refused, refused_as_run};
-ghost use Rattle.run_accounts.specs.Accounts.{FailsFor};
+ghost use Rattle.run_journal.specs.below.run_trace.{AreSettings};
+ghost use Rattle.run_journal.specs.below.run_ledger.{refusal, after, opening, ledger_of, first_refused, refused_as_run};
+ghost use Rattle.run_journal.specs.below.run_accounts.{FailsFor};
 ghost use Rattle.run_journal.specs.Replay.{ReplayFails};
 ghost use Rattle.task_table.specs.Rows.{fresh_row, rows_with, rows_from};
 ghost use Rattle.task_table.specs.Table.{first_line, line_at, lines_from, table};
@@ -12,12 +11,10 @@ ghost use Rattle.task_table.specs.Table.{first_line, line_at, lines_from, table}
 use crate::lines::add_line;
 use crate::row::Row;
 use crate::rows::{fresh_row, tell_entry};
-use hh_lang::Program;
-use listed::Listed;
-use run_journal::{ApplyError, Book, ReplayError};
-use run_ledger::{Refused, RefusedAt};
+use run_journal::{
+    ApplyError, Book, Entry, Listed, Program, Refused, RefusedAt, ReplayError, Settings,
+};
 use run_report::cleared_words;
-use run_trace::{Entry, Settings};
 use std::alloc::{AllocError, Global};
 
 // Enters an entry, and tells what it tells.

@@ -1,3 +1,4 @@
 -- What crates above name of the crates below.
+pub mod shared_value
 pub mod turn_entries
 pub mod turn_lock

@@ -1,2 +1,2 @@
 -- What crates above name of `hh_model`.
-pub use Rattle.hh_model.proofs.Counts.{run_on}
+pub use Rattle.run_journal.proofs.below.hh_model.{run_on}

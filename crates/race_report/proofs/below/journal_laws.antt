@@ -1,3 +1,2 @@
 -- What crates above name of `journal_laws`.
-pub use Rattle.journal_laws.proofs.Drops.{held_is_undropped}
-pub use Rattle.journal_laws.proofs.Fewer.{fewer_steps_are_legal}
+pub use Rattle.run_journal.proofs.below.journal_laws.{held_is_undropped, fewer_steps_are_legal}

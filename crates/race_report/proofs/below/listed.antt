@@ -1,4 +1,2 @@
 -- What crates above name of `listed`.
-pub use Rattle.listed.proofs.Members.{contains_from_in, in_from_contains}
-pub use Rattle.listed.proofs.Numbers.{not_zero}
-pub use Rattle.listed.proofs.Options.{none_is}
+pub use Rattle.run_journal.proofs.below.listed.{contains_from_in, in_from_contains, not_zero, none_is}

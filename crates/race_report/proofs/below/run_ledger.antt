@@ -1,4 +1,2 @@
 -- What crates above name of `run_ledger`.
-pub use Rattle.run_ledger.proofs.Cuts.{first_refused_is_first, journals_can_be_cut}
-pub use Rattle.run_ledger.proofs.Journals.{nothing_reachable_is_freed}
-pub use Rattle.run_ledger.proofs.Machine.{entries_move_machine, kind_machine}
+pub use Rattle.run_journal.proofs.below.run_ledger.{first_refused_is_first, journals_can_be_cut, nothing_reachable_is_freed, entries_move_machine, kind_machine}

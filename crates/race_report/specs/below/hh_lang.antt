@@ -1,5 +1,2 @@
 -- What crates above name of `hh_lang`.
-pub use Rattle.hh_lang.specs.Form.{ProgramText}
-pub use Rattle.hh_lang.specs.declared.instr.Instr.TheVariants.{Calc, Call, Cas, Cnti, Cntr, Freeze, Geti, Getr, Jmp, Jz, Mov, Movr, Newm, Nil, Out, Pack, Par, Puti, Putr, Ret, Same, Set}
-pub use Rattle.hh_lang.specs.declared.instr.Instr.{Instr}
-pub use Rattle.hh_lang.specs.declared.program.Line.{Line}
+pub use Rattle.run_journal.specs.below.hh_lang.{ProgramText, Calc, Call, Cas, Cnti, Cntr, Freeze, Geti, Getr, Jmp, Jz, Mov, Movr, Newm, Nil, Out, Pack, Par, Puti, Putr, Ret, Same, Set, Instr, Line}

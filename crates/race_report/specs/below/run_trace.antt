@@ -1,3 +1,2 @@
 -- What crates above name of `run_trace`.
-pub use Rattle.run_trace.specs.Entry.{EntryValue}
-pub use Rattle.run_trace.specs.Settings.{SettingsValue, field_limit}
+pub use Rattle.run_journal.specs.below.run_trace.{EntryValue, SettingsValue, field_limit}

@@ -1,10 +1,10 @@
 use Rattle.std.proofs.Common.{sym, subst, ◌∙◌, ◌≡◌}
 use Rattle.std.specs.Prelude.{IfOk, IfSome, Option, Some}
 use Rattle.std.proofs.lemmas.Result.{IfErr-weaker, IfOk-weaker}
-use Rattle.run_ledger.specs.Journals.{end_of}
-use Rattle.shared_value.specs.SharedValue.{SharedValue}
+use Rattle.refusal_lines.specs.below.run_ledger.{end_of}
+use Rattle.worker_run.specs.below.shared_value.{SharedValue}
 use Rattle.worker_run.specs.Outcomes.{IsRun, finish_of}
-use Rattle.run_report.specs.declared.whole.Extras.{Extras}
+use Rattle.refusal_lines.specs.below.run_report.{Extras}
 use Rattle.command_answers.specs.Answers.{extras_of}
 use Rattle.command_core.specs.Outcomes.{AnswersOutcome}
 use Rattle.command_core.proofs.Runs.{left_wanted, told_end, workers_run}

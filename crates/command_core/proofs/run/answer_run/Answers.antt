@@ -1,7 +1,7 @@
 use Rattle.std.proofs.Common.{◌≡◌, rules, sym, subst}
 use Rattle.std.specs.Prelude.{Err, Result}
-use Rattle.hh_lang.specs.Form.{ProgramText}
-use Rattle.program_reader.specs.declared.cause.Refused.{Refused}
+use Rattle.command_answers.specs.below.hh_lang.{ProgramText}
+use Rattle.refusal_lines.specs.below.program_reader.{Refused}
 use Rattle.command_answers.specs.Answers.{AnswersProgram, WhereProgram}
 use Rattle.command_answers.specs.Input.{program_in}
 use Rattle.command_core.proofs.run.answer_run.Goals as goal

@@ -1,7 +1,6 @@
 use Rattle.std.proofs.Common.{◌≡◌, ◌∙◌, ℕ, ◌<◌, ◌^◌, Some, ap, sym, subst}
-use Rattle.hh_model.specs.declared.data.State.{State}
-use Rattle.hh_model.specs.Step.{parents}
-use Rattle.hh_model.proofs.Counts.{reached_sound}
+use Rattle.run_journal.specs.below.hh_model.{State, parents}
+use Rattle.run_journal.proofs.below.hh_model.{reached_sound}
 use Rattle.race_report.specs.Few.{AreFew}
 use Rattle.race_report.proofs.Few.{reached_few}
 use Rattle.race_report.proofs.scan.look.Goals as goal

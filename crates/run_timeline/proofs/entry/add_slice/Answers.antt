@@ -1,7 +1,7 @@
 use Rattle.std.proofs.Common.{◌++◌, ◌-◌, ◌*◌, ap, ◌∙◌}
 use Rattle.std.specs.Prelude.{codes}
 use Rattle.std.proofs.lemmas.Result.{on_ok_weaker}
-use Rattle.run_trace.specs.Line.{kind_name}
+use Rattle.run_journal.specs.below.run_trace.{kind_name}
 use Rattle.run_timeline.specs.Events.{arguments, end_time}
 use Rattle.run_timeline.specs.Entries.{numbers_of}
 use Rattle.run_timeline.specs.Pieces.{head}

@@ -1,6 +1,6 @@
 use Rattle.std.proofs.Common.{◌≡◌, ◌+◌, ◌++◌, drop, false}
 use Rattle.std.specs.List.{flat_map}
-use Rattle.run_ledger.specs.Journals.{after_all, ledger_of, first_refused_from, first_refused}
+use Rattle.run_journal.specs.below.run_ledger.{after_all, ledger_of, first_refused_from, first_refused}
 use Rattle.json_text.specs.Json.{further}
 use Rattle.run_timeline.specs.Words.{words_held}
 use Rattle.run_timeline.specs.Timeline.{events_from, events_of}

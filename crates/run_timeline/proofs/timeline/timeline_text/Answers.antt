@@ -3,7 +3,7 @@ use Rattle.std.specs.Prelude.{IfErr}
 use Rattle.std.specs.List.{flat_map}
 use Rattle.std.proofs.lemmas.Result.{err_from_is_err_and}
 use Rattle.json_text.specs.Json.{further}
-use Rattle.run_ledger.specs.Journals.{end_of, first_refused, refused_as_run}
+use Rattle.run_journal.specs.below.run_ledger.{end_of, first_refused, refused_as_run}
 use Rattle.run_journal.specs.BookValue.{BookValue}
 use Rattle.run_journal.specs.Replay.{ReplayFails}
 use Rattle.run_timeline.specs.Timeline.{events_of}

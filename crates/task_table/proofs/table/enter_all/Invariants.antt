@@ -1,5 +1,5 @@
 use Rattle.std.proofs.Common.{◌≡◌, ◌+◌, drop, false}
-use Rattle.run_ledger.specs.Journals.{after_all, ledger_of, first_refused_from, first_refused, opening}
+use Rattle.run_journal.specs.below.run_ledger.{after_all, ledger_of, first_refused_from, first_refused, opening}
 use Rattle.task_table.specs.Rows.{rows_from}
 use Rattle.task_table.proofs.table.enter_all.Given as goal
 

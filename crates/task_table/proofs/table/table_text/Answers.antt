@@ -1,7 +1,7 @@
 use Rattle.std.proofs.Common.{◌≡◌, ◌++◌, ◌+◌, Err, ap, length, subst, sym, ◌∙◌}
 use Rattle.std.specs.Prelude.{IfErr}
 use Rattle.std.proofs.lemmas.Result.{err_from_is_err_and}
-use Rattle.run_ledger.specs.Journals.{end_of, first_refused, opening, ledger_of, refused_as_run}
+use Rattle.run_journal.specs.below.run_ledger.{end_of, first_refused, opening, ledger_of, refused_as_run}
 use Rattle.run_journal.specs.BookValue.{BookValue}
 use Rattle.run_journal.specs.Replay.{ReplayFails}
 use Rattle.run_timeline.proofs.Loops.{fails_whole}

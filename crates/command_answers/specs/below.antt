@@ -1,0 +1,3 @@
+-- What crates above name of the crates below.
+pub mod all_bytes
+pub mod hh_lang

@@ -1,0 +1,2 @@
+-- What crates above name of `run_trace`.
+pub use Rattle.run_trace.specs.Settings.{SettingsValue}

@@ -1,0 +1,2 @@
+-- What crates above name of `run_accounts`.
+pub use Rattle.run_accounts.specs.Accounts.{FailsFor}
