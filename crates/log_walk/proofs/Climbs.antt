@@ -1,5 +1,5 @@
 -- Climbs from a strand by the strands that spawned its task, its parent, and so on.
-use Rattle.std.proofs.Common.{◌≡◌, ◌↔◌, ℕ, zero, suc, ◌+◌, ◌-◌, ◌<◌, ◌≤◌, Option, Some, None, List, length, slice_get, ◌⊎◌, inl, inr, refl, ap, sym, subst, ◌∙◌, arith}
+use Rattle.std.proofs.Common.{◌≡◌, ◌↔◌, ℕ, zero, suc, ◌+◌, ◌-◌, ◌^◌, ◌<◌, ◌≤◌, Option, Some, None, List, length, slice_get, ◌⊎◌, inl, inr, refl, ap, sym, subst, ◌∙◌, arith, add-one}
 use Rattle.std.proofs.lemmas.Option.{same_Some, slice_get_within, slice_get-get_or, get_or_from_slice_get}
 use Rattle.listed.proofs.Options.{none_some}
 use Rattle.listed.proofs.Places.{got_some}
@@ -13,12 +13,14 @@ use Rattle.fork_graph.specs.declared.graph.Strand.{Strand}
 use Rattle.fork_graph.specs.Graph.{tasks_in, strand, first_of, last_of, Does, Precedes, IsParent, IsAncestor}
 use Rattle.ancestor_laws.specs.Serial.{AreLevels, IsSerial}
 use Rattle.ancestor_laws.specs.Blocks.{AreBlocks, TellsPrecedence}
-use Rattle.ancestor_laws.proofs.Trees.{same_ancestor, below}
+use Rattle.ancestor_laws.proofs.Trees.{IsLine, itself, same_ancestor, below, through, child_above, parent_line, one_line}
 use Rattle.ancestor_laws.proofs.Walks.{IsRooted, attached_rooted, rooted_attached}
 use Rattle.ancestor_laws.proofs.Serial.{serial_order_extends, levels_are_few}
 use Rattle.ancestor_laws.proofs.Blocks.{are_blocks, tells_precedence}
 use Rattle.log_walk.specs.declared.tables.Tables.{Tables}
 use Rattle.log_walk.specs.Tables.{strand_at, task_at, place_before, AreTables, IsNextUp, IsTop}
+use Rattle.log_walk.specs.Meetings.{IsDepthAt, IsExitAt}
+use Rattle.log_walk.proofs.Lines.{line_short}
 use Rattle.log_walk.proofs.Marks.{first_mark, last_mark, joined_mark}
 
 module _ (rows : List (List Turn)) (tables : Tables) (w : AreTables rows tables) where
@@ -201,6 +203,27 @@ module _ (rows : List (List Turn)) (tables : Tables) (w : AreTables rows tables)
       → (Precedes (tasks_in rows) (strand_at tables.order i) (strand_at tables.order j) ↔ (i ≤ j))
   own_tells i j lt lt' up = tells.own (task_at tables.order i) (strand_at tables.order i).index i j (strand_at tables.order j) up (at_place i lt) (at_place j lt')
 
+  -- the place that is noted for a task is of the strand that follows its join
+  after_join : (top p a : ℕ) → top < length tables.order → up_from tables.links.items top ≡ Some p → slice_get tables.afters (task_at tables.order top) ≡ Some a
+      → (j : ℕ) × Does (tasks_in rows) (task_at tables.order p) j (Join (task_at tables.order top)) × (slice_get tables.order a ≡ Some (strand (task_at tables.order p) (j + 1)))
+  after_join top p a there link has =
+      let c = task_at tables.order top in
+      let q = task_at tables.order p in
+      let up = link_parent top p there link in
+      let join = w.nested.all_joined c q up.1.0 up.1.1 in
+      let within : join.0 < length (tasks_in rows q) = slice_get_within (tasks_in rows q) join.0 (Join c) join.1 in
+      let next = place_there (strand q (join.0 + 1)) (record { stands = omega arith; rooted = (rooted_at p up.0).rooted }) in
+      let noted : slice_get tables.afters c ≡ Some next.0 =
+      w.afters.at next.0 c (strand q (join.0 + 1)) (slice_get_within tables.order next.0 (strand q (join.0 + 1)) next.1) next.1
+      (joined_mark (tasks_in rows) q join.0 c join.1) (task_below top there) in
+      let same : next.0 ≡ a = same_Some next.0 a (sym noted ∙ has) in
+      (join.0, join.1, subst (λ x. slice_get tables.order x ≡ Some (strand q (join.0 + 1))) same next.1)
+
+  pub after_within : (top a : ℕ) → top < length tables.order → (p : ℕ) → up_from tables.links.items top ≡ Some p → slice_get tables.afters (task_at tables.order top) ≡ Some a → a < length tables.order
+  after_within top a there p link has =
+      let join = after_join top p a there link has in
+      slice_get_within tables.order a (strand (task_at tables.order p) (join.0 + 1)) join.2
+
   -- where a task above the strand's isn't above the other's, and its parent is
   pub top_tells : (i j top a : ℕ) → i < length tables.order → j < length tables.order → top < length tables.order → IsTop rows tables top j
       → IsAncestor (tasks_in rows) (task_at tables.order top) (task_at tables.order i)
@@ -210,16 +233,75 @@ module _ (rows : List (List Turn)) (tables : Tables) (w : AreTables rows tables)
   top_tells i j top a lt lt' there t above apart has =
       let c = task_at tables.order top in
       let q = task_at tables.order t.parent in
+      let join = after_join top t.parent a there t.linked has in
+      tells.left q join.0 c a j (strand_at tables.order i) (strand_at tables.order j) above join.1 t.over apart i (at_place i lt) join.2 (at_place j lt')
+
+  -- THE WAY INTO A COMMON ANCESTOR
+
+  -- the strand's own task is above the other's
+  pub own_exit : (i j : ℕ) → i < length tables.order → IsAncestor (tasks_in rows) (task_at tables.order i) (task_at tables.order j) → IsExitAt (tasks_in rows) tables.order i j i
+  own_exit i j lt up = record {
+    task = task_at tables.order i;
+    index = (strand_at tables.order i).index;
+    lowest = record { above_first = itself (tasks_in rows) (task_at tables.order i); above_second = up; lowest = λ p here there. here };
+    exit = inl (refl, refl);
+    at = at_place i lt;
+  }
+
+  -- what is above both a task below child c of q, and one that isn't, is above q
+  above_both : (q c p a b : ℕ) → IsParent (tasks_in rows) q c → IsAncestor (tasks_in rows) c a → (IsAncestor (tasks_in rows) c b → ⊥)
+      → IsAncestor (tasks_in rows) p a → IsAncestor (tasks_in rows) p b → IsAncestor (tasks_in rows) p q
+  above_both q c p a b parent up apart pa pb =
+      elim (one_line (tasks_in rows) w.nested.fork_join p c a pa up) [
+        | inr over ↦ absurd (apart (through (tasks_in rows) c p b over pb))
+        | inl over ↦ parent_line (tasks_in rows) w.nested.fork_join p q c (λ same. apart (subst (λ x. IsAncestor (tasks_in rows) x b) (sym same) pb)) parent over
+      ]
+
+  -- a child of the ancestor is above the strand's task, and not above the other's
+  pub top_exit : (i j top a : ℕ) → top < length tables.order → IsTop rows tables top j
+      → IsAncestor (tasks_in rows) (task_at tables.order top) (task_at tables.order i)
+      → (IsAncestor (tasks_in rows) (task_at tables.order top) (task_at tables.order j) → ⊥)
+      → slice_get tables.afters (task_at tables.order top) ≡ Some a → IsExitAt (tasks_in rows) tables.order i j a
+  top_exit i j top a there t above apart has =
+      let c = task_at tables.order top in
+      let q = task_at tables.order t.parent in
       let up = link_parent top t.parent there t.linked in
-      let join = w.nested.all_joined c q up.1.0 up.1.1 in
-      let within : join.0 < length (tasks_in rows q) = slice_get_within (tasks_in rows q) join.0 (Join c) join.1 in
-      let next = place_there (strand q (join.0 + 1)) (record { stands = omega arith; rooted = (rooted_at t.parent up.0).rooted }) in
-      let noted : slice_get tables.afters c ≡ Some next.0 =
-      w.afters.at next.0 c (strand q (join.0 + 1)) (slice_get_within tables.order next.0 (strand q (join.0 + 1)) next.1) next.1
-      (joined_mark (tasks_in rows) q join.0 c join.1) (task_below top there) in
-      let same : next.0 ≡ a = same_Some next.0 a (sym noted ∙ has) in
-      tells.left q join.0 c a j (strand_at tables.order i) (strand_at tables.order j) above join.1 t.over apart i (at_place i lt)
-      (subst (λ x. slice_get tables.order x ≡ Some (strand q (join.0 + 1))) same next.1) (at_place j lt')
+      let join = after_join top t.parent a there t.linked has in
+      record {
+        task = q;
+        index = join.0 + 1;
+        lowest = record {
+          above_first = child_above (tasks_in rows) q c (task_at tables.order i) up.1 above;
+          above_second = t.over;
+          lowest = λ p here there'. above_both q c p (task_at tables.order i) (task_at tables.order j) up.1 above apart here there';
+        };
+        exit = inr (c, join.0, above, join.1, refl);
+        at = join.2;
+      }
+
+  -- HOW DEEP A TASK IS
+
+  depth_at_link : (i : ℕ) → i < length tables.order → ((p : ℕ) → p < i → p < length tables.order → IsDepthAt (tasks_in rows) tables.order p (depth_at tables.links.items p))
+      → (o : Option ℕ) → up_from tables.links.items i ≡ o → IsDepthAt (tasks_in rows) tables.order i (depth_at tables.links.items i)
+  depth_at_link i lt again None e =
+      subst (λ d. IsLine (tasks_in rows) 0 d (task_at tables.order i)) (sym (w.links.linked.top i (linked_there i lt) e)) (link_root i lt e)
+  depth_at_link i lt again (Some p) e =
+      let up = link_parent i p lt e in
+      subst (λ d. IsLine (tasks_in rows) 0 d (task_at tables.order i)) (sym (w.links.linked.deeper i p e ∙ add-one (depth_at tables.links.items p)))
+      (task_at tables.order p, again p (w.links.linked.low i p e) up.0, up.1)
+
+  depth_by : (most i : ℕ) → i < most → i < length tables.order → IsDepthAt (tasks_in rows) tables.order i (depth_at tables.links.items i)
+  depth_by zero i less lt = absurd (omega arith)
+  depth_by (suc most) i less lt = depth_at_link i lt (λ p low there. depth_by most p (omega arith) there) (up_from tables.links.items i) refl
+
+  pub depth_is : (i : ℕ) → i < length tables.order → IsDepthAt (tasks_in rows) tables.order i (depth_at tables.links.items i)
+  depth_is i lt = depth_by (suc i) i (omega arith) lt
+
+  pub depth_small : (i : ℕ) → i < length tables.order → depth_at tables.links.items i < 2 ^ 32
+  depth_small i lt =
+      let less : depth_at tables.links.items i < length rows = line_short rows w.nested.fork_join w.some w.below (depth_at tables.links.items i) (task_at tables.order i) (depth_is i lt) in
+      let most : length rows ≤ 2 ^ 32 = w.small.tasks in
+      omega arith
 
   pub after_there : (top : ℕ) → top < length tables.order → (a : ℕ) × (slice_get tables.afters (task_at tables.order top) ≡ Some a)
   after_there top lt = got_some tables.afters (task_at tables.order top) (subst (λ n. task_at tables.order top < n) (sym w.afters.size) (task_below top lt))

@@ -1,3 +1,4 @@
+pub mod Lines
 pub mod Walking
 pub mod Marks
 pub mod SpawnLinks

@@ -4,7 +4,7 @@ use Rattle.far_links.specs.declared.links.Link.{Link}
 use Rattle.far_links.specs.Lists.{up_from, depth_at, AreLinks}
 use Rattle.fork_graph.specs.declared.graph.Turn.{Turn}
 use Rattle.fork_graph.specs.declared.graph.Strand.{Strand}
-use Rattle.fork_graph.specs.Graph.{tasks_in, strand, IsAncestor}
+use Rattle.fork_graph.specs.Graph.{AreSmall, tasks_in, strand, IsAncestor}
 use Rattle.fork_graph.specs.Nested.{IsNested}
 use Rattle.fork_graph.specs.Faults.{SpawnsBelow}
 use Rattle.ancestor_laws.specs.Serial.{serial_order}
@@ -36,6 +36,7 @@ pub record AreSpawnLinks (order : List Strand) (firsts : List ℕ) (count : ℕ)
 
 -- the tables are those of a run of these tasks
 pub record AreTables (rows : List (List Turn)) (tables : Tables) : Type 0 where
+  pub small : AreSmall rows
   pub nested : IsNested (tasks_in rows)
   pub below : SpawnsBelow (tasks_in rows) (length rows)
   pub some : 0 < length rows

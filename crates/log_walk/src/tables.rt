@@ -4,6 +4,7 @@ ghost use Rattle.std.specs.Prelude.{◌≡◌, ◌<◌, ◌≤◌, ◌↔◌, Is
 ghost use Rattle.fork_graph.specs.Graph.{tasks_in, IsAncestor, Precedes};
 ghost use Rattle.far_links.specs.Lists.{depth_at, up_from};
 ghost use Rattle.log_walk.specs.Tables.{strand_at, task_at, AreTables, IsNextUp, IsTop};
+ghost use Rattle.log_walk.specs.Meetings.{IsDepthAt, IsExitAt};
 
 use far_links::{FarLinks, Link};
 use fork_graph::{Strand, Turn};
@@ -76,6 +77,27 @@ fn climb(tasks: &Listed<Listed<Turn>>, tables: &Tables, place: usize, target: us
     at
 }
 
+/// Where the way of the strand at one place comes into the lowest common ancestor of its task and that of another one.
+pub(crate) fn exit(
+    tasks: &Listed<Listed<Turn>>,
+    tables: &Tables,
+    first: usize,
+    second: usize,
+) -> usize
+    requires tables { AreTables tasks.now tables.now }
+    requires first { first < length tables.now.order }
+    requires second { second < length tables.now.order }
+    ensures is { IsExitAt (tasks_in tasks.now) tables.now.order first second result }
+    ensures there { result < length tables.now.order }
+    ensures tells { Precedes (tasks_in tasks.now) (strand_at tables.now.order first) (strand_at tables.now.order second) ↔ (result ≤ second) }
+{
+    if is_above(tasks, tables, first, second) {
+        return first;
+    }
+    let top = climb(tasks, tables, first, second);
+    *tables.afters.at(tables.order.at(top).task as usize)
+}
+
 /// Whether the strand at one place precedes that at another.
 pub(crate) fn precedes(
     tasks: &Listed<Listed<Turn>>,
@@ -88,10 +110,14 @@ pub(crate) fn precedes(
     requires second { second < length tables.now.order }
     ensures { IsTrue result ↔ Precedes (tasks_in tasks.now) (strand_at tables.now.order first) (strand_at tables.now.order second) }
 {
-    if is_above(tasks, tables, first, second) {
-        return first <= second;
-    }
-    let top = climb(tasks, tables, first, second);
-    let after = *tables.afters.at(tables.order.at(top).task as usize);
-    after <= second
+    exit(tasks, tables, first, second) <= second
+}
+
+/// How many spawns lead from the root to the task of the strand at a place.
+pub(crate) fn depth(_tasks: &Listed<Listed<Turn>>, tables: &Tables, place: usize) -> u32
+    requires tables { AreTables _tasks.now tables.now }
+    requires place { place < length tables.now.order }
+    ensures { IsDepthAt (tasks_in _tasks.now) tables.now.order place result }
+{
+    tables.links.link(place).depth as u32
 }

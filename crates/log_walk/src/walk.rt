@@ -6,11 +6,13 @@ ghost use Rattle.fork_graph.specs.Nested.{IsNested};
 ghost use Rattle.fork_graph.specs.Faults.{SpawnsBelow};
 ghost use Rattle.ancestor_laws.specs.Serial.{serial_order};
 ghost use Rattle.log_walk.specs.Tables.{strand_at, AreTables};
+ghost use Rattle.log_walk.specs.Meetings.{IsDepthAt, IsExitAt};
+ghost use Rattle.log_walk.specs.Value.{IsWalked};
 
 use crate::links::spawn_links;
 use crate::order::serial_order;
 use crate::places::{Mark, places_of};
-use crate::tables::{Tables, precedes};
+use crate::tables::{Tables, depth, exit, precedes};
 use fork_graph::{Strand, Turn};
 use listed::Listed;
 use std::alloc::{AllocError, Global};
@@ -50,7 +52,8 @@ impl<'t> SerialWalk<'t> {
 
     /// The strands in their serial order. A strand's place in it is its serial number.
     pub fn order(&self) -> &[Strand]
-        ensures { result.now ≡ self.now.order }
+        ensures order { result.now ≡ self.now.order }
+        ensures walked { IsWalked self.now }
     {
         self.tables.order.as_slice()
     }
@@ -63,6 +66,26 @@ impl<'t> SerialWalk<'t> {
         ensures { IsTrue result ↔ Precedes (tasks_in self.now.tasks) (strand_at self.now.order first) (strand_at self.now.order second) }
     {
         precedes(self.tasks, &self.tables, first, second)
+    }
+
+    /// Where the way of the strand of one serial number comes into the lowest common ancestor of its task and that of
+    /// another one: the serial number of a strand of that ancestor, which is the strand itself or follows a join. It
+    /// takes time by the logarithm of the first one's depth.
+    pub fn exit(&self, first: usize, second: usize) -> usize
+        requires first { first < length self.now.order }
+        requires second { second < length self.now.order }
+        ensures is { IsExitAt (tasks_in self.now.tasks) self.now.order first second result }
+        ensures there { result < length self.now.order }
+    {
+        exit(self.tasks, &self.tables, first, second)
+    }
+
+    /// How many spawns lead from the root to the task of the strand of a serial number.
+    pub fn depth(&self, strand: usize) -> u32
+        requires { strand < length self.now.order }
+        ensures { IsDepthAt (tasks_in self.now.tasks) self.now.order strand result }
+    {
+        depth(self.tasks, &self.tables, strand)
     }
 }
 
