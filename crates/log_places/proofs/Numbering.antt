@@ -1,7 +1,7 @@
 -- Numbers of stretches.
-use Rattle.std.proofs.Common.{◌≡◌, ℕ, zero, suc, ◌+◌, ◌*◌, ◌/◌, ◌%◌, ◌<◌, ◌≤◌, Bool, true, false, cond, not, nat_lt, Option, Some, None, IfSome, IfNone, List, [], ◌∷◌, length, get_or, slice_get, refl, ap, sym, subst, ◌∙◌, arith}
+use Rattle.std.proofs.Common.{◌≡◌, ℕ, zero, suc, ◌+◌, ◌-◌, ◌*◌, ◌/◌, ◌%◌, min, ◌<◌, ◌≤◌, Bool, true, false, cond, not, nat_lt, Option, Some, None, IfSome, IfNone, List, [], ◌∷◌, length, get_or, slice_get, refl, ap, sym, subst, ◌∙◌, arith}
 use Rattle.std.specs.List.{position, sum_by}
-use Rattle.std.proofs.lemmas.Bool.{ltb-true, ltb-false}
+use Rattle.std.proofs.lemmas.Bool.{ltb-true, ltb-false, false≢true}
 use Rattle.std.proofs.lemmas.List.Sums.{sum_by-cons}
 use Rattle.std.proofs.lemmas.Option.{slice_get_within, same_Some, slice_get-get_or}
 use Rattle.listed.specs.Members.{In}
@@ -9,10 +9,10 @@ use Rattle.listed.proofs.Members.{got_in}
 use Rattle.log_places.specs.declared.stretch.Stretch.{Stretch}
 use Rattle.log_places.specs.declared.page.PageKey.{PageKey}
 use Rattle.log_places.specs.declared.numbers.Slot.{Slot}
-use Rattle.log_places.specs.Stretches.{Has}
-use Rattle.log_places.specs.Places.{at, found, page_key, same_page, IsFirst, IsIn, PlacesValue}
-use Rattle.log_places.specs.Numbers.{firsts_from, stretches_before, IsSlot, IsSlotAt}
-use Rattle.log_places.specs.Laws.{NumbersAreDistinct}
+use Rattle.log_places.specs.Stretches.{Ascending, Has}
+use Rattle.log_places.specs.Places.{at, found, page_key, same_page, IsFirst, IsIn, IsRunCut, PlacesValue}
+use Rattle.log_places.specs.Numbers.{firsts_from, stretch_count, stretches_before, IsNumber, IsSlot, IsSlotAt}
+use Rattle.log_places.specs.Laws.{NumbersAreDistinct, SlotsAreOne}
 use Rattle.log_places.proofs.Finding.{behind_first, place, places, same_keys}
 
 -- ---- the place of a page
@@ -105,9 +105,9 @@ module _ (v : PlacesValue) (xs : List PageKey) (ps : List (List Stretch)) (fs : 
       let c : first ≡ stretches_before ps i = number_is in
       omega arith
 
-  pub slot_is : (base location start end place' : ℕ) (s : Stretch) → slice_get ss place' ≡ Some s → Has s location → start ≡ base + s.start → end ≡ base + s.end
+  pub slot_is : Ascending 0 item → (base location start end place' : ℕ) (s : Stretch) → slice_get ss place' ≡ Some s → Has s location → start ≡ base + s.start → end ≡ base + s.end
       → IsSlotAt v.pages i base location (record { number = first + place'; start = start; end = end })
-  slot_is base location start end place' s got has is_start is_end =
+  slot_is up base location start end place' s got has is_start is_end =
       subst (λ (w : PlacesValue). IsSlotAt w.pages i base location (record { number = first + place'; start = start; end = end })) view
       (record {
         stretches = ss;
@@ -115,6 +115,7 @@ module _ (v : PlacesValue) (xs : List PageKey) (ps : List (List Stretch)) (fs : 
         stretch = s;
         there = item_got;
         at = got;
+        ordered = subst (λ (l : List Stretch). Ascending 0 l) (sym is) up;
         has = has;
         number = ap (λ n. n + place') number_is;
         start = is_start;
@@ -123,7 +124,7 @@ module _ (v : PlacesValue) (xs : List PageKey) (ps : List (List Stretch)) (fs : 
 
 -- ---- slots
 
-found_got : (xs : List PageKey) (ps : List (List Stretch)) (k : PageKey) (i : ℕ) (p : List Stretch) → IsFirst xs k i → slice_get ps i ≡ Some p → found xs ps k ≡ p
+pub found_got : (xs : List PageKey) (ps : List (List Stretch)) (k : PageKey) (i : ℕ) (p : List Stretch) → IsFirst xs k i → slice_get ps i ≡ Some p → found xs ps k ≡ p
 found_got [] ps k i p f got = absurd f
 found_got (x ∷ xs) [] k i p f got = absurd cc
 found_got (x ∷ xs) (q ∷ ps) k zero p f got = ap (λ b. cond b q (found xs ps k)) f ∙ same_Some q p got
@@ -136,6 +137,7 @@ slot_of v block location i slot first s =
     record {
       stretch = s.stretch;
       among = record { among = subst (λ (l : List Stretch). In l s.stretch) (sym here) (got_in s.stretches s.place s.stretch s.at); has = s.has };
+      ordered = subst (λ (l : List Stretch). Ascending 0 l) (sym here) s.ordered;
       number = record { page = i; place = s.place; stretches = s.stretches; of_page = first; there = s.there; at = s.at; is = s.number };
       start = s.start;
       end = s.end;
@@ -187,3 +189,148 @@ pub numbered : (ps : List (List Stretch)) (page base location n m start end : �
     → IsSlotAt ps page base location (record { number = n; start = start; end = end })
 numbered ps page base location n m start end is slot =
     subst (λ (x : ℕ). IsSlotAt ps page base location (record { number = x; start = start; end = end })) (sym is) slot
+
+-- ---- a location has one slot
+
+begins_from : (ss : List Stretch) (low k : ℕ) (s : Stretch) → Ascending low ss → slice_get ss k ≡ Some s → low ≤ s.start
+begins_from [] low k s up got = absurd cc
+begins_from (r ∷ rs) low zero s up got = subst (λ (x : Stretch). low ≤ x.start) (same_Some r s got) up.0
+begins_from (r ∷ rs) low (suc k) s up got =
+    let later : r.end ≤ s.start = begins_from rs r.end k s up.2 got in
+    let a : low ≤ r.start = up.0 in
+    let b : r.start < r.end = up.1 in
+    omega arith
+
+same_place : (ss : List Stretch) (low k l x : ℕ) (s t : Stretch) → Ascending low ss → slice_get ss k ≡ Some s → slice_get ss l ≡ Some t → Has s x → Has t x → k ≡ l
+same_place [] low k l x s t up a b h g = absurd cc
+same_place (r ∷ rs) low zero zero x s t up a b h g = refl
+same_place (r ∷ rs) low zero (suc l) x s t up a b h g =
+    let later : r.end ≤ t.start = begins_from rs r.end l t up.2 b in
+    let e : r.end ≡ s.end = ap (λ (y : Stretch). y.end) (same_Some r s a) in
+    let below : x < s.end = h.1 in
+    let from : t.start ≤ x = g.0 in
+    absurd (omega arith)
+same_place (r ∷ rs) low (suc k) zero x s t up a b h g =
+    let later : r.end ≤ s.start = begins_from rs r.end k s up.2 a in
+    let e : r.end ≡ t.end = ap (λ (y : Stretch). y.end) (same_Some r t b) in
+    let below : x < t.end = g.1 in
+    let from : s.start ≤ x = h.0 in
+    absurd (omega arith)
+same_place (r ∷ rs) low (suc k) (suc l) x s t up a b h g = ap suc (same_place rs r.end k l x s t up.2 a b h g)
+
+first_once : (xs : List PageKey) (k : PageKey) (i j : ℕ) → IsFirst xs k i → IsFirst xs k j → i ≡ j
+first_once [] k i j f g = absurd f
+first_once (x ∷ xs) k zero zero f g = refl
+first_once (x ∷ xs) k zero (suc j) f g = absurd (false≢true (sym g.0 ∙ f))
+first_once (x ∷ xs) k (suc i) zero f g = absurd (false≢true (sym f.0 ∙ g))
+first_once (x ∷ xs) k (suc i) (suc j) f g = ap suc (first_once xs k i j f.1 g.1)
+
+module _ (v : PlacesValue) (block location : ℕ) (s t : Slot) (a : IsSlot v block location s) (b : IsSlot v block location t) where
+  same_page_place : a.number.page ≡ b.number.page
+  same_page_place = first_once v.keys (page_key block (location / 4096)) a.number.page b.number.page a.number.of_page b.number.of_page
+
+  same_stretches : a.number.stretches ≡ b.number.stretches
+  same_stretches = same_Some a.number.stretches b.number.stretches (sym a.number.there ∙ (ap (slice_get v.pages) same_page_place ∙ b.number.there))
+
+  ascending : Ascending 0 b.number.stretches
+  ascending =
+      subst (λ (l : List Stretch). Ascending 0 l)
+      (found_got v.keys v.pages (page_key block (location / 4096)) b.number.page b.number.stretches b.number.of_page b.number.there) b.ordered
+
+  same_number_place : a.number.place ≡ b.number.place
+  same_number_place =
+      same_place b.number.stretches 0 a.number.place b.number.place (location % 4096) a.stretch b.stretch ascending
+      (ap (λ l. slice_get l a.number.place) (sym same_stretches) ∙ a.number.at) b.number.at a.among.has b.among.has
+
+  same_stretch : a.stretch ≡ b.stretch
+  same_stretch =
+      same_Some a.stretch b.stretch (sym a.number.at ∙ (ap (λ l. slice_get l a.number.place) same_stretches ∙ (ap (slice_get b.number.stretches) same_number_place ∙ b.number.at)))
+
+  same_number : s.number ≡ t.number
+  same_number =
+      a.number.is ∙ (ap (λ p. stretches_before v.pages p + a.number.place) same_page_place
+      ∙ (ap (λ p. stretches_before v.pages b.number.page + p) same_number_place ∙ sym b.number.is))
+
+  same_start : s.start ≡ t.start
+  same_start = a.start ∙ (ap (λ (x : Stretch). location / 4096 * 4096 + x.start) same_stretch ∙ sym b.start)
+
+  same_end : s.end ≡ t.end
+  same_end = a.end ∙ (ap (λ (x : Stretch). location / 4096 * 4096 + x.end) same_stretch ∙ sym b.end)
+
+  one_slot : s ≡ t
+  one_slot =
+      ap (λ n. record { number = n; start = s.start; end = s.end }) same_number
+      ∙ (ap (λ n. record { number = t.number; start = n; end = s.end }) same_start ∙ ap (λ n. record { number = t.number; start = t.start; end = n }) same_end)
+
+slot_within : (v : PlacesValue) (block location : ℕ) (s : Slot) → IsSlot v block location s → (s.start ≤ location) × (location < s.end)
+slot_within v block location s a =
+    let from : a.stretch.start ≤ location % 4096 = a.among.has.0 in
+    let below : location % 4096 < a.stretch.end = a.among.has.1 in
+    let start : s.start ≡ location / 4096 * 4096 + a.stretch.start = a.start in
+    let end : s.end ≡ location / 4096 * 4096 + a.stretch.end = a.end in
+    (omega arith, omega arith)
+
+-- the slot of a location of a run that is cut is within it
+module _ (v : PlacesValue) (block start end location : ℕ) (s : Slot) (cut : IsRunCut v block start end) (from : start ≤ location) (below : location < end) (a : IsSlot v block location s) where
+  in_part : (x : ℕ) → Has a.stretch x → (start - location / 4096 * 4096 ≤ x) × (x < min 4096 (end - location / 4096 * 4096))
+  in_part x has = (cut (location / 4096)).whole a.stretch a.among.among (location % 4096) x a.among.has has (omega arith) (omega arith)
+
+  begins : start ≤ s.start
+  begins =
+      let lo : a.stretch.start ≤ location % 4096 = a.among.has.0 in
+      let hi : location % 4096 < a.stretch.end = a.among.has.1 in
+      let w : start - location / 4096 * 4096 ≤ a.stretch.start = (in_part a.stretch.start (omega arith, omega arith)).0 in
+      let is : s.start ≡ location / 4096 * 4096 + a.stretch.start = a.start in
+      omega arith
+
+  ends_by : (a.stretch.end ≤ 4096) × (s.end ≤ end)
+  ends_by =
+      let lo : a.stretch.start ≤ location % 4096 = a.among.has.0 in
+      let hi : location % 4096 < a.stretch.end = a.among.has.1 in
+      let w : a.stretch.end - 1 < min 4096 (end - location / 4096 * 4096) = (in_part (a.stretch.end - 1) (omega arith, omega arith)).1 in
+      let is : s.end ≡ location / 4096 * 4096 + a.stretch.end = a.end in
+      (omega arith, omega arith)
+
+  throughout : (x : ℕ) → s.start ≤ x → x < s.end → IsSlot v block x s
+  throughout x lo hi =
+      let is_start : s.start ≡ location / 4096 * 4096 + a.stretch.start = a.start in
+      let is_end : s.end ≡ location / 4096 * 4096 + a.stretch.end = a.end in
+      let small : a.stretch.end ≤ 4096 = ends_by.0 in
+      let page : location / 4096 ≡ x / 4096 = omega arith in
+      record {
+        stretch = a.stretch;
+        among = record { among = subst (λ (p : ℕ). In (at v (page_key block p)) a.stretch) page a.among.among; has = (omega arith, omega arith) };
+        ordered = subst (λ (p : ℕ). Ascending 0 (at v (page_key block p))) page a.ordered;
+        number = subst (λ (p : ℕ). IsNumber v (page_key block p) a.stretch s.number) page a.number;
+        start = a.start ∙ ap (λ p. p * 4096 + a.stretch.start) page;
+        end = a.end ∙ ap (λ p. p * 4096 + a.stretch.end) page;
+      }
+
+slot_counted : (v : PlacesValue) (block location : ℕ) (s : Slot) → IsSlot v block location s → s.number < stretch_count v
+slot_counted v block location s a =
+    let all : stretches_before v.pages a.number.page + length a.number.stretches ≤ sum_by length v.pages = below_all v.pages a.number.page a.number.stretches a.number.there in
+    let lt : a.number.place < length a.number.stretches = slice_get_within a.number.stretches a.number.place a.stretch a.number.at in
+    let is : s.number ≡ stretches_before v.pages a.number.page + a.number.place = a.number.is in
+    omega arith
+
+same_slot : (v : PlacesValue) (block other x y : ℕ) (s t : Slot) → IsSlot v block x s → IsSlot v other y t → s.number ≡ t.number → (block ≡ other) × (s ≡ t)
+same_slot v block other x y s t a b e =
+    let d = numbers_are_distinct v (page_key block (x / 4096)) (page_key other (y / 4096)) a.stretch b.stretch s.number a.number
+    (subst (λ (n : ℕ). IsNumber v (page_key other (y / 4096)) b.stretch n) (sym e) b.number) in
+    let page : x / 4096 ≡ y / 4096 = ap (λ (k : PageKey). k.page) d.0 in
+    let start : s.start ≡ t.start = a.start ∙ (ap (λ p. p * 4096 + a.stretch.start) page ∙ (ap (λ (z : Stretch). y / 4096 * 4096 + z.start) d.1 ∙ sym b.start)) in
+    let end : s.end ≡ t.end = a.end ∙ (ap (λ p. p * 4096 + a.stretch.end) page ∙ (ap (λ (z : Stretch). y / 4096 * 4096 + z.end) d.1 ∙ sym b.end)) in (
+      ap (λ (k : PageKey). k.block) d.0,
+      ap (λ n. record { number = n; start = s.start; end = s.end }) e
+      ∙ (ap (λ n. record { number = t.number; start = n; end = s.end }) start ∙ ap (λ n. record { number = t.number; start = t.start; end = n }) end),
+    )
+
+pub slots_are_one : SlotsAreOne
+slots_are_one = record {
+  within = slot_within;
+  counted = slot_counted;
+  one = λ v block location s t a b. one_slot v block location s t a b;
+  same = same_slot;
+  cut = λ v block start end location s cut from below a.
+      (begins v block start end location s cut from below a, (ends_by v block start end location s cut from below a).1, throughout v block start end location s cut from below a);
+}

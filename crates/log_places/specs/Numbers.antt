@@ -3,8 +3,8 @@ use Rattle.std.specs.Prelude.{◌≡◌, ◌+◌, ◌*◌, ◌/◌, ℕ, zero, s
 use Rattle.log_places.specs.declared.stretch.Stretch.{Stretch}
 use Rattle.log_places.specs.declared.page.PageKey.{PageKey}
 use Rattle.log_places.specs.declared.numbers.Slot.{Slot}
-use Rattle.log_places.specs.Stretches.{Has}
-use Rattle.log_places.specs.Places.{page_key, IsFirst, IsIn, PlacesValue}
+use Rattle.log_places.specs.Stretches.{Ascending, Has}
+use Rattle.log_places.specs.Places.{at, page_key, IsFirst, IsIn, PlacesValue}
 
 -- how many stretches there are
 abbrev pub stretch_count : PlacesValue → ℕ
@@ -35,6 +35,7 @@ pub record IsNumber (v : PlacesValue) (key : PageKey) (s : Stretch) (number : �
 pub record IsSlot (v : PlacesValue) (block location : ℕ) (slot : Slot) : Type 0 where
   pub stretch : Stretch
   pub among : IsIn v block location stretch
+  pub ordered : Ascending 0 (at v (page_key block (location / 4096)))
   pub number : IsNumber v (page_key block (location / 4096)) stretch slot.number
   pub start : slot.start ≡ location / 4096 * 4096 + stretch.start
   pub end : slot.end ≡ location / 4096 * 4096 + stretch.end
@@ -46,6 +47,7 @@ pub record IsSlotAt (pages : List (List Stretch)) (page base location : ℕ) (sl
   pub stretch : Stretch
   pub there : slice_get pages page ≡ Some stretches
   pub at : slice_get stretches place ≡ Some stretch
+  pub ordered : Ascending 0 stretches
   pub has : Has stretch location
   pub number : slot.number ≡ stretches_before pages page + place
   pub start : slot.start ≡ base + stretch.start

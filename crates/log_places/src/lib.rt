@@ -8,7 +8,7 @@ mod places;
 mod region;
 mod stretch;
 
-pub use laws::{marked_are_there, numbers_are_distinct, stretches_are_whole};
+pub use laws::{marked_are_there, numbers_are_distinct, slots_are_one, stretches_are_whole};
 pub use numbers::{NumberError, Numbers, Slot};
 pub use page::PageKey;
 pub use places::Places;

@@ -112,7 +112,7 @@ module _ (tasks : Tasks) where
       (ne_eqb (j + 1) 0 (λ e. omega arith)) (ap (slice_get (tasks q)) (let e : j + 1 - 1 ≡ j = omega arith in e)) h
 
   module _ (fj : IsForkJoin tasks) where
-    same_joined : (u v : Strand) (c : ℕ) → mark_of tasks Joined u ≡ Some c → mark_of tasks Joined v ≡ Some c → u ≡ v
+    pub same_joined : (u v : Strand) (c : ℕ) → mark_of tasks Joined u ≡ Some c → mark_of tasks Joined v ≡ Some c → u ≡ v
     same_joined u v c m m' =
         let a = is_joined u c m in
         let b = is_joined v c m' in

@@ -38,15 +38,15 @@ module _ (walk : WalkValue) (w : IsWalked walk) where
 
   upto_some : (o : Option ℕ) (j : ℕ) → is_upto o j ≡ true → (e : ℕ) × (o ≡ Some e) × (e ≤ j)
   upto_some None j h = absurd (false≢true h)
-  upto_some (Some e) j h = (e, (refl, leb-true e j h))
+  upto_some (Some e) j h = (e, refl, leb-true e j h)
 
   before_is : (i j : ℕ) → is_upto (exit_of walk i j) j ≡ true → (i < length walk.order) × (j < length walk.order) × Before i j
   before_is i j h =
       let s = upto_some (exit_of walk i j) j h in
-      let within = exit_within walk w i j s.0 s.1.0 in
+      let within = exit_within walk w i j s.0 s.1 in
       let x = exit_is walk w i j within.0 within.1 in
-      let same : s.0 ≡ x.0 = same_Some s.0 x.0 (sym s.1.0 ∙ x.1.0) in
-      let le : s.0 ≤ j = s.1.1 in
+      let same : s.0 ≡ x.0 = same_Some s.0 x.0 (sym s.1 ∙ x.1.0) in
+      let le : s.0 ≤ j = s.2 in
       (within.0, within.1, (comes_tells i j x.0 within.0 within.1 x.1.2).1 (omega arith))
 
   is_before : (i j : ℕ) → i < length walk.order → j < length walk.order → Before i j → is_upto (exit_of walk i j) j ≡ true

@@ -16,13 +16,12 @@ use Rattle.ancestor_laws.specs.Serial.{AreLevels, IsSerial}
 use Rattle.ancestor_laws.proofs.Trees.{IsLine, itself, same_ancestor, below, up_cases, no_root_parent, parent_line}
 use Rattle.ancestor_laws.proofs.Walks.{IsRooted}
 use Rattle.ancestor_laws.proofs.Serial.{serial_order_extends, levels_are_few}
-use Rattle.log_walk.specs.declared.places.Mark.TheVariants.{Joined}
 use Rattle.log_walk.specs.Places.{joined_before}
 use Rattle.log_walk.specs.Tables.{strand_at, task_at}
 use Rattle.log_walk.specs.Value.{WalkValue, IsWalked}
 use Rattle.log_walk.specs.Meetings.{IsExitAt}
 use Rattle.log_walk.proofs.Lines.{line_short}
-use Rattle.log_walk.proofs.Marks.{is_joined, joined_mark, same_mark}
+use Rattle.log_walk.proofs.Marks.{is_joined, joined_mark, same_joined}
 use Rattle.run_order.specs.Order.{after_join, if_there, steps_from, way_up, is_above, exit_of}
 use Rattle.run_order.proofs.Exits.{at_place, strand_is_at, rooted_at, next_there}
 
@@ -85,7 +84,7 @@ module _ (walk : WalkValue) (w : IsWalked walk) where
       position_one (λ u. option_is (joined_before (tasks_in walk.tasks) u) c) walk.order e (strand q (j + 1)) h
       (ap (λ o. option_is o c) mark ∙ eq-eqb c c refl)
       (λ k y hk t.
-      let same = same_mark (tasks_in walk.tasks) w.nested.fork_join Joined y (strand q (j + 1)) c (rooted_place k y hk).stands (rooted_place e (strand q (j + 1)) h).stands
+      let same = same_joined (tasks_in walk.tasks) w.nested.fork_join y (strand q (j + 1)) c
       (option_is_some (joined_before (tasks_in walk.tasks) y) c t) mark in
       serial.once k e (strand q (j + 1)) (hk ∙ ap Some same) h)
 
@@ -154,7 +153,10 @@ module _ (walk : WalkValue) (w : IsWalked walk) where
   way_in k zero i e lt line h = absurd h
   way_in k (suc most) i e lt line (inl same) = same_ancestor (tasks_in walk.tasks) (task_at walk.order e) (task_at walk.order i) (ap (task_at walk.order) same)
   way_in zero (suc most) i e lt line (inr more) = absurd (subst (λ o. In (if_there (Goes most) o) e) (ap (after_join walk) line ∙ root_stays) more)
-  way_in (suc k) (suc most) i e lt (p, up, par) (inr more) =
+  way_in (suc k) (suc most) i e lt line (inr more) =
+      let p = line.0 in
+      let up = line.1 in
+      let par = line.2 in
       let s = next_step p (task_at walk.order i) (k, up) par in
       let is = next_task p (task_at walk.order i) s.0 s.1 in
       let further = way_in k most s.0 e s.1.within (subst (λ x. IsLine (tasks_in walk.tasks) 0 k x) (sym is) up) (subst (λ o. In (if_there (Goes most) o) e) s.1.found more) in
@@ -263,16 +265,18 @@ module _ (walk : WalkValue) (w : IsWalked walk) where
   found_by k most i j less lt lt' line again true e = found_here most i j lt lt' e
   found_by zero most i j less lt lt' line again false e =
       absurd (false≢true (sym e ∙ is_above_if (task_at walk.order i) j lt' (subst (λ t. IsAncestor (tasks_in walk.tasks) t (task_at walk.order j)) (sym line) (rooted j lt').rooted)))
-  found_by (suc m) most i j less lt lt' (p, up, par) again false e =
-      found_further m most i j p lt lt' e (λ f within line. again m f (omega arith) within line) up par
+  found_by (suc m) most i j less lt lt' line again false e =
+      found_further m most i j line.0 lt lt' e (λ f within more. again m f (omega arith) within more) line.1 line.2
 
   exit_found : (k most i j : ℕ) → k < most → i < length walk.order → j < length walk.order → IsLine (tasks_in walk.tasks) 0 k (task_at walk.order i) → (e : ℕ) × Finds most i j e
   exit_found k zero i j less lt lt' line = absurd (omega arith)
   exit_found k (suc most) i j less lt lt' line =
       found_by k most i j less lt lt' line (λ m f few within more. exit_found m most f j few within lt' more) (is_above walk (task_at walk.order i) j) refl
 
-  pub exit_is : (i j : ℕ) → i < length walk.order → j < length walk.order
-      → (e : ℕ) × (exit_of walk i j ≡ Some e) × (e < length walk.order) × IsExitAt (tasks_in walk.tasks) walk.order i j e
+  abbrev pub Exits : ℕ → ℕ → ℕ → Type 0
+  Exits i j e = (exit_of walk i j ≡ Some e) × (e < length walk.order) × IsExitAt (tasks_in walk.tasks) walk.order i j e
+
+  pub exit_is : (i j : ℕ) → i < length walk.order → j < length walk.order → (e : ℕ) × Exits i j e
   exit_is i j lt lt' =
       let line = line_at i lt in
       let found = exit_found line.0 (length walk.tasks) i j line.2 lt lt' line.1 in

@@ -22,5 +22,5 @@ returns-clause-some c =
     numbered c.args.self.now.pages c.args.i c.args.base c.args.location c.sum_below-number.result _ c.behind.result c.behind-2.result c.sum_below-number.ensures
     (slot_is c.args.self.now c.self.inside.known.keys c.self.inside.pages.items c.self.inside.firsts.items c.args.i c.index-2.result.now
     c.stretches-stretches.result.now c.index.result.now c.self.view_is c.self.invariant.1 c.requires.there c.index-2.ensures c.index.ensures
-    c.stretches-stretches.ensures.value c.args.base c.args.location c.behind.result c.behind-2.result c.in_ok-place.place c.in_ok-place.stretch
+    c.stretches-stretches.ensures.value c.stretches-stretches.ensures.order c.args.base c.args.location c.behind.result c.behind-2.result c.in_ok-place.place c.in_ok-place.stretch
     c.in_ok-place.ensures.some.0 c.in_ok-place.ensures.some.1 c.behind.ensures c.behind-2.ensures)

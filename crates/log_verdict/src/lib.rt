@@ -1,0 +1,6 @@
+//! The determinacy races of a fork-join run: of which locations two accesses race.
+#![tactic(auto)]
+
+mod verdict;
+
+pub use verdict::find_races;

@@ -1,0 +1,5 @@
+pub mod Covering
+pub mod Slotting
+pub mod Visiting
+pub mod Scanning
+pub mod Exact

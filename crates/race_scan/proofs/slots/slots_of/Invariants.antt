@@ -1,0 +1,6 @@
+use Rattle.log_places.specs.Places.{run_start}
+use Rattle.race_scan.specs.Slots.{AreUpto}
+use Rattle.race_scan.proofs.slots.slots_of.Given as goal
+
+abbrev pub invariant-loop-run : goal.invariant-loop-run
+invariant-loop-run l = AreUpto l.numbers l.region (run_start l.region l.run) l.slots.items

@@ -1,0 +1,5 @@
+pub mod Touches
+pub mod Slots
+pub mod Value
+pub mod Scan
+pub mod Laws
