@@ -91,7 +91,7 @@ not_false false none = refl
 module _ (walk : WalkValue) (w : IsWalked walk) (v : PlacesValue) (touches : List Touch) (races : List FoundRace) (order : AreInSerialOrder walk touches)
     (are : AreRacesOf (run_order walk) v touches races) where
   known : (t : Touch) → In touches t → t.access.strand < length walk.order
-  known t i = read_in (λ (u : Touch). u.access.strand < length walk.order) touches t order.known i
+  known t i = read_in (λ (u : Touch). u.access.strand < length walk.order) touches t i order.known
 
   abbrev Before : Touch → Touch → Type 0
   Before t u = Precedes (tasks_in walk.tasks) (strand_at walk.order t.access.strand) (strand_at walk.order u.access.strand)

@@ -24,7 +24,7 @@ pairs_map f R (x ∷ xs) all =
     AllPairs-cons R (f x) (map f xs)
     (all_from (R (f x)) (map f xs) (λ y i.
     let m = map_in f xs y i in
-    subst (R (f x)) m.2 (read_in (λ u. R (f x) (f u)) xs m.0 (first_with (λ u v. R (f u) (f v)) x xs all) m.1)))
+    subst (R (f x)) m.2 (read_in (λ u. R (f x) (f u)) xs m.0 m.1 (first_with (λ u v. R (f u) (f v)) x xs all))))
     (pairs_map f R xs (rest_with (λ u v. R (f u) (f v)) x xs all))
 
 in_order : (o : StrandOrder) (touches : List Touch) → AreSerial o touches → (block x : ℕ) → AreInOrder o (accesses_at touches block x)
@@ -34,7 +34,7 @@ in_order o touches serial block x =
       known = all_from (λ (a : Access). a.strand < o.strands) (accesses_at touches block x) (λ a i.
           let m = map_in (λ (t : Touch). t.access) kept a i in
           let among = in_from_kept (λ (t : Touch). covers t.region block x) touches m.0 m.1 in
-          subst (λ (b : Access). b.strand < o.strands) m.2 (read_in (λ (t : Touch). t.access.strand < o.strands) touches m.0 serial.known among.0));
+          subst (λ (b : Access). b.strand < o.strands) m.2 (read_in (λ (t : Touch). t.access.strand < o.strands) touches m.0 among.0 serial.known));
       serial = pairs_map (λ (t : Touch). t.access) (λ (a b : Access). a.strand ≤ b.strand) kept
           (AllPairs-filter (λ (t u : Touch). t.access.strand ≤ u.access.strand) (λ (t : Touch). covers t.region block x) touches serial.serial);
     }

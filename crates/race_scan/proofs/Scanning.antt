@@ -1,20 +1,22 @@
 -- The scan goes on access by access.
-use Rattle.std.proofs.Common.{◌≡◌, ℕ, ◌<◌, ◌≤◌, Bool, true, false, Option, Some, None, List, [], ◌∷◌, ◌++◌, length, slice_get, map, filter, is_none, is_some, fold, ◌⊎◌, inl, inr, refl, ap, sym, subst, ◌∙◌, arith, if◌then◌else◌}
+use Rattle.std.proofs.Common.{◌≡◌, ℕ, ◌+◌, ◌-◌, ◌*◌, min, ◌<◌, ◌≤◌, Bool, true, false, Option, Some, None, List, [], ◌∷◌, ◌++◌, length, get_or, replicate, slice_get, map, filter, is_none, is_some, fold, ◌⊎◌, inl, inr, refl, ap, sym, subst, ◌∙◌, arith, if◌then◌else◌}
 use Rattle.std.specs.Option.{option_or}
-use Rattle.std.proofs.lemmas.Bool.{false≢true}
-use Rattle.std.proofs.lemmas.List.{map-append}
+use Rattle.std.proofs.lemmas.Bool.{cases_lt, false≢true}
+use Rattle.std.proofs.lemmas.List.{map-append, length-replicate, get_or-replicate}
 use Rattle.std.proofs.lemmas.List.Elements.{filter-append}
-use Rattle.std.proofs.lemmas.Option.{same_Some}
+use Rattle.std.proofs.lemmas.Option.{same_Some, slice_get-get_or}
 use Rattle.listed.proofs.Members.{In, in_append_cases}
+use Rattle.listed.proofs.Places.{in_read}
 use Rattle.log_places.specs.declared.numbers.Slot.{Slot}
-use Rattle.log_places.specs.Places.{PlacesValue}
-use Rattle.log_places.specs.Numbers.{IsSlot}
+use Rattle.log_places.specs.Places.{page_key, run_start, IsRegionCut, KeepsCuts, PlacesValue}
+use Rattle.log_places.specs.declared.region.Region.{Region}
+use Rattle.log_places.specs.Numbers.{stretch_count, IsSlot}
 use Rattle.log_places.proofs.Numbering.{slots_are_one}
 use Rattle.race_cells.specs.declared.access.Access.{Access}
 use Rattle.race_cells.specs.declared.access.Race.{Race}
 use Rattle.race_cells.specs.declared.stacks.Stacks.{Stacks}
 use Rattle.race_cells.specs.Order.{StrandOrder}
-use Rattle.race_cells.specs.Scan.{after, race_at, reported, scanned}
+use Rattle.race_cells.specs.Scan.{after, no_stacks, race_at, reported, scanned}
 use Rattle.race_cells.proofs.Continuing.{scans_go_on}
 use Rattle.race_scan.specs.declared.touch.Touch.{Touch}
 use Rattle.race_scan.specs.declared.cells.FoundRace.{FoundRace}
@@ -130,3 +132,46 @@ module _ (o : StrandOrder) (v : PlacesValue) (past : List Touch) (t : Touch) (sc
       ]
     ];
   }
+
+-- the numbers of slots are those of cells
+pub slots_counted : (v : PlacesValue) (r : Region) (slots : List Slot) → AreSlots v r slots → (k : ℕ) (d : Slot) → k < length slots → (get_or slots k d).number < stretch_count v
+slots_counted v r slots are k d lt =
+    let s = get_or slots k d in
+    let i = in_read slots k d lt in
+    slots_are_one.counted v r.block s.start s (are.are s s.start i (same_upto s.start) (are.some s i)).0
+
+-- as the code goes on
+pub seen_more : (o : StrandOrder) (v : PlacesValue) (past : List Touch) (t : Touch) (old inner new : ScanValue) (slots items : List Slot) → inner ≡ old → items ≡ slots
+    → AreSlots v t.region slots → new ≡ fold (visited o t.region.block t.access) inner items → HasScanned o v past old → HasScanned o v (past ++ t ∷ []) new
+seen_more o v past t old inner new slots items same is are grown seen =
+    subst (HasScanned o v (past ++ t ∷ []))
+    (sym (grown ∙ (ap (λ s. fold (visited o t.region.block t.access) s items) same ∙ ap (fold (visited o t.region.block t.access) old) is)))
+    (scanned_more o v past t old slots seen are)
+
+-- nothing was seen yet
+pub none_seen : (o : StrandOrder) (v : PlacesValue) (n : ℕ) → n ≡ stretch_count v → HasScanned o v [] (record { cells = replicate n (Some no_stacks); races = [] })
+none_seen o v n is = record {
+  size = length-replicate n (Some no_stacks) ∙ is;
+  cell = λ block x slot s.
+      let few : slot.number < stretch_count v = slots_are_one.counted v block x slot s in
+      let size : length (replicate n (Some no_stacks)) ≡ n = length-replicate n (Some no_stacks) in
+      slice_get-get_or (replicate n (Some no_stacks)) slot.number None (omega arith) ∙ ap Some (get_or-replicate n slot.number (Some no_stacks) None (omega arith));
+  race = λ block x slot s. refl;
+  there = λ f none. absurd none;
+  once = tt;
+  known = λ t x none h. absurd none;
+}
+
+-- what was marked stays marked, with a region more
+pub cut_more : (old new : PlacesValue) (touches : List Touch) (n : ℕ) (d : Touch) → n < length touches → KeepsCuts old new
+    → ((k : ℕ) (e : Touch) → k < n → IsRegionCut old (get_or touches k e).region) → IsRegionCut new (get_or touches n d).region
+    → (k : ℕ) (e : Touch) → k < n + 1 → IsRegionCut new (get_or touches k e).region
+cut_more old new touches n d lt keeps before last k e less =
+    elim (cases_lt k n) [
+      | inl earlier ↦ λ i there page. keeps (page_key (get_or touches k e).region.block page) (run_start (get_or touches k e).region i - page * 4096)
+            (min 4096 (run_start (get_or touches k e).region i + (get_or touches k e).region.length - page * 4096)) (before k e earlier i there page)
+      | inr ge ↦
+          let same : n ≡ k = omega arith in
+          let is : get_or touches n d ≡ get_or touches n e = same_Some (get_or touches n d) (get_or touches n e) (sym (slice_get-get_or touches n d lt) ∙ slice_get-get_or touches n e lt) in
+          subst (λ (j : ℕ). IsRegionCut new (get_or touches j e).region) same (subst (λ (t : Touch). IsRegionCut new t.region) is last)
+    ]

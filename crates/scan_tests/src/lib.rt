@@ -1,4 +1,5 @@
-// Tests of the scan of a location and of the places of accesses. It has no code of its own but an order of strands.
+// Tests of the scan of a location, of the places of accesses, and of the races of runs. It has no code of its own but an
+// order of strands.
 #![tactic(auto)]
 
 mod order;
@@ -6,5 +7,7 @@ mod order;
 mod places;
 #[cfg(test)]
 mod races;
+#[cfg(test)]
+mod verdicts;
 
 pub use order::Order;
