@@ -60,7 +60,7 @@ struct Frame {
 struct Heap {
     chunks: Vec<Box<[u64]>>,
     current: usize,
-    used: usize,
+    room: usize,
     since: usize,
     live: usize,
     births: u64,
@@ -81,13 +81,13 @@ impl Heap {
             self.chunks.push(vec![0; words].into_boxed_slice());
             return ((self.chunks.len() - 1) as u64) << 32 | 1;
         }
-        if self.chunks.is_empty() || self.used + words > CHUNK {
+        if self.room < words {
             self.current = self.chunks.len();
             self.chunks.push(vec![0; CHUNK].into_boxed_slice());
-            self.used = 0;
+            self.room = CHUNK;
         }
-        let at = self.used;
-        self.used += words;
+        let at = CHUNK - self.room;
+        self.room -= words;
         (self.current as u64) << 32 | (at as u64 + 1)
     }
 
