@@ -1,16 +1,24 @@
 #!/usr/bin/env bash
-# measure.bash PROGRAM [TABLE..]    measures a built program on the texts beside this script, and prints tables.
+# measure.bash PROGRAM [--smoke] [TABLE..]    measures a built program on the texts and programs beside this script, and
+# prints tables.
 #
-# The tables: steps entries workers turns collections forks reports tasks growth; without words all of them. A time is the
-# least of REPEAT calls (10 where it isn't set), in seconds of processors, user and system together, where nothing else is
-# said. Memory is the greatest resident size of a call. Where rustc is there, the peer is built and measured beside it, and
-# so is turns/turns.rs, which the table `turns` alone asks for.
-# It needs /usr/bin/time.
+# The tables: steps entries workers turns collections forks reports tasks growth programs grains instructions; without
+# words all of them. A time is the least of REPEAT calls (10 if it isn't set), in seconds of processors, user and system
+# together, if nothing else is said. Memory is the greatest resident size of a call. If rustc is there, the peer is built
+# and measured beside it, and so is turns/turns.rs, which the table `turns` alone needs. With --smoke the programs have
+# their small sizes, small tasks are few, and each call is made once: so one sees whether the tables can be made.
+# The status is 1 if a program writes anything but its answer. It needs /usr/bin/time, and `instructions` valgrind.
 set -u
 here=$(dirname "$(realpath "${BASH_SOURCE[0]}")") || exit 1
 program=$(realpath "${1:?the built program}") || exit 1
 shift
 repeat=${REPEAT:-10}
+smoke=
+if [ "${1-}" = --smoke ]; then
+  smoke=1
+  repeat=1
+  shift
+fi
 room=$(mktemp -d) || exit 1
 trap 'rm -rf "$room"' EXIT
 peer=
@@ -18,24 +26,29 @@ if command -v rustc >/dev/null && rustc --edition 2021 -O -o "$room/peer" "$here
   peer=$room/peer
 fi
 
-# The place of a text, in which its number N is another one where one is given.
+# The place of a text or of a program.
+source_of() {
+  echo "$here"/*/"$1.hh"
+}
+
+# The place of its copy, in which its number N is another one if one is given.
 text() {
   local name=$1 number=${2-}
   if [ -z "$number" ]; then
-    cp "$here/texts/$name.hh" "$room/$name.hh"
+    cp "$(source_of "$name")" "$room/$name.hh"
   else
-    sed "s/^\( *set i[0-9]* \)[0-9]*\( # N\)\$/\1$number\2/" "$here/texts/$name.hh" >"$room/$name.hh"
+    sed "s/^\( *set i[0-9]* \)[0-9]*\( # N\)\$/\1$number\2/" "$(source_of "$name")" >"$room/$name.hh"
   fi
   printf '%s' "$room/$name.hh"
 }
 
 number_in() {
-  sed -n 's/^ *set i[0-9]* \([0-9]*\) # N$/\1/p' "$here/texts/$1.hh"
+  sed -n 's/^ *set i[0-9]* \([0-9]*\) # N$/\1/p' "$(source_of "$1")"
 }
 
-# The options of a run that stand in a text.
+# The options of a run that stand in it.
 options() {
-  sed -n 's/^# words: run//p' "$here/texts/$1.hh"
+  sed -n 's/^# words: run//p' "$(source_of "$1")"
 }
 
 # Calls a command so often: the least elapsed seconds, the least processor seconds, the most KiB.
@@ -65,16 +78,26 @@ counts() {
   "$program" run $(options "$1") --report "$2" | sed -n 's/^report tasks \([0-9]*\) steps \([0-9]*\) turns \([0-9]*\)$/\1 \2 \3/p'
 }
 
+# The trace of a run, with further options.
+trace_of() {
+  local name=$1 file=$2
+  shift 2
+  # shellcheck disable=SC2046
+  "$program" run $(options "$name") "$@" --trace "$file" | sed -n '/^trace 2$/,$p' | sed '$d'
+}
+
 # A file with a text and the trace of its run by one worker.
 record() {
   cat "$2"
-  # shellcheck disable=SC2046
-  "$program" run $(options "$1") --trace "$2" | sed -n '/^trace 2$/,$p' | sed '$d'
+  trace_of "$1" "$2"
 }
 
 # So many units for each of so many, to three places.
 each() {
-  awk -v used="$1" -v count="$2" -v scale="$3" 'BEGIN { printf "%.3g", used * scale / count }'
+  awk -v used="$1" -v count="$2" -v scale="$3" 'BEGIN {
+    each = used * scale / count
+    printf each < 1000 ? "%.3g" : "%.0f", each
+  }'
 }
 
 used() {
@@ -217,6 +240,194 @@ tasks_table() {
   done
 }
 
+# Seconds elapsed and of processors, and KiB, of one call of `call_program`; what it writes but for its end line.
+time_program() {
+  local TIMEFORMAT='%3R %3U %3S'
+  { time call_program "$@" >"$room/written" 2>/dev/null; } 2>"$room/time"
+  awk '{ printf "%.3f %.3f ", $1, $2 + $3 }' "$room/time"
+  cat "$room/most"
+}
+
+# A call that the table of programs compares: the peer, a replay, or a run by that number of workers. Its caller has set
+# `file` and `words`, the options.
+call_program() {
+  local timed=(/usr/bin/time -o "$room/most" -f %M)
+  case $1 in
+    peer) "${timed[@]}" "$peer" "$file" ;;
+    replay) "${timed[@]}" "$program" replay "${words[@]}" "$room/program.trace" ;;
+    *) "${timed[@]}" "$program" run "${words[@]}" --workers "$1" "$file" ;;
+  esac
+}
+
+# Makes each call once in each turn, and compares what it writes with the answer: for each call the least elapsed seconds,
+# the least processor seconds, the most KiB.
+time_in_turns() {
+  local answer=$1 number call
+  shift
+  for ((number = 0; number < repeat; number++)); do
+    for call; do
+      printf '%s ' "$call"
+      time_program "$call"
+      [ "$(sed '$d' "$room/written" | tr '\n' ' ')" = "$answer " ] ||
+        echo "$name: $call writes another answer" | tee -a "$room/wrong" >&2
+    done
+  done | awk '
+    !($1 in most) { order[++calls] = $1; elapsed[$1] = $2; used[$1] = $3 }
+    $2 < elapsed[$1] { elapsed[$1] = $2 }
+    $3 < used[$1] { used[$1] = $3 }
+    $4 > most[$1] { most[$1] = $4 }
+    END {
+      for (call = 1; call <= calls; call++)
+        print order[call], elapsed[order[call]], used[order[call]], most[order[call]]
+    }'
+}
+
+# The row of a program, from what `time_in_turns` prints; and a line with its ratios for the means.
+program_row() {
+  awk -v name="$1" -v size="$2" -v tasks="$3" -v turns="$4" -v ratios="$room/ratios" '
+    { elapsed[$1] = $2; used[$1] = $3; most[$1] = $4 }
+    function ratio(a, b) { return b > 0 && a > 0 ? sprintf("%.2f", a / b) : "" }
+    END {
+      peers = ("peer" in used) ? sprintf("%.3f", used["peer"]) : ""
+      cell[1] = ratio(used[1], used["peer"]); cell[2] = ratio(elapsed[1], elapsed[2])
+      cell[3] = ratio(elapsed[1], elapsed[4]); cell[4] = ratio(used["replay"], used["peer"])
+      printf "| %s | %d | %d | %d | %s | %.3f | %s ", name, size, tasks, turns, peers, used[1], cell[1]
+      printf "| %.3f | %s | %.3f | %s ", elapsed[2], cell[2], elapsed[4], cell[3]
+      printf "| %.3f | %s | %.1f | %.1f |\n", used["replay"], cell[4], most[1] / 1024, most[4] / 1024
+      print cell[1] "," cell[2] "," cell[3] "," cell[4] >> ratios
+    }'
+}
+
+# The geometric means of the ratios of all programs.
+means_row() {
+  awk -F , '
+    { for (cell = 1; cell <= 4; cell++) if ($cell > 0) { sum[cell] += log($cell); count[cell]++ } }
+    function mean(cell) { return count[cell] ? sprintf("%.2f", exp(sum[cell] / count[cell])) : "" }
+    END {
+      printf "| geometric mean | | | | | | %s | | %s | | %s | | %s | | |\n", mean(1), mean(2), mean(3), mean(4)
+    }' "$room/ratios"
+}
+
+# The load of the machine, where it can be read.
+load() {
+  [ ! -r /proc/loadavg ] || echo "Load of the last minute $1: $(cut -d ' ' -f 1 /proc/loadavg), on $(nproc) processors."
+}
+
+programs_table() {
+  local name size answer file words calls
+  echo "Real programs. Seconds of processors of the peer, of a run by one worker and of a replay; elapsed seconds by two and"
+  echo "four workers, and how many times as fast they are as one; memory of the runs by one and by four."
+  load before
+  head_of program N tasks turns peer "1 worker" "times the peer" "2 workers" gain "4 workers" gain \
+    replay "times the peer" "MiB by 1" "MiB by 4"
+  : >"$room/ratios"
+  calls=(1 2 4 replay)
+  [ -z "$peer" ] || calls=(peer "${calls[@]}")
+  # (of the two answers of a program the first is of its small size, the second of the size in its text)
+  while read -r name size answer; do
+    file=$(text "$name" "$size")
+    read -ra words <<<"$(options "$name")"
+    record "$name" "$file" >"$room/program.trace"
+    # shellcheck disable=SC2046
+    set -- $(counts "$name" "$file")
+    time_in_turns "$answer" "${calls[@]}" | program_row "$name" "$size" "$1" "$3"
+  done < <(awk -v small="${smoke:-0}" 'NR % 2 == small' "$here/programs/answers.txt")
+  means_row
+  load after
+  [ ! -s "$room/wrong" ]
+}
+
+# How many tasks were taken by another worker than the one that put them, in a trace: a fork's two tasks are put by the
+# worker that forked, and a parent by the worker that ended its second child.
+thefts() {
+  awk '
+    { at++ }
+    $2 == "took" {
+      takes++
+      taken[takes] = $3
+      taker[takes] = $1
+      if ($3 in last) { fork_of[takes] = last[$3]; forks[last[$3]] }
+    }
+    $2 == "ran" { last[$3] = at; by[at] = $1 }
+    END {
+      for (entry = 1; entry <= at; entry++)
+        if (entry in forks) { right[entry] = 2 * ++count; maker[2 * count - 1] = maker[2 * count] = by[entry] }
+      maker[0] = taker[1]
+      for (take = 1; take <= takes; take++) {
+        putter = maker[taken[take]]
+        if (take in fork_of) {
+          child = right[fork_of[take]]
+          putter = by[last[child] > last[child - 1] ? last[child] : last[child - 1]]
+        }
+        stolen += putter != taker[take]
+      }
+      print stolen + 0
+    }'
+}
+
+# A row of tasks with so many private steps.
+grain_row() {
+  local steps=$1 name=$2 file=$3 workers gain cells=() least=()
+  for workers in 1 2 4; do
+    least+=("$(measure_run "$name" "$file" --workers "$workers" | cut -d ' ' -f 1)")
+  done
+  for workers in 2 4; do
+    cells+=("$(trace_of "$name" "$file" --workers "$workers" | thefts)")
+  done
+  gain=$(awk -v a="${least[0]}" -v b="${least[2]}" 'BEGIN { if (b > 0) printf "%.2f", a / b }')
+  row "$steps" "${least[@]}" "$gain" "${cells[@]}"
+}
+
+# The place of a text of small tasks; the tree has 6 levels, in place of 14, if it is only tried.
+grain_text() {
+  local file
+  file=$(text "$@")
+  [ -z "$smoke" ] || sed -i 's/^  set i0 14$/  set i0 6/' "$file"
+  printf '%s' "$file"
+}
+
+grains_table() {
+  echo "Small tasks: a tree of 32,767 tasks, whose 16,384 leaves have that many private steps. Elapsed seconds, how many"
+  echo "times as fast four workers are as one, and how many tasks another worker took than the one that put them."
+  load before
+  head_of "private steps" "1 worker" "2 workers" "4 workers" "gain by 4" "thefts by 2" "thefts by 4"
+  grain_row 1 bare_tasks "$(grain_text bare_tasks)"
+  grain_row 10 small_tasks "$(grain_text small_tasks 2)"
+  grain_row 100 small_tasks "$(grain_text small_tasks 32)"
+  grain_row 1000 small_tasks "$(grain_text small_tasks 332)"
+  load after
+}
+
+# The instructions that a command takes.
+instructions() {
+  valgrind --tool=callgrind --callgrind-out-file=/dev/null "$@" 2>&1 >/dev/null | sed -n 's/^==[0-9]*== Collected : \([0-9]*\)$/\1/p'
+}
+
+# Instructions of a run and of the peer, as the difference of two lengths, for each of N.
+instructions_row() {
+  local name=$1 few=$2 many=$3 number mine=() peers=()
+  for number in "$few" "$many"; do
+    # shellcheck disable=SC2046
+    mine+=("$(instructions "$program" run $(options "$name") "$(text "$name" "$number")")")
+    [ -z "$peer" ] || peers+=("$(instructions "$peer" "$room/$name.hh")")
+  done
+  row "$name" "$few, $many" "$(each "$((mine[1] - mine[0]))" "$((many - few))" 1)" \
+    "${peer:+$(each "$((peers[1] - peers[0]))" "$((many - few))" 1)}"
+}
+
+instructions_table() {
+  local name
+  command -v valgrind >/dev/null || { echo "The instructions are left out: valgrind isn't there."; return; }
+  echo "Instructions for each of N, as the difference of two lengths."
+  head_of text N run peer
+  for name in arithmetic allocation own_fields prints; do
+    instructions_row "$name" 2000 12000
+  done
+  for name in join_loop parallel_loop; do
+    instructions_row "$name" 4000 8000
+  done
+}
+
 growth_table() {
   local name
   echo "Growth: N, twice and four times as many."
@@ -226,7 +437,7 @@ growth_table() {
   done
 }
 
-[ $# -gt 0 ] || set -- steps entries workers turns collections forks reports tasks growth
+[ $# -gt 0 ] || set -- steps entries workers turns collections forks reports tasks growth programs grains instructions
 for table in "$@"; do
   "${table}_table" || exit 1
   echo

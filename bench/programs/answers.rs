@@ -102,12 +102,12 @@ fn dedup(size: i64) -> Vec<i64> {
 }
 
 fn frozen_table(size: i64) -> Vec<i64> {
-    let numbers = (1..50000).scan(0, |number, place| {
+    let numbers = (1..20000).scan(0, |number, place| {
         *number += square(place, 9) + 1;
         Some(*number)
     });
     let places: BTreeMap<i64, i64> = std::iter::once(0).chain(numbers).zip(1..).collect();
-    vec![(0..size).filter_map(|query| places.get(&(square(query, PRIME) % 200000))).sum()]
+    vec![(0..size).filter_map(|query| places.get(&(square(query, PRIME) % 80000))).sum()]
 }
 
 fn sieve(size: i64) -> Vec<i64> {

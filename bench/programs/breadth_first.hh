@@ -1,8 +1,8 @@
-# Breadth-first search: how far each of N nodes is from node 0, where 8 edges lead to each node. The nodes lie in blocks of
-# 500; a block's edges and its nodes' distances are frozen arrays, in tables of the root. Round by round, a parallel loop
-# goes over the blocks: each call looks for nodes without a distance to which an edge leads from a node of the round
-# before, and puts a new array of distances into the next table, a down-pointer. Nothing that a call reads is written in
-# that round, so no read takes a turn. The checksum adds up the distances, each times its node's number.
+# Breadth-first search: how far each of N nodes is from node 0, where 8 edges lead to each node. The nodes lie in blocks
+# of 500; a block's edges and its nodes' distances are frozen arrays, in tables of the root. Round by round, a parallel
+# loop goes over the blocks: each call looks for nodes without a distance to which an edge leads from a node of the
+# round before, and puts a new array of distances into the next table, a down-pointer. Nothing that a call reads is
+# written in that round, so no read takes a turn. The checksum adds up the distances, each times its node's number.
 # words: run --fuel 1000000000 --leaf 1000000 --inner 1000000
 fn main
   set i9 40000 # N

@@ -1,8 +1,9 @@
-# Duplicates removed: how many different keys there are among N, and their sum. Keys are immutable objects with a number,
-# made in parallel in frozen blocks of 2,000. A parallel loop goes over the blocks. Each call puts those keys of its block
-# that it hasn't met before into a hash set of its own, and into the one set that all share, an object of the root whose
-# empty fields are nil: there `cas` decides which task is the first. What a task reads in the shared set is a key that was
-# there before the loop, so no read is entangled. Few keys are frequent and many are rare, as words in a text are.
+# Duplicates removed: how many different keys there are among N, and their sum. Keys are immutable objects with a
+# number, made in parallel in frozen blocks of 2,000. A parallel loop goes over the blocks. Each call puts those keys of
+# its block that it hasn't met before into a hash set of its own, and into the one set that all share, an object of the
+# root whose empty fields are nil: there `cas` decides which task is the first. What a task reads in the shared set is a
+# key that was there before the loop, so no read is entangled. Few keys are frequent and many are rare, as words in a
+# text are.
 # words: run --fuel 1000000000 --leaf 1000000 --inner 1000000
 fn main
   set i9 240000 # N

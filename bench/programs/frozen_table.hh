@@ -1,11 +1,11 @@
-# A frozen table that all tasks read: 50,000 numbers in order, in one frozen array of the root, are searched for N queries
-# by bisection. Tasks halve the queries until at most 2,000 are left. Reads of the table take no turn. The output adds up
-# the places, counted from 1, at which the queries stand that are in the table.
+# A frozen table that all tasks read: 20,000 numbers in order, in one frozen array of the root, are searched for N
+# queries by bisection. Tasks halve the queries until at most 1,000 are left. Reads of the table take no turn. The
+# output adds up the places, counted from 1, at which the queries stand that are in the table.
 # words: run --fuel 1000000000 --leaf 1000000 --inner 1000000
 fn main
   set i9 200000 # N
-  set i10 2000     # the grain
-  set i11 50000    # the numbers of the table
+  set i10 1000     # the grain
+  set i11 20000    # the numbers of the table
   set i2 1         # (i2, i3 and i4 are 1, 2 and 0 everywhere)
   set i3 2
   set i4 0

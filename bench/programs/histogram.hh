@@ -1,10 +1,10 @@
 # A histogram of N numbers in 100 bins by compare-and-swap. Each bin is a reference field of an object of the root, and
 # refers to one of the immutable objects that stand for 0, 1, 2 and so on. A task can't put an object of its own there,
 # since a concurrent one that read it would be entangled: so the root makes these objects first, in a frozen table. A
-# parallel loop goes over blocks of 10,000 numbers. Each call counts its block alone, and adds its counts to the bins: it
-# reads a bin, finds the object for the sum, and puts that by `cas`, again and again until no other task was faster. No
-# bin may get more than twice its share, else the table is too short (trap range). The output is the number of all, and
-# the counts, each times its bin's number.
+# parallel loop goes over blocks of 10,000 numbers. Each call counts its block alone, and adds its counts to the bins:
+# it reads a bin, finds the object for the sum, and puts that by `cas`, again and again until no other task was faster.
+# No bin may get more than twice its share, else the table is too short (trap range). The output is the number of all,
+# and the counts, each times its bin's number.
 # words: run --fuel 1000000000 --leaf 1000000 --inner 1000000
 fn main
   set i9 2000000 # N

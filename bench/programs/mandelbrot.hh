@@ -1,6 +1,6 @@
-# The Mandelbrot set in fixed point, with 24 binary digits after the point: N rows of 3 N / 2 pixels, from -2 - i to 1 + i,
-# at most 200 iterations each. A parallel loop goes over the rows. The checksum adds up the iterations of each pixel, times
-# its place.
+# The Mandelbrot set in fixed point, with 24 binary digits after the point: N rows of 3 N / 2 pixels, from -2 - i to 1 +
+# i, at most 200 iterations each. A parallel loop goes over the rows. The checksum adds up the iterations of each pixel,
+# times its place.
 # words: run --fuel 1000000000
 fn main
   set i9 120 # N

@@ -1,7 +1,7 @@
-# Merge sort. A task cuts its part of N numbers into halves, and merges the sorted arrays that its two children return. A
-# task with at most 2,000 numbers goes on alone, by calls, and sorts 12 numbers or fewer by insertion. The numbers to be
-# sorted are a frozen array, which all tasks read without a turn. For the checksum, 31 times what it was is added to each
-# number of the result, in order.
+# Merge sort. A task cuts its part of N numbers into halves, and merges the sorted arrays that its two children return.
+# A task with at most 2,000 numbers goes on alone, by calls, and sorts 12 numbers or fewer by insertion. The numbers to
+# be sorted are a frozen array, which all tasks read without a turn. For the checksum, 31 times what it was is added to
+# each number of the result, in order.
 # words: run --fuel 1000000000 --leaf 1000000 --inner 1000000
 fn main
   set i9 200000 # N

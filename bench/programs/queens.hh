@@ -34,8 +34,8 @@ lab none
   nil r0
 end
 
-fn new_board       # returns a board: N numbers for the queens' columns, then 1 for each of N columns, 2 N rising and 2 N
-  set i5 6         # falling diagonals, since they are free
+fn new_board       # returns a board: the columns of N queens, then 1 for each free column and diagonal: N columns,
+  set i5 6         # 2 N rising and 2 N falling diagonals, the latter behind N that nothing uses
   mul i5 i5 i9
   newm r0 i4 i5
   mov i6 i9

@@ -1,6 +1,7 @@
 # Prefix sums of N numbers, by two passes over a tree. The first makes the numbers, in frozen arrays of at most 2,000 at
 # the leaves, and each node has the sum of those below it. The second goes down with the sum of all numbers to the left,
-# and makes an array of prefix sums for each leaf. A third adds up the prefix sums, each times its place, for a checksum.
+# and makes an array of prefix sums for each leaf. A third adds up the prefix sums, each times its place, for a
+# checksum.
 # words: run --fuel 1000000000 --leaf 1000000 --inner 1000000
 fn main
   set i9 1000000 # N

@@ -1,6 +1,7 @@
 # Trees: eight times a tree of N levels is grown and folded, both in parallel down to the subtrees of at most 9 levels,
-# which one task grows or folds alone, by calls. Nodes are immutable, so a task that folds reads them without a turn. The
-# fold of a node is its number, 3 times the fold of its first child and 5 times that of its second; the output is the sum.
+# which one task grows or folds alone, by calls. Nodes are immutable, so a task that folds reads them without a turn.
+# The fold of a node is its number, 3 times the fold of its first child and 5 times that of its second; the output is
+# the sum.
 # words: run --fuel 1000000000 --leaf 1000000 --inner 1000000
 fn main
   set i9 15 # N
