@@ -313,6 +313,14 @@ load() {
   [ ! -r /proc/loadavg ] || echo "Load of the last minute $1: $(cut -d ' ' -f 1 /proc/loadavg), on $(nproc) processors."
 }
 
+# The answers are those of the programs in plain Rust, if rustc is there.
+check_answers() {
+  local stored=$here/programs/answers.txt
+  command -v rustc >/dev/null || return
+  rustc --edition 2021 -O -o "$room/answers" "$here/programs/answers.rs" && "$room/answers" "$stored" | cmp -s - "$stored" ||
+    echo "programs/answers.txt isn't what programs/answers.rs writes" | tee -a "$room/wrong" >&2
+}
+
 programs_table() {
   local name size answer file words calls
   echo "Real programs. Seconds of processors of the peer, of a run by one worker and of a replay; elapsed seconds by two and"
@@ -321,6 +329,7 @@ programs_table() {
   head_of program N tasks turns peer "1 worker" "times the peer" "2 workers" gain "4 workers" gain \
     replay "times the peer" "MiB by 1" "MiB by 4"
   : >"$room/ratios"
+  check_answers
   calls=(1 2 4 replay)
   [ -z "$peer" ] || calls=(peer "${calls[@]}")
   # (of the two answers of a program the first is of its small size, the second of the size in its text)
@@ -337,8 +346,8 @@ programs_table() {
   [ ! -s "$room/wrong" ]
 }
 
-# How many tasks were taken by another worker than the one that put them, in a trace: a fork's two tasks are put by the
-# worker that forked, and a parent by the worker that ended its second child.
+# How many tasks were taken by another worker than the one that put them, in a trace: the first task is put by worker 0, a
+# fork's two tasks by the worker that forked, and a parent by the worker that ended its second child.
 thefts() {
   awk '
     { at++ }
@@ -352,7 +361,7 @@ thefts() {
     END {
       for (entry = 1; entry <= at; entry++)
         if (entry in forks) { right[entry] = 2 * ++count; maker[2 * count - 1] = maker[2 * count] = by[entry] }
-      maker[0] = taker[1]
+      maker[0] = 0
       for (take = 1; take <= takes; take++) {
         putter = maker[taken[take]]
         if (take in fork_of) {

@@ -35,7 +35,7 @@ lab none
 end
 
 fn new_board       # returns a board: the columns of N queens, then 1 for each free column and diagonal: N columns,
-  set i5 6         # 2 N rising and 2 N falling diagonals, the latter behind N that nothing uses
+  set i5 6         # 2 N rising diagonals, and 2 N falling ones round 5 N
   mul i5 i5 i9
   newm r0 i4 i5
   mov i6 i9
