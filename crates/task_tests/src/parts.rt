@@ -1,6 +1,7 @@
 // Programs from texts, the root's part of each, and what comes of its steps.
 
-ghost use Rattle.std.specs.Prelude.{◌≡◌, ◌<◌, ◌≤◌, [], IfSome, IsTrue, None};
+ghost use Rattle.std.specs.Prelude.{◌≡◌, ◌≤◌, [], IfSome, IsTrue, None};
+ghost use Rattle.object_layout.specs.Cell.{chunk_words};
 ghost use Rattle.hh_lang.specs.Form.{ProgramText};
 ghost use Rattle.hh_model.specs.declared.data.State.{State};
 ghost use Rattle.hh_model.specs.Step.{start};
@@ -68,16 +69,17 @@ fn bare_root(alloc: Global, frames: Frames, setup: Setup) -> Private
     }
 }
 
-// Gives a part that has no chunk one of so many units, and says whether it did.
-fn add_first_chunk(alloc: Global, part: &mut Private, units: u32) -> bool
-    requires units { 0 < units }
-    requires few { units ≤ 100 }
-    requires empty { part.old.heap.chunks ≡ [] }
+// Gives a part that has no chunk this one, which is empty, and says whether it did.
+fn add_first_chunk(part: &mut Private, chunk: Chunk) -> bool
+    requires number { chunk.number ≡ 7 }
+    requires empty { chunk.cells ≡ [] }
+    requires size { chunk_words ≤ chunk.size }
+    requires first { part.old.heap.chunks ≡ [] }
     ensures fits { IsTrue result → (p : ProgramText) (m : State) → FitsNow p part.old m nowhere → FitsNow p part.new m nowhere }
     ensures idle { part.new.begun ≡ part.old.begun }
 {
-    match Chunk::new(alloc, 7, units) {
-        Ok(chunk) => part.heap.add(chunk).is_ok(),
+    match part.heap.add(chunk) {
+        Ok(()) => true,
         Err(_) => false,
     }
 }
@@ -92,7 +94,8 @@ pub(crate) fn root_of(alloc: Global, program: &Program, setup: Setup) -> Option<
     if setup.units == 0 || setup.units > 100 {
         return Some(part);
     }
-    if add_first_chunk(alloc, &mut part, setup.units) {
+    let chunk = Chunk::new(alloc, 7, setup.units).ok()?;
+    if add_first_chunk(&mut part, chunk) {
         Some(part)
     } else {
         None

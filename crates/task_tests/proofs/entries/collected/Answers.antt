@@ -1,3 +1,5 @@
+use Rattle.std.proofs.Common.{None}
+use Rattle.task_machine.proofs.Entries.{begun_fits}
 use Rattle.task_tests.proofs.entries.collected.Goals as goal
 
 pub returns-clause-fits : goal.returns-clause-fits
@@ -6,5 +8,5 @@ returns-clause-fits c =
     let m = c.requires.fits.0 in
     let above = c.requires.fits.1 in
     let begun = c.begin_collection.ensures.fits.now p m above c.requires.fits.2 in
-    let ended = c.end_collection-begun.ensures.fits.now p m above begun in
+    let ended = (begun_fits c.begin_collection.new.self None).now p m above begun in
     (m, above, c.begin_entry.ensures.fits.now p m above (c.reset_since.ensures.fits.now p m above ended))

@@ -1,0 +1,20 @@
+use Rattle.std.proofs.Common.{◌≡◌, [], Some, None, sym, subst, ap}
+use Rattle.object_layout.specs.declared.word.Addr.{Addr}
+use Rattle.object_layout.specs.Chunks.{IsFresh}
+use Rattle.object_layout.specs.ChunkValue.{ChunkValue}
+use Rattle.alloc_path.specs.LeafHeapValue.{LeafHeapValue}
+use Rattle.task_machine.specs.declared.part.Private.{Private}
+use Rattle.task_machine.specs.Fits.{FitsNow}
+use Rattle.task_tests.specs.Root.{nowhere}
+use Rattle.task_tests.proofs.ChunkAdded.{chunk_fits}
+use Rattle.task_tests.proofs.parts.add_first_chunk.Goals as goal
+
+none_some : (a : Addr) → None ≡ Some a → ⊥
+none_some a e = cc
+
+pub returns-in-Ok-clause-fits : goal.returns-in-Ok-clause-fits
+returns-in-Ok-clause-fits c = λ added p m F.
+    let old : Private = c.args.part.now in
+    let P : LeafHeapValue → Type 0 = λ h. FitsNow p (record old { heap = h }) m nowhere in
+    subst P (sym c.in-Ok.ensures.ok)
+    (chunk_fits p old m nowhere c.args.chunk c.add.new.self.slots c.add.new.self.spare F (λ n a e. absurd (none_some a e)) c.requires.empty c.requires.size (subst (λ ks. IsFresh ks c.args.chunk.number) (sym c.requires.first) tt))
