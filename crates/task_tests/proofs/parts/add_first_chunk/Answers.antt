@@ -1,7 +1,6 @@
-use Rattle.std.proofs.Common.{◌≡◌, [], Some, None, sym, subst, ap}
+use Rattle.std.proofs.Common.{◌≡◌, Some, None, refl, sym, subst}
 use Rattle.object_layout.specs.declared.word.Addr.{Addr}
 use Rattle.object_layout.specs.Chunks.{IsFresh}
-use Rattle.object_layout.specs.ChunkValue.{ChunkValue}
 use Rattle.alloc_path.specs.LeafHeapValue.{LeafHeapValue}
 use Rattle.task_machine.specs.declared.part.Private.{Private}
 use Rattle.task_machine.specs.Fits.{FitsNow}
@@ -17,4 +16,4 @@ returns-in-Ok-clause-fits c = λ added p m F.
     let old : Private = c.args.part.now in
     let P : LeafHeapValue → Type 0 = λ h. FitsNow p (record old { heap = h }) m nowhere in
     subst P (sym c.in-Ok.ensures.ok)
-    (chunk_fits p old m nowhere c.args.chunk c.add.new.self.slots c.add.new.self.spare F (λ n a e. absurd (none_some a e)) c.requires.empty c.requires.size (subst (λ ks. IsFresh ks c.args.chunk.number) (sym c.requires.first) tt))
+    (chunk_fits p old m nowhere c.args.chunk c.add.new.self.slots c.add.new.self.spare F (λ n a e. absurd (none_some a e)) c.requires.empty c.requires.size (subst (λ ks. IsFresh ks c.args.chunk.number) (sym c.requires.first) refl))
