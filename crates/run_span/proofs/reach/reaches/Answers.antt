@@ -1,7 +1,8 @@
 use Rattle.std.proofs.Common.{◌≡◌, ◌+◌, ◌<◌, ◌≤◌, ◌^◌, ℕ, length, get_or, slice_get, Some, replicate, [], sum, ap, sym, subst, ◌∙◌, arith, rules}
 use Rattle.std.specs.List.{sum_by}
 use Rattle.std.proofs.lemmas.List.Sums.{sum_by_more_le}
-use Rattle.fork_graph.specs.Graph.{tasks_in}
+use Rattle.std.proofs.lemmas.Option.{slice_get-get_or}
+use Rattle.fork_graph.specs.Graph.{tasks_in, strand}
 use Rattle.run_span.specs.declared.reach.Reaches.{Reaches}
 use Rattle.run_span.specs.Reaches.{reach_before, entered, AreReachesOf}
 use Rattle.run_span.proofs.Reaching.{IsReaching, total, reaching_start, reaching_step, reaching_end, before_bound}
@@ -17,10 +18,31 @@ loop-place-init c =
     subst (IsReaching tasks n c.args.order.now c.args.weights.now 0) (sym all) (reaching_start tasks n c.args.order.now c.args.weights.now)
 
 pub overflow_add-reach : goal.overflow_add-reach
-overflow_add-reach c = let h = c.reach_before in ?
+overflow_add-reach c =
+    let order = c.args.order.now in
+    let weights = c.args.weights.now in
+    let e = c.loop-place.place in
+    let lt : e < length weights = omega (arith, c.loop-place-test.true, c.requires.weighed) in
+    let bound = before_bound (tasks_in c.args.tasks.now) (length c.args.tasks.now) order weights e c.loop-place.reaches (get_or order e (strand 0 0)) c.loop-place.invariant in
+    let most : total weights e + get_or weights e 0 ≤ sum weights = sum_by_more_le (λ x. x) weights e 0 lt in
+    omega (arith, bound, most, c.reach_before.ensures, c.requires.fits)
 
 pub loop-place-preserved : goal.loop-place-preserved
-loop-place-preserved c = ?
+loop-place-preserved c =
+    let tasks = tasks_in c.args.tasks.now in
+    let order = c.args.order.now in
+    let weights = c.args.weights.now in
+    let e = c.loop-place.place in
+    let u = get_or order e (strand 0 0) in
+    let lt : e < length weights = omega (arith, c.loop-place-test.true, c.requires.weighed) in
+    let step = reaching_step c.args.tasks.now order weights c.requires.some c.requires.nested c.requires.below c.requires.order c.requires.weighed e c.loop-place.reaches c.loop-place.invariant
+    u (get_or weights e 0) (slice_get-get_or order e (strand 0 0) c.loop-place-test.true) (slice_get-get_or weights e 0 lt) in
+    subst (IsReaching tasks (length c.args.tasks.now) order weights (e + 1))
+    (sym (c.in_ok-enter.ensures ∙ ap (λ y. entered c.loop-place.reaches u (y + get_or weights e 0)) c.reach_before.ensures)) step
 
 pub returns : goal.returns
-returns c = ?
+returns c =
+    let order = c.args.order.now in
+    let end : c.loop-place.place ≡ length order = omega (arith, c.loop-place-test.false, c.loop-place.auto.place-end) in
+    reaching_end (tasks_in c.args.tasks.now) (length c.args.tasks.now) order c.args.weights.now c.loop-place.reaches
+    (subst (λ (e : ℕ). IsReaching (tasks_in c.args.tasks.now) (length c.args.tasks.now) order c.args.weights.now e c.loop-place.reaches) end c.loop-place.invariant)
