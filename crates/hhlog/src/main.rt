@@ -1,36 +1,25 @@
 // The program `hhlog`: hands its words, files, standard output and standard error to the call.
 #![tactic(auto)]
 
-use log_command::{Status, check};
+use log_command::check;
 use outside_io::{FileSource, OutSink};
+use std::alloc::AllocError;
+use std::io;
 use std::process::ExitCode;
-use std::rt::Env;
-use std::{env, io};
+use whole_call::{Status, exit_code, words_after_name, words_of_call};
 
-// The words behind the program's name.
-fn words_of_call<R: Env + AllocGlobal>(rt: &R) -> io::Result<Vec<String>> {
-    let mut words = Vec::new(rt.alloc());
-    for word in env::args(rt)?.skip(1) {
-        words.push(word)?;
-    }
-    Ok(words)
+// Answers these words.
+fn answer(rt: &HostRuntime, words: &[String]) -> Status {
+    let mut source = FileSource::new(rt, rt.reader());
+    let mut out = OutSink::new(io::writer(rt));
+    let mut error = OutSink::new(rt.stderr());
+    check(rt.alloc(), words, &mut source, &mut out, &mut error)
 }
 
 fn main(rt: HostRuntime) -> ExitCode {
     let status = match words_of_call(&rt) {
-        Err(_) => Status::NoMemory,
-        Ok(words) => {
-            let mut source = FileSource::new(&rt, rt.reader());
-            let mut out = OutSink::new(io::writer(&rt));
-            let mut error = OutSink::new(rt.stderr());
-            check(
-                rt.alloc(),
-                words.as_slice(),
-                &mut source,
-                &mut out,
-                &mut error,
-            )
-        }
+        Err(AllocError) => Status::NoMemory,
+        Ok(words) => answer(&rt, words_after_name(words.as_slice())),
     };
-    ExitCode::from(status.code())
+    exit_code(status)
 }

@@ -1,10 +1,18 @@
--- Names of files, and their texts.
-use Rattle.std.proofs.Common.{◌≡◌, ◌<◌, ◌+◌, ◌==◌, ℕ, zero, suc, Bool, true, false, List, [], ◌∷◌, ◌++◌, length, take, get_or, map, arith, refl, ap, sym, ◌∙◌, Option, Some, None}
+-- Names of files, and the texts that are read of them.
+use Rattle.std.proofs.Common.{◌≡◌, ◌<◌, ◌≤◌, ◌+◌, ◌==◌, ℕ, zero, suc, Bool, true, false, List, [], ◌∷◌, ◌++◌, length, take, get_or, map, arith, refl, ap, sym, ◌∙◌, ◌⊎◌, inl, inr, subst, Some, length-append}
+use Rattle.std.specs.Prelude.{◌≢◌}
 use Rattle.std.specs.List.{list_all}
+use Rattle.std.proofs.Math.Nat.{eq-or-lt_of_le}
+use Rattle.std.proofs.Math.ListN.{get_or-append}
+use Rattle.std.proofs.Math.Seq.{get_or-append_seam}
 use Rattle.std.proofs.lemmas.Bool.Decides.{nat_tests}
+use Rattle.std.proofs.lemmas.List.{map-append}
 use Rattle.std.proofs.lemmas.List.Folds.{list_all-map}
+use Rattle.whole_call.specs.Input.{ReadsUpTo, SourceState, IsInputOf, HasTaken, HasRead}
+use Rattle.whole_call.proofs.Calls.{some_input}
+use Rattle.log_form.specs.Text.{text_of, texts_of}
 use Rattle.log_command.specs.Words.{is_name, are_names}
-use Rattle.log_command.specs.Call.{Tells, read_text, read_texts}
+use Rattle.log_command.specs.Files.{most_file_bytes, reads_file, AreFirstInputs, HasTakenFirst, HasReadFirst}
 
 pub no_names : {W : Type 0} (f : W → List ℕ) (words : List W) → (length words == 0) ≡ true → false ≡ are_names (map f words)
 no_names f [] e = refl
@@ -14,33 +22,67 @@ pub some_names : {W : Type 0} (f : W → List ℕ) (words : List W) → (length 
 some_names f [] e = absurd cc
 some_names f (w ∷ ws) e = sym (list_all-map is_name f (w ∷ ws))
 
+pub not_empty : {W : Type 0} (f : W → List ℕ) (words : List W) (i : ℕ) → i < length words → map f words ≢ []
+not_empty f [] i lt e = omega (arith, lt)
+not_empty f (w ∷ ws) i lt e = cc
+
+-- INPUTS
+
+module _ (names : List (List ℕ)) (before : SourceState) where
+  pub no_inputs : AreFirstInputs names 0 before []
+  no_inputs = record { count = refl; each = λ k lt. absurd (omega (arith, lt)) }
+
+  each_more : (i : ℕ) (inputs : List (List ℕ)) (input : List ℕ) (k : ℕ) → length inputs ≡ i → ((j : ℕ) → j < i → IsInputOf (reads_file names j) before (get_or inputs j [])) → IsInputOf (reads_file names i) before input → k < i + 1
+      → (k ≡ i) ⊎ (k < i) → IsInputOf (reads_file names k) before (get_or (inputs ++ input ∷ []) k [])
+  each_more i inputs input k n each is lt (inr below) = let here : k < length inputs = omega arith in rw (get_or-append inputs (input ∷ []) [] k here) (each k below)
+  each_more i inputs input k n each is lt (inl e) =
+      subst (λ (j : ℕ). IsInputOf (reads_file names j) before (get_or (inputs ++ input ∷ []) j [])) (sym e)
+      (subst (λ (j : ℕ). IsInputOf (reads_file names i) before (get_or (inputs ++ input ∷ []) j [])) n (rw (get_or-append_seam inputs input [] []) is))
+
+  below_or_at : (k i : ℕ) → k < i + 1 → (k ≡ i) ⊎ (k < i)
+  below_or_at k i lt = let le : k ≤ i = omega (arith, lt) in eq-or-lt_of_le le
+
+  -- one input more
+  pub more_inputs : (i : ℕ) (inputs : List (List ℕ)) (input : List ℕ) → AreFirstInputs names i before inputs → IsInputOf (reads_file names i) before input → AreFirstInputs names (i + 1) before (inputs ++ input ∷ [])
+  more_inputs i inputs input are is = record {
+    count = (let n = are.count in omega (arith, n, length-append inputs (input ∷ [])));
+    each = λ k lt. each_more i inputs input k are.count are.each is lt (below_or_at k i lt);
+  }
+
+  -- whatever the source tells, there are inputs
+  pub some_inputs : (n : ℕ) → (inputs : List (List ℕ)) × AreFirstInputs names n before inputs
+  some_inputs zero = ([], no_inputs)
+  some_inputs (suc n) =
+      let rest = some_inputs n in
+      let one = some_input (reads_file names n) before in
+      (rest.0 ++ one.0 ∷ [], subst (λ (m : ℕ). AreFirstInputs names m before (rest.0 ++ one.0 ∷ [])) (let e : n + 1 ≡ suc n = omega arith in e) (more_inputs n rest.0 one.0 rest.1 one.1))
+
 -- TEXTS
 
-pub file_at : {W : Type 0} (f : W → List ℕ) (named : List ℕ → Option (List ℕ)) (words : List W) (files : List (List ℕ)) (i : ℕ) (d : W) → Tells named (map f words) files → i < length words
-    → (named (f (get_or words i d)) ≡ Some (get_or files i [])) × (i < length files)
-file_at f named [] files i d e lt = absurd (omega (arith, lt))
-file_at f named (w ∷ ws) [] i d e lt = absurd cc
-file_at f named (w ∷ ws) (x ∷ xs) zero d e lt = (cc, omega arith)
-file_at f named (w ∷ ws) (x ∷ xs) (suc i) d e lt =
-    let tail : map named (map f ws) ≡ map Some xs = cc in
-    let r = file_at f named ws xs i d tail (omega (arith, lt)) in
-    (r.0, let s = r.1 in omega (arith, s))
+-- nothing was read yet
+pub nothing_read : (names : List (List ℕ)) (before : SourceState) → HasReadFirst names 0 before before []
+nothing_read names before = record {
+  inputs = [];
+  are = no_inputs names before;
+  texts_are = refl;
+  taken = record { none = λ e. refl; last = λ k e. absurd (omega (arith, e)) };
+}
 
-text_more : (files : List (List ℕ)) (i : ℕ) → i < length files → take i (read_texts files) ++ read_text (get_or files i []) ∷ [] ≡ take (i + 1) (read_texts files)
-text_more [] i lt = absurd (omega (arith, lt))
-text_more (x ∷ xs) zero lt = refl
-text_more (x ∷ xs) (suc i) lt = ap (λ ts. read_text x ∷ ts) (text_more xs i (omega (arith, lt))) ∙ ap (λ k. take k (read_texts (x ∷ xs))) (let s : suc (i + 1) ≡ suc i + 1 = omega arith in s)
+module _ (names : List (List ℕ)) (i : ℕ) (before mid after : SourceState) (name : List ℕ) (is : name ≡ get_or names i []) (same : (n : List ℕ) → mid.named n ≡ before.named n) where
+  input_here : (input : List ℕ) → IsInputOf (ReadsUpTo most_file_bytes (Some name)) mid input → IsInputOf (reads_file names i) before input
+  input_here input h = record { within = h.within; first = λ whole e. h.first whole (same name ∙ ap before.named is ∙ e) }
 
--- one text more is read
-pub read_more : {W : Type 0} (f : W → List ℕ) (named : List ℕ → Option (List ℕ)) (words : List W) (files : List (List ℕ)) (i : ℕ) (d : W) (texts : List (List ℕ)) (text : List ℕ) → Tells named (map f words) files → i < length words
-    → texts ≡ take i (read_texts files) → ((file : List ℕ) → named (f (get_or words i d)) ≡ Some file → text ≡ read_text file) → texts ++ text ∷ [] ≡ take (i + 1) (read_texts files)
-read_more f named words files i d texts text e lt t is =
-    let r = file_at f named words files i d e lt in
-    ap (λ ts. ts ++ text ∷ []) t ∙ ap (λ x. take i (read_texts files) ++ x ∷ []) (is (get_or files i []) r.0) ∙ text_more files i r.1
+  taken_here : HasTaken (ReadsUpTo most_file_bytes (Some name)) mid after → HasTaken (reads_file names i) before after
+  taken_here t = λ whole e. t whole (same name ∙ ap before.named is ∙ e)
 
--- as many texts as names
-pub all_read : {W : Type 0} (f : W → List ℕ) (named : List ℕ → Option (List ℕ)) (words : List W) (files : List (List ℕ)) → Tells named (map f words) files → take (length words) (read_texts files) ≡ read_texts files
-all_read f named [] [] e = refl
-all_read f named [] (x ∷ xs) e = absurd cc
-all_read f named (w ∷ ws) [] e = absurd cc
-all_read f named (w ∷ ws) (x ∷ xs) e = ap (λ ts. read_text x ∷ ts) (all_read f named ws xs cc)
+  -- one text more is read
+  pub read_more : (texts : List (List ℕ)) (text : List ℕ) → HasReadFirst names i before mid texts → (input : List ℕ) × HasRead (ReadsUpTo most_file_bytes (Some name)) mid after input × (text ≡ text_of input) → HasReadFirst names (i + 1) before after (texts ++ text ∷ [])
+  read_more texts text so_far one = record {
+    inputs = so_far.inputs ++ one.0 ∷ [];
+    are = more_inputs names before i so_far.inputs one.0 so_far.are (input_here one.0 one.1.is);
+    texts_are = (let t : text ≡ text_of one.0 = one.2 in let ts = so_far.texts_are in rw (ts, t) (sym (map-append text_of so_far.inputs (one.0 ∷ []))));
+    taken = record {
+      none = λ e. absurd (omega (arith, e));
+      last = λ k e. (let at : i ≡ k = omega (arith, e) in subst (λ (j : ℕ). HasTaken (reads_file names j) before after) at (taken_here one.1.taken));
+    };
+  }

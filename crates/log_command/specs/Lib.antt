@@ -1,4 +1,4 @@
-pub mod Status
 pub mod Words
+pub mod Files
 pub mod Shown
 pub mod Call

@@ -1,5 +1,5 @@
 -- What is shown of a log.
-use Rattle.std.specs.Prelude.{◌≡◌, ℕ, Bool, true, false, Option, Some, None, List, [], ◌∷◌, ◌++◌, codes, slice_index_or}
+use Rattle.std.specs.Prelude.{ℕ, Bool, true, false, Option, Some, None, List, [], ◌∷◌, ◌++◌, codes, slice_index_or}
 use Rattle.std.specs.Fmt.{decimal}
 use Rattle.log_lines.specs.declared.cause.Cause.{Cause}
 use Rattle.log_lines.specs.declared.cause.Cause.TheVariants as causes
@@ -8,14 +8,10 @@ use Rattle.log_form.specs.declared.fault.Fault.TheVariants as faults
 use Rattle.log_form.specs.declared.fault.Found.{Found}
 use Rattle.log_form.specs.Faults.{log_fault}
 use Rattle.log_form.specs.Events.{is_cut}
-use Rattle.log_command.specs.declared.shown.Status.{Status}
-use Rattle.log_command.specs.declared.shown.Status.TheVariants.{Done, Words, Refused, CutOff}
-use Rattle.log_command.specs.declared.shown.Shown.{Shown}
-
--- this text, with this status
-pub record Says (named : Status) (bytes : List ℕ) (s : Shown) : Type 0 where
-  pub status : s.status ≡ named
-  pub written : s.text ≡ bytes
+use Rattle.whole_call.specs.declared.status.AnswerStatus.{AnswerStatus}
+use Rattle.whole_call.specs.declared.status.AnswerStatus.TheVariants.{Done, Trace, CutOff}
+use Rattle.whole_call.specs.declared.reply.Reply.{Reply}
+use Rattle.whole_call.specs.Output.{Says}
 
 -- CAUSES
 
@@ -54,14 +50,14 @@ abbrev pub end_line : Bool → List ℕ
 end_line true = codes "end: log cut off\n"
 end_line false = codes "end: log accepted\n"
 
-abbrev pub status_of_end : Bool → Status
+abbrev pub status_of_end : Bool → AnswerStatus
 status_of_end true = CutOff
 status_of_end false = Done
 
 -- what is shown of a log, whose files have these names and texts
-abbrev pub ShowsFault : List (List ℕ) → Bool → Option Found → Shown → Type 0
+abbrev pub ShowsFault : List (List ℕ) → Bool → Option Found → Reply → Type 0
 ShowsFault names cut None = Says (status_of_end cut) (end_line cut)
-ShowsFault names cut (Some found) = Says Refused (refusal_line names found)
+ShowsFault names cut (Some found) = Says Trace (refusal_line names found)
 
-abbrev pub ShowsLog : List (List ℕ) → List (List ℕ) → Shown → Type 0
+abbrev pub ShowsLog : List (List ℕ) → List (List ℕ) → Reply → Type 0
 ShowsLog names texts = ShowsFault names (is_cut texts) (log_fault texts)

@@ -23,3 +23,22 @@ abbrev pub is_usage : List (List ℕ) → Bool
 is_usage [] = false
 is_usage (word ∷ []) = bytes_eq word (codes "--help")
 is_usage (word ∷ other ∷ words) = false
+
+-- nothing, how the program is called, or the check of a log by the names of its files
+pub data Asked : Type 0 where
+  Nothing : Asked
+  Usage : Asked
+  Check : List (List ℕ) → Asked
+
+abbrev pub asked_by_names : Option (List (List ℕ)) → Asked
+asked_by_names None = Nothing
+asked_by_names (Some names) = Check names
+
+abbrev pub asked : List (List ℕ) → Asked
+asked words = if is_usage words then Usage else asked_by_names (log_names words)
+
+-- the files that are read
+abbrev pub files_for : Asked → List (List ℕ)
+files_for Nothing = []
+files_for Usage = []
+files_for (Check names) = names

@@ -3,9 +3,7 @@
 
 mod call;
 mod read;
-mod shown;
 mod texts;
 mod words;
 
 pub use call::check;
-pub use shown::{Shown, Status};

@@ -1,17 +1,18 @@
 // Reads the files of a log.
 
-ghost use Rattle.std.specs.Prelude.{◌≡◌, ◌≤◌, ℕ, List, Some, IfOk, IfErr, map, string_bytes, take};
+ghost use Rattle.std.specs.Prelude.{◌≡◌, ◌≢◌, ◌≤◌, ℕ, List, [], Some, IfOk, IfErr, OnErr, map, string_bytes};
 ghost use Rattle.std.specs.List.{position_or_len};
 ghost use Rattle.outside_io.specs.Fault.{HasRisen};
 ghost use Rattle.log_form.specs.Text.{is_zero, text_of};
-ghost use Rattle.log_command.specs.Call.{Tells, read_text, read_texts};
+ghost use Rattle.whole_call.specs.Input.{HasRead, ReadsUpTo};
+ghost use Rattle.log_command.specs.Files.{most_file_bytes, HasReadFiles};
 
 use all_bytes::{ReadError, read_file};
 use listed::Listed;
 use outside_io::Source;
 use std::alloc::Global;
 
-/// So many bytes of a file are read at most.
+/// At most one byte more of a file is read.
 const MOST_FILE_BYTES: usize = 1 << 62;
 
 // Where the first zero byte of a file stands, or where the file ends.
@@ -38,7 +39,7 @@ fn text_of(file: Vec<u8>) -> Listed<u8>
 
 // Reads the text of a file.
 fn read_text<S: Source>(alloc: Global, source: &mut S, name: &str) -> Result<Listed<u8>, ReadError>
-    ensures text { IfOk result (λ text. (file : List ℕ) → S.named source.old name.now ≡ Some file → text ≡ read_text file) }
+    ensures text { IfOk result (λ text. (input : List ℕ) × HasRead (ReadsUpTo most_file_bytes (Some name.now)) (record { left = S.left source.old; named = S.named source.old; faults = S.faults source.old }) (record { left = S.left source.new; named = S.named source.new; faults = S.faults source.new }) input × (text ≡ text_of input)) }
     ensures failed { IfErr result (λ e. e ≡ ReadError.Fault → HasRisen (S.faults source.old) (S.faults source.new)) }
     ensures names { (n : List ℕ) → S.named source.new n ≡ S.named source.old n }
     ensures never_falls { S.faults source.old ≤ S.faults source.new }
@@ -53,9 +54,9 @@ pub(crate) fn read_texts<S: Source>(
     source: &mut S,
     names: &[String],
 ) -> Result<Listed<Listed<u8>>, ReadError>
-    ensures texts { IfOk result (λ texts. (files : List (List ℕ)) → Tells (S.named source.old) (map string_bytes names.now) files → texts ≡ read_texts files) }
+    ensures texts { IfOk result (HasReadFiles (map string_bytes names.now) (record { left = S.left source.old; named = S.named source.old; faults = S.faults source.old }) (record { left = S.left source.new; named = S.named source.new; faults = S.faults source.new })) }
     ensures failed { IfErr result (λ e. e ≡ ReadError.Fault → HasRisen (S.faults source.old) (S.faults source.new)) }
-    ensures never_falls { S.faults source.old ≤ S.faults source.new }
+    ensures some { OnErr result (map string_bytes names.now ≢ []) }
 {
     let mut texts = Listed::new(alloc);
     for name in names {

@@ -1,12 +1,13 @@
 // The texts of reports and refusals.
 
 ghost use Rattle.std.specs.Prelude.{◌≡◌, [], IfOk, map, string_bytes, slice_index_or};
-ghost use Rattle.log_command.specs.Shown.{Says, text_of_cause, text_of_fault, usage, words_line, refusal_line, end_line, status_of_end};
+ghost use Rattle.whole_call.specs.Output.{Says};
+ghost use Rattle.log_command.specs.Shown.{text_of_cause, text_of_fault, usage, words_line, refusal_line, end_line, status_of_end};
 
-use crate::shown::{Shown, Status, says};
 use log_form::{Fault, Found};
 use log_lines::Cause;
 use std::alloc::{AllocError, Global};
+use whole_call::{AnswerStatus, Reply};
 
 // Why a text is no line.
 fn text_of_cause(cause: Cause) -> &'static str
@@ -58,38 +59,38 @@ fn refusal_text(alloc: Global, names: &[String], found: Found) -> Result<String,
 }
 
 /// The refusal of a log.
-pub(crate) fn refusal(alloc: Global, names: &[String], found: Found) -> Result<Shown, AllocError>
-    ensures { IfOk result (Says Status.Refused (refusal_line (map string_bytes names.now) found)) }
+pub(crate) fn refusal(alloc: Global, names: &[String], found: Found) -> Result<Reply, AllocError>
+    ensures { IfOk result (Says AnswerStatus.Trace (refusal_line (map string_bytes names.now) found)) }
 {
     let text = refusal_text(alloc, names, found)?;
-    Ok(says(Status::Refused, text))
+    Ok(Reply::of_text(AnswerStatus::Trace, text))
 }
 
 /// The refusal of words.
-pub(crate) fn words_refusal(alloc: Global) -> Result<Shown, AllocError>
-    ensures { IfOk result (Says Status.Words words_line) }
+pub(crate) fn words_refusal(alloc: Global) -> Result<Reply, AllocError>
+    ensures { IfOk result (Says AnswerStatus.Words words_line) }
 {
     let text = format!(in alloc; "end: words refused\n")?;
-    Ok(says(Status::Words, text))
+    Ok(Reply::of_text(AnswerStatus::Words, text))
 }
 
 /// How the program is called.
-pub(crate) fn usage(alloc: Global) -> Result<Shown, AllocError>
-    ensures { IfOk result (Says Status.Done usage) }
+pub(crate) fn usage(alloc: Global) -> Result<Reply, AllocError>
+    ensures { IfOk result (Says AnswerStatus.Done usage) }
 {
     let text = format!(in alloc; "usage: hhlog check FILE..\n")?;
-    Ok(says(Status::Done, text))
+    Ok(Reply::of_text(AnswerStatus::Done, text))
 }
 
 /// The report of a log that is accepted.
-pub(crate) fn report(alloc: Global, is_cut: bool) -> Result<Shown, AllocError>
+pub(crate) fn report(alloc: Global, is_cut: bool) -> Result<Reply, AllocError>
     ensures { IfOk result (Says (status_of_end is_cut) (end_line is_cut)) }
 {
     if is_cut {
         let text = format!(in alloc; "end: log cut off\n")?;
-        Ok(says(Status::CutOff, text))
+        Ok(Reply::of_text(AnswerStatus::CutOff, text))
     } else {
         let text = format!(in alloc; "end: log accepted\n")?;
-        Ok(says(Status::Done, text))
+        Ok(Reply::of_text(AnswerStatus::Done, text))
     }
 }

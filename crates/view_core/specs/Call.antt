@@ -1,46 +1,11 @@
--- A whole call: what is written where.
-use Rattle.std.specs.Prelude.{◌≡◌, ◌⊎◌, ℕ, List, Option, Result, Ok, Err}
-use Rattle.std.specs.declared.alloc.AllocError.{AllocError}
+-- A whole call.
+use Rattle.std.specs.Prelude.{Option}
 use Rattle.view_line.specs.declared.line.View.{View}
-use Rattle.whole_call.specs.declared.status.AnswerStatus.{AnswerStatus}
-use Rattle.whole_call.specs.declared.status.AnswerStatus.TheVariants.{Done, Races}
 use Rattle.whole_call.specs.declared.status.Status.{Status}
-use Rattle.whole_call.specs.declared.status.Status.TheVariants.{NoMemory}
-use Rattle.whole_call.specs.declared.reply.Reply.{Reply}
 use Rattle.whole_call.specs.Input.{SourceState}
-use Rattle.whole_call.specs.Output.{EndsSilent, Wrote}
+use Rattle.whole_call.specs.Streams.{Streams, Ends}
 use Rattle.whole_call.specs.Call.{IsCall}
-use Rattle.view_core.specs.declared.call.Stream.{Stream}
-use Rattle.view_core.specs.declared.call.Stream.TheVariants.{Out, Error}
 use Rattle.view_core.specs.Views.{Shows, reads}
-
--- what standard output and standard error took
-pub record Streams : Type 0 where
-  pub out : Option (List ℕ)
-  pub error : Option (List ℕ)
-
--- a picture goes to standard output, and a refusal to standard error
-abbrev pub stream_of : AnswerStatus → Stream
-stream_of Done = Out
-stream_of Races = Out
-stream_of _ = Error
-
--- a reply was written to a stream, and nothing to the other one
-abbrev pub WroteTo : Stream → Reply → Status → Streams → Streams → Type 0
-WroteTo Out r status before after = Wrote r status before.out after.out × (after.error ≡ before.error)
-WroteTo Error r status before after = Wrote r status before.error after.error × (after.out ≡ before.out)
-
-abbrev pub Delivers : Reply → Status → Streams → Streams → Type 0
-Delivers r = WroteTo (stream_of r.status) r
-
--- a reply that was made was written, or memory failed
-abbrev pub Gives : Result Reply AllocError → Status → Streams → Streams → Type 0
-Gives (Ok r) status before after = Delivers r status before after
-Gives (Err e) status before after = (status ≡ NoMemory) × (after ≡ before)
-
--- a reply of which P is so was written; or reading failed, or memory did, and nothing was
-abbrev pub Ends : (Reply → Type 0) → Status → Streams → Streams → Type 0
-Ends P status before after = EndsSilent status before after ⊎ ((r : Reply) × P r × Delivers r status before after)
 
 -- a whole call that asks for this, of a source and the streams; `WriteFails` says that writing failed
 abbrev pub Answers : Option View → Status → SourceState → SourceState → Streams → Streams → Type 0 → Type 0

@@ -1,11 +1,11 @@
 // The whole call.
 
-ghost use Rattle.std.specs.Prelude.{◌≡◌, ◌≢◌, ◌⊎◌, map, option_map, None, Some, IfOk, IfErr, string_bytes};
+ghost use Rattle.std.specs.Prelude.{◌≡◌, ◌≢◌, ◌⊎◌, map, option_map, Some, IfOk, IfErr, string_bytes};
 ghost use Rattle.outside_io.specs.Fault.{HasRisen};
 ghost use Rattle.whole_call.specs.Input.{HasRead, HasTaken, ReadsNothing};
 ghost use Rattle.view_line.specs.ViewLine.{view_line};
 ghost use Rattle.view_core.specs.Views.{reads};
-ghost use Rattle.view_core.specs.Call.{Answers, Delivers, Gives, stream_of};
+ghost use Rattle.view_core.specs.Call.{Answers};
 
 use crate::views::show;
 use all_bytes::ReadError;
@@ -15,23 +15,7 @@ use refusal_replies::refused;
 use std::alloc::{AllocError, Global};
 use text_lines::MOST_BYTES;
 use view_line::{InputFile, View, read_view};
-use whole_call::{AnswerStatus, Reply, Status, read_up_to};
-
-// Where something is written.
-enum Stream {
-    Out,
-    Error,
-}
-
-fn stream_of(status: AnswerStatus) -> Stream
-    ensures { result ≡ stream_of status }
-{
-    match status {
-        AnswerStatus::Done => Stream::Out,
-        AnswerStatus::Races => Stream::Out,
-        _ => Stream::Error,
-    }
-}
+use whole_call::{Status, give, read_up_to};
 
 // The name of a file, if one is given.
 fn name_of(file: &Option<InputFile>) -> Option<&str>
@@ -52,29 +36,6 @@ fn read_for<S: Source>(alloc: Global, source: &mut S, view: &View) -> Result<Vec
     match view {
         View::Usage => Ok(Vec::new(alloc)),
         View::Of { file, picture: _ } => read_up_to(alloc, source, MOST_BYTES, name_of(file)),
-    }
-}
-
-// Writes a picture to standard output, and a refusal to standard error.
-fn deliver<K: Sink, E: Sink>(reply: &Reply, out: &mut K, error: &mut E) -> Status
-    ensures delivered { Delivers reply.now result (record { out = K.written out.old; error = E.written error.old }) (record { out = K.written out.new; error = E.written error.new }) }
-    ensures fault { result ≡ Status.WriteFault → HasRisen (K.faults out.old) (K.faults out.new) ⊎ HasRisen (E.faults error.old) (E.faults error.new) }
-{
-    match stream_of(reply.status) {
-        Stream::Out => reply.write(out),
-        Stream::Error => reply.write(error),
-    }
-}
-
-// Gives a reply, where memory sufficed to make it.
-fn give<K: Sink, E: Sink>(found: Result<Reply, AllocError>, out: &mut K, error: &mut E) -> Status
-    ensures given { Gives found result (record { out = K.written out.old; error = E.written error.old }) (record { out = K.written out.new; error = E.written error.new }) }
-    ensures read { result ≢ Status.ReadFault }
-    ensures fault { result ≡ Status.WriteFault → HasRisen (K.faults out.old) (K.faults out.new) ⊎ HasRisen (E.faults error.old) (E.faults error.new) }
-{
-    match found {
-        Ok(reply) => deliver(&reply, out, error),
-        Err(AllocError) => Status::NoMemory,
     }
 }
 

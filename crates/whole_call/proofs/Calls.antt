@@ -1,12 +1,15 @@
 -- How calls end: without memory, without their input, and with it.
-use Rattle.std.proofs.Common.{◌≡◌, ◌∙◌, ℕ, List, [], take, refl, sym, ap, arith}
-use Rattle.std.specs.Prelude.{◌≢◌, Option, Some, None}
+use Rattle.std.proofs.Common.{◌≡◌, ◌∙◌, ℕ, List, [], take, refl, sym, ap, arith, inl, inr}
+use Rattle.std.specs.Prelude.{◌≢◌, Option, Some, None, Result, Ok, Err, IfOk}
+use Rattle.std.specs.declared.alloc.AllocError.{AllocError}
 use Rattle.std.proofs.lemmas.List.{length-take}
 use Rattle.outside_io.specs.Fault.{HasRisen}
 use Rattle.whole_call.specs.declared.status.Status.{Status}
 use Rattle.whole_call.specs.declared.status.Status.TheVariants.{ReadFault, WriteFault, NoMemory}
+use Rattle.whole_call.specs.declared.reply.Reply.{Reply}
 use Rattle.whole_call.specs.Input.{Reads, ReadsNothing, ReadsUpTo, SourceState, IsInputOf, HasTaken, HasRead, bytes_for, most_of}
-use Rattle.whole_call.specs.Call.{IsCall}
+use Rattle.whole_call.specs.Streams.{Streams, Ends, Gives}
+use Rattle.whole_call.specs.Call.{IsCall, IsCallWith}
 
 -- INPUTS
 
@@ -40,40 +43,54 @@ nothing_taken (ReadsUpTo limit file) before e = absurd (let f : ReadsUpTo limit 
 
 -- CALLS
 
+module _ {A : Type 0} (IsInput Ends : A → Type 0) (ReadsNone Taken WriteFails : Type 0) (before after : SourceState) where
+  -- memory failed before the input was there; this is one
+  pub call_without_memory : (input : A) → IsInput input → Ends input → (ReadsNone → Taken) → IsCallWith IsInput Ends ReadsNone Taken WriteFails NoMemory before after
+  call_without_memory input is ends untouched = record {
+    answered = (input, is, ends);
+    taken = λ read memory. absurd (memory refl);
+    untouched = untouched;
+    read_fault = λ e. absurd (let f : NoMemory ≡ ReadFault = e in cc);
+    write_fault = λ e. absurd (let f : NoMemory ≡ WriteFault = e in cc);
+  }
+
+  -- reading failed; this is an input
+  pub call_without_input : (input : A) → IsInput input → Ends input → (¬ ReadsNone) → HasRisen before.faults after.faults → IsCallWith IsInput Ends ReadsNone Taken WriteFails ReadFault before after
+  call_without_input input is ends some risen = record {
+    answered = (input, is, ends);
+    taken = λ read memory. absurd (read refl);
+    untouched = λ e. absurd (some e);
+    read_fault = λ e. (some, risen);
+    write_fault = λ e. absurd (let f : ReadFault ≡ WriteFault = e in cc);
+  }
+
+  -- the input was read and answered
+  pub call_with_input : (status : Status) (input : A) → IsInput input → Taken → Ends input → status ≢ ReadFault → (status ≡ WriteFault → WriteFails) → IsCallWith IsInput Ends ReadsNone Taken WriteFails status before after
+  call_with_input status input is taken ends none fails = record {
+    answered = (input, is, ends);
+    taken = λ r m. taken;
+    untouched = λ e. taken;
+    read_fault = λ e. absurd (none e);
+    write_fault = fails;
+  }
+
 module _ (reads : Reads) (Ends : List ℕ → Type 0) (WriteFails : Type 0) (before after : SourceState) where
   -- memory failed before the input was there
   pub without_memory : ((input : List ℕ) → Ends input) → (reads ≡ ReadsNothing → HasTaken reads before after) → IsCall reads Ends WriteFails NoMemory before after
   without_memory ends untouched =
       let at = some_input reads before in
-      record {
-        answered = (at.0, at.1, ends at.0);
-        taken = λ read memory. absurd (memory refl);
-        untouched = untouched;
-        read_fault = λ e. absurd (let f : NoMemory ≡ ReadFault = e in cc);
-        write_fault = λ e. absurd (let f : NoMemory ≡ WriteFault = e in cc);
-      }
+      call_without_memory (IsInputOf reads before) Ends (reads ≡ ReadsNothing) (HasTaken reads before after) WriteFails before after at.0 at.1 (ends at.0) untouched
 
   -- reading failed
   pub without_input : ((input : List ℕ) → Ends input) → reads ≢ ReadsNothing → HasRisen before.faults after.faults → IsCall reads Ends WriteFails ReadFault before after
   without_input ends some risen =
       let at = some_input reads before in
-      record {
-        answered = (at.0, at.1, ends at.0);
-        taken = λ read memory. absurd (read refl);
-        untouched = λ e. absurd (some e);
-        read_fault = λ e. (some, risen);
-        write_fault = λ e. absurd (let f : ReadFault ≡ WriteFault = e in cc);
-      }
+      call_without_input (IsInputOf reads before) Ends (reads ≡ ReadsNothing) (HasTaken reads before after) WriteFails before after at.0 at.1 (ends at.0) some risen
 
   -- the input was read and answered
   pub with_input : (status : Status) (input : List ℕ) → HasRead reads before after input → Ends input → status ≢ ReadFault → (status ≡ WriteFault → WriteFails) → IsCall reads Ends WriteFails status before after
-  with_input status input read ends none fails = record {
-    answered = (input, read.is, ends);
-    taken = λ r m. read.taken;
-    untouched = λ e. read.taken;
-    read_fault = λ e. absurd (none e);
-    write_fault = fails;
-  }
+  with_input status input read ends none fails =
+      call_with_input (IsInputOf reads before) Ends (reads ≡ ReadsNothing) (HasTaken reads before after) WriteFails before after status input read.is read.taken ends none fails
 
 -- nothing is read
 pub nothing_read : (before : SourceState) → HasRead ReadsNothing before before []
@@ -81,3 +98,16 @@ nothing_read before = record {
   is = record { within = omega arith; first = λ whole e. (let f = some_item [] whole e in ap (take 0) f) };
   taken = refl;
 }
+
+-- STREAMS
+
+-- with the reply that was made, or without memory for it
+pub gives_ends : (P : Reply → Type 0) (found : Result Reply AllocError) (status : Status) (before after : Streams) → IfOk found P → Gives found status before after → Ends P status before after
+gives_ends P (Ok r) status before after is given = inr (r, is, given)
+gives_ends P (Err e) status before after is given = inl (record { cause = inr given.0; nothing = given.1 })
+
+pub silent_without_memory : (P : Reply → Type 0) (streams : Streams) → Ends P NoMemory streams streams
+silent_without_memory P streams = inl (record { cause = inr refl; nothing = refl })
+
+pub silent_without_input : (P : Reply → Type 0) (streams : Streams) → Ends P ReadFault streams streams
+silent_without_input P streams = inl (record { cause = inl refl; nothing = refl })

@@ -1,4 +1,5 @@
 pub mod Status
 pub mod Input
 pub mod Output
+pub mod Streams
 pub mod Call

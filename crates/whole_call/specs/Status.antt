@@ -1,7 +1,7 @@
 -- The numbers of statuses.
 use Rattle.std.specs.Prelude.{ℕ}
 use Rattle.whole_call.specs.declared.status.AnswerStatus.{AnswerStatus}
-use Rattle.whole_call.specs.declared.status.AnswerStatus.TheVariants.{Done, Words, Source, Trap, Entangled, Fuel, Pool, Trace, Races, Image}
+use Rattle.whole_call.specs.declared.status.AnswerStatus.TheVariants.{Done, Words, Source, Trap, Entangled, Fuel, Pool, Trace, Races, Image, CutOff}
 use Rattle.whole_call.specs.declared.status.Status.{Status}
 use Rattle.whole_call.specs.declared.status.Status.TheVariants.{Answered, ReadFault, WriteFault, NoMemory}
 
@@ -16,6 +16,7 @@ code_of_answer Pool = 7
 code_of_answer Trace = 11
 code_of_answer Races = 12
 code_of_answer Image = 13
+code_of_answer CutOff = 14
 
 -- exit statuses
 abbrev pub code_of_status : Status → ℕ

@@ -1,13 +1,15 @@
-// What a whole call of a program is, the same for each program: its words, its input, what it writes, faults, and the
-// status that it ends with.
+// What a whole call of a program is, the same for each program: its words, its input, what it writes where, faults, and
+// the status that it ends with.
 #![tactic(auto)]
 
 mod input;
 mod reply;
 mod status;
+mod streams;
 mod words;
 
 pub use input::read_up_to;
 pub use reply::Reply;
 pub use status::{AnswerStatus, Status};
+pub use streams::give;
 pub use words::{exit_code, words_after_name, words_of_call};

@@ -20,12 +20,14 @@ pub enum AnswerStatus {
     Fuel,
     /// A run ended because too few chunks were free.
     Pool,
-    /// A line of a trace is bad, an entry isn't legal, or the trace isn't that of a whole run.
+    /// A line of a trace or of a log is bad, an entry isn't legal, or the trace isn't that of a whole run.
     Trace,
     /// A run has races, or accesses for which another schedule may differ.
     Races,
     /// An image is refused.
     Image,
+    /// A log is accepted that was cut off.
+    CutOff,
 }
 
 /// How a call ended.
@@ -57,6 +59,7 @@ impl AnswerStatus {
             AnswerStatus::Trace => 11,
             AnswerStatus::Races => 12,
             AnswerStatus::Image => 13,
+            AnswerStatus::CutOff => 14,
         }
     }
 }

@@ -1,0 +1,38 @@
+-- What the strands of a log do, and what ends them.
+use Rattle.std.specs.Prelude.{◌≡◌, ◌≢◌, ℕ, Option, Some, None, List, [], ◌∷◌}
+use Rattle.log_lines.specs.declared.line.Act.{Act}
+use Rattle.log_lines.specs.declared.line.Act.TheVariants as acts
+use Rattle.fork_graph.specs.declared.graph.Turn.TheVariants.{Spawn, Join}
+use Rattle.fork_graph.specs.declared.graph.Strand.{Strand}
+use Rattle.log_form.specs.Events.{Event, acts_on}
+use Rattle.log_tasks.specs.declared.ending.StrandEnd.{StrandEnd}
+use Rattle.log_tasks.specs.declared.ending.StrandEnd.TheVariants.{Turns, Finishes}
+
+-- how an act ends its strand, if it does
+abbrev pub end_by : Act → Option StrandEnd
+end_by (acts.Access a) = None
+end_by (acts.Yield r) = None
+end_by (acts.Store r) = None
+end_by (acts.Birth block length) = None
+end_by (acts.Release block) = None
+end_by (acts.Work units) = None
+end_by (acts.Spawn c) = Some (Turns (Spawn c))
+end_by (acts.Join c) = Some (Turns (Join c))
+end_by acts.Finish = Some Finishes
+
+abbrev pub or_later : Option StrandEnd → Option StrandEnd → Option StrandEnd
+or_later None later = later
+or_later (Some e) later = Some e
+
+-- the first end among acts
+abbrev pub first_end : List Act → Option StrandEnd
+first_end [] = None
+first_end (a ∷ rest) = or_later (end_by a) (first_end rest)
+
+-- how a strand ends, if its end is there
+abbrev pub end_of : List Event → Strand → Option StrandEnd
+end_of events u = first_end (acts_on events u)
+
+-- the strand does something
+abbrev pub IsTold : List Event → Strand → Type 0
+IsTold events u = acts_on events u ≢ []

@@ -1,0 +1,60 @@
+-- What is wrong with the tasks of a log.
+use Rattle.std.specs.Prelude.{◌≡◌, ◌≢◌, ◌<◌, ℕ, None, List, length}
+use Rattle.fork_graph.specs.declared.graph.Turn.{Turn}
+use Rattle.fork_graph.specs.declared.graph.Strand.{Strand}
+use Rattle.fork_graph.specs.declared.fault.Extent.{Extent}
+use Rattle.fork_graph.specs.declared.fault.Extent.TheVariants.{Whole}
+use Rattle.fork_graph.specs.declared.fault.Cause.TheVariants as graph
+use Rattle.fork_graph.specs.Graph.{tasks_in, strand, last_of}
+use Rattle.fork_graph.specs.Faults.{IsFault}
+use Rattle.log_form.specs.Events.{Event}
+use Rattle.log_tasks.specs.declared.fault.TaskCause.{TaskCause}
+use Rattle.log_tasks.specs.declared.fault.TaskCause.TheVariants.{JoinsNoOpenChild, HasNoEnd, LeavesUnjoined, IsUnreached, GoesOnAfterEnd}
+use Rattle.log_tasks.specs.declared.fault.TaskFault.{TaskFault}
+use Rattle.log_tasks.specs.Ends.{end_of, IsTold}
+use Rattle.log_tasks.specs.Numbers.{AreNumbers, log_strand}
+use Rattle.log_tasks.specs.Rows.{AreRows}
+
+module _ (events : List Event) (extent : Extent) (numbers : List ℕ) (rows : List (List Turn)) where
+  -- in a whole log, at a task's last strand
+  abbrev pub IsWholeAtEnd : Strand → Type 0
+  IsWholeAtEnd u = (extent ≡ Whole) × (u ≡ last_of (tasks_in rows) u.task)
+
+  -- a strand has this fault; tasks are numbered without gaps
+  abbrev pub HasCause : Strand → TaskCause → Type 0
+  HasCause u JoinsNoOpenChild = IsFault (tasks_in rows) (length rows) extent u graph.JoinsNoOpenChild
+  HasCause u HasNoEnd = IsWholeAtEnd u × (end_of events (log_strand numbers u) ≡ None)
+  HasCause u LeavesUnjoined = IsFault (tasks_in rows) (length rows) extent u graph.LeavesUnjoined
+  HasCause u IsUnreached = IsFault (tasks_in rows) (length rows) extent u graph.IsUnreached
+  HasCause u GoesOnAfterEnd = IsWholeAtEnd u × ((i : ℕ) × (u.index < i) × IsTold events (log_strand numbers (strand u.task i)))
+
+  -- no task below one has a fault
+  abbrev pub HasNoneBelow : ℕ → Type 0
+  HasNoneBelow t = (u : Strand) (cause : TaskCause) → u.task < t → HasCause u cause → ⊥
+
+-- the order in which a task's faults are told
+abbrev pub rank_of : TaskCause → ℕ
+rank_of JoinsNoOpenChild = 0
+rank_of HasNoEnd = 1
+rank_of LeavesUnjoined = 2
+rank_of IsUnreached = 3
+rank_of GoesOnAfterEnd = 4
+
+-- of the lowest task that has a fault it's the first one, by the order of causes, and at its earliest strand
+pub record IsFirstTaskFault (events : List Event) (extent : Extent) (fault : TaskFault) : Type 0 where
+  pub numbers : List ℕ
+  pub rows : List (List Turn)
+  pub numbers_are : AreNumbers events numbers
+  pub rows_are : AreRows events numbers rows
+  -- the strand, with its task numbered without gaps
+  pub at : Strand
+  pub there : at.task < length rows
+  pub strand_is : fault.strand ≡ log_strand numbers at
+  pub has : HasCause events extent numbers rows at fault.cause
+  pub none_below : HasNoneBelow events extent numbers rows at.task
+  pub none_before : (u : Strand) (cause : TaskCause) → u.task ≡ at.task → rank_of cause < rank_of fault.cause → HasCause events extent numbers rows u cause → ⊥
+  pub none_earlier : (u : Strand) → u.task ≡ at.task → u.index < at.index → HasCause events extent numbers rows u fault.cause → ⊥
+
+-- no task has a fault
+pub record HasNoTaskFault (events : List Event) (extent : Extent) (numbers : List ℕ) (rows : List (List Turn)) : Type 0 where
+  pub none : HasNoneBelow events extent numbers rows (length rows)

@@ -1,0 +1,47 @@
+-- Tasks numbered from 0 on without gaps, in the order of the numbers that a log gives them.
+use Rattle.std.specs.Prelude.{◌≡◌, ◌⊎◌, ◌==◌, ℕ, Some, List, length, get_or, nat_lt, ◌↔◌, if◌then◌else◌}
+use Rattle.std.specs.List.{position_or_len}
+use Rattle.std.specs.List.Sorted.{IsStrictlyIncreasing}
+use Rattle.listed.specs.Members.{In}
+use Rattle.fork_graph.specs.declared.graph.Turn.{Turn}
+use Rattle.fork_graph.specs.declared.graph.Turn.TheVariants.{Spawn, Join}
+use Rattle.fork_graph.specs.declared.graph.Strand.{Strand}
+use Rattle.fork_graph.specs.Graph.{strand}
+use Rattle.log_form.specs.Events.{Event}
+use Rattle.log_tasks.specs.declared.ending.StrandEnd.TheVariants.{Turns}
+use Rattle.log_tasks.specs.Ends.{end_of, IsTold}
+
+-- a strand of the task does something
+abbrev pub IsToldOf : List Event → ℕ → Type 0
+IsToldOf events t = (i : ℕ) × IsTold events (strand t i)
+
+abbrev pub IsSpawned : List Event → ℕ → Type 0
+IsSpawned events t = (u : Strand) × (end_of events u ≡ Some (Turns (Spawn t)))
+
+-- the root, and each task that does something or is spawned
+abbrev pub IsTask : List Event → ℕ → Type 0
+IsTask events t = (t ≡ 0) ⊎ (IsToldOf events t ⊎ IsSpawned events t)
+
+-- the log's numbers of all tasks, in ascending order
+pub record AreNumbers (events : List Event) (numbers : List ℕ) : Type 0 where
+  pub ascending : IsStrictlyIncreasing numbers
+  pub are : (t : ℕ) → In numbers t ↔ IsTask events t
+
+-- the log's number of a task
+abbrev pub number_of : List ℕ → ℕ → ℕ
+number_of numbers t = get_or numbers t 0
+
+-- the strand as the log has it
+abbrev pub log_strand : List ℕ → Strand → Strand
+log_strand numbers u = strand (number_of numbers u.task) u.index
+
+abbrev pub place_or_root : List ℕ → ℕ → ℕ
+place_or_root numbers place = if nat_lt place (length numbers) then place else 0
+
+-- the task that has a number in the log; a number that no task has stands for the root, which isn't joined either
+abbrev pub task_of : List ℕ → ℕ → ℕ
+task_of numbers n = place_or_root numbers (position_or_len (λ m. m == n) numbers)
+
+abbrev pub renumbered : List ℕ → Turn → Turn
+renumbered numbers (Spawn n) = Spawn (task_of numbers n)
+renumbered numbers (Join n) = Join (task_of numbers n)
