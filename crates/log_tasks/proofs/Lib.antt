@@ -1,0 +1,4 @@
+pub mod Acts
+pub mod Puts
+pub mod Known
+pub mod Sane

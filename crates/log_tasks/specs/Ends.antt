@@ -34,5 +34,5 @@ abbrev pub end_of : List Event → Strand → Option StrandEnd
 end_of events u = first_end (acts_on events u)
 
 -- the strand does something
-abbrev pub IsTold : List Event → Strand → Type 0
-IsTold events u = acts_on events u ≢ []
+abbrev pub DoesSomething : List Event → Strand → Type 0
+DoesSomething events u = acts_on events u ≢ []

@@ -11,7 +11,7 @@ use Rattle.log_form.specs.Events.{Event}
 use Rattle.log_tasks.specs.declared.fault.TaskCause.{TaskCause}
 use Rattle.log_tasks.specs.declared.fault.TaskCause.TheVariants.{JoinsNoOpenChild, HasNoEnd, LeavesUnjoined, IsUnreached, GoesOnAfterEnd}
 use Rattle.log_tasks.specs.declared.fault.TaskFault.{TaskFault}
-use Rattle.log_tasks.specs.Ends.{end_of, IsTold}
+use Rattle.log_tasks.specs.Ends.{end_of, DoesSomething}
 use Rattle.log_tasks.specs.Numbers.{AreNumbers, log_strand}
 use Rattle.log_tasks.specs.Rows.{AreRows}
 
@@ -26,7 +26,7 @@ module _ (events : List Event) (extent : Extent) (numbers : List ℕ) (rows : Li
   HasCause u HasNoEnd = IsWholeAtEnd u × (end_of events (log_strand numbers u) ≡ None)
   HasCause u LeavesUnjoined = IsFault (tasks_in rows) (length rows) extent u graph.LeavesUnjoined
   HasCause u IsUnreached = IsFault (tasks_in rows) (length rows) extent u graph.IsUnreached
-  HasCause u GoesOnAfterEnd = IsWholeAtEnd u × ((i : ℕ) × (u.index < i) × IsTold events (log_strand numbers (strand u.task i)))
+  HasCause u GoesOnAfterEnd = IsWholeAtEnd u × ((i : ℕ) × (u.index < i) × DoesSomething events (log_strand numbers (strand u.task i)))
 
   -- no task below one has a fault
   abbrev pub HasNoneBelow : ℕ → Type 0
@@ -41,20 +41,23 @@ rank_of IsUnreached = 3
 rank_of GoesOnAfterEnd = 4
 
 -- of the lowest task that has a fault it's the first one, by the order of causes, and at its earliest strand
+pub record IsFirstOf (events : List Event) (extent : Extent) (numbers : List ℕ) (rows : List (List Turn)) (fault : TaskFault) : Type 0 where
+  pub there : fault.strand.task < length rows
+  pub has : HasCause events extent numbers rows fault.strand fault.cause
+  pub none_below : HasNoneBelow events extent numbers rows fault.strand.task
+  pub none_before : (u : Strand) (cause : TaskCause) → u.task ≡ fault.strand.task → rank_of cause < rank_of fault.cause → HasCause events extent numbers rows u cause → ⊥
+  pub none_earlier : (u : Strand) → u.task ≡ fault.strand.task → u.index < fault.strand.index → HasCause events extent numbers rows u fault.cause → ⊥
+
+-- the fault, by the log's numbers
+abbrev pub in_log : List ℕ → TaskFault → TaskFault
+in_log numbers fault = record { strand = log_strand numbers fault.strand; cause = fault.cause }
+
+-- a log's first fault of a task
 pub record IsFirstTaskFault (events : List Event) (extent : Extent) (fault : TaskFault) : Type 0 where
   pub numbers : List ℕ
   pub rows : List (List Turn)
   pub numbers_are : AreNumbers events numbers
   pub rows_are : AreRows events numbers rows
-  -- the strand, with its task numbered without gaps
-  pub at : Strand
-  pub there : at.task < length rows
-  pub strand_is : fault.strand ≡ log_strand numbers at
-  pub has : HasCause events extent numbers rows at fault.cause
-  pub none_below : HasNoneBelow events extent numbers rows at.task
-  pub none_before : (u : Strand) (cause : TaskCause) → u.task ≡ at.task → rank_of cause < rank_of fault.cause → HasCause events extent numbers rows u cause → ⊥
-  pub none_earlier : (u : Strand) → u.task ≡ at.task → u.index < at.index → HasCause events extent numbers rows u fault.cause → ⊥
-
--- no task has a fault
-pub record HasNoTaskFault (events : List Event) (extent : Extent) (numbers : List ℕ) (rows : List (List Turn)) : Type 0 where
-  pub none : HasNoneBelow events extent numbers rows (length rows)
+  pub found : TaskFault
+  pub is_first : IsFirstOf events extent numbers rows found
+  pub is : fault ≡ in_log numbers found

@@ -1,5 +1,10 @@
 pub mod Ends
 pub mod Numbers
 pub mod Rows
+pub mod Told
+pub mod Sane
+pub mod Spawning
 pub mod Faults
+pub mod EndCauses
+pub mod Log
 pub mod Laws

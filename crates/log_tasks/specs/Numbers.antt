@@ -1,6 +1,6 @@
 -- Tasks numbered from 0 on without gaps, in the order of the numbers that a log gives them.
-use Rattle.std.specs.Prelude.{◌≡◌, ◌⊎◌, ◌==◌, ℕ, Some, List, length, get_or, nat_lt, ◌↔◌, if◌then◌else◌}
-use Rattle.std.specs.List.{position_or_len}
+use Rattle.std.specs.Prelude.{◌==◌, ◌||◌, ℕ, Bool, List, length, get_or, nat_lt, ◌↔◌, IsTrue, if◌then◌else◌}
+use Rattle.std.specs.List.{position_or_len, list_any}
 use Rattle.std.specs.List.Sorted.{IsStrictlyIncreasing}
 use Rattle.listed.specs.Members.{In}
 use Rattle.fork_graph.specs.declared.graph.Turn.{Turn}
@@ -8,24 +8,20 @@ use Rattle.fork_graph.specs.declared.graph.Turn.TheVariants.{Spawn, Join}
 use Rattle.fork_graph.specs.declared.graph.Strand.{Strand}
 use Rattle.fork_graph.specs.Graph.{strand}
 use Rattle.log_form.specs.Events.{Event}
-use Rattle.log_tasks.specs.declared.ending.StrandEnd.TheVariants.{Turns}
-use Rattle.log_tasks.specs.Ends.{end_of, IsTold}
+use Rattle.log_form.specs.Faults.{spawns}
 
--- a strand of the task does something
-abbrev pub IsToldOf : List Event → ℕ → Type 0
-IsToldOf events t = (i : ℕ) × IsTold events (strand t i)
+-- the event is one of the task's, or spawns it
+abbrev pub tells : ℕ → Event → Bool
+tells t e = (e.strand.task == t) || spawns t e.act
 
-abbrev pub IsSpawned : List Event → ℕ → Type 0
-IsSpawned events t = (u : Strand) × (end_of events u ≡ Some (Turns (Spawn t)))
-
--- the root, and each task that does something or is spawned
-abbrev pub IsTask : List Event → ℕ → Type 0
-IsTask events t = (t ≡ 0) ⊎ (IsToldOf events t ⊎ IsSpawned events t)
+-- the root is a task, and each number that does something or is spawned
+abbrev pub is_task : List Event → ℕ → Bool
+is_task events t = (t == 0) || list_any (tells t) events
 
 -- the log's numbers of all tasks, in ascending order
 pub record AreNumbers (events : List Event) (numbers : List ℕ) : Type 0 where
   pub ascending : IsStrictlyIncreasing numbers
-  pub are : (t : ℕ) → In numbers t ↔ IsTask events t
+  pub are : (t : ℕ) → In numbers t ↔ IsTrue (is_task events t)
 
 -- the log's number of a task
 abbrev pub number_of : List ℕ → ℕ → ℕ

@@ -14,7 +14,7 @@ use Rattle.log_tasks.specs.declared.ending.StrandEnd.{StrandEnd}
 use Rattle.log_tasks.specs.declared.ending.StrandEnd.TheVariants.{Turns, Finishes}
 use Rattle.log_tasks.specs.declared.tasks.LogTasks.{LogTasks}
 use Rattle.log_tasks.specs.Ends.{end_of}
-use Rattle.log_tasks.specs.Numbers.{AreNumbers, log_strand, renumbered}
+use Rattle.log_tasks.specs.Numbers.{log_strand, renumbered}
 
 -- TURNS
 
@@ -40,16 +40,7 @@ abbrev pub graph_of : Extent → List (List Turn) → List (List Turn)
 graph_of Whole rows = rows
 graph_of Cut rows = map completed rows
 
--- the tasks are those of the log
-pub record AreLogTasks (events : List Event) (extent : Extent) (log : LogTasks) : Type 0 where
-  -- the turns that the log tells
-  pub rows : List (List Turn)
-  pub numbers_are : AreNumbers events log.numbers
-  pub rows_are : AreRows events log.numbers rows
-  pub turns_are : log.turns ≡ graph_of extent rows
-  pub known_are : log.known ≡ map length rows
-
--- and make a nested run
+-- the tasks make a nested run
 pub record AreNestedTasks (turns : List (List Turn)) : Type 0 where
   pub small : AreSmall turns
   pub some : 0 < length turns

@@ -1,6 +1,17 @@
 // Why a log's tasks are refused.
 
-use fork_graph::Strand;
+ghost use Rattle.std.specs.Prelude.{◌≡◌, ◌<◌, ◌≤◌, ◌+◌, ◌^◌, List, IfOk, MatchOption, length};
+ghost use Rattle.fork_graph.specs.Graph.{AreSmall};
+ghost use Rattle.log_form.specs.Events.{Event};
+ghost use Rattle.log_tasks.specs.Told.{Knows};
+ghost use Rattle.log_tasks.specs.Faults.{rank_of, HasNoneBelow, IsFirstOf};
+ghost use Rattle.log_tasks.specs.EndCauses.{end_cause, NoneEndsBelow, IsFirstEndFault, task_cause, of_graph, is_sooner, sooner, sooner_of};
+ghost use Rattle.log_tasks.specs.Spawning.{SpawnsWell};
+
+use crate::told::Told;
+use fork_graph::{Cause, Extent, Fault, Strand, Turn, first_fault};
+use listed::Listed;
+use std::alloc::{AllocError, Global};
 
 /// What is wrong with a task; of a task's causes the one that comes first here is reported.
 #[derive(Clone, Copy, PartialEq, Eq)]
@@ -20,7 +31,124 @@ pub enum TaskCause {
 /// A fault of a task.
 #[derive(Clone, Copy)]
 pub struct TaskFault {
-    /// The strand that is at fault, by the log's numbers: that which ends in the join, or else its task's last one.
+    /// The strand that is at fault: that which ends in the join, or else its task's last one.
     pub strand: Strand,
     pub cause: TaskCause,
+}
+
+// What is wrong with a task of the log after its last turn.
+fn end_cause(told: &Told, task: u32, last: u32) -> Option<TaskCause>
+    ensures { result ≡ end_cause told.now task last }
+{
+    if told.ends.get(&(task, last)).is_none() {
+        return Some(TaskCause::HasNoEnd);
+    }
+    match told.tops.get(&task) {
+        Some(top) if last < *top => Some(TaskCause::GoesOnAfterEnd),
+        _ => None,
+    }
+}
+
+// The lowest task with which something is wrong after its last turn.
+fn first_end_fault(
+    told: &Told,
+    numbers: &Listed<u32>,
+    rows: &Listed<Listed<Turn>>,
+) -> Option<TaskFault>
+    requires small { AreSmall rows.now }
+    requires count { length rows.now ≡ length numbers.now }
+    ensures { MatchOption result (NoneEndsBelow told.now numbers.now rows.now (length rows.now)) (IsFirstEndFault told.now numbers.now rows.now) }
+{
+    for task in 0..rows.len() {
+        let last = rows.at(task).len() as u32;
+        if let Some(cause) = end_cause(told, *numbers.at(task), last) {
+            return Some(TaskFault {
+                strand: Strand {
+                    task: task as u32,
+                    index: last,
+                },
+                cause,
+            });
+        }
+    }
+    None
+}
+
+fn task_cause(cause: Cause) -> TaskCause
+    ensures { result ≡ task_cause cause }
+{
+    match cause {
+        Cause::SpawnsNoNewTask => TaskCause::JoinsNoOpenChild,
+        Cause::JoinsNoOpenChild => TaskCause::JoinsNoOpenChild,
+        Cause::LeavesUnjoined => TaskCause::LeavesUnjoined,
+        Cause::IsUnreached => TaskCause::IsUnreached,
+    }
+}
+
+// A fault of the graph as one of a task.
+fn of_graph(fault: Fault) -> TaskFault
+    ensures { result ≡ of_graph fault }
+{
+    TaskFault {
+        strand: fault.strand,
+        cause: task_cause(fault.cause),
+    }
+}
+
+// The place of a cause in the order in which a task's are reported.
+fn rank_of(cause: TaskCause) -> u8
+    ensures { result ≡ rank_of cause }
+{
+    match cause {
+        TaskCause::JoinsNoOpenChild => 0,
+        TaskCause::HasNoEnd => 1,
+        TaskCause::LeavesUnjoined => 2,
+        TaskCause::IsUnreached => 3,
+        TaskCause::GoesOnAfterEnd => 4,
+    }
+}
+
+fn is_sooner(one: TaskFault, other: TaskFault) -> bool
+    ensures { result ≡ is_sooner one other }
+{
+    one.strand.task < other.strand.task
+        || one.strand.task == other.strand.task && rank_of(one.cause) <= rank_of(other.cause)
+}
+
+// The one of two faults that is reported.
+fn sooner(one: TaskFault, other: TaskFault) -> TaskFault
+    ensures { result ≡ sooner one other }
+{
+    if is_sooner(one, other) { one } else { other }
+}
+
+fn sooner_of(one: Option<TaskFault>, other: Option<TaskFault>) -> Option<TaskFault>
+    ensures { result ≡ sooner_of one other }
+{
+    match (one, other) {
+        (None, other) => other,
+        (Some(one), None) => Some(one),
+        (Some(one), Some(other)) => Some(sooner(one, other)),
+    }
+}
+
+/// The fault of the lowest task that has one; tasks are numbered without gaps.
+pub(crate) fn first_task_fault(
+    alloc: Global,
+    told: &Told,
+    numbers: &Listed<u32>,
+    rows: &Listed<Listed<Turn>>,
+    extent: Extent,
+) -> Result<Option<TaskFault>, AllocError>
+    requires small { AreSmall rows.now }
+    requires count { length rows.now ≡ length numbers.now }
+    requires spawns { SpawnsWell rows.now }
+    ensures { IfOk result (λ found. (events : List Event) → Knows told.now events
+        → MatchOption found (HasNoneBelow events extent numbers.now rows.now (length rows.now)) (IsFirstOf events extent numbers.now rows.now)) }
+{
+    let graph = first_fault(alloc, rows, extent)?.map(of_graph);
+    match extent {
+        Extent::Cut => Ok(graph),
+        Extent::Whole => Ok(sooner_of(graph, first_end_fault(told, numbers, rows))),
+    }
 }

@@ -3,8 +3,12 @@
 
 mod ending;
 mod fault;
+mod graph;
+mod numbers;
+mod rows;
 mod tasks;
+mod told;
 
 pub use ending::StrandEnd;
 pub use fault::{TaskCause, TaskFault};
-pub use tasks::LogTasks;
+pub use tasks::{LogTasks, TasksError, log_tasks};

@@ -1,7 +1,22 @@
 // The tasks of a log.
 
-use fork_graph::Turn;
+ghost use Rattle.std.specs.Prelude.{◌≡◌, ◌<◌, IfOk, IfErr, None, length};
+ghost use Rattle.log_form.specs.Events.{events_of};
+ghost use Rattle.log_form.specs.Faults.{log_fault};
+ghost use Rattle.log_pieces.specs.Pieces.{events_of_pieces};
+ghost use Rattle.log_tasks.specs.Told.{Knows};
+ghost use Rattle.log_tasks.specs.Faults.{in_log};
+ghost use Rattle.log_tasks.specs.Log.{IsLog, IsRefused};
+
+use crate::fault::{TaskFault, first_task_fault};
+use crate::graph::{graph_of, lengths};
+use crate::numbers::numbers_of;
+use crate::rows::rows_of;
+use crate::told::Told;
+use fork_graph::{Extent, Strand, Turn};
 use listed::Listed;
+use log_pieces::Piece;
+use std::alloc::{AllocError, Global};
 
 /// The tasks of a log, numbered from 0 on without gaps; the root is task 0.
 #[derive(Drop)]
@@ -12,4 +27,74 @@ pub struct LogTasks {
     pub turns: Listed<Listed<Turn>>,
     /// How many turns the log tells of each task; its strands past these do nothing.
     pub known: Listed<usize>,
+}
+
+/// Why there is no graph of a log.
+#[derive(Clone, Copy)]
+pub enum TasksError {
+    /// The lowest task that is at fault has this fault; its strand is that of the log.
+    Refused(TaskFault),
+    /// Out of memory.
+    NoMemory,
+}
+
+impl From<AllocError> for TasksError {
+    ghost use Rattle.std.specs.Prelude.{◌≡◌};
+    ghost use Rattle.log_tasks.specs.declared.tasks.TasksError.TheVariants.{NoMemory};
+
+    ghost from_gives = { λ _ e. e ≡ NoMemory };
+
+    fn from(_: AllocError) -> TasksError {
+        TasksError::NoMemory
+    }
+}
+
+// What the pieces tell.
+fn told_of(alloc: Global, texts: &[Listed<u8>], pieces: &[Piece]) -> Result<Told, AllocError>
+    ensures { IfOk result (λ told. Knows told (events_of_pieces texts.now pieces.now)) }
+{
+    let mut told = Told::new(alloc)?;
+    told.take_pieces(texts, pieces)?;
+    Ok(told)
+}
+
+// The fault as one of the log's strands.
+fn in_log(numbers: &Listed<u32>, fault: TaskFault) -> TaskFault
+    requires { fault.strand.task < length numbers.now }
+    ensures { result ≡ in_log numbers.now fault }
+{
+    TaskFault {
+        strand: Strand {
+            task: *numbers.at(fault.strand.task as usize),
+            index: fault.strand.index,
+        },
+        cause: fault.cause,
+    }
+}
+
+/// The tasks of a log that has no faulty line, by its pieces; or the first task that is at fault.
+pub fn log_tasks(
+    alloc: Global,
+    texts: &[Listed<u8>],
+    pieces: &[Piece],
+    extent: Extent,
+) -> Result<LogTasks, TasksError>
+    requires whole { log_fault texts.now ≡ None }
+    requires pieces { events_of_pieces texts.now pieces.now ≡ events_of texts.now }
+    ensures tasks { IfOk result (IsLog (events_of texts.now) extent) }
+    ensures refused { IfErr result (IsRefused (events_of texts.now) extent) }
+{
+    let told = told_of(alloc, texts, pieces)?;
+    let numbers = numbers_of(alloc, &told.tasks)?;
+    let rows = rows_of(alloc, &told, numbers.as_slice())?;
+    if let Some(fault) = first_task_fault(alloc, &told, &numbers, &rows, extent)? {
+        return Err(TasksError::Refused(in_log(&numbers, fault)));
+    }
+    let known = lengths(alloc, &rows)?;
+    let turns = graph_of(alloc, rows, extent)?;
+    Ok(LogTasks {
+        numbers,
+        turns,
+        known,
+    })
 }

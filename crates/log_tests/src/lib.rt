@@ -7,3 +7,5 @@ mod calls;
 mod lines;
 #[cfg(test)]
 mod logs;
+#[cfg(test)]
+mod tasks;

@@ -1,0 +1,134 @@
+-- What is known when a strand ends, a number is noted, or a task is there.
+use Rattle.std.proofs.Common.{◌≡◌, ◌==◌, ◌<◌, ◌≤◌, ◌∙◌, ℕ, Bool, true, false, cond, refl, sym, ap, subst, Option, Some, None, arith, nat_eq, nat_lt, Ordering, Less, Equal, Greater, nat_cmp, is_eq}
+use Rattle.std.specs.Prelude.{◌||◌, ◌&&◌, max, is_some, if◌then◌else◌}
+use Rattle.std.specs.BTreeMap.{is_at}
+use Rattle.std.proofs.lemmas.Bool.Decides.{nat_tests}
+use Rattle.fork_graph.specs.declared.graph.Strand.{Strand}
+use Rattle.log_pieces.specs.Claims.{is_that}
+use Rattle.log_tasks.specs.declared.ending.StrandEnd.{StrandEnd}
+use Rattle.log_tasks.specs.declared.told.Told.{Told}
+use Rattle.log_tasks.specs.Ends.{or_later}
+use Rattle.log_tasks.specs.Told.{greater, is_below, number_if, index_of, end_told, end_after}
+use Rattle.log_tasks.proofs.Acts.{later_none}
+
+pub number_same : (a b : ℕ) → (a == b) ≡ true → a ≡ b
+number_same a b e = grind (arith, nat_tests, e)
+
+-- the number that is tested is this one
+and_left : (a b : Bool) → (a && b) ≡ true → a ≡ true
+and_left true b e = refl
+and_left false b e = e
+
+and_right : (a b : Bool) → (a && b) ≡ true → b ≡ true
+and_right true b e = e
+and_right false b e = absurd (cc)
+
+-- ENDS
+
+-- of strand u, and of others
+module _ (F : ℕ → ℕ → Option StrandEnd) (u : Strand) where
+  at_that : (t i : ℕ) → is_that u t i ≡ true → F t i ≡ F u.task u.index
+  at_that t i e =
+      let task : u.task ≡ t = number_same u.task t (and_left (u.task == t) (u.index == i) e) in
+      let index : u.index ≡ i = number_same u.index i (and_right (u.task == t) (u.index == i) e) in
+      cc
+
+module _ (told : Told) (u : Strand) (later : Option StrandEnd) where
+  kept_by_test : (t i : ℕ) (b : Bool) → is_that u t i ≡ b → is_some (end_told told u.task u.index) ≡ true → end_told told t i ≡ (if b then or_later (end_told told t i) later else end_told told t i)
+  kept_by_test t i true e some = is_kept (end_told told t i) (ap is_some (at_that (end_told told) u t i e) ∙ some)
+    where
+      is_kept : (o : Option StrandEnd) → is_some o ≡ true → o ≡ or_later o later
+      is_kept (Some x) h = refl
+      is_kept None h = absurd (let z : false ≡ true = h in cc)
+  kept_by_test t i false e some = refl
+
+  -- a strand that ended before keeps its end
+  pub end_kept : is_some (end_told told u.task u.index) ≡ true → (t i : ℕ) → end_told told t i ≡ end_after told u later t i
+  end_kept some t i = kept_by_test t i (is_that u t i) refl some
+
+  put_by_test : (t i : ℕ) (b : Bool) → is_that u t i ≡ b → is_some (end_told told u.task u.index) ≡ false → cond b later (end_told told t i) ≡ (if b then or_later (end_told told t i) later else end_told told t i)
+  put_by_test t i true e none = is_put (end_told told t i) (ap is_some (at_that (end_told told) u t i e) ∙ none)
+    where
+      is_put : (o : Option StrandEnd) → is_some o ≡ false → later ≡ or_later o later
+      is_put (Some x) h = absurd (let z : true ≡ false = h in cc)
+      is_put None h = refl
+  put_by_test t i false e none = refl
+
+  -- another one has this end
+  pub end_put : is_some (end_told told u.task u.index) ≡ false → (t i : ℕ) → cond (is_that u t i) later (end_told told t i) ≡ end_after told u later t i
+  end_put none t i = put_by_test t i (is_that u t i) refl none
+
+after_none_by : (b : Bool) (o : Option StrandEnd) → o ≡ (if b then or_later o None else o)
+after_none_by true o = sym (later_none o)
+after_none_by false o = refl
+
+-- nothing ends
+pub after_none : (told : Told) (u : Strand) (t i : ℕ) → end_told told t i ≡ end_after told u None t i
+after_none told u t i = after_none_by (is_that u t i) (end_told told t i)
+
+after_twice_by : (b : Bool) (o first later : Option StrandEnd) → (if b then or_later (if b then or_later o first else o) later else (if b then or_later o first else o)) ≡ (if b then or_later o (or_later first later) else o)
+after_twice_by true None first later = refl
+after_twice_by true (Some e) first later = refl
+after_twice_by false o first later = refl
+
+-- one end after another
+pub after_twice : (old mid : Told) (u : Strand) (first later : Option StrandEnd) (t i : ℕ) → end_told mid t i ≡ end_after old u first t i → end_after mid u later t i ≡ end_after old u (or_later first later) t i
+after_twice old mid u first later t i e =
+    ap (λ (o : Option StrandEnd). if is_that u t i then or_later o later else o) e ∙ after_twice_by (is_that u t i) (end_told old t i) first later
+
+-- NUMBERS
+
+module _ (F : ℕ → Option ℕ) (u : Strand) where
+  top_kept_by : (t : ℕ) (b : Bool) → (u.task == t) ≡ b → is_below (F u.task) u.index ≡ false → F t ≡ greater (F t) (number_if b u.index)
+  top_kept_by t true e above = let here : u.task ≡ t = number_same u.task t e in is_kept (F t) (ap (λ (n : ℕ). is_below (F n) u.index) (sym here) ∙ above)
+    where
+      is_kept : (o : Option ℕ) → is_below o u.index ≡ false → o ≡ greater o (Some u.index)
+      is_kept None h = absurd (let z : true ≡ false = h in cc)
+      is_kept (Some j) h = ap Some (let le : u.index ≤ j = grind (arith, nat_tests, h) in let m : j ≡ max j u.index = omega (arith, le) in m)
+  top_kept_by t false e above = none_more (F t)
+    where
+      none_more : (o : Option ℕ) → o ≡ greater o None
+      none_more None = refl
+      none_more (Some j) = refl
+
+  pub top_kept : is_below (F u.task) u.index ≡ false → (t : ℕ) → F t ≡ greater (F t) (index_of u t)
+  top_kept above t = top_kept_by t (u.task == t) refl above
+
+  top_put_by : (t : ℕ) (b : Bool) → (u.task == t) ≡ b → is_below (F u.task) u.index ≡ true → cond b (Some u.index) (F t) ≡ greater (F t) (number_if b u.index)
+  top_put_by t true e below = let here : u.task ≡ t = number_same u.task t e in is_put (F t) (ap (λ (n : ℕ). is_below (F n) u.index) (sym here) ∙ below)
+    where
+      is_put : (o : Option ℕ) → is_below o u.index ≡ true → Some u.index ≡ greater o (Some u.index)
+      is_put None h = refl
+      is_put (Some j) h = ap Some (let lt : j < u.index = grind (arith, nat_tests, h) in let m : u.index ≡ max j u.index = omega (arith, lt) in m)
+  top_put_by t false e below = none_more (F t)
+    where
+      none_more : (o : Option ℕ) → o ≡ greater o None
+      none_more None = refl
+      none_more (Some j) = refl
+
+  pub top_put : is_below (F u.task) u.index ≡ true → (t : ℕ) → cond (u.task == t) (Some u.index) (F t) ≡ greater (F t) (index_of u t)
+  top_put below t = top_put_by t (u.task == t) refl below
+
+-- TASKS
+
+pub or_false : (b : Bool) → b ≡ (b || false)
+or_false true = refl
+or_false false = refl
+
+or_or_by : (a b : Bool) → cond a true b ≡ (b || a)
+or_or_by true true = refl
+or_or_by true false = refl
+or_or_by false true = refl
+or_or_by false false = refl
+
+same_by : (lt eq : Bool) → (lt ≡ true → eq ≡ false) → is_eq (cond lt Less (cond eq Equal Greater)) ≡ eq
+same_by true eq h = sym (h refl)
+same_by false true h = refl
+same_by false false h = refl
+
+at_is_same : (c t : ℕ) → is_at (nat_cmp c) t ≡ (c == t)
+at_is_same c t = same_by (nat_lt c t) (c == t) (λ h. grind (arith, nat_tests, h))
+
+-- a task is there
+pub task_put : (c t : ℕ) (b : Bool) → cond (is_at (nat_cmp c) t) true b ≡ (b || (c == t))
+task_put c t b = ap (λ (x : Bool). cond x true b) (at_is_same c t) ∙ or_or_by (c == t) b

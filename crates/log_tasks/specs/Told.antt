@@ -1,0 +1,86 @@
+-- What is known of strands and tasks, as pieces are read.
+use Rattle.std.specs.Prelude.{◌≡◌, ◌≢◌, ◌<◌, ◌≤◌, ◌==◌, ℕ, Bool, true, false, Option, Some, None, List, [], ◌∷◌, length, slice_get, get_or, nat_eq, nat_lt, max, if◌then◌else◌}
+use Rattle.std.specs.Ordering.{nat_cmp}
+use Rattle.std.specs.HashMap.{get}
+use Rattle.std.specs.BTreeSet.{contains}
+use Rattle.log_lines.specs.declared.line.Act.{Act}
+use Rattle.log_lines.specs.Limits.{strand_limit}
+use Rattle.fork_graph.specs.declared.graph.Turn.{Turn}
+use Rattle.fork_graph.specs.declared.graph.Strand.{Strand}
+use Rattle.fork_graph.specs.Graph.{strand, tasks_in}
+use Rattle.log_form.specs.Events.{Event}
+use Rattle.log_pieces.specs.Claims.{is_pair, is_that}
+use Rattle.log_tasks.specs.declared.ending.StrandEnd.{StrandEnd}
+use Rattle.log_tasks.specs.declared.told.Told.{Told}
+use Rattle.log_tasks.specs.Ends.{end_of, or_later}
+use Rattle.log_tasks.specs.Numbers.{is_task}
+use Rattle.log_tasks.specs.Rows.{turn_at}
+
+-- acts are there
+abbrev pub is_told : List Act → Bool
+is_told [] = false
+is_told (a ∷ rest) = true
+
+-- STRANDS' NUMBERS
+
+abbrev pub greater : Option ℕ → Option ℕ → Option ℕ
+greater None j = j
+greater (Some i) None = Some i
+greater (Some i) (Some j) = Some (max i j)
+
+abbrev pub is_below : Option ℕ → ℕ → Bool
+is_below None i = true
+is_below (Some j) i = nat_lt j i
+
+-- the strand's number, if it is one of the task's
+abbrev pub number_if : Bool → ℕ → Option ℕ
+number_if true i = Some i
+number_if false i = None
+
+abbrev pub index_of : Strand → ℕ → Option ℕ
+index_of u t = number_if (u.task == t) u.index
+
+-- the same of a strand that does something
+abbrev pub index_if : Bool → Strand → ℕ → Option ℕ
+index_if true u t = index_of u t
+index_if false u t = None
+
+-- the greatest number of a strand of the task that does something
+abbrev pub top_of : List Event → ℕ → Option ℕ
+top_of [] t = None
+top_of (e ∷ rest) t = greater (index_of e.strand t) (top_of rest t)
+
+-- WHAT IS KNOWN
+
+abbrev pub end_told : Told → ℕ → ℕ → Option StrandEnd
+end_told told t i = get is_pair told.ends (t, i)
+
+abbrev pub top_told : Told → ℕ → Option ℕ
+top_told told t = get nat_eq told.tops t
+
+abbrev pub task_told : Told → ℕ → Bool
+task_told told t = contains nat_cmp told.tasks t
+
+-- how the strand (t, i) ends, if u does so unless it did before
+abbrev pub end_after : Told → Strand → Option StrandEnd → ℕ → ℕ → Option StrandEnd
+end_after told u later t i = if is_that u t i then or_later (end_told told t i) later else end_told told t i
+
+-- all that happened is known
+pub record Knows (told : Told) (events : List Event) : Type 0 where
+  pub ends : (t i : ℕ) → end_told told t i ≡ end_of events (strand t i)
+  pub tops : (t : ℕ) → top_told told t ≡ top_of events t
+  pub tasks : (t : ℕ) → task_told told t ≡ is_task events t
+
+-- ROWS
+
+-- each strand that ends has a number within the limit
+abbrev pub HasSmallEnds : Told → Type 0
+HasSmallEnds told = (t i : ℕ) → end_told told t i ≢ None → i < strand_limit
+
+-- the turns of the log's task n, by what is known
+abbrev pub IsToldRow : Told → List ℕ → ℕ → List Turn → Type 0
+IsToldRow told numbers n row = (i : ℕ) → i ≤ length row → slice_get row i ≡ turn_at numbers (end_told told n i)
+
+pub record AreToldRows (told : Told) (numbers : List ℕ) (rows : List (List Turn)) : Type 0 where
+  pub count : length rows ≡ length numbers
+  pub each : (t : ℕ) → t < length numbers → IsToldRow told numbers (get_or numbers t 0) (tasks_in rows t)

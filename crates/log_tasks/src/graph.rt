@@ -1,0 +1,83 @@
+// The graph of a log: what its tasks leave unjoined in a cut log is joined at their ends.
+
+ghost use Rattle.std.specs.Prelude.{◌≡◌, ◌||◌, ℕ, [], List, IfOk, OnOk, map, length, nat_eq};
+ghost use Rattle.std.specs.HashSet.{contains};
+ghost use Rattle.fork_graph.specs.Cut.{completed, joins};
+ghost use Rattle.log_tasks.specs.Rows.{graph_of};
+
+use fork_graph::{Extent, Turn};
+use listed::Listed;
+use std::alloc::{AllocError, Global};
+use std::collections::HashSet;
+
+// The children that turns join.
+fn joined_by(alloc: Global, turns: &[Turn]) -> Result<HashSet<u32>, AllocError>
+    ensures { IfOk result (λ joined. (c : ℕ) → contains nat_eq joined c ≡ joins turns.now c) }
+{
+    let mut joined = HashSet::new(alloc);
+    for turn in turns {
+        if let Turn::Join(child) = turn {
+            joined.insert(*child)?;
+        }
+    }
+    Ok(joined)
+}
+
+// Turns, and then joins of all that is unjoined, last spawned first.
+fn completed(alloc: Global, row: Listed<Turn>) -> Result<Listed<Turn>, AllocError>
+    ensures { IfOk result (λ turns. turns ≡ completed row) }
+{
+    let joined = joined_by(alloc, row.as_slice())?;
+    let count = row.len();
+    let mut turns = row;
+    for place in 0..count {
+        if let Turn::Spawn(child) = *turns.at(count - 1 - place)
+            && !joined.contains(&child)
+        {
+            turns.push(Turn::Join(child))?;
+        }
+    }
+    Ok(turns)
+}
+
+// All rows completed.
+fn all_completed(
+    alloc: Global,
+    rows: Listed<Listed<Turn>>,
+) -> Result<Listed<Listed<Turn>>, AllocError>
+    ensures { IfOk result (λ turns. turns ≡ map completed rows) }
+{
+    let mut turns = Listed::new(alloc);
+    for row in rows.into_vec() {
+        turns.push(completed(alloc, row)?)?;
+    }
+    Ok(turns)
+}
+
+/// The turns of the graph.
+pub(crate) fn graph_of(
+    alloc: Global,
+    rows: Listed<Listed<Turn>>,
+    extent: Extent,
+) -> Result<Listed<Listed<Turn>>, AllocError>
+    ensures { IfOk result (λ turns. turns ≡ graph_of extent rows) }
+{
+    match extent {
+        Extent::Whole => Ok(rows),
+        Extent::Cut => all_completed(alloc, rows),
+    }
+}
+
+/// How many turns each row has.
+pub(crate) fn lengths(
+    alloc: Global,
+    rows: &Listed<Listed<Turn>>,
+) -> Result<Listed<usize>, AllocError>
+    ensures { IfOk result (λ known. known ≡ map length rows.now) }
+{
+    let mut known = Listed::new(alloc);
+    for row in rows.as_slice() {
+        known.push(row.len())?;
+    }
+    Ok(known)
+}

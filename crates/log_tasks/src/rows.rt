@@ -1,0 +1,67 @@
+// The turns that a log tells of its tasks.
+
+ghost use Rattle.std.specs.Prelude.{◌≡◌, ◌<◌, ◌≤◌, ◌==◌, ℕ, List, IfOk, length, slice_get};
+ghost use Rattle.std.specs.List.Sorted.{IsStrictlyIncreasing};
+ghost use Rattle.log_form.specs.Events.{Event};
+ghost use Rattle.log_tasks.specs.Rows.{turn_at, AreRows};
+ghost use Rattle.log_tasks.specs.Told.{end_told, HasSmallEnds, IsToldRow, AreToldRows};
+
+use crate::ending::StrandEnd;
+use crate::numbers::renumbered;
+use crate::told::Told;
+use fork_graph::Turn;
+use listed::Listed;
+use std::alloc::{AllocError, Global};
+
+/// A strand's number is below this.
+const STRAND_LIMIT: u32 = 1 << 31;
+
+// The turn that ends a strand of the log, of tasks numbered without gaps.
+fn turn_at(told: &Told, numbers: &[u32], task: u32, index: u32) -> Option<Turn>
+    requires { IsStrictlyIncreasing numbers.now }
+    ensures { result ≡ turn_at numbers.now (end_told told.now task index) }
+{
+    match told.ends.get(&(task, index)) {
+        Some(StrandEnd::Turns(turn)) => Some(renumbered(numbers, *turn)),
+        _ => None,
+    }
+}
+
+// The turns of a task of the log.
+fn row_of(
+    alloc: Global,
+    told: &Told,
+    numbers: &[u32],
+    task: u32,
+) -> Result<Listed<Turn>, AllocError>
+    requires numbers { IsStrictlyIncreasing numbers.now }
+    requires small { HasSmallEnds told.now }
+    ensures { IfOk result (IsToldRow told.now numbers.now task) }
+{
+    let mut row = Listed::new(alloc);
+    for index in 0..STRAND_LIMIT {
+        match turn_at(told, numbers, task, index) {
+            Some(turn) => row.push(turn)?,
+            None => return Ok(row),
+        }
+    }
+    Ok(row)
+}
+
+/// The turns of all tasks.
+pub(crate) fn rows_of(
+    alloc: Global,
+    told: &Told,
+    numbers: &[u32],
+) -> Result<Listed<Listed<Turn>>, AllocError>
+    requires numbers { IsStrictlyIncreasing numbers.now }
+    requires small { HasSmallEnds told.now }
+    ensures { IfOk result (AreToldRows told.now numbers.now) }
+{
+    let mut rows = Listed::new(alloc);
+    for task in numbers {
+        let row = row_of(alloc, told, numbers, *task)?;
+        rows.push(row)?;
+    }
+    Ok(rows)
+}

@@ -1,0 +1,227 @@
+// What the pieces of a log tell of its strands and tasks.
+
+ghost use Rattle.std.specs.Prelude.{◌≡◌, ◌==◌, ◌||◌, ◌&&◌, ◌++◌, ℕ, [], List, Some, OnOk, IfOk, slice_range};
+ghost use Rattle.std.specs.List.{list_any};
+ghost use Rattle.log_lines.specs.Grammar.{line_of};
+ghost use Rattle.log_form.specs.Events.{Event};
+ghost use Rattle.log_form.specs.Faults.{spawns};
+ghost use Rattle.log_pieces.specs.Pieces.{act_said, acts_in, on_strand, text_at, events_of_pieces};
+ghost use Rattle.log_tasks.specs.Ends.{end_by, first_end};
+ghost use Rattle.log_tasks.specs.Told.{Knows, is_told, greater, is_below, index_of, index_if, end_told, top_told, task_told, end_after};
+
+use crate::ending::StrandEnd;
+use fork_graph::{Strand, Turn};
+use listed::Listed;
+use log_lines::{Act, Line, read_line};
+use log_pieces::Piece;
+use std::alloc::{AllocError, Global};
+use std::collections::{BTreeSet, HashMap};
+use text_lines::next_line;
+
+/// What the pieces so far tell.
+#[derive(Drop)]
+pub(crate) struct Told {
+    /// How strands end, by task and number.
+    pub(crate) ends: HashMap<(u32, u32), StrandEnd>,
+    /// The greatest number of a strand that does something, by task.
+    pub(crate) tops: HashMap<u32, u32>,
+    /// The root, the tasks that do something, and those that are spawned.
+    pub(crate) tasks: BTreeSet<u32>,
+}
+
+// Whether a line is an act.
+fn is_act(line: &[u8]) -> bool
+    ensures { result ≡ is_told (act_said (line_of line.now)) }
+{
+    matches!(read_line(line), Ok(Line::Act(_)))
+}
+
+// Whether a text says an act.
+fn is_told(text: &[u8]) -> bool
+    ensures { result ≡ is_told (acts_in text.now) }
+{
+    let mut left = text;
+    'lines: loop {
+        let (line, rest) = next_line(left);
+        if is_act(line) {
+            return true;
+        }
+        match rest {
+            None => return false,
+            Some(rest) => left = rest,
+        }
+    }
+}
+
+impl Told {
+    /// Nothing is told; the root is there.
+    pub(crate) fn new(alloc: Global) -> Result<Told, AllocError>
+        ensures { IfOk result (λ told. Knows told []) }
+    {
+        let mut tasks = BTreeSet::new(alloc);
+        tasks.insert(0)?;
+        Ok(Told {
+            ends: HashMap::new(alloc),
+            tops: HashMap::new(alloc),
+            tasks,
+        })
+    }
+
+    // A strand ends, unless it did before.
+    fn end(&mut self, strand: Strand, end: StrandEnd) -> Result<(), AllocError>
+        ensures ends { OnOk result ((t i : ℕ) → end_told self.new t i ≡ end_after self.old strand (Some end) t i) }
+        ensures rest { self.new ≡ record self.old { ends = self.new.ends } }
+    {
+        let key = (strand.task, strand.index);
+        if self.ends.contains_key(&key) {
+            return Ok(());
+        }
+        self.ends.insert(key, end)?;
+        Ok(())
+    }
+
+    // A strand spawns a task.
+    fn spawn(&mut self, strand: Strand, child: u32) -> Result<(), AllocError>
+        ensures ends { OnOk result ((t i : ℕ) → end_told self.new t i ≡ end_after self.old strand (Some (StrandEnd.Turns (Turn.Spawn child))) t i) }
+        ensures tasks { OnOk result ((t : ℕ) → task_told self.new t ≡ (task_told self.old t || (child == t))) }
+        ensures tops { self.new.tops ≡ self.old.tops }
+    {
+        self.tasks.insert(child)?;
+        self.end(strand, StrandEnd::Turns(Turn::Spawn(child)))
+    }
+
+    // A strand acts.
+    fn take_act(&mut self, strand: Strand, act: Act) -> Result<(), AllocError>
+        ensures ends { OnOk result ((t i : ℕ) → end_told self.new t i ≡ end_after self.old strand (end_by act) t i) }
+        ensures tasks { OnOk result ((t : ℕ) → task_told self.new t ≡ (task_told self.old t || spawns t act)) }
+        ensures tops { self.new.tops ≡ self.old.tops }
+    {
+        match act {
+            Act::Spawn(child) => self.spawn(strand, child),
+            Act::Join(child) => self.end(strand, StrandEnd::Turns(Turn::Join(child))),
+            Act::Finish => self.end(strand, StrandEnd::Finishes),
+            Act::Access(_)
+            | Act::Yield(_)
+            | Act::Store(_)
+            | Act::Birth { .. }
+            | Act::Release(_)
+            | Act::Work(_) => Ok(()),
+        }
+    }
+
+    // A line of a piece.
+    fn take_line(&mut self, strand: Strand, line: &[u8]) -> Result<(), AllocError>
+        ensures ends { OnOk result ((t i : ℕ) → end_told self.new t i ≡ end_after self.old strand (first_end (act_said (line_of line.now))) t i) }
+        ensures tasks { OnOk result ((t : ℕ) → task_told self.new t ≡ (task_told self.old t || list_any (spawns t) (act_said (line_of line.now)))) }
+        ensures tops { self.new.tops ≡ self.old.tops }
+    {
+        match read_line(line) {
+            Ok(Line::Act(act)) => self.take_act(strand, act),
+            _ => Ok(()),
+        }
+    }
+
+    // The lines of a piece.
+    fn take_lines(&mut self, strand: Strand, text: &[u8]) -> Result<(), AllocError>
+        ensures ends { OnOk result ((t i : ℕ) → end_told self.new t i ≡ end_after self.old strand (first_end (acts_in text.now)) t i) }
+        ensures tasks { OnOk result ((t : ℕ) → task_told self.new t ≡ (task_told self.old t || list_any (spawns t) (acts_in text.now))) }
+        ensures tops { self.new.tops ≡ self.old.tops }
+    {
+        let mut left = text;
+        'lines: loop {
+            let (line, rest) = next_line(left);
+            self.take_line(strand, line)?;
+            match rest {
+                None => return Ok(()),
+                Some(rest) => left = rest,
+            }
+        }
+    }
+
+    // Whether a strand has a greater number than all of its task's so far.
+    fn is_top(&self, strand: Strand) -> bool
+        ensures { result ≡ is_below (top_told self.now strand.task) strand.index }
+    {
+        match self.tops.get(&strand.task) {
+            Some(top) => *top < strand.index,
+            None => true,
+        }
+    }
+
+    // A strand's number is noted.
+    fn raise(&mut self, strand: Strand) -> Result<(), AllocError>
+        ensures tops { OnOk result ((t : ℕ) → top_told self.new t ≡ greater (top_told self.old t) (index_of strand t)) }
+        ensures rest { self.new ≡ record self.old { tops = self.new.tops } }
+    {
+        if !self.is_top(strand) {
+            return Ok(());
+        }
+        self.tops.insert(strand.task, strand.index)?;
+        Ok(())
+    }
+
+    // A strand does something.
+    fn note(&mut self, strand: Strand) -> Result<(), AllocError>
+        ensures tops { OnOk result ((t : ℕ) → top_told self.new t ≡ greater (top_told self.old t) (index_of strand t)) }
+        ensures tasks { OnOk result ((t : ℕ) → task_told self.new t ≡ (task_told self.old t || (strand.task == t))) }
+        ensures ends { self.new.ends ≡ self.old.ends }
+    {
+        self.tasks.insert(strand.task)?;
+        self.raise(strand)
+    }
+
+    // A strand has a piece with this text.
+    fn note_piece(&mut self, strand: Strand, text: &[u8]) -> Result<(), AllocError>
+        ensures tops { OnOk result ((t : ℕ) → top_told self.new t ≡ greater (top_told self.old t) (index_if (is_told (acts_in text.now)) strand t)) }
+        ensures tasks { OnOk result ((t : ℕ) → task_told self.new t ≡ (task_told self.old t || (is_told (acts_in text.now) && (strand.task == t)))) }
+        ensures ends { self.new.ends ≡ self.old.ends }
+    {
+        if is_told(text) {
+            self.note(strand)?;
+        }
+        Ok(())
+    }
+
+    // A piece of a strand, by its text.
+    fn take_piece(&mut self, strand: Strand, text: &[u8]) -> Result<(), AllocError>
+        ensures { OnOk result ((events : List Event) → Knows self.old events → Knows self.new (events ++ on_strand strand (acts_in text.now))) }
+    {
+        self.note_piece(strand, text)?;
+        self.take_lines(strand, text)
+    }
+
+    /// All pieces of texts.
+    pub(crate) fn take_pieces(
+        &mut self,
+        texts: &[Listed<u8>],
+        pieces: &[Piece],
+    ) -> Result<(), AllocError>
+        requires { Knows self.old [] }
+        ensures { OnOk result (Knows self.new (events_of_pieces texts.now pieces.now)) }
+    {
+        for piece in pieces {
+            let text = piece_text(texts, *piece);
+            self.take_piece(piece.strand, text)?;
+        }
+        Ok(())
+    }
+}
+
+// The text of a piece.
+fn piece_text(texts: &[Listed<u8>], piece: Piece) -> &[u8]
+    ensures { result.now ≡ slice_range (text_at texts.now piece.file) piece.begin piece.end }
+{
+    match texts.get(piece.file) {
+        Some(text) => part_of(text.as_slice(), piece.begin, piece.end),
+        None => &[],
+    }
+}
+
+// The part of a text from one place up to another, as far as the text goes.
+fn part_of(text: &[u8], begin: usize, end: usize) -> &[u8]
+    ensures { result.now ≡ slice_range text.now begin end }
+{
+    let end = end.min(text.len());
+    let begin = begin.min(end);
+    &text[begin..end]
+}
