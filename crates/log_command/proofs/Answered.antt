@@ -1,5 +1,5 @@
 -- How a call ends.
-use Rattle.std.proofs.Common.{◌≡◌, ℕ, List, [], length, refl, ap, subst, arith, Bool, true, false, Option}
+use Rattle.std.proofs.Common.{◌≡◌, ◌∙◌, ℕ, List, [], length, refl, sym, ap, subst, arith, Bool, true, false, Option}
 use Rattle.std.specs.Prelude.{◌≢◌, Result, IfOk}
 use Rattle.std.specs.declared.alloc.AllocError.{AllocError}
 use Rattle.outside_io.specs.Fault.{HasRisen}
@@ -44,11 +44,11 @@ module _ (names : List (List ℕ)) (source left : SourceState) (WriteFails : Typ
       (silent_without_input (Shows (Check names) at.0) streams) some risen
 
   -- all files were read
-  pub answered_log : (texts : List (List ℕ)) (found : Result Reply AllocError) (status : Status) (before after : Streams) → HasReadFiles names source left texts → IfOk found (ShowsLog names texts) → Gives found status before after → status ≢ ReadFault → (status ≡ WriteFault → WriteFails)
+  pub answered_log : (texts shown : List (List ℕ)) (found : Result Reply AllocError) (status : Status) (before after : Streams) → HasReadFiles names source left texts → shown ≡ texts → IfOk found (ShowsLog names shown) → Gives found status before after → status ≢ ReadFault → (status ≡ WriteFault → WriteFails)
       → Answers (Check names) status source left before after WriteFails
-  answered_log texts found status before after read shows given none fails =
+  answered_log texts shown found status before after read same shows given none fails =
       call_with_input (AreInputsOf names source) (λ inputs. Ends (Shows (Check names) inputs) status before after) (names ≡ []) (HasTakenFiles names source left) WriteFails source left status read.inputs read.are read.taken
-      (gives_ends (Shows (Check names) read.inputs) found status before after (subst (λ (ts : List (List ℕ)). IfOk found (ShowsLog names ts)) read.texts_are shows) given) none fails
+      (gives_ends (Shows (Check names) read.inputs) found status before after (subst (λ (ts : List (List ℕ)). IfOk found (ShowsLog names ts)) (same ∙ read.texts_are) shows) given) none fails
 
 -- WORDS
 
@@ -57,3 +57,6 @@ usage_asked words e = rw e
 
 pub names_asked : (words : List (List ℕ)) (o : Option (List (List ℕ))) → is_usage words ≡ false → o ≡ log_names words → asked words ≡ asked_by_names o
 names_asked words o e is = rw (e, ← is)
+
+pub answered_as : (a b : Asked) (status : Status) (source left : SourceState) (before after : Streams) (WriteFails : Type 0) → a ≡ b → Answers b status source left before after WriteFails → Answers a status source left before after WriteFails
+answered_as a b status source left before after WriteFails e h = subst (λ (x : Asked). Answers x status source left before after WriteFails) (sym e) h

@@ -6,7 +6,7 @@ use Rattle.std.proofs.Math.Nat.{eq-or-lt_of_le}
 use Rattle.std.proofs.Math.ListN.{get_or-append}
 use Rattle.std.proofs.Math.Seq.{get_or-append_seam}
 use Rattle.std.proofs.lemmas.Bool.Decides.{nat_tests}
-use Rattle.std.proofs.lemmas.List.{map-append}
+use Rattle.std.proofs.lemmas.List.{map-append, get_or-map}
 use Rattle.std.proofs.lemmas.List.Folds.{list_all-map}
 use Rattle.whole_call.specs.Input.{ReadsUpTo, SourceState, IsInputOf, HasTaken, HasRead}
 use Rattle.whole_call.proofs.Calls.{some_input}
@@ -25,6 +25,10 @@ some_names f (w ∷ ws) e = sym (list_all-map is_name f (w ∷ ws))
 pub not_empty : {W : Type 0} (f : W → List ℕ) (words : List W) (i : ℕ) → i < length words → map f words ≢ []
 not_empty f [] i lt e = omega (arith, lt)
 not_empty f (w ∷ ws) i lt e = cc
+
+-- the name of file i
+pub named_at : {W : Type 0} (f : W → List ℕ) (words : List W) (i : ℕ) (w : W) → i < length words → w ≡ get_or words i w → f w ≡ get_or (map f words) i []
+named_at f words i w lt e = ap f e ∙ sym (get_or-map f words i w [] lt)
 
 -- INPUTS
 
@@ -76,11 +80,11 @@ module _ (names : List (List ℕ)) (i : ℕ) (before mid after : SourceState) (n
   taken_here t = λ whole e. t whole (same name ∙ ap before.named is ∙ e)
 
   -- one text more is read
-  pub read_more : (texts : List (List ℕ)) (text : List ℕ) → HasReadFirst names i before mid texts → (input : List ℕ) × HasRead (ReadsUpTo most_file_bytes (Some name)) mid after input × (text ≡ text_of input) → HasReadFirst names (i + 1) before after (texts ++ text ∷ [])
-  read_more texts text so_far one = record {
+  pub read_more : (texts : List (List ℕ)) (text : List ℕ) (more : List (List ℕ)) → more ≡ texts ++ text ∷ [] → HasReadFirst names i before mid texts → (input : List ℕ) × HasRead (ReadsUpTo most_file_bytes (Some name)) mid after input × (text ≡ text_of input) → HasReadFirst names (i + 1) before after more
+  read_more texts text more e so_far one = record {
     inputs = so_far.inputs ++ one.0 ∷ [];
     are = more_inputs names before i so_far.inputs one.0 so_far.are (input_here one.0 one.1.is);
-    texts_are = (let t : text ≡ text_of one.0 = one.2 in let ts = so_far.texts_are in rw (ts, t) (sym (map-append text_of so_far.inputs (one.0 ∷ []))));
+    texts_are = e ∙ (let t : text ≡ text_of one.0 = one.2 in let ts = so_far.texts_are in rw (ts, t) (sym (map-append text_of so_far.inputs (one.0 ∷ []))));
     taken = record {
       none = λ e. absurd (omega (arith, e));
       last = λ k e. (let at : i ≡ k = omega (arith, e) in subst (λ (j : ℕ). HasTaken (reads_file names j) before after) at (taken_here one.1.taken));

@@ -95,7 +95,7 @@ top_more events u acts t = top_append events (on_strand u acts) t ∙ ap (greate
 
 -- TASKS
 
-or_assoc : (a b c : Bool) → (a || (b || c)) ≡ ((a || b) || c)
+pub or_assoc : (a b c : Bool) → (a || (b || c)) ≡ ((a || b) || c)
 or_assoc true b c = refl
 or_assoc false b c = refl
 

@@ -1,4 +1,14 @@
 pub mod Acts
 pub mod Puts
+pub mod Lines
 pub mod Known
 pub mod Sane
+pub mod Numbers
+pub mod Spawning
+pub mod Rows
+pub mod Joining
+pub mod Ending
+pub mod FirstFault
+pub mod Nested
+pub mod Log
+pub mod Laws

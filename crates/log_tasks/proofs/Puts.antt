@@ -126,7 +126,7 @@ same_by true eq h = sym (h refl)
 same_by false true h = refl
 same_by false false h = refl
 
-at_is_same : (c t : ℕ) → is_at (nat_cmp c) t ≡ (c == t)
+pub at_is_same : (c t : ℕ) → is_at (nat_cmp c) t ≡ (c == t)
 at_is_same c t = same_by (nat_lt c t) (c == t) (λ h. grind (arith, nat_tests, h))
 
 -- a task is there

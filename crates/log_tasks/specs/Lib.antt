@@ -1,6 +1,7 @@
 pub mod Ends
 pub mod Numbers
 pub mod Rows
+pub mod Joining
 pub mod Told
 pub mod Sane
 pub mod Spawning

@@ -1,13 +1,19 @@
 -- What holds of the events of a log without a faulty line.
-use Rattle.std.specs.Prelude.{◌≡◌, ◌<◌, ℕ, true, false, List, [], ◌∷◌, ◌++◌}
+use Rattle.std.specs.Prelude.{◌≡◌, ◌<◌, ◌+◌, ℕ, true, false, Some, List, [], ◌∷◌, ◌++◌}
 use Rattle.log_lines.specs.Limits.{strand_limit}
+use Rattle.fork_graph.specs.declared.graph.Turn.{Turn}
 use Rattle.log_form.specs.Events.{Event}
 use Rattle.log_form.specs.Faults.{spawns, is_spawned}
+use Rattle.log_tasks.specs.declared.ending.StrandEnd.TheVariants.{Turns}
+use Rattle.log_tasks.specs.Ends.{end_by}
 
--- each strand has a number within the limit
+-- behind a turn the next strand's number is within the limit
+abbrev pub TurnsWithin : Event → Type 0
+TurnsWithin e = (turn : Turn) → end_by e.act ≡ Some (Turns turn) → e.strand.index + 1 < strand_limit
+
 abbrev pub AreWithin : List Event → Type 0
 AreWithin [] = Unit {0}
-AreWithin (e ∷ rest) = (e.strand.index < strand_limit) × AreWithin rest
+AreWithin (e ∷ rest) = TurnsWithin e × AreWithin rest
 
 -- after what happened before, no task is spawned that was spawned already, nor is the root
 abbrev pub SpawnsOnce : List Event → List Event → Type 0

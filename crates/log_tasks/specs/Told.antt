@@ -1,5 +1,5 @@
 -- What is known of strands and tasks, as pieces are read.
-use Rattle.std.specs.Prelude.{◌≡◌, ◌≢◌, ◌<◌, ◌≤◌, ◌==◌, ℕ, Bool, true, false, Option, Some, None, List, [], ◌∷◌, length, slice_get, get_or, nat_eq, nat_lt, max, if◌then◌else◌}
+use Rattle.std.specs.Prelude.{◌≡◌, ◌<◌, ◌≤◌, ◌+◌, ◌==◌, ℕ, Bool, true, false, Option, Some, None, List, [], ◌∷◌, length, slice_get, get_or, nat_eq, nat_lt, max, if◌then◌else◌}
 use Rattle.std.specs.Ordering.{nat_cmp}
 use Rattle.std.specs.HashMap.{get}
 use Rattle.std.specs.BTreeSet.{contains}
@@ -11,6 +11,7 @@ use Rattle.fork_graph.specs.Graph.{strand, tasks_in}
 use Rattle.log_form.specs.Events.{Event}
 use Rattle.log_pieces.specs.Claims.{is_pair, is_that}
 use Rattle.log_tasks.specs.declared.ending.StrandEnd.{StrandEnd}
+use Rattle.log_tasks.specs.declared.ending.StrandEnd.TheVariants.{Turns}
 use Rattle.log_tasks.specs.declared.told.Told.{Told}
 use Rattle.log_tasks.specs.Ends.{end_of, or_later}
 use Rattle.log_tasks.specs.Numbers.{is_task}
@@ -73,14 +74,22 @@ pub record Knows (told : Told) (events : List Event) : Type 0 where
 
 -- ROWS
 
--- each strand that ends has a number within the limit
-abbrev pub HasSmallEnds : Told → Type 0
-HasSmallEnds told = (t i : ℕ) → end_told told t i ≢ None → i < strand_limit
+-- behind each turn the next strand's number is within the limit
+abbrev pub HasSmallTurns : Told → Type 0
+HasSmallTurns told = (t i : ℕ) (turn : Turn) → end_told told t i ≡ Some (Turns turn) → i + 1 < strand_limit
 
 -- the turns of the log's task n, by what is known
-abbrev pub IsToldRow : Told → List ℕ → ℕ → List Turn → Type 0
-IsToldRow told numbers n row = (i : ℕ) → i ≤ length row → slice_get row i ≡ turn_at numbers (end_told told n i)
+abbrev pub turn_told : Told → List ℕ → ℕ → ℕ → Option Turn
+turn_told told numbers n i = turn_at numbers (end_told told n i)
 
-pub record AreToldRows (told : Told) (numbers : List ℕ) (rows : List (List Turn)) : Type 0 where
-  pub count : length rows ≡ length numbers
-  pub each : (t : ℕ) → t < length numbers → IsToldRow told numbers (get_or numbers t 0) (tasks_in rows t)
+abbrev pub IsToldRow : Told → List ℕ → ℕ → List Turn → Type 0
+IsToldRow told numbers n row = (i : ℕ) → i ≤ length row → slice_get row i ≡ turn_told told numbers n i
+
+-- of the first n tasks
+pub record AreFirstRows (told : Told) (numbers : List ℕ) (n : ℕ) (rows : List (List Turn)) : Type 0 where
+  pub count : length rows ≡ n
+  pub each : (t : ℕ) → t < n → IsToldRow told numbers (get_or numbers t 0) (tasks_in rows t)
+  pub short : (t : ℕ) → length (tasks_in rows t) < strand_limit
+
+abbrev pub AreToldRows : Told → List ℕ → List (List Turn) → Type 0
+AreToldRows told numbers rows = AreFirstRows told numbers (length numbers) rows

@@ -2,6 +2,7 @@
 
 ghost use Rattle.std.specs.Prelude.{◌≡◌, ◌<◌, ◌≤◌, ◌+◌, ◌^◌, List, IfOk, MatchOption, length};
 ghost use Rattle.fork_graph.specs.Graph.{AreSmall};
+ghost use Rattle.fork_graph.specs.Faults.{IsSound};
 ghost use Rattle.log_form.specs.Events.{Event};
 ghost use Rattle.log_tasks.specs.Told.{Knows};
 ghost use Rattle.log_tasks.specs.Faults.{rank_of, HasNoneBelow, IsFirstOf};
@@ -144,7 +145,7 @@ pub(crate) fn first_task_fault(
     requires count { length rows.now ≡ length numbers.now }
     requires spawns { SpawnsWell rows.now }
     ensures { IfOk result (λ found. (events : List Event) → Knows told.now events
-        → MatchOption found (HasNoneBelow events extent numbers.now rows.now (length rows.now)) (IsFirstOf events extent numbers.now rows.now)) }
+        → MatchOption found (IsSound rows.now extent × HasNoneBelow events extent numbers.now rows.now (length rows.now)) (IsFirstOf events extent numbers.now rows.now)) }
 {
     let graph = first_fault(alloc, rows, extent)?.map(of_graph);
     match extent {

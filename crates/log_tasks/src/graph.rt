@@ -1,8 +1,9 @@
 // The graph of a log: what its tasks leave unjoined in a cut log is joined at their ends.
 
-ghost use Rattle.std.specs.Prelude.{◌≡◌, ◌||◌, ℕ, [], List, IfOk, OnOk, map, length, nat_eq};
+ghost use Rattle.std.specs.Prelude.{◌≡◌, ◌++◌, ℕ, IfOk, map, length, nat_eq};
 ghost use Rattle.std.specs.HashSet.{contains};
 ghost use Rattle.fork_graph.specs.Cut.{completed, joins};
+ghost use Rattle.log_tasks.specs.Joining.{left_by, joins_for};
 ghost use Rattle.log_tasks.specs.Rows.{graph_of};
 
 use fork_graph::{Extent, Turn};
@@ -23,21 +24,36 @@ fn joined_by(alloc: Global, turns: &[Turn]) -> Result<HashSet<u32>, AllocError>
     Ok(joined)
 }
 
-// Turns, and then joins of all that is unjoined, last spawned first.
-fn completed(alloc: Global, row: Listed<Turn>) -> Result<Listed<Turn>, AllocError>
-    ensures { IfOk result (λ turns. turns ≡ completed row) }
+// The child that a turn spawns, unless it is joined.
+fn left_by(joined: &HashSet<u32>, turn: Turn) -> Option<u32>
+    ensures { result ≡ left_by (contains nat_eq joined.now) turn }
 {
-    let joined = joined_by(alloc, row.as_slice())?;
+    match turn {
+        Turn::Spawn(child) if !joined.contains(&child) => Some(child),
+        _ => None,
+    }
+}
+
+// Turns, and then joins of all children that aren't joined, last spawned first.
+fn with_joins(joined: &HashSet<u32>, row: Listed<Turn>) -> Result<Listed<Turn>, AllocError>
+    ensures { IfOk result (λ turns. turns ≡ row ++ joins_for (contains nat_eq joined.now) row) }
+{
     let count = row.len();
     let mut turns = row;
     for place in 0..count {
-        if let Turn::Spawn(child) = *turns.at(count - 1 - place)
-            && !joined.contains(&child)
-        {
+        if let Some(child) = left_by(joined, *turns.at(count - 1 - place)) {
             turns.push(Turn::Join(child))?;
         }
     }
     Ok(turns)
+}
+
+// Turns, and then joins of all that they leave unjoined.
+fn completed(alloc: Global, row: Listed<Turn>) -> Result<Listed<Turn>, AllocError>
+    ensures { IfOk result (λ turns. turns ≡ completed row) }
+{
+    let joined = joined_by(alloc, row.as_slice())?;
+    with_joins(&joined, row)
 }
 
 // All rows completed.

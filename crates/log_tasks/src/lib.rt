@@ -4,6 +4,7 @@
 mod ending;
 mod fault;
 mod graph;
+mod laws;
 mod numbers;
 mod rows;
 mod tasks;
@@ -11,4 +12,5 @@ mod told;
 
 pub use ending::StrandEnd;
 pub use fault::{TaskCause, TaskFault};
+pub use laws::{file_order_is_nothing, files_may_change_places};
 pub use tasks::{LogTasks, TasksError, log_tasks};

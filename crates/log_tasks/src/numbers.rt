@@ -11,7 +11,8 @@ use std::collections::BTreeSet;
 
 /// The numbers of a set, in ascending order.
 pub(crate) fn numbers_of(alloc: Global, tasks: &BTreeSet<u32>) -> Result<Listed<u32>, AllocError>
-    ensures { IfOk result (λ numbers. numbers ≡ tasks.now.keys) }
+    ensures keys { IfOk result (λ numbers. numbers ≡ tasks.now.keys) }
+    ensures ascending { IfOk result IsStrictlyIncreasing }
 {
     let mut numbers = Listed::new(alloc);
     for number in tasks {

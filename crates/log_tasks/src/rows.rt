@@ -1,10 +1,10 @@
 // The turns that a log tells of its tasks.
 
-ghost use Rattle.std.specs.Prelude.{◌≡◌, ◌<◌, ◌≤◌, ◌==◌, ℕ, List, IfOk, length, slice_get};
+ghost use Rattle.std.specs.Prelude.{◌≡◌, ◌<◌, IfOk, length};
 ghost use Rattle.std.specs.List.Sorted.{IsStrictlyIncreasing};
-ghost use Rattle.log_form.specs.Events.{Event};
-ghost use Rattle.log_tasks.specs.Rows.{turn_at, AreRows};
-ghost use Rattle.log_tasks.specs.Told.{end_told, HasSmallEnds, IsToldRow, AreToldRows};
+ghost use Rattle.log_lines.specs.Limits.{strand_limit};
+ghost use Rattle.fork_graph.specs.Graph.{AreSmall};
+ghost use Rattle.log_tasks.specs.Told.{turn_told, HasSmallTurns, IsToldRow, AreToldRows};
 
 use crate::ending::StrandEnd;
 use crate::numbers::renumbered;
@@ -13,13 +13,13 @@ use fork_graph::Turn;
 use listed::Listed;
 use std::alloc::{AllocError, Global};
 
-/// A strand's number is below this.
-const STRAND_LIMIT: u32 = 1 << 31;
+/// No strand has a greater number.
+const LAST_STRAND: u32 = (1 << 31) - 1;
 
 // The turn that ends a strand of the log, of tasks numbered without gaps.
 fn turn_at(told: &Told, numbers: &[u32], task: u32, index: u32) -> Option<Turn>
     requires { IsStrictlyIncreasing numbers.now }
-    ensures { result ≡ turn_at numbers.now (end_told told.now task index) }
+    ensures { result ≡ turn_told told.now numbers.now task index }
 {
     match told.ends.get(&(task, index)) {
         Some(StrandEnd::Turns(turn)) => Some(renumbered(numbers, *turn)),
@@ -35,11 +35,12 @@ fn row_of(
     task: u32,
 ) -> Result<Listed<Turn>, AllocError>
     requires numbers { IsStrictlyIncreasing numbers.now }
-    requires small { HasSmallEnds told.now }
-    ensures { IfOk result (IsToldRow told.now numbers.now task) }
+    requires small { HasSmallTurns told.now }
+    ensures row { IfOk result (IsToldRow told.now numbers.now task) }
+    ensures short { IfOk result (λ row. length row < strand_limit) }
 {
     let mut row = Listed::new(alloc);
-    for index in 0..STRAND_LIMIT {
+    for index in 0..LAST_STRAND {
         match turn_at(told, numbers, task, index) {
             Some(turn) => row.push(turn)?,
             None => return Ok(row),
@@ -55,8 +56,9 @@ pub(crate) fn rows_of(
     numbers: &[u32],
 ) -> Result<Listed<Listed<Turn>>, AllocError>
     requires numbers { IsStrictlyIncreasing numbers.now }
-    requires small { HasSmallEnds told.now }
-    ensures { IfOk result (AreToldRows told.now numbers.now) }
+    requires small { HasSmallTurns told.now }
+    ensures rows { IfOk result (AreToldRows told.now numbers.now) }
+    ensures small { IfOk result AreSmall }
 {
     let mut rows = Listed::new(alloc);
     for task in numbers {

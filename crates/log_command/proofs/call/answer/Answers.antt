@@ -1,6 +1,3 @@
-use Rattle.std.proofs.Common.{List, ℕ, subst}
-use Rattle.std.specs.Prelude.{IfOk}
-use Rattle.log_command.specs.Shown.{ShowsLog}
 use Rattle.log_command.proofs.Answered.{answered_without_memory, answered_without_input, answered_log}
 use Rattle.log_command.proofs.call.answer.Goals as goal
 
@@ -11,4 +8,6 @@ pub returns-in-Err-NoMemory : goal.returns-in-Err-NoMemory
 returns-in-Err-NoMemory g c = answered_without_memory _ _ _ _ _ c.in-Err-NoMemory.ensures.some
 
 pub returns-in-Ok : goal.returns-in-Ok
-returns-in-Ok g c = answered_log _ _ _ _ c.in-Ok.texts c.show_log.result c.give.result _ _ c.in-Ok.ensures.texts ? c.give.ensures.given c.give.ensures.read c.give.ensures.fault
+returns-in-Ok g c =
+    answered_log _ _ _ _ c.in-Ok.texts c.as_slice.result.now c.show_log.result c.give.result _ _ c.in-Ok.ensures.texts c.as_slice.ensures c.show_log.ensures
+    c.give.ensures.given c.give.ensures.read c.give.ensures.fault

@@ -1,0 +1,49 @@
+-- Joins of what is unjoined.
+use Rattle.std.proofs.Common.{◌≡◌, ◌<◌, ◌≤◌, ◌+◌, ◌-◌, ◌++◌, ◌∷◌, ◌∙◌, ℕ, zero, suc, Bool, true, false, not, List, [], length, drop, get_or, map, reverse, refl, sym, ap, Option, Some, None, arith, append_assoc, append-nil, drop-cons, nat_eq}
+use Rattle.std.specs.Prelude.{filter, slice_get, if◌then◌else◌}
+use Rattle.std.proofs.Math.Path.{fun_ext}
+use Rattle.std.proofs.lemmas.Grind.{reverse_onto}
+use Rattle.std.proofs.lemmas.List.{map-append}
+use Rattle.std.proofs.lemmas.List.Elements.{filter-append}
+use Rattle.fork_graph.specs.declared.graph.Turn.{Turn}
+use Rattle.fork_graph.specs.declared.graph.Turn.TheVariants.{Spawn, Join}
+use Rattle.fork_graph.specs.Cut.{spawned_by, joins, completed}
+use Rattle.log_tasks.specs.Joining.{left_by, joins_for}
+
+-- the join of a child, if there is one
+pub joins_of : Option ℕ → List Turn
+joins_of None = []
+joins_of (Some c) = Join c ∷ []
+
+module _ (joined : ℕ → Bool) where
+  one_join : (c : ℕ) (b : Bool) → joined c ≡ b → map Join (filter (λ d. not (joined d)) (c ∷ [])) ≡ joins_of (if b then None else Some c)
+  one_join c true e = rw e refl
+  one_join c false e = rw e refl
+
+  spawn_first : (c : ℕ) (later : List ℕ) → map Join (filter (λ d. not (joined d)) (reverse (c ∷ later))) ≡ map Join (filter (λ d. not (joined d)) (reverse later)) ++ joins_of (left_by joined (Spawn c))
+  spawn_first c later =
+      ap (λ (cs : List ℕ). map Join (filter (λ d. not (joined d)) cs)) (reverse_onto later c [])
+      ∙ ap (map Join) (filter-append (λ d. not (joined d)) (reverse later) (c ∷ []))
+      ∙ map-append Join (filter (λ d. not (joined d)) (reverse later)) (filter (λ d. not (joined d)) (c ∷ []))
+      ∙ ap (λ (ts : List Turn). map Join (filter (λ d. not (joined d)) (reverse later)) ++ ts) (one_join c (joined c) refl)
+
+  -- those of a turn come after those of all later ones
+  joins_first : (turn : Turn) (later : List Turn) → joins_for joined (turn ∷ later) ≡ joins_for joined later ++ joins_of (left_by joined turn)
+  joins_first (Spawn c) later = spawn_first c (spawned_by later)
+  joins_first (Join c) later = sym (append-nil (joins_for joined later))
+
+  -- one turn more from the end
+  pub joins_more : (row : List Turn) (place : ℕ) (turn : Turn) → place < length row → slice_get row (length row - 1 - place) ≡ Some turn
+      → joins_for joined (drop (length row - (place + 1)) row) ≡ joins_for joined (drop (length row - place) row) ++ joins_of (left_by joined turn)
+  joins_more row place turn lt e =
+      ap (joins_for joined) (dropped row (length row - (place + 1)) (length row - place) turn (omega (arith, lt)) (ap (slice_get row) (let n : length row - (place + 1) ≡ length row - 1 - place = omega (arith, lt) in n) ∙ e))
+      ∙ joins_first turn (drop (length row - place) row)
+    where
+      dropped : (xs : List Turn) (k next : ℕ) (x : Turn) → next ≡ suc k → slice_get xs k ≡ Some x → drop k xs ≡ x ∷ drop next xs
+      dropped [] k next x n h = absurd (cc)
+      dropped (y ∷ ys) zero next x n h = rw n (let same : y ≡ x = cc in ap (λ (z : Turn). z ∷ ys) same)
+      dropped (y ∷ ys) (suc k) next x n h = rw n (dropped ys k (suc k) x refl h)
+
+-- with what the turns themselves join
+pub completed_by : (joined : ℕ → Bool) (row turns : List Turn) → ((c : ℕ) → joined c ≡ joins row c) → turns ≡ row ++ joins_for joined row → turns ≡ completed row
+completed_by joined row turns same e = e ∙ ap (λ (f : ℕ → Bool). row ++ joins_for f row) (fun_ext same)

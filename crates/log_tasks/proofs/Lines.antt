@@ -1,0 +1,71 @@
+-- What is known after a line more of a piece.
+use Rattle.std.proofs.Common.{◌≡◌, ◌++◌, ◌∷◌, ◌∙◌, ℕ, Bool, true, false, List, [], refl, sym, ap, Option, Some, None, append-nil, take, length, get_or, ◌<◌, ◌+◌}
+use Rattle.std.specs.Prelude.{◌||◌, MatchOption}
+use Rattle.std.specs.List.{list_any, flat_map}
+use Rattle.std.proofs.lemmas.Grind.{flat_map-append}
+use Rattle.std.proofs.lemmas.List.{take_more}
+use Rattle.std.proofs.lemmas.List.Folds.{list_any-append}
+use Rattle.text_lines.specs.Lines.{lines_of}
+use Rattle.log_lines.specs.declared.line.Act.{Act}
+use Rattle.log_lines.specs.Grammar.{line_of}
+use Rattle.fork_graph.specs.declared.graph.Strand.{Strand}
+use Rattle.log_form.specs.Events.{Event}
+use Rattle.log_form.specs.Faults.{spawns}
+use Rattle.log_pieces.specs.declared.piece.Piece.{Piece}
+use Rattle.log_pieces.specs.Pieces.{act_said, acts_in, events_in, events_of_pieces}
+use Rattle.log_tasks.specs.declared.ending.StrandEnd.{StrandEnd}
+use Rattle.log_tasks.specs.declared.told.Told.{Told}
+use Rattle.log_tasks.specs.Ends.{first_end, or_later}
+use Rattle.log_tasks.specs.Told.{is_told, end_told, task_told, end_after}
+use Rattle.log_tasks.proofs.Acts.{first_end_append, or_assoc}
+use Rattle.log_tasks.proofs.Puts.{after_twice}
+
+-- LINES
+
+pub line_more : (left line rest : List ℕ) → lines_of left ≡ line ∷ lines_of rest → acts_in left ≡ act_said (line_of line) ++ acts_in rest
+line_more left line rest e = ap (λ (ls : List (List ℕ)). flat_map (λ l. act_said (line_of l)) ls) e
+
+pub line_last : (left line : List ℕ) → lines_of left ≡ line ∷ [] → acts_in left ≡ act_said (line_of line)
+line_last left line e = ap (λ (ls : List (List ℕ)). flat_map (λ l. act_said (line_of l)) ls) e ∙ append-nil (act_said (line_of line))
+
+told_left : (xs ys : List Act) → is_told xs ≡ true → is_told (xs ++ ys) ≡ true
+told_left [] ys e = absurd (let z : false ≡ true = e in cc)
+told_left (x ∷ xs) ys e = refl
+
+told_right : (xs ys : List Act) → is_told xs ≡ false → is_told (xs ++ ys) ≡ is_told ys
+told_right [] ys e = refl
+told_right (x ∷ xs) ys e = absurd (let z : true ≡ false = e in cc)
+
+-- the next line is an act
+pub first_told : {X : Type 0} (now : X → List ℕ) (o : Option X) (left line : List ℕ) → MatchOption o (lines_of left ≡ line ∷ []) (λ r. lines_of left ≡ line ∷ lines_of (now r)) → is_told (act_said (line_of line)) ≡ true → is_told (acts_in left) ≡ true
+first_told now None left line e t = ap is_told (line_last left line e) ∙ t
+first_told now (Some r) left line e t = ap is_told (line_more left line (now r) e) ∙ told_left (act_said (line_of line)) (acts_in (now r)) t
+
+-- it is none
+pub next_told : (left line rest : List ℕ) → lines_of left ≡ line ∷ lines_of rest → is_told (act_said (line_of line)) ≡ false → is_told (acts_in rest) ≡ is_told (acts_in left)
+next_told left line rest e f = sym (ap is_told (line_more left line rest e) ∙ told_right (act_said (line_of line)) (acts_in rest) f)
+
+pub last_told : (left line : List ℕ) → lines_of left ≡ line ∷ [] → is_told (act_said (line_of line)) ≡ false → is_told (acts_in left) ≡ false
+last_told left line e f = ap is_told (line_last left line e) ∙ f
+
+-- ENDS AND TASKS
+
+module _ (old mid : Told) (u : Strand) (left line rest : List ℕ) (e : lines_of left ≡ line ∷ lines_of rest) where
+  pub ends_next : ((t i : ℕ) → end_told mid t i ≡ end_after old u (first_end (act_said (line_of line))) t i) → (t i : ℕ) → end_after mid u (first_end (acts_in rest)) t i ≡ end_after old u (first_end (acts_in left)) t i
+  ends_next g t i =
+      after_twice old mid u (first_end (act_said (line_of line))) (first_end (acts_in rest)) t i (g t i)
+      ∙ ap (λ (o : Option StrandEnd). end_after old u o t i) (sym (ap first_end (line_more left line rest e) ∙ first_end_append (act_said (line_of line)) (acts_in rest)))
+
+  pub tasks_next : ((t : ℕ) → task_told mid t ≡ (task_told old t || list_any (spawns t) (act_said (line_of line)))) → (t : ℕ) → (task_told mid t || list_any (spawns t) (acts_in rest)) ≡ (task_told old t || list_any (spawns t) (acts_in left))
+  tasks_next g t =
+      ap (λ (b : Bool). b || list_any (spawns t) (acts_in rest)) (g t)
+      ∙ sym (or_assoc (task_told old t) (list_any (spawns t) (act_said (line_of line))) (list_any (spawns t) (acts_in rest)))
+      ∙ ap (λ (b : Bool). task_told old t || b) (sym (ap (list_any (spawns t)) (line_more left line rest e) ∙ list_any-append (spawns t) (act_said (line_of line)) (acts_in rest)))
+
+-- PIECES
+
+pub pieces_more : (texts : List (List ℕ)) (pieces : List Piece) (i : ℕ) (d : Piece) → i < length pieces → events_of_pieces texts (take (i + 1) pieces) ≡ events_of_pieces texts (take i pieces) ++ events_in texts (get_or pieces i d)
+pieces_more texts pieces i d lt =
+    ap (events_of_pieces texts) (take_more pieces i d lt)
+    ∙ flat_map-append (events_in texts) (take i pieces) (get_or pieces i d ∷ [])
+    ∙ ap (λ (es : List Event). events_of_pieces texts (take i pieces) ++ es) (append-nil (events_in texts (get_or pieces i d)))

@@ -1,0 +1,7 @@
+use Rattle.std.proofs.Common.{◌≡◌, ◌-◌, ◌++◌, length, drop, nat_eq}
+use Rattle.std.specs.HashSet.{contains}
+use Rattle.log_tasks.specs.Joining.{joins_for}
+use Rattle.log_tasks.proofs.graph.with_joins.Given as goal
+
+abbrev pub invariant-loop-place : goal.invariant-loop-place
+invariant-loop-place l = l.turns ≡ l.fn.row ++ joins_for (contains nat_eq l.joined) (drop (length l.fn.row - l.place) l.fn.row)

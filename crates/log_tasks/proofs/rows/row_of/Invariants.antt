@@ -1,0 +1,10 @@
+use Rattle.std.proofs.Common.{◌≡◌, ◌<◌, ℕ, length}
+use Rattle.std.specs.Prelude.{slice_get}
+use Rattle.log_tasks.specs.Told.{turn_told}
+use Rattle.log_tasks.proofs.rows.row_of.Given as goal
+
+abbrev pub invariant-loop-index : goal.invariant-loop-index
+invariant-loop-index l = record {
+  count : length l.row ≡ l.index;
+  so_far : (i : ℕ) → i < l.index → slice_get l.row i ≡ turn_told l.told l.numbers l.task i;
+}

@@ -1,0 +1,18 @@
+use Rattle.std.proofs.Common.{◌≡◌, ℕ, length}
+use Rattle.std.specs.Prelude.{◌||◌}
+use Rattle.std.specs.List.{list_any}
+use Rattle.log_form.specs.Faults.{spawns}
+use Rattle.log_pieces.specs.Pieces.{acts_in}
+use Rattle.log_tasks.specs.Ends.{first_end}
+use Rattle.log_tasks.specs.Told.{end_after, task_told}
+use Rattle.log_tasks.proofs.told.Told.take_lines.Given as goal
+
+abbrev pub invariant-lines : goal.invariant-lines
+invariant-lines l = record {
+  ends : (t i : ℕ) → end_after l.self l.strand (first_end (acts_in l.left)) t i ≡ end_after l.fn.self l.strand (first_end (acts_in l.fn.text)) t i;
+  tasks : (t : ℕ) → (task_told l.self t || list_any (spawns t) (acts_in l.left)) ≡ (task_told l.fn.self t || list_any (spawns t) (acts_in l.fn.text));
+  tops : l.self.tops ≡ l.fn.self.tops;
+}
+
+abbrev pub decreases-lines : goal.decreases-lines
+decreases-lines l = length l.left
