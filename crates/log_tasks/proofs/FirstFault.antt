@@ -24,7 +24,7 @@ use Rattle.log_tasks.specs.Told.{Knows}
 use Rattle.log_tasks.specs.Spawning.{SpawnsWell}
 use Rattle.log_tasks.specs.Faults.{HasCause, HasNoneBelow, IsFirstOf, rank_of}
 use Rattle.log_tasks.specs.EndCauses.{end_cause_of, NoneEndsBelow, IsFirstEndFault, of_graph, task_cause, is_sooner, sooner, sooner_of}
-use Rattle.log_tasks.proofs.Ending.{cause_has, no_cause_no_end, no_cause_past, goes_on_has_end, end_causes}
+use Rattle.log_tasks.proofs.TaskEnds.{cause_has, no_cause_no_end, no_cause_past, goes_on_has_end, end_causes}
 
 module _ (told : Told) (events : List Event) (knows : Knows told events) (extent : Extent) (numbers : List ℕ) (rows : List (List Turn)) (spawns : SpawnsWell rows) where
   abbrev Has : Strand → TaskCause → Type 0

@@ -3,12 +3,12 @@ pub mod Puts
 pub mod Lines
 pub mod Known
 pub mod Sane
-pub mod Numbers
+pub mod Ascending
 pub mod Spawning
-pub mod Rows
+pub mod ToldRows
 pub mod Joining
-pub mod Ending
+pub mod TaskEnds
 pub mod FirstFault
 pub mod Nested
 pub mod Log
-pub mod Laws
+pub mod FileOrder

@@ -20,9 +20,9 @@ use Rattle.log_tasks.specs.Rows.{graph_of, AreRows, AreNestedTasks}
 use Rattle.log_tasks.specs.Told.{Knows, task_told, AreToldRows}
 use Rattle.log_tasks.specs.Faults.{HasNoneBelow, IsFirstOf, IsFirstTaskFault, in_log}
 use Rattle.log_tasks.specs.Log.{IsLog}
-use Rattle.log_tasks.proofs.Numbers.{place_below, in_at}
+use Rattle.log_tasks.proofs.Ascending.{place_below, in_at}
 use Rattle.log_tasks.proofs.Puts.{at_is_same, number_same}
-use Rattle.log_tasks.proofs.Rows.{rows_are}
+use Rattle.log_tasks.proofs.ToldRows.{rows_are}
 use Rattle.log_tasks.proofs.Nested.{graph_nested}
 
 pub true_is : (b : Bool) → IsTrue b → b ≡ true

@@ -12,7 +12,7 @@ returns-then-is_usage g c =
 pub returns-in-None : goal.returns-in-None
 returns-in-None g c =
     answered_as (asked (map (string_bytes {Z = Global}) c.args.words.now)) Nothing _ _ _ _ _ _ (names_asked (map (string_bytes {Z = Global}) c.args.words.now) None (sym c.is_usage.ensures ∙ c.if-is_usage.false) c.in-None.ensures)
-    (answered_unread Nothing c.words_refusal.result c.give.result _ _ _ _ refl c.words_refusal.ensures c.give.ensures.given c.give.ensures.read c.give.ensures.fault)
+    (answered_unread Nothing c.words_refusal.result c.give-in-None.result _ _ _ _ refl c.words_refusal.ensures c.give-in-None.ensures.given c.give-in-None.ensures.read c.give-in-None.ensures.fault)
 
 pub returns-in-Some : goal.returns-in-Some
 returns-in-Some g c =

@@ -1,4 +1,4 @@
-use Rattle.log_tasks.proofs.Laws as proved
+use Rattle.log_tasks.proofs.FileOrder as proved
 use Rattle.log_tasks.proofs.laws.files_may_change_places.Goals as goal
 
 pub returns : goal.returns

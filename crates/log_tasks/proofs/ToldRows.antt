@@ -24,7 +24,7 @@ use Rattle.log_tasks.specs.Rows.{turn_at, AreRows}
 use Rattle.log_tasks.specs.Told.{Knows, end_told, turn_told, HasSmallTurns, IsToldRow, AreFirstRows, AreToldRows}
 use Rattle.log_tasks.specs.Sane.{AreSane}
 use Rattle.log_tasks.specs.Spawning.{SpawnsWell}
-use Rattle.log_tasks.proofs.Numbers.{place_below, one_place, task_there}
+use Rattle.log_tasks.proofs.Ascending.{place_below, one_place, task_there}
 use Rattle.log_tasks.proofs.Spawning.{spawned_once, not_root, spawned_is_task, end_within}
 
 -- A ROW
