@@ -134,7 +134,7 @@ same_members : (xs ys : List ℕ) → IsStrictlySortedBy nat_cmp xs → IsStrict
 same_members [] [] sx sy f g = refl
 same_members [] (y ∷ ys) sx sy f g = absurd (g y (inl refl))
 same_members (x ∷ xs) [] sx sy f g = absurd (f x (inl refl))
-same_members (x ∷ xs) (y ∷ ys) sx sy f g = ap₂ ◌∷◌ first (same_members xs ys sx.1 sy.1 (λ t h. fewer t h (f t (inr h))) (λ t h. fewer' t h (g t (inr h))))
+same_members (x ∷ xs) (y ∷ ys) sx sy f g = ap₂ (λ (n : ℕ) (ns : List ℕ). n ∷ ns) first (same_members xs ys sx.1 sy.1 (λ t h. fewer t h (f t (inr h))) (λ t h. fewer' t h (g t (inr h))))
   where
     above : (t : ℕ) → In xs t → x < t
     above t h = less_from x t (each_in (λ z. nat_cmp x z ≡ Less) xs t sx.0 h)
@@ -165,14 +165,14 @@ row_same F [] [] p q = refl
 row_same F [] (y ∷ ys) p q = absurd (let e : None ≡ Some y = p 0 (omega arith) ∙ sym (q 0 (omega arith)) in cc)
 row_same F (x ∷ xs) [] p q = absurd (let e : None ≡ Some x = q 0 (omega arith) ∙ sym (p 0 (omega arith)) in cc)
 row_same F (x ∷ xs) (y ∷ ys) p q =
-    ap₂ ◌∷◌ (let e : Some x ≡ Some y = p 0 (omega arith) ∙ sym (q 0 (omega arith)) in cc)
+    ap₂ (λ (t : Turn) (ts : List Turn). t ∷ ts) (let e : Some x ≡ Some y = p 0 (omega arith) ∙ sym (q 0 (omega arith)) in cc)
     (row_same (λ i. F (suc i)) xs ys (λ i le. p (suc i) (omega (arith, le))) (λ i le. q (suc i) (omega (arith, le))))
 
 rows_same : (one other : List (List Turn)) → length one ≡ length other → ((t : ℕ) → t < length one → tasks_in one t ≡ tasks_in other t) → one ≡ other
 rows_same [] [] e f = refl
 rows_same [] (y ∷ ys) e f = absurd (omega (arith, e))
 rows_same (x ∷ xs) [] e f = absurd (omega (arith, e))
-rows_same (x ∷ xs) (y ∷ ys) e f = ap₂ ◌∷◌ (f 0 (omega arith)) (rows_same xs ys (omega (arith, e)) (λ t lt. f (suc t) (omega (arith, lt))))
+rows_same (x ∷ xs) (y ∷ ys) e f = ap₂ (λ (r : List Turn) (rs : List (List Turn)). r ∷ rs) (f 0 (omega arith)) (rows_same xs ys (omega (arith, e)) (λ t lt. f (suc t) (omega (arith, lt))))
 
 pub file_order_is_nothing : FileOrderIsNothing
 file_order_is_nothing events others numbers numbers' rows rows' same named are named' are' = (one, rest)

@@ -32,7 +32,7 @@ true_is true t = refl
 pub numbers_are : (told : Told) (events : List Event) (numbers : List ℕ) → Knows told events → numbers ≡ keys told.tasks → IsStrictlyIncreasing numbers → AreNumbers events numbers
 numbers_are told events numbers k e up = record {
   ascending = up;
-  are = λ t. (λ h. into t h, λ h. out t h);
+  are = λ t. (into t, out t);
 }
   where
     into : (t : ℕ) → In numbers t → IsTrue (is_task events t)
