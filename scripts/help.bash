@@ -3,7 +3,7 @@
 # An option with its value, its range and its default, and what it is.
 option_line() {
   local name=$1 range=
-  if [ -n "${value_of[$name]}" ]; then
+  if [ -n "${least_of[$name]}" ]; then
     range="${least_of[$name]} to ${most_of[$name]}${default_of[$name]:+, ${default_of[$name]}}"
   fi
   printf '  %-14s %-24s %s\n' "--$name ${value_of[$name]}" "$range" "${about_option[$name]}"

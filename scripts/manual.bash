@@ -22,7 +22,7 @@ manual_options() {
   local name range
   while IFS= read -r name; do
     range=
-    if [ -n "${value_of[$name]}" ]; then
+    if [ -n "${least_of[$name]}" ]; then
       range=" (${least_of[$name]} to ${most_of[$name]}${default_of[$name]:+; by default ${default_of[$name]}})"
     fi
     tagged "--$name${value_of[$name]:+ ${value_of[$name]}}" "${about_option[$name]}$range; for $(commands_with "$crate" "$name")."

@@ -55,6 +55,11 @@ find_fault() {
   [ -n "$fault" ] || fault=$*
 }
 
+# Whether an option takes a text.
+takes_text() {
+  [[ -n ${value_of[$1]} && -z ${least_of[$1]} ]]
+}
+
 range_of() {
   printf 'a number from %s to %s' "${least_of[$1]}" "${most_of[$1]}"
 }
@@ -84,6 +89,18 @@ fault_of_option() {
   fi
 }
 
+# Reads an option that takes a text, which is the word behind it.
+read_text_option() {
+  local name=$1 word=$2
+  if [[ $word = *=* ]]; then
+    find_fault "--$name stands apart from its text: --$name '${word#*=}'"
+  elif [ $# -lt 3 ]; then
+    find_fault "--$name takes a text, and none follows"
+  else
+    taken=2
+  fi
+}
+
 # Reads an option, of which `set_before` has those before it. The word behind it, if it may be its number, stands third;
 # `taken` is how many words it is.
 read_option() {
@@ -98,6 +115,10 @@ read_option() {
   set_before[$name]=1
   if [ -z "${value_of[$name]}" ]; then
     [ "$word" = "--$name" ] || find_fault "--$name takes no value, and '${word#*=}' is one"
+    return
+  fi
+  if takes_text "$name"; then
+    read_text_option "$name" "${@:2}"
     return
   fi
   if [[ $word == *=* ]]; then

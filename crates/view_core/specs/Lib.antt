@@ -1,3 +1,4 @@
 pub mod Shown
+pub mod Page
 pub mod Views
 pub mod Call

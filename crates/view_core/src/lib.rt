@@ -3,6 +3,7 @@
 
 mod call;
 mod heaps;
+mod page;
 mod runs;
 mod schedules;
 mod views;

@@ -5,9 +5,10 @@ ghost use Rattle.whole_call.specs.Output.{Says};
 ghost use Rattle.view_core.specs.Views.{Shows, ShowsPicture, usage};
 
 use crate::heaps::show_heaps;
+use crate::page::show_page;
 use crate::runs::show_run;
 use std::alloc::{AllocError, Global};
-use view_line::{Picture, View};
+use view_line::{InputFile, Picture, View};
 use whole_call::{AnswerStatus, Reply};
 
 // How the program is called.
@@ -15,18 +16,24 @@ fn show_usage(alloc: Global) -> Result<Reply, AllocError>
     ensures { IfOk result (Says AnswerStatus.Done usage) }
 {
     let text = format!(in alloc;
-        "usage: hhview heaps [FILE] [--path T] [--limit N]\n       hhview timeline [FILE] [OPTIONS]\n       hhview tasks [FILE] [OPTIONS]\n       hhview schedules [FILE] [OPTIONS]\nOPTIONS are those of hheap replay: --workers N, --fuel N, --chunks N, --leaf N, --inner N\n"
+        "usage: hhview heaps [FILE] [--path T] [--limit N]\n       hhview page [FILE] [OPTIONS] [--title WORDS]\n       hhview timeline [FILE] [OPTIONS]\n       hhview tasks [FILE] [OPTIONS]\n       hhview schedules [FILE] [OPTIONS]\nOPTIONS are those of hheap replay: --workers N, --fuel N, --chunks N, --leaf N, --inner N\n"
     )?;
     Ok(Reply::of_text(AnswerStatus::Done, text))
 }
 
 // Shows a picture of an input.
-fn show_picture(alloc: Global, picture: &Picture, input: &[u8]) -> Result<Reply, AllocError>
-    ensures { IfOk result (ShowsPicture picture.now input.now) }
+fn show_picture(
+    alloc: Global,
+    file: &Option<InputFile>,
+    picture: &Picture,
+    input: &[u8],
+) -> Result<Reply, AllocError>
+    ensures { IfOk result (ShowsPicture file.now picture.now input.now) }
 {
     match picture {
         Picture::Heaps { path, limit } => show_heaps(alloc, *path, *limit, input),
         Picture::Run { view, settings } => show_run(alloc, *view, *settings, input),
+        Picture::Page { title, settings } => show_page(alloc, title, file, *settings, input),
     }
 }
 
@@ -36,6 +43,6 @@ pub(crate) fn show(alloc: Global, view: &View, input: &[u8]) -> Result<Reply, Al
 {
     match view {
         View::Usage => show_usage(alloc),
-        View::Of { file: _, picture } => show_picture(alloc, picture, input),
+        View::Of { file, picture } => show_picture(alloc, file, picture, input),
     }
 }

@@ -13,6 +13,7 @@ use Rattle.view_line.specs.declared.line.Picture.TheVariants.{Heaps, Run}
 use Rattle.view_line.specs.declared.line.View.{View}
 use Rattle.view_line.specs.declared.line.View.TheVariants.{Usage, Of}
 use Rattle.view_line.specs.App.{heaps_app}
+use Rattle.view_line.specs.PageLine.{page_line}
 
 -- HEAPS
 
@@ -61,6 +62,7 @@ usage_line _ = None
 abbrev pub named_line : Text → List Text → Option View
 named_line name words =
     if bytes_eq name (codes "heaps") then heaps_line words
+    else if bytes_eq name (codes "page") then page_line words
     else if bytes_eq name (codes "--help") then usage_line words
     else option_and_then (run_line words) (run_view name)
 

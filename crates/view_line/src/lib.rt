@@ -3,7 +3,10 @@
 
 mod command;
 mod line;
+mod page;
 mod read;
+mod title;
 
 pub use line::{InputFile, Picture, RunView, View};
 pub use read::read_view;
+pub use title::PageTitle;

@@ -2,6 +2,7 @@
 
 ghost use Rattle.std.specs.Prelude.{◌≡◌, string_bytes};
 
+use crate::title::PageTitle;
 use run_trace::Settings;
 use std::marker::Model;
 
@@ -49,9 +50,20 @@ pub enum RunView {
 pub enum Picture {
     /// The heaps of an image, or those on the path from the root to a task; heap by heap if there are more objects than
     /// the limit.
-    Heaps { path: Option<u64>, limit: u64 },
+    Heaps {
+        path: Option<u64>,
+        limit: u64,
+    },
     /// A view of a run with these settings.
-    Run { view: RunView, settings: Settings },
+    Run {
+        view: RunView,
+        settings: Settings,
+    },
+    /// A run with these settings as a page; the file's name stands for a title that is left out.
+    Page {
+        title: Option<PageTitle>,
+        settings: Settings,
+    },
 }
 
 /// What a call asks for. A file that is left out stands for standard input.

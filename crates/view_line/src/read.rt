@@ -6,6 +6,7 @@ ghost use Rattle.view_line.specs.ViewLine.{maybe_number, heaps_in, heaps_line, r
 
 use crate::command::heaps_command;
 use crate::line::{InputFile, Picture, RunView, View};
+use crate::page::page_line;
 use clap::ArgMatches;
 use clap::error::ErrorKind;
 use command_line::{CommandLine, FileName, read_command_line};
@@ -15,15 +16,15 @@ use std::alloc::{AllocError, Global};
 /// So many objects are drawn one by one where no limit is given.
 const USUAL_LIMIT: u64 = 300;
 
-// A text of one's own.
-fn copy_of(alloc: Global, text: &str) -> Result<String, AllocError>
+/// A text of one's own.
+pub(crate) fn copy_of(alloc: Global, text: &str) -> Result<String, AllocError>
     ensures { IfOk result (λ own. string_bytes own ≡ text.now) }
 {
     format!(in alloc; "{text}")
 }
 
-// The file of this name, if there is one.
-fn file_of(alloc: Global, name: Option<&str>) -> Result<Option<InputFile>, AllocError>
+/// The file of this name, if there is one.
+pub(crate) fn file_of(alloc: Global, name: Option<&str>) -> Result<Option<InputFile>, AllocError>
     ensures { IfOk result (λ file. file ≡ option_map (λ s. s.now) name.entry) }
 {
     match name {
@@ -93,8 +94,8 @@ fn heaps_line(alloc: Global, words: &[String]) -> Result<Option<View>, AllocErro
     }
 }
 
-// These words behind `races`.
-fn behind_races(alloc: Global, words: &[String]) -> Result<Vec<String>, AllocError>
+/// These words behind `races`.
+pub(crate) fn behind_races(alloc: Global, words: &[String]) -> Result<Vec<String>, AllocError>
     ensures { IfOk result (λ all. map string_bytes all.items ≡ codes "races" ∷ map string_bytes words.now) }
 {
     let mut all = Vec::new(alloc);
@@ -177,6 +178,7 @@ fn named_line(alloc: Global, name: &str, words: &[String]) -> Result<Option<View
 {
     match name {
         "heaps" => heaps_line(alloc, words),
+        "page" => page_line(alloc, words),
         "--help" => Ok(usage_line(words)),
         _ => run_named(alloc, words, run_view(name)),
     }

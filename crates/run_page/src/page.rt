@@ -1,0 +1,109 @@
+// A run as a page.
+
+ghost use Rattle.std.specs.Prelude.{◌≡◌, ◌++◌, None, Some, OnOk, IfOk, IfErr};
+ghost use Rattle.hh_model.specs.Step.{start};
+ghost use Rattle.run_trace.specs.Settings.{field_limit};
+ghost use Rattle.run_ledger.specs.Journals.{end_of, refused_as_run};
+ghost use Rattle.run_journal.specs.Replay.{ReplayFails};
+ghost use Rattle.run_deltas.specs.Deltas.{machine_after, delta};
+ghost use Rattle.page_data.specs.Deltas.{entry};
+ghost use Rattle.page_data.specs.Run.{settings_and_start, entries_from};
+ghost use Rattle.run_page.specs.Page.{page};
+
+use hh_lang::Program;
+use hh_model::Machine;
+use page_data::{add_ending, add_entry, add_settings_and_start};
+use page_frame::{add_head, add_tail};
+use run_deltas::advance;
+use run_journal::{ReplayError, model_replay};
+use run_ledger::RunEnd;
+use run_trace::{Entry, Settings};
+use std::alloc::{AllocError, Global};
+
+// Takes the steps of an entry, and adds what it changes.
+fn add_next(
+    alloc: Global,
+    text: &mut Vec<u8>,
+    program: &Program,
+    machine: &mut Machine,
+    of: Entry,
+) -> Result<(), AllocError>
+    requires { machine.old.program ≡ program.now }
+    ensures program { machine.new.program ≡ machine.old.program }
+    ensures state { OnOk result (machine.new.state ≡ machine_after program.now machine.old.state of.kind) }
+    ensures text { OnOk result (text.new.items ≡ text.old.items ++ entry program.now of (delta program.now machine.old.state of.kind)) }
+{
+    let delta = advance(alloc, program, machine, of.kind())?;
+    add_entry(alloc, text, program, of, &delta)
+}
+
+// Adds the entries of a journal.
+fn add_entries(
+    alloc: Global,
+    text: &mut Vec<u8>,
+    program: &Program,
+    machine: &mut Machine,
+    journal: &[Entry],
+) -> Result<(), AllocError>
+    requires { machine.old.program ≡ program.now }
+    ensures { OnOk result (text.new.items ≡ text.old.items ++ entries_from program.now machine.old.state journal.now) }
+{
+    for of in journal {
+        add_next(alloc, text, program, machine, *of)?;
+    }
+    Ok(())
+}
+
+// Adds the settings, where the run starts, and its entries.
+fn add_run(
+    alloc: Global,
+    text: &mut Vec<u8>,
+    program: &Program,
+    settings: Settings,
+    journal: &[Entry],
+) -> Result<(), AllocError>
+    ensures { OnOk result (text.new.items ≡ text.old.items ++ (settings_and_start program.now settings ++ entries_from program.now (start program.now (field_limit settings.version)) journal.now)) }
+{
+    let mut machine = Machine::start(alloc, program, settings.version().field_limit())?;
+    add_settings_and_start(alloc, text, program, settings, machine.state())?;
+    add_entries(alloc, text, program, &mut machine, journal)
+}
+
+// Builds the page of a run that ended so.
+#[tactic(auto, unfolding(crate::specs::Page::page))]
+fn build(
+    alloc: Global,
+    title: &[u8],
+    input: &[u8],
+    program: &Program,
+    settings: Settings,
+    journal: &[Entry],
+    end: RunEnd,
+) -> Result<Vec<u8>, AllocError>
+    ensures { end_of program.now settings journal.now ≡ Some end → IfOk result (λ text. text.items ≡ page title.now input.now program.now settings journal.now) }
+{
+    let mut text = Vec::new(alloc);
+    add_head(&mut text, title, input)?;
+    add_run(alloc, &mut text, program, settings, journal)?;
+    add_ending(alloc, &mut text, end)?;
+    add_tail(&mut text)?;
+    Ok(text)
+}
+
+/// The page of the journal of a whole run, which bears this title. The input is the program's text with the trace
+/// behind it, of which the page shows the lines before the trace line.
+pub fn page_of(
+    alloc: Global,
+    title: &[u8],
+    input: &[u8],
+    program: &Program,
+    settings: Settings,
+    journal: &[Entry],
+) -> Result<Vec<u8>, ReplayError>
+    ensures whole { OnOk result (refused_as_run program.now settings journal.now ≡ None) }
+    ensures text { IfOk result (λ text. text.items ≡ page title.now input.now program.now settings journal.now) }
+    ensures fails { IfErr result (ReplayFails (refused_as_run program.now settings journal.now)) }
+{
+    let end = model_replay(alloc, program, settings, journal)?;
+    Ok(build(alloc, title, input, program, settings, journal, end)?)
+}

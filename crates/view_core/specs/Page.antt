@@ -1,0 +1,44 @@
+-- A run as a page.
+use Rattle.std.specs.Prelude.{◌≡◌, ℕ, Option, Some, None, List, ◌++◌, codes, length, nat_lt, if◌then◌else◌}
+use Rattle.std.specs.Fmt.{decimal}
+use Rattle.run_trace.specs.Settings.{SettingsValue}
+use Rattle.run_ledger.specs.Journals.{refused_as_run}
+use Rattle.trace_input.specs.declared.input.InputFault.{InputFault}
+use Rattle.trace_input.specs.declared.input.TraceInput.{TraceInput}
+use Rattle.trace_input.specs.Input.{input_fault, settings_for, IsInput}
+use Rattle.refusal_lines.specs.Refusals.{refusal_of}
+use Rattle.refusal_replies.specs.Refused.{Refuses}
+use Rattle.run_page.specs.Page.{page}
+use Rattle.whole_call.specs.declared.status.AnswerStatus.TheVariants.{Done, Trace}
+use Rattle.whole_call.specs.declared.reply.Reply.{Reply}
+use Rattle.whole_call.specs.Output.{Says}
+use Rattle.view_core.specs.Shown.{ShowsWhole}
+
+-- the title that is given, or the file's name
+abbrev pub title_of : Option (List ℕ) → Option (List ℕ) → List ℕ
+title_of (Some title) file = title
+title_of None (Some name) = name
+title_of None None = codes "a run"
+
+-- a page has at most so many entries
+abbrev pub most_entries : ℕ
+most_entries = 20000
+
+-- what is said of a trace that has more: how many, and what to do
+abbrev pub too_long : ℕ → List ℕ
+too_long n =
+    codes "end: page refused entries " ++ decimal n ++ codes "; a page has at most 20000: run a smaller input, or use hhview timeline or tasks\n"
+
+-- the page of the run of a trace, of this title; of a trace that is too long, how long it is
+abbrev pub ShowsPageOf : List ℕ → SettingsValue → List ℕ → TraceInput → Reply → Type 0
+ShowsPageOf title s input t =
+    if nat_lt most_entries (length t.trace.entries) then Says Trace (too_long (length t.trace.entries))
+    else ShowsWhole (Says Done (page title input t.program (settings_for s t) t.trace.entries)) (refused_as_run t.program (settings_for s t) t.trace.entries)
+
+-- of a program with a trace, or its first fault
+abbrev pub ShowsPageIn : List ℕ → SettingsValue → List ℕ → Option InputFault → Reply → Type 0
+ShowsPageIn title s input None w = (t : TraceInput) × IsInput input t × ShowsPageOf title s input t w
+ShowsPageIn title s input (Some f) w = Refuses (refusal_of f) w
+
+abbrev pub ShowsPage : List ℕ → SettingsValue → List ℕ → Reply → Type 0
+ShowsPage title s input = ShowsPageIn title s input (input_fault input)

@@ -1,0 +1,91 @@
+// A run as a page.
+
+ghost use Rattle.std.specs.Prelude.{◌≡◌, IfOk};
+ghost use Rattle.whole_call.specs.Output.{Says};
+ghost use Rattle.view_core.specs.Page.{ShowsPage, ShowsPageOf, most_entries, title_of, too_long};
+
+use refusal_lines::Refusal;
+use refusal_replies::refused;
+use run_journal::ReplayError;
+use run_page::page_of;
+use run_trace::Settings;
+use std::alloc::{AllocError, Global};
+use trace_input::{InputError, TraceInput, read_trace_input};
+use view_line::{InputFile, PageTitle};
+use whole_call::{AnswerStatus, Reply};
+
+/// A page has at most so many entries.
+const MOST_ENTRIES: usize = 20_000;
+
+// The title that is given, or the file's name.
+fn title_of<'n>(title: &'n Option<PageTitle>, file: &'n Option<InputFile>) -> &'n [u8]
+    ensures { result.now ≡ title_of title.now file.now }
+{
+    match (title, file) {
+        (Some(title), _) => title.as_str().as_bytes(),
+        (None, Some(name)) => name.as_str().as_bytes(),
+        (None, None) => b"a run",
+    }
+}
+
+// The refusal of a trace of more entries than a page has.
+fn refused_as_long(alloc: Global, entries: usize) -> Result<Reply, AllocError>
+    ensures { IfOk result (Says AnswerStatus.Trace (too_long entries)) }
+{
+    let text = format!(in alloc;
+        "end: page refused entries {entries}; a page has at most 20000: run a smaller input, or use hhview timeline or tasks\n"
+    )?;
+    Ok(Reply::of_text(AnswerStatus::Trace, text))
+}
+
+// Shows the run of a trace as a page of this title.
+fn show_page_of(
+    alloc: Global,
+    title: &[u8],
+    settings: Settings,
+    input: &[u8],
+    read: &TraceInput,
+) -> Result<Reply, AllocError>
+    ensures { IfOk result (ShowsPageOf title.now settings input.now read.now) }
+{
+    let TraceInput { program, trace } = read;
+    let settings = settings.with_version(trace.version);
+    let journal = trace.entries.as_slice();
+    if journal.len() > MOST_ENTRIES {
+        return refused_as_long(alloc, journal.len());
+    }
+    match page_of(alloc, title, input, program, settings, journal) {
+        Ok(page) => Ok(Reply::of_bytes(AnswerStatus::Done, page)),
+        Err(ReplayError::RefusedAt(entry)) => refused(alloc, Refusal::Entry(entry)),
+        Err(ReplayError::NoMemory) => Err(AllocError),
+    }
+}
+
+// Shows the run of a program with its trace as a page of this title.
+fn show_titled(
+    alloc: Global,
+    title: &[u8],
+    settings: Settings,
+    input: &[u8],
+) -> Result<Reply, AllocError>
+    ensures { IfOk result (ShowsPage title.now settings input.now) }
+{
+    match read_trace_input(alloc, input) {
+        Ok(read) => show_page_of(alloc, title, settings, input, &read),
+        Err(InputError::Fault(fault)) => refused(alloc, Refusal::of_input(fault)),
+        Err(InputError::NoMemory) => Err(AllocError),
+    }
+}
+
+/// Shows the run of a program with its trace as a page, which bears its file's name if no title is given.
+pub(crate) fn show_page(
+    alloc: Global,
+    title: &Option<PageTitle>,
+    file: &Option<InputFile>,
+    settings: Settings,
+    input: &[u8],
+) -> Result<Reply, AllocError>
+    ensures { IfOk result (ShowsPage (title_of title.now file.now) settings input.now) }
+{
+    show_titled(alloc, title_of(title, file), settings, input)
+}
