@@ -9,7 +9,7 @@ pub const BEFORE_1: &str = r##"<!doctype html>
 <html lang="en">
 <head>
 <meta charset="utf-8">
-<meta http-equiv="Content-Security-Policy" content="default-src 'none'; script-src 'sha256-hUXF1HT6j6ermL5Vx0PzPqnFuBoZ4aSxFjIPZkFiCgY='; style-src 'unsafe-inline'">
+<meta http-equiv="Content-Security-Policy" content="default-src 'none'; script-src 'sha256-/nTkreyQkqeQu709pSboAE2RxEeK+T2sQr7wSLHtrU8='; style-src 'unsafe-inline'">
 <meta name="viewport" content="width=device-width, initial-scale=1">
 <title>A run of hheap</title>
 <style>
@@ -18,27 +18,27 @@ pub const BEFORE_1: &str = r##"<!doctype html>
   --mono: ui-monospace, "SF Mono", "Cascadia Mono", "DejaVu Sans Mono", Menlo, Consolas, monospace;
   --paper: #f4f2ed; --panel: #fdfcfa; --raised: #ffffff; --ink: #1c2230; --soft: #59627a; --faint: #dcd9d1;
   --inside: #7b8394; --up: #1f66d6; --down: #cf2b2b; --cross: #b01bb8; --new: #13804a; --set: #a65f00;
-  --move: #007c89; --gone: #a03030; --new-bg: #dcf5e6; --set-bg: #ffe7bd; --move-bg: #d5f3f5; --k-ran: #c3cfe6;
+  --move: #007c89; --new-bg: #dcf5e6; --set-bg: #ffe7bd; --k-ran: #c3cfe6;
   --k-took: #f3d38c; --k-chunk: #d9d3c6; --k-leaf: #a5dcc0; --k-inner: #d3c3f2; --k-over: #f2b5b0; --imm: #e6f1fb;
-  --hit: #fff3b8; --on-strong: #fff; --snap: #8a63d2; --marking: #6b3fc0;
+  --hit: #fff3b8; --on-strong: #fff;
 }
 @media (prefers-color-scheme: dark) {
 :root:not([data-theme=light]):not(.paper) {
   color-scheme: dark;
   --paper: #111318; --panel: #191c23; --raised: #21252e; --ink: #e7e9ef; --soft: #a3abbe; --faint: #343a47;
   --inside: #8d96a8; --up: #6ea8ff; --down: #ff7a70; --cross: #f07cf5; --new: #4fd08a; --set: #f5b04c;
-  --move: #45cbd8; --gone: #e88a8a; --new-bg: #14382a; --set-bg: #4a3413; --move-bg: #113b40; --k-ran: #3b4a66;
+  --move: #45cbd8; --new-bg: #14382a; --set-bg: #4a3413; --k-ran: #3b4a66;
   --k-took: #6b5421; --k-chunk: #4a463d; --k-leaf: #1f5a40; --k-inner: #4c3a75; --k-over: #7c2c2a; --imm: #1c2f42;
-  --hit: #4d4413; --on-strong: #111; --snap: #b99af5; --marking: #b99af5;
+  --hit: #4d4413; --on-strong: #111;
 }
 }
 :root[data-theme=dark]:not(.paper) {
   color-scheme: dark;
   --paper: #111318; --panel: #191c23; --raised: #21252e; --ink: #e7e9ef; --soft: #a3abbe; --faint: #343a47;
   --inside: #8d96a8; --up: #6ea8ff; --down: #ff7a70; --cross: #f07cf5; --new: #4fd08a; --set: #f5b04c;
-  --move: #45cbd8; --gone: #e88a8a; --new-bg: #14382a; --set-bg: #4a3413; --move-bg: #113b40; --k-ran: #3b4a66;
+  --move: #45cbd8; --new-bg: #14382a; --set-bg: #4a3413; --k-ran: #3b4a66;
   --k-took: #6b5421; --k-chunk: #4a463d; --k-leaf: #1f5a40; --k-inner: #4c3a75; --k-over: #7c2c2a; --imm: #1c2f42;
-  --hit: #4d4413; --on-strong: #111; --snap: #b99af5; --marking: #b99af5;
+  --hit: #4d4413; --on-strong: #111;
 }
 * { box-sizing: border-box; }
 body { margin: 0; height: 100dvh; display: grid; grid-template-columns: minmax(0, 1fr); grid-template-rows: auto auto minmax(0, 1fr) auto; background: var(--paper); color: var(--ink);
@@ -50,6 +50,7 @@ button:hover { border-color: var(--soft); }
 code { font-family: var(--mono); font-size: .93em; }
 h1, h2 { margin: 0; font-size: 1em; }
 h2 { font-size: 11px; letter-spacing: .07em; text-transform: uppercase; color: var(--soft); }
+noscript p { padding: 2em; }
 .skip { position: absolute; left: -99em; }
 .skip:focus { left: 8px; top: 8px; z-index: 9; background: var(--raised); padding: 6px; }
 /* the top */
@@ -93,8 +94,9 @@ main { display: grid; grid-template-columns: minmax(230px, 25%) minmax(0, 1fr) 2
 #arrows .cross { stroke: var(--cross); color: var(--cross); stroke-width: 2.4; stroke-dasharray: 7 5; }
 #arrows .fresh { stroke-width: 3; }
 #arrows text { stroke-dasharray: none !important; font: 600 11px system-ui, sans-serif; fill: currentColor; stroke: var(--panel) !important; stroke-width: 4px !important; paint-order: stroke; }
-#arrows.dense .inside { stroke-width: .9; opacity: .6; }
-#arrows .stale { opacity: .3; }
+/* of many references within heaps only those are drawn that the entry or the reader is at */
+#arrows.few > .inside:not(.near, .hot, .fresh) { display: none; }
+#arrows marker[id] path { stroke: none; fill: currentColor; }
 #arrows.hot > path { opacity: .12; }
 #arrows.hot > path.hot { opacity: 1; }
 .task { border: 1.5px solid var(--faint); border-radius: .75em; padding: .55em .7em .7em; background: color-mix(in oklab, var(--panel), var(--ink) calc(var(--deep) * 1.3%)); min-width: 11em; }
@@ -105,32 +107,25 @@ main { display: grid; grid-template-columns: minmax(230px, 25%) minmax(0, 1fr) 2
 .task.ready { border-style: dotted; border-color: var(--soft); }
 .task.waiting { border-style: dashed; border-color: color-mix(in oklab, var(--soft), var(--panel) 35%); }
 .task.out { border-color: var(--w); box-shadow: inset .3em 0 var(--w); }
-.task.ended { border-color: var(--soft); opacity: .93; }
+.task.ended { border-color: var(--soft); }
 .task.act { outline: .2em solid color-mix(in oklab, var(--set), transparent 55%); outline-offset: .12em; }
 .task.find { outline: .25em solid var(--up); }
 .pill { font-size: .8em; border-radius: 1em; padding: .05em .7em; border: 1px solid var(--soft); color: var(--soft); white-space: nowrap; }
 .pill.out { border-color: var(--w); background: var(--w); color: #fff; font-weight: 650; }
 .pill.over { border-color: var(--cross); background: var(--cross); color: var(--on-strong); font-weight: 650; }
+.tiny { font-size: .8em; color: var(--soft); }
 "##;
 
-pub const BEFORE_2: &str = r##".tiny { font-size: .8em; color: var(--soft); }
-.holds { display: flex; flex-wrap: wrap; gap: .15em .3em; align-items: center; }
-.holds button { font: .95em var(--mono); padding: 0 .3em; border-radius: .4em; color: var(--soft); }
-.heap, .kids { display: flex; flex-wrap: wrap; gap: .7em; align-items: flex-start; margin-top: .55em; }
+pub const BEFORE_2: &str =
+    r##".heap, .kids { display: flex; flex-wrap: wrap; gap: .7em; align-items: flex-start; margin-top: .55em; }
 .kids { gap: 1.3em .9em; margin-top: 1.3em; }
 .kids > .task { flex: 0 1 auto; }
-.chunk { border: 1px solid var(--faint); border-radius: .45em; background: var(--raised); padding: .35em .55em .5em; min-width: 9em; }
-.chunk .cap { display: flex; gap: .6em; align-items: center; font-size: .78em; color: var(--soft); white-space: nowrap; }
-.chunk meter, .fill { width: 5.5em; height: .45em; border-radius: .3em; background: var(--faint); overflow: hidden; }
-.fill i { display: block; height: 100%; background: var(--soft); }
-.chunk.to { border-style: dashed; border-color: var(--move); }
-.chunk.give { border-color: var(--new); box-shadow: 0 0 0 .13em color-mix(in oklab, var(--new), transparent 55%); }
-.chunk.back { border-style: dashed; border-color: var(--gone); background: none; }
-.chunk.back s { color: var(--gone); cursor: pointer; }
-.cap em { font-style: normal; font-weight: 650; }
-.cap em.give { color: var(--new); }
-.cap em.back { color: var(--gone); }
-.cap em.to { color: var(--move); }
+.born { border: 1px solid var(--faint); border-radius: .45em; background: var(--raised); padding: .35em .55em .5em; min-width: 9em; }
+.born .cap { display: flex; gap: .6em; align-items: center; font-size: .78em; color: var(--soft); white-space: nowrap; }
+/* headings stand above the arrows */
+.head > *, .cap > *, .sum { position: relative; z-index: 3; }
+.head > .tiny, .head > b, .cap > * { background: color-mix(in oklab, var(--panel), transparent 15%); border-radius: .3em; }
+.task.fold { border-style: dotted; border-color: var(--soft); }
 .objs { display: flex; flex-wrap: wrap; gap: 1.25em 1.1em; margin-top: .75em; }
 .obj { position: relative; z-index: 1; display: flex; flex-direction: column; align-items: stretch; padding: 0; border: 1.3px solid var(--soft); border-radius: .5em; background: var(--panel); font: .92em var(--mono); text-align: left; }
 .obj .nm { padding: 0 .5em; font-weight: 650; display: flex; gap: .8em; justify-content: space-between; }
@@ -147,29 +142,25 @@ pub const BEFORE_2: &str = r##".tiny { font-size: .8em; color: var(--soft); }
 .f.rem { border-bottom: 3px double var(--down); }
 .f.wrote { background: var(--set-bg); box-shadow: inset 0 0 0 2px var(--set); }
 .f.read { box-shadow: inset 0 0 0 2px var(--up); }
-.obj.garbage { opacity: .48; }
 .obj.new { border-color: var(--new); background: var(--new-bg); opacity: 1; }
-.obj.moved { border-color: var(--move); background: var(--move-bg); }
 .obj.froze { border-color: var(--up); }
-.obj.drop { border-style: dashed; border-color: var(--gone); background: none; color: var(--gone); opacity: .75; text-decoration: line-through; }
-.obj.snap { box-shadow: 0 .22em 0 -.03em var(--snap); }
-.went { border: 1.3px dotted var(--move); border-radius: .5em; padding: .5em .7em; font: .92em var(--mono); color: var(--move); }
-#arrows .moves { stroke: var(--move); stroke-dasharray: 2 4; stroke-width: 1.8; }
 .tag { position: absolute; top: -.95em; right: .3em; font: 650 .68em/1.25 system-ui, sans-serif; padding: 0 .4em; border-radius: .5em; color: var(--on-strong); background: var(--soft); text-decoration: none; }
 .tag.new { background: var(--new); }
 .tag.set { background: var(--set); }
-.tag.moved { background: var(--move); }
-.tag.drop { background: var(--gone); }
 .tag.froze { background: var(--up); }
 .obj.sel { outline: .22em solid var(--up); outline-offset: .1em; opacity: 1; }
 .obj.stopped { outline: .22em dashed var(--cross); outline-offset: .15em; }
 .sum { font-size: .9em; border: 1px solid var(--faint); background: var(--raised); border-radius: .45em; padding: .2em .6em; }
 .sum b { font-variant-numeric: tabular-nums; }
-.marking { font-size: .8em; color: var(--marking); font-weight: 650; }
 .legend { display: flex; flex-wrap: wrap; gap: 2px 8px; padding: 5px 10px; font-size: 11px; color: var(--soft); border-top: 1px solid var(--faint); }
 .legend svg { width: 26px; height: 8px; vertical-align: middle; }
+.legend path { fill: none; stroke-width: 1.6; }
+.legend .inside { stroke: var(--inside); } .legend .up { stroke: var(--up); } .legend .down { stroke: var(--down); stroke-width: 2.6; }
+.legend .cross { stroke: var(--cross); stroke-dasharray: 5 3; }
 .legend .sw { display: inline-block; width: 11px; height: 11px; border-radius: 3px; border: 1.3px solid; vertical-align: -1px; }
-@media (prefers-reduced-motion: no-preference) { .obj.new, .obj.moved, .f.wrote, .chunk.give { animation: pop .35s ease-out; } @keyframes pop { from { filter: brightness(1.35) saturate(1.6); transform: translateY(-2px); } } }
+.sw.new { border-color: var(--new); background: var(--new-bg); } .sw.set { border-color: var(--set); background: var(--set-bg); }
+.sw.imm { border: 3px double var(--soft); border-radius: 0; background: var(--imm); }
+@media (prefers-reduced-motion: no-preference) { .obj.new, .f.wrote { animation: pop .35s ease-out; } @keyframes pop { from { filter: brightness(1.35) saturate(1.6); transform: translateY(-2px); } } }
 /* the side */
 #side { overflow: hidden; }
 #side .box { overflow: auto; flex: 0 1 auto; max-height: 42%; min-height: 3.2em; }
@@ -211,15 +202,14 @@ pub const BEFORE_2: &str = r##".tiny { font-size: .8em; color: var(--soft); }
 #plot .w { stroke: var(--move); fill: color-mix(in oklab, var(--move), transparent 85%); stroke-width: 1.5; }
 #plot .cur { stroke: var(--ink); stroke-width: 1; }
 #plot .base { stroke: var(--faint); }
+#plot .end { stroke: var(--new); }
+#plot .sweep { stroke: var(--cross); }
 .nums { font-size: 12px; line-height: 31px; display: grid; font-variant-numeric: tabular-nums; text-align: right; color: var(--soft); white-space: nowrap; }
 .nums b { color: var(--ink); }
 .nums span::before { content: ""; display: inline-block; width: 14px; height: 3px; margin-right: 6px; vertical-align: 3px; background: var(--set); }
 .nums .w::before { background: var(--move); }
 .names, #lanes { max-height: 132px; overflow: hidden; } @media (min-height: 860px) { .names, #lanes { max-height: 178px; } }
-"##;
-
-pub const BEFORE_3: &str =
-    r##".names div { height: 22px; line-height: 22px; font-size: 12px; text-align: right; color: var(--soft); }
+.names div { height: 22px; line-height: 22px; font-size: 12px; text-align: right; color: var(--soft); }
 .names b { color: var(--w); }
 #lanes { overflow: auto; position: relative; scrollbar-width: thin; }
 #track { position: relative; }
@@ -231,7 +221,10 @@ pub const BEFORE_3: &str =
 .k-begin, .k-end { background: var(--k-leaf); }
 .k-mark, .k-some, .k-sweep { background: var(--k-inner); }
 .k-fuel, .ent.over { background: var(--k-over); }
-.ent.now { outline: 2px solid var(--ink); outline-offset: 0; opacity: 1; z-index: 1; }
+"##;
+
+pub const BEFORE_3: &str =
+    r##".ent.now { outline: 2px solid var(--ink); outline-offset: 0; opacity: 1; z-index: 1; }
 .ent.touch { box-shadow: inset 0 -3px var(--up); }
 dialog { border: 1px solid var(--faint); border-radius: 10px; background: var(--panel); color: var(--ink); padding: 18px 24px; max-width: 46em; }
 dialog::backdrop { background: #0008; }
@@ -258,7 +251,7 @@ kbd { font: 12px var(--mono); border: 1px solid var(--faint); border-bottom-widt
 </style>
 </head>
 <body>
-<noscript><p style="padding:2em">This page draws a run by a script of its own; it asks for nothing from a network.</p></noscript>
+<noscript><p>This page draws a run by a script of its own; it asks for nothing from a network.</p></noscript>
 <a class="skip" href="#stage">To the heaps</a>
 <header class="top">
   <h1 id="title"></h1><span class="how" id="how"></span>
@@ -298,82 +291,82 @@ pub const AFTER_1: &str = r##"</script>
 <script>
 'use strict';
 const RUN = JSON.parse(document.getElementById('run').textContent);
-const $ = id => document.getElementById(id);
-const esc = s => String(s).replace(/[&<>"]/g, c => ({ '&': '&amp;', '<': '&lt;', '>': '&gt;', '"': '&quot;' })[c]);
-const nm = n => `(${n.replace('.', ',')})`;
-const link = n => `<button class="name" data-o="${n}">${nm(n)}</button>`;
-const cls = (...names) => names.filter(Boolean).join(' ');
-const node = (tag, attrs, ...inner) => {  // an element as a text; what is empty or false is left out
-  const told = Object.entries(attrs).filter(x => x[1] !== '' && x[1] !== false && x[1] !== undefined);
-  return `<${tag}${told.map(([k, v]) => ` ${k}="${v}"`).join('')}>${inner.flat().filter(Boolean).join('')}</${tag}>`;
-};
-const count = n => n.toLocaleString('en'), many = (n, one, more = one + 's') => `${count(n)} ${n === 1 ? one : more}`;
-const hue = w => `oklch(${w % 2 ? 0.55 : 0.5} 0.13 ${(255 + w * 137.5) % 360})`;
-const [START, ...ENTRIES] = RUN.entries, N = ENTRIES.length, OBJECTS_DRAWN = 160, TASKS_DRAWN = 200;
+const [START, ...ENTRIES] = RUN.entries, N = ENTRIES.length;
 const LINES = RUN.program.slice(0, -1);  // the data ends its lines with an empty one
-for (const d of ENTRIES) {              // what the steps did, by kind
-  for (const [what, ...parts] of d.did || []) {
-    d[what] = d[what] || [];
-    d[what].push(what === 'new' || what === 'set' ? parts : parts[0]);
-  }
+const OBJECTS_DRAWN = 160, TASKS_DRAWN = 200, ARROWS_DRAWN = 75, FOLDS_FROM = 5;
+
+/* ------------------------------------------------------------ texts and elements */
+
+const $ = id => document.getElementById(id);
+const ESCAPES = { '&': '&amp;', '<': '&lt;', '>': '&gt;', '"': '&quot;' };
+const esc = s => String(s).replace(/[&<>"]/g, c => ESCAPES[c]);
+const cls = (...names) => names.filter(Boolean).join(' ');
+function node(tag, attrs, ...inner) {   // an element as a text; what is empty or false is left out
+  const told = Object.entries(attrs).filter(([, v]) => v !== '' && v !== false && v !== undefined);
+  return `<${tag}${told.map(([k, v]) => ` ${k}="${v}"`).join('')}>${inner.flat().filter(Boolean).join('')}</${tag}>`;
 }
+const nm = n => `(${n.replace('.', ',')})`;
+const link = n => node('button', { class: 'name', 'data-o': n }, nm(n));
+const count = n => n.toLocaleString('en');
+const many = (n, one, more = one + 's') => `${count(n)} ${n === 1 ? one : more}`;
+const hue = w => `oklch(${w % 2 ? 0.55 : 0.5} 0.13 ${(255 + w * 137.5) % 360})`;
+const group = (map, key, x) => map.has(key) ? map.get(key).push(x) : map.set(key, [x]);
 
 /* ------------------------------------------------------------ the state, and its deltas (docs/PAGES.md) */
 
-const words = o => 2 + o.R + o.I;
-const bornIn = n => Number(n.split('.')[0]);
-
-const CHUNKED = ENTRIES.some(d => d.give);  // else what a task allocates is drawn together
-const ROOTED = ENTRIES.some(d => d.root), NOTED = ENTRIES.some(d => d.note);
-const S = { tasks: new Map(), chunks: new Map(), objs: new Map(), roots: new Map(), noted: new Map(), marks: new Map(), outs: new Map([['n', 0]]) };
+const S = { tasks: new Map(), objs: new Map(), noted: new Map(), outs: new Map([['n', 0]]) };
 let pos = 0;                            // so many entries are applied
 const logs = [];                        // of each applied entry what to put back: [map, key, old value]
+const words = o => 2 + o.R + o.I;
+const bornIn = n => Number(n.split('.')[0]);
+const owner = t => { while (S.tasks.get(t).state === 'joined') t = S.tasks.get(t).parent; return t; };
+const above = (a, t) => { while ((t = S.tasks.get(t).parent) !== null) if (t === a) return true; return false; };
+const heapOf = n => owner(bornIn(n));
+const kindOf = (a, b) => a === b ? 'inside' : above(b, a) ? 'up' : above(a, b) ? 'down' : 'cross';
 
-function apply(d) {
-  const log = [], [w, kind] = d.e;
-  const put = (map, key, value) => {
+for (const d of ENTRIES) {              // what the steps did, by kind
+  for (const [what, ...parts] of d.did || []) (d[what] ||= []).push(what === 'new' || what === 'set' ? parts : parts[0]);
+}
+
+function putInto(log) {                 // puts a value into a map, or takes it away, and notes what stood there
+  return (map, key, value) => {
     log.push([map, key, map.get(key)]);
     value === undefined ? map.delete(key) : map.set(key, value);
   };
-  const place = (o, c) => {             // behind what is in the chunk
-    const chunk = S.chunks.get(c);
-    put(S.objs, o.n, { ...o, c, off: chunk.used });
-    put(S.chunks, c, { ...chunk, used: chunk.used + words(o) });
-  };
-  const begins = t => CHUNKED || put(S.chunks, t, { c: t, t, units: 0, used: 0 });
-  for (const [t, parent, fn] of d.made || []) {
-    put(S.tasks, t, { t, parent, fn, state: 'ready', line: 0, w: null });
-    begins(t);
+}
+function applyField(put, [n, k, v]) {
+  const o = S.objs.get(n), f = o.f.slice();
+  while (f.length < k) f.push(0);
+  f[k] = v;
+  put(S.objs, n, { ...o, f });
+  if (k < o.R && v && above(heapOf(n), heapOf(v))) {  // a pointer down: the heap that it leads into remembers its field
+    const note = [heapOf(v), n, k];
+    put(S.noted, note.join(' '), note);
   }
+}
+function applyChange(put, [what, ...x]) {
+  if (what === 'new') put(S.objs, x[0], { n: x[0], m: x[1] === 1, R: x[2], I: x[3], f: x.slice(4) });
+  if (what === 'set') applyField(put, x);
+  if (what === 'froze') put(S.objs, x[0], { ...S.objs.get(x[0]), m: false });
+  if (what === 'print') put(S.outs, 'n', S.outs.get('n') + 1);
+}
+function lift(put, joined) {            // what a joined heap remembered its parent's does, but for fields of its own objects
+  for (const [t, n, k] of [...S.noted.values()]) {
+    if (!joined.includes(t)) continue;
+    const note = [S.tasks.get(t).parent, n, k];
+    put(S.noted, `${t} ${n} ${k}`, undefined);
+    if (heapOf(n) !== note[0]) put(S.noted, note.join(' '), note);
+  }
+}
+function apply(d) {
+  const log = [], put = putInto(log);
+  for (const change of d.did || []) applyChange(put, change);
+  for (const [t, parent, fn] of d.made || []) put(S.tasks, t, { t, parent, fn, state: 'ready', line: 0, w: null });
   for (const [t, state, line] of d.task || []) {
     const x = S.tasks.get(t) || { t: 0, parent: null, fn: 'main' };
-    if (d === START) begins(t);
-    if (x.state === 'waiting' && S.marks.has(t)) put(S.marks, t, undefined);
-    put(S.tasks, t, { ...x, state, line, w: state !== 'out' ? null : x.state === 'out' ? x.w : w });
+    put(S.tasks, t, { ...x, state, line, w: state !== 'out' ? null : x.state === 'out' ? x.w : d.e[0] });
   }
-  for (const [c, t, units] of d.give || []) put(S.chunks, c, { c, t, units, used: 0, to: kind === 'begin' });
-  for (const [n, m, R, I, ...f] of d.new || []) {
-    put(S.objs, n, { n, c: null, off: 0, m: m === 1, R, I, f });
-    if (!CHUNKED) place(S.objs.get(n), bornIn(n));
-  }
-  for (const [n, k, v] of d.set || []) {
-    const o = S.objs.get(n), f = o.f.slice();
-    while (f.length < k) f.push(0);
-    f[k] = v;
-    put(S.objs, n, { ...o, f });
-  }
-  for (const n of d.froze || []) put(S.objs, n, { ...S.objs.get(n), m: false });
-  for (const [n, c] of d.move || []) place(S.objs.get(n), c);
-  for (const n of d.drop || []) put(S.objs, n, undefined);
-  for (const c of d.back || []) put(S.chunks, c, undefined);
-  if (kind === 'end') for (const c of S.chunks.values()) if (c.to && c.t === d.e[2]) put(S.chunks, c.c, { ...c, to: false });
-  for (const x of d.note || []) put(S.noted, x.join(' '), x);
-  for (const x of d.forget || []) put(S.noted, x.join(' '), undefined);
-  for (const x of d.root || []) put(S.roots, x.join(' '), x);
-  for (const x of d.unroot || []) put(S.roots, x.join(' '), undefined);
-  if (d.mark) put(S.marks, d.mark[0], { n: d.mark[1], snap: d.snap ? new Set(d.snap) : (S.marks.get(d.mark[0]) || { snap: new Set() }).snap });
-  if (kind === 'sweep') put(S.marks, d.e[2], undefined);
-  if (d.print) put(S.outs, 'n', S.outs.get('n') + d.print.length);
+  lift(put, (d.task || []).filter(x => x[1] === 'joined').map(x => x[0]));
   return log;
 }
 function undo(log) {
@@ -386,164 +379,181 @@ function seek(i) {
   while (pos < i) { logs[pos] = apply(ENTRIES[pos]); pos++; }
   while (pos > i) { pos--; undo(logs[pos]); logs[pos] = null; }
 }
-const owner = t => { while (S.tasks.get(t).state === 'joined') t = S.tasks.get(t).parent; return t; };
-const above = (a, t) => { while ((t = S.tasks.get(t).parent) !== null) if (t === a) return true; return false; };
-const heapOf = n => owner(S.chunks.get(S.objs.get(n).c).t);
-const kindOf = (a, b) => a === b ? 'inside' : above(b, a) ? 'up' : above(a, b) ? 'down' : 'cross';
 
 /* ------------------------------------------------------------ once over the run: curves, histories, outputs */
 
-const curve = { chunks: [0], words: [0], tasks: [1] }, history = new Map(), outputs = [], stones = [0], ofWorker = new Map();
+const curve = { tasks: [1], words: [0] };
+const history = new Map();              // of each object the entries that touch it
+const outputs = [];
+const stones = [0];                     // the entries that `n` and `p` lead to
+const ofWorker = new Map();             // the entries of each worker
 const first = new Map();                // where each task is taken first
-apply(START);
-const isNew = (d, n) => (d.new || []).some(x => x[0] === n);
-function look_through() {
-  const size = new Map();
-  let chunks = 0, held = 0, alive = 1;
-  const note = (n, i, what) => history.has(n) ? history.get(n).push([i, what]) : history.set(n, [[i, what]]);
-  for (let i = 1; i <= N; i++) {
-    const d = ENTRIES[i - 1], [w, kind] = d.e;
-    for (const c of d.back || []) chunks -= S.chunks.get(c).units;
-    seek(i);
-    for (const [, , units] of d.give || []) chunks += units;
-    for (const [n, , R, I] of d.new || []) { size.set(n, 2 + R + I); held += 2 + R + I; note(n, i, 'allocated'); }
-    for (const [n, k] of d.set || []) note(n, i, `field ${k} written`);
-    for (const n of d.froze || []) note(n, i, 'frozen');
-    for (const [n, c] of d.move || []) if (!isNew(d, n)) note(n, i, `moved to chunk ${c}`);
-    for (const n of d.drop || []) { held -= size.get(n); note(n, i, kind === 'sweep' ? 'swept' : 'dropped'); }
-    for (const [t, n, k] of d.note || []) note(n, i, `field ${k} remembered for task ${t}`);
-    if (d.at && /^(get|cnt)/.test(d.at[1]) && d.at[2]) note(d.at[2], i, `read by task ${d.e[2]}`);
-    if (kind === 'took' && !first.has(d.e[2])) first.set(d.e[2], i);
-    for (const v of d.print || []) outputs.push(v);
-    alive += (d.made || []).length - (d.task || []).filter(x => x[1] === 'joined').length;
-    curve.chunks.push(chunks); curve.words.push(held); curve.tasks.push(alive);
-    if (d.made || d.print || d.drop || /^(begin|end|sweep|mark)$/.test(kind) || i === N || (d.task || []).some(x => x[1] === 'joined')) stones.push(i);
-    ofWorker.has(w) ? ofWorker.get(w).push(i) : ofWorker.set(w, [i]);
-  }
-  tasks_made = S.tasks.size;
-  seek(0);
+let tasksMade = 1;
+
+const joins = d => (d.task || []).some(x => x[1] === 'joined');
+const isStone = (d, i) => d.made || d.print || joins(d) || i === N || /^(begin|end|mark|sweep)$/.test(d.e[1]);
+function note(n, i, what) {
+  const past = history.get(n), last = past && past[past.length - 1];
+  if (!last || last[0] !== i || last[1] !== what) group(history, n, [i, what]);
 }
-let tasks_made = 1;
-look_through();
-const peak = curve.chunks.reduce((a, b) => Math.max(a, b), 0), most = curve.words.reduce((a, b) => Math.max(a, b), 1);
-const busiest = curve.tasks.reduce((a, b) => Math.max(a, b), 1);
+function noteHistory(d, i) {
+  for (const [n] of d.new || []) note(n, i, 'allocated');
+  for (const [n, k] of d.set || []) note(n, i, `field ${k} written`);
+  for (const n of d.froze || []) note(n, i, 'frozen');
+  if (d.at && /^(get|cnt)/.test(d.at[1]) && d.at[2]) note(d.at[2], i, `read by task ${d.e[2]}`);
+}
+function noteCurves(d) {
+  const made = (d.new || []).reduce((sum, [, , R, I]) => sum + 2 + R + I, 0);
+  const gone = (d.task || []).filter(x => x[1] === 'joined').length;
+  curve.words.push(curve.words[curve.words.length - 1] + made);
+  curve.tasks.push(curve.tasks[curve.tasks.length - 1] + (d.made || []).length - gone);
+}
+function lookThrough() {
+  ENTRIES.forEach((d, j) => {
+    const i = j + 1, [w, kind, t] = d.e;
+    noteHistory(d, i);
+    noteCurves(d);
+    if (kind === 'took' && !first.has(t)) first.set(t, i);
+    outputs.push(...d.print || []);
+    if (isStone(d, i)) stones.push(i);
+    group(ofWorker, w, i);
+    tasksMade += (d.made || []).length;
+  });
+}
+lookThrough();
+apply(START);
+const most = list => list.reduce((a, b) => Math.max(a, b), 1);
+const mostWords = most(curve.words), mostTasks = most(curve.tasks);
 const workers = [...ofWorker.keys()].sort((a, b) => a - b), lane = new Map(workers.map((w, i) => [w, i]));
 
 /* ------------------------------------------------------------ an entry in plain words */
 
 const instruction = line => esc((LINES[line - 1] || '').replace(/(^|\s)#.*/, '').trim().replace(/\s+/g, ' '));
-const value = v => typeof v === 'string' && v.includes('.') ? link(v) : String(v);
 const END = {
   done: () => 'The run is done: main has returned.',
   trap: ([, kind, t, line]) => `The run ended by a trap, ${kind}, in task ${t} on line ${line}.`,
-"##;
-
-pub const AFTER_2: &str =
-    r##"  entangled: ([, r, u]) => `The run was stopped: task ${r} read what task ${u} owns.`,
+  entangled: ([, r, u]) => `The run was stopped: task ${r} read what task ${u} owns.`,
   fuel: ([, s]) => `The run's fuel is spent, after ${many(s, 'step')}.`,
   pool: ([, u]) => `The run ended for want of chunks: ${u} are in use.`,
 };
 const isOver = i => i === N && RUN.end[0] !== 'done';
+const isStopped = () => isOver(pos) && RUN.end[0] === 'entangled';
+const stop = says => node('span', { class: 'stop' }, says);
 
+const SAY = {                           // by an entry's kind, of its delta, its task and its numbers
+  took: (d, t) => first.get(t) < pos ? `takes task ${t} again, whose children have joined.` : `takes task ${t}, which begins in <code>${esc(S.tasks.get(t).fn)}</code>.`,
+  ran: (d, t, steps) => step(d, t, steps) + sayChanges(d),
+"##;
+
+pub const AFTER_2: &str =
+    r##"  chunk: (d, t) => pos === N && RUN.end[0] === 'pool' ? `task ${t} needs a chunk for its next object, and too few are free. ${stop('The run ends for want of chunks.')}`
+    : `task ${t} gets a chunk, since its next object has no place in what it has.`,
+  begin: (d, t) => `a leaf collection of task ${t}'s heap begins.`,
+  end: (d, t, kept, given, left) => `the collection of task ${t}'s heap ends: ${many(kept, 'new chunk')} kept, ${given ? many(given, 'chunk') : 'none'} given back. The heap has ${many(left, 'word')}.`,
+  putoff: (d, t) => `a leaf collection of task ${t}'s heap is due, but the chunks to copy into aren't free. It is put off.`,
+  mark: (d, t) => `begins to mark the heap of task ${t}, which waits: what could be reached in it at the fork.`,
+  some: (d, t, n) => `marks on in the heap of task ${t}, ${many(n, 'object')} at most.`,
+  sweep: (d, t, given) => `sweeps the heap of task ${t}: what isn't marked is dropped, ${given ? many(given, 'chunk') : 'no chunk'} given back. Nothing moves.`,
+};
 function say(i) {                       // the state is that after entry i
-  if (i === 0) return `Before the first entry: task 0 is ready to run <code>main</code>.`;
-  const d = ENTRIES[i - 1], [w, kind, t, a, g, l] = d.e, last = i === N, W = `Worker ${w}`;
-  const gone = (d.drop || []).length;
-  switch (kind) {
-    case 'took': {
-      return first.get(t) < i ? `${W} takes task ${t} again, whose children have joined.` : `${W} takes task ${t}, which begins in <code>${esc(S.tasks.get(t).fn)}</code>.`;
-    }
-    case 'ran': return `${W}: ${step(d, t, a, last)}${extras(d)}`;
-    case 'chunk': {
-      if (!d.give && !(last && RUN.end[0] === 'pool')) return `${W}: task ${t} gets a chunk, since its next object has no place in what it has.`;
-      if (!d.give) return `${W}: task ${t} needs a chunk for its next object, and too few are free. <span class="stop">The run ends for want of chunks.</span>`;
-      const [[c, , u]] = d.give;
-      return `${W}: task ${t} gets chunk ${c}${u > 1 ? `, of ${u} units, for one large object` : ', since its next object has no place in what it has'}.`;
-    }
-    case 'begin': return `${W}: a leaf collection of task ${t}'s heap begins. ${CHUNKED ? `It takes ${many((d.give || []).length, 'chunk')} to copy into.` : ''}`;
-    case 'end': return `${W}: the collection of task ${t}'s heap ends. ` +
-      (CHUNKED ? `${many(d.move ? d.move.length : 0, 'object')} moved, ${many(gone, 'object')} dropped; ` : '') + `${many(a, 'new chunk')} kept, ${g ? many(g, 'chunk') : 'none'} given back. The heap has ${many(l, 'word')}.`;
-    case 'putoff': return `${W}: a leaf collection of task ${t}'s heap is due, but the chunks to copy into aren't free. It is put off.`;
-    case 'mark': return `${W} begins to mark the heap of task ${t}, which waits` +
-      (d.snap ? `: ${many(d.snap.length, 'object')} could be reached in it at the fork (the snapshot, underlined in violet).` : ': what could be reached in it at the fork.');
-    case 'some': return !d.mark ? `${W} marks on in the heap of task ${t}, ${many(a, 'object')} at most.` : `${W} marks on in the heap of task ${t}: ${d.mark[1]} of ${S.marks.get(t) ? S.marks.get(t).snap.size : 0} objects are marked.`;
-    case 'sweep': return `${W} sweeps the heap of task ${t}: ` +
-      (!CHUNKED ? 'what isn\'t marked is dropped, ' : `${gone ? `${many(gone, 'object')} that the snapshot lacks ${gone === 1 ? 'is' : 'are'} dropped` : 'nothing is dropped'}, `) + `${a ? many(a, 'chunk') : 'no chunk'} given back. Nothing moves.`;
-    case 'fuel': return `<span class="stop">${END.fuel(RUN.end)}</span>`;
-  }
+  if (i === 0) return 'Before the first entry: task 0 is ready to run <code>main</code>.';
+  const d = ENTRIES[i - 1], [w, kind, ...numbers] = d.e;
+  if (kind === 'fuel') return stop(END.fuel(RUN.end));
+  return `Worker ${w}${/^(took|mark|some|sweep)$/.test(kind) ? ' ' : ': '}${SAY[kind](d, ...numbers)}`;
 }
-function step(d, t, steps, last) {
-  const [line, op, n, k, v, won] = d.at, code = `<code>${instruction(line)}</code> on line ${line}`;
-  const where = () => n && S.objs.has(n) && heapOf(n) !== t ? ` of task ${heapOf(n)}` : '';
-  const field = () => `field ${k} of ${link(n)}${where()}`, T = steps > 1 ? `task ${t} takes ${steps} steps. The last ` : `task ${t} `;
-  if (last && RUN.end[0] === 'trap') return `${T}is at ${code}, and <span class="stop">traps (${RUN.end[1]}). The run is over.</span>`;
-  if (last && RUN.end[0] === 'entangled') return `${T}reads ${field()}, which holds ${link(v)} of task ${RUN.end[2]} beside it. <span class="stop">The read is stopped as entangled, and the run is over.</span>`;
-  const noted = (d.note || []).map(([x]) => `, a pointer down, remembered for task ${x}'s heap`).join('');
-  switch (op) {
-    case 'getr': return `${T}reads ${field()}: ${v ? link(v) : 'nil'}.`;
-    case 'geti': return `${T}reads ${field()}: ${v}.`;
-    case 'putr': return `${T}writes ${v ? link(v) : 'nil'} into ${field()}${noted}.`;
-    case 'puti': return `${T}writes ${v} into ${field()}.`;
-    case 'cas': return `${T}compares and swaps ${field()}: ${won ? `it is ${v ? link(v) : 'nil'} now${noted}` : 'it was another, and stays'}.`;
-    case 'cntr': case 'cnti': return `${T}counts the ${op === 'cntr' ? 'references' : 'numbers'} of ${link(n)}${where()}.`;
-    case 'freeze': return `${T}freezes ${link(n)}.`;
-    case 'newm': case 'pack': return `${T}makes ${link(n)}, ${op === 'newm' ? 'mutable' : 'immutable'}, by ${code}.`;
-    case 'out': return `${T}writes the number <b>${(d.print || [])[0]}</b>.`;
-    case 'par': return `${T}forks, and task ${t} waits for ${d.made.map(([x, , f]) => `task ${x} (<code>${esc(f)}</code>)`).join(' and ')}.`;
-    case 'ret': {
-      const joined = (d.task || []).filter(x => x[1] === 'joined').map(x => x[0]), ends = `task ${t} ${steps > 1 ? `takes ${steps} steps and ` : ''}ends`;
-      if (joined.length) return `${ends}. Tasks ${joined.join(' and ')} join: their heaps are task ${S.tasks.get(t).parent}'s now, which can go on.`;
-      if (last && RUN.end[0] === 'done') return `${T}returns from <code>main</code>, and the run is done.`;
-      if ((d.task || []).some(x => x[0] === t && x[1] === 'ended')) return `${ends}. Its sibling hasn't, so its heap waits for the join.`;
-      return `${T}returns from a call, on line ${line}.`;
-    }
-  }
+
+const ofTask = (n, t) => n && S.objs.has(n) && heapOf(n) !== t ? ` of task ${heapOf(n)}` : '';
+const refOrNil = v => v ? link(v) : 'nil';
+const fieldOf = (t, n, k) => `field ${k} of ${link(n)}${ofTask(n, t)}`;
+const remembers = (n, k) => {
+  const heaps = [...S.noted.values()].filter(x => x[1] === n && x[2] === k).map(x => x[0]);
+  return heaps.length ? `, a pointer down, remembered for task ${heaps.join(' and ')}'s heap` : '';
+};
+const DID = {                           // by the instruction of the last step, of what `at` has behind it
+  getr: (t, n, k, v) => `reads ${fieldOf(t, n, k)}: ${refOrNil(v)}.`,
+  geti: (t, n, k, v) => `reads ${fieldOf(t, n, k)}: ${v}.`,
+  putr: (t, n, k, v) => `writes ${refOrNil(v)} into ${fieldOf(t, n, k)}${remembers(n, k)}.`,
+  puti: (t, n, k, v) => `writes ${v} into ${fieldOf(t, n, k)}.`,
+  cas: (t, n, k, v, won) => `compares and swaps ${fieldOf(t, n, k)}: ${won ? `it is ${refOrNil(v)} now${remembers(n, k)}` : 'it was another, and stays'}.`,
+  cntr: (t, n) => `counts the references of ${link(n)}${ofTask(n, t)}.`,
+  cnti: (t, n) => `counts the numbers of ${link(n)}${ofTask(n, t)}.`,
+  freeze: (t, n) => `freezes ${link(n)}.`,
+  newm: (t, n) => `makes ${link(n)}, mutable.`,
+  pack: (t, n) => `makes ${link(n)}, immutable.`,
+};
+function step(d, t, steps) {
+  const [line, op, ...parts] = d.at, code = `<code>${instruction(line)}</code> on line ${line}`, over = isOver(pos);
+  const T = steps > 1 ? `task ${t} takes ${steps} steps. The last ` : `task ${t} `;
+  if (over && RUN.end[0] === 'trap') return `${T}is at ${code}, and ${stop(`traps (${RUN.end[1]}). The run is over.`)}`;
+  if (isStopped()) return `${T}reads ${fieldOf(t, parts[0], parts[1])}, which holds ${link(parts[2])} of task ${RUN.end[2]} beside it. ${stop('The read is stopped as entangled, and the run is over.')}`;
+  if (op === 'out') return `${T}writes the number <b>${(d.print || []).at(-1)}</b>.`;
+  if (op === 'par') return `${T}forks, and task ${t} waits for ${d.made.map(([x, , f]) => `task ${x} (<code>${esc(f)}</code>)`).join(' and ')}.`;
+  if (op === 'ret') return returned(d, t, steps, line);
+  if (DID[op] && parts.length) return T + DID[op](t, ...parts);
   return steps > 1 ? `${T}is ${code}.` : `task ${t} takes a step, ${code}.`;
 }
-function extras(d) {
-  const done = [], made = (d.new || []).length, set = (d.set || []).length, one = d.at[1];
-  if (made > 1 || made === 1 && one !== 'newm' && one !== 'pack') done.push(`${many(made, 'object')} allocated`);
-  if (set > 1 || set === 1 && !/^(put|cas)/.test(one)) done.push(`${many(set, 'field')} written`);
-  return done.length ? ` <span class="tiny">(In these steps: ${done.join(', ')}.)</span>` : '';
+function returned(d, t, steps, line) {
+  const joined = (d.task || []).filter(x => x[1] === 'joined').map(x => x[0]);
+  const T = steps > 1 ? `task ${t} takes ${steps} steps` : `task ${t}`, ends = steps > 1 ? `${T} and ends` : `${T} ends`;
+  if (joined.length) return `${ends}. Tasks ${joined.join(' and ')} join: their heaps are task ${S.tasks.get(t).parent}'s now, which can go on.`;
+  if (pos === N && RUN.end[0] === 'done') return `${ends}: it returns from <code>main</code>, and the run is done.`;
+  if ((d.task || []).some(x => x[0] === t && x[1] === 'ended')) return `${ends}. Its sibling hasn't, so its heap waits for the join.`;
+  return `${steps > 1 ? `${T}. The last returns` : `${T} returns`} from a call, on line ${line}.`;
+}
+const CHANGE = {
+  new: ([n, m]) => `${link(n)} ${m ? 'allocated' : 'packed'}`,
+  set: ([n, k, v]) => `field ${k} of ${link(n)} is ${typeof v === 'string' && v.includes('.') ? link(v) : v}`,
+  froze: ([n]) => `${link(n)} frozen`,
+  print: ([v]) => `${v} written out`,
+};
+function sayChanges(d) {                // what all steps changed, if there are more than the last tells of
+  const all = d.did || [];
+  if (d.e[3] === 1 || all.length < 2 && /^(newm|pack|putr|puti|cas|freeze|out)$/.test(d.at[1]) || !all.length) return '';
+  const told = all.slice(0, 6).map(([what, ...x]) => CHANGE[what](x)), more = all.length - told.length;
+  return ` <span class="tiny">In these steps: ${told.join('; ')}${more ? `; and ${many(more, 'change')} more` : ''}.</span>`;
 }
 
 /* ------------------------------------------------------------ drawing: program, tasks, outputs, the object looked at */
 
 const STATES = { ready: 'ready', out: 'running', waiting: 'waiting', ended: 'ended', joined: 'joined' };
+const OVER = { trap: 'trapped', entangled: 'stopped', pool: 'wants a chunk' };
 function stateOf(x) {
-  if (isOver(pos) && x.state === 'out' && RUN.end[0] !== 'fuel' && ENTRIES[N - 1].e[2] === x.t)
-    return { cls: 'over', says: { trap: 'trapped', entangled: 'stopped', pool: 'wants a chunk' }[RUN.end[0]] };
+  if (isOver(pos) && x.state === 'out' && RUN.end[0] !== 'fuel' && ENTRIES[N - 1].e[2] === x.t) return { cls: 'over', says: OVER[RUN.end[0]] };
   return { cls: x.state, says: x.state === 'out' ? `running on worker ${x.w}` : STATES[x.state] };
 }
-let lit = [];
+const tint = x => `--w:${hue(x.w || 0)}`;
+let lit = [];                           // the rows of the program that are marked
+function chips(xs) {
+  xs.sort((a, b) => (b.state === 'out') - (a.state === 'out') || a.t - b.t);
+  const chip = x => node('span', { class: cls('chip', x.state), style: tint(x), title: `task ${x.t}, ${stateOf(x).says}` }, `task ${x.t}`);
+  return xs.slice(0, 3).map(chip).join('') + (xs.length > 3 ? node('span', { class: 'tiny' }, `+${xs.length - 3}`) : '');
+}
+function light(row, how) {
+  if (how) row.classList.add(how);
+  lit.push(row);
+}
 function drawCode() {
-  const marks = new Map(), d = ENTRIES[pos - 1];
-  for (const x of S.tasks.values()) if (x.line) marks.has(x.line) ? marks.get(x.line).push(x) : marks.set(x.line, [x]);
+  const at = new Map(), d = ENTRIES[pos - 1], rows = $('lines').children;
+  for (const x of S.tasks.values()) if (x.line) group(at, x.line, x);
   for (const row of lit) { row.classList.remove('last'); row.lastChild.innerHTML = ''; }
   lit = [];
-  const rows = $('lines').children;
-  for (const [line, xs] of marks) {
-    const row = rows[line - 1];
-    xs.sort((a, b) => (b.state === 'out') - (a.state === 'out') || a.t - b.t);
-    const chip = x => node('span', { class: cls('chip', x.state), style: `--w:${hue(x.w || 0)}`, title: `task ${x.t}, ${stateOf(x).says}` }, `task ${x.t}`);
-    row.lastChild.innerHTML = xs.slice(0, 3).map(chip).join('') + (xs.length > 3 ? node('span', { class: 'tiny' }, `+${xs.length - 3}`) : '');
-    lit.push(row);
-  }
+  for (const [line, xs] of at) { rows[line - 1].lastChild.innerHTML = chips(xs); light(rows[line - 1]); }
+  if (d && d.at) light(rows[d.at[0] - 1], 'last');
   const line = d ? d.at ? d.at[0] : (S.tasks.get(d.e[2]) || {}).line : 1;
-  if (d && d.at) { rows[d.at[0] - 1].classList.add('last'); lit.push(rows[d.at[0] - 1]); }
-  if (line) {
-    const row = rows[line - 1], box = $('lines'), top = row.offsetTop - box.offsetTop;
-    if (top < box.scrollTop + 30 || top > box.scrollTop + box.clientHeight - 50) box.scrollTop = top - box.clientHeight / 2;
-  }
+  if (line) showRow(rows[line - 1]);
 }
+function showRow(row) {
+  const box = $('lines'), top = row.offsetTop - box.offsetTop;
+  if (top < box.scrollTop + 30 || top > box.scrollTop + box.clientHeight - 50) box.scrollTop = top - box.clientHeight / 2;
+}
+
+const ROWS = 400;                       // so many tasks are listed
 let listed = null;                       // the states that the list of tasks shows
 function drawTree() {
   const all = $('all').checked, kids = new Map();
-  for (const x of S.tasks.values()) if (all || x.state !== 'joined') kids.has(x.parent) ? kids.get(x.parent).push(x) : kids.set(x.parent, [x]);
+  for (const x of S.tasks.values()) if (all || x.state !== 'joined') group(kids, x.parent, x);
   const key = `${all} ${isOver(pos)} ` + [...S.tasks.values()].map(x => x.state[0] + x.state[1] + (x.w ?? '')).join('');
-"##;
-
-pub const AFTER_3: &str = r##"  if (key !== listed) list(kids);
+  if (key !== listed) listTasks(kids);
   listed = key;
   for (const row of $('tree').querySelectorAll('.act')) row.classList.remove('act');
   for (const [t] of (ENTRIES[pos - 1] || {}).task || []) {
@@ -551,361 +561,455 @@ pub const AFTER_3: &str = r##"  if (key !== listed) list(kids);
     if (row) { row.classList.add('act'); row.scrollIntoView({ block: 'nearest' }); }
   }
 }
-function list(kids) {
+function taskRow(x, deep) {
+  const by = 4 + Math.min(deep, 8) * 12 + Math.min(Math.max(deep - 8, 0), 16) * 2;
+"##;
+
+pub const AFTER_3: &str =
+    r##"  return node('li', {}, node('button', { 'data-t': x.t, class: x.state, style: `padding-left:${by}px;${tint(x)}` },
+    node('span', { class: cls('dot', x.state) }), node('b', {}, `${x.t}`), ' ',
+    node('span', { class: 'st' }, `${stateOf(x).says.replace('running on ', '')} \u00b7 ${esc(x.fn)}`)));
+}
+function listTasks(kids) {
   const out = [], todo = [[S.tasks.get(0), 0]];
   let more = 0;
   while (todo.length) {
-    const [x, deep] = todo.pop(), in_by = 4 + Math.min(deep, 8) * 12 + Math.min(Math.max(deep - 8, 0), 16) * 2;
-    if (out.length < 400) {
-      out.push(node('li', {}, node('button', { 'data-t': x.t, class: x.state, style: `padding-left:${in_by}px;--w:${hue(x.w || 0)}` },
-        node('span', { class: cls('dot', x.state) }), node('b', {}, `${x.t}`), ' ',
-        node('span', { class: 'st' }, `${stateOf(x).says.replace('running on ', '')} \u00b7 ${esc(x.fn)}`))));
-    } else more++;
+    const [x, deep] = todo.pop();
+    out.length < ROWS ? out.push(taskRow(x, deep)) : more++;
     for (const y of (kids.get(x.t) || []).reverse()) todo.push([y, deep + 1]);
   }
   $('tree').innerHTML = out.join('') + (more ? node('li', { class: 'tiny' }, `and ${many(more, 'task')} more`) : '');
 }
 function drawOutputs() {
-  const n = S.outs.get('n'), d = ENTRIES[pos - 1], from = Math.max(0, n - 200);
-  const shown = outputs.slice(from, n).map((v, i) => node('span', { class: d && d.print && from + i === n - 1 ? 'new' : '' }, String(v)));
+  const n = S.outs.get('n'), printed = ((ENTRIES[pos - 1] || {}).print || []).length, from = Math.max(0, n - 200);
+  const shown = outputs.slice(from, n).map((v, i) => node('span', { class: from + i >= n - printed && 'new' }, String(v)));
   if (from) shown.unshift(node('span', { class: 'tiny' }, `\u2026 ${many(from, 'line')} before`));
   $('outs').innerHTML = shown.join('') || node('span', { class: 'tiny' }, 'nothing yet');
-  $('over').innerHTML = pos === N ? `<span class="${RUN.end[0] === 'done' ? '' : 'stop'}">${END[RUN.end[0]](RUN.end)}</span>` : '';
+  $('over').innerHTML = pos === N ? node('span', { class: RUN.end[0] !== 'done' && 'stop' }, END[RUN.end[0]](RUN.end)) : '';
 }
+
 let seen = null;                        // the object looked at
+const row = (name, says) => node('dt', {}, name) + node('dd', {}, says);
+function fieldRows(o, own) {
+  const out = [], all = o.R + o.I;
+  for (let k = 0; k < all && out.length < 40; k++) {
+    const v = o.f[k] || 0;
+    out.push(k >= o.R ? row(`num ${k}`, String(v)) : row(`ref ${k}`, v ? `${link(v)} ${kindOf(own, heapOf(v))}` : 'nil'));
+  }
+  if (all > out.length) out.push(row('', `and ${count(all - out.length)} more`));
+  return out;
+}
+function holders(n) {                   // the fields that hold an object
+  const out = [];
+  for (const p of S.objs.values()) for (let k = 0; k < p.R && out.length < 12; k++) if (p.f[k] === n) out.push(`${link(p.n)}.${k}`);
+  return out.join(' ') || 'no object';
+}
+function about(o) {
+  const own = heapOf(o.n), notes = [...S.noted.values()].filter(x => x[1] === o.n).map(x => `field ${x[2]} for task ${x[0]}`);
+  return node('dl', {}, row('heap', `task ${own}`), row('kind', `${o.m ? 'mutable' : 'immutable'}, ${many(words(o), 'word')}`), fieldRows(o, own),
+    row('held by', holders(o.n)), notes.length && row('remembered', notes.join(', ')));
+}
+function pastOf(past) {
+  const near = past.length > 60 ? past.filter(([i], j) => j < 3 || j > past.length - 4 || Math.abs(i - pos) < 40).slice(0, 60) : past;
+  const line = ([i, what]) => node('li', { class: i === pos && 'here' }, node('button', { 'data-e': i }, node('span', { class: 'no' }, i), what));
+  return node('ol', { 'aria-label': 'Entries that touch it' }, near.map(line));
+}
 function drawLook() {
   const box = $('look'), o = seen && S.objs.get(seen), past = seen && history.get(seen);
   box.hidden = !seen;
   if (!seen) return;
-  let html = `<h2><span>Object ${nm(seen)}</span><button class="name" data-o="" aria-label="Let it go">\u2715</button></h2>`;
-  if (!past) { box.innerHTML = html + `<p>No object of this run has the name ${nm(seen)}.</p>`; return; }
-  if (o) {
-    const own = heapOf(seen), rows = [], from = [], row = (name, says) => node('dt', {}, name) + node('dd', {}, says);
-    for (let k = 0; k < o.R + o.I && rows.length < 40; k++) {
-      const v = o.f[k] || 0;
-      if (k < o.R) rows.push(row(`ref ${k}`, v ? `${link(v)} ${kindOf(own, heapOf(v))}` : 'nil'));
-      else rows.push(row(`num ${k}`, String(v)));
-    }
-    if (o.R + o.I > rows.length) rows.push(row('', `and ${count(o.R + o.I - rows.length)} more`));
-    for (const p of S.objs.values()) for (let k = 0; k < p.R && from.length < 12; k++) if (p.f[k] === seen) from.push(`${link(p.n)}.${k}`);
-    for (const [t, n] of S.roots.values()) if (n === seen && from.length < 16) from.push(`task ${t}`);
-    const notes = [...S.noted.values()].filter(x => x[1] === seen).map(x => `field ${x[2]} for task ${x[0]}`);
-    html += node('dl', {}, row('heap', CHUNKED ? `task ${own}, chunk ${o.c}, word ${o.off}` : `task ${own}`), row('kind', `${o.m ? 'mutable' : 'immutable'}, ${many(words(o), 'word')}`), rows,
-      row('held by', from.join(' ') || (ROOTED ? 'nothing: it is garbage' : 'no object')), notes.length && row('noted', notes.join(', ')));
-  } else html += `<p>${pos < past[0][0] ? 'It isn\'t there yet.' : 'It was dropped.'}</p>`;
-  const near = past.length > 60 ? past.filter(([i], j) => j < 3 || j > past.length - 4 || Math.abs(i - pos) < 40).slice(0, 60) : past;
-  const line = ([i, what]) => node('li', { class: i === pos && 'here' }, node('button', { 'data-e': i }, node('span', { class: 'no' }, i), what));
-  box.innerHTML = html + node('ol', { 'aria-label': 'Entries that touch it' }, near.map(line));
+  const head = `<h2><span>Object ${nm(seen)}</span><button class="name" data-o="" aria-label="Let it go">\u2715</button></h2>`;
+  box.innerHTML = head + (!past ? `<p>No object of this run has the name ${nm(seen)}.</p>` : (o ? about(o) : "<p>It isn't there yet.</p>") + pastOf(past));
 }
 
-/* ------------------------------------------------------------ drawing: heaps */
+/* ------------------------------------------------------------ drawing heaps: what is drawn */
 
-let zoom = 0, fitted = 17, mode = 0;     // mode 0: as many objects as can be read, 1: all, 2: heaps alone
-const MODES = ['auto', 'objects', 'heaps'];
-const SIZES = [5, 6, 7, 8, 9, 10, 11, 12, 13, 15, 17, 20];
-function reached() {                    // what the frames of tasks lead to
-  const found = new Set(), todo = [];
-  for (const [, n] of S.roots.values()) todo.push(n);
-  while (todo.length) {
-    const n = todo.pop(), o = S.objs.get(n);
-    if (found.has(n) || !o) continue;
-    found.add(n);
-    for (let k = 0; k < o.R; k++) if (o.f[k]) todo.push(o.f[k]);
-  }
-  return found;
-}
-function changes() {                    // what the entry before changed: class and tag of objects, written fields, chunks
-  const d = ENTRIES[pos - 1] || {}, how = new Map(), fields = new Map(), ghosts = [], lost = [], went = new Map();
-  const field = (n, k, cls) => fields.has(n) ? fields.get(n).set(k, cls) : fields.set(n, new Map([[k, cls]]));
+let mode = 0;                           // 0: as many objects as can be read, 1: all, 2: heaps alone
+const MODES = ['auto', 'objects', 'heaps'], ROOM = [OBJECTS_DRAWN, Infinity, -1];
+let view = null;                        // what was looked over for the drawing
+
+function touched(d) {                   // what the entry did: of objects class and tag, of fields the class
+  const how = new Map(), fields = new Map();
+  const field = (n, k, look) => fields.has(n) ? fields.get(n).set(k, look) : fields.set(n, new Map([[k, look]]));
   for (const [n, k] of d.set || []) { how.set(n, ['set', 'written']); field(n, k, 'wrote'); }
   for (const n of d.froze || []) how.set(n, ['froze', 'frozen']);
   for (const [n] of d.new || []) how.set(n, ['new', 'new']);
-  for (const [n] of d.move || []) if (!isNew(d, n)) how.set(n, ['moved', 'moved']);
   if (d.at && d.at[3] !== undefined) field(d.at[2], d.at[3], /^get/.test(d.at[1]) ? 'read' : 'wrote');
-  const gone = new Set(d.drop || []), back = new Set(d.back || []), moved = new Set((d.move || []).filter(x => !isNew(d, x[0])).map(x => x[0]));
-  if (gone.size || back.size) for (const [map, key, old] of logs[pos - 1]) {
-    if (map === S.objs && gone.has(key) && old) ghosts.push(old);
-    if (map === S.objs && moved.has(key) && back.has(old.c)) went.has(old.c) ? went.get(old.c).push(old) : went.set(old.c, [old]);
-    if (map === S.chunks && back.has(key) && old) lost.push(old);
-  }
-  return { d, how, fields, ghosts, lost, went, given: new Set((d.give || []).map(x => x[0])), back };
+  return { how, fields };
 }
-function drawHeaps(follow) {
-  const ch = changes(), { d } = ch, live = [...S.tasks.values()].filter(x => x.state !== 'joined');
-  const kids = new Map(), chunks = new Map(), objs = new Map(), rooted = new Map();
-  const group = (map, key, x) => map.has(key) ? map.get(key).push(x) : map.set(key, [x]);
+function objectsByOwner() {             // each task's objects, by the task that allocated them
+  const owners = new Map(), owned = new Map();
+  for (const o of S.objs.values()) {
+    const born = bornIn(o.n);
+    if (!owners.has(born)) owners.set(born, owner(born));
+    group(owned, owners.get(born), o);
+  }
+  return owned;
+}
+function actingTasks(d) {
   const act = new Set((d.task || []).map(x => x[0]));
   if (d.e && d.e.length > 2) act.add(d.e[2]);
-  let shown = live, hidden = 0;
-  if (live.length > TASKS_DRAWN) {
-    const keep = new Set();
-    for (const x of live) if (x.state === 'out' || act.has(x.t)) for (let t = x.t; t !== null && !keep.has(t); t = S.tasks.get(t).parent) keep.add(t);
-    shown = live.filter(x => keep.has(x.t));
-    hidden = live.length - shown.length;
+  return act;
+}
+function shownTasks(live, act) {        // of many tasks those that run or act, with their ancestors
+  if (live.length <= TASKS_DRAWN || mode === 1) return live;
+  const keep = new Set();
+  for (const x of live) if (x.state === 'out' || act.has(x.t)) for (let t = x.t; t !== null && !keep.has(t); t = S.tasks.get(t).parent) keep.add(t);
+  return live.filter(x => keep.has(x.t));
+}
+function atRest(live, shown) {          // what isn't drawn, at the nearest ancestor that is
+  const drawn = new Set(shown.map(x => x.t)), rest = new Map();
+  for (const x of live) {
+    let t = x.t;
+    while (!drawn.has(t)) t = S.tasks.get(t).parent;
+    if (t !== x.t) group(rest, t, x);
   }
-  for (const x of shown) if (x.parent !== null) group(kids, x.parent, x);
-  for (const c of [...S.chunks.values(), ...ch.lost]) group(chunks, owner(c.t), c);
-  for (const o of [...S.objs.values(), ...ch.ghosts]) group(objs, o.c, o);
-  for (const [t, n] of S.roots.values()) group(rooted, t, n);
-  for (const cs of chunks.values()) cs.sort((a, b) => a.c - b.c);
-  const whole = new Set(), held = t => (chunks.get(t) || []).reduce((n, c) => n + (objs.get(c.c) || []).length, 0);
-  let room = [OBJECTS_DRAWN, 1e9, -1][mode];  // the smallest heaps first, but before them the acting task's
-  const main = (d.e || [])[2], looked = seen && S.objs.has(seen) ? heapOf(seen) : -1, near = t => t === main || t === looked;
-  const size = new Map(shown.map(x => [x.t, held(x.t)]));
+  return rest;
+}
+function foldedTasks(shown, kids, near) {  // the middle of long chains of forks
+  const deep = new Map(), high = new Map(), folded = new Set();
+  const byAge = [...shown].sort((a, b) => a.t - b.t);
+  for (const x of byAge) deep.set(x.t, x.parent === null ? 0 : deep.get(x.parent) + 1);
+  for (const x of byAge.reverse()) high.set(x.t, (kids.get(x.t) || []).reduce((h, y) => Math.max(h, high.get(y.t) + 1), 0));
+  if (mode === 1 || high.get(0) <= 2 * FOLDS_FROM + 2) return folded;
+  for (const x of shown) if (deep.get(x.t) >= FOLDS_FROM && high.get(x.t) >= FOLDS_FROM && !near(x.t)) folded.add(x.t);
+  return folded;
+}
+function heapsAsWhole(shown, owned, near) {  // the smallest heaps are drawn first, but before them those that are near
+  const size = new Map(shown.map(x => [x.t, (owned.get(x.t) || []).length])), whole = new Set();
+  let room = ROOM[mode];
   for (const x of [...shown].sort((a, b) => near(b.t) - near(a.t) || size.get(a.t) - size.get(b.t))) {
     if (size.get(x.t) > room) whole.add(x.t);
     else room -= size.get(x.t);
   }
-  const alive = ROOTED && S.objs.size <= 20000 ? reached() : null;
-  const remembered = new Set([...S.noted.values()].map(x => `${x[1]} ${x[2]}`)), ghost = new Set(ch.ghosts.map(o => o.n));
-  const stopped = isOver(pos) && RUN.end[0] === 'entangled' ? d.at[4] : null;
+  return whole;
+}
+function lookOver() {
+  const d = ENTRIES[pos - 1] || {}, act = actingTasks(d), live = [...S.tasks.values()].filter(x => x.state !== 'joined');
+  const shown = shownTasks(live, act), owned = objectsByOwner(), kids = new Map();
+  const main = (d.e || [])[2], looked = seen && S.objs.has(seen) ? heapOf(seen) : -1, near = t => t === main || t === looked;
+  for (const x of shown) if (x.parent !== null) group(kids, x.parent, x);
+  return {
+    d, act, live, shown, owned, kids, ...touched(d), rest: atRest(live, shown), folded: foldedTasks(shown, kids, near), whole: heapsAsWhole(shown, owned, near),
+    noted: new Set([...S.noted.values()].map(x => `${x[1]} ${x[2]}`)), stopped: isStopped() ? d.at[4] : null,
+  };
+}
 
-  const tags = [...ch.how.values()].length + ch.ghosts.length <= 30;
-  const field = (o, k, own) => {
+/* ------------------------------------------------------------ drawing heaps: boxes */
+
+function field(o, k, own) {
+  const v = o.f[k] || 0, how = (view.fields.get(o.n) || new Map()).get(k), noted = view.noted.has(`${o.n} ${k}`) && 'rem';
+  if (k >= o.R) return node('i', { class: cls('f', how) }, String(v));
+  if (!v) return node('i', { class: cls('f nil', how, noted) }, '\u2205');
+  return node('i', { class: cls('f ref', kindOf(own, heapOf(v)), how, noted), 'data-to': v }, v.replace('.', ','));
+}
+function fieldsOf(o, own) {             // of many the first few, and those that the entry touched
+  const out = [], all = o.R + o.I, hit = view.fields.get(o.n) || new Map();
+  let skipped = 0;
 "##;
 
 pub const AFTER_4: &str =
-    r##"    const v = o.f[k] || 0, how = (ch.fields.get(o.n) || new Map()).get(k), noted = remembered.has(`${o.n} ${k}`) && 'rem';
-    if (k >= o.R) return node('i', { class: cls('f', how) }, String(v));
-    if (!v) return node('i', { class: cls('f nil', how, noted) }, '\u2205');
-    return node('i', { class: cls('f ref', S.objs.has(v) ? kindOf(own, heapOf(v)) : 'inside', how, noted), 'data-to': v }, v.replace('.', ','));
-  };
-  const fields = (o, own) => {          // of many the first few, and those that the entry touched
-    const out = [], all = o.R + o.I, touched = ch.fields.get(o.n) || new Map();
-    let skipped = 0;
-    const skip = () => { if (skipped) out.push(node('i', { class: 'f etc' }, `${skipped} more`)); skipped = 0; };
-    for (let k = 0; k < all; k++) {
-      if (all > 10 && k >= 5 && !(touched.has(k) && out.length < 14)) { skipped++; continue; }
-      skip();
-      out.push(field(o, k, own));
-    }
+    r##"  const skip = () => { if (skipped) out.push(node('i', { class: 'f etc' }, `${skipped} more`)); skipped = 0; };
+  for (let k = 0; k < all; k++) {
+    if (all > 10 && k >= 5 && !(hit.has(k) && out.length < 14)) { skipped++; continue; }
     skip();
-    return all ? node('span', { class: 'flds' }, out) : '';
-  };
-  const card = (o, own) => {
-    const dead = ghost.has(o.n), [how, tag] = dead ? ['drop', d.e[1] === 'sweep' ? 'swept' : 'dropped'] : ch.how.get(o.n) || ['', ''];
-    const mark = S.marks.get(own), pale = alive && !dead && !alive.has(o.n), says = [];
-    for (let k = 0; k < Math.min(o.R + o.I, 10); k++) {
-      says.push(k >= o.R ? `number ${o.f[k] || 0}` : o.f[k] ? `reference ${k} to ${nm(o.f[k])}` : `reference ${k} nil`);
-    }
-    return node('button', {
-      class: cls('obj', !o.m && 'imm', how, pale && 'garbage', o.n === seen && 'sel', o.n === stopped && 'stopped', mark && mark.snap.has(o.n) && 'snap'),
-      'data-o': o.n,
-      'aria-label': `object ${nm(o.n)}, ${o.m ? 'mutable' : 'immutable'}${tag && ', ' + tag}${pale ? ', garbage' : ''}: ${says.join(', ') || 'no fields'}`,
-    }, tag && tags && node('em', { class: cls('tag', how) }, tag), node('span', { class: 'nm' }, nm(o.n), node('span', {}, o.m ? '' : 'imm')), fields(o, own));
-  };
-  const chunk = (c, own) => {
-    const given = ch.given.has(c.c), back = ch.back.has(c.c), size = c.units * 1024;
-    const inside = [...objs.get(c.c) || [], ...ch.went.get(c.c) || []].sort((a, b) => a.off - b.off);
-    const one = o => back && !ghost.has(o.n) ? node('span', { class: 'went', 'data-went': o.n }, nm(o.n)) : card(o, own);
-    if (!CHUNKED) return inside.length ? node('div', { class: 'chunk' }, node('div', { class: 'cap' }, node('span', {}, `allocated by task ${c.t}`), node('span', {}, many(c.used, 'word'))),
-      node('div', { class: 'objs' }, inside.map(one))) : '';
-    const used = node('span', { class: 'fill', title: `${c.used} of ${size} words used` }, node('i', { style: `width:${100 * c.used / size}%` }))
-      + node('span', {}, `${count(c.used)}${c.units > 1 ? ` of ${count(size)}` : ''} words`);
-    return node('div', { class: cls('chunk', c.to && 'to', given && 'give', back && 'back') },
-      node('div', { class: 'cap' }, node('span', {}, `chunk ${c.c}`), back ? node('em', { class: 'back' }, 'given back') : used,
-        c.to ? node('em', { class: 'to' }, 'to copy into') : given && node('em', { class: 'give' }, 'taken')),
-      inside.length && node('div', { class: 'objs' }, inside.map(one)));
-  };
-  const given_back = lost => {          // many: in one box
-    const names = lost.flatMap(c => (objs.get(c.c) || []).map(o => o.n));
-    return node('div', { class: 'chunk back' },
-      node('div', { class: 'cap' }, node('em', { class: 'back' }, `${many(lost.length, 'chunk')} given back`), node('span', {}, `${many(names.length, 'object')} dropped in them`)),
-      node('div', { class: 'tiny' }, names.slice(0, 60).map(n => node('s', { 'data-o': n }, nm(n)) + ' '), names.length > 60 && `and ${names.length - 60} more`));
-  };
-  const sum = (x, cs) => {              // a heap as a whole
-    let n = 0, w = 0, pale = 0, lost = 0;
-    for (const c of cs) for (const o of objs.get(c.c) || []) {
-      if (ghost.has(o.n)) { lost++; continue; }
-      n++;
-      w += words(o);
-      if (alive && !alive.has(o.n)) pale += words(o);
-    }
-    return node('span', { class: 'sum', 'data-heap': x.t }, node('b', {}, count(n)), n === 1 ? ' object, ' : ' objects, ', node('b', {}, count(w)), ' words',
-      CHUNKED && ` in ${many(cs.filter(c => !ch.back.has(c.c)).length, 'chunk')}`, pale && `; ${count(pale)} words garbage`, lost && node('span', { style: 'color:var(--gone)' }, `; ${count(lost)} dropped`));
-  };
-  const heap = x => {
-    const cs = chunks.get(x.t) || [], lost = cs.filter(c => ch.back.has(c.c)), few = lost.length <= 8 && ch.ghosts.length <= 40;
-    if (!cs.length || !CHUNKED && !cs.some(c => objs.has(c.c))) return '';
-    if (whole.has(x.t)) return node('div', { class: 'heap' }, sum(x, cs));
-    return node('div', { class: 'heap' }, cs.filter(c => few || !ch.back.has(c.c)).map(c => chunk(c, x.t)), !few && lost.length && given_back(lost));
-  };
-  const box = (x, deep) => {
-    const s = stateOf(x), mark = S.marks.get(x.t), hold = [...new Set(rooted.get(x.t) || [])], sub = kids.get(x.t) || [];
-    return node('section', { role: 'group', class: cls('task', x.state, deep > 6 && 'tight', act.has(x.t) && 'act'), 'data-t': x.t,
-      style: `--deep:${Math.min(deep, 6)};--w:${hue(x.w || 0)}`, 'aria-label': `Task ${x.t}, ${s.says}` },
-    node('div', { class: 'head' }, node('b', {}, `task ${x.t}`), node('span', { class: cls('pill', s.cls) }, s.says),
-      node('span', { class: 'tiny' }, esc(x.fn), x.line && `, line ${x.line}`), mark && node('span', { class: 'marking' }, `marked ${mark.n} of ${mark.snap.size}`),
-      hold.length && mode !== 2 && node('span', { class: 'tiny holds' }, 'holds', hold.slice(0, 6).map(n => node('button', { 'data-o': n, tabindex: -1 }, n.replace('.', ','))), hold.length > 6 && `+${hold.length - 6}`)),
-    heap(x), sub.length && node('div', { class: 'kids' }, sub.map(y => box(y, deep + 1))));
-  };
-  const focus = document.activeElement, back = focus && focus.closest && focus.closest('#stage') && focus.dataset.o;
-  $('stage').innerHTML = box(S.tasks.get(0), 0) + `<svg id="arrows" aria-hidden="true"></svg>`;
-  if (back) { const b = $('stage').querySelector(`.obj[data-o="${CSS.escape(back)}"]`); if (b) b.focus({ preventScroll: true }); }
-  const left_out = (hidden ? ` (${hidden} at rest not drawn)` : '') + (whole.size ? `; ${many(whole.size, 'heap')} drawn as a whole` : '');
-  $('drawn').textContent = `${many(S.objs.size, 'object')}, ${CHUNKED ? `${many(S.chunks.size, 'chunk')}, ` : ''}${many(live.length, 'task')}${left_out}`;
+    out.push(field(o, k, own));
+  }
+  skip();
+  return all ? node('span', { class: 'flds' }, out) : '';
+}
+function spoken(o, tag) {               // an object, for those who hear the page
+  const says = [];
+  for (let k = 0; k < Math.min(o.R + o.I, 10); k++) says.push(k >= o.R ? `number ${o.f[k] || 0}` : o.f[k] ? `reference ${k} to ${nm(o.f[k])}` : `reference ${k} nil`);
+  return `object ${nm(o.n)}, ${o.m ? 'mutable' : 'immutable'}${tag && ', ' + tag}: ${says.join(', ') || 'no fields'}`;
+}
+function card(o, own) {
+  const [how, tag] = view.how.get(o.n) || ['', ''], tagged = tag && view.how.size <= 30;
+  const looks = cls('obj', !o.m && 'imm', how, o.n === seen && 'sel', o.n === view.stopped && 'stopped');
+  return node('button', { class: looks, 'data-o': o.n, 'aria-label': spoken(o, tag) },
+    tagged && node('em', { class: cls('tag', how) }, tag), node('span', { class: 'nm' }, nm(o.n), node('span', {}, o.m ? '' : 'imm')), fieldsOf(o, own));
+}
+const wordsOf = list => list.reduce((sum, o) => sum + words(o), 0);
+function sum(list) {
+  return [node('b', {}, count(list.length)), list.length === 1 ? ' object, ' : ' objects, ', node('b', {}, count(wordsOf(list))), ' words'];
+}
+function nursery(born, list, own) {     // the objects of a heap that one task allocated
+  list.sort((a, b) => Number(a.n.split('.')[1]) - Number(b.n.split('.')[1]));
+  return node('div', { class: 'born' }, node('div', { class: 'cap' }, node('span', {}, `allocated by task ${born}`), node('span', {}, many(wordsOf(list), 'word'))),
+    node('div', { class: 'objs' }, list.map(o => card(o, own))));
+}
+function heap(x) {
+  const own = view.owned.get(x.t), born = new Map();
+  if (!own) return '';
+  if (view.whole.has(x.t)) return node('div', { class: 'heap' }, node('span', { class: 'sum', 'data-heap': x.t }, sum(own)));
+  for (const o of own) group(born, bornIn(o.n), o);
+  return node('div', { class: 'heap' }, [...born].sort((a, b) => a[0] - b[0]).map(([t, list]) => nursery(t, list, x.t)));
+}
+function restOf(t) {                    // tasks below this one that aren't drawn
+  const rest = view.rest.get(t);
+  if (!rest) return '';
+  const objects = rest.flatMap(x => view.owned.get(x.t) || []);
+  return node('div', { class: 'heap' }, node('span', { class: 'sum' }, node('b', {}, count(rest.length)), rest.length === 1 ? ' task' : ' tasks', ' at rest not drawn: ', sum(objects)));
+}
+function head(x) {
+  const s = stateOf(x);
+  return node('div', { class: 'head' }, node('b', {}, `task ${x.t}`), node('span', { class: cls('pill', s.cls) }, s.says),
+    node('span', { class: 'tiny' }, esc(x.fn), x.line && `, line ${x.line}`));
+}
+function box(x, deep) {
+  if (view.folded.has(x.t)) return fold(x, deep);
+  const kids = view.kids.get(x.t) || [];
+  return node('section', { role: 'group', class: cls('task', x.state, deep > 6 && 'tight', view.act.has(x.t) && 'act'), 'data-t': x.t,
+    style: `--deep:${Math.min(deep, 6)};${tint(x)}`, 'aria-label': `Task ${x.t}, ${stateOf(x).says}` },
+  head(x), heap(x), restOf(x.t), kids.length && node('div', { class: 'kids' }, kids.map(y => box(y, deep + 1))));
+}
+function chainFrom(x) {                 // the folded tasks below one another, those beside them, and what is drawn below
+  const chain = [], beside = [];
+  let below = [x];
+  while (below.length && below.some(y => view.folded.has(y.t))) {
+    const next = below.find(y => view.folded.has(y.t));
+    beside.push(...below.filter(y => y !== next));
+    chain.push(next);
+    below = view.kids.get(next.t) || [];
+  }
+  const loud = beside.filter(y => view.act.has(y.t) || view.folded.has(y.t) || (view.kids.get(y.t) || []).length);
+  return { chain, beside: beside.filter(y => !loud.includes(y)), below: [...loud, ...below] };
+}
+function fold(x, deep) {
+  const { chain, beside, below } = chainFrom(x), objects = [...chain, ...beside].flatMap(y => view.owned.get(y.t) || []);
+  const says = `${many(chain.length, 'waiting task')}, ${x.t} to ${chain[chain.length - 1].t}, each in the heap of the one before`;
+  const also = beside.length ? `; beside them ${many(beside.length, 'task')}` : '';
+  return node('section', { role: 'group', class: 'task fold', 'data-t': x.t, style: `--deep:${Math.min(deep, 6)}`, 'aria-label': says },
+    node('div', { class: 'head' }, node('b', {}, '\u22ee'), node('span', { class: 'tiny' }, says, also)),
+    node('div', { class: 'heap' }, node('span', { class: 'sum', 'data-heap': x.t }, sum(objects))), node('div', { class: 'kids' }, below.map(y => box(y, deep + 1))));
+}
+function captionOf() {
+  const { live, shown, whole, folded } = view, hidden = live.length - shown.length + folded.size;
+  return `${many(S.objs.size, 'object')} allocated, ${many(live.length, 'task')}` + (hidden ? ` (${hidden} at rest drawn as counts)` : '')
+    + (whole.size ? `; ${many(whole.size, 'heap')} drawn as a whole` : '');
+}
+function drawHeaps(follow) {
+  view = lookOver();
+  $('stage').innerHTML = box(S.tasks.get(0), 0) + '<svg id="arrows" aria-hidden="true"></svg>';
+  $('drawn').textContent = captionOf();
   $('mode').textContent = MODES[mode];
   fit();
-  drawArrows(whole, stopped);
-  const what = $('stage').querySelector('.obj.moved, .obj.new, .f.wrote, .obj.drop, .chunk.give') || [...$('stage').querySelectorAll('.task.act > .head')].pop();
-  if (what && follow) show(what.closest('.obj, .chunk, .head'));
+  drawArrows();
+  if (!follow) return;
+  const what = $('stage').querySelector('.obj.new, .f.wrote') || [...$('stage').querySelectorAll('.task.act > .head')].pop();
+  if (what) show(what.closest('.obj, .head'));
 }
 function show(el) {                     // scrolls the heaps until it is seen
-  const r = el.getBoundingClientRect(), box = $('heaps'), b = box.getBoundingClientRect();
-  if (r.bottom > b.bottom - 8 || r.top < b.top + 8) box.scrollTop += r.top - b.top - Math.max(20, (b.height - r.height) / 2);
-  if (r.right > b.right - 8 || r.left < b.left) box.scrollLeft += r.left - b.left - 40;
+  const r = el.getBoundingClientRect(), room = $('heaps'), b = room.getBoundingClientRect();
+  if (r.bottom > b.bottom - 8 || r.top < b.top + 8) room.scrollTop += r.top - b.top - Math.max(20, (b.height - r.height) / 2);
+  if (r.right > b.right - 8 || r.left < b.left) room.scrollLeft += r.left - b.left - 40;
 }
-function fit() {                        // shrinks where the heaps need more room, grows back with some slack
-  const room = $('heaps'), stage = $('stage'), paper = document.documentElement.classList.contains('paper');
-  const set = px => { fitted = px; stage.style.fontSize = px + 'px'; };
-  if (zoom) return set(zoom);
-  if (paper) return set(11);
-  set(fitted);
-  const over = () => stage.scrollHeight > room.clientHeight + 2 || stage.firstChild.scrollWidth > room.clientWidth;
-  let at = SIZES.indexOf(fitted);
-  if (over()) while (at > 5 && over()) set(SIZES[--at]);
-  else while (at < 10 && stage.firstChild.offsetHeight * (SIZES[at + 1] / SIZES[at]) ** 2 < room.clientHeight * .55) {
-    set(SIZES[++at]);
-    if (over()) { set(SIZES[--at]); break; }
+
+/* ------------------------------------------------------------ drawing heaps: size */
+
+let zoom = 0, fitted = 17;
+const SIZES = [5, 6, 7, 8, 9, 10, 11, 12, 13, 15, 17, 20];
+function setSize(px) {
+  fitted = px;
+  $('stage').style.fontSize = px + 'px';
+}
+const overflows = () => $('stage').scrollHeight > $('heaps').clientHeight + 2 || $('stage').firstChild.scrollWidth > $('heaps').clientWidth;
+function grow(at) {                     // back to a larger size, with some slack
+  while (at < 10 && $('stage').firstChild.offsetHeight * (SIZES[at + 1] / SIZES[at]) ** 2 < $('heaps').clientHeight * .55) {
+    setSize(SIZES[++at]);
+    if (overflows()) return setSize(SIZES[at - 1]);
   }
 }
-"##;
+function fit() {
+  if (zoom) return setSize(zoom);
+  if (document.documentElement.classList.contains('paper')) return setSize(11);
+  setSize(fitted);
+  let at = SIZES.indexOf(fitted);
+  if (!overflows()) return grow(at);
+  while (at > 5 && overflows()) setSize(SIZES[--at]);
+}
 
-pub const AFTER_5: &str =
-    r##"const HEADS = ['inside', 'up', 'down', 'cross', 'move'].map(k => `<marker id="to-${k}" viewBox="0 0 8 8" refX="7" refY="4" markerWidth="${k === 'down' ? 9 : 8}" markerHeight="${k === 'down' ? 9 : 8}" markerUnits="userSpaceOnUse" orient="auto"><path d="M0 .5 8 4 0 7.5z" style="fill:var(--${k});stroke:none"/></marker>`).join('');
-function frame() {
+/* ------------------------------------------------------------ drawing heaps: arrows */
+
+const marker = (k, px) => `<marker id="to-${k}" viewBox="0 0 8 8" refX="7" refY="4" markerWidth="${px}" markerHeight="${px}" markerUnits="userSpaceOnUse" orient="auto"><path d="M0 .5 8 4 0 7.5z" class="${k}"/></marker>`;
+const HEADS = marker('inside', 8) + marker('up', 8) + marker('down', 9) + marker('cross', 8);
+const KINDS = ['inside', 'up', 'down', 'cross'];
+function measure() {                    // where an element stands on the stage
   const at = $('stage').getBoundingClientRect();
   return el => {
     const r = el.getBoundingClientRect(), [x, y] = [at.left, at.top];
     return { l: r.left - x, r: r.right - x, t: r.top - y, b: r.bottom - y, x: (r.left + r.right) / 2 - x, y: (r.top + r.bottom) / 2 - y };
   };
 }
+function routeUp(s, t, em, own, into) { // round the corner of its own card, and along the gap above it
+  const left = s.x - own.l <= own.r - s.x + em * .3, x = left ? own.l : own.r, out = left ? x - em * .75 : x + em * .75, gap = own.t - em * .4;
+"##;
+
+pub const AFTER_5: &str =
+    r##"  const h = Math.min((gap - t.b) * .5, em * 6), mid = (x + into) / 2, start = `M${x} ${s.y}C${out} ${s.y} ${out} ${gap} ${x} ${gap}`;
+  return start + (gap - t.b < em * 1.2 ? `C${mid} ${gap} ${into} ${gap} ${into} ${t.b}` : `C${into} ${gap} ${into} ${gap - h} ${into} ${t.b}`);
+}
 function route(s, t, em, own) {         // from a field's cell to a card; own is the cell's card
   const into = Math.min(Math.max(s.x, t.l + em * .7), t.r - em * .7);
-  if (t.b < own.t - 2) {                // up: round the corner of its own card, and along the gap above it
-    const left = s.x - own.l <= own.r - s.x + em * .3, x = left ? own.l : own.r, out = left ? x - em * .75 : x + em * .75, gap = own.t - em * .4;
-    const h = Math.min((gap - t.b) * .5, em * 6), mid = (x + into) / 2;
-    return `M${x} ${s.y}C${out} ${s.y} ${out} ${gap} ${x} ${gap}` + (gap - t.b < em * 1.2 ? `C${mid} ${gap} ${into} ${gap} ${into} ${t.b}` : `C${into} ${gap} ${into} ${gap - h} ${into} ${t.b}`);
+  if (t.b < own.t - 2) return routeUp(s, t, em, own, into);
+  if (t.t > s.b + 2) {
+    const h = (t.t - s.b) * .5;
+    return `M${s.x} ${s.b}C${s.x} ${s.b + h} ${into} ${t.t - h} ${into} ${t.t}`;
   }
-  if (t.t > s.b + 2) { const h = (t.t - s.b) * .5; return `M${s.x} ${s.b}C${s.x} ${s.b + h} ${into} ${t.t - h} ${into} ${t.t}`; }
   const end = s.x < t.l ? t.l + em : s.x > t.r ? t.r - em : t.r - em * .5, h = em * .55 + Math.min(Math.abs(end - s.x) * .09, em * 1.6);
   return `M${s.x} ${s.b}C${s.x} ${s.b + h} ${end} ${t.b + h} ${end} ${t.b}`;
 }
-const arrow = (look, head, from, to, d) => `<path class="${look}" data-a="${from}" data-b="${to}" marker-end="url(#to-${head})" d="${d}"/>`;
-function drawArrows(whole, stopped) {
-  const rect = frame(), em = fitted, cards = new Map(), sums = new Map(), heads = new Map(), paths = [], total = new Map();
-  for (const el of $('stage').querySelectorAll('.obj')) cards.set(el.dataset.o, [el, rect(el)]);
-  for (const el of $('stage').querySelectorAll('.sum')) sums.set(+el.dataset.heap, rect(el));
-  for (const el of $('stage').querySelectorAll('.task')) heads.set(+el.dataset.t, rect(el.firstChild.firstChild));
+const arrow = (look, kind, from, to, d) => `<path class="${cls(kind, look)}" data-a="${from}" data-b="${to}" marker-end="url(#to-${kind})" d="${d}"/>`;
+function places(rect) {                 // where cards, heaps that are drawn as a whole, and tasks stand
+  const at = { cards: new Map(), sums: new Map(), heads: new Map() };
+  for (const el of $('stage').querySelectorAll('.obj')) at.cards.set(el.dataset.o, rect(el));
+  for (const el of $('stage').querySelectorAll('.sum[data-heap]')) at.sums.set(+el.dataset.heap, rect(el));
+  for (const el of $('stage').querySelectorAll('.task')) at.heads.set(+el.dataset.t, rect(el.firstChild.firstChild));
+  return at;
+}
+function fieldArrows(at, rect, em) {
+  const paths = [];
   for (const el of $('stage').querySelectorAll('.f[data-to]')) {
-    const to = cards.get(el.dataset.to) || S.objs.has(el.dataset.to) && [null, sums.get(heapOf(el.dataset.to))], from = el.closest('.obj').dataset.o;
-    if (!to || !to[1]) continue;
-    const kind = ['inside', 'up', 'down', 'cross'].find(k => el.classList.contains(k)), own = cards.get(from);
-    paths.push(arrow(cls(kind, el.classList.contains('wrote') && 'fresh', own[0].matches('.garbage, .drop') && 'stale'), kind, from, el.dataset.to, route(rect(el), to[1], em, own[1])));
+    const from = el.closest('.obj').dataset.o, to = el.dataset.to, place = at.cards.get(to) || at.sums.get(heapOf(to));
+    const kind = KINDS.find(k => el.classList.contains(k)), hit = view.how.has(from) || el.classList.contains('read');
+    if (place) paths.push(arrow(cls(el.classList.contains('wrote') && 'fresh', hit && 'near'), kind, from, to, route(rect(el), place, em, at.cards.get(from))));
   }
-  for (const el of $('stage').querySelectorAll('[data-went]')) {
-    const s = rect(el), to = cards.get(el.dataset.went);
-    if (to) paths.push(arrow('moves', 'move', '', el.dataset.went, route(s, to[1], em, s)));
+  return paths;
+}
+function countsBetween() {              // of heaps that are drawn as a whole: how many references lead into each other heap
+  const total = new Map();
+  for (const [a, list] of view.owned) {
+    if (!view.whole.has(a)) continue;
+    for (const o of list) for (const v of o.f.slice(0, o.R)) if (v && heapOf(v) !== a) total.set(`${a} ${heapOf(v)}`, (total.get(`${a} ${heapOf(v)}`) || 0) + 1);
   }
-  for (const o of S.objs.values()) {    // of heaps that are drawn as a whole: one arrow for all references to another heap
-    const a = heapOf(o.n);
-    if (!whole.has(a)) continue;
-    for (let k = 0; k < o.R; k++) if (o.f[k]) { const b = heapOf(o.f[k]); if (a !== b) total.set(`${a} ${b}`, (total.get(`${a} ${b}`) || 0) + 1); }
-  }
-  for (const [key, n] of total) {
-    const [a, b] = key.split(' ').map(Number), kind = kindOf(a, b), s = sums.get(a), t = sums.get(b) || heads.get(b);
-    if (!s || !t) continue;
-    const low = s.t > t.t, shift = kind === 'down' ? em : -em, x1 = s.x + shift, y1 = low ? s.t : s.b, x2 = t.x + shift, y2 = low ? t.b : t.t, m = (y1 + y2) / 2;
-    paths.push(arrow(kind, kind, '', '', `M${x1} ${y1}C${x1} ${m} ${x2} ${m} ${x2} ${y2}`) + `<text class="${kind}" x="${(x1 + x2) / 2}" y="${m + 4}" text-anchor="middle">${n}</text>`);
-  }
-  const target = stopped && (cards.get(stopped) || [null, sums.get(heapOf(stopped))]), reader = stopped && $('stage').querySelector(`.task[data-t="${RUN.end[1]}"] > .head .pill`);
-  if (target && target[1] && reader) {
-    const s = rect(reader), t = target[1], side = s.x > t.r ? [t.r, t.y] : s.x < t.l ? [t.l, t.y] : [t.x, s.y > t.y ? t.b : t.t], bend = s.x > t.r ? 1 : -1;
-    const dx = Math.max(40, Math.abs(s.x - side[0]) * .4) * bend;
-    paths.push(arrow('cross', 'cross', '', stopped, `M${s.x} ${s.b}C${s.x} ${s.b + 34} ${side[0] + dx} ${side[1]} ${side[0]} ${side[1]}`) + `<text class="cross plain" x="${(s.x + side[0]) / 2 + dx * .2}" y="${Math.max(s.b + 30, side[1] - 8)}" text-anchor="middle">stopped</text>`);
-  }
+  return total;
+}
+function heapArrow(at, em, [key, n]) {
+  const [a, b] = key.split(' ').map(Number), kind = kindOf(a, b), s = at.sums.get(a), t = at.sums.get(b) || at.heads.get(b);
+  if (!s || !t) return '';
+  const low = s.t > t.t, shift = kind === 'down' ? em : -em, x1 = s.x + shift, y1 = low ? s.t : s.b, x2 = t.x + shift, y2 = low ? t.b : t.t, m = (y1 + y2) / 2;
+  return arrow('', kind, '', '', `M${x1} ${y1}C${x1} ${m} ${x2} ${m} ${x2} ${y2}`) + `<text class="${kind}" x="${(x1 + x2) / 2}" y="${m + 4}" text-anchor="middle">${n}</text>`;
+}
+function stoppedArrow(at, rect) {       // from the reader to the object that it may not have
+  const t = at.cards.get(view.stopped) || at.sums.get(heapOf(view.stopped)), reader = $('stage').querySelector(`.task[data-t="${RUN.end[1]}"] > .head .pill`);
+  if (!t || !reader) return '';
+  const s = rect(reader), side = s.x > t.r ? [t.r, t.y] : s.x < t.l ? [t.l, t.y] : [t.x, s.y > t.y ? t.b : t.t];
+  const dx = Math.max(40, Math.abs(s.x - side[0]) * .4) * (s.x > t.r ? 1 : -1);
+  return arrow('', 'cross', '', view.stopped, `M${s.x} ${s.b}C${s.x} ${s.b + 34} ${side[0] + dx} ${side[1]} ${side[0]} ${side[1]}`)
+    + `<text class="cross" x="${(s.x + side[0]) / 2 + dx * .2}" y="${Math.max(s.b + 30, side[1] - 8)}" text-anchor="middle">stopped</text>`;
+}
+function drawArrows() {
+  const rect = measure(), at = places(rect), em = fitted, paths = fieldArrows(at, rect, em);
+  const inside = paths.filter(p => p.startsWith('<path class="inside')).length;
+  for (const one of countsBetween()) paths.push(heapArrow(at, em, one));
+  if (view.stopped) paths.push(stoppedArrow(at, rect));
   $('arrows').innerHTML = `<defs>${HEADS}</defs>${paths.join('')}`;
-  $('arrows').classList.toggle('dense', paths.length > 60);
+  $('arrows').classList.toggle('few', inside > ARROWS_DRAWN);
   hot(seen);
 }
 function hot(n) {                       // the arrows of one object
-  const box = $('arrows');
-  if (!box) return;
+  const svg = $('arrows');
+  if (!svg) return;
   let any = false;
-  for (const p of box.querySelectorAll('path[data-b]')) { const is = n && (p.dataset.a === n || p.dataset.b === n); p.classList.toggle('hot', !!is); any = any || is; }
-  box.classList.toggle('hot', !!any);
+  for (const p of svg.querySelectorAll('path[data-b]')) {
+    const is = Boolean(n) && (p.dataset.a === n || p.dataset.b === n);
+    p.classList.toggle('hot', is);
+    any ||= is;
+  }
+  svg.classList.toggle('hot', any);
 }
 
 /* ------------------------------------------------------------ drawing: the dock */
 
 const HIGH = 22;
-let WIDE = 24;                          // of an entry in the lanes: as in the plot, or more
+let wide = 24;                          // of an entry in the lanes: as in the plot, or more
+const across = () => ($('plot').clientWidth || 800) - 16;
+const xOf = i => 8 + across() * (N ? i / N : 0);
+function curvePath(ys, top, y0, h) {
+  const parts = [`M${xOf(0)} ${y0}`], room = across();
+  const x = i => 8 + room * (N ? i / N : 0);
+  for (let i = 0; i <= N; i++) if (i === 0 || ys[i] !== ys[i - 1] || i === N) parts.push(`H${x(i).toFixed(1)}V${(y0 - h * ys[i] / top).toFixed(1)}`);
+  return parts.join('');
+}
+function tick(i) {                      // where a collection or a sweep ends
+  const kind = ENTRIES[i - 1].e[1];
+  return /^(end|sweep)$/.test(kind) ? `<line class="${kind}" x1="${xOf(i)}" x2="${xOf(i)}" y1="62" y2="57"/>` : '';
+}
 function drawPlot() {
-  WIDE = Math.max(24, (($('lanes').clientWidth || 800) - 16) / Math.max(N, 1));
-  $('track').style.cssText = `width:${Math.max(N * WIDE + 16, 0)}px;height:${workers.length * HIGH}px`;
-  const svg = $('plot'), W = svg.clientWidth || 800, x = i => 8 + (W - 16) * (N ? i / N : 0);
-  const path = (ys, top, y0, h) => {
-    const parts = [`M${x(0)} ${y0}`];
-    for (let i = 0; i <= N; i++) if (i === 0 || ys[i] !== ys[i - 1] || i === N) parts.push(`H${x(i).toFixed(1)}V${(y0 - h * ys[i] / top).toFixed(1)}`);
-    return parts.join('');
-  };
-  const ticks = stones.slice(1, -1).map(i => { const k = ENTRIES[i - 1].e[1]; return /^(end|sweep)$/.test(k) ? `<line x1="${x(i)}" x2="${x(i)}" y1="62" y2="57" stroke="var(--${k === 'end' ? 'new' : 'cross'})"/>` : ''; }).join('');
-  svg.innerHTML = `<line class="base" x1="8" x2="${W - 8}" y1="29" y2="29"/><line class="base" x1="8" x2="${W - 8}" y1="60" y2="60"/><path class="c" d="${path(CHUNKED ? curve.chunks : curve.tasks, Math.max(CHUNKED ? peak : busiest, 1), 29, 25)}"/><path class="w" d="${path(curve.words, most, 60, 26)}V60H8Z"/>${ticks}<line class="cur" id="cur" y1="0" y2="62"/>`;
+  wide = Math.max(24, (($('lanes').clientWidth || 800) - 16) / Math.max(N, 1));
+  $('track').style.cssText = `width:${N * wide + 16}px;height:${workers.length * HIGH}px`;
+  const base = y => `<line class="base" x1="8" x2="${across() + 8}" y1="${y}" y2="${y}"/>`;
+  $('plot').innerHTML = base(29) + base(60) + `<path class="c" d="${curvePath(curve.tasks, mostTasks, 29, 25)}"/><path class="w" d="${curvePath(curve.words, mostWords, 60, 26)}V60H8Z"/>`
+    + stones.slice(1).map(tick).join('') + '<line class="cur" id="cur" y1="0" y2="62"/>';
   moveCursor();
 }
 function moveCursor() {
-  const W = $('plot').clientWidth || 800, x = 8 + (W - 16) * (N ? pos / N : 0), cur = $('cur');
+  const x = xOf(pos), cur = $('cur');
   if (cur) { cur.setAttribute('x1', x); cur.setAttribute('x2', x); }
-  $('nums').innerHTML = `<span class="c">${CHUNKED ? `chunks in use <b>${curve.chunks[pos]}</b> of peak ${peak}` : `tasks <b>${curve.tasks[pos]}</b>`}</span><span class="w">${CHUNKED ? 'words held' : 'words allocated'} <b>${curve.words[pos].toLocaleString('en')}</b></span>`;
+  $('nums').innerHTML = `<span class="c">tasks <b>${count(curve.tasks[pos])}</b></span><span class="w">words allocated <b>${count(curve.words[pos])}</b></span>`;
+}
+function followLanes() {
+  const box = $('lanes'), room = box.clientWidth, x = (pos - 1) * wide, d = ENTRIES[pos - 1];
+  if (x < box.scrollLeft + 40 || x > box.scrollLeft + room - 80) box.scrollLeft = x - room / 2;
+  if (!d || workers.length <= 6) return;
+  const y = lane.get(d.e[0]) * HIGH;
+  if (y < box.scrollTop || y > box.scrollTop + box.clientHeight - HIGH * 2) box.scrollTop = y - 40;
+  $('names').scrollTop = box.scrollTop;
+}
+function entryBox(i, touch) {
+  const [w, kind, t] = ENTRIES[i - 1].e, text = ENTRIES[i - 1].e.join(' ');
+  const looks = cls('ent', `k-${kind}`, i === pos && 'now', i > pos && 'future', i === N && isOver(N) && 'over', touch.has(i) && 'touch');
+  return node('div', { id: `e${i}`, role: 'option', class: looks, 'data-e': i, 'aria-selected': `${i === pos}`, 'aria-posinset': i, 'aria-setsize': N,
+    'aria-label': `${i}: worker ${text}`, title: `${i}: ${text}`, style: `left:${8 + (i - 1) * wide}px;width:${wide - 3}px;top:${lane.get(w) * HIGH + 2}px` },
+  t === undefined ? 'fuel' : wide > 60 ? `${kind} ${t}` : `${t}`);
 }
 function drawLanes(follow) {
-  const box = $('lanes'), room = box.clientWidth;
-  if (follow) {
-    const x = (pos - 1) * WIDE;
-    if (x < box.scrollLeft + 40 || x > box.scrollLeft + room - 80) box.scrollLeft = x - room / 2;
-    const d = ENTRIES[pos - 1];
-    if (d && workers.length > 6) { const y = lane.get(d.e[0]) * HIGH; if (y < box.scrollTop || y > box.scrollTop + box.clientHeight - HIGH * 2) box.scrollTop = y - 40; $('names').scrollTop = box.scrollTop; }
-  }
-  const from = Math.max(1, Math.floor(box.scrollLeft / WIDE) - 10), to = Math.min(N, Math.ceil((box.scrollLeft + room) / WIDE) + 10), out = [];
-  const touch = new Set((seen && history.get(seen) || []).map(x => x[0]));
-  for (let j = 0; j < workers.length; j++) out.push(`<div class="lane" style="top:${j * HIGH + 10}px"></div>`);
-  for (let i = from; i <= to; i++) {
-    const [w, kind, t] = ENTRIES[i - 1].e;
-    const text = ENTRIES[i - 1].e.join(' '), over = i === N && isOver(N);
+  const box = $('lanes');
+  if (follow) followLanes();
+  const from = Math.max(1, Math.floor(box.scrollLeft / wide) - 10), to = Math.min(N, Math.ceil((box.scrollLeft + box.clientWidth) / wide) + 10);
+  const touch = new Set((seen && history.get(seen) || []).map(x => x[0])), out = workers.map((w, j) => `<div class="lane" style="top:${j * HIGH + 10}px"></div>`);
+  for (let i = from; i <= to; i++) out.push(entryBox(i, touch));
+  $('track').innerHTML = out.join('');
+  pos ? box.setAttribute('aria-activedescendant', `e${pos}`) : box.removeAttribute('aria-activedescendant');
+}
+
 "##;
 
 pub const AFTER_6: &str =
-    r##"    out.push(node('div', { id: `e${i}`, role: 'option', class: cls('ent', `k-${kind}`, i === pos && 'now', i > pos && 'future', over && 'over', touch.has(i) && 'touch'),
-      'data-e': i, 'aria-selected': `${i === pos}`, 'aria-posinset': i, 'aria-setsize': N, 'aria-label': `${i}: worker ${text}`, title: `${i}: ${text}`,
-      style: `left:${8 + (i - 1) * WIDE}px;width:${WIDE - 3}px;top:${lane.get(w) * HIGH + 2}px` }, t === undefined ? 'fuel' : WIDE > 60 ? `${kind} ${t}` : `${t}`));
-  }
-  $('track').innerHTML = out.join('');
-  box.setAttribute('aria-activedescendant', pos ? `e${pos}` : '');
-}
+    r##"/* ------------------------------------------------------------ going about */
 
-/* ------------------------------------------------------------ going about */
-
-let timer = null, hashing = null;
-function keepingFocus(redraw) {
-  const el = document.activeElement, at = el && ['o', 'e', 't'].find(k => el.dataset && el.dataset[k] !== undefined), box = at && el.closest('[id]');
+let timer = null, linking = null, waits = 0;
+function keepingFocus(redraw) {         // the focus comes back to what was redrawn
+  const el = document.activeElement, at = el && ['o', 'e', 't'].find(k => el.dataset && el.dataset[k] !== undefined), inside = at && el.closest('[id]');
   const value = at && el.dataset[at];
   redraw();
-  if (!at || !box || document.activeElement !== document.body) return;
-  const again = box.querySelector(`[data-${at}="${CSS.escape(value)}"]`);
+  if (!at || !inside || document.activeElement !== document.body) return;
+  const again = $(inside.id).querySelector(`[data-${at}="${CSS.escape(value)}"]`) || inside;
   if (again) again.focus({ preventScroll: true });
 }
-function draw() { keepingFocus(drawAll); }
+function linkTo() {                     // the address of the entry; a browser may refuse it of a file
+  try { window.history.replaceState(null, '', `#e=${pos}${seen ? `&o=${seen}` : ''}`); } catch { /* then it stays as it is */ }
+}
 function drawAll() {
-  $('count').innerHTML = `entry <b>${pos}</b> of ${N.toLocaleString('en')}`;
+  $('count').innerHTML = `entry <b>${pos}</b> of ${count(N)}`;
   $('said').innerHTML = say(pos);
   $('slide').value = pos;
   $('slide').setAttribute('aria-valuetext', `entry ${pos} of ${N}`);
-  drawCode(); drawTree(); drawOutputs(); drawLook(); drawHeaps(true); moveCursor(); drawLanes(true);
-  clearTimeout(hashing);
-  hashing = setTimeout(() => { try { history_replace(); } catch { /* not from a file, then */ } }, 150);
+  drawCode();
+  drawTree();
+  drawOutputs();
+  drawLook();
+  drawHeaps(true);
+  moveCursor();
+  drawLanes(true);
+  clearTimeout(linking);
+  linking = setTimeout(linkTo, 150);
 }
-const history_replace = () => window.history.replaceState(null, '', `#e=${pos}${seen ? `&o=${seen}` : ''}`);
-function go(i) { seek(Math.max(0, Math.min(N, i | 0))); draw(); }
+const draw = () => keepingFocus(drawAll);
+function go(i) {
+  seek(Math.max(0, Math.min(N, i | 0)));
+  draw();
+}
 function pick(n, jump) {
   seen = n || null;
   if (seen && jump && history.has(seen) && !S.objs.has(seen)) return go(history.get(seen)[0][0]);
@@ -917,35 +1021,52 @@ function play(on) {
   if (on && pos === N) go(0);
   clearInterval(timer);
   timer = on ? setInterval(() => pos < N ? go(pos + 1) : play(false), 1000 / $('speed').value) : null;
-  $('go').innerHTML = `<svg viewBox="0 0 16 16"><path d="${on ? 'M3 2h4v12H3zM9 2h4v12H9z' : 'M4 2v12l10-6z'}"/></svg>`; $('go').setAttribute('aria-pressed', !!on); $('go').setAttribute('aria-label', on ? 'Pause' : 'Play');
+  $('go').innerHTML = `<svg viewBox="0 0 16 16"><path d="${on ? 'M3 2h4v12H3zM9 2h4v12H9z' : 'M4 2v12l10-6z'}"/></svg>`;
+  $('go').setAttribute('aria-pressed', Boolean(on));
+  $('go').setAttribute('aria-label', on ? 'Pause' : 'Play');
   $('said').setAttribute('aria-live', on ? 'off' : 'polite');
 }
 function theme() {
-  const dark = getComputedStyle(document.documentElement).colorScheme === 'dark' || !document.documentElement.dataset.theme && matchMedia('(prefers-color-scheme: dark)').matches;
-  document.documentElement.dataset.theme = dark ? 'light' : 'dark';
-  try { localStorage.setItem('hh-theme', document.documentElement.dataset.theme); } catch { /* no store */ }
+  const root = document.documentElement, dark = root.dataset.theme ? root.dataset.theme === 'dark' : matchMedia('(prefers-color-scheme: dark)').matches;
+  root.dataset.theme = dark ? 'light' : 'dark';
+  try { localStorage.setItem('hh-theme', root.dataset.theme); } catch { /* no store */ }
 }
-function next(list, by) { const i = by > 0 ? list.find(x => x > pos) : list.findLast(x => x < pos); if (i !== undefined) go(i); }
-function size(by) { zoom = by ? SIZES[Math.max(0, Math.min(SIZES.length - 1, SIZES.indexOf(fitted) + by))] : 0; if (!by) fitted = 17; drawHeaps(); }
-function read_hash(hash) {
-  const at = new URLSearchParams(hash.slice(1));
-  if (at.get('o')) seen = at.get('o');
-  return at.has('e') ? Number(at.get('e')) || 0 : null;
+function next(list, by) {
+  const i = by > 0 ? list.find(x => x > pos) : list.filter(x => x < pos).pop();
+  if (i !== undefined) go(i);
+}
+function size(by) {
+  zoom = by ? SIZES[Math.max(0, Math.min(SIZES.length - 1, SIZES.indexOf(fitted) + by))] : 0;
+  if (!by) fitted = 17;
+  drawHeaps();
+}
+function nextMode() {
+  mode = (mode + 1) % 3;
+  drawHeaps();
 }
 const touches = () => (seen && history.get(seen) || []).map(x => x[0]);
-const ACTS = {
-  ArrowRight: e => e.shiftKey && pos ? next(ofWorker.get(ENTRIES[pos - 1].e[0]), 1) : go(pos + 1), ArrowLeft: e => e.shiftKey && pos ? next(ofWorker.get(ENTRIES[pos - 1].e[0]), -1) : go(pos - 1),
-  Home: () => go(0), End: () => go(N), PageDown: () => go(pos + 10), PageUp: () => go(pos - 10), n: () => next(stones, 1), p: () => next(stones, -1), ' ': () => play(!timer),
-  '/': () => $('find').focus(), '?': () => $('help').showModal(), t: theme, '+': () => size(1), '=': () => size(1), '-': () => size(-1), f: () => size(0), ']': () => next(touches(), 1), '[': () => next(touches(), -1),
-  o: () => { mode = (mode + 1) % 3; drawHeaps(); }, Escape: () => pick(null),
+const ofSame = by => pos ? next(ofWorker.get(ENTRIES[pos - 1].e[0]), by) : go(pos + by);
+const KEYS = {
+  ArrowRight: e => e.shiftKey ? ofSame(1) : go(pos + 1), ArrowLeft: e => e.shiftKey ? ofSame(-1) : go(pos - 1), PageDown: () => go(pos + 10), PageUp: () => go(pos - 10),
+  Home: () => go(0), End: () => go(N), n: () => next(stones, 1), p: () => next(stones, -1), ' ': () => play(!timer), ']': () => next(touches(), 1), '[': () => next(touches(), -1),
+  '/': () => $('find').focus(), '?': () => $('help').showModal(), Escape: () => pick(null), t: theme, o: nextMode, f: () => size(0), '+': () => size(1), '=': () => size(1), '-': () => size(-1),
 };
-addEventListener('keydown', e => {
-  if (e.ctrlKey || e.metaKey || e.altKey || $('help').open || e.target.matches('input[type=search], select')) { if (e.key === 'Escape' && e.target === $('find')) e.target.blur(); return; }
-  if (e.key === ' ' && e.target.matches('button, input[type=checkbox]')) return;
-  const act = ACTS[e.key];
-  if (act) { e.preventDefault(); act(e); }
-});
-addEventListener('click', e => {
+function onKey(e) {
+  if (e.key === 'Escape' && e.target === $('find')) return e.target.blur();
+  if (e.ctrlKey || e.metaKey || e.altKey || $('help').open || e.target.matches('input[type=search], select')) return undefined;
+  if (e.key === ' ' && e.target.matches('button, input[type=checkbox]')) return undefined;
+  if (!KEYS[e.key]) return undefined;
+  e.preventDefault();
+  return KEYS[e.key](e);
+}
+function showTask(t) {
+  const el = $('stage').querySelector(`.task[data-t="${t}"]`);
+  if (!el) return;
+  el.scrollIntoView({ block: 'nearest' });
+  el.classList.add('find');
+  setTimeout(() => el.classList.remove('find'), 900);
+}
+function onClick(e) {
   const el = e.target.closest('[data-o], [data-e], [data-go], [data-z], #tree [data-t]');
   if (!el) return;
   const { o, e: entry, go: where, z, t } = el.dataset;
@@ -953,52 +1074,94 @@ addEventListener('click', e => {
   else if (entry) go(+entry);
   else if (where) go(where === 'home' ? 0 : where === 'end' ? N : pos + +where);
   else if (z) size(+z);
-  else if (t) { const box = $('stage').querySelector(`.task[data-t="${t}"]`); if (box) { box.scrollIntoView({ block: 'nearest' }); box.classList.add('find'); setTimeout(() => box.classList.remove('find'), 900); } }
-});
-$('stage').addEventListener('pointerover', e => { const el = e.target.closest('[data-o]'); hot(el ? el.dataset.o : seen); });
-$('stage').addEventListener('focusin', e => { const el = e.target.closest('[data-o]'); if (el) hot(el.dataset.o); });
-$('seek').addEventListener('submit', e => { e.preventDefault(); const n = $('find').value.match(/(\d+)\D+(\d+)/); if (n) { pick(`${+n[1]}.${+n[2]}`, true); $('find').blur(); } });
-$('slide').addEventListener('input', () => go(+$('slide').value));
-$('plot').addEventListener('click', e => { const r = $('plot').getBoundingClientRect(); go(Math.round((e.clientX - r.left - 8) / (r.width - 16) * N)); });
-$('go').addEventListener('click', () => play(!timer));
-$('speed').addEventListener('change', () => timer && play(true));
-$('theme').addEventListener('click', theme); $('ask').addEventListener('click', () => $('help').showModal()); $('mode').addEventListener('click', ACTS.o); $('all').addEventListener('change', drawTree);
-let waits = 0;
-$('lanes').addEventListener('scroll', () => { $('names').scrollTop = $('lanes').scrollTop; cancelAnimationFrame(waits); waits = requestAnimationFrame(() => drawLanes(false)); });
-addEventListener('resize', () => { drawPlot(); drawHeaps(); drawLanes(true); });
-addEventListener('hashchange', e => { const i = read_hash(new URL(e.newURL).hash); if (i !== null) go(i); });
-addEventListener('beforeprint', () => { document.documentElement.classList.add('paper'); drawHeaps(); drawPlot(); });
-addEventListener('afterprint', () => { document.documentElement.classList.remove('paper'); drawHeaps(); drawPlot(); });
+  else showTask(t);
+}
+function onSeek(e) {
+  const n = $('find').value.match(/(\d+)\D+(\d+)/);
+  e.preventDefault();
+  if (!n) return;
+  pick(`${+n[1]}.${+n[2]}`, true);
+  $('find').blur();
+}
+function onPlot(e) {
+  const r = $('plot').getBoundingClientRect();
+  go(Math.round((e.clientX - r.left - 8) / (r.width - 16) * N));
+}
+function onScroll() {
+  $('names').scrollTop = $('lanes').scrollTop;
+  cancelAnimationFrame(waits);
+  waits = requestAnimationFrame(() => drawLanes(false));
+}
+function onPaper(is) {                  // the class is set before a print, so that arrows are measured as they will be printed
+  document.documentElement.classList.toggle('paper', is);
+  drawHeaps();
+  drawPlot();
+}
+function readHash(hash) {
+  const at = new URLSearchParams(hash.slice(1));
+  if (at.get('o')) seen = at.get('o');
+  return at.has('e') ? Number(at.get('e')) || 0 : null;
+}
+function onHash(e) {
+  const i = readHash(new URL(e.newURL).hash);
+  if (i !== null) go(i);
+}
+function listen() {
+  const hovered = e => { const el = e.target.closest('[data-o]'); return el ? el.dataset.o : seen; };
+  addEventListener('keydown', onKey);
+  addEventListener('click', onClick);
+  addEventListener('resize', () => { drawPlot(); drawHeaps(); drawLanes(true); });
+  addEventListener('hashchange', onHash);
+  addEventListener('beforeprint', () => onPaper(true));
+  addEventListener('afterprint', () => onPaper(false));
+  $('stage').addEventListener('pointerover', e => hot(hovered(e)));
+  $('stage').addEventListener('focusin', e => hot(hovered(e)));
+  $('seek').addEventListener('submit', onSeek);
+  $('slide').addEventListener('input', () => go(+$('slide').value));
+  $('plot').addEventListener('click', onPlot);
+  $('go').addEventListener('click', () => play(!timer));
+  $('speed').addEventListener('change', () => timer && play(true));
+  $('theme').addEventListener('click', theme);
+  $('ask').addEventListener('click', () => $('help').showModal());
+  $('mode').addEventListener('click', nextMode);
+  $('all').addEventListener('change', drawTree);
+  $('lanes').addEventListener('scroll', onScroll);
+}
 
+/* ------------------------------------------------------------ the beginning */
+
+function lineRow(text, i) {
+  const at = text.search(/(^|\s)#/), cut = at < 0 ? text.length : at;
+  const code = esc(text.slice(0, cut)).replace(/^(\s*)(fn|end|lab|par|call|pfor)\b/, '$1<span class="kw">$2</span>');
+  return `<div class="ln" role="listitem"><span class="no">${i + 1}</span><code>${code}<span class="rem">${esc(text.slice(cut))}</span></code><span class="at"></span></div>`;
+}
+function legend() {
+  const line = (k, says) => node('span', {}, `<svg viewBox="0 0 26 8"><path class="${k}" d="M0 4H24"/></svg> ${says}`);
+  const swatch = (k, says) => node('span', {}, node('i', { class: cls('sw', k) }), ` ${says}`);
+  return [line('inside', 'inside'), line('up', 'up'), line('down', 'down, remembered'), line('cross', 'entangled'),
+    swatch('new', 'allocated'), swatch('set', 'written'), swatch('imm', 'immutable')].join('');
+}
 function begin() {
-  try { const t = localStorage.getItem('hh-theme'); if (t) document.documentElement.dataset.theme = t; } catch { /* no store */ }
+  const s = RUN.settings;
+  try { const kept = localStorage.getItem('hh-theme'); if (kept) document.documentElement.dataset.theme = kept; } catch { /* no store */ }
   document.title = `${RUN.title}: a run`;
   $('title').textContent = RUN.title;
-  const s = RUN.settings;
-  $('how').textContent = `${many(N, 'entry', 'entries')} by ${many(s.workers, 'worker')} \u00b7 leaf limit ${s.leaf} words \u00b7 inner limit ${s.inner} words \u00b7 ${s.chunks} chunks \u00b7 fuel ${s.fuel.toLocaleString('en')}`;
-  $('lines').innerHTML = LINES.map((text, i) => {
-    const at = text.search(/(^|\s)#/), cut = at < 0 ? text.length : at, code = esc(text.slice(0, cut)).replace(/^(\s*)(fn|end|lab|par|call|pfor)\b/, '$1<span class="kw">$2</span>');
-    return `<div class="ln" role="listitem"><span class="no">${i + 1}</span><code>${code}<span class="rem">${esc(text.slice(cut))}</span></code><span class="at"></span></div>`;
-  }).join('');
-  const line = (k, says) => node('span', {}, `<svg viewBox="0 0 26 8"><path d="M0 4H24" style="stroke:var(--${k});stroke-width:${k === 'down' ? 2.6 : 1.6};${k === 'cross' ? 'stroke-dasharray:5 3' : ''}"/></svg> ${says}`);
 "##;
 
 pub const AFTER_7: &str =
-    r##"  const swatch = (k, says) => node('span', {}, node('i', { class: 'sw', style: `border-color:var(--${k});background:var(--${k}-bg, none)` }), ` ${says}`);
-  $('legend').innerHTML = [line('inside', 'inside'), line('up', 'up'), line('down', NOTED ? 'down, remembered' : 'down'), line('cross', 'entangled'),
-    swatch('new', 'allocated'), swatch('set', 'written'), CHUNKED && swatch('move', 'moved'), CHUNKED && swatch('gone', 'dropped'),
-    node('span', {}, node('i', { class: 'sw', style: 'border:3px double;border-radius:0;background:var(--imm)' }), ' immutable'),
-    CHUNKED && node('span', {}, node('i', { class: 'sw', style: 'border-color:transparent transparent var(--snap);border-width:2.5px' }), ' snapshot'),
-    ROOTED && node('span', { style: 'opacity:.6' }, 'pale: garbage')].filter(Boolean).join('');
+    r##"  $('how').textContent = `${many(N, 'entry', 'entries')} by ${many(s.workers, 'worker')} \u00b7 leaf limit ${s.leaf} words \u00b7 inner limit ${s.inner} words \u00b7 ${s.chunks} chunks \u00b7 fuel ${count(s.fuel)}`;
+  $('lines').innerHTML = LINES.map(lineRow).join('');
+  $('legend').innerHTML = legend();
   $('names').innerHTML = workers.map(w => `<div style="--w:${hue(w)}">worker <b>${w}</b></div>`).join('');
   $('slide').max = N;
-  $('all').checked = tasks_made <= 40;
-  const at = read_hash(location.hash);
+  $('all').checked = tasksMade <= 40;
+  const at = readHash(location.hash);
+  listen();
   drawPlot();
   go(at === null ? 0 : at);
 }
 begin();
-window.hh = { go, pick, state: S, N, ownerOf: heapOf, curve, chunked: CHUNKED, get pos() { return pos; } };  // for tests
+window.hh = { go, pick, state: S, N, ownerOf: heapOf, get pos() { return pos; } };  // for tests
 </script>
 </body>
 </html>
