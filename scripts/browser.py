@@ -3,10 +3,12 @@ import base64
 import fcntl
 import json
 import os
+import select
 import shutil
 import subprocess
 import tempfile
 
+PATIENCE = 300
 NAMES = ('chromium', 'chromium-browser', 'google-chrome')
 
 
@@ -46,6 +48,8 @@ class Browser:
 
     def message(self):
         while b'\0' not in self.rest:
+            if not select.select([self.inp], [], [], PATIENCE)[0]:
+                raise RuntimeError(f'the browser has said nothing for {PATIENCE} seconds')
             part = os.read(self.inp, 1 << 20)
             if not part:
                 raise RuntimeError('the browser has gone')

@@ -98,22 +98,33 @@ options_in() {
   sed '/^[[:blank:]]*trace[[:blank:]]/,$d' <"$1" | sed -n 's/^# options://p' | tail -n 1
 }
 
+# The commands to which a trace file can be given again, in the order of the table, and a command that takes the options
+# of a recorded run and no others.
+read_commands_of_traces() {
+  case $crate in
+    hheap) commands=(replay model races image) limited=record ;;
+    hhview) commands=(page timeline tasks schedules) limited=timeline ;;
+  esac
+}
+
 # Gives a command a trace file with the options that stand in it.
 again() {
-  local command=${1-} file options given
-  case $command in
-    replay | model | races | image) shift ;;
-    *) refuse_words "again takes replay, model, races or image, and the FILE of a trace that $called record wrote" ;;
-  esac
+  local command=${1-} file options given limited
+  local -a commands
+  read_commands_of_traces
+  if [[ -z $command || " ${commands[*]} " != *" $command "* ]]; then
+    refuse_words "again takes ${commands[0]}, ${commands[1]}, ${commands[2]} or ${commands[3]}, and the FILE of a trace that ./hheap record wrote"
+  fi
+  shift
   read_words "$command" "$@"
-  [[ -n $fault || ${#operands[@]} = 1 ]] || find_fault "again $command takes the FILE of a trace that $called record wrote"
+  [[ -n $fault || ${#operands[@]} = 1 ]] || find_fault "again $command takes the FILE of a trace that ./hheap record wrote"
   [ -z "$fault" ] || refuse_words "$fault"
   file=${operands[0]}
   given=("${settings[@]}")
   make_room again
   copy_input "$file" "$room/trace"
   read -ra options <<<"$(options_in "$room/trace")"
-  read_words record "${options[@]}" -- "$file"
+  read_words "$limited" "${options[@]}" -- "$file"
   [ -z "$fault" ] || refuse_words "the line # options: of $file has other words than options: $fault"
   read_words "$command" "${options[@]}" "${given[@]}" -- "$file"
   [ -z "$fault" ] || refuse_words "$fault ($file has ${options[*]} on its line # options:)"

@@ -60,7 +60,7 @@ front() {
     show_help "$1"
   fi
   case $crate-$1 in
-    hheap-record | hheap-again | hheap-example | hheap-install | *-prove) "$1" "${@:2}" ;;
+    hheap-record | *-again | hheap-example | hheap-install | *-prove) "$1" "${@:2}" ;;
     *) answer "$@" ;;
   esac
 }

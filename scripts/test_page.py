@@ -3,10 +3,12 @@
 
     scripts/test_page.py HHEAP HHVIEW [EXAMPLE ..]
 
-HHEAP and HHVIEW are the built programs. Of each example's page: no script fails and nothing is asked of a network, at
-any entry, forwards and backwards; each state is the same on the way back; keys, the search and links to entries lead
-where they say; and at each tenth entry after a `ran`, where the trace is cut, the tasks at rest and their objects with
-fields are those of `hheap image`. Where no browser is found the test is left out, which a line says.
+HHEAP and HHVIEW are the built programs. Of each example's page, and of a sort of 500 numbers with 5,000 entries: no
+script fails and nothing is asked of a network, at any entry, forwards and backwards; each state is the same on the way
+back; keys, the search and links to entries lead where they say; and at each tenth entry after a `ran`, where the trace
+is cut, the tasks, the objects at rest with their fields, and the remembered fields are those of `hheap image`. The page
+keeps what a collection drops, so it may have more objects behind one. An entry takes 200 bytes at most on the examples'
+mean. Without a browser the test is left out, which a line says.
 """
 import os
 import subprocess
@@ -16,24 +18,39 @@ import time
 
 TOP = os.path.dirname(os.path.dirname(os.path.abspath(__file__)))
 sys.path.insert(0, os.path.join(TOP, 'scripts'))
+sys.dont_write_bytecode = True
 import browser                                                              # noqa: E402
 
 CHUNK = 1024
+MOST_BYTES = 200
 RUNS = {
     'fork.hh': ['--workers', '2'], 'down_pointer.hh': [], 'entangled.hh': [], 'lifted_field.hh': ['--leaf', '16'],
     'leaf_collection.hh': ['--leaf', '256'], 'inner_collection.hh': ['--inner', '512'], 'freeze.hh': [], 'cas.hh': [],
     'sort.hh': ['--workers', '4'], 'squares.hh': [], 'trap_div.hh': [], 'no_chunks.hh': ['--chunks', '32'],
-    'queens.hh': ['--workers', '4'],
+    'queens.hh': ['--workers', '4'], 'graph.hh': ['--workers', '3', '--leaf', '64', '--inner', '64'],
 }
+LONG = 'sort of 500'
+LONG_OPTIONS = ['--workers', '4', '--chunks', '65536']
+LONG_CUTS = 12
 STATE = '''(() => { const S = hh.state; return {
-  tasks: Object.fromEntries([...S.tasks.values()].filter(x => x.state !== 'joined').map(x => [x.t, x.state])),
-  objects: Object.fromEntries([...S.objs.values()].map(o => [o.n, [hh.ownerOf(o.n), o.m, o.R, o.I, o.f]])) }; })()'''
-DIGEST = 'JSON.stringify(Object.values(hh.state).map(m => [...m.entries()].sort((a, b) => String(a[0]) < String(b[0]) ? -1 : 1)))'
-BAD = '''(() => { const bad = [], S = hh.state;
-  for (const el of document.querySelectorAll('#stage .obj:not(.drop)')) if (!S.objs.has(el.dataset.o)) bad.push('card ' + el.dataset.o);
+  tasks: [...S.tasks.values()].filter(x => x.state !== 'joined').map(x => [String(x.t), x.state]),
+  objects: [...S.objs.values()].map(o => [o.n, [hh.ownerOf(o.n), o.m, o.R, o.I, o.f]]),
+  noted: [...S.noted.values()] }; })()'''
+DIGEST = '''JSON.stringify(Object.values(hh.state).map(m => [...m.entries()].sort((a, b) => String(a[0]) < String(b[0]) ? -1 : 1)))'''
+BAD = '''(() => { const bad = [], S = hh.state, said = document.getElementById('said').textContent;
+  for (const el of document.querySelectorAll('#stage .obj')) if (!S.objs.has(el.dataset.o)) bad.push('card ' + el.dataset.o);
   for (const el of document.querySelectorAll('#arrows path')) if (/NaN|undefined/.test(el.getAttribute('d'))) bad.push('arrow');
-  if (/undefined|NaN|null/.test(document.getElementById('said').textContent)) bad.push(document.getElementById('said').textContent);
+  if (!said || /undefined|NaN|null/.test(said)) bad.push(said);
+  if (/undefined|NaN/.test(document.getElementById('stage').textContent)) bad.push('stage');
   return bad; })()'''
+WALK = '''(() => { const bad = [], seen = [];
+  const visit = i => { hh.go(i); for (const x of BAD) bad.push([i, x]); };
+  for (let i = 0; i <= hh.N; i += STEP) { visit(i); if (i % DIGESTED === 0) seen[i] = DIGEST; }
+  for (let i = hh.N - hh.N % STEP; i >= 0; i -= STEP) { visit(i); if (seen[i] && DIGEST !== seen[i]) bad.push([i, 'another state on the way back']); }
+  return bad; })()'''.replace('DIGESTED', 'STRIDE').replace('DIGEST', DIGEST).replace('STRIDE', 'DIGESTED').replace('BAD', BAD)
+TIMES = '''(() => { const times = [];
+  for (let i = 0; i <= hh.N; i += Math.ceil(hh.N / 200)) { const t = performance.now(); hh.go(i); document.body.offsetHeight; times.push(performance.now() - t); }
+  return times.sort((a, b) => a - b)[Math.floor(times.length / 2)]; })()'''
 
 
 def output(*words, text=None):
@@ -41,34 +58,39 @@ def output(*words, text=None):
     return done.returncode, done.stdout
 
 
+def text_of(example):
+    """The program, and the options of its run."""
+    name, options = ('sort.hh', LONG_OPTIONS) if example == LONG else (example, RUNS.get(example, []))
+    with open(os.path.join(TOP, 'examples', name), encoding='utf-8') as f:
+        program = f.read()
+    if example == LONG:
+        program = program.replace('set i5 12\n', 'set i5 500\n').replace('set i0 12\n', 'set i0 500\n')
+    return program, options
+
+
 def trace_of(hheap, program, options):
     """The lines of the trace of a run."""
-    _, written = output(hheap, 'run', '--trace', *options, program)
+    _, written = output(hheap, 'run', '--trace', *options, text=program.encode())
     lines = written.decode().splitlines()
     return lines[lines.index('trace 2'):-1]
 
 
 def image_of(hheap, program, trace, options):
-    """Tasks by state, and of each object its owner, kind, references and numbers."""
-    text = program + '\n'.join(trace) + '\n'
-    status, written = output(hheap, 'image', *options, text=text.encode())
+    """Tasks by state; of each object its owner, kind, references and numbers; and the remembered fields."""
+    status, written = output(hheap, 'image', *options, text=(program + '\n'.join(trace) + '\n').encode())
     assert status == 0, written
-    states, owners, objects = {}, {}, {}
-    for line in written.decode().splitlines():
-        words = line.split()
-        if words[0] == 'task':
-            states[words[1]] = words[3]
-        elif words[0] == 'chunk':
-            owners[int(words[1])] = int(words[2])
-        elif words[0] == 'object':
-            objects[int(words[1])] = words
+    rows = [line.split() for line in written.decode().splitlines()]
+    states = {w[1]: w[3] for w in rows if w[0] == 'task'}
+    owners = {int(w[1]): int(w[2]) for w in rows if w[0] == 'chunk'}
+    objects = {int(w[1]): w for w in rows if w[0] == 'object'}
     births = {at: f'{w[2]}.{w[3]}' for at, w in objects.items()}
     shown = {}
     for at, w in objects.items():
         refs = int(w[5])
         shown[births[at]] = (owners[(at - 1) // CHUNK], w[4] == 'mut',
                              [births.get(int(x), int(x)) for x in w[7:7 + refs]], [int(x) for x in w[7 + refs:]])
-    return states, shown
+    noted = {(int(w[1]), births[int(w[2])], int(w[3])) for w in rows if w[0] == 'remembered'}
+    return states, shown, noted
 
 
 def same_fields(name, told, wanted):
@@ -82,21 +104,18 @@ def same_fields(name, told, wanted):
 
 
 def same_as_image(page, hheap, program, trace, options, at):
-    states, objects = image_of(hheap, program, trace[:at + 1], options)
+    states, objects, noted = image_of(hheap, program, trace[:at + 1], options)
     page.run(f'hh.go({at})')
     told = page.run(STATE)
     rest = {'ready': 'running', 'out': 'running'}
-    assert {t: rest.get(s, s) for t, s in told['tasks'].items()} == states, (at, told['tasks'], states)
+    assert {t: rest.get(s, s) for t, s in told['tasks']} == states, (at, told['tasks'], states)
+    here = dict(told['objects'])
     for name, wanted in objects.items():
-        same_fields(name, told['objects'][name], wanted)
-
-
-def walk(page):
-    """Forwards and backwards through all entries."""
-    return page.run('''(() => { const bad = [], seen = [];
-      for (let i = 0; i <= hh.N; i++) { hh.go(i); seen[i] = %s; for (const x of %s) bad.push([i, x]); }
-      for (let i = hh.N; i >= 0; i--) { hh.go(i); if (%s !== seen[i]) bad.push([i, 'another state on the way back']); }
-      return bad; })()''' % (DIGEST, BAD, DIGEST))
+        same_fields(name, here[name], wanted)
+    assert {tuple(x) for x in told['noted']} == noted, (at, told['noted'], noted)
+    collected = any(line.split()[1] in ('end', 'sweep') for line in trace[1:at + 1])
+    at_rest = {name for name, o in here.items() if states[str(o[0])] != 'running'}
+    assert collected or at_rest == set(objects), (at, at_rest ^ set(objects))
 
 
 def leads(page, count):
@@ -104,36 +123,49 @@ def leads(page, count):
     for key, want in (('ArrowRight', 1), ('ArrowRight', 2), ('ArrowLeft', 1), ('End', count), ('Home', 0)):
         page.key(key)
         assert page.run('hh.pos') == min(want, count), key
+    for key in 'npfoot[]+-':
+        page.key(key)
     page.run("document.getElementById('find').value = '(0,0)'; document.getElementById('seek').requestSubmit()")
     page.run("location.hash = '#e=3'; new Promise(done => setTimeout(done, 300))")
     assert page.run('hh.pos') == min(3, count)
 
 
+def cuts(example, trace):
+    """The entries after which the trace is cut."""
+    ran = [i for i in range(1, len(trace)) if trace[i].split()[1] == 'ran']
+    stride = max(10, len(ran) // LONG_CUTS) if example == LONG else 10
+    return ran[::stride] + ran[-1:]
+
+
 def test(page, hheap, hhview, example, room):
+    """The bytes of the page's data for each entry."""
     began = time.time()
-    options = RUNS.get(example, [])
-    path = os.path.join(TOP, 'examples', example)
-    trace = trace_of(hheap, path, options)
-    with open(path, encoding='utf-8') as f:
-        program = f.read()
-    status, written = output(hhview, 'page', *options, text=(program + '\n'.join(trace) + '\n').encode())
+    program, options = text_of(example)
+    trace = trace_of(hheap, program, options)
+    status, written = output(hhview, 'page', *options, '--title', example, text=(program + '\n'.join(trace) + '\n').encode())
     assert status == 0, status
-    file = os.path.join(room, example + '.html')
+    file = os.path.join(room, example.replace(' ', '_') + '.html')
     with open(file, 'wb') as f:
         f.write(written)
     page.theme('light')
+    opened = time.time()
     page.open(file)
+    opened = time.time() - opened
     count = page.run('hh.N')
     assert count == len(trace) - 1
-    bad = walk(page)
+    long = example == LONG
+    bad = page.run(WALK.replace('STEP', '7' if long else '1').replace('DIGESTED', '49' if long else '1'))
     assert not bad, bad[:5]
+    step = page.run(TIMES)
     leads(page, count)
-    ran = [i for i in range(1, count + 1) if trace[i].split()[1] == 'ran']
-    for at in ran[::10] + ran[-1:]:
+    for at in cuts(example, trace):
         same_as_image(page, hheap, program, trace, options, at)
     assert not page.faults(), page.faults()
     assert all(url.startswith(('file://', 'about:')) for url in page.asked()), page.asked()
-    print(f'{example}: {count} entries, {len(written)} bytes, {time.time() - began:.1f} s')
+    data = written[written.index(b'"entries":'):written.index(b'\n"end":')]
+    print(f'{example}: {count} entries, {len(written)} bytes, {len(data) / count:.0f} an entry; '
+          f'opened in {opened:.2f} s, half of the steps in {step:.0f} ms; {time.time() - began:.1f} s in all', flush=True)
+    return len(data) / count
 
 
 def main():
@@ -141,16 +173,19 @@ def main():
     if browser.find() is None:
         print('pages of runs: left out, since there is no chromium')
         return 0
-    failed = 0
+    failed, sizes = 0, []
     page = browser.Browser()
     with tempfile.TemporaryDirectory() as room:
-        for example in examples or RUNS:
+        for example in examples or [*RUNS, LONG]:
             try:
-                test(page, hheap, hhview, example, room)
+                sizes.append(test(page, hheap, hhview, example, room))
             except (AssertionError, RuntimeError) as e:
                 failed += 1
-                print(f'{example}: FAILED: {type(e).__name__} {str(e)[:800]}')
+                print(f'{example}: FAILED: {type(e).__name__} {str(e)[:800]}', flush=True)
     page.close()
+    if sizes and sum(sizes) / len(sizes) > MOST_BYTES:
+        failed += 1
+        print(f'an entry takes {sum(sizes) / len(sizes):.0f} bytes, which are more than {MOST_BYTES}')
     return failed > 0
 
 
