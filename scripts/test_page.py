@@ -103,8 +103,18 @@ def same_fields(name, told, wanted):
         assert here == there or (here != 0 and isinstance(there, int) and there != 0), (name, told, wanted)
 
 
+def cut(trace, options, at):
+    """A trace up to an entry, and the options with which the run ends there for want of fuel."""
+    if at + 1 == len(trace):
+        return trace, options
+    rows = [line.split() for line in trace[1:at + 1]]
+    steps = sum(int(words[3]) for words in rows if words[1] == 'ran')
+    return [*trace[:at + 1], '0 fuel'], [*options, '--fuel', str(steps)]
+
+
 def same_as_image(page, hheap, program, trace, options, at):
-    states, objects, noted = image_of(hheap, program, trace[:at + 1], options)
+    shorter, limits = cut(trace, options, at)
+    states, objects, noted = image_of(hheap, program, shorter, limits)
     page.run(f'hh.go({at})')
     told = page.run(STATE)
     rest = {'ready': 'running', 'out': 'running'}

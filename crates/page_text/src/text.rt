@@ -9,7 +9,7 @@ pub const BEFORE_1: &str = r##"<!doctype html>
 <html lang="en">
 <head>
 <meta charset="utf-8">
-<meta http-equiv="Content-Security-Policy" content="default-src 'none'; script-src 'sha256-/nTkreyQkqeQu709pSboAE2RxEeK+T2sQr7wSLHtrU8='; style-src 'unsafe-inline'">
+<meta http-equiv="Content-Security-Policy" content="default-src 'none'; script-src 'sha256-zw3ebDRcg91E8MRvWvoppHYKy6QcHXAxMjEt7w4SD74='; style-src 'unsafe-inline'">
 <meta name="viewport" content="width=device-width, initial-scale=1">
 <title>A run of hheap</title>
 <style>
@@ -110,7 +110,7 @@ main { display: grid; grid-template-columns: minmax(230px, 25%) minmax(0, 1fr) 2
 .task.ended { border-color: var(--soft); }
 .task.act { outline: .2em solid color-mix(in oklab, var(--set), transparent 55%); outline-offset: .12em; }
 .task.find { outline: .25em solid var(--up); }
-.pill { font-size: .8em; border-radius: 1em; padding: .05em .7em; border: 1px solid var(--soft); color: var(--soft); white-space: nowrap; }
+.pill { background: var(--panel); font-size: .8em; border-radius: 1em; padding: .05em .7em; border: 1px solid var(--soft); color: var(--soft); white-space: nowrap; }
 .pill.out { border-color: var(--w); background: var(--w); color: #fff; font-weight: 650; }
 .pill.over { border-color: var(--cross); background: var(--cross); color: var(--on-strong); font-weight: 650; }
 .tiny { font-size: .8em; color: var(--soft); }
@@ -281,9 +281,9 @@ kbd { font: 12px var(--mono); border: 1px solid var(--faint); border-bottom-widt
   <div class="names" id="names"></div><div id="lanes" role="listbox" tabindex="0" aria-label="Journal: a lane for each worker"><div id="track" role="presentation"></div></div>
 </footer>
 <dialog id="help" aria-labelledby="helph"><h1 id="helph">A run, entry by entry</h1>
-  <p>The journal of a run is the list of its entries, each an atomic step of the core made by one worker. The page shows what stands after an entry: each task's heap is a box in its parent's, with its chunks and the objects in them. The heaps of running tasks are drawn as the journal has them.</p>
+  <p>The journal of a run is the list of its entries, each an atomic step of the core made by one worker. The page shows what stands after an entry: each task's heap is a box in its parent's, with the objects that it owns, by the task that allocated them. What a collection drops stays on the page.</p>
   <table><tr><td><kbd>&larr;</kbd> <kbd>&rarr;</kbd><td>an entry back, on<tr><td><kbd>Shift</kbd> with them<td>the entry before, after, of the same worker<tr><td><kbd>PgUp</kbd> <kbd>PgDn</kbd> <kbd>Home</kbd> <kbd>End</kbd><td>ten entries; the start, the end<tr><td><kbd>n</kbd> <kbd>p</kbd><td>next, previous fork, join, collection, output or end<tr><td><kbd>Space</kbd><td>play, pause<tr><td><kbd>/</kbd><td>find an object by its birth name; <kbd>Esc</kbd> lets it go<tr><td><kbd>]</kbd> <kbd>[</kbd><td>next, previous entry that touches the object looked at<tr><td><kbd>+</kbd> <kbd>&minus;</kbd> <kbd>f</kbd><td>zoom the heaps, fit<tr><td><kbd>o</kbd><td>object by object, or heap by heap<tr><td><kbd>t</kbd> <kbd>?</kbd><td>dark or light; this help</table>
-  <p>A link to an entry ends with <code>#e=17</code>, and with <code>&amp;o=1.0</code> it looks at an object. An object's name (B,N) says that it is the N-th allocation of task B. If the data has them, a double underline marks a remembered field, and pale objects are reached from no task's frames.</p>
+  <p>A link to an entry ends with <code>#e=17</code>, and with <code>&amp;o=1.0</code> it looks at an object. An object's name (B,N) says that it is the N-th allocation of task B. A double underline marks a remembered field. Of many references within heaps only those are drawn that the entry touches; point at an object to see all of its own.</p>
   <form method="dialog"><button>Close</button></form></dialog>
 <script type="application/json" id="run">"##;
 
@@ -465,16 +465,13 @@ function say(i) {                       // the state is that after entry i
 const ofTask = (n, t) => n && S.objs.has(n) && heapOf(n) !== t ? ` of task ${heapOf(n)}` : '';
 const refOrNil = v => v ? link(v) : 'nil';
 const fieldOf = (t, n, k) => `field ${k} of ${link(n)}${ofTask(n, t)}`;
-const remembers = (n, k) => {
-  const heaps = [...S.noted.values()].filter(x => x[1] === n && x[2] === k).map(x => x[0]);
-  return heaps.length ? `, a pointer down, remembered for task ${heaps.join(' and ')}'s heap` : '';
-};
+const remembers = (n, v) => v && kindOf(heapOf(n), heapOf(v)) === 'down' ? `, a pointer down, which task ${heapOf(v)}'s heap remembers` : '';
 const DID = {                           // by the instruction of the last step, of what `at` has behind it
   getr: (t, n, k, v) => `reads ${fieldOf(t, n, k)}: ${refOrNil(v)}.`,
   geti: (t, n, k, v) => `reads ${fieldOf(t, n, k)}: ${v}.`,
-  putr: (t, n, k, v) => `writes ${refOrNil(v)} into ${fieldOf(t, n, k)}${remembers(n, k)}.`,
+  putr: (t, n, k, v) => `writes ${refOrNil(v)} into ${fieldOf(t, n, k)}${remembers(n, v)}.`,
   puti: (t, n, k, v) => `writes ${v} into ${fieldOf(t, n, k)}.`,
-  cas: (t, n, k, v, won) => `compares and swaps ${fieldOf(t, n, k)}: ${won ? `it is ${refOrNil(v)} now${remembers(n, k)}` : 'it was another, and stays'}.`,
+  cas: (t, n, k, v, won) => `compares and swaps ${fieldOf(t, n, k)}: ${won ? `it is ${refOrNil(v)} now${remembers(n, v)}` : 'it was another, and stays'}.`,
   cntr: (t, n) => `counts the references of ${link(n)}${ofTask(n, t)}.`,
   cnti: (t, n) => `counts the numbers of ${link(n)}${ofTask(n, t)}.`,
   freeze: (t, n) => `freezes ${link(n)}.`,
@@ -563,11 +560,11 @@ function drawTree() {
 }
 function taskRow(x, deep) {
   const by = 4 + Math.min(deep, 8) * 12 + Math.min(Math.max(deep - 8, 0), 16) * 2;
+  return node('li', {}, node('button', { 'data-t': x.t, class: x.state, style: `padding-left:${by}px;${tint(x)}` },
 "##;
 
 pub const AFTER_3: &str =
-    r##"  return node('li', {}, node('button', { 'data-t': x.t, class: x.state, style: `padding-left:${by}px;${tint(x)}` },
-    node('span', { class: cls('dot', x.state) }), node('b', {}, `${x.t}`), ' ',
+    r##"    node('span', { class: cls('dot', x.state) }), node('b', {}, `${x.t}`), ' ',
     node('span', { class: 'st' }, `${stateOf(x).says.replace('running on ', '')} \u00b7 ${esc(x.fn)}`)));
 }
 function listTasks(kids) {
@@ -706,12 +703,12 @@ function field(o, k, own) {
 function fieldsOf(o, own) {             // of many the first few, and those that the entry touched
   const out = [], all = o.R + o.I, hit = view.fields.get(o.n) || new Map();
   let skipped = 0;
+  const skip = () => { if (skipped) out.push(node('i', { class: 'f etc' }, `${skipped} more`)); skipped = 0; };
+  for (let k = 0; k < all; k++) {
 "##;
 
 pub const AFTER_4: &str =
-    r##"  const skip = () => { if (skipped) out.push(node('i', { class: 'f etc' }, `${skipped} more`)); skipped = 0; };
-  for (let k = 0; k < all; k++) {
-    if (all > 10 && k >= 5 && !(hit.has(k) && out.length < 14)) { skipped++; continue; }
+    r##"    if (all > 10 && k >= 5 && !(hit.has(k) && out.length < 14)) { skipped++; continue; }
     skip();
     out.push(field(o, k, own));
   }
@@ -843,11 +840,11 @@ function measure() {                    // where an element stands on the stage
 }
 function routeUp(s, t, em, own, into) { // round the corner of its own card, and along the gap above it
   const left = s.x - own.l <= own.r - s.x + em * .3, x = left ? own.l : own.r, out = left ? x - em * .75 : x + em * .75, gap = own.t - em * .4;
+  const h = Math.min((gap - t.b) * .5, em * 6), mid = (x + into) / 2, start = `M${x} ${s.y}C${out} ${s.y} ${out} ${gap} ${x} ${gap}`;
 "##;
 
 pub const AFTER_5: &str =
-    r##"  const h = Math.min((gap - t.b) * .5, em * 6), mid = (x + into) / 2, start = `M${x} ${s.y}C${out} ${s.y} ${out} ${gap} ${x} ${gap}`;
-  return start + (gap - t.b < em * 1.2 ? `C${mid} ${gap} ${into} ${gap} ${into} ${t.b}` : `C${into} ${gap} ${into} ${gap - h} ${into} ${t.b}`);
+    r##"  return start + (gap - t.b < em * 1.2 ? `C${mid} ${gap} ${into} ${gap} ${into} ${t.b}` : `C${into} ${gap} ${into} ${gap - h} ${into} ${t.b}`);
 }
 function route(s, t, em, own) {         // from a field's cell to a card; own is the cell's card
   const into = Math.min(Math.max(s.x, t.l + em * .7), t.r - em * .7);
@@ -973,13 +970,13 @@ function drawLanes(follow) {
   pos ? box.setAttribute('aria-activedescendant', `e${pos}`) : box.removeAttribute('aria-activedescendant');
 }
 
+/* ------------------------------------------------------------ going about */
+
+let timer = null, linking = null, waits = 0;
 "##;
 
 pub const AFTER_6: &str =
-    r##"/* ------------------------------------------------------------ going about */
-
-let timer = null, linking = null, waits = 0;
-function keepingFocus(redraw) {         // the focus comes back to what was redrawn
+    r##"function keepingFocus(redraw) {         // the focus comes back to what was redrawn
   const el = document.activeElement, at = el && ['o', 'e', 't'].find(k => el.dataset && el.dataset[k] !== undefined), inside = at && el.closest('[id]');
   const value = at && el.dataset[at];
   redraw();
@@ -1146,11 +1143,10 @@ function begin() {
   try { const kept = localStorage.getItem('hh-theme'); if (kept) document.documentElement.dataset.theme = kept; } catch { /* no store */ }
   document.title = `${RUN.title}: a run`;
   $('title').textContent = RUN.title;
+  $('how').textContent = `${many(N, 'entry', 'entries')} by ${many(s.workers, 'worker')} \u00b7 leaf limit ${s.leaf} words \u00b7 inner limit ${s.inner} words \u00b7 ${s.chunks} chunks \u00b7 fuel ${count(s.fuel)}`;
 "##;
 
-pub const AFTER_7: &str =
-    r##"  $('how').textContent = `${many(N, 'entry', 'entries')} by ${many(s.workers, 'worker')} \u00b7 leaf limit ${s.leaf} words \u00b7 inner limit ${s.inner} words \u00b7 ${s.chunks} chunks \u00b7 fuel ${count(s.fuel)}`;
-  $('lines').innerHTML = LINES.map(lineRow).join('');
+pub const AFTER_7: &str = r##"  $('lines').innerHTML = LINES.map(lineRow).join('');
   $('legend').innerHTML = legend();
   $('names').innerHTML = workers.map(w => `<div style="--w:${hue(w)}">worker <b>${w}</b></div>`).join('');
   $('slide').max = N;
