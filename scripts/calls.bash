@@ -130,6 +130,8 @@ again() {
   [ -z "$fault" ] || refuse_words "$fault ($file has ${options[*]} on its line # options:)"
   "$find"
   kept_input=$room/trace operands=() passed=("$command" "${settings[@]}")
+  # (the program reads a copy, so a page gets its file's name here)
+  [[ $command != page || " ${settings[*]} " = *' --title '* || $file = - ]] || passed+=(--title "${file##*/}")
   run_below "$program" "${passed[@]}" <"$room/trace"
   status=$?
   explain "$status" "$command"

@@ -150,6 +150,9 @@ typed docs/TUTORIAL.md 0 91 9 .. <<'END'
 ./hheap record examples/squares.hh > squares.trace
 ./hheap again replay squares.trace
 END
+typed README.md 0 <<'END'
+./hhview again page squares.trace > squares.html
+END
 typed docs/TUTORIAL.md 0 'prints ordered' 'end: every schedule agrees' <<'END'
 ./hhview schedules squares.trace
 END
@@ -185,6 +188,19 @@ END
 typed docs/IMAGES.md 0 'end: verified 2' <<'END'
 ./hheap image examples/race.trace | ./hheap verify
 END
+typed docs/TUTORIAL.md 0 <<'END'
+./hhview again page squares.trace --title squares > squares.html
+END
+typed docs/PICTURES.md 0 <<'END'
+./hheap record examples/sort.hh > sort.trace
+./hhview again page sort.trace --title "A sort" > sort.html
+END
+typed docs/PICTURES.md 0 <<'END'
+./hhview page examples/race.trace --title "A stopped read" > race.html
+END
+for page in squares sort race; do
+  cmp -s $page.html docs/pages/$page.html || fail "docs/pages/$page.html isn't what its page says how to write"
+done
 typed docs/PICTURES.md 0 <<'END'
 ./hheap image examples/race.trace > race.image
 ./hhview heaps race.image | dot -Tsvg > race.svg
