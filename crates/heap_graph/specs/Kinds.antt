@@ -9,13 +9,13 @@ use Rattle.quoted_text.specs.Labels.{task_name}
 use Rattle.dot_text.specs.Dot.{Attributes, Statement, Edge}
 use Rattle.heap_graph.specs.Names.{task_cluster, object_name, port_name}
 
--- inside a heap grey, up to an ancestor blue, down to a descendant red and bold; in a sound image no heap refers to
--- another one, and each reference down is remembered
+-- inside a heap grey, up to an ancestor blue, down to a descendant red and bold, as on pages (page/colours.table); in a
+-- sound image no heap refers to another one, and each reference down is remembered
 abbrev pub colour_of : Relation → List ℕ
-colour_of Own = codes "gray50"
-colour_of Above = codes "blue"
-colour_of Below = codes "red"
-colour_of Apart = codes "orange"
+colour_of Own = codes "#7b8394"
+colour_of Above = codes "#1f66d6"
+colour_of Below = codes "#cf2b2b"
+colour_of Apart = codes "#b01bb8"
 
 abbrev pub width_of : Relation → List ℕ
 width_of Below = codes "2"

@@ -15,10 +15,10 @@ fn colour_of(kind: Relation) -> &'static str
     ensures { result.now ≡ colour_of kind }
 {
     match kind {
-        Relation::Own => "gray50",
-        Relation::Above => "blue",
-        Relation::Below => "red",
-        Relation::Apart => "orange",
+        Relation::Own => "#7b8394",
+        Relation::Above => "#1f66d6",
+        Relation::Below => "#cf2b2b",
+        Relation::Apart => "#b01bb8",
     }
 }
 
