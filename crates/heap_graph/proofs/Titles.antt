@@ -16,12 +16,12 @@ reference_port k v ne = let e : (v == 0) ≡ false = grind (arith, ne) in rw e (
     four : (d b : List ℕ) → codes "|<f" ++ (d ++ (codes "> " ++ b)) ≡ codes "|<f" ++ d ++ codes "> " ++ b
     four d b = simp append_assoc
 
-pub task_titled : (n w : ℕ) (x y : List ℕ) → x ≡ y
-    → codes "task " ++ (decimal n ++ (codes " " ++ (x ++ (codes ", " ++ (decimal w ++ codes " words"))))) ≡ codes "task " ++ decimal n ++ codes " " ++ y ++ codes ", " ++ decimal w ++ codes " words"
-task_titled n w x y e = rw e (six (decimal n) y (decimal w))
+pub task_titled : (n : ℕ) (x y z w : List ℕ) → x ≡ y → z ≡ w
+    → codes "task " ++ (decimal n ++ (codes " " ++ (x ++ z))) ≡ codes "task " ++ decimal n ++ codes " " ++ y ++ w
+task_titled n x y z w e f = rw (e, f) (four (decimal n) y w)
   where
-    six : (n y w : List ℕ) → codes "task " ++ (n ++ (codes " " ++ (y ++ (codes ", " ++ (w ++ codes " words"))))) ≡ codes "task " ++ n ++ codes " " ++ y ++ codes ", " ++ w ++ codes " words"
-    six n y w = simp append_assoc
+    four : (n y w : List ℕ) → codes "task " ++ (n ++ (codes " " ++ (y ++ w))) ≡ codes "task " ++ n ++ codes " " ++ y ++ w
+    four n y w = simp append_assoc
 
 pub heap_titled : (n m : ℕ) (x y : List ℕ) → x ≡ y
     → codes "<f0> " ++ (x ++ (codes "|objects: " ++ (decimal n ++ (codes "|chunks: " ++ decimal m)))) ≡ codes "<f0> " ++ y ++ codes "|objects: " ++ decimal n ++ codes "|chunks: " ++ decimal m

@@ -1,8 +1,10 @@
 -- What tasks, chunks, objects and fields are called in a graph.
-use Rattle.std.specs.Prelude.{ℕ, List, ◌++◌, codes}
+use Rattle.std.specs.Prelude.{ℕ, List, [], ◌++◌, codes}
 use Rattle.std.specs.Fmt.{decimal}
 use Rattle.image_check.specs.declared.line.Task.{Task}
 use Rattle.image_check.specs.declared.line.Chunk.{Chunk}
+use Rattle.image_check.specs.declared.line.State.{State}
+use Rattle.image_check.specs.declared.line.State.TheVariants.{Running}
 use Rattle.image_check.specs.Line.{state_word}
 use Rattle.heap_graph.specs.declared.held.Held.{Held}
 
@@ -25,9 +27,14 @@ object_name a = decimal a
 abbrev pub port_name : ℕ → List ℕ
 port_name k = codes "f" ++ decimal k
 
+-- the words that a task's heap holds; of a task that runs an image doesn't say them
+abbrev pub words_held : State → ℕ → List ℕ
+words_held Running words = []
+words_held _ words = codes ", " ++ decimal words ++ codes " words"
+
 -- its number, its state, and the words that its heap holds
 abbrev pub task_title : Task → Held → List ℕ
-task_title t h = codes "task " ++ decimal t.number ++ codes " " ++ state_word t.state ++ codes ", " ++ decimal h.words ++ codes " words"
+task_title t h = codes "task " ++ decimal t.number ++ codes " " ++ state_word t.state ++ words_held t.state h.words
 
 abbrev pub chunk_title : Chunk → List ℕ
 chunk_title c = codes "chunk " ++ decimal c.number ++ codes " of " ++ decimal c.words ++ codes " words"

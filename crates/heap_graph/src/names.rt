@@ -2,10 +2,10 @@
 
 ghost use Rattle.std.specs.Prelude.{◌≡◌, IfOk, string_bytes};
 ghost use Rattle.quoted_text.specs.Labels.{task_name};
-ghost use Rattle.heap_graph.specs.Names.{task_cluster, chunk_name, chunk_cluster, object_name, port_name, task_title, chunk_title, heap_title};
+ghost use Rattle.heap_graph.specs.Names.{task_cluster, chunk_name, chunk_cluster, object_name, port_name, task_title, words_held, chunk_title, heap_title};
 
 use crate::held::Held;
-use image_check::{Chunk, Task};
+use image_check::{Chunk, State, Task};
 use std::alloc::{AllocError, Global};
 
 pub(crate) fn task_name(alloc: Global, task: u64) -> Result<String, AllocError>
@@ -44,11 +44,23 @@ pub(crate) fn port_name(alloc: Global, place: u64) -> Result<String, AllocError>
     format!(in alloc; "f{place}")
 }
 
+// The words that a task's heap holds; nothing of a task that runs.
+fn words_held(alloc: Global, state: State, words: u64) -> Result<String, AllocError>
+    ensures { IfOk result (λ text. string_bytes text ≡ words_held state words) }
+{
+    match state {
+        State::Running => Ok(String::new(alloc)),
+        _ => format!(in alloc; ", {words} words"),
+    }
+}
+
 pub(crate) fn task_title(alloc: Global, task: &Task, held: Held) -> Result<String, AllocError>
     ensures { IfOk result (λ text. string_bytes text ≡ task_title task.now held) }
 {
     let state = task.state.word();
-    format!(in alloc; "task {} {state}, {} words", task.number, held.words)
+    let words = words_held(alloc, task.state, held.words)?;
+    let words = words.as_str();
+    format!(in alloc; "task {} {state}{words}", task.number)
 }
 
 pub(crate) fn chunk_title(alloc: Global, chunk: &Chunk) -> Result<String, AllocError>
