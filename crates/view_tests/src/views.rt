@@ -164,7 +164,7 @@ fn usage_is_shown(rt: HostRuntime) {
             "--help",
             "",
             0,
-            "usage: hhview heaps [FILE] [--path T] [--limit N]\n       hhview timeline [FILE] [OPTIONS]\n       hhview tasks [FILE] [OPTIONS]\n       hhview schedules [FILE] [OPTIONS]\nOPTIONS are those of hheap replay: --workers N, --fuel N, --chunks N, --leaf N, --inner N\n",
+            "usage: hhview heaps [FILE] [--path T] [--limit N]\n       hhview page [FILE] [OPTIONS] [--title WORDS]\n       hhview timeline [FILE] [OPTIONS]\n       hhview tasks [FILE] [OPTIONS]\n       hhview schedules [FILE] [OPTIONS]\nOPTIONS are those of hheap replay: --workers N, --fuel N, --chunks N, --leaf N, --inner N\n",
             "",
         )],
     );
@@ -203,6 +203,15 @@ const REFUSED: &[Call] = &[
         "end: words refused\n",
     ),
     ("--help heaps", "", 2, "", "end: words refused\n"),
+    ("page --title", TRAPS, 2, "", "end: words refused\n"),
+    (
+        "page --title a --title b",
+        TRAPS,
+        2,
+        "",
+        "end: words refused\n",
+    ),
+    ("page --limit 3", TRAPS, 2, "", "end: words refused\n"),
     (
         "heaps",
         "image 2\n",
@@ -216,6 +225,20 @@ const REFUSED: &[Call] = &[
         3,
         "",
         "end: source refused line 3 noend\n",
+    ),
+    (
+        "page --title a",
+        "fn main\nret\n",
+        3,
+        "",
+        "end: source refused line 3 noend\n",
+    ),
+    (
+        "page --workers 2 --title a FILE",
+        "fn main\nret\nend\ntrace 2\n0 took 0\n",
+        11,
+        "",
+        "end: trace refused short\n",
     ),
     (
         "schedules",
