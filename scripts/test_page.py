@@ -3,7 +3,7 @@
 
     scripts/test_page.py HHEAP HHVIEW [EXAMPLE ..]
 
-HHEAP and HHVIEW are the built programs. Of each example's page, and of a sort of 500 numbers with 5,000 entries: no
+HHEAP and HHVIEW are the built programs. Of each example's page, and of a sort of 330 numbers with 5,000 entries (each eleventh of them): no
 script fails and nothing is asked of a network, at any entry, forwards and backwards; each state is the same on the way
 back; keys, the search and links to entries lead where they say; and at each tenth entry after a `ran`, where the trace
 is cut, the tasks, the objects at rest with their fields, and the remembered fields are those of `hheap image`. The page
@@ -29,9 +29,10 @@ RUNS = {
     'sort.hh': ['--workers', '4'], 'squares.hh': [], 'trap_div.hh': [], 'no_chunks.hh': ['--chunks', '32'],
     'queens.hh': ['--workers', '4'], 'graph.hh': ['--workers', '3', '--leaf', '64', '--inner', '64'],
 }
-LONG = 'sort of 500'
+LONG = 'sort of 330'
 LONG_OPTIONS = ['--workers', '4', '--chunks', '65536']
 LONG_CUTS = 12
+LONG_STRIDE = 11
 STATE = '''(() => { const S = hh.state; return {
   tasks: [...S.tasks.values()].filter(x => x.state !== 'joined').map(x => [String(x.t), x.state]),
   objects: [...S.objs.values()].map(o => [o.n, [hh.ownerOf(o.n), o.m, o.R, o.I, o.f]]),
@@ -43,11 +44,16 @@ BAD = '''(() => { const bad = [], S = hh.state, said = document.getElementById('
   if (!said || /undefined|NaN|null/.test(said)) bad.push(said);
   if (/undefined|NaN/.test(document.getElementById('stage').textContent)) bad.push('stage');
   return bad; })()'''
-WALK = '''(() => { const bad = [], seen = [];
-  const visit = i => { hh.go(i); for (const x of BAD) bad.push([i, x]); };
-  for (let i = 0; i <= hh.N; i += STEP) { visit(i); if (i % DIGESTED === 0) seen[i] = DIGEST; }
-  for (let i = hh.N - hh.N % STEP; i >= 0; i -= STEP) { visit(i); if (seen[i] && DIGEST !== seen[i]) bad.push([i, 'another state on the way back']); }
-  return bad; })()'''.replace('DIGESTED', 'STRIDE').replace('DIGEST', DIGEST).replace('STRIDE', 'DIGESTED').replace('BAD', BAD)
+VISIT = '''(places => { const bad = [];
+  for (const i of places) {
+    hh.go(i);
+    for (const x of BAD) bad.push([i, x]);
+    if (i % KEPT) continue;
+    const is = DIGEST;
+    if (seen[i] === undefined) seen[i] = is;
+    else if (seen[i] !== is) bad.push([i, 'another state on the way back']);
+  }
+  return bad; })(PLACES)'''.replace('BAD', BAD).replace('DIGEST', DIGEST)
 TIMES = '''(() => { const times = [];
   for (let i = 0; i <= hh.N; i += Math.ceil(hh.N / 200)) { const t = performance.now(); hh.go(i); document.body.offsetHeight; times.push(performance.now() - t); }
   return times.sort((a, b) => a - b)[Math.floor(times.length / 2)]; })()'''
@@ -64,7 +70,7 @@ def text_of(example):
     with open(os.path.join(TOP, 'examples', name), encoding='utf-8') as f:
         program = f.read()
     if example == LONG:
-        program = program.replace('set i5 12\n', 'set i5 500\n').replace('set i0 12\n', 'set i0 500\n')
+        program = program.replace('set i5 12\n', 'set i5 330\n').replace('set i0 12\n', 'set i0 330\n')
     return program, options
 
 
@@ -128,6 +134,16 @@ def same_as_image(page, hheap, program, trace, options, at):
     assert collected or at_rest == set(objects), (at, at_rest ^ set(objects))
 
 
+def walk(page, count, stride):
+    """Forwards and backwards through the entries, a few at a time."""
+    places, bad = list(range(0, count + 1, stride)), []
+    page.run('window.seen = []; 0')
+    for way in (places, places[::-1]):
+        for at in range(0, len(way), 50):
+            bad += page.run(VISIT.replace('KEPT', str(7 * stride if stride > 1 else 1)).replace('PLACES', str(way[at:at + 50])))
+    return bad
+
+
 def leads(page, count):
     page.run('hh.go(0)')
     for key, want in (('ArrowRight', 1), ('ArrowRight', 2), ('ArrowLeft', 1), ('End', count), ('Home', 0)):
@@ -163,8 +179,7 @@ def test(page, hheap, hhview, example, room):
     opened = time.time() - opened
     count = page.run('hh.N')
     assert count == len(trace) - 1
-    long = example == LONG
-    bad = page.run(WALK.replace('STEP', '7' if long else '1').replace('DIGESTED', '49' if long else '1'))
+    bad = walk(page, count, LONG_STRIDE if example == LONG else 1)
     assert not bad, bad[:5]
     step = page.run(TIMES)
     leads(page, count)
