@@ -50,8 +50,8 @@ VISIT = '''(places => { const bad = [];
     for (const x of BAD) bad.push([i, x]);
     if (i % KEPT) continue;
     const is = DIGEST;
-    if (seen[i] === undefined) seen[i] = is;
-    else if (seen[i] !== is) bad.push([i, 'another state on the way back']);
+    if (digests[i] === undefined) digests[i] = is;
+    else if (digests[i] !== is) bad.push([i, 'another state on the way back']);
   }
   return bad; })(PLACES)'''.replace('BAD', BAD).replace('DIGEST', DIGEST)
 TIMES = '''(() => { const times = [];
@@ -137,7 +137,7 @@ def same_as_image(page, hheap, program, trace, options, at):
 def walk(page, count, stride):
     """Forwards and backwards through the entries, a few at a time."""
     places, bad = list(range(0, count + 1, stride)), []
-    page.run('window.seen = []; 0')
+    page.run('window.digests = []; 0')
     for way in (places, places[::-1]):
         for at in range(0, len(way), 50):
             bad += page.run(VISIT.replace('KEPT', str(7 * stride if stride > 1 else 1)).replace('PLACES', str(way[at:at + 50])))
