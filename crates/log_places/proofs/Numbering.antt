@@ -322,7 +322,7 @@ same_slot v block other x y s t a b e =
     let end : s.end ≡ t.end = a.end ∙ (ap (λ p. p * 4096 + a.stretch.end) page ∙ (ap (λ (z : Stretch). y / 4096 * 4096 + z.end) d.1 ∙ sym b.end)) in (
       ap (λ (k : PageKey). k.block) d.0,
       ap (λ n. record { number = n; start = s.start; end = s.end }) e
-      ∙ (ap (λ n. record { number = t.number; start = n; end = s.end }) start ∙ ap (λ n. record { number = t.number; start = t.start; end = n }) end),
+          ∙ (ap (λ n. record { number = t.number; start = n; end = s.end }) start ∙ ap (λ n. record { number = t.number; start = t.start; end = n }) end),
     )
 
 pub slots_are_one : SlotsAreOne

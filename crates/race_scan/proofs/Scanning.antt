@@ -169,7 +169,7 @@ pub cut_more : (old new : PlacesValue) (touches : List Touch) (n : ℕ) (d : Tou
 cut_more old new touches n d lt keeps before last k e less =
     elim (cases_lt k n) [
       | inl earlier ↦ λ i there page. keeps (page_key (get_or touches k e).region.block page) (run_start (get_or touches k e).region i - page * 4096)
-            (min 4096 (run_start (get_or touches k e).region i + (get_or touches k e).region.length - page * 4096)) (before k e earlier i there page)
+          (min 4096 (run_start (get_or touches k e).region i + (get_or touches k e).region.length - page * 4096)) (before k e earlier i there page)
       | inr ge ↦
           let same : n ≡ k = omega arith in
           let is : get_or touches n d ≡ get_or touches n e = same_Some (get_or touches n d) (get_or touches n e) (sym (slice_get-get_or touches n d lt) ∙ slice_get-get_or touches n e lt) in

@@ -11,11 +11,7 @@ use race_cells::Strands;
 use std::alloc::{AllocError, Global};
 
 /// The stretches of the locations of accesses, of which there may be so many at most.
-pub fn number_all(
-    alloc: Global,
-    touches: &[Touch],
-    limit: usize,
-) -> Result<Numbers, NumberError>
+pub fn number_all(alloc: Global, touches: &[Touch], limit: usize) -> Result<Numbers, NumberError>
     requires { All (λ t. IsRegion t.region) touches.now }
     ensures { IfOk result (λ numbers. All (λ t. IsRegionCut numbers t.region) touches.now) }
 {

@@ -58,8 +58,7 @@ impl RaceScan {
         ensures size { length self.new.cells ≡ length self.old.cells }
     {
         slots_of(numbers, touch.region, &mut self.spare)?;
-        self.cells
-            .visit_all(alloc, order, touch.region.block, &self.spare, touch.access)
+        self.cells.visit_all(alloc, order, touch.region.block, &self.spare, touch.access)
     }
 
     /// The races of the accesses so far: one for each stretch of which two accesses race.

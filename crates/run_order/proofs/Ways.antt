@@ -212,8 +212,13 @@ module _ (walk : WalkValue) (w : IsWalked walk) where
       → IsExit (tasks_in walk.tasks) q (strand_at walk.order i) k
   parent_exit i p f q k par s (inl (et, ei)) =
       let is : p ≡ q = sym (next_task p (task_at walk.order i) f s) ∙ et in
-      inr (task_at walk.order i, s.turn, itself (tasks_in walk.tasks) (task_at walk.order i), subst (λ x. Does (tasks_in walk.tasks) x s.turn (Join (task_at walk.order i))) is s.joins,
-      sym ei ∙ ap (λ (u : Strand). u.index) s.at)
+      inr (
+        task_at walk.order i,
+        s.turn,
+        itself (tasks_in walk.tasks) (task_at walk.order i),
+        subst (λ x. Does (tasks_in walk.tasks) x s.turn (Join (task_at walk.order i))) is s.joins,
+        sym ei ∙ ap (λ (u : Strand). u.index) s.at,
+      )
   parent_exit i p f q k par s (inr (c, m, up, jn, ek)) =
       inr (c, m, below (tasks_in walk.tasks) c p (task_at walk.order i) (subst (IsAncestor (tasks_in walk.tasks) c) (next_task p (task_at walk.order i) f s) up) par, jn, ek)
 
@@ -239,25 +244,29 @@ module _ (walk : WalkValue) (w : IsWalked walk) where
       }
 
   found_here : (most i j : ℕ) → i < length walk.order → j < length walk.order → is_above walk (task_at walk.order i) j ≡ true → (e : ℕ) × Finds (suc most) i j e
-  found_here most i j lt lt' e =
-      (i, (
-        ap (λ t. cond t (Some i) (find (λ x. is_above walk (task_at walk.order x) j) (if_there (Goes most) (next i)))) e,
-        lt,
-        own_exit i j lt (above_is (task_at walk.order i) j lt' e),
-      ))
+  found_here most i j lt lt' e = (
+    i,
+    (
+      ap (λ t. cond t (Some i) (find (λ x. is_above walk (task_at walk.order x) j) (if_there (Goes most) (next i)))) e,
+      lt,
+      own_exit i j lt (above_is (task_at walk.order i) j lt' e),
+    ),
+  )
 
   found_further : (m most i j p : ℕ) → i < length walk.order → j < length walk.order → is_above walk (task_at walk.order i) j ≡ false
       → ((f : ℕ) → f < length walk.order → IsLine (tasks_in walk.tasks) 0 m (task_at walk.order f) → (e : ℕ) × Finds most f j e)
       → IsLine (tasks_in walk.tasks) 0 m p → IsParent (tasks_in walk.tasks) p (task_at walk.order i) → (e : ℕ) × Finds (suc most) i j e
   found_further m most i j p lt lt' e again up par =
       let s = next_step p (task_at walk.order i) (m, up) par in
-      let found = again s.0 s.1.within (subst (λ x. IsLine (tasks_in walk.tasks) 0 m x) (sym (next_task p (task_at walk.order i) s.0 s.1)) up) in
-      (found.0, (
-        ap (λ t. cond t (Some i) (find (λ x. is_above walk (task_at walk.order x) j) (if_there (Goes most) (next i)))) e
-            ∙ (ap (λ o. find (λ x. is_above walk (task_at walk.order x) j) (if_there (Goes most) o)) s.1.found ∙ found.1.0),
-        found.1.1,
-        further_exit i j p s.0 found.0 par s.1 (λ over. false≢true (sym e ∙ is_above_if (task_at walk.order i) j lt' over)) found.1.2,
-      ))
+      let found = again s.0 s.1.within (subst (λ x. IsLine (tasks_in walk.tasks) 0 m x) (sym (next_task p (task_at walk.order i) s.0 s.1)) up) in (
+        found.0,
+        (
+          ap (λ t. cond t (Some i) (find (λ x. is_above walk (task_at walk.order x) j) (if_there (Goes most) (next i)))) e
+              ∙ (ap (λ o. find (λ x. is_above walk (task_at walk.order x) j) (if_there (Goes most) o)) s.1.found ∙ found.1.0),
+          found.1.1,
+          further_exit i j p s.0 found.0 par s.1 (λ over. false≢true (sym e ∙ is_above_if (task_at walk.order i) j lt' over)) found.1.2,
+        ),
+      )
 
   found_by : (k most i j : ℕ) → k < suc most → i < length walk.order → j < length walk.order → IsLine (tasks_in walk.tasks) 0 k (task_at walk.order i)
       → ((m f : ℕ) → m < most → f < length walk.order → IsLine (tasks_in walk.tasks) 0 m (task_at walk.order f) → (e : ℕ) × Finds most f j e)
@@ -280,13 +289,15 @@ module _ (walk : WalkValue) (w : IsWalked walk) where
   exit_is i j lt lt' =
       let line = line_at i lt in
       let found = exit_found line.0 (length walk.tasks) i j line.2 lt lt' line.1 in
-      let is = found.1.0 in
-      (found.0, (
-        ap (λ b. if b && nat_lt j (length walk.order) then find (λ x. is_above walk (task_at walk.order x) j) (way_up walk i) else None) (lt-ltb i (length walk.order) lt)
-            ∙ (ap (λ b. if b then find (λ x. is_above walk (task_at walk.order x) j) (way_up walk i) else None) (lt-ltb j (length walk.order) lt') ∙ is),
-        found.1.1,
-        found.1.2,
-      ))
+      let is = found.1.0 in (
+        found.0,
+        (
+          ap (λ b. if b && nat_lt j (length walk.order) then find (λ x. is_above walk (task_at walk.order x) j) (way_up walk i) else None) (lt-ltb i (length walk.order) lt)
+              ∙ (ap (λ b. if b then find (λ x. is_above walk (task_at walk.order x) j) (way_up walk i) else None) (lt-ltb j (length walk.order) lt') ∙ is),
+          found.1.1,
+          found.1.2,
+        ),
+      )
 
   exit_none : (i j : ℕ) → ((i < length walk.order) × (j < length walk.order) → ⊥) → exit_of walk i j ≡ None
   exit_none i j apart =

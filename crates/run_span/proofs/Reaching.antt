@@ -6,7 +6,7 @@ use Rattle.std.proofs.lemmas.List.{length-append, length-set, length-replicate, 
 use Rattle.std.proofs.lemmas.List.Sums.{sum_by_more, sum_by_more_le}
 use Rattle.std.proofs.lemmas.Option.{same_Some, slice_get_within, get_or_from_slice_get}
 use Rattle.listed.proofs.Members.{got_front}
-use Rattle.listed.proofs.Places.{got_some, got_last, got_more}
+use Rattle.listed.proofs.Places.{got_some, got_none, got_last, got_more}
 use Rattle.listed.proofs.Options.{none_some}
 use Rattle.walk_laws.specs.Reached.{IsWalk}
 use Rattle.fork_graph.specs.declared.graph.Turn.{Turn}
@@ -22,9 +22,9 @@ use Rattle.ancestor_laws.proofs.Trees.{below, joins_child, no_self, same_ancesto
 use Rattle.ancestor_laws.proofs.Walks.{IsRooted, here, and_then, along, attached_rooted, rooted_attached}
 use Rattle.ancestor_laws.proofs.Serial.{serial_order_extends, levels_are_few}
 use Rattle.ancestor_laws.proofs.Blocks.{are_blocks}
-use Rattle.ancestor_laws.proofs.Span.{are_reaches}
+use Rattle.ancestor_laws.proofs.Span.{are_reaches, span_is_longest}
 use Rattle.run_span.specs.declared.reach.Reaches.{Reaches}
-use Rattle.run_span.specs.Reaches.{last_reach, latest_of, turn_before, with_child, reach_before, entered, AreWeights, AreReachesOf}
+use Rattle.run_span.specs.Reaches.{last_reach, latest_of, turn_before, with_child, reach_before, entered, AreWeights, AreReachesOf, IsSpanOf}
 
 if_is : {A : Type 0} (b c : Bool) (x y : A) → b ≡ c → (if b then x else y) ≡ (if c then x else y)
 if_is b c x y e = ap (λ z. if z then x else y) e
@@ -37,10 +37,19 @@ last_some all i r e h =
     let at : length all - 1 ≡ i = omega arith in
     ap (λ k. get_or all k 0) at ∙ get_or_from_slice_get all i r 0 h
 
-zero_latest : (n t : ℕ) → get_or (replicate n 0) t 0 ≡ 0
-zero_latest n t = elim (cases_lt t n) [
-  | inl lt ↦ get_or-replicate n t 0 0 lt
-  | inr ge ↦ get_or_past (replicate n 0) t 0 (let e : length (replicate n 0) ≡ n = length-replicate n 0 in omega arith)
+same_latest : (z n t : ℕ) → get_or (replicate n z) t z ≡ z
+same_latest z n t =
+    let size : length (replicate n z) ≡ n = length-replicate n z in
+    elim (cases_lt t n) [
+      | inl lt ↦ get_or-replicate n t z z lt
+      | inr ge ↦ get_or_past (replicate n z) t z (omega arith)
+    ]
+
+-- where nothing stands, what is told otherwise
+pub none_there : (xs : List ℕ) (i : ℕ) → slice_get xs i ≡ None → 0 ≡ get_or xs i 0
+none_there xs i h = elim (cases_lt i (length xs)) [
+  | inl lt ↦ absurd (got_none xs i lt h)
+  | inr ge ↦ sym (get_or_past xs i 0 ge)
 ]
 
 -- the weights of so many first strands
@@ -65,7 +74,7 @@ reaching_start tasks n order weights = record {
   size = refl;
   slots = length-replicate n 0;
   all_bound = λ i r h. none_some h;
-  latest_bound = λ t. let e : get_or (replicate n 0) t 0 ≡ 0 = zero_latest n t in omega arith;
+  latest_bound = λ t. let z : ℕ = 0 in let e : get_or (replicate n z) t z ≡ z = same_latest z n t in omega arith;
   each = λ weight w i r u h g. none_some g;
   going = λ t k i j h lt g le. absurd (omega arith);
   ended = λ t i h lt. absurd (omega arith);
@@ -305,6 +314,30 @@ module _ (rows : List (List Turn)) (order : List Strand) (weights : List ℕ) (s
 
     pub reaching_step : IsReaching (tasks_in rows) (length rows) order weights (e + 1) (entered rs u (reach_before (tasks_in rows) rs u + x))
     reaching_step = step_by (reach_before (tasks_in rows) rs u + x) refl
+
+  -- THE LAST STRAND
+
+  last_place : slice_get order (length order - 1) ≡ Some (last_of (tasks_in rows) 0)
+  last_place =
+      let root = same_ancestor (tasks_in rows) 0 0 refl in
+      let first = place_there (first_of 0) (record { stands = omega arith; rooted = root }) in
+      let last = place_there (last_of (tasks_in rows) 0) (record { stands = omega arith; rooted = root }) in
+      let lt : last.0 < length order = slice_get_within order last.0 (last_of (tasks_in rows) 0) last.1 in
+      let end = got_some order (length order - 1) (omega arith) in
+      let within = (blocks.block 0 first.0 last.0 (length order - 1) end.0 first.1 last.1 end.1).0 (rooted_at (length order - 1) end.0 end.1).rooted in
+      let le : length order - 1 ≤ last.0 = within.1 in
+      subst (λ i. slice_get order i ≡ Some (last_of (tasks_in rows) 0)) (let e : last.0 ≡ length order - 1 = omega arith in e) last.1
+
+  pub some_strands : 0 < length order
+  some_strands =
+      let first = place_there (first_of 0) (record { stands = omega arith; rooted = same_ancestor (tasks_in rows) 0 0 refl }) in
+      let lt : first.0 < length order = slice_get_within order first.0 (first_of 0) first.1 in
+      omega arith
+
+  pub span_last : (reaches : List ℕ) (span : ℕ) → AreReachesOf (tasks_in rows) order weights reaches → slice_get reaches (length reaches - 1) ≡ Some span → IsSpanOf (tasks_in rows) order weights span
+  span_last reaches span are h weight w =
+      (span_is_longest (tasks_in rows) weight nested).1 span
+      (are.each weight w (length order - 1) span (last_of (tasks_in rows) 0) last_place (subst (λ n. slice_get reaches (n - 1) ≡ Some span) are.size h))
 
 pub reaching_end : (tasks : Tasks) (n : ℕ) (order : List Strand) (weights : List ℕ) (rs : Reaches) → IsReaching tasks n order weights (length order) rs → AreReachesOf tasks order weights rs.all
 reaching_end tasks n order weights rs f = record { size = f.size; each = λ weight w i r u h g. f.each weight w i r u h g }

@@ -4,7 +4,7 @@ use Rattle.fork_graph.specs.declared.graph.Turn.{Turn}
 use Rattle.fork_graph.specs.declared.graph.Turn.TheVariants.{Spawn, Join}
 use Rattle.fork_graph.specs.declared.graph.Strand.{Strand}
 use Rattle.fork_graph.specs.Graph.{Tasks}
-use Rattle.ancestor_laws.specs.Span.{IsReach}
+use Rattle.ancestor_laws.specs.Span.{IsReach, IsSpan}
 use Rattle.run_span.specs.declared.reach.Reaches.{Reaches}
 
 -- the last of some reaches; 0 where there is none
@@ -39,3 +39,7 @@ pub record AreReachesOf (tasks : Tasks) (order : List Strand) (weights reaches :
   pub size : length reaches ≡ length order
   pub each : (weight : Strand → ℕ) → AreWeights order weights weight
       → (i reach : ℕ) (u : Strand) → slice_get order i ≡ Some u → slice_get reaches i ≡ Some reach → IsReach tasks weight u reach
+
+-- the greatest weight of a walk, where strands have these weights
+abbrev pub IsSpanOf : Tasks → List Strand → List ℕ → ℕ → Type 0
+IsSpanOf tasks order weights span = (weight : Strand → ℕ) → AreWeights order weights weight → IsSpan tasks weight span

@@ -1,11 +1,11 @@
 // The reach of each strand of a run: the greatest weight of a walk to it from the root's first strand.
 
-ghost use Rattle.std.specs.Prelude.{◌≡◌, ◌+◌, ◌<◌, ◌^◌, [], IfOk, OnOk, length, sum, slice_get, replicate};
+ghost use Rattle.std.specs.Prelude.{◌≡◌, ◌+◌, ◌-◌, ◌<◌, ◌^◌, Some, [], IfOk, OnOk, length, sum, slice_get, replicate};
 ghost use Rattle.fork_graph.specs.Graph.{tasks_in};
 ghost use Rattle.fork_graph.specs.Nested.{IsNested};
 ghost use Rattle.fork_graph.specs.Faults.{SpawnsBelow};
 ghost use Rattle.ancestor_laws.specs.Serial.{serial_order};
-ghost use Rattle.run_span.specs.Reaches.{entered, last_reach, latest_of, reach_before, turn_before, AreReachesOf};
+ghost use Rattle.run_span.specs.Reaches.{entered, last_reach, latest_of, reach_before, turn_before, AreReachesOf, IsSpanOf};
 
 use fork_graph::{Strand, Turn};
 use listed::Listed;
@@ -88,7 +88,7 @@ fn turn_before(tasks: &Listed<Listed<Turn>>, strand: Strand) -> Option<Turn>
 
 /// The reach of each strand of a nested run, in the serial order: the greatest weight of a walk to it from the root's
 /// first strand. The last one is the run's span.
-pub fn reaches(
+pub fn reaches_of(
     alloc: Global,
     tasks: &Listed<Listed<Turn>>,
     order: &[Strand],
@@ -110,4 +110,32 @@ pub fn reaches(
         reaches.enter(strand, reach)?;
     }
     Ok(reaches.all)
+}
+
+/// The span of a nested run, whose strands have these weights in the serial order: the greatest weight of a walk from
+/// the root's first strand.
+pub fn span_of(
+    alloc: Global,
+    tasks: &Listed<Listed<Turn>>,
+    order: &[Strand],
+    weights: &[u64],
+) -> Result<u64, AllocError>
+    requires some { 0 < length tasks.now }
+    requires nested { IsNested (tasks_in tasks.now) }
+    requires below { SpawnsBelow (tasks_in tasks.now) (length tasks.now) }
+    requires order { order.now ≡ serial_order (tasks_in tasks.now) (length tasks.now) }
+    requires weighed { length weights.now ≡ length order.now }
+    requires fits { sum weights.now < 2 ^ 64 }
+    ensures { IfOk result (IsSpanOf (tasks_in tasks.now) order.now weights.now) }
+{
+    let reaches = reaches_of(alloc, tasks, order, weights)?;
+    Ok(last_reach(&reaches))
+}
+
+// The reach of the last strand.
+fn last_reach(reaches: &Listed<u64>) -> u64
+    requires { 0 < length reaches.now }
+    ensures { slice_get reaches.now (length reaches.now - 1) ≡ Some result }
+{
+    *reaches.at(reaches.len() - 1)
 }

@@ -6,7 +6,7 @@ use Rattle.fork_graph.specs.Graph.{tasks_in, strand}
 use Rattle.run_span.specs.declared.reach.Reaches.{Reaches}
 use Rattle.run_span.specs.Reaches.{reach_before, entered, AreReachesOf}
 use Rattle.run_span.proofs.Reaching.{IsReaching, total, reaching_start, reaching_step, reaching_end, before_bound}
-use Rattle.run_span.proofs.reach.reaches.Goals as goal
+use Rattle.run_span.proofs.reach.reaches_of.Goals as goal
 
 pub loop-place-init : goal.loop-place-init
 loop-place-init c =
