@@ -1,5 +1,5 @@
-// Tests of graphs of fork-join runs: their first faults, and which of their strands precede which. It has no code of
-// its own.
+// Tests of graphs of fork-join runs: their first faults, which of their strands precede which, work and span. It has no
+// code of its own.
 #![tactic(auto)]
 
 #[cfg(test)]
@@ -8,3 +8,5 @@ mod faults;
 mod orders;
 #[cfg(test)]
 mod runs;
+#[cfg(test)]
+mod spans;

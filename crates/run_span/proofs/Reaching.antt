@@ -150,7 +150,7 @@ module _ (rows : List (List Turn)) (order : List Strand) (weights : List ℕ) (s
         let none : last_reach rs.all ≡ 0 = last_none rs.all (f.size ∙ at) in
         let sum : weight (first_of 0) ≡ last_reach rs.all + weight (first_of 0) = omega arith in
         subst (λ x. IsReach (tasks_in rows) weight (first_of x) (last_reach rs.all + weight (first_of x))) (sym root)
-          (subst (IsReach (tasks_in rows) weight (first_of 0)) sum reaches.root)
+        (subst (IsReach (tasks_in rows) weight (first_of 0)) sum reaches.root)
     first_by t h (suc m, (p, up, (k, sp))) =
         let lt : k < length (tasks_in rows p) = slice_get_within (tasks_in rows p) k (Spawn t) sp in
         let a = place_there (strand p k) (record { stands = omega arith; rooted = (m, up) }) in
@@ -159,7 +159,7 @@ module _ (rows : List (List Turn)) (order : List Strand) (weights : List ℕ) (s
         let r = got_some rs.all a.0 (omega arith) in
         let last : last_reach rs.all ≡ r.0 = last_some rs.all a.0 r.0 (omega arith) r.1 in
         subst (λ x. IsReach (tasks_in rows) weight (first_of t) (x + weight (first_of t))) (sym last)
-          (reaches.child p k t r.0 sp (f.each weight w a.0 r.0 (strand p k) a.1 r.1))
+        (reaches.child p k t r.0 sp (f.each weight w a.0 r.0 (strand p k) a.1 r.1))
 
     -- past a turn
     past_by : (t k : ℕ) (turn : Turn) → Does (tasks_in rows) t k turn → slice_get order e ≡ Some (strand t (k + 1)) → IsReach (tasks_in rows) weight (strand t k) (latest_of rs t)
@@ -170,7 +170,7 @@ module _ (rows : List (List Turn)) (order : List Strand) (weights : List ℕ) (s
         let up = joins_child (tasks_in rows) nested.fork_join t k c jn in
         let last = place_there (last_of (tasks_in rows) c) (record { stands = omega arith; rooted = below (tasks_in rows) 0 t c r.rooted up }) in
         let le : last.0 ≤ e = serial.extends last.0 e (last_of (tasks_in rows) c) (strand t (k + 1)) last.1 h
-            (and_then (tasks_in rows) (last_of (tasks_in rows) c) (last_of (tasks_in rows) c) (strand t (k + 1)) (here (tasks_in rows) (last_of (tasks_in rows) c)) (inr (inr (t, k, c, jn, refl, refl)))) in
+        (and_then (tasks_in rows) (last_of (tasks_in rows) c) (last_of (tasks_in rows) c) (strand t (k + 1)) (here (tasks_in rows) (last_of (tasks_in rows) c)) (inr (inr (t, k, c, jn, refl, refl)))) in
         let lt : last.0 < e = elim (cases_lt last.0 e) [
           | inl before ↦ before
           | inr ge ↦
@@ -198,7 +198,7 @@ module _ (rows : List (List Turn)) (order : List Strand) (weights : List ℕ) (s
         ] in
         let noted = f.going t k own.0 e own.1 lt h (omega arith) in
         subst (λ o. IsReach (tasks_in rows) weight (strand t (k + 1)) (with_child rs (latest_of rs t) o + weight (strand t (k + 1)))) (sym turn.1)
-          (past_by t k turn.0 turn.1 h (f.each weight w own.0 (latest_of rs t) (strand t k) own.1 noted))
+        (past_by t k turn.0 turn.1 h (f.each weight w own.0 (latest_of rs t) (strand t k) own.1 noted))
 
     pub next_reach : (u : Strand) → slice_get order e ≡ Some u → IsReach (tasks_in rows) weight u (reach_before (tasks_in rows) rs u + weight u)
     next_reach u h =
@@ -206,19 +206,19 @@ module _ (rows : List (List Turn)) (order : List Strand) (weights : List ℕ) (s
           | inl none ↦
               let same : strand u.task 0 ≡ u = ap (strand u.task) (sym none) in
               let is_first : last_reach rs.all ≡ reach_before (tasks_in rows) rs u =
-                  sym (if_is (u.index == 0) true (last_reach rs.all) (with_child rs (latest_of rs u.task) (turn_before (tasks_in rows) u)) (eq-eqb u.index 0 none)) in
+              sym (if_is (u.index == 0) true (last_reach rs.all) (with_child rs (latest_of rs u.task) (turn_before (tasks_in rows) u)) (eq-eqb u.index 0 none)) in
               let r = first_by u.task (h ∙ ap Some (sym same)) (rooted_at e u h).rooted in
               subst (λ x. IsReach (tasks_in rows) weight u (x + weight u)) is_first
-                (subst (λ (v : Strand). IsReach (tasks_in rows) weight v (last_reach rs.all + weight v)) same r)
+              (subst (λ (v : Strand). IsReach (tasks_in rows) weight v (last_reach rs.all + weight v)) same r)
           | inr more ↦
               let k : ℕ = u.index - 1 in
               let index : k + 1 ≡ u.index = elim (cases_lt 0 u.index) [ inl lt ↦ omega arith | inr ge ↦ absurd (more (omega arith)) ] in
               let same : strand u.task (k + 1) ≡ u = ap (strand u.task) index in
               let is_next : with_child rs (latest_of rs u.task) (turn_before (tasks_in rows) u) ≡ reach_before (tasks_in rows) rs u =
-                  sym (if_is (u.index == 0) false (last_reach rs.all) (with_child rs (latest_of rs u.task) (turn_before (tasks_in rows) u)) (ne_eqb u.index 0 more)) in
+              sym (if_is (u.index == 0) false (last_reach rs.all) (with_child rs (latest_of rs u.task) (turn_before (tasks_in rows) u)) (ne_eqb u.index 0 more)) in
               let r = next_by u.task k (h ∙ ap Some (sym same)) in
               subst (λ x. IsReach (tasks_in rows) weight u (x + weight u)) is_next
-                (subst (λ (v : Strand). IsReach (tasks_in rows) weight v (with_child rs (latest_of rs u.task) (slice_get (tasks_in rows u.task) k) + weight v)) same r)
+              (subst (λ (v : Strand). IsReach (tasks_in rows) weight v (with_child rs (latest_of rs u.task) (slice_get (tasks_in rows u.task) k) + weight v)) same r)
         ]
 
   -- ONE STRAND MORE
@@ -276,7 +276,7 @@ module _ (rows : List (List Turn)) (order : List Strand) (weights : List ℕ) (s
                 let is_x : weight u ≡ x = same_Some (weight u) x (sym (w e u at) ∙ has) in
                 let all : reach_before (tasks_in rows) rs u + weight u ≡ r = omega arith in
                 subst (λ (z : Strand). IsReach (tasks_in rows) weight z r) is_v
-                  (subst (IsReach (tasks_in rows) weight u) all (next_reach e rs f weight w u at))
+                (subst (IsReach (tasks_in rows) weight u) all (next_reach e rs f weight w u at))
           ];
           going = λ t k i j hi lt hj le. elim (cases_lt i e) [
             | inl before ↦

@@ -59,7 +59,11 @@ impl Reaches {
         ensures { result ≡ last_reach self.now.all }
     {
         let count = self.all.len();
-        if count == 0 { 0 } else { *self.all.at(count - 1) }
+        if count == 0 {
+            0
+        } else {
+            *self.all.at(count - 1)
+        }
     }
 
     // Enters the reach of the next strand.
@@ -129,11 +133,11 @@ pub fn span_of(
     ensures { IfOk result (IsSpanOf (tasks_in tasks.now) order.now weights.now) }
 {
     let reaches = reaches_of(alloc, tasks, order, weights)?;
-    Ok(last_reach(&reaches))
+    Ok(final_reach(&reaches))
 }
 
 // The reach of the last strand.
-fn last_reach(reaches: &Listed<u64>) -> u64
+fn final_reach(reaches: &Listed<u64>) -> u64
     requires { 0 < length reaches.now }
     ensures { slice_get reaches.now (length reaches.now - 1) ≡ Some result }
 {
