@@ -1,5 +1,6 @@
 // Laws of the machine, each the contract of a function that does nothing.
 
+ghost use Rattle.hh_model.specs.Counts.{SizesAreBounded};
 ghost use Rattle.hh_model.specs.PathLaw.{PathIsPrecedence};
 ghost use Rattle.path_laws.specs.ReadLaws.{ReadsAreDecided};
 ghost use Rattle.model_laws.specs.Winner.{OneWinner, SomeCasWins};
@@ -24,4 +25,10 @@ pub fn some_cas_wins()
 /// doesn't; a stop changes nothing but the end.
 pub fn reads_are_decided()
     ensures { ReadsAreDecided }
+{}
+
+/// Each frame has 16 registers of each kind, and each object at most the larger of the limit and 16 fields of each
+/// kind.
+pub fn sizes_are_bounded()
+    ensures { SizesAreBounded }
 {}

@@ -3,4 +3,6 @@
 
 mod laws;
 
-pub use laws::{one_winner, path_is_precedence, reads_are_decided, some_cas_wins};
+pub use laws::{
+    one_winner, path_is_precedence, reads_are_decided, sizes_are_bounded, some_cas_wins,
+};
