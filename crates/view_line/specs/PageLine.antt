@@ -10,9 +10,12 @@ use Rattle.view_line.specs.declared.line.Picture.TheVariants.{Page}
 use Rattle.view_line.specs.declared.line.View.{View}
 use Rattle.view_line.specs.declared.line.View.TheVariants.{Of}
 
--- the place of the first word `--title`
+-- the place of the first word `--title` among those from one on
+abbrev pub title_from : ℕ → List Text → Option ℕ
+title_from at words = position_from (λ w. bytes_eq w (codes "--title")) at words
+
 abbrev pub title_at : List Text → Option ℕ
-title_at words = position_from (λ w. bytes_eq w (codes "--title")) 0 words
+title_at words = title_from 0 words
 
 -- but for its title a page takes what `races` of hheap takes
 abbrev pub page_in : Option Text → Option CommandLine → Option View

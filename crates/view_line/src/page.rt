@@ -14,10 +14,12 @@ fn title_at(words: &[String]) -> Option<usize>
     ensures place { result ≡ title_at (map string_bytes words.now) }
     ensures bound { IfSome result (λ at. at < length words.now) }
 {
-    for (at, word) in words.iter().enumerate() {
+    let mut at = 0;
+    for word in words {
         if word.as_str() == "--title" {
             return Some(at);
         }
+        at += 1;
     }
     None
 }

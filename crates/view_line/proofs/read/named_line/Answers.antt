@@ -8,3 +8,8 @@ pub returns-in-heaps : goal.returns-in-heaps
 returns-in-heaps c =
     let words : List Text = map (string_bytes {Z = Global}) c.args.words.now in
     IfOk-weaker c.heaps_line.result _ _ (λ v e. e ∙ ap (λ (n : Text). named_line n words) (sym c.in-heaps.is)) c.heaps_line.ensures
+
+pub returns-in-page : goal.returns-in-page
+returns-in-page c =
+    let words : List Text = map (string_bytes {Z = Global}) c.args.words.now in
+    IfOk-weaker c.page_line.result _ _ (λ v e. e ∙ ap (λ (n : Text). named_line n words) (sym c.in-page.is)) c.page_line.ensures
