@@ -1,2 +1,2 @@
 pub mod Refused
-pub mod Title
+pub mod FirstTitle

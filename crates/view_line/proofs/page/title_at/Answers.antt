@@ -1,7 +1,7 @@
 use Rattle.std.proofs.Common.{◌≡◌, ◌+◌, ap, sym, ◌∙◌, true, false, string_bytes, Global, codes}
 use Rattle.std.specs.Prelude.{Some}
 use Rattle.std.specs.Str.{bytes_eq}
-use Rattle.view_line.proofs.Title.{next}
+use Rattle.view_line.proofs.FirstTitle.{next}
 use Rattle.view_line.proofs.page.title_at.Goals as goal
 
 pub returns-then-eq-clause-place : goal.returns-then-eq-clause-place
