@@ -7,12 +7,18 @@ use Rattle.quoted_text.specs.Guarded.{guarded}
 use Rattle.page_text.specs.Text.{before, after}
 
 -- the lines of an input that stand before the trace line, and one more without a byte
-abbrev pub program_lines : List ℕ → List ℕ
+unfoldable pub program_lines : List ℕ → List ℕ
 program_lines input = flat_map (λ l. guarded l ++ 44 ∷ []) (lines_above (lines_of input)) ++ codes "\"\""
 
+unfoldable pub titled : List ℕ → List ℕ
+titled title = codes "{\"run\":1,\"title\":" ++ guarded title
+
+unfoldable pub listed : List ℕ → List ℕ
+listed input = codes ",\n\"program\":[" ++ program_lines input
+
 -- what the data begins with: the title and the program's lines
-abbrev pub beginning : List ℕ → List ℕ → List ℕ
-beginning title input = codes "{\"run\":1,\"title\":" ++ guarded title ++ codes ",\n\"program\":[" ++ program_lines input
+unfoldable pub beginning : List ℕ → List ℕ → List ℕ
+beginning title input = titled title ++ listed input
 
 -- what stands before the data of a run is the same in every page, and so is what stands after it
 unfoldable pub head : List ℕ → List ℕ → List ℕ

@@ -5,7 +5,7 @@ ghost use Rattle.std.specs.List.{flat_map};
 ghost use Rattle.text_lines.specs.Lines.{lines_of};
 ghost use Rattle.trace_input.specs.Cut.{is_trace_line, lines_above};
 ghost use Rattle.quoted_text.specs.Guarded.{guarded};
-ghost use Rattle.page_frame.specs.Frame.{beginning, program_lines};
+ghost use Rattle.page_frame.specs.Frame.{beginning, listed, program_lines, titled};
 
 use quoted_text::add_guarded;
 use std::alloc::AllocError;
@@ -49,6 +49,7 @@ fn add_lines(text: &mut Vec<u8>, input: &[u8]) -> Result<(), AllocError>
 }
 
 // Adds the program's lines.
+#[tactic(auto, unfolding(crate::specs::Frame::program_lines))]
 fn add_program(text: &mut Vec<u8>, input: &[u8]) -> Result<(), AllocError>
     ensures { OnOk result (text.new.items ≡ text.old.items ++ program_lines input.now) }
 {
@@ -56,7 +57,26 @@ fn add_program(text: &mut Vec<u8>, input: &[u8]) -> Result<(), AllocError>
     text.extend_from_slice(b"\"\"")
 }
 
+// Adds the member with the title.
+#[tactic(auto, unfolding(crate::specs::Frame::titled))]
+fn add_titled(text: &mut Vec<u8>, title: &[u8]) -> Result<(), AllocError>
+    ensures { OnOk result (text.new.items ≡ text.old.items ++ titled title.now) }
+{
+    text.extend_from_slice(b"{\"run\":1,\"title\":")?;
+    add_guarded(text, title)
+}
+
+// Adds the member with the program's lines.
+#[tactic(auto, unfolding(crate::specs::Frame::listed))]
+fn add_listed(text: &mut Vec<u8>, input: &[u8]) -> Result<(), AllocError>
+    ensures { OnOk result (text.new.items ≡ text.old.items ++ listed input.now) }
+{
+    text.extend_from_slice(b",\n\"program\":[")?;
+    add_program(text, input)
+}
+
 /// Adds the title and the program's lines. The input is the program's text with a trace behind it.
+#[tactic(auto, unfolding(crate::specs::Frame::beginning))]
 pub(crate) fn add_beginning(
     text: &mut Vec<u8>,
     title: &[u8],
@@ -64,8 +84,6 @@ pub(crate) fn add_beginning(
 ) -> Result<(), AllocError>
     ensures { OnOk result (text.new.items ≡ text.old.items ++ beginning title.now input.now) }
 {
-    text.extend_from_slice(b"{\"run\":1,\"title\":")?;
-    add_guarded(text, title)?;
-    text.extend_from_slice(b",\n\"program\":[")?;
-    add_program(text, input)
+    add_titled(text, title)?;
+    add_listed(text, input)
 }
