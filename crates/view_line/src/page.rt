@@ -41,7 +41,7 @@ fn page_in(
     title: Option<PageTitle>,
     line: Option<CommandLine>,
 ) -> Result<Option<View>, AllocError>
-    ensures { IfOk result (λ asked. asked ≡ page_in title.entry line.entry) }
+    ensures { IfOk result (λ asked. asked ≡ page_in title line.entry) }
 {
     match line {
         Some(CommandLine::Races { file, settings }) => {
@@ -63,7 +63,7 @@ fn page_of(
     before: &[String],
     behind: &[String],
 ) -> Result<Option<View>, AllocError>
-    ensures { IfOk result (λ asked. asked ≡ page_of title.entry (map string_bytes before.now) (map string_bytes behind.now)) }
+    ensures { IfOk result (λ asked. asked ≡ page_of title (map string_bytes before.now) (map string_bytes behind.now)) }
 {
     let mut all = behind_races(alloc, before)?;
     add_words(alloc, &mut all, behind)?;
