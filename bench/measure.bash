@@ -51,12 +51,20 @@ options() {
   sed -n 's/^# words: run//p' "$(source_of "$1")"
 }
 
+# Calls a command: seconds elapsed, of the user and of the system, and KiB. What it writes stands in `written`.
+time_call() {
+  local TIMEFORMAT='%3R %3U %3S'
+  {
+    time /usr/bin/time -o "$room/most" -f %M "$@" >"$room/written" 2>&3 || [ $? -lt 128 ] || echo "$* was stopped" >&3
+  } 3>&2 2>"$room/time"
+  echo "$(cat "$room/time") $(tail -n 1 "$room/most")"
+}
+
 # Calls a command so often: the least elapsed seconds, the least processor seconds, the most KiB.
 measure() {
   local number
   for ((number = 0; number < repeat; number++)); do
-    /usr/bin/time -o "$room/time" -f '%e %U %S %M' "$@" >/dev/null || { [ $? -lt 128 ] || echo "$* was stopped" >&2; }
-    tail -n 1 "$room/time"
+    time_call "$@"
   done | awk '
     NR == 1 || $1 < elapsed { elapsed = $1 }
     NR == 1 || $2 + $3 < used { used = $2 + $3 }
@@ -240,22 +248,13 @@ tasks_table() {
   done
 }
 
-# Seconds elapsed and of processors, and KiB, of one call of `call_program`; what it writes but for its end line.
-time_program() {
-  local TIMEFORMAT='%3R %3U %3S'
-  { time call_program "$@" >"$room/written" 2>/dev/null; } 2>"$room/time"
-  awk '{ printf "%.3f %.3f ", $1, $2 + $3 }' "$room/time"
-  cat "$room/most"
-}
-
 # A call that the table of programs compares: the peer, a replay, or a run by that number of workers. Its caller has set
 # `file` and `words`, the options.
-call_program() {
-  local timed=(/usr/bin/time -o "$room/most" -f %M)
+time_program() {
   case $1 in
-    peer) "${timed[@]}" "$peer" "$file" ;;
-    replay) "${timed[@]}" "$program" replay "${words[@]}" "$room/program.trace" ;;
-    *) "${timed[@]}" "$program" run "${words[@]}" --workers "$1" "$file" ;;
+    peer) time_call "$peer" "$file" ;;
+    replay) time_call "$program" replay "${words[@]}" "$room/program.trace" ;;
+    *) time_call "$program" run "${words[@]}" --workers "$1" "$file" ;;
   esac
 }
 
@@ -272,10 +271,10 @@ time_in_turns() {
         echo "$name: $call writes another answer" | tee -a "$room/wrong" >&2
     done
   done | awk '
-    !($1 in most) { order[++calls] = $1; elapsed[$1] = $2; used[$1] = $3 }
+    !($1 in most) { order[++calls] = $1; elapsed[$1] = $2; used[$1] = $3 + $4 }
     $2 < elapsed[$1] { elapsed[$1] = $2 }
-    $3 < used[$1] { used[$1] = $3 }
-    $4 > most[$1] { most[$1] = $4 }
+    $3 + $4 < used[$1] { used[$1] = $3 + $4 }
+    $5 > most[$1] { most[$1] = $5 }
     END {
       for (call = 1; call <= calls; call++)
         print order[call], elapsed[order[call]], used[order[call]], most[order[call]]
