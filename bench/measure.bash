@@ -2,12 +2,13 @@
 # measure.bash PROGRAM [--smoke] [TABLE..]    measures a built program on the texts and programs beside this script, and
 # prints tables.
 #
-# The tables: steps entries workers turns collections forks reports tasks growth programs grains instructions; without
-# words all of them. A time is the least of REPEAT calls (10 if it isn't set), in seconds of processors, user and system
-# together, if nothing else is said. Memory is the greatest resident size of a call. If rustc is there, the peer is built
-# and measured beside it, and so is turns/turns.rs, which the table `turns` alone needs. With --smoke the programs have
-# their small sizes, small tasks are few, and each call is made once: so one sees whether the tables can be made.
-# The status is 1 if a program writes anything but its answer. It needs /usr/bin/time, and `instructions` valgrind.
+# The tables: steps entries workers turns collections forks reports tasks growth programs grains instructions
+# program_instructions; without words all of them. A time is the least of REPEAT calls (10 if it isn't set), in seconds
+# of processors, user and system together, if nothing else is said. Memory is the greatest resident size of a call. If
+# rustc is there, the peer is built and measured beside it, and so is turns/turns.rs, which the table `turns` alone
+# needs. With --smoke the programs have their small sizes, small tasks are few, and each call is made once: so one sees
+# whether the tables can be made. The status is 1 if a program writes anything but its answer. It needs /usr/bin/time;
+# the tables of instructions need valgrind, count the same whatever else runs, and take some minutes.
 set -u
 here=$(dirname "$(realpath "${BASH_SOURCE[0]}")") || exit 1
 program=$(realpath "${1:?the built program}") || exit 1
@@ -258,8 +259,8 @@ time_program() {
   esac
 }
 
-# Makes each call once in each turn, and compares what it writes with the answer: for each call the least elapsed seconds,
-# the least processor seconds, the most KiB.
+# Makes each call once in each turn, and compares what it writes with the answer: for each call the least elapsed
+# seconds, the least processor seconds, the most KiB.
 time_in_turns() {
   local answer=$1 number call
   shift
@@ -316,14 +317,15 @@ load() {
 check_answers() {
   local stored=$here/programs/answers.txt
   command -v rustc >/dev/null || return
-  rustc --edition 2021 -O -o "$room/answers" "$here/programs/answers.rs" && "$room/answers" "$stored" | cmp -s - "$stored" ||
+  rustc --edition 2021 -O -o "$room/answers" "$here/programs/answers.rs" &&
+    "$room/answers" "$stored" | cmp -s - "$stored" ||
     echo "programs/answers.txt isn't what programs/answers.rs writes" | tee -a "$room/wrong" >&2
 }
 
 programs_table() {
   local name size answer file words calls
-  echo "Real programs. Seconds of processors of the peer, of a run by one worker and of a replay; elapsed seconds by two and"
-  echo "four workers, and how many times as fast they are as one; memory of the runs by one and by four."
+  echo "Real programs. Seconds of processors of the peer, of a run by one worker and of a replay; elapsed seconds by two"
+  echo "and four workers, and how many times as fast they are as one; memory of the runs by one and by four."
   load before
   head_of program N tasks turns peer "1 worker" "times the peer" "2 workers" gain "4 workers" gain \
     replay "times the peer" "MiB by 1" "MiB by 4"
@@ -331,7 +333,6 @@ programs_table() {
   check_answers
   calls=(1 2 4 replay)
   [ -z "$peer" ] || calls=(peer "${calls[@]}")
-  # (of the two answers of a program the first is of its small size, the second of the size in its text)
   while read -r name size answer; do
     file=$(text "$name" "$size")
     read -ra words <<<"$(options "$name")"
@@ -339,14 +340,14 @@ programs_table() {
     # shellcheck disable=SC2046
     set -- $(counts "$name" "$file")
     time_in_turns "$answer" "${calls[@]}" | program_row "$name" "$size" "$1" "$3"
-  done < <(awk -v small="${smoke:-0}" 'NR % 2 == small' "$here/programs/answers.txt")
+  done < <(sizes)
   means_row
   load after
   [ ! -s "$room/wrong" ]
 }
 
-# How many tasks were taken by another worker than the one that put them, in a trace: the first task is put by worker 0, a
-# fork's two tasks by the worker that forked, and a parent by the worker that ended its second child.
+# How many tasks were taken by another worker than the one that put them, in a trace: the first task is put by worker 0,
+# a fork's two tasks by the worker that forked, and a parent by the worker that ended its second child.
 thefts() {
   awk '
     { at++ }
@@ -408,7 +409,8 @@ grains_table() {
 
 # The instructions that a command takes.
 instructions() {
-  valgrind --tool=callgrind --callgrind-out-file=/dev/null "$@" 2>&1 >/dev/null | sed -n 's/^==[0-9]*== Collected : \([0-9]*\)$/\1/p'
+  valgrind --tool=callgrind --callgrind-out-file=/dev/null "$@" 2>&1 >/dev/null |
+    sed -n 's/^==[0-9]*== Collected : \([0-9]*\)$/\1/p'
 }
 
 # Instructions of a run and of the peer, as the difference of two lengths, for each of N.
@@ -423,9 +425,13 @@ instructions_row() {
     "${peer:+$(each "$((peers[1] - peers[0]))" "$((many - few))" 1)}"
 }
 
+has_valgrind() {
+  command -v valgrind >/dev/null || { echo "Instructions are left out: valgrind isn't there." && return 1; }
+}
+
 instructions_table() {
   local name
-  command -v valgrind >/dev/null || { echo "The instructions are left out: valgrind isn't there."; return; }
+  has_valgrind || return 0
   echo "Instructions for each of N, as the difference of two lengths."
   head_of text N run peer
   for name in arithmetic allocation own_fields prints; do
@@ -434,6 +440,28 @@ instructions_table() {
   for name in join_loop parallel_loop; do
     instructions_row "$name" 4000 8000
   done
+}
+
+# The programs of the table `programs`: a line with the name, N and the answer of each.
+sizes() {
+  # (of the two answers of a program the first is of its small size, the second of the size in its text)
+  awk -v small="${smoke:-0}" 'NR % 2 == small' "$here/programs/answers.txt"
+}
+
+program_instructions_table() {
+  local name size answer mine peers
+  has_valgrind || return 0
+  echo "Instructions of the real programs, in millions, by one worker."
+  head_of program N run peer "times the peer"
+  # shellcheck disable=SC2034
+  while read -r name size answer; do
+    # shellcheck disable=SC2046
+    mine=$(instructions "$program" run $(options "$name") "$(text "$name" "$size")")
+    peers=
+    [ -z "$peer" ] || peers=$(instructions "$peer" "$room/$name.hh")
+    row "$name" "$size" "$(each "$mine" 1000000 1)" "${peers:+$(each "$peers" 1000000 1)}" \
+      "${peers:+$(each "$mine" "$peers" 1)}"
+  done < <(sizes)
 }
 
 growth_table() {
@@ -445,7 +473,8 @@ growth_table() {
   done
 }
 
-[ $# -gt 0 ] || set -- steps entries workers turns collections forks reports tasks growth programs grains instructions
+[ $# -gt 0 ] || set -- steps entries workers turns collections forks reports tasks growth programs grains \
+  instructions program_instructions
 for table in "$@"; do
   "${table}_table" || exit 1
   echo
