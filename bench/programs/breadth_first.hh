@@ -3,7 +3,7 @@
 # loop goes over the blocks: each call looks for nodes without a distance to which an edge leads from a node of the
 # round before, and puts a new array of distances into the next table, a down-pointer. Nothing that a call reads is
 # written in that round, so no read takes a turn. The checksum adds up the distances, each times its node's number.
-# words: run --fuel 1000000000 --leaf 1000000 --inner 1000000
+# words: run --fuel 1000000000 --chunks 65536 --leaf 1000000 --inner 1000000
 fn main
   set i9 40000 # N
   set i10 500      # the nodes of a block

@@ -4,7 +4,7 @@
 # root whose empty fields are nil: there `cas` decides which task is the first. What a task reads in the shared set is a
 # key that was there before the loop, so no read is entangled. Few keys are frequent and many are rare, as words in a
 # text are.
-# words: run --fuel 1000000000 --leaf 1000000 --inner 1000000
+# words: run --fuel 1000000000 --chunks 65536 --leaf 1000000 --inner 1000000
 fn main
   set i9 240000 # N
   set i10 2000     # the keys of a block

@@ -1,7 +1,7 @@
 # A frozen table that all tasks read: 20,000 numbers in order, in one frozen array of the root, are searched for N
 # queries by bisection. Tasks halve the queries until at most 1,000 are left. Reads of the table take no turn. The
 # output adds up the places, counted from 1, at which the queries stand that are in the table.
-# words: run --fuel 1000000000 --leaf 1000000 --inner 1000000
+# words: run --fuel 1000000000 --chunks 65536 --leaf 1000000 --inner 1000000
 fn main
   set i9 200000 # N
   set i10 1000     # the grain

@@ -5,7 +5,7 @@
 # it reads a bin, finds the object for the sum, and puts that by `cas`, again and again until no other task was faster.
 # No bin may get more than twice its share, else the table is too short (trap range). The output is the number of all,
 # and the counts, each times its bin's number.
-# words: run --fuel 1000000000 --leaf 1000000 --inner 1000000
+# words: run --fuel 1000000000 --chunks 65536 --leaf 1000000 --inner 1000000
 fn main
   set i9 2000000 # N
   set i10 10000    # the numbers of a block

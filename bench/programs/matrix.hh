@@ -1,7 +1,7 @@
 # The product of two matrices of N rows and N columns. A parallel loop goes over the rows of the product. Each call
 # makes its row as an object of its own and puts it into a table of the root, a down-pointer. Both factors are frozen
 # arrays, the second one column by column. The checksum adds up the numbers of the product, each times its place.
-# words: run --fuel 1000000000 --leaf 1000000 --inner 1000000
+# words: run --fuel 1000000000 --chunks 65536 --leaf 1000000 --inner 1000000
 fn main
   set i9 160 # N
   set i2 1         # (i2 and i4 are 1 and 0 everywhere)

@@ -2,7 +2,7 @@
 # A task with at most 2,000 numbers goes on alone, by calls, and sorts 12 numbers or fewer by insertion. The numbers to
 # be sorted are a frozen array, which all tasks read without a turn. For the checksum, 31 times what it was is added to
 # each number of the result, in order.
-# words: run --fuel 1000000000 --leaf 1000000 --inner 1000000
+# words: run --fuel 1000000000 --chunks 65536 --leaf 1000000 --inner 1000000
 fn main
   set i9 200000 # N
   set i10 2000     # the grain

@@ -2,7 +2,7 @@
 # the leaves, and each node has the sum of those below it. The second goes down with the sum of all numbers to the left,
 # and makes an array of prefix sums for each leaf. A third adds up the prefix sums, each times its place, for a
 # checksum.
-# words: run --fuel 1000000000 --leaf 1000000 --inner 1000000
+# words: run --fuel 1000000000 --chunks 65536 --leaf 1000000 --inner 1000000
 fn main
   set i9 1000000 # N
   set i10 2000     # the grain

@@ -1,7 +1,7 @@
 # How many primes there are below N, by a sieve in segments of 10,000 numbers. The root finds the primes whose square is
 # below N, and freezes their list. A parallel loop goes over the segments. Each call strikes the multiples of these
 # primes out of an array of its own, and counts what is left.
-# words: run --fuel 1000000000 --leaf 1000000 --inner 1000000
+# words: run --fuel 1000000000 --chunks 65536 --leaf 1000000 --inner 1000000
 fn main
   set i9 2000000 # N
   set i10 10000    # the numbers of a segment

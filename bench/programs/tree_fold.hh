@@ -2,7 +2,7 @@
 # which one task grows or folds alone, by calls. Nodes are immutable, so a task that folds reads them without a turn.
 # The fold of a node is its number, 3 times the fold of its first child and 5 times that of its second; the output is
 # the sum.
-# words: run --fuel 1000000000 --leaf 1000000 --inner 1000000
+# words: run --fuel 1000000000 --chunks 65536 --leaf 1000000 --inner 1000000
 fn main
   set i9 15 # N
   set i10 9        # the grain
