@@ -1,7 +1,8 @@
-# N bodies in a plane that attract each other: 30 steps in integers. In the plane the force falls with the distance, so
-# no root is needed. A state is a frozen array: all x, all y, and the velocities, likewise. In each step a parallel loop
-# goes over blocks of 10 bodies; each call reads the state and puts its bodies' next one into a table, a down-pointer,
-# and the root lays these together. The checksum adds up the numbers of the last state, each times its place.
+# N bodies in a plane that attract each other: 30 steps in integers. In a plane attraction is as 1 to the distance, so
+# no square root is needed. A state is a frozen array: all x, all y, and the velocities, likewise. In each step a
+# parallel loop goes over blocks of 10 bodies; each call reads the state and puts its bodies' next one into a table, a
+# down-pointer, and the root lays these together. The checksum adds up the numbers of the last state, each times its
+# place.
 # words: run --fuel 1000000000 --chunks 65536 --leaf 1000000 --inner 1000000
 fn main
   set i9 200 # N
