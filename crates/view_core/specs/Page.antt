@@ -1,6 +1,8 @@
 -- A run as a page.
-use Rattle.std.specs.Prelude.{◌≡◌, ℕ, Option, Some, None, List, ◌++◌, codes, length, nat_lt, if◌then◌else◌}
+use Rattle.std.specs.Prelude.{ℕ, Bool, true, false, Option, Some, None, List, ◌++◌, codes, length, nat_lt}
 use Rattle.std.specs.Fmt.{decimal}
+use Rattle.hh_lang.specs.Form.{ProgramText}
+use Rattle.run_trace.specs.Entry.{EntryValue}
 use Rattle.run_trace.specs.Settings.{SettingsValue}
 use Rattle.run_ledger.specs.Journals.{refused_as_run}
 use Rattle.trace_input.specs.declared.input.InputFault.{InputFault}
@@ -29,11 +31,18 @@ abbrev pub too_long : ℕ → List ℕ
 too_long n =
     codes "end: page refused entries " ++ decimal n ++ codes "; a page has at most 20000: run a smaller input, or use hhview timeline or tasks\n"
 
--- the page of the run of a trace, of this title; of a trace that is too long, how long it is
+-- the page of a journal of this title, or its first refused entry, or that it is short
+abbrev pub ShowsJournalPage : List ℕ → List ℕ → ProgramText → SettingsValue → List EntryValue → Reply → Type 0
+ShowsJournalPage title input p s journal = ShowsWhole (Says Done (page title input p s journal)) (refused_as_run p s journal)
+
+-- of a journal that is too long, how long it is
+abbrev pub ShowsShortPage : Bool → List ℕ → List ℕ → ProgramText → SettingsValue → List EntryValue → Reply → Type 0
+ShowsShortPage true title input p s journal = Says Trace (too_long (length journal))
+ShowsShortPage false title input p s journal = ShowsJournalPage title input p s journal
+
 abbrev pub ShowsPageOf : List ℕ → SettingsValue → List ℕ → TraceInput → Reply → Type 0
 ShowsPageOf title s input t =
-    if nat_lt most_entries (length t.trace.entries) then Says Trace (too_long (length t.trace.entries))
-    else ShowsWhole (Says Done (page title input t.program (settings_for s t) t.trace.entries)) (refused_as_run t.program (settings_for s t) t.trace.entries)
+    ShowsShortPage (nat_lt most_entries (length t.trace.entries)) title input t.program (settings_for s t) t.trace.entries
 
 -- of a program with a trace, or its first fault
 abbrev pub ShowsPageIn : List ℕ → SettingsValue → List ℕ → Option InputFault → Reply → Type 0

@@ -1,14 +1,15 @@
 // A run as a page.
 
-ghost use Rattle.std.specs.Prelude.{◌≡◌, IfOk};
+ghost use Rattle.std.specs.Prelude.{◌≡◌, IfOk, length, nat_lt};
 ghost use Rattle.whole_call.specs.Output.{Says};
-ghost use Rattle.view_core.specs.Page.{ShowsPage, ShowsPageOf, most_entries, title_of, too_long};
+ghost use Rattle.view_core.specs.Page.{ShowsJournalPage, ShowsPage, ShowsPageOf, ShowsShortPage, most_entries, title_of, too_long};
 
+use hh_lang::Program;
 use refusal_lines::Refusal;
 use refusal_replies::refused;
 use run_journal::ReplayError;
 use run_page::page_of;
-use run_trace::Settings;
+use run_trace::{Entry, Settings};
 use std::alloc::{AllocError, Global};
 use trace_input::{InputError, TraceInput, read_trace_input};
 use view_line::{InputFile, PageTitle};
@@ -38,6 +39,41 @@ fn refused_as_long(alloc: Global, entries: usize) -> Result<Reply, AllocError>
     Ok(Reply::of_text(AnswerStatus::Trace, text))
 }
 
+// Shows the page of a journal.
+fn show_journal_page(
+    alloc: Global,
+    title: &[u8],
+    input: &[u8],
+    program: &Program,
+    settings: Settings,
+    journal: &[Entry],
+) -> Result<Reply, AllocError>
+    ensures { IfOk result (ShowsJournalPage title.now input.now program.now settings journal.now) }
+{
+    match page_of(alloc, title, input, program, settings, journal) {
+        Ok(page) => Ok(Reply::of_bytes(AnswerStatus::Done, page)),
+        Err(ReplayError::RefusedAt(entry)) => refused(alloc, Refusal::Entry(entry)),
+        Err(ReplayError::NoMemory) => Err(AllocError),
+    }
+}
+
+// Shows the page of a journal that isn't too long.
+fn show_short_page(
+    alloc: Global,
+    title: &[u8],
+    input: &[u8],
+    program: &Program,
+    settings: Settings,
+    journal: &[Entry],
+) -> Result<Reply, AllocError>
+    ensures { IfOk result (ShowsShortPage (nat_lt most_entries (length journal.now)) title.now input.now program.now settings journal.now) }
+{
+    if journal.len() > MOST_ENTRIES {
+        return refused_as_long(alloc, journal.len());
+    }
+    show_journal_page(alloc, title, input, program, settings, journal)
+}
+
 // Shows the run of a trace as a page of this title.
 fn show_page_of(
     alloc: Global,
@@ -50,15 +86,14 @@ fn show_page_of(
 {
     let TraceInput { program, trace } = read;
     let settings = settings.with_version(trace.version);
-    let journal = trace.entries.as_slice();
-    if journal.len() > MOST_ENTRIES {
-        return refused_as_long(alloc, journal.len());
-    }
-    match page_of(alloc, title, input, program, settings, journal) {
-        Ok(page) => Ok(Reply::of_bytes(AnswerStatus::Done, page)),
-        Err(ReplayError::RefusedAt(entry)) => refused(alloc, Refusal::Entry(entry)),
-        Err(ReplayError::NoMemory) => Err(AllocError),
-    }
+    show_short_page(
+        alloc,
+        title,
+        input,
+        program,
+        settings,
+        trace.entries.as_slice(),
+    )
 }
 
 // Shows the run of a program with its trace as a page of this title.
