@@ -1,8 +1,9 @@
 -- Numbers in ascending order, and the places at which they stand.
-use Rattle.std.proofs.Common.{◌≡◌, ◌<◌, ◌≤◌, ◌+◌, ◌==◌, ◌∷◌, ◌∙◌, ◌⊎◌, inl, inr, ℕ, zero, suc, Bool, true, false, List, [], length, get_or, cond, refl, sym, ap, subst, arith}
+use Rattle.std.proofs.Common.{◌≡◌, ◌<◌, ◌≤◌, ◌+◌, ◌==◌, ◌∷◌, ◌∙◌, ◌⊎◌, inl, inr, ℕ, zero, suc, Bool, true, false, List, [], length, get_or, cond, refl, sym, ap, subst, arith, Result, Ok, Err, nat_cmp}
 use Rattle.std.specs.Prelude.{nat_lt, if◌then◌else◌}
 use Rattle.std.specs.List.{position_or_len}
-use Rattle.std.specs.List.Sorted.{IsStrictlyIncreasing}
+use Rattle.std.specs.List.Sorted.{IsStrictlyIncreasing, IsBinarySearchResult}
+use Rattle.std.proofs.lemmas.List.Sorted.{searched}
 use Rattle.std.proofs.lemmas.Bool.Decides.{nat_tests, cases_lt}
 use Rattle.std.proofs.lemmas.List.Sums.{position_or_len_is}
 use Rattle.listed.specs.Members.{In}
@@ -92,3 +93,22 @@ module _ (numbers : List ℕ) (up : IsStrictlyIncreasing numbers) where
       let r = in_at numbers n h in
       let e = task_is n r.0 r.1 r.2 in
       (subst (λ (k : ℕ). k < length numbers) (sym e) r.1, subst (λ (k : ℕ). get_or numbers k 0 ≡ n) (sym e) r.2)
+
+  not_falling : (i j : ℕ) → i ≤ j → j < length numbers → get_or numbers i 0 ≤ get_or numbers j 0
+  not_falling i j le lt = by_order (cases_lt i j)
+    where
+      by_order : (i < j) ⊎ (j ≤ i) → get_or numbers i 0 ≤ get_or numbers j 0
+      by_order (inl less) = let r = rises i j less lt in omega (arith, r)
+      by_order (inr ge) = let e : i ≡ j = omega (arith, le, ge) in subst (λ (k : ℕ). get_or numbers i 0 ≤ get_or numbers k 0) e (omega arith)
+
+  -- where a search by halves found a number
+  pub found_place : (number task : ℕ) → IsBinarySearchResult (λ y. nat_cmp y number) numbers (Ok task) → (task < length numbers) × (get_or numbers task 0 ≡ number)
+  found_place number task h = searched numbers number (Ok task) h not_falling
+
+  -- one that it didn't find stands nowhere
+  pub not_found : (number place : ℕ) → IsBinarySearchResult (λ y. nat_cmp y number) numbers (Err place) → (k : ℕ) → k < length numbers → get_or numbers k 0 ≡ number → ⊥
+  not_found number place h k lt e = by_order (searched numbers number (Err place) h not_falling) (cases_lt k place)
+    where
+      by_order : (place ≤ length numbers) × ((j : ℕ) → j < place → get_or numbers j 0 < number) × ((j : ℕ) → place ≤ j → j < length numbers → number < get_or numbers j 0) → (k < place) ⊎ (place ≤ k) → ⊥
+      by_order r (inl less) = let b = r.1 k less in omega (arith, b, e)
+      by_order r (inr ge) = let a = r.2 k ge lt in omega (arith, a, e)

@@ -131,6 +131,7 @@ less_from x y e = grind (arith, nat_tests, e)
 
 -- ascending lists with the same members are the same
 same_members : (xs ys : List ℕ) → IsStrictlySortedBy nat_cmp xs → IsStrictlySortedBy nat_cmp ys → ((t : ℕ) → In xs t → In ys t) → ((t : ℕ) → In ys t → In xs t) → xs ≡ ys
+unfolding IsStrictlySortedBy
 same_members [] [] sx sy f g = refl
 same_members [] (y ∷ ys) sx sy f g = absurd (g y (inl refl))
 same_members (x ∷ xs) [] sx sy f g = absurd (f x (inl refl))

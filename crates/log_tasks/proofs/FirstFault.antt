@@ -183,10 +183,10 @@ module _ (told : Told) (events : List Event) (knows : Knows told events) (extent
   cut_no_past cut u h = let z : Whole ≡ Cut = sym h.0.0 ∙ cut in cc
 
   -- a cut log has the graph's faults alone
-  pub first_cut : extent ≡ Cut → (found : Option Fault) → MatchOption found (IsSound rows extent) (IsFirstFault rows extent)
+  cut_found : extent ≡ Cut → (found : Option Fault) → MatchOption found (IsSound rows extent) (IsFirstFault rows extent)
       → MatchOption (option_map of_graph found) (IsSound rows extent × HasNoneBelow events extent numbers rows (length rows)) (IsFirstOf events extent numbers rows)
-  first_cut cut None sound = (sound, sound_none sound (λ u lt h. cut_no_end cut u h) (λ u lt h. cut_no_past cut u h))
-  first_cut cut (Some g) first = from_graph g.strand g.cause first first.there (λ u lt h. cut_no_end cut u h) (λ u lt h. cut_no_past cut u h) (λ u same lt h. cut_no_end cut u h)
+  cut_found cut None sound = (sound, sound_none sound (λ u lt h. cut_no_end cut u h) (λ u lt h. cut_no_past cut u h))
+  cut_found cut (Some g) first = from_graph g.strand g.cause first first.there (λ u lt h. cut_no_end cut u h) (λ u lt h. cut_no_past cut u h) (λ u same lt h. cut_no_end cut u h)
 
   -- WHOLE LOGS
 
@@ -250,15 +250,25 @@ module _ (told : Told) (events : List Event) (knows : Knows told events) (extent
   one_of_two g o false e whole first end = end_sooner g o whole first end (later_cases (of_graph g) o e)
 
   -- of a whole log the sooner of both
-  pub first_whole : extent ≡ Whole → (found : Option Fault) → MatchOption found (IsSound rows extent) (IsFirstFault rows extent) → (own : Option TaskFault) → MatchOption own (NoneEndsBelow told numbers rows (length rows)) (IsFirstEndFault told numbers rows)
+  whole_found : extent ≡ Whole → (found : Option Fault) → MatchOption found (IsSound rows extent) (IsFirstFault rows extent) → (own : Option TaskFault) → MatchOption own (NoneEndsBelow told numbers rows (length rows)) (IsFirstEndFault told numbers rows)
       → MatchOption (sooner_of (option_map of_graph found) own) (IsSound rows extent × HasNoneBelow events extent numbers rows (length rows)) (IsFirstOf events extent numbers rows)
-  first_whole whole None sound None none = (sound, sound_none sound (end_none (length rows) none) (past_none (length rows) none))
-  first_whole whole None sound (Some o) end = from_end o whole end (λ u c h before. sound_runs_have_no_fault rows extent sound u c (below u before) h)
+  whole_found whole None sound None none = (sound, sound_none sound (end_none (length rows) none) (past_none (length rows) none))
+  whole_found whole None sound (Some o) end = from_end o whole end (λ u c h before. sound_runs_have_no_fault rows extent sound u c (below u before) h)
     where
       below : {A : Type 0} (u : Strand) → (u.task < o.strand.task) ⊎ ((u.task ≡ o.strand.task) × A) → u.task < length rows
       below u (inl lt) = let there = end.there in omega (arith, lt, there)
       below u (inr at) = let there = end.there in let e = at.0 in omega (arith, e, there)
-  first_whole whole (Some g) first None none =
+  whole_found whole (Some g) first None none =
       from_graph g.strand g.cause first first.there (λ u lt h. end_none (length rows) none u (let there = first.there in omega (arith, lt, there)) h) (λ u lt h. past_none (length rows) none u (let there = first.there in omega (arith, lt, there)) h)
       (λ u same lt h. end_none (length rows) none u (let there = first.there in omega (arith, same, there)) h)
-  first_whole whole (Some g) first (Some o) end = one_of_two g o (is_sooner (of_graph g) o) refl whole first end
+  whole_found whole (Some g) first (Some o) end = one_of_two g o (is_sooner (of_graph g) o) refl whole first end
+
+  abbrev Answer : Option TaskFault → Type 0
+  Answer found = MatchOption found (IsSound rows extent × HasNoneBelow events extent numbers rows (length rows)) (IsFirstOf events extent numbers rows)
+
+  pub first_cut : extent ≡ Cut → (found : Option Fault) → MatchOption found (IsSound rows extent) (IsFirstFault rows extent) → (graph' : Option TaskFault) → graph' ≡ option_map of_graph found → Answer graph'
+  first_cut cut found is graph' e = subst (λ (o : Option TaskFault). Answer o) (sym e) (cut_found cut found is)
+
+  pub first_whole : extent ≡ Whole → (found : Option Fault) → MatchOption found (IsSound rows extent) (IsFirstFault rows extent) → (own : Option TaskFault) → MatchOption own (NoneEndsBelow told numbers rows (length rows)) (IsFirstEndFault told numbers rows)
+      → (graph' : Option TaskFault) → graph' ≡ option_map of_graph found → (both : Option TaskFault) → both ≡ sooner_of graph' own → Answer both
+  first_whole whole found is own ends graph' e both f = subst (λ (o : Option TaskFault). Answer o) (sym (f ∙ ap (λ (o : Option TaskFault). sooner_of o own) e)) (whole_found whole found is own ends)

@@ -1,19 +1,14 @@
 -- Joins of what is unjoined.
-use Rattle.std.proofs.Common.{◌≡◌, ◌<◌, ◌≤◌, ◌+◌, ◌-◌, ◌++◌, ◌∷◌, ◌∙◌, ℕ, zero, suc, Bool, true, false, not, List, [], length, drop, get_or, map, reverse, refl, sym, ap, Option, Some, None, arith, append_assoc, append-nil, drop-cons, nat_eq}
-use Rattle.std.specs.Prelude.{filter, slice_get, if◌then◌else◌}
+use Rattle.std.proofs.Common.{◌≡◌, ◌<◌, ◌≤◌, ◌+◌, ◌-◌, ◌==◌, ◌++◌, ◌∷◌, ◌∙◌, ℕ, zero, suc, Bool, true, false, not, List, [], length, drop, take, get_or, map, reverse, refl, sym, ap, Option, Some, None, arith, append_assoc, append-nil, drop-cons, nat_eq}
+use Rattle.std.specs.Prelude.{◌||◌, filter, slice_get, if◌then◌else◌}
 use Rattle.std.proofs.Math.Path.{fun_ext}
 use Rattle.std.proofs.lemmas.Grind.{reverse_onto}
-use Rattle.std.proofs.lemmas.List.{map-append}
+use Rattle.std.proofs.lemmas.List.{map-append, take_more}
 use Rattle.std.proofs.lemmas.List.Elements.{filter-append}
 use Rattle.fork_graph.specs.declared.graph.Turn.{Turn}
 use Rattle.fork_graph.specs.declared.graph.Turn.TheVariants.{Spawn, Join}
 use Rattle.fork_graph.specs.Cut.{spawned_by, joins, completed}
-use Rattle.log_tasks.specs.Joining.{left_by, joins_for}
-
--- the join of a child, if there is one
-pub joins_of : Option ℕ → List Turn
-joins_of None = []
-joins_of (Some c) = Join c ∷ []
+use Rattle.log_tasks.specs.Joining.{left_by, joins_of, joins_for}
 
 module _ (joined : ℕ → Bool) where
   one_join : (c : ℕ) (b : Bool) → joined c ≡ b → map Join (filter (λ d. not (joined d)) (c ∷ [])) ≡ joins_of (if b then None else Some c)
@@ -47,3 +42,21 @@ module _ (joined : ℕ → Bool) where
 -- with what the turns themselves join
 pub completed_by : (joined : ℕ → Bool) (row turns : List Turn) → ((c : ℕ) → joined c ≡ joins row c) → turns ≡ row ++ joins_for joined row → turns ≡ completed row
 completed_by joined row turns same e = e ∙ ap (λ (f : ℕ → Bool). row ++ joins_for f row) (fun_ext same)
+
+-- JOINED CHILDREN
+
+or_third : (a b c : Bool) → (a || (b || c)) ≡ ((a || b) || c)
+or_third true b c = refl
+or_third false b c = refl
+
+joins_both : (xs ys : List Turn) (c : ℕ) → joins (xs ++ ys) c ≡ (joins xs c || joins ys c)
+joins_both [] ys c = refl
+joins_both (Spawn d ∷ xs) ys c = joins_both xs ys c
+joins_both (Join d ∷ xs) ys c = ap (λ (b : Bool). (d == c) || b) (joins_both xs ys c) ∙ or_third (d == c) (joins xs c) (joins ys c)
+
+-- one turn more
+pub joined_more : (turns : List Turn) (i : ℕ) (d turn : Turn) (c : ℕ) → i < length turns → turn ≡ get_or turns i d → joins (take (i + 1) turns) c ≡ (joins (take i turns) c || joins (turn ∷ []) c)
+joined_more turns i d turn c lt e =
+    ap (λ (ts : List Turn). joins ts c) (take_more turns i d lt)
+    ∙ joins_both (take i turns) (get_or turns i d ∷ []) c
+    ∙ ap (λ (t : Turn). joins (take i turns) c || joins (t ∷ []) c) (sym e)

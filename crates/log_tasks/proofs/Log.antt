@@ -1,6 +1,6 @@
 -- The tasks of a log, or why there are none.
 use Rattle.std.proofs.Common.{◌≡◌, ◌<◌, ◌≤◌, ◌==◌, ◌^◌, ◌∙◌, ℕ, Bool, true, List, length, get_or, map, refl, sym, ap, subst, Option, Some, None, arith, nat_cmp}
-use Rattle.std.specs.Prelude.{IsTrue, ◌↔◌}
+use Rattle.std.specs.Prelude.{IsTrue, ◌↔◌, MatchOption}
 use Rattle.std.specs.BTreeMap.{is_at}
 use Rattle.std.specs.BTreeSet.{contains, keys}
 use Rattle.std.specs.List.{list_any}
@@ -10,19 +10,23 @@ use Rattle.listed.specs.Members.{In}
 use Rattle.listed.proofs.Members.{any_from_in, in_from_any}
 use Rattle.fork_graph.specs.declared.graph.Turn.{Turn}
 use Rattle.fork_graph.specs.declared.fault.Extent.{Extent}
+use Rattle.fork_graph.specs.Graph.{AreSmall}
 use Rattle.fork_graph.specs.Faults.{IsSound}
-use Rattle.log_form.specs.Events.{Event}
+use Rattle.log_form.specs.Events.{Event, events_of}
+use Rattle.log_form.specs.Faults.{log_fault}
 use Rattle.log_tasks.specs.declared.fault.TaskFault.{TaskFault}
 use Rattle.log_tasks.specs.declared.tasks.LogTasks.{LogTasks}
 use Rattle.log_tasks.specs.declared.told.Told.{Told}
 use Rattle.log_tasks.specs.Numbers.{is_task, AreNumbers}
 use Rattle.log_tasks.specs.Rows.{graph_of, AreRows, AreNestedTasks}
-use Rattle.log_tasks.specs.Told.{Knows, task_told, AreToldRows}
+use Rattle.log_tasks.specs.Told.{Knows, task_told, HasSmallTurns, AreToldRows}
+use Rattle.log_tasks.specs.Spawning.{SpawnsWell}
 use Rattle.log_tasks.specs.Faults.{HasNoneBelow, IsFirstOf, IsFirstTaskFault, in_log}
 use Rattle.log_tasks.specs.Log.{IsLog}
 use Rattle.log_tasks.proofs.Ascending.{place_below, in_at}
 use Rattle.log_tasks.proofs.Puts.{at_is_same, number_same}
-use Rattle.log_tasks.proofs.ToldRows.{rows_are}
+use Rattle.log_tasks.proofs.Sane.{sane_log}
+use Rattle.log_tasks.proofs.ToldRows.{rows_are, small_turns, spawns_well}
 use Rattle.log_tasks.proofs.Nested.{graph_nested}
 
 pub true_is : (b : Bool) → IsTrue b → b ≡ true
@@ -73,3 +77,51 @@ module _ (told : Told) (events : List Event) (extent : Extent) (numbers : List �
     is_first = first;
     is = e;
   }
+
+-- A LOG'S PIECES
+
+module _ (told : Told) (texts : List (List ℕ)) (es : List Event) (is : es ≡ events_of texts) (whole : log_fault texts ≡ None) (knows : Knows told es) (numbers slice : List ℕ) (same : slice ≡ numbers) (ks : numbers ≡ keys told.tasks) (up : IsStrictlyIncreasing numbers) where
+  known_log : Knows told (events_of texts)
+  known_log = subst (λ (e : List Event). Knows told e) is knows
+
+  named_log : AreNumbers (events_of texts) numbers
+  named_log = numbers_are told (events_of texts) numbers known_log ks up
+
+  -- what making the rows requires
+  pub slice_up : IsStrictlyIncreasing slice
+  slice_up = subst IsStrictlyIncreasing (sym same) up
+
+  pub small_log : HasSmallTurns told
+  small_log = small_turns told (events_of texts) known_log (sane_log texts whole)
+
+  module _ (rows : List (List Turn)) (of_slice : AreToldRows told slice rows) where
+    told_rows : AreToldRows told numbers rows
+    told_rows = subst (λ (ns : List ℕ). AreToldRows told ns rows) same of_slice
+
+    -- what the search for a fault requires
+    pub rows_count : length rows ≡ length numbers
+    rows_count = told_rows.count
+
+    pub rows_well : SpawnsWell rows
+    rows_well = spawns_well (events_of texts) numbers rows (sane_log texts whole) named_log (rows_are told (events_of texts) numbers rows known_log told_rows)
+
+    module _ (extent : Extent) (found : Option TaskFault) (finds : (events : List Event) → Knows told events → MatchOption found (IsSound rows extent × HasNoneBelow events extent numbers rows (length rows)) (IsFirstOf events extent numbers rows)) where
+      found_log : MatchOption found (IsSound rows extent × HasNoneBelow (events_of texts) extent numbers rows (length rows)) (IsFirstOf (events_of texts) extent numbers rows)
+      found_log = finds (events_of texts) known_log
+
+      -- no task has a fault
+      pub log_made : found ≡ None → AreSmall rows → (log : LogTasks) → log.numbers ≡ numbers → log.turns ≡ graph_of extent rows → log.known ≡ map length rows → IsLog (events_of texts) extent log
+      log_made none small log n t k =
+          let h : IsSound rows extent × HasNoneBelow (events_of texts) extent numbers rows (length rows) = subst (λ (o : Option TaskFault). MatchOption o (IsSound rows extent × HasNoneBelow (events_of texts) extent numbers rows (length rows)) (IsFirstOf (events_of texts) extent numbers rows)) none found_log in
+          is_log told (events_of texts) extent numbers rows known_log named_log told_rows small.tasks h.0 h.1 log n t k
+
+      first_log : (at : TaskFault) → found ≡ Some at → IsFirstOf (events_of texts) extent numbers rows at
+      first_log at some = subst (λ (o : Option TaskFault). MatchOption o (IsSound rows extent × HasNoneBelow (events_of texts) extent numbers rows (length rows)) (IsFirstOf (events_of texts) extent numbers rows)) some found_log
+
+      -- the fault is of a task that is there
+      pub fault_there : (at : TaskFault) → found ≡ Some at → at.strand.task < length numbers
+      fault_there at some = let f = first_log at some in let lt = f.there in let count = rows_count in omega (arith, lt, count)
+
+      -- one has
+      pub log_refused : (at fault : TaskFault) → found ≡ Some at → fault ≡ in_log numbers at → IsFirstTaskFault (events_of texts) extent fault
+      log_refused at fault some e = is_refused told (events_of texts) extent numbers rows known_log named_log told_rows at (first_log at some) fault e

@@ -132,3 +132,7 @@ at_is_same c t = same_by (nat_lt c t) (c == t) (λ h. grind (arith, nat_tests, h
 -- a task is there
 pub task_put : (c t : ℕ) (b : Bool) → cond (is_at (nat_cmp c) t) true b ≡ (b || (c == t))
 task_put c t b = ap (λ (x : Bool). cond x true b) (at_is_same c t) ∙ or_or_by (c == t) b
+
+-- a child is joined
+pub join_put : (d c : ℕ) (b : Bool) → cond (d == c) true b ≡ (b || ((d == c) || false))
+join_put d c b = or_or_by (d == c) b ∙ ap (λ (x : Bool). b || x) (or_false (d == c))

@@ -9,6 +9,11 @@ abbrev pub left_by : (ℕ → Bool) → Turn → Option ℕ
 left_by joined (Spawn c) = if joined c then None else Some c
 left_by joined (Join c) = None
 
+-- the join of a child, if there is one
+abbrev pub joins_of : Option ℕ → List Turn
+joins_of None = []
+joins_of (Some c) = Join c ∷ []
+
 -- joins of all children that turns spawn and that aren't joined, last spawned first
 abbrev pub joins_for : (ℕ → Bool) → List Turn → List Turn
 joins_for joined turns = map Join (filter (λ c. not (joined c)) (reverse (spawned_by turns)))

@@ -1,6 +1,6 @@
 // Why a log's tasks are refused.
 
-ghost use Rattle.std.specs.Prelude.{◌≡◌, ◌<◌, ◌≤◌, ◌+◌, ◌^◌, List, IfOk, MatchOption, length};
+ghost use Rattle.std.specs.Prelude.{◌≡◌, List, IfOk, MatchOption, length, option_map};
 ghost use Rattle.fork_graph.specs.Graph.{AreSmall};
 ghost use Rattle.fork_graph.specs.Faults.{IsSound};
 ghost use Rattle.log_form.specs.Events.{Event};
@@ -96,6 +96,15 @@ fn of_graph(fault: Fault) -> TaskFault
     }
 }
 
+fn fault_of_graph(found: Option<Fault>) -> Option<TaskFault>
+    ensures { result ≡ option_map of_graph found }
+{
+    match found {
+        Some(fault) => Some(of_graph(fault)),
+        None => None,
+    }
+}
+
 // The place of a cause in the order in which a task's are reported.
 fn rank_of(cause: TaskCause) -> u8
     ensures { result ≡ rank_of cause }
@@ -147,9 +156,13 @@ pub(crate) fn first_task_fault(
     ensures { IfOk result (λ found. (events : List Event) → Knows told.now events
         → MatchOption found (IsSound rows.now extent × HasNoneBelow events extent numbers.now rows.now (length rows.now)) (IsFirstOf events extent numbers.now rows.now)) }
 {
-    let graph = first_fault(alloc, rows, extent)?.map(of_graph);
+    let found = first_fault(alloc, rows, extent)?;
+    let graph = fault_of_graph(found);
     match extent {
         Extent::Cut => Ok(graph),
-        Extent::Whole => Ok(sooner_of(graph, first_end_fault(told, numbers, rows))),
+        Extent::Whole => {
+            let own = first_end_fault(told, numbers, rows);
+            Ok(sooner_of(graph, own))
+        }
     }
 }

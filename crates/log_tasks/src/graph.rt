@@ -1,9 +1,9 @@
 // The graph of a log: what its tasks leave unjoined in a cut log is joined at their ends.
 
-ghost use Rattle.std.specs.Prelude.{◌≡◌, ◌++◌, ℕ, IfOk, map, length, nat_eq};
+ghost use Rattle.std.specs.Prelude.{◌≡◌, ◌++◌, ◌∷◌, ◌||◌, ℕ, [], IfOk, OnOk, map, length, nat_eq};
 ghost use Rattle.std.specs.HashSet.{contains};
 ghost use Rattle.fork_graph.specs.Cut.{completed, joins};
-ghost use Rattle.log_tasks.specs.Joining.{left_by, joins_for};
+ghost use Rattle.log_tasks.specs.Joining.{left_by, joins_of, joins_for};
 ghost use Rattle.log_tasks.specs.Rows.{graph_of};
 
 use fork_graph::{Extent, Turn};
@@ -11,15 +11,26 @@ use listed::Listed;
 use std::alloc::{AllocError, Global};
 use std::collections::HashSet;
 
+// A turn joins its child, if it is a join.
+fn note_join(joined: &mut HashSet<u32>, turn: Turn) -> Result<(), AllocError>
+    ensures { OnOk result ((c : ℕ) → contains nat_eq joined.new c ≡ (contains nat_eq joined.old c || joins (turn ∷ []) c)) }
+{
+    match turn {
+        Turn::Spawn(_) => Ok(()),
+        Turn::Join(child) => {
+            joined.insert(child)?;
+            Ok(())
+        }
+    }
+}
+
 // The children that turns join.
 fn joined_by(alloc: Global, turns: &[Turn]) -> Result<HashSet<u32>, AllocError>
     ensures { IfOk result (λ joined. (c : ℕ) → contains nat_eq joined c ≡ joins turns.now c) }
 {
     let mut joined = HashSet::new(alloc);
     for turn in turns {
-        if let Turn::Join(child) = turn {
-            joined.insert(*child)?;
-        }
+        note_join(&mut joined, *turn)?;
     }
     Ok(joined)
 }
@@ -34,6 +45,16 @@ fn left_by(joined: &HashSet<u32>, turn: Turn) -> Option<u32>
     }
 }
 
+// A join of a child, if there is one, comes after turns.
+fn add_join(turns: &mut Listed<Turn>, child: Option<u32>) -> Result<(), AllocError>
+    ensures { OnOk result (turns.new ≡ turns.old ++ joins_of child) }
+{
+    match child {
+        Some(child) => turns.push(Turn::Join(child)),
+        None => Ok(()),
+    }
+}
+
 // Turns, and then joins of all children that aren't joined, last spawned first.
 fn with_joins(joined: &HashSet<u32>, row: Listed<Turn>) -> Result<Listed<Turn>, AllocError>
     ensures { IfOk result (λ turns. turns ≡ row ++ joins_for (contains nat_eq joined.now) row) }
@@ -41,9 +62,8 @@ fn with_joins(joined: &HashSet<u32>, row: Listed<Turn>) -> Result<Listed<Turn>, 
     let count = row.len();
     let mut turns = row;
     for place in 0..count {
-        if let Some(child) = left_by(joined, *turns.at(count - 1 - place)) {
-            turns.push(Turn::Join(child))?;
-        }
+        let turn = *turns.at(count - 1 - place);
+        add_join(&mut turns, left_by(joined, turn))?;
     }
     Ok(turns)
 }

@@ -15,7 +15,8 @@ pub(crate) fn numbers_of(alloc: Global, tasks: &BTreeSet<u32>) -> Result<Listed<
     ensures ascending { IfOk result IsStrictlyIncreasing }
 {
     let mut numbers = Listed::new(alloc);
-    for number in tasks {
+    let mut left = tasks.iter();
+    while let Some(number) = left.next() {
         numbers.push(*number)?;
     }
     Ok(numbers)
