@@ -6,7 +6,8 @@ use Rattle.std.specs.List.Sorted.{IsStrictlyIncreasing, IsStrictlySortedBy}
 use Rattle.std.proofs.lemmas.Bool.Decides.{nat_tests}
 use Rattle.std.proofs.lemmas.Map.Keys.{sorted_from_strictly_increasing}
 use Rattle.listed.specs.Members.{In}
-use Rattle.listed.proofs.Members.{any_from_in, in_from_any, each_in}
+use Rattle.listed.proofs.Members.{any_from_in, in_from_any}
+use Rattle.listed.proofs.Places.{each_in}
 use Rattle.log_lines.specs.declared.cause.Cause.{Cause}
 use Rattle.log_lines.specs.declared.line.Act.{Act}
 use Rattle.log_lines.specs.declared.line.Line.{Line}
@@ -106,11 +107,11 @@ act_there (e ∷ rest) x (inl same) = subst (λ (y : Event). In (acts_on (e ∷ 
         both : (a b : Bool) → a ≡ true → b ≡ true → (a && b) ≡ true
         both true b p q = q
         both false b p q = p
-act_there (e ∷ rest) x (inr later) = by_test (is_on x.strand e) refl
+act_there (e ∷ rest) x (inr later) = by_test (is_on x.strand e) refl (act_there rest x later)
   where
-    by_test : (b : Bool) → is_on x.strand e ≡ b → In (acts_on (e ∷ rest) x.strand) x.act
-    by_test true t = rw t (inr (act_there rest x later))
-    by_test false t = rw t (act_there rest x later)
+    by_test : (b : Bool) → is_on x.strand e ≡ b → In (acts_on rest x.strand) x.act → In (acts_on (e ∷ rest) x.strand) x.act
+    by_test true t more = rw t (inr more)
+    by_test false t more = rw t more
 
 module _ (events others : List Event) (same : DoTheSame events others) where
   tells_too : (t : ℕ) → list_any (tells t) events ≡ true → list_any (tells t) others ≡ true

@@ -1,5 +1,5 @@
 -- What is known after a line more of a piece.
-use Rattle.std.proofs.Common.{◌≡◌, ◌++◌, ◌∷◌, ◌∙◌, ℕ, Bool, true, false, List, [], refl, sym, ap, Option, Some, None, append-nil, take, length, get_or, ◌<◌, ◌+◌}
+use Rattle.std.proofs.Common.{◌≡◌, ◌++◌, ◌∷◌, ◌∙◌, ℕ, Bool, true, false, List, [], refl, sym, ap, subst, Option, Some, None, append-nil, take, length, get_or, ◌<◌, ◌+◌}
 use Rattle.std.specs.Prelude.{◌||◌, MatchOption}
 use Rattle.std.specs.List.{list_any, flat_map}
 use Rattle.std.proofs.lemmas.Grind.{flat_map-append}
@@ -15,10 +15,10 @@ use Rattle.log_pieces.specs.declared.piece.Piece.{Piece}
 use Rattle.log_pieces.specs.Pieces.{act_said, acts_in, events_in, events_of_pieces}
 use Rattle.log_tasks.specs.declared.ending.StrandEnd.{StrandEnd}
 use Rattle.log_tasks.specs.declared.told.Told.{Told}
-use Rattle.log_tasks.specs.Ends.{first_end, or_later}
+use Rattle.log_tasks.specs.Ends.{end_by, first_end, or_later}
 use Rattle.log_tasks.specs.Told.{is_told, end_told, task_told, end_after}
-use Rattle.log_tasks.proofs.Acts.{first_end_append, or_assoc}
-use Rattle.log_tasks.proofs.Puts.{after_twice}
+use Rattle.log_tasks.proofs.Acts.{first_end_append, or_assoc, later_none}
+use Rattle.log_tasks.proofs.Puts.{after_twice, after_none, or_false}
 
 -- LINES
 
@@ -47,6 +47,26 @@ next_told left line rest e f = sym (ap is_told (line_more left line rest e) ∙ 
 
 pub last_told : (left line : List ℕ) → lines_of left ≡ line ∷ [] → is_told (act_said (line_of line)) ≡ false → is_told (acts_in left) ≡ false
 last_told left line e f = ap is_told (line_last left line e) ∙ f
+
+-- the rest of a text where it goes on
+pub at_some : {X : Type 0} (now : X → List ℕ) (o : Option X) (left line : List ℕ) (r : X) → o ≡ Some r → MatchOption o (lines_of left ≡ line ∷ []) (λ x. lines_of left ≡ line ∷ lines_of (now x)) → lines_of left ≡ line ∷ lines_of (now r)
+at_some now o left line r e h = subst (λ p. MatchOption p (lines_of left ≡ line ∷ []) (λ x. lines_of left ≡ line ∷ lines_of (now x))) e h
+
+-- NO ACT
+
+pub none_ends : (told : Told) (u : Strand) (said : List Act) → [] ≡ said → (t i : ℕ) → end_told told t i ≡ end_after told u (first_end said) t i
+none_ends told u said e t i = after_none told u t i ∙ ap (λ (as_said : List Act). end_after told u (first_end as_said) t i) e
+
+pub none_tasks : (told : Told) (said : List Act) → [] ≡ said → (t : ℕ) → task_told told t ≡ (task_told told t || list_any (spawns t) said)
+none_tasks told said e t = or_false (task_told told t) ∙ ap (λ (as_said : List Act). task_told told t || list_any (spawns t) as_said) e
+
+-- ONE ACT
+
+pub one_ends : (old new : Told) (u : Strand) (act : Act) (said : List Act) → act ∷ [] ≡ said → ((t i : ℕ) → end_told new t i ≡ end_after old u (end_by act) t i) → (t i : ℕ) → end_told new t i ≡ end_after old u (first_end said) t i
+one_ends old new u act said e g t i = g t i ∙ ap (λ (o : Option StrandEnd). end_after old u o t i) (sym (later_none (end_by act)) ∙ ap first_end e)
+
+pub one_tasks : (old new : Told) (act : Act) (said : List Act) → act ∷ [] ≡ said → ((t : ℕ) → task_told new t ≡ (task_told old t || spawns t act)) → (t : ℕ) → task_told new t ≡ (task_told old t || list_any (spawns t) said)
+one_tasks old new act said e g t = g t ∙ ap (λ (b : Bool). task_told old t || b) (or_false (spawns t act) ∙ ap (list_any (spawns t)) e)
 
 -- ENDS AND TASKS
 

@@ -30,7 +30,7 @@ use Rattle.log_tasks.proofs.ToldRows.{rows_are, small_turns, spawns_well}
 use Rattle.log_tasks.proofs.Nested.{graph_nested}
 
 pub true_is : (b : Bool) → IsTrue b → b ≡ true
-true_is true t = refl
+true_is b t = t
 
 -- the numbers that are known are those of all tasks
 pub numbers_are : (told : Told) (events : List Event) (numbers : List ℕ) → Knows told events → numbers ≡ keys told.tasks → IsStrictlyIncreasing numbers → AreNumbers events numbers
@@ -42,7 +42,7 @@ numbers_are told events numbers k e up = record {
     into : (t : ℕ) → In numbers t → IsTrue (is_task events t)
     into t h =
         let has : task_told told t ≡ true = any_from_in (is_at (nat_cmp t)) (keys told.tasks) t (subst (λ (ns : List ℕ). In ns t) e h) (at_is_same t t ∙ grind (arith, nat_tests)) in
-        subst IsTrue (sym (sym (k.tasks t) ∙ has)) tt
+        sym (k.tasks t) ∙ has
 
     out : (t : ℕ) → IsTrue (is_task events t) → In numbers t
     out t h =
@@ -52,7 +52,7 @@ numbers_are told events numbers k e up = record {
 
 module _ (told : Told) (events : List Event) (extent : Extent) (numbers : List ℕ) (rows : List (List Turn)) (knows : Knows told events) (named : AreNumbers events numbers) (are : AreToldRows told numbers rows) where
   some_rows : 0 < length rows
-  some_rows = let r = in_at numbers 0 ((named.are 0).1 tt) in let lt = r.1 in let count = are.count in omega (arith, lt, count)
+  some_rows = let r = in_at numbers 0 ((named.are 0).1 refl) in let lt = r.1 in let count = are.count in omega (arith, lt, count)
 
   -- a log without a fault
   pub is_log : length rows ≤ 2 ^ 32 → IsSound rows extent → HasNoneBelow events extent numbers rows (length rows) → (log : LogTasks) → log.numbers ≡ numbers → log.turns ≡ graph_of extent rows → log.known ≡ map length rows → IsLog events extent log

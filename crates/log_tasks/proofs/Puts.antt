@@ -15,11 +15,11 @@ pub number_same : (a b : ℕ) → (a == b) ≡ true → a ≡ b
 number_same a b e = grind (arith, nat_tests, e)
 
 -- the number that is tested is this one
-and_left : (a b : Bool) → (a && b) ≡ true → a ≡ true
+pub and_left : (a b : Bool) → (a && b) ≡ true → a ≡ true
 and_left true b e = refl
 and_left false b e = e
 
-and_right : (a b : Bool) → (a && b) ≡ true → b ≡ true
+pub and_right : (a b : Bool) → (a && b) ≡ true → b ≡ true
 and_right true b e = e
 and_right false b e = absurd (cc)
 

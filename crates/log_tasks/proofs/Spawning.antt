@@ -24,7 +24,7 @@ use Rattle.log_tasks.proofs.Puts.{number_same, and_left, and_right}
 
 -- STRANDS THAT END
 
-on_same : (u : Strand) (e : Event) → is_on u e ≡ true → e.strand ≡ u
+pub on_same : (u : Strand) (e : Event) → is_on u e ≡ true → e.strand ≡ u
 on_same u e t =
     let task : e.strand.task ≡ u.task = number_same e.strand.task u.task (and_left (e.strand.task == u.task) (e.strand.index == u.index) t) in
     let index : e.strand.index ≡ u.index = number_same e.strand.index u.index (and_right (e.strand.task == u.task) (e.strand.index == u.index) t) in
@@ -46,15 +46,15 @@ spawned_in (acts.Work n ∷ rest) c e = inr (spawned_in rest c e)
 -- an act of a strand is an event
 pub in_events : (events : List Event) (u : Strand) (a : Act) → In (acts_on events u) a → In events (event u a)
 in_events [] u a h = absurd h
-in_events (e ∷ rest) u a h = by_test (is_on u e) refl
+in_events (e ∷ rest) u a h = by_test (is_on u e) refl (in_events rest u a)
   where
-    here : is_on u e ≡ true → (e.act ≡ a) ⊎ In (acts_on rest u) a → In (e ∷ rest) (event u a)
-    here t (inl same) = inl (ap₂ event (on_same u e t) same)
-    here t (inr later) = inr (in_events rest u a later)
+    here : is_on u e ≡ true → (In (acts_on rest u) a → In rest (event u a)) → (e.act ≡ a) ⊎ In (acts_on rest u) a → In (e ∷ rest) (event u a)
+    here t more (inl same) = inl (ap₂ event (on_same u e t) same)
+    here t more (inr later) = inr (more later)
 
-    by_test : (b : Bool) → is_on u e ≡ b → In (e ∷ rest) (event u a)
-    by_test true t = here t (rw t at h)
-    by_test false t = let later : In (acts_on rest u) a = rw t at h in inr (in_events rest u a later)
+    by_test : (b : Bool) → is_on u e ≡ b → (In (acts_on rest u) a → In rest (event u a)) → In (e ∷ rest) (event u a)
+    by_test true t more = here t more (rw t at h)
+    by_test false t more = let later : In (acts_on rest u) a = rw t at h in inr (more later)
 
 spawn_event : (events : List Event) (u : Strand) (c : ℕ) → end_of events u ≡ Some (Turns (Spawn c)) → In events (event u (acts.Spawn c))
 spawn_event events u c e = in_events events u (acts.Spawn c) (spawned_in (acts_on events u) c e)
@@ -68,11 +68,11 @@ in_within (e ∷ rest) x w (inr later) = in_within rest x w.1 later
 
 turn_act : (done : List Act) (turn : Turn) → first_end done ≡ Some (Turns turn) → (a : Act) × In done a × (end_by a ≡ Some (Turns turn))
 turn_act [] turn e = absurd (cc)
-turn_act (a ∷ rest) turn e = by_end (end_by a) refl
+turn_act (a ∷ rest) turn e = by_end (end_by a) refl (turn_act rest turn)
   where
-    by_end : (o : Option StrandEnd) → end_by a ≡ o → (b : Act) × In (a ∷ rest) b × (end_by b ≡ Some (Turns turn))
-    by_end None n = let r = turn_act rest turn (sym (ap (λ (o : Option StrandEnd). or_later o (first_end rest)) n) ∙ e) in (r.0, inr r.1, r.2)
-    by_end (Some x) n = (a, inl refl, n ∙ sym (ap (λ (o : Option StrandEnd). or_later o (first_end rest)) n) ∙ e)
+    by_end : (o : Option StrandEnd) → end_by a ≡ o → (first_end rest ≡ Some (Turns turn) → (b : Act) × In rest b × (end_by b ≡ Some (Turns turn))) → (b : Act) × In (a ∷ rest) b × (end_by b ≡ Some (Turns turn))
+    by_end None n more = let m = more (sym (ap (λ (o : Option StrandEnd). or_later o (first_end rest)) n) ∙ e) in (m.0, inr m.1, m.2)
+    by_end (Some x) n more = (a, inl refl, n ∙ sym (ap (λ (o : Option StrandEnd). or_later o (first_end rest)) n) ∙ e)
 
 -- a strand that ends in a turn has a number within the limit
 pub end_within : (events : List Event) (u : Strand) (turn : Turn) → AreWithin events → end_of events u ≡ Some (Turns turn) → u.index + 1 < strand_limit

@@ -1,7 +1,8 @@
 -- What is wrong with a task after its last turn, by what is known and by what happens.
 use Rattle.std.proofs.Common.{◌≡◌, ◌≢◌, ◌<◌, ◌≤◌, ◌==◌, ◌∷◌, ◌∙◌, ◌⊎◌, inl, inr, ℕ, Bool, true, false, List, [], length, get_or, refl, sym, ap, ap₂, subst, Option, Some, None, arith}
 use Rattle.std.specs.Prelude.{◌&&◌, max, nat_lt}
-use Rattle.std.proofs.lemmas.Bool.Decides.{nat_tests, cases_lt}
+use Rattle.std.proofs.lemmas.Bool.Decides.{nat_tests}
+use Rattle.std.proofs.lemmas.Bool.{cases_lt}
 use Rattle.log_lines.specs.declared.line.Act.{Act}
 use Rattle.fork_graph.specs.declared.graph.Turn.{Turn}
 use Rattle.fork_graph.specs.declared.graph.Strand.{Strand}

@@ -3,12 +3,12 @@ use Rattle.std.proofs.Common.{◌≡◌, ◌<◌, ◌≤◌, ◌+◌, ◌^◌, �
 use Rattle.std.specs.Prelude.{◌≢◌, slice_get, IsTrue}
 use Rattle.std.specs.List.Sorted.{IsStrictlyIncreasing}
 use Rattle.std.proofs.Math.Nat.{eq-or-lt_of_le}
-use Rattle.std.proofs.lemmas.Bool.Decides.{cases_lt}
+use Rattle.std.proofs.lemmas.Bool.{cases_lt}
 use Rattle.std.proofs.Math.ListN.{get_or-append}
 use Rattle.std.proofs.Math.Seq.{get_or-append_seam}
 use Rattle.listed.proofs.Numbers.{below_next}
-use Rattle.listed.proofs.Members.{got_within, got_past}
-use Rattle.listed.proofs.Places.{got_front, got_last}
+use Rattle.listed.proofs.Members.{got_within, got_past, got_front}
+use Rattle.listed.proofs.Places.{got_last}
 use Rattle.log_lines.specs.Limits.{strand_limit}
 use Rattle.fork_graph.specs.declared.graph.Turn.{Turn}
 use Rattle.fork_graph.specs.declared.graph.Turn.TheVariants.{Spawn, Join}
@@ -150,10 +150,10 @@ module _ (events : List Event) (numbers : List ℕ) (rows : List (List Turn)) (s
       spawn_turn numbers (end_of events (log_strand numbers (strand t i))) c (sym (are.each t (omega (arith, there, count)) i (omega (arith, within))) ∙ d)
 
   named_there : (n : ℕ) (u : Strand) → end_of events u ≡ Some (Turns (Spawn n)) → (task_of numbers n < length numbers) × (get_or numbers (task_of numbers n) 0 ≡ n)
-  named_there n u e = task_there numbers named.ascending n ((named.are n).1 (subst IsTrue (sym (spawned_is_task events u n e)) tt))
+  named_there n u e = task_there numbers named.ascending n ((named.are n).1 (spawned_is_task events u n e))
 
   root_first : get_or numbers 0 0 ≡ 0
-  root_first = by_place (task_there numbers named.ascending 0 ((named.are 0).1 tt))
+  root_first = by_place (task_there numbers named.ascending 0 ((named.are 0).1 refl))
     where
       by_place : (task_of numbers 0 < length numbers) × (get_or numbers (task_of numbers 0) 0 ≡ 0) → get_or numbers 0 0 ≡ 0
       by_place (lt, e) =

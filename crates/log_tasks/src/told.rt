@@ -1,6 +1,6 @@
 // What the pieces of a log tell of its strands and tasks.
 
-ghost use Rattle.std.specs.Prelude.{◌≡◌, ◌==◌, ◌||◌, ◌&&◌, ◌++◌, ℕ, [], List, Some, OnOk, IfOk, slice_range};
+ghost use Rattle.std.specs.Prelude.{◌≡◌, ◌==◌, ◌||◌, ◌&&◌, ◌++◌, ℕ, [], List, Some, OnOk, IfOk, option_to_list, slice_range};
 ghost use Rattle.std.specs.List.{list_any};
 ghost use Rattle.log_lines.specs.Grammar.{line_of};
 ghost use Rattle.log_form.specs.Events.{Event};
@@ -27,6 +27,16 @@ pub(crate) struct Told {
     pub(crate) tops: HashMap<u32, u32>,
     /// The root, the tasks that do something, and those that are spawned.
     pub(crate) tasks: BTreeSet<u32>,
+}
+
+// The act that a line says, if it says one.
+fn act_in(line: &[u8]) -> Option<Act>
+    ensures { option_to_list result ≡ act_said (line_of line.now) }
+{
+    match read_line(line) {
+        Ok(Line::Act(act)) => Some(act),
+        _ => None,
+    }
 }
 
 // Whether a line is an act.
@@ -115,9 +125,9 @@ impl Told {
         ensures tasks { OnOk result ((t : ℕ) → task_told self.new t ≡ (task_told self.old t || list_any (spawns t) (act_said (line_of line.now)))) }
         ensures tops { self.new.tops ≡ self.old.tops }
     {
-        match read_line(line) {
-            Ok(Line::Act(act)) => self.take_act(strand, act),
-            _ => Ok(()),
+        match act_in(line) {
+            Some(act) => self.take_act(strand, act),
+            None => Ok(()),
         }
     }
 

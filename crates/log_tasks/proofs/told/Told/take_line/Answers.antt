@@ -1,0 +1,5 @@
+use Rattle.log_tasks.proofs.Lines.{none_ends, none_tasks, one_ends, one_tasks}
+use Rattle.log_tasks.proofs.told.Told.take_line.Goals as goal
+
+pub returns-in-None : goal.returns-in-None
+returns-in-None c = record { ends = none_ends c.args.self.now c.args.strand _ c.in-None.ensures; tasks = none_tasks c.args.self.now _ c.in-None.ensures; tops = ? }
