@@ -181,7 +181,10 @@ fn add(touches: &mut Vec<Touch>, row: &Row, last: u32, count: usize) -> Option<(
         kind,
         line: 0,
     };
-    touches.push(Touch { region, access }).ok()
+    match touches.push(Touch { region, access }) {
+        Ok(()) => Some(()),
+        Err(_) => None,
+    }
 }
 
 // The accesses of rows, whose strands are there and stand in ascending order.
