@@ -1,0 +1,11 @@
+mod AllLines
+mod FirstNames
+mod FirstTold
+mod LineCauses
+mod NamesAgree
+mod OnLines
+mod Pieces
+mod Senses
+mod TextLines
+mod Walks
+mod WordsOf

@@ -1,0 +1,8 @@
+-- Counts that have room.
+use Rattle.std.specs.Prelude.{ℕ, ◌<◌, ◌^◌}
+use Rattle.text_faults.specs.declared.walk.Walk.{Walk}
+
+-- the counts are those of a text
+pub record IsCounted (w : Walk) : Type 0 where
+  pub begun : w.begun < 2 ^ 62
+  pub orders : w.orders < 2 ^ 62

@@ -1,0 +1,19 @@
+-- What the reader of programs says of a text, and what its faults are.
+use Rattle.std.specs.Prelude.{◌≡◌, ◌↔◌, ℕ, Option, Some, None, List, [], ◌∷◌}
+use Rattle.program_reader.specs.declared.cause.Refused.{Refused}
+use Rattle.program_reader.specs.Fault.{first_fault}
+use Rattle.text_faults.specs.declared.fault.Fault.{Fault}
+use Rattle.text_faults.specs.Faults.{cause_of, faults_of}
+
+-- the line and the cause of the first of some faults
+abbrev pub first_of_faults : List Fault → Option Refused
+first_of_faults [] = None
+first_of_faults (f ∷ fs) = Some (record { line = f.line; cause = cause_of f.wrong })
+
+-- THE FIRST FAULT of each text is the one that the reader of programs tells
+abbrev pub FirstIsTold : Type 0
+FirstIsTold = (text : List ℕ) → first_of_faults (faults_of text) ≡ first_fault text
+
+-- so a text has none exactly where it is a program
+abbrev pub NoneInPrograms : Type 0
+NoneInPrograms = (text : List ℕ) → (faults_of text ≡ []) ↔ (first_fault text ≡ None)

@@ -1,0 +1,10 @@
+pub mod Placed
+pub mod Operands
+pub mod Forms
+pub mod Lines
+pub mod Parsed
+pub mod Found
+pub mod Near
+pub mod Faults
+pub mod Counted
+pub mod Laws
