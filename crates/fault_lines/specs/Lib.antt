@@ -1,0 +1,4 @@
+pub mod Expected
+pub mod Text
+pub mod Json
+pub mod Shown
