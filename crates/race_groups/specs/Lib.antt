@@ -1,0 +1,6 @@
+pub mod Groups
+pub mod Gathered
+pub mod Laws
+pub mod Swaps
+pub mod Text
+pub mod Shown

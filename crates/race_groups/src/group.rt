@@ -1,0 +1,34 @@
+// The races on one pair of lines.
+
+ghost use Rattle.std.specs.Prelude.{◌≡◌};
+ghost use Rattle.race_groups.specs.Groups.{Lines, lines_of_race, group_of};
+
+use race_report::Race;
+
+/// The races of which the earlier access stands on one line, and the later one on one line.
+#[derive(Clone, Copy)]
+pub struct Group {
+    /// The first of them, in the order of the fields.
+    pub example: Race,
+    /// How many they are. Each is of another field.
+    pub fields: usize,
+}
+
+/// The line of the earlier access, and that of the later one.
+pub(crate) fn lines_of_race(race: &Race) -> (u32, u32)
+    ensures { result ≡ lines_of_race race.now }
+{
+    let (_, first) = race.first;
+    let (_, second) = race.second;
+    (first, second)
+}
+
+/// The group of a race alone.
+pub(crate) fn group_of(race: &Race) -> Group
+    ensures { result ≡ group_of race.now }
+{
+    Group {
+        example: *race,
+        fields: 1,
+    }
+}
