@@ -67,7 +67,7 @@ typed README.md 5 <<'END'
 END
 typed README.md 12 <<'END'
 ./hheap record examples/peeked.hh > peeked.trace
-./hheap again races peeked.trace
+./hhview races peeked.trace
 END
 
 usage=docs/USAGE.md
@@ -143,6 +143,20 @@ typed $usage 0 <<'END'
 ./hheap run --chunks 32 examples/fewer_tasks.hh
 END
 
+printf '%s\n' 'fn main' 'ad i0 i0 i0' 'set i16 1' 'jmp lop' 'lab loop' 'end' >bad.hh
+typed $usage 0 'line 2, column 1: "ad": expected an instruction, lab or end; did you mean "add"?' \
+  'line 3, column 5: "i16": expected an int register i0 to i15' \
+  'line 4, column 5: "lop": expected a label of this function; did you mean "loop"?' <<'END'
+./hhview faults bad.hh
+END
+typed $usage 0 <<'END'
+./hhview faults bad.hh --json
+END
+grep -q '"cause":"word","expected":"an instruction, lab or end","near":"add"},$' written || fail "$usage: faults as JSON"
+typed $usage 12 <<'END'
+./hhview races peeked.trace
+END
+
 typed docs/TUTORIAL.md 0 91 9 .. <<'END'
 ./hheap run --report --trace examples/squares.hh
 END
@@ -178,6 +192,16 @@ END
 typed docs/RACES.md 12 'swap 0 0 ref 0 tasks 1 2 lines 11 11' 'prints ordered' 'end: schedules may differ 1' <<'END'
 ./hheap record examples/cas.hh > cas.trace
 ./hhview schedules cas.trace
+END
+typed docs/RACES.md 12 'lines 14 and 8: 1 field' '  14: putr r0 i0 r2' '  8: cas i3 r0 i0 r2 r1' \
+  '  example: ref 0 of object 0 0, task 1 on line 14, later task 2 on line 8' \
+  '  cas races with other accesses; only two cas never race' 'lines 13 and 10: 1 field' '  13: puti r0 i0 i4' \
+  '  10: geti i4 r0 i0' '  example: num 0 of object 0 0, task 1 on line 13, later task 2 on line 10' \
+  "note: only forks and joins put accesses in order, and cas doesn't. So accesses that a lock by cas guards" \
+  '      are races: which task gets the lock first differs from schedule to schedule.' \
+  'end: races 2 on 2 pairs of lines' <<'END'
+./hheap record examples/spin_lock.hh > lock.trace
+./hhview races lock.trace
 END
 typed docs/IMAGES.md 0 'end: verified 2' <<'END'
 ./hheap verify examples/two_objects.image

@@ -1,5 +1,5 @@
 -- What is shown of a trace.
-use Rattle.std.proofs.Common.{◌≡◌, List, sym, subst}
+use Rattle.std.proofs.Common.{◌≡◌, ℕ, List, sym, subst}
 use Rattle.std.specs.Prelude.{Option}
 use Rattle.run_trace.specs.Entry.{EntryValue}
 use Rattle.run_trace.specs.Settings.{SettingsValue}
@@ -12,9 +12,9 @@ use Rattle.whole_call.specs.declared.reply.Reply.{Reply}
 use Rattle.view_core.specs.Shown.{ShowsJournal, ShowsWhole, ShowsTrace}
 
 -- what is shown of a journal, which is the trace's, with its settings
-pub trace_told : (v : RunView) (l : SettingsValue) (t : TraceInput) (s : SettingsValue) (journal : List EntryValue) (r : Option RefusedAt) (w : Reply) → s ≡ settings_for l t → journal ≡ t.trace.entries
-    → refused_as_run t.program s journal ≡ r → ShowsWhole (ShowsJournal v t.program s journal) r w → ShowsTrace v l t w
-trace_told v l t s journal r w settings entries is h =
-    subst (λ x. ShowsWhole (ShowsJournal v t.program x t.trace.entries) (refused_as_run t.program x t.trace.entries) w) settings
-    (subst (λ j. ShowsWhole (ShowsJournal v t.program s j) (refused_as_run t.program s j) w) entries
-    (subst (λ o. ShowsWhole (ShowsJournal v t.program s journal) o w) (sym is) h))
+pub trace_told : (v : RunView) (l : SettingsValue) (input : List ℕ) (t : TraceInput) (s : SettingsValue) (journal : List EntryValue) (r : Option RefusedAt) (w : Reply) → s ≡ settings_for l t → journal ≡ t.trace.entries
+    → refused_as_run t.program s journal ≡ r → ShowsWhole (ShowsJournal v input t.program s journal) r w → ShowsTrace v l input t w
+trace_told v l input t s journal r w settings entries is h =
+    subst (λ x. ShowsWhole (ShowsJournal v input t.program x t.trace.entries) (refused_as_run t.program x t.trace.entries) w) settings
+    (subst (λ j. ShowsWhole (ShowsJournal v input t.program s j) (refused_as_run t.program s j) w) entries
+    (subst (λ o. ShowsWhole (ShowsJournal v input t.program s journal) o w) (sym is) h))

@@ -1,3 +1,5 @@
+pub mod Faults
+pub mod Races
 pub mod Shown
 pub mod Page
 pub mod Views

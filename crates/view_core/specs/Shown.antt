@@ -23,11 +23,12 @@ use Rattle.schedule_report.specs.declared.data.Verdict.TheVariants.{Agree, Agree
 use Rattle.schedule_report.specs.Schedules.{IsAnswer, verdict_of}
 use Rattle.schedule_report.specs.Text.{clashes_text}
 use Rattle.view_line.specs.declared.line.RunView.{RunView}
-use Rattle.view_line.specs.declared.line.RunView.TheVariants.{Timeline, Tasks, Schedules}
+use Rattle.view_line.specs.declared.line.RunView.TheVariants.{Timeline, Tasks, Schedules, Races as RacesView}
 use Rattle.whole_call.specs.declared.status.AnswerStatus.{AnswerStatus}
 use Rattle.whole_call.specs.declared.status.AnswerStatus.TheVariants.{Done, Trace, Races}
 use Rattle.whole_call.specs.declared.reply.Reply.{Reply}
 use Rattle.whole_call.specs.Output.{Says}
+use Rattle.view_core.specs.Races.{ShowsRaces}
 
 -- HEAPS
 
@@ -58,23 +59,24 @@ SaysSchedules (Some c) = Says (status_of_verdict (verdict_of c)) (clashes_text c
 abbrev pub ShowsSchedules : ProgramText → SettingsValue → List EntryValue → Reply → Type 0
 ShowsSchedules p s journal w = (answer : Option Clashes) × IsAnswer p s journal answer × SaysSchedules answer w
 
--- what each view shows of a run
-abbrev pub ShowsJournal : RunView → ProgramText → SettingsValue → List EntryValue → Reply → Type 0
-ShowsJournal Timeline p s journal = Says Done (timeline p s journal)
-ShowsJournal Tasks p s journal = Says Done (table p s journal)
-ShowsJournal Schedules p s journal = ShowsSchedules p s journal
+-- what each view shows of a run, whose program's text stands at the beginning of the input
+abbrev pub ShowsJournal : RunView → List ℕ → ProgramText → SettingsValue → List EntryValue → Reply → Type 0
+ShowsJournal Timeline input p s journal = Says Done (timeline p s journal)
+ShowsJournal Tasks input p s journal = Says Done (table p s journal)
+ShowsJournal Schedules input p s journal = ShowsSchedules p s journal
+ShowsJournal RacesView input p s journal = ShowsRaces input p s journal
 
 -- that of a journal that has an end, or its first refused entry, or that it is short
 abbrev pub ShowsWhole : (Reply → Type 0) → Option RefusedAt → Reply → Type 0
 ShowsWhole P None = P
 ShowsWhole P (Some r) = Refuses (Entry r)
 
-abbrev pub ShowsTrace : RunView → SettingsValue → TraceInput → Reply → Type 0
-ShowsTrace v s t = ShowsWhole (ShowsJournal v t.program (settings_for s t) t.trace.entries) (refused_as_run t.program (settings_for s t) t.trace.entries)
+abbrev pub ShowsTrace : RunView → SettingsValue → List ℕ → TraceInput → Reply → Type 0
+ShowsTrace v s input t = ShowsWhole (ShowsJournal v input t.program (settings_for s t) t.trace.entries) (refused_as_run t.program (settings_for s t) t.trace.entries)
 
 -- of a program with a trace, or its first fault
 abbrev pub ShowsInput : RunView → SettingsValue → List ℕ → Option InputFault → Reply → Type 0
-ShowsInput v s input None w = (t : TraceInput) × IsInput input t × ShowsTrace v s t w
+ShowsInput v s input None w = (t : TraceInput) × IsInput input t × ShowsTrace v s input t w
 ShowsInput v s input (Some f) w = Refuses (refusal_of f) w
 
 abbrev pub ShowsRun : RunView → SettingsValue → List ℕ → Reply → Type 0

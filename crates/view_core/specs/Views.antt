@@ -4,7 +4,7 @@ use Rattle.text_lines.specs.Lines.{most_bytes}
 use Rattle.refusal_lines.specs.declared.refusal.Refusal.TheVariants.{Words}
 use Rattle.refusal_replies.specs.Refused.{Refuses}
 use Rattle.view_line.specs.declared.line.Picture.{Picture}
-use Rattle.view_line.specs.declared.line.Picture.TheVariants.{Heaps, Run, Page}
+use Rattle.view_line.specs.declared.line.Picture.TheVariants.{Heaps, Run, Page, Faults}
 use Rattle.view_line.specs.declared.line.View.{View}
 use Rattle.view_line.specs.declared.line.View.TheVariants.{Usage, Of}
 use Rattle.whole_call.specs.declared.status.AnswerStatus.TheVariants.{Done}
@@ -12,6 +12,7 @@ use Rattle.whole_call.specs.declared.reply.Reply.{Reply}
 use Rattle.whole_call.specs.Input.{Reads, ReadsNothing, ReadsUpTo}
 use Rattle.whole_call.specs.Output.{Says}
 use Rattle.view_core.specs.Page.{ShowsPage, title_of}
+use Rattle.view_core.specs.Faults.{ShowsFaults}
 use Rattle.view_core.specs.Shown.{ShowsHeaps, ShowsRun}
 
 -- words that ask for nothing read nothing, nor does the usage
@@ -21,13 +22,14 @@ reads (Some Usage) = ReadsNothing
 reads None = ReadsNothing
 
 abbrev pub usage : List ℕ
-usage = codes "usage: hhview heaps [FILE] [--path T] [--limit N]\n       hhview page [FILE] [OPTIONS] [--title WORDS]\n       hhview timeline [FILE] [OPTIONS]\n       hhview tasks [FILE] [OPTIONS]\n       hhview schedules [FILE] [OPTIONS]\nOPTIONS are those of hheap replay: --workers N, --fuel N, --chunks N, --leaf N, --inner N\n"
+usage = codes "usage: hhview heaps [FILE] [--path T] [--limit N]\n       hhview page [FILE] [OPTIONS] [--title WORDS]\n       hhview timeline [FILE] [OPTIONS]\n       hhview tasks [FILE] [OPTIONS]\n       hhview schedules [FILE] [OPTIONS]\n       hhview races [FILE] [OPTIONS]\n       hhview faults [FILE] [--json]\nOPTIONS are those of hheap replay: --workers N, --fuel N, --chunks N, --leaf N, --inner N\n"
 
 -- of the file that is named, if one is
 abbrev pub ShowsPicture : Option (List ℕ) → Picture → List ℕ → Reply → Type 0
 ShowsPicture file (Heaps path limit) input = ShowsHeaps path limit input
 ShowsPicture file (Run view settings) input = ShowsRun view settings input
 ShowsPicture file (Page title settings) input = ShowsPage (title_of title file) settings input
+ShowsPicture file (Faults json) input = ShowsFaults json input
 
 abbrev pub Shows : Option View → List ℕ → Reply → Type 0
 Shows (Some (Of file picture)) input = ShowsPicture file picture input

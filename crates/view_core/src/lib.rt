@@ -2,8 +2,10 @@
 #![tactic(auto)]
 
 mod call;
+mod faults;
 mod heaps;
 mod page;
+mod races;
 mod runs;
 mod schedules;
 mod views;

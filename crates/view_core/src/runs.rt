@@ -6,6 +6,7 @@ ghost use Rattle.run_journal.specs.Replay.{ReplayFails};
 ghost use Rattle.whole_call.specs.Output.{Says};
 ghost use Rattle.view_core.specs.Shown.{ShowsJournal, ShowsTrace, ShowsRun};
 
+use crate::races::show_races;
 use crate::schedules::show_schedules;
 use hh_lang::Program;
 use refusal_lines::Refusal;
@@ -26,38 +27,41 @@ fn picture(text: Vec<u8>) -> Reply
     Reply::of_bytes(AnswerStatus::Done, text)
 }
 
-// Shows a view of a journal.
+// Shows a view of a journal of an input's program.
 fn show_journal(
     alloc: Global,
     view: RunView,
+    input: &[u8],
     program: &Program,
     settings: Settings,
     journal: &[Entry],
 ) -> Result<Reply, ReplayError>
     ensures whole { OnOk result (refused_as_run program.now settings journal.now ≡ None) }
-    ensures shown { IfOk result (ShowsJournal view program.now settings journal.now) }
+    ensures shown { IfOk result (ShowsJournal view input.now program.now settings journal.now) }
     ensures fails { IfErr result (ReplayFails (refused_as_run program.now settings journal.now)) }
 {
     match view {
         RunView::Timeline => Ok(picture(timeline_text(alloc, program, settings, journal)?)),
         RunView::Tasks => Ok(picture(table_text(alloc, program, settings, journal)?)),
         RunView::Schedules => show_schedules(alloc, program, settings, journal),
+        RunView::Races => show_races(alloc, input, program, settings, journal),
     }
 }
 
-// Shows the run of a trace.
+// Shows the run of a trace, which was read from an input.
 fn show_trace(
     alloc: Global,
     view: RunView,
     settings: Settings,
+    input: &[u8],
     read: &TraceInput,
 ) -> Result<Reply, AllocError>
-    ensures { IfOk result (ShowsTrace view settings read.now) }
+    ensures { IfOk result (ShowsTrace view settings input.now read.now) }
 {
     let TraceInput { program, trace } = read;
     let settings = settings.with_version(trace.version);
     let journal = trace.entries.as_slice();
-    match show_journal(alloc, view, program, settings, journal) {
+    match show_journal(alloc, view, input, program, settings, journal) {
         Ok(shown) => Ok(shown),
         Err(ReplayError::RefusedAt(entry)) => refused(alloc, Refusal::Entry(entry)),
         Err(ReplayError::NoMemory) => Err(AllocError),
@@ -74,7 +78,7 @@ pub(crate) fn show_run(
     ensures { IfOk result (ShowsRun view settings input.now) }
 {
     match read_trace_input(alloc, input) {
-        Ok(read) => show_trace(alloc, view, settings, &read),
+        Ok(read) => show_trace(alloc, view, settings, input, &read),
         Err(InputError::Fault(fault)) => refused(alloc, Refusal::of_input(fault)),
         Err(InputError::NoMemory) => Err(AllocError),
     }

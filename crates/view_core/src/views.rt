@@ -4,6 +4,7 @@ ghost use Rattle.std.specs.Prelude.{IfOk, Some};
 ghost use Rattle.whole_call.specs.Output.{Says};
 ghost use Rattle.view_core.specs.Views.{Shows, ShowsPicture, usage};
 
+use crate::faults::show_faults;
 use crate::heaps::show_heaps;
 use crate::page::show_page;
 use crate::runs::show_run;
@@ -16,7 +17,7 @@ fn show_usage(alloc: Global) -> Result<Reply, AllocError>
     ensures { IfOk result (Says AnswerStatus.Done usage) }
 {
     let text = format!(in alloc;
-        "usage: hhview heaps [FILE] [--path T] [--limit N]\n       hhview page [FILE] [OPTIONS] [--title WORDS]\n       hhview timeline [FILE] [OPTIONS]\n       hhview tasks [FILE] [OPTIONS]\n       hhview schedules [FILE] [OPTIONS]\nOPTIONS are those of hheap replay: --workers N, --fuel N, --chunks N, --leaf N, --inner N\n"
+        "usage: hhview heaps [FILE] [--path T] [--limit N]\n       hhview page [FILE] [OPTIONS] [--title WORDS]\n       hhview timeline [FILE] [OPTIONS]\n       hhview tasks [FILE] [OPTIONS]\n       hhview schedules [FILE] [OPTIONS]\n       hhview races [FILE] [OPTIONS]\n       hhview faults [FILE] [--json]\nOPTIONS are those of hheap replay: --workers N, --fuel N, --chunks N, --leaf N, --inner N\n"
     )?;
     Ok(Reply::of_text(AnswerStatus::Done, text))
 }
@@ -34,6 +35,7 @@ fn show_picture(
         Picture::Heaps { path, limit } => show_heaps(alloc, *path, *limit, input),
         Picture::Run { view, settings } => show_run(alloc, *view, *settings, input),
         Picture::Page { title, settings } => show_page(alloc, title, file, *settings, input),
+        Picture::Faults { json } => show_faults(alloc, *json, input),
     }
 }
 

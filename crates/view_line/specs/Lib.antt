@@ -1,3 +1,4 @@
 pub mod App
+pub mod FaultsLine
 pub mod PageLine
 pub mod ViewLine

@@ -8,11 +8,12 @@ use Rattle.command_line.specs.CommandLine.{command_line, file_in}
 use Rattle.command_line.specs.declared.line.CommandLine.{CommandLine}
 use Rattle.command_line.specs.declared.line.CommandLine.TheVariants.{Races}
 use Rattle.view_line.specs.declared.line.RunView.{RunView}
-use Rattle.view_line.specs.declared.line.RunView.TheVariants.{Timeline, Tasks, Schedules}
+use Rattle.view_line.specs.declared.line.RunView.TheVariants.{Timeline, Tasks, Schedules, Races as RacesView}
 use Rattle.view_line.specs.declared.line.Picture.TheVariants.{Heaps, Run}
 use Rattle.view_line.specs.declared.line.View.{View}
 use Rattle.view_line.specs.declared.line.View.TheVariants.{Usage, Of}
 use Rattle.view_line.specs.App.{heaps_app}
+use Rattle.view_line.specs.FaultsLine.{faults_line}
 use Rattle.view_line.specs.PageLine.{page_line}
 
 -- HEAPS
@@ -43,6 +44,7 @@ run_view name =
     if bytes_eq name (codes "timeline") then Some Timeline
     else if bytes_eq name (codes "tasks") then Some Tasks
     else if bytes_eq name (codes "schedules") then Some Schedules
+    else if bytes_eq name (codes "races") then Some RacesView
     else None
 
 -- it takes what `races` of hheap takes
@@ -63,6 +65,7 @@ abbrev pub named_line : Text → List Text → Option View
 named_line name words =
     if bytes_eq name (codes "heaps") then heaps_line words
     else if bytes_eq name (codes "page") then page_line words
+    else if bytes_eq name (codes "faults") then faults_line words
     else if bytes_eq name (codes "--help") then usage_line words
     else option_and_then (run_line words) (run_view name)
 

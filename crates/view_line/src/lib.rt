@@ -2,6 +2,7 @@
 #![tactic(auto)]
 
 mod command;
+mod faults;
 mod line;
 mod page;
 mod read;

@@ -43,6 +43,8 @@ pub enum RunView {
     Tasks,
     /// What the run says of all schedules.
     Schedules,
+    /// Its races, by pairs of lines.
+    Races,
 }
 
 /// What is shown of an input.
@@ -63,6 +65,10 @@ pub enum Picture {
     Page {
         title: Option<PageTitle>,
         settings: Settings,
+    },
+    /// The faults of the text of a program, as lines or as JSON.
+    Faults {
+        json: bool,
     },
 }
 

@@ -5,6 +5,7 @@ ghost use Rattle.clap.specs.Words.{found_of, rows_of, first_of};
 ghost use Rattle.view_line.specs.ViewLine.{maybe_number, heaps_in, heaps_line, run_in, run_line, run_view, named_line, usage_line, view_line};
 
 use crate::command::heaps_command;
+use crate::faults::faults_line;
 use crate::line::{InputFile, Picture, RunView, View};
 use crate::page::page_line;
 use clap::ArgMatches;
@@ -146,6 +147,7 @@ fn run_view(name: &str) -> Option<RunView>
         "timeline" => Some(RunView::Timeline),
         "tasks" => Some(RunView::Tasks),
         "schedules" => Some(RunView::Schedules),
+        "races" => Some(RunView::Races),
         _ => None,
     }
 }
@@ -179,6 +181,7 @@ fn named_line(alloc: Global, name: &str, words: &[String]) -> Result<Option<View
     match name {
         "heaps" => heaps_line(alloc, words),
         "page" => page_line(alloc, words),
+        "faults" => faults_line(alloc, words),
         "--help" => Ok(usage_line(words)),
         _ => run_named(alloc, words, run_view(name)),
     }

@@ -4,4 +4,8 @@
 #[cfg(test)]
 mod calls;
 #[cfg(test)]
+mod faults;
+#[cfg(test)]
+mod races;
+#[cfg(test)]
 mod views;

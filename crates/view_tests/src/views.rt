@@ -164,7 +164,7 @@ fn usage_is_shown(rt: HostRuntime) {
             "--help",
             "",
             0,
-            "usage: hhview heaps [FILE] [--path T] [--limit N]\n       hhview page [FILE] [OPTIONS] [--title WORDS]\n       hhview timeline [FILE] [OPTIONS]\n       hhview tasks [FILE] [OPTIONS]\n       hhview schedules [FILE] [OPTIONS]\nOPTIONS are those of hheap replay: --workers N, --fuel N, --chunks N, --leaf N, --inner N\n",
+            "usage: hhview heaps [FILE] [--path T] [--limit N]\n       hhview page [FILE] [OPTIONS] [--title WORDS]\n       hhview timeline [FILE] [OPTIONS]\n       hhview tasks [FILE] [OPTIONS]\n       hhview schedules [FILE] [OPTIONS]\n       hhview races [FILE] [OPTIONS]\n       hhview faults [FILE] [--json]\nOPTIONS are those of hheap replay: --workers N, --fuel N, --chunks N, --leaf N, --inner N\n",
             "",
         )],
     );
