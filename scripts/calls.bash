@@ -103,17 +103,18 @@ options_in() {
 read_commands_of_traces() {
   case $crate in
     hheap) commands=(replay model races image) limited=record ;;
-    hhview) commands=(page timeline tasks schedules) limited=timeline ;;
+    hhview) commands=(page timeline tasks schedules races) limited=timeline ;;
   esac
 }
 
 # Gives a command a trace file with the options that stand in it.
 again() {
-  local command=${1-} file options given limited
+  local command=${1-} file options given limited names
   local -a commands
   read_commands_of_traces
   if [[ -z $command || " ${commands[*]} " != *" $command "* ]]; then
-    refuse_words "again takes ${commands[0]}, ${commands[1]}, ${commands[2]} or ${commands[3]}, and the FILE of a trace that ./hheap record wrote"
+    printf -v names '%s, ' "${commands[@]::${#commands[@]}-1}"
+    refuse_words "again takes ${names%, } or ${commands[-1]}, and the FILE of a trace that ./hheap record wrote"
   fi
   shift
   read_words "$command" "$@"
