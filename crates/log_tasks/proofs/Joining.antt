@@ -5,6 +5,7 @@ use Rattle.std.proofs.Math.Path.{fun_ext}
 use Rattle.std.proofs.lemmas.Grind.{reverse_onto}
 use Rattle.std.proofs.lemmas.List.{map-append, take_more}
 use Rattle.std.proofs.lemmas.List.Elements.{filter-append}
+use Rattle.listed.proofs.Members.{got_front}
 use Rattle.fork_graph.specs.declared.graph.Turn.{Turn}
 use Rattle.fork_graph.specs.declared.graph.Turn.TheVariants.{Spawn, Join}
 use Rattle.fork_graph.specs.Cut.{spawned_by, joins, completed}
@@ -60,3 +61,20 @@ joined_more turns i d turn c lt e =
     ap (λ (ts : List Turn). joins ts c) (take_more turns i d lt)
     ∙ joins_both (take i turns) (get_or turns i d ∷ []) c
     ∙ ap (λ (t : Turn). joins (take i turns) c || joins (t ∷ []) c) (sym e)
+
+-- one join more is added, or none
+pub joins_step : (joined : ℕ → Bool) (row turns new : List Turn) (place count : ℕ) (turn : Turn) (child : Option ℕ) → count ≡ length row → place < count → turns ≡ row ++ joins_for joined (drop (length row - place) row)
+    → slice_get turns (count - 1 - place) ≡ Some turn → child ≡ left_by joined turn → new ≡ turns ++ joins_of child → new ≡ row ++ joins_for joined (drop (length row - (place + 1)) row)
+joins_step joined row turns new place count turn child n lt so_far got c e =
+    let within : length row - 1 - place < length row = omega (arith, n, lt) in
+    let index : length row - 1 - place ≡ count - 1 - place = omega (arith, n) in
+    let at : slice_get row (length row - 1 - place) ≡ Some turn =
+    sym (got_front row (joins_for joined (drop (length row - place) row)) (length row - 1 - place) within)
+    ∙ ap (λ (ts : List Turn). slice_get ts (length row - 1 - place)) (sym so_far)
+    ∙ ap (slice_get turns) index
+    ∙ got in
+    e
+    ∙ ap (λ (o : Option ℕ). turns ++ joins_of o) c
+    ∙ ap (λ (ts : List Turn). ts ++ joins_of (left_by joined turn)) so_far
+    ∙ append_assoc row (joins_for joined (drop (length row - place) row)) (joins_of (left_by joined turn))
+    ∙ ap (λ (ts : List Turn). row ++ ts) (sym (joins_more joined row place turn (omega (arith, n, lt)) at))

@@ -1,6 +1,7 @@
 -- What is known after a piece more.
-use Rattle.std.proofs.Common.{◌≡◌, ◌==◌, ◌++◌, ◌∙◌, ℕ, Bool, List, sym, ap, Option}
-use Rattle.std.specs.Prelude.{◌||◌, ◌&&◌, if◌then◌else◌}
+use Rattle.std.proofs.Common.{◌≡◌, ◌==◌, ◌++◌, ◌∙◌, ℕ, Bool, List, refl, sym, ap, Option, Result, Ok, Err}
+use Rattle.std.specs.Prelude.{◌||◌, ◌&&◌, OnOk, if◌then◌else◌}
+use Rattle.std.specs.declared.alloc.AllocError.{AllocError}
 use Rattle.std.specs.List.{list_any}
 use Rattle.log_lines.specs.declared.line.Act.{Act}
 use Rattle.fork_graph.specs.declared.graph.Strand.{Strand}
@@ -30,3 +31,24 @@ known_more old new u acts events g k = record {
   tops = λ t. g.tops t ∙ ap (λ (o : Option ℕ). greater o (index_if (is_told acts) u t)) (k.tops t) ∙ sym (top_more events u acts t);
   tasks = λ t. g.tasks t ∙ ap (λ (b : Bool). (b || (is_told acts && (u.task == t))) || list_any (spawns t) acts) (k.tasks t) ∙ sym (task_more events u acts t);
 }
+
+same_ends : (one other : Told) → one.ends ≡ other.ends → (t i : ℕ) → end_told one t i ≡ end_told other t i
+same_ends one other e t i = rw e refl
+
+same_tops : (one other : Told) → one.tops ≡ other.tops → (t : ℕ) → top_told one t ≡ top_told other t
+same_tops one other e t = rw e refl
+
+-- a piece was noted, and its lines were taken
+pub piece_taken : (r : Result (Unit {0}) AllocError) (old mid new : Told) (u : Strand) (acts : List Act)
+    → ((t : ℕ) → top_told mid t ≡ greater (top_told old t) (index_if (is_told acts) u t)) → ((t : ℕ) → task_told mid t ≡ (task_told old t || (is_told acts && (u.task == t)))) → mid.ends ≡ old.ends
+    → OnOk r ((t i : ℕ) → end_told new t i ≡ end_after mid u (first_end acts) t i) → OnOk r ((t : ℕ) → task_told new t ≡ (task_told mid t || list_any (spawns t) acts)) → new.tops ≡ mid.tops
+    → OnOk r ((events : List Event) → Knows old events → Knows new (events ++ on_strand u acts))
+piece_taken (Ok x) old mid new u acts tops tasks ends new_ends new_tasks new_tops = λ events k.
+    known_more old new u acts events
+    (record {
+      ends = λ t i. new_ends t i ∙ ap (λ (o : Option StrandEnd). if is_that u t i then or_later o (first_end acts) else o) (same_ends mid old ends t i);
+      tops = λ t. same_tops new mid new_tops t ∙ tops t;
+      tasks = λ t. new_tasks t ∙ ap (λ (b : Bool). b || list_any (spawns t) acts) (tasks t);
+    })
+    k
+piece_taken (Err e) old mid new u acts tops tasks ends new_ends new_tasks new_tops = tt

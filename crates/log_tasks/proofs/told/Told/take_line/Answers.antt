@@ -1,5 +1,6 @@
+use Rattle.std.proofs.Common.{refl}
 use Rattle.log_tasks.proofs.Lines.{none_ends, none_tasks, one_ends, one_tasks}
 use Rattle.log_tasks.proofs.told.Told.take_line.Goals as goal
 
 pub returns-in-None : goal.returns-in-None
-returns-in-None c = record { ends = none_ends c.args.self.now c.args.strand _ c.in-None.ensures; tasks = none_tasks c.args.self.now _ c.in-None.ensures; tops = ? }
+returns-in-None c = record { ends = none_ends c.args.self.now c.args.strand _ c.in-None.ensures; tasks = none_tasks c.args.self.now _ c.in-None.ensures; tops = refl }
