@@ -50,7 +50,7 @@ or_third : (a b c : Bool) → (a || (b || c)) ≡ ((a || b) || c)
 or_third true b c = refl
 or_third false b c = refl
 
-joins_both : (xs ys : List Turn) (c : ℕ) → joins (xs ++ ys) c ≡ (joins xs c || joins ys c)
+pub joins_both : (xs ys : List Turn) (c : ℕ) → joins (xs ++ ys) c ≡ (joins xs c || joins ys c)
 joins_both [] ys c = refl
 joins_both (Spawn d ∷ xs) ys c = joins_both xs ys c
 joins_both (Join d ∷ xs) ys c = ap (λ (b : Bool). (d == c) || b) (joins_both xs ys c) ∙ or_third (d == c) (joins xs c) (joins ys c)

@@ -1,11 +1,7 @@
-use Rattle.std.proofs.Common.{◌∙◌, Bool, ap, sym, refl}
-use Rattle.std.specs.Prelude.{◌||◌}
-use Rattle.fork_graph.specs.Cut.{joins}
-use Rattle.log_tasks.proofs.Joining.{joined_more}
+use Rattle.std.proofs.Common.{arith}
+use Rattle.std.proofs.lemmas.Grind.{common_steps}
+use Rattle.log_tasks.proofs.Joining.{joins_both}
 use Rattle.log_tasks.proofs.graph.joined_by.Goals as goal
 
 pub loop-turn-preserved : goal.loop-turn-preserved
-loop-turn-preserved c = λ n.
-    c.in_ok-note_join.ensures n
-    ∙ ap (λ (b : Bool). b || joins _ n) (c.loop-turn.invariant n)
-    ∙ sym (joined_more c.args.turns.now c.loop-turn.turn-index _ _ n c.loop-turn-test.true refl)
+loop-turn-preserved c = λ n. grind (arith, common_steps, joins_both, c.in_ok-note_join.ensures n, c.loop-turn.invariant n)

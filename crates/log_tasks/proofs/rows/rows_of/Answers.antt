@@ -1,4 +1,5 @@
 use Rattle.std.proofs.Common.{◌≡◌, ◌<◌, ◌^◌, ℕ, length, subst, arith}
+use Rattle.std.proofs.Math.Facts.{Fits-lt-pow}
 use Rattle.log_tasks.specs.Told.{AreFirstRows}
 use Rattle.log_tasks.proofs.ToldRows.{rows_small}
 use Rattle.log_tasks.proofs.rows.rows_of.Goals as goal
@@ -8,5 +9,5 @@ returns-clause-small c =
     let done = c.loop-task-test.false in
     let within = c.loop-task.auto.task-index-end in
     let end : c.loop-task.task-index ≡ length c.args.numbers.now = omega (arith, done, within) in
-    rows_small c.args.told.now c.args.numbers.now c.loop-task.rows c.requires.numbers (λ k. c.type_inv.numbers k)
+    rows_small c.args.told.now c.args.numbers.now c.loop-task.rows c.requires.numbers (λ k. Fits-lt-pow (c.type_inv.numbers k))
     (subst (λ (n : ℕ). AreFirstRows c.args.told.now c.args.numbers.now n c.loop-task.rows) end c.loop-task.invariant)
