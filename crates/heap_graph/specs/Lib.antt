@@ -6,3 +6,4 @@ pub mod Overview
 pub mod Graph
 pub mod Laws
 pub mod Pieces
+pub mod below

@@ -27,3 +27,8 @@ pub fn refused(alloc: Global, refusal: Refusal) -> Result<Reply, AllocError>
     let text = refusal_text(alloc, refusal)?;
     Ok(Reply::of_text(status_of(refusal), text))
 }
+
+pub use all_bytes::ReadError;
+pub use outside_io::{Sink, Source};
+pub use refusal_lines::Refusal;
+pub use whole_call::{AnswerStatus, Reply, Status, give, read_up_to};

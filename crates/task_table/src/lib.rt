@@ -7,4 +7,6 @@ mod rows;
 mod table;
 
 pub use row::{Fork, Row};
+pub use run_journal::ReplayError;
+pub use run_timeline::timeline_text;
 pub use table::table_text;

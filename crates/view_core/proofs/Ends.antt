@@ -3,12 +3,8 @@ use Rattle.std.proofs.Common.{◌≡◌, sym, subst, []}
 use Rattle.std.specs.Prelude.{◌≢◌, Option, None, Result, IfOk}
 use Rattle.std.specs.declared.alloc.AllocError.{AllocError}
 use Rattle.view_line.specs.declared.line.View.{View}
-use Rattle.whole_call.specs.declared.status.Status.{Status}
-use Rattle.whole_call.specs.declared.status.Status.TheVariants.{ReadFault, WriteFault, NoMemory}
-use Rattle.whole_call.specs.declared.reply.Reply.{Reply}
-use Rattle.whole_call.specs.Input.{SourceState}
-use Rattle.whole_call.specs.Streams.{Streams, Gives}
-use Rattle.whole_call.proofs.Calls as calls
+use Rattle.refusal_replies.specs.below.whole_call.{Status, ReadFault, WriteFault, NoMemory, Reply, SourceState, Streams, Gives}
+use Rattle.refusal_replies.proofs.below.whole_call.Calls as calls
 use Rattle.view_core.specs.Views.{Shows, reads}
 use Rattle.view_core.specs.Call.{Answers}
 

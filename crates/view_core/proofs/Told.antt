@@ -1,14 +1,11 @@
 -- What is shown of a trace.
 use Rattle.std.proofs.Common.{◌≡◌, ℕ, List, sym, subst}
 use Rattle.std.specs.Prelude.{Option}
-use Rattle.run_trace.specs.Entry.{EntryValue}
-use Rattle.run_trace.specs.Settings.{SettingsValue}
-use Rattle.run_ledger.specs.declared.data.RefusedAt.{RefusedAt}
-use Rattle.run_ledger.specs.Journals.{refused_as_run}
-use Rattle.trace_input.specs.declared.input.TraceInput.{TraceInput}
-use Rattle.trace_input.specs.Input.{settings_for}
+use Rattle.run_page.specs.below.run_trace.{EntryValue, SettingsValue}
+use Rattle.run_page.specs.below.run_ledger.{RefusedAt, refused_as_run}
+use Rattle.run_page.specs.below.trace_input.{TraceInput, settings_for}
 use Rattle.view_line.specs.declared.line.RunView.{RunView}
-use Rattle.whole_call.specs.declared.reply.Reply.{Reply}
+use Rattle.refusal_replies.specs.below.whole_call.{Reply}
 use Rattle.view_core.specs.Shown.{ShowsJournal, ShowsWhole, ShowsTrace}
 
 -- what is shown of a journal, which is the trace's, with its settings

@@ -1,10 +1,7 @@
 -- A whole call.
 use Rattle.std.specs.Prelude.{Option}
 use Rattle.view_line.specs.declared.line.View.{View}
-use Rattle.whole_call.specs.declared.status.Status.{Status}
-use Rattle.whole_call.specs.Input.{SourceState}
-use Rattle.whole_call.specs.Streams.{Streams, Ends}
-use Rattle.whole_call.specs.Call.{IsCall}
+use Rattle.refusal_replies.specs.below.whole_call.{Status, SourceState, Streams, Ends, IsCall}
 use Rattle.view_core.specs.Views.{Shows, reads}
 
 -- a whole call that asks for this, of a source and the streams; `WriteFails` says that writing failed

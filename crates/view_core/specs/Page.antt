@@ -1,19 +1,14 @@
 -- A run as a page.
 use Rattle.std.specs.Prelude.{ℕ, Bool, true, false, Option, Some, None, List, ◌++◌, codes, length, nat_lt}
 use Rattle.std.specs.Fmt.{decimal}
-use Rattle.hh_lang.specs.Form.{ProgramText}
-use Rattle.run_trace.specs.Entry.{EntryValue}
-use Rattle.run_trace.specs.Settings.{SettingsValue}
-use Rattle.run_ledger.specs.Journals.{refused_as_run}
-use Rattle.trace_input.specs.declared.input.InputFault.{InputFault}
-use Rattle.trace_input.specs.declared.input.TraceInput.{TraceInput}
-use Rattle.trace_input.specs.Input.{input_fault, settings_for, IsInput}
-use Rattle.refusal_lines.specs.Refusals.{refusal_of}
+use Rattle.run_page.specs.below.hh_lang.{ProgramText}
+use Rattle.run_page.specs.below.run_trace.{EntryValue, SettingsValue}
+use Rattle.run_page.specs.below.run_ledger.{refused_as_run}
+use Rattle.run_page.specs.below.trace_input.{InputFault, TraceInput, input_fault, settings_for, IsInput}
+use Rattle.refusal_replies.specs.below.refusal_lines.{refusal_of}
 use Rattle.refusal_replies.specs.Refused.{Refuses}
 use Rattle.run_page.specs.Page.{page}
-use Rattle.whole_call.specs.declared.status.AnswerStatus.TheVariants.{Done, Trace}
-use Rattle.whole_call.specs.declared.reply.Reply.{Reply}
-use Rattle.whole_call.specs.Output.{Says}
+use Rattle.refusal_replies.specs.below.whole_call.{Done, Trace, Reply, Says}
 use Rattle.view_core.specs.Shown.{ShowsWhole}
 
 -- the title that is given, or the file's name

@@ -1,14 +1,10 @@
 -- What is shown of the races of a run.
 use Rattle.std.specs.Prelude.{ℕ, zero, suc, List}
-use Rattle.hh_lang.specs.Form.{ProgramText}
-use Rattle.run_trace.specs.Settings.{SettingsValue}
-use Rattle.run_trace.specs.Entry.{EntryValue}
+use Rattle.run_page.specs.below.hh_lang.{ProgramText}
+use Rattle.run_page.specs.below.run_trace.{SettingsValue, EntryValue}
 use Rattle.race_groups.specs.declared.shown.ShownRaces.{ShownRaces}
 use Rattle.race_groups.specs.Shown.{IsShown}
-use Rattle.whole_call.specs.declared.status.AnswerStatus.{AnswerStatus}
-use Rattle.whole_call.specs.declared.status.AnswerStatus.TheVariants.{Done, Races}
-use Rattle.whole_call.specs.declared.reply.Reply.{Reply}
-use Rattle.whole_call.specs.Output.{Says}
+use Rattle.refusal_replies.specs.below.whole_call.{AnswerStatus, Done, Races, Reply, Says}
 
 abbrev pub status_of_count : ℕ → AnswerStatus
 status_of_count zero = Done

@@ -1,21 +1,14 @@
 -- What is shown of an input: a picture, or why the input is refused, in the words of hheap.
 use Rattle.std.specs.Prelude.{ℕ, Option, Some, None, List, [], ◌∷◌, codes}
-use Rattle.hh_lang.specs.Form.{ProgramText}
-use Rattle.run_trace.specs.Settings.{SettingsValue}
-use Rattle.run_trace.specs.Entry.{EntryValue}
-use Rattle.run_ledger.specs.declared.data.RefusedAt.{RefusedAt}
-use Rattle.run_ledger.specs.Journals.{refused_as_run}
-use Rattle.run_ledger.specs.Text.{end_line}
-use Rattle.image_check.specs.declared.cause.Fault.{Fault}
-use Rattle.image_check.specs.Fault.{image_fault}
-use Rattle.trace_input.specs.declared.input.InputFault.{InputFault}
-use Rattle.trace_input.specs.declared.input.TraceInput.{TraceInput}
-use Rattle.trace_input.specs.Input.{input_fault, settings_for, IsInput}
-use Rattle.refusal_lines.specs.declared.refusal.Refusal.TheVariants.{Entry, Image}
-use Rattle.refusal_lines.specs.Refusals.{refusal_of}
+use Rattle.run_page.specs.below.hh_lang.{ProgramText}
+use Rattle.run_page.specs.below.run_trace.{SettingsValue, EntryValue}
+use Rattle.run_page.specs.below.run_ledger.{RefusedAt, refused_as_run, end_line}
+use Rattle.heap_graph.specs.below.image_check.{Fault, image_fault}
+use Rattle.run_page.specs.below.trace_input.{InputFault, TraceInput, input_fault, settings_for, IsInput}
+use Rattle.refusal_replies.specs.below.refusal_lines.{Entry, Image, refusal_of}
 use Rattle.refusal_replies.specs.Refused.{Refuses}
 use Rattle.heap_graph.specs.Graph.{graph_of}
-use Rattle.run_timeline.specs.Timeline.{timeline}
+use Rattle.task_table.specs.below.run_timeline.{timeline}
 use Rattle.task_table.specs.Table.{table}
 use Rattle.schedule_report.specs.declared.data.Clashes.{Clashes}
 use Rattle.schedule_report.specs.declared.data.Verdict.{Verdict}
@@ -24,10 +17,7 @@ use Rattle.schedule_report.specs.Schedules.{IsAnswer, verdict_of}
 use Rattle.schedule_report.specs.Text.{clashes_text}
 use Rattle.view_line.specs.declared.line.RunView.{RunView}
 use Rattle.view_line.specs.declared.line.RunView.TheVariants.{Timeline, Tasks, Schedules, Races as RacesView}
-use Rattle.whole_call.specs.declared.status.AnswerStatus.{AnswerStatus}
-use Rattle.whole_call.specs.declared.status.AnswerStatus.TheVariants.{Done, Trace, Races}
-use Rattle.whole_call.specs.declared.reply.Reply.{Reply}
-use Rattle.whole_call.specs.Output.{Says}
+use Rattle.refusal_replies.specs.below.whole_call.{AnswerStatus, Done, Trace, Races, Reply, Says}
 use Rattle.view_core.specs.Races.{ShowsRaces}
 
 -- HEAPS

@@ -1,16 +1,13 @@
 -- Each call: what it reads, and what it shows of that.
 use Rattle.std.specs.Prelude.{ℕ, List, Option, Some, None, codes}
-use Rattle.text_lines.specs.Lines.{most_bytes}
-use Rattle.refusal_lines.specs.declared.refusal.Refusal.TheVariants.{Words}
+use Rattle.heap_graph.specs.below.text_lines.{most_bytes}
+use Rattle.refusal_replies.specs.below.refusal_lines.{Words}
 use Rattle.refusal_replies.specs.Refused.{Refuses}
 use Rattle.view_line.specs.declared.line.Picture.{Picture}
 use Rattle.view_line.specs.declared.line.Picture.TheVariants.{Heaps, Run, Page, Faults}
 use Rattle.view_line.specs.declared.line.View.{View}
 use Rattle.view_line.specs.declared.line.View.TheVariants.{Usage, Of}
-use Rattle.whole_call.specs.declared.status.AnswerStatus.TheVariants.{Done}
-use Rattle.whole_call.specs.declared.reply.Reply.{Reply}
-use Rattle.whole_call.specs.Input.{Reads, ReadsNothing, ReadsUpTo}
-use Rattle.whole_call.specs.Output.{Says}
+use Rattle.refusal_replies.specs.below.whole_call.{Done, Reply, Reads, ReadsNothing, ReadsUpTo, Says}
 use Rattle.view_core.specs.Page.{ShowsPage, title_of}
 use Rattle.view_core.specs.Faults.{ShowsFaults}
 use Rattle.view_core.specs.Shown.{ShowsHeaps, ShowsRun}

@@ -1,21 +1,17 @@
 // The whole call.
 
 ghost use Rattle.std.specs.Prelude.{◌≡◌, ◌≢◌, ◌⊎◌, map, option_map, Some, IfOk, IfErr, string_bytes};
-ghost use Rattle.outside_io.specs.Fault.{HasRisen};
-ghost use Rattle.whole_call.specs.Input.{HasRead, HasTaken, ReadsNothing};
+ghost use Rattle.refusal_replies.specs.below.outside_io.{HasRisen};
+ghost use Rattle.refusal_replies.specs.below.whole_call.{HasRead, HasTaken, ReadsNothing};
 ghost use Rattle.view_line.specs.ViewLine.{view_line};
 ghost use Rattle.view_core.specs.Views.{reads};
 ghost use Rattle.view_core.specs.Call.{Answers};
 
 use crate::views::show;
-use all_bytes::ReadError;
-use outside_io::{Sink, Source};
-use refusal_lines::Refusal;
-use refusal_replies::refused;
+use heap_graph::MOST_BYTES;
+use refusal_replies::{ReadError, Refusal, Sink, Source, Status, give, read_up_to, refused};
 use std::alloc::{AllocError, Global};
-use text_lines::MOST_BYTES;
 use view_line::{InputFile, View, read_view};
-use whole_call::{Status, give, read_up_to};
 
 // The name of a file, if one is given.
 fn name_of(file: &Option<InputFile>) -> Option<&str>

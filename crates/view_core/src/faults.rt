@@ -4,10 +4,8 @@ ghost use Rattle.std.specs.Prelude.{IfOk};
 ghost use Rattle.view_core.specs.Faults.{ShowsFaults};
 
 use fault_lines::shown_faults;
-use refusal_lines::Refusal;
-use refusal_replies::refused;
+use refusal_replies::{AnswerStatus, Refusal, Reply, refused};
 use std::alloc::{AllocError, Global};
-use whole_call::{AnswerStatus, Reply};
 
 /// Shows the faults of the text of a program.
 pub(crate) fn show_faults(alloc: Global, json: bool, text: &[u8]) -> Result<Reply, AllocError>

@@ -3,12 +3,9 @@
 ghost use Rattle.std.specs.Prelude.{IfOk};
 ghost use Rattle.view_core.specs.Shown.{ShowsHeaps};
 
-use heap_graph::graph_text;
-use image_check::VerifyError;
-use refusal_lines::Refusal;
-use refusal_replies::refused;
+use heap_graph::{VerifyError, graph_text};
+use refusal_replies::{AnswerStatus, Refusal, Reply, refused};
 use std::alloc::{AllocError, Global};
-use whole_call::{AnswerStatus, Reply};
 
 /// Shows the heaps of an image.
 pub(crate) fn show_heaps(

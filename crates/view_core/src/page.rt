@@ -1,19 +1,14 @@
 // A run as a page.
 
 ghost use Rattle.std.specs.Prelude.{◌≡◌, IfOk, length, nat_lt};
-ghost use Rattle.whole_call.specs.Output.{Says};
+ghost use Rattle.refusal_replies.specs.below.whole_call.{Says};
 ghost use Rattle.view_core.specs.Page.{ShowsJournalPage, ShowsPage, ShowsPageOf, ShowsShortPage, most_entries, title_of, too_long};
 
-use hh_lang::Program;
-use refusal_lines::Refusal;
-use refusal_replies::refused;
-use run_journal::ReplayError;
-use run_page::page_of;
-use run_trace::{Entry, Settings};
+use refusal_replies::{AnswerStatus, Refusal, Reply, refused};
+use run_page::{Entry, InputError, Program, Settings, TraceInput, page_of, read_trace_input};
 use std::alloc::{AllocError, Global};
-use trace_input::{InputError, TraceInput, read_trace_input};
+use task_table::ReplayError;
 use view_line::{InputFile, PageTitle};
-use whole_call::{AnswerStatus, Reply};
 
 /// A page has at most so many entries.
 const MOST_ENTRIES: usize = 20_000;

@@ -1,17 +1,16 @@
 // The races of a run, by pairs of lines.
 
 ghost use Rattle.std.specs.Prelude.{◌≡◌, None, OnOk, IfOk, IfErr};
-ghost use Rattle.run_ledger.specs.Journals.{refused_as_run};
-ghost use Rattle.run_journal.specs.Replay.{ReplayFails};
-ghost use Rattle.whole_call.specs.Output.{Says};
+ghost use Rattle.run_page.specs.below.run_ledger.{refused_as_run};
+ghost use Rattle.task_table.specs.below.run_journal.{ReplayFails};
+ghost use Rattle.refusal_replies.specs.below.whole_call.{Says};
 ghost use Rattle.view_core.specs.Races.{ShowsRaces, status_of_count};
 
-use hh_lang::Program;
 use race_groups::{ShownRaces, shown_races};
-use run_journal::ReplayError;
-use run_trace::{Entry, Settings};
+use refusal_replies::{AnswerStatus, Reply};
+use run_page::{Entry, Program, Settings};
 use std::alloc::Global;
-use whole_call::{AnswerStatus, Reply};
+use task_table::ReplayError;
 
 fn status_of_count(count: usize) -> AnswerStatus
     ensures { result ≡ status_of_count count }

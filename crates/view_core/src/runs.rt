@@ -1,24 +1,18 @@
 // Views of runs.
 
 ghost use Rattle.std.specs.Prelude.{◌≡◌, None, OnOk, IfOk, IfErr};
-ghost use Rattle.run_ledger.specs.Journals.{refused_as_run};
-ghost use Rattle.run_journal.specs.Replay.{ReplayFails};
-ghost use Rattle.whole_call.specs.Output.{Says};
+ghost use Rattle.run_page.specs.below.run_ledger.{refused_as_run};
+ghost use Rattle.task_table.specs.below.run_journal.{ReplayFails};
+ghost use Rattle.refusal_replies.specs.below.whole_call.{Says};
 ghost use Rattle.view_core.specs.Shown.{ShowsJournal, ShowsTrace, ShowsRun};
 
 use crate::races::show_races;
 use crate::schedules::show_schedules;
-use hh_lang::Program;
-use refusal_lines::Refusal;
-use refusal_replies::refused;
-use run_journal::ReplayError;
-use run_timeline::timeline_text;
-use run_trace::{Entry, Settings};
+use refusal_replies::{AnswerStatus, Refusal, Reply, refused};
+use run_page::{Entry, InputError, Program, Settings, TraceInput, read_trace_input};
 use std::alloc::{AllocError, Global};
-use task_table::table_text;
-use trace_input::{InputError, TraceInput, read_trace_input};
+use task_table::{ReplayError, table_text, timeline_text};
 use view_line::RunView;
-use whole_call::{AnswerStatus, Reply};
 
 // A picture of a run.
 fn picture(text: Vec<u8>) -> Reply

@@ -1,19 +1,18 @@
 // What a run says of all schedules.
 
 ghost use Rattle.std.specs.Prelude.{◌≡◌, None, OnOk, IfOk, IfErr};
-ghost use Rattle.run_ledger.specs.Journals.{refused_as_run};
-ghost use Rattle.run_journal.specs.Replay.{ReplayFails};
+ghost use Rattle.run_page.specs.below.run_ledger.{refused_as_run};
+ghost use Rattle.task_table.specs.below.run_journal.{ReplayFails};
 ghost use Rattle.schedule_report.specs.Schedules.{verdict_of};
 ghost use Rattle.schedule_report.specs.Text.{clashes_text};
-ghost use Rattle.whole_call.specs.Output.{Says};
+ghost use Rattle.refusal_replies.specs.below.whole_call.{Says};
 ghost use Rattle.view_core.specs.Shown.{SaysSchedules, ShowsSchedules, not_whole, status_of_verdict};
 
-use hh_lang::Program;
-use run_journal::ReplayError;
-use run_trace::{Entry, Settings};
+use refusal_replies::{AnswerStatus, Reply};
+use run_page::{Entry, Program, Settings};
 use schedule_report::{Clashes, Verdict, clashes_of_run, clashes_text};
 use std::alloc::{AllocError, Global};
-use whole_call::{AnswerStatus, Reply};
+use task_table::ReplayError;
 
 fn status_of_verdict(verdict: Verdict) -> AnswerStatus
     ensures { result ≡ status_of_verdict verdict }

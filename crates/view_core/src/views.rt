@@ -1,16 +1,16 @@
 // What is shown of an input: each picture that can be asked for.
 
 ghost use Rattle.std.specs.Prelude.{IfOk, Some};
-ghost use Rattle.whole_call.specs.Output.{Says};
+ghost use Rattle.refusal_replies.specs.below.whole_call.{Says};
 ghost use Rattle.view_core.specs.Views.{Shows, ShowsPicture, usage};
 
 use crate::faults::show_faults;
 use crate::heaps::show_heaps;
 use crate::page::show_page;
 use crate::runs::show_run;
+use refusal_replies::{AnswerStatus, Reply};
 use std::alloc::{AllocError, Global};
 use view_line::{InputFile, Picture, View};
-use whole_call::{AnswerStatus, Reply};
 
 // How the program is called.
 fn show_usage(alloc: Global) -> Result<Reply, AllocError>

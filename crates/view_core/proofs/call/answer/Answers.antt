@@ -1,6 +1,6 @@
 use Rattle.std.proofs.Common.{ℕ, List, subst}
 use Rattle.std.specs.Prelude.{Some, IfOk}
-use Rattle.whole_call.proofs.Calls.{with_input, without_input, without_memory, gives_ends, silent_without_input, silent_without_memory}
+use Rattle.refusal_replies.proofs.below.whole_call.{with_input, without_input, without_memory, gives_ends, silent_without_input, silent_without_memory}
 use Rattle.view_core.specs.Views.{Shows}
 use Rattle.view_core.proofs.call.answer.Goals as goal
 

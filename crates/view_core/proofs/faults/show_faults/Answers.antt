@@ -1,9 +1,8 @@
 use Rattle.std.proofs.Common.{ℕ, List, ◌∙◌, sym, subst}
 use Rattle.std.specs.Prelude.{Result}
 use Rattle.std.proofs.lemmas.Result.{IfOk-weaker}
-use Rattle.program_reader.specs.declared.cause.Refused.{Refused}
-use Rattle.whole_call.specs.declared.status.AnswerStatus.TheVariants.{Done}
-use Rattle.whole_call.specs.Output.{Says}
+use Rattle.fault_lines.specs.below.program_reader.{Refused}
+use Rattle.refusal_replies.specs.below.whole_call.{Done, Says}
 use Rattle.view_core.specs.Faults.{SaysFaults}
 use Rattle.view_core.proofs.faults.show_faults.Goals as goal
 

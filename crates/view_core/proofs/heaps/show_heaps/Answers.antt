@@ -1,8 +1,7 @@
 use Rattle.std.proofs.Common.{ℕ, List, sym, subst}
 use Rattle.std.specs.Prelude.{Option}
-use Rattle.image_check.specs.declared.cause.Fault.{Fault}
-use Rattle.whole_call.specs.declared.status.AnswerStatus.TheVariants.{Done}
-use Rattle.whole_call.specs.Output.{Says}
+use Rattle.heap_graph.specs.below.image_check.{Fault}
+use Rattle.refusal_replies.specs.below.whole_call.{Done, Says}
 use Rattle.view_core.specs.Shown.{ShowsImage}
 use Rattle.view_core.proofs.heaps.show_heaps.Goals as goal
 

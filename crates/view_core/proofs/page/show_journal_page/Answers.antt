@@ -1,9 +1,8 @@
 use Rattle.std.proofs.Common.{ℕ, List, sym, subst}
 use Rattle.std.specs.Prelude.{Option}
-use Rattle.run_ledger.specs.declared.data.RefusedAt.{RefusedAt}
+use Rattle.run_page.specs.below.run_ledger.{RefusedAt}
 use Rattle.run_page.specs.Page.{page}
-use Rattle.whole_call.specs.declared.status.AnswerStatus.TheVariants.{Done}
-use Rattle.whole_call.specs.Output.{Says}
+use Rattle.refusal_replies.specs.below.whole_call.{Done, Says}
 use Rattle.view_core.specs.Shown.{ShowsWhole}
 use Rattle.view_core.proofs.page.show_journal_page.Goals as goal
 

@@ -1,6 +1,5 @@
 use Rattle.std.proofs.Common.{ℕ, List, subst}
-use Rattle.whole_call.specs.declared.status.AnswerStatus.{AnswerStatus}
-use Rattle.whole_call.specs.Output.{Says}
+use Rattle.refusal_replies.specs.below.whole_call.{AnswerStatus, Says}
 use Rattle.view_core.proofs.races.reply.Goals as goal
 
 pub returns : goal.returns

@@ -1,7 +1,6 @@
 use Rattle.std.proofs.Common.{ℕ, List, sym, subst}
 use Rattle.view_line.specs.declared.line.RunView.{RunView}
-use Rattle.whole_call.specs.declared.status.AnswerStatus.TheVariants.{Done}
-use Rattle.whole_call.specs.Output.{Says}
+use Rattle.refusal_replies.specs.below.whole_call.{Done, Says}
 use Rattle.view_core.specs.Shown.{ShowsJournal}
 use Rattle.view_core.proofs.runs.show_journal.Goals as goal
 

@@ -1,0 +1,4 @@
+-- What crates above name of `trace_input`.
+pub use Rattle.trace_input.specs.Input.{IsInput, input_fault, settings_for}
+pub use Rattle.trace_input.specs.declared.input.InputFault.{InputFault}
+pub use Rattle.trace_input.specs.declared.input.TraceInput.{TraceInput}

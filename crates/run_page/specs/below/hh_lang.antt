@@ -1,0 +1,2 @@
+-- What crates above name of `hh_lang`.
+pub use Rattle.hh_lang.specs.Form.{ProgramText}

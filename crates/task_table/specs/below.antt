@@ -1,0 +1,3 @@
+-- What crates above name of the crates below.
+pub mod run_journal
+pub mod run_timeline
