@@ -290,5 +290,15 @@ for page in README.md docs/*.md; do
 done >untyped
 [ ! -s untyped ] || fail "nobody has typed: $(cat untyped)"
 
+# No page has words that the field has plainer ones for, but in a program or in what a program writes.
+plainer='want of memory|memory (is|was|were) wanting|hand(s|ed)? (it |them |that |this )?back|what it comes to'
+plainer+='|\bcomes? of it|an (end|answer) of its own|exactly where|in no order|behind (an|the|each|that) entry|that many'
+plainer+='|so many (words|bytes|entries|tasks|chunks|steps)|words of a call|without looking at|no time to speak of'
+plainer+='|no place has it|such a one|what is said of'
+for page in README.md docs/*.md; do
+  sed '/^    /d; s/`[^`]*`//g' "$page" | grep -niE -e "$plainer" | sed "s|^|$page: |"
+done >words
+[ ! -s words ] || fail "say it in plainer words: $(cat words)"
+
 [ "$failed" = 0 ] || exit 1
 echo "the commands of the pages, $(wc -l <typed): passed"
