@@ -3,3 +3,4 @@ pub mod EveryEdge
 pub mod Left
 pub mod Loops
 pub mod Titles
+pub mod Running
