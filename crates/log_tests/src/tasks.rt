@@ -10,11 +10,7 @@ use std::alloc::{AllocError, Global};
 #[derive(Clone, Copy)]
 enum Outcome {
     // The tasks' numbers in the log, the turns of each, and how many of these the log tells.
-    Tasks(
-        &'static [u32],
-        &'static [&'static [Turn]],
-        &'static [usize],
-    ),
+    Tasks(&'static [u32], &'static [&'static [Turn]], &'static [usize]),
     // The task and the strand at fault, and the cause.
     Refused(u32, u32, TaskCause),
 }
@@ -23,7 +19,10 @@ use Turn::{Join, Spawn};
 
 // Texts of a file that is whole or cut off, and what its tasks are.
 const LOGS: &[(&[u8], Outcome)] = &[
-    (b"hhlog 1\ns 0 0\n.\nend\n", Outcome::Tasks(&[0], &[&[]], &[0])),
+    (
+        b"hhlog 1\ns 0 0\n.\nend\n",
+        Outcome::Tasks(&[0], &[&[]], &[0]),
+    ),
     // tasks are numbered by their numbers' order, wherever they are spawned
     (
         b"hhlog 1\ns 0 0\n+ 9\n+ 7\n- 9\n- 7\n.\ns 9 0\n.\ns 7 0\n.\nend\n",
@@ -39,8 +38,14 @@ const LOGS: &[(&[u8], Outcome)] = &[
         Outcome::Tasks(&[0, 3], &[&[Spawn(1), Join(1)], &[]], &[2, 0]),
     ),
     // a strand that is named and does nothing is none
-    (b"hhlog 1\ns 5 0\ns 0 0\n.\nend\n", Outcome::Tasks(&[0], &[&[]], &[0])),
-    (b"hhlog 1\nend\n", Outcome::Refused(0, 0, TaskCause::HasNoEnd)),
+    (
+        b"hhlog 1\ns 5 0\ns 0 0\n.\nend\n",
+        Outcome::Tasks(&[0], &[&[]], &[0]),
+    ),
+    (
+        b"hhlog 1\nend\n",
+        Outcome::Refused(0, 0, TaskCause::HasNoEnd),
+    ),
     (
         b"hhlog 1\ns 0 0\n- 4\n.\nend\n",
         Outcome::Refused(0, 0, TaskCause::JoinsNoOpenChild),
