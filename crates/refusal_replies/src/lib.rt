@@ -4,9 +4,12 @@
 ghost use Rattle.std.specs.Prelude.{◌≡◌, IfOk};
 ghost use Rattle.refusal_replies.specs.Refused.{Refuses, status_of_refusal};
 
-use refusal_lines::{Refusal, refusal_text};
+pub use all_bytes::ReadError;
+pub use outside_io::{Sink, Source};
+pub use refusal_lines::Refusal;
+use refusal_lines::refusal_text;
 use std::alloc::{AllocError, Global};
-use whole_call::{AnswerStatus, Reply};
+pub use whole_call::{AnswerStatus, Reply, Status, give, read_up_to};
 
 fn status_of(refusal: Refusal) -> AnswerStatus
     ensures { result ≡ status_of_refusal refusal }
@@ -27,8 +30,3 @@ pub fn refused(alloc: Global, refusal: Refusal) -> Result<Reply, AllocError>
     let text = refusal_text(alloc, refusal)?;
     Ok(Reply::of_text(status_of(refusal), text))
 }
-
-pub use all_bytes::ReadError;
-pub use outside_io::{Sink, Source};
-pub use refusal_lines::Refusal;
-pub use whole_call::{AnswerStatus, Reply, Status, give, read_up_to};
