@@ -18,6 +18,13 @@ const DUE_SOON: Setup = Setup {
     units: 1,
 };
 
+// Ends the collection that has begun, and gives what it has taken.
+fn end_collection(part: &mut Private) -> Option<Begun>
+    ensures changed { part.new ≡ record part.old { begun = None } }
+{
+    part.begun.take()
+}
+
 // A collection begins and ends, and another entry begins: what it had taken.
 fn collected(alloc: Global, program: &Program, part: &mut Private) -> Option<Begun>
     requires fits { FitsSome program.now part.old }
@@ -29,7 +36,7 @@ fn collected(alloc: Global, program: &Program, part: &mut Private) -> Option<Beg
         roots: Listed::new(alloc),
         news: Listed::new(alloc),
     });
-    let begun = part.begun.take();
+    let begun = end_collection(part);
     part.reset_since();
     part.begin_entry();
     begun

@@ -79,9 +79,10 @@ fn add_first_chunk(part: &mut Private, chunk: Chunk) -> bool
     ensures idle { part.new.begun ≡ part.old.begun }
 {
     match part.heap.add(chunk) {
-        Ok(()) => true,
-        Err(_) => false,
+        Ok(()) => {}
+        Err(_) => return false,
     }
+    true
 }
 
 /// The root before its first step.

@@ -11,8 +11,8 @@ use Rattle.task_tests.proofs.parts.add_first_chunk.Goals as goal
 none_some : (a : Addr) → None ≡ Some a → ⊥
 none_some a e = cc
 
-pub returns-in-Ok-clause-fits : goal.returns-in-Ok-clause-fits
-returns-in-Ok-clause-fits c = λ added p m F.
+pub returns-clause-fits : goal.returns-clause-fits
+returns-clause-fits c = λ added p m F.
     let old : Private = c.args.part.now in
     let P : LeafHeapValue → Type 0 = λ h. FitsNow p (record old { heap = h }) m nowhere in
     subst P (sym c.in-Ok.ensures.ok)

@@ -3,9 +3,15 @@ use Rattle.hh_model.specs.Step.{start}
 use Rattle.task_tests.specs.Root.{first_frames, nowhere}
 use Rattle.task_tests.proofs.parts.root_of.Goals as goal
 
-pub returns-clause-fits : goal.returns-clause-fits
-returns-clause-fits c =
+pub returns-then-setup-eq0-clause-fits : goal.returns-then-setup-eq0-clause-fits
+returns-then-setup-eq0-clause-fits c =
+    let p = c.args.program.now in
+    let first : c.in_ok-frames.frames ≡ first_frames p = search rules in
+    (start p c.args.setup.fields, nowhere, c.bare_root-part.ensures.fits p first)
+
+pub returns-then-add_first_chunk-clause-fits : goal.returns-then-add_first_chunk-clause-fits
+returns-then-add_first_chunk-clause-fits c =
     let p = c.args.program.now in
     let m = start p c.args.setup.fields in
     let first : c.in_ok-frames.frames ≡ first_frames p = search rules in
-    (m, nowhere, c.bare_root-part.ensures.fits p first)
+    (m, nowhere, c.add_first_chunk.ensures.fits c.if-add_first_chunk.true p m (c.bare_root-part.ensures.fits p first))
