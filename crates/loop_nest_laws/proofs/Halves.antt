@@ -50,6 +50,15 @@ pub int_eq_same : (a : ℤ) → int_eq a a ≡ true
 int_eq_same (pos n) = eq-eqb n n refl
 int_eq_same (negsuc n) = eq-eqb n n refl
 
+pub int_eq_other : (a b : ℤ) → (a ≡ b → ⊥) → int_eq a b ≡ false
+int_eq_other (pos a) (pos b) ne = ne_eqb a b (λ e. ne (ap pos e))
+int_eq_other (pos a) (negsuc b) ne = refl
+int_eq_other (negsuc a) (pos b) ne = refl
+int_eq_other (negsuc a) (negsuc b) ne = ne_eqb a b (λ e. ne (ap negsuc e))
+
+pub shift_other : (a : ℤ) (i j : ℕ) → (i ≡ j → ⊥) → a +ℤ pos i ≡ a +ℤ pos j → ⊥
+shift_other a i j ne e = omega (arith, ints)
+
 -- SUMS
 
 pub add_assoc : (a b c : ℤ) → int_wrapping_add w64 (int_wrapping_add w64 a b) c ≡ int_wrapping_add w64 a (int_wrapping_add w64 b c)

@@ -14,10 +14,10 @@ use Rattle.hh_lang.specs.Loop.{Loop, IsLoop}
 use Rattle.loop_nest_laws.specs.Frames.{Activation, ReturnsBy, called_frame, left_frame, right_frame}
 use Rattle.loop_nest_laws.specs.LoopLaw.{Finds}
 use Rattle.loop_nest_laws.proofs.Turns.{OnTop}
-use Rattle.loop_nest_laws.proofs.Nests.{middle, SplitsAt, Told, told_none, told_one, told_half}
-use Rattle.loop_nest_laws.proofs.Halves.{shift_shift, shift_less, shift_same, fits_between, shift_add, shift_sub, half_is, fits_less, int_eq_same}
+use Rattle.loop_nest_laws.proofs.Nests.{middle, SplitsAt, Told, told_none, told_one, told_half, told_two}
+use Rattle.loop_nest_laws.proofs.Halves.{shift_shift, shift_less, shift_same, fits_between, shift_add, shift_sub, half_is, fits_less, int_eq_same, int_eq_other, shift_other}
 use Rattle.loop_nest_laws.proofs.Registers.{Holds, moved}
-use Rattle.loop_nest_laws.proofs.Frames.{RunsMore, whole_none, whole_one}
+use Rattle.loop_nest_laws.proofs.Frames.{RunsMore, whole_none, whole_one, whole_more}
 use Rattle.loop_nest_laws.proofs.Sides.{RunsHalf, left_runs, right_runs}
 
 -- the middle of n numbers from the first one
@@ -148,6 +148,26 @@ module _ (p : ProgramText) (limit : ℕ) (ts : List ℕ) (loop : Loop) (L : IsLo
 
       total : ℤ
       total = int_wrapping_add w64 run.forks.left_value.0 run.forks.right_value.0
+
+      from_run : Result
+      from_run =
+          gets (int_wrapping_add w64 run.forks.left_value.0 run.forks.right_value.0) run.result
+          (subst (λ z. Told p limit ts loop L.apart a g d first z (int_wrapping_add w64 run.forks.left_value.0 run.forks.right_value.0)) (let s : n1 + n2 ≡ n = omega arith in s)
+          (told_two p limit ts loop L.apart a g d first (at_depth a bs d f on) run.forks.k n1 n2 run.forks.left_value.0 run.forks.right_value.0 run.forks.takes run.forks.forked
+          (λ j v. run.only j v v.stands.begun) splits (omega arith) (omega arith) (λ z le. (omega arith, omega arith)) left right))
+
+    for_more : (q : ℕ) → n ≡ suc (suc q) → Result
+    for_more q e =
+        from_run q e (whole_more p limit ts a bs d m back.takes back.ret on.high loop L g first last a.since f back.takes.stands.begun on fun next has (some (suc q) e)
+        (ap (λ z. int_eq z last) (one_more (omega arith)) ∙ int_eq_other (first +ℤ pos 1) last (λ h. shift_other first 1 n (λ i. omega arith) h)))
+
+    by_count : (q : ℕ) → n ≡ q → Result
+    by_count zero e = for_none e
+    by_count (suc zero) e = for_one e
+    by_count (suc (suc q)) e = for_more q e
+
+    pub result : Result
+    result = by_count n refl
 
   works_below : (fuel n : ℕ) → n < fuel → Works n
   works_below zero n lt = absurd (omega arith)
