@@ -94,7 +94,7 @@ fn open<S: Source>(source: &mut S, file: Option<&str>) -> Result<(), ReadError>
     Ok(())
 }
 
-/// Reads a file, or, where none is named, what is left of the source; as far as one byte past the limit, which is the
+/// Reads a file, or, if none is named, what is left of the source, up to one byte past the limit, which is the
 /// caller's.
 pub fn read_file<S: Source>(
     alloc: Global,

@@ -55,7 +55,7 @@ fn add_all<'a>(
     }
 }
 
-/// All faults of a text, in the order of its lines; the error is want of memory.
+/// All faults of a text, in the order of its lines; the error is a failed allocation.
 ///
 /// The time is linear in the text, but for the names that are compared with one that isn't known, at most a hundred.
 pub fn text_faults(alloc: Global, text: &[u8]) -> Result<Listed<Fault>, AllocError>

@@ -2,7 +2,7 @@
 use Rattle.std.specs.Prelude.{◌≡◌, ◌≤◌, ◌+◌, ℕ, List, [], Option, Some, length, take, drop}
 use Rattle.all_bytes.specs.Bytes.{source_bytes}
 
--- a call reads nothing; or a file, or, where none is named, standard input, as far as one byte past a limit
+-- a call reads nothing; or a file, or, if none is named, standard input, up to one byte past a limit
 pub data Reads : Type 0 where
   ReadsNothing : Reads
   ReadsUpTo : ℕ → Option (List ℕ) → Reads

@@ -9,7 +9,7 @@ use all_bytes::{ReadError, read_file};
 use outside_io::Source;
 use std::alloc::Global;
 
-/// Reads a file, or, where none is named, what is left of the source; as far as one byte past the limit.
+/// Reads a file, or, if none is named, what is left of the source, up to one byte past the limit.
 pub fn read_up_to<S: Source>(
     alloc: Global,
     source: &mut S,

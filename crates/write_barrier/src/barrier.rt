@@ -56,7 +56,7 @@ fn noted_in(tree: &Tree, pool: &Pool, object: Addr, value: Option<Addr>) -> Opti
 /// - where the reference that stands in the field isn't nil, and the heap into which it points keeps, the set of that
 ///   heap: there it is kept.
 ///
-/// For want of memory no set is changed. It costs what `Tree::on_path` does.
+/// If an allocation fails, no set is changed. It costs what `Tree::on_path` does.
 pub fn note_write<H: HoldsSets>(
     tree: &Tree,
     pool: &Pool,
