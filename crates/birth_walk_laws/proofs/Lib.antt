@@ -1,1 +1,1 @@
-pub mod Carried
+mod Carried

@@ -1,22 +1,22 @@
 pub mod NextStepForks
-pub mod RootsListed
-pub mod LastForkKinds
-pub mod SetsNoted
-pub mod ForkEntered
+mod RootsListed
+mod LastForkKinds
+mod SetsNoted
+mod ForkEntered
 pub mod ForkEntries
 pub mod ChildReturns
-pub mod LastReturnKinds
+mod LastReturnKinds
 pub mod ChildEnded
-pub mod MergedHeapForm
-pub mod JoinBelongings
-pub mod JoinTree
-pub mod SiblingReturned
-pub mod JoinedBelongings
-pub mod JoinEntered
+mod MergedHeapForm
+mod JoinBelongings
+mod JoinTree
+mod SiblingReturned
+mod JoinedBelongings
+mod JoinEntered
 pub mod JoinPlaces
-pub mod TwoChildren
+mod TwoChildren
 pub mod JoinEntries
 pub mod JoinTakes
-pub mod JoinUnits
+mod JoinUnits
 pub mod JoinValue
 pub mod below

@@ -1,3 +1,3 @@
-pub mod UnitLemmas
-pub mod Numbering
+mod UnitLemmas
+mod Numbering
 pub mod OwnerLaws

@@ -1,2 +1,2 @@
-pub mod Rows
+mod Rows
 pub mod ViewLemmas

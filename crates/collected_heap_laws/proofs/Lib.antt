@@ -1,3 +1,3 @@
 pub mod Reading
 pub mod Telling
-pub mod Giving
+mod Giving

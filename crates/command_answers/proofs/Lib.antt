@@ -1,12 +1,12 @@
 pub mod Runs
 pub mod Traces
-pub mod ImagesTold
-pub mod Imaged
+mod ImagesTold
+mod Imaged
 pub mod Answered
 pub mod Deliveries
-pub mod Given
-pub mod Alike
-pub mod Recorded
-pub mod Raceless
-pub mod Headline
-pub mod Taken
+mod Given
+mod Alike
+mod Recorded
+mod Raceless
+mod Headline
+mod Taken

@@ -6,4 +6,4 @@ mod Ranges
 mod Rows
 mod Shapes
 pub mod Taken
-pub mod Plain
+mod Plain

@@ -1,19 +1,19 @@
-pub mod ObjectsApart
-pub mod SurvivorsReached
-pub mod ObjectsPlaced
-pub mod ObjectsMoved
-pub mod NamesLaid
-pub mod SurvivorOrder
-pub mod BeforeTheCopy
-pub mod LargeNames
-pub mod CopiedNames
-pub mod ChunkPlaces
-pub mod CopiedForm
-pub mod CopyMade
-pub mod ChunkWords
-pub mod CopyCounts
+mod ObjectsApart
+mod SurvivorsReached
+mod ObjectsPlaced
+mod ObjectsMoved
+mod NamesLaid
+mod SurvivorOrder
+mod BeforeTheCopy
+mod LargeNames
+mod CopiedNames
+mod ChunkPlaces
+mod CopiedForm
+mod CopyMade
+mod ChunkWords
+mod CopyCounts
 pub mod CopySays
-pub mod ChunksGivenBack
+mod ChunksGivenBack
 pub mod CopyHanded
 pub mod CopyBegins
 pub mod below

@@ -1,4 +1,4 @@
-pub mod BegunCollections
+mod BegunCollections
 pub mod EntryCounted
-pub mod PartWords
+mod PartWords
 pub mod below

@@ -1,1 +1,1 @@
-pub mod Puts
+mod Puts

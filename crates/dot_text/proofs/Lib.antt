@@ -1,1 +1,1 @@
-pub mod Graphs
+mod Graphs

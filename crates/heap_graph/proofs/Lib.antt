@@ -1,6 +1,6 @@
-pub mod Drawn
-pub mod EveryEdge
-pub mod Left
-pub mod Loops
-pub mod Titles
-pub mod Running
+mod Drawn
+mod EveryEdge
+mod Left
+mod Loops
+mod Titles
+mod Running

@@ -1,17 +1,17 @@
-pub mod Spaced
-pub mod Words
-pub mod Lines
-pub mod Told
-pub mod Splits
-pub mod Tables
-pub mod Passes
-pub mod Family
-pub mod States
-pub mod Owners
-pub mod Placed
-pub mod Leads
-pub mod Steps
-pub mod Had
+mod Spaced
+mod Words
+mod Lines
+mod Told
+mod Splits
+mod Tables
+mod Passes
+mod Family
+mod States
+mod Owners
+mod Placed
+mod Leads
+mod Steps
+mod Had
 pub mod Faultless
-pub mod Sample
+mod Sample
 pub mod below

@@ -1,25 +1,25 @@
 pub mod HeapClosed
-pub mod MarkBegun
-pub mod MarkingEntered
-pub mod MarkingGoesOn
-pub mod MarkCounts
+mod MarkBegun
+mod MarkingEntered
+mod MarkingGoesOn
+mod MarkCounts
 pub mod MarkCauses
 pub mod WaitingHome
 pub mod MarkedHeap
 pub mod MarkEntries
-pub mod FrameReferences
-pub mod MarkingStarts
-pub mod StepsKeepForks
-pub mod ForksStay
+mod FrameReferences
+mod MarkingStarts
+mod StepsKeepForks
+mod ForksStay
 pub mod PaceKeeps
 pub mod PaceOwes
 pub mod ForksTold
-pub mod SweptCells
-pub mod SweptChunks
-pub mod SweptPlaces
-pub mod SweptForm
-pub mod SweptStart
+mod SweptCells
+mod SweptChunks
+mod SweptPlaces
+mod SweptForm
+mod SweptStart
 pub mod SweptUnits
-pub mod SweptBelongings
+mod SweptBelongings
 pub mod SweepEntered
 pub mod SweptRefusals

@@ -1,4 +1,4 @@
-pub mod WalkLemmas
-pub mod TreeLemmas
+mod WalkLemmas
+mod TreeLemmas
 pub mod ChangeLemmas
-pub mod PairLemmas
+mod PairLemmas

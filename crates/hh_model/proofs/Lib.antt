@@ -4,7 +4,7 @@ pub mod Walks
 pub mod Paths
 pub mod Tree
 pub mod Joins
-pub mod Forks
+mod Forks
 pub mod Stores
 pub mod Runs
 pub mod ForkJoinStates
@@ -15,7 +15,7 @@ pub mod Closed
 pub mod Counts
 pub mod Taken
 pub mod Calculating
-pub mod Acts
+mod Acts
 pub mod Numbers
 pub mod Next
 pub mod Root

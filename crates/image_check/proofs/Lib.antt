@@ -1,11 +1,11 @@
 pub mod Numbers
-pub mod Rounds
+mod Rounds
 pub mod Entries
 pub mod Members
 pub mod Paths
-pub mod Linked
-pub mod References
-pub mod Steps
-pub mod Ordered
-pub mod Sounds
-pub mod Counts
+mod Linked
+mod References
+mod Steps
+mod Ordered
+mod Sounds
+mod Counts

@@ -1,8 +1,8 @@
 pub mod Addresses
-pub mod Counting
-pub mod Emptied
+mod Counting
+mod Emptied
 pub mod Finding
-pub mod Marked
+mod Marked
 pub mod GoingOn
 pub mod Sweeping
 pub mod Giving

@@ -1,5 +1,5 @@
 pub mod Drops
-pub mod Within
+mod Within
 pub mod Paced
 pub mod Words
 pub mod Since
@@ -7,10 +7,10 @@ pub mod OwedEntries
 pub mod Asked
 pub mod Counted
 pub mod Fewer
-pub mod OfNames
+mod OfNames
 pub mod Waiters
 pub mod History
-pub mod Forked
+mod Forked
 pub mod Accepted
 pub mod PaceLaw
 pub mod KeptNames

@@ -82,30 +82,31 @@ fn registers_of_a_call(rt: HostRuntime) {
     assert!(rt; first_call(rt.alloc()) == Some(expected));
 }
 
-// Register 1 of the top frame, and of the oldest one, once that was written, read in two ways; and register 4 of the
-// top frame, once all its registers were written.
+// Register 1 of the top frame, and of the oldest one, once that was written; and register 4 of the top frame, once all
+// its registers were written.
 fn written(
     frames: &mut Frames,
-) -> Option<(Option<Addr>, Option<Addr>, Option<Addr>, Option<Addr>)> {
+) -> Option<(Option<Addr>, Option<Addr>, Option<Addr>)> {
     let Ok(()) = frames.push(8) else {
         return None;
     };
     if frames.depth() != 2 {
         return None;
     }
-    frames.set_reference_in(0, 1, THERE);
+    let mut oldest = frames.references_in(0);
+    oldest[1] = THERE;
+    frames.set_references_in(0, &oldest);
     if frames.depth() != 2 {
         return None;
     }
-    let (above, below) = (frames.reference(1), frames.reference_in(0, 1));
-    let among = frames.references_in(0)[1];
+    let (above, below) = (frames.reference(1), frames.references_in(0)[1]);
     frames.set_references_in(1, &[THERE; 16]);
-    Some((above, below, among, frames.reference(4)))
+    Some((above, below, frames.reference(4)))
 }
 
 fn written_at_first(
     alloc: Global,
-) -> Option<(Option<Addr>, Option<Addr>, Option<Addr>, Option<Addr>)> {
+) -> Option<(Option<Addr>, Option<Addr>, Option<Addr>)> {
     let mut frames = started(alloc)?;
     written(&mut frames)
 }
@@ -113,5 +114,5 @@ fn written_at_first(
 // The oldest frame is frame 0.
 #[test]
 fn references_of_each(rt: HostRuntime) {
-    assert!(rt; written_at_first(rt.alloc()) == Some((None, THERE, THERE, THERE)));
+    assert!(rt; written_at_first(rt.alloc()) == Some((None, THERE, THERE)));
 }

@@ -1,14 +1,14 @@
 pub mod WhyNoChunk
-pub mod WhyNotDue
-pub mod AccountChanges
+mod WhyNotDue
+mod AccountChanges
 pub mod CollectionPutOff
 pub mod WhyNoCollection
-pub mod NewChunks
-pub mod FallingChunks
-pub mod CollectionBegins
-pub mod PartCollecting
+mod NewChunks
+mod FallingChunks
+mod CollectionBegins
+mod PartCollecting
 pub mod BeginEntered
-pub mod MoreChunksRead
+mod MoreChunksRead
 pub mod MoreChunksLaid
 pub mod ChunkGiven
 pub mod CollectionEnds

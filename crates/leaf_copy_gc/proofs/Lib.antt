@@ -1,4 +1,4 @@
-pub mod ListLemmas
+mod ListLemmas
 mod OwnObjects
 mod FoundCounts
 pub mod FoundLemmas
@@ -9,7 +9,7 @@ pub mod FollowLemmas
 mod FrameLemmas
 mod Exchanges
 pub mod Moves
-pub mod Rooms
+mod Rooms
 mod Places
 mod Leading
 mod Larges

@@ -1,10 +1,10 @@
-pub mod Lists
-pub mod Laid
-pub mod Meets
-pub mod Owned
-pub mod Joins
-pub mod Above
-pub mod Sought
+mod Lists
+mod Laid
+mod Meets
+mod Owned
+mod Joins
+mod Above
+mod Sought
 pub mod Kept
-pub mod Cleared
-pub mod Birth
+mod Cleared
+mod Birth

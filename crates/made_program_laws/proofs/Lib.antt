@@ -1,6 +1,6 @@
-pub mod Names
-pub mod Rows
-pub mod Between
-pub mod Functions
+mod Names
+mod Rows
+mod Between
+mod Functions
 pub mod Made
 pub mod below

@@ -1,4 +1,4 @@
 pub mod Stopped
 pub mod Winner
-pub mod TurnLaws
-pub mod Example
+mod TurnLaws
+mod Example

@@ -1,2 +1,2 @@
-pub mod Machines
+mod Machines
 pub mod Calculating

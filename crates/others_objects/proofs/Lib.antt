@@ -1,16 +1,16 @@
-pub mod ForeignObject
-pub mod ForeignAddresses
-pub mod TreePaths
-pub mod OtherSteps
-pub mod ReadEntered
+mod ForeignObject
+mod ForeignAddresses
+mod TreePaths
+mod OtherSteps
+mod ReadEntered
 pub mod NextOtherLine
 pub mod OtherEntries
-pub mod ObjectWritten
-pub mod WriteNoted
-pub mod WriteEntered
-pub mod StoreValue
-pub mod StoreKinds
-pub mod StoresByCalls
+mod ObjectWritten
+mod WriteNoted
+mod WriteEntered
+mod StoreValue
+mod StoreKinds
+mod StoresByCalls
 pub mod StoreEntries
 pub mod SetRooms
-pub mod BeyondOther
+mod BeyondOther

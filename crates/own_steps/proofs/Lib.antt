@@ -1,19 +1,19 @@
-pub mod NextPrivateSteps
-pub mod WordsFew
-pub mod NextStepEnds
+mod NextPrivateSteps
+mod WordsFew
+mod NextStepEnds
 pub mod LastKinds
 pub mod TaskDepths
 pub mod LastSteps
 pub mod LastStepEntry
-pub mod OutputEntered
-pub mod RunHalted
+mod OutputEntered
+mod RunHalted
 pub mod TaskEnds
-pub mod RunDone
+mod RunDone
 pub mod AloneEntries
-pub mod FormByOutline
-pub mod PartBelongings
-pub mod StepsCounted
-pub mod FitsAfterSteps
+mod FormByOutline
+mod PartBelongings
+mod StepsCounted
+mod FitsAfterSteps
 pub mod MoreSteps
 pub mod TaskNotOut
 pub mod OtherStepKinds

@@ -1,4 +1,4 @@
-pub mod Noted
-pub mod MarkNotes
-pub mod Idle
+mod Noted
+mod MarkNotes
+mod Idle
 pub mod below

@@ -1,2 +1,2 @@
-pub mod Functions
+mod Functions
 pub mod Lengths

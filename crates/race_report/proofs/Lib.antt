@@ -1,21 +1,21 @@
-pub mod Labels
-pub mod Held
+mod Labels
+mod Held
 pub mod LabelSteps
 pub mod Written
-pub mod Stops
-pub mod Stopped
-pub mod Compared
-pub mod Clashes
-pub mod Few
-pub mod Wholes
-pub mod Keys
-pub mod Scans
-pub mod Alike
-pub mod BoundLaws
-pub mod Exact
-pub mod SeenLabels
-pub mod Reported
-pub mod StepCounts
-pub mod Watched
+mod Stops
+mod Stopped
+mod Compared
+mod Clashes
+mod Few
+mod Wholes
+mod Keys
+mod Scans
+mod Alike
+mod BoundLaws
+mod Exact
+mod SeenLabels
+mod Reported
+mod StepCounts
+mod Watched
 pub mod Raceless
 pub mod below

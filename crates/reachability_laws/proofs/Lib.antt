@@ -1,2 +1,2 @@
-pub mod Walks
-pub mod Kept
+mod Walks
+mod Kept

@@ -1,5 +1,5 @@
-pub mod MovedLemmas
-pub mod SourceLemmas
+mod MovedLemmas
+mod SourceLemmas
 pub mod Noting
 pub mod LiftLemmas
-pub mod RewriteLemmas
+mod RewriteLemmas

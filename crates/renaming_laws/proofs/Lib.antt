@@ -1,5 +1,5 @@
 pub mod Lists
-pub mod Carried
+mod Carried
 pub mod Swaps
 pub mod Changed
 pub mod Effects
@@ -9,4 +9,4 @@ pub mod Owners
 pub mod Follows
 pub mod Stepped
 pub mod Runs
-pub mod Named
+mod Named

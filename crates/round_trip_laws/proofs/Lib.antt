@@ -1,3 +1,3 @@
-pub mod Lines
-pub mod Above
+mod Lines
+mod Above
 pub mod Inputs

@@ -1,8 +1,8 @@
-pub mod Calculated
+mod Calculated
 pub mod Holds
-pub mod Numbers
+mod Numbers
 pub mod Snaps
-pub mod Standings
+mod Standings
 pub mod Stepped
 pub mod Uses
-pub mod Went
+mod Went

@@ -4,7 +4,8 @@ ghost use Rattle.std.specs.Prelude.{◌≡◌};
 
 use crate::accounts::Accounts;
 use hh_model::State;
-use run_ledger::RunEnd;
+use listed::Listed;
+use run_ledger::{Heap, RunEnd};
 use run_trace::Settings;
 use std::alloc::Global;
 
@@ -40,6 +41,13 @@ impl<'p> Accounts<'p> {
         ensures { result.now ≡ self.now.ledger.machine.outputs }
     {
         self.machine.outputs()
+    }
+
+    /// The heaps by task.
+    pub fn heaps(&self) -> &Listed<Heap>
+        ensures { result.now ≡ self.now.ledger.heaps }
+    {
+        &self.heaps
     }
 
     /// The machine that never collects, after the steps so far.

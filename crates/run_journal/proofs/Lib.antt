@@ -1,5 +1,5 @@
-pub mod Keeps
-pub mod Opens
+mod Keeps
+mod Opens
 pub mod Replays
 pub mod Steadies
 pub mod below

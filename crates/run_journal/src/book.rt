@@ -9,8 +9,9 @@ ghost use Rattle.run_journal.specs.BookValue.{BookValue, IsOpened, IsLegalLedger
 
 use hh_lang::Program;
 use hh_model::State;
+use listed::Listed;
 use run_accounts::{Accounts, ApplyError};
-use run_ledger::{Refused, RunEnd};
+use run_ledger::{Heap, Refused, RunEnd};
 use run_trace::{Entry, Settings};
 use std::alloc::{AllocError, Global};
 use std::marker::Model;
@@ -89,6 +90,13 @@ impl<'p> Book<'p> {
         ensures { result.now ≡ self.now.ledger.machine.outputs }
     {
         self.accounts.outputs()
+    }
+
+    /// The heaps by task.
+    pub fn heaps(&self) -> &Listed<Heap>
+        ensures { result.now ≡ self.now.ledger.heaps }
+    {
+        self.accounts.heaps()
     }
 
     /// The machine that never collects, after the steps so far.

@@ -18,7 +18,7 @@ pub mod Space
 pub mod Holders
 pub mod Frames
 pub mod Collections
-pub mod Exact
+mod Exact
 pub mod Use
 pub mod Going
 pub mod RunOn

@@ -1,3 +1,3 @@
-pub mod Lines
+mod Lines
 pub mod Sums
 pub mod Writing

@@ -1,5 +1,5 @@
 pub mod Loops
-pub mod Made
-pub mod Steps
-pub mod Slices
-pub mod Held
+mod Made
+mod Steps
+mod Slices
+mod Held

@@ -1,24 +1,24 @@
-pub mod StoreSteps
-pub mod Swapping
-pub mod Moves
-pub mod Apart
-pub mod Commuting
-pub mod Lows
-pub mod Forked
-pub mod Crossed
-pub mod Siblings
-pub mod SideBySide
-pub mod Accessed
-pub mod Beside
-pub mod Fields
-pub mod Leaving
-pub mod Commute
-pub mod Carrying
-pub mod Composed
-pub mod Splits
-pub mod Fronts
-pub mod Said
+mod StoreSteps
+mod Swapping
+mod Moves
+mod Apart
+mod Commuting
+mod Lows
+mod Forked
+mod Crossed
+mod Siblings
+mod SideBySide
+mod Accessed
+mod Beside
+mod Fields
+mod Leaving
+mod Commute
+mod Carrying
+mod Composed
+mod Splits
+mod Fronts
+mod Said
 pub mod Schedules
 pub mod GoesOn
 pub mod RaceFree
-pub mod Example
+mod Example

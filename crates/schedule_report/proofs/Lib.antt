@@ -1,4 +1,4 @@
-pub mod Empty
-pub mod Swapped
-pub mod Printed
-pub mod Verdicts
+mod Empty
+mod Swapped
+mod Printed
+mod Verdicts

@@ -1,11 +1,11 @@
-pub mod Known
-pub mod Numbers
-pub mod Links
-pub mod Resting
-pub mod Drawing
-pub mod Sounds
-pub mod Orders
-pub mod Chunks
-pub mod Rounds
-pub mod Keeping
+mod Known
+mod Numbers
+mod Links
+mod Resting
+mod Drawing
+mod Sounds
+mod Orders
+mod Chunks
+mod Rounds
+mod Keeping
 pub mod below

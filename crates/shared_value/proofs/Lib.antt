@@ -10,7 +10,7 @@ pub mod HeapWords
 pub mod EntryMade
 pub mod StepsMade
 pub mod JournalGoesOn
-pub mod OneAccount
+mod OneAccount
 pub mod NothingMoves
 pub mod TaskTaken
 pub mod CausesTold
@@ -30,7 +30,7 @@ pub mod PlacedForm
 pub mod HeapLaidOut
 pub mod HeldTasks
 pub mod ObjectRewritten
-pub mod FieldsLedTogether
+mod FieldsLedTogether
 pub mod FieldsLed
 pub mod FieldsNoted
 pub mod UnitsMeasured

@@ -1,3 +1,3 @@
-pub mod Rules
+mod Rules
 mod Lists
 mod Made

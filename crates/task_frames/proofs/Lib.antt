@@ -1,1 +1,1 @@
-pub mod StackLemmas
+mod StackLemmas

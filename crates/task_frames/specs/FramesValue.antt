@@ -1,5 +1,5 @@
 -- A task's frames as callers see them.
-use Rattle.std.specs.Prelude.{◌≡◌, ℕ, zero, suc, ◌+◌, ℤ, pos, Option, Some, None, List, [], ◌∷◌, ◌++◌, length, map, nat_lt, slice_get, slice_set, unwrap_or, if◌then◌else◌}
+use Rattle.std.specs.Prelude.{◌≡◌, ℕ, zero, suc, ◌+◌, ℤ, pos, Option, Some, None, List, [], ◌∷◌, ◌++◌, length, map, slice_get, slice_set, unwrap_or}
 use Rattle.object_layout.specs.declared.word.Addr.{Addr}
 use Rattle.task_frames.specs.declared.frames.Frame.{Frame}
 
@@ -22,14 +22,6 @@ int_of f i = unwrap_or (slice_get f.ints i) (pos 0)
 
 abbrev pub ref_of : Frame → ℕ → Option Addr
 ref_of f i = unwrap_or (slice_get f.refs i) None
-
-abbrev pub reference_in : Option Frame → ℕ → Option (Option Addr)
-reference_in None i = None
-reference_in (Some f) i = slice_get f.refs i
-
--- a reference register of a frame, counted from the oldest, where there is such a frame and register
-abbrev pub reference_at : FramesValue → ℕ → ℕ → Option (Option Addr)
-reference_at s frame i = reference_in (slice_get (frames_of s) frame) i
 
 -- ---- what calls make of a stack
 
@@ -59,17 +51,6 @@ ref_written f i value = record f { refs = slice_set f.refs i value }
 
 abbrev pub with_reference : FramesValue → ℕ → Option Addr → FramesValue
 with_reference s i value = record s { top = ref_written s.top i value }
-
-abbrev pub written_in : List Frame → ℕ → ℕ → Option Addr → Option Frame → List Frame
-written_in frames frame i value None = frames
-written_in frames frame i value (Some f) = slice_set frames frame (ref_written f i value)
-
--- one reference register of one frame written, counted from the oldest
-abbrev pub with_reference_at : FramesValue → ℕ → ℕ → Option Addr → FramesValue
-with_reference_at s frame i value =
-    if nat_lt frame (length s.below)
-    then record s { below = written_in s.below frame i value (slice_get s.below frame) }
-    else with_reference s i value
 
 -- ---- all reference registers of one frame
 

@@ -4,7 +4,7 @@ ghost use Rattle.std.specs.Prelude.{◌≡◌, ◌<◌, ◌≤◌, ◌↔◌, []
 ghost use Rattle.hh_lang.specs.Limits.{frame_limit};
 ghost use Rattle.std.specs.Borrow.{sem};
 ghost use Rattle.task_frames.specs.FramesLends.{lends_top};
-ghost use Rattle.task_frames.specs.FramesValue.{FramesValue, branched, depth_of, frames_of, int_of, int_written, ref_of, ref_written, reference_at, pushed, IsPopped, references_of, references_written, with_next, with_int, with_reference, with_reference_at};
+ghost use Rattle.task_frames.specs.FramesValue.{FramesValue, branched, depth_of, frames_of, int_of, int_written, ref_of, ref_written, pushed, IsPopped, references_of, references_written, with_next, with_int, with_reference};
 
 use hh_lang::{FRAME_LIMIT, IntReg, RefReg};
 use object_layout::Addr;
@@ -260,31 +260,6 @@ impl Frames {
         ensures { self.new ≡ with_reference self.old i value }
     {
         self.top.refs[i as usize] = value;
-    }
-
-    /// A reference register of any frame. Frames are counted from 0, the oldest.
-    pub fn reference_in(&self, frame: u32, i: u32) -> Option<Addr>
-        requires frame { frame < depth_of self.now }
-        requires register { i < 16 }
-        ensures { reference_at self.now frame i ≡ Some result }
-    {
-        match self.below.get(frame as usize) {
-            Some(waiting) => ref_at(&waiting.refs, i),
-            None => ref_at(&self.top.refs, i),
-        }
-    }
-
-    /// Writes a reference register of any frame. Frames are counted from 0, the oldest.
-    pub fn set_reference_in(&mut self, frame: u32, i: u32, value: Option<Addr>)
-        requires frame { frame < depth_of self.old }
-        requires register { i < 16 }
-        ensures { self.new ≡ with_reference_at self.old frame i value }
-    {
-        if (frame as usize) < self.below.len() {
-            self.below[frame as usize].refs[i as usize] = value;
-        } else {
-            self.top.refs[i as usize] = value;
-        }
     }
 
     /// All reference registers of any frame. Frames are counted from 0, the oldest.

@@ -1,4 +1,4 @@
-pub mod Contents
-pub mod Led
-pub mod Places
+mod Contents
+mod Led
+mod Places
 pub mod below

@@ -1,2 +1,2 @@
-pub mod ChunkAdded
-pub mod RootPart
+mod ChunkAdded
+mod RootPart

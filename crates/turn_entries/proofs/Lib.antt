@@ -1,4 +1,4 @@
-pub mod Turning
+mod Turning
 mod Coming
 mod Paying
 mod Going

@@ -1,2 +1,2 @@
-pub mod Ends
-pub mod Told
+mod Ends
+mod Told

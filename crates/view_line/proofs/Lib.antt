@@ -1,2 +1,2 @@
-pub mod Refused
-pub mod FirstTitle
+mod Refused
+mod FirstTitle

@@ -1,12 +1,12 @@
-pub mod Entries
-pub mod WasHeld
-pub mod Holding
-pub mod HoldingCauses
-pub mod Standing
-pub mod Aside
-pub mod Together
-pub mod Making
-pub mod BegunPart
-pub mod Applying
-pub mod Replayed
+mod Entries
+mod WasHeld
+mod Holding
+mod HoldingCauses
+mod Standing
+mod Aside
+mod Together
+mod Making
+mod BegunPart
+mod Applying
+mod Replayed
 pub mod below

@@ -1,1 +1,1 @@
-pub mod Owned
+mod Owned
