@@ -7,12 +7,12 @@ use Rattle.text_faults.specs.declared.fault.Fault.{Fault}
 use Rattle.text_faults.specs.Faults.{cause_of}
 use Rattle.fault_lines.specs.Expected.{expected}
 
--- what may have been meant, where that is known
+-- what may have been meant, if that is known
 abbrev pub near_members : Option (List ℕ) → Members
 near_members None = NoMember
 near_members (Some w) = Member (codes "near") (Word w) NoMember
 
--- the cause is the word by which `check` tells it
+-- the cause is the word that `check` writes for it
 abbrev pub fault_value : Fault → Json
 fault_value f =
     Object (
@@ -40,7 +40,7 @@ fault_piece f =
 abbrev pub further_piece : Fault → List ℕ
 further_piece f = 44 ∷ 10 ∷ fault_piece f
 
--- the first value, and the others each behind a comma
+-- the first value, and the others each after a comma
 abbrev pub pieces : List Fault → List ℕ
 pieces [] = []
 pieces (f ∷ fs) = fault_piece f ++ flat_map further_piece fs

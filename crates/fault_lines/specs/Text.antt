@@ -10,7 +10,7 @@ use Rattle.fault_lines.specs.Expected.{expected}
 abbrev pub place_text : ℕ → ℕ → List ℕ
 place_text line column = codes "line " ++ decimal line ++ codes ", column " ++ decimal column ++ codes ": "
 
--- the word, where there is one
+-- the word, if there is one
 abbrev pub word_text : List ℕ → List ℕ
 word_text [] = []
 word_text (c ∷ cs) = quoted (c ∷ cs) ++ codes ": "

@@ -22,14 +22,14 @@ fn operand_text(operand: Operand) -> &'static str
     }
 }
 
-// A text of one's own.
+// An owned text.
 fn own(alloc: Global, text: &str) -> Result<String, AllocError>
     ensures { IfOk result (λ own. string_bytes own ≡ text.now) }
 {
     format!(in alloc; "{text}")
 }
 
-// Another name, since something has this one on a line.
+// Another name, since this one is taken on a line.
 fn taken_text(alloc: Global, what: &str, line: u32) -> Result<String, AllocError>
     ensures { IfOk result (λ text. string_bytes text ≡ taken_text what.now line) }
 {

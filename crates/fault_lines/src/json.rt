@@ -10,7 +10,7 @@ use listed::Listed;
 use std::alloc::{AllocError, Global};
 use text_faults::Fault;
 
-// Adds what may have been meant, where that is known.
+// Adds what may have been meant, if that is known.
 fn add_near(text: &mut Vec<u8>, near: &Option<Listed<u8>>) -> Result<(), AllocError>
     ensures { OnOk result (text.new.items ≡ text.old.items ++ near_piece near.now) }
 {
@@ -36,7 +36,7 @@ fn add_fault(alloc: Global, text: &mut Vec<u8>, fault: &Fault) -> Result<(), All
     Ok(())
 }
 
-// The same, behind a comma.
+// The object of a fault after a comma.
 fn add_further(alloc: Global, text: &mut Vec<u8>, fault: &Fault) -> Result<(), AllocError>
     ensures { OnOk result (text.new.items ≡ text.old.items ++ further_piece fault.now) }
 {
@@ -45,7 +45,7 @@ fn add_further(alloc: Global, text: &mut Vec<u8>, fault: &Fault) -> Result<(), A
     add_fault(alloc, text, fault)
 }
 
-// The objects of faults, each behind a comma.
+// The objects of faults, each after a comma.
 fn further_text(alloc: Global, faults: &[Fault]) -> Result<Vec<u8>, AllocError>
     ensures { IfOk result (λ text. text.items ≡ flat_map further_piece faults.now) }
 {
@@ -56,7 +56,7 @@ fn further_text(alloc: Global, faults: &[Fault]) -> Result<Vec<u8>, AllocError>
     Ok(text)
 }
 
-// Adds the objects of a fault and of those behind it, with commas between them.
+// Adds the objects of a fault and of those after it, with commas between them.
 fn add_some(
     alloc: Global,
     text: &mut Vec<u8>,

@@ -15,7 +15,7 @@ fn place_text(alloc: Global, line: u32, column: usize) -> Result<String, AllocEr
     format!(in alloc; "line {line}, column {column}: ")
 }
 
-// Adds the word, where there is one.
+// Adds the word, if there is one.
 fn add_word(text: &mut Vec<u8>, word: &[u8]) -> Result<(), AllocError>
     ensures { OnOk result (text.new.items ≡ text.old.items ++ word_text word.now) }
 {

@@ -2,13 +2,13 @@
 use Rattle.std.specs.Prelude.{ℕ, ◌==◌, ◌&&◌, ◌||◌, Bool, false, Option, Some, None, List, [], ◌∷◌, length, drop, nat_lt, if◌then◌else◌}
 use Rattle.std.specs.Str.{bytes_eq}
 
--- what is left of two words behind their common beginning
+-- what is left of two words after their common prefix
 abbrev pub left_of : List ℕ → List ℕ → List ℕ
 left_of [] ys = []
 left_of (x ∷ xs) [] = x ∷ xs
 left_of (x ∷ xs) (y ∷ ys) = if x == y then left_of xs ys else x ∷ xs
 
--- the first two letters of one stand in the other one's place in the other order
+-- both begin with the same two letters, swapped
 abbrev pub is_turned : List ℕ → List ℕ → Bool
 is_turned (a ∷ b ∷ xs) (c ∷ d ∷ ys) = (a == d) && (b == c)
 is_turned _ _ = false

@@ -1,4 +1,4 @@
-// Which of some words is nearest to one that isn't among them, by the edits that lead from one to the other.
+// The nearest of some words to an unknown one, by edit distance.
 #![tactic(auto)]
 
 mod near;

@@ -3,7 +3,7 @@
 ghost use Rattle.std.specs.Prelude.{◌≡◌, ◌≤◌, length, drop, map, option_map};
 ghost use Rattle.near_words.specs.Near.{left_of, is_turned, is_within_one, is_within_two, first_such, nearest};
 
-// What is left of a word behind its common beginning with another.
+// What is left of a word after the prefix that it shares with another.
 fn left_of<'a>(word: &'a [u8], other: &[u8]) -> &'a [u8]
     ensures { result.now ≡ left_of word.now other.now }
 {
@@ -22,7 +22,7 @@ fn left_of<'a>(word: &'a [u8], other: &[u8]) -> &'a [u8]
     left
 }
 
-// What comes behind the first letters of a word.
+// What follows the first letters of a word.
 fn behind_first(word: &[u8], letters: usize) -> &[u8]
     ensures { result.now ≡ drop letters word.now }
 {
@@ -33,7 +33,7 @@ fn behind_first(word: &[u8], letters: usize) -> &[u8]
     }
 }
 
-// Whether two words begin with the same two letters, in the two orders.
+// Whether two words begin with the same two letters, swapped.
 fn is_turned(word: &[u8], other: &[u8]) -> bool
     ensures { result ≡ is_turned word.now other.now }
 {

@@ -75,7 +75,7 @@ fn add_listed(text: &mut Vec<u8>, input: &[u8]) -> Result<(), AllocError>
     add_program(text, input)
 }
 
-/// Adds the title and the program's lines. The input is the program's text with a trace behind it.
+/// Adds the title and the program's lines. The input is the program's text with a trace after it.
 #[tactic(auto, unfolding(crate::specs::Frame::beginning))]
 pub(crate) fn add_beginning(
     text: &mut Vec<u8>,

@@ -25,7 +25,7 @@ pair_is x y e =
 pub pair_itself : (x : Lines) → same_pair x x ≡ true
 pair_itself x = ap (λ b. b && (x.1 == x.1)) (eq-eqb x.0 x.0 refl) ∙ eq-eqb x.1 x.1 refl
 
--- lines that are the same are so of a third race alike
+-- two races on the same lines are alike on those of a third
 pub same_left : (x r s : Race) → same_lines x r ≡ true → same_lines x s ≡ same_lines r s
 same_left x r s e = ap (λ l. same_pair l (lines_of_race s)) (pair_is (lines_of_race x) (lines_of_race r) e)
 
@@ -148,7 +148,7 @@ put (h ∷ gs) r e = by (same_lines r h.example) e (put gs r)
 pub put_last : (gs : List Group) (r : Race) → position (q_of r) (lines_of_groups gs) ≡ None → gs ++ group_of r ∷ [] ≡ with_race gs r
 put_last gs r e = put gs r (no_place (nat_lt (position_or_len (q_of r) (lines_of_groups gs)) (length (lines_of_groups gs))) (position_or_len (q_of r) (lines_of_groups gs)) e)
 
--- the lines of groups to which one is added, or of which one counts a race more
+-- the lines of groups to which one is added, or of which one counts one more race
 pub lines_push : (gs : List Group) (r : Race) → lines_of_groups gs ++ lines_of_race r ∷ [] ≡ lines_of_groups (gs ++ group_of r ∷ [])
 lines_push [] r = refl
 lines_push (g ∷ gs) r = ap (λ ls. lines_of_race g.example ∷ ls) (lines_push gs r)

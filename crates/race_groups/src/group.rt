@@ -5,12 +5,12 @@ ghost use Rattle.race_groups.specs.Groups.{Lines, lines_of_race, group_of};
 
 use race_report::Race;
 
-/// The races of which the earlier access stands on one line, and the later one on one line.
+/// The races whose earlier accesses stand on one line, and whose later ones on one line.
 #[derive(Clone, Copy)]
 pub struct Group {
     /// The first of them, in the order of the fields.
     pub example: Race,
-    /// How many they are. Each is of another field.
+    /// Their number. Each is of another field.
     pub fields: usize,
 }
 

@@ -42,7 +42,7 @@ impl Groups {
         }
     }
 
-    // Counts a race more in the group at a place.
+    // Counts one more race in the group at a place.
     fn count(&mut self, place: usize)
         requires within { place < length self.old }
         requires few { AreFew self.old }
@@ -53,7 +53,7 @@ impl Groups {
         self.list[place] = group;
     }
 
-    // A group of a race alone, behind the others.
+    // A group of a race alone, after the others.
     fn push(&mut self, race: &Race) -> Result<(), AllocError>
         requires { position (same_pair (lines_of_race race.now)) (lines_of_groups self.old) ≡ None }
         ensures { OnOk result (self.new ≡ self.old ++ group_of race.now ∷ []) }

@@ -15,7 +15,7 @@ use run_journal::ReplayError;
 use run_trace::{Entry, Settings};
 use std::alloc::{AllocError, Global};
 
-/// The text that is shown of the races of a run, and how many they are.
+/// The text that is shown of the races of a run, and their number.
 #[derive(Drop)]
 pub struct ShownRaces {
     pub races: usize,

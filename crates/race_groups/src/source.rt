@@ -23,7 +23,7 @@ pub(crate) fn lines_in<'a>(alloc: Global, text: &'a [u8]) -> Result<Vec<&'a [u8]
     }
 }
 
-/// The line of this number, from 1; an empty one where there is none.
+/// The line of this number, from 1; an empty one if there is none.
 pub(crate) fn source_line<'a>(lines: &[&'a [u8]], number: u32) -> &'a [u8]
     ensures { result.now ≡ source_line (map (λ l. l.now) lines.now) number }
 {

@@ -5,7 +5,7 @@ use Rattle.std.proofs.lemmas.List.{take_all}
 use Rattle.std.proofs.lemmas.Option.{slice_get_cases}
 use Rattle.program_reader.specs.Names.{NotedName}
 
--- where no name stands at a place, all names stand before it
+-- if no name stands at a place, all names stand before it
 all_taken : (es : List NotedName) (k n : ℕ) → slice_get es k ≡ None → k ≤ n → take k es ≡ take n es
 all_taken es k n e le = elim (slice_get_cases es k).1 [
   | inl some ↦ absurd (none_is (sym some.2 ∙ e))

@@ -40,7 +40,7 @@ module _ (p : Parsed) (parsed : IsParse p) (inside : Bool) (utf8 : is_utf8 p.lin
       ∙ ap (λ o. operand_wrong o (placed_words p.line.now)) (sym none ∙ is ∙ ap (misplaced inside) parsed.head)
       ∙ is_text inside p.line.now (placed_words p.line.now) utf8
 
--- faults are added one behind the other
+-- faults are added one after the other
 module _ (f : Wronged → Fault) where
   pub one_more : (o : Option Wronged) (fs : List Wronged) → map f (with_wronged o fs) ≡ map f (with_wronged o []) ++ map f fs
   one_more (Some x) fs = refl

@@ -8,7 +8,7 @@ use Rattle.text_lines.specs.Lines.{is_blank, begins_comment}
 use Rattle.text_lines.proofs.Runs.{split_last}
 use Rattle.text_faults.specs.Placed.{PlacedWord, placed_in, placed_from}
 
--- the pieces behind the blank at a place, or none where the bytes end there
+-- the pieces after the blank at a place, or none if the bytes end there
 behind_short : (bytes : List ℕ) (size : ℕ) → size ≡ position_or_len is_blank bytes → size < length bytes → slice_split is_blank bytes ≡ take size bytes ∷ slice_split is_blank (drop (size + 1) bytes)
 behind_short bytes size e lt = rw e (slice_split_first is_blank bytes 0 (let h : position_or_len is_blank bytes < length bytes = omega (arith, e, lt) in h))
 

@@ -33,7 +33,7 @@ Words = List (List ℕ)
 abbrev pub cause_in : Option Wronged → Option Cause
 cause_in o = option_map (λ f. cause_of f.wrong) o
 
--- a cause, where a test holds
+-- a cause, if a test holds
 abbrev pub cause_if : Bool → Cause → Option Cause
 cause_if b c = cond b (Some c) None
 
@@ -49,7 +49,7 @@ fit_more : (b r : Bool) (o : Option Wronged) (p : PlacedWord) (k : Operand) → 
 fit_more true r o p k e = e
 fit_more false r o p k e = refl
 
--- an operand is wrong where they don't fit
+-- an operand is wrong if they don't fit
 pub wrong_unfit : (behind : ℕ) (form : Form) (ps : List PlacedWord) → cause_in (first_wrong behind form ps) ≡ cause_if (not (all_fit form (texts ps))) reads.Operand
 wrong_unfit behind [] [] = refl
 wrong_unfit behind [] (p ∷ ps) = refl
@@ -57,7 +57,7 @@ wrong_unfit behind (k ∷ ks) [] = refl
 wrong_unfit behind (k ∷ ks) (p ∷ ps) =
     fit_more (is_operand k p.word) (all_fit ks (texts ps)) (first_wrong (p.column + length p.word) ks ps) p k (wrong_unfit (p.column + length p.word) ks ps)
 
--- ---- and where they don't, the reader finds a wrong operand
+-- ---- and if they don't, the reader finds a wrong operand
 
 not1 : (a : Bool) → not (a && false) ≡ true
 not1 true = refl
@@ -79,7 +79,7 @@ not5 : (a b c d e : Bool) → not (a && (b && (c && (d && (e && false))))) ≡ t
 not5 true b c d e = not4 b c d e
 not5 false b c d e = refl
 
--- the words fit exactly where the reader finds no wrong operand
+-- the words fit if and only if the reader finds no wrong operand
 abbrev pub Agree : Outline → List NotedName → Verb → Form → Words → Type 0
 Agree o labels v form ws = not (all_fit form ws) ≡ has_wrong_operand (order_of o labels v ws)
 
@@ -269,7 +269,7 @@ module _ (o : Outline) (labels : List NotedName) where
   alone_agrees [] = refl
   alone_agrees (w ∷ ws) = refl
 
-  -- of each line the words fit exactly where the reader finds no wrong operand
+  -- of each line the words fit if and only if the reader finds no wrong operand
   pub senses_agree : (h : Head) (ws : Words) → not (all_fit (head_form h) ws) ≡ has_wrong_operand (sense_of o labels h ws)
   senses_agree Begin ws = name_agrees NewFunction ws (λ a. refl)
   senses_agree Label ws = name_agrees NewLabel ws (λ a. refl)

@@ -1,4 +1,4 @@
--- Counts that have room.
+-- Counts that don't overflow.
 use Rattle.std.specs.Prelude.{ℕ, ◌<◌, ◌^◌}
 use Rattle.text_faults.specs.declared.walk.Walk.{Walk}
 

@@ -41,7 +41,7 @@ fault_of w number f = record { line = number; column = f.column; word = f.word; 
 abbrev pub faults_on : Walk → ℕ → Bool → List ℕ → List Fault
 faults_on w number last line = map (fault_of w number) (wrongs_on w last line)
 
--- WHAT THE LINES ABOVE TELL: whether a function is open; its labels, and those of them above; the functions above; how
+-- WHAT THE LINES ABOVE SAY: whether a function is open; its labels, and those of them above; the functions above; how
 -- many functions and instructions stand above. A line counts whatever faults it has
 
 abbrev pub walked_by : Walk → ℕ → Head → List PlacedWord → List (List ℕ) → Walk

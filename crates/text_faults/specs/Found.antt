@@ -39,7 +39,7 @@ place_of p = record { column = p.column; word = [] }
 
 -- THE LINE CAN'T BE READ: it isn't UTF-8, its first word may not stand here, or an operand is wrong
 
--- outside a function a line is empty or begins with `fn`; inside, its first word is one that there is
+-- outside a function a line is empty or begins with `fn`; inside, its first word is a known one
 abbrev pub misplaced : Bool → Head → Option Wrong
 misplaced true Unknown = Some UnknownWord
 misplaced true _ = None
@@ -47,7 +47,7 @@ misplaced false Blank = None
 misplaced false Begin = None
 misplaced false _ = Some OutsideFunction
 
--- the first operand that isn't of its kind, is missing, or is one too many; what is missing is missing behind the word
+-- the first operand that isn't of its kind, is missing, or is one too many; what is missing is missing after the word
 -- before it
 abbrev pub first_wrong : ℕ → Form → List PlacedWord → Option Wronged
 first_wrong behind [] [] = None

@@ -10,10 +10,10 @@ abbrev pub first_of_faults : List Fault → Option Refused
 first_of_faults [] = None
 first_of_faults (f ∷ fs) = Some (record { line = f.line; cause = cause_of f.wrong })
 
--- THE FIRST FAULT of each text is the one that the reader of programs tells
+-- THE FIRST FAULT of each text is the one that the reader of programs reports
 abbrev pub FirstIsTold : Type 0
 FirstIsTold = (text : List ℕ) → first_of_faults (faults_of text) ≡ first_fault text
 
--- so a text has none exactly where it is a program
+-- so a text has none if and only if it is a program
 abbrev pub NoneInPrograms : Type 0
 NoneInPrograms = (text : List ℕ) → (faults_of text ≡ []) ↔ (first_fault text ≡ None)

@@ -23,7 +23,7 @@ abbrev pub behind_first : List PlacedWord → List PlacedWord
 behind_first [] = []
 behind_first (p ∷ ps) = ps
 
--- the name behind `fn` or `lab`, which stands alone
+-- the name after `fn` or `lab`, which stands alone
 abbrev pub lone_name : List PlacedWord → Option (List ℕ)
 lone_name (p ∷ []) = if is_name p.word then Some p.word else None
 lone_name _ = None

@@ -15,11 +15,11 @@ line_words =
     codes "jmp" ∷ codes "jz" ∷ codes "call" ∷ codes "par" ∷ codes "pfor" ∷ codes "ret" ∷ codes "out" ∷
     codes "lab" ∷ codes "end" ∷ codes "fn" ∷ []
 
--- at most a hundred names are looked through, the first ones
+-- at most the first hundred names are compared
 abbrev pub first_names : List NotedName → List (List ℕ)
 first_names es = map (λ e. e.name) (take 100 es)
 
--- the word that may have been meant in place of one that isn't known
+-- the word that may have been meant in place of an unknown one
 abbrev pub meant : Walk → Wrong → List ℕ → Option (List ℕ)
 meant w UnknownWord word = nearest word line_words
 meant w OutsideFunction word = nearest word (codes "fn" ∷ [])

@@ -34,7 +34,7 @@ pub enum Wrong {
     NotUtf8,
     /// Outside a function a line begins with another word than `fn`.
     OutsideFunction,
-    /// In a function a line begins with a word that there isn't.
+    /// In a function a line begins with an unknown word.
     UnknownWord,
     /// The line ends before an operand of this kind.
     Missing(Operand),
@@ -69,10 +69,10 @@ pub struct Fault {
     pub line: u32,
     /// The number of the word's first byte in the line, from 1.
     pub column: usize,
-    /// The word; empty where one is missing, and on a line without words.
+    /// The word; empty if one is missing, and on a line without words.
     pub word: Listed<u8>,
     pub wrong: Wrong,
-    /// The word that may have been meant, where one that isn't known is near to one that is.
+    /// The known word that may have been meant, if one is near to an unknown one.
     pub near: Option<Listed<u8>>,
 }
 

@@ -30,7 +30,7 @@ pub(crate) fn wrong_at(placed: Placed<'_>, wrong: Wrong) -> Found<'_>
     }
 }
 
-/// The same, where a test holds.
+/// Like it, but only if a test holds.
 pub(crate) fn wrong_if(test: bool, placed: Placed<'_>, wrong: Wrong) -> Option<Found<'_>>
     ensures { option_map wronged_of result ≡ wrong_if test (placed_of placed.entry) wrong }
 {
@@ -51,7 +51,7 @@ pub(crate) fn place_of<'a>(placed: Placed<'a>) -> Placed<'a>
     }
 }
 
-// An operand that is missing behind a word.
+// An operand that is missing after a word.
 fn missing<'a>(behind: usize, operand: Operand) -> Found<'a>
     ensures { wronged_of result ≡ record { column = behind; word = []; wrong = Wrong.Missing operand } }
 {
@@ -74,7 +74,7 @@ pub(crate) fn misplaced(inside: bool, head: Head) -> Option<Wrong>
     }
 }
 
-// A word behind all operands.
+// A word after all operands.
 fn extra(line: &[u8], at: usize) -> Option<Found<'_>>
     requires { at ≤ length line.now }
     ensures { (behind : ℕ) → option_map wronged_of result ≡ first_wrong behind [] (placed_from line.now at) }

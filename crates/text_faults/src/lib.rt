@@ -12,7 +12,7 @@ mod operand;
 mod parsed;
 mod placed;
 
-// What the lines around it tell, and what is wrong on it.
+// What the lines around it say, and what is wrong on it.
 mod found;
 mod near;
 mod walk;

@@ -9,10 +9,10 @@ use near_words::nearest;
 use program_reader::Table;
 use std::alloc::{AllocError, Global};
 
-/// At most so many names are looked through.
+/// The most names that are compared.
 const MOST_NAMES: usize = 100;
 
-/// A word of one's own.
+/// An owned copy of a word.
 pub(crate) fn own(alloc: Global, word: &[u8]) -> Result<Listed<u8>, AllocError>
     ensures { IfOk result (λ o. o ≡ word.now) }
 {
@@ -20,7 +20,7 @@ pub(crate) fn own(alloc: Global, word: &[u8]) -> Result<Listed<u8>, AllocError>
     Ok(Listed::from_vec(copy))
 }
 
-/// The same, where there is a word.
+/// An owned copy of a word, if there is one.
 pub(crate) fn own_if(alloc: Global, word: Option<&[u8]>) -> Result<Option<Listed<u8>>, AllocError>
     ensures { IfOk result (λ o. o ≡ option_map (λ w. w.now) word.entry) }
 {
@@ -71,7 +71,7 @@ pub(crate) fn nearest_line_word(word: &[u8]) -> Option<&'static [u8]>
     nearest(word, &words)
 }
 
-/// `fn`, where the word is near to it.
+/// `fn`, if the word is near to it.
 pub(crate) fn nearest_begin(word: &[u8]) -> Option<&'static [u8]>
     ensures { option_map (λ w. w.now) result ≡ nearest word.now (codes "fn" ∷ []) }
 {

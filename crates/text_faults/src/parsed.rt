@@ -63,7 +63,7 @@ impl<'a> Parsed<'a> {
     ghost use Rattle.text_faults.specs.Placed.{placed_from};
     ghost use Rattle.text_faults.specs.Lines.{lone_name};
 
-    /// The name behind the first word, where it stands alone.
+    /// The name after the first word, if it stands alone.
     pub(crate) fn lone_name(&self) -> Option<&'a [u8]>
         requires { self.now.rest ≤ length self.now.line.now }
         ensures { option_map (λ n. n.now) result ≡ lone_name (placed_from self.now.line.now self.now.rest) }

@@ -18,7 +18,7 @@ fn is_blank_byte(byte: u8) -> bool
     byte == b' ' || byte == b'\t' || byte == b'\r'
 }
 
-// Where the first blank stands, or else the end.
+// The first blank, or the end.
 fn run_end(bytes: &[u8]) -> usize
     ensures end { result ≡ position_or_len is_blank bytes.now }
     ensures within { result ≤ length bytes.now }
@@ -31,7 +31,7 @@ fn run_end(bytes: &[u8]) -> usize
     bytes.len()
 }
 
-// What a line has from a place on.
+// A line from an offset on.
 fn rest_from(line: &[u8], at: usize) -> &[u8]
     requires { at ≤ length line.now }
     ensures { result.now ≡ drop at line.now }
@@ -48,7 +48,7 @@ fn begins_comment(word: &[u8]) -> bool
     }
 }
 
-// The word of so many bytes from a place on, and the place behind the blank after it; None where it begins a comment.
+// The word of n bytes at an offset, and the offset after the blank that follows; None if it begins a comment.
 fn placed_at(line: &[u8], start: usize, size: usize) -> Option<(Placed<'_>, usize)>
     requires ends { size ≡ position_or_len is_blank (drop start line.now) }
     requires within { start + size ≤ length line.now }
@@ -72,7 +72,7 @@ fn placed_at(line: &[u8], start: usize, size: usize) -> Option<(Placed<'_>, usiz
     Some((placed, line.len()))
 }
 
-/// The first word of a line from a place on, and the place behind the blank after it; None where no word follows before
+/// The first word of a line from an offset on, and the offset after the blank that follows; None if no word comes before
 /// the comment.
 pub(crate) fn next_placed(line: &[u8], at: usize) -> Option<(Placed<'_>, usize)>
     requires { at ≤ length line.now }

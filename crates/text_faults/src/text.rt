@@ -57,7 +57,7 @@ fn add_all<'a>(
 
 /// All faults of a text, in the order of its lines; the error is a failed allocation.
 ///
-/// The time is linear in the text, but for the names that are compared with one that isn't known, at most a hundred.
+/// O(length of the text), and at most a hundred comparisons for each unknown name.
 pub fn text_faults(alloc: Global, text: &[u8]) -> Result<Listed<Fault>, AllocError>
     requires { length text.now ≤ most_bytes }
     ensures { IfOk result (λ faults. faults ≡ faults_of text.now) }

@@ -1,4 +1,4 @@
-// What the lines above a line tell, and all that is wrong on the line.
+// What the lines above a line say, and all that is wrong on the line.
 
 ghost use Rattle.std.specs.Prelude.{◌≡◌, [], option_map};
 ghost use Rattle.text_faults.specs.Found.{wronged_of, if_read};
@@ -22,7 +22,7 @@ pub(crate) struct BodyLabels<'a> {
     pub all: Labels<'a>,
 }
 
-/// What the lines above tell.
+/// What the lines above say.
 #[derive(Drop)]
 pub(crate) struct Walk<'a> {
     /// Whether a function is open.
@@ -48,7 +48,7 @@ fn not_utf8<'a>() -> Found<'a>
     }
 }
 
-// What is found of a line, where nothing makes it unreadable.
+// What is wrong on a line that can be read.
 fn if_read<'a>(unreadable: Option<Found<'_>>, found: Option<Found<'a>>) -> Option<Found<'a>>
     ensures { option_map wronged_of result ≡ if_read (option_map wronged_of unreadable.entry) (option_map wronged_of found.entry) }
 {
@@ -106,7 +106,7 @@ impl<'a> Walk<'a> {
         wrong_if(test, parsed.first, Wrong::InsideFunction)
     }
 
-    // A function that is open behind the last line.
+    // A function that is open after the last line.
     fn left_open<'b>(&self, parsed: &Parsed<'b>, last: bool) -> Option<Found<'b>>
         requires { IsParse parsed.now }
         ensures { option_map wronged_of result ≡ left_open self.now last (placed_words parsed.now.line.now) }
@@ -189,7 +189,7 @@ impl<'a> Walk<'a> {
         }
     }
 
-    // Adds a fault, where something was found.
+    // Adds a fault, if something was found.
     fn add(
         &self,
         alloc: Global,
