@@ -71,9 +71,6 @@ typed README.md 12 <<'END'
 END
 
 usage=docs/USAGE.md
-typed $usage 0 'end: accepted' <<'END'
-./hheap check examples/fork.hh
-END
 typed $usage 0 13 23 'report tasks 3 steps 11 turns 10' 'report leaf 0 putoff 0 freed 0' 'report inner 0 freed 0' \
   'report chunks 0 peak 0' 'report held 0 words 0' 'trace 2' '0 took 0' '0 ran 0 2' '0 took 1' '0 ran 1 3' '0 took 2' \
   '0 ran 2 3' '0 took 0' '0 ran 0 1' '0 ran 0 1' '0 ran 0 1' 'end: done' <<'END'
@@ -82,29 +79,9 @@ END
 typed $usage 0 42 'end: done' <<'END'
 ./hheap replay --workers 3 examples/workers.trace
 END
-typed $usage 0 42 'end: done' <<'END'
-./hheap model --workers 3 examples/workers.trace
-END
-typed $usage 12 'race 0 0 ref 0 tasks 1 2 lines 9 14' 'end: races 1' <<'END'
-./hheap races examples/race.trace
-END
-typed $usage 0 'end: verified 2' <<'END'
-./hheap image examples/race.trace > stopped.image
-./hheap verify stopped.image
-END
-compare $usage stopped.image 'image 1' 'task 0 - waiting' 'task 1 0 ended' 'task 2 0 running' 'chunk 0 0 1024' \
-  'chunk 1 1 1024' 'object 1 0 0 mut 1 0 1025' 'object 1025 1 0 mut 0 1 0' 'remembered 1 1 0' 'end: image 2'
-typed $usage 0 1465 .. 'end: done' <<'END'
-./hheap make 1 3 > three.hh
-./hheap make 1 3 --run
-END
 typed $usage 0 13 23 .. 'end: done' <<'END'
 ./hheap record examples/fork.hh --workers 2 > fork.trace
 ./hheap again replay fork.trace --report
-END
-typed $usage 0 13 23 'end: done' <<'END'
-{ cat examples/fork.hh; ./hheap run --workers 2 --trace examples/fork.hh | sed -n '/^trace 2$/,$p' | sed '$d'; } > fork.trace
-./hheap replay --workers 2 fork.trace
 END
 typed $usage 5 'end: entangled reader 2 owner 1' <<'END'
 ./hheap run examples/peeked.hh
@@ -296,6 +273,7 @@ plainer+='|\bcomes? of it|an (end|answer) of its own|exactly where|in no order|b
 plainer+='|so many (words|bytes|entries|tasks|chunks|steps)|words of a call|without looking at|no time to speak of'
 plainer+='|no place has it|such a one|what is said of'
 for page in README.md docs/*.md; do
+  # shellcheck disable=SC2016
   sed '/^    /d; s/`[^`]*`//g' "$page" | grep -niE -e "$plainer" | sed "s|^|$page: |"
 done >words
 [ ! -s words ] || fail "say it in plainer words: $(cat words)"
