@@ -1,4 +1,4 @@
-# A call: the callee has a copy of all registers, and hands back its i0 and r0.
+# A call: the callee has a copy of all registers, and returns its i0 and r0.
 # words: run
 fn square
   mul i0 i0 i0

@@ -4,7 +4,7 @@
 fn sum
   sub i2 i1 i0     # how many
   set i3 250
-  lt i4 i3 i2      # 1 where they are more than 250
+  lt i4 i3 i2      # 1 if they are more than 250
   jz i4 few
   set i3 2
   div i2 i2 i3

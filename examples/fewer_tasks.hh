@@ -11,7 +11,7 @@ lab more
   sub i4 i4 i3
   jmp more
 lab done
-  set i0 10        # handed back: how many were made
+  set i0 10        # returned: how many were made
 end
 
 fn main

@@ -1,5 +1,5 @@
 # A fork: two tasks run side by side. The left one's i0 comes back in i0, the right one's in i1. Two results of a task
-# are handed back in i0 and in an object in r0.
+# are returned in i0 and in an object in r0.
 # words: run
 fn left
   set i1 10

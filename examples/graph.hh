@@ -1,8 +1,8 @@
 # A search over a graph: each of 24 nodes has two edges, from n to 5n + 2 and to 7n + 4, modulo 24. A task visits a node
-# where its `cas` is the first to claim it, and forks for the two edges; another task that comes there later goes back.
+# if its `cas` is the first to claim it, and forks for the two edges; another task that comes there later goes back.
 # Which task visits which node depends on the schedule, which nodes are visited doesn't.
 # words: run --workers 4
-fn visit           # r0: a node, r1: the mark of claimed nodes; hands back how many nodes were visited from here
+fn visit           # r0: a node, r1: the mark of claimed nodes; returns how many nodes were visited from here
   set i2 0
   nil r2
   cas i0 r0 i2 r2 r1
@@ -13,7 +13,7 @@ fn visit           # r0: a node, r1: the mark of claimed nodes; hands back how m
   set i2 1
   add i0 i0 i2
 lab visited
-  nil r0           # nothing is handed back in r0
+  nil r0           # nothing is returned in r0
 end
 
 fn visit_first
@@ -84,7 +84,7 @@ lab claims
   getr r4 r7 i5
   set i2 0
   getr r5 r4 i2
-  same i8 r5 r8    # 1 where the node was claimed
+  same i8 r5 r8    # 1 if the node was claimed
   jz i8 skip
   out i5           # the number of a visited node
 lab skip

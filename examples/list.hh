@@ -20,7 +20,7 @@ lab built
 lab next
   nil r1
   same i7 r0 r1
-  eq i7 i7 i4      # 1 where r0 isn't nil
+  eq i7 i7 i4      # 1 if r0 isn't nil
   jz i7 done
   geti i6 r0 i4
   add i0 i0 i6

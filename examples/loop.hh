@@ -5,7 +5,7 @@ fn main
   set i1 0         # the sum
   set i2 1
 lab next
-  jz i0 done       # goes to `done` where i0 is 0
+  jz i0 done       # goes to `done` if i0 is 0
   add i1 i1 i0
   sub i0 i0 i2
   jmp next

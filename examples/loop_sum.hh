@@ -1,8 +1,8 @@
-# A parallel loop: adds what `square` hands back for each number from 1 to 10. The report tells 19 tasks: the root, and
+# A parallel loop: adds what `square` returns for each number from 1 to 10. The report counts 19 tasks: the root, and
 # two for each of the nine forks that cut ten numbers down to one.
 # words: run --report
 fn square
-  mul i0 i0 i0     # finds its number in i0, and hands back i0
+  mul i0 i0 i0     # finds its number in i0, and returns i0
 end
 
 fn main

@@ -1,4 +1,4 @@
-# An end for want of chunks: a parallel loop over n calls that allocate needs n chunks, since each task that allocates
+# An end for too few chunks: a parallel loop over n calls that allocate needs n chunks, since each task that allocates
 # takes at least one chunk, and keeps it until its parent collects. Here 40 calls don't fit in 32 chunks.
 # words: run --chunks 32
 fn cell

@@ -1,5 +1,5 @@
 # Immutable objects: `pack` makes one of the references r0 to r(R-1) and the numbers i0 to i(I-1). Its fields are never
-# written, so it can be read everywhere: both children read it, and so does `sum`, to which it hands two results back.
+# written, so it can be read everywhere: both children read it. Each child returns two results in another one.
 # words: run
 fn sum
   set i5 0

@@ -2,7 +2,7 @@
 # tries the columns of the first row, and each call goes on by itself. The board is a list of immutable cells, from the
 # last row up: the columns of the queens that stand.
 # words: run --workers 4
-fn place           # r0: the queens that stand, i8: their number, i9: the size; hands back how many ways go on from here
+fn place           # r0: the queens that stand, i8: their number, i9: the size; returns how many ways go on from here
   set i2 1
   eq i7 i8 i9
   jz i7 try_columns
@@ -38,7 +38,7 @@ lab tried
   nil r0
 end
 
-fn attacked        # i0: a column, r0: the queens above; hands back 1 where one of them attacks it, else 0
+fn attacked        # i0: a column, r0: the queens above; returns 1 if one of them attacks it, else 0
   set i2 1
   set i3 0         # how many rows up
   set i4 0

@@ -1,7 +1,7 @@
 # A reduction over a tree: 31 numbers stand in a tree that was built in parallel, and the sum and the greatest of them
-# are found in parallel. Each task hands two results back in one immutable object.
+# are found in parallel. Each task returns two results in one immutable object.
 # words: run --workers 4
-fn grow            # i0: the number of a node, i1: how many levels are below it; hands back the tree
+fn grow            # i0: the number of a node, i1: how many levels are below it; returns the tree
   set i2 1
   set i3 2
   set i4 0
@@ -36,7 +36,7 @@ fn grow_second
   call grow
 end
 
-fn reduce          # r0: a tree; hands back an object of two numbers: the sum and the greatest
+fn reduce          # r0: a tree; returns an object of two numbers: the sum and the greatest
   set i2 1
   set i4 0
   nil r1

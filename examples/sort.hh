@@ -1,8 +1,8 @@
-# A sort: a list of 12 numbers is cut into halves, two tasks sort them, and the parent merges what they hand back. The
+# A sort: a list of 12 numbers is cut into halves, two tasks sort them, and the parent merges what they return. The
 # children read the parent's cells and make new ones; after the join the new cells are the parent's, which links them
 # anew. What is written doesn't depend on how many workers there are.
 # words: run --workers 4
-fn sort            # r0: a list, i0: how many cells; hands back a sorted list of new cells
+fn sort            # r0: a list, i0: how many cells; returns a sorted list of new cells
   set i1 1
   set i4 0
   jz i0 none

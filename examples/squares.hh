@@ -1,5 +1,5 @@
 # The program of docs/TUTORIAL.md: the squares of the numbers from 1 to 6, as a list for each half, by two tasks. Each
-# task hands back the sum of its squares in i0 and its list in r0, and puts the list's last cell into the board, an
+# task returns the sum of its squares in i0 and its list in r0, and puts the list's last cell into the board, an
 # object of its parent: a down-pointer.
 # words: run --report --trace
 fn cell            # a helper that allocates: a cell before the list r0, with the number i0
@@ -11,7 +11,7 @@ fn cell            # a helper that allocates: a cell before the list r0, with th
   movr r0 r1
 end
 
-fn squares         # the squares of i2 up to i3 - 1; hands back their sum in i0, and their list in r0
+fn squares         # the squares of i2 up to i3 - 1; returns their sum in i0, and their list in r0
   set i1 1
   set i5 0         # the sum
   nil r0

@@ -1,5 +1,5 @@
 # A tree built in parallel: `grow` makes a node with the number i0 and, down to the depth i1, forks for its two
-# subtrees. What the children hand back in r0 and r1 may be put into the parent's new object, since they have joined.
+# subtrees. What the children return in r0 and r1 may be put into the parent's new object, since they have joined.
 # words: run --report
 fn grow
   set i2 1
