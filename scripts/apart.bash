@@ -1,6 +1,6 @@
-# What the scripts share: what they say and write, a folder that goes with the script, and calls that end with it.
+# What the scripts share: messages and output, a temporary folder, and processes that end with the script.
 
-# The folder, if there is one; the process under way, or its process group as a negative number; what is said when a
+# The folder, if there is one; the running process, or its process group as a negative number; what is said when a
 # signal ends it.
 room=
 job=
@@ -10,9 +10,9 @@ say() {
   printf '%s: %s\n' "$crate" "$*" >&2
 }
 
-# Ends the script where standard output doesn't take all.
+# Ends the script if standard output doesn't take all.
 fail_write() {
-  say "standard output can't be written, or took only a first part"
+  say "standard output can't be written, or the output is truncated"
   exit 9
 }
 
@@ -26,10 +26,10 @@ write_file() {
   cat -- "$1" 2>/dev/null || fail_write
 }
 
-# The most bytes that the program reads, and one more.
+# One byte more than the program reads.
 limit=16777217
 
-# Copies a file, or where it is - standard input, to another, as far as the program would read it.
+# Copies a file (standard input if it is -) to another, as far as the program would read it.
 copy_input() {
   if [ "$1" = - ]; then
     head -c "$limit"
@@ -48,7 +48,7 @@ fail_read() {
 # Makes the folder.
 make_room() {
   if ! room=$(mktemp -d "${TMPDIR:-/tmp}/hheap-$1-XXXXXX"); then
-    say "no folder can be made among the temporary files"
+    say "can't make a temporary folder"
     exit 1
   fi
 }
@@ -65,7 +65,7 @@ need_kit() {
   fi
 }
 
-# Ends the call under way, and the script with this status.
+# Ends the running process, and the script with this status.
 stop() {
   trap '' HUP INT TERM
   if [ -n "$job" ]; then
@@ -76,7 +76,7 @@ stop() {
   exit "$1"
 }
 
-# Waits for the process under way, and gives its status.
+# Waits for the running process, and returns its status.
 wait_job() {
   local status
   wait "${job#-}"
@@ -101,10 +101,10 @@ run_below() {
   wait_job
 }
 
-# What was built is in out/ at the top. One call at a time proves, and one builds unproved.
+# out/ at the top has what was built. One call at a time proves, and one builds unproved.
 lock_out() {
   if ! mkdir -p "$top/out" 2>/dev/null || ! { : >>"$top/out/lock$1"; } 2>/dev/null; then
-    say "nothing can be written to $top/out, where what is built is kept"
+    say "can't write to $top/out, where built programs are kept"
     exit 1
   fi
   exec 9>>"$top/out/lock$1"
@@ -114,7 +114,7 @@ lock_out() {
   fi
 }
 
-# Puts a program there under its name, and drops those of its kind that are older than a day.
+# Puts a program there under its name, and removes those of its kind that are older than a day.
 put_program() {
   local kind=${program##*/}
   cp "$1" "$program.new" && mv -f "$program.new" "$program" || exit 1

@@ -1,9 +1,9 @@
 # Calls of the program, and the scripts' own commands `record`, `again`, `example`.
 
-# A copy of standard input, where it was made.
+# A copy of standard input, if one was made.
 kept_input=
 
-# Answers words that are no command line, by the program or, where none is there yet, as it would, and says what is wrong.
+# Refuses invalid arguments by the program or, if it isn't built yet, as it would, and says what is wrong.
 refuse_call() {
   local status=2
   if is_there; then
@@ -18,7 +18,7 @@ refuse_call() {
   exit "$status"
 }
 
-# Keeps standard input, where the program reads it and it can't be read again.
+# Keeps standard input, if the program reads it and it can't be read again.
 keep_input() {
   [[ ${operands_of[$crate $1]} = *FILE* && (${#operands[@]} = 0 || ${operands[0]} = -) && ! -f /dev/stdin ]] || return
   make_room call
@@ -26,7 +26,7 @@ keep_input() {
   kept_input=$room/input
 }
 
-# Runs the program with words that were read: in place of the script where nothing is to be said after it.
+# Runs the program with arguments that were read: in place of the script, if nothing is to be said after it.
 run_program() {
   local status command=$1
   if ! wants_hints && ! shows_faults "$command"; then
@@ -69,7 +69,7 @@ record() {
     0 | 4 | 5 | 6 | 7)
       trace_file >"$room/trace" 2>/dev/null || fail_room
       write_file "$room/trace"
-      [ "$status" = 0 ] || is_quiet || say "the run that was recorded ended so: $(tail -n 1 "$room/written")"
+      [ "$status" = 0 ] || is_quiet || say "the recorded run ended with: $(tail -n 1 "$room/written")"
       ;;
     9) fail_room ;;
     *)
@@ -82,7 +82,7 @@ record() {
 }
 
 fail_room() {
-  say "the temporary files have no room for the run's trace"
+  say "no space for the run's trace among the temporary files"
   exit 9
 }
 
@@ -93,13 +93,13 @@ trace_file() {
   sed -n '/^trace 2$/,$p' "$room/written" | sed '$d'
 }
 
-# The options that stand in a trace file, on the last such line before the trace.
+# The options in a trace file, on the last such line before the trace.
 options_in() {
   sed '/^[[:blank:]]*trace[[:blank:]]/,$d' <"$1" | sed -n 's/^# options://p' | tail -n 1
 }
 
-# The commands to which a trace file can be given again, in the order of the table, and a command that takes the options
-# of a recorded run and no others.
+# The commands that take a trace file again, in the order of the table, and a command that takes just the options of a
+# recorded run.
 read_commands_of_traces() {
   case $crate in
     hheap) commands=(replay model races image) limited=record ;;
@@ -107,7 +107,7 @@ read_commands_of_traces() {
   esac
 }
 
-# Gives a command a trace file with the options that stand in it.
+# Gives a command a trace file with the options in it.
 again() {
   local command=${1-} file options given limited names
   local -a commands

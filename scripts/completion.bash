@@ -10,7 +10,7 @@ dashed() {
   printf '%s' "$words"
 }
 
-# What bash completes of a program: a command, its options, the names of examples, else files.
+# For bash: a command, its options, the names of examples, else files.
 bash_completion() {
   local name
   printf '_%s() {\n  local word=$2 command=${COMP_WORDS[1]-}\n' "$crate"
@@ -27,7 +27,7 @@ bash_completion() {
   printf '  esac\n}\ncomplete -o default -F _%s %s\n' "$crate" "$crate"
 }
 
-# A text in a description of zsh: colons and brackets are its own, and it stands between single quotes.
+# A text escaped for a description of zsh, between single quotes: colons and brackets.
 zsh_text() {
   sed -e "s/'/'\\\\''/g" -e 's/[]:[]/\\&/g' <<<"$1"
 }

@@ -1,11 +1,11 @@
-# Which program answers: the proved one where it is there, else the unproved build.
+# Which program answers: the proved one if it is there, else the unproved build.
 
 # Whether these scripts were installed, so that there are no sources.
 is_installed() {
   [ -f "$top/installed" ]
 }
 
-# What was written down when they were installed: the commit, the kit, and whether this program is proved.
+# What was noted when they were installed: the commit, the kit, and whether this program is proved.
 installed_lines() {
   sed -n "s/^commit: //p; s/^kit: //p; s/^$crate: //p" "$top/installed"
 }
@@ -14,7 +14,7 @@ is_installed_proved() {
   [ "$(installed_lines | tail -n 1)" = proved ]
 }
 
-# Sets `program` to where the proved program stands, and `tried` to where the unproved one does.
+# Sets `program` to the path of the proved program, and `tried` to that of the unproved one.
 place_program() {
   local sum
   if is_installed; then
@@ -36,7 +36,7 @@ say_unproved() {
   fi
 }
 
-# Sets `program` to the unproved build, which is made where it isn't there.
+# Sets `program` to the unproved build, which is made if it isn't there.
 use_tried() {
   program=$tried
   [ -x "$program" ] || build_unproved

@@ -1,10 +1,10 @@
-# What ./hheap and ./hhview do: they have set `top`, the folder in which they stand, and `crate`, the program's name.
+# What ./hheap and ./hhview do. They have set `top`, the folder in which they are, and `crate`, the program's name.
 
 for part in apart table words help hints find prove try calls manual completion install; do
   . "$top/scripts/$part.bash"
 done
 
-# How the script is called, what finds the program, and whether nothing is added to what it writes.
+# How the script is called, what finds the program, and whether it adds nothing to the program's output.
 called=./$crate
 find=find_any
 quiet=
@@ -21,7 +21,7 @@ asks_for_help() {
   return 1
 }
 
-# The words before the command: sets how the program is found, and `taken` to how many they are.
+# Reads the switches before the command: sets how the program is found, and `taken` to their number.
 read_switches() {
   local word
   taken=0
@@ -37,7 +37,7 @@ read_switches() {
   done
 }
 
-# Refuses a word before the command that is none of the switches.
+# Refuses a word before the command that isn't a switch.
 refuse_switch() {
   local near
   near=$(nearest "$1" "${switches[@]/#/--}" --help)

@@ -22,7 +22,7 @@ command_lines() {
   done
 }
 
-# The options that the program's commands take, each once.
+# The options of the program's commands, each once.
 all_options() {
   local name option seen=' '
   for name in ${commands_of[$crate]}; do
@@ -53,7 +53,7 @@ usage() {
   printf 'README.md is the first page, and docs/USAGE.md has all of this with examples.\n'
 }
 
-# The words of one command.
+# The usage of one command.
 usage_of() {
   local name=$1 word samples
   printf 'usage: %s %s\n\n' "$called" "$(form_of "$name")"
@@ -70,7 +70,7 @@ usage_of() {
   [ -z "$samples" ] || { printf '\nfor example:\n' && printf '%s' "$samples" | sed "s|^|  $called |"; }
 }
 
-# Writes a text that a function makes, whole, or ends with 9.
+# Writes the whole output of a function, or ends with 9.
 show() {
   local text
   text=$("$@") && write "$text"
@@ -123,7 +123,7 @@ version() {
   printf '%s\ncommit: %s\nkit: %s\n%s\n' "$crate" "$commit" "$kit" "$state"
 }
 
-# Refuses words of these scripts' own commands.
+# Refuses arguments of the scripts' own commands.
 refuse_words() {
   say "$1"
   exit 2

@@ -1,4 +1,4 @@
-# What a person can do after a call, by its status, on standard error.
+# What the user can do after a call, by its status, on standard error.
 
 # Whether nothing is added to what the program writes.
 is_quiet() {
@@ -9,7 +9,7 @@ wants_hints() {
   ! is_quiet && [[ ${HHEAP_HINTS-} = 1 || -t 2 ]]
 }
 
-# The file that a call reads, if it is one that can be read again.
+# The file that a call reads, if it can be read again.
 input_of() {
   if [[ ${#operands[@]} -gt 0 && ${operands[0]} != - ]]; then
     printf '%s' "${operands[0]}"
@@ -20,7 +20,7 @@ input_of() {
   fi
 }
 
-# The last line of a call that is refused as it was before, on whichever stream.
+# The last line of the same call made again, from either stream.
 refused_line() {
   local file
   file=$(input_of)
@@ -31,15 +31,15 @@ meaning_of() {
   case $1 in
     toolong) echo "the input has more bytes than the command takes" ;;
     notutf8) echo "the line isn't UTF-8" ;;
-    word) echo "the line's first word may not stand there: it is no instruction, or stands outside a function" ;;
-    operand) echo "an operand is missing, one too many, not of its kind, or a number out of range" ;;
-    noend) echo "a function isn't closed by a line \`end\` before the next one, or before the text's end" ;;
-    twonames) echo "a second function, or a second label in one function, has the same name" ;;
+    word) echo "the first word can't stand there: it isn't an instruction, or is outside a function" ;;
+    operand) echo "an operand is missing, extra, of the wrong kind, or out of range" ;;
+    noend) echo "a function has no line \`end\` before the next function or the end of the text" ;;
+    twonames) echo "two functions, or two labels in one function, have the same name" ;;
     noname) echo "no function has the name that is called" ;;
     nolabel) echo "this function has no such label" ;;
     nomain) echo "there is no function \`main\`" ;;
     toomany) echo "there are more than 1,024 functions or 65,536 instructions" ;;
-    line) echo "the line isn't of the form of an image's lines, or isn't in its place" ;;
+    line) echo "the line isn't of the form of an image line, or is out of place" ;;
     twice) echo "an object of this birth is on an earlier line" ;;
     notask) echo "no earlier line has this task" ;;
     nochunk) echo "no line has the chunk of this address" ;;
@@ -48,11 +48,12 @@ meaning_of() {
     ref) echo "a reference leads to no object" ;;
     cross) echo "a reference leads to a heap that is neither above nor below" ;;
     down) echo "a reference leads down, and no line remembers it" ;;
-    field) echo "what is remembered is no reference field of an object of a task above" ;;
-    count) echo "the number of objects isn't that of the lines" ;;
+    field) echo "the remembered field isn't a reference field of an ancestor's object" ;;
+    count) echo "the number of objects isn't the number of their lines" ;;
   esac
 }
 
+# hint_refused COMMAND PAGE: what the cause of a refusal means, and the page that has all causes.
 hint_refused() {
   local line meaning
   line=$(refused_line "$1")
@@ -60,22 +61,23 @@ hint_refused() {
   if [[ $line != end:*refused\ line\ * || -z $meaning ]]; then
     meaning="the end line has the first line with a fault, and its cause"
   fi
-  say "$meaning (all causes: docs/USAGE.md)"
+  say "$meaning (all causes: $2)"
 }
 
 hint() {
   local status=$1 command=$2
   case $status in
-    2) say "these words are no command line: $called help shows the commands and their options" ;;
-    3 | 13) hint_refused "$command" ;;
-    4) say "a step couldn't be done; the end line has why, the task and the line (traps: docs/LANGUAGE.md)" ;;
+    2) say "invalid arguments: $called help shows the commands and their options" ;;
+    3) hint_refused "$command" docs/USAGE.md ;;
+    13) hint_refused "$command" docs/IMAGES.md ;;
+    4) say "a step trapped; the end line has the cause, the task and the line (traps: docs/LANGUAGE.md)" ;;
     5) say "a task read what a concurrent one allocated; \`races\` of a trace file ($called record) reports both lines" ;;
     6) say "the steps have reached the fuel: --fuel N gives more (default 1000000, at most 1000000000)" ;;
     7) say "too few chunks were free: --chunks N gives more (default 4096, at most 65536)" ;;
     8) say "${operands[0]:-standard input} can't be read" ;;
-    9) say "standard output took only a first part of what was to be written" ;;
+    9) say "standard output can't be written, or the output is truncated" ;;
     10) say "out of memory; fewer --chunks, fewer workers, or a run without --report need less" ;;
-    11) say "no trace of this program under these options: are they those of the run? $called record keeps them" ;;
+    11) say "the trace isn't one of this program under these options: are they those of the run? $called record keeps them" ;;
     12) say "of each field, two accesses are unordered: a join between them orders them (docs/RACES.md)" ;;
   esac
 }
@@ -83,7 +85,7 @@ hint() {
 # The most lines of faults that are shown.
 shown=20
 
-# Sets `viewer` to the program hhview where it is there already, proved or not.
+# Sets `viewer` to the program hhview, proved or not, if it is built.
 find_viewer() {
   viewer=$(
     crate=hhview
@@ -94,7 +96,7 @@ find_viewer() {
   [ -n "$viewer" ]
 }
 
-# Whether some hhview is there. (Whether it is that of these sources is asked when it is needed.)
+# Whether some hhview is built. (Whether it is that of these sources is checked when it is needed.)
 has_viewer() {
   local file
   ! is_installed || return 0
@@ -110,7 +112,7 @@ shows_faults() {
     case $1 in check | run | replay | model | races | image | record) true ;; *) false ;; esac
 }
 
-# The program of a call's input: what stands before the trace, where the command takes one.
+# The program of a call's input: what stands before the trace, if the command takes one.
 program_of() {
   case $1 in
     check | run | record) cat -- "$2" ;;
@@ -118,17 +120,17 @@ program_of() {
   esac
 }
 
-# Shows the faults of a program, as the second program tells them, on standard error.
+# Shows the faults of a program, as the second program reports them, on standard error.
 show_faults() {
   local text more
   text=$(program_of "$1" "$2" | "$viewer" faults 2>/dev/null)
   [ -n "$text" ] || return
   printf '%s\n' "$text" | head -n "$shown" >&2
   more=$(($(printf '%s\n' "$text" | wc -l) - shown))
-  ((more <= 0)) || say "and $more lines more: ./hhview faults FILE shows them all"
+  ((more <= 0)) || say "and $more more lines: ./hhview faults FILE shows them all"
 }
 
-# Says what a person can do after a call.
+# Says what the user can do after a call.
 explain() {
   local status=$1 command=$2 file
   if [ "$status" = 3 ] && shows_faults "$command" && find_viewer; then

@@ -1,11 +1,11 @@
 # Installs the programs with their scripts, manual pages, completions, examples and pages.
 
-# Writes a file of what a function makes.
+# Writes the output of a function to a file.
 make_file() {
   mkdir -p "${1%/*}" && "$2" >"$1"
 }
 
-# Installs what goes with one program, which is found as the call asks for it.
+# Installs one program with its files; `find` finds it.
 install_program() {
   local prefix=$2 share=$2/share/hheap state=proved
   crate=$1
@@ -34,7 +34,7 @@ install() {
   read_words install "$@"
   [ -z "$fault" ] || refuse_words "$fault"
   if is_installed; then
-    say "this is installed already: ./hheap install is for a copy of the repository"
+    say "this is installed already: ./hheap install works in a copy of the repository"
     exit 1
   fi
   mkdir -p -- "${operands[0]}" 2>/dev/null && prefix=$(cd -- "${operands[0]}" && pwd) && share=$prefix/share/hheap &&

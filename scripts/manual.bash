@@ -1,11 +1,11 @@
 # A manual page, by the table of commands and options.
 
-# A text as roff takes it: hyphens and backslashes are its own, and a line doesn't begin with a dot or a quote.
+# A text escaped for roff: hyphens, backslashes, and a dot or a quote that begins a line.
 roff() {
   sed -e 's/\\/\\e/g' -e 's/-/\\-/g' -e "s/^[.']/\\\\\&&/"
 }
 
-# A paragraph with a tag in front, and what belongs to it.
+# A paragraph with a tag.
 tagged() {
   printf '.TP\n.B %s\n' "$(roff <<<"$1")"
   roff <<<"$2"

@@ -1,6 +1,6 @@
 #!/usr/bin/env bash
-# pages.bash HHEAP HHVIEW    types what the pages tell a reader to type, with two built programs, and compares what is
-# written with what the pages say of it.
+# pages.bash HHEAP HHVIEW    types the commands of the pages, with two built programs, and compares what they write with
+# the pages.
 set -u
 top=$(dirname "$(dirname "$(realpath "${BASH_SOURCE[0]}")")") || exit 1
 if [ ! -x "${1-}" ] || [ ! -x "${2-}" ]; then
@@ -11,7 +11,7 @@ hheap=$(realpath "$1")
 hhview=$(realpath "$2")
 . "$top/scripts/room.bash"
 copy_top && put_built hheap "$hheap" && put_built hhview "$hhview" || exit 1
-# (whoever has no Graphviz sees its input)
+# (without Graphviz, `dot` passes its input on)
 mkdir "$room/bin" || exit 1
 command -v dot >/dev/null || { printf '#!/usr/bin/env bash\ncat\n' >"$room/bin/dot" && chmod +x "$room/bin/dot"; }
 use_just awk dot
@@ -19,9 +19,9 @@ cd "$room" || exit 1
 unset HHEAP_HINTS
 : >typed
 
-# typed PAGE STATUS [SAID ..] reads commands, types them one after the other as they stand on the page, and looks for the
-# last one's status and for what was written: all of it is the lines SAID, each of which stands on the page too, where
-# `..` stands for any; without SAID nobody compares.
+# typed PAGE STATUS [SAID ..] reads commands, types them in turn as they stand on the page, and compares the last one's
+# status, and the whole output with the lines SAID, each of which has to stand on the page; `..` stands for any lines.
+# Without SAID the output isn't compared.
 typed() {
   local page=$1 status=$2 command
   shift 2
@@ -38,7 +38,7 @@ typed() {
   [ "$#" = 0 ] || compare "$page" written "$@"
 }
 
-# compare PAGE FILE LINE ..: the lines of a file are these, `..` standing for any; each of them stands on the page.
+# compare PAGE FILE LINE ..: the lines of a file are these, `..` standing for any; each stands on the page.
 compare() {
   local page=$1 file=$2 line said
   shift 2
@@ -226,12 +226,12 @@ typed docs/LANGUAGE.md 0 <<'END'
 END
 cmp -s written <(printf '41\nend: done\n') || fail "docs/LANGUAGE.md: other data"
 
-# The page of options has the ranges and defaults of the table of words.
+# The page of options has the ranges and defaults of the table.
 while IFS='|' read -r _ name value least most default _; do
   grep -qF "| \`--$name $value\` | $least to $most | $default |" docs/USAGE.md || fail "docs/USAGE.md has no row of --$name like the table's"
 done < <(grep -E '^option\|(workers|fuel|chunks|leaf|inner)\|' scripts/words.table)
 
-# Each call that the table of words shows as a sample works.
+# Each sample in the table works.
 for program in hheap hhview; do
   sed -n "s/^sample|$program|[a-z]*|/.\/$program /p" scripts/words.table
 done >samples
@@ -241,8 +241,8 @@ while IFS= read -r command; do
   [ "$is" = 0 ] || [[ $is = 12 && $command = *' races '* ]] || fail "$command: status $is: $(cat said)"
 done <samples
 
-# Each piece of a program on these pages, line by line but for what stands before the lines, stands in an example, which
-# has a stored output. A piece ends at a line without words, or at one of `..`.
+# Each piece of a program on these pages stands in an example, which has a stored output, but for indentation. A piece
+# ends at a line without words, or at a line `..`.
 for page in README.md docs/LANGUAGE.md docs/TUTORIAL.md; do
   awk '
     function words(line) { sub(/^ */, "", line); return line "\n" }
@@ -257,7 +257,7 @@ for page in README.md docs/LANGUAGE.md docs/TUTORIAL.md; do
 done >pieces
 [ ! -s pieces ] || fail "no example has: $(cat pieces)"
 
-# Each command that a page tells to type was typed.
+# Each command on a page was typed.
 for page in README.md docs/*.md; do
   case $page in docs/WORKING.md | docs/BENCHMARKS.md) continue ;; esac
   sed -n 's/  *# .*//; s/^    \(\(\.\/hh\|cmp \|sed \|awk \|echo .* >\|{ cat\|{ echo\|for \|(cat\).*\)$/\1/p' "$page" |
@@ -265,9 +265,9 @@ for page in README.md docs/*.md; do
       grep -qxF -e "$command" typed || echo "$page: $command"
     done
 done >untyped
-[ ! -s untyped ] || fail "nobody has typed: $(cat untyped)"
+[ ! -s untyped ] || fail "not typed: $(cat untyped)"
 
-# No page has words that the field has plainer ones for, but in a program or in what a program writes.
+# No page has words for which the field has plainer ones, except in a program or in what a program writes.
 plainer='want of memory|memory (is|was|were) wanting|hand(s|ed)? (it |them |that |this )?back|what it comes to'
 plainer+='|\bcomes? of it|an (end|answer) of its own|exactly where|in no order|behind (an|the|each|that) entry|that many'
 plainer+='|so many (words|bytes|entries|tasks|chunks|steps)|words of a call|without looking at|no time to speak of'

@@ -1,9 +1,10 @@
-# Proves and builds the program, in a copy of its crates, by the gate's own command. So what a run of the gate or of
-# this has proved before on the machine isn't proved again, whoever is interrupted, in whatever copy of the repository.
+# Proves and builds the program, in a copy of its crates, by the gate's own command. So nothing that a run of the gate
+# or of this has proved on the machine is proved again, even if that run was stopped or in another copy of the
+# repository.
 
 # By crate: its line in crates.txt, and the libraries that it names.
 declare -A line_of=() libraries_of=()
-# The crates that the program consists of, lowest first; those that are proved; how much there is to prove of each.
+# The program's crates, lowest first; those that are proved; how much there is to prove of each.
 needed=()
 declare -A is_proved=() work_of=()
 
@@ -34,7 +35,7 @@ need_crates() {
   need "$crate"
 }
 
-# The sum of all that is proved and built in this folder.
+# The checksum of all that is proved and built in this folder.
 sum_of() {
   (
     cd "$1" || exit 1
@@ -69,8 +70,8 @@ in_proof() {
   printf '%s' "${found:- the program, built and run}"
 }
 
-# How much there is to do of each crate: its bytes, as much as 250,000 for what each proof begins with, and as much as
-# 500,000 for the program, which two compilers build.
+# How much work each crate is: its bytes, 250,000 more for what each proof begins with, and 500,000 more for the
+# program, which two compilers build.
 weigh_crates() {
   local name bytes
   for name in "${needed[@]}"; do
@@ -80,8 +81,8 @@ weigh_crates() {
   work_of[$crate]=$((work_of[$crate] + 500000))
 }
 
-# Sets `left` to what is left: the sum of it for each of four processors, or if that is more, the longest chain of crates
-# of which each waits for the one before.
+# Sets `left` to the work left: the sum divided by the processors (at most four) or, if that is more, the longest chain
+# of crates that wait for one another.
 sum_left() {
   local name library above longest=0 sum=0
   local -A chain
@@ -101,7 +102,7 @@ sum_left() {
   ((left >= longest)) || left=$longest
 }
 
-# How long the proof takes from here: at the pace so far, once a tenth of it is done.
+# How long the rest of the proof takes: by the pace so far, once a tenth is done.
 time_left() {
   local seconds
   if ((10 * (whole - left) < whole || whole == left || SECONDS == 0)); then
@@ -116,16 +117,16 @@ time_left() {
   fi
 }
 
-# Keeps what the proof says, and tells how far it is. (What is kept from before takes no time, so it doesn't count as
-# done, but as never to do.)
-tell_progress() {
+# Keeps the output of the proof, and reports how far it is. (What is kept from before takes no time, so it doesn't count
+# as work.)
+report_progress() {
   local line count=0 of=${#needed[@]} left whole before lanes
   lanes=$(nproc 2>/dev/null || echo 4)
   ((lanes <= 4)) || lanes=4
   weigh_crates
   sum_left
   whole=$left
-  say "proving $crate, which is $of crates, ${text_of[proof]} where nothing is proved yet; first$(in_proof)"
+  say "proving $crate: $of crates, ${text_of[proof]} if nothing is proved yet; first$(in_proof)"
   while IFS= read -r line; do
     printf '%s\n' "$line" >>"$top/out/proof.log"
     [[ $line != rt:\ *waiting* && $line != rt:\ note:* ]] || say "${line#rt: }"
@@ -145,7 +146,7 @@ tell_progress() {
 
 prove_in() {
   set -o pipefail
-  cd "$1" && rt ci 2>&1 | tell_progress
+  cd "$1" && rt ci 2>&1 | report_progress
 }
 
 # Proves the program and sets `program` to it, one call at a time in this copy of the repository.
@@ -169,7 +170,7 @@ prove_copy() {
   parting="stopped; what was proved is kept, and $called prove goes on from there"
   if ! run_apart prove_in "$room" </dev/null >&2 9>&-; then
     grep -E '^rt: .*(NOT PROVED|FAILED|refused)|error' "$top/out/proof.log" | tail -n 20 >&2
-    say "the program could not be proved and built; all that was said is in $top/out/proof.log"
+    say "the program could not be proved and built; the whole output is in $top/out/proof.log"
     exit 1
   fi
   parting=
@@ -179,16 +180,16 @@ prove_copy() {
   rm -f "$top/out/proving"
 }
 
-# The command: proves the program where it isn't proved as its sources stand.
+# The command: proves the program, if its sources aren't proved as they stand.
 prove() {
-  [ $# = 0 ] || refuse_words "prove takes no words, and '$1' is one too many"
+  [ $# = 0 ] || refuse_words "prove takes no arguments, and '$1' is one"
   if is_installed; then
-    say "an installed program is as it is: ./hheap prove is for a copy of the repository"
+    say "an installed program can't be proved: ./hheap prove works in a copy of the repository"
     exit 1
   fi
   place_program
   if [ -x "$program" ]; then
-    say "it is proved as its sources stand"
+    say "proved already, as its sources stand"
   else
     prove_program
     say "proved in $SECONDS s: $called answers by it from now on"

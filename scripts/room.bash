@@ -1,5 +1,5 @@
-# For tests of what stands at the top: a folder in which the scripts find programs that are built already, and prove
-# nothing. Who reads this has set `top`.
+# For tests of the scripts at the top: a folder in which they find built programs, and prove nothing. The caller has set
+# `top`.
 
 room=$(mktemp -d) || exit 1
 trap 'rm -rf "$room"' EXIT
@@ -10,8 +10,8 @@ fail() {
   failed=$((failed + 1))
 }
 
-# use_just TOOL ..: has the shell find these tools alone, and those that stand in the room's bin already. So the kit isn't
-# found, and a call that would prove or build ends with 1.
+# use_just TOOL ..: has the shell find only these tools and those in the room's bin. So the kit isn't found, and a call
+# that would prove or build ends with 1.
 use_just() {
   local tool
   mkdir -p "$room/bin" || exit 1
@@ -22,8 +22,7 @@ use_just() {
   PATH=$room/bin
 }
 
-# Makes a copy of the top of the repository in the room, with crates that have next to nothing in them, so that the sums
-# of sources are quick.
+# Makes a copy of the top of the repository in the room, with crates that are nearly empty, so that checksums are quick.
 copy_top() {
   local name
   cp -r "$top/hheap" "$top/hhview" "$top/scripts" "$top/examples" "$top/docs" "$top/README.md" "$top/crates.txt" \
@@ -34,7 +33,7 @@ copy_top() {
   done <"$room/names"
 }
 
-# put_built CRATE PROGRAM: has the copy's scripts find that program as the proved one, and as the one that is tried.
+# put_built CRATE PROGRAM: has the copy's scripts find that program as the proved one, and as the unproved build.
 put_built() {
   local sum
   sum=$(

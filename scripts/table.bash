@@ -6,8 +6,8 @@ declare -A operands_of=() options_of=() does_of=() samples_of=() is_own=()
 declare -A commands_of=()
 # By option: its value's name, range, default, what it is. By operand: its range, what it is.
 declare -A value_of=() least_of=() most_of=() default_of=() about_option=() about_operand=()
-# By program: a command that reads a file, the stream on which it tells that words are refused, what it is, its statuses
-# (a line each). By switch and by variable what it is; the values.
+# By program: a command that reads a file, the stream on which it refuses arguments, what it is, its statuses (a line
+# each). By switch and by variable what it is; the values.
 declare -A reader_of=() stream_of=() about_program=() statuses_of=() about_switch=() about_variable=() text_of=()
 programs=()
 switches=()
@@ -55,7 +55,7 @@ add_operand() {
   about_operand[$1]=$4
 }
 
-# (a sample may have a `|` of its own, so its row is cut by hand)
+# (a sample may have a `|`, so its row is cut by hand)
 add_row() {
   local row=$1 rest
   local -a field
@@ -88,7 +88,7 @@ has_command() {
   [ -n "${does_of[$1 $2]+x}" ]
 }
 
-# The commands of a program that take this option, as a list for people.
+# The commands of a program that take this option, as a list.
 commands_with() {
   local name list=
   for name in ${commands_of[$1]}; do
@@ -97,7 +97,7 @@ commands_with() {
   printf '%s' "$list"
 }
 
-# A command with its operands, and what stands for its options.
+# A command with its operands and a word for its options.
 form_of() {
   local options=${options_of[$crate $1]} form="$1 ${operands_of[$crate $1]}"
   form=${form% }

@@ -3,7 +3,7 @@
 cd "$(dirname "$0")/.." || exit 1
 failed=0
 
-# has FILE TEXT WHAT: a file has a text.
+# has FILE TEXT WHAT: whether a file has a text.
 has() {
   grep -qF -e "$2" "$1" && return
   echo "$1 doesn't have the colour of $3 in page/colours.table: $2"

@@ -1,27 +1,28 @@
 #!/usr/bin/env bash
-# Calls `command` with one of its allocations refused, for each of them in turn, on five texts by one worker and by four (the trials of
-# crates/want_of_memory, unproved), and writes what came of it. A line for each trial: its number, the workers, how many
-# allocations a call took that met no refusal, and how many calls came to what:
-#   nothing   want of memory, with nothing handed back
-#   part      want of memory, with a journal without an end, which `replay` accepts as far as it goes
-#   whole     want of memory, with a journal that has an end, which `replay` accepts
-#   unwritten a write fault, since the sink in memory had none, with such a journal
+# Calls `command` with one allocation failing, for each allocation in turn, on five texts by one worker and by four (the
+# trials of crates/want_of_memory, unproved), and counts the outcomes. A line for each trial has its number, the
+# workers, the allocations of a call in which none failed, and the number of calls with each outcome:
+#   nothing   out of memory, with nothing returned
+#   part      out of memory, with a journal without an end, which `replay` accepts as far as it goes
+#   whole     out of memory, with a journal that has an end, which `replay` accepts
+#   unwritten a write fault, since the sink in memory couldn't allocate, with such a journal
 #   answered  the answer that comes with memory to spare
-#   before    refused while the call was made ready
-#   unmet     no refusal met: the call was over before
+#   before    the allocation failed before the call
+#   unmet     the call was over before that allocation
 #   wrong     anything else, a fault or no answer: there must be none
-# The status is 0 where none was wrong. By four workers calls differ in how many allocations they take, so some more are tried.
+# The status is 0 if none was wrong. With four workers calls differ in their number of allocations, so some more are
+# tried.
 set -u
 crate=want_of_memory
 top=$(dirname "$(dirname "$(realpath "${BASH_SOURCE[0]}")")") || exit 1
 . "$top/scripts/apart.bash"
 
-# The number of the allocation that the program is built to refuse.
+# The number of the allocation that fails in the program as it is built.
 refused=5000
-# How many more calls are made than the first one took allocations.
+# How many more calls are made than the first one made allocations.
 more=32
 
-# Runs the cases of a folder, and puts a line for each into a file: its name, what it came to, and its number.
+# Runs the cases of a folder, and puts a line for each into a file: its name, its outcome, and its number.
 run_cases() {
   (cd "$top/crates/$crate" && rt try --steps 1 --fail-alloc "$refused" --cases "$1") >"$room/said" 2>&1
   awk '/^== / { name = $2; getline; told[name] = $1 " " $2 }

@@ -1,7 +1,7 @@
-# What is wrong with the words of a call, by the table of commands and options.
+# What is wrong with the arguments of a call, by the table of commands and options.
 
-# Of the words that were read last: the operands; the options as they stand; all words that the program gets, where `-`
-# is left out, since it stands for standard input; and what is wrong first, if anything.
+# Of the arguments that were read last: the operands; the options as they stand; all that the program gets (without `-`,
+# which is standard input); and the first fault, if any.
 operands=()
 settings=()
 passed=()
@@ -15,7 +15,8 @@ least() {
   printf '%s' "$number"
 }
 
-# How many letters have to be put in, left out, changed or swapped with the next one to make the second word of the first.
+# How many letters have to be added, left out, changed or swapped with the next one to turn the first word into the
+# second.
 distance() {
   local a=$1 b=$2 i j same
   local -A row
@@ -34,8 +35,8 @@ distance() {
   printf '%s' "${row[${#a},${#b}]}"
 }
 
-# nearest WORD OTHER ..: the other word that is meant most likely, if one is near: the word begins it, or two letters are
-# wrong at most, and fewer than half of its letters.
+# nearest WORD OTHER ..: the other word that is most likely meant, if one is near: the word is a prefix of it, or at
+# most two letters are wrong, and fewer than half of its letters.
 nearest() {
   local word=${1:0:32} other best='' most=3 far
   shift
@@ -89,11 +90,11 @@ fault_of_option() {
   fi
 }
 
-# Reads an option that takes a text, which is the word behind it.
+# Reads an option that takes a text, which is the next word.
 read_text_option() {
   local name=$1 word=$2
   if [[ $word = *=* ]]; then
-    find_fault "--$name stands apart from its text: --$name '${word#*=}'"
+    find_fault "--$name and its text are separate words: --$name '${word#*=}'"
   elif [ $# -lt 3 ]; then
     find_fault "--$name takes a text, and none follows"
   else
@@ -101,8 +102,8 @@ read_text_option() {
   fi
 }
 
-# Reads an option, of which `set_before` has those before it. The word behind it, if it may be its number, stands third;
-# `taken` is how many words it is.
+# Reads an option; `set_before` has those before it. The third argument is the next word, which may be its number;
+# `taken` is set to how many words it takes.
 read_option() {
   local command=$1 word=$2 name=${2#--} number
   name=${name%%=*}
@@ -133,7 +134,7 @@ read_option() {
   is_in_range "$name" "$number" || find_fault "--$name takes $(range_of "$name"), and '$number' is none"
 }
 
-# Says which operand is wrong, missing or one too many.
+# Says which operand is wrong, missing or extra.
 check_operands() {
   local command=$1 place=0 name
   local -a names
@@ -155,7 +156,7 @@ check_operands() {
   fi
 }
 
-# Reads the words behind a command.
+# Reads the arguments after a command.
 read_words() {
   local command=$1 taken word
   local -A set_before=()
@@ -182,7 +183,7 @@ read_words() {
   check_operands "$command"
 }
 
-# Says that a word is no command, and which is meant.
+# Says that a word is no command, and which one may be meant.
 fault_of_command() {
   local near
   # (names of commands are words without blanks)
