@@ -158,10 +158,6 @@ END
 typed docs/TUTORIAL.md 5 'end: entangled reader 2 owner 1' <<'END'
 ./hheap run examples/peeked.hh
 END
-typed docs/TUTORIAL.md 12 'race 0 0 ref 0 tasks 1 2 lines 10 15' .. <<'END'
-./hheap record examples/peeked.hh > peeked.trace
-./hheap again races peeked.trace
-END
 
 typed docs/RACES.md 12 'race 0 0 ref 0 tasks 1 2 lines 9 14' 'end: races 1' <<'END'
 ./hheap races examples/race.trace
