@@ -76,9 +76,6 @@ typed $usage 0 13 23 'report tasks 3 steps 11 turns 10' 'report leaf 0 putoff 0 
   '0 ran 2 3' '0 took 0' '0 ran 0 1' '0 ran 0 1' '0 ran 0 1' 'end: done' <<'END'
 ./hheap run --report --trace examples/fork.hh
 END
-typed $usage 0 42 'end: done' <<'END'
-./hheap replay --workers 3 examples/workers.trace
-END
 typed $usage 0 13 23 .. 'end: done' <<'END'
 ./hheap record examples/fork.hh --workers 2 > fork.trace
 ./hheap again replay fork.trace --report
