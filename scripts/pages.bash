@@ -265,6 +265,7 @@ plainer='want of memory|memory (is|was|were) wanting|hand(s|ed)? (it |them |that
 plainer+='|\bcomes? of it|an (end|answer) of its own|exactly where|in no order|behind (an|the|each|that) entry|that many'
 plainer+='|so many (words|bytes|entries|tasks|chunks|steps)|words of a call|without looking at|no time to speak of'
 plainer+='|no place has it|such a one|what is said of'
+plainer+='|for want of|(is|are) told\b|\btells? (a|the|of|all)\b|\bamid\b|the last value stays'
 for page in README.md docs/*.md; do
   # shellcheck disable=SC2016
   sed '/^    /d; s/`[^`]*`//g' "$page" | grep -niE -e "$plainer" | sed "s|^|$page: |"
