@@ -84,9 +84,7 @@ fn registers_of_a_call(rt: HostRuntime) {
 
 // Register 1 of the top frame, and of the oldest one, once that was written; and register 4 of the top frame, once all
 // its registers were written.
-fn written(
-    frames: &mut Frames,
-) -> Option<(Option<Addr>, Option<Addr>, Option<Addr>)> {
+fn written(frames: &mut Frames) -> Option<(Option<Addr>, Option<Addr>, Option<Addr>)> {
     let Ok(()) = frames.push(8) else {
         return None;
     };
@@ -104,9 +102,7 @@ fn written(
     Some((above, below, frames.reference(4)))
 }
 
-fn written_at_first(
-    alloc: Global,
-) -> Option<(Option<Addr>, Option<Addr>, Option<Addr>)> {
+fn written_at_first(alloc: Global) -> Option<(Option<Addr>, Option<Addr>, Option<Addr>)> {
     let mut frames = started(alloc)?;
     written(&mut frames)
 }
