@@ -18,12 +18,12 @@ use Rattle.heap_reading.specs.below.task_machine.{Private}
 use Rattle.heap_reading.specs.below.shared_value.{NotEntered, NoMemory, Refuses, Enters, refused, Fits, IsSharedValue, SharedValue, accounts}
 use Rattle.shared_tree.specs.below.own_steps.{alone_entry}
 use Rattle.shared_tree.specs.below.child_tasks.{IsUnchanged}
-use Rattle.shared_tree.specs.declared.ran.Ran.{Ran as RanOf}
-use Rattle.shared_tree.specs.declared.ran.Ran.TheVariants.{Forked as ForksInto, Ended as EndsWith, Over as IsOver, Done as IsDone}
-use Rattle.shared_tree.specs.declared.ran_lent.Leaving.{Leaving}
-use Rattle.shared_tree.specs.declared.ran_lent.Lent.{Lent}
-use Rattle.shared_tree.specs.declared.ran_lent.Lent.TheVariants.{Goes as GoesOn, Over as HasEnded, Leaves}
-use Rattle.shared_tree.specs.Ran.{LentTo, RanTo}
+use Rattle.entry_calls.specs.declared.answers.Ran.{Ran as RanOf}
+use Rattle.entry_calls.specs.declared.answers.Ran.TheVariants.{Forked as ForksInto, Ended as EndsWith, Over as IsOver, Done as IsDone}
+use Rattle.entry_calls.specs.declared.answers.Leaving.{Leaving}
+use Rattle.entry_calls.specs.declared.answers.Lent.{Lent}
+use Rattle.entry_calls.specs.declared.answers.Lent.TheVariants.{Goes as GoesOn, Over as HasEnded, Leaves}
+use Rattle.entry_calls.specs.Ran.{LentTo, RanTo}
 use Rattle.shared_tree.proofs.below.heap_marking.{entered_accounts}
 use Rattle.heap_reading.specs.HeldNames.{held_unless_running}
 use Rattle.heap_reading.proofs.KeptNames.{counted_few}

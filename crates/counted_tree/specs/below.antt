@@ -3,6 +3,7 @@ pub mod alloc_path
 pub mod child_tasks
 pub mod chunk_pool
 pub mod core_relation
+pub mod entry_calls
 pub mod heap_marking
 pub mod heap_tree
 pub mod hh_lang

@@ -2,7 +2,7 @@
 
 ghost use Rattle.std.specs.Prelude.{◌<◌, ◌≤◌};
 ghost use Rattle.heap_reading.specs.below.run_trace.{mark_limit};
-ghost use Rattle.shared_tree.specs.Calls.{BeginsMarking, MarksMore, SweepsHeap};
+ghost use Rattle.entry_calls.specs.Calls.{BeginsMarking, MarksMore, SweepsHeap};
 
 use crate::counted::Counted;
 use crate::held_words::words_held;

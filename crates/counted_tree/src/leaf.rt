@@ -3,7 +3,7 @@
 ghost use Rattle.std.specs.Prelude.{◌≡◌, ◌<◌};
 ghost use Rattle.heap_reading.specs.below.shared_value.{Fits};
 ghost use Rattle.shared_tree.specs.below.leaf_collections.{FitsCopied};
-ghost use Rattle.shared_tree.specs.Calls.{BeginsLeaf, EndsLeaf, GetsChunk, PutsOff};
+ghost use Rattle.entry_calls.specs.Calls.{BeginsLeaf, EndsLeaf, GetsChunk, PutsOff};
 
 use crate::counted::Counted;
 use heap_reading::{Addr, Moved, Private, Refused, ToChunks};

@@ -3,8 +3,8 @@
 ghost use Rattle.std.specs.Prelude.{◌≡◌, ◌<◌, None};
 ghost use Rattle.heap_reading.specs.below.shared_value.{refused, Fits};
 ghost use Rattle.shared_tree.specs.below.own_steps.{alone_entry, IsShared};
-ghost use Rattle.shared_tree.specs.Calls.{EndsForFuel, EntersLeaving, EntersLent, EntersSteps, TakesTask};
-ghost use Rattle.shared_tree.specs.Ran.{LeavesBy};
+ghost use Rattle.entry_calls.specs.Calls.{EndsForFuel, EntersLeaving, EntersLent, EntersSteps, TakesTask};
+ghost use Rattle.entry_calls.specs.Ran.{LeavesBy};
 
 use crate::counted::Counted;
 use heap_reading::{Private, Refused};

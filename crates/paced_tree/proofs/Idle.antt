@@ -8,7 +8,8 @@ use Rattle.counted_tree.specs.below.shared_value.{NotEntered, NoMemory, Refuses,
 use Rattle.counted_tree.specs.below.child_tasks.{IsUnchanged}
 use Rattle.counted_tree.specs.below.heap_marking.{Pace, Other, KeepsPace, KeepsPrevious}
 use Rattle.counted_tree.proofs.below.heap_marking.{keeps_items}
-use Rattle.paced_tree.specs.Owed.{AreIdle, KeepsPaces, NotesAt, SameMarks, worker_pace}
+use Rattle.entry_calls.specs.Owed.{worker_pace}
+use Rattle.paced_tree.specs.Paces.{AreIdle, KeepsPaces, NotesAt, SameMarks}
 
 idle_kept : (l : Ledger) (q : Pace) → q.previous ≡ Other → q.marks.items ≡ [] → KeepsPace l q idle
 idle_kept l q p m = record { previous = subst (λ a. KeepsPrevious l a idle.previous) (sym p) tt; marks = m }

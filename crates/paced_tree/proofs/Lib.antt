@@ -1,4 +1,4 @@
 mod Noted
 mod MarkNotes
 mod Idle
-pub mod below
+pub mod Sent

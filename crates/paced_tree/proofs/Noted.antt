@@ -11,7 +11,8 @@ use Rattle.counted_tree.specs.below.shared_value.{cause_of, refused, Enters, IsS
 use Rattle.counted_tree.proofs.below.shared_value.{entry_on}
 use Rattle.counted_tree.specs.below.heap_marking.{Pace, Other, Fork, IsForkOf, KeepsPace, previous_of}
 use Rattle.counted_tree.proofs.below.heap_marking.{mark_kept, steps_kept, entered_accounts, paces_stay}
-use Rattle.paced_tree.specs.Owed.{KeepsNoted, KeepsPaces, NotesAt, NotesOther, Pays, worker_pace}
+use Rattle.entry_calls.specs.Owed.{Pays, worker_pace}
+use Rattle.paced_tree.specs.Paces.{KeepsNoted, KeepsPaces, NotesAt, NotesOther}
 
 -- WHAT IS NOTED after one entry more
 module _ (p : ProgramText) (s : SettingsValue) where

@@ -5,7 +5,7 @@ ghost use Rattle.counted_tree.specs.below.hh_model.{is_waiting};
 ghost use Rattle.counted_tree.specs.below.run_trace.{Mark, Ran};
 ghost use Rattle.counted_tree.specs.below.run_ledger.{heap_of};
 ghost use Rattle.counted_tree.specs.below.shared_value.{accounts};
-ghost use Rattle.paced_tree.specs.Owed.{AreIdle, HasRoom, KeepsNoted, NotesAt, NotesOther, SameMarks};
+ghost use Rattle.paced_tree.specs.Paces.{AreIdle, HasRoom, KeepsNoted, NotesAt, NotesOther, SameMarks};
 
 use crate::forks_of::fork_of;
 use crate::owing::forget;

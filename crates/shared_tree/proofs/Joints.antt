@@ -21,9 +21,10 @@ use Rattle.child_tasks.specs.declared.fork.Forking.{Forking}
 use Rattle.child_tasks.specs.declared.fork.Forking.TheVariants.{Forked, Over}
 use Rattle.child_tasks.proofs.JoinPlaces.{same_itself, same_world}
 use Rattle.others_objects.specs.Other.{IsOther, SameButRoom, is_other, is_other_by, is_other_line}
-use Rattle.shared_tree.specs.declared.ran.Ran.{Ran}
-use Rattle.shared_tree.specs.declared.ran.Ran.TheVariants.{Forked as RanForked, Over as RanOver}
-use Rattle.shared_tree.specs.Ran.{IsJoint, RanTo}
+use Rattle.entry_calls.specs.declared.answers.Ran.{Ran}
+use Rattle.entry_calls.specs.declared.answers.Ran.TheVariants.{Forked as RanForked, Over as RanOver}
+use Rattle.shared_tree.specs.Ran.{IsJoint}
+use Rattle.entry_calls.specs.Ran.{RanTo}
 
 other_by : (tasks : List Task) (t : ℕ) (x : Task) (i : Instr) → ((g h : ℕ) → i ≡ Par g h → ⊥) → (i ≡ Ret → ⊥) → (is_joint x i || not (owns tasks t (touched x.top i))) ≡ true → not (owns tasks t (touched x.top i)) ≡ true
 other_by tasks t x (Par g h) par ret e = absurd (par g h refl)

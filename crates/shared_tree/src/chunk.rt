@@ -2,7 +2,7 @@
 
 ghost use Rattle.std.specs.Prelude.{◌≡◌, ◌<◌, OnErr, OnOk, None};
 ghost use Rattle.leaf_collections.specs.below.shared_value.{refused, Enters, IsSamePart, Fits, OthersFit};
-ghost use Rattle.shared_tree.specs.Calls.{GetsChunk};
+ghost use Rattle.entry_calls.specs.Calls.{GetsChunk};
 
 use crate::shared::Shared;
 use leaf_collections::{

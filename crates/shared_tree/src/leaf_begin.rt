@@ -2,7 +2,7 @@
 
 ghost use Rattle.std.specs.Prelude.{◌≡◌, ◌<◌, IfOk, OnErr, OnOk, None};
 ghost use Rattle.leaf_collections.specs.below.shared_value.{refused, Enters, IsSamePart, Fits, OthersFit, HasBegun};
-ghost use Rattle.shared_tree.specs.Calls.{BeginsLeaf};
+ghost use Rattle.entry_calls.specs.Calls.{BeginsLeaf};
 
 use crate::shared::Shared;
 use leaf_collections::{

@@ -3,17 +3,11 @@
 ghost use Rattle.std.specs.Prelude.{◌≡◌, ◌<◌, None};
 ghost use Rattle.leaf_collections.specs.below.shared_value.{refused, Enters, Fits, OthersFit};
 ghost use Rattle.leaf_collections.specs.LeafEnd.{end_entry, ended, FitsCopied};
-ghost use Rattle.shared_tree.specs.Calls.{EndsLeaf};
+ghost use Rattle.entry_calls.specs.Calls.{EndsLeaf};
 
 use crate::shared::Shared;
+use entry_calls::NotEnded;
 use leaf_collections::{Entry, Kind, Moved, Private, Refused, first_cause, give_all, lead};
-
-/// Why a leaf collection didn't end, and what copying came to.
-#[derive(Drop)]
-pub struct NotEnded {
-    pub cause: Refused,
-    pub moved: Moved,
-}
 
 impl Shared {
     // Makes the entry.

@@ -4,7 +4,7 @@ ghost use Rattle.std.specs.Prelude.{◌≡◌, ◌<◌, ℕ, IfOk, OnErr, OnOk, 
 ghost use Rattle.leaf_collections.specs.below.run_ledger.{heap_of};
 ghost use Rattle.leaf_collections.specs.below.core_relation.{GoesOn};
 ghost use Rattle.leaf_collections.specs.below.shared_value.{refused, Enters, AllFit, accounts, value_of};
-ghost use Rattle.shared_tree.specs.Calls.{BeginsMarking};
+ghost use Rattle.entry_calls.specs.Calls.{BeginsMarking};
 
 use crate::shared::Shared;
 use heap_marking::{begin_marking, waiting_cause, words_cause};

@@ -4,7 +4,7 @@ ghost use Rattle.std.specs.Prelude.{◌≡◌, ◌<◌, ◌≤◌, ℕ, None, mi
 ghost use Rattle.leaf_collections.specs.below.run_trace.{mark_limit};
 ghost use Rattle.leaf_collections.specs.below.run_ledger.{heap_of, left_in};
 ghost use Rattle.leaf_collections.specs.below.shared_value.{refused, Enters, AllFit, accounts};
-ghost use Rattle.shared_tree.specs.Calls.{MarksMore};
+ghost use Rattle.entry_calls.specs.Calls.{MarksMore};
 
 use crate::shared::Shared;
 use heap_marking::marking_cause;

@@ -2,7 +2,7 @@
 
 ghost use Rattle.std.specs.Prelude.{◌≡◌, ◌<◌, None};
 ghost use Rattle.leaf_collections.specs.below.shared_value.{refused, Enters, Fits, OthersFit};
-ghost use Rattle.shared_tree.specs.Calls.{PutsOff};
+ghost use Rattle.entry_calls.specs.Calls.{PutsOff};
 
 use crate::shared::Shared;
 use leaf_collections::{Entry, Kind, Private, Refused, due_cause, first_cause, words_asked};

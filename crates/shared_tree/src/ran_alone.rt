@@ -4,14 +4,13 @@ ghost use Rattle.std.specs.Prelude.{◌≡◌, ◌≢◌, ◌<◌, ℕ, OnErr, O
 ghost use Rattle.leaf_collections.specs.below.hh_model.{ended_by, step};
 ghost use Rattle.leaf_collections.specs.below.shared_value.{refused, Answers, Fits};
 ghost use Rattle.child_tasks.specs.below.own_steps.{alone_entry, then_accounts, GoesAlone, HaltsAlone, IsShared, Tells};
-ghost use Rattle.shared_tree.specs.Calls.{EntersLeaving};
+ghost use Rattle.entry_calls.specs.Calls.{EntersLeaving};
 ghost use Rattle.shared_tree.specs.Ran.{AloneTo, MayBeEntered};
 
-use crate::ran::Ran;
-use crate::ran_lent::{Leaving, Lent};
 use crate::shared::Shared;
 use crate::steps_entered::enter_alone;
 use child_tasks::at_end;
+use entry_calls::{Leaving, Lent, Ran};
 use leaf_collections::{
     End, Ending, NotEntered, NotRan, Private, Refused, RunEnd, State, first_cause, last_step,
 };

@@ -4,33 +4,13 @@ ghost use Rattle.std.specs.Prelude.{◌≡◌, ◌<◌, OnErr, IfErr, IfOk, None
 ghost use Rattle.leaf_collections.specs.below.shared_value.{refused, Answers, AllFit, Fits};
 ghost use Rattle.child_tasks.specs.below.own_steps.{alone_entry, IsShared};
 ghost use Rattle.child_tasks.specs.Joins.{IsUnchanged};
-ghost use Rattle.shared_tree.specs.Calls.{EntersLent};
-ghost use Rattle.shared_tree.specs.Ran.{ComesTo, IsJoint, LentTo, MayBeEntered};
+ghost use Rattle.entry_calls.specs.Calls.{EntersLent};
+ghost use Rattle.shared_tree.specs.Ran.{ComesTo, IsJoint, MayBeEntered};
+ghost use Rattle.entry_calls.specs.Ran.{LentTo};
 
 use crate::shared::Shared;
+use entry_calls::{Leaving, Lent};
 use leaf_collections::{Instr, NotEntered, Private};
-
-/// How a step gives a part up.
-#[derive(Clone, Copy)]
-pub enum Leaving {
-    /// It forks.
-    Forks,
-    /// It is the last return of a task that another one forked.
-    Ends,
-    /// It is the last return of the root.
-    Finishes,
-}
-
-/// What a part that is lent comes to by a step that isn't private.
-#[derive(Clone, Copy)]
-pub enum Lent {
-    /// Its steps are entered, and its task goes on.
-    Goes,
-    /// Its steps are entered, and the last of them has ended the run: the task stands before it.
-    Over,
-    /// Nothing is entered: its next step gives it up, and so.
-    Leaves(Leaving),
-}
 
 impl Shared {
     // How the part's next step, in which other tasks have part, gives it up; none where it works on an object of

@@ -5,11 +5,12 @@ ghost use Rattle.leaf_collections.specs.below.shared_value.{refused, Answers, Al
 ghost use Rattle.child_tasks.specs.below.own_steps.{alone_entry, GoesAlone, IsShared};
 ghost use Rattle.child_tasks.specs.Joins.{IsUnchanged};
 ghost use Rattle.others_objects.specs.Other.{IsOther, SameButRoom, TellsOther};
-ghost use Rattle.shared_tree.specs.Ran.{LentTo, MayBeEntered};
+ghost use Rattle.shared_tree.specs.Ran.{MayBeEntered};
+ghost use Rattle.entry_calls.specs.Ran.{LentTo};
 
-use crate::ran_lent::Lent;
 use crate::shared::Shared;
 use crate::steps_entered::enter_alone;
+use entry_calls::Lent;
 use leaf_collections::{Addr, End, IntReg, NotEntered, Private, RefReg};
 use others_objects::{OtherStep, named, step_on};
 

@@ -2,7 +2,7 @@
 
 ghost use Rattle.std.specs.Prelude.{◌≡◌, ◌<◌, None};
 ghost use Rattle.leaf_collections.specs.below.shared_value.{refused, Enters, Fits, OthersFit};
-ghost use Rattle.shared_tree.specs.Calls.{EntersSteps};
+ghost use Rattle.entry_calls.specs.Calls.{EntersSteps};
 
 use crate::shared::Shared;
 use leaf_collections::{Entry, Kind, Private, Refused, first_cause};

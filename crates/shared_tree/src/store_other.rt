@@ -4,11 +4,11 @@ ghost use Rattle.std.specs.Prelude.{◌≡◌, ◌<◌, ℕ, OnErr, OnOk, IfOk, 
 ghost use Rattle.leaf_collections.specs.below.shared_value.{refused, Answers, Fits};
 ghost use Rattle.child_tasks.specs.below.own_steps.{alone_entry, GoesAlone, IsShared};
 ghost use Rattle.others_objects.specs.Other.{store_of, SameButRoom, TellsOther};
-ghost use Rattle.shared_tree.specs.Ran.{LentTo};
+ghost use Rattle.entry_calls.specs.Ran.{LentTo};
 
-use crate::ran_lent::Lent;
 use crate::shared::Shared;
 use crate::steps_entered::enter_alone;
+use entry_calls::Lent;
 use leaf_collections::{Addr, IntReg, NotEntered, Private};
 use others_objects::{OtherStep, go_on, write_number, write_reference};
 use std::alloc::AllocError;

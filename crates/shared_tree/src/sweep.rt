@@ -4,7 +4,7 @@ ghost use Rattle.std.specs.Prelude.{◌≡◌, ◌==◌, ◌<◌, None};
 ghost use Rattle.leaf_collections.specs.below.run_ledger.{counted, refused_unless, heap_of, left_in, marked_in, sweep_number};
 ghost use Rattle.leaf_collections.specs.below.shared_value.{refused, Enters, AllFit, accounts};
 ghost use Rattle.heap_marking.specs.MarkCauses.{marking_cause};
-ghost use Rattle.shared_tree.specs.Calls.{SweepsHeap};
+ghost use Rattle.entry_calls.specs.Calls.{SweepsHeap};
 
 use crate::shared::Shared;
 use heap_marking::{drop_unmarked, forget_kept, marking_cause};

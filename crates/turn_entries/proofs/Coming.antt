@@ -1,63 +1,61 @@
 -- Which entry comes next.
 use Rattle.std.proofs.Common.{◌≡◌, ℕ, ◌<◌, ◌==◌, ◌||◌, Bool, true, false, Option, Some, None, is_some, ap, sym, subst, ◌∙◌, if◌then◌else◌, nat_le, eq-eqb, ne_eqb, arith}
-use Rattle.paced_tree.specs.below.run_trace.{Kind, Begin, Fuel, PutOff, Ran}
-use Rattle.paced_tree.specs.below.run_ledger.{Refused, is_pool_enough}
-use Rattle.paced_tree.specs.below.task_machine.{Private, Paused}
-use Rattle.paced_tree.specs.below.shared_value.{first_cause, IsSharedValue, SharedValue, accounts}
-use Rattle.paced_tree.specs.Owed.{owed_by}
+use Rattle.entry_calls.specs.below.run_trace.{Kind, Begin, Fuel, PutOff, Ran}
+use Rattle.entry_calls.specs.below.run_ledger.{Refused, is_pool_enough}
+use Rattle.entry_calls.specs.below.task_machine.{Private, Paused}
+use Rattle.entry_calls.specs.below.shared_value.{first_cause, IsSharedValue, SharedValue, accounts}
+use Rattle.entry_calls.specs.Owed.{owed_by}
 use Rattle.turn_entries.specs.declared.act.Acted.{Acted}
 use Rattle.turn_entries.specs.declared.between_turns.Ready.{Ready}
 use Rattle.turn_entries.specs.declared.between_turns.Ready.TheVariants.{Paused as HasPaused}
-use Rattle.turn_entries.specs.declared.run.Run.{Run}
 use Rattle.turn_entries.specs.Acts.{Acts, ActsFor}
 use Rattle.turn_entries.specs.Next.{after_steps, brought_kind, due_kind, going_kind, is_wanting, next_kind, owing_kind, paused_kind}
 use Rattle.turn_entries.specs.Values.{is_over}
 use Rattle.turn_entries.proofs.Free.{spent_is}
 
-module _ (r : Run) (k : ℕ) (ready : Ready) (acted : Acted) where
+module _ {P : Type 0} (value : P → SharedValue) (w : SharedValue) (k : ℕ) (ready : Ready) (acted : Acted P) where
   -- another kind that is the same
-  pub acts_same : (a b : Option Kind) → a ≡ b → ActsFor r k ready b acted → ActsFor r k ready a acted
-  acts_same a b e A = subst (λ (o : Option Kind). ActsFor r k ready o acted) (sym e) A
+  pub acts_same : (a b : Option Kind) → a ≡ b → ActsFor value w k ready b acted → ActsFor value w k ready a acted
+  acts_same a b e A = subst (λ (o : Option Kind). ActsFor value w k ready o acted) (sym e) A
 
-  module _ (I : IsSharedValue r.paced) (goes : (accounts r.paced).end ≡ None) (below : k < r.paced.settings.workers) where
+  module _ (I : IsSharedValue w) (goes : (accounts w).end ≡ None) (below : k < w.settings.workers) where
     first : Option Refused
-    first = first_cause r.paced.end r.paced.steps r.paced.settings k false
+    first = first_cause w.end w.steps w.settings k false
 
-    spent : (o : Option Refused) → o ≡ first_cause r.paced.end r.paced.steps r.paced.settings k false → nat_le r.paced.settings.fuel (accounts r.paced).steps ≡ is_some o
-    spent o is = spent_is r.paced k I goes below ∙ ap is_some (sym is)
+    spent : (o : Option Refused) → o ≡ first_cause w.end w.steps w.settings k false → nat_le w.settings.fuel (accounts w).steps ≡ is_some o
+    spent o is = spent_is w k I goes below ∙ ap is_some (sym is)
 
-    going : (b : Bool) → nat_le r.paced.settings.fuel (accounts r.paced).steps ≡ b → going_kind r.paced k ready ≡ (if b then Some Fuel else owing_kind r.paced (owed_by r.paced k) ready)
-    going b e = ap (λ (c : Bool). if c then Some Fuel else owing_kind r.paced (owed_by r.paced k) ready) e
+    going : (b : Bool) → nat_le w.settings.fuel (accounts w).steps ≡ b → going_kind w k ready ≡ (if b then Some Fuel else owing_kind w (owed_by w k) ready)
+    going b e = ap (λ (c : Bool). if c then Some Fuel else owing_kind w (owed_by w k) ready) e
 
-    pub acts_spent : (o : Option Refused) → o ≡ first_cause r.paced.end r.paced.steps r.paced.settings k false → is_some o ≡ true → ActsFor r k ready (Some Fuel) acted → ActsFor r k ready (going_kind r.paced k ready) acted
-    acts_spent o is some A = acts_same (going_kind r.paced k ready) (Some Fuel) (going true (spent o is ∙ some)) A
+    pub acts_spent : (o : Option Refused) → o ≡ first_cause w.end w.steps w.settings k false → is_some o ≡ true → ActsFor value w k ready (Some Fuel) acted → ActsFor value w k ready (going_kind w k ready) acted
+    acts_spent o is some A = acts_same (going_kind w k ready) (Some Fuel) (going true (spent o is ∙ some)) A
 
-  pub acts_brought : (other : Ready) → ready ≡ other → ActsFor r k other (brought_kind r.paced other) acted → ActsFor r k ready (brought_kind r.paced ready) acted
-  acts_brought other is A = subst (λ (x : Ready). ActsFor r k x (brought_kind r.paced x) acted) (sym is) A
+  pub acts_brought : (other : Ready) → ready ≡ other → ActsFor value w k other (brought_kind w other) acted → ActsFor value w k ready (brought_kind w ready) acted
+  acts_brought other is A = subst (λ (x : Ready). ActsFor value w k x (brought_kind w x) acted) (sym is) A
 
   next_by : (a b : Bool) (o : Option Kind) → a ≡ false → b ≡ false → (if (a || b) then None else o) ≡ o
   next_by a b o x y = ap (λ (c : Bool). if (c || b) then None else o) x ∙ ap (λ (c : Bool). if c then None else o) y
 
-  pub acts_on : is_over r ≡ false → is_wanting ready ≡ false → ActsFor r k ready (going_kind r.paced k ready) acted → Acts r k ready acted
-  acts_on on met A = acts_same (next_kind r k ready) (going_kind r.paced k ready) (next_by (is_over r) (is_wanting ready) (going_kind r.paced k ready) on met) A
+  pub acts_on : is_over w ≡ false → is_wanting ready ≡ false → ActsFor value w k ready (going_kind w k ready) acted → Acts value w k ready acted
+  acts_on on met A = acts_same (next_kind w k ready) (going_kind w k ready) (next_by (is_over w) (is_wanting ready) (going_kind w k ready) on met) A
 
-module _ (r : Run) (k : ℕ) (part : Private) (acted : Acted) where
-  pub acts_paused : (why other : Paused) → why ≡ other → ActsFor r k (HasPaused part other) (Some (paused_kind r.paced part other)) acted → ActsFor r k (HasPaused part why) (Some (paused_kind r.paced part why)) acted
-  acts_paused why other is A = subst (λ (y : Paused). ActsFor r k (HasPaused part y) (Some (paused_kind r.paced part y)) acted) (sym is) A
+module _ {P : Type 0} (value : P → SharedValue) (w : SharedValue) (k : ℕ) (part : Private) (acted : Acted P) where
+  pub acts_paused : (why other : Paused) → why ≡ other → ActsFor value w k (HasPaused part other) (Some (paused_kind w part other)) acted → ActsFor value w k (HasPaused part why) (Some (paused_kind w part why)) acted
+  acts_paused why other is A = subst (λ (y : Paused). ActsFor value w k (HasPaused part y) (Some (paused_kind w part y)) acted) (sym is) A
 
   after_by : (kind : Kind) (b : Bool) → (part.fresh == 0) ≡ b → after_steps part kind ≡ (if b then kind else Ran part.task part.fresh)
   after_by kind b e = ap (λ (c : Bool). if c then kind else Ran part.task part.fresh) e
 
-  pub acts_fresh : (ready : Ready) (kind : Kind) → 0 < part.fresh → ActsFor r k ready (Some (Ran part.task part.fresh)) acted → ActsFor r k ready (Some (after_steps part kind)) acted
-  acts_fresh ready kind some A = acts_same r k ready acted _ _ (ap Some (after_by kind false (ne_eqb part.fresh 0 (λ e. absurd (omega (arith, e, some)))))) A
+  pub acts_fresh : (ready : Ready) (kind : Kind) → 0 < part.fresh → ActsFor value w k ready (Some (Ran part.task part.fresh)) acted → ActsFor value w k ready (Some (after_steps part kind)) acted
+  acts_fresh ready kind some A = acts_same value w k ready acted _ _ (ap Some (after_by kind false (ne_eqb part.fresh 0 (λ e. absurd (omega (arith, e, some)))))) A
 
-  pub acts_at_once : (ready : Ready) (kind : Kind) → part.fresh ≡ 0 → ActsFor r k ready (Some kind) acted → ActsFor r k ready (Some (after_steps part kind)) acted
-  acts_at_once ready kind none A = acts_same r k ready acted _ _ (ap Some (after_by kind true (eq-eqb part.fresh 0 none))) A
+  pub acts_at_once : (ready : Ready) (kind : Kind) → part.fresh ≡ 0 → ActsFor value w k ready (Some kind) acted → ActsFor value w k ready (Some (after_steps part kind)) acted
+  acts_at_once ready kind none A = acts_same value w k ready acted _ _ (ap Some (after_by kind true (eq-eqb part.fresh 0 none))) A
 
--- whether the pool is enough, by a look at the value and the part that are lent
-pub enough_is : (w lent : SharedValue) (part seen : Private) (enough b : Bool) → lent ≡ w → seen ≡ part → enough ≡ is_pool_enough lent.settings (accounts lent) seen.task → enough ≡ b → is_pool_enough w.settings (accounts w) part.task ≡ b
-enough_is w lent part seen enough b same is told e =
-    ap (λ (p : Private). is_pool_enough w.settings (accounts w) p.task) (sym is) ∙ (ap (λ (z : SharedValue). is_pool_enough z.settings (accounts z) seen.task) (sym same) ∙ (sym told ∙ e))
+-- whether the pool is enough, by a look at the part that is lent
+pub enough_is : (w : SharedValue) (part seen : Private) (enough b : Bool) → seen ≡ part → enough ≡ is_pool_enough w.settings (accounts w) seen.task → enough ≡ b → is_pool_enough w.settings (accounts w) part.task ≡ b
+enough_is w part seen enough b is told e = ap (λ (p : Private). is_pool_enough w.settings (accounts w) p.task) (sym is) ∙ (sym told ∙ e)
 
 -- a due collection begins, or is put off
 pub due_begins : (w : SharedValue) (t : ℕ) → is_pool_enough w.settings (accounts w) t ≡ true → due_kind w t ≡ Begin t

@@ -1,18 +1,18 @@
 -- Entries that aren't refused, where the worker may make one.
 use Rattle.std.proofs.Common.{◌≡◌, ℕ, ◌<◌, ◌&&◌, true, false, Bool, Option, Some, None, is_none, is_some, nat_le, nat_lt, refl, ap, sym, subst, ◌∙◌, arith}
 use Rattle.std.proofs.lemmas.Bool.{false≢true}
-use Rattle.paced_tree.specs.below.hh_model.{asked}
-use Rattle.paced_tree.specs.below.run_trace.{Ran, Chunk, Begin, PutOff, Fuel, Mark, More, Sweep, SettingsValue}
-use Rattle.paced_tree.specs.below.run_ledger.{Mark as OwesMark, More as OwesMore, Sweep as OwesSweep, Refused, Collecting, Due as DueCause, NoWorker, NotDue, NotNeeded, NotSpent, Over, PoolEnough, PoolShort, Spent, RunEnd, CanBeGiven, is_pool_enough, kind_refusal, refused_if, refused_unless, heap_of, sweep_number, on_asked}
-use Rattle.paced_tree.proofs.below.journal_laws.{owed_can_be_given, not_refused}
-use Rattle.paced_tree.specs.below.chunk_pool.{units_in_use}
-use Rattle.paced_tree.specs.below.alloc_path.{place_for, room_of}
-use Rattle.paced_tree.specs.below.task_machine.{Private, Due, NeedChunk, is_part_due, lacks_place}
-use Rattle.paced_tree.specs.below.shared_value.{NotEntered, NoMemory, Refuses, first_cause, need_cause, or_else, due_cause, IsCaused, refused, Fits, part_asks, IsSharedValue, SharedValue, accounts}
-use Rattle.paced_tree.proofs.below.shared_value.{asked_same, end_now, steps_now, refused_is, ran_answer}
-use Rattle.paced_tree.specs.below.own_steps.{machine_after}
-use Rattle.paced_tree.proofs.below.leaf_collections.{begin_answer, chunk_answer, put_off_answer, without_fresh}
-use Rattle.paced_tree.specs.Owed.{owed_by}
+use Rattle.entry_calls.specs.below.hh_model.{asked}
+use Rattle.entry_calls.specs.below.run_trace.{Ran, Chunk, Begin, PutOff, Fuel, Mark, More, Sweep, SettingsValue}
+use Rattle.entry_calls.specs.below.run_ledger.{Mark as OwesMark, More as OwesMore, Sweep as OwesSweep, Refused, Collecting, Due as DueCause, NoWorker, NotDue, NotNeeded, NotSpent, Over, PoolEnough, PoolShort, Spent, RunEnd, CanBeGiven, is_pool_enough, kind_refusal, refused_if, refused_unless, heap_of, sweep_number, on_asked}
+use Rattle.entry_calls.proofs.below.journal_laws.{owed_can_be_given, not_refused}
+use Rattle.entry_calls.specs.below.chunk_pool.{units_in_use}
+use Rattle.entry_calls.specs.below.alloc_path.{place_for, room_of}
+use Rattle.entry_calls.specs.below.task_machine.{Private, Due, NeedChunk, is_part_due, lacks_place}
+use Rattle.entry_calls.specs.below.shared_value.{NotEntered, NoMemory, Refuses, first_cause, need_cause, or_else, due_cause, IsCaused, refused, Fits, part_asks, IsSharedValue, SharedValue, accounts}
+use Rattle.entry_calls.proofs.below.shared_value.{asked_same, end_now, steps_now, refused_is, ran_answer}
+use Rattle.entry_calls.specs.below.own_steps.{machine_after}
+use Rattle.entry_calls.proofs.below.leaf_collections.{begin_answer, chunk_answer, put_off_answer, without_fresh}
+use Rattle.entry_calls.specs.Owed.{owed_by}
 use Rattle.turn_entries.specs.Parts.{IsPaused}
 use Rattle.turn_entries.proofs.Stepping.{first}
 

@@ -1,11 +1,11 @@
 -- Parts that may take steps.
 use Rattle.std.proofs.Common.{◌≡◌, ℕ, ◌<◌, None, ap, ◌∙◌, arith}
-use Rattle.paced_tree.specs.below.alloc_path.{LeafHeapValue}
-use Rattle.paced_tree.specs.below.leaf_copy_gc.{Moved}
-use Rattle.paced_tree.specs.below.task_machine.{Private, Shared}
-use Rattle.paced_tree.specs.below.shared_value.{Fits, SharedValue}
-use Rattle.paced_tree.specs.below.own_steps.{IsShared}
-use Rattle.paced_tree.specs.below.leaf_collections.{FitsCopied, ended}
+use Rattle.entry_calls.specs.below.alloc_path.{LeafHeapValue}
+use Rattle.entry_calls.specs.below.leaf_copy_gc.{Moved}
+use Rattle.entry_calls.specs.below.task_machine.{Private, Shared}
+use Rattle.entry_calls.specs.below.shared_value.{Fits, SharedValue}
+use Rattle.entry_calls.specs.below.own_steps.{IsShared}
+use Rattle.entry_calls.specs.below.leaf_collections.{FitsCopied, ended}
 use Rattle.turn_entries.specs.Parts.{IsPaused, MayRun}
 
 module _ (w : SharedValue) (k : ℕ) (part : Private) where

@@ -1,12 +1,12 @@
 -- Entries that give what is owed.
 use Rattle.std.proofs.Common.{◌≡◌, ℕ, ◌==◌, ◌&&◌, Bool, true, false, Option, None, refl, ap, sym, subst, ◌∙◌, eq-eqb, arith}
-use Rattle.paced_tree.specs.below.run_trace.{Kind, Mark, More, Sweep}
-use Rattle.paced_tree.specs.below.run_ledger.{Mark as OwesMark, More as OwesMore, Sweep as OwesSweep, Nothing, Refused, Left, CanBeGiven, kind_refusal, refused_unless, heap_of, left_in, marked_in, sweep_number, gives}
-use Rattle.paced_tree.proofs.below.journal_laws.{owed_can_be_given}
-use Rattle.paced_tree.specs.below.shared_value.{IsSharedValue, SharedValue, accounts}
-use Rattle.paced_tree.specs.below.heap_marking.{marking_cause}
-use Rattle.paced_tree.proofs.below.heap_marking.{marks_refuse, or_none}
-use Rattle.paced_tree.specs.Owed.{Pays, owed_by}
+use Rattle.entry_calls.specs.below.run_trace.{Kind, Mark, More, Sweep}
+use Rattle.entry_calls.specs.below.run_ledger.{Mark as OwesMark, More as OwesMore, Sweep as OwesSweep, Nothing, Refused, Left, CanBeGiven, kind_refusal, refused_unless, heap_of, left_in, marked_in, sweep_number, gives}
+use Rattle.entry_calls.proofs.below.journal_laws.{owed_can_be_given}
+use Rattle.entry_calls.specs.below.shared_value.{IsSharedValue, SharedValue, accounts}
+use Rattle.entry_calls.specs.below.heap_marking.{marking_cause}
+use Rattle.entry_calls.proofs.below.heap_marking.{marks_refuse, or_none}
+use Rattle.entry_calls.specs.Owed.{Pays, owed_by}
 
 module _ (w : SharedValue) (k : ℕ) where
   pub pays_nothing : (kind : Kind) → owed_by w k ≡ Nothing → Pays w (record { worker = k; kind = kind })

@@ -1,17 +1,17 @@
 -- A part after private steps, whatever value it fits.
 use Rattle.std.proofs.Common.{◌≡◌, ℕ, zero, suc, ◌+◌, ◌<◌, ◌≤◌, None, length, slice_get, refl, ap, sym, subst, ◌∙◌, arith}
-use Rattle.paced_tree.specs.below.hh_lang.{ProgramText}
-use Rattle.paced_tree.specs.below.hh_model.{State, Counted, row_of, IsForkJoinState}
-use Rattle.paced_tree.proofs.below.hh_model.{steps_count, run_is_fork_join_state, start_is_fork_join_state, step_is_fork_join_state}
-use Rattle.paced_tree.specs.below.run_trace.{field_limit, private_limit}
-use Rattle.paced_tree.specs.below.run_ledger.{Ledger, tasks_of}
-use Rattle.paced_tree.proofs.below.run_ledger.{steps_are_bounded, machine_is_run}
-use Rattle.paced_tree.proofs.below.journal_laws.{journals_are_counted}
-use Rattle.paced_tree.specs.below.task_machine.{Private, Paused, Spent, KeepsAccounts, unended, steps, FitsSome, KeepsRest, PausesBy, Runs}
-use Rattle.paced_tree.specs.below.shared_value.{Fits, FitsFirst, IsSharedValue, SharedValue, accounts}
-use Rattle.paced_tree.proofs.below.shared_value.{second_gives_first, beyond_machine}
-use Rattle.paced_tree.specs.below.own_steps.{machine_after}
-use Rattle.paced_tree.proofs.below.own_steps.{fits_on, next_on, ran}
+use Rattle.entry_calls.specs.below.hh_lang.{ProgramText}
+use Rattle.entry_calls.specs.below.hh_model.{State, Counted, row_of, IsForkJoinState}
+use Rattle.entry_calls.proofs.below.hh_model.{steps_count, run_is_fork_join_state, start_is_fork_join_state, step_is_fork_join_state}
+use Rattle.entry_calls.specs.below.run_trace.{field_limit, private_limit}
+use Rattle.entry_calls.specs.below.run_ledger.{Ledger, tasks_of}
+use Rattle.entry_calls.proofs.below.run_ledger.{steps_are_bounded, machine_is_run}
+use Rattle.entry_calls.proofs.below.journal_laws.{journals_are_counted}
+use Rattle.entry_calls.specs.below.task_machine.{Private, Paused, Spent, KeepsAccounts, unended, steps, FitsSome, KeepsRest, PausesBy, Runs}
+use Rattle.entry_calls.specs.below.shared_value.{Fits, FitsFirst, IsSharedValue, SharedValue, accounts}
+use Rattle.entry_calls.proofs.below.shared_value.{second_gives_first, beyond_machine}
+use Rattle.entry_calls.specs.below.own_steps.{machine_after}
+use Rattle.entry_calls.proofs.below.own_steps.{fits_on, next_on, ran}
 use Rattle.turn_entries.specs.Parts.{AtSome, HasGrown, IsPaused, MayRun}
 
 -- ---- ITS OBJECTS are counted

@@ -1,11 +1,11 @@
 -- Values before and after a turn.
 use Rattle.std.proofs.Common.{◌≡◌, ℕ, ◌+◌, ◌++◌, ◌∷◌, [], ◌||◌, Bool, true, false, List, Option, Some, None, is_some, length, refl, ap, sym, subst, ◌∙◌, inl, inr}
 use Rattle.std.proofs.lemmas.Bool.{false≢true, or_right}
-use Rattle.paced_tree.specs.below.run_trace.{EntryValue, Kind, Ran, Took}
-use Rattle.paced_tree.specs.below.run_ledger.{RunEnd}
-use Rattle.paced_tree.specs.below.task_machine.{Shared, Private}
-use Rattle.paced_tree.specs.below.shared_value.{Enters, refused, AllFit, Fits, OthersFit, NotEntered, NoMemory, Refuses, IsSharedValue, SharedValue, accounts}
-use Rattle.paced_tree.specs.below.child_tasks.{running_parent, HoldsNone, IsUnchanged, SameButPlaces}
+use Rattle.entry_calls.specs.below.run_trace.{EntryValue, Kind, Ran, Took}
+use Rattle.entry_calls.specs.below.run_ledger.{RunEnd}
+use Rattle.entry_calls.specs.below.task_machine.{Shared, Private}
+use Rattle.entry_calls.specs.below.shared_value.{Enters, refused, AllFit, Fits, OthersFit, NotEntered, NoMemory, Refuses, IsSharedValue, SharedValue, accounts}
+use Rattle.entry_calls.specs.below.child_tasks.{running_parent, HoldsNone, IsUnchanged, SameButPlaces}
 use Rattle.turn_entries.specs.declared.act.Acted.{Acted}
 use Rattle.turn_entries.specs.declared.act.Acted.TheVariants.{Entered, Same}
 use Rattle.turn_entries.specs.declared.between_turns.Next.{Next}
@@ -17,7 +17,7 @@ use Rattle.turn_entries.specs.Acts.{ActsFor, after_end, EndsHalted, Follows, Goe
 use Rattle.turn_entries.specs.Next.{going_kind, is_wanting}
 use Rattle.turn_entries.specs.Parts.{BringsTo, next_after}
 use Rattle.turn_entries.specs.Values.{EntersOne, IsSame, is_over}
-use Rattle.paced_tree.proofs.below.listed.{none_of}
+use Rattle.entry_calls.proofs.below.listed.{none_of}
 
 -- ---- NO ENTRY
 
@@ -84,43 +84,45 @@ none_over true end a b = absurd (false≢true (sym a))
 none_over false None a b = refl
 none_over false (Some e) a b = absurd cc
 
-pub not_over : (r : Run) → r.paced.halted ≡ false → (accounts r.paced).end ≡ None → is_over r ≡ false
-not_over r on goes = none_over r.paced.halted (accounts r.paced).end on goes
+pub not_over : (w : SharedValue) → w.halted ≡ false → (accounts w).end ≡ None → is_over w ≡ false
+not_over w on goes = none_over w.halted (accounts w).end on goes
 
--- after an entry that didn't end the run, by a look at the value that is lent
-pub entered_goes : (r after : Run) (k : ℕ) (ready : Ready) (kind : Kind) (next : Next) (lent : SharedValue) (end : Option RunEnd) (ends : Bool) → IsSharedValue after.paced → lent ≡ after.paced → end ≡ (accounts lent).end → ends ≡ is_some end → ends ≡ false
-    → EntersOne r.paced after.paced k kind → r.paced.halted ≡ false → (Goes after.paced → Follows r.paced after.paced k ready next) → ActsFor r k ready (Some kind) (Entered after next)
-entered_goes r after k ready kind next lent end ends I same told is going E on follows = record {
-  made = kind;
-  is_next = refl;
-  enters = E;
-  shared = I;
-  on = E.enters.halted ∙ on;
-  follows = follows (ap (λ (w : SharedValue). (accounts w).end) (sym same) ∙ (sym told ∙ none_of end (sym is ∙ going)));
-}
+pub ended_over : (w : SharedValue) → is_some (accounts w).end ≡ true → is_over w ≡ true
+ended_over w h = or_right w.halted (is_some (accounts w).end) h
 
-pub ended_over : (r : Run) → is_some (accounts r.paced).end ≡ true → is_over r ≡ true
-ended_over r h = or_right r.paced.halted (is_some (accounts r.paced).end) h
+-- whoever keeps the value
+module _ {P : Type 0} (value : P → SharedValue) where
+  -- after an entry that didn't end the run
+  pub entered_goes : (w : SharedValue) (run : Run P) (k : ℕ) (ready : Ready) (kind : Kind) (next : Next) (end : Option RunEnd) (ends : Bool) → IsSharedValue (value run.paced) → end ≡ (accounts (value run.paced)).end → ends ≡ is_some end → ends ≡ false
+      → EntersOne w (value run.paced) k kind → w.halted ≡ false → (Goes (value run.paced) → Follows w (value run.paced) k ready next) → ActsFor value w k ready (Some kind) (Entered run next)
+  entered_goes w run k ready kind next end ends I told is going E on follows = record {
+    made = kind;
+    is_next = refl;
+    enters = E;
+    shared = I;
+    on = E.enters.halted ∙ on;
+    follows = follows (sym told ∙ none_of end (sym is ∙ going));
+  }
 
-pub halts_with : (after : Run) (w : SharedValue) → w ≡ record after.paced { halted = true } → AllFit after.paced w → EndsHalted after (Same (record { paced = w }) Stop)
-halts_with after w is all = λ r k ready kind same on.
-    let halts : IsSame after.paced w = record { journal = ap (λ (z : SharedValue). z.journal.items) is; program = ap (λ (z : SharedValue). z.program) is; settings = ap (λ (z : SharedValue). z.settings) is; all = all } in
-    (then_same r.paced after.paced same w halts, (ap (λ (z : SharedValue). is_over (record { paced = z })) is, λ over. absurd (false≢true (sym on ∙ over))))
+  pub halts_with : (after : SharedValue) (run : Run P) → value run.paced ≡ record after { halted = true } → AllFit after (value run.paced) → EndsHalted value after (Same run Stop)
+  halts_with after run is all = λ w k ready kind same on.
+      let halts : IsSame after (value run.paced) = record { journal = ap (λ (z : SharedValue). z.journal.items) is; program = ap (λ (z : SharedValue). z.program) is; settings = ap (λ (z : SharedValue). z.settings) is; all = all } in
+      (then_same w after same (value run.paced) halts, (ap is_over is, λ over. absurd (false≢true (sym on ∙ over))))
 
--- ---- THE SAME WHERE A CALL BEFORE IT CHANGED NOTHING
+  -- ---- THE SAME WHERE A CALL BEFORE IT CHANGED NOTHING
 
-pub acts_same : (r : Run) (after : SharedValue) (k : ℕ) (p q : Private) → after ≡ r.paced → q ≡ p → (acted : Acted) → ActsFor (record r { paced = after }) k (HasPaused q Shared) (Some (Ran q.task (q.fresh + 1))) acted → ActsFor r k (HasPaused p Shared) (Some (Ran p.task (p.fresh + 1))) acted
-acts_same r after k p q same part acted A =
-    subst (λ (z : Private). ActsFor r k (HasPaused z Shared) (Some (Ran z.task (z.fresh + 1))) acted) part
-    (subst (λ (w : SharedValue). ActsFor (record r { paced = w }) k (HasPaused q Shared) (Some (Ran q.task (q.fresh + 1))) acted) same A)
+  pub acts_same : (w after : SharedValue) (k : ℕ) (p q : Private) → after ≡ w → q ≡ p → (acted : Acted P) → ActsFor value after k (HasPaused q Shared) (Some (Ran q.task (q.fresh + 1))) acted → ActsFor value w k (HasPaused p Shared) (Some (Ran p.task (p.fresh + 1))) acted
+  acts_same w after k p q same part acted A =
+      subst (λ (z : Private). ActsFor value w k (HasPaused z Shared) (Some (Ran z.task (z.fresh + 1))) acted) part
+      (subst (λ (z : SharedValue). ActsFor value z k (HasPaused q Shared) (Some (Ran q.task (q.fresh + 1))) acted) same A)
 
 -- ---- THE SAME FROM THE VALUE BEFORE PLACE WAS MADE FOR AN ENTRY
 
-module _ (r : Run) (after : SharedValue) (e : after ≡ record r.paced { journal = record { items = r.paced.journal.items; room = after.journal.room } }) (all : AllFit r.paced after) (on : is_over r ≡ false) (k : ℕ) (ready : Ready) where
-  same_kind : going_kind r.paced k ready ≡ going_kind after k ready
+module _ (w : SharedValue) (after : SharedValue) (e : after ≡ record w { journal = record { items = w.journal.items; room = after.journal.room } }) (all : AllFit w after) (on : is_over w ≡ false) (k : ℕ) (ready : Ready) where
+  same_kind : going_kind w k ready ≡ going_kind after k ready
   same_kind = sym (ap (λ (z : SharedValue). going_kind z k ready) e)
 
-  follows_then : (last : SharedValue) (next : Next) → Follows after last k ready next → Follows r.paced last k ready next
+  follows_then : (last : SharedValue) (next : Next) → Follows after last k ready next → Follows w last k ready next
   follows_then last (Running part) f = f
   follows_then last (Collects c) f = f
   follows_then last (HasCopied c) f = f
@@ -131,24 +133,24 @@ module _ (r : Run) (after : SharedValue) (e : after ≡ record r.paced { journal
   follows_then last Waits f = f
   follows_then last Stop f = f
 
-  none_then : (run : Run) (next : Next) → WhyNone (record r { paced = after }) run k ready (going_kind after k ready) next → WhyNone r run k ready (going_kind r.paced k ready) next
-  none_then run (Running part) f = f
-  none_then run (Collects c) f = f
-  none_then run (HasCopied c) f = f
-  none_then run (GoesFor t) f = f
-  none_then run (Forked left right) f = f
-  none_then run (Resumed t) f = f
-  none_then run Idle f = (f.0, f.1, same_kind ∙ f.2, ap (λ (z : SharedValue). is_some (refused z (record { worker = k; kind = Took f.1 }))) (sym e) ∙ f.3)
-  none_then run Waits f = (f.0, on, f.2, same_kind ∙ f.3)
-  none_then run Stop f = (f.0, λ over. absurd (false≢true (sym on ∙ over)))
+  none_then : (last : SharedValue) (next : Next) → WhyNone after last k ready (going_kind after k ready) next → WhyNone w last k ready (going_kind w k ready) next
+  none_then last (Running part) f = f
+  none_then last (Collects c) f = f
+  none_then last (HasCopied c) f = f
+  none_then last (GoesFor t) f = f
+  none_then last (Forked left right) f = f
+  none_then last (Resumed t) f = f
+  none_then last Idle f = (f.0, f.1, same_kind ∙ f.2, ap (λ (z : SharedValue). is_some (refused z (record { worker = k; kind = Took f.1 }))) (sym e) ∙ f.3)
+  none_then last Waits f = (f.0, on, f.2, same_kind ∙ f.3)
+  none_then last Stop f = (f.0, λ over. absurd (false≢true (sym on ∙ over)))
 
-  pub acts_then : (acted : Acted) → ActsFor (record r { paced = after }) k ready (going_kind after k ready) acted → ActsFor r k ready (going_kind r.paced k ready) acted
-  acts_then (Entered run next) A = record {
+  pub acts_then : {P : Type 0} (value : P → SharedValue) (acted : Acted P) → ActsFor value after k ready (going_kind after k ready) acted → ActsFor value w k ready (going_kind w k ready) acted
+  acts_then value (Entered run next) A = record {
     made = A.made;
     is_next = same_kind ∙ A.is_next;
-    enters = then_one r.paced after (roomier r.paced after e all) (ap (λ (z : SharedValue). z.halted) e) run.paced k A.made A.enters;
+    enters = then_one w after (roomier w after e all) (ap (λ (z : SharedValue). z.halted) e) (value run.paced) k A.made A.enters;
     shared = A.shared;
     on = A.on;
-    follows = follows_then run.paced next A.follows;
+    follows = follows_then (value run.paced) next A.follows;
   }
-  acts_then (Same run next) A = (then_same r.paced after (roomier r.paced after e all) run.paced A.0, none_then run next A.1)
+  acts_then value (Same run next) A = (then_same w after (roomier w after e all) (value run.paced) A.0, none_then (value run.paced) next A.1)

@@ -1,6 +1,6 @@
 -- What lies in a block for a part.
 use Rattle.std.specs.Prelude.{Option, Some, None, [], pos, replicate}
-use Rattle.paced_tree.specs.below.task_machine.{Private}
+use Rattle.entry_calls.specs.below.task_machine.{Private}
 
 -- one without objects, which stands for the part where there is none
 pub no_part : Private

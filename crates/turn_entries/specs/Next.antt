@@ -1,13 +1,12 @@
 -- Which entry a worker makes in its turn.
 use Rattle.std.specs.Prelude.{ℕ, ◌+◌, ◌==◌, ◌||◌, Bool, true, false, Option, Some, None, if◌then◌else◌, nat_le}
-use Rattle.paced_tree.specs.below.run_trace.{Kind, Took, Ran, Chunk, Begin, End, PutOff, Fuel, Mark, More, Sweep}
-use Rattle.paced_tree.specs.below.run_ledger.{Owed, Mark as OwesMark, More as OwesMore, Sweep as OwesSweep, Nothing, is_pool_enough, heap_of, sweep_number, marked_at_once}
-use Rattle.paced_tree.specs.below.task_machine.{Private, Paused, Due, NeedChunk, Shared, Spent}
-use Rattle.paced_tree.specs.below.shared_value.{SharedValue, accounts}
-use Rattle.paced_tree.specs.Owed.{owed_by}
+use Rattle.entry_calls.specs.below.run_trace.{Kind, Took, Ran, Chunk, Begin, End, PutOff, Fuel, Mark, More, Sweep}
+use Rattle.entry_calls.specs.below.run_ledger.{Owed, Mark as OwesMark, More as OwesMore, Sweep as OwesSweep, Nothing, is_pool_enough, heap_of, sweep_number, marked_at_once}
+use Rattle.entry_calls.specs.below.task_machine.{Private, Paused, Due, NeedChunk, Shared, Spent}
+use Rattle.entry_calls.specs.below.shared_value.{SharedValue, accounts}
+use Rattle.entry_calls.specs.Owed.{owed_by}
 use Rattle.turn_entries.specs.declared.between_turns.Ready.{Ready}
 use Rattle.turn_entries.specs.declared.between_turns.Ready.TheVariants.{Paused as HasPaused, Copied as IsCopied, Found, Wanting}
-use Rattle.turn_entries.specs.declared.run.Run.{Run}
 use Rattle.turn_entries.specs.Values.{is_over}
 
 -- a part's fresh steps come before anything else
@@ -51,5 +50,5 @@ is_wanting (Found task) = false
 is_wanting Wanting = true
 
 -- THE NEXT ENTRY of a worker that comes with this: none where the run is over, or memory was wanting
-abbrev pub next_kind : Run → ℕ → Ready → Option Kind
-next_kind r k ready = if is_over r || is_wanting ready then None else going_kind r.paced k ready
+abbrev pub next_kind : SharedValue → ℕ → Ready → Option Kind
+next_kind w k ready = if is_over w || is_wanting ready then None else going_kind w k ready

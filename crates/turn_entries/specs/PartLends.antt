@@ -1,6 +1,6 @@
 -- What a part ends as, where a `&mut` to it is returned.
 use Rattle.std.specs.Borrow.{Fml, Lends, MutBor}
-use Rattle.paced_tree.specs.below.task_machine.{Private, the_row as part_row}
+use Rattle.entry_calls.specs.below.task_machine.{Private, the_row as part_row}
 use Rattle.turn_entries.specs.contracts.part_block.PartInBlock.{the_row}
 
 -- once the borrow r ends, the part is the last one written through r

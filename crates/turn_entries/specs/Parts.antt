@@ -1,12 +1,12 @@
 -- What a worker holds between its turns, and how it goes on.
 use Rattle.std.specs.Prelude.{◌≡◌, ℕ, ◌≤◌, Option, Some, None}
 use Rattle.std.specs.declared.snapshot.Snapshot.{Snapshot}
-use Rattle.paced_tree.specs.below.hh_lang.{ProgramText}
-use Rattle.paced_tree.specs.below.run_trace.{EntryValue, private_limit}
-use Rattle.paced_tree.specs.below.task_machine.{Private, Paused, Spent, Pauses}
-use Rattle.paced_tree.specs.below.shared_value.{Fits, HasBegun, IsSharedValue, SharedValue, accounts}
-use Rattle.paced_tree.specs.below.own_steps.{machine_after}
-use Rattle.paced_tree.specs.below.leaf_collections.{FitsCopied}
+use Rattle.entry_calls.specs.below.hh_lang.{ProgramText}
+use Rattle.entry_calls.specs.below.run_trace.{EntryValue, private_limit}
+use Rattle.entry_calls.specs.below.task_machine.{Private, Paused, Spent, Pauses}
+use Rattle.entry_calls.specs.below.shared_value.{Fits, HasBegun, IsSharedValue, SharedValue, accounts}
+use Rattle.entry_calls.specs.below.own_steps.{machine_after}
+use Rattle.entry_calls.specs.below.leaf_collections.{FitsCopied}
 use Rattle.turn_lock.specs.declared.view.View.{View}
 use Rattle.turn_entries.specs.declared.between_turns.Collecting.{Collecting}
 use Rattle.turn_entries.specs.declared.between_turns.Copied.{Copied}
@@ -17,9 +17,9 @@ use Rattle.turn_entries.specs.declared.between_turns.Ready.TheVariants.{Paused a
 use Rattle.turn_entries.specs.declared.run.Run.{Run}
 use Rattle.turn_entries.specs.declared.run.Setup.{Setup}
 
--- what a seat knows
-abbrev pub Sight : Type 0
-Sight = View Run EntryValue (Snapshot Private) Setup
+-- what a seat knows of a value that is kept so
+abbrev pub Sight : Type 0 → Type 0
+Sight P = View (Run P) EntryValue (Snapshot Private) Setup
 
 -- a value that runs this program, and hasn't ended
 pub record RunGoesOn (p : ProgramText) (w : SharedValue) : Type 0 where
@@ -68,18 +68,18 @@ KeepsPart o part = (s : Snapshot Private) × (o ≡ Some s) × (s.value ≡ part
 abbrev pub AtSome : ProgramText → (SharedValue → Type 0) → Type 0
 AtSome p Here = (w : SharedValue) × RunGoesOn p w × Here w
 
--- what the worker goes on with after its turn
-abbrev pub GoesWith : ProgramText → ℕ → Sight → Next → Type 0
-GoesWith p k v (Running part) = KeepsPart v.part part × AtSome p (λ w. MayRun w k part)
-GoesWith p k v (Collects c) = KeepsPart v.part c.part × AtSome p (λ w. MayCopy w k c)
-GoesWith p k v (HasCopied c) = KeepsPart v.part c.begun.value × WasCopied p k c
-GoesWith p k v _ = Unit {0}
+-- what the worker goes on with after its turn, whose seat keeps this
+abbrev pub GoesWith : ProgramText → ℕ → Option (Snapshot Private) → Next → Type 0
+GoesWith p k kept (Running part) = KeepsPart kept part × AtSome p (λ w. MayRun w k part)
+GoesWith p k kept (Collects c) = KeepsPart kept c.part × AtSome p (λ w. MayCopy w k c)
+GoesWith p k kept (HasCopied c) = KeepsPart kept c.begun.value × WasCopied p k c
+GoesWith p k kept _ = Unit {0}
 
 -- what it comes for its turn with
-abbrev pub ComesWith : ProgramText → ℕ → Sight → Ready → Type 0
-ComesWith p k v (HasPaused part why) = (kept : Private) × KeepsPart v.part kept × HasGrown p k kept part why
-ComesWith p k v (IsCopied c) = KeepsPart v.part c.begun.value × WasCopied p k c
-ComesWith p k v _ = Unit {0}
+abbrev pub ComesWith : ProgramText → ℕ → Option (Snapshot Private) → Ready → Type 0
+ComesWith p k kept (HasPaused part why) = (before : Private) × KeepsPart kept before × HasGrown p k before part why
+ComesWith p k kept (IsCopied c) = KeepsPart kept c.begun.value × WasCopied p k c
+ComesWith p k kept _ = Unit {0}
 
 -- ---- IN A TURN
 

@@ -1,30 +1,32 @@
 -- The shared value in turns, as the turn is told of it.
 use Rattle.std.specs.Prelude.{◌≡◌, ◌<◌, ℕ, ◌||◌, Bool, false, None, List, is_some}
 use Rattle.std.specs.declared.snapshot.Snapshot.{Snapshot}
-use Rattle.paced_tree.specs.below.run_trace.{EntryValue, Kind}
-use Rattle.paced_tree.specs.below.run_ledger.{Owed}
-use Rattle.paced_tree.specs.below.task_machine.{Private}
-use Rattle.paced_tree.specs.below.shared_value.{first_cause, Enters, AllFit, Fits, OthersFit, SharedValue, accounts}
-use Rattle.paced_tree.specs.Owed.{owed_by}
+use Rattle.entry_calls.specs.below.run_trace.{EntryValue, Kind}
+use Rattle.entry_calls.specs.below.run_ledger.{Owed}
+use Rattle.entry_calls.specs.below.task_machine.{Private}
+use Rattle.entry_calls.specs.below.shared_value.{first_cause, Enters, AllFit, Fits, OthersFit, SharedValue, accounts}
+use Rattle.entry_calls.specs.Owed.{owed_by}
 use Rattle.turn_entries.specs.declared.run.Run.{Run}
 use Rattle.turn_entries.specs.declared.run.Setup.{Setup}
 
 abbrev pub worker_of : EntryValue → ℕ
 worker_of e = e.worker
 
-abbrev pub journal_of : Run → List EntryValue
-journal_of r = r.paced.journal.items
-
-abbrev pub setup_of : Run → Setup
-setup_of r = record { program = r.paced.program; settings = r.paced.settings }
-
--- a worker keeps a part that fits
-abbrev pub FitsSnapshot : Run → ℕ → Snapshot Private → Type 0
-FitsSnapshot r k kept = Fits r.paced k kept.value
-
 -- no more entries are made: the run has ended, or some worker has met want of memory
-abbrev pub is_over : Run → Bool
-is_over r = r.paced.halted || is_some (accounts r.paced).end
+abbrev pub is_over : SharedValue → Bool
+is_over w = w.halted || is_some (accounts w).end
+
+-- whoever keeps the shared value
+module _ {P : Type 0} (value : P → SharedValue) where
+  abbrev pub journal_of : Run P → List EntryValue
+  journal_of r = (value r.paced).journal.items
+
+  abbrev pub setup_of : Run P → Setup
+  setup_of r = record { program = (value r.paced).program; settings = (value r.paced).settings }
+
+  -- a worker keeps a part that fits
+  abbrev pub FitsSnapshot : Run P → ℕ → Snapshot Private → Type 0
+  FitsSnapshot r k kept = Fits (value r.paced) k kept.value
 
 -- worker k may make an entry, for which there is room, and owes this
 pub record MayEnter (w : SharedValue) (k : ℕ) (owes : Owed) : Type 0 where

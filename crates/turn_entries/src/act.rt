@@ -1,7 +1,7 @@
 //! What a worker does with the shared value in its turn: at most one entry.
 ghost use Rattle.std.specs.Prelude.{◌≡◌, ◌<◌, None, false};
-ghost use Rattle.paced_tree.specs.below.shared_value.{accounts};
-ghost use Rattle.paced_tree.specs.Owed.{owed_by};
+ghost use Rattle.entry_calls.specs.below.shared_value.{accounts};
+ghost use Rattle.entry_calls.specs.Owed.{owed_by};
 ghost use Rattle.turn_entries.specs.Acts.{Acts, ActsFor, EndsEntered, EndsHalted};
 ghost use Rattle.turn_entries.specs.Next.{going_kind, is_wanting, owing_kind};
 ghost use Rattle.turn_entries.specs.Parts.{BringsTo};
@@ -9,26 +9,26 @@ ghost use Rattle.turn_entries.specs.Values.{MayEnter};
 
 use crate::between_turns::{Next, Ready};
 use crate::run::Run;
-use paced_tree::{NotEntered, Owed};
+use entry_calls::{EntryCalls, NotEntered, Owed};
 use std::alloc::Global;
 
 /// What has come of a turn.
 #[derive(Drop)]
-pub enum Acted {
+pub enum Acted<P> {
     /// One entry was made.
-    Entered(Run, Next),
+    Entered(Run<P>, Next),
     /// No entry was made: the run is over, memory was wanting, the task that was found can't be taken, or none was
     /// found.
-    Same(Run, Next),
+    Same(Run<P>, Next),
 }
 
-impl Run {
+impl<P: EntryCalls + Drop> Run<P> {
     // An entry was made. Where the run has ended by it, the worker stops.
-    pub(crate) fn entered(self, next: Next) -> Acted
-        ensures { EndsEntered self next result }
+    pub(crate) fn entered(self, next: Next) -> Acted<P>
+        ensures { EndsEntered P.value (P.value self.paced) next result }
     {
         self.paced.stands();
-        if self.paced.shared().ended().is_some() {
+        if self.paced.ended().is_some() {
             Acted::Entered(self, Next::Stop)
         } else {
             Acted::Entered(self, next)
@@ -36,8 +36,8 @@ impl Run {
     }
 
     // Memory was wanting, and no entry was made.
-    pub(crate) fn halted(self) -> Acted
-        ensures { EndsHalted self result }
+    pub(crate) fn halted(self) -> Acted<P>
+        ensures { EndsHalted P.value (P.value self.paced) result }
     {
         let mut run = self;
         run.paced.halt();
@@ -45,9 +45,9 @@ impl Run {
     }
 
     // No entry was made, which can be for want of memory alone.
-    pub(crate) fn wanting(self, cause: NotEntered) -> Acted
+    pub(crate) fn wanting(self, cause: NotEntered) -> Acted<P>
         requires { cause ≡ NotEntered.NoMemory }
-        ensures { EndsHalted self result }
+        ensures { EndsHalted P.value (P.value self.paced) result }
     {
         match cause {
             NotEntered::NoMemory => self.halted(),
@@ -56,29 +56,29 @@ impl Run {
     }
 
     // Makes the entry that comes next.
-    fn act_on(self, alloc: Global, worker: u32, ready: Ready) -> Acted
-        requires room { 0 < self.paced.journal.room }
-        requires worker { worker < self.paced.settings.workers }
-        requires goes { (accounts self.paced).end ≡ None }
-        requires on { self.paced.halted ≡ false }
+    fn act_on(self, alloc: Global, worker: u32, ready: Ready) -> Acted<P>
+        requires room { 0 < (P.value self.paced).journal.room }
+        requires worker { worker < (P.value self.paced).settings.workers }
+        requires goes { (accounts (P.value self.paced)).end ≡ None }
+        requires on { (P.value self.paced).halted ≡ false }
         requires met { is_wanting ready ≡ false }
-        requires brings { BringsTo self.paced worker ready }
-        ensures { ActsFor self worker ready (going_kind self.paced worker ready) result }
+        requires brings { BringsTo (P.value self.paced) worker ready }
+        ensures { ActsFor P.value (P.value self.paced) worker ready (going_kind (P.value self.paced) worker ready) result }
     {
         self.paced.stands();
-        match self.paced.shared().refused_first(worker) {
+        match self.paced.refused_first(worker) {
             Some(_) => self.end_for_fuel(worker),
             None => self.act_free(alloc, worker, ready),
         }
     }
 
     // Makes the entry that comes next, where fuel is left.
-    fn act_free(self, alloc: Global, worker: u32, ready: Ready) -> Acted
-        requires enter { MayEnter self.paced worker (owed_by self.paced worker) }
-        requires worker { worker < self.paced.settings.workers }
+    fn act_free(self, alloc: Global, worker: u32, ready: Ready) -> Acted<P>
+        requires enter { MayEnter (P.value self.paced) worker (owed_by (P.value self.paced) worker) }
+        requires worker { worker < (P.value self.paced).settings.workers }
         requires met { is_wanting ready ≡ false }
-        requires brings { BringsTo self.paced worker ready }
-        ensures { ActsFor self worker ready (owing_kind self.paced (owed_by self.paced worker) ready) result }
+        requires brings { BringsTo (P.value self.paced) worker ready }
+        ensures { ActsFor P.value (P.value self.paced) worker ready (owing_kind (P.value self.paced) (owed_by (P.value self.paced) worker) ready) result }
     {
         match self.paced.owed(worker) {
             Owed::Nothing => self.enter(alloc, worker, ready),
@@ -89,13 +89,13 @@ impl Run {
     }
 
     // Makes place for the entry, and makes it.
-    fn act_next(self, alloc: Global, worker: u32, ready: Ready) -> Acted
-        requires worker { worker < self.paced.settings.workers }
-        requires goes { (accounts self.paced).end ≡ None }
-        requires on { self.paced.halted ≡ false }
+    fn act_next(self, alloc: Global, worker: u32, ready: Ready) -> Acted<P>
+        requires worker { worker < (P.value self.paced).settings.workers }
+        requires goes { (accounts (P.value self.paced)).end ≡ None }
+        requires on { (P.value self.paced).halted ≡ false }
         requires met { is_wanting ready ≡ false }
-        requires brings { BringsTo self.paced worker ready }
-        ensures { ActsFor self worker ready (going_kind self.paced worker ready) result }
+        requires brings { BringsTo (P.value self.paced) worker ready }
+        ensures { ActsFor P.value (P.value self.paced) worker ready (going_kind (P.value self.paced) worker ready) result }
     {
         let mut run = self;
         match run.paced.reserve() {
@@ -110,10 +110,10 @@ impl Run {
     /// What the worker does in its turn: where the run isn't over it ends it for spent fuel, or makes the entry that it
     /// owes, or else the one that it comes with. It makes a block for the part of a task that it takes, and for the new
     /// chunks of a collection that begins.
-    pub fn act(self, alloc: Global, worker: u32, ready: Ready) -> Acted
-        requires worker { worker < self.paced.settings.workers }
-        requires brings { BringsTo self.paced worker ready }
-        ensures { Acts self worker ready result }
+    pub fn act(self, alloc: Global, worker: u32, ready: Ready) -> Acted<P>
+        requires worker { worker < (P.value self.paced).settings.workers }
+        requires brings { BringsTo (P.value self.paced) worker ready }
+        ensures { Acts P.value (P.value self.paced) worker ready result }
     {
         if !self.goes_on() {
             drop(ready);

@@ -3,7 +3,7 @@ ghost use Rattle.std.specs.Prelude.{◌≡◌};
 ghost use Rattle.turn_entries.specs.Next.{is_wanting};
 
 use crate::part_block::PartInBlock;
-use paced_tree::{Addr, Apart, Moved, Paused, Private, ToChunks};
+use entry_calls::{Addr, Apart, Moved, Paused, Private, ToChunks};
 use std::snapshot::Snapshot;
 
 /// A part whose leaf collection has begun, with its roots, and the new chunks with all that copying needs.

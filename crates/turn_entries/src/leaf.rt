@@ -1,9 +1,9 @@
 //! The entries of leaf collections.
 ghost use Rattle.std.specs.Prelude.{◌≡◌, true, false};
-ghost use Rattle.paced_tree.specs.below.run_trace.{Kind as KindOf};
-ghost use Rattle.paced_tree.specs.below.run_ledger.{Owed as OwedOf, is_pool_enough};
-ghost use Rattle.paced_tree.specs.below.shared_value.{accounts};
-ghost use Rattle.paced_tree.specs.below.leaf_collections.{FitsCopied};
+ghost use Rattle.entry_calls.specs.below.run_trace.{Kind as KindOf};
+ghost use Rattle.entry_calls.specs.below.run_ledger.{Owed as OwedOf, is_pool_enough};
+ghost use Rattle.entry_calls.specs.below.shared_value.{accounts};
+ghost use Rattle.entry_calls.specs.below.leaf_collections.{FitsCopied};
 ghost use Rattle.turn_entries.specs.Acts.{ActsAnyhow};
 ghost use Rattle.turn_entries.specs.Next.{due_kind};
 ghost use Rattle.turn_entries.specs.Parts.{IsPaused};
@@ -13,7 +13,7 @@ use crate::act::Acted;
 use crate::between_turns::{Collecting, Copied, Next};
 use crate::part_block::PartInBlock;
 use crate::run::Run;
-use paced_tree::{Apart, Moved, Paused, ToChunks};
+use entry_calls::{Apart, EntryCalls, Moved, Paused, ToChunks};
 use std::alloc::{AllocError, Global};
 
 // A block for new chunks and lists, without any.
@@ -34,14 +34,14 @@ fn chunks_block(alloc: Global) -> Result<Apart<ToChunks>, AllocError> {
     Ok(Apart::new(alloc, none)?)
 }
 
-impl Run {
+impl<P: EntryCalls + Drop> Run<P> {
     // The collection of the part begins. There is a block for the new chunks.
-    fn begin_in(self, worker: u32, part: PartInBlock, block: Apart<ToChunks>) -> Acted
-        requires enter { MayEnter self.paced worker OwedOf.Nothing }
-        requires paused { IsPaused self.paced worker part Paused.Due }
-        requires enough { is_pool_enough self.paced.settings (accounts self.paced) part.task ≡ true }
+    fn begin_in(self, worker: u32, part: PartInBlock, block: Apart<ToChunks>) -> Acted<P>
+        requires enter { MayEnter (P.value self.paced) worker OwedOf.Nothing }
+        requires paused { IsPaused (P.value self.paced) worker part Paused.Due }
+        requires enough { is_pool_enough (P.value self.paced).settings (accounts (P.value self.paced)) part.task ≡ true }
         requires fresh { part.fresh ≡ 0 }
-        ensures { ActsAnyhow self worker (KindOf.Begin part.task) result }
+        ensures { ActsAnyhow P.value (P.value self.paced) worker (KindOf.Begin part.task) result }
     {
         self.paced.stands();
         let mut run = self;
@@ -57,12 +57,12 @@ impl Run {
     }
 
     // The collection of the part begins, where there is memory for what it takes along.
-    fn begin_leaf(self, alloc: Global, worker: u32, part: PartInBlock) -> Acted
-        requires enter { MayEnter self.paced worker OwedOf.Nothing }
-        requires paused { IsPaused self.paced worker part Paused.Due }
-        requires enough { is_pool_enough self.paced.settings (accounts self.paced) part.task ≡ true }
+    fn begin_leaf(self, alloc: Global, worker: u32, part: PartInBlock) -> Acted<P>
+        requires enter { MayEnter (P.value self.paced) worker OwedOf.Nothing }
+        requires paused { IsPaused (P.value self.paced) worker part Paused.Due }
+        requires enough { is_pool_enough (P.value self.paced).settings (accounts (P.value self.paced)) part.task ≡ true }
         requires fresh { part.fresh ≡ 0 }
-        ensures { ActsAnyhow self worker (KindOf.Begin part.task) result }
+        ensures { ActsAnyhow P.value (P.value self.paced) worker (KindOf.Begin part.task) result }
     {
         match chunks_block(alloc) {
             Ok(block) => self.begin_in(worker, part, block),
@@ -71,12 +71,12 @@ impl Run {
     }
 
     // The collection of the part is put off.
-    fn put_off_leaf(self, worker: u32, part: PartInBlock) -> Acted
-        requires enter { MayEnter self.paced worker OwedOf.Nothing }
-        requires paused { IsPaused self.paced worker part Paused.Due }
-        requires short { is_pool_enough self.paced.settings (accounts self.paced) part.task ≡ false }
+    fn put_off_leaf(self, worker: u32, part: PartInBlock) -> Acted<P>
+        requires enter { MayEnter (P.value self.paced) worker OwedOf.Nothing }
+        requires paused { IsPaused (P.value self.paced) worker part Paused.Due }
+        requires short { is_pool_enough (P.value self.paced).settings (accounts (P.value self.paced)) part.task ≡ false }
         requires fresh { part.fresh ≡ 0 }
-        ensures { ActsAnyhow self worker (KindOf.PutOff part.task) result }
+        ensures { ActsAnyhow P.value (P.value self.paced) worker (KindOf.PutOff part.task) result }
     {
         self.paced.stands();
         let mut run = self;
@@ -88,13 +88,13 @@ impl Run {
     }
 
     /// The due collection of the part begins, or is put off where too few chunks are free.
-    pub(crate) fn collect(self, alloc: Global, worker: u32, part: PartInBlock) -> Acted
-        requires enter { MayEnter self.paced worker OwedOf.Nothing }
-        requires paused { IsPaused self.paced worker part Paused.Due }
+    pub(crate) fn collect(self, alloc: Global, worker: u32, part: PartInBlock) -> Acted<P>
+        requires enter { MayEnter (P.value self.paced) worker OwedOf.Nothing }
+        requires paused { IsPaused (P.value self.paced) worker part Paused.Due }
         requires fresh { part.fresh ≡ 0 }
-        ensures { ActsAnyhow self worker (due_kind self.paced part.task) result }
+        ensures { ActsAnyhow P.value (P.value self.paced) worker (due_kind (P.value self.paced) part.task) result }
     {
-        if self.paced.shared().pool_enough(part.get()) {
+        if self.paced.pool_enough(part.get()) {
             self.begin_leaf(alloc, worker, part)
         } else {
             self.put_off_leaf(worker, part)
@@ -102,10 +102,10 @@ impl Run {
     }
 
     /// The collection of the part ends, whose heap was copied.
-    pub(crate) fn end_leaf(self, worker: u32, copied: Copied) -> Acted
-        requires enter { MayEnter self.paced worker OwedOf.Nothing }
-        requires fits { FitsCopied self.paced worker copied.part copied.moved }
-        ensures { ActsAnyhow self worker (KindOf.End copied.part.task copied.moved.taken copied.moved.given copied.moved.left) result }
+    pub(crate) fn end_leaf(self, worker: u32, copied: Copied) -> Acted<P>
+        requires enter { MayEnter (P.value self.paced) worker OwedOf.Nothing }
+        requires fits { FitsCopied (P.value self.paced) worker copied.part copied.moved }
+        ensures { ActsAnyhow P.value (P.value self.paced) worker (KindOf.End copied.part.task copied.moved.taken copied.moved.given copied.moved.left) result }
     {
         self.paced.stands();
         let mut run = self;

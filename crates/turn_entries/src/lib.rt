@@ -12,8 +12,8 @@ mod steps;
 
 pub use act::Acted;
 pub use between_turns::{Collecting, Copied, Next, Ready};
-pub use paced_tree::{
-    Counted, PRIVATE_LIMIT, Paced, Paused, Private, Program, RunEnd, Settings, copy, run_local,
+pub use entry_calls::{
+    EntryCalls, PRIVATE_LIMIT, Paused, Private, Program, RunEnd, Settings, copy, run_local,
 };
 pub use part_block::{PartBlock, PartInBlock};
 pub use run::{Run, Setup};

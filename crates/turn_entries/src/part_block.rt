@@ -1,7 +1,7 @@
 //! A part in a block of its own, so that what hands it on moves a pointer.
 ghost use Rattle.std.specs.Prelude.{◌≡◌};
 
-use paced_tree::Private;
+use entry_calls::Private;
 use std::alloc::{AllocError, Global};
 use std::marker::Model;
 use std::snapshot::Snapshot;
@@ -21,7 +21,7 @@ pub struct PartInBlock {
 
 impl Model for PartInBlock {
     ghost use Rattle.std.specs.Prelude.{◌≡◌, is_some, true};
-    ghost use Rattle.paced_tree.specs.below.task_machine.{Private};
+    ghost use Rattle.entry_calls.specs.below.task_machine.{Private};
     ghost use Rattle.turn_entries.specs.Blocks.{part_in};
 
     ghost Value = { Private };

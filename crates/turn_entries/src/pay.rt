@@ -1,8 +1,8 @@
 //! The entries that a worker owes to the collections of waiting tasks' heaps, and the end for spent fuel.
 ghost use Rattle.std.specs.Prelude.{◌≡◌, ◌<◌, Some, None, is_some, true, false};
-ghost use Rattle.paced_tree.specs.below.run_trace.{Kind as KindOf};
-ghost use Rattle.paced_tree.specs.below.run_ledger.{Owed as OwedOf, heap_of, sweep_number, marked_at_once};
-ghost use Rattle.paced_tree.specs.below.shared_value.{first_cause, accounts};
+ghost use Rattle.entry_calls.specs.below.run_trace.{Kind as KindOf};
+ghost use Rattle.entry_calls.specs.below.run_ledger.{Owed as OwedOf, heap_of, sweep_number, marked_at_once};
+ghost use Rattle.entry_calls.specs.below.shared_value.{first_cause, accounts};
 ghost use Rattle.turn_entries.specs.Acts.{ActsAnyhow, ActsFor, EndsPaid};
 ghost use Rattle.turn_entries.specs.Next.{is_wanting};
 ghost use Rattle.turn_entries.specs.Parts.{next_after, BringsTo};
@@ -11,7 +11,7 @@ ghost use Rattle.turn_entries.specs.Values.{MayEnter};
 use crate::act::Acted;
 use crate::between_turns::{Next, Ready};
 use crate::run::Run;
-use paced_tree::MARKED_AT_ONCE;
+use entry_calls::{EntryCalls, MARKED_AT_ONCE};
 
 // How a worker goes on that came with this, once it has paid what it owed.
 fn next_after(ready: Ready) -> Next
@@ -26,21 +26,21 @@ fn next_after(ready: Ready) -> Next
     }
 }
 
-impl Run {
+impl<P: EntryCalls + Drop> Run<P> {
     // What was owed is paid: the worker goes on with what it came with.
-    fn paid(self, ready: Ready) -> Acted
-        ensures { EndsPaid self ready result }
+    fn paid(self, ready: Ready) -> Acted<P>
+        ensures { EndsPaid P.value (P.value self.paced) ready result }
     {
         let next = next_after(ready);
         self.entered(next)
     }
 
     /// A marking begins.
-    pub(crate) fn pay_mark(self, worker: u32, ready: Ready, task: u32) -> Acted
-        requires enter { MayEnter self.paced worker (OwedOf.Mark task) }
+    pub(crate) fn pay_mark(self, worker: u32, ready: Ready, task: u32) -> Acted<P>
+        requires enter { MayEnter (P.value self.paced) worker (OwedOf.Mark task) }
         requires met { is_wanting ready ≡ false }
-        requires brings { BringsTo self.paced worker ready }
-        ensures { ActsFor self worker ready (Some (KindOf.Mark task)) result }
+        requires brings { BringsTo (P.value self.paced) worker ready }
+        ensures { ActsFor P.value (P.value self.paced) worker ready (Some (KindOf.Mark task)) result }
     {
         self.paced.stands();
         let mut run = self;
@@ -51,11 +51,11 @@ impl Run {
     }
 
     /// More objects are marked.
-    pub(crate) fn pay_more(self, worker: u32, ready: Ready, task: u32) -> Acted
-        requires enter { MayEnter self.paced worker (OwedOf.More task) }
+    pub(crate) fn pay_more(self, worker: u32, ready: Ready, task: u32) -> Acted<P>
+        requires enter { MayEnter (P.value self.paced) worker (OwedOf.More task) }
         requires met { is_wanting ready ≡ false }
-        requires brings { BringsTo self.paced worker ready }
-        ensures { ActsFor self worker ready (Some (KindOf.More task marked_at_once)) result }
+        requires brings { BringsTo (P.value self.paced) worker ready }
+        ensures { ActsFor P.value (P.value self.paced) worker ready (Some (KindOf.More task marked_at_once)) result }
     {
         self.paced.stands();
         let mut run = self;
@@ -66,14 +66,14 @@ impl Run {
     }
 
     /// A heap is swept.
-    pub(crate) fn pay_sweep(self, worker: u32, ready: Ready, task: u32) -> Acted
-        requires enter { MayEnter self.paced worker (OwedOf.Sweep task) }
+    pub(crate) fn pay_sweep(self, worker: u32, ready: Ready, task: u32) -> Acted<P>
+        requires enter { MayEnter (P.value self.paced) worker (OwedOf.Sweep task) }
         requires met { is_wanting ready ≡ false }
-        requires brings { BringsTo self.paced worker ready }
-        ensures { ActsFor self worker ready (Some (KindOf.Sweep task (sweep_number (accounts self.paced).machine (heap_of (accounts self.paced) task)))) result }
+        requires brings { BringsTo (P.value self.paced) worker ready }
+        ensures { ActsFor P.value (P.value self.paced) worker ready (Some (KindOf.Sweep task (sweep_number (accounts (P.value self.paced)).machine (heap_of (accounts (P.value self.paced)) task)))) result }
     {
         self.paced.stands();
-        let given = self.paced.shared().would_give(task);
+        let given = self.paced.would_give(task);
         let mut run = self;
         match run.paced.sweep(worker, task, given) {
             Ok(()) => run.paid(ready),
@@ -82,13 +82,13 @@ impl Run {
     }
 
     /// The run ends for spent fuel.
-    pub(crate) fn end_for_fuel(self, worker: u32) -> Acted
-        requires room { 0 < self.paced.journal.room }
-        requires worker { worker < self.paced.settings.workers }
-        requires goes { (accounts self.paced).end ≡ None }
-        requires on { self.paced.halted ≡ false }
-        requires spent { is_some (first_cause self.paced.end self.paced.steps self.paced.settings worker false) ≡ true }
-        ensures { ActsAnyhow self worker KindOf.Fuel result }
+    pub(crate) fn end_for_fuel(self, worker: u32) -> Acted<P>
+        requires room { 0 < (P.value self.paced).journal.room }
+        requires worker { worker < (P.value self.paced).settings.workers }
+        requires goes { (accounts (P.value self.paced)).end ≡ None }
+        requires on { (P.value self.paced).halted ≡ false }
+        requires spent { is_some (first_cause (P.value self.paced).end (P.value self.paced).steps (P.value self.paced).settings worker false) ≡ true }
+        ensures { ActsAnyhow P.value (P.value self.paced) worker KindOf.Fuel result }
     {
         self.paced.stands();
         let mut run = self;

@@ -2,14 +2,14 @@
 ghost use Rattle.std.specs.Prelude.{◌≡◌, ◌<◌, ◌^◌, not, length};
 ghost use Rattle.turn_entries.specs.Values.{worker_of, setup_of, is_over, FitsSnapshot};
 
-use paced_tree::{Entry, Paced, Private, Program, Settings};
+use entry_calls::{Entry, EntryCalls, Private, Program, Settings};
 use std::snapshot::Snapshot;
 use turn_lock::Kept;
 
-/// The shared value of a run by workers.
+/// The shared value of a run by workers, whoever keeps it.
 #[derive(Drop)]
-pub struct Run {
-    pub paced: Paced,
+pub struct Run<P> {
+    pub paced: P,
 }
 
 /// What no entry changes. No value of it is made.
@@ -18,8 +18,8 @@ pub struct Setup {
     pub settings: Settings,
 }
 
-impl Kept for Run {
-    ghost use Rattle.turn_entries.specs.Values.{worker_of, setup_of, FitsSnapshot};
+impl<P: EntryCalls> Kept for Run<P> {
+    ghost use Rattle.turn_entries.specs.Values.{worker_of, journal_of, setup_of, FitsSnapshot};
 
     type Entry = Entry;
 
@@ -28,22 +28,22 @@ impl Kept for Run {
 
     type Setup = Setup;
 
-    ghost journal = { λ v. v.paced.journal.items };
+    ghost journal = { journal_of P.value };
 
     ghost worker_of = { worker_of };
 
-    ghost fits = { FitsSnapshot };
+    ghost fits = { FitsSnapshot P.value };
 
-    ghost setup = { setup_of };
+    ghost setup = { setup_of P.value };
 
     fn entries(&self) -> u64 {
-        self.paced.shared().journal().len() as u64
+        self.paced.entries()
     }
 }
 
-impl Run {
+impl<P: EntryCalls + Drop> Run<P> {
     /// Before the first entry.
-    pub fn new(paced: Paced) -> Run
+    pub fn new(paced: P) -> Run<P>
         ensures { result ≡ record { paced = paced } }
     {
         Run { paced }
@@ -51,16 +51,15 @@ impl Run {
 
     /// The journal is a list in memory, and none is so long.
     pub fn is_short(&self)
-        ensures { length self.now.paced.journal.items < 2 ^ 63 }
+        ensures { length (P.value self.now.paced).journal.items < 2 ^ 63 }
     {
-        self.paced.shared().journal().len();
+        self.paced.entries();
     }
 
     /// Whether entries may be made: the run hasn't ended, and no worker has met want of memory.
     pub fn goes_on(&self) -> bool
-        ensures { result ≡ not (is_over self.now) }
+        ensures { result ≡ not (is_over (P.value self.now.paced)) }
     {
-        let shared = self.paced.shared();
-        !shared.halted() && shared.ended().is_none()
+        !self.paced.halted() && self.paced.ended().is_none()
     }
 }

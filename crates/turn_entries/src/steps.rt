@@ -1,8 +1,8 @@
 //! The entries that a worker comes for.
 ghost use Rattle.std.specs.Prelude.{◌≡◌, ◌+◌, ◌<◌, Some, false};
-ghost use Rattle.paced_tree.specs.below.run_trace.{Kind as KindOf};
-ghost use Rattle.paced_tree.specs.below.run_ledger.{Owed as OwedOf};
-ghost use Rattle.paced_tree.specs.below.shared_tree.{LeavesBy};
+ghost use Rattle.entry_calls.specs.below.run_trace.{Kind as KindOf};
+ghost use Rattle.entry_calls.specs.below.run_ledger.{Owed as OwedOf};
+ghost use Rattle.entry_calls.specs.Ran.{LeavesBy};
 ghost use Rattle.turn_entries.specs.Acts.{after_end, ActsAnyhow, ActsFor};
 ghost use Rattle.turn_entries.specs.Next.{brought_kind, is_wanting, paused_kind};
 ghost use Rattle.turn_entries.specs.Parts.{BringsTo, IsPaused, MayRun};
@@ -12,7 +12,7 @@ use crate::act::Acted;
 use crate::between_turns::{Next, Ready};
 use crate::part_block::{PartBlock, PartInBlock};
 use crate::run::Run;
-use paced_tree::{Leaving, Lent, Paused, Private, Ran};
+use entry_calls::{EntryCalls, Leaving, Lent, Paused, Private, Ran};
 use std::alloc::Global;
 
 // How a worker goes on whose task has ended.
@@ -25,11 +25,11 @@ fn after_end(resumed: Option<u32>) -> Next
     }
 }
 
-impl Run {
+impl<P: EntryCalls + Drop> Run<P> {
     // The worker takes a task that it has found. There is a block for its part.
-    fn take_in(self, worker: u32, task: u32, block: PartBlock) -> Acted
-        requires enter { MayEnter self.paced worker OwedOf.Nothing }
-        ensures { ActsAnyhow self worker (KindOf.Took task) result }
+    fn take_in(self, worker: u32, task: u32, block: PartBlock) -> Acted<P>
+        requires enter { MayEnter (P.value self.paced) worker OwedOf.Nothing }
+        ensures { ActsAnyhow P.value (P.value self.paced) worker (KindOf.Took task) result }
     {
         let mut run = self;
         match run.paced.took(worker, task) {
@@ -39,9 +39,9 @@ impl Run {
     }
 
     // The worker takes a task that it has found, where there is memory for a block.
-    fn take_task(self, alloc: Global, worker: u32, task: u32) -> Acted
-        requires enter { MayEnter self.paced worker OwedOf.Nothing }
-        ensures { ActsAnyhow self worker (KindOf.Took task) result }
+    fn take_task(self, alloc: Global, worker: u32, task: u32) -> Acted<P>
+        requires enter { MayEnter (P.value self.paced) worker OwedOf.Nothing }
+        ensures { ActsAnyhow P.value (P.value self.paced) worker (KindOf.Took task) result }
     {
         match PartBlock::new(alloc) {
             Ok(block) => self.take_in(worker, task, block),
@@ -50,9 +50,9 @@ impl Run {
     }
 
     // The worker takes the task that it has found, if it has.
-    fn enter_found(self, alloc: Global, worker: u32, found: Option<u32>) -> Acted
-        requires enter { MayEnter self.paced worker OwedOf.Nothing }
-        ensures { ActsFor self worker (Ready.Found found) (brought_kind self.paced (Ready.Found found)) result }
+    fn enter_found(self, alloc: Global, worker: u32, found: Option<u32>) -> Acted<P>
+        requires enter { MayEnter (P.value self.paced) worker OwedOf.Nothing }
+        ensures { ActsFor P.value (P.value self.paced) worker (Ready.Found found) (brought_kind (P.value self.paced) (Ready.Found found)) result }
     {
         match found {
             Some(task) => self.take_task(alloc, worker, task),
@@ -61,11 +61,11 @@ impl Run {
     }
 
     // The fresh steps of the part are entered.
-    fn enter_private(self, worker: u32, part: PartInBlock) -> Acted
-        requires enter { MayEnter self.paced worker OwedOf.Nothing }
-        requires may { MayRun self.paced worker part }
+    fn enter_private(self, worker: u32, part: PartInBlock) -> Acted<P>
+        requires enter { MayEnter (P.value self.paced) worker OwedOf.Nothing }
+        requires may { MayRun (P.value self.paced) worker part }
         requires fresh { 0 < part.fresh }
-        ensures { ActsAnyhow self worker (KindOf.Ran part.task part.fresh) result }
+        ensures { ActsAnyhow P.value (P.value self.paced) worker (KindOf.Ran part.task part.fresh) result }
     {
         self.paced.stands();
         let mut run = self;
@@ -77,11 +77,11 @@ impl Run {
     }
 
     // The fresh steps of the part are entered with its next one, which gives it up so.
-    fn ran_in(self, worker: u32, part: Private, leaving: Leaving) -> Acted
-        requires enter { MayEnter self.paced worker OwedOf.Nothing }
-        requires paused { IsPaused self.paced worker part Paused.Shared }
-        requires leaves { LeavesBy self.paced part leaving }
-        ensures { ActsFor self worker (Ready.Paused part Paused.Shared) (Some (KindOf.Ran part.task (part.fresh + 1))) result }
+    fn ran_in(self, worker: u32, part: Private, leaving: Leaving) -> Acted<P>
+        requires enter { MayEnter (P.value self.paced) worker OwedOf.Nothing }
+        requires paused { IsPaused (P.value self.paced) worker part Paused.Shared }
+        requires leaves { LeavesBy (P.value self.paced) part leaving }
+        ensures { ActsFor P.value (P.value self.paced) worker (Ready.Paused part Paused.Shared) (Some (KindOf.Ran part.task (part.fresh + 1))) result }
     {
         self.paced.stands();
         let mut run = self;
@@ -95,11 +95,11 @@ impl Run {
     }
 
     // The same, where the part is taken out of its block.
-    fn enter_leaving(self, worker: u32, part: PartInBlock, leaving: Leaving) -> Acted
-        requires enter { MayEnter self.paced worker OwedOf.Nothing }
-        requires paused { IsPaused self.paced worker part Paused.Shared }
-        requires leaves { LeavesBy self.paced part leaving }
-        ensures { ActsFor self worker (Ready.Paused part Paused.Shared) (Some (KindOf.Ran part.task (part.fresh + 1))) result }
+    fn enter_leaving(self, worker: u32, part: PartInBlock, leaving: Leaving) -> Acted<P>
+        requires enter { MayEnter (P.value self.paced) worker OwedOf.Nothing }
+        requires paused { IsPaused (P.value self.paced) worker part Paused.Shared }
+        requires leaves { LeavesBy (P.value self.paced) part leaving }
+        ensures { ActsFor P.value (P.value self.paced) worker (Ready.Paused part Paused.Shared) (Some (KindOf.Ran part.task (part.fresh + 1))) result }
     {
         let (part, block) = part.take_out();
         drop(block);
@@ -108,10 +108,10 @@ impl Run {
 
     // The fresh steps of the part are entered with its next one, which isn't private. The part stays in its block, but
     // where that step gives it up.
-    fn enter_shared(self, worker: u32, part: PartInBlock) -> Acted
-        requires enter { MayEnter self.paced worker OwedOf.Nothing }
-        requires paused { IsPaused self.paced worker part Paused.Shared }
-        ensures { ActsFor self worker (Ready.Paused part Paused.Shared) (Some (KindOf.Ran part.task (part.fresh + 1))) result }
+    fn enter_shared(self, worker: u32, part: PartInBlock) -> Acted<P>
+        requires enter { MayEnter (P.value self.paced) worker OwedOf.Nothing }
+        requires paused { IsPaused (P.value self.paced) worker part Paused.Shared }
+        ensures { ActsFor P.value (P.value self.paced) worker (Ready.Paused part Paused.Shared) (Some (KindOf.Ran part.task (part.fresh + 1))) result }
     {
         self.paced.stands();
         let mut run = self;
@@ -125,11 +125,11 @@ impl Run {
     }
 
     // The part gets a chunk.
-    fn enter_chunk(self, worker: u32, part: PartInBlock) -> Acted
-        requires enter { MayEnter self.paced worker OwedOf.Nothing }
-        requires paused { IsPaused self.paced worker part Paused.NeedChunk }
+    fn enter_chunk(self, worker: u32, part: PartInBlock) -> Acted<P>
+        requires enter { MayEnter (P.value self.paced) worker OwedOf.Nothing }
+        requires paused { IsPaused (P.value self.paced) worker part Paused.NeedChunk }
         requires fresh { part.fresh ≡ 0 }
-        ensures { ActsAnyhow self worker (KindOf.Chunk part.task) result }
+        ensures { ActsAnyhow P.value (P.value self.paced) worker (KindOf.Chunk part.task) result }
     {
         self.paced.stands();
         let mut run = self;
@@ -141,10 +141,10 @@ impl Run {
     }
 
     // The entry that the part's steps have paused for; its fresh steps come before a chunk or a collection.
-    fn enter_part(self, alloc: Global, worker: u32, part: PartInBlock, why: Paused) -> Acted
-        requires enter { MayEnter self.paced worker OwedOf.Nothing }
-        requires paused { IsPaused self.paced worker part why }
-        ensures { ActsFor self worker (Ready.Paused part why) (Some (paused_kind self.paced part why)) result }
+    fn enter_part(self, alloc: Global, worker: u32, part: PartInBlock, why: Paused) -> Acted<P>
+        requires enter { MayEnter (P.value self.paced) worker OwedOf.Nothing }
+        requires paused { IsPaused (P.value self.paced) worker part why }
+        ensures { ActsFor P.value (P.value self.paced) worker (Ready.Paused part why) (Some (paused_kind (P.value self.paced) part why)) result }
     {
         match why {
             Paused::Shared => self.enter_shared(worker, part),
@@ -165,11 +165,11 @@ impl Run {
     }
 
     /// The entry that the worker comes with, where it owes none.
-    pub(crate) fn enter(self, alloc: Global, worker: u32, ready: Ready) -> Acted
-        requires enter { MayEnter self.paced worker OwedOf.Nothing }
+    pub(crate) fn enter(self, alloc: Global, worker: u32, ready: Ready) -> Acted<P>
+        requires enter { MayEnter (P.value self.paced) worker OwedOf.Nothing }
         requires met { is_wanting ready ≡ false }
-        requires brings { BringsTo self.paced worker ready }
-        ensures { ActsFor self worker ready (brought_kind self.paced ready) result }
+        requires brings { BringsTo (P.value self.paced) worker ready }
+        ensures { ActsFor P.value (P.value self.paced) worker ready (brought_kind (P.value self.paced) ready) result }
     {
         self.paced.stands();
         match ready {

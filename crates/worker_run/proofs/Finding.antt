@@ -1,16 +1,18 @@
 -- What becomes of tasks at a worker's hand.
 use Rattle.std.proofs.Common.{◌≡◌, ◌≢◌, ◌⊎◌, inl, inr, ℕ, zero, suc, ◌+◌, ◌-◌, ◌*◌, ◌/◌, ◌%◌, ◌<◌, ◌≤◌, List, [], ◌∷◌, length, slice_get, slice_index_or, slice_set, get_or, refl, sym, ap, ◌∙◌, subst, arith, Option, Some, None}
+use Rattle.std.specs.declared.snapshot.Snapshot.{Snapshot}
 use Rattle.std.proofs.Math.Nat.{mul-le-mul_left}
 use Rattle.std.proofs.lemmas.Bool.{cases_order}
 use Rattle.std.proofs.lemmas.Option.{slice_get_within, slice_get-get_or}
 use Rattle.copied_part_laws.specs.below.hh_lang.{ProgramText}
+use Rattle.copied_part_laws.specs.below.task_machine.{Private}
 use Rattle.steal_scheduler.specs.declared.hand.Hand.{Hand}
 use Rattle.steal_scheduler.specs.declared.theft.Theft.{Theft}
 use Rattle.steal_scheduler.specs.Hands.{AreNewHands, ChangesAt, KeepsOwn, SameHand, TookNone, empty_pops, thefts}
 use Rattle.steal_scheduler.specs.Thefts.{SameTheft, StoleNone}
 use Rattle.turn_entries.specs.declared.between_turns.Ready.{Ready}
 use Rattle.turn_entries.specs.declared.between_turns.Ready.TheVariants.{Paused as HasPaused, Copied as IsCopied, Found, Wanting}
-use Rattle.turn_entries.specs.Parts.{ComesWith, Sight}
+use Rattle.turn_entries.specs.Parts.{ComesWith}
 use Rattle.worker_run.specs.Desks.{AreHands}
 use Rattle.worker_run.specs.Tasks.{Finds, HaveRoot, Looks, Puts, PutsBoth, PutsFewer, Shares, SharesBoth, TriedBefore, after_it}
 
@@ -100,23 +102,23 @@ looks_then k task a b c (IsCopied d) P h = absurd h
 looks_then k task a b c (Found o) P h = (b, P, h)
 looks_then k task a b c Wanting P h = absurd h
 
-pub comes_looking : (p : ProgramText) (k : ℕ) (v : Sight) (a b : Hand) (ready : Ready) → Looks k a b ready → ComesWith p k v ready
-comes_looking p k v a b (HasPaused part why) h = absurd h
-comes_looking p k v a b (IsCopied c) h = absurd h
-comes_looking p k v a b (Found o) h = tt
-comes_looking p k v a b Wanting h = absurd h
+pub comes_looking : (p : ProgramText) (k : ℕ) (kept : Option (Snapshot Private)) (a b : Hand) (ready : Ready) → Looks k a b ready → ComesWith p k kept ready
+comes_looking p k kept a b (HasPaused part why) h = absurd h
+comes_looking p k kept a b (IsCopied c) h = absurd h
+comes_looking p k kept a b (Found o) h = tt
+comes_looking p k kept a b Wanting h = absurd h
 
-pub comes_sharing_both : (p : ProgramText) (k left right : ℕ) (v : Sight) (a b : Hand) (ready : Ready) → SharesBoth k left right a b ready → ComesWith p k v ready
-comes_sharing_both p k left right v a b (HasPaused part why) h = absurd h
-comes_sharing_both p k left right v a b (IsCopied c) h = absurd h
-comes_sharing_both p k left right v a b (Found o) h = tt
-comes_sharing_both p k left right v a b Wanting h = tt
+pub comes_sharing_both : (p : ProgramText) (k left right : ℕ) (kept : Option (Snapshot Private)) (a b : Hand) (ready : Ready) → SharesBoth k left right a b ready → ComesWith p k kept ready
+comes_sharing_both p k left right kept a b (HasPaused part why) h = absurd h
+comes_sharing_both p k left right kept a b (IsCopied c) h = absurd h
+comes_sharing_both p k left right kept a b (Found o) h = tt
+comes_sharing_both p k left right kept a b Wanting h = tt
 
-pub comes_sharing : (p : ProgramText) (k task : ℕ) (v : Sight) (a b : Hand) (ready : Ready) → Shares k task a b ready → ComesWith p k v ready
-comes_sharing p k task v a b (HasPaused part why) h = absurd h
-comes_sharing p k task v a b (IsCopied c) h = absurd h
-comes_sharing p k task v a b (Found o) h = tt
-comes_sharing p k task v a b Wanting h = tt
+pub comes_sharing : (p : ProgramText) (k task : ℕ) (kept : Option (Snapshot Private)) (a b : Hand) (ready : Ready) → Shares k task a b ready → ComesWith p k kept ready
+comes_sharing p k task kept a b (HasPaused part why) h = absurd h
+comes_sharing p k task kept a b (IsCopied c) h = absurd h
+comes_sharing p k task kept a b (Found o) h = tt
+comes_sharing p k task kept a b Wanting h = tt
 
 -- ---- THE FIRST HANDS
 

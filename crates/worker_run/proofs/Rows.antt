@@ -21,8 +21,8 @@ use Rattle.worker_run.specs.Desks.{AreAllDesks, AreNewDesks, AreOpened, HasOfEac
 use Rattle.worker_run.specs.Outcomes.{IsRun, WasGivenBack, finish_of}
 use Rattle.worker_run.specs.Rounds.{AllGoRound}
 
-abbrev pub Chair : Type 0
-Chair = Seat (Option Run) Sight
+abbrev pub Chair : Type 0 → Type 0
+Chair P = Seat (Option (Run P)) (Sight P)
 
 pub first_of : {A : Type 0} (l : List A) (x : A) → 0 < length l → x ≡ get_or l 0 x → slice_get l 0 ≡ Some x
 first_of [] x h e = absurd (omega arith)
@@ -32,8 +32,8 @@ pub rest_of : {A : Type 0} (l : List A) (x : A) → 0 < length l → x ≡ get_o
 rest_of [] x h e k y at = absurd (omega arith)
 rest_of (z ∷ zs) x h e k y at = at
 
-pub none_new : (s : SettingsValue) → AreNewDesks s []
-none_new s = λ k d at. absurd (none-some d at)
+pub none_new : (P : Type 0) (s : SettingsValue) → AreNewDesks {P = P} s []
+none_new P s = λ k d at. absurd (none-some d at)
 
 -- one more at the end
 pub all_more : {A : Type 0} (P : ℕ → A → Type 0) (xs : List A) (x : A) → ((k : ℕ) (y : A) → slice_get xs k ≡ Some y → P k y) → P (length xs) x → (k : ℕ) (y : A) → slice_get (xs ++ x ∷ []) k ≡ Some y → P k y
@@ -50,100 +50,102 @@ moved_on f done left x y is some first = ap (λ l. l ++ remove left 0) (map-appe
 pub whole_written : {A : Type 0} (len : ℕ) (new old : List A) → length new ≡ length old → len ≡ length old → take len (new ++ drop (length new) old) ≡ new
 whole_written len new old e is = ap (λ l. take len (new ++ l)) (drop_of_length-le old (omega arith)) ∙ (ap (take len) (append-nil new) ∙ take_all len new (omega arith))
 
-abbrev seat_of : Desk → Chair
-seat_of d = d.seat
+module _ {P : Type 0} where
+  abbrev seat_of : Desk P → Chair P
+  seat_of d = d.seat
 
--- all desks after calls of which each left its desk in order
-pub kept_desks : (z : TableId) (p : ProgramText) (s : SettingsValue) (before after : List Desk) → AreAllDesks z p s before → length after ≡ length before
-    → ((k : ℕ) (d e : Desk) → slice_get before k ≡ Some d → slice_get after k ≡ Some e → IsDesk z p e × SameDesk d e) → AreAllDesks z p s after
-kept_desks z p s before after all long kept = record {
-  count = long ∙ all.count;
-  seats = kept_are_all z (map seat_of before) (map seat_of after) all.seats (length-map after seat_of ∙ (long ∙ sym (length-map before seat_of)))
-      (λ k x y at to. let d = map_got seat_of before k x at in let e = map_got seat_of after k y to in let one = kept k d.0 e.0 d.1 e.1 in
-      (subst (HasNoTurn z) e.2 one.0.idle, subst (λ (t : Chair). SameWorkerOf x t) e.2 (subst (λ (t : Chair). SameWorkerOf t e.0.seat) d.2 one.1.seat)));
-  each_desk = λ k e at. let h = slice_get_within after k e at in let d = slice_get-get_or before k e (omega arith) in let one = kept k (get_or before k e) e d at in
-      (one.0, one.1.worker ∙ (all.each_desk k (get_or before k e) d).1, one.1.settings ∙ (all.each_desk k (get_or before k e) d).2);
-}
-  where
-    SameWorkerOf : Chair → Chair → Type 0
-    SameWorkerOf x t = SameWorker (view x) (view t)
+  -- all desks after calls of which each left its desk in order
+  pub kept_desks : (z : TableId) (p : ProgramText) (s : SettingsValue) (before after : List (Desk P)) → AreAllDesks z p s before → length after ≡ length before
+      → ((k : ℕ) (d e : Desk P) → slice_get before k ≡ Some d → slice_get after k ≡ Some e → IsDesk z p e × SameDesk d e) → AreAllDesks z p s after
+  kept_desks z p s before after all long kept = record {
+    count = long ∙ all.count;
+    seats = kept_are_all z (map seat_of before) (map seat_of after) all.seats (length-map after seat_of ∙ (long ∙ sym (length-map before seat_of)))
+        (λ k x y at to. let d = map_got seat_of before k x at in let e = map_got seat_of after k y to in let one = kept k d.0 e.0 d.1 e.1 in
+        (subst (HasNoTurn z) e.2 one.0.idle, subst (λ (t : Chair P). SameWorkerOf x t) e.2 (subst (λ (t : Chair P). SameWorkerOf t e.0.seat) d.2 one.1.seat)));
+    each_desk = λ k e at. let h = slice_get_within after k e at in let d = slice_get-get_or before k e (omega arith) in let one = kept k (get_or before k e) e d at in
+        (one.0, one.1.worker ∙ (all.each_desk k (get_or before k e) d).1, one.1.settings ∙ (all.each_desk k (get_or before k e) d).2);
+  }
+    where
+      SameWorkerOf : Chair P → Chair P → Type 0
+      SameWorkerOf x t = SameWorker (view x) (view t)
 
--- all desks after calls on a borrow of the whole that keep them in order
-pub lent_desks : (z : TableId) (p : ProgramText) (s : SettingsValue) (len : ℕ) (opened lent after : List Desk) → lent ≡ opened → length after ≡ length opened → len ≡ length opened → AreAllDesks z p s opened
-    → ((t : SettingsValue) → AreAllDesks z p t lent → AreAllDesks z p t after) → AreAllDesks z p s after × AreAllDesks z p s (take len (after ++ drop (length after) opened))
-lent_desks z p s len opened lent after was long many all kept = (done, subst (AreAllDesks z p s) (sym (whole_written len after opened long many)) done)
-  where
-    done : AreAllDesks z p s after
-    done = kept s (subst (AreAllDesks z p s) (sym was) all)
+  -- all desks after calls on a borrow of the whole that keep them in order
+  pub lent_desks : (z : TableId) (p : ProgramText) (s : SettingsValue) (len : ℕ) (opened lent after : List (Desk P)) → lent ≡ opened → length after ≡ length opened → len ≡ length opened → AreAllDesks z p s opened
+      → ((t : SettingsValue) → AreAllDesks z p t lent → AreAllDesks z p t after) → AreAllDesks z p s after × AreAllDesks z p s (take len (after ++ drop (length after) opened))
+  lent_desks z p s len opened lent after was long many all kept = (done, subst (AreAllDesks z p s) (sym (whole_written len after opened long many)) done)
+    where
+      done : AreAllDesks z p s after
+      done = kept s (subst (AreAllDesks z p s) (sym was) all)
 
--- the desks of new seats
-pub new_desks : (z : TableId) (v : Sight) (n : ℕ) (p : ProgramText) (s : SettingsValue) (seats : List Chair) (desks : List Desk) → 0 < n → n ≡ s.workers → s.workers < 2 ^ 32 → v.seen ≡ [] → v.joined ≡ [] → v.setup ≡ Some (record { program = p; settings = s }) → AreNewSeats z v n seats
-    → map (λ d. d.seat) desks ≡ seats → AreNewDesks s desks → AreAllDesks z p s desks
-new_desks z v n p s seats desks some workers few none_seen none_joined under new same fresh = record {
-  count = sym (length-map desks seat_of) ∙ (ap length same ∙ (new.0 ∙ workers));
-  seats = subst (AreAllSeats z) (sym same) (new_are_all z v n seats some none_joined new);
-  each_desk = λ k d e. let t = new.1 k d.seat (at k d e) in let f = fresh k d e in (
-    record {
-      idle = t.0;
-      number = ap (λ (u : Sight). u.worker) t.1 ∙ sym f.0;
-      under = ap (λ (u : Sight). u.setup) t.1 ∙ (under ∙ ap (λ (x : SettingsValue). Some (record { program = p; settings = x })) (sym f.1));
-      below = (let h = slice_get_within desks k d e in let m = sym (length-map desks seat_of) ∙ (ap length same ∙ new.0) in let a = f.0 in let b : d.settings.workers ≡ s.workers = ap (λ (x : SettingsValue). x.workers) f.1 in omega (arith, h, m, workers, a, b));
-      few = (let b : d.settings.workers ≡ s.workers = ap (λ (x : SettingsValue). x.workers) f.1 in omega (arith, few, b));
-      gave = f.2 ∙ ap length (sym (nothing k d e));
-      thieves = f.3 ∙ ap (λ (x : SettingsValue). x.workers) (sym f.1);
-    },
-    f.0,
-    f.1,
-  );
-}
-  where
-    at : (k : ℕ) (d : Desk) → slice_get desks k ≡ Some d → slice_get seats k ≡ Some d.seat
-    at k d e = ap (λ l. slice_get l k) (sym same) ∙ got_map seat_of desks k d e
+  -- the desks of new seats
+  pub new_desks : (z : TableId) (v : Sight P) (n : ℕ) (p : ProgramText) (s : SettingsValue) (seats : List (Chair P)) (desks : List (Desk P)) → 0 < n → n ≡ s.workers → s.workers < 2 ^ 32 → v.seen ≡ [] → v.joined ≡ [] → v.setup ≡ Some (record { program = p; settings = s }) → AreNewSeats z v n seats
+      → map (λ d. d.seat) desks ≡ seats → AreNewDesks s desks → AreAllDesks z p s desks
+  new_desks z v n p s seats desks some workers few none_seen none_joined under new same fresh = record {
+    count = sym (length-map desks seat_of) ∙ (ap length same ∙ (new.0 ∙ workers));
+    seats = subst (AreAllSeats z) (sym same) (new_are_all z v n seats some none_joined new);
+    each_desk = λ k d e. let t = new.1 k d.seat (at k d e) in let f = fresh k d e in (
+      record {
+        idle = t.0;
+        number = ap (λ (u : Sight P). u.worker) t.1 ∙ sym f.0;
+        under = ap (λ (u : Sight P). u.setup) t.1 ∙ (under ∙ ap (λ (x : SettingsValue). Some (record { program = p; settings = x })) (sym f.1));
+        below = (let h = slice_get_within desks k d e in let m = sym (length-map desks seat_of) ∙ (ap length same ∙ new.0) in let a = f.0 in let b : d.settings.workers ≡ s.workers = ap (λ (x : SettingsValue). x.workers) f.1 in omega (arith, h, m, workers, a, b));
+        few = (let b : d.settings.workers ≡ s.workers = ap (λ (x : SettingsValue). x.workers) f.1 in omega (arith, few, b));
+        gave = f.2 ∙ ap length (sym (nothing k d e));
+        thieves = f.3 ∙ ap (λ (x : SettingsValue). x.workers) (sym f.1);
+      },
+      f.0,
+      f.1,
+    );
+  }
+    where
+      at : (k : ℕ) (d : Desk P) → slice_get desks k ≡ Some d → slice_get seats k ≡ Some d.seat
+      at k d e = ap (λ l. slice_get l k) (sym same) ∙ got_map seat_of desks k d e
 
-    nothing : (k : ℕ) (d : Desk) → slice_get desks k ≡ Some d → entries_of d ≡ []
-    nothing k d e = ap (λ (l : List EntryValue). entries_by worker_of (view d.seat).worker l) (ap (λ (u : Sight). u.seen) (new.1 k d.seat (at k d e)).1 ∙ none_seen)
+      nothing : (k : ℕ) (d : Desk P) → slice_get desks k ≡ Some d → entries_of d ≡ []
+      nothing k d e = ap (λ (l : List EntryValue). entries_by worker_of (view d.seat).worker l) (ap (λ (u : Sight P). u.seen) (new.1 k d.seat (at k d e)).1 ∙ none_seen)
 
 -- ---- THE VALUE AT THE END
 
-module _ (z : TableId) (p : ProgramText) (s : SettingsValue) (desks : List Desk) (seats : List Chair) (value : Run) (all : AreAllDesks z p s desks) (is : seats ≡ map (λ d. d.seat) desks) where
-  seat_there : (k : ℕ) (d : Desk) → slice_get desks k ≡ Some d → slice_get seats k ≡ Some d.seat
-  seat_there k d e = ap (λ (l : List Chair). slice_get l k) is ∙ got_map seat_of desks k d e
+module _ {P : Type 0} (value : P → SharedValue) where
+  module _ (z : TableId) (p : ProgramText) (s : SettingsValue) (desks : List (Desk P)) (seats : List (Chair P)) (run : Run P) (all : AreAllDesks z p s desks) (is : seats ≡ map (λ d. d.seat) desks) where
+    seat_there : (k : ℕ) (d : Desk P) → slice_get desks k ≡ Some d → slice_get seats k ≡ Some d.seat
+    seat_there k d e = ap (λ (l : List (Chair P)). slice_get l k) is ∙ got_map seat_of desks k d e
 
-  pub of_each : HasOwnEntries journal_of worker_of FitsSnapshot setup_of value seats → HasOfEach (journal_of value) desks
-  of_each own = λ k d e. let same = own k d.seat (seat_there k d e) in (same, (all.each_desk k d e).0.gave ∙ ap length (sym same))
+    pub of_each : HasOwnEntries (journal_of value) worker_of (FitsSnapshot value) (setup_of value) run seats → HasOfEach (journal_of value run) desks
+    of_each own = λ k d e. let same = own k d.seat (seat_there k d e) in (same, (all.each_desk k d e).0.gave ∙ ap length (sym same))
 
-  pub have_seen : IsFinalFor journal_of worker_of FitsSnapshot setup_of value seats → HaveSeen (journal_of value) desks
-  have_seen left = record {
-    begins = λ k d e. left.begins k d.seat (seat_there k d e);
-    whole = (let l = left.longest in let d = map_got seat_of desks l.0 l.1 (ap (λ (x : List Chair). slice_get x l.0) (sym is) ∙ l.2) in (l.0, d.0, d.1, ap (λ (c : Chair). (view c).seen) d.2 ∙ l.3));
+    pub have_seen : IsFinalFor (journal_of value) worker_of (FitsSnapshot value) (setup_of value) run seats → HaveSeen (journal_of value run) desks
+    have_seen left = record {
+      begins = λ k d e. left.begins k d.seat (seat_there k d e);
+      whole = (let l = left.longest in let d = map_got seat_of desks l.0 l.1 (ap (λ (x : List (Chair P)). slice_get x l.0) (sym is) ∙ l.2) in (l.0, d.0, d.1, ap (λ (c : Chair P). (view c).seen) d.2 ∙ l.3));
+    }
+
+    setup_at_end : IsFinalFor (journal_of value) worker_of (FitsSnapshot value) (setup_of value) run seats → setup_of value run ≡ record { program = p; settings = s }
+    setup_at_end left =
+        let some = all.seats.some_seat in let long = length-map desks seat_of in let d = first_there desks (omega (arith, some, long)) in
+        same_Some (setup_of value run) _ (sym (left.same_setup d.0.seat (seat_there 0 d.0 d.1)) ∙ ((all.each_desk 0 d.0 d.1).0.under ∙ ap (λ (x : SettingsValue). Some (record { program = p; settings = x })) (all.each_desk 0 d.0 d.1).2))
+
+    pub settings_at_end : IsFinalFor (journal_of value) worker_of (FitsSnapshot value) (setup_of value) run seats → (value run.paced).settings ≡ s
+    settings_at_end left = ap (λ (x : Setup). x.settings) (setup_at_end left)
+
+    pub program_at_end : IsFinalFor (journal_of value) worker_of (FitsSnapshot value) (setup_of value) run seats → (value run.paced).program ≡ p
+    program_at_end left = ap (λ (x : Setup). x.program) (setup_at_end left)
+
+  -- what the desks gave back
+  pub was_given : (z : TableId) (p : ProgramText) (s : SettingsValue) (first desks : List (Desk P)) (w : SharedValue) → AreAllDesks z p s first → AreOpened s first → AreAllDesks z p s desks → AllGoRound value p first desks → HaveStopped value desks
+      → HaveSeen w.journal.items desks → HasOfEach w.journal.items desks → WasGivenBack value p s w.journal.items
+  was_given z p s first desks w all_first opened all rounds stopped seen each = record {
+    turn = z;
+    first = first;
+    all_first = all_first;
+    opened = opened;
+    desks = desks;
+    all = all;
+    rounds = rounds;
+    stopped = stopped;
+    seen = seen;
+    of_each = each;
   }
-
-  setup_at_end : IsFinalFor journal_of worker_of FitsSnapshot setup_of value seats → setup_of value ≡ record { program = p; settings = s }
-  setup_at_end left =
-      let some = all.seats.some_seat in let long = length-map desks seat_of in let d = first_there desks (omega (arith, some, long)) in
-      same_Some (setup_of value) _ (sym (left.same_setup d.0.seat (seat_there 0 d.0 d.1)) ∙ ((all.each_desk 0 d.0 d.1).0.under ∙ ap (λ (x : SettingsValue). Some (record { program = p; settings = x })) (all.each_desk 0 d.0 d.1).2))
-
-  pub settings_at_end : IsFinalFor journal_of worker_of FitsSnapshot setup_of value seats → value.paced.settings ≡ s
-  settings_at_end left = ap (λ (x : Setup). x.settings) (setup_at_end left)
-
-  pub program_at_end : IsFinalFor journal_of worker_of FitsSnapshot setup_of value seats → value.paced.program ≡ p
-  program_at_end left = ap (λ (x : Setup). x.program) (setup_at_end left)
-
--- what the desks gave back, where the value handed on has the same journal
-pub was_given : (z : TableId) (p : ProgramText) (s : SettingsValue) (first desks : List Desk) (w last : SharedValue) → AreAllDesks z p s first → AreOpened s first → AreAllDesks z p s desks → AllGoRound p first desks → HaveStopped desks
-    → HaveSeen w.journal.items desks → HasOfEach w.journal.items desks → last ≡ w → WasGivenBack p s last.journal.items
-was_given z p s first desks w last all_first opened all rounds stopped seen each same = record {
-  turn = z;
-  first = first;
-  all_first = all_first;
-  opened = opened;
-  desks = desks;
-  all = all;
-  rounds = rounds;
-  stopped = stopped;
-  seen = subst (λ (x : SharedValue). HaveSeen x.journal.items desks) (sym same) seen;
-  of_each = subst (λ (x : SharedValue). HasOfEach x.journal.items desks) (sym same) each;
-}
 
 -- a run of this program with these settings
 pub is_run : (p : ProgramText) (s : SettingsValue) (w : SharedValue) → IsSharedValue w → w.program ≡ p → w.settings ≡ s → is_paced w.program w.settings w.journal.items ≡ true → IsRun p s w

@@ -27,14 +27,14 @@ pub record IsRun (p : ProgramText) (s : SettingsValue) (w : SharedValue) : Type 
 -- WHAT THE WORKERS GAVE BACK: at one turn each worker of a run of this program with these settings had a desk, and the
 -- first had put the root; there each went round until the run was over; of each the journal has just the entries that
 -- its desk gave back, each once
-pub record WasGivenBack (p : ProgramText) (s : SettingsValue) (journal : List EntryValue) : Type 0 where
+pub record WasGivenBack {P : Type 0} (value : P → SharedValue) (p : ProgramText) (s : SettingsValue) (journal : List EntryValue) : Type 0 where
   pub turn : TableId
-  pub first : List Desk
+  pub first : List (Desk P)
   pub all_first : AreAllDesks turn p s first
   pub opened : AreOpened s first
-  pub desks : List Desk
+  pub desks : List (Desk P)
   pub all : AreAllDesks turn p s desks
-  pub rounds : AllGoRound p first desks
-  pub stopped : HaveStopped desks
+  pub rounds : AllGoRound value p first desks
+  pub stopped : HaveStopped value desks
   pub seen : HaveSeen journal desks
   pub of_each : HasOfEach journal desks

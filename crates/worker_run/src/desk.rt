@@ -2,12 +2,12 @@
 
 use std::alloc::Global;
 use steal_scheduler::Hand;
-use turn_entries::{Run, Seat, Settings};
+use turn_entries::{EntryCalls, Run, Seat, Settings};
 
 /// A worker's place at a run: its seat at the turn and its hand at the deques.
 #[derive(Drop)]
-pub struct Desk {
-    pub seat: Seat<Run>,
+pub struct Desk<P: EntryCalls> {
+    pub seat: Seat<Run<P>>,
     pub hand: Hand,
     pub worker: u32,
     /// For the blocks of its parts, and of the new chunks of their collections.

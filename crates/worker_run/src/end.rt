@@ -1,6 +1,6 @@
 //! What a run leaves.
 
-use turn_entries::{Counted, RunEnd};
+use turn_entries::RunEnd;
 
 /// How a run finished.
 #[derive(Clone, Copy)]
@@ -13,8 +13,8 @@ pub enum Finish {
 
 /// What a run leaves.
 #[derive(Drop)]
-pub struct Outcome {
+pub struct Outcome<P> {
     pub finish: Finish,
-    /// The shared value; None only where there was no memory to start with, before the first entry.
-    pub shared: Option<Counted>,
+    /// The shared value, whoever keeps it; None only where there was no memory to start with, before the first entry.
+    pub shared: Option<P>,
 }

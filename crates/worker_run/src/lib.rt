@@ -22,7 +22,7 @@ pub use desk::Desk;
 pub use end::{Finish, Outcome};
 pub use local::{copy_part, run_part};
 pub use turn::take_turn;
-pub use turn_entries::{Acted, Collecting, Copied, Next, Ready, Run, Setup, Turn};
+pub use turn_entries::{Acted, Collecting, Copied, EntryCalls, Next, Ready, Run, Setup, Turn};
 pub use workers::{all_work, close, opened, run_on_workers};
 pub use working::{prepare, work};
 pub use workshop::Workshop;

@@ -9,17 +9,22 @@ use crate::desk::Desk;
 use crate::workshop::Workshop;
 use std::snapshot::Snapshot;
 use std::sync::Wait;
-use turn_entries::{Acted, Next, Private, Ready, Run, Turn};
+use turn_entries::{Acted, EntryCalls, Next, Private, Ready, Run, Turn};
 
 // Gives the value back with the entry that was made; the worker keeps the part.
-fn give_entry(turn: &Turn<Run>, desk: &mut Desk, run: Run, kept: Option<&Snapshot<Private>>)
-    requires entry { HasEntry (identity turn.now) desk.old run }
-    requires kept { IfSome kept (λ s. Fits run.paced desk.old.worker s.now.value) }
-    ensures desk { IsDesk (identity turn.now) run.paced.program desk.new }
+fn give_entry<P: EntryCalls + Drop>(
+    turn: &Turn<Run<P>>,
+    desk: &mut Desk<P>,
+    run: Run<P>,
+    kept: Option<&Snapshot<Private>>,
+)
+    requires entry { HasEntry P.value (identity turn.now) desk.old run }
+    requires kept { IfSome kept (λ s. Fits (P.value run.paced) desk.old.worker s.now.value) }
+    ensures desk { IsDesk (identity turn.now) (P.value run.paced).program desk.new }
     ensures same { SameDesk desk.old desk.new }
     ensures place { KeepsPlace desk.old desk.new }
     ensures part { (view desk.new.seat).part ≡ option_map (λ s. s.now) kept.entry }
-    ensures gave { HasGiven desk.new run }
+    ensures gave { HasGiven P.value desk.new run }
     ensures one { GivesOne desk.old desk.new }
 {
     run.is_short();
@@ -28,15 +33,20 @@ fn give_entry(turn: &Turn<Run>, desk: &mut Desk, run: Run, kept: Option<&Snapsho
 }
 
 // Gives the value back with the entry that was made, and goes on with what comes next.
-fn give(turn: &Turn<Run>, desk: &mut Desk, run: Run, next: Next) -> Next
-    requires entry { HasEntry (identity turn.now) desk.old run }
-    requires takes { TakesFrom run.paced desk.old.worker next }
-    ensures desk { IsDesk (identity turn.now) run.paced.program desk.new }
+fn give<P: EntryCalls + Drop>(
+    turn: &Turn<Run<P>>,
+    desk: &mut Desk<P>,
+    run: Run<P>,
+    next: Next,
+) -> Next
+    requires entry { HasEntry P.value (identity turn.now) desk.old run }
+    requires takes { TakesFrom (P.value run.paced) desk.old.worker next }
+    ensures desk { IsDesk (identity turn.now) (P.value run.paced).program desk.new }
     ensures same { SameDesk desk.old desk.new }
     ensures place { KeepsPlace desk.old desk.new }
     ensures kept { result ≡ next }
-    ensures next { GoesWith run.paced.program desk.old.worker (view desk.new.seat) result }
-    ensures gave { HasGiven desk.new run }
+    ensures next { GoesWith (P.value run.paced).program desk.old.worker (view desk.new.seat).part result }
+    ensures gave { HasGiven P.value desk.new run }
     ensures one { GivesOne desk.old desk.new }
 {
     match next {
@@ -62,13 +72,18 @@ fn give(turn: &Turn<Run>, desk: &mut Desk, run: Run, next: Next) -> Next
 }
 
 /// Takes the turn with what the worker comes with, and makes the entry that comes next, if one does.
-pub fn take_turn<R: Wait, G>(rt: &R, shop: &Workshop<G>, desk: &mut Desk, ready: Ready) -> Next
+pub fn take_turn<R: Wait, P: EntryCalls + Drop, G>(
+    rt: &R,
+    shop: &Workshop<P, G>,
+    desk: &mut Desk<P>,
+    ready: Ready,
+) -> Next
     requires desk { IsDesk (identity shop.now.turn.now) shop.now.program.now desk.old }
-    requires comes { ComesWith shop.now.program.now desk.old.worker (view desk.old.seat) ready }
+    requires comes { ComesWith shop.now.program.now desk.old.worker (view desk.old.seat).part ready }
     ensures desk { IsDesk (identity shop.now.turn.now) shop.now.program.now desk.new }
     ensures same { SameDesk desk.old desk.new }
-    ensures next { GoesWith shop.now.program.now desk.old.worker (view desk.new.seat) result }
-    ensures turn { TakesTurn desk.old desk.new ready result }
+    ensures next { GoesWith shop.now.program.now desk.old.worker (view desk.new.seat).part result }
+    ensures turn { TakesTurn P.value desk.old desk.new ready result }
 {
     let run = shop.turn.take(rt, &mut desk.seat);
     match run.act(desk.alloc, desk.worker, ready) {

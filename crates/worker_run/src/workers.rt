@@ -20,14 +20,18 @@ use std::sync::Wait;
 use std::thread;
 use std::thread::Threads;
 use steal_scheduler::{Deques, Hand};
-use turn_entries::{Counted, Next, Paced, Program, Run, Seat, Settings, Turn};
+use turn_entries::{EntryCalls, Next, Program, Run, Seat, Settings, Turn};
 
 /// Each worker works at its desk in a thread of its own, until the run is over.
-pub fn all_work<R: Threads + Wait + Sync, G: Gate>(rt: &R, shop: &Workshop<G>, desks: &mut [Desk])
+pub fn all_work<R: Threads + Wait + Sync, P: EntryCalls + Drop + Send, G: Gate>(
+    rt: &R,
+    shop: &Workshop<P, G>,
+    desks: &mut [Desk<P>],
+)
     requires all { (s : SettingsValue) × AreAllDesks (identity shop.now.turn.now) shop.now.program.now s desks.old }
     ensures all { (s : SettingsValue) → AreAllDesks (identity shop.now.turn.now) shop.now.program.now s desks.old → AreAllDesks (identity shop.now.turn.now) shop.now.program.now s desks.new }
-    ensures rounds { AllGoRound shop.now.program.now desks.old desks.new }
-    ensures over { HaveStopped desks.new }
+    ensures rounds { AllGoRound P.value shop.now.program.now desks.old desks.new }
+    ensures over { HaveStopped P.value desks.new }
 {
     let threads = desks.len();
     if threads == 0 {
@@ -37,20 +41,20 @@ pub fn all_work<R: Threads + Wait + Sync, G: Gate>(rt: &R, shop: &Workshop<G>, d
         rt,
         desks,
         threads,
-        &|_: usize, desk: &mut Desk|
+        &|_: usize, desk: &mut Desk<P>|
             requires { IsDesk (identity shop.now.turn.now) shop.now.program.now desk.now }
-            ensures { IsDesk (identity shop.entry.now.turn.now) shop.entry.now.program.now desk.exit.now × SameDesk desk.entry.now desk.exit.now × GoesRound shop.entry.now.program.now desk.entry.now Next.Idle desk.exit.now Next.Stop × HasStopped desk.exit.now }
+            ensures { IsDesk (identity shop.entry.now.turn.now) shop.entry.now.program.now desk.exit.now × SameDesk desk.entry.now desk.exit.now × GoesRound P.value shop.entry.now.program.now desk.entry.now Next.Idle desk.exit.now Next.Stop × HasStopped P.value desk.exit.now }
         { work(rt, shop, desk) },
     );
 }
 
 // A desk for each seat and hand.
-fn desks_of(
+fn desks_of<P: EntryCalls>(
     alloc: Global,
     settings: Settings,
-    mut seats: Vec<Seat<Run>>,
+    mut seats: Vec<Seat<Run<P>>>,
     mut hands: Vec<Hand>,
-) -> Result<Vec<Desk>, AllocError>
+) -> Result<Vec<Desk<P>>, AllocError>
     requires hands { AreHands (vec_len seats) hands.items }
     requires workers { vec_len seats ≡ settings.workers }
     requires few { settings.workers < 2 ^ 32 }
@@ -79,7 +83,10 @@ fn desks_of(
 }
 
 // The seats of the desks.
-fn seats_of(mut desks: Vec<Desk>, mut seats: Vec<Seat<Run>>) -> Vec<Seat<Run>>
+fn seats_of<P: EntryCalls>(
+    mut desks: Vec<Desk<P>>,
+    mut seats: Vec<Seat<Run<P>>>,
+) -> Vec<Seat<Run<P>>>
     requires none { seats.items ≡ [] }
     requires room { vec_len desks ≤ vec_capacity seats }
     ensures { result.items ≡ map (λ d. d.seat) desks.items }
@@ -92,13 +99,17 @@ fn seats_of(mut desks: Vec<Desk>, mut seats: Vec<Seat<Run>>) -> Vec<Seat<Run>>
 }
 
 /// Ends the turn: its value has of each worker just the entries that its desk gave back. `seats` has room for all.
-pub fn close(turn: Turn<Run>, desks: Vec<Desk>, seats: Vec<Seat<Run>>) -> Paced
+pub fn close<P: EntryCalls + Drop>(
+    turn: Turn<Run<P>>,
+    desks: Vec<Desk<P>>,
+    seats: Vec<Seat<Run<P>>>,
+) -> P
     requires all { (p : ProgramText) × (s : SettingsValue) × AreAllDesks (identity turn) p s desks.items }
     requires none { seats.items ≡ [] }
     requires room { vec_len desks ≤ vec_capacity seats }
-    ensures of_each { HasOfEach result.journal.items desks.items }
-    ensures seen { HaveSeen result.journal.items desks.items }
-    ensures setup { (p : ProgramText) (s : SettingsValue) → AreAllDesks (identity turn) p s desks.items → (result.program ≡ p) × (result.settings ≡ s) }
+    ensures of_each { HasOfEach (P.value result).journal.items desks.items }
+    ensures seen { HaveSeen (P.value result).journal.items desks.items }
+    ensures setup { (p : ProgramText) (s : SettingsValue) → AreAllDesks (identity turn) p s desks.items → ((P.value result).program ≡ p) × ((P.value result).settings ≡ s) }
 {
     let Run { paced, .. } = turn.close(seats_of(desks, seats));
     paced
@@ -117,15 +128,15 @@ fn new_hands(alloc: Global, workers: u32) -> Result<Vec<Hand>, AllocError>
 }
 
 /// The turn of the value before its first entry, and the desks of all workers. The first one's hand has put the root.
-pub fn opened(
+pub fn opened<P: EntryCalls + Drop>(
     alloc: Global,
     program: &Program,
     settings: Settings,
-) -> Result<(Turn<Run>, Vec<Desk>), AllocError>
+) -> Result<(Turn<Run<P>>, Vec<Desk<P>>), AllocError>
     ensures all { IfOk result (λ t. AreAllDesks (identity t.0) program.now settings t.1.items) }
     ensures new { IfOk result (λ t. AreOpened settings t.1.items) }
 {
-    let paced = Paced::new(alloc, program, settings)?;
+    let paced = P::new(alloc, program, settings)?;
     let workers = settings.workers();
     let (turn, seats) = Turn::new(alloc, Run::new(paced), workers)?;
     let hands = new_hands(alloc, workers)?;
@@ -134,11 +145,11 @@ pub fn opened(
 }
 
 // The turn and the desks, and an empty list with capacity for the seat of each desk.
-fn with_seats(
+fn with_seats<P: EntryCalls + Drop>(
     alloc: Global,
     program: &Program,
     settings: Settings,
-) -> Result<(Turn<Run>, Vec<Desk>, Vec<Seat<Run>>), AllocError>
+) -> Result<(Turn<Run<P>>, Vec<Desk<P>>, Vec<Seat<Run<P>>>), AllocError>
     ensures all { IfOk result (λ t. AreAllDesks (identity t.0) program.now settings t.1.items) }
     ensures new { IfOk result (λ t. AreOpened settings t.1.items) }
     ensures none { IfOk result (λ t. t.2.items ≡ []) }
@@ -150,19 +161,19 @@ fn with_seats(
 }
 
 // All workers work until the run is over; the shared value comes back whatever they met, a failed allocation too.
-fn run_all<R: Threads + Wait + Sync, G: Gate>(
+fn run_all<R: Threads + Wait + Sync, P: EntryCalls + Drop + Send, G: Gate>(
     rt: &R,
-    turn: Turn<Run>,
-    mut desks: Vec<Desk>,
-    seats: Vec<Seat<Run>>,
+    turn: Turn<Run<P>>,
+    mut desks: Vec<Desk<P>>,
+    seats: Vec<Seat<Run<P>>>,
     program: &Program,
     gate: &G,
-) -> Counted
+) -> P
     requires all { (s : SettingsValue) × AreAllDesks (identity turn) program.now s desks.items }
     requires none { seats.items ≡ [] }
     requires room { vec_len desks ≤ vec_capacity seats }
-    ensures run { (s : SettingsValue) → AreAllDesks (identity turn) program.now s desks.items → IsRun program.now s result }
-    ensures gave { (s : SettingsValue) → AreAllDesks (identity turn) program.now s desks.items → AreOpened s desks.items → WasGivenBack program.now s result.journal.items }
+    ensures run { (s : SettingsValue) → AreAllDesks (identity turn) program.now s desks.items → IsRun program.now s (P.value result) }
+    ensures gave { (s : SettingsValue) → AreAllDesks (identity turn) program.now s desks.items → AreOpened s desks.items → WasGivenBack P.value program.now s (P.value result).journal.items }
 {
     let bell = Bell::new();
     let shop = Workshop {
@@ -172,7 +183,7 @@ fn run_all<R: Threads + Wait + Sync, G: Gate>(
         program,
     };
     all_work(rt, &shop, desks.as_mut_slice());
-    let shared = close(turn, desks, seats).into_shared();
+    let shared = close(turn, desks, seats);
     shared.stands();
     shared
 }
@@ -180,16 +191,16 @@ fn run_all<R: Threads + Wait + Sync, G: Gate>(
 /// Runs a program with workers in threads: its journal is legal and paced, its order is that of the turns, and of each
 /// worker it has just the entries that this one gave back. The shared value is missing only where there was no memory
 /// to start with.
-pub fn run_on_workers<R: Threads + Wait + Sync, G: Gate>(
+pub fn run_on_workers<R: Threads + Wait + Sync, P: EntryCalls + Drop + Send, G: Gate>(
     rt: &R,
     alloc: Global,
     program: &Program,
     settings: Settings,
     gate: &G,
-) -> Outcome
-    ensures run { IfSome result.shared (IsRun program.now settings) }
-    ensures gave { IfSome result.shared (λ w. WasGivenBack program.now settings w.journal.items) }
-    ensures finish { IfSome result.shared (λ w. result.finish ≡ finish_of (end_of program.now settings w.journal.items)) }
+) -> Outcome<P>
+    ensures run { IfSome result.shared (λ w. IsRun program.now settings (P.value w)) }
+    ensures gave { IfSome result.shared (λ w. WasGivenBack P.value program.now settings (P.value w).journal.items) }
+    ensures finish { IfSome result.shared (λ w. result.finish ≡ finish_of (end_of program.now settings (P.value w).journal.items)) }
     ensures none { IfNone result.shared (result.finish ≡ Finish.NoMemory) }
 {
     let Ok((turn, desks, seats)) = with_seats(alloc, program, settings) else {
@@ -199,7 +210,7 @@ pub fn run_on_workers<R: Threads + Wait + Sync, G: Gate>(
         };
     };
     let shared = run_all(rt, turn, desks, seats, program, gate);
-    let finish = match shared.shared().ended() {
+    let finish = match shared.ended() {
         Some(end) => Finish::Ended(end),
         None => Finish::NoMemory,
     };

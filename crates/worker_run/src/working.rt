@@ -14,10 +14,10 @@ use crate::turn::take_turn;
 use crate::workshop::Workshop;
 use outside_io::{Gate, Point};
 use std::sync::Wait;
-use turn_entries::{Next, Ready};
+use turn_entries::{EntryCalls, Next, Ready};
 
 // The worker looks for a task.
-fn look<R: Wait>(rt: &R, bell: &Bell, desk: &mut Desk) -> Ready
+fn look<R: Wait, P: EntryCalls>(rt: &R, bell: &Bell, desk: &mut Desk<P>) -> Ready
     requires { FewThefts desk.old }
     ensures hand { ChangesHand desk.old desk.new }
     ensures found { Looks desk.old.worker desk.old.hand desk.new.hand result }
@@ -27,7 +27,7 @@ fn look<R: Wait>(rt: &R, bell: &Bell, desk: &mut Desk) -> Ready
 }
 
 // The worker puts both children of a fork where others find them, and looks for a task. Others may take one of the two.
-fn share_both<R: Wait>(rt: &R, bell: &Bell, desk: &mut Desk, left: u32, right: u32) -> Ready
+fn share_both<R: Wait, P: EntryCalls>(rt: &R, bell: &Bell, desk: &mut Desk<P>, left: u32, right: u32) -> Ready
     requires { FewThefts desk.old }
     ensures hand { ChangesHand desk.old desk.new }
     ensures shared { SharesBoth desk.old.worker left right desk.old.hand desk.new.hand result }
@@ -42,7 +42,7 @@ fn share_both<R: Wait>(rt: &R, bell: &Bell, desk: &mut Desk, left: u32, right: u
 }
 
 // The worker puts a task that runs again where others find it, and looks for one.
-fn share<R: Wait>(rt: &R, bell: &Bell, desk: &mut Desk, task: u32) -> Ready
+fn share<R: Wait, P: EntryCalls>(rt: &R, bell: &Bell, desk: &mut Desk<P>, task: u32) -> Ready
     requires { FewThefts desk.old }
     ensures hand { ChangesHand desk.old desk.new }
     ensures shared { Shares desk.old.worker task desk.old.hand desk.new.hand result }
@@ -54,16 +54,16 @@ fn share<R: Wait>(rt: &R, bell: &Bell, desk: &mut Desk, task: u32) -> Ready
 }
 
 /// What the worker comes for its next turn with; None where it stops.
-pub fn prepare<R: Wait, G: Gate>(
+pub fn prepare<R: Wait, P: EntryCalls, G: Gate>(
     rt: &R,
-    shop: &Workshop<G>,
-    desk: &mut Desk,
+    shop: &Workshop<P, G>,
+    desk: &mut Desk<P>,
     next: Next,
 ) -> Option<Ready>
-    requires goes { GoesWith shop.now.program.now desk.old.worker (view desk.old.seat) next }
+    requires goes { GoesWith shop.now.program.now desk.old.worker (view desk.old.seat).part next }
     requires few { FewThefts desk.old }
     ensures hand { ChangesHand desk.old desk.new }
-    ensures comes { IfSome result (ComesWith shop.now.program.now desk.old.worker (view desk.old.seat)) }
+    ensures comes { IfSome result (ComesWith shop.now.program.now desk.old.worker (view desk.old.seat).part) }
     ensures tasks { IfSome result (Prepares shop.now.program.now desk.old.worker next desk.old.hand desk.new.hand) }
     ensures stops { IfNone result ((next ≡ Next.Stop) × (desk.new ≡ desk.old)) }
 {
@@ -101,12 +101,16 @@ fn task_of(ready: &Ready) -> u32 {
 }
 
 /// Works until the run is over, as the worker has seen at its last turn.
-pub fn work<R: Wait, G: Gate>(rt: &R, shop: &Workshop<G>, desk: &mut Desk)
+pub fn work<R: Wait, P: EntryCalls + Drop, G: Gate>(
+    rt: &R,
+    shop: &Workshop<P, G>,
+    desk: &mut Desk<P>,
+)
     requires desk { IsDesk (identity shop.now.turn.now) shop.now.program.now desk.old }
     ensures desk { IsDesk (identity shop.now.turn.now) shop.now.program.now desk.new }
     ensures same { SameDesk desk.old desk.new }
-    ensures rounds { GoesRound shop.now.program.now desk.old Next.Idle desk.new Next.Stop }
-    ensures over { HasStopped desk.new }
+    ensures rounds { GoesRound P.value shop.now.program.now desk.old Next.Idle desk.new Next.Stop }
+    ensures over { HasStopped P.value desk.new }
 {
     let mut next = Next::Idle;
     for _ in rt.forever() {

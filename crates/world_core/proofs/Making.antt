@@ -10,7 +10,7 @@ use Rattle.counted_tree.specs.below.task_machine.{Private}
 use Rattle.counted_tree.specs.below.shared_value.{NotEntered, NoMemory, Refuses, first_cause, Answers, Enters, IsCaused, IsSamePart, refused, AllFit, Fits, OthersFit, IsSharedValue, SharedValue}
 use Rattle.counted_tree.specs.below.own_steps.{GoesAlone, HaltsAlone, alone_entry}
 use Rattle.counted_tree.specs.below.child_tasks.{IsUnchanged}
-use Rattle.counted_tree.specs.below.shared_tree.{Ran, Done, Ended, Forked, Over, RanTo}
+use Rattle.counted_tree.specs.below.entry_calls.{Ran, Done, Ended, Forked, Over, RanTo}
 use Rattle.counted_tree.proofs.below.shared_tree.{fit_by}
 use Rattle.world_core.specs.declared.out_part.OutPart.{OutPart}
 use Rattle.world_core.specs.declared.out_part.OutPart.TheVariants.{Part, Copied}

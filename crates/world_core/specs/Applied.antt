@@ -4,7 +4,7 @@ use Rattle.counted_tree.specs.below.run_trace.{Kind, Fuel, Mark, More, Sweep, En
 use Rattle.counted_tree.specs.below.run_ledger.{Refused, Collecting, NotCollecting, NotOut}
 use Rattle.counted_tree.specs.below.shared_value.{NotEntered, NoMemory, Refuses, Enters, refused, AllFit, OthersFit, SharedValue}
 use Rattle.counted_tree.specs.below.child_tasks.{SameButPlaces}
-use Rattle.counted_tree.specs.below.shared_tree.{Ran, Done, Ended, Forked, Over}
+use Rattle.counted_tree.specs.below.entry_calls.{Ran, Done, Ended, Forked, Over}
 use Rattle.world_core.specs.declared.out_part.OutPart.{OutPart}
 use Rattle.world_core.specs.declared.out_part.OutPart.TheVariants.{Nothing, Part, Copied}
 use Rattle.world_core.specs.declared.out_part.Made.{Made}

@@ -4,7 +4,7 @@ ghost use Rattle.std.specs.Prelude.{◌≡◌, ◌<◌, ◌≤◌, ◌+◌, ◌^
 ghost use Rattle.counted_tree.specs.below.run_ledger.{most_steps};
 ghost use Rattle.counted_tree.specs.below.shared_value.{first_cause, Fits};
 ghost use Rattle.counted_tree.specs.below.own_steps.{alone_entry, IsShared};
-ghost use Rattle.counted_tree.specs.below.shared_tree.{LeavesBy};
+ghost use Rattle.counted_tree.specs.below.entry_calls.{LeavesBy};
 ghost use Rattle.world_core.specs.Applied.{holding_of, MakesFor};
 ghost use Rattle.world_core.specs.Next.{standing_by, IsNext};
 ghost use Rattle.world_core.specs.WorldValue.{Holds, HoldsPart};

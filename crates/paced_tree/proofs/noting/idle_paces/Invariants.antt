@@ -1,4 +1,4 @@
-use Rattle.paced_tree.specs.Owed.{AreIdle}
+use Rattle.paced_tree.specs.Paces.{AreIdle}
 use Rattle.paced_tree.proofs.noting.idle_paces.Given as goal
 
 abbrev pub invariant-loop : goal.invariant-loop

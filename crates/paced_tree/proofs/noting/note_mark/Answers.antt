@@ -1,7 +1,7 @@
 use Rattle.std.proofs.Common.{◌≤◌, length, arith}
 use Rattle.counted_tree.specs.below.run_trace.{Mark}
 use Rattle.counted_tree.specs.below.shared_value.{accounts}
-use Rattle.paced_tree.specs.Owed.{KeepsNoted}
+use Rattle.paced_tree.specs.Paces.{KeepsNoted}
 use Rattle.paced_tree.proofs.Noted.{out_notes, set_notes}
 use Rattle.paced_tree.proofs.noting.note_mark.Goals as goal
 

@@ -3,5 +3,5 @@ use Rattle.worker_run.proofs.Giving.{extends}
 use Rattle.worker_run.proofs.turn.give_entry.Goals as goal
 
 pub give_back-requires-clause-turn : goal.give_back-requires-clause-turn
-give_back-requires-clause-turn c =
-    (c.requires.entry.taken, c.requires.entry.turn, extends (identity c.args.turn.now) c.args.desk.now c.args.run c.requires.entry c.is_short.ensures)
+give_back-requires-clause-turn g c =
+    (c.requires.entry.taken, c.requires.entry.turn, extends g.P.EntryCalls.value (identity c.args.turn.now) c.args.desk.now c.args.run c.requires.entry c.is_short.ensures)

@@ -8,30 +8,30 @@ use Rattle.worker_run.proofs.turn.take_turn.Goals as goal
 
 pub act-requires-clause-brings : goal.act-requires-clause-brings
 act-requires-clause-brings g c =
-    brings c.args.shop.now.program.now c.args.desk.now c.take-run.result (view c.args.desk.now.seat) c.take-run.ensures.value c.requires.desk.number c.requires.desk.under c.args.ready c.requires.comes
+    brings g.P.EntryCalls.value c.args.shop.now.program.now c.args.desk.now c.take-run.result (view c.args.desk.now.seat) c.take-run.ensures.value c.requires.desk.number c.requires.desk.under c.args.ready c.requires.comes
 
 pub give-requires-clause-entry : goal.give-requires-clause-entry
 give-requires-clause-entry g c =
     let A = c.in-Entered.ensures in
-    has_entry (identity c.args.shop.now.turn.now) c.args.shop.now.program.now c.args.desk.now (record c.args.desk.now { seat = c.take-run.new.seat }) c.take-run.result c.in-Entered.run' c.requires.desk refl c.take-run.ensures.turn c.take-run.ensures.seat
+    has_entry g.P.EntryCalls.value (identity c.args.shop.now.turn.now) c.args.shop.now.program.now c.args.desk.now (record c.args.desk.now { seat = c.take-run.new.seat }) c.take-run.result c.in-Entered.run' c.requires.desk refl c.take-run.ensures.turn c.take-run.ensures.seat
     c.take-run.ensures.value A.made A.enters A.shared
 
 pub give-requires-clause-takes : goal.give-requires-clause-takes
-give-requires-clause-takes g c = takes_from c.take-run.result.paced c.in-Entered.run'.paced c.args.desk.now.worker c.args.ready c.in-Entered.next c.in-Entered.ensures.follows
+give-requires-clause-takes g c = takes_from (g.P.EntryCalls.value c.take-run.result.paced) (g.P.EntryCalls.value c.in-Entered.run'.paced) c.args.desk.now.worker c.args.ready c.in-Entered.next c.in-Entered.ensures.follows
 
 pub give_same-requires : goal.give_same-requires
-give_same-requires g c = (c.take-run.result, c.take-run.ensures.turn, alike c.take-run.result c.in-Same.run' c.in-Same.ensures.0)
+give_same-requires g c = (c.take-run.result, c.take-run.ensures.turn, alike g.P.EntryCalls.value c.take-run.result c.in-Same.run' c.in-Same.ensures.0)
 
 pub returns-in-Entered-clause-desk : goal.returns-in-Entered-clause-desk
 returns-in-Entered-clause-desk g c =
     let z = identity c.args.shop.now.turn.now in
     let A = c.in-Entered.ensures in
-    let runs : c.in-Entered.run'.paced.program ≡ c.args.shop.now.program.now = program_entered z c.args.shop.now.program.now c.args.desk.now c.take-run.result c.in-Entered.run' c.requires.desk c.take-run.ensures.value A.made A.enters in
+    let runs : (g.P.EntryCalls.value c.in-Entered.run'.paced).program ≡ c.args.shop.now.program.now = program_entered g.P.EntryCalls.value z c.args.shop.now.program.now c.args.desk.now c.take-run.result c.in-Entered.run' c.requires.desk c.take-run.ensures.value A.made A.enters in
     subst (λ (p : ProgramText). IsDesk z p c.give.new.desk) runs c.give.ensures.desk
 
 pub returns-in-Entered-clause-next : goal.returns-in-Entered-clause-next
 returns-in-Entered-clause-next g c =
     let z = identity c.args.shop.now.turn.now in
     let A = c.in-Entered.ensures in
-    let runs : c.in-Entered.run'.paced.program ≡ c.args.shop.now.program.now = program_entered z c.args.shop.now.program.now c.args.desk.now c.take-run.result c.in-Entered.run' c.requires.desk c.take-run.ensures.value A.made A.enters in
-    subst (λ (p : ProgramText). GoesWith p c.args.desk.now.worker (view c.give.new.desk.seat) c.give.result) runs c.give.ensures.next
+    let runs : (g.P.EntryCalls.value c.in-Entered.run'.paced).program ≡ c.args.shop.now.program.now = program_entered g.P.EntryCalls.value z c.args.shop.now.program.now c.args.desk.now c.take-run.result c.in-Entered.run' c.requires.desk c.take-run.ensures.value A.made A.enters in
+    subst (λ (p : ProgramText). GoesWith p c.args.desk.now.worker (view c.give.new.desk.seat).part c.give.result) runs c.give.ensures.next

@@ -8,10 +8,10 @@ use Rattle.worker_run.proofs.Rows.{Chair, all_more, first_of, moved_on, none_new
 use Rattle.worker_run.proofs.workers.desks_of.Goals as goal
 
 pub loop-alloc-init : goal.loop-alloc-init
-loop-alloc-init c = record {
-  seats = ap (λ (l : List Desk). map (λ (d : Desk). d.seat) l ++ c.args.seats.items) c.new-desks.ensures.items;
-  new = subst (AreNewDesks c.args.settings) (sym c.new-desks.ensures.items) (none_new c.args.settings);
-  held = ap (λ (l : List Desk). map (λ (d : Desk). d.hand) l ++ c.args.hands.items) c.new-desks.ensures.items;
+loop-alloc-init g c = record {
+  seats = ap (λ (l : List (Desk g.row.P.Denot)). map (λ (d : Desk g.row.P.Denot). d.seat) l ++ c.args.seats.items) c.new-desks.ensures.items;
+  new = subst (AreNewDesks c.args.settings) (sym c.new-desks.ensures.items) (none_new g.row.P.Denot c.args.settings);
+  held = ap (λ (l : List (Desk g.row.P.Denot)). map (λ (d : Desk g.row.P.Denot). d.hand) l ++ c.args.hands.items) c.new-desks.ensures.items;
   hands = λ k h at. c.requires.hands.1 k h at ∙ c.requires.workers;
   worker = sym (ap length c.new-desks.ensures.items);
   room = (let e = c.requires.hands.0 in search (rules, e));
@@ -19,10 +19,10 @@ loop-alloc-init c = record {
 }
 
 pub remove-hand-requires : goal.remove-hand-requires
-remove-hand-requires c = let inv = c.loop-alloc.invariant in let room = inv.room in let some : 0 < length c.loop-alloc.seats.items = search rules in let goal : 0 < vec_len c.loop-alloc.hands = search (rules, room, some) in goal
+remove-hand-requires g c = let inv = c.loop-alloc.invariant in let room = inv.room in let some : 0 < length c.loop-alloc.seats.items = search rules in let goal : 0 < vec_len c.loop-alloc.hands = search (rules, room, some) in goal
 
 pub overflow_add-worker : goal.overflow_add-worker
-overflow_add-worker c =
+overflow_add-worker g c =
     let inv = c.loop-alloc.invariant in
     let few = inv.few in
     let some : 0 < length c.loop-alloc.seats.items = search rules in
@@ -32,23 +32,23 @@ overflow_add-worker c =
     search (rules, goal)
 
 pub loop-alloc-smaller : goal.loop-alloc-smaller
-loop-alloc-smaller c = search rules
+loop-alloc-smaller g c = search rules
 
 pub loop-alloc-preserved : goal.loop-alloc-preserved
-loop-alloc-preserved c =
+loop-alloc-preserved g c =
     let inv = c.loop-alloc.invariant in
     let hand : Hand = c.remove-hand.result in
-    let desk : Desk = record { seat = c.remove-seat.result; hand = hand; worker = c.loop-alloc.worker; alloc = c.args.alloc; settings = c.args.settings; given = 0; heard = 0; apart = replicate 16 0 } in
+    let desk : Desk g.row.P.Denot = record { seat = c.remove-seat.result; hand = hand; worker = c.loop-alloc.worker; alloc = c.args.alloc; settings = c.args.settings; given = 0; heard = 0; apart = replicate 16 0 } in
     let some : 0 < length c.loop-alloc.seats.items = search rules in
     let more : 0 < length c.loop-alloc.hands.items = search rules in
     let made : c.push.new.self.items ≡ c.loop-alloc.desks.items ++ desk ∷ [] = c.in_ok-push.ensures.items in
     record {
-      seats = ap (λ (l : List Desk). map (λ (d : Desk). d.seat) l ++ c.remove-seat.new.self.items) made ∙ (ap (λ (l : List Chair). map (λ (d : Desk). d.seat) (c.loop-alloc.desks.items ++ desk ∷ []) ++ l) c.remove-seat.ensures.items
-          ∙ (moved_on (λ (d : Desk). d.seat) c.loop-alloc.desks.items c.loop-alloc.seats.items desk c.remove-seat.result refl some c.remove-seat.ensures.value ∙ inv.seats));
-      held = ap (λ (l : List Desk). map (λ (d : Desk). d.hand) l ++ c.remove-hand.new.self.items) made ∙ (ap (λ (l : List Hand). map (λ (d : Desk). d.hand) (c.loop-alloc.desks.items ++ desk ∷ []) ++ l) c.remove-hand.ensures.items
-          ∙ (moved_on (λ (d : Desk). d.hand) c.loop-alloc.desks.items c.loop-alloc.hands.items desk hand refl more c.remove-hand.ensures.value ∙ inv.held));
+      seats = ap (λ (l : List (Desk g.row.P.Denot)). map (λ (d : Desk g.row.P.Denot). d.seat) l ++ c.remove-seat.new.self.items) made ∙ (ap (λ (l : List (Chair g.row.P.Denot)). map (λ (d : Desk g.row.P.Denot). d.seat) (c.loop-alloc.desks.items ++ desk ∷ []) ++ l) c.remove-seat.ensures.items
+          ∙ (moved_on (λ (d : Desk g.row.P.Denot). d.seat) c.loop-alloc.desks.items c.loop-alloc.seats.items desk c.remove-seat.result refl some c.remove-seat.ensures.value ∙ inv.seats));
+      held = ap (λ (l : List (Desk g.row.P.Denot)). map (λ (d : Desk g.row.P.Denot). d.hand) l ++ c.remove-hand.new.self.items) made ∙ (ap (λ (l : List Hand). map (λ (d : Desk g.row.P.Denot). d.hand) (c.loop-alloc.desks.items ++ desk ∷ []) ++ l) c.remove-hand.ensures.items
+          ∙ (moved_on (λ (d : Desk g.row.P.Denot). d.hand) c.loop-alloc.desks.items c.loop-alloc.hands.items desk hand refl more c.remove-hand.ensures.value ∙ inv.held));
       new = subst (AreNewDesks c.args.settings) (sym made)
-          (all_more (λ k (d : Desk). (d.worker ≡ k) × (d.settings ≡ c.args.settings) × (d.given ≡ 0) × (length (thefts d.hand) ≡ c.args.settings.workers)) c.loop-alloc.desks.items desk inv.new
+          (all_more (λ k (d : Desk g.row.P.Denot). (d.worker ≡ k) × (d.settings ≡ c.args.settings) × (d.given ≡ 0) × (length (thefts d.hand) ≡ c.args.settings.workers)) c.loop-alloc.desks.items desk inv.new
           (inv.worker, refl, refl, inv.hands 0 hand (first_of c.loop-alloc.hands.items hand more c.remove-hand.ensures.value)));
       hands = λ k h at. inv.hands (suc k) h (rest_of c.loop-alloc.hands.items hand more c.remove-hand.ensures.value k h (subst (λ (l : List Hand). slice_get l k ≡ Some h) c.remove-hand.ensures.items at));
       worker = (let a = inv.worker in let b = ap length made in let d = length-append c.loop-alloc.desks.items (desk ∷ []) in omega (arith, a, b, d));
@@ -57,11 +57,11 @@ loop-alloc-preserved c =
     }
 
 pub returns-clause-hands : goal.returns-clause-hands
-returns-clause-hands c =
+returns-clause-hands g c =
     let inv = c.loop-alloc.invariant in
     let room = inv.room in
     let none : length c.loop-alloc.hands.items ≡ 0 = search (rules, room) in
-    sym (append-nil (map (λ (d : Desk). d.hand) c.loop-alloc.desks.items)) ∙ (ap (λ (l : List Hand). map (λ (d : Desk). d.hand) c.loop-alloc.desks.items ++ l) (sym (emptied c.loop-alloc.hands.items none)) ∙ inv.held)
+    sym (append-nil (map (λ (d : Desk g.row.P.Denot). d.hand) c.loop-alloc.desks.items)) ∙ (ap (λ (l : List Hand). map (λ (d : Desk g.row.P.Denot). d.hand) c.loop-alloc.desks.items ++ l) (sym (emptied c.loop-alloc.hands.items none)) ∙ inv.held)
 
 pub returns-clause-new : goal.returns-clause-new
-returns-clause-new c = c.loop-alloc.invariant.new
+returns-clause-new g c = c.loop-alloc.invariant.new

@@ -5,7 +5,7 @@ use Rattle.worker_run.specs.Desks.{AreNewDesks}
 use Rattle.worker_run.proofs.workers.desks_of.Given as goal
 
 abbrev pub invariant-loop-alloc : goal.invariant-loop-alloc
-invariant-loop-alloc l = record {
+invariant-loop-alloc g l = record {
   seats : map (λ d. d.seat) l.desks.items ++ l.seats.items ≡ l.initial.seats.items;
   new : AreNewDesks l.settings l.desks.items;
   held : map (λ d. d.hand) l.desks.items ++ l.hands.items ≡ l.initial.hands.items;
@@ -16,4 +16,4 @@ invariant-loop-alloc l = record {
 }
 
 abbrev pub decreases-loop-alloc : goal.decreases-loop-alloc
-decreases-loop-alloc l = length l.seats.items
+decreases-loop-alloc g l = length l.seats.items

@@ -10,12 +10,12 @@ use Rattle.worker_run.proofs.Rows.{new_desks}
 use Rattle.worker_run.proofs.workers.opened.Goals as goal
 
 pub desks_of-requires-clause-hands : goal.desks_of-requires-clause-hands
-desks_of-requires-clause-hands c =
+desks_of-requires-clause-hands g c =
     let many : c.workers-workers.result ≡ vec_len c.in_ok-turn.seats = search rules in
     subst (λ (n : ℕ). AreHands n c.in_ok-hands.hands.items) many (root_hands c.workers-workers.result c.in_ok-hands.hands.items c.in_ok-hands.ensures)
 
 pub returns-clause-new : goal.returns-clause-new
-returns-clause-new c =
+returns-clause-new g c =
     let many : c.workers-workers.result ≡ c.args.settings.workers = c.workers-workers.ensures.value in
     record {
       new = c.in_ok-desks.ensures.new;
@@ -23,12 +23,12 @@ returns-clause-new c =
     }
 
 pub returns-clause-all : goal.returns-clause-all
-returns-clause-all c =
-    let opening : Run = c.new-2.result in
+returns-clause-all g c =
+    let opening : Run g.row.P.Denot = c.new-2.result in
     let s = c.args.settings in
     let many = c.workers-workers.ensures.value in
     let some : 0 < c.workers-workers.result = search rules in
     let few : s.workers < 2 ^ 32 = search rules in
-    new_desks (identity c.in_ok-turn.turn) (opening_view journal_of setup_of opening) c.workers-workers.result c.args.program.now s c.in_ok-turn.seats.items c.in_ok-desks.desks.items some many few
-    (ap journal_of c.new-2.ensures ∙ c.in_ok-paced.ensures.journal) refl (ap (λ (r : Run). Some (setup_of r)) c.new-2.ensures ∙ ap Some (same_text c.in_ok-paced.paced c.args.program.now s c.in_ok-paced.ensures.program c.in_ok-paced.ensures.settings)) c.in_ok-turn.ensures
+    new_desks (identity c.in_ok-turn.turn) (opening_view (journal_of g.P.EntryCalls.value) (setup_of g.P.EntryCalls.value) opening) c.workers-workers.result c.args.program.now s c.in_ok-turn.seats.items c.in_ok-desks.desks.items some many few
+    (ap (journal_of g.P.EntryCalls.value) c.new-2.ensures ∙ c.in_ok-paced.ensures.journal) refl (ap (λ (r : Run g.row.P.Denot). Some (setup_of g.P.EntryCalls.value r)) c.new-2.ensures ∙ ap Some (same_text (g.P.EntryCalls.value c.in_ok-paced.paced) c.args.program.now s c.in_ok-paced.ensures.program c.in_ok-paced.ensures.settings)) c.in_ok-turn.ensures
     c.in_ok-desks.ensures.seats c.in_ok-desks.ensures.new

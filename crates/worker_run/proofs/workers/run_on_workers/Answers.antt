@@ -1,5 +1,4 @@
 use Rattle.std.proofs.Common.{◌∙◌, ap, sym}
-use Rattle.copied_part_laws.specs.below.shared_value.{SharedValue, accounts}
 use Rattle.worker_run.specs.Outcomes.{finish_of}
 use Rattle.worker_run.proofs.Rows.{told_finish}
 use Rattle.worker_run.proofs.workers.run_on_workers.Goals as goal
@@ -7,7 +6,7 @@ use Rattle.worker_run.proofs.workers.run_on_workers.Goals.{in-Some, in-None}
 
 pub returns-clause-finish : goal.returns-clause-finish
 returns-clause-finish g c =
-    told_finish c.args.program.now c.args.settings c.run_all-shared.result c.match-ended.finish c.ended.result (c.run_all-shared.ensures.run c.args.settings c.in-Ok.ensures.all) (c.ended.ensures ∙ ap (λ (w : SharedValue). (accounts w).end) c.shared.ensures) (elim c.match-ended.branch [
+    told_finish c.args.program.now c.args.settings (g.P.EntryCalls.value c.run_all-shared.result) c.match-ended.finish c.ended.result (c.run_all-shared.ensures.run c.args.settings c.in-Ok.ensures.all) c.ended.ensures (elim c.match-ended.branch [
       | in-Some w ↦ w.finish-is ∙ ap finish_of (sym w.in-Some.is)
       | in-None w ↦ w.finish-is ∙ ap finish_of (sym w.in-None.is)
     ])

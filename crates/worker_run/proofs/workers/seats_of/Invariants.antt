@@ -2,10 +2,10 @@ use Rattle.std.proofs.Common.{◌≡◌, ◌++◌, ◌+◌, ◌≤◌, map, vec_
 use Rattle.worker_run.proofs.workers.seats_of.Given as goal
 
 abbrev pub invariant-loop-desks : goal.invariant-loop-desks
-invariant-loop-desks l = record {
+invariant-loop-desks g l = record {
   seats : map (λ d. d.seat) l.initial.desks.items ≡ l.seats.items ++ map (λ d. d.seat) l.desks.items;
   room : vec_len l.seats + vec_len l.desks ≤ vec_capacity l.seats;
 }
 
 abbrev pub decreases-loop-desks : goal.decreases-loop-desks
-decreases-loop-desks l = goal.left-loop-desks l
+decreases-loop-desks g l = goal.left-loop-desks g l

@@ -12,6 +12,6 @@ loop-preserved g c = record {
   same = search rules;
   goes = search rules;
   stops = search rules;
-  rounds = one_more c.args.shop.now.program.now c.args.desk.now Idle c.loop.desk c.loop.next c.take_turn-next.new.desk c.take_turn-next.result c.loop.invariant.rounds
+  rounds = one_more g.P.EntryCalls.value c.args.shop.now.program.now c.args.desk.now Idle c.loop.desk c.loop.next c.take_turn-next.new.desk c.take_turn-next.result c.loop.invariant.rounds
       (record { ready = c.in-Some-prepare.ready; between = c.prepare.new.desk; changes = c.prepare.ensures.hand; prepares = c.in-Some-prepare.ensures.tasks; turn = c.take_turn-next.ensures.turn });
 }

@@ -10,7 +10,7 @@ abbrev pub invariant-loop : goal.invariant-loop
 invariant-loop g l = record {
   desk : IsDesk (identity l.shop.turn.now) l.shop.program.now l.desk;
   same : SameDesk l.fn.desk l.desk;
-  goes : GoesWith l.shop.program.now l.desk.worker (view l.desk.seat) l.next;
-  stops : l.next ≡ Stop → HasStopped l.desk;
-  rounds : GoesRound l.shop.program.now l.fn.desk Idle l.desk l.next;
+  goes : GoesWith l.shop.program.now l.desk.worker (view l.desk.seat).part l.next;
+  stops : l.next ≡ Stop → HasStopped g.P.EntryCalls.value l.desk;
+  rounds : GoesRound g.P.EntryCalls.value l.shop.program.now l.fn.desk Idle l.desk l.next;
 }

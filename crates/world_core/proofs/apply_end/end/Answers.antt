@@ -1,6 +1,6 @@
 use Rattle.std.proofs.Common.{ap, sym, ◌∙◌}
 use Rattle.counted_tree.proofs.below.journal_laws.{not_refused}
-use Rattle.counted_tree.specs.below.shared_tree.{end_cause}
+use Rattle.counted_tree.specs.below.entry_calls.{end_cause}
 use Rattle.world_core.proofs.HoldingCauses.{copy_fits}
 use Rattle.world_core.proofs.apply_end.end.Goals as goal
 use Rattle.copied_part_laws.proofs.below.leaf_collections.{end_free}

@@ -3,7 +3,7 @@ use Rattle.counted_tree.specs.below.task_machine.{Private}
 use Rattle.counted_tree.specs.below.shared_value.{first_cause, Fits, SharedValue}
 use Rattle.counted_tree.specs.below.own_steps.{GoesAlone, HaltsAlone, IsShared, alone_entry}
 use Rattle.counted_tree.proofs.below.own_steps.{alone_free}
-use Rattle.counted_tree.specs.below.shared_tree.{LeavesBy, LeavesPart, LentTo}
+use Rattle.counted_tree.specs.below.entry_calls.{LeavesBy, LeavesPart, LentTo}
 use Rattle.counted_tree.proofs.below.shared_tree.{before_same, then_same}
 use Rattle.world_core.specs.Applied.{MakesFor}
 use Rattle.world_core.proofs.Making.{goes_made, halts_made, ran_fails}

@@ -3,7 +3,7 @@ use Rattle.heap_reading.specs.below.run_trace.{Begin}
 use Rattle.heap_reading.specs.below.shared_value.{SharedValue, accounts, Fits}
 use Rattle.heap_reading.specs.below.run_ledger.{heap_of, words_in}
 use Rattle.heap_reading.specs.below.task_machine.{Private}
-use Rattle.shared_tree.specs.Calls.{BeginsLeaf}
+use Rattle.entry_calls.specs.Calls.{BeginsLeaf}
 use Rattle.shared_tree.proofs.HandedOn.{handed_on}
 use Rattle.counted_tree.specs.Counts.{KeepsCounts}
 use Rattle.counted_tree.proofs.EntryCounted.{begin_had, is_made}

@@ -1,7 +1,7 @@
 use Rattle.std.proofs.Common.{Ok, sym, subst}
 use Rattle.heap_reading.specs.below.shared_value.{SharedValue}
 use Rattle.shared_tree.specs.below.leaf_collections.{end_entry}
-use Rattle.shared_tree.specs.Calls.{EndsLeaf}
+use Rattle.entry_calls.specs.Calls.{EndsLeaf}
 use Rattle.shared_tree.proofs.HandedOn.{handed_on}
 use Rattle.counted_tree.specs.Counts.{KeepsCounts}
 use Rattle.counted_tree.proofs.EntryCounted.{is_made}

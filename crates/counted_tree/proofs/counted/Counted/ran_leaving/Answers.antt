@@ -1,8 +1,8 @@
 use Rattle.std.proofs.Common.{◌≡◌, None, Ok, sym, subst}
 use Rattle.heap_reading.specs.below.shared_value.{SharedValue, refused, Fits}
 use Rattle.shared_tree.specs.below.own_steps.{alone_entry, IsShared}
-use Rattle.shared_tree.specs.Calls.{EntersLeaving}
-use Rattle.shared_tree.specs.Ran.{LeavesBy}
+use Rattle.entry_calls.specs.Calls.{EntersLeaving}
+use Rattle.entry_calls.specs.Ran.{LeavesBy}
 use Rattle.shared_tree.proofs.HandedOn.{handed_on}
 use Rattle.counted_tree.proofs.EntryCounted.{is_made, ran_enters, unchanged_kept}
 use Rattle.counted_tree.proofs.counted.Counted.ran_leaving.Goals as goal

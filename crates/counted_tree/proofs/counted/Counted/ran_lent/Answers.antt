@@ -2,8 +2,8 @@ use Rattle.std.proofs.Common.{Ok, sym, subst}
 use Rattle.heap_reading.specs.below.task_machine.{Private}
 use Rattle.heap_reading.specs.below.shared_value.{SharedValue, Fits}
 use Rattle.shared_tree.specs.below.own_steps.{alone_entry, IsShared}
-use Rattle.shared_tree.specs.Calls.{EntersLent}
-use Rattle.shared_tree.specs.Ran.{LeavesPart, LentTo}
+use Rattle.entry_calls.specs.Calls.{EntersLent}
+use Rattle.entry_calls.specs.Ran.{LeavesPart, LentTo}
 use Rattle.shared_tree.proofs.HandedOn.{handed_on}
 use Rattle.counted_tree.specs.Counts.{KeepsCounts}
 use Rattle.counted_tree.proofs.EntryCounted.{is_made, lent_enters, unchanged_kept}

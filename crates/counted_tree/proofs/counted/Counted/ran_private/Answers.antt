@@ -1,7 +1,7 @@
 use Rattle.std.proofs.Common.{Ok, sym, subst}
 use Rattle.heap_reading.specs.below.run_trace.{Ran}
 use Rattle.heap_reading.specs.below.shared_value.{SharedValue, Fits}
-use Rattle.shared_tree.specs.Calls.{EntersSteps}
+use Rattle.entry_calls.specs.Calls.{EntersSteps}
 use Rattle.shared_tree.proofs.HandedOn.{handed_on}
 use Rattle.counted_tree.specs.Counts.{KeepsCounts}
 use Rattle.counted_tree.proofs.EntryCounted.{is_made}

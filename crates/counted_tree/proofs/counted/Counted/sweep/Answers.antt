@@ -2,7 +2,7 @@ use Rattle.std.proofs.Common.{◌≡◌, None, Ok, refl, sym, subst}
 use Rattle.heap_reading.specs.below.run_trace.{EntryValue, Sweep}
 use Rattle.heap_reading.specs.below.shared_value.{SharedValue, accounts, refused}
 use Rattle.heap_reading.specs.below.run_ledger.{heap_of, words_in}
-use Rattle.shared_tree.specs.Calls.{SweepsHeap}
+use Rattle.entry_calls.specs.Calls.{SweepsHeap}
 use Rattle.shared_tree.proofs.HandedOn.{handed_on}
 use Rattle.counted_tree.specs.Counts.{KeepsCounts}
 use Rattle.counted_tree.proofs.EntryCounted.{sweep_had, is_made}

@@ -4,7 +4,7 @@ use Rattle.std.specs.declared.alloc.Global.{Global}
 use Rattle.leaf_collections.specs.below.object_layout.{Addr}
 use Rattle.leaf_collections.specs.below.leaf_copy_gc.{ToChunks}
 use Rattle.leaf_collections.specs.below.shared_value.{NotEntered}
-use Rattle.shared_tree.specs.Calls.{BeginsLeaf}
+use Rattle.entry_calls.specs.Calls.{BeginsLeaf}
 use Rattle.shared_tree.proofs.HandedOn.{for_memory}
 use Rattle.shared_tree.proofs.shared.Shared.leaf_begin.Goals as goal
 

@@ -5,7 +5,7 @@ use Rattle.leaf_collections.specs.below.task_machine.{Private}
 use Rattle.leaf_collections.specs.below.shared_value.{NotEntered, Ending, Beyond, Prints, Returns, SharedValue, Answers, refused}
 use Rattle.child_tasks.specs.below.own_steps.{Tells, alone_entry}
 use Rattle.child_tasks.proofs.below.own_steps.{child_beyond, other_beyond, trap_is}
-use Rattle.shared_tree.specs.declared.ran_lent.Lent.{Lent}
+use Rattle.entry_calls.specs.declared.answers.Lent.{Lent}
 use Rattle.shared_tree.specs.Ran.{AloneTo}
 use Rattle.shared_tree.proofs.HandedOn.{for_memory}
 use Rattle.shared_tree.proofs.shared.Shared.ran_alone.Goals as goal

@@ -9,7 +9,7 @@ use Rattle.leaf_collections.proofs.below.shared_value.{four_changed}
 use Rattle.child_tasks.specs.below.own_steps.{FinishesAlone, Tells, ended_rest}
 use Rattle.child_tasks.proofs.below.own_steps.{AsksAlone, asks_alone, alone_small, finishes_alone, finished_world, home_there, node_there}
 use Rattle.child_tasks.proofs.JoinPlaces.{same_world}
-use Rattle.shared_tree.specs.Calls.{EntersLeaving}
+use Rattle.entry_calls.specs.Calls.{EntersLeaving}
 use Rattle.shared_tree.specs.contracts.shared.Shared.{the_view}
 use Rattle.shared_tree.proofs.StepsEntered.{along, entered}
 use Rattle.shared_tree.proofs.shared.Shared.ran_done.Goals as goal

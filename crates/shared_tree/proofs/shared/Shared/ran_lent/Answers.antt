@@ -2,7 +2,7 @@ use Rattle.std.proofs.Common.{◌≡◌, None, Err, refl, sym, subst}
 use Rattle.leaf_collections.specs.below.task_machine.{Private}
 use Rattle.leaf_collections.specs.below.shared_value.{NotEntered, SharedValue, Answers, refused, Fits}
 use Rattle.child_tasks.specs.below.own_steps.{IsBeyond, IsShared, alone_entry}
-use Rattle.shared_tree.specs.Calls.{EntersLent}
+use Rattle.entry_calls.specs.Calls.{EntersLent}
 use Rattle.shared_tree.specs.Ran.{AloneTo, IsJoint}
 use Rattle.shared_tree.proofs.HandedOn.{handed_on}
 use Rattle.shared_tree.proofs.Joints.{before_same, fit_by, same_by, then_same}

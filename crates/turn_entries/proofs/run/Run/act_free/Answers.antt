@@ -2,7 +2,7 @@ use Rattle.std.proofs.Common.{sym, ◌∙◌}
 use Rattle.turn_entries.proofs.run.Run.act_free.Goals as goal
 
 pub enter-requires-clause-enter : goal.enter-requires-clause-enter
-enter-requires-clause-enter c = record {
+enter-requires-clause-enter g c = record {
   room = c.requires.enter.room;
   goes = c.requires.enter.goes;
   on = c.requires.enter.on;
@@ -11,7 +11,7 @@ enter-requires-clause-enter c = record {
 }
 
 pub pay_mark-requires-clause-enter : goal.pay_mark-requires-clause-enter
-pay_mark-requires-clause-enter c = record {
+pay_mark-requires-clause-enter g c = record {
   room = c.requires.enter.room;
   goes = c.requires.enter.goes;
   on = c.requires.enter.on;
@@ -20,7 +20,7 @@ pay_mark-requires-clause-enter c = record {
 }
 
 pub pay_more-requires-clause-enter : goal.pay_more-requires-clause-enter
-pay_more-requires-clause-enter c = record {
+pay_more-requires-clause-enter g c = record {
   room = c.requires.enter.room;
   goes = c.requires.enter.goes;
   on = c.requires.enter.on;
@@ -29,7 +29,7 @@ pay_more-requires-clause-enter c = record {
 }
 
 pub pay_sweep-requires-clause-enter : goal.pay_sweep-requires-clause-enter
-pay_sweep-requires-clause-enter c = record {
+pay_sweep-requires-clause-enter g c = record {
   room = c.requires.enter.room;
   goes = c.requires.enter.goes;
   on = c.requires.enter.on;

@@ -1,26 +1,26 @@
 use Rattle.std.proofs.Common.{ap, sym, subst, ◌∙◌, Some}
-use Rattle.paced_tree.specs.below.run_trace.{Begin}
-use Rattle.paced_tree.specs.below.leaf_copy_gc.{ToChunks}
-use Rattle.paced_tree.specs.below.task_machine.{Private}
-use Rattle.paced_tree.specs.below.shared_value.{Enters, IsCaused, refused, Fits, HasBegun}
+use Rattle.entry_calls.specs.below.run_trace.{Begin}
+use Rattle.entry_calls.specs.below.leaf_copy_gc.{ToChunks}
+use Rattle.entry_calls.specs.below.task_machine.{Private}
+use Rattle.entry_calls.specs.below.shared_value.{Enters, IsCaused, refused, Fits, HasBegun}
 use Rattle.turn_entries.proofs.Free.{begin_free, only_memory}
 use Rattle.turn_entries.proofs.Paying.{pays_nothing}
 use Rattle.turn_entries.proofs.Turning.{not_over, one, unchanged}
 use Rattle.turn_entries.proofs.run.Run.begin_in.Goals as goal
 
 pub leaf_begin-requires-clause-fits : goal.leaf_begin-requires-clause-fits
-leaf_begin-requires-clause-fits c = subst (Fits c.args.self.paced c.args.worker) (sym c.get_mut.ensures.value) c.requires.paused.may.fits
+leaf_begin-requires-clause-fits g c = subst (Fits (g.P.EntryCalls.value c.args.self.paced) c.args.worker) (sym c.get_mut.ensures.value) c.requires.paused.may.fits
 
 pub wanting-requires : goal.wanting-requires
-wanting-requires c =
-    only_memory c.in-Err.cause _ (begin_free c.args.self.paced c.args.worker c.args.part c.stands.ensures c.requires.enter.free c.requires.paused.may.fits c.requires.paused.may.idle c.requires.fresh c.requires.enter.goes c.requires.paused c.requires.enough)
-    (subst (λ (q : Private). IsCaused c.in-Err.cause (refused c.args.self.paced (record { worker = c.args.worker; kind = Begin q.task }))) c.get_mut.ensures.value c.in-Err.ensures.refused)
+wanting-requires g c =
+    only_memory c.in-Err.cause _ (begin_free (g.P.EntryCalls.value c.args.self.paced) c.args.worker c.args.part c.stands.ensures.stands c.requires.enter.free c.requires.paused.may.fits c.requires.paused.may.idle c.requires.fresh c.requires.enter.goes c.requires.paused c.requires.enough)
+    (subst (λ (q : Private). IsCaused c.in-Err.cause (refused (g.P.EntryCalls.value c.args.self.paced) (record { worker = c.args.worker; kind = Begin q.task }))) c.get_mut.ensures.value c.in-Err.ensures.refused)
 
 pub returns-in-Ok : goal.returns-in-Ok
-returns-in-Ok c = λ ready.
-    c.entered.ensures c.args.self c.args.worker ready (Begin c.args.part.task)
-    (one c.args.self.paced c.leaf_begin.new.self c.args.worker (Begin c.args.part.task)
-    (subst (λ (q : Private). Enters c.args.self.paced c.leaf_begin.new.self (record { worker = c.args.worker; kind = Begin q.task })) c.get_mut.ensures.value c.in-Ok.ensures.enters) c.in-Ok.ensures.others)
+returns-in-Ok g c = λ ready.
+    c.entered.ensures (g.P.EntryCalls.value c.args.self.paced) c.args.worker ready (Begin c.args.part.task)
+    (one (g.P.EntryCalls.value c.args.self.paced) (g.P.EntryCalls.value c.leaf_begin.new.self) c.args.worker (Begin c.args.part.task)
+    (subst (λ (q : Private). Enters (g.P.EntryCalls.value c.args.self.paced) (g.P.EntryCalls.value c.leaf_begin.new.self) (record { worker = c.args.worker; kind = Begin q.task })) c.get_mut.ensures.value c.in-Ok.ensures.enters) c.in-Ok.ensures.others)
     c.requires.enter.on
     (λ on. (
       on,
@@ -33,10 +33,10 @@ returns-in-Ok c = λ ready.
     ))
 
 pub returns-in-Err : goal.returns-in-Err
-returns-in-Err c = λ ready. c.wanting.ensures c.args.self c.args.worker ready (Some (Begin c.args.part.task)) (unchanged c.args.self.paced c.leaf_begin.new.self c.in-Err.ensures.same) (not_over c.args.self c.requires.enter.on c.requires.enter.goes)
+returns-in-Err g c = λ ready. c.wanting.ensures (g.P.EntryCalls.value c.args.self.paced) c.args.worker ready (Some (Begin c.args.part.task)) (unchanged (g.P.EntryCalls.value c.args.self.paced) (g.P.EntryCalls.value c.leaf_begin.new.self) c.in-Err.ensures.same) (not_over (g.P.EntryCalls.value c.args.self.paced) c.requires.enter.on c.requires.enter.goes)
 
 pub leaf_begin-requires-clause-room : goal.leaf_begin-requires-clause-room
-leaf_begin-requires-clause-room c = c.requires.enter.room
+leaf_begin-requires-clause-room g c = c.requires.enter.room
 
 pub leaf_begin-requires-clause-pays : goal.leaf_begin-requires-clause-pays
-leaf_begin-requires-clause-pays c = pays_nothing c.args.self.paced c.args.worker (Begin c.get_mut.result.now.task) c.requires.enter.owed
+leaf_begin-requires-clause-pays g c = pays_nothing (g.P.EntryCalls.value c.args.self.paced) c.args.worker (Begin c.get_mut.result.now.task) c.requires.enter.owed

@@ -1,18 +1,18 @@
 use Rattle.std.proofs.Common.{ap, sym, ◌∙◌, is_some}
-use Rattle.paced_tree.specs.below.run_trace.{Fuel}
-use Rattle.paced_tree.specs.below.run_ledger.{Ledger}
-use Rattle.paced_tree.proofs.below.journal_laws.{not_refused}
-use Rattle.paced_tree.specs.below.shared_value.{cause_of}
-use Rattle.paced_tree.proofs.below.heap_marking.{entered_accounts}
+use Rattle.entry_calls.specs.below.run_trace.{Fuel}
+use Rattle.entry_calls.specs.below.run_ledger.{Ledger}
+use Rattle.entry_calls.proofs.below.journal_laws.{not_refused}
+use Rattle.entry_calls.specs.below.shared_value.{cause_of}
+use Rattle.entry_calls.proofs.below.heap_marking.{entered_accounts}
 use Rattle.turn_entries.proofs.Free.{fuel_free}
 use Rattle.turn_entries.proofs.Turning.{one_of_all}
 use Rattle.turn_entries.proofs.run.Run.end_for_fuel.Goals as goal
 
 pub unreachable-requires : goal.unreachable-requires
-unreachable-requires c =
-    not_refused _ c.in-Err.field-0 (fuel_free c.args.self.paced c.args.worker c.stands.ensures c.requires.goes c.requires.worker c.requires.spent) (sym c.fuel.ensures.refused ∙ ap cause_of c.in-Err.is)
+unreachable-requires g c =
+    not_refused _ c.in-Err.field-0 (fuel_free (g.P.EntryCalls.value c.args.self.paced) c.args.worker c.stands.ensures.stands c.requires.goes c.requires.worker c.requires.spent) (sym c.fuel.ensures.refused ∙ ap cause_of c.in-Err.is)
 
 pub returns : goal.returns
-returns c = λ ready.
-    c.entered.ensures c.args.self c.args.worker ready Fuel (one_of_all c.args.self.paced c.fuel.new.self c.args.worker Fuel c.in-Ok.ensures.enters c.in-Ok.ensures.all) c.requires.on
-    (λ on. ap (λ (l : Ledger). is_some l.end) (entered_accounts c.args.self.paced c.fuel.new.self (record { worker = c.args.worker; kind = Fuel }) c.in-Ok.ensures.enters))
+returns g c = λ ready.
+    c.entered.ensures (g.P.EntryCalls.value c.args.self.paced) c.args.worker ready Fuel (one_of_all (g.P.EntryCalls.value c.args.self.paced) (g.P.EntryCalls.value c.fuel.new.self) c.args.worker Fuel c.in-Ok.ensures.enters c.in-Ok.ensures.all) c.requires.on
+    (λ on. ap (λ (l : Ledger). is_some l.end) (entered_accounts (g.P.EntryCalls.value c.args.self.paced) (g.P.EntryCalls.value c.fuel.new.self) (record { worker = c.args.worker; kind = Fuel }) c.in-Ok.ensures.enters))

@@ -1,39 +1,39 @@
 use Rattle.std.proofs.Common.{◌≡◌, ap, sym, subst, ◌∙◌}
-use Rattle.paced_tree.specs.below.run_trace.{Kind, End}
-use Rattle.paced_tree.proofs.below.journal_laws.{not_refused}
-use Rattle.paced_tree.specs.below.task_machine.{Private}
-use Rattle.paced_tree.specs.below.shared_value.{Enters, refused}
-use Rattle.paced_tree.specs.below.leaf_collections.{FitsCopied, end_entry, ended}
-use Rattle.paced_tree.proofs.below.leaf_collections.{end_free}
-use Rattle.paced_tree.specs.below.shared_tree.{end_cause}
+use Rattle.entry_calls.specs.below.run_trace.{Kind, End}
+use Rattle.entry_calls.proofs.below.journal_laws.{not_refused}
+use Rattle.entry_calls.specs.below.task_machine.{Private}
+use Rattle.entry_calls.specs.below.shared_value.{Enters, refused}
+use Rattle.entry_calls.specs.below.leaf_collections.{FitsCopied, end_entry, ended}
+use Rattle.entry_calls.proofs.below.leaf_collections.{end_free}
+use Rattle.entry_calls.specs.Ends.{end_cause}
 use Rattle.turn_entries.proofs.Going.{may_ended}
 use Rattle.turn_entries.proofs.Paying.{pays_nothing}
 use Rattle.turn_entries.proofs.Turning.{one}
 use Rattle.turn_entries.proofs.run.Run.end_leaf.Goals as goal
 
 pub leaf_end-requires-clause-fits : goal.leaf_end-requires-clause-fits
-leaf_end-requires-clause-fits c = subst (λ (q : Private). FitsCopied c.args.self.paced c.args.worker q c.args.copied.moved) (sym c.get_mut.ensures.value) c.requires.fits
+leaf_end-requires-clause-fits g c = subst (λ (q : Private). FitsCopied (g.P.EntryCalls.value c.args.self.paced) c.args.worker q c.args.copied.moved) (sym c.get_mut.ensures.value) c.requires.fits
 
 pub unreachable-requires : goal.unreachable-requires
-unreachable-requires c =
-    not_refused _ c.in-Err.field-0.cause (end_free c.args.self.paced c.args.worker c.args.copied.part c.args.copied.moved c.stands.ensures c.requires.enter.free c.requires.fits)
-    (ap (λ (q : Private). refused c.args.self.paced (end_entry c.args.worker q c.args.copied.moved)) (sym c.get_mut.ensures.value) ∙ (sym c.leaf_end.ensures.refused ∙ ap end_cause c.in-Err.is))
+unreachable-requires g c =
+    not_refused _ c.in-Err.field-0.cause (end_free (g.P.EntryCalls.value c.args.self.paced) c.args.worker c.args.copied.part c.args.copied.moved c.stands.ensures.stands c.requires.enter.free c.requires.fits)
+    (ap (λ (q : Private). refused (g.P.EntryCalls.value c.args.self.paced) (end_entry c.args.worker q c.args.copied.moved)) (sym c.get_mut.ensures.value) ∙ (sym c.leaf_end.ensures.refused ∙ ap end_cause c.in-Err.is))
 
 pub returns : goal.returns
-returns c = λ ready.
+returns g c = λ ready.
     let kind : Kind = End c.args.copied.part.task c.args.copied.moved.taken c.args.copied.moved.given c.args.copied.moved.left in
-    c.entered.ensures c.args.self c.args.worker ready kind
-    (one c.args.self.paced c.leaf_end.new.self c.args.worker kind
-    (subst (λ (q : Private). Enters c.args.self.paced c.leaf_end.new.self (end_entry c.args.worker q c.args.copied.moved)) c.get_mut.ensures.value c.in-Ok.ensures.enters) c.in-Ok.ensures.others)
+    c.entered.ensures (g.P.EntryCalls.value c.args.self.paced) c.args.worker ready kind
+    (one (g.P.EntryCalls.value c.args.self.paced) (g.P.EntryCalls.value c.leaf_end.new.self) c.args.worker kind
+    (subst (λ (q : Private). Enters (g.P.EntryCalls.value c.args.self.paced) (g.P.EntryCalls.value c.leaf_end.new.self) (end_entry c.args.worker q c.args.copied.moved)) c.get_mut.ensures.value c.in-Ok.ensures.enters) c.in-Ok.ensures.others)
     c.requires.enter.on
     (λ on. (
       on,
-      may_ended c.leaf_end.new.self c.args.worker c.args.copied.part c.leaf_end.new.part c.args.self.paced c.args.copied.moved c.in-Ok.ensures.fits c.requires.fits
+      may_ended (g.P.EntryCalls.value c.leaf_end.new.self) c.args.worker c.args.copied.part c.leaf_end.new.part (g.P.EntryCalls.value c.args.self.paced) c.args.copied.moved c.in-Ok.ensures.fits c.requires.fits
           (subst (λ (q : Private). c.leaf_end.new.part ≡ ended q) c.get_mut.ensures.value c.in-Ok.ensures.part),
     ))
 
 pub leaf_end-requires-clause-room : goal.leaf_end-requires-clause-room
-leaf_end-requires-clause-room c = c.requires.enter.room
+leaf_end-requires-clause-room g c = c.requires.enter.room
 
 pub leaf_end-requires-clause-pays : goal.leaf_end-requires-clause-pays
-leaf_end-requires-clause-pays c = pays_nothing c.args.self.paced c.args.worker (End c.get_mut.result.now.task c.args.copied.moved.taken c.args.copied.moved.given c.args.copied.moved.left) c.requires.enter.owed
+leaf_end-requires-clause-pays g c = pays_nothing (g.P.EntryCalls.value c.args.self.paced) c.args.worker (End c.get_mut.result.now.task c.args.copied.moved.taken c.args.copied.moved.given c.args.copied.moved.left) c.requires.enter.owed

@@ -1,12 +1,12 @@
 use Rattle.std.proofs.Common.{◌≡◌, ℕ, ◌+◌, Option, Some, ap, sym, subst, ◌∙◌}
 use Rattle.std.specs.Prelude.{is_some}
-use Rattle.paced_tree.specs.below.run_trace.{Kind, Ran}
-use Rattle.paced_tree.specs.below.run_ledger.{Nothing, RunEnd}
-use Rattle.paced_tree.specs.below.task_machine.{Private, Shared}
-use Rattle.paced_tree.specs.below.shared_value.{IsCaused, refused, Fits, SharedValue}
-use Rattle.paced_tree.specs.below.own_steps.{GoesAlone, HaltsAlone, IsShared, alone_entry}
-use Rattle.paced_tree.proofs.below.own_steps.{alone_free}
-use Rattle.paced_tree.specs.below.shared_tree.{LeavesBy, LeavesPart, LentTo}
+use Rattle.entry_calls.specs.below.run_trace.{Kind, Ran}
+use Rattle.entry_calls.specs.below.run_ledger.{Nothing, RunEnd}
+use Rattle.entry_calls.specs.below.task_machine.{Private, Shared}
+use Rattle.entry_calls.specs.below.shared_value.{IsCaused, refused, Fits, SharedValue}
+use Rattle.entry_calls.specs.below.own_steps.{GoesAlone, HaltsAlone, IsShared, alone_entry}
+use Rattle.entry_calls.proofs.below.own_steps.{alone_free}
+use Rattle.entry_calls.specs.Ran.{LeavesBy, LeavesPart, LentTo}
 use Rattle.turn_entries.specs.declared.between_turns.Ready.TheVariants.{Paused as HasPaused}
 use Rattle.turn_entries.specs.Parts.{IsPaused}
 use Rattle.turn_entries.specs.Values.{MayEnter}
@@ -17,47 +17,47 @@ use Rattle.turn_entries.proofs.Turning.{acts_same, not_over, one, unentered}
 use Rattle.turn_entries.proofs.run.Run.enter_shared.Goals as goal
 
 pub ran_lent-requires-clause-room : goal.ran_lent-requires-clause-room
-ran_lent-requires-clause-room c = c.requires.enter.room
+ran_lent-requires-clause-room g c = c.requires.enter.room
 
 pub ran_lent-requires-clause-fits : goal.ran_lent-requires-clause-fits
-ran_lent-requires-clause-fits c = subst (Fits c.args.self.paced c.args.worker) (sym c.get_mut.ensures.value) c.requires.paused.may.fits
+ran_lent-requires-clause-fits g c = subst (Fits (g.P.EntryCalls.value c.args.self.paced) c.args.worker) (sym c.get_mut.ensures.value) c.requires.paused.may.fits
 
 pub ran_lent-requires-clause-shared : goal.ran_lent-requires-clause-shared
-ran_lent-requires-clause-shared c = subst (IsShared c.args.self.paced) (sym c.get_mut.ensures.value) (stands_shared c.args.self.paced c.args.worker c.args.part c.requires.paused)
+ran_lent-requires-clause-shared g c = subst (IsShared (g.P.EntryCalls.value c.args.self.paced)) (sym c.get_mut.ensures.value) (stands_shared (g.P.EntryCalls.value c.args.self.paced) c.args.worker c.args.part c.requires.paused)
 
 pub ran_lent-requires-clause-pays : goal.ran_lent-requires-clause-pays
-ran_lent-requires-clause-pays c = pays_nothing c.args.self.paced c.args.worker (Ran c.get_mut.result.now.task (c.get_mut.result.now.fresh + 1)) c.requires.enter.owed
+ran_lent-requires-clause-pays g c = pays_nothing (g.P.EntryCalls.value c.args.self.paced) c.args.worker (Ran c.get_mut.result.now.task (c.get_mut.result.now.fresh + 1)) c.requires.enter.owed
 
 pub returns-in-Ok-Goes : goal.returns-in-Ok-Goes
-returns-in-Ok-Goes c =
-    let w : SharedValue = c.args.self.paced in
-    let v : SharedValue = c.ran_lent.new.self in
+returns-in-Ok-Goes g c =
+    let w : SharedValue = (g.P.EntryCalls.value c.args.self.paced) in
+    let v : SharedValue = (g.P.EntryCalls.value c.ran_lent.new.self) in
     let k : ℕ = c.args.worker in
     let p : Private = c.args.part in
     let q : Private = c.ran_lent.new.part in
     let a : GoesAlone w v k c.get_mut.result.now q = subst (LentTo w v k c.get_mut.result.now q) c.in-Ok-Goes.field-0-is c.in-Ok-Goes.ensures.answered in
     let b : GoesAlone w v k p q = subst (λ (r : Private). GoesAlone w v k r q) c.get_mut.ensures.value a in
     let kind : Kind = Ran p.task (p.fresh + 1) in
-    c.entered.ensures c.args.self k (HasPaused p Shared) kind (one w v k kind b.enters b.others) c.requires.enter.on
+    c.entered.ensures (g.P.EntryCalls.value c.args.self.paced) k (HasPaused p Shared) kind (one w v k kind b.enters b.others) c.requires.enter.on
     (λ on. (on, may_alone v k p q b.fits c.requires.paused.may.idle b.part))
 
 pub returns-in-Ok-Over : goal.returns-in-Ok-Over
-returns-in-Ok-Over c =
-    let w : SharedValue = c.args.self.paced in
-    let v : SharedValue = c.ran_lent.new.self in
+returns-in-Ok-Over g c =
+    let w : SharedValue = (g.P.EntryCalls.value c.args.self.paced) in
+    let v : SharedValue = (g.P.EntryCalls.value c.ran_lent.new.self) in
     let k : ℕ = c.args.worker in
     let p : Private = c.args.part in
     let q : Private = c.ran_lent.new.part in
     let a : HaltsAlone w v k c.get_mut.result.now q = subst (LentTo w v k c.get_mut.result.now q) c.in-Ok-Over.field-0-is c.in-Ok-Over.ensures.answered in
     let b : HaltsAlone w v k p q = subst (λ (r : Private). HaltsAlone w v k r q) c.get_mut.ensures.value a in
     let kind : Kind = Ran p.task (p.fresh + 1) in
-    c.entered-in-Ok-Over.ensures c.args.self k (HasPaused p Shared) kind (one w v k kind b.enters b.others) c.requires.enter.on
+    c.entered-in-Ok-Over.ensures (g.P.EntryCalls.value c.args.self.paced) k (HasPaused p Shared) kind (one w v k kind b.enters b.others) c.requires.enter.on
     (λ on. ap (λ (o : Option RunEnd). is_some o) b.halts.1)
 
 pub enter_leaving-requires-clause-enter : goal.enter_leaving-requires-clause-enter
-enter_leaving-requires-clause-enter c =
-    let w : SharedValue = c.args.self.paced in
-    let v : SharedValue = c.ran_lent.new.self in
+enter_leaving-requires-clause-enter g c =
+    let w : SharedValue = (g.P.EntryCalls.value c.args.self.paced) in
+    let v : SharedValue = (g.P.EntryCalls.value c.ran_lent.new.self) in
     let k : ℕ = c.args.worker in
     let p : Private = c.args.part in
     let q : Private = c.ran_lent.new.part in
@@ -66,9 +66,9 @@ enter_leaving-requires-clause-enter c =
     subst (λ (z : SharedValue). MayEnter z k Nothing) (sym a.same) c.requires.enter
 
 pub enter_leaving-requires-clause-paused : goal.enter_leaving-requires-clause-paused
-enter_leaving-requires-clause-paused c =
-    let w : SharedValue = c.args.self.paced in
-    let v : SharedValue = c.ran_lent.new.self in
+enter_leaving-requires-clause-paused g c =
+    let w : SharedValue = (g.P.EntryCalls.value c.args.self.paced) in
+    let v : SharedValue = (g.P.EntryCalls.value c.ran_lent.new.self) in
     let k : ℕ = c.args.worker in
     let p : Private = c.args.part in
     let q : Private = c.ran_lent.new.part in
@@ -77,31 +77,31 @@ enter_leaving-requires-clause-paused c =
     subst (λ (z : SharedValue). IsPaused z k q Shared) (sym a.same) (subst (λ (r : Private). IsPaused w k r Shared) (sym part) c.requires.paused)
 
 pub enter_leaving-requires-clause-leaves : goal.enter_leaving-requires-clause-leaves
-enter_leaving-requires-clause-leaves c =
-    let w : SharedValue = c.args.self.paced in
-    let v : SharedValue = c.ran_lent.new.self in
+enter_leaving-requires-clause-leaves g c =
+    let w : SharedValue = (g.P.EntryCalls.value c.args.self.paced) in
+    let v : SharedValue = (g.P.EntryCalls.value c.ran_lent.new.self) in
     let k : ℕ = c.args.worker in
     let q : Private = c.ran_lent.new.part in
     let a : LeavesPart w v c.get_mut.result.now q c.in-Ok-Leaves.leaving = subst (LentTo w v k c.get_mut.result.now q) c.in-Ok-Leaves.field-0-is c.in-Ok-Leaves.ensures.answered in
     subst (λ (z : SharedValue). LeavesBy z q c.in-Ok-Leaves.leaving) (sym a.same) (subst (λ (r : Private). LeavesBy w r c.in-Ok-Leaves.leaving) (sym a.part) a.leaves)
 
 pub returns-in-Ok-Leaves : goal.returns-in-Ok-Leaves
-returns-in-Ok-Leaves c =
-    let w : SharedValue = c.args.self.paced in
-    let v : SharedValue = c.ran_lent.new.self in
+returns-in-Ok-Leaves g c =
+    let w : SharedValue = (g.P.EntryCalls.value c.args.self.paced) in
+    let v : SharedValue = (g.P.EntryCalls.value c.ran_lent.new.self) in
     let k : ℕ = c.args.worker in
     let p : Private = c.args.part in
     let q : Private = c.ran_lent.new.part in
     let a : LeavesPart w v c.get_mut.result.now q c.in-Ok-Leaves.leaving = subst (LentTo w v k c.get_mut.result.now q) c.in-Ok-Leaves.field-0-is c.in-Ok-Leaves.ensures.answered in
     let part : q ≡ p = a.part ∙ c.get_mut.ensures.value in
-    acts_same c.args.self v k p q a.same part c.enter_leaving.result c.enter_leaving.ensures
+    acts_same g.P.EntryCalls.value (g.P.EntryCalls.value c.args.self.paced) v k p q a.same part c.enter_leaving.result c.enter_leaving.ensures
 
 pub wanting-requires : goal.wanting-requires
-wanting-requires c =
-    only_memory c.in-Err.cause _ (alone_free c.args.self.paced c.args.worker c.args.part c.stands.ensures c.requires.paused.may.fits (stands_shared c.args.self.paced c.args.worker c.args.part c.requires.paused) c.requires.paused.may.idle c.requires.enter.free)
-    (subst (λ (r : Private). IsCaused c.in-Err.cause (refused c.args.self.paced (alone_entry c.args.worker r))) c.get_mut.ensures.value c.in-Err.ensures.refused)
+wanting-requires g c =
+    only_memory c.in-Err.cause _ (alone_free (g.P.EntryCalls.value c.args.self.paced) c.args.worker c.args.part c.stands.ensures.stands c.requires.paused.may.fits (stands_shared (g.P.EntryCalls.value c.args.self.paced) c.args.worker c.args.part c.requires.paused) c.requires.paused.may.idle c.requires.enter.free)
+    (subst (λ (r : Private). IsCaused c.in-Err.cause (refused (g.P.EntryCalls.value c.args.self.paced) (alone_entry c.args.worker r))) c.get_mut.ensures.value c.in-Err.ensures.refused)
 
 pub returns-in-Err : goal.returns-in-Err
-returns-in-Err c =
-    c.wanting.ensures c.args.self c.args.worker (HasPaused c.args.part Shared) (Some (Ran c.args.part.task (c.args.part.fresh + 1)))
-    (unentered c.args.self.paced c.ran_lent.new.self c.in-Err.cause c.in-Err.ensures.same c.in-Err.ensures.still) (not_over c.args.self c.requires.enter.on c.requires.enter.goes)
+returns-in-Err g c =
+    c.wanting.ensures (g.P.EntryCalls.value c.args.self.paced) c.args.worker (HasPaused c.args.part Shared) (Some (Ran c.args.part.task (c.args.part.fresh + 1)))
+    (unentered (g.P.EntryCalls.value c.args.self.paced) (g.P.EntryCalls.value c.ran_lent.new.self) c.in-Err.cause c.in-Err.ensures.same c.in-Err.ensures.still) (not_over (g.P.EntryCalls.value c.args.self.paced) c.requires.enter.on c.requires.enter.goes)

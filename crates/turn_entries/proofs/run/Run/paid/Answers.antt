@@ -4,5 +4,5 @@ use Rattle.turn_entries.proofs.Turning.{follows_paid}
 use Rattle.turn_entries.proofs.run.Run.paid.Goals as goal
 
 pub returns : goal.returns
-returns c = λ r k kind I on met B E all halted.
-    c.entered.ensures r k c.args.ready kind E halted (λ goes. subst (Follows r.paced c.args.self.paced k c.args.ready) (sym c.next_after-next.ensures) (follows_paid r.paced c.args.self.paced k c.args.ready I on met B all E.enters.program goes))
+returns g c = λ w k kind I on met B E all halted.
+    c.entered.ensures w k c.args.ready kind E halted (λ goes. subst (Follows w (g.P.EntryCalls.value c.args.self.paced) k c.args.ready) (sym c.next_after-next.ensures) (follows_paid w (g.P.EntryCalls.value c.args.self.paced) k c.args.ready I on met B all E.enters.program goes))

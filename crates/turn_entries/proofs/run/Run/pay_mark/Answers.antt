@@ -1,25 +1,25 @@
 use Rattle.std.proofs.Common.{Some}
-use Rattle.paced_tree.specs.below.run_trace.{Kind, Mark}
+use Rattle.entry_calls.specs.below.run_trace.{Kind, Mark}
 use Rattle.turn_entries.proofs.Free.{mark_free, only_memory}
 use Rattle.turn_entries.proofs.Paying.{pays_mark}
 use Rattle.turn_entries.proofs.Turning.{not_over, one_of_all, unchanged}
 use Rattle.turn_entries.proofs.run.Run.pay_mark.Goals as goal
 
 pub wanting-requires : goal.wanting-requires
-wanting-requires c = only_memory c.in-Err.cause _ (mark_free c.args.self.paced c.args.worker c.args.task c.stands.ensures c.requires.enter.free c.requires.enter.owed) c.in-Err.ensures.refused
+wanting-requires g c = only_memory c.in-Err.cause _ (mark_free (g.P.EntryCalls.value c.args.self.paced) c.args.worker c.args.task c.stands.ensures.stands c.requires.enter.free c.requires.enter.owed) c.in-Err.ensures.refused
 
 pub returns-in-Ok : goal.returns-in-Ok
-returns-in-Ok c =
+returns-in-Ok g c =
     let kind : Kind = Mark c.args.task in
-    c.paid.ensures c.args.self c.args.worker kind c.stands.ensures c.requires.enter.goes c.requires.met c.requires.brings
-    (one_of_all c.args.self.paced c.mark.new.self c.args.worker kind c.in-Ok.ensures.enters c.in-Ok.ensures.fits) c.in-Ok.ensures.fits c.requires.enter.on
+    c.paid.ensures (g.P.EntryCalls.value c.args.self.paced) c.args.worker kind c.stands.ensures.stands c.requires.enter.goes c.requires.met c.requires.brings
+    (one_of_all (g.P.EntryCalls.value c.args.self.paced) (g.P.EntryCalls.value c.mark.new.self) c.args.worker kind c.in-Ok.ensures.enters c.in-Ok.ensures.fits) c.in-Ok.ensures.fits c.requires.enter.on
 
 pub returns-in-Err : goal.returns-in-Err
-returns-in-Err c =
-    c.wanting.ensures c.args.self c.args.worker c.args.ready (Some (Mark c.args.task)) (unchanged c.args.self.paced c.mark.new.self c.in-Err.ensures.same) (not_over c.args.self c.requires.enter.on c.requires.enter.goes)
+returns-in-Err g c =
+    c.wanting.ensures (g.P.EntryCalls.value c.args.self.paced) c.args.worker c.args.ready (Some (Mark c.args.task)) (unchanged (g.P.EntryCalls.value c.args.self.paced) (g.P.EntryCalls.value c.mark.new.self) c.in-Err.ensures.same) (not_over (g.P.EntryCalls.value c.args.self.paced) c.requires.enter.on c.requires.enter.goes)
 
 pub mark-requires-clause-room : goal.mark-requires-clause-room
-mark-requires-clause-room c = c.requires.enter.room
+mark-requires-clause-room g c = c.requires.enter.room
 
 pub mark-requires-clause-pays : goal.mark-requires-clause-pays
-mark-requires-clause-pays c = pays_mark c.args.self.paced c.args.worker c.args.task c.requires.enter.owed
+mark-requires-clause-pays g c = pays_mark (g.P.EntryCalls.value c.args.self.paced) c.args.worker c.args.task c.requires.enter.owed

@@ -1,8 +1,8 @@
 use Rattle.std.proofs.Common.{◌≡◌, ap, sym, subst, ◌∙◌}
-use Rattle.paced_tree.specs.below.run_trace.{PutOff}
-use Rattle.paced_tree.proofs.below.journal_laws.{not_refused}
-use Rattle.paced_tree.specs.below.task_machine.{Private}
-use Rattle.paced_tree.specs.below.shared_value.{cause_of, Enters, refused, Fits}
+use Rattle.entry_calls.specs.below.run_trace.{PutOff}
+use Rattle.entry_calls.proofs.below.journal_laws.{not_refused}
+use Rattle.entry_calls.specs.below.task_machine.{Private}
+use Rattle.entry_calls.specs.below.shared_value.{cause_of, Enters, refused, Fits}
 use Rattle.turn_entries.proofs.Free.{put_off_free}
 use Rattle.turn_entries.proofs.Going.{may_heap}
 use Rattle.turn_entries.proofs.Paying.{pays_nothing}
@@ -10,27 +10,27 @@ use Rattle.turn_entries.proofs.Turning.{one}
 use Rattle.turn_entries.proofs.run.Run.put_off_leaf.Goals as goal
 
 pub put_off-requires-clause-fits : goal.put_off-requires-clause-fits
-put_off-requires-clause-fits c = subst (Fits c.args.self.paced c.args.worker) (sym c.get_mut.ensures.value) c.requires.paused.may.fits
+put_off-requires-clause-fits g c = subst (Fits (g.P.EntryCalls.value c.args.self.paced) c.args.worker) (sym c.get_mut.ensures.value) c.requires.paused.may.fits
 
 pub unreachable-requires : goal.unreachable-requires
-unreachable-requires c =
-    not_refused _ c.in-Err.field-0 (put_off_free c.args.self.paced c.args.worker c.args.part c.stands.ensures c.requires.enter.free c.requires.paused.may.fits c.requires.paused.may.idle c.requires.fresh c.requires.enter.goes c.requires.paused c.requires.short)
-    (ap (λ (q : Private). refused c.args.self.paced (record { worker = c.args.worker; kind = PutOff q.task })) (sym c.get_mut.ensures.value) ∙ (sym c.put_off.ensures.refused ∙ ap cause_of c.in-Err.is))
+unreachable-requires g c =
+    not_refused _ c.in-Err.field-0 (put_off_free (g.P.EntryCalls.value c.args.self.paced) c.args.worker c.args.part c.stands.ensures.stands c.requires.enter.free c.requires.paused.may.fits c.requires.paused.may.idle c.requires.fresh c.requires.enter.goes c.requires.paused c.requires.short)
+    (ap (λ (q : Private). refused (g.P.EntryCalls.value c.args.self.paced) (record { worker = c.args.worker; kind = PutOff q.task })) (sym c.get_mut.ensures.value) ∙ (sym c.put_off.ensures.refused ∙ ap cause_of c.in-Err.is))
 
 pub returns : goal.returns
-returns c = λ ready.
-    c.entered.ensures c.args.self c.args.worker ready (PutOff c.args.part.task)
-    (one c.args.self.paced c.put_off.new.self c.args.worker (PutOff c.args.part.task)
-    (subst (λ (q : Private). Enters c.args.self.paced c.put_off.new.self (record { worker = c.args.worker; kind = PutOff q.task })) c.get_mut.ensures.value c.in-Ok.ensures.enters) c.in-Ok.ensures.others)
+returns g c = λ ready.
+    c.entered.ensures (g.P.EntryCalls.value c.args.self.paced) c.args.worker ready (PutOff c.args.part.task)
+    (one (g.P.EntryCalls.value c.args.self.paced) (g.P.EntryCalls.value c.put_off.new.self) c.args.worker (PutOff c.args.part.task)
+    (subst (λ (q : Private). Enters (g.P.EntryCalls.value c.args.self.paced) (g.P.EntryCalls.value c.put_off.new.self) (record { worker = c.args.worker; kind = PutOff q.task })) c.get_mut.ensures.value c.in-Ok.ensures.enters) c.in-Ok.ensures.others)
     c.requires.enter.on
     (λ on. (
       on,
-      may_heap c.put_off.new.self c.args.worker c.args.part c.put_off.new.part (record c.args.part.heap { since = 0 }) c.put_off.ensures.fits c.requires.paused.may.idle c.requires.fresh
+      may_heap (g.P.EntryCalls.value c.put_off.new.self) c.args.worker c.args.part c.put_off.new.part (record c.args.part.heap { since = 0 }) c.put_off.ensures.fits c.requires.paused.may.idle c.requires.fresh
           (subst (λ (q : Private). c.put_off.new.part ≡ record q { heap = record q.heap { since = 0 } }) c.get_mut.ensures.value c.in-Ok.ensures.part),
     ))
 
 pub put_off-requires-clause-room : goal.put_off-requires-clause-room
-put_off-requires-clause-room c = c.requires.enter.room
+put_off-requires-clause-room g c = c.requires.enter.room
 
 pub put_off-requires-clause-pays : goal.put_off-requires-clause-pays
-put_off-requires-clause-pays c = pays_nothing c.args.self.paced c.args.worker (PutOff c.get_mut.result.now.task) c.requires.enter.owed
+put_off-requires-clause-pays g c = pays_nothing (g.P.EntryCalls.value c.args.self.paced) c.args.worker (PutOff c.get_mut.result.now.task) c.requires.enter.owed

@@ -1,6 +1,6 @@
 use Rattle.std.proofs.Common.{refl, ap, sym, subst, ◌∙◌, is_some}
-use Rattle.paced_tree.specs.below.run_trace.{Took}
-use Rattle.paced_tree.specs.below.shared_value.{cause_of, SharedValue}
+use Rattle.entry_calls.specs.below.run_trace.{Took}
+use Rattle.entry_calls.specs.below.shared_value.{cause_of}
 use Rattle.turn_entries.specs.Parts.{MayRun}
 use Rattle.turn_entries.specs.Values.{is_over}
 use Rattle.turn_entries.proofs.Going.{may}
@@ -9,15 +9,15 @@ use Rattle.turn_entries.proofs.Turning.{not_over, one, unchanged}
 use Rattle.turn_entries.proofs.run.Run.take_in.Goals as goal
 
 pub returns-in-Ok : goal.returns-in-Ok
-returns-in-Ok c = λ ready.
-    c.entered.ensures c.args.self c.args.worker ready (Took c.args.task) (one c.args.self.paced c.took.new.self c.args.worker (Took c.args.task) c.in-Ok.ensures.enters c.in-Ok.ensures.others) c.requires.enter.on
-    (λ on. (on, subst (MayRun c.took.new.self c.args.worker) (sym c.fill.ensures) (may c.took.new.self c.args.worker c.in-Ok.part c.in-Ok.ensures.fits c.in-Ok.ensures.fresh c.in-Ok.ensures.idle)))
+returns-in-Ok g c = λ ready.
+    c.entered.ensures (g.P.EntryCalls.value c.args.self.paced) c.args.worker ready (Took c.args.task) (one (g.P.EntryCalls.value c.args.self.paced) (g.P.EntryCalls.value c.took.new.self) c.args.worker (Took c.args.task) c.in-Ok.ensures.enters c.in-Ok.ensures.others) c.requires.enter.on
+    (λ on. (on, subst (MayRun (g.P.EntryCalls.value c.took.new.self) c.args.worker) (sym c.fill.ensures) (may (g.P.EntryCalls.value c.took.new.self) c.args.worker c.in-Ok.part c.in-Ok.ensures.fits c.in-Ok.ensures.fresh c.in-Ok.ensures.idle)))
 
 pub returns-in-Err : goal.returns-in-Err
-returns-in-Err c = λ ready. (
-  unchanged c.args.self.paced c.took.new.self c.in-Err.ensures.same,
+returns-in-Err g c = λ ready. (
+  unchanged (g.P.EntryCalls.value c.args.self.paced) (g.P.EntryCalls.value c.took.new.self) c.in-Err.ensures.same,
   (
-    ap (λ (w : SharedValue). is_over (record { paced = w })) c.in-Err.ensures.same ∙ not_over c.args.self c.requires.enter.on c.requires.enter.goes,
+    ap is_over c.in-Err.ensures.same ∙ not_over (g.P.EntryCalls.value c.args.self.paced) c.requires.enter.on c.requires.enter.goes,
     c.args.task,
     refl,
     ap is_some (sym c.took.ensures.refused ∙ ap cause_of c.in-Err.is),
@@ -25,7 +25,7 @@ returns-in-Err c = λ ready. (
 )
 
 pub took-requires-clause-room : goal.took-requires-clause-room
-took-requires-clause-room c = c.requires.enter.room
+took-requires-clause-room g c = c.requires.enter.room
 
 pub took-requires-clause-pays : goal.took-requires-clause-pays
-took-requires-clause-pays c = pays_nothing c.args.self.paced c.args.worker (Took c.args.task) c.requires.enter.owed
+took-requires-clause-pays g c = pays_nothing (g.P.EntryCalls.value c.args.self.paced) c.args.worker (Took c.args.task) c.requires.enter.owed

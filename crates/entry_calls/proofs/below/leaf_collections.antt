@@ -1,0 +1,5 @@
+-- What crates above name of `leaf_collections`.
+pub use Rattle.leaf_collections.proofs.CollectionPutOff.{put_off_answer, without_fresh}
+pub use Rattle.leaf_collections.proofs.WhyNoChunk.{chunk_answer}
+pub use Rattle.leaf_collections.proofs.WhyNoCollection.{begin_answer}
+pub use Rattle.leaf_collections.proofs.WhyNoEnd.{end_free}

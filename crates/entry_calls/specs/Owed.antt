@@ -1,0 +1,17 @@
+-- What a worker owes by the journal.
+use Rattle.std.specs.Prelude.{◌≡◌, ℕ, true}
+use Rattle.shared_value.specs.below.run_trace.{EntryValue}
+use Rattle.shared_value.specs.below.run_ledger.{Owed, WorkerPace, gives, owed, pace_at_end, pace_of}
+use Rattle.shared_value.specs.SharedValue.{SharedValue, accounts}
+
+-- what the journal keeps of the worker's entries
+abbrev pub worker_pace : SharedValue → ℕ → WorkerPace
+worker_pace w k = pace_of (pace_at_end w.program w.settings w.journal.items) k
+
+-- what its next entry has to be
+abbrev pub owed_by : SharedValue → ℕ → Owed
+owed_by w k = owed w.settings (accounts w) (worker_pace w k)
+
+-- the entry gives it
+abbrev pub Pays : SharedValue → EntryValue → Type 0
+Pays w e = gives (owed_by w e.worker) e.kind ≡ true

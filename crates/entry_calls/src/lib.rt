@@ -1,0 +1,13 @@
+// The calls that make the entries of a run: what workers ask of the value that they share, whoever keeps it.
+#![tactic(auto)]
+
+mod answers;
+mod calls;
+
+pub use answers::{Leaving, Lent, NotEnded, Ran};
+pub use calls::EntryCalls;
+pub use shared_value::{
+    Addr, Apart, Entry, Kind, MARKED_AT_ONCE, Moved, NotEntered, NotRan, Owed, PRIVATE_LIMIT,
+    Paused, Private, Program, Refused, RunEnd, Settings, ToChunks, leaf_copy_gc_copy as copy,
+    run_local,
+};

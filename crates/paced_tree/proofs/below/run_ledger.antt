@@ -1,2 +1,0 @@
--- What crates above name of `run_ledger`.
-pub use Rattle.counted_tree.proofs.below.run_ledger.{machine_is_run, steps_are_bounded}

@@ -1,0 +1,11 @@
+use Rattle.std.proofs.Common.{ap, sym, subst, ◌∙◌}
+use Rattle.counted_tree.specs.below.run_trace.{SettingsValue}
+use Rattle.counted_tree.specs.below.shared_value.{SharedValue}
+use Rattle.paced_tree.specs.Paces.{AreIdle, KeepsPaces}
+use Rattle.paced_tree.proofs.Idle.{opening_kept}
+use Rattle.paced_tree.proofs.calls.PacedEntryCalls.new.Goals as goal
+
+pub invariant_of-result : goal.invariant_of-result
+invariant_of-result c =
+    subst (λ (z : SharedValue). KeepsPaces z c.in_ok-paces.paces) (sym c.in_ok-apart.ensures) (opening_kept c.in_ok-shared.shared c.in_ok-paces.paces c.in_ok-shared.ensures.journal
+    (subst (AreIdle c.in_ok-paces.paces) (c.workers.ensures.value ∙ ap (λ (s : SettingsValue). s.workers) (sym c.in_ok-shared.ensures.settings)) c.in_ok-paces.ensures))

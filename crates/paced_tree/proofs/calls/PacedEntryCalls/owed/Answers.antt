@@ -1,0 +1,12 @@
+use Rattle.std.proofs.Common.{◌≡◌, None, ap, sym, subst, ◌∙◌}
+use Rattle.counted_tree.specs.below.shared_value.{SharedValue, accounts}
+use Rattle.entry_calls.specs.Owed.{worker_pace, owed_by}
+use Rattle.paced_tree.specs.Paces.{KeepsPaces}
+use Rattle.paced_tree.proofs.calls.PacedEntryCalls.owed.Goals as goal
+
+pub returns : goal.returns
+returns c =
+    let w : SharedValue = c.shared.result.now in
+    let on : (accounts w).end ≡ None = subst (λ (z : SharedValue). (accounts z).end ≡ None) (sym c.shared.ensures) c.requires.goes in
+    let K : KeepsPaces w c.self.inside.paces = subst (λ (z : SharedValue). KeepsPaces z c.self.inside.paces) (c.self.view_is ∙ sym c.shared.ensures) c.self.invariant in
+    c.owed.ensures (worker_pace w c.args.worker) (K.keeps on c.args.worker c.at.result.now c.at.ensures) ∙ ap (λ (z : SharedValue). owed_by z c.args.worker) c.shared.ensures

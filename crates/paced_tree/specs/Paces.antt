@@ -1,0 +1,41 @@
+-- What is kept of workers' entries, to know what they owe.
+use Rattle.std.specs.Prelude.{◌≡◌, ◌≢◌, ◌<◌, ℕ, true, Some, None, List, [], length, slice_get}
+use Rattle.counted_tree.specs.below.run_trace.{Kind}
+use Rattle.counted_tree.specs.below.run_ledger.{Ledger, WorkerPace, is_paced, noted}
+use Rattle.counted_tree.specs.below.shared_value.{SharedValue, accounts}
+use Rattle.counted_tree.specs.below.heap_marking.{Pace, Other, KeepsPace}
+use Rattle.entry_calls.specs.Owed.{worker_pace}
+
+-- the journal is paced; and of each worker there is kept, as long as the run goes on, what tells what it owes
+pub record KeepsPaces (w : SharedValue) (paces : List Pace) : Type 0 where
+  pub paced : is_paced w.program w.settings w.journal.items ≡ true
+  pub workers : length paces ≡ w.settings.workers
+  pub keeps : (accounts w).end ≡ None → (k : ℕ) (q : Pace) → slice_get paces k ≡ Some q → KeepsPace (accounts w) q (worker_pace w k)
+
+-- NOTING AN ENTRY
+
+-- what is kept of each worker before its first entry
+pub record AreIdle (paces : List Pace) (workers : ℕ) : Type 0 where
+  pub many : length paces ≡ workers
+  pub each : (k : ℕ) (q : Pace) → slice_get paces k ≡ Some q → (q.previous ≡ Other) × (q.marks.items ≡ [])
+
+-- what is kept of the worker k alone changes, and so
+pub record NotesAt (old new : List Pace) (k : ℕ) (changes : Pace → Pace → Type 0) : Type 0 where
+  pub many : length new ≡ length old
+  pub others : (j : ℕ) → j ≢ k → slice_get new j ≡ slice_get old j
+  pub own : (q : Pace) → slice_get new k ≡ Some q → (before : Pace) × (slice_get old k ≡ Some before) × changes before q
+
+abbrev pub SameMarks : Pace → Pace → Type 0
+SameMarks old new = (new.previous ≡ old.previous) × (new.marks.items ≡ old.marks.items)
+
+-- no steps, and the beginning of no marking
+abbrev pub NotesOther : Pace → Pace → Type 0
+NotesOther old new = new ≡ record old { previous = Other }
+
+-- what kept the worker's entries keeps them with one more, by the accounts after it
+abbrev pub KeepsNoted : Ledger → Kind → Pace → Pace → Type 0
+KeepsNoted l kind old new = (x : WorkerPace) → KeepsPace l old x → KeepsPace l new (noted l x kind)
+
+-- the worker's list has a place for one marking more
+abbrev pub HasRoom : List Pace → ℕ → Type 0
+HasRoom paces k = (q : Pace) → slice_get paces k ≡ Some q → 0 < q.marks.room
