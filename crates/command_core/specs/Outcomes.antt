@@ -9,5 +9,5 @@ use Rattle.command_answers.specs.declared.answer.Answer.{Answer}
 use Rattle.command_answers.specs.Runs.{IsReplayedRun}
 
 -- with the end that it has told, or not at all where it told none
-abbrev pub AnswersOutcome : Outcome → Extras → Answer → Type 0
+abbrev pub AnswersOutcome : Outcome SharedValue → Extras → Answer → Type 0
 AnswersOutcome o extras a = (w : SharedValue) × (end : RunEnd) × (o.shared ≡ Some w) × (o.finish ≡ Ended end) × IsReplayedRun w.program w.settings extras w.journal.items a

@@ -13,6 +13,7 @@ use command_answers::{
 };
 use command_line::Options;
 use outside_io::Gate;
+use paced_tree::Paced;
 use refusal_lines::{Extras, Refusal};
 use std::alloc::Global;
 use std::sync::Wait;
@@ -20,7 +21,7 @@ use std::thread::Threads;
 use worker_run::{Finish, Outcome, run_on_workers};
 
 // The answer of what workers have left. Where memory was wanting, all that they have left is handed back.
-fn answer_outcome(alloc: Global, outcome: Outcome, extras: Extras) -> Result<Answer, Wanted>
+fn answer_outcome(alloc: Global, outcome: Outcome<Paced>, extras: Extras) -> Result<Answer, Wanted>
     requires { (w : SharedValue) (end : RunEnd) → outcome.shared ≡ Some w → outcome.finish ≡ Finish.Ended end → (accounts w).end ≡ Some end }
     ensures answer { IfOk result (AnswersOutcome outcome extras) }
     ensures wanted { IfErr result (λ w. w ≡ remains_of outcome.shared) }
@@ -28,8 +29,8 @@ fn answer_outcome(alloc: Global, outcome: Outcome, extras: Extras) -> Result<Ans
     let Outcome { finish, shared } = outcome;
     match (finish, shared) {
         (_, None) => Err(Wanted::Before),
-        (Finish::NoMemory, Some(shared)) => Err(amid(shared)),
-        (Finish::Ended(end), Some(shared)) => answer_ended(alloc, shared, end, extras),
+        (Finish::NoMemory, Some(paced)) => Err(amid(paced.into_shared())),
+        (Finish::Ended(end), Some(paced)) => answer_ended(alloc, paced.into_shared(), end, extras),
     }
 }
 
@@ -44,7 +45,7 @@ fn answer_program<R: Threads + Wait + Sync, G: Gate>(
     ensures answer { IfOk result (AnswersProgram options program.now) }
     ensures wanted { IfErr result (IsWanted (LeavesPaced program.now options.settings)) }
 {
-    let outcome = run_on_workers(rt, alloc, program, options.settings, gate);
+    let outcome = run_on_workers::<R, Paced, G>(rt, alloc, program, options.settings, gate);
     answer_outcome(alloc, outcome, extras_of(options))
 }
 

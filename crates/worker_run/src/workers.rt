@@ -203,7 +203,7 @@ pub fn run_on_workers<R: Threads + Wait + Sync, P: EntryCalls + Drop + Send, G: 
     ensures finish { IfSome result.shared (λ w. result.finish ≡ finish_of (end_of program.now settings (P.value w).journal.items)) }
     ensures none { IfNone result.shared (result.finish ≡ Finish.NoMemory) }
 {
-    let Ok((turn, desks, seats)) = with_seats(alloc, program, settings) else {
+    let Ok((turn, desks, seats)) = with_seats::<P>(alloc, program, settings) else {
         return Outcome {
             finish: Finish::NoMemory,
             shared: None,

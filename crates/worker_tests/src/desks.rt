@@ -7,6 +7,7 @@ ghost use Rattle.worker_run.specs.below.turn_lock.{view, HasNoTurn, identity};
 ghost use Rattle.worker_run.specs.Desks.{AreAllDesks, ChangesHand, FewThefts, IsDesk};
 ghost use Rattle.worker_run.specs.below.turn_entries.{ComesWith, GoesWith};
 
+use paced_tree::Paced;
 use std::alloc::Global;
 use std::sync::Wait;
 use trace_input::read_trace_input;
@@ -19,7 +20,7 @@ const COLLECTS: &str =
     "fn left\nset i0 0\nset i1 14\nnewm r1 i0 i1\nputr r0 i0 r1\nnil r1\nnewm r2 i0 i1\nret\nend\nfn right\nset i0 0\nnil r1\nputr r0 i0 r1\nret\nend\nfn main\nset i0 1\nset i1 0\nnewm r0 i0 i1\npar left right\nset i2 0\ngetr r3 r0 i2\nnil r4\nsame i3 r3 r4\nout i3\nret\nend\ntrace 1\n0 took 0\n0 ran 0 2\n0 chunk 0\n0 ran 0 2\n0 took 1\n1 took 2\n0 ran 1 2\n0 chunk 1\n0 ran 1 2\n0 ran 1 1\n0 begin 1\n1 ran 2 3\n0 end 1 1 1 16\n0 ran 1 2\n1 ran 2 1\n1 took 0\n1 ran 0 5\n1 ran 0 1\n";
 
 // The desks of two workers.
-fn two_desks(mut desks: Vec<Desk>) -> Option<(Desk, Desk)>
+fn two_desks(mut desks: Vec<Desk<Paced>>) -> Option<(Desk<Paced>, Desk<Paced>)>
     ensures { (z : TableId) (p : ProgramText) (s : SettingsValue) → AreAllDesks z p s desks.items → IfSome result (λ d. IsDesk z p d.0 × IsDesk z p d.1) }
 {
     if desks.len() != 2 {
@@ -33,18 +34,18 @@ fn two_desks(mut desks: Vec<Desk>) -> Option<(Desk, Desk)>
 // The worker takes its steps, or copies, while the other one has the turn.
 fn makes_ready<R: Wait>(
     rt: &R,
-    shop: &Workshop<EmptyGate>,
-    other: &mut Desk,
-    desk: &mut Desk,
+    shop: &Workshop<Paced, EmptyGate>,
+    other: &mut Desk<Paced>,
+    desk: &mut Desk<Paced>,
     next: Next,
 ) -> Option<Ready>
     requires other { IsDesk (identity shop.now.turn.now) shop.now.program.now other.old }
-    requires goes { GoesWith shop.now.program.now desk.old.worker (view desk.old.seat) next }
+    requires goes { GoesWith shop.now.program.now desk.old.worker (view desk.old.seat).part next }
     requires few { FewThefts desk.old }
     ensures other { IsDesk (identity shop.now.turn.now) shop.now.program.now other.new }
-    ensures still { (n : Next) → GoesWith shop.now.program.now other.old.worker (view other.old.seat) n → GoesWith shop.now.program.now other.new.worker (view other.new.seat) n }
+    ensures still { (n : Next) → GoesWith shop.now.program.now other.old.worker (view other.old.seat).part n → GoesWith shop.now.program.now other.new.worker (view other.new.seat).part n }
     ensures hand { ChangesHand desk.old desk.new }
-    ensures comes { IfSome result (ComesWith shop.now.program.now desk.old.worker (view desk.old.seat)) }
+    ensures comes { IfSome result (ComesWith shop.now.program.now desk.old.worker (view desk.old.seat).part) }
 {
     let run = shop.turn.take(rt, &mut other.seat);
     let ready = prepare(rt, shop, desk, next);
@@ -55,18 +56,18 @@ fn makes_ready<R: Wait>(
 // The worker comes for its turn, and has it; one that has stopped stays so.
 fn goes_on<R: Wait>(
     rt: &R,
-    shop: &Workshop<EmptyGate>,
-    other: &mut Desk,
-    desk: &mut Desk,
+    shop: &Workshop<Paced, EmptyGate>,
+    other: &mut Desk<Paced>,
+    desk: &mut Desk<Paced>,
     next: Next,
 ) -> Next
     requires other { IsDesk (identity shop.now.turn.now) shop.now.program.now other.old }
     requires desk { IsDesk (identity shop.now.turn.now) shop.now.program.now desk.old }
-    requires goes { GoesWith shop.now.program.now desk.old.worker (view desk.old.seat) next }
+    requires goes { GoesWith shop.now.program.now desk.old.worker (view desk.old.seat).part next }
     ensures other { IsDesk (identity shop.now.turn.now) shop.now.program.now other.new }
-    ensures still { (n : Next) → GoesWith shop.now.program.now other.old.worker (view other.old.seat) n → GoesWith shop.now.program.now other.new.worker (view other.new.seat) n }
+    ensures still { (n : Next) → GoesWith shop.now.program.now other.old.worker (view other.old.seat).part n → GoesWith shop.now.program.now other.new.worker (view other.new.seat).part n }
     ensures desk { IsDesk (identity shop.now.turn.now) shop.now.program.now desk.new }
-    ensures goes { GoesWith shop.now.program.now desk.new.worker (view desk.new.seat) result }
+    ensures goes { GoesWith shop.now.program.now desk.new.worker (view desk.new.seat).part result }
 {
     match makes_ready(rt, shop, other, desk, next) {
         Some(ready) => take_turn(rt, shop, desk, ready),
@@ -77,9 +78,9 @@ fn goes_on<R: Wait>(
 // Each entry's worker takes a turn.
 fn drive<R: Wait>(
     rt: &R,
-    shop: &Workshop<EmptyGate>,
-    first: &mut Desk,
-    second: &mut Desk,
+    shop: &Workshop<Paced, EmptyGate>,
+    first: &mut Desk<Paced>,
+    second: &mut Desk<Paced>,
     entries: &[Entry],
 )
     requires first { IsDesk (identity shop.now.turn.now) shop.now.program.now first.old }
@@ -145,7 +146,7 @@ fn is_left(
 }
 
 // The number of entries, as a worker that has no turn sees it.
-fn looked(turn: &Turn<Run>, desk: &mut Desk) -> u64
+fn looked(turn: &Turn<Run<Paced>>, desk: &mut Desk<Paced>) -> u64
     requires { HasNoTurn (identity turn.now) desk.old.seat }
     ensures desk { (p : ProgramText) → IsDesk (identity turn.now) p desk.old → IsDesk (identity turn.now) p desk.new }
 {
@@ -155,10 +156,10 @@ fn looked(turn: &Turn<Run>, desk: &mut Desk) -> u64
 // What both workers see before the first entry and after it.
 fn looks<R: Wait>(
     rt: &R,
-    turn: &Turn<Run>,
+    turn: &Turn<Run<Paced>>,
     program: &Program,
-    first: &mut Desk,
-    second: &mut Desk,
+    first: &mut Desk<Paced>,
+    second: &mut Desk<Paced>,
 ) -> (u64, u64, u64, u64)
     requires first { IsDesk (identity turn.now) program.now first.old }
     requires second { IsDesk (identity turn.now) program.now second.old }
@@ -179,7 +180,7 @@ fn looks<R: Wait>(
 }
 
 // Whether two workers see each entry once it is made.
-fn see_entries<R: Wait>(rt: &R, turn: &Turn<Run>, program: &Program, desks: Vec<Desk>) -> bool
+fn see_entries<R: Wait>(rt: &R, turn: &Turn<Run<Paced>>, program: &Program, desks: Vec<Desk<Paced>>) -> bool
     requires { (s : SettingsValue) × AreAllDesks (identity turn.now) program.now s desks.items }
 {
     match two_desks(desks) {
@@ -195,12 +196,12 @@ fn see_entries<R: Wait>(rt: &R, turn: &Turn<Run>, program: &Program, desks: Vec<
 fn leave_all<R: Wait>(
     rt: &R,
     alloc: Global,
-    turn: &Turn<Run>,
+    turn: &Turn<Run<Paced>>,
     program: &Program,
     settings: Settings,
     entries: &[Entry],
-    first: &mut Desk,
-    second: &mut Desk,
+    first: &mut Desk<Paced>,
+    second: &mut Desk<Paced>,
 ) -> bool
     requires first { IsDesk (identity turn.now) program.now first.old }
     requires second { IsDesk (identity turn.now) program.now second.old }
@@ -224,11 +225,11 @@ fn leave_all<R: Wait>(
 fn at_two<R: Wait>(
     rt: &R,
     alloc: Global,
-    turn: &Turn<Run>,
+    turn: &Turn<Run<Paced>>,
     program: &Program,
     settings: Settings,
     entries: &[Entry],
-    desks: Vec<Desk>,
+    desks: Vec<Desk<Paced>>,
 ) -> bool
     requires { AreAllDesks (identity turn.now) program.now settings desks.items }
 {
@@ -255,7 +256,7 @@ fn at_desks<R: Wait>(
     settings: Settings,
     entries: &[Entry],
 ) -> bool {
-    match opened(alloc, program, settings) {
+    match opened::<Paced>(alloc, program, settings) {
         Ok((turn, desks)) => at_two(rt, alloc, &turn, program, settings, entries, desks),
         Err(_) => false,
     }
@@ -276,7 +277,7 @@ fn two_desks_in_one_thread(rt: HostRuntime) {
 
 // Whether two workers at new desks see each entry once it is made.
 fn see_at_desks<R: Wait>(rt: &R, alloc: Global, program: &Program, settings: Settings) -> bool {
-    match opened(alloc, program, settings) {
+    match opened::<Paced>(alloc, program, settings) {
         Ok((turn, desks)) => see_entries(rt, &turn, program, desks),
         Err(_) => false,
     }

@@ -1,8 +1,10 @@
 // Four workers in threads take one turn again and again.
 ghost use Rattle.std.specs.Prelude.{◌≡◌, ℕ, Some, slice_get};
 ghost use Rattle.worker_run.specs.below.turn_lock.{HasNoTurn, identity};
+ghost use Rattle.worker_run.specs.below.shared_value.{SharedValue};
 ghost use Rattle.worker_run.specs.declared.desk.Desk.{Desk};
 
+use paced_tree::Paced;
 use program_reader::read_program;
 use std::alloc::Global;
 use std::hint::spin_loop;
@@ -57,7 +59,7 @@ impl Watch {
 }
 
 // The worker has the turn once, and gives the value back as it was.
-fn pass<R: Wait>(rt: &R, turn: &Turn<Run>, watch: &Watch, desk: &mut Desk)
+fn pass<R: Wait>(rt: &R, turn: &Turn<Run<Paced>>, watch: &Watch, desk: &mut Desk<Paced>)
     requires { HasNoTurn (identity turn.now) desk.old.seat }
     ensures { HasNoTurn (identity turn.now) desk.new.seat }
 {
@@ -67,7 +69,7 @@ fn pass<R: Wait>(rt: &R, turn: &Turn<Run>, watch: &Watch, desk: &mut Desk)
 }
 
 // The worker has the turn again and again.
-fn passes<R: Wait>(rt: &R, turn: &Turn<Run>, watch: &Watch, desk: &mut Desk)
+fn passes<R: Wait>(rt: &R, turn: &Turn<Run<Paced>>, watch: &Watch, desk: &mut Desk<Paced>)
     requires { HasNoTurn (identity turn.now) desk.old.seat }
 {
     for _ in 0..ROUNDS {
@@ -76,8 +78,8 @@ fn passes<R: Wait>(rt: &R, turn: &Turn<Run>, watch: &Watch, desk: &mut Desk)
 }
 
 // Each worker in a thread of its own.
-fn all_pass<R: Threads + Wait + Sync>(rt: &R, turn: &Turn<Run>, watch: &Watch, desks: &mut [Desk])
-    requires { (k : ℕ) (d : Desk) → slice_get desks.old k ≡ Some d → HasNoTurn (identity turn.now) d.seat }
+fn all_pass<R: Threads + Wait + Sync>(rt: &R, turn: &Turn<Run<Paced>>, watch: &Watch, desks: &mut [Desk<Paced>])
+    requires { (k : ℕ) (d : Desk SharedValue) → slice_get desks.old k ≡ Some d → HasNoTurn (identity turn.now) d.seat }
 {
     if desks.len() == 0 {
         return;
@@ -86,7 +88,7 @@ fn all_pass<R: Threads + Wait + Sync>(rt: &R, turn: &Turn<Run>, watch: &Watch, d
         rt,
         desks,
         4,
-        &|_: usize, desk: &mut Desk|
+        &|_: usize, desk: &mut Desk<Paced>|
             requires { HasNoTurn (identity turn.now) desk.now.seat }
         { passes(rt, turn, watch, desk) },
     );
@@ -100,7 +102,7 @@ fn watched<R: Threads + Wait + Sync>(
     settings: Settings,
 ) -> Option<(u64, u64)> {
     let watch = Watch::new();
-    match opened(alloc, program, settings) {
+    match opened::<Paced>(alloc, program, settings) {
         Ok((turn, mut desks)) => {
             all_pass(rt, &turn, &watch, desks.as_mut_slice());
             Some(watch.told())

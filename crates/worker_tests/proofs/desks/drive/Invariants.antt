@@ -5,5 +5,5 @@ use Rattle.worker_tests.proofs.desks.drive.Given as goal
 
 abbrev pub invariant-loop-entry : goal.invariant-loop-entry
 invariant-loop-entry g l =
-    IsDesk (identity l.shop.turn.now) l.shop.program.now l.first × IsDesk (identity l.shop.turn.now) l.shop.program.now l.second × GoesWith l.shop.program.now l.first.worker (view l.first.seat) l.to_first
-    × GoesWith l.shop.program.now l.second.worker (view l.second.seat) l.to_second
+    IsDesk (identity l.shop.turn.now) l.shop.program.now l.first × IsDesk (identity l.shop.turn.now) l.shop.program.now l.second × GoesWith l.shop.program.now l.first.worker (view l.first.seat).part l.to_first
+    × GoesWith l.shop.program.now l.second.worker (view l.second.seat).part l.to_second
