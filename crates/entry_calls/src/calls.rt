@@ -77,12 +77,7 @@ pub trait EntryCalls {
 
     /// The fresh steps of a part are entered with its next one, which gives it up so. Where memory is wanting nothing
     /// is, though heaps and sets may have places for more.
-    fn ran_leaving(
-        &mut self,
-        worker: u32,
-        part: Private,
-        leaving: Leaving,
-    ) -> Result<Ran, NotRan>
+    fn ran_leaving(&mut self, worker: u32, part: Private, leaving: Leaving) -> Result<Ran, NotRan>
         requires room { 0 < (value self.old).journal.room }
         requires fits { Fits (value self.old) worker part }
         requires shared { IsShared (value self.old) part }
@@ -118,12 +113,7 @@ pub trait EntryCalls {
 
     /// The leaf collection of a part ends, once its heap was copied: fields that still hold old addresses are led to
     /// the new ones, and the chunks that nothing needs are given back. It takes no memory.
-    fn leaf_end(
-        &mut self,
-        worker: u32,
-        part: &mut Private,
-        moved: Moved,
-    ) -> Result<(), NotEnded>
+    fn leaf_end(&mut self, worker: u32, part: &mut Private, moved: Moved) -> Result<(), NotEnded>
         requires room { 0 < (value self.old).journal.room }
         requires fits { FitsCopied (value self.old) worker part.old moved }
         requires pays { Pays (value self.old) (end_entry worker part.old moved) }

@@ -83,12 +83,7 @@ impl EntryCalls for Paced {
         }
     }
 
-    fn ran_leaving(
-        &mut self,
-        worker: u32,
-        part: Private,
-        leaving: Leaving,
-    ) -> Result<Ran, NotRan> {
+    fn ran_leaving(&mut self, worker: u32, part: Private, leaving: Leaving) -> Result<Ran, NotRan> {
         let shared = self.shared.get_mut();
         shared.stands();
         let task = part.task;
@@ -124,12 +119,7 @@ impl EntryCalls for Paced {
         Ok(begun)
     }
 
-    fn leaf_end(
-        &mut self,
-        worker: u32,
-        part: &mut Private,
-        moved: Moved,
-    ) -> Result<(), NotEnded> {
+    fn leaf_end(&mut self, worker: u32, part: &mut Private, moved: Moved) -> Result<(), NotEnded> {
         let shared = self.shared.get_mut();
         shared.stands();
         shared.leaf_end(worker, part, moved)?;

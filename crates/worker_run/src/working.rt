@@ -27,7 +27,13 @@ fn look<R: Wait, P: EntryCalls>(rt: &R, bell: &Bell, desk: &mut Desk<P>) -> Read
 }
 
 // The worker puts both children of a fork where others find them, and looks for a task. Others may take one of the two.
-fn share_both<R: Wait, P: EntryCalls>(rt: &R, bell: &Bell, desk: &mut Desk<P>, left: u32, right: u32) -> Ready
+fn share_both<R: Wait, P: EntryCalls>(
+    rt: &R,
+    bell: &Bell,
+    desk: &mut Desk<P>,
+    left: u32,
+    right: u32,
+) -> Ready
     requires { FewThefts desk.old }
     ensures hand { ChangesHand desk.old desk.new }
     ensures shared { SharesBoth desk.old.worker left right desk.old.hand desk.new.hand result }

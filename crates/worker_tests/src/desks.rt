@@ -180,7 +180,12 @@ fn looks<R: Wait>(
 }
 
 // Whether two workers see each entry once it is made.
-fn see_entries<R: Wait>(rt: &R, turn: &Turn<Run<Paced>>, program: &Program, desks: Vec<Desk<Paced>>) -> bool
+fn see_entries<R: Wait>(
+    rt: &R,
+    turn: &Turn<Run<Paced>>,
+    program: &Program,
+    desks: Vec<Desk<Paced>>,
+) -> bool
     requires { (s : SettingsValue) × AreAllDesks (identity turn.now) program.now s desks.items }
 {
     match two_desks(desks) {

@@ -78,7 +78,12 @@ fn passes<R: Wait>(rt: &R, turn: &Turn<Run<Paced>>, watch: &Watch, desk: &mut De
 }
 
 // Each worker in a thread of its own.
-fn all_pass<R: Threads + Wait + Sync>(rt: &R, turn: &Turn<Run<Paced>>, watch: &Watch, desks: &mut [Desk<Paced>])
+fn all_pass<R: Threads + Wait + Sync>(
+    rt: &R,
+    turn: &Turn<Run<Paced>>,
+    watch: &Watch,
+    desks: &mut [Desk<Paced>],
+)
     requires { (k : ℕ) (d : Desk SharedValue) → slice_get desks.old k ≡ Some d → HasNoTurn (identity turn.now) d.seat }
 {
     if desks.len() == 0 {

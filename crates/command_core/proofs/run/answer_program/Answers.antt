@@ -1,3 +1,4 @@
+use denote.Param.Send.{sendable}
 use Rattle.std.proofs.Common.{sym, subst, ◌∙◌, ◌≡◌}
 use Rattle.std.specs.Prelude.{IfOk, IfSome, Option, Some}
 use Rattle.std.proofs.lemmas.Result.{IfErr-weaker, IfOk-weaker}
@@ -7,6 +8,7 @@ use Rattle.worker_run.specs.Outcomes.{IsRun, finish_of}
 use Rattle.refusal_lines.specs.below.run_report.{Extras}
 use Rattle.command_answers.specs.Answers.{extras_of}
 use Rattle.command_core.specs.Outcomes.{AnswersOutcome}
+use Rattle.paced_tree.proofs.Sent.{paced_send}
 use Rattle.command_core.proofs.Runs.{left_wanted, told_end, workers_run}
 use Rattle.command_core.proofs.run.answer_program.Goals as goal
 
@@ -30,3 +32,6 @@ returns-clause-answer g c =
 pub returns-clause-wanted : goal.returns-clause-wanted
 returns-clause-wanted g c =
     IfErr-weaker c.answer_outcome.result _ _ (λ found e. left_wanted c.args.program.now c.args.options.settings c.run_on_workers-outcome.result.shared found c.run_on_workers-outcome.ensures.run e) c.answer_outcome.ensures.wanted
+
+pub run_on_workers-outcome-requires-send-P : goal.run_on_workers-outcome-requires-send-P
+run_on_workers-outcome-requires-send-P g c κs within = search (paced_send, sendable) depth 30

@@ -1,7 +1,11 @@
-use Rattle.std.proofs.Common.{◌≡◌, refl, subst}
+use Rattle.std.proofs.Common.{◌≡◌, ◌∷◌, ◌++◌, [], ap, inl, inr, refl, subst, sym, ◌∙◌}
 use Rattle.copied_part_laws.specs.below.hh_lang.{ProgramText}
-use Rattle.turn_entries.specs.below.turn_lock.{view, identity}
-use Rattle.turn_entries.specs.Parts.{GoesWith}
+use Rattle.turn_entries.specs.below.turn_lock.{own_entries, view, identity}
+use Rattle.turn_entries.specs.declared.act.Acted.TheVariants.{Entered}
+use Rattle.turn_entries.specs.declared.between_turns.Next.{Next}
+use Rattle.turn_entries.specs.Acts.{Acts}
+use Rattle.turn_entries.specs.Parts.{GoesWith, Sight}
+use Rattle.turn_entries.specs.Values.{worker_of}
 use Rattle.worker_run.specs.Desks.{IsDesk}
 use Rattle.worker_run.proofs.Giving.{alike, brings, has_entry, program_entered, takes_from}
 use Rattle.worker_run.proofs.turn.take_turn.Goals as goal
@@ -35,3 +39,26 @@ returns-in-Entered-clause-next g c =
     let A = c.in-Entered.ensures in
     let runs : (g.P.EntryCalls.value c.in-Entered.run'.paced).program ≡ c.args.shop.now.program.now = program_entered g.P.EntryCalls.value z c.args.shop.now.program.now c.args.desk.now c.take-run.result c.in-Entered.run' c.requires.desk c.take-run.ensures.value A.made A.enters in
     subst (λ (p : ProgramText). GoesWith p c.args.desk.now.worker (view c.give.new.desk.seat).part c.give.result) runs c.give.ensures.next
+
+pub returns-in-Entered-clause-turn : goal.returns-in-Entered-clause-turn
+returns-in-Entered-clause-turn g c = record {
+  place = c.give.ensures.place;
+  taken = c.take-run.result;
+  knows = c.take-run.ensures.value;
+  given = c.in-Entered.run';
+  gave = c.give.ensures.gave;
+  does = inl (
+    subst (λ (n : Next). Acts g.P.EntryCalls.value (g.P.EntryCalls.value c.take-run.result.paced) c.args.desk.now.worker c.args.ready (Entered c.in-Entered.run' n)) (sym c.give.ensures.kept) c.in-Entered.ensures,
+    (c.give.ensures.one.0, c.give.ensures.one.1 ∙ ap (λ (v : Sight g.row.P.Denot). own_entries worker_of v ++ c.give.ensures.one.0 ∷ []) c.take-run.ensures.seat),
+  );
+}
+
+pub returns-in-Same-clause-turn : goal.returns-in-Same-clause-turn
+returns-in-Same-clause-turn g c = record {
+  place = refl;
+  taken = c.take-run.result;
+  knows = c.take-run.ensures.value;
+  given = c.in-Same.run';
+  gave = record { given = ap (λ (v : Sight g.row.P.Denot). v.given) c.give_same.ensures.seat.1; seen = ap (λ (v : Sight g.row.P.Denot). v.seen) c.give_same.ensures.seat.1 };
+  does = inr (c.in-Same.ensures, c.give_same.ensures.own ∙ ap (λ (v : Sight g.row.P.Denot). own_entries worker_of v) c.take-run.ensures.seat);
+}

@@ -10,3 +10,6 @@ returns-clause-finish g c =
       | in-Some w ↦ w.finish-is ∙ ap finish_of (sym w.in-Some.is)
       | in-None w ↦ w.finish-is ∙ ap finish_of (sym w.in-None.is)
     ])
+
+pub returns-clause-run : goal.returns-clause-run
+returns-clause-run g c = c.run_all-shared.ensures.run c.args.settings c.in-Ok.ensures.all

@@ -1,6 +1,7 @@
-use Rattle.std.proofs.Common.{arith, rules}
+use Rattle.std.proofs.Common.{arith, rules, subst, sym}
 use Rattle.turn_entries.specs.declared.between_turns.Next.TheVariants.{Idle}
-use Rattle.worker_run.proofs.Rounding.{one_more}
+use Rattle.worker_run.specs.Desks.{HasStopped}
+use Rattle.worker_run.proofs.Rounding.{one_more, stops_then}
 use Rattle.worker_run.proofs.working.work.Goals as goal
 
 pub prepare-requires-clause-few : goal.prepare-requires-clause-few
@@ -11,7 +12,10 @@ loop-preserved g c = record {
   desk = search rules;
   same = search rules;
   goes = search rules;
-  stops = search rules;
+  stops = stops_then g.P.EntryCalls.value c.prepare.new.desk c.take_turn-next.new.desk c.in-Some-prepare.ready c.take_turn-next.result c.take_turn-next.ensures.turn;
   rounds = one_more g.P.EntryCalls.value c.args.shop.now.program.now c.args.desk.now Idle c.loop.desk c.loop.next c.take_turn-next.new.desk c.take_turn-next.result c.loop.invariant.rounds
       (record { ready = c.in-Some-prepare.ready; between = c.prepare.new.desk; changes = c.prepare.ensures.hand; prepares = c.in-Some-prepare.ensures.tasks; turn = c.take_turn-next.ensures.turn });
 }
+
+pub returns-in_default-clause-over : goal.returns-in_default-clause-over
+returns-in_default-clause-over g c = subst (HasStopped g.P.EntryCalls.value) (sym c.in_default.ensures.stops.1) (c.loop.invariant.stops c.in_default.ensures.stops.0)
