@@ -21,17 +21,17 @@ use Rattle.run_timeline.specs.Timeline.{events_from, events_of, lanes, timeline}
 use Rattle.run_timeline.specs.Pieces.{beginning, ending, span_head, head}
 use Rattle.run_timeline.proofs.Made.{span_made, event_made}
 
-module _ (p : ProgramText) (s : SettingsValue) (l : Ledger) (seats : List ℕ) (n : ℕ) (journal : List EntryValue) (i : ℕ) (e : EntryValue) (lt : i < length journal) (is : e ≡ get_or journal i e) where
+module _ (p : ProgramText) (s : SettingsValue) (l : Ledger) (n : ℕ) (journal : List EntryValue) (i : ℕ) (e : EntryValue) (lt : i < length journal) (is : e ≡ get_or journal i e) where
   abbrev here : List Json
-  here = entry_events p (counts_of l) (after p s l e) (get_or seats e.worker 0) n e
+  here = entry_events p (counts_of l) (after p s l e) n e
 
   abbrev later : List Json
-  later = events_from p s (after p s l e) (slice_set seats e.worker n) (n + 1) (drop (i + 1) journal)
+  later = events_from p s (after p s l e) (n + 1) (drop (i + 1) journal)
 
   -- the events of an entry, and those of the entries behind it
-  pub events_next : flat_map further (events_from p s l seats n (drop i journal)) ≡ flat_map further here ++ flat_map further later
+  pub events_next : flat_map further (events_from p s l n (drop i journal)) ≡ flat_map further here ++ flat_map further later
   events_next =
-      ap (λ es. flat_map further (events_from p s l seats n es)) (cut p s l n journal i e lt is)
+      ap (λ es. flat_map further (events_from p s l n es)) (cut p s l n journal i e lt is)
       ∙ flat_map-append further here later
 
 -- an object with an array, as the text has it

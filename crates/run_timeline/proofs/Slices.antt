@@ -1,21 +1,19 @@
 -- Each entry is one slice.
-use Rattle.std.proofs.Common.{◌≡◌, ◌<◌, ◌+◌, ◌==◌, ℕ, zero, suc, Bool, cond, true, false, List, [], ◌∷◌, ◌++◌, length, get_or, refl, ap, sym, subst, ◌∙◌, arith, inl, inr, eq-eqb, ne_eqb}
-use Rattle.std.specs.Prelude.{Option, Some, None, codes, replicate, slice_get, slice_set}
+use Rattle.std.proofs.Common.{◌≡◌, ◌+◌, ◌==◌, ℕ, zero, suc, Bool, cond, true, false, List, [], ◌∷◌, ◌++◌, length, refl, ap, ◌∙◌, arith}
+use Rattle.std.specs.Prelude.{Option, Some, None, codes, slice_get}
 use Rattle.std.specs.List.{filter}
-use Rattle.std.proofs.lemmas.Bool.{cases_eq}
-use Rattle.std.proofs.lemmas.List.{get_or-set_same, get_or-set_other, length-set}
 use Rattle.std.proofs.lemmas.List.Elements.{filter-append}
 use Rattle.run_journal.specs.below.hh_lang.{ProgramText}
 use Rattle.run_journal.specs.below.hh_model.{Status, Running, Waiting, Ended, Joined, Task, State}
-use Rattle.run_journal.specs.below.run_trace.{Kind, Took, Ran, Chunk, Begin, End, PutOff, Mark, More, Sweep, Fuel, EntryValue, SettingsValue, worker_limit}
+use Rattle.run_journal.specs.below.run_trace.{Kind, Took, Ran, Chunk, Begin, End, PutOff, Mark, More, Sweep, Fuel, EntryValue, SettingsValue}
 use Rattle.run_journal.specs.below.run_ledger.{RunEnd, Ledger, in_use, after, opening}
 use Rattle.json_text.specs.Json.{Json}
 use Rattle.run_timeline.specs.declared.words.Counts.{Counts}
 use Rattle.run_timeline.specs.Words.{counts_of, words_held}
 use Rattle.run_timeline.specs.Events.{arrow_begins, arrow_ends}
 use Rattle.run_timeline.specs.Entries.{slice, begins_and_ends, taken, first_taken, forked, ended, ended_by, joined, chunks_counted, counter, counted, run_ended, words_counted, entry_events}
-use Rattle.run_timeline.specs.Timeline.{events_from, events_of, no_entry}
-use Rattle.run_timeline.specs.Laws.{is_by, is_slice, last_by, slices_of, SlicesAreEntries}
+use Rattle.run_timeline.specs.Timeline.{events_from, events_of}
+use Rattle.run_timeline.specs.Laws.{is_slice, slices_of, SlicesAreEntries}
 
 abbrev slices : List Json → List Json
 slices = filter is_slice
@@ -26,17 +24,6 @@ none_there (suc i) e is = cc
 
 same_item : (x y : EntryValue) → Some x ≡ Some y → x ≡ y
 same_item x y e = cc
-
-abbrev seats_of : ℕ → List ℕ
-seats_of n = replicate n 0
-
-empty_from : (n w : ℕ) → get_or (seats_of n) w 0 ≡ 0
-empty_from zero w = refl
-empty_from (suc n) zero = refl
-empty_from (suc n) (suc w) = empty_from n w
-
-empty_seat : (w : ℕ) → get_or no_entry w 0 ≡ 0
-empty_seat w = empty_from worker_limit w
 
 -- where neither has one, both together have none
 both : (xs ys : List Json) → xs ≡ [] → ys ≡ [] → xs ++ ys ≡ []
@@ -102,104 +89,48 @@ none_run_ended : (p : ProgramText) (m : State) (n w : ℕ) (e : Option RunEnd) �
 none_run_ended p m n w None = refl
 none_run_ended p m n w (Some e) = refl
 
-one_slice : (p : ProgramText) (was : Counts) (l : Ledger) (before n : ℕ) (e : EntryValue) → slices (entry_events p was l before n e) ≡ slice before n e ∷ []
-one_slice p was l before n e =
+one_slice : (p : ProgramText) (was : Counts) (l : Ledger) (n : ℕ) (e : EntryValue) → slices (entry_events p was l n e) ≡ slice n e ∷ []
+one_slice p was l n e =
     let ts = begins_and_ends p was.tasks l.machine n e.worker e.kind in
     let cs = chunks_counted was.chunks (in_use l) n in
     let ws = words_counted was.words (words_held l) n in
     let es = run_ended p l.machine n e.worker l.end in
-    let a : slices (slice before n e ∷ ts) ≡ slice before n e ∷ [] = ap (λ vs. slice before n e ∷ vs) (none_told p was.tasks l.machine n e.worker e.kind) in
-    let b = alone (slice before n e) (slice before n e ∷ ts) cs a (none_counted (codes "chunks in use") (codes "chunks") was.chunks (in_use l) n) in
-    let d = alone (slice before n e) ((slice before n e ∷ ts) ++ cs) ws b (none_counted (codes "words held") (codes "words") was.words (words_held l) n) in
-    alone (slice before n e) (((slice before n e ∷ ts) ++ cs) ++ ws) es d (none_run_ended p l.machine n e.worker l.end)
+    let a : slices (slice n e ∷ ts) ≡ slice n e ∷ [] = ap (λ vs. slice n e ∷ vs) (none_told p was.tasks l.machine n e.worker e.kind) in
+    let b = alone (slice n e) (slice n e ∷ ts) cs a (none_counted (codes "chunks in use") (codes "chunks") was.chunks (in_use l) n) in
+    let d = alone (slice n e) ((slice n e ∷ ts) ++ cs) ws b (none_counted (codes "words held") (codes "words") was.words (words_held l) n) in
+    alone (slice n e) (((slice n e ∷ ts) ++ cs) ++ ws) es d (none_run_ended p l.machine n e.worker l.end)
 
--- the slices of entries from the one of this number on, where each worker's last entry was is among the seats
-abbrev slices_from : List ℕ → ℕ → List EntryValue → List Json
-slices_from seats n [] = []
-slices_from seats n (e ∷ es) = slice (get_or seats e.worker 0) n e ∷ slices_from (slice_set seats e.worker n) (n + 1) es
+-- the slices of entries from the one of this number on
+abbrev slices_from : ℕ → List EntryValue → List Json
+slices_from n [] = []
+slices_from n (e ∷ es) = slice n e ∷ slices_from (n + 1) es
 
-each_one : (p : ProgramText) (s : SettingsValue) (l : Ledger) (seats : List ℕ) (n : ℕ) (journal : List EntryValue) → slices (events_from p s l seats n journal) ≡ slices_from seats n journal
-each_one p s l seats n [] = refl
-each_one p s l seats n (e ∷ es) =
-    let here = entry_events p (counts_of l) (after p s l e) (get_or seats e.worker 0) n e in
-    let later = events_from p s (after p s l e) (slice_set seats e.worker n) (n + 1) es in
+each_one : (p : ProgramText) (s : SettingsValue) (l : Ledger) (n : ℕ) (journal : List EntryValue) → slices (events_from p s l n journal) ≡ slices_from n journal
+each_one p s l n [] = refl
+each_one p s l n (e ∷ es) =
+    let here = entry_events p (counts_of l) (after p s l e) n e in
+    let later = events_from p s (after p s l e) (n + 1) es in
     filter-append is_slice here later
-    ∙ (ap (λ vs. vs ++ slices later) (one_slice p (counts_of l) (after p s l e) (get_or seats e.worker 0) n e)
-    ∙ ap (λ vs. slice (get_or seats e.worker 0) n e ∷ vs) (each_one p s (after p s l e) (slice_set seats e.worker n) (n + 1) es))
+    ∙ (ap (λ vs. vs ++ slices later) (one_slice p (counts_of l) (after p s l e) n e)
+    ∙ ap (λ vs. slice n e ∷ vs) (each_one p s (after p s l e) (n + 1) es))
 
-as_many : (seats : List ℕ) (n : ℕ) (journal : List EntryValue) → length (slices_from seats n journal) ≡ length journal
-as_many seats n [] = refl
-as_many seats n (e ∷ es) = ap suc (as_many (slice_set seats e.worker n) (n + 1) es)
+as_many : (n : ℕ) (journal : List EntryValue) → length (slices_from n journal) ≡ length journal
+as_many n [] = refl
+as_many n (e ∷ es) = ap suc (as_many (n + 1) es)
 
--- ---- THE SEATS
-
--- with the entry of this number, if there is one
-abbrev seated : Option EntryValue → List ℕ → ℕ → List ℕ
-seated None seats n = seats
-seated (Some e) seats n = slice_set seats e.worker n
-
--- after so many entries
-abbrev seats_after : List ℕ → ℕ → List EntryValue → ℕ → List ℕ
-seats_after seats n journal zero = seats
-seats_after seats n [] (suc i) = seats
-seats_after seats n (e ∷ es) (suc i) = seats_after (slice_set seats e.worker n) (n + 1) es i
-
-got : (seats : List ℕ) (n : ℕ) (journal : List EntryValue) (i : ℕ) (e : EntryValue) → slice_get journal i ≡ Some e → slice_get (slices_from seats n journal) i ≡ Some (slice (get_or (seats_after seats n journal i) e.worker 0) (i + n) e)
-got seats n [] i e is = absurd (none_there i e is)
-got seats n (x ∷ es) zero e is =
+got : (n : ℕ) (journal : List EntryValue) (i : ℕ) (e : EntryValue) → slice_get journal i ≡ Some e → slice_get (slices_from n journal) i ≡ Some (slice (i + n) e)
+got n [] i e is = absurd (none_there i e is)
+got n (x ∷ es) zero e is =
     let at : n ≡ 0 + n = omega arith in
-    ap (λ (y : EntryValue). Some (slice (get_or seats y.worker 0) n y)) (same_item x e is) ∙ ap (λ k. Some (slice (get_or seats e.worker 0) k e)) at
-got seats n (x ∷ es) (suc i) e is =
-    let next = got (slice_set seats x.worker n) (n + 1) es i e is in
+    ap (λ (y : EntryValue). Some (slice n y)) (same_item x e is) ∙ ap (λ k. Some (slice k e)) at
+got n (x ∷ es) (suc i) e is =
     let at : i + (n + 1) ≡ suc i + n = omega arith in
-    next ∙ ap (λ k. Some (slice (get_or (seats_after (slice_set seats x.worker n) (n + 1) es i) e.worker 0) k e)) at
-
--- one entry more
-one_seated : (seats : List ℕ) (n : ℕ) (journal : List EntryValue) (i : ℕ) → seats_after seats n journal (suc i) ≡ seated (slice_get journal i) (seats_after seats n journal i) (i + n)
-one_seated seats n [] zero = refl
-one_seated seats n [] (suc i) = refl
-one_seated seats n (e ∷ es) zero = let at : n ≡ 0 + n = omega arith in ap (slice_set seats e.worker) at
-one_seated seats n (e ∷ es) (suc i) =
-    let at : i + (n + 1) ≡ suc i + n = omega arith in
-    one_seated (slice_set seats e.worker n) (n + 1) es i ∙ ap (seated (slice_get es i) (seats_after (slice_set seats e.worker n) (n + 1) es i)) at
-
-as_many_seats : (o : Option EntryValue) (seats : List ℕ) (n : ℕ) → length (seated o seats n) ≡ length seats
-as_many_seats None seats n = refl
-as_many_seats (Some e) seats n = length-set seats e.worker n
-
-many_seats : (journal : List EntryValue) (i : ℕ) → length (seats_after no_entry 1 journal i) ≡ worker_limit
-many_seats journal zero = refl
-many_seats journal (suc i) =
-    ap length (one_seated no_entry 1 journal i)
-    ∙ (as_many_seats (slice_get journal i) (seats_after no_entry 1 journal i) (i + 1) ∙ many_seats journal i)
-
--- a worker's seat after one entry more
-seat_by : (o : Option EntryValue) (seats : List ℕ) (n last w : ℕ) → w < length seats → get_or seats w 0 ≡ last → get_or (seated o seats n) w 0 ≡ cond (is_by w o) n last
-seat_by None seats n last w lt is = is
-seat_by (Some e) seats n last w lt is = elim (cases_eq e.worker w) [
-  | inl here ↦
-      ap (λ k. get_or (slice_set seats k n) w 0) here
-      ∙ (get_or-set_same seats w n 0 lt ∙ ap (λ b. cond b n last) (sym (eq-eqb e.worker w here)))
-  | inr off ↦
-      get_or-set_other seats e.worker w n 0 (λ h. off (sym h))
-      ∙ (is ∙ ap (λ b. cond b n last) (sym (ne_eqb e.worker w off)))
-]
-
-seat_is_last : (journal : List EntryValue) (w : ℕ) → w < worker_limit → (i : ℕ) → get_or (seats_after no_entry 1 journal i) w 0 ≡ last_by w journal i
-seat_is_last journal w lt zero = empty_seat w
-seat_is_last journal w lt (suc i) =
-    let few : w < length (seats_after no_entry 1 journal i) = subst (λ k. w < k) (sym (many_seats journal i)) lt in
-    let at : i + 1 ≡ suc i = omega arith in
-    ap (λ xs. get_or xs w 0) (one_seated no_entry 1 journal i)
-    ∙ (seat_by (slice_get journal i) (seats_after no_entry 1 journal i) (i + 1) (last_by w journal i) w few (seat_is_last journal w lt i)
-    ∙ ap (λ k. cond (is_by w (slice_get journal i)) k (last_by w journal i)) at)
+    got (n + 1) es i e is ∙ ap (λ k. Some (slice k e)) at
 
 pub slices_are_entries : SlicesAreEntries
 slices_are_entries = λ p s journal.
-    let all : slices_of p s journal ≡ slices_from no_entry 1 journal = each_one p s (opening p s) no_entry 1 journal in
+    let all : slices_of p s journal ≡ slices_from 1 journal = each_one p s (opening p s) 1 journal in
     record {
-      count = ap length all ∙ as_many no_entry 1 journal;
-      each = λ i e is entry.
-          ap (λ vs. slice_get vs i) all
-          ∙ (got no_entry 1 journal i e is ∙ ap (λ k. Some (slice k (i + 1) e)) (seat_is_last journal e.worker entry.0 i));
+      count = ap length all ∙ as_many 1 journal;
+      each = λ i e is. ap (λ vs. slice_get vs i) all ∙ got 1 journal i e is;
     }

@@ -1,6 +1,5 @@
 -- One entry more of a timeline.
 use Rattle.std.proofs.Common.{◌≡◌, ◌<◌, ◌+◌, ℕ, List, ◌++◌, length, drop, get_or, ap, sym, ◌∙◌, append_assoc}
-use Rattle.std.specs.Prelude.{slice_set}
 use Rattle.std.specs.List.{flat_map}
 use Rattle.run_journal.specs.below.hh_lang.{ProgramText}
 use Rattle.run_journal.specs.below.run_trace.{EntryValue}
@@ -14,15 +13,15 @@ use Rattle.run_timeline.proofs.Loops.{events_next}
 
 module _ (journal : List EntryValue) (b b' : BookValue) (i : ℕ) (e : EntryValue) (lt : i < length journal) (is : e ≡ get_or journal i e) (eb : b' ≡ record b { ledger = after b.program b.settings b.ledger e }) where
   -- what is written and what is left are the whole, also behind the entry
-  pub text_on : (seats : List ℕ) (n w : ℕ) (p : ProgramText) (now later all : List ℕ) → w ≡ e.worker → b.program ≡ p
-      → now ++ flat_map further (events_from b.program b.settings b.ledger seats n (drop i journal)) ≡ all
-      → later ≡ now ++ flat_map further (entry_events p (counts_of b.ledger) (after b.program b.settings b.ledger e) (get_or seats w 0) n e)
-      → later ++ flat_map further (events_from b'.program b'.settings b'.ledger (slice_set seats w n) (n + 1) (drop (i + 1) journal)) ≡ all
-  text_on seats n w p now later all ew ep inv el =
-      (λ j. (el ∙ (λ k. now ++ flat_map further (entry_events (sym ep k) (counts_of b.ledger) (after b.program b.settings b.ledger e) (get_or seats (ew k) 0) n e))) j
-      ++ flat_map further (events_from (eb j).program (eb j).settings (eb j).ledger (slice_set seats (ew j) n) (n + 1) (drop (i + 1) journal)))
+  pub text_on : (n : ℕ) (p : ProgramText) (now later all : List ℕ) → b.program ≡ p
+      → now ++ flat_map further (events_from b.program b.settings b.ledger n (drop i journal)) ≡ all
+      → later ≡ now ++ flat_map further (entry_events p (counts_of b.ledger) (after b.program b.settings b.ledger e) n e)
+      → later ++ flat_map further (events_from b'.program b'.settings b'.ledger (n + 1) (drop (i + 1) journal)) ≡ all
+  text_on n p now later all ep inv el =
+      (λ j. (el ∙ (λ k. now ++ flat_map further (entry_events (sym ep k) (counts_of b.ledger) (after b.program b.settings b.ledger e) n e))) j
+      ++ flat_map further (events_from (eb j).program (eb j).settings (eb j).ledger (n + 1) (drop (i + 1) journal)))
       ∙ append_assoc now
-      (flat_map further (entry_events b.program (counts_of b.ledger) (after b.program b.settings b.ledger e) (get_or seats e.worker 0) n e))
-      (flat_map further (events_from b.program b.settings (after b.program b.settings b.ledger e) (slice_set seats e.worker n) (n + 1) (drop (i + 1) journal)))
-      ∙ ap (λ x. now ++ x) (sym (events_next b.program b.settings b.ledger seats n journal i e lt is))
+      (flat_map further (entry_events b.program (counts_of b.ledger) (after b.program b.settings b.ledger e) n e))
+      (flat_map further (events_from b.program b.settings (after b.program b.settings b.ledger e) (n + 1) (drop (i + 1) journal)))
+      ∙ ap (λ x. now ++ x) (sym (events_next b.program b.settings b.ledger n journal i e lt is))
       ∙ inv

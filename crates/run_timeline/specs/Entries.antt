@@ -1,5 +1,5 @@
 -- The events of one entry.
-use Rattle.std.specs.Prelude.{ℕ, ◌+◌, ◌*◌, ◌-◌, ◌==◌, Option, Some, None, List, [], ◌∷◌, ◌++◌, codes, length, slice_get, if◌then◌else◌}
+use Rattle.std.specs.Prelude.{ℕ, ◌+◌, ◌-◌, ◌==◌, Option, Some, None, List, [], ◌∷◌, ◌++◌, codes, length, slice_get, if◌then◌else◌}
 use Rattle.std.specs.List.{join_with_byte}
 use Rattle.run_journal.specs.below.hh_lang.{ProgramText, line_at, Line}
 use Rattle.run_journal.specs.below.hh_model.{Status, Ended, Joined, Entangled, Task, State}
@@ -29,11 +29,11 @@ numbers_of (More t n) = of_task t (one_number (codes "objects") n)
 numbers_of (Sweep t given) = of_task t (one_number (codes "given") given)
 numbers_of Fuel = NoMember
 
--- an entry is a slice, from where its worker's entry before ended to its own end
-abbrev pub slice : ℕ → ℕ → EntryValue → Json
-slice before n e =
-    event (kind_name e.kind) (codes "entry") (codes "X") (end_time before) e.worker (
-    Member (codes "dur") (Number ((n - before) * 1000)) (
+-- an entry is a slice at its place, one entry wide
+abbrev pub slice : ℕ → EntryValue → Json
+slice n e =
+    event (kind_name e.kind) (codes "entry") (codes "X") (end_time (n - 1)) e.worker (
+    Member (codes "dur") (Number 1000) (
     arguments (numbers_of e.kind)))
 
 -- TASKS
@@ -141,11 +141,10 @@ run_ended p m n w (Some e) = run_end p m n w e ∷ []
 
 -- ALL OF AN ENTRY
 
--- of the entry of this number, whose worker's entry before had that one: in front of it the accounts had these counts,
--- and behind it they are these
-abbrev pub entry_events : ProgramText → Counts → Ledger → ℕ → ℕ → EntryValue → List Json
-entry_events p was l before n e =
-    (slice before n e ∷ begins_and_ends p was.tasks l.machine n e.worker e.kind)
+-- of the entry of this number: in front of it the accounts had these counts, and behind it they are these
+abbrev pub entry_events : ProgramText → Counts → Ledger → ℕ → EntryValue → List Json
+entry_events p was l n e =
+    (slice n e ∷ begins_and_ends p was.tasks l.machine n e.worker e.kind)
     ++ chunks_counted was.chunks (in_use l) n
     ++ words_counted was.words (words_held l) n
     ++ run_ended p l.machine n e.worker l.end

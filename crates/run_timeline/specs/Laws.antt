@@ -1,9 +1,9 @@
 -- Which events are slices, and which slice is that of an entry.
-use Rattle.std.specs.Prelude.{◌≡◌, ◌+◌, ◌==◌, ℕ, zero, suc, Bool, false, Option, Some, None, List, [], codes, length, slice_get, if◌then◌else◌}
+use Rattle.std.specs.Prelude.{◌≡◌, ◌+◌, ℕ, Bool, Some, List, [], codes, length, slice_get}
 use Rattle.std.specs.List.{filter}
 use Rattle.std.specs.Str.{bytes_eq}
 use Rattle.run_journal.specs.below.hh_lang.{ProgramText}
-use Rattle.run_journal.specs.below.run_trace.{EntryValue, IsEntry, SettingsValue}
+use Rattle.run_journal.specs.below.run_trace.{EntryValue, SettingsValue}
 use Rattle.json_text.specs.Json.{Json, Word, Object, Member}
 use Rattle.run_timeline.specs.Entries.{slice}
 use Rattle.run_timeline.specs.Timeline.{events_of}
@@ -20,21 +20,11 @@ is_slice v = bytes_eq (phase_of v) (codes "X")
 abbrev pub slices_of : ProgramText → SettingsValue → List EntryValue → List Json
 slices_of p s journal = filter is_slice (events_of p s journal)
 
-abbrev pub is_by : ℕ → Option EntryValue → Bool
-is_by w None = false
-is_by w (Some e) = e.worker == w
-
--- which of the first i entries of a journal, counted from 1, is the last one by this worker; 0 where none is
-abbrev pub last_by : ℕ → List EntryValue → ℕ → ℕ
-last_by w journal zero = 0
-last_by w journal (suc i) = if is_by w (slice_get journal i) then suc i else last_by w journal i
-
 -- each entry is exactly one slice, in the order of the journal: it has the name of the entry's kind, lies in the lane of
--- the entry's worker, and reaches from the end of the entry by that worker before it to its own. Whatever a journal of
--- entries holds is one (`IsEntry`)
+-- the entry's worker, and at the entry's place, one wide. So where a worker idles its lane is empty
 pub record SlicesFollow (p : ProgramText) (s : SettingsValue) (journal : List EntryValue) : Type 0 where
   pub count : length (slices_of p s journal) ≡ length journal
-  pub each : (i : ℕ) (e : EntryValue) → slice_get journal i ≡ Some e → IsEntry e → slice_get (slices_of p s journal) i ≡ Some (slice (last_by e.worker journal i) (i + 1) e)
+  pub each : (i : ℕ) (e : EntryValue) → slice_get journal i ≡ Some e → slice_get (slices_of p s journal) i ≡ Some (slice (i + 1) e)
 
 abbrev pub SlicesAreEntries : Type 0
 SlicesAreEntries = (p : ProgramText) (s : SettingsValue) (journal : List EntryValue) → SlicesFollow p s journal

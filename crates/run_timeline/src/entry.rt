@@ -83,23 +83,21 @@ fn add_numbers(alloc: Global, text: &mut Vec<u8>, kind: Kind) -> Result<(), Allo
     }
 }
 
-/// Adds the slice of the entry of a number, whose worker's entry before had that one.
+/// Adds the slice of the entry of a number.
 pub(crate) fn add_slice(
     alloc: Global,
     text: &mut Vec<u8>,
-    before: u32,
     number: u32,
     worker: u32,
     kind: Kind,
 ) -> Result<(), AllocError>
-    ensures { OnOk result (text.new.items ≡ text.old.items ++ further (slice before number (record { worker = worker; kind = kind }))) }
+    ensures { OnOk result (text.new.items ≡ text.old.items ++ further (slice number (record { worker = worker; kind = kind }))) }
 {
     let name = kind_name(kind);
-    let time = before as u64 * 1000;
-    let length = number.saturating_sub(before) as u64 * 1000;
+    let time = number.saturating_sub(1) as u64 * 1000;
     add_comma(text)?;
     begin_event(alloc, text, name.as_bytes(), b"entry", b"X", time, worker)?;
-    more_number(alloc, text, b"dur", length)?;
+    more_number(alloc, text, b"dur", 1000)?;
     begin_arguments(text)?;
     add_numbers(alloc, text, kind)?;
     end_arguments(text)

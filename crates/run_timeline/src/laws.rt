@@ -3,7 +3,7 @@
 ghost use Rattle.run_timeline.specs.Laws.{SlicesAreEntries};
 ghost use Rattle.run_timeline.specs.Words.{WordsFollowEntries};
 
-/// Of the events of a journal as many are slices as it has entries.
+/// Each entry of a journal is exactly one slice among its events, at its place.
 pub fn slices_are_entries()
     ensures { SlicesAreEntries }
 {}

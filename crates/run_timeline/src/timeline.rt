@@ -3,7 +3,6 @@
 ghost use Rattle.std.specs.Prelude.{◌≡◌, ◌<◌, ◌^◌, ◌-◌, ◌+◌, ◌++◌, None, false, length, OnOk, IfOk, IfErr};
 ghost use Rattle.std.specs.List.{flat_map};
 ghost use Rattle.json_text.specs.Json.{further};
-ghost use Rattle.run_journal.specs.below.run_trace.{AreSettings};
 ghost use Rattle.run_journal.specs.below.run_ledger.{refusal, after, opening, ledger_of, first_refused, refused_as_run};
 ghost use Rattle.run_journal.specs.below.run_accounts.{FailsFor};
 ghost use Rattle.run_journal.specs.Replay.{ReplayFails};
@@ -16,17 +15,12 @@ use crate::entry::add_slice;
 use crate::events::{add_lane, add_process};
 use crate::tasks::{add_begins_and_ends, add_counted, add_run_ended};
 use crate::words::{Counts, objects_by, words_behind};
-use run_journal::{
-    ApplyError, Book, Entry, Program, Refused, RefusedAt, ReplayError, Settings, WORKER_LIMIT,
-};
+use run_journal::{ApplyError, Book, Entry, Program, Refused, RefusedAt, ReplayError, Settings};
 use run_report::cleared_words;
 use std::alloc::{AllocError, Global};
 
 /// A text of so many entries has no place in memory.
 const ENTRY_LIMIT: usize = 4294967295;
-
-/// A seat for each worker that there can be.
-const SEATS: usize = WORKER_LIMIT as usize;
 
 // Adds the events of an entry that was entered, in front of which the accounts had these counts, and behind which so
 // many words are held.
@@ -37,7 +31,6 @@ fn add_entered(
     book: &Book,
     was: Counts,
     held: u64,
-    before: u32,
     number: u32,
     entry: Entry,
 ) -> Result<(), AllocError>
@@ -45,9 +38,9 @@ fn add_entered(
     requires few { was.tasks + 1 < 2 ^ 64 }
     requires held { held ≡ words_held book.now.ledger }
     requires first { 0 < number }
-    ensures { OnOk result (text.new.items ≡ text.old.items ++ flat_map further (entry_events program.now was book.now.ledger before number entry)) }
+    ensures { OnOk result (text.new.items ≡ text.old.items ++ flat_map further (entry_events program.now was book.now.ledger number entry)) }
 {
-    add_slice(alloc, text, before, number, entry.worker(), entry.kind())?;
+    add_slice(alloc, text, number, entry.worker(), entry.kind())?;
     add_begins_and_ends(
         alloc,
         text,
@@ -115,7 +108,6 @@ fn enter(
     program: &Program,
     book: &mut Book,
     held: u64,
-    before: u32,
     number: u32,
     entry: Entry,
 ) -> Result<u64, ApplyError>
@@ -125,7 +117,7 @@ fn enter(
     requires first { 0 < number }
     ensures legal { OnOk result (refusal book.old.program book.old.settings book.old.ledger entry ≡ None) }
     ensures entered { OnOk result (book.new ≡ record book.old { ledger = after book.old.program book.old.settings book.old.ledger entry }) }
-    ensures events { OnOk result (text.new.items ≡ text.old.items ++ flat_map further (entry_events program.now (counts_of book.old.ledger) (after book.old.program book.old.settings book.old.ledger entry) before number entry)) }
+    ensures events { OnOk result (text.new.items ≡ text.old.items ++ flat_map further (entry_events program.now (counts_of book.old.ledger) (after book.old.program book.old.settings book.old.ledger entry) number entry)) }
     ensures held { IfOk result (λ words. words ≡ words_held (after book.old.program book.old.settings book.old.ledger entry)) }
     ensures fails { IfErr result (FailsFor (refusal book.old.program book.old.settings book.old.ledger entry)) }
 {
@@ -138,9 +130,7 @@ fn enter(
         return Err(ApplyError::NoMemory);
     }
     let words = apply(book, held, entry)?;
-    add_entered(
-        alloc, text, program, book, was, words, before, number, entry,
-    )?;
+    add_entered(alloc, text, program, book, was, words, number, entry)?;
     Ok(words)
 }
 
@@ -153,7 +143,6 @@ fn enter_all(
     journal: &[Entry],
 ) -> Result<(), ReplayError>
     requires few { length journal.now < 2 ^ 32 - 1 }
-    requires settings { AreSettings book.old.settings }
     requires first { book.old.ledger ≡ opening book.old.program book.old.settings }
     requires open { book.old.stopped ≡ false }
     requires program { book.old.program ≡ program.now }
@@ -162,24 +151,12 @@ fn enter_all(
     ensures legal { OnOk result (first_refused book.old.program book.old.settings journal.now ≡ None) }
     ensures fails { IfErr result (ReplayFails (first_refused book.old.program book.old.settings journal.now)) }
 {
-    let mut seats = [0u32; SEATS];
     let mut held: u64 = 0;
     let mut index: u32 = 1;
     for entry in journal {
-        let worker = entry.worker() as usize;
-        match enter(
-            alloc,
-            text,
-            program,
-            book,
-            held,
-            seats[worker],
-            index,
-            *entry,
-        ) {
+        match enter(alloc, text, program, book, held, index, *entry) {
             Ok(words) => {
                 held = words;
-                seats[worker] = index;
                 index += 1;
             }
             Err(ApplyError::Refused(cause)) => {

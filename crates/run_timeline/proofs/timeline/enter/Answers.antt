@@ -7,4 +7,4 @@ use Rattle.run_timeline.proofs.timeline.enter.Goals as goal
 pub returns-clause-events : goal.returns-clause-events
 returns-clause-events c =
     c.in_ok-add_entered.ensures
-    ∙ (λ j. c.args.text.now.items ++ flat_map further (entry_events c.args.program.now (record { tasks = c.tasks.ensures j; chunks = c.in_use.ensures j; words = c.requires.held j }) (c.in_ok-words.ensures.entered j).ledger c.args.before c.args.number c.args.entry))
+    ∙ (λ j. c.args.text.now.items ++ flat_map further (entry_events c.args.program.now (record { tasks = c.tasks.ensures j; chunks = c.in_use.ensures j; words = c.requires.held j }) (c.in_ok-words.ensures.entered j).ledger c.args.number c.args.entry))

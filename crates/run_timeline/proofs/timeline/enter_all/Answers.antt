@@ -31,6 +31,6 @@ loop-entry-preserved c =
       accounts = accounts_on c.args.journal.now l.book c.enter.new.book l.entry-index c.entry-item.result c.loop-entry-test.true c.entry-item.is k.ensures.entered i.accounts;
       refused = refused_on c.args.journal.now l.book c.enter.new.book l.entry-index c.entry-item.result c.loop-entry-test.true c.entry-item.is k.ensures.entered l.index k.ensures.legal i.refused;
       text =
-          text_on c.args.journal.now l.book c.enter.new.book l.entry-index c.entry-item.result c.loop-entry-test.true c.entry-item.is k.ensures.entered l.seats l.index c.worker-worker.result
-          c.args.program.now l.text.items c.enter.new.text.items _ c.worker-worker.ensures.value (i.program ∙ c.requires.program) i.text k.ensures.events;
+          text_on c.args.journal.now l.book c.enter.new.book l.entry-index c.entry-item.result c.loop-entry-test.true c.entry-item.is k.ensures.entered l.index
+          c.args.program.now l.text.items c.enter.new.text.items _ (i.program ∙ c.requires.program) i.text k.ensures.events;
     }
