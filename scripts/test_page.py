@@ -6,9 +6,9 @@
 HHEAP and HHVIEW are the built programs. Of each example's page, and of a sort of 330 numbers with 5,000 entries (each eleventh of them): no
 script fails and nothing is asked of a network, at any entry, forwards and backwards; each state is the same on the way
 back; keys, the search and links to entries lead where they say; and at each tenth entry after a `ran`, where the trace
-is cut, the tasks, the objects at rest with their fields, and the remembered fields are those of `hheap image`. The page
-keeps what a collection drops, so it may have more objects behind one. An entry takes 200 bytes at most on the examples'
-mean. Without a browser the test is left out, which a line says.
+is cut, the tasks, the objects at rest with their fields, the chunks with what lies in each, and the remembered fields
+are those of `hheap image`. An entry takes 200 bytes at most on the examples' mean. Without a browser the test is left
+out, which a line says.
 """
 import os
 import subprocess
@@ -36,6 +36,7 @@ LONG_STRIDE = 11
 STATE = '''(() => { const S = hh.state; return {
   tasks: [...S.tasks.values()].filter(x => x.state !== 'joined').map(x => [String(x.t), x.state]),
   objects: [...S.objs.values()].map(o => [o.n, [hh.ownerOf(o.n), o.m, o.R, o.I, o.f]]),
+  chunks: [...S.heaps].map(([t, h]) => [String(t), hh.chunksOf(t)]),
   noted: [...S.noted.values()] }; })()'''
 DIGEST = '''JSON.stringify(Object.values(hh.state).map(m => [...m.entries()].sort((a, b) => String(a[0]) < String(b[0]) ? -1 : 1)))'''
 BAD = '''(() => { const bad = [], S = hh.state, said = document.getElementById('said').textContent;
@@ -82,7 +83,8 @@ def trace_of(hheap, program, options):
 
 
 def image_of(hheap, program, trace, options):
-    """Tasks by state; of each object its owner, kind, references and numbers; and the remembered fields."""
+    """Tasks by state; of each object its owner, kind, references and numbers; for each task its chunks, each as its units
+    and the objects that lie in it; and the remembered fields."""
     status, written = output(hheap, 'image', *options, text=(program + '\n'.join(trace) + '\n').encode())
     assert status == 0, written
     rows = [line.split() for line in written.decode().splitlines()]
@@ -96,7 +98,20 @@ def image_of(hheap, program, trace, options):
         shown[births[at]] = (owners[(at - 1) // CHUNK], w[4] == 'mut',
                              [births.get(int(x), int(x)) for x in w[7:7 + refs]], [int(x) for x in w[7 + refs:]])
     noted = {(int(w[1]), births[int(w[2])], int(w[3])) for w in rows if w[0] == 'remembered'}
-    return states, shown, noted
+    chunks = {int(w[1]): (w[2], [int(w[3]) // CHUNK, []]) for w in rows if w[0] == 'chunk'}
+    for at in sorted(objects):
+        chunks[(at - 1) // CHUNK][1][1].append(births[at])
+    return states, shown, chunks.values(), noted
+
+
+def same_chunks(told, states, wanted):
+    """The chunks of each task; of one that runs an image has no objects, so that just the units count."""
+    here = {t: chunks for t, chunks in told if chunks}
+    for t in {*here, *(owner for owner, _ in wanted)}:
+        chunks, there = here.get(t, []), [chunk for owner, chunk in wanted if owner == t]
+        if states[t] == 'running':
+            chunks, there = [units for units, _ in chunks], [units for units, _ in there]
+        assert sorted(chunks) == sorted(there), (t, chunks, there)
 
 
 def same_fields(name, told, wanted):
@@ -120,7 +135,7 @@ def cut(trace, options, at):
 
 def same_as_image(page, hheap, program, trace, options, at):
     shorter, limits = cut(trace, options, at)
-    states, objects, noted = image_of(hheap, program, shorter, limits)
+    states, objects, chunks, noted = image_of(hheap, program, shorter, limits)
     page.run(f'hh.go({at})')
     told = page.run(STATE)
     rest = {'ready': 'running', 'out': 'running'}
@@ -129,9 +144,9 @@ def same_as_image(page, hheap, program, trace, options, at):
     for name, wanted in objects.items():
         same_fields(name, here[name], wanted)
     assert {tuple(x) for x in told['noted']} == noted, (at, told['noted'], noted)
-    collected = any(line.split()[1] in ('end', 'sweep') for line in trace[1:at + 1])
+    same_chunks(told['chunks'], states, chunks)
     at_rest = {name for name, o in here.items() if states[str(o[0])] != 'running'}
-    assert collected or at_rest == set(objects), (at, at_rest ^ set(objects))
+    assert at_rest == set(objects), (at, at_rest ^ set(objects))
 
 
 def walk(page, count, stride):

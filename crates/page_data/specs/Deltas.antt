@@ -149,6 +149,6 @@ members p d =
     ++ member (codes ",\"task\":[") task_now d.tasks
     ++ member (codes ",\"did\":[") change d.changes.all
 
--- an entry with its delta, on a line of its own behind what stands before it
-unfoldable pub entry : ProgramText → EntryValue → Delta → List ℕ
-entry p e d = 44 ∷ 10 ∷ (head e ++ members p d ++ 125 ∷ [])
+-- an entry with its delta, on a line of its own behind what stands before it; it isn't ended yet
+unfoldable pub opening : ProgramText → EntryValue → Delta → List ℕ
+opening p e d = 44 ∷ 10 ∷ (head e ++ members p d)

@@ -1,3 +1,4 @@
 pub mod Values
 pub mod Deltas
+pub mod Heaps
 pub mod Run

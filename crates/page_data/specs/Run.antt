@@ -2,19 +2,22 @@
 use Rattle.std.specs.Prelude.{ℕ, List, [], ◌∷◌, ◌++◌, codes}
 use Rattle.std.specs.Fmt.{decimal}
 use Rattle.hh_lang.specs.Form.{ProgramText}
-use Rattle.hh_model.specs.declared.data.State.{State}
 use Rattle.hh_model.specs.declared.data.End.{End}
 use Rattle.hh_model.specs.declared.data.End.TheVariants.{Done, Trapped, Entangled}
 use Rattle.hh_model.specs.Step.{start}
 use Rattle.run_trace.specs.Entry.{EntryValue}
 use Rattle.run_trace.specs.Settings.{SettingsValue, field_limit, version_number}
+use Rattle.run_ledger.specs.declared.data.Ledger.{Ledger}
 use Rattle.run_ledger.specs.declared.data.RunEnd.{RunEnd}
 use Rattle.run_ledger.specs.declared.data.RunEnd.TheVariants.{Machine, Fuel, Pool}
+use Rattle.run_ledger.specs.Entries.{after}
 use Rattle.run_ledger.specs.Text.{trap_word}
 use Rattle.run_deltas.specs.Tasks.{now_free}
-use Rattle.run_deltas.specs.Deltas.{machine_after, delta}
+use Rattle.run_deltas.specs.Deltas.{delta}
+use Rattle.run_deltas.specs.News.{news}
 use Rattle.page_data.specs.Values.{more, member}
-use Rattle.page_data.specs.Deltas.{word, more_number, task_now, entry}
+use Rattle.page_data.specs.Deltas.{word, more_number, task_now, opening}
+use Rattle.page_data.specs.Heaps.{closing}
 
 -- some bytes with a number behind them
 unfoldable pub named : List ℕ → ℕ → List ℕ
@@ -36,10 +39,14 @@ start_text p limit = codes "{\"e\":[]" ++ member (codes ",\"task\":[") task_now 
 unfoldable pub settings_and_start : ProgramText → SettingsValue → List ℕ
 settings_and_start p s = codes "],\n\"settings\":" ++ settings_text s ++ codes ",\n\"entries\":[\n" ++ start_text p (field_limit s.version)
 
--- the entries from one on in front of which the machine is this
-abbrev pub entries_from : ProgramText → State → List EntryValue → List ℕ
-entries_from p m [] = []
-entries_from p m (e ∷ es) = entry p e (delta p m e.kind) ++ entries_from p (machine_after p m e.kind) es
+-- an entry, with the accounts before it and behind it
+abbrev pub entry : ProgramText → Ledger → EntryValue → Ledger → List ℕ
+entry p l e after = opening p e (delta p l.machine e.kind) ++ closing (news e.kind after)
+
+-- the entries from one on in front of which the accounts are these
+abbrev pub entries_from : ProgramText → SettingsValue → Ledger → List EntryValue → List ℕ
+entries_from p s l [] = []
+entries_from p s l (e ∷ es) = entry p l e (after p s l e) ++ entries_from p s (after p s l e) es
 
 abbrev pub machine_end : End → List ℕ
 machine_end Done = word (codes "done")

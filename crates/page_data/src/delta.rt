@@ -5,7 +5,7 @@ ghost use Rattle.std.specs.List.{flat_map};
 ghost use Rattle.std.specs.Fmt.{decimal};
 ghost use Rattle.run_trace.specs.Line.{kind_name};
 ghost use Rattle.page_data.specs.Values.{name, reference, number, value, more, member};
-ghost use Rattle.page_data.specs.Deltas.{more_number, word, flag, name_of, child, standing_word, task_now, fields, change, kind_numbers, head, members, entry};
+ghost use Rattle.page_data.specs.Deltas.{more_number, word, flag, name_of, child, standing_word, task_now, fields, change, kind_numbers, head, members, opening};
 
 use crate::act::{add_count, add_last, more_flag, more_number, more_word};
 use crate::values::{add_name, add_number, add_reference, add_value};
@@ -390,20 +390,18 @@ fn add_head(alloc: Global, text: &mut Vec<u8>, of: Entry) -> Result<(), AllocErr
     Ok(())
 }
 
-#[tactic(auto, unfolding(crate::specs::Deltas::entry))]
-/// Adds an entry with its delta, on a line of its own behind what stands before it.
-pub fn add_entry(
+#[tactic(auto, unfolding(crate::specs::Deltas::opening))]
+/// Adds an entry with its delta, on a line of its own behind what stands before it. It is ended by `close_entry`.
+pub fn open_entry(
     alloc: Global,
     text: &mut Vec<u8>,
     program: &Program,
     of: Entry,
     delta: &Delta,
 ) -> Result<(), AllocError>
-    ensures { OnOk result (text.new.items ≡ text.old.items ++ entry program.now of delta.now) }
+    ensures { OnOk result (text.new.items ≡ text.old.items ++ opening program.now of delta.now) }
 {
     text.extend_from_slice(b",\n")?;
     add_head(alloc, text, of)?;
-    add_members(alloc, text, program, delta)?;
-    text.push(b'}')?;
-    Ok(())
+    add_members(alloc, text, program, delta)
 }

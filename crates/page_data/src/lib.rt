@@ -6,9 +6,11 @@
 mod act;
 mod values;
 
-// An entry with its delta, and what stands before and behind the entries.
+// An entry with its delta, what it tells of heaps, and what stands before and behind the entries.
 mod delta;
+mod heap;
 mod run;
 
-pub use delta::add_entry;
+pub use delta::open_entry;
+pub use heap::close_entry;
 pub use run::{add_ending, add_settings_and_start};

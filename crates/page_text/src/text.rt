@@ -9,7 +9,7 @@ pub const BEFORE_1: &str = r##"<!doctype html>
 <html lang="en">
 <head>
 <meta charset="utf-8">
-<meta http-equiv="Content-Security-Policy" content="default-src 'none'; script-src 'sha256-zw3ebDRcg91E8MRvWvoppHYKy6QcHXAxMjEt7w4SD74='; style-src 'unsafe-inline'">
+<meta http-equiv="Content-Security-Policy" content="default-src 'none'; script-src 'sha256-ilw2n55ysMzMeDTokRqt4HocSOG33JGRBpDYkWXV4ZE='; style-src 'unsafe-inline'">
 <meta name="viewport" content="width=device-width, initial-scale=1">
 <title>A run of hheap</title>
 <style>
@@ -102,13 +102,14 @@ main { display: grid; grid-template-columns: minmax(230px, 25%) minmax(0, 1fr) 2
 .task { border: 1.5px solid var(--faint); border-radius: .75em; padding: .55em .7em .7em; background: color-mix(in oklab, var(--panel), var(--ink) calc(var(--deep) * 1.3%)); min-width: 11em; }
 .task.tight { padding-inline: .22em; border-radius: .35em; }
 .task.tight.waiting { border-inline-width: 0; }
-.task > .head { display: flex; flex-wrap: wrap; gap: .2em .6em; align-items: center; }
-.task > .head b { font-size: 1.08em; }
+.own > .head { display: flex; flex-wrap: wrap; gap: .2em .6em; align-items: center; }
+.own > .head b { font-size: 1.08em; }
 .task.ready { border-style: dotted; border-color: var(--soft); }
 .task.waiting { border-style: dashed; border-color: color-mix(in oklab, var(--soft), var(--panel) 35%); }
 .task.out { border-color: var(--w); box-shadow: inset .3em 0 var(--w); }
 .task.ended { border-color: var(--soft); }
 .task.act { outline: .2em solid color-mix(in oklab, var(--set), transparent 55%); outline-offset: .12em; }
+.own { display: contents; }
 .task.find { outline: .25em solid var(--up); }
 .pill { background: var(--panel); font-size: .8em; border-radius: 1em; padding: .05em .7em; border: 1px solid var(--soft); color: var(--soft); white-space: nowrap; }
 .pill.out { border-color: var(--w); background: var(--w); color: #fff; font-weight: 650; }
@@ -120,8 +121,8 @@ pub const BEFORE_2: &str =
     r##".heap, .kids { display: flex; flex-wrap: wrap; gap: .7em; align-items: flex-start; margin-top: .55em; }
 .kids { gap: 1.3em .9em; margin-top: 1.3em; }
 .kids > .task { flex: 0 1 auto; }
-.born { border: 1px solid var(--faint); border-radius: .45em; background: var(--raised); padding: .35em .55em .5em; min-width: 9em; }
-.born .cap { display: flex; gap: .6em; align-items: center; font-size: .78em; color: var(--soft); white-space: nowrap; }
+.chunk { border: 1px solid var(--faint); border-radius: .45em; background: var(--raised); padding: .35em .55em .5em; min-width: 9em; }
+.chunk .cap { display: flex; gap: .6em; align-items: center; font-size: .78em; color: var(--soft); white-space: nowrap; }
 /* headings stand above the arrows */
 .head > *, .cap > *, .sum { position: relative; z-index: 3; }
 .head > .tiny, .head > b, .cap > * { background: color-mix(in oklab, var(--panel), transparent 15%); border-radius: .3em; }
@@ -144,6 +145,7 @@ pub const BEFORE_2: &str =
 .f.read { box-shadow: inset 0 0 0 2px var(--up); }
 .obj.new { border-color: var(--new); background: var(--new-bg); opacity: 1; }
 .obj.froze { border-color: var(--up); }
+.obj.fades { opacity: .45; border-style: dashed; }
 .tag { position: absolute; top: -.95em; right: .3em; font: 650 .68em/1.25 system-ui, sans-serif; padding: 0 .4em; border-radius: .5em; color: var(--on-strong); background: var(--soft); text-decoration: none; }
 .tag.new { background: var(--new); }
 .tag.set { background: var(--set); }
@@ -160,7 +162,7 @@ pub const BEFORE_2: &str =
 .legend .sw { display: inline-block; width: 11px; height: 11px; border-radius: 3px; border: 1.3px solid; vertical-align: -1px; }
 .sw.new { border-color: var(--new); background: var(--new-bg); } .sw.set { border-color: var(--set); background: var(--set-bg); }
 .sw.imm { border: 3px double var(--soft); border-radius: 0; background: var(--imm); }
-@media (prefers-reduced-motion: no-preference) { .obj.new, .f.wrote { animation: pop .35s ease-out; } @keyframes pop { from { filter: brightness(1.35) saturate(1.6); transform: translateY(-2px); } } }
+@media (prefers-reduced-motion: no-preference) { .obj.new, .f.wrote { animation: pop .35s ease-out; } @keyframes pop { from { transform: translateY(-2px); } } }
 /* the side */
 #side { overflow: hidden; }
 #side .box { overflow: auto; flex: 0 1 auto; max-height: 42%; min-height: 3.2em; }
@@ -215,16 +217,15 @@ pub const BEFORE_2: &str =
 #track { position: relative; }
 .lane { position: absolute; left: 0; right: 0; height: 1px; background: var(--faint); }
 .ent { position: absolute; height: 18px; border-radius: 4px; font: 600 10px/18px system-ui, sans-serif; text-align: center; cursor: pointer; overflow: hidden; background: var(--k-ran); }
-.ent.future { opacity: .42; }
+#veil { position: absolute; inset: 0; background: var(--panel); opacity: .58; pointer-events: none; }
 .k-took { background: var(--k-took); }
 .k-chunk, .k-putoff { background: var(--k-chunk); }
 .k-begin, .k-end { background: var(--k-leaf); }
-.k-mark, .k-some, .k-sweep { background: var(--k-inner); }
-.k-fuel, .ent.over { background: var(--k-over); }
 "##;
 
-pub const BEFORE_3: &str =
-    r##".ent.now { outline: 2px solid var(--ink); outline-offset: 0; opacity: 1; z-index: 1; }
+pub const BEFORE_3: &str = r##".k-mark, .k-some, .k-sweep { background: var(--k-inner); }
+.k-fuel, .ent.over { background: var(--k-over); }
+.ent.now { outline: 2px solid var(--ink); outline-offset: 0; opacity: 1; z-index: 1; }
 .ent.touch { box-shadow: inset 0 -3px var(--up); }
 dialog { border: 1px solid var(--faint); border-radius: 10px; background: var(--panel); color: var(--ink); padding: 18px 24px; max-width: 46em; }
 dialog::backdrop { background: #0008; }
@@ -281,7 +282,7 @@ kbd { font: 12px var(--mono); border: 1px solid var(--faint); border-bottom-widt
   <div class="names" id="names"></div><div id="lanes" role="listbox" tabindex="0" aria-label="Journal: a lane for each worker"><div id="track" role="presentation"></div></div>
 </footer>
 <dialog id="help" aria-labelledby="helph"><h1 id="helph">A run, entry by entry</h1>
-  <p>The journal of a run is the list of its entries, each an atomic step of the core made by one worker. The page shows what stands after an entry: each task's heap is a box in its parent's, with the objects that it owns, by the task that allocated them. What a collection drops stays on the page.</p>
+  <p>The journal of a run is the list of its entries, each an atomic step of the core made by one worker. The page shows what stands after an entry: each task's heap is a box in its parent's, with its chunks and the objects in them. While a collection goes on, what it will drop is pale.</p>
   <table><tr><td><kbd>&larr;</kbd> <kbd>&rarr;</kbd><td>an entry back, on<tr><td><kbd>Shift</kbd> with them<td>the entry before, after, of the same worker<tr><td><kbd>PgUp</kbd> <kbd>PgDn</kbd> <kbd>Home</kbd> <kbd>End</kbd><td>ten entries; the start, the end<tr><td><kbd>n</kbd> <kbd>p</kbd><td>next, previous fork, join, collection, output or end<tr><td><kbd>Space</kbd><td>play, pause<tr><td><kbd>/</kbd><td>find an object by its birth name; <kbd>Esc</kbd> lets it go<tr><td><kbd>]</kbd> <kbd>[</kbd><td>next, previous entry that touches the object looked at<tr><td><kbd>+</kbd> <kbd>&minus;</kbd> <kbd>f</kbd><td>zoom the heaps, fit<tr><td><kbd>o</kbd><td>object by object, or heap by heap<tr><td><kbd>t</kbd> <kbd>?</kbd><td>dark or light; this help</table>
   <p>A link to an entry ends with <code>#e=17</code>, and with <code>&amp;o=1.0</code> it looks at an object. An object's name (B,N) says that it is the N-th allocation of task B. A double underline marks a remembered field. Of many references within heaps only those are drawn that the entry touches; point at an object to see all of its own.</p>
   <form method="dialog"><button>Close</button></form></dialog>
@@ -307,14 +308,22 @@ function node(tag, attrs, ...inner) {   // an element as a text; what is empty o
 }
 const nm = n => `(${n.replace('.', ',')})`;
 const link = n => node('button', { class: 'name', 'data-o': n }, nm(n));
-const count = n => n.toLocaleString('en');
+const count = n => String(n).replace(/\B(?=(\d{3})+$)/g, ',');
 const many = (n, one, more = one + 's') => `${count(n)} ${n === 1 ? one : more}`;
 const hue = w => `oklch(${w % 2 ? 0.55 : 0.5} 0.13 ${(255 + w * 137.5) % 360})`;
 const group = (map, key, x) => map.has(key) ? map.get(key).push(x) : map.set(key, [x]);
+const held = new WeakMap();             // the texts that elements hold
+function write(el, text) {              // an element is written anew only if its text is another
+  if (held.get(el) === text) return false;
+  held.set(el, text);
+  el.innerHTML = text;
+  return true;
+}
 
 /* ------------------------------------------------------------ the state, and its deltas (docs/PAGES.md) */
 
-const S = { tasks: new Map(), objs: new Map(), noted: new Map(), outs: new Map([['n', 0]]) };
+const UNIT = 1024;                      // words of a chunk; an object of more has a chunk of its own, of so many units
+const S = { tasks: new Map(), objs: new Map(), noted: new Map(), heaps: new Map(), sums: new Map([['outs', 0], ['chunks', 0], ['words', 0]]) };
 let pos = 0;                            // so many entries are applied
 const logs = [];                        // of each applied entry what to put back: [map, key, old value]
 const words = o => 2 + o.R + o.I;
@@ -344,13 +353,56 @@ function applyField(put, [n, k, v]) {
     put(S.noted, note.join(' '), note);
   }
 }
+const NO_HEAP = { chunks: [], large: [], reserved: 0, begun: 0, keeps: null, snap: null, marked: 0 };
+const heapAt = t => S.heaps.get(t) || NO_HEAP;
+const unitsOf = n => Math.ceil(words(S.objs.get(n)) / UNIT);
+const unitsIn = h => h.chunks.length + h.reserved + h.begun + h.large.reduce((sum, n) => sum + unitsOf(n), 0);
+const namesIn = h => [...h.chunks.flat(), ...h.large];
+const more = (put, key, by) => by && put(S.sums, key, S.sums.get(key) + by);
+function putHeap(put, t, change) {
+  const old = heapAt(t), h = { ...old, ...change };
+  put(S.heaps, t, h);
+  more(put, 'chunks', unitsIn(h) - unitsIn(old));
+}
+function place(put, o) {                // a new object lies in the last chunk, or in a chunk of its own
+  const t = bornIn(o.n), h = heapAt(t);
+  put(S.objs, o.n, o);
+  more(put, 'words', words(o));
+  if (words(o) > UNIT) putHeap(put, t, { large: [...h.large, o.n], reserved: 0 });
+  else putHeap(put, t, { chunks: [...h.chunks.slice(0, -1), [...h.chunks[h.chunks.length - 1] || [], o.n]] });
+}
+function lay(put, [t, chunks, large]) { // what lay in the heap and is in none of these was dropped
+  const kept = new Set([...chunks.flat(), ...large]), gone = namesIn(heapAt(t)).filter(n => !kept.has(n));
+  putHeap(put, t, { chunks, large, begun: 0, keeps: null, snap: null, marked: 0 });
+  for (const n of gone) {
+    more(put, 'words', -words(S.objs.get(n)));
+    put(S.objs, n, undefined);
+  }
+}
+function give(put, [t, units]) {        // a chunk for small objects has one unit
+  putHeap(put, t, units === 1 ? { chunks: [...heapAt(t).chunks, []] } : { reserved: units });
+}
+function merge(put, joined) {           // the left child's chunks come first, then the right one's, then the parent's own
+  if (!joined.length) return;
+  const t = S.tasks.get(joined[0]).parent, heaps = [...joined, t].map(heapAt);
+  putHeap(put, t, { chunks: heaps.flatMap(h => h.chunks), large: heaps.flatMap(h => h.large), snap: null, marked: 0 });
+  for (const x of joined) putHeap(put, x, NO_HEAP);
+}
+function applyNews(put, d) {            // what the entry tells of the heap of its task
+  if (d.give) give(put, d.give);
+  if (d.take) putHeap(put, d.take[0], { begun: d.take[1], keeps: d.take[2] });
+  if (d.heap) lay(put, d.heap);
+  if (d.snap) putHeap(put, d.snap[0], { snap: d.snap[1], marked: 0 });
+  if (d.mark) putHeap(put, d.mark[0], { marked: d.mark[1] });
+}
 function applyChange(put, [what, ...x]) {
-  if (what === 'new') put(S.objs, x[0], { n: x[0], m: x[1] === 1, R: x[2], I: x[3], f: x.slice(4) });
+  if (what === 'new') place(put, { n: x[0], m: x[1] === 1, R: x[2], I: x[3], f: x.slice(4) });
   if (what === 'set') applyField(put, x);
   if (what === 'froze') put(S.objs, x[0], { ...S.objs.get(x[0]), m: false });
-  if (what === 'print') put(S.outs, 'n', S.outs.get('n') + 1);
+  if (what === 'print') more(put, 'outs', 1);
 }
 function lift(put, joined) {            // what a joined heap remembered its parent's does, but for fields of its own objects
+  if (!joined.length) return;
   for (const [t, n, k] of [...S.noted.values()]) {
     if (!joined.includes(t)) continue;
     const note = [S.tasks.get(t).parent, n, k];
@@ -362,11 +414,15 @@ function apply(d) {
   const log = [], put = putInto(log);
   for (const change of d.did || []) applyChange(put, change);
   for (const [t, parent, fn] of d.made || []) put(S.tasks, t, { t, parent, fn, state: 'ready', line: 0, w: null });
+  if (d.made) putHeap(put, d.made[0][1], { snap: null, marked: 0 });
   for (const [t, state, line] of d.task || []) {
     const x = S.tasks.get(t) || { t: 0, parent: null, fn: 'main' };
     put(S.tasks, t, { ...x, state, line, w: state !== 'out' ? null : x.state === 'out' ? x.w : d.e[0] });
   }
-  lift(put, (d.task || []).filter(x => x[1] === 'joined').map(x => x[0]));
+  const joined = (d.task || []).filter(x => x[1] === 'joined').map(x => x[0]);
+  merge(put, joined);
+  lift(put, joined);
+  applyNews(put, d);
   return log;
 }
 function undo(log) {
@@ -382,12 +438,15 @@ function seek(i) {
 
 /* ------------------------------------------------------------ once over the run: curves, histories, outputs */
 
-const curve = { tasks: [1], words: [0] };
+const curve = { chunks: [0], words: [0] };
 const history = new Map();              // of each object the entries that touch it
 const outputs = [];
 const stones = [0];                     // the entries that `n` and `p` lead to
 const ofWorker = new Map();             // the entries of each worker
-const first = new Map();                // where each task is taken first
+"##;
+
+pub const AFTER_2: &str =
+    r##"const first = new Map();                // where each task is taken first
 let tasksMade = 1;
 
 const joins = d => (d.task || []).some(x => x[1] === 'joined');
@@ -401,29 +460,27 @@ function noteHistory(d, i) {
   for (const [n, k] of d.set || []) note(n, i, `field ${k} written`);
   for (const n of d.froze || []) note(n, i, 'frozen');
   if (d.at && /^(get|cnt)/.test(d.at[1]) && d.at[2]) note(d.at[2], i, `read by task ${d.e[2]}`);
-}
-function noteCurves(d) {
-  const made = (d.new || []).reduce((sum, [, , R, I]) => sum + 2 + R + I, 0);
-  const gone = (d.task || []).filter(x => x[1] === 'joined').length;
-  curve.words.push(curve.words[curve.words.length - 1] + made);
-  curve.tasks.push(curve.tasks[curve.tasks.length - 1] + (d.made || []).length - gone);
+  if (d.heap) for (const [map, n] of logs[i - 1]) if (map === S.objs && !S.objs.has(n)) note(n, i, 'dropped');
 }
 function lookThrough() {
   ENTRIES.forEach((d, j) => {
     const i = j + 1, [w, kind, t] = d.e;
+    seek(i);
     noteHistory(d, i);
-    noteCurves(d);
+    curve.chunks.push(S.sums.get('chunks'));
+    curve.words.push(S.sums.get('words'));
     if (kind === 'took' && !first.has(t)) first.set(t, i);
     outputs.push(...d.print || []);
     if (isStone(d, i)) stones.push(i);
     group(ofWorker, w, i);
     tasksMade += (d.made || []).length;
   });
+  seek(0);
 }
-lookThrough();
 apply(START);
+lookThrough();
 const most = list => list.reduce((a, b) => Math.max(a, b), 1);
-const mostWords = most(curve.words), mostTasks = most(curve.tasks);
+const mostWords = most(curve.words), mostChunks = most(curve.chunks);
 const workers = [...ofWorker.keys()].sort((a, b) => a - b), lane = new Map(workers.map((w, i) => [w, i]));
 
 /* ------------------------------------------------------------ an entry in plain words */
@@ -443,16 +500,13 @@ const stop = says => node('span', { class: 'stop' }, says);
 const SAY = {                           // by an entry's kind, of its delta, its task and its numbers
   took: (d, t) => first.get(t) < pos ? `takes task ${t} again, whose children have joined.` : `takes task ${t}, which begins in <code>${esc(S.tasks.get(t).fn)}</code>.`,
   ran: (d, t, steps) => step(d, t, steps) + sayChanges(d),
-"##;
-
-pub const AFTER_2: &str =
-    r##"  chunk: (d, t) => pos === N && RUN.end[0] === 'pool' ? `task ${t} needs a chunk for its next object, and too few are free. ${stop('The run ends for want of chunks.')}`
-    : `task ${t} gets a chunk, since its next object has no place in what it has.`,
-  begin: (d, t) => `a leaf collection of task ${t}'s heap begins.`,
+  chunk: (d, t) => pos === N && RUN.end[0] === 'pool' ? `task ${t} needs a chunk for its next object, and too few are free. ${stop('The run ends for want of chunks.')}`
+    : `task ${t} gets a chunk${d.give && d.give[1] > 1 ? ` of ${count(d.give[1])} units` : ''}, since its next object has no place in what it has.`,
+  begin: (d, t) => `a leaf collection of task ${t}'s heap begins, with ${many(d.take[1], 'chunk')} to copy into. It keeps ${count(d.take[2].length)} of ${many(namesIn(heapAt(t)).length, 'object')}.`,
   end: (d, t, kept, given, left) => `the collection of task ${t}'s heap ends: ${many(kept, 'new chunk')} kept, ${given ? many(given, 'chunk') : 'none'} given back. The heap has ${many(left, 'word')}.`,
   putoff: (d, t) => `a leaf collection of task ${t}'s heap is due, but the chunks to copy into aren't free. It is put off.`,
-  mark: (d, t) => `begins to mark the heap of task ${t}, which waits: what could be reached in it at the fork.`,
-  some: (d, t, n) => `marks on in the heap of task ${t}, ${many(n, 'object')} at most.`,
+  mark: (d, t) => `begins to mark the heap of task ${t}, which waits: what could be reached in it at the fork, ${many(d.snap[1].length, 'object')}.`,
+  some: (d, t, n) => `marks on in the heap of task ${t}, ${many(n, 'object')} at most: ${count(d.mark[1])} of ${count(heapAt(t).snap.length)} are marked.`,
   sweep: (d, t, given) => `sweeps the heap of task ${t}: what isn't marked is dropped, ${given ? many(given, 'chunk') : 'no chunk'} given back. Nothing moves.`,
 };
 function say(i) {                       // the state is that after entry i
@@ -507,7 +561,10 @@ function sayChanges(d) {                // what all steps changed, if there are 
   const all = d.did || [];
   if (d.e[3] === 1 || all.length < 2 && /^(newm|pack|putr|puti|cas|freeze|out)$/.test(d.at[1]) || !all.length) return '';
   const told = all.slice(0, 6).map(([what, ...x]) => CHANGE[what](x)), more = all.length - told.length;
-  return ` <span class="tiny">In these steps: ${told.join('; ')}${more ? `; and ${many(more, 'change')} more` : ''}.</span>`;
+"##;
+
+pub const AFTER_3: &str =
+    r##"  return ` <span class="tiny">In these steps: ${told.join('; ')}${more ? `; and ${many(more, 'change')} more` : ''}.</span>`;
 }
 
 /* ------------------------------------------------------------ drawing: program, tasks, outputs, the object looked at */
@@ -519,25 +576,26 @@ function stateOf(x) {
   return { cls: x.state, says: x.state === 'out' ? `running on worker ${x.w}` : STATES[x.state] };
 }
 const tint = x => `--w:${hue(x.w || 0)}`;
-let lit = [];                           // the rows of the program that are marked
+let lit = [], lastRow = null;           // the rows of the program at which tasks stand, and that of the last step
 function chips(xs) {
   xs.sort((a, b) => (b.state === 'out') - (a.state === 'out') || a.t - b.t);
   const chip = x => node('span', { class: cls('chip', x.state), style: tint(x), title: `task ${x.t}, ${stateOf(x).says}` }, `task ${x.t}`);
   return xs.slice(0, 3).map(chip).join('') + (xs.length > 3 ? node('span', { class: 'tiny' }, `+${xs.length - 3}`) : '');
 }
-function light(row, how) {
-  if (how) row.classList.add(how);
-  lit.push(row);
-}
 function drawCode() {
   const at = new Map(), d = ENTRIES[pos - 1], rows = $('lines').children;
   for (const x of S.tasks.values()) if (x.line) group(at, x.line, x);
-  for (const row of lit) { row.classList.remove('last'); row.lastChild.innerHTML = ''; }
-  lit = [];
-  for (const [line, xs] of at) { rows[line - 1].lastChild.innerHTML = chips(xs); light(rows[line - 1]); }
-  if (d && d.at) light(rows[d.at[0] - 1], 'last');
-  const line = d ? d.at ? d.at[0] : (S.tasks.get(d.e[2]) || {}).line : 1;
-  if (line) showRow(rows[line - 1]);
+  const last = d && d.at && rows[d.at[0] - 1], before = lit;
+  lit = [...at.keys()].map(line => rows[line - 1]);
+  for (const [line, xs] of at) write(rows[line - 1].lastChild, chips(xs));
+  for (const row of before) if (!lit.includes(row)) write(row.lastChild, '');
+  if (last !== lastRow && lastRow) lastRow.classList.remove('last');
+  if (last) last.classList.add('last');
+  lastRow = last;
+}
+function showCode() {
+  const d = ENTRIES[pos - 1], line = d ? d.at ? d.at[0] : (S.tasks.get(d.e[2]) || {}).line : 1;
+  if (line) showRow($('lines').children[line - 1]);
 }
 function showRow(row) {
   const box = $('lines'), top = row.offsetTop - box.offsetTop;
@@ -553,19 +611,19 @@ function drawTree() {
   if (key !== listed) listTasks(kids);
   listed = key;
   for (const row of $('tree').querySelectorAll('.act')) row.classList.remove('act');
-  for (const [t] of (ENTRIES[pos - 1] || {}).task || []) {
-    const row = $('tree').querySelector(`[data-t="${t}"]`);
-    if (row) { row.classList.add('act'); row.scrollIntoView({ block: 'nearest' }); }
-  }
+  for (const row of movedRows()) row.classList.add('act');
+}
+function movedRows() {                  // of the tasks that the entry moved
+  return ((ENTRIES[pos - 1] || {}).task || []).map(([t]) => $('tree').querySelector(`[data-t="${t}"]`)).filter(Boolean);
+}
+function showTree() {
+  for (const row of movedRows()) row.scrollIntoView({ block: 'nearest' });
 }
 function taskRow(x, deep) {
   const by = 4 + Math.min(deep, 8) * 12 + Math.min(Math.max(deep - 8, 0), 16) * 2;
-  return node('li', {}, node('button', { 'data-t': x.t, class: x.state, style: `padding-left:${by}px;${tint(x)}` },
-"##;
-
-pub const AFTER_3: &str =
-    r##"    node('span', { class: cls('dot', x.state) }), node('b', {}, `${x.t}`), ' ',
-    node('span', { class: 'st' }, `${stateOf(x).says.replace('running on ', '')} \u00b7 ${esc(x.fn)}`)));
+  return node('button', { 'data-t': x.t, class: x.state, style: `padding-left:${by}px;${tint(x)}` },
+    node('span', { class: cls('dot', x.state) }), node('b', {}, `${x.t}`), ' ',
+    node('span', { class: 'st' }, `${stateOf(x).says.replace('running on ', '')} \u00b7 ${esc(x.fn)}`));
 }
 function listTasks(kids) {
   const out = [], todo = [[S.tasks.get(0), 0]];
@@ -575,14 +633,18 @@ function listTasks(kids) {
     out.length < ROWS ? out.push(taskRow(x, deep)) : more++;
     for (const y of (kids.get(x.t) || []).reverse()) todo.push([y, deep + 1]);
   }
-  $('tree').innerHTML = out.join('') + (more ? node('li', { class: 'tiny' }, `and ${many(more, 'task')} more`) : '');
+  if (more) out.push(node('span', { class: 'tiny' }, `and ${many(more, 'task')} more`));
+  const rows = $('tree').children;
+  while (rows.length > out.length) rows[rows.length - 1].remove();
+  while (rows.length < out.length) $('tree').append(document.createElement('li'));
+  out.forEach((text, i) => write(rows[i], text));
 }
 function drawOutputs() {
-  const n = S.outs.get('n'), printed = ((ENTRIES[pos - 1] || {}).print || []).length, from = Math.max(0, n - 200);
+  const n = S.sums.get('outs'), printed = ((ENTRIES[pos - 1] || {}).print || []).length, from = Math.max(0, n - 200);
   const shown = outputs.slice(from, n).map((v, i) => node('span', { class: from + i >= n - printed && 'new' }, String(v)));
   if (from) shown.unshift(node('span', { class: 'tiny' }, `\u2026 ${many(from, 'line')} before`));
-  $('outs').innerHTML = shown.join('') || node('span', { class: 'tiny' }, 'nothing yet');
-  $('over').innerHTML = pos === N ? node('span', { class: RUN.end[0] !== 'done' && 'stop' }, END[RUN.end[0]](RUN.end)) : '';
+  write($('outs'), shown.join('') || node('span', { class: 'tiny' }, 'nothing yet'));
+  write($('over'), pos === N ? node('span', { class: RUN.end[0] !== 'done' && 'stop' }, END[RUN.end[0]](RUN.end)) : '');
 }
 
 let seen = null;                        // the object looked at
@@ -616,7 +678,7 @@ function drawLook() {
   box.hidden = !seen;
   if (!seen) return;
   const head = `<h2><span>Object ${nm(seen)}</span><button class="name" data-o="" aria-label="Let it go">\u2715</button></h2>`;
-  box.innerHTML = head + (!past ? `<p>No object of this run has the name ${nm(seen)}.</p>` : (o ? about(o) : "<p>It isn't there yet.</p>") + pastOf(past));
+  write(box, head + (!past ? `<p>No object of this run has the name ${nm(seen)}.</p>` : (o ? about(o) : past[0][0] > pos ? "<p>It isn't there yet.</p>" : '<p>A collection has dropped it.</p>') + pastOf(past)));
 }
 
 /* ------------------------------------------------------------ drawing heaps: what is drawn */
@@ -634,14 +696,25 @@ function touched(d) {                   // what the entry did: of objects class 
   if (d.at && d.at[3] !== undefined) field(d.at[2], d.at[3], /^get/.test(d.at[1]) ? 'read' : 'wrote');
   return { how, fields };
 }
-function objectsByOwner() {             // each task's objects, by the task that allocated them
-  const owners = new Map(), owned = new Map();
-  for (const o of S.objs.values()) {
-    const born = bornIn(o.n);
-    if (!owners.has(born)) owners.set(born, owner(born));
-    group(owned, owners.get(born), o);
+const sums = new WeakMap();             // of each account of a heap: how many objects it holds, and their words
+function sumOf(h) {
+  if (!sums.has(h)) {
+    const names = namesIn(h);
+    sums.set(h, [names.length, names.reduce((sum, n) => sum + words(S.objs.get(n)), 0)]);
+"##;
+
+pub const AFTER_4: &str = r##"  }
+  return sums.get(h);
+}
+const sumIn = tasks => tasks.map(x => sumOf(heapAt(x.t))).reduce(([a, b], [c, d]) => [a + c, b + d], [0, 0]);
+const objectsOf = t => namesIn(heapAt(t)).map(n => S.objs.get(n));
+function fading() {                     // what a collection that goes on will drop
+  const fades = new Set();
+  for (const h of S.heaps.values()) {
+    const kept = h.keeps || h.snap, stays = kept && new Set(kept);
+    if (kept) for (const n of namesIn(h)) if (!stays.has(n)) fades.add(n);
   }
-  return owned;
+  return fades;
 }
 function actingTasks(d) {
   const act = new Set((d.task || []).map(x => x[0]));
@@ -672,8 +745,8 @@ function foldedTasks(shown, kids, near) {  // the middle of long chains of forks
   for (const x of shown) if (deep.get(x.t) >= FOLDS_FROM && high.get(x.t) >= FOLDS_FROM && !near(x.t)) folded.add(x.t);
   return folded;
 }
-function heapsAsWhole(shown, owned, near) {  // the smallest heaps are drawn first, but before them those that are near
-  const size = new Map(shown.map(x => [x.t, (owned.get(x.t) || []).length])), whole = new Set();
+function heapsAsWhole(shown, near) {    // the smallest heaps are drawn first, but before them those that are near
+  const size = new Map(shown.map(x => [x.t, sumOf(heapAt(x.t))[0]])), whole = new Set();
   let room = ROOM[mode];
   for (const x of [...shown].sort((a, b) => near(b.t) - near(a.t) || size.get(a.t) - size.get(b.t))) {
     if (size.get(x.t) > room) whole.add(x.t);
@@ -683,12 +756,12 @@ function heapsAsWhole(shown, owned, near) {  // the smallest heaps are drawn fir
 }
 function lookOver() {
   const d = ENTRIES[pos - 1] || {}, act = actingTasks(d), live = [...S.tasks.values()].filter(x => x.state !== 'joined');
-  const shown = shownTasks(live, act), owned = objectsByOwner(), kids = new Map();
+  const shown = shownTasks(live, act), kids = new Map();
   const main = (d.e || [])[2], looked = seen && S.objs.has(seen) ? heapOf(seen) : -1, near = t => t === main || t === looked;
   for (const x of shown) if (x.parent !== null) group(kids, x.parent, x);
   return {
-    d, act, live, shown, owned, kids, ...touched(d), rest: atRest(live, shown), folded: foldedTasks(shown, kids, near), whole: heapsAsWhole(shown, owned, near),
-    noted: new Set([...S.noted.values()].map(x => `${x[1]} ${x[2]}`)), stopped: isStopped() ? d.at[4] : null,
+    d, act, live, shown, kids, ...touched(d), rest: atRest(live, shown), folded: foldedTasks(shown, kids, near), whole: heapsAsWhole(shown, near), fades: fading(),
+    noted: new Set([...S.noted.values()].map(x => `${x[1]} ${x[2]}`)), stopped: isStopped() ? d.at[4] : null, used: new Set(),
   };
 }
 
@@ -705,10 +778,7 @@ function fieldsOf(o, own) {             // of many the first few, and those that
   let skipped = 0;
   const skip = () => { if (skipped) out.push(node('i', { class: 'f etc' }, `${skipped} more`)); skipped = 0; };
   for (let k = 0; k < all; k++) {
-"##;
-
-pub const AFTER_4: &str =
-    r##"    if (all > 10 && k >= 5 && !(hit.has(k) && out.length < 14)) { skipped++; continue; }
+    if (all > 10 && k >= 5 && !(hit.has(k) && out.length < 14)) { skipped++; continue; }
     skip();
     out.push(field(o, k, own));
   }
@@ -722,43 +792,72 @@ function spoken(o, tag) {               // an object, for those who hear the pag
 }
 function card(o, own) {
   const [how, tag] = view.how.get(o.n) || ['', ''], tagged = tag && view.how.size <= 30;
-  const looks = cls('obj', !o.m && 'imm', how, o.n === seen && 'sel', o.n === view.stopped && 'stopped');
+  const looks = cls('obj', !o.m && 'imm', how, o.n === seen && 'sel', o.n === view.stopped && 'stopped', view.fades.has(o.n) && 'fades');
   return node('button', { class: looks, 'data-o': o.n, 'aria-label': spoken(o, tag) },
     tagged && node('em', { class: cls('tag', how) }, tag), node('span', { class: 'nm' }, nm(o.n), node('span', {}, o.m ? '' : 'imm')), fieldsOf(o, own));
 }
 const wordsOf = list => list.reduce((sum, o) => sum + words(o), 0);
-function sum(list) {
-  return [node('b', {}, count(list.length)), list.length === 1 ? ' object, ' : ' objects, ', node('b', {}, count(wordsOf(list))), ' words'];
+function sum([objects, all]) {
+  return [node('b', {}, count(objects)), objects === 1 ? ' object, ' : ' objects, ', node('b', {}, count(all)), ' words'];
 }
-function nursery(born, list, own) {     // the objects of a heap that one task allocated
-  list.sort((a, b) => Number(a.n.split('.')[1]) - Number(b.n.split('.')[1]));
-  return node('div', { class: 'born' }, node('div', { class: 'cap' }, node('span', {}, `allocated by task ${born}`), node('span', {}, many(wordsOf(list), 'word'))),
-    node('div', { class: 'objs' }, list.map(o => card(o, own))));
+function chunk(list, units, own) {      // a chunk with what lies in it
+  const says = units === 1 ? 'chunk' : `chunk of ${count(units)} units`;
+  return node('div', { class: 'chunk' }, node('div', { class: 'cap' }, node('span', {}, says), node('span', {}, `${count(wordsOf(list))} of ${many(units * UNIT, 'word')}`)),
+    list.length && node('div', { class: 'objs' }, list.map(o => card(o, own))));
 }
+const empty = says => node('div', { class: 'chunk' }, node('div', { class: 'cap' }, node('span', {}, says)));
 function heap(x) {
-  const own = view.owned.get(x.t), born = new Map();
-  if (!own) return '';
-  if (view.whole.has(x.t)) return node('div', { class: 'heap' }, node('span', { class: 'sum', 'data-heap': x.t }, sum(own)));
-  for (const o of own) group(born, bornIn(o.n), o);
-  return node('div', { class: 'heap' }, [...born].sort((a, b) => a[0] - b[0]).map(([t, list]) => nursery(t, list, x.t)));
+  const h = heapAt(x.t), objects = names => names.map(n => S.objs.get(n)), marking = h.snap && `marked ${count(h.marked)} of ${many(h.snap.length, 'object')}`;
+  if (!unitsIn(h)) return '';
+  if (view.whole.has(x.t)) return node('div', { class: 'heap' }, node('span', { class: 'sum', 'data-heap': x.t }, sum(sumOf(h)), ` in ${many(unitsIn(h), 'chunk')}`));
+  return node('div', { class: 'heap' }, h.chunks.map(names => chunk(objects(names), 1, x.t)), h.large.map(n => chunk(objects([n]), unitsOf(n), x.t)),
+    h.reserved && empty(`chunk of ${count(h.reserved)} units, for the next object`), h.begun && empty(`${many(h.begun, 'chunk')} to copy into`), marking && empty(marking));
 }
 function restOf(t) {                    // tasks below this one that aren't drawn
   const rest = view.rest.get(t);
   if (!rest) return '';
-  const objects = rest.flatMap(x => view.owned.get(x.t) || []);
-  return node('div', { class: 'heap' }, node('span', { class: 'sum' }, node('b', {}, count(rest.length)), rest.length === 1 ? ' task' : ' tasks', ' at rest not drawn: ', sum(objects)));
+  return node('div', { class: 'heap' }, node('span', { class: 'sum' }, node('b', {}, count(rest.length)), rest.length === 1 ? ' task' : ' tasks', ' at rest not drawn: ', sum(sumIn(rest))));
 }
 function head(x) {
   const s = stateOf(x);
   return node('div', { class: 'head' }, node('b', {}, `task ${x.t}`), node('span', { class: cls('pill', s.cls) }, s.says),
     node('span', { class: 'tiny' }, esc(x.fn), x.line && `, line ${x.line}`));
 }
+const boxes = new Map();                // the boxes that stand on the stage, by task; what is the same in them stays
+function boxOf(t) {
+  if (!boxes.has(t)) {
+    const el = document.createElement('section'), own = document.createElement('div'), kids = document.createElement('div');
+    el.setAttribute('role', 'group');
+    el.dataset.t = t;
+    own.className = 'own';
+    kids.className = 'kids';
+    boxes.set(t, { el, own, kids, looks: '' });
+  }
+  return boxes.get(t);
+}
+function fill(el, inner) {              // the same children in the same order stay
+  if (inner.length !== el.children.length || inner.some((x, i) => x !== el.children[i])) el.replaceChildren(...inner);
+}
+function setBox(t, look, style, says, own, kids) {
+  const { el, own: top, kids: below, looks } = boxOf(t), now = `${look}|${style}|${says}`;
+  if (now !== looks) {
+    el.className = look;
+    el.style.cssText = style;
+"##;
+
+pub const AFTER_5: &str = r##"    el.setAttribute('aria-label', says);
+    boxes.get(t).looks = now;
+  }
+  write(top, own);
+  fill(below, kids);
+  fill(el, kids.length ? [top, below] : [top]);
+  view.used.add(t);
+  return el;
+}
 function box(x, deep) {
   if (view.folded.has(x.t)) return fold(x, deep);
-  const kids = view.kids.get(x.t) || [];
-  return node('section', { role: 'group', class: cls('task', x.state, deep > 6 && 'tight', view.act.has(x.t) && 'act'), 'data-t': x.t,
-    style: `--deep:${Math.min(deep, 6)};${tint(x)}`, 'aria-label': `Task ${x.t}, ${stateOf(x).says}` },
-  head(x), heap(x), restOf(x.t), kids.length && node('div', { class: 'kids' }, kids.map(y => box(y, deep + 1))));
+  const look = cls('task', x.state, deep > 6 && 'tight', view.act.has(x.t) && 'act'), kids = (view.kids.get(x.t) || []).map(y => box(y, deep + 1));
+  return setBox(x.t, look, `--deep:${Math.min(deep, 6)};${tint(x)}`, `Task ${x.t}, ${stateOf(x).says}`, head(x) + heap(x) + restOf(x.t), kids);
 }
 function chainFrom(x) {                 // the folded tasks below one another, those beside them, and what is drawn below
   const chain = [], beside = [];
@@ -773,27 +872,31 @@ function chainFrom(x) {                 // the folded tasks below one another, t
   return { chain, beside: beside.filter(y => !loud.includes(y)), below: [...loud, ...below] };
 }
 function fold(x, deep) {
-  const { chain, beside, below } = chainFrom(x), objects = [...chain, ...beside].flatMap(y => view.owned.get(y.t) || []);
+  const { chain, beside, below } = chainFrom(x);
   const says = `${many(chain.length, 'waiting task')}, ${x.t} to ${chain[chain.length - 1].t}, each in the heap of the one before`;
   const also = beside.length ? `; beside them ${many(beside.length, 'task')}` : '';
-  return node('section', { role: 'group', class: 'task fold', 'data-t': x.t, style: `--deep:${Math.min(deep, 6)}`, 'aria-label': says },
-    node('div', { class: 'head' }, node('b', {}, '\u22ee'), node('span', { class: 'tiny' }, says, also)),
-    node('div', { class: 'heap' }, node('span', { class: 'sum', 'data-heap': x.t }, sum(objects))), node('div', { class: 'kids' }, below.map(y => box(y, deep + 1))));
+  const own = node('div', { class: 'head' }, node('b', {}, '\u22ee'), node('span', { class: 'tiny' }, says, also))
+    + node('div', { class: 'heap' }, node('span', { class: 'sum', 'data-heap': x.t }, sum(sumIn([...chain, ...beside]))));
+  return setBox(x.t, 'task fold', `--deep:${Math.min(deep, 6)}`, says, own, below.map(y => box(y, deep + 1)));
 }
 function captionOf() {
   const { live, shown, whole, folded } = view, hidden = live.length - shown.length + folded.size;
-  return `${many(S.objs.size, 'object')} allocated, ${many(live.length, 'task')}` + (hidden ? ` (${hidden} at rest drawn as counts)` : '')
+  return `${many(S.objs.size, 'object')} held, ${many(live.length, 'task')}` + (hidden ? ` (${hidden} at rest drawn as counts)` : '')
     + (whole.size ? `; ${many(whole.size, 'heap')} drawn as a whole` : '');
 }
 function drawHeaps(follow) {
   view = lookOver();
-  $('stage').innerHTML = box(S.tasks.get(0), 0) + '<svg id="arrows" aria-hidden="true"></svg>';
-  $('drawn').textContent = captionOf();
-  $('mode').textContent = MODES[mode];
+  fill($('stage'), [box(S.tasks.get(0), 0), arrows]);
+  for (const t of boxes.keys()) if (!view.used.has(t)) boxes.delete(t);
+  write($('drawn'), captionOf());
+  write($('mode'), MODES[mode]);
   fit();
-  drawArrows();
-  if (!follow) return;
-  const what = $('stage').querySelector('.obj.new, .f.wrote') || [...$('stage').querySelectorAll('.task.act > .head')].pop();
+  const paths = arrowPaths();
+  if (follow) showHeaps();
+  drawArrows(paths);
+}
+function showHeaps() {
+  const what = $('stage').querySelector('.obj.new, .f.wrote') || [...$('stage').querySelectorAll('.task.act > .own > .head')].pop();
   if (what) show(what.closest('.obj, .head'));
 }
 function show(el) {                     // scrolls the heaps until it is seen
@@ -831,6 +934,9 @@ function fit() {
 const marker = (k, px) => `<marker id="to-${k}" viewBox="0 0 8 8" refX="7" refY="4" markerWidth="${px}" markerHeight="${px}" markerUnits="userSpaceOnUse" orient="auto"><path d="M0 .5 8 4 0 7.5z" class="${k}"/></marker>`;
 const HEADS = marker('inside', 8) + marker('up', 8) + marker('down', 9) + marker('cross', 8);
 const KINDS = ['inside', 'up', 'down', 'cross'];
+const arrows = document.createElementNS('http://www.w3.org/2000/svg', 'svg');
+arrows.id = 'arrows';
+arrows.setAttribute('aria-hidden', 'true');
 function measure() {                    // where an element stands on the stage
   const at = $('stage').getBoundingClientRect();
   return el => {
@@ -841,10 +947,7 @@ function measure() {                    // where an element stands on the stage
 function routeUp(s, t, em, own, into) { // round the corner of its own card, and along the gap above it
   const left = s.x - own.l <= own.r - s.x + em * .3, x = left ? own.l : own.r, out = left ? x - em * .75 : x + em * .75, gap = own.t - em * .4;
   const h = Math.min((gap - t.b) * .5, em * 6), mid = (x + into) / 2, start = `M${x} ${s.y}C${out} ${s.y} ${out} ${gap} ${x} ${gap}`;
-"##;
-
-pub const AFTER_5: &str =
-    r##"  return start + (gap - t.b < em * 1.2 ? `C${mid} ${gap} ${into} ${gap} ${into} ${t.b}` : `C${into} ${gap} ${into} ${gap - h} ${into} ${t.b}`);
+  return start + (gap - t.b < em * 1.2 ? `C${mid} ${gap} ${into} ${gap} ${into} ${t.b}` : `C${into} ${gap} ${into} ${gap - h} ${into} ${t.b}`);
 }
 function route(s, t, em, own) {         // from a field's cell to a card; own is the cell's card
   const into = Math.min(Math.max(s.x, t.l + em * .7), t.r - em * .7);
@@ -861,7 +964,7 @@ function places(rect) {                 // where cards, heaps that are drawn as 
   const at = { cards: new Map(), sums: new Map(), heads: new Map() };
   for (const el of $('stage').querySelectorAll('.obj')) at.cards.set(el.dataset.o, rect(el));
   for (const el of $('stage').querySelectorAll('.sum[data-heap]')) at.sums.set(+el.dataset.heap, rect(el));
-  for (const el of $('stage').querySelectorAll('.task')) at.heads.set(+el.dataset.t, rect(el.firstChild.firstChild));
+  for (const el of $('stage').querySelectorAll('.task')) at.heads.set(+el.dataset.t, rect(el.firstChild.firstChild.firstChild));
   return at;
 }
 function fieldArrows(at, rect, em) {
@@ -875,57 +978,59 @@ function fieldArrows(at, rect, em) {
 }
 function countsBetween() {              // of heaps that are drawn as a whole: how many references lead into each other heap
   const total = new Map();
-  for (const [a, list] of view.owned) {
-    if (!view.whole.has(a)) continue;
-    for (const o of list) for (const v of o.f.slice(0, o.R)) if (v && heapOf(v) !== a) total.set(`${a} ${heapOf(v)}`, (total.get(`${a} ${heapOf(v)}`) || 0) + 1);
+  for (const a of view.whole) {
+    for (const o of objectsOf(a)) for (const v of o.f.slice(0, o.R)) if (v && heapOf(v) !== a) total.set(`${a} ${heapOf(v)}`, (total.get(`${a} ${heapOf(v)}`) || 0) + 1);
   }
   return total;
 }
 function heapArrow(at, em, [key, n]) {
   const [a, b] = key.split(' ').map(Number), kind = kindOf(a, b), s = at.sums.get(a), t = at.sums.get(b) || at.heads.get(b);
   if (!s || !t) return '';
-  const low = s.t > t.t, shift = kind === 'down' ? em : -em, x1 = s.x + shift, y1 = low ? s.t : s.b, x2 = t.x + shift, y2 = low ? t.b : t.t, m = (y1 + y2) / 2;
+"##;
+
+pub const AFTER_6: &str =
+    r##"  const low = s.t > t.t, shift = kind === 'down' ? em : -em, x1 = s.x + shift, y1 = low ? s.t : s.b, x2 = t.x + shift, y2 = low ? t.b : t.t, m = (y1 + y2) / 2;
   return arrow('', kind, '', '', `M${x1} ${y1}C${x1} ${m} ${x2} ${m} ${x2} ${y2}`) + `<text class="${kind}" x="${(x1 + x2) / 2}" y="${m + 4}" text-anchor="middle">${n}</text>`;
 }
 function stoppedArrow(at, rect) {       // from the reader to the object that it may not have
-  const t = at.cards.get(view.stopped) || at.sums.get(heapOf(view.stopped)), reader = $('stage').querySelector(`.task[data-t="${RUN.end[1]}"] > .head .pill`);
+  const t = at.cards.get(view.stopped) || at.sums.get(heapOf(view.stopped)), reader = $('stage').querySelector(`.task[data-t="${RUN.end[1]}"] > .own > .head .pill`);
   if (!t || !reader) return '';
   const s = rect(reader), side = s.x > t.r ? [t.r, t.y] : s.x < t.l ? [t.l, t.y] : [t.x, s.y > t.y ? t.b : t.t];
   const dx = Math.max(40, Math.abs(s.x - side[0]) * .4) * (s.x > t.r ? 1 : -1);
   return arrow('', 'cross', '', view.stopped, `M${s.x} ${s.b}C${s.x} ${s.b + 34} ${side[0] + dx} ${side[1]} ${side[0]} ${side[1]}`)
     + `<text class="cross" x="${(s.x + side[0]) / 2 + dx * .2}" y="${Math.max(s.b + 30, side[1] - 8)}" text-anchor="middle">stopped</text>`;
 }
-function drawArrows() {
+function arrowPaths() {
   const rect = measure(), at = places(rect), em = fitted, paths = fieldArrows(at, rect, em);
-  const inside = paths.filter(p => p.startsWith('<path class="inside')).length;
   for (const one of countsBetween()) paths.push(heapArrow(at, em, one));
   if (view.stopped) paths.push(stoppedArrow(at, rect));
-  $('arrows').innerHTML = `<defs>${HEADS}</defs>${paths.join('')}`;
-  $('arrows').classList.toggle('few', inside > ARROWS_DRAWN);
+  return paths;
+}
+function drawArrows(paths) {
+  const inside = paths.filter(p => p.startsWith('<path class="inside')).length;
+  write(arrows, `<defs>${HEADS}</defs>${paths.join('')}`);
+  arrows.classList.toggle('few', inside > ARROWS_DRAWN);
   hot(seen);
 }
 function hot(n) {                       // the arrows of one object
-  const svg = $('arrows');
-  if (!svg) return;
   let any = false;
-  for (const p of svg.querySelectorAll('path[data-b]')) {
+  for (const p of arrows.querySelectorAll('path[data-b]')) {
     const is = Boolean(n) && (p.dataset.a === n || p.dataset.b === n);
     p.classList.toggle('hot', is);
     any ||= is;
   }
-  svg.classList.toggle('hot', any);
+  arrows.classList.toggle('hot', any);
 }
 
 /* ------------------------------------------------------------ drawing: the dock */
 
 const HIGH = 22;
 let wide = 24;                          // of an entry in the lanes: as in the plot, or more
-const across = () => ($('plot').clientWidth || 800) - 16;
-const xOf = i => 8 + across() * (N ? i / N : 0);
+let across = 784;                       // what the plot's width leaves between its ends
+const xOf = i => 8 + across * (N ? i / N : 0);
 function curvePath(ys, top, y0, h) {
-  const parts = [`M${xOf(0)} ${y0}`], room = across();
-  const x = i => 8 + room * (N ? i / N : 0);
-  for (let i = 0; i <= N; i++) if (i === 0 || ys[i] !== ys[i - 1] || i === N) parts.push(`H${x(i).toFixed(1)}V${(y0 - h * ys[i] / top).toFixed(1)}`);
+  const parts = [`M${xOf(0)} ${y0}`];
+  for (let i = 0; i <= N; i++) if (i === 0 || ys[i] !== ys[i - 1] || i === N) parts.push(`H${xOf(i).toFixed(1)}V${(y0 - h * ys[i] / top).toFixed(1)}`);
   return parts.join('');
 }
 function tick(i) {                      // where a collection or a sweep ends
@@ -933,17 +1038,18 @@ function tick(i) {                      // where a collection or a sweep ends
   return /^(end|sweep)$/.test(kind) ? `<line class="${kind}" x1="${xOf(i)}" x2="${xOf(i)}" y1="62" y2="57"/>` : '';
 }
 function drawPlot() {
+  across = ($('plot').clientWidth || 800) - 16;
   wide = Math.max(24, (($('lanes').clientWidth || 800) - 16) / Math.max(N, 1));
   $('track').style.cssText = `width:${N * wide + 16}px;height:${workers.length * HIGH}px`;
-  const base = y => `<line class="base" x1="8" x2="${across() + 8}" y1="${y}" y2="${y}"/>`;
-  $('plot').innerHTML = base(29) + base(60) + `<path class="c" d="${curvePath(curve.tasks, mostTasks, 29, 25)}"/><path class="w" d="${curvePath(curve.words, mostWords, 60, 26)}V60H8Z"/>`
+  const base = y => `<line class="base" x1="8" x2="${across + 8}" y1="${y}" y2="${y}"/>`;
+  $('plot').innerHTML = base(29) + base(60) + `<path class="c" d="${curvePath(curve.chunks, mostChunks, 29, 25)}"/><path class="w" d="${curvePath(curve.words, mostWords, 60, 26)}V60H8Z"/>`
     + stones.slice(1).map(tick).join('') + '<line class="cur" id="cur" y1="0" y2="62"/>';
   moveCursor();
 }
 function moveCursor() {
   const x = xOf(pos), cur = $('cur');
   if (cur) { cur.setAttribute('x1', x); cur.setAttribute('x2', x); }
-  $('nums').innerHTML = `<span class="c">tasks <b>${count(curve.tasks[pos])}</b></span><span class="w">words allocated <b>${count(curve.words[pos])}</b></span>`;
+  write($('nums'), `<span class="c">chunks in use <b>${count(curve.chunks[pos])}</b></span><span class="w">words held <b>${count(curve.words[pos])}</b></span>`);
 }
 function followLanes() {
   const box = $('lanes'), room = box.clientWidth, x = (pos - 1) * wide, d = ENTRIES[pos - 1];
@@ -955,28 +1061,32 @@ function followLanes() {
 }
 function entryBox(i, touch) {
   const [w, kind, t] = ENTRIES[i - 1].e, text = ENTRIES[i - 1].e.join(' ');
-  const looks = cls('ent', `k-${kind}`, i === pos && 'now', i > pos && 'future', i === N && isOver(N) && 'over', touch.has(i) && 'touch');
-  return node('div', { id: `e${i}`, role: 'option', class: looks, 'data-e': i, 'aria-selected': `${i === pos}`, 'aria-posinset': i, 'aria-setsize': N,
+  const looks = cls('ent', `k-${kind}`, i === N && isOver(N) && 'over', touch.has(i) && 'touch');
+  return node('div', { id: `e${i}`, role: 'option', class: looks, 'data-e': i, 'aria-selected': 'false', 'aria-posinset': i, 'aria-setsize': N,
     'aria-label': `${i}: worker ${text}`, title: `${i}: ${text}`, style: `left:${8 + (i - 1) * wide}px;width:${wide - 3}px;top:${lane.get(w) * HIGH + 2}px` },
   t === undefined ? 'fuel' : wide > 60 ? `${kind} ${t}` : `${t}`);
 }
+function markEntry() {                  // the entry, and a veil over those after it
+  const old = $('track').querySelector('.now'), el = pos && $(`e${pos}`);
+  if (old && old !== el) { old.classList.remove('now'); old.setAttribute('aria-selected', 'false'); }
+  if (el) { el.classList.add('now'); el.setAttribute('aria-selected', 'true'); }
+  if ($('veil')) $('veil').style.left = `${8 + pos * wide - 1}px`;
+  el ? $('lanes').setAttribute('aria-activedescendant', `e${pos}`) : $('lanes').removeAttribute('aria-activedescendant');
+}
 function drawLanes(follow) {
-  const box = $('lanes');
+  const box = $('lanes'), block = 20 * wide;
   if (follow) followLanes();
-  const from = Math.max(1, Math.floor(box.scrollLeft / wide) - 10), to = Math.min(N, Math.ceil((box.scrollLeft + box.clientWidth) / wide) + 10);
+  const from = Math.max(0, Math.floor(box.scrollLeft / block) - 1) * 20 + 1, to = Math.min(N, (Math.ceil((box.scrollLeft + box.clientWidth) / block) + 1) * 20);
   const touch = new Set((seen && history.get(seen) || []).map(x => x[0])), out = workers.map((w, j) => `<div class="lane" style="top:${j * HIGH + 10}px"></div>`);
   for (let i = from; i <= to; i++) out.push(entryBox(i, touch));
-  $('track').innerHTML = out.join('');
-  pos ? box.setAttribute('aria-activedescendant', `e${pos}`) : box.removeAttribute('aria-activedescendant');
+  write($('track'), out.join('') + '<div id="veil"></div>');
+  markEntry();
 }
 
 /* ------------------------------------------------------------ going about */
 
 let timer = null, linking = null, waits = 0;
-"##;
-
-pub const AFTER_6: &str =
-    r##"function keepingFocus(redraw) {         // the focus comes back to what was redrawn
+function keepingFocus(redraw) {         // the focus comes back to what was redrawn
   const el = document.activeElement, at = el && ['o', 'e', 't'].find(k => el.dataset && el.dataset[k] !== undefined), inside = at && el.closest('[id]');
   const value = at && el.dataset[at];
   redraw();
@@ -987,17 +1097,19 @@ pub const AFTER_6: &str =
 function linkTo() {                     // the address of the entry; a browser may refuse it of a file
   try { window.history.replaceState(null, '', `#e=${pos}${seen ? `&o=${seen}` : ''}`); } catch { /* then it stays as it is */ }
 }
-function drawAll() {
-  $('count').innerHTML = `entry <b>${pos}</b> of ${count(N)}`;
-  $('said').innerHTML = say(pos);
+function drawAll() {                    // what is written comes before what is measured, so that a browser lays out once
+  write($('count'), `entry <b>${pos}</b> of ${count(N)}`);
+  write($('said'), say(pos));
   $('slide').value = pos;
   $('slide').setAttribute('aria-valuetext', `entry ${pos} of ${N}`);
   drawCode();
   drawTree();
   drawOutputs();
   drawLook();
-  drawHeaps(true);
   moveCursor();
+  drawHeaps(true);
+  showCode();
+  showTree();
   drawLanes(true);
   clearTimeout(linking);
   linking = setTimeout(linkTo, 150);
@@ -1021,7 +1133,9 @@ function play(on) {
   $('go').innerHTML = `<svg viewBox="0 0 16 16"><path d="${on ? 'M3 2h4v12H3zM9 2h4v12H9z' : 'M4 2v12l10-6z'}"/></svg>`;
   $('go').setAttribute('aria-pressed', Boolean(on));
   $('go').setAttribute('aria-label', on ? 'Pause' : 'Play');
-  $('said').setAttribute('aria-live', on ? 'off' : 'polite');
+"##;
+
+pub const AFTER_7: &str = r##"  $('said').setAttribute('aria-live', on ? 'off' : 'polite');
 }
 function theme() {
   const root = document.documentElement, dark = root.dataset.theme ? root.dataset.theme === 'dark' : matchMedia('(prefers-color-scheme: dark)').matches;
@@ -1144,9 +1258,7 @@ function begin() {
   document.title = `${RUN.title}: a run`;
   $('title').textContent = RUN.title;
   $('how').textContent = `${many(N, 'entry', 'entries')} by ${many(s.workers, 'worker')} \u00b7 leaf limit ${s.leaf} words \u00b7 inner limit ${s.inner} words \u00b7 ${s.chunks} chunks \u00b7 fuel ${count(s.fuel)}`;
-"##;
-
-pub const AFTER_7: &str = r##"  $('lines').innerHTML = LINES.map(lineRow).join('');
+  $('lines').innerHTML = LINES.map(lineRow).join('');
   $('legend').innerHTML = legend();
   $('names').innerHTML = workers.map(w => `<div style="--w:${hue(w)}">worker <b>${w}</b></div>`).join('');
   $('slide').max = N;
@@ -1157,7 +1269,8 @@ pub const AFTER_7: &str = r##"  $('lines').innerHTML = LINES.map(lineRow).join('
   go(at === null ? 0 : at);
 }
 begin();
-window.hh = { go, pick, state: S, N, ownerOf: heapOf, get pos() { return pos; } };  // for tests
+const chunksOf = h => [...h.chunks.map(names => [1, names]), ...h.large.map(n => [unitsOf(n), [n]]), ...h.reserved ? [[h.reserved, []]] : [], ...Array(h.begun).fill([1, []])];
+window.hh = { go, pick, state: S, N, ownerOf: heapOf, chunksOf: t => chunksOf(heapAt(t)), get pos() { return pos; } };  // for tests
 </script>
 </body>
 </html>

@@ -2,3 +2,4 @@ pub mod Deeds
 pub mod Steps
 pub mod Tasks
 pub mod Deltas
+pub mod News

@@ -1,11 +1,10 @@
 -- A run as a page.
 use Rattle.std.specs.Prelude.{ℕ, Option, Some, None, List, [], ◌++◌}
 use Rattle.hh_lang.specs.Form.{ProgramText}
-use Rattle.hh_model.specs.Step.{start}
 use Rattle.run_trace.specs.Entry.{EntryValue}
-use Rattle.run_trace.specs.Settings.{SettingsValue, field_limit}
+use Rattle.run_trace.specs.Settings.{SettingsValue}
 use Rattle.run_ledger.specs.declared.data.RunEnd.{RunEnd}
-use Rattle.run_ledger.specs.Journals.{end_of}
+use Rattle.run_ledger.specs.Journals.{opening, end_of}
 use Rattle.page_data.specs.Run.{settings_and_start, entries_from, ending}
 use Rattle.page_frame.specs.Frame.{head, tail}
 
@@ -15,7 +14,7 @@ ended (Some e) = ending e
 
 -- a run: its settings, where it starts, its entries and its end
 abbrev pub run : ProgramText → SettingsValue → List EntryValue → List ℕ
-run p s journal = settings_and_start p s ++ entries_from p (start p (field_limit s.version)) journal ++ ended (end_of p s journal)
+run p s journal = settings_and_start p s ++ entries_from p s (opening p s) journal ++ ended (end_of p s journal)
 
 -- the page of a run of this title, whose input has these bytes
 unfoldable pub page : List ℕ → List ℕ → ProgramText → SettingsValue → List EntryValue → List ℕ

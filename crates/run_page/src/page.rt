@@ -1,40 +1,53 @@
 // A run as a page.
 
 ghost use Rattle.std.specs.Prelude.{◌≡◌, ◌++◌, None, Some, OnOk, IfOk, IfErr};
-ghost use Rattle.hh_model.specs.Step.{start};
-ghost use Rattle.run_trace.specs.Settings.{field_limit};
-ghost use Rattle.run_ledger.specs.Journals.{end_of, refused_as_run};
+ghost use Rattle.run_ledger.specs.Entries.{after};
+ghost use Rattle.run_ledger.specs.Journals.{opening, end_of, refused_as_run};
 ghost use Rattle.run_journal.specs.Replay.{ReplayFails};
-ghost use Rattle.run_deltas.specs.Deltas.{machine_after, delta};
-ghost use Rattle.page_data.specs.Deltas.{entry};
-ghost use Rattle.page_data.specs.Run.{settings_and_start, entries_from};
+ghost use Rattle.page_data.specs.Run.{settings_and_start, entry, entries_from};
 ghost use Rattle.run_page.specs.Page.{page};
 
 use hh_lang::Program;
 use hh_model::Machine;
-use page_data::{add_ending, add_entry, add_settings_and_start};
+use page_data::{add_ending, add_settings_and_start, close_entry, open_entry};
 use page_frame::{add_head, add_tail};
 use run_deltas::advance;
-use run_journal::{ReplayError, model_replay};
+use run_journal::{Book, ReplayError, model_replay};
 use run_ledger::RunEnd;
 use run_trace::{Entry, Settings};
 use std::alloc::{AllocError, Global};
 
-// Takes the steps of an entry, and adds what it changes.
+// Enters an entry into the accounts, which accept it.
+fn enter(book: &mut Book, of: Entry) -> Result<(), AllocError>
+    ensures { OnOk result (book.new ≡ record book.old { ledger = after book.old.program book.old.settings book.old.ledger of }) }
+{
+    match book.apply(of) {
+        Ok(()) => Ok(()),
+        Err(_) => Err(AllocError),
+    }
+}
+
+// Takes the steps of an entry, enters it, and adds what it changes.
 fn add_next(
     alloc: Global,
     text: &mut Vec<u8>,
     program: &Program,
     machine: &mut Machine,
+    book: &mut Book,
     of: Entry,
 ) -> Result<(), AllocError>
-    requires { machine.old.program ≡ program.now }
+    requires program { machine.old.program ≡ program.now }
+    requires state { machine.old.state ≡ book.old.ledger.machine }
+    requires same { book.old.program ≡ program.now }
     ensures program { machine.new.program ≡ machine.old.program }
-    ensures state { OnOk result (machine.new.state ≡ machine_after program.now machine.old.state of.kind) }
-    ensures text { OnOk result (text.new.items ≡ text.old.items ++ entry program.now of (delta program.now machine.old.state of.kind)) }
+    ensures state { OnOk result (machine.new.state ≡ book.new.ledger.machine) }
+    ensures book { OnOk result (book.new ≡ record book.old { ledger = after book.old.program book.old.settings book.old.ledger of }) }
+    ensures text { OnOk result (text.new.items ≡ text.old.items ++ entry program.now book.old.ledger of book.new.ledger) }
 {
     let delta = advance(alloc, program, machine, of.kind())?;
-    add_entry(alloc, text, program, of, &delta)
+    enter(book, of)?;
+    open_entry(alloc, text, program, of, &delta)?;
+    close_entry(alloc, text, of.kind(), book.end().is_some(), book.heaps())
 }
 
 // Adds the entries of a journal.
@@ -43,13 +56,16 @@ fn add_entries(
     text: &mut Vec<u8>,
     program: &Program,
     machine: &mut Machine,
+    book: &mut Book,
     journal: &[Entry],
 ) -> Result<(), AllocError>
-    requires { machine.old.program ≡ program.now }
-    ensures { OnOk result (text.new.items ≡ text.old.items ++ entries_from program.now machine.old.state journal.now) }
+    requires program { machine.old.program ≡ program.now }
+    requires state { machine.old.state ≡ book.old.ledger.machine }
+    requires same { book.old.program ≡ program.now }
+    ensures { OnOk result (text.new.items ≡ text.old.items ++ entries_from program.now book.old.settings book.old.ledger journal.now) }
 {
     for of in journal {
-        add_next(alloc, text, program, machine, *of)?;
+        add_next(alloc, text, program, machine, book, *of)?;
     }
     Ok(())
 }
@@ -62,11 +78,12 @@ fn add_run(
     settings: Settings,
     journal: &[Entry],
 ) -> Result<(), AllocError>
-    ensures { OnOk result (text.new.items ≡ text.old.items ++ (settings_and_start program.now settings ++ entries_from program.now (start program.now (field_limit settings.version)) journal.now)) }
+    ensures { OnOk result (text.new.items ≡ text.old.items ++ (settings_and_start program.now settings ++ entries_from program.now settings (opening program.now settings) journal.now)) }
 {
     let mut machine = Machine::start(alloc, program, settings.version().field_limit())?;
+    let mut book = Book::open(alloc, program, settings)?;
     add_settings_and_start(alloc, text, program, settings, machine.state())?;
-    add_entries(alloc, text, program, &mut machine, journal)
+    add_entries(alloc, text, program, &mut machine, &mut book, journal)
 }
 
 // Builds the page of a run that ended so.

@@ -1,0 +1,7 @@
+use Rattle.std.proofs.Common.{◌≡◌, ◌++◌, take}
+use Rattle.std.specs.List.{flat_map}
+use Rattle.page_data.specs.Values.{more, name}
+use Rattle.page_data.proofs.heap.more_names.Given as goal
+
+abbrev pub invariant-loop-of : goal.invariant-loop-of
+invariant-loop-of l = l.text.items ≡ l.initial.text.items ++ flat_map (λ n. more (name n)) (take l.of-index l.rest)
