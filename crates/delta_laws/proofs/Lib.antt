@@ -1,1 +1,3 @@
 mod Puts
+mod Tells
+mod Holds

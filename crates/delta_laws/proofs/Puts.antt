@@ -39,6 +39,7 @@ use Rattle.run_deltas.specs.declared.data.Changes.{Changes}
 use Rattle.run_deltas.specs.Deeds.{deed, act_of, act_by, act_line, if_there, reference_in, number_place}
 use Rattle.run_deltas.specs.Steps.{born, changed_by, with_act, changes, stepped}
 use Rattle.run_deltas.specs.Deltas.{deltas_from, delta, machine_after}
+use Rattle.run_deltas.proofs.Machines.{after_run}
 use Rattle.delta_laws.specs.Put.{Body, Seen, seen, body_of, with_field, frozen, put, put_all, put_deltas}
 use Rattle.delta_laws.specs.Laws.{DeltasGiveObjects}
 
@@ -283,37 +284,16 @@ module _ (p : ProgramText) (n : Name) where
   entry_put m (Sweep t g) = refl
   entry_put m Fuel = refl
 
-  -- the machine that the entries move is that of the steps
-  later : (m : State) (t k : ℕ) → stepped p (step p m t) t k ≡ step p (stepped p m t k) t
-  later m t zero = refl
-  later m t (suc k) = ap (λ q. step p q t) (later m t k)
-
-  stepped_run : (k : ℕ) (m : State) (t : ℕ) → stepped p m t k ≡ run_from p m (replicate k t)
-  stepped_run zero m t = refl
-  stepped_run (suc k) m t = sym (later m t k) ∙ stepped_run k (step p m t) t
-
   run_joined : (a b : List ℕ) (m : State) → run_from p m (a ++ b) ≡ run_from p (run_from p m a) b
   run_joined [] b m = refl
   run_joined (t ∷ ts) b m = run_joined ts b (step p m t)
-
-  after_run : (m : State) (kind : Kind) → machine_after p m kind ≡ run_from p m (tasks_in kind)
-  after_run m (Took t) = refl
-  after_run m (Ran t k) = stepped_run k m t
-  after_run m (Chunk t) = refl
-  after_run m (Begin t) = refl
-  after_run m (End t a g l) = refl
-  after_run m (PutOff t) = refl
-  after_run m (Mark t) = refl
-  after_run m (More t k) = refl
-  after_run m (Sweep t g) = refl
-  after_run m Fuel = refl
 
   journal_put : (journal : List EntryValue) (m : State) → put_deltas n (seen m n) (deltas_from p m journal) ≡ seen (run_from p m (tasks_of journal)) n
   journal_put [] m = refl
   journal_put (e ∷ es) m =
       ap (λ q. put_deltas n q (deltas_from p (machine_after p m e.kind) es)) (entry_put m e.kind)
       ∙ (journal_put es (machine_after p m e.kind)
-      ∙ (ap (λ q. seen (run_from p q (tasks_of es)) n) (after_run m e.kind)
+      ∙ (ap (λ q. seen (run_from p q (tasks_of es)) n) (after_run p m e.kind)
       ∙ ap (λ q. seen q n) (sym (run_joined (tasks_in e.kind) (tasks_of es) m))))
 
 -- nothing is there at the start

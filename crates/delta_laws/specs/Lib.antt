@@ -1,2 +1,4 @@
 pub mod Put
+pub mod Told
+pub mod Holdings
 pub mod Laws

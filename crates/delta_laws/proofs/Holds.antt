@@ -1,0 +1,584 @@
+-- What the entries of a legal journal tell of heaps gives what these hold.
+use Rattle.std.proofs.Common.{◌≡◌, ◌<◌, ◌≤◌, ℕ, ℤ, pos, zero, suc, ◌+◌, ◌-◌, ◌==◌, ◌⊎◌, Bool, true, false, cond, Option, Some, None, List, [], ◌∷◌, ◌++◌, length, map, slice_get, slice_set, replicate, take, nat_lt, inl, inr, refl, ap, ap₂, sym, subst, ◌∙◌, is_some, is_none, arith, eq-eqb, ne_eqb, append_assoc, min}
+use Rattle.std.specs.Prelude.{option_map, unwrap_or}
+use Rattle.std.proofs.lemmas.Bool.{cond-true, cond-false, false≢true, both_ways, and_parts, le-leb, leb-false}
+use Rattle.std.proofs.lemmas.Option.{slice_get-map, same_Some}
+use Rattle.std.proofs.lemmas.List.{length-set, length-take, length-replicate}
+use Rattle.listed.proofs.Members.{got_same, got_within}
+use Rattle.listed.proofs.Places.{got_some}
+use Rattle.listed.proofs.Options.{none_of}
+use Rattle.hh_lang.specs.declared.instr.Instr.{Instr}
+use Rattle.hh_lang.specs.declared.instr.Instr.TheVariants.{Set, Mov, Movr, Nil as NilOf, Calc, Same, Jmp, Jz, Newm, Pack, Getr, Geti, Putr, Puti, Cntr, Cnti, Freeze, Cas, Call, Par, Ret, Out}
+use Rattle.hh_lang.specs.declared.program.Line.{Line}
+use Rattle.hh_lang.specs.Form.{ProgramText, IsProgram, line_at}
+use Rattle.hh_model.specs.declared.data.Name.{Name}
+use Rattle.hh_model.specs.declared.data.Object.{Object}
+use Rattle.hh_model.specs.declared.data.Frame.{Frame}
+use Rattle.hh_model.specs.declared.data.End.{End}
+use Rattle.hh_model.specs.declared.data.End.TheVariants.{Done}
+use Rattle.hh_model.specs.declared.data.Status.{Status}
+use Rattle.hh_model.specs.declared.data.Status.TheVariants.{Running, Waiting, Ended, Joined}
+use Rattle.hh_model.specs.declared.data.Task.{Task}
+use Rattle.hh_model.specs.declared.data.Trap.TheVariants.{Size}
+use Rattle.hh_model.specs.declared.data.State.{State}
+use Rattle.hh_model.specs.Effect.{Effect, Goes, effect, made, object_at, row_of, counts_in, place_in, same_name, int_in, ref_in, or_trap, with_ref, onward}
+use Rattle.hh_model.specs.Names.{next_name, words_asked, words_for}
+use Rattle.hh_model.specs.Step.{step, start, follow, setting, fetched, can_step, asked, asked_line, runs, is_running, is_left, owner_of, parent_of, child, strand, strand_of, edge, joined_task, resumed, join_of, ended_task, result_of, ended_by, run_from}
+use Rattle.hh_model.proofs.Lists.{set_got}
+use Rattle.hh_model.proofs.Closed.{asked_at}
+use Rattle.hh_model.specs.Counts.{Counted}
+use Rattle.hh_model.proofs.Counts.{rows_from, runs_are_counted}
+use Rattle.hh_model.proofs.Next.{packs_are_few}
+use Rattle.hh_model.proofs.Runs.{waiting, grown_length, grown_at, grown_left, grown_right, three_top, three_left, three_right, three_length, below, parr}
+use Rattle.hh_model.proofs.Steps.{step_cases, runs_is}
+use Rattle.hh_model.proofs.Taken.{can_task, step_taken, step_none, step_idle}
+use Rattle.path_laws.proofs.Stored.{made_here}
+use Rattle.run_trace.specs.declared.entry.Kind.{Kind}
+use Rattle.run_trace.specs.declared.entry.Kind.TheVariants.{Took, Ran, Chunk, Begin, End as EndOf, PutOff, Mark, More, Sweep, Fuel}
+use Rattle.run_trace.specs.Entry.{EntryValue}
+use Rattle.run_trace.specs.Settings.{SettingsValue, field_limit}
+use Rattle.run_ledger.specs.declared.data.Heap.{Heap}
+use Rattle.run_ledger.specs.declared.data.Ledger.{Ledger}
+use Rattle.run_ledger.specs.declared.data.RunEnd.TheVariants.{Pool}
+use Rattle.run_ledger.specs.Heaps.{chunk_words, units, is_small, words_of, begun_in, heap_at, heap_of, or_fresh, with_heap, with_heap_at, in_use, within, lacks_room, placed, put_last, fresh, forked_heap, merged, emptied, let_go, collected, swept_heap, take_of}
+use Rattle.run_ledger.specs.Steps.{is_due, is_in_need, allocated_by, allocated_in, settled, moved_on, moved_to, at_join, join_heaps, stepped_to, task_step, task_steps, on_asked}
+use Rattle.run_ledger.specs.Entries.{refusal, kind_refusal, after_kind, after, is_out, with_chunk, chunk_units, given_chunk}
+use Rattle.run_ledger.specs.Journals.{opening, after_all, ledger_of, is_legal, is_legal_from, tasks_of}
+use Rattle.run_ledger.proofs.Machine.{stepped_machine, task_step_machine, machine_is_run}
+use Rattle.run_ledger.proofs.Sound.{SoundLedger, collecting}
+use Rattle.run_ledger.proofs.Steps.{SoundAt, step_keeps, steps_last, task_steps_sound, running_at, can_tells, heap_of_task}
+use Rattle.run_ledger.proofs.Stocks.{with_heap_any}
+use Rattle.run_ledger.proofs.Booked.{wait_run}
+use Rattle.run_ledger.proofs.Holders.{heap_end}
+use Rattle.run_ledger.proofs.Journals.{none_where, none_unless, out_tells, out_runs, wait_tells, entry_tells, legal_sound, collecting_is}
+use Rattle.run_ledger.proofs.Use.{chunks_are_used}
+use Rattle.run_ledger.proofs.Cuts.{journals_can_be_cut}
+use Rattle.run_deltas.specs.declared.data.Deed.{Deed}
+use Rattle.run_deltas.specs.declared.data.Deed.TheVariants.{Allocates, Reads, Counts, Writes, Swaps, Freezes, Prints}
+use Rattle.run_deltas.specs.declared.data.Act.{Act}
+use Rattle.run_deltas.specs.declared.data.Birth.{Birth}
+use Rattle.run_deltas.specs.declared.data.Change.{Change}
+use Rattle.run_deltas.specs.declared.data.Changes.{Changes}
+use Rattle.run_deltas.specs.declared.data.TaskNow.{TaskNow}
+use Rattle.run_deltas.specs.declared.data.Value.TheVariants.{Reference, Number}
+use Rattle.run_deltas.specs.Deeds.{deed, act_of, act_by, act_line, if_there, reference_in, number_in, number_place}
+use Rattle.run_deltas.specs.Steps.{born, changed_by, with_act, changes, stepped}
+use Rattle.run_deltas.specs.Tasks.{standing_for, now_of, now_out, now_free, joined_now, moved_by, moved, children, child_of}
+use Rattle.run_deltas.specs.Deltas.{delta, machine_after}
+use Rattle.run_deltas.specs.News.{units_given, news_in, news_at, news_for, news}
+use Rattle.run_deltas.proofs.Machines.{machine_moves, after_run}
+use Rattle.delta_laws.specs.Holdings.{Holding, holding, holdings, nothing_held, changed_in, changed_at, with_birth, put_birth, put_births, put_made, or_nothing, with_children, without_objects, put_join, has_joined, put_moves, put_delta, with_given, put_news, held_after}
+use Rattle.delta_laws.specs.Laws.{DeltasGiveHoldings}
+
+-- CHANGES OF ONE HEAP
+
+map_set : {A B : Type 0} (f : A → B) (xs : List A) (k : ℕ) (y : A) → map f (slice_set xs k y) ≡ slice_set (map f xs) k (f y)
+map_set f [] k y = refl
+map_set f (x ∷ xs) zero y = refl
+map_set f (x ∷ xs) (suc k) y = ap (λ zs. f x ∷ zs) (map_set f xs k y)
+
+map_two : {A B : Type 0} (f : A → B) (xs : List A) (y z : A) → map f (xs ++ y ∷ z ∷ []) ≡ (map f xs ++ f y ∷ []) ++ f z ∷ []
+map_two f [] y z = refl
+map_two f (x ∷ xs) y z = ap (λ zs. f x ∷ zs) (map_two f xs y z)
+
+held_there : (l : Ledger) (t : ℕ) (o : Option Heap) → slice_get l.heaps t ≡ o → slice_get (holdings l) t ≡ option_map holding o
+held_there l t o e = slice_get-map holding l.heaps t ∙ ap (option_map holding) e
+
+changed_now : (l : Ledger) (t : ℕ) (f : Heap → Heap) (g : Holding → Holding) → ((h : Heap) → slice_get l.heaps t ≡ Some h → holding (f h) ≡ g (holding h)) → holdings (with_heap l t f) ≡ changed_at t g (holdings l)
+changed_now l t f g same = by (slice_get l.heaps t) refl
+  where
+    by : (o : Option Heap) → slice_get l.heaps t ≡ o → holdings (with_heap_at l t f o) ≡ changed_at t g (holdings l)
+    by None e = sym (ap (changed_in t g (holdings l)) (held_there l t None e))
+    by (Some h) e = map_set holding l.heaps t (f h) ∙ (ap (slice_set (holdings l) t) (same h e) ∙ sym (ap (changed_in t g (holdings l)) (held_there l t (Some h) e)))
+
+-- what a heap holds stays
+unchanged_now : (l : Ledger) (t : ℕ) (f : Heap → Heap) → ((h : Heap) → holding (f h) ≡ holding h) → holdings (with_heap l t f) ≡ holdings l
+unchanged_now l t f same = with_heap_any (λ k. holdings k ≡ holdings l) l t f refl (λ h e.
+    map_set holding l.heaps t (f h) ∙ (ap (slice_set (holdings l) t) (same h) ∙ set_got (holdings l) t (holding h) (held_there l t (Some h) e)))
+
+-- OBJECTS
+
+births_more : (hs : List Holding) (a b : List Change) → put_births hs (a ++ b) ≡ put_births (put_births hs a) b
+births_more hs [] b = refl
+births_more hs (c ∷ cs) b = births_more (put_birth hs c) cs b
+
+-- what allocates nothing leaves what heaps hold
+abbrev quiet : Option Deed → Bool
+quiet None = true
+quiet (Some (Allocates n)) = false
+quiet (Some (Reads n at v)) = true
+quiet (Some (Counts n)) = true
+quiet (Some (Writes n at v)) = true
+quiet (Some (Swaps n at r swapped)) = true
+quiet (Some (Freezes n)) = true
+quiet (Some (Prints k)) = true
+
+quiet_put : (m : State) (hs : List Holding) (d : Option Deed) → quiet d ≡ true → put_births hs (changed_by m d) ≡ hs
+quiet_put m hs None h = refl
+quiet_put m hs (Some (Allocates n)) h = absurd (false≢true h)
+quiet_put m hs (Some (Reads n at v)) h = refl
+quiet_put m hs (Some (Counts n)) h = refl
+quiet_put m hs (Some (Writes n at v)) h = refl
+quiet_put m hs (Some (Swaps n at r true)) h = refl
+quiet_put m hs (Some (Swaps n at r false)) h = refl
+quiet_put m hs (Some (Freezes n)) h = refl
+quiet_put m hs (Some (Prints k)) h = refl
+
+quiet_place : (o : Option ℕ) (go : ℕ → Option Deed) → ((at : ℕ) → quiet (go at) ≡ true) → quiet (if_there o go) ≡ true
+quiet_place None go each = refl
+quiet_place (Some at) go each = each at
+
+quiet_object : (store : List (List Object)) (r : Option Name) (go : Name → Object → Option Deed) → ((n : Name) (y : Object) → quiet (go n y) ≡ true) → quiet (if_there r (λ n. if_there (object_at store n) (go n))) ≡ true
+quiet_object store None go each = refl
+quiet_object store (Some n) go each = by (object_at store n)
+  where
+    by : (o : Option Object) → quiet (if_there o (go n)) ≡ true
+    by None = refl
+    by (Some y) = each n y
+
+quiet_cond : (b : Bool) (d : Option Deed) → quiet d ≡ true → quiet (cond b d None) ≡ true
+quiet_cond true d h = h
+quiet_cond false d h = refl
+
+-- ONE INSTRUCTION
+
+module _ (k : Ledger) (t : ℕ) (x : Task) (line : ℕ) (row : List Object) (is_row : slice_get k.machine.store t ≡ Some row) where
+  abbrev at_k : State
+  at_k = k.machine
+
+  abbrev new_name : Name
+  new_name = next_name t at_k.store
+
+  -- what it changes is put as the accounts place it
+  abbrev Lands : Effect → Option Deed → Option ℕ → Type 0
+  Lands e d asks = put_births (holdings k) (changed_by (follow at_k t x line e) d) ≡ holdings (allocated_by k t asks)
+
+  abbrev birth : Object → Birth
+  birth o = record { name = new_name; mutable = o.mutable; refs = o.refs; ints = o.ints }
+
+  placed_so : (o : Object) (w : ℕ) (h : Heap) → is_small (words_of (Some o)) ≡ is_small w → holding (placed h new_name w) ≡ with_birth (birth o) (holding h)
+  placed_so o w h same = by (is_small w) (is_small (words_of (Some o))) same
+    where
+      by : (v u : Bool) → u ≡ v → holding (cond v (record h { chunks = put_last h.chunks new_name; room = h.room - w; since = h.since + w }) (record h { large = h.large ++ new_name ∷ []; reserved = 0; since = h.since + w }))
+          ≡ cond u (record (holding h) { chunks = put_last h.chunks new_name }) (record (holding h) { large = h.large ++ new_name ∷ []; waiting = 0 })
+      by true true e = refl
+      by true false e = absurd (false≢true e)
+      by false true e = absurd (false≢true (sym e))
+      by false false e = refl
+
+  lands_new : (f : Frame) (o : Object) (w : ℕ) → is_small (words_of (Some o)) ≡ is_small w → Lands (Goes f (slice_set at_k.store t (row_of (slice_get at_k.store t) ++ o ∷ []))) (Some (Allocates new_name)) (Some w)
+  lands_new f o w same =
+      ap (λ (b : Option Object). put_births (holdings k) (born new_name b)) (made_here at_k.store t row o is_row)
+      ∙ sym (changed_now k t (λ h. placed h new_name w) (with_birth (birth o)) (λ h e. placed_so o w h same))
+
+  pack_small : (f : Frame) (o : Object) (r i : ℕ) → length o.refs ≤ r → length o.ints ≤ i → r ≤ 16 → i ≤ 16 → is_small (words_of (Some o)) ≡ is_small (2 + r + i)
+  pack_small f o r i a b c d = le-leb (2 + length o.refs + length o.ints) chunk_words (omega arith) ∙ sym (le-leb (2 + r + i) chunk_words (omega arith))
+
+  at_most : {A : Type 0} (r : ℕ) (xs : List A) → length (take r xs) ≤ r
+  at_most r xs = omega (arith, length-take r xs)
+
+  still_put : (i : Instr) → quiet (deed at_k t x.top i) ≡ true → put_births (holdings k) (changed_by (follow at_k t x line (effect (setting at_k t x) x.top at_k.store i)) (deed at_k t x.top i)) ≡ holdings k
+  still_put i q = quiet_put (follow at_k t x line (effect (setting at_k t x) x.top at_k.store i)) (holdings k) (deed at_k t x.top i) q
+
+  lands : (instr : Instr) → ((d r i : ℕ) → instr ≡ Pack d r i → (r ≤ 16) × (i ≤ 16)) → Lands (effect (setting at_k t x) x.top at_k.store instr) (deed at_k t x.top instr) (words_asked at_k.field_limit x.top instr)
+  lands (Newm d a b) small = by (counts_in at_k.field_limit (int_in x.top a) (int_in x.top b))
+    where
+      by : (o : Option (ℕ × ℕ)) → Lands (or_trap Size o (λ c. made (setting at_k t x) x.top at_k.store d (record { strand = strand_of t x; mutable = true; refs = replicate c.0 None; ints = replicate c.1 (pos 0) }))) (if_there o (λ c. Some (Allocates new_name))) (words_for o)
+      by None = refl
+      by (Some c) =
+          lands_new (onward (with_ref x.top d (Some new_name))) (record { strand = strand_of t x; mutable = true; refs = replicate c.0 None; ints = replicate c.1 (pos 0) }) (2 + c.0 + c.1)
+          (ap₂ (λ i j. is_small (2 + i + j)) (length-replicate {A = Option Name} c.0 None) (length-replicate c.1 (pos 0)))
+  lands (Pack d r i) small =
+      let o : Object = record { strand = strand_of t x; mutable = false; refs = take r x.top.refs; ints = take i x.top.ints } in
+      lands_new (onward (with_ref x.top d (Some new_name))) o (2 + r + i) (pack_small x.top o r i (at_most r x.top.refs) (at_most i x.top.ints) (small d r i refl).0 (small d r i refl).1)
+  lands (Set d n) small = refl
+  lands (Mov d a) small = refl
+  lands (Movr d a) small = refl
+  lands (NilOf d) small = refl
+  lands (Calc op d a b) small = refl
+  lands (Same d a b) small = refl
+  lands (Jmp to) small = refl
+  lands (Jz a to) small = refl
+  lands (Getr d o n) small = still_put (Getr d o n) (quiet_object at_k.store (ref_in x.top o) (λ q y. if_there (place_in (length y.refs) (int_in x.top n)) (λ at. Some (Reads q at (Reference (reference_in y at))))) (λ q y. quiet_place (place_in (length y.refs) (int_in x.top n)) (λ at. Some (Reads q at (Reference (reference_in y at)))) (λ at. refl)))
+  lands (Geti d o n) small = still_put (Geti d o n) (quiet_object at_k.store (ref_in x.top o) (λ q y. if_there (place_in (length y.ints) (int_in x.top n)) (λ at. Some (Reads q (number_place y at) (Number (number_in y at))))) (λ q y. quiet_place (place_in (length y.ints) (int_in x.top n)) (λ at. Some (Reads q (number_place y at) (Number (number_in y at)))) (λ at. refl)))
+  lands (Putr o n v) small = still_put (Putr o n v) (quiet_object at_k.store (ref_in x.top o) (λ q y. if_there (place_in (length y.refs) (int_in x.top n)) (λ at. cond y.mutable (Some (Writes q at (Reference (ref_in x.top v)))) None)) (λ q y. quiet_place (place_in (length y.refs) (int_in x.top n)) (λ at. cond y.mutable (Some (Writes q at (Reference (ref_in x.top v)))) None) (λ at. quiet_cond y.mutable (Some (Writes q at (Reference (ref_in x.top v)))) refl)))
+  lands (Puti o n v) small = still_put (Puti o n v) (quiet_object at_k.store (ref_in x.top o) (λ q y. if_there (place_in (length y.ints) (int_in x.top n)) (λ at. cond y.mutable (Some (Writes q (number_place y at) (Number (int_in x.top v)))) None)) (λ q y. quiet_place (place_in (length y.ints) (int_in x.top n)) (λ at. cond y.mutable (Some (Writes q (number_place y at) (Number (int_in x.top v)))) None) (λ at. quiet_cond y.mutable (Some (Writes q (number_place y at) (Number (int_in x.top v)))) refl)))
+  lands (Cntr d o) small = still_put (Cntr d o) (quiet_object at_k.store (ref_in x.top o) (λ q y. Some (Counts q)) (λ q y. refl))
+  lands (Cnti d o) small = still_put (Cnti d o) (quiet_object at_k.store (ref_in x.top o) (λ q y. Some (Counts q)) (λ q y. refl))
+  lands (Freeze o) small = still_put (Freeze o) (quiet_object at_k.store (ref_in x.top o) (λ q y. cond (owner_of at_k.tasks q.task == t) (Some (Freezes q)) None) (λ q y. quiet_cond (owner_of at_k.tasks q.task == t) (Some (Freezes q)) refl))
+  lands (Cas d o n e v) small = still_put (Cas d o n e v) (quiet_object at_k.store (ref_in x.top o) (λ q y. if_there (place_in (length y.refs) (int_in x.top n)) (λ at. cond y.mutable (Some (Swaps q at (ref_in x.top v) (same_name (reference_in y at) (ref_in x.top e)))) None)) (λ q y. quiet_place (place_in (length y.refs) (int_in x.top n)) (λ at. cond y.mutable (Some (Swaps q at (ref_in x.top v) (same_name (reference_in y at) (ref_in x.top e)))) None) (λ at. quiet_cond y.mutable (Some (Swaps q at (ref_in x.top v) (same_name (reference_in y at) (ref_in x.top e)))) refl)))
+  lands (Call g) small = refl
+  lands (Par g h) small = refl
+  lands Ret small = refl
+  lands (Out a) small = refl
+
+-- THE TASKS OF A STEP
+
+one_moved : (p : ProgramText) (hs : List Holding) (t : ℕ) (out : Bool) (o : Option Task) → put_moves hs (now_of p t out o) ≡ hs
+one_moved p hs t out None = refl
+one_moved p hs t out (Some x) = refl
+
+none_made : (m : State) (n now : ℕ) → now ≡ n → children m n now ≡ []
+none_made m n now e = cond-true (now == n) _ _ (eq-eqb now n e)
+
+two_made : (m : State) (n now : ℕ) (c d : Task) → now ≡ n + 2 → slice_get m.tasks n ≡ Some c → slice_get m.tasks (n + 1) ≡ Some d → (hs : List Holding) → put_made hs (children m n now) ≡ (hs ++ nothing_held ∷ []) ++ nothing_held ∷ []
+two_made m n now c d e at_c at_d hs =
+    ap (put_made hs) (cond-false (now == n) [] _ (ne_eqb now n (λ q. omega arith)))
+    ∙ ap₂ (λ (a b : Option Task). put_made hs (child_of n a ++ child_of (n + 1) b)) at_c at_d
+
+held_in_heap : (l : Ledger) (u : ℕ) → holding (heap_of l u) ≡ or_nothing (slice_get (holdings l) u)
+held_in_heap l u = by (slice_get l.heaps u) refl
+  where
+    by : (o : Option Heap) → slice_get l.heaps u ≡ o → holding (or_fresh o) ≡ or_nothing (slice_get (holdings l) u)
+    by None e = sym (ap or_nothing (held_there l u None e))
+    by (Some h) e = sym (ap or_nothing (held_there l u (Some h) e))
+
+join_put : (l : Ledger) (parent left : ℕ) → holdings (join_heaps l parent left) ≡ put_join (holdings l) parent left (left + 1)
+join_put l parent left =
+    let l1 : Ledger = with_heap l parent (λ h. merged h (heap_of l left) (heap_of l (left + 1))) in
+    let l2 : Ledger = with_heap l1 left emptied in
+    let hs : List Holding = holdings l in
+    let first : holdings l1 ≡ changed_at parent (with_children (or_nothing (slice_get hs left)) (or_nothing (slice_get hs (left + 1)))) hs =
+    changed_now l parent _ (with_children (or_nothing (slice_get hs left)) (or_nothing (slice_get hs (left + 1)))) (λ h e.
+    ap₂ (λ (a b : Holding). with_children a b (holding h)) (held_in_heap l left) (held_in_heap l (left + 1))) in
+    changed_now l2 (left + 1) emptied without_objects (λ h e. refl)
+    ∙ ap (changed_at (left + 1) without_objects) (changed_now l1 left emptied without_objects (λ h e. refl) ∙ ap (changed_at left without_objects) first)
+
+-- THE STEPS OF AN ENTRY
+
+module _ (p : ProgramText) (l : Ledger) (t : ℕ) where
+  abbrev first_made : ℕ
+  first_made = length l.machine.tasks
+
+  -- with the tasks that are made and moved, what was put gives what the heaps hold
+  abbrev Whole : State → List Holding → List Holding → Type 0
+  Whole m put now = now ≡ put_moves (put_made put (children m first_made (length m.tasks))) (moved p m first_made t (slice_get m.tasks t))
+
+  -- as long as the task runs no other was made
+  abbrev RunsOn : State → List Holding → List Holding → Type 0
+  RunsOn m put now = is_running (slice_get m.tasks t) ≡ true → (now ≡ put) × (length m.tasks ≡ first_made)
+
+  abbrev Holds : State → List Holding → List Holding → Type 0
+  Holds m put now = Whole m put now × RunsOn m put now
+
+  stays_on : (m : State) (put now : List Holding) (y : Task) → slice_get m.tasks t ≡ Some y → y.status ≡ Running → now ≡ put → length m.tasks ≡ first_made → Holds m put now
+  stays_on m put now y is run same many = (
+    same
+        ∙ sym (ap₂ (λ cs xs. put_moves (put_made put cs) xs) (none_made m first_made (length m.tasks) many) (ap (moved p m first_made t) is ∙ ap (moved_by p m first_made t y.parent) run)
+        ∙ one_moved p put t true (slice_get m.tasks t)),
+    λ r. (same, many),
+  )
+
+  -- what a task holds that runs no more is all told
+  stops : (m : State) (put now : List Holding) → is_running (slice_get m.tasks t) ≡ false → Whole m put now → Holds m put now
+  stops m put now e whole = (whole, λ r. absurd (both_ways (is_running (slice_get m.tasks t)) e r))
+
+  module _ (k : Ledger) (S : SoundAt t k) (can : can_step k.machine t ≡ true) (many : length k.machine.tasks ≡ first_made) where
+    abbrev m : State
+    m = k.machine
+
+    abbrev b : Ledger
+    b = allocated_in p k t
+
+    abbrev by_now : State → List Holding
+    by_now m' = holdings (stepped_to b t m')
+
+    abbrev Owes : State → Type 0
+    Owes m' = Holds m' (holdings b) (by_now m')
+
+    going : m.end ≡ None
+    going = (can_tells m t can).0
+
+    abbrev onto : State → Ledger
+    onto m' = record b { machine = m'; steps = b.steps + 1 }
+
+    -- the accounts after a step by which the machine doesn't end
+    goes : (m' : State) (y : Task) → m'.end ≡ None → slice_get m'.tasks t ≡ Some y → stepped_to b t m' ≡ moved_on (onto m') t y.parent y.status
+    goes m' y end is = ap (settled (onto m') t) end ∙ ap (moved_to (onto m') t) is
+
+    stays : (m' : State) (y : Task) → m'.end ≡ None → slice_get m'.tasks t ≡ Some y → y.status ≡ Running → length m'.tasks ≡ length m.tasks → Owes m'
+    stays m' y end is run same = stays_on m' (holdings b) (by_now m') y is run (ap holdings (goes m' y end is) ∙ ap (λ s. holdings (moved_on (onto m') t y.parent s)) run) (same ∙ many)
+
+    halts : (e : End) → (y : Task) → slice_get m.tasks t ≡ Some y → y.status ≡ Running → Owes (ended_by m e)
+    halts e y is run = stays_on (ended_by m e) (holdings b) (by_now (ended_by m e)) y is run refl many
+
+    ends : (x : Task) (e : Option End) → slice_get m.tasks t ≡ Some x → (e ≡ Some Done) ⊎ (e ≡ m.end) → Owes (record m { tasks = slice_set m.tasks t (ended_task x (result_of x.top)); end = e })
+    ends x e is how =
+        let y : Task = ended_task x (result_of x.top) in
+        let m' : State = record m { tasks = slice_set m.tasks t y; end = e } in
+        let at : slice_get m'.tasks t ≡ Some y = got_same m.tasks t x y is in
+        let held : by_now m' ≡ holdings b = elim how [
+          | inl over ↦ ap (λ o. holdings (settled (onto m') t o)) over
+          | inr same ↦ ap holdings (goes m' y (same ∙ going) at) ∙ unchanged_now (onto m') t let_go (λ h. refl)
+        ] in
+        stops m' (holdings b) (by_now m') (ap is_running at)
+        (held ∙ sym (ap₂ (λ cs xs. put_moves (put_made (holdings b) cs) xs) (none_made m' first_made (length m'.tasks) (length-set m.tasks t y ∙ many)) (ap (moved p m' first_made t) at)
+        ∙ one_moved p (holdings b) t false (slice_get m'.tasks t)))
+
+    forks : (m' : State) (x y c d : Task) → slice_get m.tasks t ≡ Some x → m'.tasks ≡ slice_set m.tasks t y ++ c ∷ d ∷ [] → y.status ≡ Waiting → c.status ≡ Running → m'.end ≡ None → Owes m'
+    forks m' x y c d is grows waits_y runs_c end =
+        let n : ℕ = length m.tasks in
+        let slot : (u : ℕ) → slice_get m'.tasks u ≡ slice_get (slice_set m.tasks t y ++ c ∷ d ∷ []) u = λ u. ap (λ (ts : List Task). slice_get ts u) grows in
+        let at : slice_get m'.tasks t ≡ Some y = slot t ∙ grown_at m.tasks t x y c d is in
+        let at_c : slice_get m'.tasks first_made ≡ Some c = ap (slice_get m'.tasks) (sym many) ∙ (slot n ∙ grown_left m.tasks t x y c d is) in
+        let at_d : slice_get m'.tasks (first_made + 1) ≡ Some d = ap (λ j. slice_get m'.tasks (j + 1)) (sym many) ∙ (slot (n + 1) ∙ grown_right m.tasks t x y c d is) in
+        let now : length m'.tasks ≡ first_made + 2 = ap length grows ∙ (grown_length m.tasks t x y c d is ∙ ap (λ j. j + 2) many) in
+        let two : List Holding = (holdings b ++ nothing_held ∷ []) ++ nothing_held ∷ [] in
+        let j : Ledger = onto m' in
+        let held : by_now m' ≡ two =
+        ap holdings (goes m' y end at) ∙ (ap (λ s. holdings (moved_on j t y.parent s)) waits_y
+        ∙ (unchanged_now (record j { heaps = j.heaps ++ fresh ∷ fresh ∷ [] }) t (forked_heap (within j t)) (λ h. refl) ∙ map_two holding b.heaps fresh fresh)) in
+        let told : moved p m' first_made t (slice_get m'.tasks t) ≡ (now_of p t false (Some y) ++ now_of p first_made false (Some c)) ++ now_of p (first_made + 1) false (Some d) =
+        ap (moved p m' first_made t) at ∙ (ap (moved_by p m' first_made t y.parent) waits_y
+        ∙ (λ i. (now_of p t false (at i) ++ now_of p first_made false (at_c i)) ++ now_of p (first_made + 1) false (at_d i))) in
+        stops m' (holdings b) (by_now m') (ap is_running at ∙ ap runs waits_y)
+        (held ∙ sym (ap₂ (λ hs xs. put_moves hs xs) (two_made m' first_made (length m'.tasks) c d now at_c at_d (holdings b)) told
+        ∙ ap (λ s. cond (has_joined (standing_for false s)) (put_join two t first_made (first_made + 1)) two) runs_c))
+
+    joins : (m' : State) (parent c : ℕ) (yl yr yp : Task) → slice_get m'.tasks parent ≡ Some yp → slice_get m'.tasks c ≡ Some yl → slice_get m'.tasks (c + 1) ≡ Some yr
+        → yl.status ≡ Joined → yr.status ≡ Joined → yl.parent ≡ Some parent → yr.parent ≡ Some parent → length m'.tasks ≡ length m.tasks → m'.end ≡ None
+        → ((t ≡ c) × (is_left t ≡ true)) ⊎ ((t ≡ c + 1) × (is_left t ≡ false)) → Owes m'
+    joins m' parent c yl yr yp at_p at_l at_r jl jr pl pr same end side = elim side [
+      | inl q ↦ by yl (ap (slice_get m'.tasks) q.0 ∙ at_l) jl pl (cond-true (is_left t) t (t - 1) q.1 ∙ q.0)
+      | inr q ↦ by yr (ap (slice_get m'.tasks) q.0 ∙ at_r) jr pr (cond-false (is_left t) t (t - 1) q.1 ∙ (let e : t ≡ c + 1 = q.0 in let d : t - 1 ≡ c = omega arith in d))
+    ]
+      where
+        by : (y : Task) → slice_get m'.tasks t ≡ Some y → y.status ≡ Joined → y.parent ≡ Some parent → cond (is_left t) t (t - 1) ≡ c → Owes m'
+        by y at j pp left =
+            let held : by_now m' ≡ put_join (holdings b) parent c (c + 1) =
+            ap holdings (goes m' y end at) ∙ (ap (λ s. holdings (moved_on (onto m') t y.parent s)) j
+            ∙ (ap (λ o. holdings (at_join (onto m') t o)) pp ∙ (ap (λ v. holdings (join_heaps (onto m') parent v)) left ∙ join_put (onto m') parent c))) in
+            let told : moved p m' first_made t (slice_get m'.tasks t) ≡ (now_of p parent false (Some yp) ++ now_of p c false (Some yl)) ++ now_of p (c + 1) false (Some yr) =
+            ap (moved p m' first_made t) at ∙ (ap (moved_by p m' first_made t y.parent) j ∙ (ap (joined_now p m' (cond (is_left t) t (t - 1))) pp ∙ (ap (λ v. joined_now p m' v (Some parent)) left
+            ∙ (λ i. (now_of p parent false (at_p i) ++ now_of p c false (at_l i)) ++ now_of p (c + 1) false (at_r i))))) in
+            stops m' (holdings b) (by_now m') (ap is_running at ∙ ap runs j)
+            (held ∙ sym (ap₂ (λ cs xs. put_moves (put_made (holdings b) cs) xs) (none_made m' first_made (length m'.tasks) (same ∙ many)) told
+            ∙ ap (λ s. cond (has_joined (standing_for false s)) (put_join (holdings b) parent c (c + 1)) (holdings b)) jl))
+
+    step_holds : Owes (step p m t)
+    step_holds =
+        step_cases p m t S.0.fork_join Owes
+        (stays m now.0 going now.1 now.2 refl)
+        (λ x e is run why. halts e x is (runs_is x.status run))
+        (λ x y store outs is run ep ed es ej names fields alters grows.
+        stays (record m { tasks = slice_set m.tasks t y; store = store; outputs = outs }) y going (got_same m.tasks t x y is) (es ∙ runs_is x.status run) (length-set m.tasks t y))
+        (λ x parent e is run pp which result. ends x e is (elim which [ inl q ↦ inl q.1 | inr q ↦ inr q.1 ]))
+        (λ x g h is run next top. forks (record m {
+          tasks = slice_set m.tasks t (record x { status = Waiting; top = onward x.top }) ++ child t (x.depth + 1) g x.top ∷ child t (x.depth + 1) h x.top ∷ [];
+          store = m.store ++ [] ∷ [] ∷ [];
+          edges = m.edges ++ edge (strand_of t x) (strand (length m.tasks) 0) ∷ edge (strand_of t x) (strand (length m.tasks + 1) 0) ∷ [];
+        }) x (record x { status = Waiting; top = onward x.top }) (child t (x.depth + 1) g x.top) (child t (x.depth + 1) h x.top) is refl refl refl going)
+        (λ parent c xp xl xr rl rr ip il ir pl left dl dr wl wr nl nr side.
+        let T = S.0.fork_join.tree in
+        let under = below m.tasks m.edges c parent xl xr xp rl rr il ir ip pl left dl dr wl wr T in
+        let yl : Task = joined_task xl in
+        let yr : Task = joined_task xr in
+        let yp : Task = resumed xp rl rr in
+        joins (join_of m parent xp c xl xr rl rr) parent c yl yr yp
+        (three_top m.tasks c parent xl xr xp yl yr yp il ir ip under) (three_left m.tasks c parent xl xr xp yl yr yp il ir ip under) (three_right m.tasks c parent xl xr xp yl yr yp il ir ip under)
+        refl refl pl (sym (ap parent_of ir) ∙ parr m.tasks m.edges c parent xl xr xp rl rr il ir ip pl left dl dr wl wr T)
+        (three_length m.tasks c parent xl xr xp yl yr yp il ir ip under) going (elim side [ inl q ↦ inl (q.0, q.1) | inr q ↦ inr (q.0, q.1) ]))
+      where
+        now : (x : Task) × (slice_get m.tasks t ≡ Some x) × (x.status ≡ Running)
+        now = let x = running_at m.tasks t (slice_get m.tasks t) refl (can_tells m t can).1 in (x.0, x.1, runs_is (x.0).status x.2)
+
+  module _ (packs : (g n : ℕ) (line : Line) (d r i : ℕ) → line_at p g n ≡ Some line → line.instr ≡ Pack d r i → (r ≤ 16) × (i ≤ 16)) where
+    -- what a step that is taken puts is what the accounts place
+    module _ (k : Ledger) (can : can_step k.machine t ≡ true) (rows : length k.machine.store ≡ length k.machine.tasks) (hs : List Holding) (ch : Changes) (so_far : holdings k ≡ put_births hs ch.all) where
+      abbrev found : (x : Task) × (slice_get k.machine.tasks t ≡ Some x) × (is_running (Some x) ≡ true)
+      found = can_task k.machine t can
+
+      abbrev runner : Task
+      runner = found.0
+
+      act_is : act_of p k.machine t ≡ act_line k.machine t runner (fetched p runner.top)
+      act_is = cond-true (can_step k.machine t) (act_by p k.machine t (slice_get k.machine.tasks t)) None can ∙ ap (act_by p k.machine t) found.1
+
+      asked_now : asked p k.machine t ≡ asked_line k.machine.field_limit runner.top (fetched p runner.top)
+      asked_now = asked_at p k.machine t runner found.1 found.2
+
+      row : (r : List Object) × (slice_get k.machine.store t ≡ Some r)
+      row = got_some k.machine.store t (let lt : t < length k.machine.tasks = got_within k.machine.tasks t runner found.1 in let le : t < length k.machine.store = omega arith in le)
+
+      abbrev Put : Option Act → Type 0
+      Put a = holdings (allocated_in p k t) ≡ put_births hs (with_act (step p k.machine t) ch a).all
+
+      births_by : (o : Option Line) → fetched p runner.top ≡ o → Put (act_line k.machine t runner o)
+      births_by None e = ap (λ w. holdings (allocated_by k t w)) (asked_now ∙ ap (asked_line k.machine.field_limit runner.top) e) ∙ so_far
+      births_by (Some line) e =
+          let new : State → List Change = λ q. changed_by q (deed k.machine t runner.top line.instr) in
+          let after : State = follow k.machine t runner line.number (effect (setting k.machine t runner) runner.top k.machine.store line.instr) in
+          ap (λ w. holdings (allocated_by k t w)) (asked_now ∙ ap (asked_line k.machine.field_limit runner.top) e)
+          ∙ (sym (lands k t runner line.number row.0 row.1 line.instr (λ d r i q. packs runner.top.function runner.top.next line d r i e q))
+          ∙ (ap (λ zs. put_births zs (new after)) so_far
+          ∙ (sym (births_more hs ch.all (new after))
+          ∙ ap (λ (q : State). put_births hs (ch.all ++ new q)) (sym (step_taken p k.machine t runner line can found.1 e)))))
+
+      births_now : Put (act_of p k.machine t)
+      births_now = subst Put (sym act_is) (births_by (fetched p runner.top) refl)
+
+    abbrev HoldsBy : Ledger → List Change → Type 0
+    HoldsBy k cs = Holds k.machine (put_births (holdings l) cs) (holdings k)
+
+    module _ (k : Ledger) (ch : Changes) (S : SoundAt t k) (rows : length k.machine.store ≡ length k.machine.tasks) (K : HoldsBy k ch.all) where
+      abbrev with_step : List Change
+      with_step = (with_act (step p k.machine t) ch (act_of p k.machine t)).all
+
+      step_by : (v : Bool) → can_step k.machine t ≡ v → HoldsBy (cond v (stepped_to (allocated_in p k t) t (step p k.machine t)) (record k { steps = k.steps + 1 })) with_step
+      step_by true can =
+          let on = K.1 (can_tells k.machine t can).1 in
+          let put = births_now k can rows (holdings l) ch on.0 in
+          let next : Ledger = stepped_to (allocated_in p k t) t (step p k.machine t) in
+          subst (λ (q : State). Holds q (put_births (holdings l) with_step) (holdings next)) (sym (stepped_machine (allocated_in p k t) t (step p k.machine t)))
+          (subst (λ hs. Holds (step p k.machine t) hs (holdings next)) put (step_holds k S can on.1))
+      step_by false can =
+          let none : act_of p k.machine t ≡ None = cond-false (can_step k.machine t) (act_by p k.machine t (slice_get k.machine.tasks t)) None can in
+          subst (λ zs. HoldsBy k zs) (sym (ap (λ (a : Option Act). (with_act (step p k.machine t) ch a).all) none)) K
+
+      next_holds : HoldsBy (task_step p k t) with_step
+      next_holds = step_by (can_step k.machine t) refl
+
+    module _ (S : SoundAt t l) (run : is_running (slice_get l.machine.tasks t) ≡ true) (rows : (j : ℕ) → length (stepped p l.machine t j).store ≡ length (stepped p l.machine t j).tasks) where
+      machine_at : (j : ℕ) → (task_steps p l t j).machine ≡ stepped p l.machine t j
+      machine_at zero = refl
+      machine_at (suc j) = ap (λ (q : Ledger). q.machine) (steps_last p l t j) ∙ (task_step_machine p (task_steps p l t j) t ∙ ap (λ q. step p q t) (machine_at j))
+
+      steps_hold : (j : ℕ) → HoldsBy (task_steps p l t j) (changes p l.machine t j).all
+      steps_hold zero = let x = running_at l.machine.tasks t (slice_get l.machine.tasks t) refl run in stays_on l.machine (holdings l) (holdings l) x.0 x.1 (runs_is (x.0).status x.2) refl refl
+      steps_hold (suc j) =
+          let k : Ledger = task_steps p l t j in
+          let ch : Changes = changes p l.machine t j in
+          let rows_k : length k.machine.store ≡ length k.machine.tasks = subst (λ (q : State). length q.store ≡ length q.tasks) (sym (machine_at j)) (rows j) in
+          subst (λ (q : Ledger). HoldsBy q (changes p l.machine t (suc j)).all) (sym (steps_last p l t j))
+          (subst (λ (q : State). HoldsBy (task_step p k t) (with_act (step p q t) ch (act_of p q t)).all) (machine_at j) (next_holds k ch (task_steps_sound p j l t S) rows_k (steps_hold j)))
+
+-- ENTRIES
+
+module _ (p : ProgramText) (s : SettingsValue) (before : List EntryValue) (legal : is_legal p s before ≡ true) (packs : IsProgram p) where
+  abbrev l : Ledger
+  l = ledger_of p s before
+
+  abbrev S : SoundLedger l
+  S = legal_sound p s before legal
+
+  abbrev TellsEntry : ℕ → Kind → Type 0
+  TellsEntry w kind = put_news (put_delta (holdings l) (delta p l.machine kind)) (news kind (after_kind p s l w kind)) ≡ holdings (after_kind p s l w kind)
+
+  rows : (t j : ℕ) → length (stepped p l.machine t j).store ≡ length (stepped p l.machine t j).tasks
+  rows t j =
+      subst (λ (q : State). length q.store ≡ length q.tasks) (sym (after_run p l.machine (Ran t j)))
+      (rows_from p l.machine (replicate j t) (length (tasks_of before)) S.fork_join
+      (subst (λ (q : State). Counted (length (tasks_of before)) q.tasks q.store) (sym (machine_is_run p s before)) (runs_are_counted p (field_limit s.version) (tasks_of before))))
+
+  ran_told : (w t k : ℕ) → is_running (slice_get l.machine.tasks t) ≡ true → collecting (slice_get l.heaps t) ≡ false → TellsEntry w (Ran t k)
+  ran_told w t k run idle =
+      let q : Ledger = task_steps p l t k in
+      let whole = (steps_hold p l t (packs_are_few p packs) (S, idle) run (rows t) k).0 in
+      sym (subst (λ (z : State). holdings q ≡ put_moves (put_made (put_births (holdings l) (changes p l.machine t k).all) (children z (length l.machine.tasks) (length z.tasks))) (moved p z (length l.machine.tasks) t (slice_get z.tasks t)))
+      (machine_at p l t (packs_are_few p packs) (S, idle) run (rows t) k) whole)
+
+  -- a chunk is given
+  given_so : (t : ℕ) (asks : Option ℕ) (h : Heap) → slice_get l.heaps t ≡ Some h → asked p l.machine t ≡ asks → is_some asks ≡ true → holding (with_chunk asks h) ≡ with_given (units_given (with_chunk asks h)) (holding h)
+  given_so t None h e q some = absurd (false≢true some)
+  given_so t (Some w) h e q some = by (is_small w) refl
+    where
+      free : is_small w ≡ true → (n : ℕ) → h.reserved ≡ n → n ≡ 0
+      free small zero is = refl
+      free small (suc n) is =
+          let at : (heap_of l t).reserved ≡ suc n = ap (λ (o : Option Heap). (or_fresh o).reserved) e ∙ is in
+          let r = (chunks_are_used p s before legal).reserved t (let lt : 0 < (heap_of l t).reserved = omega arith in lt) in
+          let same : r.words ≡ w = same_Some r.words w (sym r.asks ∙ q) in
+          absurd (false≢true (sym r.large ∙ (ap is_small same ∙ small)))
+
+      many_units : is_small w ≡ false → 2 ≤ units w
+      many_units large = let a : chunk_words < w = leb-false w chunk_words large in omega arith
+
+      by : (v : Bool) → is_small w ≡ v → holding (cond v (record h { chunks = h.chunks ++ [] ∷ []; room = chunk_words }) (record h { reserved = cond v 1 (units w) }))
+          ≡ with_given (units_given (cond v (record h { chunks = h.chunks ++ [] ∷ []; room = chunk_words }) (record h { reserved = cond v 1 (units w) }))) (holding h)
+      by true small =
+          let none : h.reserved ≡ 0 = free small h.reserved refl in
+          sym (ap (λ n. with_given (cond (n == 0) 1 n) (holding h)) none)
+      by false large =
+          let two : 2 ≤ units w = many_units large in
+          sym (ap (λ n. with_given n (holding h)) (cond-false (units w == 0) 1 (units w) (ne_eqb (units w) 0 (λ z. omega arith)))
+          ∙ cond-false (units w == 1) (record (holding h) { chunks = h.chunks ++ [] ∷ [] }) (record (holding h) { waiting = units w }) (ne_eqb (units w) 1 (λ z. omega arith)))
+
+  -- an entry that changes the account of one heap, and tells of it
+  kind_told : (t : ℕ) (f : Heap → Heap) (kind : Kind) (tell : Heap → Holding → Holding) → ((g : Heap) (hs : List Holding) → put_news hs (news_in kind g) ≡ changed_at t (tell g) hs)
+      → ((h : Heap) → slice_get l.heaps t ≡ Some h → holding (f h) ≡ tell (f h) (holding h)) → put_news (holdings l) (news_at kind (slice_get (with_heap l t f).heaps t)) ≡ holdings (with_heap l t f)
+  kind_told t f kind tell tells same = by (slice_get l.heaps t) refl
+    where
+      by : (o : Option Heap) → slice_get l.heaps t ≡ o → put_news (holdings l) (news_at kind (slice_get (with_heap_at l t f o).heaps t)) ≡ holdings (with_heap_at l t f o)
+      by None e = ap (λ o. put_news (holdings l) (news_at kind o)) e
+      by (Some h) e =
+          ap (λ o. put_news (holdings l) (news_at kind o)) (got_same l.heaps t h (f h) e)
+          ∙ (tells (f h) (holdings l)
+          ∙ (ap (changed_in t (tell (f h)) (holdings l)) (held_there l t (Some h) e)
+          ∙ (ap (slice_set (holdings l) t) (sym (same h e)) ∙ sym (map_set holding l.heaps t (f h)))))
+
+  chunk_told : (t : ℕ) (asks : Option ℕ) (full : Bool) → asked p l.machine t ≡ asks → is_some asks ≡ true → l.end ≡ None
+      → let k : Ledger = cond full (record l { end = Some (Pool (in_use l)) }) (with_heap l t (with_chunk asks)) in put_news (holdings l) (news (Chunk t) k) ≡ holdings k
+  chunk_told t asks true q some on = refl
+  chunk_told t asks false q some on =
+      ap (λ o. put_news (holdings l) (news_for (Chunk t) (with_heap l t (with_chunk asks)).heaps (cond (is_some o) None (Some t)))) (heap_end l t (with_chunk asks) ∙ on)
+      ∙ kind_told t (with_chunk asks) (Chunk t) (λ z. with_given (units_given z)) (λ g hs. refl) (λ h e. given_so t asks h e q some)
+
+  quiet_news : (t : ℕ) (f : Heap → Heap) (kind : Kind) → ((h : Heap) → holding (f h) ≡ holding h) → ((g : Heap) (hs : List Holding) → put_news hs (news_in kind g) ≡ hs)
+      → put_news (holdings l) (news_at kind (slice_get (with_heap l t f).heaps t)) ≡ holdings (with_heap l t f)
+  quiet_news t f kind same quiet = by (slice_get (with_heap l t f).heaps t) ∙ sym (unchanged_now l t f same)
+    where
+      by : (o : Option Heap) → put_news (holdings l) (news_at kind o) ≡ holdings l
+      by None = refl
+      by (Some g) = quiet g (holdings l)
+
+  -- a task that waits isn't amid a leaf collection
+  none_taken : (t : ℕ) (h : Heap) → waiting l.machine.tasks t ≡ true → slice_get l.heaps t ≡ Some h → begun_in h ≡ 0
+  none_taken t h waits e = by h.begun refl
+    where
+      by : (o : Option ℕ) → h.begun ≡ o → begun_in h ≡ 0
+      by None q = ap (λ o. unwrap_or o 0) q
+      by (Some c) q = absurd (wait_run l.machine t waits (S.running t (ap collecting e ∙ ap is_some q)))
+
+  asks_some : (t : ℕ) (o : Option ℕ) → on_asked o (lacks_room (heap_of l t)) ≡ true → is_some o ≡ true
+  asks_some t None h = h
+  asks_some t (Some w) h = refl
+
+  entry_told : (w : ℕ) (kind : Kind) → l.end ≡ None → is_none (kind_refusal p s l w kind) ≡ true → TellsEntry w kind
+  entry_told w (Took t) on h = one_moved p (holdings l) t true (slice_get l.machine.tasks t) ∙ sym (unchanged_now l t _ (λ g. refl))
+  entry_told w (Ran t k) on h = let a = out_tells l w t _ h in ran_told w t k a.0 a.1
+  entry_told w (Chunk t) on h =
+      let a = out_tells l w t _ h in
+      let n = none_unless (is_in_need p l t) _ _ (none_where (is_due s p l t) _ _ a.2).1 in
+      chunk_told t (asked p l.machine t) (nat_lt s.chunks (in_use l + chunk_units (asked p l.machine t))) refl (asks_some t (asked p l.machine t) n.0) on
+  entry_told w (Begin t) on h = kind_told t _ (Begin t) (λ z x. record x { taken = begun_in z }) (λ g hs. refl) (λ g e. refl)
+  entry_told w (EndOf t a g n) on h = kind_told t (collected l.machine) (EndOf t a g n) (λ z x. record x { chunks = z.chunks; large = z.large; taken = 0 }) (λ z hs. refl) (λ z e. refl)
+  entry_told w (PutOff t) on h = sym (unchanged_now l t _ (λ g. refl))
+  entry_told w (Mark t) on h = quiet_news t _ (Mark t) (λ g. refl) (λ g hs. refl)
+  entry_told w (More t n) on h = quiet_news t _ (More t n) (λ g. refl) (λ g hs. refl)
+  entry_told w (Sweep t g) on h =
+      let waits = (wait_tells l t _ h).0 in
+      kind_told t swept_heap (Sweep t g) (λ z x. record x { chunks = z.chunks; large = z.large; taken = 0 }) (λ z hs. refl)
+      (λ z e. ap (λ n. record (holding (swept_heap z)) { taken = n }) (none_taken t z waits e))
+  entry_told w Fuel on h = refl
+
+-- JOURNALS
+
+module _ (p : ProgramText) (s : SettingsValue) (packs : IsProgram p) where
+  rest_held : (rest before : List EntryValue) (hs : List Holding) → is_legal p s (before ++ rest) ≡ true → hs ≡ holdings (ledger_of p s before)
+      → held_after p s (ledger_of p s before) hs rest ≡ holdings (after_all p s (ledger_of p s before) rest)
+  rest_held [] before hs legal is = is
+  rest_held (e ∷ es) before hs legal is =
+      let l : Ledger = ledger_of p s before in
+      let cut = (journals_can_be_cut p s before (e ∷ es)).legal.0 legal in
+      let one = (and_parts (is_none (refusal p s l e)) (is_legal_from p s (after p s l e) es) cut.1).0 in
+      let tells = entry_tells p s l e one in
+      let put : List Holding = put_news (put_delta hs (delta p l.machine e.kind)) (news e.kind (after p s l e)) in
+      let now : put ≡ holdings (after p s l e) =
+      ap (λ xs. put_news (put_delta xs (delta p l.machine e.kind)) (news e.kind (after p s l e))) is ∙ entry_told p s before cut.0 packs e.worker e.kind (none_of l.end tells.0) tells.2 in
+      let next : ledger_of p s (before ++ e ∷ []) ≡ after p s l e = (journals_can_be_cut p s before (e ∷ [])).accounts in
+      let legal' : is_legal p s ((before ++ e ∷ []) ++ es) ≡ true = ap (is_legal p s) (append_assoc before (e ∷ []) es) ∙ legal in
+      ap (λ (q : Ledger). held_after p s q put es) (sym next)
+      ∙ (rest_held es (before ++ e ∷ []) put legal' (now ∙ ap holdings (sym next)) ∙ ap (λ (q : Ledger). holdings (after_all p s q es)) next)
+
+pub deltas_give_holdings : DeltasGiveHoldings
+deltas_give_holdings p s journal packs legal = rest_held p s packs journal [] (nothing_held ∷ []) legal refl
