@@ -16,14 +16,14 @@ use Rattle.json_text.specs.Json.{Json, Word, NoMember, Member, Members, json, fu
 use Rattle.json_text.proofs.Texts.{arrays_are_joined}
 use Rattle.run_timeline.specs.Words.{counts_of}
 use Rattle.run_timeline.specs.Events.{process, lane, arrow_begins, arrow_ends, arguments, two_numbers, event, end_time}
-use Rattle.run_timeline.specs.Entries.{entry_events, forked, task_begins}
+use Rattle.run_timeline.specs.Entries.{slice_name, entry_events, forked, task_begins}
 use Rattle.run_timeline.specs.Timeline.{events_from, events_of, lanes, timeline}
 use Rattle.run_timeline.specs.Pieces.{beginning, ending, span_head, head}
 use Rattle.run_timeline.proofs.Made.{span_made, event_made}
 
 module _ (p : ProgramText) (s : SettingsValue) (l : Ledger) (n : ℕ) (journal : List EntryValue) (i : ℕ) (e : EntryValue) (lt : i < length journal) (is : e ≡ get_or journal i e) where
   abbrev here : List Json
-  here = entry_events p (counts_of l) (after p s l e) n e
+  here = entry_events p (slice_name p l.machine e.kind) (counts_of l) (after p s l e) n e
 
   abbrev later : List Json
   later = events_from p s (after p s l e) (n + 1) (drop (i + 1) journal)

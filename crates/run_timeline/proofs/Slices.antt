@@ -1,17 +1,17 @@
 -- Each entry is one slice.
 use Rattle.std.proofs.Common.{◌≡◌, ◌+◌, ◌==◌, ℕ, zero, suc, Bool, cond, true, false, List, [], ◌∷◌, ◌++◌, length, refl, ap, ◌∙◌, arith}
-use Rattle.std.specs.Prelude.{Option, Some, None, codes, slice_get}
+use Rattle.std.specs.Prelude.{Option, Some, None, codes, slice_get, take}
 use Rattle.std.specs.List.{filter}
 use Rattle.std.proofs.lemmas.List.Elements.{filter-append}
 use Rattle.run_journal.specs.below.hh_lang.{ProgramText}
 use Rattle.run_journal.specs.below.hh_model.{Status, Running, Waiting, Ended, Joined, Task, State}
 use Rattle.run_journal.specs.below.run_trace.{Kind, Took, Ran, Chunk, Begin, End, PutOff, Mark, More, Sweep, Fuel, EntryValue, SettingsValue}
-use Rattle.run_journal.specs.below.run_ledger.{RunEnd, Ledger, in_use, after, opening}
+use Rattle.run_journal.specs.below.run_ledger.{RunEnd, Ledger, in_use, after, after_all, opening}
 use Rattle.json_text.specs.Json.{Json}
 use Rattle.run_timeline.specs.declared.words.Counts.{Counts}
 use Rattle.run_timeline.specs.Words.{counts_of, words_held}
 use Rattle.run_timeline.specs.Events.{arrow_begins, arrow_ends}
-use Rattle.run_timeline.specs.Entries.{slice, begins_and_ends, taken, first_taken, forked, ended, ended_by, joined, chunks_counted, counter, counted, run_ended, words_counted, entry_events}
+use Rattle.run_timeline.specs.Entries.{slice, slice_name, begins_and_ends, taken, first_taken, forked, ended, ended_by, joined, chunks_counted, counter, counted, run_ended, words_counted, entry_events}
 use Rattle.run_timeline.specs.Timeline.{events_from, events_of}
 use Rattle.run_timeline.specs.Laws.{is_slice, slices_of, SlicesAreEntries}
 
@@ -89,48 +89,51 @@ none_run_ended : (p : ProgramText) (m : State) (n w : ℕ) (e : Option RunEnd) �
 none_run_ended p m n w None = refl
 none_run_ended p m n w (Some e) = refl
 
-one_slice : (p : ProgramText) (was : Counts) (l : Ledger) (n : ℕ) (e : EntryValue) → slices (entry_events p was l n e) ≡ slice n e ∷ []
-one_slice p was l n e =
+one_slice : (p : ProgramText) (name : List ℕ) (was : Counts) (l : Ledger) (n : ℕ) (e : EntryValue) → slices (entry_events p name was l n e) ≡ slice name n e ∷ []
+one_slice p name was l n e =
     let ts = begins_and_ends p was.tasks l.machine n e.worker e.kind in
     let cs = chunks_counted was.chunks (in_use l) n in
     let ws = words_counted was.words (words_held l) n in
     let es = run_ended p l.machine n e.worker l.end in
-    let a : slices (slice n e ∷ ts) ≡ slice n e ∷ [] = ap (λ vs. slice n e ∷ vs) (none_told p was.tasks l.machine n e.worker e.kind) in
-    let b = alone (slice n e) (slice n e ∷ ts) cs a (none_counted (codes "chunks in use") (codes "chunks") was.chunks (in_use l) n) in
-    let d = alone (slice n e) ((slice n e ∷ ts) ++ cs) ws b (none_counted (codes "words held") (codes "words") was.words (words_held l) n) in
-    alone (slice n e) (((slice n e ∷ ts) ++ cs) ++ ws) es d (none_run_ended p l.machine n e.worker l.end)
+    let a : slices (slice name n e ∷ ts) ≡ slice name n e ∷ [] = ap (λ vs. slice name n e ∷ vs) (none_told p was.tasks l.machine n e.worker e.kind) in
+    let b = alone (slice name n e) (slice name n e ∷ ts) cs a (none_counted (codes "chunks in use") (codes "chunks") was.chunks (in_use l) n) in
+    let d = alone (slice name n e) ((slice name n e ∷ ts) ++ cs) ws b (none_counted (codes "words held") (codes "words") was.words (words_held l) n) in
+    alone (slice name n e) (((slice name n e ∷ ts) ++ cs) ++ ws) es d (none_run_ended p l.machine n e.worker l.end)
 
--- the slices of entries from the one of this number on
-abbrev slices_from : ℕ → List EntryValue → List Json
-slices_from n [] = []
-slices_from n (e ∷ es) = slice n e ∷ slices_from (n + 1) es
+module _ (p : ProgramText) (s : SettingsValue) where
+  -- the slices of entries from the one of this number on, in front of which the accounts are these
+  abbrev slices_from : Ledger → ℕ → List EntryValue → List Json
+  slices_from l n [] = []
+  slices_from l n (e ∷ es) = slice (slice_name p l.machine e.kind) n e ∷ slices_from (after p s l e) (n + 1) es
 
-each_one : (p : ProgramText) (s : SettingsValue) (l : Ledger) (n : ℕ) (journal : List EntryValue) → slices (events_from p s l n journal) ≡ slices_from n journal
-each_one p s l n [] = refl
-each_one p s l n (e ∷ es) =
-    let here = entry_events p (counts_of l) (after p s l e) n e in
-    let later = events_from p s (after p s l e) (n + 1) es in
-    filter-append is_slice here later
-    ∙ (ap (λ vs. vs ++ slices later) (one_slice p (counts_of l) (after p s l e) n e)
-    ∙ ap (λ vs. slice n e ∷ vs) (each_one p s (after p s l e) (n + 1) es))
+  each_one : (l : Ledger) (n : ℕ) (journal : List EntryValue) → slices (events_from p s l n journal) ≡ slices_from l n journal
+  each_one l n [] = refl
+  each_one l n (e ∷ es) =
+      let name = slice_name p l.machine e.kind in
+      let here = entry_events p name (counts_of l) (after p s l e) n e in
+      let later = events_from p s (after p s l e) (n + 1) es in
+      filter-append is_slice here later
+      ∙ (ap (λ vs. vs ++ slices later) (one_slice p name (counts_of l) (after p s l e) n e)
+      ∙ ap (λ vs. slice name n e ∷ vs) (each_one (after p s l e) (n + 1) es))
 
-as_many : (n : ℕ) (journal : List EntryValue) → length (slices_from n journal) ≡ length journal
-as_many n [] = refl
-as_many n (e ∷ es) = ap suc (as_many (n + 1) es)
+  as_many : (l : Ledger) (n : ℕ) (journal : List EntryValue) → length (slices_from l n journal) ≡ length journal
+  as_many l n [] = refl
+  as_many l n (e ∷ es) = ap suc (as_many (after p s l e) (n + 1) es)
 
-got : (n : ℕ) (journal : List EntryValue) (i : ℕ) (e : EntryValue) → slice_get journal i ≡ Some e → slice_get (slices_from n journal) i ≡ Some (slice (i + n) e)
-got n [] i e is = absurd (none_there i e is)
-got n (x ∷ es) zero e is =
-    let at : n ≡ 0 + n = omega arith in
-    ap (λ (y : EntryValue). Some (slice n y)) (same_item x e is) ∙ ap (λ k. Some (slice k e)) at
-got n (x ∷ es) (suc i) e is =
-    let at : i + (n + 1) ≡ suc i + n = omega arith in
-    got (n + 1) es i e is ∙ ap (λ k. Some (slice k e)) at
+  got : (l : Ledger) (n : ℕ) (journal : List EntryValue) (i : ℕ) (e : EntryValue) → slice_get journal i ≡ Some e
+      → slice_get (slices_from l n journal) i ≡ Some (slice (slice_name p (after_all p s l (take i journal)).machine e.kind) (i + n) e)
+  got l n [] i e is = absurd (none_there i e is)
+  got l n (x ∷ es) zero e is =
+      let at : n ≡ 0 + n = omega arith in
+      ap (λ (y : EntryValue). Some (slice (slice_name p l.machine y.kind) n y)) (same_item x e is) ∙ ap (λ k. Some (slice (slice_name p l.machine e.kind) k e)) at
+  got l n (x ∷ es) (suc i) e is =
+      let at : i + (n + 1) ≡ suc i + n = omega arith in
+      got (after p s l x) (n + 1) es i e is ∙ ap (λ k. Some (slice (slice_name p (after_all p s (after p s l x) (take i es)).machine e.kind) k e)) at
 
 pub slices_are_entries : SlicesAreEntries
 slices_are_entries = λ p s journal.
-    let all : slices_of p s journal ≡ slices_from 1 journal = each_one p s (opening p s) 1 journal in
+    let all : slices_of p s journal ≡ slices_from p s (opening p s) 1 journal = each_one p s (opening p s) 1 journal in
     record {
-      count = ap length all ∙ as_many 1 journal;
-      each = λ i e is. ap (λ vs. slice_get vs i) all ∙ got 1 journal i e is;
+      count = ap length all ∙ as_many p s (opening p s) 1 journal;
+      each = λ i e is. ap (λ vs. slice_get vs i) all ∙ got p s (opening p s) 1 journal i e is;
     }

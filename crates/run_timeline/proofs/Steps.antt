@@ -7,7 +7,7 @@ use Rattle.run_journal.specs.below.run_ledger.{after}
 use Rattle.run_journal.specs.BookValue.{BookValue}
 use Rattle.json_text.specs.Json.{further}
 use Rattle.run_timeline.specs.Words.{counts_of}
-use Rattle.run_timeline.specs.Entries.{entry_events}
+use Rattle.run_timeline.specs.Entries.{slice_name, entry_events}
 use Rattle.run_timeline.specs.Timeline.{events_from}
 use Rattle.run_timeline.proofs.Loops.{events_next}
 
@@ -15,13 +15,13 @@ module _ (journal : List EntryValue) (b b' : BookValue) (i : ℕ) (e : EntryValu
   -- what is written and what is left are the whole, also behind the entry
   pub text_on : (n : ℕ) (p : ProgramText) (now later all : List ℕ) → b.program ≡ p
       → now ++ flat_map further (events_from b.program b.settings b.ledger n (drop i journal)) ≡ all
-      → later ≡ now ++ flat_map further (entry_events p (counts_of b.ledger) (after b.program b.settings b.ledger e) n e)
+      → later ≡ now ++ flat_map further (entry_events p (slice_name p b.ledger.machine e.kind) (counts_of b.ledger) (after b.program b.settings b.ledger e) n e)
       → later ++ flat_map further (events_from b'.program b'.settings b'.ledger (n + 1) (drop (i + 1) journal)) ≡ all
   text_on n p now later all ep inv el =
-      (λ j. (el ∙ (λ k. now ++ flat_map further (entry_events (sym ep k) (counts_of b.ledger) (after b.program b.settings b.ledger e) n e))) j
+      (λ j. (el ∙ (λ k. now ++ flat_map further (entry_events (sym ep k) (slice_name (sym ep k) b.ledger.machine e.kind) (counts_of b.ledger) (after b.program b.settings b.ledger e) n e))) j
       ++ flat_map further (events_from (eb j).program (eb j).settings (eb j).ledger (n + 1) (drop (i + 1) journal)))
       ∙ append_assoc now
-      (flat_map further (entry_events b.program (counts_of b.ledger) (after b.program b.settings b.ledger e) n e))
+      (flat_map further (entry_events b.program (slice_name b.program b.ledger.machine e.kind) (counts_of b.ledger) (after b.program b.settings b.ledger e) n e))
       (flat_map further (events_from b.program b.settings (after b.program b.settings b.ledger e) (n + 1) (drop (i + 1) journal)))
       ∙ ap (λ x. now ++ x) (sym (events_next b.program b.settings b.ledger n journal i e lt is))
       ∙ inv

@@ -1,7 +1,8 @@
 -- The events of one entry.
 use Rattle.std.specs.Prelude.{ℕ, ◌+◌, ◌-◌, ◌==◌, Option, Some, None, List, [], ◌∷◌, ◌++◌, codes, length, slice_get, if◌then◌else◌}
 use Rattle.std.specs.List.{join_with_byte}
-use Rattle.run_journal.specs.below.hh_lang.{ProgramText, line_at, Line}
+use Rattle.std.specs.Fmt.{decimal}
+use Rattle.run_journal.specs.below.hh_lang.{ProgramText, line_at, Fun, Line}
 use Rattle.run_journal.specs.below.hh_model.{Status, Ended, Joined, Entangled, Task, State}
 use Rattle.run_journal.specs.below.run_trace.{Kind, Took, Ran, Chunk, Begin, End, PutOff, Mark, More, Sweep, Fuel, EntryValue, kind_name}
 use Rattle.run_journal.specs.below.run_ledger.{RunEnd, Machine, Ledger, in_use, end_words}
@@ -10,6 +11,21 @@ use Rattle.json_text.specs.Json.{Json, Members, Number, Word, NoMember, Member}
 use Rattle.run_timeline.specs.declared.words.Counts.{Counts}
 use Rattle.run_timeline.specs.Words.{words_held}
 use Rattle.run_timeline.specs.Events.{event, arguments, one_number, two_numbers, end_time, span, arrow_begins, arrow_ends}
+
+-- WHERE A TASK STANDS
+
+abbrev pub number_of : Option Line → ℕ
+number_of None = 0
+number_of (Some l) = l.number
+
+-- the line of the instruction that comes next
+abbrev pub next_line : ProgramText → Option Task → ℕ
+next_line p None = 0
+next_line p (Some x) = number_of (line_at p x.top.function x.top.next)
+
+abbrev pub name_in : Option Fun → List ℕ
+name_in None = []
+name_in (Some f) = f.name
 
 -- THE ENTRY ITSELF
 
@@ -29,10 +45,24 @@ numbers_of (More t n) = of_task t (one_number (codes "objects") n)
 numbers_of (Sweep t given) = of_task t (one_number (codes "given") given)
 numbers_of Fuel = NoMember
 
+-- the function that a task is in, and the line of its next step
+abbrev pub place_of : ProgramText → Option Task → List ℕ
+place_of p None = []
+place_of p (Some x) = 32 ∷ (name_in (slice_get p.functions x.top.function) ++ 58 ∷ decimal (next_line p (Some x)))
+
+-- steps begin where their task stands in front of them
+abbrev pub begins_at : ProgramText → State → Kind → List ℕ
+begins_at p m (Ran t k) = place_of p (slice_get m.tasks t)
+begins_at p m _ = []
+
+-- the name of an entry in front of which the machine is this: its kind, and where its steps begin
+abbrev pub slice_name : ProgramText → State → Kind → List ℕ
+slice_name p m kind = kind_name kind ++ begins_at p m kind
+
 -- an entry is a slice at its place, one entry wide
-abbrev pub slice : ℕ → EntryValue → Json
-slice n e =
-    event (kind_name e.kind) (codes "entry") (codes "X") (end_time (n - 1)) e.worker (
+abbrev pub slice : List ℕ → ℕ → EntryValue → Json
+slice name n e =
+    event name (codes "entry") (codes "X") (end_time (n - 1)) e.worker (
     Member (codes "dur") (Number 1000) (
     arguments (numbers_of e.kind)))
 
@@ -44,19 +74,10 @@ task_begins t n w more = span (codes "b") (task_name t) (codes "task") t n w mor
 abbrev pub task_ends : ℕ → ℕ → ℕ → Json
 task_ends t n w = span (codes "e") (task_name t) (codes "task") t n w NoMember
 
-abbrev pub number_of : Option Line → ℕ
-number_of None = 0
-number_of (Some l) = l.number
-
 -- the line of a waiting task's fork, which stands in front of the instruction that comes next
 abbrev pub fork_line : ProgramText → Option Task → ℕ
 fork_line p None = 0
 fork_line p (Some x) = number_of (line_at p x.top.function (x.top.next - 1))
-
--- the line of the instruction that comes next
-abbrev pub next_line : ProgramText → Option Task → ℕ
-next_line p None = 0
-next_line p (Some x) = number_of (line_at p x.top.function x.top.next)
 
 -- a task is taken first: its span begins, and the arrow from its fork ends
 abbrev pub first_taken : ProgramText → State → ℕ → ℕ → ℕ → Option ℕ → List Json
@@ -141,10 +162,10 @@ run_ended p m n w (Some e) = run_end p m n w e ∷ []
 
 -- ALL OF AN ENTRY
 
--- of the entry of this number: in front of it the accounts had these counts, and behind it they are these
-abbrev pub entry_events : ProgramText → Counts → Ledger → ℕ → EntryValue → List Json
-entry_events p was l n e =
-    (slice n e ∷ begins_and_ends p was.tasks l.machine n e.worker e.kind)
+-- of the entry of this name and number: in front of it the accounts had these counts, and behind it they are these
+abbrev pub entry_events : ProgramText → List ℕ → Counts → Ledger → ℕ → EntryValue → List Json
+entry_events p name was l n e =
+    (slice name n e ∷ begins_and_ends p was.tasks l.machine n e.worker e.kind)
     ++ chunks_counted was.chunks (in_use l) n
     ++ words_counted was.words (words_held l) n
     ++ run_ended p l.machine n e.worker l.end

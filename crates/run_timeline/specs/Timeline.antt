@@ -6,12 +6,14 @@ use Rattle.run_journal.specs.below.run_ledger.{Ledger, after, opening}
 use Rattle.json_text.specs.Json.{Json, Array, Object, Word, NoMember, Member, json, values}
 use Rattle.run_timeline.specs.Words.{counts_of}
 use Rattle.run_timeline.specs.Events.{process, lane}
-use Rattle.run_timeline.specs.Entries.{entry_events}
+use Rattle.run_timeline.specs.Entries.{slice_name, entry_events}
 
 -- the events of a journal from the entry of this number on
 abbrev pub events_from : ProgramText → SettingsValue → Ledger → ℕ → List EntryValue → List Json
 events_from p s l n [] = []
-events_from p s l n (e ∷ es) = entry_events p (counts_of l) (after p s l e) n e ++ events_from p s (after p s l e) (n + 1) es
+events_from p s l n (e ∷ es) =
+    entry_events p (slice_name p l.machine e.kind) (counts_of l) (after p s l e) n e
+    ++ events_from p s (after p s l e) (n + 1) es
 
 abbrev pub events_of : ProgramText → SettingsValue → List EntryValue → List Json
 events_of p s journal = events_from p s (opening p s) 1 journal

@@ -1,13 +1,14 @@
 // An entry as a slice.
 
-ghost use Rattle.std.specs.Prelude.{◌≡◌, ◌++◌, OnOk};
+ghost use Rattle.std.specs.Prelude.{◌≡◌, ◌++◌, OnOk, IfOk, slice_get, option_copied};
 ghost use Rattle.run_journal.specs.below.run_trace.{kind_name};
 ghost use Rattle.json_text.specs.Json.{first_members, further, Number, Member, NoMember};
-ghost use Rattle.run_timeline.specs.Entries.{numbers_of, of_task, slice};
+ghost use Rattle.run_timeline.specs.Entries.{name_in, place_of, begins_at, slice_name, numbers_of, of_task, slice};
 
 use crate::events::{add_comma, begin_arguments, begin_event, end_arguments};
-use json_text::{first_number, more_number};
-use run_journal::Kind;
+use crate::tasks::next_line;
+use json_text::{add_number, first_number, more_number};
+use run_journal::{Kind, Program, State, Task};
 use std::alloc::{AllocError, Global};
 
 fn kind_name(kind: Kind) -> &'static str
@@ -25,6 +26,66 @@ fn kind_name(kind: Kind) -> &'static str
         Kind::Sweep(_, _) => "sweep",
         Kind::Fuel => "fuel",
     }
+}
+
+// The name of a function.
+fn function_name(program: &Program, function: u32) -> &[u8]
+    ensures { result.now ≡ name_in (slice_get program.now.functions function) }
+{
+    match program.functions().get(function as usize) {
+        None => &[],
+        Some(fun) => fun.name.as_slice(),
+    }
+}
+
+// Adds the function that a task is in, and the line of its next step.
+fn add_place(
+    alloc: Global,
+    name: &mut Vec<u8>,
+    program: &Program,
+    task: Option<&Task>,
+) -> Result<(), AllocError>
+    ensures { OnOk result (name.new.items ≡ name.old.items ++ place_of program.now (option_copied task.entry)) }
+{
+    let line = next_line(program, task);
+    let Some(task) = task else {
+        return Ok(());
+    };
+    name.push(b' ')?;
+    name.extend_from_slice(function_name(program, task.top.function))?;
+    name.push(b':')?;
+    add_number(alloc, name, line as u64)
+}
+
+// Adds where the steps of an entry begin.
+fn add_beginning(
+    alloc: Global,
+    name: &mut Vec<u8>,
+    program: &Program,
+    state: &State,
+    kind: Kind,
+) -> Result<(), AllocError>
+    ensures { OnOk result (name.new.items ≡ name.old.items ++ begins_at program.now state.now kind) }
+{
+    match kind {
+        Kind::Ran(task, _) => add_place(alloc, name, program, state.tasks.get(task as usize)),
+        _ => Ok(()),
+    }
+}
+
+/// The name of an entry in front of which the machine is this.
+pub(crate) fn slice_name(
+    alloc: Global,
+    program: &Program,
+    state: &State,
+    kind: Kind,
+) -> Result<Vec<u8>, AllocError>
+    ensures { IfOk result (λ name. name.items ≡ slice_name program.now state.now kind) }
+{
+    let mut name = Vec::new(alloc);
+    name.extend_from_slice(kind_name(kind).as_bytes())?;
+    add_beginning(alloc, &mut name, program, state, kind)?;
+    Ok(name)
 }
 
 // Adds the task of an entry.
@@ -83,20 +144,20 @@ fn add_numbers(alloc: Global, text: &mut Vec<u8>, kind: Kind) -> Result<(), Allo
     }
 }
 
-/// Adds the slice of the entry of a number.
+/// Adds the slice of the entry of a name and a number.
 pub(crate) fn add_slice(
     alloc: Global,
     text: &mut Vec<u8>,
+    name: &[u8],
     number: u32,
     worker: u32,
     kind: Kind,
 ) -> Result<(), AllocError>
-    ensures { OnOk result (text.new.items ≡ text.old.items ++ further (slice number (record { worker = worker; kind = kind }))) }
+    ensures { OnOk result (text.new.items ≡ text.old.items ++ further (slice name.now number (record { worker = worker; kind = kind }))) }
 {
-    let name = kind_name(kind);
     let time = number.saturating_sub(1) as u64 * 1000;
     add_comma(text)?;
-    begin_event(alloc, text, name.as_bytes(), b"entry", b"X", time, worker)?;
+    begin_event(alloc, text, name, b"entry", b"X", time, worker)?;
     more_number(alloc, text, b"dur", 1000)?;
     begin_arguments(text)?;
     add_numbers(alloc, text, kind)?;

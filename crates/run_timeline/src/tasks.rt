@@ -41,8 +41,8 @@ pub fn fork_line(program: &Program, task: Option<&Task>) -> u32
     }
 }
 
-// The line of a task's next instruction.
-fn next_line(program: &Program, task: Option<&Task>) -> u32
+/// The line of a task's next instruction.
+pub(crate) fn next_line(program: &Program, task: Option<&Task>) -> u32
     ensures { result ≡ next_line program.now (option_copied task.entry) }
 {
     match task {

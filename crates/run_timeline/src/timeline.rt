@@ -7,11 +7,11 @@ ghost use Rattle.run_journal.specs.below.run_ledger.{refusal, after, opening, le
 ghost use Rattle.run_journal.specs.below.run_accounts.{FailsFor};
 ghost use Rattle.run_journal.specs.Replay.{ReplayFails};
 ghost use Rattle.run_timeline.specs.Words.{counts_of, words_held};
-ghost use Rattle.run_timeline.specs.Entries.{entry_events};
+ghost use Rattle.run_timeline.specs.Entries.{slice_name, entry_events};
 ghost use Rattle.run_timeline.specs.Timeline.{events_of, lanes, timeline};
 ghost use Rattle.run_timeline.specs.Pieces.{beginning, ending};
 
-use crate::entry::add_slice;
+use crate::entry::{add_slice, slice_name};
 use crate::events::{add_lane, add_process};
 use crate::tasks::{add_begins_and_ends, add_counted, add_run_ended};
 use crate::words::{Counts, objects_by, words_behind};
@@ -29,6 +29,7 @@ fn add_entered(
     text: &mut Vec<u8>,
     program: &Program,
     book: &Book,
+    name: &[u8],
     was: Counts,
     held: u64,
     number: u32,
@@ -38,9 +39,9 @@ fn add_entered(
     requires few { was.tasks + 1 < 2 ^ 64 }
     requires held { held ≡ words_held book.now.ledger }
     requires first { 0 < number }
-    ensures { OnOk result (text.new.items ≡ text.old.items ++ flat_map further (entry_events program.now was book.now.ledger number entry)) }
+    ensures { OnOk result (text.new.items ≡ text.old.items ++ flat_map further (entry_events program.now name.now was book.now.ledger number entry)) }
 {
-    add_slice(alloc, text, number, entry.worker(), entry.kind())?;
+    add_slice(alloc, text, name, number, entry.worker(), entry.kind())?;
     add_begins_and_ends(
         alloc,
         text,
@@ -117,7 +118,7 @@ fn enter(
     requires first { 0 < number }
     ensures legal { OnOk result (refusal book.old.program book.old.settings book.old.ledger entry ≡ None) }
     ensures entered { OnOk result (book.new ≡ record book.old { ledger = after book.old.program book.old.settings book.old.ledger entry }) }
-    ensures events { OnOk result (text.new.items ≡ text.old.items ++ flat_map further (entry_events program.now (counts_of book.old.ledger) (after book.old.program book.old.settings book.old.ledger entry) number entry)) }
+    ensures events { OnOk result (text.new.items ≡ text.old.items ++ flat_map further (entry_events program.now (slice_name program.now book.old.ledger.machine entry.kind) (counts_of book.old.ledger) (after book.old.program book.old.settings book.old.ledger entry) number entry)) }
     ensures held { IfOk result (λ words. words ≡ words_held (after book.old.program book.old.settings book.old.ledger entry)) }
     ensures fails { IfErr result (FailsFor (refusal book.old.program book.old.settings book.old.ledger entry)) }
 {
@@ -129,8 +130,19 @@ fn enter(
     if was.tasks == u64::MAX {
         return Err(ApplyError::NoMemory);
     }
+    let name = slice_name(alloc, program, book.state(), entry.kind())?;
     let words = apply(book, held, entry)?;
-    add_entered(alloc, text, program, book, was, words, number, entry)?;
+    add_entered(
+        alloc,
+        text,
+        program,
+        book,
+        name.as_slice(),
+        was,
+        words,
+        number,
+        entry,
+    )?;
     Ok(words)
 }
 

@@ -1,7 +1,6 @@
-use Rattle.std.proofs.Common.{◌++◌, ◌-◌, ℕ, ap₂, ◌∙◌}
+use Rattle.std.proofs.Common.{◌++◌, ◌-◌, ℕ, ap, ◌∙◌}
 use Rattle.std.specs.Prelude.{codes}
 use Rattle.std.proofs.lemmas.Result.{on_ok_weaker}
-use Rattle.run_journal.specs.below.run_trace.{kind_name}
 use Rattle.run_timeline.specs.Events.{arguments, end_time}
 use Rattle.run_timeline.specs.Entries.{numbers_of}
 use Rattle.run_timeline.specs.Pieces.{head}
@@ -12,9 +11,9 @@ use Rattle.run_timeline.proofs.entry.add_slice.Goals as goal
 pub returns : goal.returns
 returns c =
     on_ok_weaker c.end_arguments.result
-    (λ e. event_made (kind_name c.args.kind) (codes "entry") (codes "X") (end_time (c.args.number - 1)) c.args.worker (Member (codes "dur") (Number 1000) (arguments (numbers_of c.args.kind)))
+    (λ e. event_made c.args.name.now (codes "entry") (codes "X") (end_time (c.args.number - 1)) c.args.worker (Member (codes "dur") (Number 1000) (arguments (numbers_of c.args.kind)))
     c.args.text.now.items c.add_comma.new.text.items c.begin_event.new.text.items c.end_arguments.new.text.items c.in_ok-add_comma.ensures
-    (c.in_ok-begin_event.ensures ∙ ap₂ (λ n (k : ℕ). c.add_comma.new.text.items ++ head n (codes "entry") (codes "X") (end_time k) c.args.worker) (c.as_bytes.ensures.value ∙ c.kind_name-name.ensures) c.saturating_sub.ensures)
+    (c.in_ok-begin_event.ensures ∙ ap (λ (k : ℕ). c.add_comma.new.text.items ++ head c.args.name.now (codes "entry") (codes "X") (end_time k) c.args.worker) c.saturating_sub.ensures)
     (timed_made 1000 (numbers_of c.args.kind) c.begin_event.new.text.items c.more_number.new.text.items c.begin_arguments.new.text.items c.add_numbers.new.text.items c.end_arguments.new.text.items
     c.in_ok-more_number.ensures c.in_ok-begin_arguments.ensures c.in_ok-add_numbers.ensures e))
     c.end_arguments.ensures
