@@ -1,8 +1,7 @@
 -- A delta in the page's data.
-use Rattle.std.specs.Prelude.{ℕ, Bool, true, false, Option, Some, None, List, [], ◌∷◌, ◌++◌, codes, length, slice_get, if◌then◌else◌}
+use Rattle.std.specs.Prelude.{ℕ, Bool, true, false, Option, Some, None, List, [], ◌∷◌, ◌++◌, codes, length, if◌then◌else◌}
 use Rattle.std.specs.List.{flat_map}
 use Rattle.std.specs.Fmt.{decimal}
-use Rattle.hh_lang.specs.declared.program.Fun.{Fun}
 use Rattle.hh_lang.specs.Form.{ProgramText}
 use Rattle.hh_lang.specs.declared.instr.Instr.{Instr}
 use Rattle.hh_lang.specs.declared.instr.Instr.TheVariants.{Set, Mov, Movr, Nil, Calc, Same, Jmp, Jz, Newm, Pack, Getr, Geti, Putr, Puti, Cntr, Cnti, Freeze, Cas, Call, Par, Ret, Out}
@@ -12,6 +11,7 @@ use Rattle.run_trace.specs.declared.entry.Kind.{Kind}
 use Rattle.run_trace.specs.declared.entry.Kind.TheVariants.{Took, Ran, Chunk, Begin, End, PutOff, Mark, More, Sweep, Fuel}
 use Rattle.run_trace.specs.Entry.{EntryValue}
 use Rattle.run_trace.specs.Line.{kind_name}
+use Rattle.run_names.specs.Names.{function_name}
 use Rattle.run_deltas.specs.declared.data.Deed.{Deed}
 use Rattle.run_deltas.specs.declared.data.Deed.TheVariants.{Allocates, Reads, Counts, Writes, Swaps, Freezes, Prints}
 use Rattle.run_deltas.specs.declared.data.Act.{Act}
@@ -90,13 +90,9 @@ last (Some a) = codes ",\"at\":[" ++ decimal a.line ++ more (word (instr_word a.
 
 -- TASKS
 
-abbrev pub name_of : Option Fun → List ℕ
-name_of None = []
-name_of (Some f) = f.name
-
 -- a task that was made: its number, its parent's, and the function that it begins in
 unfoldable pub child : ProgramText → Child → List ℕ
-child p c = 91 ∷ (decimal c.task ++ more_number c.parent ++ more (word (name_of (slice_get p.functions c.function))) ++ 93 ∷ [])
+child p c = 91 ∷ (decimal c.task ++ more_number c.parent ++ more (word (function_name p c.function)) ++ 93 ∷ [])
 
 abbrev pub standing_word : Standing → List ℕ
 standing_word Ready = codes "ready"

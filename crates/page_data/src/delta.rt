@@ -1,17 +1,17 @@
 // A delta in the page's data.
 
-ghost use Rattle.std.specs.Prelude.{◌≡◌, ◌∷◌, ◌++◌, [], codes, length, slice_get, OnOk};
+ghost use Rattle.std.specs.Prelude.{◌≡◌, ◌∷◌, ◌++◌, [], codes, length, OnOk};
 ghost use Rattle.std.specs.List.{flat_map};
 ghost use Rattle.std.specs.Fmt.{decimal};
-ghost use Rattle.run_trace.specs.Line.{kind_name};
 ghost use Rattle.page_data.specs.Values.{name, reference, number, value, more, member};
-ghost use Rattle.page_data.specs.Deltas.{more_number, word, flag, name_of, child, standing_word, task_now, fields, change, kind_numbers, head, members, opening};
+ghost use Rattle.page_data.specs.Deltas.{more_number, word, flag, child, standing_word, task_now, fields, change, kind_numbers, head, members, opening};
 
 use crate::act::{add_count, add_last, more_flag, more_number, more_word};
 use crate::values::{add_name, add_number, add_reference, add_value};
 use hh_lang::Program;
 use hh_model::Name;
 use run_deltas::{Birth, Change, Child, Delta, Standing, TaskNow, Write};
+use run_names::{function_name, kind_name};
 use run_trace::{Entry, Kind};
 use std::alloc::{AllocError, Global};
 
@@ -30,16 +30,6 @@ fn end_list(text: &mut Vec<u8>) -> Result<(), AllocError>
     Ok(())
 }
 
-// The name of a function.
-fn name_of(program: &Program, function: u32) -> &[u8]
-    ensures { result.now ≡ name_of (slice_get program.now.functions function) }
-{
-    match program.functions().get(function as usize) {
-        None => &[],
-        Some(fun) => fun.name.as_slice(),
-    }
-}
-
 #[tactic(auto, unfolding(crate::specs::Deltas::child))]
 // Adds a task that was made.
 fn add_child(
@@ -53,7 +43,7 @@ fn add_child(
     text.push(b'[')?;
     add_count(alloc, text, of.task as u64)?;
     more_number(alloc, text, of.parent as u64)?;
-    more_word(text, name_of(program, of.function))?;
+    more_word(text, function_name(program, of.function))?;
     text.push(b']')?;
     Ok(())
 }
@@ -317,23 +307,6 @@ fn add_members(
     add_children(alloc, text, program, delta.children.as_slice())?;
     add_tasks(alloc, text, delta.tasks.as_slice())?;
     add_changes(alloc, text, delta.changes.all.as_slice())
-}
-
-fn kind_name(kind: Kind) -> &'static str
-    ensures { result.now ≡ kind_name kind }
-{
-    match kind {
-        Kind::Took(_) => "took",
-        Kind::Ran(_, _) => "ran",
-        Kind::Chunk(_) => "chunk",
-        Kind::Begin(_) => "begin",
-        Kind::End(_, _, _, _) => "end",
-        Kind::PutOff(_) => "putoff",
-        Kind::Mark(_) => "mark",
-        Kind::More(_, _) => "some",
-        Kind::Sweep(_, _) => "sweep",
-        Kind::Fuel => "fuel",
-    }
 }
 
 // Adds two further numbers.

@@ -2,10 +2,11 @@
 use Rattle.std.specs.Prelude.{ℕ, ◌+◌, ◌-◌, ◌==◌, Option, Some, None, List, [], ◌∷◌, ◌++◌, codes, length, slice_get, if◌then◌else◌}
 use Rattle.std.specs.List.{join_with_byte}
 use Rattle.std.specs.Fmt.{decimal}
-use Rattle.run_journal.specs.below.hh_lang.{ProgramText, line_at, Fun, Line}
+use Rattle.run_journal.specs.below.hh_lang.{ProgramText, line_at, Line}
 use Rattle.run_journal.specs.below.hh_model.{Status, Ended, Joined, Entangled, Task, State}
 use Rattle.run_journal.specs.below.run_trace.{Kind, Took, Ran, Chunk, Begin, End, PutOff, Mark, More, Sweep, Fuel, EntryValue, kind_name}
 use Rattle.run_journal.specs.below.run_ledger.{RunEnd, Machine, Ledger, in_use, end_words}
+use Rattle.run_names.specs.Names.{function_name}
 use Rattle.json_text.specs.below.quoted_text.{task_name}
 use Rattle.json_text.specs.Json.{Json, Members, Number, Word, NoMember, Member}
 use Rattle.run_timeline.specs.declared.words.Counts.{Counts}
@@ -22,10 +23,6 @@ number_of (Some l) = l.number
 abbrev pub next_line : ProgramText → Option Task → ℕ
 next_line p None = 0
 next_line p (Some x) = number_of (line_at p x.top.function x.top.next)
-
-abbrev pub name_in : Option Fun → List ℕ
-name_in None = []
-name_in (Some f) = f.name
 
 -- THE ENTRY ITSELF
 
@@ -48,7 +45,7 @@ numbers_of Fuel = NoMember
 -- the function that a task is in, and the line of its next step
 abbrev pub place_of : ProgramText → Option Task → List ℕ
 place_of p None = []
-place_of p (Some x) = 32 ∷ (name_in (slice_get p.functions x.top.function) ++ 58 ∷ decimal (next_line p (Some x)))
+place_of p (Some x) = 32 ∷ (function_name p x.top.function ++ 58 ∷ decimal (next_line p (Some x)))
 
 -- steps begin where their task stands in front of them
 abbrev pub begins_at : ProgramText → State → Kind → List ℕ

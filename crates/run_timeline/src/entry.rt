@@ -1,42 +1,15 @@
 // An entry as a slice.
 
-ghost use Rattle.std.specs.Prelude.{◌≡◌, ◌++◌, OnOk, IfOk, slice_get, option_copied};
-ghost use Rattle.run_journal.specs.below.run_trace.{kind_name};
+ghost use Rattle.std.specs.Prelude.{◌≡◌, ◌++◌, OnOk, IfOk, option_copied};
 ghost use Rattle.json_text.specs.Json.{first_members, further, Number, Member, NoMember};
-ghost use Rattle.run_timeline.specs.Entries.{name_in, place_of, begins_at, slice_name, numbers_of, of_task, slice};
+ghost use Rattle.run_timeline.specs.Entries.{place_of, begins_at, slice_name, numbers_of, of_task, slice};
 
 use crate::events::{add_comma, begin_arguments, begin_event, end_arguments};
 use crate::tasks::next_line;
 use json_text::{add_number, first_number, more_number};
 use run_journal::{Kind, Program, State, Task};
+use run_names::{function_name, kind_name};
 use std::alloc::{AllocError, Global};
-
-fn kind_name(kind: Kind) -> &'static str
-    ensures { result.now ≡ kind_name kind }
-{
-    match kind {
-        Kind::Took(_) => "took",
-        Kind::Ran(_, _) => "ran",
-        Kind::Chunk(_) => "chunk",
-        Kind::Begin(_) => "begin",
-        Kind::End(_, _, _, _) => "end",
-        Kind::PutOff(_) => "putoff",
-        Kind::Mark(_) => "mark",
-        Kind::More(_, _) => "some",
-        Kind::Sweep(_, _) => "sweep",
-        Kind::Fuel => "fuel",
-    }
-}
-
-// The name of a function.
-fn function_name(program: &Program, function: u32) -> &[u8]
-    ensures { result.now ≡ name_in (slice_get program.now.functions function) }
-{
-    match program.functions().get(function as usize) {
-        None => &[],
-        Some(fun) => fun.name.as_slice(),
-    }
-}
 
 // Adds the function that a task is in, and the line of its next step.
 fn add_place(

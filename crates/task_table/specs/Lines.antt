@@ -7,7 +7,7 @@ use Rattle.run_journal.specs.below.run_ledger.{RunEnd, Machine}
 use Rattle.still_counts.specs.Counts.{raised_by}
 use Rattle.task_table.specs.declared.row.Fork.{Fork}
 use Rattle.task_table.specs.declared.row.Row.{Row}
-use Rattle.task_table.specs.Rows.{function_name}
+use Rattle.run_names.specs.Names.{function_name}
 
 -- a value behind a comma; one that isn't there is empty
 abbrev pub field : List ℕ → List ℕ

@@ -2,24 +2,18 @@
 use Rattle.std.specs.Prelude.{ℕ, ℤ, pos, ◌+◌, ◌-◌, ◌^◌, ◌==◌, Option, Some, None, List, [], ◌∷◌, ◌++◌, length, min, slice_get, slice_set, if◌then◌else◌}
 use Rattle.std.specs.Int.{int_wrapping_add, int_wrapping_sub, w64}
 use Rattle.std.specs.Prelude.{int_div}
-use Rattle.run_journal.specs.below.hh_lang.{Fun, ProgramText}
+use Rattle.run_journal.specs.below.hh_lang.{ProgramText}
 use Rattle.run_journal.specs.below.hh_model.{Frame, Task, State, int_in}
 use Rattle.run_journal.specs.below.run_trace.{Kind, Took, Ran, Chunk, Begin, End, PutOff, Mark, More, Sweep, Fuel, EntryValue, SettingsValue}
 use Rattle.run_journal.specs.below.run_ledger.{Ledger, after}
 use Rattle.run_report.specs.Totals.{cleared_words}
+use Rattle.run_names.specs.Names.{function_name}
 use Rattle.run_timeline.specs.Entries.{fork_line}
 use Rattle.still_counts.specs.Counts.{raised_by}
 use Rattle.task_table.specs.declared.row.Fork.{Fork}
 use Rattle.task_table.specs.declared.row.Row.{Row}
 
 -- FORKS
-
-abbrev pub name_in : Option Fun → List ℕ
-name_in None = []
-name_in (Some f) = f.name
-
-abbrev pub function_name : ProgramText → ℕ → List ℕ
-function_name p f = name_in (slice_get p.functions f)
 
 -- a parallel loop over f goes over its numbers by `f<` for the first half and `f>` for the second: the number where a
 -- half begins, by the last byte of the function's name and the numbers at the fork

@@ -5,8 +5,8 @@ ghost use Rattle.run_journal.specs.below.hh_model.{row_of};
 ghost use Rattle.task_table.specs.Lines.{field, number_field, maybe_field, signed_field, fork_fields, words_onto, status_word, end_word, place_fields, work_fields, memory_fields, task_line};
 
 use crate::row::{Fork, Row};
-use crate::rows::function_name;
 use run_journal::{End, Object, Program, RunEnd, State, Status, Task};
+use run_names::function_name;
 use std::alloc::{AllocError, Global};
 
 // Adds a value behind a comma.

@@ -1,23 +1,14 @@
 // What an entry tells of tasks.
 
 ghost use Rattle.std.specs.Prelude.{◌≡◌, ◌<◌, ◌+◌, ◌^◌, ◌++◌, OnOk, Some, length, option_copied, slice_get};
-ghost use Rattle.task_table.specs.Rows.{function_name, half_begin, last_byte, loop_number, made_by, fork_of, fresh_row, first_of, entered, row_after, task_in, rows_after, children, rows_by};
+ghost use Rattle.task_table.specs.Rows.{half_begin, last_byte, loop_number, made_by, fork_of, fresh_row, first_of, entered, row_after, task_in, rows_after, children, rows_by};
 
 use crate::row::{Fork, Row};
 use run_journal::{Entry, Frame, IntReg, Kind, Listed, Program, State, Task};
+use run_names::function_name;
 use run_timeline::fork_line;
 use std::alloc::AllocError;
 use still_counts::raised_by;
-
-/// The name of a function.
-pub(crate) fn function_name(program: &Program, function: u32) -> &[u8]
-    ensures { result.now ≡ function_name program.now function }
-{
-    match program.functions().get(function as usize) {
-        None => &[],
-        Some(fun) => fun.name.as_slice(),
-    }
-}
 
 // The last byte of a name.
 fn last_byte(name: &[u8]) -> Option<u8>

@@ -1,0 +1,36 @@
+// What kinds of entries and functions are called.
+
+ghost use Rattle.std.specs.Prelude.{◌≡◌};
+ghost use Rattle.run_trace.specs.Line.{kind_name};
+ghost use Rattle.run_names.specs.Names.{function_name};
+
+use hh_lang::Program;
+use run_trace::Kind;
+
+/// The word of an entry's kind, as a trace has it.
+pub fn kind_name(kind: Kind) -> &'static str
+    ensures { result.now ≡ kind_name kind }
+{
+    match kind {
+        Kind::Took(_) => "took",
+        Kind::Ran(_, _) => "ran",
+        Kind::Chunk(_) => "chunk",
+        Kind::Begin(_) => "begin",
+        Kind::End(_, _, _, _) => "end",
+        Kind::PutOff(_) => "putoff",
+        Kind::Mark(_) => "mark",
+        Kind::More(_, _) => "some",
+        Kind::Sweep(_, _) => "sweep",
+        Kind::Fuel => "fuel",
+    }
+}
+
+/// The name of a function of a program, and none where it has no such function.
+pub fn function_name(program: &Program, function: u32) -> &[u8]
+    ensures { result.now ≡ function_name program.now function }
+{
+    match program.functions().get(function as usize) {
+        None => &[],
+        Some(fun) => fun.name.as_slice(),
+    }
+}
