@@ -42,11 +42,11 @@ acts_append events others u =
     ap (map (λ (e : Event). e.act)) (filter-append (is_on u) events others)
     ∙ map-append (λ (e : Event). e.act) (filter (is_on u) events) (filter (is_on u) others)
 
-acts_there : (u v : Strand) (acts : List Act) → is_that u v.task v.index ≡ true → acts_on (on_strand u acts) v ≡ acts
+pub acts_there : (u v : Strand) (acts : List Act) → is_that u v.task v.index ≡ true → acts_on (on_strand u acts) v ≡ acts
 acts_there u v [] e = refl
 acts_there u v (a ∷ rest) e = rw e (ap (λ (bs : List Act). a ∷ bs) (acts_there u v rest e))
 
-acts_elsewhere : (u v : Strand) (acts : List Act) → is_that u v.task v.index ≡ false → acts_on (on_strand u acts) v ≡ []
+pub acts_elsewhere : (u v : Strand) (acts : List Act) → is_that u v.task v.index ≡ false → acts_on (on_strand u acts) v ≡ []
 acts_elsewhere u v [] e = refl
 acts_elsewhere u v (a ∷ rest) e = rw e (acts_elsewhere u v rest e)
 

@@ -29,8 +29,8 @@ pub(crate) struct Told {
     pub(crate) tasks: BTreeSet<u32>,
 }
 
-// The act that a line says, if it says one.
-fn act_in(line: &[u8]) -> Option<Act>
+/// The act that a line says, if it says one.
+pub fn act_in(line: &[u8]) -> Option<Act>
     ensures { option_to_list result ≡ act_said (line_of line.now) }
 {
     match read_line(line) {
@@ -217,8 +217,8 @@ impl Told {
     }
 }
 
-// The text of a piece.
-fn piece_text(texts: &[Listed<u8>], piece: Piece) -> &[u8]
+/// The text of a piece.
+pub fn piece_text(texts: &[Listed<u8>], piece: Piece) -> &[u8]
     ensures { result.now ≡ slice_range (text_at texts.now piece.file) piece.begin piece.end }
 {
     match texts.get(piece.file) {

@@ -1,0 +1,9 @@
+// What the pieces of a log say, act after act, and where their strands stand in the serial order.
+#![tactic(auto)]
+
+mod acts;
+mod places;
+
+pub use acts::{count_acts, next_act};
+pub use log_lines::Act;
+pub use places::{is_known, piece_places, strand_in_log};
