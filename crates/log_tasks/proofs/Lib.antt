@@ -2,6 +2,7 @@ pub mod Acts
 pub mod Puts
 pub mod Lines
 pub mod Known
+pub mod Accepted
 pub mod Sane
 pub mod Ascending
 pub mod Spawning

@@ -1,0 +1,3 @@
+mod Fitting
+mod Works
+mod Weighing

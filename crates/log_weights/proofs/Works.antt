@@ -1,0 +1,60 @@
+-- What is known of strands' work after a piece more.
+use Rattle.std.proofs.Common.{◌≡◌, ◌<◌, ◌+◌, ◌++◌, ◌∙◌, ℕ, Bool, true, false, List, refl, sym, ap, subst, Option, Some, append-nil, length, get_or, take, slice_range}
+use Rattle.std.specs.Prelude.{if◌then◌else◌}
+use Rattle.std.proofs.lemmas.List.Sums.{sum_by-append}
+use Rattle.fork_graph.specs.declared.graph.Strand.{Strand}
+use Rattle.fork_graph.specs.Graph.{strand}
+use Rattle.log_pieces.specs.Claims.{is_that}
+use Rattle.log_pieces.specs.declared.piece.Piece.{Piece}
+use Rattle.log_pieces.specs.Pieces.{on_strand, text_at, acts_in, acts_of_piece, events_of_pieces}
+use Rattle.log_tasks.proofs.Lines.{pieces_more}
+use Rattle.log_strands.proofs.Noted.{that_is}
+use Rattle.log_tasks.proofs.Acts.{acts_append, acts_there, acts_elsewhere}
+use Rattle.log_strands.specs.below.log_lines.{Act}
+use Rattle.log_strands.specs.below.log_form.{Event, acts_on}
+use Rattle.log_weights.specs.declared.units.StrandWork.{StrandWork}
+use Rattle.log_weights.specs.Weights.{units_of, work_of}
+use Rattle.log_weights.specs.Sums.{fitting, plus}
+use Rattle.log_weights.specs.Known.{Knows, work_known, or_none}
+use Rattle.log_weights.proofs.Fitting.{plus_fitting}
+
+module _ (old new : StrandWork) (u : Strand) (acts : List Act) (events : List Event) (knows : Knows old events) where
+  with_more : (v : Strand) → plus (fitting (work_of (acts_on events v))) (fitting (work_of acts)) ≡ fitting (work_of (acts_on events v ++ acts))
+  with_more v = plus_fitting (work_of (acts_on events v)) (work_of acts) ∙ ap fitting (sym (sum_by-append units_of (acts_on events v) acts))
+
+  of_one : (t i : ℕ) (b : Bool) → is_that u t i ≡ b
+      → (if b then plus (work_known old t i) (fitting (work_of acts)) else work_known old t i) ≡ fitting (work_of (acts_on (events ++ on_strand u acts) (strand t i)))
+  of_one t i true e =
+      ap (λ (o : Option ℕ). plus o (fitting (work_of acts))) (knows t i)
+      ∙ with_more (strand t i)
+      ∙ ap (λ (all : List Act). fitting (work_of all))
+      (sym (acts_append events (on_strand u acts) (strand t i) ∙ ap (λ (more : List Act). acts_on events (strand t i) ++ more) (acts_there u (strand t i) acts e)))
+  of_one t i false e =
+      knows t i
+      ∙ ap (λ (all : List Act). fitting (work_of all))
+      (sym (acts_append events (on_strand u acts) (strand t i) ∙ ap (λ (more : List Act). acts_on events (strand t i) ++ more) (acts_elsewhere u (strand t i) acts e) ∙ append-nil (acts_on events (strand t i))))
+
+  -- a piece was added
+  pub knows_more : ((t i : ℕ) → work_known new t i ≡ (if is_that u t i then plus (work_known old t i) (fitting (work_of acts)) else work_known old t i)) → Knows new (events ++ on_strand u acts)
+  knows_more added t i = added t i ∙ of_one t i (is_that u t i) refl
+
+-- the next piece was added
+pub pieces_knows : (texts : List (List ℕ)) (pieces : List Piece) (i : ℕ) (d : Piece) (text : List ℕ) (old new : StrandWork) (work : Option ℕ) → i < length pieces
+    → text ≡ slice_range (text_at texts (get_or pieces i d).file) (get_or pieces i d).begin (get_or pieces i d).end → work ≡ fitting (work_of (acts_in text)) → Knows old (events_of_pieces texts (take i pieces))
+    → ((t j : ℕ) → work_known new t j ≡ (if is_that (get_or pieces i d).strand t j then plus (work_known old t j) work else work_known old t j))
+    → Knows new (events_of_pieces texts (take (i + 1) pieces))
+pieces_knows texts pieces i d text old new work lt is weighs knows added =
+    let u = (get_or pieces i d).strand in
+    let known : work ≡ fitting (work_of (acts_of_piece texts (get_or pieces i d))) = weighs ∙ ap (λ (t : List ℕ). fitting (work_of (acts_in t))) is in
+    subst (Knows new) (sym (pieces_more texts pieces i d lt))
+    (knows_more old new u (acts_of_piece texts (get_or pieces i d)) (events_of_pieces texts (take i pieces)) knows
+    (λ t j. added t j ∙ ap (λ (o : Option ℕ). if is_that u t j then plus (work_known old t j) o else work_known old t j) known))
+
+-- a strand's work was put
+module _ (u : Strand) (F : ℕ → ℕ → Option (Option ℕ)) (work units : Option ℕ) (is : work ≡ plus (or_none (F u.task u.index)) units) where
+  put_by : (t i : ℕ) (b : Bool) → is_that u t i ≡ b → or_none (if b then Some work else F t i) ≡ (if b then plus (or_none (F t i)) units else or_none (F t i))
+  put_by t i true e = is ∙ ap (λ (v : Strand). plus (or_none (F v.task v.index)) units) (that_is u (strand t i) e)
+  put_by t i false e = refl
+
+  pub work_put : (t i : ℕ) → or_none (if is_that u t i then Some work else F t i) ≡ (if is_that u t i then plus (or_none (F t i)) units else or_none (F t i))
+  work_put t i = put_by t i (is_that u t i) refl

@@ -1,0 +1,12 @@
+use Rattle.std.proofs.Common.{◌≡◌, ◌∙◌, ap, sym, arith}
+use Rattle.log_pieces.specs.Pieces.{acts_in}
+use Rattle.log_weights.specs.Weights.{work_of}
+use Rattle.log_weights.specs.Sums.{fitting}
+use Rattle.log_weights.proofs.Fitting.{fits}
+use Rattle.log_weights.proofs.sums.text_work.Goals as goal
+
+pub returns : goal.returns
+returns c =
+    let none = ap work_of c.in_default.ensures.acts in
+    let same : c.loop-act.work ≡ work_of (acts_in c.args.text.now) = omega (arith, none, c.loop-act.invariant.all) in
+    sym (ap fitting (sym same) ∙ fits c.loop-act.work c.loop-act.invariant.fits)

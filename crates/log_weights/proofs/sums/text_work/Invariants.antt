@@ -1,0 +1,13 @@
+use Rattle.std.proofs.Common.{◌≡◌, ◌<◌, ◌+◌, ◌^◌, length}
+use Rattle.log_pieces.specs.Pieces.{acts_in}
+use Rattle.log_weights.specs.Weights.{work_of}
+use Rattle.log_weights.proofs.sums.text_work.Given as goal
+
+abbrev pub invariant-loop-act : goal.invariant-loop-act
+invariant-loop-act l = record {
+  all : l.work + work_of (acts_in l.left) ≡ work_of (acts_in l.fn.text);
+  fits : l.work < 2 ^ 64;
+}
+
+abbrev pub decreases-loop-act : goal.decreases-loop-act
+decreases-loop-act l = length l.left

@@ -1,0 +1,3 @@
+pub mod Weights
+pub mod Sums
+pub mod Known
