@@ -1,0 +1,9 @@
+mod Parts
+mod Noting
+mod Accepted
+mod Standing
+mod Adding
+mod Answering
+mod Whole
+mod Going
+mod Making

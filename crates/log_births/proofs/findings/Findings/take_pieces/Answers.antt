@@ -1,0 +1,29 @@
+use Rattle.std.proofs.Common.{ℕ, subst, arith}
+use Rattle.log_pieces.specs.Pieces.{events_of_pieces}
+use Rattle.log_strands.proofs.Counted.{no_more}
+use Rattle.log_births.specs.Found.{AreFoundBelow}
+use Rattle.log_births.proofs.Parts.{count_more}
+use Rattle.log_births.proofs.Going.{found_on, place_there, count_all}
+use Rattle.log_births.proofs.findings.Findings.take_pieces.Goals as goal
+
+pub take_text-requires-clause-room : goal.take_text-requires-clause-room
+take_text-requires-clause-room c =
+    let most = no_more c.args.texts.now c.args.pieces.now c.loop-at.at _ c.piece_text-text.result.now (omega (arith, c.loop-at-test.true)) c.piece_text-text.ensures in
+    omega (arith, most, c.loop-at.invariant.number, c.requires.few)
+
+pub take_text-requires-clause-place : goal.take_text-requires-clause-place
+take_text-requires-clause-place c = place_there c.args.places.now c.loop-at.at _ _ (omega (arith, c.loop-at-test.true, c.requires.places)) c.requires.there
+
+pub loop-at-preserved : goal.loop-at-preserved
+loop-at-preserved c = record {
+  number = count_more c.args.texts.now c.args.pieces.now c.loop-at.at _ c.piece_text-text.result.now c.loop-at.line c.in_ok-line.line (omega (arith, c.loop-at-test.true)) c.piece_text-text.ensures c.loop-at.invariant.number c.in_ok-line.ensures.line;
+  found =
+      found_on c.args.texts.now c.args.pieces.now c.args.places.now c.loop-at.at _ _ c.piece_text-text.result.now c.loop-at.line c.in_ok-line.line (omega (arith, c.loop-at-test.true)) c.requires.places c.piece_text-text.ensures c.loop-at.invariant.number
+      c.args.walk.now c.args.lines.now c.args.self.now c.loop-at.self c.take_text.new.self c.in_ok-line.ensures.found c.loop-at.invariant.found;
+}
+
+pub returns : goal.returns
+returns c = λ tasks scene are none.
+    subst (λ (n : ℕ). AreFoundBelow (events_of_pieces c.args.texts.now c.args.pieces.now) tasks n c.loop-at.self)
+    (count_all c.args.texts.now c.args.pieces.now c.loop-at.at c.loop-at.line (omega (arith, c.loop-at-test.false, c.loop-at.auto.at-end)) c.loop-at.invariant.number)
+    (c.loop-at.invariant.found tasks scene are none)

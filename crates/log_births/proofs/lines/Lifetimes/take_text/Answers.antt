@@ -1,0 +1,18 @@
+use Rattle.std.proofs.Common.{List, length, ap, subst, arith}
+use Rattle.log_births.specs.Lines.{IsPart}
+use Rattle.log_strands.specs.below.log_lines.{Act}
+use Rattle.log_pieces.specs.Pieces.{acts_in}
+use Rattle.log_births.proofs.Parts.{part_first, part_rest}
+use Rattle.log_births.proofs.Noting.{all_more}
+use Rattle.log_births.proofs.lines.Lifetimes.take_text.Goals as goal
+
+pub loop-act-preserved : goal.loop-act-preserved
+loop-act-preserved c = record {
+  number = let count = ap (λ (acts : List Act). length acts) c.in-Some.ensures.acts in omega (arith, count, c.loop-act.invariant.number);
+  part = λ events s whole.
+      part_rest events c.loop-act.line s c.in-Some.act (acts_in c.in-Some.rest.now) (subst (λ (acts : List Act). IsPart events c.loop-act.line s acts) c.in-Some.ensures.acts (c.loop-act.invariant.part events s whole));
+  known = λ tasks order events s place whole all.
+      let part = subst (λ (acts : List Act). IsPart events c.loop-act.line s acts) c.in-Some.ensures.acts (c.loop-act.invariant.part events s whole) in
+      all_more tasks order events c.loop-act.line s c.in-Some.act c.args.place c.loop-act.self c.take_act.new.self (part_first events c.loop-act.line s c.in-Some.act (acts_in c.in-Some.rest.now) part) place
+      c.in_ok-take_act.ensures.births c.in_ok-take_act.ensures.releases (c.loop-act.invariant.known tasks order events s place whole all);
+}

@@ -1,0 +1,61 @@
+-- Reads and uses of blocks that come too early or too late.
+use Rattle.std.specs.Prelude.{◌≡◌, ◌≢◌, ◌↔◌, ℕ, true, Option, Some, List, map, slice_get}
+use Rattle.std.specs.List.Sorted.{IsStrictlyIncreasing}
+use Rattle.listed.specs.Members.{In}
+use Rattle.fork_graph.specs.declared.graph.Strand.{Strand}
+use Rattle.fork_graph.specs.Graph.{tasks_in, Precedes, IsAttached}
+use Rattle.log_tasks.specs.declared.tasks.LogTasks.{LogTasks}
+use Rattle.log_tasks.specs.Numbers.{log_strand}
+use Rattle.log_strands.specs.Places.{is_known}
+use Rattle.log_strands.specs.below.log_lines.{Act}
+use Rattle.log_strands.specs.below.log_form.{Event, event}
+use Rattle.log_births.specs.declared.findings.Finding.{Finding}
+use Rattle.log_births.specs.declared.findings.Findings.{Findings}
+use Rattle.log_births.specs.Blocks.{born, released, yielded, used}
+
+-- LINES
+
+-- act n of the log, counted from 0 over all its files, is on strand u of the graph, and does this to block b
+pub record Does (does : Act → Option ℕ) (events : List Event) (tasks : LogTasks) (b n : ℕ) (u : Strand) : Type 0 where
+  pub act : Act
+  pub at : slice_get events n ≡ Some (event (log_strand tasks.numbers u) act)
+  pub block : does act ≡ Some b
+  pub known : is_known tasks u ≡ true
+  pub attached : IsAttached (tasks_in tasks.turns) u
+
+-- WHAT IS FOUND
+
+-- act `line` sees the block, whose birth, act `other`, doesn't happen before it
+pub record IsEntangled (sees : Act → Option ℕ) (events : List Event) (tasks : LogTasks) (f : Finding) : Type 0 where
+  pub birth : Strand
+  pub strand : Strand
+  pub born_there : Does born events tasks f.block f.other birth
+  pub seen_here : Does sees events tasks f.block f.line strand
+  pub not_before : Precedes (tasks_in tasks.turns) birth strand → ⊥
+
+-- a read that yields the block
+abbrev pub IsEntangledRead : List Event → LogTasks → Finding → Type 0
+IsEntangledRead = IsEntangled yielded
+
+-- an access of it
+abbrev pub IsEntangledUse : List Event → LogTasks → Finding → Type 0
+IsEntangledUse = IsEntangled used
+
+-- act `line` accesses the block, whose release, act `other`, happens before it on another strand
+pub record IsStaleUse (events : List Event) (tasks : LogTasks) (f : Finding) : Type 0 where
+  pub release : Strand
+  pub strand : Strand
+  pub released_there : Does released events tasks f.block f.other release
+  pub used_here : Does used events tasks f.block f.line strand
+  pub before : Precedes (tasks_in tasks.turns) release strand
+  pub apart : release ≢ strand
+
+-- just those that are so, each once, in the order of their lines
+pub record AreJust (Is : Finding → Type 0) (found : List Finding) : Type 0 where
+  pub ascending : IsStrictlyIncreasing (map (λ f. f.line) found)
+  pub are : (f : Finding) → In found f ↔ Is f
+
+pub record AreFindings (events : List Event) (tasks : LogTasks) (found : Findings) : Type 0 where
+  pub reads : AreJust (IsEntangledRead events tasks) found.reads
+  pub uses : AreJust (IsEntangledUse events tasks) found.uses
+  pub stale : AreJust (IsStaleUse events tasks) found.stale

@@ -1,0 +1,5 @@
+pub mod Blocks
+pub mod Findings
+pub mod Lines
+pub mod Checks
+pub mod Found

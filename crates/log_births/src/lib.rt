@@ -1,0 +1,11 @@
+// Blocks that strands see too early, before their births, or use too late, after their releases.
+#![tactic(auto)]
+
+mod acts;
+mod checks;
+mod find;
+mod findings;
+mod lines;
+
+pub use find::{FindError, find_uses};
+pub use findings::{Finding, Findings};
