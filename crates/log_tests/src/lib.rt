@@ -4,6 +4,8 @@
 #[cfg(test)]
 mod calls;
 #[cfg(test)]
+mod findings;
+#[cfg(test)]
 mod lines;
 #[cfg(test)]
 mod logs;
