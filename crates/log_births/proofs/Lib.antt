@@ -7,3 +7,4 @@ mod Answering
 mod Whole
 mod Going
 mod Making
+mod Telling

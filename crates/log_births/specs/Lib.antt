@@ -3,3 +3,4 @@ pub mod Findings
 pub mod Lines
 pub mod Checks
 pub mod Found
+pub mod Laws

@@ -5,7 +5,9 @@ mod acts;
 mod checks;
 mod find;
 mod findings;
+mod laws;
 mod lines;
 
 pub use find::{FindError, find_uses};
 pub use findings::{Finding, Findings};
+pub use laws::uses_tell_reads;

@@ -1,0 +1,13 @@
+-- Entangled uses tell of entangled reads.
+use Rattle.fork_graph.specs.Graph.{tasks_in}
+use Rattle.ancestor_laws.proofs.Walks.{both}
+use Rattle.log_births.specs.Laws.{UsesTellReads}
+
+pub uses_tell_reads : UsesTellReads
+uses_tell_reads events tasks found entangled n read yields before = record {
+  birth = entangled.birth;
+  strand = read;
+  born_there = entangled.born_there;
+  seen_here = yields;
+  not_before = λ sooner. entangled.not_before (both (tasks_in tasks.turns) entangled.birth read entangled.strand sooner before);
+}
