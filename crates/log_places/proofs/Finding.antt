@@ -36,7 +36,7 @@ absent_step : (k x : PageKey) (xs : List PageKey) (b : Bool) → same_page k x �
 absent_step k x xs true is more none = absurd (false≢true (sym none))
 absent_step k x xs false is more none = behind_first k x (xs ++ k ∷ []) (place k xs) is (more none)
 
-same_itself : (k : PageKey) → same_page k k ≡ true
+pub same_itself : (k : PageKey) → same_page k k ≡ true
 same_itself k = and_from (k.block == k.block) (k.page == k.page) (eq-eqb k.block k.block refl) (eq-eqb k.page k.page refl)
 
 absent : (k : PageKey) (xs : List PageKey) → list_any (same_page k) xs ≡ false → IsFirst (xs ++ k ∷ []) k (place k xs)

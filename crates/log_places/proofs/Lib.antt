@@ -1,6 +1,9 @@
 pub mod Marking
+pub mod Bordering
 pub mod Tiling
 pub mod Ends
 pub mod Finding
 pub mod Cutting
+pub mod Along
+pub mod Counted
 pub mod Numbering

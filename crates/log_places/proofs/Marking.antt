@@ -20,7 +20,7 @@ is_step a b t true lt (inl e) = record { start = ap (λ (s : Stretch). s.start) 
 is_step a b t true lt (inr i) = absurd i
 is_step a b t false lt i = absurd i
 
-is_piece : (a b : ℕ) (t : Stretch) → In (piece a b) t → Is a b t
+pub is_piece : (a b : ℕ) (t : Stretch) → In (piece a b) t → Is a b t
 is_piece a b t i = is_step a b t (nat_lt a b) refl i
 
 in_piece : (a b : ℕ) → a < b → In (piece a b) (record { start = a; end = b })
@@ -43,7 +43,7 @@ pub data IsPieceOf (a b : ℕ) (s t : Stretch) : Type 0 where
   Inside : Is (max a s.start) (min b s.end) t → IsPieceOf a b s t
   Behind : Is (max b s.start) s.end t → IsPieceOf a b s t
 
-is_piece_of : (a b : ℕ) (s t : Stretch) → In (pieces a b s) t → IsPieceOf a b s t
+pub is_piece_of : (a b : ℕ) (s t : Stretch) → In (pieces a b s) t → IsPieceOf a b s t
 is_piece_of a b s t i =
     elim (in_append_cases (piece a (min b s.start) ++ piece s.start (min a s.end) ++ piece (max a s.start) (min b s.end)) (piece (max b s.start) s.end) t i) [
       | inr d ↦ Behind (is_piece (max b s.start) s.end t d)

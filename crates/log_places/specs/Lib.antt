@@ -1,4 +1,6 @@
 pub mod Stretches
 pub mod Places
 pub mod Numbers
+pub mod Runs
+pub mod Counting
 pub mod Laws

@@ -29,15 +29,19 @@ impl Model for Places {
 }
 
 impl Places {
-    ghost use Rattle.std.specs.Prelude.{◌≡◌, ◌+◌, ◌-◌, ◌*◌, ◌^◌, ◌<◌, ◌≤◌, [], min, false, IfOk, OnOk, OnErr, Err};
+    ghost use Rattle.std.specs.Prelude.{◌≡◌, ◌+◌, ◌-◌, ◌*◌, ◌^◌, ◌<◌, ◌≤◌, ℕ, List, [], ◌∷◌, ◌++◌, min, false, IfOk, OnOk, OnErr, Err};
     ghost use Rattle.log_places.specs.declared.page.PageKey.{PageKey};
     ghost use Rattle.log_places.specs.Stretches.{marked, Ascending, AreCut};
+    ghost use Rattle.log_places.specs.declared.region.Region.{Region};
     ghost use Rattle.log_places.specs.Numbers.{stretch_count};
+    ghost use Rattle.log_places.specs.Counting.{AreDifferent, AreMarked, HaveStretches};
     ghost use Rattle.log_places.specs.Places.{at, page_key, same_page, IsFirst, IsRegion, IsRegionCut, IsRunCut, KeepsCuts};
+    ghost use Rattle.log_places.specs.Runs.{first_on, end_on, IsRunMarked};
 
     /// No location is accessed yet.
     pub fn new(alloc: Global) -> Places
-        ensures { result ≡ record { keys = []; pages = [] } }
+        ensures value { result ≡ record { keys = []; pages = [] } }
+        ensures marked { AreMarked [] result }
     {
         Places {
             alloc,
@@ -51,6 +55,7 @@ impl Places {
     fn page(&mut self, key: PageKey) -> Result<usize, AllocError>
         ensures ok { IfOk result (λ i. IsFirst self.new.keys key i) }
         ensures kept { (k : PageKey) → at self.new k ≡ at self.old k }
+        ensures different { OnOk result (AreDifferent self.old.keys → AreDifferent self.new.keys) }
     {
         self.pages.reserve(1)?;
         let (i, is_new) = self.known.insert_full(key)?;
@@ -67,6 +72,7 @@ impl Places {
         ensures err { OnErr result (at self.new key ≡ at self.old key) }
         ensures others { (k : PageKey) → same_page k key ≡ false → at self.new k ≡ at self.old k }
         ensures order { OnOk result (Ascending 0 (at self.old key)) }
+        ensures different { OnOk result (AreDifferent self.old.keys → AreDifferent self.new.keys) }
     {
         let i = self.page(key)?;
         self.pages[i].mark(&mut self.spare, start, end)
@@ -80,6 +86,9 @@ impl Places {
         requires not_behind { start < page * 4096 + 4096 }
         ensures keeps { KeepsCuts self.old self.new }
         ensures cut { OnOk result (AreCut (at self.new (page_key block page)) (start - page * 4096) (min 4096 (end - page * 4096))) }
+        ensures page { OnOk result (at self.new (page_key block page) ≡ marked (first_on start page) (end_on end page) (at self.old (page_key block page))) }
+        ensures others { (k : PageKey) → same_page k (page_key block page) ≡ false → at self.new k ≡ at self.old k }
+        ensures different { OnOk result (AreDifferent self.old.keys → AreDifferent self.new.keys) }
     {
         let base = page * PAGE_SIZE;
         let first = if base < start { start - base } else { 0 };
@@ -93,6 +102,8 @@ impl Places {
         requires some { start < end }
         ensures keeps { KeepsCuts self.old self.new }
         ensures cut { OnOk result (IsRunCut self.new block start end) }
+        ensures run { OnOk result (IsRunMarked self.old self.new block start end) }
+        ensures different { OnOk result (AreDifferent self.old.keys → AreDifferent self.new.keys) }
     {
         for page in start / PAGE_SIZE..(end - 1) / PAGE_SIZE + 1 {
             self.mark_part(block, page, start, end)?;
@@ -100,12 +111,13 @@ impl Places {
         Ok(())
     }
 
-    /// Marks the locations of a region: each stretch has all of them or none from then on. What was marked before stays
-    /// marked, also on an `Err`; a part of the region may then be marked.
+    /// Marks the locations of a region: each stretch has all of them or none from then on, and stretches are cut nowhere
+    /// else. What was marked before stays marked, also on an `Err`; a part of the region may then be marked.
     pub fn mark(&mut self, region: Region) -> Result<(), AllocError>
         requires { IsRegion region }
         ensures keeps { KeepsCuts self.old self.new }
         ensures cut { OnOk result (IsRegionCut self.new region) }
+        ensures marked { OnOk result ((past : List Region) → AreMarked past self.old → AreMarked (past ++ region ∷ []) self.new) }
     {
         for run in 0..region.runs {
             let start = region.run_start(run);
@@ -119,6 +131,7 @@ impl Places {
         ensures value { IfOk result (λ n. n ≡ self) }
         ensures within { OnOk result (stretch_count self ≤ limit) }
         ensures over { result ≡ Err NumberError.OverLimit → limit < stretch_count self }
+        ensures count { (regions : List Region) → AreMarked regions self → HaveStretches regions (stretch_count self) }
     {
         let Places {
             alloc,

@@ -3,4 +3,5 @@
 
 mod verdict;
 
+pub use run_order::RunOrder;
 pub use verdict::find_races;

@@ -1,7 +1,9 @@
 // The races of a run's accesses.
 
-ghost use Rattle.std.specs.Prelude.{◌≡◌, ◌<◌, IfOk, IfErr, All, length};
+ghost use Rattle.std.specs.Prelude.{◌≡◌, IfOk, Err, All};
 ghost use Rattle.log_places.specs.Places.{IsRegion};
+ghost use Rattle.log_places.specs.Counting.{AreOver};
+ghost use Rattle.race_scan.specs.Touches.{regions_of};
 ghost use Rattle.log_verdict.specs.Verdict.{AreInSerialOrder, AreVerdicts};
 
 use log_places::NumberError;
@@ -13,8 +15,8 @@ use std::alloc::Global;
 /// Finds the races of the accesses of a walked run: each location of which two accesses race by strands that are
 /// concurrent, with its first race in serial order, and no other.
 ///
-/// Accesses come in the serial order of their strands, and name them by their serial numbers. All their locations
-/// together may have `limit` stretches, each of which takes a cell.
+/// Accesses come in the serial order of their strands, and name them by their serial numbers. Their locations are cut
+/// into stretches where pages, and runs of accesses, begin and end. Each takes a cell, and there may be `limit` of them.
 pub fn find_races(
     alloc: Global,
     walk: &SerialWalk,
@@ -23,7 +25,8 @@ pub fn find_races(
 ) -> Result<RaceScan, NumberError>
     requires regions { All (λ t. IsRegion t.region) touches.now }
     requires serial { AreInSerialOrder walk.now touches.now }
-    ensures { IfOk result (λ scan. AreVerdicts walk.now touches.now scan.races) }
+    ensures races { IfOk result (λ scan. AreVerdicts walk.now touches.now scan.races) }
+    ensures over { result ≡ Err NumberError.OverLimit → AreOver (regions_of touches.now) limit }
 {
     let numbers = number_all(alloc, touches, limit)?;
     let order = RunOrder::new(walk);

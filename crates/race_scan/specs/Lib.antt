@@ -3,3 +3,4 @@ pub mod Slots
 pub mod Value
 pub mod Scan
 pub mod Laws
+pub mod below

@@ -17,6 +17,9 @@ is_in_run r x run = nat_le (run_start r run) x && nat_lt x (run_start r run + r.
 abbrev pub covers : Region → ℕ → ℕ → Bool
 covers r block x = (r.block == block) && any_below (is_in_run r x) r.runs
 
+abbrev pub regions_of : List Touch → List Region
+regions_of touches = map (λ t. t.region) touches
+
 -- those of all accesses that are of the location, in their order
 abbrev pub accesses_at : List Touch → ℕ → ℕ → List Access
 accesses_at touches block x = map (λ t. t.access) (filter (λ t. covers t.region block x) touches)

@@ -11,5 +11,6 @@ mod touch;
 pub use all::{number_all, scan_all};
 pub use cells::FoundRace;
 pub use laws::scans_are_exact;
+pub use race_cells::{Access, AccessKind, Strands};
 pub use scan::RaceScan;
 pub use touch::Touch;

@@ -1,7 +1,12 @@
-use Rattle.std.proofs.Common.{ℕ, ◌<◌, slice_index_or}
+use Rattle.std.proofs.Common.{ℕ, ◌<◌, take, slice_index_or}
 use Rattle.log_places.specs.Places.{IsRegionCut}
+use Rattle.log_places.specs.Counting.{AreMarked}
 use Rattle.race_scan.specs.declared.touch.Touch.{Touch}
+use Rattle.race_scan.specs.Touches.{regions_of}
 use Rattle.race_scan.proofs.all.number_all.Given as goal
 
 abbrev pub invariant-loop-touch : goal.invariant-loop-touch
-invariant-loop-touch l = (k : ℕ) (d : Touch) → k < l.touch-index → IsRegionCut l.places (slice_index_or l.touches k d).region
+invariant-loop-touch l = record {
+  cut : (k : ℕ) (d : Touch) → k < l.touch-index → IsRegionCut l.places (slice_index_or l.touches k d).region;
+  marked : AreMarked (regions_of (take l.touch-index l.touches)) l.places;
+}
