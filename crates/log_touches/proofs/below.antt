@@ -1,0 +1,2 @@
+-- What crates above cite of the crates below.
+pub mod log_places

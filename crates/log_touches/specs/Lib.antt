@@ -1,0 +1,5 @@
+pub mod Accesses
+pub mod Strands
+pub mod Chains
+pub mod Limits
+pub mod below

@@ -1,0 +1,3 @@
+-- What crates above name of the crates below.
+pub mod log_places
+pub mod race_scan

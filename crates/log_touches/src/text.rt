@@ -1,0 +1,40 @@
+// The texts of pieces, and the acts in them.
+
+ghost use Rattle.std.specs.Prelude.{◌≡◌, IfSome, option_to_list, slice_range};
+ghost use Rattle.log_lines.specs.Grammar.{line_of};
+ghost use Rattle.log_lines.specs.Limits.{IsAct};
+ghost use Rattle.log_pieces.specs.Pieces.{act_said, text_at};
+
+use listed::Listed;
+use log_lines::{Act, Line, read_line};
+use log_pieces::Piece;
+
+/// The act that a line says, if it says one.
+pub(crate) fn act_in(line: &[u8]) -> Option<Act>
+    ensures value { option_to_list result ≡ act_said (line_of line.now) }
+    ensures within { IfSome result IsAct }
+{
+    match read_line(line) {
+        Ok(Line::Act(act)) => Some(act),
+        _ => None,
+    }
+}
+
+/// The text of a piece.
+pub(crate) fn piece_text(texts: &[Listed<u8>], piece: Piece) -> &[u8]
+    ensures { result.now ≡ slice_range (text_at texts.now piece.file) piece.begin piece.end }
+{
+    match texts.get(piece.file) {
+        Some(text) => part_of(text.as_slice(), piece.begin, piece.end),
+        None => &[],
+    }
+}
+
+// The part of a text from one place up to another, as far as the text goes.
+fn part_of(text: &[u8], begin: usize, end: usize) -> &[u8]
+    ensures { result.now ≡ slice_range text.now begin end }
+{
+    let end = end.min(text.len());
+    let begin = begin.min(end);
+    &text[begin..end]
+}
