@@ -1,4 +1,6 @@
 -- What crates above name of `log_places`.
+pub use Rattle.log_places.specs.declared.numbers.NumberError.{NumberError}
+pub use Rattle.log_places.specs.declared.numbers.NumberError.TheVariants.{NoMemory, OverLimit}
 pub use Rattle.log_places.specs.Places.{IsRegionCut, PlacesValue}
 pub use Rattle.log_places.specs.Numbers.{stretch_count}
 pub use Rattle.log_places.specs.Counting.{AreMarked, AreOver}

@@ -1,0 +1,7 @@
+use Rattle.std.proofs.Common.{◌∙◌, sym, ap}
+use Rattle.std.specs.Prelude.{option_copied}
+use Rattle.log_races.proofs.Parts.{none_there}
+use Rattle.log_races.proofs.strands.number_of.Goals as goal
+
+pub returns-in-None : goal.returns-in-None
+returns-in-None c = none_there c.args.numbers.now c.args.task (sym c.get.ensures ∙ ap option_copied c.in-None.is)
