@@ -1,0 +1,11 @@
+use Rattle.std.proofs.Common.{◌-◌, List, length}
+use Rattle.act_lines.specs.declared.line.ActLine.{ActLine}
+use Rattle.act_lines.specs.Search.{HasFound}
+use Rattle.act_lines.proofs.Searching.{HasEnded}
+use Rattle.act_lines.proofs.find.Search.finish.Given as goal
+
+abbrev pub invariant-loop-found : goal.invariant-loop-found
+invariant-loop-found l = (seen : List ActLine) → HasFound l.numbers seen l.fn.self → HasEnded l.numbers seen l.found
+
+abbrev pub decreases-loop-found : goal.decreases-loop-found
+decreases-loop-found l = length l.numbers - length l.found

@@ -1,0 +1,3 @@
+pub mod ActLines
+pub mod Search
+pub mod Laws
