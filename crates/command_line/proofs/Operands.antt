@@ -1,4 +1,4 @@
--- Words that don't begin with a hyphen go to positional arguments.
+-- Words without a leading hyphen are positional arguments.
 use Rattle.std.proofs.Common.{◌≡◌, ◌∙◌, ◌&&◌, ℕ, Bool, cond, codes, true, false, refl, sym, ap, ap₂, List, [], ◌∷◌, Option, Some, None, true≢false}
 use Rattle.std.proofs.lemmas.Slice.Eq.{bytes_eq-Decides}
 use Rattle.std.specs.Prelude.{option_and_then, is_some, fold}
@@ -36,7 +36,7 @@ no_long word h = ap (λ (o : Option Text). option_and_then long_of_rest (option_
 pub no_short : (word : Text) → IsOperand word → short_of word ≡ None
 no_short word h = ap (λ (o : Option Text). option_and_then short_of_rest o) h
 
--- the walk between two words, where nothing waits
+-- the walk between two words, when no option waits for a value
 abbrev pub at : Held → ℕ → Walk
 at h position = record { held = h; waiting = idle; position = position; is_trailing = false; stopped = None }
 
@@ -65,7 +65,7 @@ level s walk_kinds w = or_else walk_kinds
     (or_else (settle_fault s.rules s.args_override_self w.held)
     (or_else (defaults_fault (settled s.rules w.held).rows s.rules) (check_fault s (finished s.rules w.held) false)))
 
--- a command's line, by the faults of its own level and its matches
+-- the line of a command, by the faults of its own level and its matches
 abbrev pub line_by : Text → Kinds → List Row → Option CommandLine
 line_by name kinds rows = cond (is_empty (or_else kinds [])) (asked name rows) None
 
@@ -79,7 +79,7 @@ module _ (s : Shape) (file : Text) (operand : IsOperand file) where
   file_rows : rows_after s.rules [] (file ∷ []) ≡ finished s.rules (to_positional s.rules (arg_by_index s.rules 1) file (at nothing_held 1) nothing_held).held
   file_rows = ap (λ (w : Walk). finished s.rules w.held) (walked_is s file operand nothing_held 1)
 
--- a command of this name is of this shape, and asks for this
+-- a command of this name has this shape, and asks for this
 pub record IsCommand (name : Text) (s : Shape) (line : List Row → CommandLine) : Type 0 where
   pub one : (word : Text) → command_line (name ∷ word ∷ []) ≡ line_by name (level_fault s [] nothing_held (word ∷ []) false []) (rows_after s.rules [] (word ∷ []))
   pub two : (first second : Text) → command_line (name ∷ first ∷ second ∷ [])
@@ -120,7 +120,7 @@ verify_is : IsCommand (codes "verify") verify_shape (λ rows. Verify (file_in ro
 unfolding clap_on_literals
 verify_is = record { one = λ word. refl; two = λ first second. refl; asks = λ rows. refl }
 
--- the walk over a word that is the file, where the first argument is one
+-- the walk over a word that is the file, if the first argument is one
 abbrev file_walk : Shape → Text → Walk
 file_walk s file = to_positional s.rules (arg_by_index s.rules 1) file (at nothing_held 1) nothing_held
 

@@ -28,7 +28,7 @@ limits rows h = record {
   inner = in_range (codes "inner") 16 1000000 rows h.inner;
 }
 
--- the size of what is asked for
+-- the size that is asked for
 module _ (name : Text) (rows : List Row) (h : FitsCommand name rows) where
   abbrev or_verify : Option CommandLine
   or_verify = cond (bytes_eq name (codes "verify")) (Some (Verify (file_in rows))) None

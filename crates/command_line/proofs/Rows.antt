@@ -1,4 +1,4 @@
--- Where a level of a parse has no fault, each value of its matches passed the parser of its argument.
+-- If a level of a parse has no fault, each value of its matches passed the parser of its argument.
 use Rattle.std.proofs.Common.{◌≡◌, ◌∙◌, ◌<◌, ◌+◌, ◌++◌, ◌&&◌, ◌||◌, ◌⊎◌, ◌==◌, ℕ, Bool, cond, true, false, not, zero, suc, refl, sym, ap, subst, arith, inl, inr, List, [], ◌∷◌, length, drop, Option, Some, None, is_some, nat_lt, true≢false}
 use Rattle.std.specs.Prelude.{⊤, unwrap_or, find, fold, slice_get, encode_utf8, option_and_then}
 use Rattle.std.specs.List.{list_any}
@@ -213,7 +213,7 @@ module _ (c : List Rule) where
             short_passed (arg_by_short c x) (λ a at. (found IsPlain _ c a plain_rules at).0) rest h (bundle_met c n rest 0 done) (flags_fault c again n rest 0)
             (λ g kg fg. rec rest 0 done g kg fg) k f
 
-    -- a word that is no flag uses nothing
+    -- a word that isn't a flag uses nothing
     plain_same : (waiting : Waiting) (word : Text) (h : Held) → IsHeld h → IsHeld (plain_word c waiting word h).0
     plain_same (option id) word h k = go (arg_by_id c id)
       where
@@ -331,7 +331,7 @@ module _ (s : Shape) (plain_rules : each (IsPlain s.rules) s.rules) (names : Nam
       let parts = none_of (default_fault rows a) _ e in
       defaults_passed rest p.1 (with_default rows a) (default_passed a p.0 rows parts.0 h) parts.1
 
-  -- the matches of a level without a fault, and what is required is given there
+  -- the matches of a level without a fault, in which what is required is given
   pub level_passed : (h : Held) (words : List Text) (has : Bool) (below : Kinds) → HasPassed h → level_fault s names h words has below ≡ []
       → each (IsPassed s.rules) (finished s.rules (walk s.rules names h words).held) × (below ≡ [])
       × (check_fault s (finished s.rules (walk s.rules names h words).held) has ≡ [])

@@ -1,4 +1,4 @@
--- What the words of a command line without a fault have.
+-- What a command line without a fault has.
 use Rattle.std.proofs.Common.{◌≡◌, ◌∙◌, ◌||◌, ◌⊎◌, ℕ, Bool, cond, codes, true, false, not, refl, sym, ap, inl, inr, List, [], ◌∷◌, length, Option, Some, None, is_some, true≢false}
 use Rattle.std.specs.Prelude.{find, option_map, option_and_then}
 use Rattle.std.specs.Option.{option_map_or}
@@ -58,7 +58,7 @@ FitsAll s = (words : List Text) → level_fault s [] nothing_held words false []
 other_name : (a b : Text) → bytes_eq b b ≡ true → bytes_eq a b ≡ false → a ≡ b → ⊥
 other_name a b same other e = true≢false (sym same ∙ ap (λ t. bytes_eq t b) (sym e) ∙ other)
 
--- no command that runs a program
+-- not a command that runs a program
 record IsOther (name : Text) : Type 0 where
   run : bytes_eq name (codes "run") ≡ false
   replay : bytes_eq name (codes "replay") ≡ false
@@ -159,7 +159,7 @@ fits_verify words e = record {
   is_asked = refl;
 }
 
--- both are given where neither is missing
+-- both are given if neither is missing
 both_given : (a b : Bool) → cond (not a || (not b || false)) (kind.MissingRequiredArgument ∷ []) [] ≡ [] → (a ≡ true) × (b ≡ true)
 both_given true true e = (refl, refl)
 both_given true false e = absurd (some_kind kind.MissingRequiredArgument [] e)

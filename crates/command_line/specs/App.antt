@@ -1,4 +1,4 @@
--- The command line, as the parser's definition of a simple command speaks of it.
+-- The command line, in the terms of the parser's definition of a simple command.
 use Rattle.std.specs.Prelude.{ℕ, [], ◌∷◌, Some, codes, true, false}
 use Rattle.program_make.specs.Text.{size_limit}
 use Rattle.run_trace.specs.Settings.{chunk_limit, fuel_limit, words_limit, worker_limit}
@@ -7,11 +7,11 @@ use Rattle.clap.specs.Simple.{new_shape}
 use Rattle.clap.specs.declared.builder.action.ArgAction.TheVariants.{SetTrue}
 use Rattle.clap.specs.declared.builder.value_parser.ValueParser.TheVariants.{Unsigned}
 
--- FILE, any text, which may be left out
+-- FILE, any text, optional
 abbrev pub file : Rule
 file = new_rule (codes "FILE")
 
--- a number from `least` to `most` that has to be given
+-- a number from `least` to `most`, required
 abbrev pub number : Text → ℕ → ℕ → Rule
 number id least most = record (new_rule id) { required = true; parser = Some (Unsigned least most) }
 
@@ -46,7 +46,7 @@ inner = option (codes "inner") 16 words_limit (codes "8192")
 abbrev pub check : Shape
 check = record (new_shape (codes "check")) { rules = file ∷ [] }
 
--- a command that runs a program: its limits, and what is written beside its outputs
+-- a command that runs a program: its limits, and what is written besides its outputs
 abbrev pub runner : Text → Shape
 runner name = record (new_shape name) {
   rules = file
@@ -69,7 +69,7 @@ replay = runner (codes "replay")
 abbrev pub model : Shape
 model = runner (codes "model")
 
--- a command that reads a program with its trace, and writes nothing beside its answer: its limits alone
+-- a command that reads a program with its trace, and writes nothing besides its answer: its limits alone
 abbrev pub limited : Text → Shape
 limited name = record (new_shape name) {
   rules = file
@@ -95,7 +95,7 @@ make = record (new_shape (codes "make")) {
 abbrev pub verify : Shape
 verify = record (new_shape (codes "verify")) { rules = file ∷ [] }
 
--- one of the commands, and no words of help or of the version
+-- one of the commands, without help or version words
 abbrev pub app : App
 app = record {
   top = record (new_shape (codes "hheap")) {

@@ -1,7 +1,7 @@
--- What a command line asks for: the command and the values that the parser's definition of a simple command gives
--- for it. What that definition takes is taken, and what it refuses is no command line: `+5` and `007` are numbers, a
--- sign `-` makes none; any word that it takes for a text names a file, also the empty one; repeated options and flags,
--- values of flags, abbreviations, options before the command and all calls for help or the version are refused.
+-- What a command line asks for: the command and the values that the parser's definition of a simple command yields. It
+-- accepts and refuses what that definition does: `+5` and `007` are numbers, `-5` isn't; any word accepted as a text
+-- names a file, also the empty one; repeated options and flags, values of flags, abbreviations, options before the
+-- command, and all calls for help or the version are refused.
 use Rattle.std.specs.Prelude.{◌≤◌, ℕ, Bool, false, List, Option, Some, None, ⊤, codes, option_and_then, if◌then◌else◌}
 use Rattle.std.specs.Option.{option_map_or}
 use Rattle.std.specs.Str.{bytes_eq}
@@ -16,7 +16,7 @@ use Rattle.command_line.specs.declared.line.CommandLine.{CommandLine}
 use Rattle.command_line.specs.declared.line.CommandLine.TheVariants.{Check, Run, Replay, Model, Races, Image, Make, Verify}
 use Rattle.command_line.specs.declared.line.Options.{Options}
 
--- the file that is named, if one is
+-- the file, if one is named
 abbrev pub file_in : List Row → Option Text
 file_in = first_of (codes "FILE")
 
@@ -59,7 +59,7 @@ asked name rows =
     else (if bytes_eq name (codes "verify") then Some (Verify (file_in rows))
     else None)))))))
 
--- what the words after the program's name ask for; None where they are no command line
+-- what the words after the program's name ask for; None if they are no command line
 abbrev pub command_line : List Text → Option CommandLine
 command_line words =
     if is_empty (fault_of app words) then option_and_then (λ p. asked p.0 p.1) (subcommand_of app words)

@@ -1,4 +1,4 @@
--- What some words ask for.
+-- What some command lines ask for.
 use Rattle.std.specs.Prelude.{◌≡◌, List, [], ◌∷◌, Some, None, codes, true, false}
 use Rattle.clap.specs.Words.{Text}
 use Rattle.run_trace.specs.Settings.{usual_settings}
@@ -15,11 +15,11 @@ AskFor words line = command_line words ≡ Some line
 abbrev pub AreRefused : List Text → Type 0
 AreRefused words = command_line words ≡ None
 
--- the options where none are given
+-- the options if none are given
 abbrev pub usual_options : Options
 usual_options = record { settings = usual_settings; report = false; trace = false }
 
--- a file may be left out, and an empty word is a name
+-- FILE is optional, and an empty word is a name
 abbrev pub FilesAreNamed : Type 0
 FilesAreNamed =
     AskFor (codes "check" ∷ []) (Check None)

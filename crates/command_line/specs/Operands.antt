@@ -16,8 +16,8 @@ use Rattle.command_line.specs.declared.line.CommandLine.TheVariants.{Make}
 abbrev pub IsOperand : Text → Type 0
 IsOperand word = strip_byte 45 word ≡ None
 
--- two such words behind `make` ask for a program exactly where both are numbers in their ranges, and for its run where
--- the flag comes behind them
+-- two such words after `make` ask for a program if and only if both are numbers in their ranges, and for its run if
+-- the flag follows
 abbrev pub Makes : List Text → Bool → Type 0
 Makes flags run = (seed size : Text) → IsOperand seed → IsOperand size
     → command_line (codes "make" ∷ seed ∷ size ∷ flags)
@@ -25,7 +25,7 @@ Makes flags run = (seed size : Text) → IsOperand seed → IsOperand size
     then Some (Make (digits_value 10 (without_leading_plus seed)) (digits_value 10 (without_leading_plus size)) run)
     else None)
 
--- the option alone sets this number of the usual settings, exactly where the word behind it is a number in the range
+-- the option alone sets this number of the usual settings if and only if the word after it is a number in the range
 abbrev pub Sets : Text → (Option Text → Options → CommandLine) → Text → ℕ → ℕ → (ℕ → SettingsValue) → Type 0
 Sets command line flag least most limits = (word : Text) → IsOperand word
     → command_line (command ∷ flag ∷ word ∷ [])

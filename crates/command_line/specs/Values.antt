@@ -1,4 +1,4 @@
--- Which values the matches of a command have.
+-- The values of a command's matches.
 use Rattle.std.specs.Prelude.{◌≡◌, ◌⊎◌, ℕ, List, Option, Some, None, ⊤, codes}
 use Rattle.program_make.specs.Text.{size_limit}
 use Rattle.run_trace.specs.Settings.{chunk_limit, fuel_limit, words_limit, worker_limit}
@@ -12,7 +12,7 @@ HasNumber id least most rows = (t : Text) × (one_of id rows ≡ Some t) × IsUn
 abbrev pub HasFlag : Text → List Row → Type 0
 HasFlag id rows = (one_of id rows ≡ Some (codes "true")) ⊎ (one_of id rows ≡ Some (codes "false"))
 
--- the matches of `races` and `image` have all numbers in their ranges
+-- the matches of `races` and `image` have all numbers, within their ranges
 pub record HasSettings (rows : List Row) : Type 0 where
   pub workers : HasNumber (codes "workers") 1 worker_limit rows
   pub fuel : HasNumber (codes "fuel") 1 fuel_limit rows
@@ -41,7 +41,7 @@ pub record FitsCommand (name : Text) (rows : List Row) : Type 0 where
   pub image : name ≡ codes "image" → HasSettings rows
   pub make : name ≡ codes "make" → FitsMake rows
 
--- the same of the command that was met, if one was
+-- the same for the command that was met, if one was
 abbrev pub FitsFound : Option (Text × List Row) → Type 0
 FitsFound None = ⊤
 FitsFound (Some p) = FitsCommand p.0 p.1

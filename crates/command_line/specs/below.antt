@@ -1,3 +1,3 @@
--- What crates above name of the crates below.
+-- Re-exports from lower crates for the crates above.
 pub mod program_make
 pub mod run_trace

@@ -1,4 +1,4 @@
-// The command, as the parser of command lines wants it.
+// The command, as the parser of command lines expects it.
 
 ghost use Rattle.std.specs.Prelude.{◌≡◌, IfOk, false};
 ghost use Rattle.clap.specs.Words.{App, Rule, Shape, app_of, rule_of, with_rule, with_subcommand};
@@ -11,7 +11,7 @@ use program_make::SIZE_LIMIT;
 use run_trace::{CHUNK_LIMIT, FUEL_LIMIT, WORDS_LIMIT, WORKER_LIMIT};
 use std::alloc::{AllocError, Global};
 
-// A file's name, which may be left out.
+// A file's name, optional.
 fn file<'w>(alloc: Global) -> Arg<'w>
     ensures rule { rule_of result ≡ file }
     ensures own { result.global ≡ false }
@@ -19,7 +19,7 @@ fn file<'w>(alloc: Global) -> Arg<'w>
     Arg::new(alloc, "FILE")
 }
 
-// A number that has to be given.
+// A required number.
 fn number<'w>(alloc: Global, id: &'w str, least: u64, most: u64) -> Arg<'w>
     ensures rule { rule_of result ≡ number id.entry.now least most }
     ensures own { result.global ≡ false }
@@ -29,7 +29,7 @@ fn number<'w>(alloc: Global, id: &'w str, least: u64, most: u64) -> Arg<'w>
         .value_parser(ValueParser::unsigned(least, most))
 }
 
-// A number that has a default.
+// A number with a default.
 fn option<'w>(alloc: Global, name: &'w str, least: u64, most: u64, default: &'w str) -> Arg<'w>
     ensures rule { rule_of result ≡ option name.entry.now least most default.entry.now }
     ensures own { result.global ≡ false }
@@ -40,7 +40,7 @@ fn option<'w>(alloc: Global, name: &'w str, least: u64, most: u64, default: &'w 
         .default_value(default)
 }
 
-// How many workers there are.
+// The number of workers.
 fn workers<'w>(alloc: Global) -> Arg<'w>
     ensures rule { rule_of result ≡ workers }
     ensures own { result.global ≡ false }
@@ -64,7 +64,7 @@ fn chunks<'w>(alloc: Global) -> Arg<'w>
     option(alloc, "chunks", 2, CHUNK_LIMIT as u64, "4096")
 }
 
-// From so many words on a leaf collection is due.
+// The words from which on a leaf collection is due.
 fn leaf<'w>(alloc: Global) -> Arg<'w>
     ensures rule { rule_of result ≡ leaf }
     ensures own { result.global ≡ false }
@@ -72,7 +72,7 @@ fn leaf<'w>(alloc: Global) -> Arg<'w>
     option(alloc, "leaf", 16, WORDS_LIMIT as u64, "4096")
 }
 
-// From so many words on an inner collection is due.
+// The words from which on an inner collection is due.
 fn inner<'w>(alloc: Global) -> Arg<'w>
     ensures rule { rule_of result ≡ inner }
     ensures own { result.global ≡ false }
@@ -88,7 +88,7 @@ fn flag<'w>(alloc: Global, name: &'w str) -> Arg<'w>
     Arg::new(alloc, name).long(name).action(ArgAction::SetTrue)
 }
 
-/// A command with an argument more, where it was made.
+/// Adds an argument to a command, if it was made.
 pub fn with_argument<'w>(
     whole: Result<Command<'w>, AllocError>,
     argument: Arg<'w>,
@@ -137,7 +137,7 @@ fn model<'w>(alloc: Global) -> Result<Command<'w>, AllocError>
     runner(alloc, "model")
 }
 
-// A command that reads a program with its trace, and has limits alone.
+// A command that reads a program with its trace, and only has limits.
 fn limited<'w>(alloc: Global, name: &'w str) -> Result<Command<'w>, AllocError>
     ensures { IfOk result (IsShaped (limited name.entry.now)) }
 {
@@ -190,7 +190,7 @@ fn bare<'w>(alloc: Global) -> Command<'w>
         .subcommand_required(true)
 }
 
-// A command with a subcommand more, where both were made.
+// Adds a subcommand to a command, if both were made.
 fn with_command<'w>(
     whole: Result<Command<'w>, AllocError>,
     part: Result<Command<'w>, AllocError>,

@@ -1,4 +1,4 @@
-// What the words of a call ask for.
+// What the command-line arguments ask for.
 #![tactic(auto)]
 
 mod command;

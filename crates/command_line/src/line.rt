@@ -33,17 +33,17 @@ impl<'w> FileName<'w> {
     }
 }
 
-/// How a program is to be run, and what is written beside its outputs.
+/// How to run a program, and what to write besides its outputs.
 #[derive(Clone, Copy)]
 pub struct Options {
     pub settings: Settings,
-    /// The report is asked for.
+    /// Write the report.
     pub report: bool,
-    /// The trace is asked for.
+    /// Write the trace.
     pub trace: bool,
 }
 
-/// A command with its values. A file that is left out stands for standard input.
+/// A command with its values. Without a file it reads standard input.
 #[derive(Drop)]
 pub enum CommandLine<'w> {
     /// Reads a program.
@@ -60,12 +60,12 @@ pub enum CommandLine<'w> {
         file: Option<FileName<'w>>,
         options: Options,
     },
-    /// Runs a program with its trace on the definitions alone.
+    /// Runs a program with its trace by the definitions alone.
     Model {
         file: Option<FileName<'w>>,
         options: Options,
     },
-    /// Tells the races of a program with its trace.
+    /// Reports the races of a program with its trace.
     Races {
         file: Option<FileName<'w>>,
         settings: Settings,
@@ -75,7 +75,7 @@ pub enum CommandLine<'w> {
         file: Option<FileName<'w>>,
         settings: Settings,
     },
-    /// Writes the program of this seed and this size, which is 1 to 1,000; or runs it, and writes what its run writes.
+    /// Writes the program of this seed and this size, 1 to 1,000; or runs it, and writes what its run writes.
     Make {
         seed: u32,
         size: u32,

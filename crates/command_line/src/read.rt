@@ -116,7 +116,7 @@ fn found<'w>(matches: &ArgMatches<'w>) -> Option<CommandLine<'w>>
     }
 }
 
-// The answer to words that aren't taken, or to want of memory.
+// The answer if the words aren't a command line, or memory has run out.
 fn refused<'w>(kind: ErrorKind) -> Result<Option<CommandLine<'w>>, AllocError>
     ensures { IfOk result (λ c. (c ≡ None) × (kind ≢ ErrorKind.OutOfMemory)) }
 {
@@ -126,7 +126,7 @@ fn refused<'w>(kind: ErrorKind) -> Result<Option<CommandLine<'w>>, AllocError>
     }
 }
 
-/// What the words after the program's name ask for; None where they are no command line.
+/// What the words after the program's name ask for; None if they are no command line.
 pub fn read_command_line<'w>(
     alloc: Global,
     words: &'w [String],

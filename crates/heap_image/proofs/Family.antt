@@ -80,11 +80,11 @@ module _ (p : Picture) (s : IsSoundPicture p) where
   first_task zero t a h = (h.0, h.1, h.2)
   first_task (suc n) t a h = (h.1.0, h.1.1, h.1.2)
 
-  -- who has an ancestor is a task of the picture
+  -- whatever has an ancestor is a task of the picture
   pub has_ancestor : (a t : ℕ) → IsAbove p.tasks a t → HasTask p t
   has_ancestor a t h = first_task h.0 t a h.1
 
-  -- how the owner of what a field leads to stands to the object's own
+  -- how the owner of a field's target is related to the object's owner
   pub data Stands (a k t u : ℕ) : Type 0 where
     own : relation_of es t u ≡ Own → Stands a k t u
     up : relation_of es t u ≡ Above → Stands a k t u

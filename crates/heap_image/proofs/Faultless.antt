@@ -1,4 +1,4 @@
--- In the text of a sound picture the verifier finds no fault.
+-- The verifier finds no fault in the text of a sound picture.
 use Rattle.std.proofs.Common.{◌≡◌, ◌<◌, ◌≤◌, ◌+◌, ◌-◌, ◌^◌, ℕ, suc, true, false, List, [], ◌∷◌, ◌++◌, length, map, refl, ap, ◌∙◌, inl, inr, arith}
 use Rattle.std.specs.Prelude.{None, nat_le}
 use Rattle.std.proofs.lemmas.List.{length-map}
@@ -23,7 +23,7 @@ use Rattle.heap_image.proofs.States.{object_table, tasks_read, chunks_read, obje
 use Rattle.heap_image.proofs.Steps.{task_step, chunk_step, object_step, field_step, end_clear}
 use Rattle.heap_image.proofs.Had.{behind_title, whole_picture, has_all}
 
--- HOW MANY OBJECTS THERE ARE
+-- THE NUMBER OF OBJECTS
 
 one_more : (n x low high : ℕ) → n ≤ high - suc x → low ≤ x → x < high → suc n ≤ high - low
 one_more n x low high a b c = omega (arith, a, b, c)

@@ -1,4 +1,4 @@
--- What the whole text of a picture has.
+-- What the whole text of a picture says.
 use Rattle.std.proofs.Common.{◌≡◌, ◌≤◌, ℕ, Bool, true, false, List, [], ◌∷◌, ◌++◌, length, map, refl, ap, sym, ◌∙◌, inl, inr, arith, subst}
 use Rattle.std.specs.Prelude.{Option, Some, None, nat_eq}
 use Rattle.std.proofs.lemmas.Bool.{eq-eqb, eqb-true}
@@ -20,7 +20,7 @@ use Rattle.heap_image.specs.Told.{object_said}
 use Rattle.heap_image.proofs.Passes.{with_said}
 use Rattle.heap_image.proofs.Leads.{HasAll, HasObject}
 
--- all that a picture has, behind the title
+-- all of a picture, after the title
 abbrev pub behind_title : Picture → List Said
 behind_title p =
     map OfTask p.tasks
@@ -42,7 +42,7 @@ most_new : (o : Option ℕ) (n : ℕ) → n ≤ most o n
 most_new None n = omega arith
 most_new (Some k) n = grind arith
 
--- with an object's line more
+-- with one more object line
 module _ (es : List (ℕ × ℕ)) (b k : ℕ) where
   abbrev put : List (ℕ × ℕ)
   put = with_entry es b (most (found es b) k)

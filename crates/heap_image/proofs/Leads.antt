@@ -1,4 +1,4 @@
--- The references of an object of a sound picture lead where they may.
+-- The references of an object of a sound picture are allowed.
 use Rattle.std.proofs.Common.{◌≡◌, ◌≤◌, ◌+◌, ℕ, suc, Bool, true, false, List, [], ◌∷◌, length, refl, ap, sym, ◌∙◌, inl, inr, arith}
 use Rattle.std.specs.Prelude.{Option, Some, None, ◌==◌, ◌&&◌, ◌||◌, not, slice_get, is_some}
 use Rattle.std.specs.List.{list_any}
@@ -20,11 +20,11 @@ use Rattle.heap_image.proofs.Family.Stands.{own, up, down}
 use Rattle.heap_image.proofs.Owners.{owner_found, owned_from}
 use Rattle.heap_image.proofs.States.{objects_read}
 
--- an object at a, of which a line has n references
+-- some line says an object at a with n references
 abbrev pub HasObject : Whole → ℕ → ℕ → Type 0
 HasObject w a n = (m : ℕ) × (found w.objects a ≡ Some m) × (n ≤ m)
 
--- what the whole text has: all objects and fields of a picture
+-- what the whole text says: all objects and fields of a picture
 pub record HasAll (p : Picture) (w : Whole) : Type 0 where
   pub objects : (o : Picked) → In p.objects o → HasObject w o.address (length o.references)
   pub fields : (f : Remembered) → In p.fields f → is_among same_field w.fields (f.task, f.address, f.place) ≡ true

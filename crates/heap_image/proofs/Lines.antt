@@ -22,7 +22,7 @@ use Rattle.heap_image.specs.Text.{parent_word, kind_word, title_words, task_word
 use Rattle.heap_image.specs.Told.{object_said}
 use Rattle.heap_image.proofs.Words.{proper_decimal, proper_signed, short_is_long, short_again, long_again, signed_again, decimal_no_hyphen}
 
--- words that are written with one space between them say this
+-- words written with single spaces between them say this
 pub record Tells (ws : List (List ℕ)) (s : Said) : Type 0 where
   pub proper : AreProper ws
   pub says : said_by_words ws ≡ s

@@ -1,4 +1,4 @@
--- How the verifier goes through what the lines of one kind say.
+-- How the verifier passes lines of one kind.
 use Rattle.std.proofs.Common.{◌≡◌, ◌<◌, ◌+◌, ℕ, Bool, true, false, List, [], ◌∷◌, ◌++◌, map, arith, refl, ap, sym, subst, ◌∙◌, inl, inr, append_assoc, append-nil}
 use Rattle.std.specs.Prelude.{Option, Some, None, not, ◌||◌}
 use Rattle.listed.specs.Members.{In}
@@ -13,7 +13,7 @@ use Rattle.image_check.specs.Read.{rises, position_of, after_line, with_line, wi
 use Rattle.image_check.specs.Fault.{cause_on, cause_by, is_misplaced, has_wrong_place, breaks_form, or_later, fault_from, after_lines}
 use Rattle.heap_image.proofs.Splits.{IsCut}
 
--- WHAT IS SAID IN PLACE OF LINES
+-- STATEMENTS INSTEAD OF LINES
 
 abbrev pub none_left : List Said → Bool
 none_left [] = true
@@ -56,7 +56,7 @@ more_left [] ss h = h
 more_left (x ∷ xs) ss h = refl
 
 module _ {X : Type 0} (w : Whole) (say : X → Said) (state : List X → Read) where
-  -- a line more is faultless, and is read
+  -- one more line has no fault, and is read
   pub record IsStep (front : List X) (x : X) : Type 0 where
     pub clear : cause_on w (state front) false (say x) ≡ None
     pub reads : after_line (state front) (say x) ≡ state (front ++ x ∷ [])
@@ -77,7 +77,7 @@ module _ {X : Type 0} (w : Whole) (say : X → Said) (state : List X → Read) w
       (λ a y b c. steps a y b (record { cut = shifted front x left ∙ c.cut }))
       (λ m. subst (λ f. fault_of w (state f) m rest ≡ None) (shifted front x left) (behind m))
 
-  -- the lines of all items are faultless where each is, and what comes behind
+  -- the lines of all items have no fault if each has none, nor has what follows
   pub faultless_items : (xs : List X) (n : ℕ) (rest : List Said) → none_left rest ≡ false → ((a : List X) (x : X) (b : List X) → IsCut xs a x b → IsStep a x)
       → ((m : ℕ) → fault_of w (state xs) m rest ≡ None) → fault_of w (state []) n (map say xs ++ rest) ≡ None
   faultless_items xs n rest more steps behind = faultless_on [] xs n rest more steps behind
@@ -96,7 +96,7 @@ module _ {X : Type 0} (w : Whole) (say : X → Said) (state : List X → Read) w
 -- THE LAST OF THEM
 
 module _ {X A : Type 0} (at : X → A) where
-  -- what the last item is at, or else what was before
+  -- the position of the last item, or else the previous one
   abbrev pub last_of : A → List X → A
   last_of before [] = before
   last_of before (x ∷ xs) = last_of (at x) xs
@@ -109,7 +109,7 @@ module _ {X A : Type 0} (at : X → A) where
   last_from P before [] h each = h
   last_from P before (y ∷ ys) h each = last_from P (at y) ys (each y (inl refl)) (λ x i. each x (inr i))
 
--- a line that comes behind the last one, and is none of the last
+-- a line in order after the last one, which isn't the end line
 pub formed : (w : Whole) (r : Read) (s : Said) (q p : Position) → r.last ≡ Some q → position_of s ≡ Some p → (s_is : is_misplaced r.last s ≡ has_wrong_place r.last (position_of s)) → rises q p ≡ true → cause_by w r s ≡ None → cause_on w r false s ≡ None
 formed w r s q p at_last at_pos is up none =
     let e : is_misplaced r.last s ≡ false = is ∙ (λ j. has_wrong_place (at_last j) (at_pos j)) ∙ ap not up in

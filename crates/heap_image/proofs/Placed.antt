@@ -1,4 +1,4 @@
--- An object of a sound picture is born once, and lies apart from the one before.
+-- An object of a sound picture has a unique birth, and doesn't overlap the previous object.
 use Rattle.std.proofs.Common.{◌≡◌, ◌<◌, ◌≤◌, Bool, true, false, List, refl, sym, arith}
 use Rattle.std.specs.Prelude.{Option, None, ◌==◌, nat_lt}
 use Rattle.std.proofs.lemmas.Bool.{and_parts, eqb-true, le-ltb}

@@ -1,4 +1,4 @@
--- A sound picture: an object of a waiting task leads into the heap of its child, which runs and remembers the field.
+-- A sound picture: an object of a waiting task refers to one of its child, which runs and remembers the field.
 use Rattle.std.proofs.Common.{◌≡◌, ◌<◌, ℕ, zero, suc, true, [], ◌∷◌, refl, ap, sym, subst, ◌∙◌, inl, inr, arith}
 use Rattle.std.specs.Prelude.{Some, None, slice_get}
 use Rattle.listed.specs.Members.{In}
@@ -111,7 +111,7 @@ parents_known t q (inr (inl e)) h =
     (subst (HasTask sample) z has_parent, (let n : 1 ≡ t.number = ap (λ (k : Task). k.number) e in omega (arith, z, n)))
 parents_known t q (inr (inr i)) h = absurd i
 
--- who owns an address goes by its chunk's number
+-- the owner of an address depends on its chunk's number
 owner_is : (c : Chunk) → In sample.chunks c → c.owner ≡ c.number
 owner_is = each_two (λ c. c.owner ≡ c.number) upper lower refl refl
 

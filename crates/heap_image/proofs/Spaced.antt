@@ -13,7 +13,7 @@ use Rattle.image_check.specs.declared.line.State.{State}
 use Rattle.image_check.specs.Line.{state_word}
 use Rattle.heap_image.specs.Text.{line, kind_word, parent_word, task_line, object_line, head_words, object_words, reference_text, number_text}
 
--- a word behind a space
+-- a word after a space
 abbrev behind_space : List ℕ → List ℕ
 behind_space w = 32 ∷ w
 
@@ -21,7 +21,7 @@ first_spaced : (w : List ℕ) (vs : List (List ℕ)) → spaced (w ∷ vs) ≡ w
 first_spaced w [] = sym (append-nil w)
 first_spaced w (v ∷ vs) = ap (λ x. w ++ 32 ∷ x) (first_spaced v vs)
 
--- words behind others
+-- words after others
 spaced_more : (w : List ℕ) (ws vs : List (List ℕ)) → spaced ((w ∷ ws) ++ vs) ≡ spaced (w ∷ ws) ++ flat_map behind_space vs
 spaced_more w [] vs = first_spaced w vs
 spaced_more w (u ∷ us) vs = ap (λ x. w ++ 32 ∷ x) (spaced_more u us vs) ∙ sym (append_assoc w (32 ∷ spaced (u ∷ us)) (flat_map behind_space vs))
@@ -32,7 +32,7 @@ fields_spaced rs ns =
     ∙ ap (λ x. x ++ flat_map behind_space (map signed_decimal ns)) (flat_map-map behind_space decimal rs)
     ∙ ap (λ x. flat_map reference_text rs ++ x) (flat_map-map behind_space signed_decimal ns)
 
--- an object's words behind the first, in front of its fields
+-- an object's words after the first, before its fields
 abbrev more_head : Picked → List (List ℕ)
 more_head o = decimal o.address ∷ decimal o.birth.task ∷ decimal o.birth.count ∷ kind_word o.mutable ∷ decimal (length o.references) ∷ decimal (length o.numbers) ∷ []
 
@@ -62,7 +62,7 @@ child_line t p w e f = task_by t.number t.parent (Some p) t.state w e f
 
 -- LINES
 
--- a head and the fields behind it make the line of an object
+-- a head and the fields after it make an object line
 pub object_made : (o : Picked) (before head bytes begun first more : List ℕ) (rs : List ℕ) (ns : List ℤ) → head ≡ spaced (head_words o) → bytes ≡ head → begun ≡ before ++ bytes
     → rs ≡ o.references → ns ≡ o.numbers → first ≡ begun ++ flat_map reference_text rs → more ≡ first ++ flat_map number_text ns → more ++ 10 ∷ [] ≡ before ++ object_line o
 object_made o before head bytes begun first more rs ns eh eb es er en ef em =
@@ -74,7 +74,7 @@ object_made o before head bytes begun first more rs ns eh eb es er en ef em =
     four_joined : (a b c d : List ℕ) → (((a ++ b) ++ c) ++ d) ++ 10 ∷ [] ≡ a ++ ((b ++ (c ++ d)) ++ 10 ∷ [])
     four_joined a b c d = simp append_assoc
 
--- what is written where it succeeds
+-- what is written on success
 pub on_ok : {E : Type 0} {Q : Type 0} (r : Result (Unit {0}) E) (new old more : List ℕ) → new ≡ (if is_ok r then old ++ more else old) → (new ≡ old ++ more → Q) → OnOk r Q
 on_ok (Ok u) new old more e f = f e
 on_ok (Err x) new old more e f = tt

@@ -1,4 +1,4 @@
--- Items of a list that rises, before and behind one of them.
+-- An ascending list, cut before and after one of its items.
 use Rattle.std.proofs.Common.{◌≡◌, ◌<◌, ℕ, suc, Bool, true, false, List, [], ◌∷◌, ◌++◌, length, arith, refl, ap, sym, subst, ◌∙◌, inl, inr, ◌⊎◌}
 use Rattle.std.specs.Prelude.{Some, slice_get, nat_lt}
 use Rattle.listed.specs.Members.{In}
@@ -55,7 +55,7 @@ module _ {A : Type 0} where
         let j = in_got xs y b in
         let f : Some x ≡ Some y = sym i.1 ∙ ap (slice_get xs) (one_place i.0 j.0 x y i.1 j.1 e) ∙ j.1 in cc
 
-  -- a list, cut before and behind one item
+  -- a list, cut before and after one item
   pub record IsCut (xs a : List A) (x : A) (b : List A) : Type 0 where
     pub cut : xs ≡ a ++ x ∷ b
 

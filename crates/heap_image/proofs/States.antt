@@ -1,4 +1,4 @@
--- What the verifier has read behind each line of a picture's text.
+-- What the verifier has read after each line of a picture's text.
 use Rattle.std.proofs.Common.{◌<◌, ℕ, List, [], length, map, arith}
 use Rattle.std.specs.Prelude.{Option, Some, None}
 use Rattle.image_check.specs.declared.line.Task.{Task}

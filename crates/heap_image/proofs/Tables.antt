@@ -1,4 +1,4 @@
--- What is found in the tables that the verifier makes of a picture's lists.
+-- Lookups in the tables that the verifier makes of a picture's lists.
 use Rattle.std.proofs.Common.{◌≡◌, ℕ, Bool, true, false, List, [], ◌∷◌, ◌++◌, map, refl, ap, sym, ◌∙◌, inl, inr}
 use Rattle.std.specs.Prelude.{Some, None, nat_eq, is_some}
 use Rattle.std.proofs.lemmas.Option.{same_Some}
@@ -36,7 +36,7 @@ module _ {X V : Type 0} (key : X → ℕ) (val : X → V) where
       by true e g again = (y, inl refl, sym (eqb-true n (key y) e), same_Some (val y) v (rw e at g))
       by false e g again = let r = again (rw e at g) in (r.0, inr r.1, r.2, r.3)
 
-  -- an entry more, under a number that none has
+  -- one more entry, under a new number
   pub entry_more : (xs : List X) (x : X) → ((y : X) → In xs y → key y ≡ key x → ⊥) → with_entry (table xs) (key x) (val x) ≡ table (xs ++ x ∷ [])
   entry_more [] x fresh = refl
   entry_more (y ∷ ys) x fresh = rw (ne_eqb (key x) (key y) (λ e. fresh y (inl refl) (sym e))) (ap (λ es. entry y ∷ es) (entry_more ys x (λ z i. fresh z (inr i))))
@@ -57,6 +57,6 @@ module _ {X K : Type 0} (of : X → K) (test : K → K → Bool) where
   items_more [] x = refl
   items_more (y ∷ ys) x = ap (λ es. of y ∷ es) (items_more ys x)
 
-  -- an item more, that isn't among the others
+  -- one more item that isn't among the others
   pub item_more : (xs : List X) (x : X) → is_among test (map of xs) (of x) ≡ false → with_item test (map of xs) (of x) ≡ map of (xs ++ x ∷ [])
   item_more xs x e = rw e (items_more xs x)

@@ -1,4 +1,4 @@
--- Words of numbers are read again as these numbers.
+-- The words of numbers are read as these numbers.
 use Rattle.std.proofs.Common.{◌≡◌, ◌<◌, ◌^◌, ℕ, suc, true, false, List, [], ◌∷◌, arith, refl, sym}
 use Rattle.std.specs.Prelude.{ℤ, pos, negsuc, nat_lt, ◌==◌, codes, Some}
 use Rattle.std.specs.Str.{bytes_eq}

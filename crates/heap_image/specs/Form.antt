@@ -1,4 +1,4 @@
--- What the lines of an image can say: numbers in their ranges.
+-- What the lines of an image can say: numbers within their ranges.
 use Rattle.std.specs.Prelude.{◌≡◌, ◌<◌, ◌≤◌, ◌+◌, ◌^◌, ◌%◌, ℕ, ℤ, true, Option, Some, None, length}
 use Rattle.hh_lang.specs.Number.{fits_i64}
 use Rattle.listed.specs.Members.{In}
@@ -11,11 +11,11 @@ use Rattle.image_check.specs.Line.{most_chunk_words, most_fields}
 use Rattle.heap_image.specs.declared.picture.Picked.{Picked}
 use Rattle.heap_image.specs.declared.picture.Picture.{Picture}
 
--- an address or a place; tasks, chunks and births have numbers of 32 bits
+-- an address or an offset; tasks, chunks and births have 32-bit numbers
 abbrev pub IsLong : ℕ → Type 0
 IsLong n = n < 2 ^ 64
 
--- task 0 alone has no parent
+-- only task 0 has no parent
 abbrev pub HasFitParent : ℕ → Option ℕ → Type 0
 HasFitParent t None = t ≡ 0
 HasFitParent t (Some p) = (0 < t) × IsWord p
@@ -24,7 +24,7 @@ pub record IsTaskForm (t : Task) : Type 0 where
   pub number : IsWord t.number
   pub parent : HasFitParent t.number t.parent
 
--- a chunk's words are a multiple of a unit's, up to the largest chunk's
+-- a chunk's words are a multiple of a unit's, up to the largest chunk
 pub record IsChunkForm (c : Chunk) : Type 0 where
   pub number : IsWord c.number
   pub owner : IsWord c.owner
@@ -46,7 +46,7 @@ pub record IsFieldForm (f : Remembered) : Type 0 where
   pub address : IsLong f.address
   pub place : IsLong f.place
 
--- all numbers of a picture are in their ranges
+-- all numbers of a picture are within their ranges
 pub record IsInForm (p : Picture) : Type 0 where
   pub tasks : (t : Task) → In p.tasks t → IsTaskForm t
   pub chunks : (c : Chunk) → In p.chunks c → IsChunkForm c

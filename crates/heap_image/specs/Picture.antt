@@ -1,4 +1,4 @@
--- Pictures in which everything fits together.
+-- Sound pictures.
 use Rattle.std.specs.Prelude.{◌≡◌, ◌<◌, ◌≤◌, ◌+◌, ◌⊎◌, ℕ, zero, suc, Some, List, length, slice_get}
 use Rattle.listed.specs.Members.{In}
 use Rattle.image_check.specs.declared.line.State.TheVariants.{Running}
@@ -12,7 +12,7 @@ use Rattle.heap_image.specs.Form.{IsInForm}
 
 -- ORDER
 
--- each item stands before all behind it
+-- each item is less than all after it
 abbrev pub Rises : {A : Type 0} → (A → A → Type 0) → List A → Type 0
 Rises {A} before xs = (i j : ℕ) (x y : A) → i < j → slice_get xs i ≡ Some x → slice_get xs j ≡ Some y → before x y
 
@@ -25,7 +25,7 @@ ChunkBefore c d = c.number < d.number
 abbrev pub ObjectBefore : Picked → Picked → Type 0
 ObjectBefore o q = o.address < q.address
 
--- by task, address and place
+-- by task, address and index
 abbrev pub FieldBefore : Remembered → Remembered → Type 0
 FieldBefore f g =
     (f.task < g.task)
@@ -38,7 +38,7 @@ FieldBefore f g =
 abbrev pub IsParent : List Task → ℕ → ℕ → Type 0
 IsParent tasks t p = (k : Task) × In tasks k × (k.number ≡ t) × (k.parent ≡ Some p)
 
--- links from a task to its parent lead to a: one, and so many more
+-- n + 1 links from a task to its parent lead to a
 abbrev pub ParentsLead : ℕ → List Task → ℕ → ℕ → Type 0
 ParentsLead zero tasks t a = IsParent tasks t a
 ParentsLead (suc n) tasks t a = (p : ℕ) × IsParent tasks t p × ParentsLead n tasks p a
@@ -55,26 +55,26 @@ IsRunning p t = (k : Task) × In p.tasks k × (k.number ≡ t) × (k.state ≡ R
 
 -- PLACES
 
--- the chunk that an address lies in; 0 is nil
+-- the chunk of an address; 0 is nil
 abbrev pub LiesIn : Picture → ℕ → Chunk → Type 0
 LiesIn p a c = In p.chunks c × (0 < a) × (chunk_number a ≡ c.number)
 
--- the task that owns what lies at an address
+-- the owner of an address
 abbrev pub IsOwned : Picture → ℕ → ℕ → Type 0
 IsOwned p a t = (c : Chunk) × LiesIn p a c × (c.owner ≡ t)
 
--- where an object ends in its chunk, behind its header, its birth and its fields
+-- where an object ends in its chunk, after its header, its birth and its fields
 abbrev pub end_of : Picked → ℕ
 end_of o = offset o.address + 2 + length o.references + length o.numbers
 
--- an object lies inside a chunk, whose owner isn't running
+-- an object lies inside a chunk, and the chunk's owner isn't running
 pub record IsPlaced (p : Picture) (o : Picked) : Type 0 where
   pub chunk : Chunk
   pub lies : LiesIn p o.address chunk
   pub inside : end_of o ≤ chunk.words
   pub rests : IsRunning p chunk.owner → ⊥
 
--- of two objects in one chunk the first ends before the second begins
+-- two objects in one chunk don't overlap
 abbrev pub AreApart : Picked → Picked → Type 0
 AreApart o q = o.address < q.address → chunk_number o.address ≡ chunk_number q.address → end_of o ≤ offset q.address
 
@@ -83,11 +83,11 @@ AreApart o q = o.address < q.address → chunk_number o.address ≡ chunk_number
 abbrev pub HasObject : Picture → ℕ → Type 0
 HasObject p a = (o : Picked) × In p.objects o × (o.address ≡ a)
 
--- nil, at an object, or in a running task's chunk
+-- nil, an object's address, or in a running task's chunk
 abbrev pub LeadsSomewhere : Picture → ℕ → Type 0
 LeadsSomewhere p v = (v ≡ 0) ⊎ (HasObject p v ⊎ ((u : ℕ) × IsOwned p v u × IsRunning p u))
 
--- from the field k of an object of heap t at a to heap u: it stays inside, goes up, or is remembered
+-- a reference from field k of heap t's object at a to heap u stays inside, goes up, or is remembered
 abbrev pub KeepsToPath : Picture → ℕ → ℕ → ℕ → ℕ → Type 0
 KeepsToPath p a k t u =
     (u ≡ t)
@@ -96,7 +96,7 @@ KeepsToPath p a k t u =
 
 -- REMEMBERED FIELDS
 
--- a reference of an object, whose owner is above the heap that remembers it
+-- a reference field of an object whose owner is above the heap that remembers it
 pub record IsFit (p : Picture) (f : Remembered) : Type 0 where
   pub object : Picked
   pub drawn : In p.objects object
@@ -108,7 +108,7 @@ pub record IsFit (p : Picture) (f : Remembered) : Type 0 where
 
 -- THE WHOLE
 
--- a picture in which everything fits together
+-- a sound picture
 pub record IsSoundPicture (p : Picture) : Type 0 where
   pub form : IsInForm p
   pub tasks_rise : Rises TaskBefore p.tasks

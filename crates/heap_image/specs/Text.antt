@@ -32,7 +32,7 @@ task_words t = codes "task" ∷ decimal t.number ∷ parent_word t.parent ∷ st
 abbrev pub chunk_words : Chunk → List (List ℕ)
 chunk_words c = codes "chunk" ∷ decimal c.number ∷ decimal c.owner ∷ decimal c.words ∷ []
 
--- an object's words in front of its fields
+-- an object's words before its fields
 abbrev pub head_words : Picked → List (List ℕ)
 head_words o =
     codes "object" ∷ decimal o.address ∷ decimal o.birth.task ∷ decimal o.birth.count ∷ kind_word o.mutable

@@ -1,4 +1,4 @@
--- What the text of a picture says, and what the verifier says of it.
+-- What the text of a picture says, and what the verifier answers to it.
 use Rattle.std.specs.Prelude.{◌≡◌, ◌<◌, ◌≤◌, Some, None, List, [], ◌∷◌, ◌++◌, length, map}
 use Rattle.text_lines.specs.Lines.{lines_of, most_bytes}
 use Rattle.image_check.specs.declared.line.Object.{Object}
@@ -12,14 +12,14 @@ use Rattle.heap_image.specs.Form.{IsLong, IsInForm}
 use Rattle.heap_image.specs.Picture.{IsSoundPicture}
 use Rattle.heap_image.specs.Text.{text_of}
 
--- an object as its line is read: its references, and how many numbers it has
+-- an object as its line is read: its references, and the number of its number fields
 abbrev pub as_read : Picked → Object
 as_read o = record { address = o.address; birth = o.birth; references = o.references; numbers = length o.numbers }
 
 abbrev pub object_said : Picked → Said
 object_said o = OfObject (as_read o)
 
--- all that a picture has, line by line
+-- all of a picture, line by line
 abbrev pub all_said : Picture → List Said
 all_said p =
     (Title ∷ [])
@@ -29,11 +29,11 @@ all_said p =
     ++ map OfRemembered p.fields
     ++ OfEnd (length p.objects) ∷ []
 
--- the lines of its text say all that a picture has, in order, and nothing else; behind the last line feed is nothing
+-- the lines of its text say all of a picture, in order, and nothing else; nothing follows the last line feed
 abbrev pub PicturesAreRead : Type 0
 PicturesAreRead = (p : Picture) → IsInForm p → IsLong (length p.objects) → map said_by (lines_of (text_of p)) ≡ all_said p ++ Nothing ∷ []
 
--- the verifier finds no fault in the text of a picture, but that it may be too long, and counts its objects
+-- the verifier finds no fault in the text of a picture unless it is too long, and counts its objects
 pub record IsFaultless (p : Picture) : Type 0 where
   pub fits : length (text_of p) ≤ most_bytes → image_fault (text_of p) ≡ None
   pub long : most_bytes < length (text_of p) → image_fault (text_of p) ≡ Some too_long
@@ -42,6 +42,6 @@ pub record IsFaultless (p : Picture) : Type 0 where
 abbrev pub SoundIsFaultless : Type 0
 SoundIsFaultless = (p : Picture) → IsSoundPicture p → IsFaultless p
 
--- there are sound pictures, with objects and remembered fields
+-- there is a sound picture with objects and remembered fields
 abbrev pub SomePictureIsSound : Type 0
 SomePictureIsSound = (p : Picture) × IsSoundPicture p × (0 < length p.objects) × (0 < length p.fields)

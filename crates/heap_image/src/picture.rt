@@ -3,7 +3,7 @@
 use image_check::{Birth, Chunk, Remembered, Task};
 use listed::Listed;
 
-/// An object as it is drawn. A reference is an address, or 0 for nil.
+/// An object. A reference is an address, or 0 for nil.
 #[derive(Drop)]
 pub struct Picked {
     pub address: u64,
@@ -13,15 +13,15 @@ pub struct Picked {
     pub numbers: Listed<i64>,
 }
 
-/// All that an image tells.
+/// What an image shows.
 #[derive(Drop)]
 pub struct Picture {
     /// The tasks that haven't joined.
     pub tasks: Listed<Task>,
     /// The chunks in use.
     pub chunks: Listed<Chunk>,
-    /// The objects of the heaps handed back.
+    /// The objects of heaps at rest.
     pub objects: Listed<Picked>,
-    /// The reference fields that the sets of heaps have.
+    /// The reference fields that heaps remember.
     pub fields: Listed<Remembered>,
 }

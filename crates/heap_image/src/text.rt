@@ -35,7 +35,7 @@ fn chunk_text(alloc: Global, chunk: &Chunk) -> Result<String, AllocError>
     format!(in alloc; "chunk {} {} {}\n", chunk.number, chunk.owner, chunk.words)
 }
 
-// An object's line in front of its fields.
+// The start of an object's line, before its fields.
 fn head_text(alloc: Global, object: &Picked) -> Result<String, AllocError>
     ensures { IfOk result (λ text. string_bytes text ≡ spaced (head_words object.now)) }
 {
@@ -66,7 +66,7 @@ fn end_text(alloc: Global, objects: usize) -> Result<String, AllocError>
     format!(in alloc; "end: image {objects}\n")
 }
 
-// Adds a reference behind a space.
+// Adds a reference after a space.
 fn add_reference(alloc: Global, text: &mut Vec<u8>, reference: u64) -> Result<(), AllocError>
     ensures { OnOk result (text.new.items ≡ text.old.items ++ reference_text reference) }
 {
@@ -74,7 +74,7 @@ fn add_reference(alloc: Global, text: &mut Vec<u8>, reference: u64) -> Result<()
     text.extend_from_slice(word.as_bytes())
 }
 
-// Adds a number behind a space.
+// Adds a number after a space.
 fn add_number(alloc: Global, text: &mut Vec<u8>, number: i64) -> Result<(), AllocError>
     ensures { OnOk result (text.new.items ≡ text.old.items ++ number_text number) }
 {
@@ -82,7 +82,7 @@ fn add_number(alloc: Global, text: &mut Vec<u8>, number: i64) -> Result<(), Allo
     text.extend_from_slice(word.as_bytes())
 }
 
-// Adds references, each behind a space.
+// Adds references, each after a space.
 fn add_references(alloc: Global, text: &mut Vec<u8>, references: &[u64]) -> Result<(), AllocError>
     ensures { OnOk result (text.new.items ≡ text.old.items ++ flat_map reference_text references.now) }
 {
@@ -92,7 +92,7 @@ fn add_references(alloc: Global, text: &mut Vec<u8>, references: &[u64]) -> Resu
     Ok(())
 }
 
-// Adds numbers, each behind a space.
+// Adds numbers, each after a space.
 fn add_numbers(alloc: Global, text: &mut Vec<u8>, numbers: &[i64]) -> Result<(), AllocError>
     ensures { OnOk result (text.new.items ≡ text.old.items ++ flat_map number_text numbers.now) }
 {

@@ -1,4 +1,4 @@
--- What is found once an entry is put.
+-- Lookups after an insertion.
 use Rattle.std.proofs.Common.{◌≡◌, ℕ, Bool, true, false, cond, List, [], ◌∷◌, refl, ap, arith}
 use Rattle.std.specs.Prelude.{Some, nat_eq}
 use Rattle.image_check.specs.Table.{found, with_entry}

@@ -1,4 +1,4 @@
--- Ancestors by links are those by numbers.
+-- Ancestors by links are ancestors by numbers.
 use Rattle.std.proofs.Common.{◌≡◌, ◌<◌, ◌≤◌, ◌+◌, ◌-◌, ◌==◌, ℕ, zero, suc, Bool, true, false, cond, List, [], ◌∷◌, ◌++◌, length, get_or, refl, ap, sym, ◌∙◌, arith, subst, length-append}
 use Rattle.std.specs.Prelude.{Option, Some, None, slice_get, nat_eq, is_some, position, MatchOption}
 use Rattle.std.specs.Option.{option_map}
@@ -174,7 +174,7 @@ module _ (es : Tasks) (ks : List Link) (L : AreLinksOf es ks) where
         by true e = met_there r lt up (eqb-true r j e)
         by false e = passed_by r up (λ f. let g : (r == j) ≡ true = (let h : (j == j) ≡ true = grind arith in ap (λ x. x == j) f ∙ h) in cc)
 
-  -- A TASK MORE
+  -- ONE MORE TASK
 
   module _ (n : ℕ) (t : Task) (m : Option ℕ) (new : has es n ≡ false) (at : IsParentAt es t.parent m) where
     abbrev links : List Link
@@ -213,7 +213,7 @@ module _ (es : Tasks) (ks : List Link) (L : AreLinksOf es ks) where
       parents = λ i e k g h. parents_by i e k (where_is es n t i e g) h;
     }
 
--- what is left where a task was put behind the others
+-- what is left of the list once a task was added at its end
 pub put_answer : (es : Tasks) (ks : List Link) → AreLinksOf es ks → (n : ℕ) (t : Task) (m : Option ℕ) → has es n ≡ false → IsParentAt es t.parent m
     → (es' : Tasks) (before ks' : List Link) (link : Link) → es' ≡ insert_entry nat_eq es n t → link ≡ new_link ks m → before ≡ ks → ks' ≡ before ++ link ∷ []
     → AreLinksOf es' ks' × (es' ≡ with_new es n t)

@@ -1,4 +1,4 @@
--- Behind lines without a cause each task stands once, behind its parent.
+-- After lines without a fault each task stands once, after its parent.
 use Rattle.std.proofs.Common.{◌≡◌, ◌∙◌, ℕ, Bool, true, false, cond, List, [], ◌∷◌, refl, ap, sym}
 use Rattle.std.specs.Prelude.{Option, Some, None}
 use Rattle.std.proofs.lemmas.Bool.{not-false}

@@ -1,4 +1,4 @@
--- Ancestors among tasks each of which stands behind its parent.
+-- Ancestors among tasks that each stand after their parents.
 use Rattle.std.proofs.Common.{◌≡◌, ◌<◌, ◌≤◌, ◌+◌, ℕ, zero, suc, Bool, true, false, cond, [], ◌∷◌, ◌++◌, length, refl, ap, sym, ◌∙◌, arith, inl, inr, ◌⊎◌, subst, length-append}
 use Rattle.std.specs.Prelude.{Option, Some, None, ◌==◌, slice_get, nat_eq, is_some}
 use Rattle.std.proofs.lemmas.Bool.{eqb-true, or_cases, or_left, or_right}
@@ -19,7 +19,7 @@ Entry = ℕ × Task
 abbrev pub AreApart : Tasks → Type 0
 AreApart es = (i j : ℕ) (e f : Entry) → slice_get es i ≡ Some e → slice_get es j ≡ Some f → e.0 ≡ f.0 → i ≡ j
 
--- each task stands once, behind its parent
+-- each task stands once, after its parent
 pub record AreOrdered (es : Tasks) : Type 0 where
   pub apart : AreApart es
   pub behind : (i : ℕ) (e : Entry) (p : ℕ) → slice_get es i ≡ Some e → e.1.parent ≡ Some p → (j : ℕ) × (j < i) × StandsAt es j p
@@ -55,7 +55,7 @@ there (f ∷ es) (suc i) e h = by (nat_eq e.0 f.0) refl (there es i e h)
     by false is r = (r.0, rw is r.1)
 
 module _ (es : Tasks) (o : AreOrdered es) where
-  -- the task at a place is the one that is found
+  -- the task at a place is the one that a lookup finds
   pub found_at : (i : ℕ) (e : Entry) → slice_get es i ≡ Some e → found es e.0 ≡ Some e.1
   found_at i e h =
       let x = there es i e h in
@@ -110,7 +110,7 @@ module _ (es : Tasks) (o : AreOrdered es) where
   pub never_both : (a t : ℕ) → IsAncestor es a t → IsAncestor es t a → ⊥
   never_both a t up down = let i = first_link up.0 t a up.1 in never (suc i.0) i.0 t a (omega arith) i.1 up down
 
--- A TASK MORE
+-- ONE MORE TASK
 
 module _ (es : Tasks) (n : ℕ) (t : Task) where
   abbrev pub task_more : Tasks

@@ -16,7 +16,7 @@ by_tests astray crossing forgotten =
     else if forgotten then Some Down
     else None
 
--- the cause where references before crossed or were forgotten, and these are left
+-- the first cause, given whether earlier references crossed or were forgotten, and the references left
 abbrev pub cause_from : Whole → Read → ℕ → ℕ → ℕ → Bool → Bool → List ℕ → Option Cause
 cause_from w r t a k crossing forgotten vs = by_tests (list_any (is_astray w r) vs) (crossing || list_any (crosses r t) vs) (forgotten || forgets w r t a k vs)
 

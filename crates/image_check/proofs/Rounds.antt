@@ -1,4 +1,4 @@
--- A line more is checked.
+-- One more line is checked.
 use Rattle.std.proofs.Common.{Bor, ◌≡◌, ◌+◌, ℕ, Bool, List, [], ◌∷◌, length, refl, ap, sym, ◌∙◌, subst}
 use Rattle.std.specs.Prelude.{Option, Some, None, Result, Ok, Err, IfNone, IfOk, IsErr, IsOkAnd, MatchResult, not, is_some, MatchOption}
 use Rattle.std.proofs.Math.Bool.{not-not}
@@ -12,7 +12,7 @@ use Rattle.image_check.specs.Line.{said_by}
 use Rattle.image_check.specs.Read.{nothing_read, after_line, whole_of}
 use Rattle.image_check.specs.Fault.{cause_on, or_later, fault_from, lines_fault, after_lines, objects_in, Answers}
 
--- the lines behind the first, and whether there are any
+-- the lines after the first, if there are any
 pub record Below (rest line : List ℕ) (more : Option (Bor (List ℕ))) : Type 0 where
   pub lines : List (List ℕ)
   pub cut : lines_of rest ≡ line ∷ lines
@@ -43,7 +43,7 @@ module _ (text : List ℕ) (w : Whole) (start r : Read) (n : ℕ) (l : List ℕ)
 pub flipped : (a b : Bool) → a ≡ not b → b ≡ not a
 flipped a b e = sym (not-not b) ∙ ap not (sym e)
 
--- what the verifier answers
+-- the verifier's answer
 answers_count : (text : List ℕ) (r s : Read) (n : ℕ) → r ≡ nothing_read → s ≡ after_lines r (lines_of text) → n ≡ length s.objects → n ≡ objects_in text
 answers_count text r s n er es e = e ∙ ap (λ x. length x.objects) es ∙ ap (λ x. length (after_lines x (lines_of text)).objects) er
 

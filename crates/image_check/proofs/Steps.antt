@@ -72,7 +72,7 @@ well w r last o e =
     let h = cond_none (is_among same_birth r.births (o.birth.task, o.birth.count)) Twice (object_cause_in w r o (chunk_at r.chunks o.address)) (formed w r last (OfObject o) e).1 in
     in_chunk w r o (chunk_at r.chunks o.address) refl h.1 h.0
 
--- NO TASK AND NO CHUNK COMES BEHIND AN OBJECT
+-- NO TASK AND NO CHUNK COMES AFTER AN OBJECT
 
 abbrev pub IsPast : Option Position → Type 0
 IsPast None = ⊥
@@ -114,7 +114,7 @@ lines_stay w r n (l ∷ ls) past e =
 
 -- WHERE AN OBJECT'S LINE STANDS
 
--- what was read before an object's line, with the tasks and chunks of the whole text
+-- what was read before an object's line has the tasks and chunks of the whole text
 pub record IsMet (w : Whole) (all : Read) (o : Object) : Type 0 where
   pub before : Read
   pub is : IsWell w before o

@@ -31,7 +31,7 @@ abbrev pub has_wrong_place : Option Position → Option Position → Bool
 has_wrong_place last None = true
 has_wrong_place last (Some p) = not (comes_next last p)
 
--- what no line of an image says, or what doesn't come behind the last line
+-- not a line of an image, or not in order after the last line
 abbrev pub is_misplaced : Option Position → Said → Bool
 is_misplaced last Nothing = false
 is_misplaced last s = has_wrong_place last (position_of s)
@@ -55,7 +55,7 @@ abbrev pub overlaps : Option Extent → Object → Bool
 overlaps None o = false
 overlaps (Some e) o = (e.chunk == chunk_number o.address) && nat_lt (offset o.address) e.past
 
--- it leaves its chunk, or overlaps the object line before in the same chunk
+-- it leaves its chunk, or overlaps the previous object line of that chunk
 abbrev pub is_crowded : Read → Chunk → Object → Bool
 is_crowded r c o = nat_lt c.words (end_of o) || overlaps r.latest o
 
@@ -69,7 +69,7 @@ owner_runs r (Some t) = is_running r.tasks t
 abbrev pub is_astray : Whole → Read → ℕ → Bool
 is_astray w r v = not ((v == 0) || (has w.objects v || owner_runs r (owner_at r.chunks v)))
 
--- how the owner of what a reference leads to stands to t, where it has one
+-- how the owner of a reference's target is related to t, if it has one
 abbrev pub relation_to : Tasks → ℕ → Option ℕ → Option Relation
 relation_to tasks t None = None
 relation_to tasks t (Some u) = Some (relation_of tasks t u)
@@ -82,20 +82,20 @@ abbrev pub is_below : Option Relation → Bool
 is_below (Some Below) = true
 is_below _ = false
 
--- from t to an owner that is on no path with t
+-- from t to an owner that is neither an ancestor nor a descendant
 abbrev pub crosses : Read → ℕ → ℕ → Bool
 crosses r t v = is_apart (relation_to r.tasks t (owner_at r.chunks v))
 
--- the owner's set has the field k of the object at a, by a line anywhere in the text
+-- some line says that the owner remembers field k of the object at a
 abbrev pub is_noted : Whole → ℕ → ℕ → Option ℕ → Bool
 is_noted w a k None = false
 is_noted w a k (Some u) = is_among same_field w.fields (u, a, k)
 
--- from the field k of the object at a, which t owns, to a descendant without its remembered line
+-- from field k of t's object at a to a descendant that doesn't remember the field
 abbrev pub is_forgotten : Whole → Read → ℕ → ℕ → ℕ → Option ℕ → Bool
 is_forgotten w r t a k u = is_below (relation_to r.tasks t u) && not (is_noted w a k u)
 
--- of an object of t at a, whose fields from k on are these: one goes to a descendant without its remembered line
+-- one of these fields of t's object at a, from k on, goes to a descendant that doesn't remember it
 abbrev pub forgets : Whole → Read → ℕ → ℕ → ℕ → List ℕ → Bool
 forgets w r t a k [] = false
 forgets w r t a k (v ∷ vs) = is_forgotten w r t a k (owner_at r.chunks v) || forgets w r t a (k + 1) vs
@@ -110,7 +110,7 @@ abbrev pub has_field : Option ℕ → ℕ → Bool
 has_field None k = false
 has_field (Some n) k = nat_lt k n
 
--- no reference of an object line anywhere in the text, or not of a proper ancestor
+-- not a reference field of an object line, or not of a proper ancestor's object
 abbrev pub is_no_field : Whole → Read → Remembered → Bool
 is_no_field w r f = not (has_field (found w.objects f.address) f.place && owner_is_above r f.task (owner_at r.chunks f.address))
 
@@ -151,11 +151,11 @@ cause_by w r (OfObject o) = object_cause w r o
 cause_by w r (OfRemembered f) = remembered_cause w r f
 cause_by w r (OfEnd n) = if n == length r.objects then None else Some Count
 
--- the first cause on a line, of which these were read before
+-- the first cause on a line, given what was read before
 abbrev pub cause_on : Whole → Read → Bool → Said → Option Cause
 cause_on w r is_last s = if breaks_form r is_last s then Some Line else cause_by w r s
 
--- what a line without a cause has to have: its parent, or an address that isn't 0
+-- what a line without a fault must have: a known parent, or a nonzero address
 abbrev pub CanFollow : Read → Said → Type 0
 CanFollow r (OfTask t) = HasParent r.tasks t.parent
 CanFollow r (OfObject o) = 0 < o.address
@@ -167,7 +167,7 @@ abbrev pub or_later : Option Cause → ℕ → Option Fault → Option Fault
 or_later (Some cause) number later = Some (record { line = number; cause = cause })
 or_later None number later = later
 
--- of the lines from this number on
+-- from line n on
 abbrev pub fault_from : Whole → Read → ℕ → List (List ℕ) → Option Fault
 fault_from w r n [] = None
 fault_from w r n (l ∷ ls) = or_later (cause_on w r (is_last ls) (said_by l)) n (fault_from w (after_line r (said_by l)) (n + 1) ls)
@@ -194,7 +194,7 @@ abbrev pub object_count : List (List ℕ) → ℕ
 object_count [] = 0
 object_count (l ∷ ls) = onto_count (said_by l) (object_count ls)
 
--- all that lines say, behind what was read before
+-- all that the lines say, added to what was read before
 abbrev pub after_lines : Read → List (List ℕ) → Read
 after_lines r [] = r
 after_lines r (l ∷ ls) = after_lines (after_line r (said_by l)) ls
@@ -208,7 +208,7 @@ abbrev pub Answers : Option Fault → ℕ → Result ℕ Fault → Type 0
 Answers fault objects (Ok count) = (fault ≡ None) × (count ≡ objects)
 Answers fault objects (Err f) = fault ≡ Some f
 
--- the verifier fails at the first fault, or for want of memory
+-- the verifier fails at the first fault, or if out of memory
 abbrev pub Fails : Option Fault → VerifyError → Type 0
 Fails fault (Refused f) = fault ≡ Some f
 Fails fault NoMemory = Unit {0}

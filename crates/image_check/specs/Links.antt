@@ -1,11 +1,11 @@
--- The links of tasks, by the places at which these stand.
+-- The links of tasks, by their places.
 use Rattle.std.specs.Prelude.{◌≡◌, ℕ, Option, Some, None, List, length, slice_get}
 use Rattle.far_links.specs.declared.links.Link.{Link}
 use Rattle.far_links.specs.Lists.{AreLinks}
 use Rattle.image_check.specs.declared.line.Task.{Task}
 use Rattle.image_check.specs.Tasks.{Tasks}
 
--- the task of this number stands at the place
+-- the task with this number is at this place
 abbrev pub StandsAt : Tasks → ℕ → ℕ → Type 0
 StandsAt tasks i t = (e : ℕ × Task) × (slice_get tasks i ≡ Some e) × (e.0 ≡ t)
 

@@ -2,7 +2,7 @@
 use Rattle.std.specs.Prelude.{ℕ, ◌-◌, ◌/◌, ◌%◌}
 use Rattle.chunk_sizes.specs.Sizes.{chunk_words}
 
--- the chunk of an address that isn't 0; a chunk has 1,024 addresses
+-- the chunk of a nonzero address; a chunk has 1,024 addresses
 abbrev pub chunk_number : ℕ → ℕ
 chunk_number a = (a - 1) / chunk_words
 

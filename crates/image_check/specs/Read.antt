@@ -1,4 +1,4 @@
--- What the lines of an image have said so far, and what the whole text has.
+-- What the lines of an image have said so far, and what the whole text says.
 use Rattle.std.specs.Prelude.{ℕ, ◌+◌, ◌==◌, ◌&&◌, ◌||◌, ◌≤◌, Bool, Option, Some, None, List, [], ◌∷◌, length, nat_lt, if◌then◌else◌}
 use Rattle.text_lines.specs.Lines.{lines_of}
 use Rattle.image_check.specs.declared.line.Object.{Object}
@@ -15,7 +15,7 @@ use Rattle.image_check.specs.Sets.{with_item, same_birth, same_field}
 
 -- ORDER
 
--- where a line belongs: kinds in their order, and in a kind by these numbers
+-- the position of a line: its kind, then its numbers
 abbrev pub position : ℕ → ℕ → ℕ → ℕ → Position
 position kind first second third = record { kind = kind; first = first; second = second; third = third }
 
@@ -36,14 +36,14 @@ or_next x y next = nat_lt x y || ((x == y) && next)
 abbrev pub rises : Position → Position → Bool
 rises p q = or_next p.kind q.kind (or_next p.first q.first (or_next p.second q.second (nat_lt p.third q.third)))
 
--- the first line is the title, and each further one comes behind the last
+-- the title comes first, and each line after the previous one
 abbrev pub comes_next : Option Position → Position → Bool
 comes_next None q = q.kind == 0
 comes_next (Some p) q = rises p q
 
 -- PLACES IN CHUNKS
 
--- where an object ends in its chunk: a header, a birth, references and numbers
+-- where an object ends in its chunk, after a header, a birth, references and numbers
 abbrev pub end_of : Object → ℕ
 end_of o = offset o.address + 2 + length o.references + o.numbers
 
@@ -59,7 +59,7 @@ abbrev pub last_after : Option Position → Option Position → Option Position
 last_after last None = last
 last_after last (Some p) = Some p
 
--- what a line adds: tasks and chunks by their numbers, and by its address how many references an object has
+-- what a line adds: tasks and chunks by number, and by address the number of references of an object
 abbrev pub after_line : Read → Said → Read
 after_line r Nothing = r
 after_line r Wrong = r
@@ -80,13 +80,13 @@ after_line r (OfEnd n) = record r { last = position_of (OfEnd n) }
 abbrev pub nothing_had : Whole
 nothing_had = record { objects = []; fields = [] }
 
--- the larger of a number, where there is one, and another one
+-- the larger of two numbers, the first of which may be missing
 abbrev pub most : Option ℕ → ℕ → ℕ
 most None n = n
 most (Some m) n = if nat_lt m n then n else m
 
--- under the address of each object line how many references it has (of several of one address the most), and the
--- remembered fields, wherever they stand
+-- the number of references of each object by its address (the most, if an address occurs again), and the remembered
+-- fields, wherever they stand
 abbrev pub with_line : Whole → Said → Whole
 with_line w (OfObject o) = record w { objects = with_entry w.objects o.address (most (found w.objects o.address) (length o.references)) }
 with_line w (OfRemembered f) = record w { fields = with_item same_field w.fields (f.task, f.address, f.place) }

@@ -11,7 +11,7 @@ use Rattle.image_check.specs.Read.{nothing_read, after_line}
 use Rattle.image_check.specs.Tasks.{IsAncestor, IsRelated, is_running, owner_at}
 use Rattle.image_check.specs.Fault.{cause_on, image_fault, after_lines, objects_in, object_count}
 
--- the line at a place says this
+-- the line at this place says this
 abbrev pub LineSays : List (List ℕ) → ℕ → Said → Type 0
 LineSays [] i s = ⊥
 LineSays (l ∷ ls) zero s = said_by l ≡ s
@@ -23,11 +23,11 @@ ReferenceIs [] k v = ⊥
 ReferenceIs (x ∷ xs) zero v = x ≡ v
 ReferenceIs (x ∷ xs) (suc k) v = ReferenceIs xs k v
 
--- a line says an object of this address
+-- some line says an object with this address
 abbrev pub IsObjectAt : List (List ℕ) → ℕ → Type 0
 IsObjectAt lines a = (i : ℕ) × (o : Object) × LineSays lines i (OfObject o) × (o.address ≡ a)
 
--- a line says that the set of heap u has the field k of the object at a
+-- some line says that task u remembers field k of the object at a
 abbrev pub IsRemembered : List (List ℕ) → ℕ → ℕ → ℕ → Type 0
 IsRemembered lines u a k = (i : ℕ) × LineSays lines i (OfRemembered (record { task = u; address = a; place = k }))
 
@@ -35,15 +35,15 @@ IsRemembered lines u a k = (i : ℕ) × LineSays lines i (OfRemembered (record {
 abbrev pub IsInRunning : Read → ℕ → Type 0
 IsInRunning r v = (u : ℕ) × (owner_at r.chunks v ≡ Some u) × (is_running r.tasks u ≡ true)
 
--- it is nil, at an object, or in a running task's chunk
+-- nil, an object's address, or in a running task's chunk
 abbrev pub LeadsSomewhere : List (List ℕ) → Read → ℕ → Type 0
 LeadsSomewhere lines r v = (v ≡ 0) ⊎ (IsObjectAt lines v ⊎ IsInRunning r v)
 
--- from a heap t to a heap u: it stays inside, goes up, or is remembered
+-- a reference from heap t to heap u stays inside, goes up, or is remembered
 abbrev pub KeepsToPath : List (List ℕ) → Read → ℕ → ℕ → ℕ → ℕ → Type 0
 KeepsToPath lines r a k t u = (u ≡ t) ⊎ (IsAncestor r.tasks u t ⊎ (IsAncestor r.tasks t u × IsRemembered lines u a k))
 
--- each object lies in a heap, and each of its references is as it should be
+-- each object is in a heap, and each of its references is allowed
 pub record IsSoundObject (lines : List (List ℕ)) (r : Read) (o : Object) : Type 0 where
   pub owner : ℕ
   pub owned : owner_at r.chunks o.address ≡ Some owner
@@ -57,7 +57,7 @@ all_read lines = after_lines nothing_read lines
 abbrev pub HasSoundObjects : List (List ℕ) → Type 0
 HasSoundObjects lines = (i : ℕ) (o : Object) → LineSays lines i (OfObject o) → IsSoundObject lines (all_read lines) o
 
--- no two objects have one birth
+-- no two objects have the same birth
 abbrev pub HasDistinctBirths : List (List ℕ) → Type 0
 HasDistinctBirths lines = (i j : ℕ) (o p : Object) → i < j → LineSays lines i (OfObject o) → LineSays lines j (OfObject p) → o.birth ≡ p.birth → ⊥
 
@@ -65,15 +65,15 @@ HasDistinctBirths lines = (i j : ℕ) (o p : Object) → i < j → LineSays line
 abbrev pub FaultlessIsSound : Type 0
 FaultlessIsSound = (text : List ℕ) → image_fault text ≡ None → HasSoundObjects (lines_of text) × HasDistinctBirths (lines_of text)
 
--- in a text without a fault the objects that were read are as many as the lines that say one
+-- in a text without a fault the number of objects read is the number of object lines
 abbrev pub ObjectsAreCounted : Type 0
 ObjectsAreCounted = (text : List ℕ) → image_fault text ≡ None → objects_in text ≡ object_count (lines_of text)
 
--- none of these lines, of which none is the last, has a cause
+-- none of these lines has a fault, and none is the end line
 abbrev pub AreClear : Whole → Read → List (List ℕ) → Type 0
 AreClear w r [] = Unit {0}
 AreClear w r (l ∷ ls) = (cause_on w r false (said_by l) ≡ None) × AreClear w (after_line r (said_by l)) ls
 
--- behind lines without a cause each task is found to stand to each other one as it does
+-- after lines without a fault the relation that a lookup finds between two tasks is the true one
 abbrev pub TasksAreRelated : Type 0
 TasksAreRelated = (w : Whole) (ls : List (List ℕ)) → AreClear w nothing_read ls → (t u : ℕ) → IsRelated (all_read ls).tasks t u

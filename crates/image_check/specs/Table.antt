@@ -1,4 +1,4 @@
--- Values under numbers.
+-- Maps from numbers to values.
 use Rattle.std.specs.Prelude.{ℕ, Bool, List, [], ◌∷◌, ◌++◌, Option, nat_eq, is_some, if◌then◌else◌}
 use Rattle.std.specs.Map.{lookup}
 use Rattle.indexmap.specs.IndexMap.{insert_entry}
@@ -10,10 +10,10 @@ found entries n = lookup (nat_eq n) entries
 abbrev pub has : {V : Type 0} → List (ℕ × V) → ℕ → Bool
 has entries n = is_some (found entries n)
 
--- with a value under a number: behind the others, where none was there
+-- sets the value under a number; a new number goes last
 abbrev pub with_entry : {V : Type 0} → List (ℕ × V) → ℕ → V → List (ℕ × V)
 with_entry entries n v = insert_entry nat_eq entries n v
 
--- with a value under a number behind the others, unless one is there
+-- adds a value under a number, last, unless the number is there
 abbrev pub with_new : {V : Type 0} → List (ℕ × V) → ℕ → V → List (ℕ × V)
 with_new entries n v = if has entries n then entries else entries ++ (n, v) ∷ []

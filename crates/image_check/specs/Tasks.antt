@@ -21,7 +21,7 @@ abbrev pub parent_in : Option Task → Option ℕ
 parent_in None = None
 parent_in (Some t) = t.parent
 
--- the parent of a task, where it has one
+-- the parent of a task, if it has one
 abbrev pub parent_of : Tasks → ℕ → Option ℕ
 parent_of tasks t = parent_in (found tasks t)
 
@@ -29,7 +29,7 @@ abbrev pub there_or_on : ℕ → (ℕ → Bool) → Option ℕ → Bool
 there_or_on a walk None = false
 there_or_on a walk (Some p) = (p == a) || walk p
 
--- a walk of at most so many links along parents meets a
+-- a walk of at most n links to parents meets a
 abbrev pub meets : ℕ → Tasks → ℕ → ℕ → Bool
 meets zero tasks a t = false
 meets (suc n) tasks a t = there_or_on a (meets n tasks a) (parent_of tasks t)
@@ -38,7 +38,7 @@ meets (suc n) tasks a t = there_or_on a (meets n tasks a) (parent_of tasks t)
 abbrev pub is_above : Tasks → ℕ → ℕ → Bool
 is_above tasks a t = meets (length tasks) tasks a t
 
--- how u stands to t
+-- how u is related to t
 abbrev pub relation_of : Tasks → ℕ → ℕ → Relation
 relation_of tasks t u =
     if u == t then Own
@@ -46,12 +46,12 @@ relation_of tasks t u =
     else if is_above tasks t u then Below
     else Apart
 
--- the parent, where there is one, is among the tasks
+-- the parent, if there is one, is among the tasks
 abbrev pub HasParent : Tasks → Option ℕ → Type 0
 HasParent tasks None = Unit {0}
 HasParent tasks (Some p) = has tasks p ≡ true
 
--- links from a task lead to a: one, and so many more
+-- n + 1 links from a task lead to a
 abbrev pub LinksLead : ℕ → Tasks → ℕ → ℕ → Type 0
 LinksLead zero tasks t a = parent_of tasks t ≡ Some a
 LinksLead (suc n) tasks t a = (p : ℕ) × (parent_of tasks t ≡ Some p) × LinksLead n tasks p a
@@ -60,7 +60,7 @@ LinksLead (suc n) tasks t a = (p : ℕ) × (parent_of tasks t ≡ Some p) × Lin
 abbrev pub IsAncestor : Tasks → ℕ → ℕ → Type 0
 IsAncestor tasks a t = (n : ℕ) × LinksLead n tasks t a
 
--- u stands to t as it is found to
+-- the relation found between u and t is the true one
 pub record IsRelated (tasks : Tasks) (t u : ℕ) : Type 0 where
   pub own : (relation_of tasks t u ≡ Own) ↔ (u ≡ t)
   pub above : (relation_of tasks t u ≡ Above) ↔ IsAncestor tasks u t
@@ -79,7 +79,7 @@ runs (Some t) = is_running_state t.state
 abbrev pub is_running : Tasks → ℕ → Bool
 is_running tasks t = runs (found tasks t)
 
--- the chunk that an address lies in; none has the address 0
+-- the chunk of an address; 0 lies in none
 abbrev pub chunk_at : Chunks → ℕ → Option Chunk
 chunk_at chunks a = if a == 0 then None else found chunks (chunk_number a)
 
@@ -87,6 +87,6 @@ abbrev pub owner_in : Option Chunk → Option ℕ
 owner_in None = None
 owner_in (Some c) = Some c.owner
 
--- the task that owns what lies at an address
+-- the owner of an address
 abbrev pub owner_at : Chunks → ℕ → Option ℕ
 owner_at chunks a = owner_in (chunk_at chunks a)

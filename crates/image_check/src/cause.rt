@@ -3,36 +3,36 @@
 ghost use Rattle.std.specs.Prelude.{◌≡◌};
 ghost use Rattle.image_check.specs.Cause.{text_of_cause};
 
-/// Why a line is refused, in the order in which causes on one line come.
+/// Why a line is refused, in the order in which the causes are looked for.
 #[derive(Clone, Copy, PartialEq, Eq)]
 pub enum Cause {
-    /// More than 16,777,216 bytes; it is told of line 0.
+    /// More than 16,777,216 bytes; reported at line 0.
     TooLong,
-    /// No line of an image, or out of order; the last line, where the end is missing.
+    /// Not a line of an image, or out of order; at the last line, a missing end.
     Line,
-    /// An object of this birth is on an earlier line.
+    /// An earlier line has an object of this birth.
     Twice,
-    /// No task of this number is on an earlier line.
+    /// No earlier line has a task of this number.
     NoTask,
-    /// No chunk of the address is there.
+    /// No chunk has the address.
     NoChunk,
-    /// The object leaves its chunk, or overlaps the one before.
+    /// The object leaves its chunk, or overlaps the previous one.
     Place,
     /// The owner of the object's chunk is running.
     Running,
-    /// A reference that is neither nil nor an object's address, nor in a chunk of a running task.
+    /// The reference is neither nil, nor an object's address, nor in a chunk of a running task.
     Ref,
-    /// A reference to an owner that is neither the object's own nor on one path with it.
+    /// The owner of the reference's target is neither an ancestor nor a descendant.
     Cross,
-    /// A reference to a descendant that isn't remembered there.
+    /// A reference to a descendant that doesn't remember the field.
     Down,
-    /// What is remembered is no field of an object of an ancestor.
+    /// The remembered field isn't a reference field of an ancestor's object.
     Field,
-    /// The number of objects is another one.
+    /// The number of objects is wrong.
     Count,
 }
 
-/// The first line with a fault, counted from 1, and the first cause on it. A text of too many bytes has line 0.
+/// The first line with a fault, counted from 1, and its first cause. A text of too many bytes has line 0.
 #[derive(Clone, Copy)]
 pub struct Fault {
     pub line: u32,

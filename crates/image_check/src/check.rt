@@ -14,7 +14,7 @@ use crate::whole::Whole;
 use std::alloc::{AllocError, Global};
 use text_lines::{MOST_BYTES, next_line};
 
-/// A text of more bytes.
+/// The most bytes of a text.
 const TOO_LONG: Fault = Fault {
     line: 0,
     cause: Cause::TooLong,
@@ -25,7 +25,7 @@ const TOO_LONG: Fault = Fault {
 pub enum VerifyError {
     /// Its first fault.
     Refused(Fault),
-    /// Want of memory.
+    /// Out of memory.
     NoMemory,
 }
 
@@ -40,7 +40,7 @@ impl From<AllocError> for VerifyError {
     }
 }
 
-// The first cause on a line, of which these were read before; without one the line is read too.
+// The first cause on a line, given what was read before; a line without one is read too.
 fn check_line(
     alloc: Global,
     whole: &Whole,
@@ -61,7 +61,7 @@ fn check_line(
     }
 }
 
-// The first fault of the lines of a text; without one the lines are read too.
+// The first fault of the lines of a text; without one all lines are read too.
 fn check_lines(
     alloc: Global,
     whole: &Whole,
@@ -91,7 +91,7 @@ fn check_lines(
     }
 }
 
-// Reads an image of which the whole text is read, onto nothing.
+// Checks an image from its first line, given what the whole text says.
 fn read_within(alloc: Global, whole: &Whole, text: &[u8]) -> Result<Read, VerifyError>
     requires sized { length text.now ≤ most_bytes }
     requires whole { whole.now ≡ whole_of text.now }
@@ -105,7 +105,7 @@ fn read_within(alloc: Global, whole: &Whole, text: &[u8]) -> Result<Read, Verify
     }
 }
 
-// What is answered to the first fault of a text that has so many objects.
+// The answer for a text with this first fault or this number of objects.
 fn answer_to(
     fault: Result<Option<Fault>, AllocError>,
     objects: u64,
@@ -118,7 +118,7 @@ fn answer_to(
     }
 }
 
-// How many objects a text has, or its first fault, by what the whole text has.
+// The number of objects or the first fault, given what the whole text says.
 fn check_within(alloc: Global, whole: &Whole, text: &[u8]) -> Result<Result<u64, Fault>, AllocError>
     requires sized { length text.now ≤ most_bytes }
     requires whole { whole.now ≡ whole_of text.now }
@@ -129,7 +129,7 @@ fn check_within(alloc: Global, whole: &Whole, text: &[u8]) -> Result<Result<u64,
     answer_to(fault, read.objects.len() as u64)
 }
 
-// How many objects a text has, or its first fault; what the whole text has is read first.
+// The number of objects or the first fault; reads what the whole text says first.
 fn check_onto(
     alloc: Global,
     whole: &mut Whole,
@@ -143,7 +143,7 @@ fn check_onto(
     check_within(alloc, whole, text)
 }
 
-// How many objects a text has, or its first fault.
+// The number of objects of a text, or its first fault.
 fn check_text(alloc: Global, text: &[u8]) -> Result<Result<u64, Fault>, AllocError>
     requires { length text.now ≤ most_bytes }
     ensures { IfOk result (Answers (lines_fault text.now) (objects_in text.now)) }
@@ -152,7 +152,7 @@ fn check_text(alloc: Global, text: &[u8]) -> Result<Result<u64, Fault>, AllocErr
     check_onto(alloc, &mut whole, text)
 }
 
-/// Checks the text of an image. It answers how many objects there are, or the first fault.
+/// Checks the text of an image: returns the number of objects, or the first fault.
 pub fn verify(alloc: Global, text: &[u8]) -> Result<u64, VerifyError>
     ensures verified { IfOk result (λ count. (image_fault text.now ≡ None) × (count ≡ objects_in text.now)) }
     ensures fault { IfErr result (Fails (image_fault text.now)) }
@@ -177,7 +177,7 @@ fn read_text(alloc: Global, text: &[u8]) -> Result<Read, VerifyError>
     read_within(alloc, &whole, text)
 }
 
-/// Checks the text of an image, and answers all that its lines say, or the first fault.
+/// Checks the text of an image: returns all that its lines say, or the first fault.
 pub fn read_image(alloc: Global, text: &[u8]) -> Result<Read, VerifyError>
     ensures read { IfOk result (λ read. (image_fault text.now ≡ None) × (read ≡ after_lines nothing_read (lines_of text.now))) }
     ensures fault { IfErr result (Fails (image_fault text.now)) }

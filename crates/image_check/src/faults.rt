@@ -14,7 +14,7 @@ use crate::tasks::Relation;
 use crate::whole::Whole;
 use chunk_sizes::CHUNK_WORDS;
 
-// Whether a line isn't of the form, or doesn't come behind the last one.
+// Whether a line has the wrong form or the wrong order.
 fn is_out_of_order(last: Option<Position>, said: &Said) -> bool
     ensures { result ≡ is_misplaced last said.now }
 {
@@ -24,7 +24,7 @@ fn is_out_of_order(last: Option<Position>, said: &Said) -> bool
     }
 }
 
-// Whether the last line of a text isn't at its end, or a line isn't of the form.
+// Whether the end line is missing, or a line has the wrong form or order.
 fn is_unformed(read: &Read, is_last: bool, said: &Said) -> bool
     ensures { result ≡ breaks_form read.now is_last said.now }
 {
@@ -53,7 +53,7 @@ fn is_parentless(read: &Read, parent: Option<u64>) -> bool
     }
 }
 
-// Whether an object that ends here overlaps the one before.
+// Whether an object that ends here overlaps the previous one.
 fn is_overlapping(latest: Option<Extent>, object: &Object) -> bool
     requires there { 0 < object.now.address }
     ensures { result ≡ overlaps latest object.now }
@@ -65,7 +65,7 @@ fn is_overlapping(latest: Option<Extent>, object: &Object) -> bool
     }
 }
 
-// Whether an object leaves its chunk or overlaps the one before.
+// Whether an object leaves its chunk or overlaps the previous one.
 fn is_ill_placed(read: &Read, chunk: Chunk, object: &Object) -> bool
     requires sized { length object.now.references + object.now.numbers ≤ most_fields }
     requires there { 0 < object.now.address }
@@ -74,7 +74,7 @@ fn is_ill_placed(read: &Read, chunk: Chunk, object: &Object) -> bool
     chunk.words < extent_in(object).past || is_overlapping(read.latest, object)
 }
 
-// Whether a reference to what this owner has leads nowhere.
+// Whether a reference to something of this owner leads nowhere.
 fn is_stray(whole: &Whole, read: &Read, reference: u64, owner: Option<u64>) -> bool
     requires { owner ≡ owner_at read.now.chunks reference }
     ensures { result ≡ is_astray whole.now read.now reference }
@@ -88,7 +88,7 @@ fn is_stray(whole: &Whole, read: &Read, reference: u64, owner: Option<u64>) -> b
     }
 }
 
-// How an owner stands to a task.
+// How an owner is related to a task.
 fn relation_to(read: &Read, task: u64, owner: Option<u64>) -> Option<Relation>
     ensures { result ≡ relation_to read.now.tasks task owner }
 {
@@ -104,7 +104,7 @@ fn is_apart(relation: Option<Relation>) -> bool
     matches!(relation, Some(Relation::Apart))
 }
 
-// Whether a field leads to a descendant of its owner that doesn't remember it.
+// Whether a field leads to a descendant that doesn't remember it.
 fn is_unremembered(
     whole: &Whole,
     relation: Option<Relation>,
@@ -180,7 +180,7 @@ fn cause_of_object(whole: &Whole, read: &Read, object: &Object) -> Option<Cause>
     }
 }
 
-// Whether an object has so many references and more, and a proper ancestor of a task owns it.
+// Whether an object has a reference at this place, and its owner is a proper ancestor of the task.
 fn is_field_above(whole: &Whole, read: &Read, field: Remembered) -> bool
     ensures { result ≡ not (is_no_field whole.now read.now field) }
 {
@@ -208,7 +208,7 @@ fn cause_of_field(whole: &Whole, read: &Read, field: Remembered) -> Option<Cause
     }
 }
 
-// The first cause on a line of the form.
+// The first cause on a line of the right form.
 fn cause_of(whole: &Whole, read: &Read, said: &Said) -> Option<Cause>
     requires sized { IsSized said.now }
     ensures { result ≡ cause_by whole.now read.now said.now }
@@ -235,7 +235,7 @@ fn cause_of(whole: &Whole, read: &Read, said: &Said) -> Option<Cause>
     }
 }
 
-/// The first cause on a line, of which these were read before.
+/// The first cause on a line, given what was read before.
 pub(crate) fn first_cause(whole: &Whole, read: &Read, is_last: bool, said: &Said) -> Option<Cause>
     requires sized { IsSized said.now }
     ensures cause { result ≡ cause_on whole.now read.now is_last said.now }

@@ -11,7 +11,7 @@ mod whole;
 mod line;
 mod number;
 
-// What has been read: chunks with their owners, tasks, and what the text has once.
+// What has been read: chunks with their owners, tasks, and what must be unique.
 mod owners;
 mod sets;
 mod table;

@@ -7,7 +7,7 @@ use crate::line::Chunk;
 use crate::read::chunk_of;
 use crate::table::Table;
 
-/// The chunk that an address lies in.
+/// The chunk of an address.
 pub fn chunk_of_address(chunks: &Table<Chunk>, address: u64) -> Option<Chunk>
     ensures { result ≡ chunk_at chunks.now address }
 {
@@ -20,7 +20,7 @@ pub fn chunk_of_address(chunks: &Table<Chunk>, address: u64) -> Option<Chunk>
     }
 }
 
-/// The task that owns what lies at an address.
+/// The task that owns an address.
 pub fn owner_of(chunks: &Table<Chunk>, address: u64) -> Option<u64>
     ensures { result ≡ owner_at chunks.now address }
 {

@@ -12,7 +12,7 @@ use crate::tasks::Tasks;
 use chunk_sizes::CHUNK_WORDS;
 use std::alloc::{AllocError, Global};
 
-/// Where a line belongs: kinds in their order, and in a kind by numbers.
+/// The position of a line: its kind, then its numbers.
 #[derive(Clone, Copy)]
 pub struct Position {
     pub kind: u64,
@@ -31,18 +31,18 @@ pub struct Extent {
 /// What was read.
 #[derive(Drop)]
 pub struct Read {
-    /// Where the last line belongs.
+    /// The position of the last line.
     pub last: Option<Position>,
     pub tasks: Tasks,
     pub chunks: Table<Chunk>,
-    /// How many references each object has, by its address.
+    /// The number of references of each object, by address.
     pub objects: Table<u64>,
     pub births: Births,
     /// Where the last object ends.
     pub latest: Option<Extent>,
 }
 
-/// Where a line belongs.
+/// The position of a line.
 pub(crate) fn position_in(said: &Said) -> Option<Position>
     ensures { result ≡ position_of said.now }
 {
@@ -63,7 +63,7 @@ pub(crate) fn position_in(said: &Said) -> Option<Position>
     })
 }
 
-/// Whether a line may come behind the last one; the first is the title.
+/// Whether a line may follow the last one; the first must be the title.
 pub(crate) fn may_come(last: Option<Position>, next: Position) -> bool
     ensures { result ≡ comes_next last next }
 {
@@ -88,7 +88,7 @@ fn is_behind(last: Position, next: Position) -> bool
     is_less_or(last.kind, next.kind, first)
 }
 
-/// The chunk of an address that isn't 0.
+/// The chunk of a nonzero address.
 pub(crate) fn chunk_of(address: u64) -> u64
     requires { 0 < address }
     ensures { result ≡ chunk_number address }
@@ -96,7 +96,7 @@ pub(crate) fn chunk_of(address: u64) -> u64
     (address - 1) / CHUNK_WORDS
 }
 
-/// Where an object ends in its chunk, and which that is.
+/// An object's chunk, and where the object ends in it.
 pub(crate) fn extent_in(object: &Object) -> Extent
     requires sized { length object.now.references + object.now.numbers ≤ most_fields }
     requires there { 0 < object.now.address }
@@ -128,7 +128,7 @@ impl Read {
         }
     }
 
-    // With an object's line more.
+    // Adds an object line.
     fn add_object(&mut self, object: &Object) -> Result<(), AllocError>
         requires sized { length object.now.references + object.now.numbers ≤ most_fields }
         requires there { 0 < object.now.address }
@@ -141,7 +141,7 @@ impl Read {
         Ok(())
     }
 
-    /// With a line more, on which no cause is.
+    /// Adds a line without a fault.
     pub(crate) fn add(&mut self, said: &Said) -> Result<(), AllocError>
         requires sized { IsSized said.now }
         requires follows { CanFollow self.old said.now }

@@ -11,20 +11,20 @@ use indexmap::IndexMap;
 use std::alloc::{AllocError, Global};
 use std::marker::Model;
 
-/// How one task stands to another.
+/// How one task is related to another.
 #[derive(Clone, Copy)]
 pub enum Relation {
-    /// It is the other one.
+    /// It is the same task.
     Own,
     /// It is a proper ancestor.
     Above,
     /// It is a proper descendant.
     Below,
-    /// They are on no path.
+    /// Neither is an ancestor of the other.
     Apart,
 }
 
-/// Tasks under their numbers, each behind its parent.
+/// Tasks by number, each after its parent.
 #[derive(Drop)]
 pub struct Tasks {
     table: IndexMap<u64, Task>,
@@ -57,14 +57,14 @@ impl Tasks {
         }
     }
 
-    /// Whether there is a task of a number.
+    /// Whether there is a task of this number.
     pub(crate) fn has(&self, number: u64) -> bool
         ensures { result ≡ has self.now number }
     {
         self.table.contains_key(&number)
     }
 
-    /// Whether a task is there and runs.
+    /// Whether the task is there and runs.
     pub fn runs(&self, number: u64) -> bool
         ensures { result ≡ is_running self.now number }
     {
@@ -74,14 +74,14 @@ impl Tasks {
         }
     }
 
-    /// How many tasks there are.
+    /// The number of tasks.
     pub fn len(&self) -> usize
         ensures { result ≡ length self.now }
     {
         self.table.len()
     }
 
-    /// The parent of a task, where it has one.
+    /// The parent of a task, if it has one.
     pub fn parent(&self, number: u64) -> Option<u64>
         ensures { result ≡ parent_of self.now number }
     {
@@ -98,7 +98,7 @@ impl Tasks {
         self.table.get_index_of(&number)
     }
 
-    // The place of a parent, which is there.
+    // The place of a parent, which must be there.
     fn parent_place(&self, parent: Option<u64>) -> Option<usize>
         requires { HasParent self.now parent }
         ensures { IsParentAt self.now parent result }
@@ -109,7 +109,7 @@ impl Tasks {
         }
     }
 
-    /// With a task more, unless one of its number is there. Its parent is there.
+    /// Adds a task unless its number is there. Its parent must be there.
     pub(crate) fn put(&mut self, task: Task) -> Result<(), AllocError>
         requires { HasParent self.old task.parent }
         ensures { OnOk result (self.new ≡ with_new self.old task.number task) }
@@ -125,7 +125,7 @@ impl Tasks {
         Ok(())
     }
 
-    /// Whether a task is a proper ancestor of another one.
+    /// Whether a task is a proper ancestor of another.
     pub(crate) fn is_ancestor(&self, above: u64, below: u64) -> bool
         ensures { result ≡ is_above self.now above below }
     {
@@ -143,7 +143,7 @@ impl Tasks {
         climb_to(links, place, depth) == top
     }
 
-    /// How another task stands to a task.
+    /// How another task is related to a task.
     pub fn relation(&self, task: u64, other: u64) -> Relation
         ensures { result ≡ relation_of self.now task other }
     {

@@ -1,4 +1,4 @@
--- Between the functions of a made text: which names stand above, and how many instructions.
+-- Between the functions of a made text: the names above, and the number of instructions.
 use Rattle.std.proofs.Common.{◌≡◌, ◌≤◌, ◌<◌, ◌+◌, ◌*◌, ◌++◌, ℕ, zero, suc, Bool, true, false, List, [], ◌∷◌, length, arith, refl, ap, ◌∙◌, append_assoc, nat_lt, ◌||◌}
 use Rattle.std.specs.Prelude.{Some, codes}
 use Rattle.std.specs.List.{list_all}
@@ -22,7 +22,7 @@ abbrev pub above_of : ℕ → ℕ → ℕ → Lines
 above_of seed size zero = []
 above_of seed size (suc k) = turned (above_of seed size k) (function_rows size k (value_after seed k))
 
--- the name behind `fn`
+-- the name after `fn`
 name_alone : (w : List ℕ) → is_name w ≡ true → only_name (w ∷ []) ≡ Some w
 name_alone w e = rw e refl
 
@@ -31,7 +31,7 @@ begun_name_is n lt = ap (λ ws. only_name (operands_of ws)) (words_spaced (begin
 
 -- BETWEEN FUNCTIONS
 
--- the first k functions stand above, and just their names
+-- the names above are those of the first k functions
 pub record Between (k : ℕ) (above : Lines) : Type 0 where
   pub outside : is_inside above ≡ false
   pub begun : begun_above above ≡ k
@@ -42,7 +42,7 @@ pub record Between (k : ℕ) (above : Lines) : Type 0 where
 not_below : (k : ℕ) → nat_lt k k ≡ false
 not_below k = grind arith
 
--- a name more
+-- one more name
 names_next : (k : ℕ) (es fs : List NotedName) (number : ℕ) → k < 1000 → ((j : ℕ) → j < 1000 → is_noted es (name_of j) ≡ nat_lt j k) → fs ≡ es ++ noted_name_of (name_of k) number ∷ [] → (j : ℕ) → j < 1000 → is_noted fs (name_of j) ≡ nat_lt j (suc k)
 names_next k es fs number lt names e j lj =
     ap (λ xs. is_noted xs (name_of j)) e ∙ noted_more es (name_of j) (name_of k) number ∙ ap (λ b. b || bytes_eq (name_of j) (name_of k)) (names j lj) ∙ among_more j k lj lt
@@ -50,7 +50,7 @@ names_next k es fs number lt names e j lj =
 main_next : (k : ℕ) (es fs : List NotedName) (number : ℕ) → is_noted es (codes "main") ≡ false → fs ≡ es ++ noted_name_of (name_of k) number ∷ [] → is_noted fs (codes "main") ≡ false
 main_next k es fs number main e = ap (λ xs. is_noted xs (codes "main")) e ∙ noted_more es (codes "main") (name_of k) number ∙ ap (λ b. b || bytes_eq (codes "main") (name_of k)) main ∙ not_main k
 
--- the lines of a function behind its first one begin none, are no more than 39, and end it
+-- the lines of a function after its first begin no function, are at most 39, and end it
 record IsBody (above ls : Lines) : Type 0 where
   none : list_all begins_none ls ≡ true
   short : length ls ≤ 39
@@ -101,11 +101,11 @@ outline_so_far seed size (suc k) rest =
     ∙ outline_so_far seed size k (function_rows size k (value_after seed k) ++ rest)
     ∙ onto_above (function_rows size k (value_after seed k)) (above_of seed size k) rest
 
--- main is named behind all functions
+-- main is noted after all functions
 main_named : (above : Lines) → (outline_onto (length above + 1) (outline_above above) main_rows).functions ≡ noted (outline_above above).functions (codes "main") (length above + 1)
 main_named above = refl
 
--- the functions of a whole text are named so
+-- these are the names of the functions of a whole text
 pub record Named (size : ℕ) (names : List NotedName) : Type 0 where
   pub functions : (j : ℕ) → j < size → is_noted names (name_of j) ≡ true
   pub main : is_noted names (codes "main") ≡ true

@@ -1,4 +1,4 @@
--- A function of a made text, and main, are passed.
+-- The lines of each function of a made text, and of main, have no fault.
 use Rattle.std.proofs.Common.{◌≡◌, ◌≤◌, ◌<◌, ◌+◌, ◌*◌, ◌++◌, ℕ, zero, suc, Bool, true, false, List, [], ◌∷◌, length, arith, refl, ap, ◌∙◌, append_assoc, nat_lt, ◌&&◌}
 use Rattle.std.specs.Prelude.{Option, Some, codes, nat_le, pos, ℤ}
 use Rattle.std.specs.Fmt.{decimal}
@@ -67,7 +67,7 @@ par_reads text labels left right ll lr el er =
 
 -- THE PARTS OF A FUNCTION
 
--- its labels, where these many instructions stand before them
+-- its labels, with n instructions before them
 abbrev two_labels : ℕ → ℕ → List NotedName
 two_labels a b = noted_name_of (codes "a") a ∷ noted_name_of (codes "b") b ∷ []
 
@@ -139,7 +139,7 @@ loop_read text a b = all_read text (two_labels a b) loop_rows refl
 
 -- A FUNCTION
 
--- before its loop, in it and behind it
+-- before, in and after its loop
 module _ (text : List ℕ) (a b : ℕ) (above before after rest : Lines) (begun : List ℕ) where
   abbrev open_at : Lines
   open_at = begun ∷ above

@@ -1,4 +1,4 @@
--- The numbers and the names of functions in made texts, as they are read.
+-- The numbers and the names of functions in made texts, as the reader reads them.
 use Rattle.std.proofs.Common.{◌≡◌, ◌≤◌, ◌<◌, ◌^◌, ℕ, suc, Bool, true, false, List, [], ◌∷◌, ◌++◌, length, arith, refl, ap, sym, ◌∙◌, ◌||◌, nat_lt, nat_le, true≢false}
 use Rattle.std.specs.Prelude.{Some, codes, pos}
 use Rattle.std.specs.Char.{digit_value}
@@ -73,9 +73,9 @@ same_number j k lj lk e =
 pub same_name : (j k : ℕ) → j ≡ k → bytes_eq (name_of j) (name_of k) ≡ true
 same_name j k e = (bytes_eq-Decides (name_of j) (name_of k)).1 (ap name_of e)
 
--- ONE NAME MORE
+-- ONE MORE NAME
 
--- what passes a test among these and one more
+-- whether any item passes a test, with one more item
 any_more : {X : Type 0} (p : X → Bool) (xs : List X) (x : X) → list_any p (xs ++ x ∷ []) ≡ (list_any p xs || p x)
 any_more p [] x = or-false (p x)
 any_more p (y ∷ ys) x = ap (λ b. p y || b) (any_more p ys x) ∙ sym (or_assoc (p y) (list_any p ys) (p x))
@@ -93,6 +93,6 @@ less_or_same : (j k : ℕ) (b : Bool) → (b ≡ true → j ≡ k) → (j ≡ k 
 less_or_same j k true f g = or-true (nat_lt j k) ∙ sym (is_next j k (f refl))
 less_or_same j k false f g = or-false (nat_lt j k) ∙ is_other j k (λ e. true≢false (sym (g e)))
 
--- the name of function j is among those of the first k + 1 where it is among the first k, or is the last of them
+-- function j has one of the first k + 1 names if it has one of the first k, or is the last
 pub among_more : (j k : ℕ) → j < 1000 → k < 1000 → (nat_lt j k || bytes_eq (name_of j) (name_of k)) ≡ nat_lt j (suc k)
 among_more j k lj lk = less_or_same j k (bytes_eq (name_of j) (name_of k)) (same_number j k lj lk) (same_name j k)

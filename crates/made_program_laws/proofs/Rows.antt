@@ -40,7 +40,7 @@ sum_rows =
 abbrev pub children_rows : ℕ → ℕ → Lines
 children_rows left right = spaced (par_words left right) ∷ sum_rows
 
--- before the loop, where the function has children or has none
+-- before the loop, with children or without
 abbrev pub before_rows : Bool → ℕ → ℕ → ℕ → ℕ → Lines
 before_rows has i added size times =
     first_rows added ++ cond has (children_rows (2 * i + 1) (2 * i + 2)) []
@@ -54,11 +54,11 @@ result_rows =
     codes "putr r3 i4 r5" ∷ codes "set i3 1" ∷ codes "newm r6 i2 i3" ∷ codes "puti r6 i2 i5" ∷
     codes "putr r3 i4 r6" ∷ codes "getr r7 r3 i4" ∷ codes "geti i0 r7 i2" ∷ codes "nil r0" ∷ codes "ret" ∷ []
 
--- behind the loop
+-- after the loop
 abbrev pub after_rows : ℕ → Lines
 after_rows side = spaced (set_words (codes "i4") side) ∷ result_rows
 
--- a function's lines behind the one that begins it
+-- a function's lines after its first
 abbrev pub body_rows : Bool → ℕ → ℕ → ℕ → ℕ → ℕ → Lines
 body_rows has i added size times side =
     before_rows has i added size times ++ codes "lab a" ∷ (loop_rows ++ codes "lab b" ∷ (after_rows side ++ codes "end" ∷ []))
@@ -66,7 +66,7 @@ body_rows has i added size times side =
 abbrev pub function_by : Bool → ℕ → ℕ → Lines
 function_by has i x = spaced (begin_words i) ∷ body_rows has i (amount x) (garbage x) (rounds x) (side i)
 
--- function number i of a program of a size, where the generator has the value x
+-- function i of a program of this size, with the generator at x
 abbrev pub function_rows : ℕ → ℕ → ℕ → Lines
 function_rows size i x = function_by (nat_lt (2 * i + 2) size) i x
 
@@ -80,7 +80,7 @@ main_order_rows =
     codes "set i2 2" ∷ codes "set i3 0" ∷ codes "newm r0 i2 i3" ∷ codes "movr r9 r0" ∷ codes "call f0" ∷
     codes "set i4 0" ∷ codes "getr r4 r9 i4" ∷ codes "geti i6 r4 i4" ∷ codes "out i6" ∷ codes "ret" ∷ []
 
--- main, and the empty line behind it
+-- main, and the empty line after it
 abbrev pub main_rows : Lines
 main_rows = codes "fn main" ∷ (main_order_rows ++ codes "end" ∷ [] ∷ [])
 
@@ -88,7 +88,7 @@ main_rows = codes "fn main" ∷ (main_order_rows ++ codes "end" ∷ [] ∷ [])
 
 -- TEXTS AND THEIR LINES
 
--- a text that begins with these lines, whatever follows it
+-- a text that begins with these lines, whatever follows
 abbrev pub HasLines : List ℕ → Lines → Type 0
 HasLines text ls = (rest : List ℕ) → lines_of (text ++ rest) ≡ ls ++ lines_of rest
 
@@ -128,7 +128,7 @@ first_has i added li la =
     (both_lines (numbered (codes "fn f") i) (codes "movr r3 r0\nset i2 2\nset i3 0\nnewm r0 i2 i3\nmovr r2 r0\n") (spaced (begin_words i) ∷ []) cell_rows (begin_line i li) (λ rest. refl))
     (one_line (set_words (codes "i5") added) (proper_set (codes "i5") added i5 la))
 
--- two ways to put the words of a line behind one another
+-- two ways to concatenate the words of a line
 par_same : (left right : ℕ) → par_line left right ≡ spaced (par_words left right) ++ 10 ∷ []
 par_same left right = ap (λ w. (codes "par " ++ w) ++ 10 ∷ []) (append_assoc (name_of left) (codes " f") (decimal right))
 

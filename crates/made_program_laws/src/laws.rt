@@ -1,8 +1,8 @@
-// What holds of made texts.
+// Laws of made texts.
 
 ghost use Rattle.made_program_laws.specs.Laws.{MadeArePrograms};
 
-/// From whatever seed, a made text has no fault: it is read as its program.
+/// A made text has no fault, whatever the seed.
 pub fn made_are_programs()
     ensures { MadeArePrograms }
 {}

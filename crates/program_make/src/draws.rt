@@ -1,9 +1,9 @@
-// The generator of numbers.
+// The random number generator.
 
 ghost use Rattle.std.specs.Prelude.{◌≡◌, ◌<◌};
 ghost use Rattle.program_make.specs.Draws.{next_value, drawn};
 
-/// Draws the next number below `bound`: moves the generator on, and takes the upper bits of its value.
+/// Draws the next number below `bound` from the upper bits of the generator's next value.
 pub(crate) fn draw(value: &mut u32, bound: u32) -> u32
     requires { 0 < bound }
     ensures moved { value.new ≡ next_value value.old }

@@ -1,4 +1,4 @@
-// Programs made from a seed: a text of any size from a generator of numbers.
+// Programs of any size, generated from a seed.
 #![tactic(auto)]
 
 mod draws;

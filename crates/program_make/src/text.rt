@@ -54,7 +54,7 @@ fn add_children_lines(
     )
 }
 
-/// The lines on the children, where the function has them.
+/// The lines on the children, if the function has any.
 pub(crate) fn add_children(
     alloc: Global,
     bytes: &mut Vec<u8>,
@@ -71,7 +71,7 @@ pub(crate) fn add_children(
     }
 }
 
-/// The side of the function in its parent's cell.
+/// The function's field in its parent's cell.
 pub(crate) fn side_of(number: u32) -> u32
     ensures { result ≡ side number }
 {
@@ -84,7 +84,7 @@ pub(crate) fn side_of(number: u32) -> u32
     }
 }
 
-/// The lines from the loop to the function's end.
+/// The lines from the loop to the end of the function.
 pub(crate) fn add_last_lines(
     alloc: Global,
     bytes: &mut Vec<u8>,

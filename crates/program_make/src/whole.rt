@@ -8,13 +8,13 @@ use crate::draws::draw;
 use crate::text::{add_children, add_first_lines, add_last_lines, side_of};
 use std::alloc::{AllocError, Global};
 
-/// A made program has at most so many functions.
+/// The most functions of a made program.
 pub const SIZE_LIMIT: u32 = 1000;
 
-// A function adds an amount below this one.
+// Each function adds less than this.
 const AMOUNT_LIMIT: u32 = 1000;
 
-// Draws the three numbers of a function, and adds its text.
+// Draws the numbers of a function and adds its text.
 fn add_function(
     alloc: Global,
     bytes: &mut Vec<u8>,
@@ -47,8 +47,8 @@ fn functions(alloc: Global, seed: u32, size: u32) -> Result<Vec<u8>, AllocError>
     Ok(bytes)
 }
 
-/// The text of the program of `size` functions that is made from `seed`. Each function that has children runs both
-/// side by side, and main writes the sum of what they add. An error: no memory.
+/// The text of the program of `size` functions that is generated from `seed`. Each function with children forks both,
+/// and main prints the sum of what they add. Fails if out of memory.
 pub fn make(alloc: Global, seed: u32, size: u32) -> Result<Vec<u8>, AllocError>
     requires some { 1 ≤ size }
     requires at_most { size ≤ size_limit }

@@ -1,4 +1,4 @@
--- The lines that refuse the words of a call, or its input.
+-- The lines that refuse the command-line arguments or the input.
 use Rattle.std.specs.Prelude.{ℕ, List, [], ◌∷◌, codes}
 use Rattle.std.specs.Fmt.{decimal}
 use Rattle.program_reader.specs.declared.cause.Refused.{Refused}
@@ -11,11 +11,11 @@ use Rattle.image_check.specs.Cause.{text_of_cause as text_of_fault}
 use Rattle.refusal_lines.specs.declared.refusal.Refusal.{Refusal}
 use Rattle.refusal_lines.specs.declared.refusal.Refusal.TheVariants.{Words, Source, Line, Entry, Image}
 
--- words that ask for nothing
+-- arguments that are no command
 abbrev pub words_line : List ℕ
 words_line = end_line (codes "words refused" ∷ [])
 
--- a text that is no program
+-- a text that isn't a program
 abbrev pub source_line : Refused → List ℕ
 source_line r = end_line (codes "source refused line" ∷ decimal r.line ∷ text_of_cause r.cause ∷ [])
 
@@ -23,7 +23,7 @@ source_line r = end_line (codes "source refused line" ∷ decimal r.line ∷ tex
 abbrev pub bad_line : ℕ → List ℕ
 bad_line n = end_line (codes "trace refused line" ∷ decimal n ∷ [])
 
--- a text that is no image
+-- a text that isn't an image
 abbrev pub image_line : Fault → List ℕ
 image_line f = end_line (codes "image refused line" ∷ decimal f.line ∷ text_of_fault f.cause ∷ [])
 
@@ -34,7 +34,7 @@ refusal_line (Line n) = bad_line n
 refusal_line (Entry r) = refused_line r
 refusal_line (Image f) = image_line f
 
--- an input that is no program with a trace
+-- an input that isn't a program with a trace
 abbrev pub refusal_of : InputFault → Refusal
 refusal_of (SourceFault r) = Source r
 refusal_of (BadLine n) = Line n

@@ -1,4 +1,4 @@
-// Why the words of a call or its input are refused, and the line that says so: the same in both programs.
+// Why the command-line arguments or the input are refused, and the line that says so: the same in both programs.
 #![tactic(auto)]
 
 mod refusal;

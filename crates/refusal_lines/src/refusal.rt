@@ -8,23 +8,23 @@ use program_reader::Refused;
 use run_ledger::RefusedAt;
 use trace_input::InputFault;
 
-/// Why the words of a call or its input are refused.
+/// Why the command-line arguments or the input are refused.
 #[derive(Clone, Copy)]
 pub enum Refusal {
-    /// The words ask for nothing.
+    /// The arguments are no command.
     Words,
-    /// The text is no program.
+    /// The text isn't a program.
     Source(Refused),
-    /// The line of this number is bad in a trace.
+    /// This line of the trace is bad.
     Line(u32),
-    /// The trace isn't that of a whole run: an entry is refused, or it is short.
+    /// The trace isn't that of a whole run: an entry is refused, or it has no end.
     Entry(RefusedAt),
-    /// The text is no image.
+    /// The text isn't an image.
     Image(Fault),
 }
 
 impl Refusal {
-    /// Why an input is refused that is no program with a trace.
+    /// The refusal of an input that isn't a program with a trace.
     pub fn of_input(fault: InputFault) -> Refusal
         ensures { result ≡ refusal_of fault }
     {

@@ -9,7 +9,7 @@ use program_reader::Refused;
 use run_report::refused_text;
 use std::alloc::{AllocError, Global};
 
-// The line of a text that is no program.
+// The line for a text that isn't a program.
 fn source_text(alloc: Global, refused: Refused) -> Result<String, AllocError>
     ensures { IfOk result (λ text. string_bytes text ≡ source_line refused) }
 {
@@ -17,7 +17,7 @@ fn source_text(alloc: Global, refused: Refused) -> Result<String, AllocError>
     format!(in alloc; "end: source refused line {} {cause}\n", refused.line)
 }
 
-// The line of a text that is no image.
+// The line for a text that isn't an image.
 fn image_text(alloc: Global, fault: Fault) -> Result<String, AllocError>
     ensures { IfOk result (λ text. string_bytes text ≡ image_line fault) }
 {

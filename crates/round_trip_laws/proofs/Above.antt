@@ -21,7 +21,7 @@ pub above_both : (xs ys : List (List ℕ)) → AreAbove (xs ++ ys) → AreAbove 
 above_both [] ys h = tt
 above_both (x ∷ xs) ys h = (h.0, above_both xs ys h.1)
 
--- lines above the first trace line, that line and those behind it
+-- lines above the first trace line, that line and those after it
 pub cut_above : (xs : List (List ℕ)) (l : List ℕ) (ls : List (List ℕ)) → AreAbove xs → is_trace_line l ≡ true → lines_above (xs ++ l ∷ ls) ≡ xs
 cut_above [] l ls h is = rw is refl
 cut_above (x ∷ xs) l ls h is = rw h.0 (ap (λ ys. x ∷ ys) (cut_above xs l ls h.1 is))

@@ -1,4 +1,4 @@
--- The lines of two texts, one behind the other.
+-- The lines of two texts, concatenated.
 use Rattle.std.proofs.Common.{◌≡◌, ◌∙◌, ◌<◌, ◌++◌, ℕ, Bool, cond, true, false, List, [], ◌∷◌, length, refl, ap, sym, arith}
 use Rattle.std.specs.Prelude.{◌==◌}
 use Rattle.std.specs.List.{onto_first}
@@ -18,7 +18,7 @@ onto_feeds : (c : ℕ) (ls : List (List ℕ)) → 0 < length ls → with_feeds (
 onto_feeds c [] some = absurd (let a : 0 < 0 = some in omega arith)
 onto_feeds c (l ∷ ls) some = refl
 
--- the first byte of a text is a line feed, or belongs to the first line
+-- a text begins with a line feed, or with the first byte of its first line
 abbrev lines_by : Bool → ℕ → List (List ℕ) → List (List ℕ)
 lines_by b c ls = cond b ([] ∷ ls) (onto_first c ls)
 
@@ -26,7 +26,7 @@ behind_by : (b : Bool) (c : ℕ) (ls rest all : List (List ℕ)) → 0 < length 
 behind_by true c ls rest all some e = ap (λ xs. [] ∷ xs) e
 behind_by false c ls rest all some e = ap (onto_first c) e ∙ onto_both c ls rest some
 
--- of a text that ends in a line feed, and another one behind it: the lines of both
+-- of a text that ends in a line feed and a text after it: the lines of both
 pub lines_behind : (front rest : List ℕ) → lines_of (front ++ 10 ∷ rest) ≡ lines_of front ++ lines_of rest
 lines_behind [] rest = refl
 lines_behind (c ∷ cs) rest = behind_by (c == 10) c (lines_of cs) (lines_of rest) (lines_of (cs ++ 10 ∷ rest)) (some_lines cs) (lines_behind cs rest)

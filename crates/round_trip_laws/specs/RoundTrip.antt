@@ -1,4 +1,4 @@
--- A program's text with a trace behind it, read again.
+-- A program's text followed by a trace, read again.
 use Rattle.std.specs.Prelude.{◌≡◌, ◌≤◌, ◌↔◌, ℕ, false, List, [], ◌∷◌, ◌++◌, Some, Ok, length}
 use Rattle.std.specs.List.{All}
 use Rattle.hh_lang.specs.Form.{ProgramText}
@@ -22,11 +22,11 @@ pub record CanFollow (text behind : List ℕ) (p : ProgramText) (t : Trace) : Ty
   pub new : is_too_old (Some t.version) p ≡ false
   pub within : length (text ++ behind) ≤ most_bytes
 
--- an input is read as this program and this trace, and as nothing else
+-- the input is read as this program and this trace, and as nothing else
 abbrev pub IsReadAs : List ℕ → ProgramText → Trace → Type 0
 IsReadAs input p t = (read : TraceInput) → IsInput input read ↔ (read ≡ record { program = p; trace = t })
 
--- the trace begins on the text's last line, the empty one behind its line feed
+-- the trace begins on the text's last line, the empty one after its line feed
 abbrev pub InputsAreRead : Type 0
 InputsAreRead = (text behind : List ℕ) (p : ProgramText) (t : Trace) → IsTraceText (length (lines_of text)) behind t → CanFollow text behind p t → IsReadAs (text ++ behind) p t
 

@@ -1,4 +1,4 @@
-// A program's text with a trace of its run behind it is read as that program and that trace.
+// A program's text followed by a trace of its run is read as that program and that trace.
 #![tactic(auto)]
 
 mod laws;

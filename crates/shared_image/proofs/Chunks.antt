@@ -1,4 +1,4 @@
--- The objects of a chunk in order, and in which chunk an object is found.
+-- The objects of a chunk in order, and the chunk of each object.
 use Rattle.std.proofs.Common.{◌≡◌, ℕ, ◌+◌, ◌*◌, ◌<◌, ◌≤◌, ◌==◌, arith, Bool, true, false, cond, Option, Some, None, List, [], ◌∷◌, map, eqb-true, inl, inr, refl, ap, sym, subst, ◌∙◌}
 use Rattle.std.specs.List.{IsDistinct}
 use Rattle.std.proofs.lemmas.Bool.{eq-eqb, false≢true}
@@ -91,7 +91,7 @@ module _ (w : SharedValue) (I : IsSharedValue w) where
       by None = tt
       by (Some t) = idle t (is_state_running (state_of w.tree t))
 
-  -- an object that is told of a chunk is one of a heap handed back, and lies there
+  -- an object reported for a chunk is in a heap at rest, and in that chunk
   pub record IsToldOf (n : ℕ) (o : Located) : Type 0 where
     pub task : ℕ
     pub idle : IsHandedBack w task
@@ -125,7 +125,7 @@ module _ (w : SharedValue) (I : IsSharedValue w) where
   abbrev pub one : Located → Picked
   one o = drawn_object (in_words o)
 
-  -- all of a chunk are drawn in order
+  -- all objects of a chunk are drawn in order
   pub told_in_order : (n : ℕ) → AreAll ObjectBefore (λ q. (o : Located) × In (objects_of w n) o × (q ≡ one o)) (map drawn_object (map in_words (objects_of w n)))
   told_in_order n = record {
     rising = rises_map (λ x y. ObjectBefore (drawn_object x) (drawn_object y)) ObjectBefore drawn_object (map in_words (objects_of w n))

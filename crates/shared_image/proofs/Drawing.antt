@@ -1,4 +1,4 @@
--- The objects of the heaps handed back: where they lie, and where their references lead.
+-- The objects of heaps at rest: where they lie, and where their references lead.
 use Rattle.std.proofs.Common.{◌≡◌, ◌⊎◌, ℕ, ◌+◌, ◌*◌, ◌<◌, ◌≤◌, arith, false, Option, Some, None, List, length, map, option_map, slice_get, inl, inr, refl, ap, sym, subst, ◌∙◌}
 use Rattle.std.proofs.lemmas.Bool.{cases_Bool}
 use Rattle.std.proofs.lemmas.List.{length-map}
@@ -34,7 +34,7 @@ module _ (w : SharedValue) (I : IsSharedValue w) (F : AreHeldInWords w) (p : Pic
   abbrev TT : List Task
   TT = T w I
 
-  -- AN OBJECT OF A HEAP HANDED BACK
+  -- AN OBJECT OF A HEAP AT REST
   module _ (t : ℕ) (idle : IsHandedBack w t) (o : Located) (i : In (objects v t) o) where
     abbrev pub R : Rests (k w I) t
     R = Known_R w I t idle o i
@@ -119,7 +119,7 @@ module _ (w : SharedValue) (I : IsSharedValue w) (F : AreHeldInWords w) (p : Pic
         let n = in_got o.refs r.0 r.1 in
         subst (LeadsSomewhere p) r.2 (leads_by n.0 r.0 n.1 (ref_near r.0 r.1))
 
-    -- a field that the set of another task's heap has
+    -- a field that another task's heap remembers
     noted : (n u : ℕ) → u < length TT → joined TT u ≡ false → In (sources v u) (record { object = o.at; field = n }) → IsAbove p.tasks t u × In p.fields (record { task = u; address = q.address; place = n })
     noted n u lt lives j =
         let s : Source = record { object = o.at; field = n } in

@@ -1,4 +1,4 @@
--- The objects of a picture are those that the heaps handed back hold.
+-- The objects of a picture are those that the heaps at rest hold.
 use Rattle.std.proofs.Common.{◌≡◌, ℕ, Option, Some, None, List, [], ◌∷◌, map, slice_get, inl, inr, refl, ap, sym, subst, ◌∙◌}
 use Rattle.std.proofs.lemmas.Bool.{cases_Bool}
 use Rattle.heap_image.proofs.below.listed.{read_in}

@@ -1,4 +1,4 @@
--- What is known of the machine and of the tree of a shared value, once the root of a run that is done is handed back.
+-- What is known of the machine and the tree of a shared value, whose root is at rest once the run is done.
 use Rattle.std.proofs.Common.{◌≡◌, ℕ, ◌+◌, ◌^◌, ◌<◌, ◌≤◌, arith, false, Option, Some, None, List, length, max, slice_get, refl, ap, sym, subst, ◌∙◌}
 use Rattle.std.proofs.lemmas.Bool.{false≢true}
 use Rattle.std.proofs.lemmas.Option.{slice_get_within}

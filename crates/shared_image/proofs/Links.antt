@@ -75,7 +75,7 @@ module _ (w : SharedValue) (I : IsSharedValue w) (p : Picture) (P : IsPictureOf 
         | inr r ↦ (suc r.0, (q, here, r.1))
       ])
 
-  -- who stands on a task's path is the task or one of its ancestors in the picture
+  -- a task on a task's path is the task itself or one of its ancestors in the picture
   pub on_path : (a t : ℕ) → is_on_path TT a t ≡ true → joined TT t ≡ false → (t ≡ a) ⊎ IsAbove p.tasks a t
   on_path a t e live = let z = ((paths w I).walks a t).0 e in links t z.0 a z.1 live
 

@@ -30,7 +30,7 @@ pub before_offset : (a b : Addr) → a.chunk ≡ b.chunk → word_of_ref (Some a
 before_offset a b e lt = let f : a.chunk * 1024 + a.offset + 1 < b.chunk * 1024 + b.offset + 1 = lt in omega (arith, e, f)
 
 -- LISTS
--- an order by what is behind is one by places
+-- pairwise order of later items is order by places
 pub rises_at : {A : Type 0} (before : A → A → Type 0) (xs : List A) → Rises before xs → RisesAt before xs
 rises_at before [] up i j x y lt e f = absurd cc
 rises_at before (z ∷ zs) up zero zero x y lt e f = absurd (omega arith)

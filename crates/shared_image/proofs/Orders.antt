@@ -1,4 +1,4 @@
--- Lists in order, put together.
+-- Ordered lists, concatenated.
 use Rattle.std.proofs.Common.{◌≡◌, ◌⊎◌, ℕ, zero, suc, Some, List, [], ◌∷◌, ◌++◌, map, slice_get, take, inl, inr, refl, sym, subst}
 use Rattle.heap_image.specs.below.listed.{In}
 use Rattle.heap_image.proofs.below.listed.{in_append_cases, in_append_left, in_append_right, got_in, in_map, map_in}
@@ -18,7 +18,7 @@ rises_map {B = B} before then f (x ∷ xs) up keeps = (first, rises_map before t
     first : (z : B) → In (map f xs) z → then (f x) z
     first z i = let r = map_in f xs z i in subst (then (f x)) r.2 (keeps x r.0 (inl refl) (inr r.1) (up.0 r.0 r.1))
 
--- what stands before a place comes before what stands there
+-- an item at an earlier place is less
 pub rises_before : {A : Type 0} (before : A → A → Type 0) (xs : List A) (i : ℕ) (x y : A) → Rises before xs → slice_get xs i ≡ Some x → In (take i xs) y → before y x
 rises_before before [] i x y up e j = absurd cc
 rises_before before (z ∷ zs) zero x y up e j = absurd j

@@ -1,4 +1,4 @@
--- The objects of the heaps handed back: whose they are, and where they lie.
+-- The objects of heaps at rest: their owners and places.
 use Rattle.std.proofs.Common.{◌≡◌, ℕ, ◌<◌, true, false, Option, Some, None, List, length, is_some, slice_get, refl, ap, subst, ◌∙◌}
 use Rattle.std.proofs.lemmas.Bool.{false≢true}
 use Rattle.std.proofs.lemmas.Option.{slice_get_within}
@@ -46,7 +46,7 @@ module _ (w : SharedValue) (I : IsSharedValue w) where
       let q = map_in chunk_of r.heap.chunks c (subst (λ ks. In ks c) (belongings_chunks r) i) in
       subst (λ (z : ChunkOf). slot_at w.pool z.number ≡ Some (record { owner = t; units = z.units })) q.2 (I.measured t r e un q.0 q.1)
 
-  -- AN OBJECT OF A HEAP HANDED BACK
+  -- AN OBJECT OF A HEAP AT REST
   module _ (t : ℕ) (idle : IsHandedBack w t) (o : Located) (i : In (objects v t) o) where
     pub R : Rests (k w I) t
     R = rests w I t idle

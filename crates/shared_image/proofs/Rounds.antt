@@ -49,7 +49,7 @@ module _ (w : SharedValue) (I : IsSharedValue w) where
       | inr e ↦ subst (λ (z : InUse). AreInWords (objects_of w z.number)) e now
     ]
 
-  -- the chunk of an object of a heap handed back is in use
+  -- the chunk of an object of a heap at rest is in use
   in_use_of : (cs : List InUse) → AreAll InUseBefore (IsInUse w) cs → (t : ℕ) → IsHandedBack w t → (o : Located) → In (objects (value_of w) t) o → (c : InUse) × In cs c × (c.number ≡ o.at.chunk)
   in_use_of cs all t idle o i = by (slot_at w.pool o.at.chunk) refl (owner w I t idle o i)
     where

@@ -89,7 +89,7 @@ module _ (w : SharedValue) (I : IsSharedValue w) (C : AreChunks w.pool.slots) (F
       let words : x.0.words ≡ 1024 * h.units = x.1.words in
       subst IsChunkForm (sym x.2) (record { number = a.0; owner = omega (arith, o, b); whole = omega (arith, words); least = omega (arith, words, some); most = omega (arith, words, few) })
 
-  -- of an object of a heap handed back
+  -- of an object of a heap at rest
   module _ (t : ℕ) (idle : IsHandedBack w t) (o : Located) (i : In (objects v t) o) where
     short : o.at.chunk < 2 ^ 32
     short = by (slot_at w.pool o.at.chunk) refl (owner w I F p P t idle o i)

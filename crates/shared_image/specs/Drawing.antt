@@ -12,6 +12,6 @@ use Rattle.shared_image.specs.Drawn.{drawn_field, drawn_object}
 abbrev pub AreObjectsOf : SharedValue → List InUse → Picked → Type 0
 AreObjectsOf w cs q = (c : InUse) × (o : Located) × In cs c × In (objects_of w c.number) o × (q ≡ drawn_object (in_words o))
 
--- it is a field that the set of one of these tasks has
+-- it is a field that one of these tasks remembers
 abbrev pub AreFieldsOf : SharedValue → List Live → Remembered → Type 0
 AreFieldsOf w xs f = (x : Live) × (g : Field) × In xs x × IsNoted w x.number g × (f ≡ drawn_field x.number g)

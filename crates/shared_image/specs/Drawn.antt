@@ -1,4 +1,4 @@
--- What a picture draws of the shared value.
+-- What a picture shows of the shared value.
 use Rattle.std.specs.Prelude.{◌≡◌, ℕ, false}
 use Rattle.tree_reading.specs.below.heap_tree.{State, Ready, Out, Waiting, Ended, Joined, state_of}
 use Rattle.tree_reading.specs.below.object_layout.{Located}
@@ -16,7 +16,7 @@ use Rattle.heap_image.specs.Picture.{ChunkBefore, FieldBefore, ObjectBefore, Tas
 
 -- ONE BY ONE
 
--- a task that is ready or out runs
+-- a task that is ready or held by a worker runs
 abbrev pub drawn_state : State → Drawn
 drawn_state Ready = IsRunning
 drawn_state Out = IsRunning
@@ -46,26 +46,26 @@ IsTaskOf w t = (x : Live) × IsLive w x × (t ≡ drawn_task x)
 abbrev pub IsChunkOf : SharedValue → Chunk → Type 0
 IsChunkOf w c = (x : InUse) × IsInUse w x × (c ≡ drawn_chunk x)
 
--- the heap of a task that doesn't run is handed back
+-- the heap of a task that doesn't run is at rest
 abbrev pub IsHandedBack : SharedValue → ℕ → Type 0
 IsHandedBack w t = is_state_running (state_of w.tree t) ≡ false
 
--- it is an object of a heap handed back
+-- it is an object of a heap at rest
 abbrev pub IsObjectOf : SharedValue → Picked → Type 0
 IsObjectOf w q = (t : ℕ) × (o : Located) × IsHandedBack w t × In (objects (value_of w) t) o × (q ≡ drawn_object (in_words o))
 
--- it is a field that the set of a task that hasn't joined has
+-- it is a field that a task that hasn't joined remembers
 abbrev pub IsFieldOf : SharedValue → Remembered → Type 0
 IsFieldOf w f = (x : Live) × (g : Field) × IsLive w x × IsNoted w x.number g × (f ≡ drawn_field x.number g)
 
--- the picture has just the tasks that haven't joined, the chunks in use, the objects of the heaps handed back and the
--- fields of the sets, each once and in order
+-- the picture has exactly the tasks that haven't joined, the chunks in use, the objects of heaps at rest and the
+-- remembered fields, each once and in order
 pub record IsPictureOf (w : SharedValue) (p : Picture) : Type 0 where
   pub tasks : AreAll TaskBefore (IsTaskOf w) p.tasks
   pub chunks : AreAll ChunkBefore (IsChunkOf w) p.chunks
   pub objects : AreAll ObjectBefore (IsObjectOf w) p.objects
   pub fields : AreAll FieldBefore (IsFieldOf w) p.fields
 
--- words hold the objects of the heaps handed back
+-- words hold the objects of heaps at rest
 abbrev pub AreHeldInWords : SharedValue → Type 0
 AreHeldInWords w = (t : ℕ) (o : Located) → IsHandedBack w t → In (objects (value_of w) t) o → IsInWords o

@@ -1,4 +1,4 @@
--- The objects of a picture are those that the heaps handed back hold, as they stand in the machine's store.
+-- The objects of a picture are those that the heaps at rest hold, as they are in the machine's store.
 use Rattle.std.specs.Prelude.{◌≡◌, ◌⊎◌, ℕ, true, false, Option, Some, None, List, [], ◌∷◌, slice_get}
 use Rattle.heap_image.specs.below.listed.{In}
 use Rattle.tree_reading.specs.below.hh_model.{Name, Object, object_at, is_running, owner_of}
@@ -15,8 +15,8 @@ Bears q n = (q.birth.task ≡ n.task) × (q.birth.count ≡ n.count)
 abbrev pub LiesInRunning : Picture → Ledger → ℕ → ℕ → Type 0
 LiesInRunning p l v u = (is_running (slice_get l.machine.tasks u) ≡ true) × IsOwned p v u
 
--- a reference is nil for nil, and for a name the address of the object that bears it, or, where the name's owner runs,
--- it lies in a chunk of that owner (and so isn't nil)
+-- nil for nil; for a name the address of the object that bears it, or, if the name's owner runs, an address
+-- in a chunk of that owner (so not nil)
 abbrev pub IsReference : Picture → Ledger → ℕ → Option Name → Type 0
 IsReference p l v None = v ≡ 0
 IsReference p l v (Some n) = ((q : Picked) × In p.objects q × (q.address ≡ v) × Bears q n) ⊎ LiesInRunning p l v (owner_of l.machine.tasks n.task)
@@ -40,7 +40,7 @@ pub record StandsFor (p : Picture) (l : Ledger) (q : Picked) (n : Name) : Type 0
 abbrev pub IsHeldNotRunning : Ledger → Name → Type 0
 IsHeldNotRunning l n = (t : ℕ) × (is_running (slice_get l.machine.tasks t) ≡ false) × In (held_in (heap_of l t)) n
 
--- each object stands for a name that is kept, and each such name has an object
+-- each object represents a held name, and each held name has an object
 pub record HasJustHeld (p : Picture) (l : Ledger) : Type 0 where
   pub each : (q : Picked) → In p.objects q → (n : Name) × IsHeldNotRunning l n × StandsFor p l q n
   pub all : (n : Name) → IsHeldNotRunning l n → (q : Picked) × In p.objects q × StandsFor p l q n

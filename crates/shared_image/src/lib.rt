@@ -1,4 +1,4 @@
-// Pictures of the shared value: tasks, chunks, the objects of the heaps handed back, and remembered fields.
+// Pictures of the shared value: tasks, chunks, the objects of heaps at rest, and remembered fields.
 #![tactic(auto)]
 
 mod picture;

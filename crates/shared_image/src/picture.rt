@@ -1,4 +1,4 @@
-// A picture is drawn of the shared value.
+// Draws a picture of the shared value.
 
 ghost use Rattle.std.specs.Prelude.{◌≡◌, ◌++◌, IfOk, OnOk, map};
 ghost use Rattle.tree_reading.specs.below.chunk_pool.{AreChunks};
@@ -101,7 +101,7 @@ fn draw_chunks(alloc: Global, in_use: &[InUse]) -> Result<Listed<Chunk>, AllocEr
     Ok(chunks)
 }
 
-// Draws objects behind others.
+// Appends objects.
 fn add_objects(objects: &mut Listed<Picked>, seen: Listed<Seen>) -> Result<(), AllocError>
     ensures { OnOk result (objects.new ≡ objects.old ++ map drawn_object seen) }
 {
@@ -132,7 +132,7 @@ fn draw_objects(
     Ok(objects)
 }
 
-// Draws the fields that a task's set has behind others.
+// Appends the fields that a task remembers.
 fn add_fields(fields: &mut Listed<Remembered>, task: u32, noted: &[Field]) -> Result<(), AllocError>
     ensures { OnOk result (fields.new ≡ fields.old ++ map (drawn_field task) noted.now) }
 {
@@ -142,7 +142,7 @@ fn add_fields(fields: &mut Listed<Remembered>, task: u32, noted: &[Field]) -> Re
     Ok(())
 }
 
-// The fields that the sets of these tasks have.
+// The fields that these tasks remember.
 fn draw_fields(
     alloc: Global,
     shared: &Shared,
@@ -160,7 +160,7 @@ fn draw_fields(
     Ok(fields)
 }
 
-// The picture of all tasks that haven't joined and of all chunks in use.
+// The picture of all tasks that haven't joined and all chunks in use.
 fn draw_all(
     alloc: Global,
     shared: &Shared,
@@ -183,7 +183,7 @@ fn draw_all(
     })
 }
 
-/// The picture of a shared value, which is sound, and has just the objects that the heaps handed back hold.
+/// The picture of a shared value; it is sound, and has exactly the objects of heaps at rest.
 pub fn draw(alloc: Global, shared: &Shared) -> Result<Picture, AllocError>
     ensures drawn { IfOk result (λ p. IsPictureOf shared.now p) }
     ensures sound { IfOk result (λ p. IsSoundPicture p) }

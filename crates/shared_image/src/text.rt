@@ -13,7 +13,7 @@ use heap_image::picture_text;
 use std::alloc::{AllocError, Global};
 use tree_reading::Shared;
 
-/// The text of a shared value's picture, which is sound, and has just the objects that the heaps handed back hold.
+/// The text of a shared value's picture, which is sound, and has exactly the objects of heaps at rest.
 pub fn image_text(alloc: Global, shared: &Shared) -> Result<Vec<u8>, AllocError>
     ensures { IfOk result (λ text. (p : PictureOf) × IsPictureOf shared.now p × IsSoundPicture p × HasJustHeld p (accounts shared.now) × (text.items ≡ text_of p)) }
 {

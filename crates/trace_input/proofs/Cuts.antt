@@ -1,4 +1,4 @@
--- One line more that isn't the trace line.
+-- One more line that isn't the trace line.
 use Rattle.std.proofs.Common.{◌≡◌, ◌<◌, ◌+◌, ◌-◌, ◌++◌, ℕ, suc, false, List, [], ◌∷◌, length, take, arith, refl, ap, sym, ◌∙◌, append_assoc, length-append}
 use Rattle.std.specs.Prelude.{◌==◌}
 use Rattle.std.specs.List.{join_with_byte}
@@ -14,7 +14,7 @@ join_first line (l ∷ ls) h = refl
 pub some_lines : (text : List ℕ) → 0 < length (lines_of text)
 some_lines text = let e = length-slice_split (λ c. c == 10) text in omega (arith, e)
 
--- the bytes of a text whose first line this is
+-- the bytes of a text that begins with this line
 pub first_bytes : (rest line below : List ℕ) → lines_of rest ≡ line ∷ lines_of below → rest ≡ line ++ 10 ∷ below
 first_bytes rest line below e =
     sym (join_with_byte-slice_split 10 rest)

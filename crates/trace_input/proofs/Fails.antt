@@ -1,4 +1,4 @@
--- Where a trace can't be read for its program, the input has that fault.
+-- If a trace can't be read for its program, the input has that fault.
 use Rattle.std.proofs.Common.{◌≡◌, ◌<◌, ℕ, List, [], ◌∷◌, length, arith, refl, ap, sym, ◌∙◌, subst}
 use Rattle.std.specs.Prelude.{Option, Some, None, Ok, Err}
 use Rattle.hh_lang.specs.Form.{ProgramText}

@@ -32,7 +32,7 @@ abbrev pub is_question_mark : Option ℕ → Bool
 is_question_mark None = false
 is_question_mark (Some c) = c == 63
 
--- the name of a function that a parallel loop added ends with a question mark, as no name of a text does
+-- the name of a function that a parallel loop adds ends with a question mark, which no name of a text does
 abbrev pub is_added_name : List ℕ → Bool
 is_added_name name = is_question_mark (slice_get name (length name - 1))
 
@@ -50,13 +50,13 @@ is_too_old (Some One) p = is_newer p
 is_too_old (Some Two) p = false
 is_too_old None p = false
 
--- the first bad line of a trace that begins on the line of this number: the trace line itself, where its version is
--- none or too old for the program
+-- the first bad line of a trace that begins on this line: the trace line itself, if its version is missing or too old
+-- for the program
 abbrev pub trace_bad : ℕ → ProgramText → List (List ℕ) → Option ℕ
 trace_bad number p [] = Some number
 trace_bad number p (l ∷ ls) = if is_too_old (version_of l) p then Some number else fault_in number (l ∷ ls)
 
--- for want of a trace line, the last line of the input is bad
+-- without a trace line, the last line of the input is bad
 abbrev pub bad_line : ℕ → ℕ → ProgramText → List (List ℕ) → Option ℕ
 bad_line last number p [] = Some last
 bad_line last number p (l ∷ ls) = trace_bad number p (l ∷ ls)
@@ -95,7 +95,7 @@ pub record IsInput (input : List ℕ) (t : TraceInput) : Type 0 where
 abbrev pub settings_for : SettingsValue → TraceInput → SettingsValue
 settings_for s t = record s { version = t.trace.version }
 
--- a reader fails at the first fault, or for want of memory
+-- a reader fails at the first fault, or if out of memory
 abbrev pub FailsAt : Option InputFault → InputError → Type 0
 FailsAt fault (Fault f) = fault ≡ Some f
 FailsAt fault NoMemory = Unit {0}

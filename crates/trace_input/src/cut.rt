@@ -16,7 +16,7 @@ fn begins_trace(line: &[u8]) -> bool
     }
 }
 
-/// The bytes of the program, and the number of the trace line with the bytes from it on.
+/// The bytes of the program; and the trace line's number with the bytes from that line on.
 pub(crate) fn cut(input: &[u8]) -> (&[u8], Option<(u32, &[u8])>)
     requires { length input.now ≤ most_bytes }
     ensures program { result.0.now ≡ program_part input.now }

@@ -15,7 +15,7 @@ use run_trace::{Trace, TraceError, Version, read_trace, read_version};
 use std::alloc::{AllocError, Global};
 use text_lines::{MOST_BYTES, next_line};
 
-/// The refusal of a program of more bytes than its limit.
+/// The refusal of a program with more bytes than its limit.
 pub const TOO_LONG: Refused = Refused {
     line: 0,
     cause: Cause::TooLong,
@@ -33,7 +33,7 @@ pub struct TraceInput {
 pub enum InputFault {
     /// The program is refused.
     Source(Refused),
-    /// The line of this number isn't one of a trace; it may be the trace line itself, or the last line for want of one.
+    /// This line isn't one of a trace; it may be the trace line itself, or the last line if there is no trace line.
     BadLine(u32),
 }
 
@@ -42,7 +42,7 @@ pub enum InputFault {
 pub enum InputError {
     /// Its first fault.
     Fault(InputFault),
-    /// Want of memory.
+    /// Out of memory.
     NoMemory,
 }
 
@@ -64,7 +64,7 @@ fn bad_line_error(line: u32) -> InputError
     InputError::Fault(InputFault::BadLine(line))
 }
 
-// How many lines a text has.
+// The number of lines of a text.
 fn count_lines(text: &[u8]) -> u32
     requires { length text.now ≤ most_bytes }
     ensures { result ≡ length (lines_of text.now) }
@@ -80,7 +80,7 @@ fn count_lines(text: &[u8]) -> u32
     }
 }
 
-// Reads a trace for a program, where the trace line has this number.
+// Reads a trace for a program; n is the number of the trace line.
 fn read_for(alloc: Global, program: &Program, number: u32, text: &[u8]) -> Result<Trace, InputError>
     requires sized { length text.now ≤ most_bytes }
     requires numbered { number ≤ most_bytes + 1 }
@@ -118,8 +118,8 @@ fn read_parts(alloc: Global, input: &[u8]) -> Result<TraceInput, InputError>
     }
 }
 
-/// Reads an input: the program in front of the first line whose first word is `trace`, and the trace from there on. A
-/// program with `freeze`, `cas` or a parallel loop has no trace of the first version: its trace line is then bad.
+/// Reads an input: the program before the first line whose first word is `trace`, and the trace from there on. A
+/// program with `freeze`, `cas` or a parallel loop has no trace of version 1: its trace line is then bad.
 pub fn read_trace_input(alloc: Global, input: &[u8]) -> Result<TraceInput, InputError>
     ensures read { IfOk result (IsInput input.now) }
     ensures fault { IfErr result (FailsAt (input_fault input.now)) }

@@ -1,5 +1,5 @@
-// Inputs of a program and a trace of its run: a program's text, and from the first line whose first word is `trace` on
-// a trace text.
+// Inputs of a program and a trace of its run: the program's text, and the trace from the first line on whose first word
+// is `trace`.
 #![tactic(auto)]
 
 mod cut;

@@ -1,4 +1,4 @@
-// Programs that need the second version of traces.
+// Programs that need version 2 of traces.
 
 ghost use Rattle.std.specs.Prelude.{◌≡◌};
 ghost use Rattle.std.specs.List.{list_any};

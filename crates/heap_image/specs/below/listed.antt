@@ -1,2 +1,2 @@
--- What crates above name of `listed`.
+-- Re-exports from `listed` for the crates above.
 pub use Rattle.listed.specs.Members.{In}

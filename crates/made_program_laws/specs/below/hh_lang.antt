@@ -1,3 +1,3 @@
--- What crates above name of `hh_lang`.
+-- Re-exports from `hh_lang` for the crates above.
 pub use Rattle.hh_lang.specs.Form.{IsProgram, ProgramText}
 pub use Rattle.hh_lang.specs.Limits.{program_limit}

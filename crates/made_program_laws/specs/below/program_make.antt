@@ -1,2 +1,2 @@
--- What crates above name of `program_make`.
+-- Re-exports from `program_make` for the crates above.
 pub use Rattle.program_make.specs.Text.{made_text, size_limit}

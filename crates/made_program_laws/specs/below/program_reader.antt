@@ -1,3 +1,3 @@
--- What crates above name of `program_reader`.
+-- Re-exports from `program_reader` for the crates above.
 pub use Rattle.program_reader.specs.Program.{program_of, reading_of}
 pub use Rattle.program_reader.specs.declared.cause.Refused.{Refused}

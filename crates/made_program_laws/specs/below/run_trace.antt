@@ -1,4 +1,4 @@
--- What crates above name of `run_trace`.
+-- Re-exports from `run_trace` for the crates above.
 pub use Rattle.run_trace.specs.Entry.{EntryValue, IsEntry}
 pub use Rattle.run_trace.specs.Settings.{SettingsValue, field_limit, usual_settings}
 pub use Rattle.run_trace.specs.Trace.{AreTraceLines, trace_text}

@@ -1,2 +1,2 @@
--- What crates above name of `run_report`.
+-- Re-exports from `run_report` for the crates above.
 pub use Rattle.run_report.proofs.Writing.{report_shown, whole_text}

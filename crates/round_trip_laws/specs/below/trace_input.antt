@@ -1,4 +1,4 @@
--- What crates above name of `trace_input`.
+-- Re-exports from `trace_input` for the crates above.
 pub use Rattle.trace_input.specs.Cut.{trace_lines}
 pub use Rattle.trace_input.specs.Input.{IsInput, input_fault, settings_for, too_long}
 pub use Rattle.trace_input.specs.declared.input.InputFault.TheVariants.{BadLine, Source}

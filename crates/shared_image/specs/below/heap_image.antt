@@ -1,4 +1,4 @@
--- What crates above name of `heap_image`.
+-- Re-exports from `heap_image` for the crates above.
 pub use Rattle.heap_image.specs.Picture.{IsSoundPicture}
 pub use Rattle.heap_image.specs.Text.{text_of}
 pub use Rattle.heap_image.specs.declared.picture.Picture.{Picture}
