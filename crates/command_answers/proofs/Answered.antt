@@ -1,4 +1,4 @@
--- Every answer has a status that is written.
+-- Every answer has a status of a written answer.
 use Rattle.std.proofs.Common.{◌∙◌, ◌≡◌, ℕ, List, [], ◌∷◌, Bool, true, false, sym, subst, inl, inr}
 use Rattle.std.specs.Prelude.{Option, Some, None, Result, Ok, Err}
 use Rattle.made_program_laws.specs.below.hh_lang.{ProgramText}
@@ -95,7 +95,7 @@ answered (Image file s) input a h = of_trace IsImaged s input a (λ p l entries 
 answered (Make seed size run) input a h = of_make seed size run a h
 answered (Verify file) input a h = image (image_fault input) (objects_in input) a h
 
--- what was written isn't told as a read fault
+-- what was written isn't reported as a read fault
 pub never_read_fault : (a : Answer) (r : Ran) (before after : Option (List ℕ)) → IsAnswered a.status → Delivered a r before after → r.status ≡ ReadFault → ⊥
 never_read_fault a r before after ok d e = elim d.written [
   | inl w ↦ subst IsAnswered (sym w.0 ∙ e) ok

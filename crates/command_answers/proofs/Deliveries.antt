@@ -1,4 +1,4 @@
--- An answer that was delivered is what the call answers.
+-- An answer that was delivered is the call's answer.
 use Rattle.std.proofs.Common.{◌⊎◌, ◌≡◌, ◌≤◌, ◌+◌, ℕ, List, [], length, refl, sym, subst, inl, inr, arith}
 use Rattle.std.specs.Prelude.{Option, Some, Result, Ok, Err, IfOk, IfErr}
 use Rattle.all_bytes.specs.below.outside_io.{with_more}
@@ -90,7 +90,7 @@ silent P L r w WriteFault ok h = absurd ok
 pub nothing_given : (P : Answer → Type 0) (L : Leaves) (r : Ran) (w : Option (List ℕ)) (s : Status) → IsSilent s → ReturnsNothing s r → Delivers P L r w w
 nothing_given P L r w s ok h = subst (λ x. DeliversBy x P L r w w) (sym h.status) (silent P L r w s ok (h.journal, h.shared, refl))
 
--- what is left of a run amid which memory was wanting is handed back
+-- what is left of a run that ran out of memory is returned
 handed : (L : Leaves) (found : Wanted) (r : Ran) (w : Option (List ℕ)) → IsWanted L found → ReturnsWanted found r → DeliversNothing r w w ⊎ (L r.journal r.shared × (w ≡ w))
 handed L Before r w h hands = inl (hands.0, hands.1, refl)
 handed L (Amid journal remains) r w h hands = inr (subst (L r.journal) (sym hands.1) (subst (λ j. L j (Some remains)) (sym hands.0) h), refl)

@@ -1,4 +1,4 @@
--- What a command gives where no fault rose.
+-- A command's answer if no fault occurred.
 use Rattle.std.proofs.Common.{◌≡◌, ◌∙◌, ◌⊎◌, ℕ, List, Bool, true, false, subst, sym, inl, inr, refl}
 use Rattle.std.specs.Prelude.{Option, Some, None, Result}
 use Rattle.made_program_laws.specs.below.hh_lang.{ProgramText}
@@ -22,7 +22,7 @@ use Rattle.command_answers.proofs.Deliveries.{gives_all}
 pub no_fault_gives_all : NoFaultGivesAll
 no_fault_gives_all = λ line input r before after d none. gives_all (AnswersLine line input) (LeavesLine line input) r before after d none
 
--- the same by what answers come to
+-- the same, stated by what follows from answers
 gives_so : (P Q : Answer → Type 0) (r : Ran) (before after : Option (List ℕ)) → ((a : Answer) → P a → Q a) → GivesAll P r before after → GivesAll Q r before after
 gives_so P Q r before after f g = elim g [
   | inl e ↦ inl e

@@ -1,4 +1,4 @@
--- Every whole run keeps what is reachable, decides its reads by precedence, and hands back just what is held.
+-- Every whole run keeps what is reachable, decides its reads by precedence, and returns exactly what is held.
 use Rattle.std.proofs.Common.{◌≡◌, ◌∙◌, ◌++◌, ◌∷◌, ℕ, List, Option, Some, true, refl, sym, ap, subst}
 use Rattle.race_report.proofs.below.listed.{contains_from_in, in_from_contains}
 use Rattle.made_program_laws.specs.below.hh_lang.{IsProgram, ProgramText}
@@ -18,7 +18,7 @@ use Rattle.command_answers.specs.Runs.{ReturnsRun}
 use Rattle.command_answers.specs.Headline.{FreesNoReachable, HeapIsHeld, HeapsAreHeld, RunsHoldTheHeadline, StopsUnordered}
 use Rattle.command_answers.proofs.Taken.{step_taken}
 
--- THE HEAPS of a value that stands for its journal
+-- THE HEAPS of a value that represents its journal
 module _ (w : SharedValue) (I : IsSharedValue w) (t : ℕ) (R : Rests (handed (accounts w)) t) where
   abbrev l : Ledger
   l = accounts w

@@ -1,4 +1,4 @@
--- What is answered of the heaps that a trace leaves.
+-- The answer for the heaps that a trace leaves.
 use Rattle.std.proofs.Common.{◌≡◌, ◌∙◌, ◌≤◌, ℕ, List, refl, sym, ap, subst, length}
 use Rattle.std.specs.Prelude.{Option, Some, None}
 use Rattle.made_program_laws.specs.below.text_lines.{most_bytes}
@@ -24,7 +24,7 @@ use Rattle.command_answers.proofs.Traces.{trace_told}
 abbrev pub OfShared : SharedValue → Answer → Type 0
 OfShared w = WhereWhole (IsImaged w.program w.settings w.journal.items) (refused_as_run w.program w.settings w.journal.items)
 
--- all entries are made, and the run has ended so, or not
+-- all entries are made, and the run has this end, or none
 pub image_ended : (w : SharedValue) (end : RunEnd) (image : List ℕ) (a : Answer) → IsSharedValue w → (accounts w).end ≡ Some end → IsImageOf w image → IsText Done image a → OfShared w a
 image_ended w end image a stands ended shows h =
     subst (λ (r : Option RefusedAt). WhereWhole (IsImaged w.program w.settings w.journal.items) r a)
@@ -36,7 +36,7 @@ image_short w a stands none h =
     subst (λ (r : Option RefusedAt). WhereWhole (IsImaged w.program w.settings w.journal.items) r a)
     (sym (short_journal w.program w.settings w.journal.items stands.legal none)) h
 
--- where all entries are made
+-- once all entries are made
 pub imaged : (l : SettingsValue) (t : TraceInput) (s : SettingsValue) (entries : List EntryValue) (w : SharedValue) (a : Answer) → s ≡ settings_for l t → entries ≡ t.trace.entries
     → w.program ≡ t.program → w.settings ≡ s → w.journal.items ≡ entries → OfShared w a → AnswersTrace IsImaged l t a
 imaged l t s entries w a limits is program settings journal h =

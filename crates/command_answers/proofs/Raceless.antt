@@ -32,7 +32,7 @@ none_told : (races : List Race) → races_status races ≡ Done → races ≡ []
 none_told [] e = cc
 none_told (r ∷ rs) e = absurd cc
 
--- who is stopped by another's object, where the status says that someone was
+-- a run with an empty report of races never ends as entangled
 module _ (p : ProgramText) (s : SettingsValue) (entries : List EntryValue) (report : IsReport (machine_of p s entries).edges (accesses p (field_limit s.version) (tasks_of entries)) []) where
   never : (e : RunEnd) → end_of p s entries ≡ Some e → status_of_end e ≡ Entangled → ⊥
   never (Machine IsDone) h is = absurd cc

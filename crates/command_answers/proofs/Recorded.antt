@@ -1,4 +1,4 @@
--- A run's trace behind its program's text is replayed as the run went.
+-- A program's text followed by its run's trace is replayed with the same result.
 use Rattle.std.proofs.Common.{◌≡◌, ◌∙◌, ◌++◌, ℕ, Bool, cond, true, false, List, length, inl, inr, refl, ap, sym, subst}
 use Rattle.std.specs.Prelude.{Option, Some, None, Result, Ok, Err, nat_le}
 use Rattle.made_program_laws.specs.below.hh_lang.{ProgramText, program_limit}
@@ -28,7 +28,7 @@ read_by false r p e = absurd (refused_is too_long p e)
 read_is : (text : List ℕ) (p : ProgramText) → program_in text ≡ Ok p → reading_of text ≡ Ok p
 read_is text p e = read_by (nat_le (length text) program_limit) (reading_of text) p e
 
--- settings of the second version
+-- settings of version 2
 same_settings : (s : SettingsValue) → s.version ≡ Two → record s { version = Two } ≡ s
 same_settings s e = subst (λ v. record s { version = v } ≡ s) e refl
 

@@ -1,4 +1,4 @@
--- What is answered of runs.
+-- The answers for runs.
 use Rattle.std.proofs.Common.{◌∙◌, ◌≡◌, ◌+◌, List, [], true, ap, ap₂, refl, sym, subst, append-nil, length}
 use Rattle.std.specs.Prelude.{Option, Some, None, Result, Ok, Err}
 use Rattle.made_program_laws.specs.below.hh_lang.{ProgramText}
@@ -38,7 +38,7 @@ short_journal p s journal legal none =
 pub refused_first : (p : ProgramText) (s : SettingsValue) (journal : List EntryValue) (r : RefusedAt) → first_refused p s journal ≡ Some r → refused_as_run p s journal ≡ Some r
 refused_first p s journal r is = ap (λ (o : Option RefusedAt). or_short o (end_of p s journal) (length journal + 1)) is
 
--- what is handed back of a shared value
+-- what is returned of a shared value
 pub handed : (p : ProgramText) (s : SettingsValue) (w : SharedValue) (journal : List EntryValue) (shared : Option SharedValue) → IsSharedValue w → w.program ≡ p → w.settings ≡ s
     → journal ≡ w.journal.items → shared ≡ Some (without_journal w) → ReturnsRun p s journal shared
 handed p s w journal shared stands program settings moved remains = record {
@@ -51,7 +51,7 @@ handed p s w journal shared stands program settings moved remains = record {
   remains = remains;
 }
 
--- the answer of a run that has ended so
+-- the answer of a run with this end
 pub ended_run : (w : SharedValue) (end : RunEnd) (extras : Extras) (a : Answer) → IsSharedValue w → (accounts w).end ≡ Some end
     → a.status ≡ status_of_end end → a.bytes ≡ out_text w.program w.settings extras.report extras.trace w.journal.items → a.journal ≡ w.journal.items → a.shared ≡ Some (without_journal w)
     → IsReplayedRun w.program w.settings extras w.journal.items a
@@ -71,7 +71,7 @@ ended_run w end extras a stands ended status bytes journal shared = (
 abbrev pub OfShared : SharedValue → Extras → Answer → Type 0
 OfShared w extras = WhereWhole (IsReplayedRun w.program w.settings extras w.journal.items) (refused_as_run w.program w.settings w.journal.items)
 
--- all are made, and the run has ended so, or not
+-- all are made, and the run has this end, or none
 pub made_ended : (w : SharedValue) (end : RunEnd) (extras : Extras) (a : Answer) → IsSharedValue w → (accounts w).end ≡ Some end → IsReplayedRun w.program w.settings extras w.journal.items a → OfShared w extras a
 made_ended w end extras a stands ended h =
     subst (λ (r : Option RefusedAt). WhereWhole (IsReplayedRun w.program w.settings extras w.journal.items) r a)
@@ -82,7 +82,7 @@ made_short w extras a stands none h =
     subst (λ (r : Option RefusedAt). WhereWhole (IsReplayedRun w.program w.settings extras w.journal.items) r a)
     (sym (short_journal w.program w.settings w.journal.items stands.legal none)) h
 
--- where all entries are made
+-- once all entries are made
 pub made_told : (o : Options) (t : TraceInput) (s : SettingsValue) (entries : List EntryValue) (w : SharedValue) (a : Answer) → s ≡ settings_for o.settings t → entries ≡ t.trace.entries
     → w.program ≡ t.program → w.settings ≡ s → w.journal.items ≡ entries
     → WhereWhole (IsReplayedRun w.program w.settings (extras_of o) w.journal.items) (refused_as_run w.program w.settings w.journal.items) a → AnswersTrace (IsReplay o) o.settings t a
@@ -92,7 +92,7 @@ made_told o t s entries w a limits is program settings journal h =
     (subst (λ l. WhereWhole (IsReplayedRun t.program l (extras_of o) w.journal.items) (refused_as_run t.program l w.journal.items) a) settings
     (subst (λ q. WhereWhole (IsReplayedRun q w.settings (extras_of o) w.journal.items) (refused_as_run q w.settings w.journal.items) a) program h)))
 
--- memory was wanting amid them
+-- memory ran out during the run
 pub entries_left : (o : Options) (t : TraceInput) (s : SettingsValue) (entries : List EntryValue) (w : SharedValue) (found : Wanted) → s ≡ settings_for o.settings t → entries ≡ t.trace.entries
     → IsSharedValue w → w.program ≡ t.program → w.settings ≡ s → IsPrefix w.journal.items entries → found ≡ Amid w.journal.items (without_journal w)
     → IsWanted (LeavesPrefix t.program (settings_for o.settings t) t.trace.entries) found
@@ -100,11 +100,11 @@ entries_left o t s entries w found limits is stands program settings prefix foun
     subst (IsWanted (LeavesPrefix t.program (settings_for o.settings t) t.trace.entries)) (sym found_is)
     (handed t.program (settings_for o.settings t) w w.journal.items (Some (without_journal w)) stands program (settings ∙ limits) refl refl, subst (IsPrefix w.journal.items) is prefix)
 
--- all of them are a first part
+-- all of them are a prefix
 pub all_prefix : (journal entries : List EntryValue) → journal ≡ entries → IsPrefix journal entries
 all_prefix journal entries is = ([], sym is ∙ sym (append-nil journal))
 
--- A REPLAY that has come so far
+-- A REPLAY up to some point
 
 pub replayed_told : (o : Options) (t : TraceInput) (s : SettingsValue) (entries : List EntryValue) (r : Result WorldValue ReplayStop) (a : Answer) → s ≡ settings_for o.settings t → entries ≡ t.trace.entries
     → ReplayGives t.program s entries r → AnswersReplayed (extras_of o) r a → AnswersTrace (IsReplay o) o.settings t a

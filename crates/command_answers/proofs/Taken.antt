@@ -1,4 +1,4 @@
--- Each step of a legal journal is taken: its task runs, and the machine goes on.
+-- Each step of a legal journal is taken: its task runs, and the machine continues.
 use Rattle.std.proofs.Common.{◌≡◌, ℕ, zero, suc, ◌+◌, true, None, List, [], ◌∷◌, ◌++◌, length, replicate, is_none, ◌⊎◌, inl, inr, refl, ap, sym, subst, ◌∙◌, arith, append_assoc}
 use Rattle.std.proofs.lemmas.Bool.{and_parts}
 use Rattle.std.proofs.lemmas.List.{length-append, length-replicate}
@@ -26,7 +26,7 @@ no_item : (b a : List ℕ) (t : ℕ) → [] ≡ b ++ t ∷ a → ⊥
 no_item [] a t e = cc
 no_item (x ∷ b) a t e = cc
 
--- two lists behind each other, cut at an item: that stands in the first or in the second
+-- two concatenated lists, cut at an item, which is in the first or in the second
 cut_at : (xs ys b a : List ℕ) (t : ℕ) → xs ++ ys ≡ b ++ t ∷ a → ((c : List ℕ) × (xs ≡ b ++ t ∷ c)) ⊎ ((d : List ℕ) × (b ≡ xs ++ d) × (ys ≡ d ++ t ∷ a))
 cut_at [] ys b a t e = inr (b, refl, e)
 cut_at (x ∷ xs) ys [] a t e = inl (xs, let h : x ≡ t = ap (head_or x) e in ap (λ z. z ∷ xs) h)
@@ -79,7 +79,7 @@ module _ (p : ProgramText) (s : SettingsValue) (I : IsProgram p) where
     within w (Sweep u g) b c t free e = absurd (no_item b c t e)
     within w Fuel b c t free e = absurd (no_item b c t e)
 
-  -- the steps of the entries behind the first ones
+  -- the steps of the entries after the first ones
   steps_from : (es first : List EntryValue) → is_legal p s (first ++ es) ≡ true → (before after : List ℕ) (t : ℕ) → tasks_of es ≡ before ++ t ∷ after → can_step (run_from p (ledger_of p s first).machine before) t ≡ true
   steps_from [] first legal before after t q = absurd (no_item before after t q)
   steps_from (e ∷ es) first legal before later t q =

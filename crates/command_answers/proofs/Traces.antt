@@ -1,4 +1,4 @@
--- What is answered of texts, and of programs with a trace.
+-- The answers for texts, and for programs with a trace.
 use Rattle.std.proofs.Common.{◌≡◌, ◌∙◌, ◌≤◌, ℕ, Bool, List, true, false, ap, length, sym, subst}
 use Rattle.std.specs.Prelude.{Option, Result, Some, Ok, nat_le}
 use Rattle.std.proofs.lemmas.Bool.{le-leb}
@@ -23,7 +23,7 @@ use Rattle.command_answers.specs.Delivery.{IsWanted}
 use Rattle.command_answers.specs.Laws.{MadeAreRead}
 use Rattle.command_answers.specs.Runs.{LeavesPaced}
 
--- what is answered of a journal, which is the trace's, with its settings
+-- the answer for a journal, which is the trace's, with its settings
 pub trace_told : (P : ProgramText → SettingsValue → List EntryValue → Answer → Type 0) (l : SettingsValue) (t : TraceInput) (s : SettingsValue) (journal : List EntryValue) (r : Option RefusedAt) (a : Answer)
     → s ≡ settings_for l t → journal ≡ t.trace.entries → refused_as_run t.program s journal ≡ r → WhereWhole (P t.program s journal) r a → AnswersTrace P l t a
 trace_told P l t s journal r a settings entries is h =
@@ -44,13 +44,13 @@ modelled o p s journal end named bytes a ended status text h = record {
 program_read : (input : List ℕ) (p : ProgramText) → nat_le (length input) program_limit ≡ true → reading_of input ≡ Ok p → program_in input ≡ Ok p
 program_read input p within reads = rw within reads
 
--- a text that was made is within the limit, and its program's
+-- a made text is within the limit, and is its program's text
 pub made_are_read : MadeAreRead
 made_are_read = λ seed size some most.
     program_read (made_text seed size) (program_of (made_text seed size))
     (le-leb (length (made_text seed size)) program_limit (made_are_short seed size most)) (made_are_programs seed size some most)
 
--- a text that was made, and is run
+-- a made text that is run
 pub made_run : (seed size : ℕ) (run : Bool) (s : SettingsValue) (bytes : List ℕ) (a : Answer) → 1 ≤ size → size ≤ 1000 → run ≡ true → s ≡ usual_settings → bytes ≡ made_text seed size
     → AnswersRun (record { settings = s; report = true; trace = false }) bytes a → AnswersMake seed size run a
 made_run seed size run s bytes a some most runs usual is h =
@@ -74,6 +74,6 @@ made_left seed size run s bytes (Amid journal remains) some most runs usual is h
     (subst (λ p. LeavesPaced p usual_settings journal (Some remains)) same
     (subst (λ l. LeavesPaced program l journal (Some remains)) usual h.2))
 
--- a text that was made
+-- a made text
 pub text_made : (seed size : ℕ) (bytes : List ℕ) (a : Answer) → bytes ≡ made_text seed size → IsText Done bytes a → AnswersMake seed size false a
 text_made seed size bytes a is h = subst (λ x. IsText Done x a) is h

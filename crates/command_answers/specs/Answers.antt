@@ -1,4 +1,4 @@
--- What each command answers to its input: the bytes, the status, and what is handed back.
+-- Each command's answer to its input: the bytes, the status, and what is returned.
 use Rattle.std.specs.Prelude.{◌≡◌, ◌+◌, ℕ, true, false, Bool, Option, Some, None, List, [], ◌∷◌, Result, Ok, Err, length, codes}
 use Rattle.std.specs.Fmt.{decimal}
 use Rattle.made_program_laws.specs.below.hh_lang.{ProgramText}
@@ -33,7 +33,7 @@ use Rattle.command_answers.specs.Status.{status_of_end, status_of_refusal}
 use Rattle.command_answers.specs.Input.{program_in}
 use Rattle.command_answers.specs.Runs.{IsReplayedRun, IsWorkersRun, LeavesPaced, LeavesPrefix}
 
--- bytes alone; nothing of a run is handed back
+-- bytes alone; nothing of a run is returned
 pub record IsText (named : Status) (bytes : List ℕ) (a : Answer) : Type 0 where
   pub status : a.status ≡ named
   pub written : a.bytes ≡ bytes
@@ -42,7 +42,7 @@ pub record IsText (named : Status) (bytes : List ℕ) (a : Answer) : Type 0 wher
 
 -- REFUSALS
 
--- of words, or of an input
+-- of command-line arguments, or of an input
 abbrev pub Refuses : Refusal → Answer → Type 0
 Refuses r = IsText (status_of_refusal r) (refusal_line r)
 
@@ -52,7 +52,7 @@ AnswersWords = Refuses Words
 
 -- PROGRAMS
 
--- an input that is a program is answered so, and any other by its first fault
+-- an input that is a program has this answer, any other is refused by its first fault
 abbrev pub WhereProgram : (ProgramText → Answer → Type 0) → Result ProgramText Refused → Answer → Type 0
 WhereProgram P (Ok p) = P p
 WhereProgram P (Err r) = Refuses (Source r)
@@ -67,7 +67,7 @@ AnswersCheck = AnswersText (λ p. IsText Done (end_line (codes "accepted" ∷ []
 
 -- RUN
 
--- what is written beside the outputs and the end line
+-- what is written besides the outputs and the end line
 abbrev pub extras_of : Options → Extras
 extras_of o = record { report = o.report; trace = o.trace }
 
@@ -83,7 +83,7 @@ AnswersRun o = AnswersText (AnswersProgram o)
 abbrev pub short_of : List EntryValue → RefusedAt
 short_of journal = record { index = length journal + 1; cause = Short }
 
--- a journal of a whole run is answered so, and any other by its first refused entry, or as short
+-- a journal of a whole run has this answer, any other is refused by its first refused entry, or as short
 abbrev pub WhereWhole : (Answer → Type 0) → Option RefusedAt → Answer → Type 0
 WhereWhole P None = P
 WhereWhole P (Some r) = Refuses (Entry r)
@@ -106,20 +106,20 @@ IsReplay o p s entries = IsReplayedRun p s (extras_of o) entries
 abbrev pub AnswersReplay : Options → List ℕ → Answer → Type 0
 AnswersReplay o = AnswersTraced (IsReplay o) o.settings
 
--- what is answered where a replay has come so far: nothing of an answer where memory was wanting
+-- the answer at some point of a replay: nothing if memory ran out
 abbrev pub AnswersReplayed : Extras → Result WorldValue ReplayStop → Answer → Type 0
 AnswersReplayed extras (Ok x) a =
     WhereWhole (IsReplayedRun x.shared.program x.shared.settings extras x.shared.journal.items) (refused_as_run x.shared.program x.shared.settings x.shared.journal.items) a
 AnswersReplayed extras (Err (Stops r)) a = Refuses (Entry r) a
 AnswersReplayed extras (Err (WantsMemory x)) a = ⊥
 
--- the shared values that it leaves stand
+-- the shared value left is one that represents its journal
 abbrev pub StandsReplayed : Result WorldValue ReplayStop → Type 0
 StandsReplayed (Ok x) = IsSharedValue x.shared
 StandsReplayed (Err (Stops r)) = Unit {0}
 StandsReplayed (Err (WantsMemory x)) = IsSharedValue x.shared
 
--- MODEL writes the same, and hands back nothing
+-- MODEL writes the same, and returns nothing
 
 pub record IsModelled (o : Options) (p : ProgramText) (s : SettingsValue) (entries : List EntryValue) (a : Answer) : Type 0 where
   pub end : RunEnd
@@ -135,7 +135,7 @@ abbrev pub races_status : List Race → Status
 races_status [] = Done
 races_status (r ∷ rs) = RacesFound
 
--- the races of a journal, each first pair, in the order of their fields
+-- the races of a journal, the pair of each field, in the order of the fields
 pub record IsRaceAnswer (p : ProgramText) (s : SettingsValue) (journal : List EntryValue) (a : Answer) : Type 0 where
   pub races : List Race
   pub report : IsReport (machine_of p s journal).edges (accesses p (field_limit s.version) (tasks_of journal)) races
@@ -146,7 +146,7 @@ AnswersRaces = AnswersTraced IsRaceAnswer
 
 -- IMAGE
 
--- the text of a sound picture of a shared value, which has just the objects that the heaps handed back hold
+-- the text of a sound picture of a shared value, with exactly the objects of heaps at rest
 pub record IsImageOf (w : SharedValue) (text : List ℕ) : Type 0 where
   pub picture : Picture
   pub draws : IsPictureOf w picture
@@ -154,7 +154,7 @@ pub record IsImageOf (w : SharedValue) (text : List ℕ) : Type 0 where
   pub held : HasJustHeld picture (accounts w)
   pub written : text ≡ text_of picture
 
--- the image of a shared value that stands, by a run of these entries
+-- the image of a shared value that represents its journal, after a run of these entries
 pub record IsImaged (p : ProgramText) (s : SettingsValue) (entries : List EntryValue) (a : Answer) : Type 0 where
   pub whole : SharedValue
   pub stands : IsSharedValue whole
@@ -183,7 +183,7 @@ AnswersVerify input = AnswersImage (image_fault input) (objects_in input)
 abbrev pub summary : Options
 summary = record { settings = usual_settings; report = true; trace = false }
 
--- the text, or a whole run of its program: no text that is made is refused
+-- the text, or a whole run of its program: no made text is refused
 abbrev pub AnswersMake : ℕ → ℕ → Bool → Answer → Type 0
 AnswersMake seed size false = IsText Done (made_text seed size)
 AnswersMake seed size true = AnswersProgram summary (program_of (made_text seed size))
@@ -200,7 +200,7 @@ AnswersLine (ImageOf file limits) input = AnswersImaging limits input
 AnswersLine (Make seed size run) input = AnswersMake seed size run
 AnswersLine (Verify file) input = AnswersVerify input
 
--- WANT OF MEMORY AMID A RUN: what is handed back of it
+-- OUT OF MEMORY DURING A RUN: what is returned of it
 
 -- the text of this program, within the limit
 abbrev pub IsProgramInput : List ℕ → ProgramText → Type 0
@@ -213,7 +213,7 @@ abbrev pub LeavesReplay : Options → List ℕ → List EntryValue → Option Sh
 LeavesReplay o input journal shared =
     (t : TraceInput) × IsInput input t × LeavesPrefix t.program (settings_for o.settings t) t.trace.entries journal shared
 
--- nothing is left by what doesn't run a program
+-- commands that run no program leave nothing
 abbrev pub LeavesNone : List EntryValue → Option SharedValue → Type 0
 LeavesNone journal shared = ⊥
 

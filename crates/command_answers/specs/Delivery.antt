@@ -1,4 +1,4 @@
--- How an answer reaches the sink, and what a call hands back.
+-- How an answer reaches the sink, and what a call returns.
 use Rattle.std.specs.Prelude.{◌≡◌, ◌⊎◌, ℕ, Option, Some, None, List, [], Result, Ok, Err, take}
 use Rattle.all_bytes.specs.below.outside_io.{with_more}
 use Rattle.made_program_laws.specs.below.run_trace.{EntryValue}
@@ -16,13 +16,13 @@ use Rattle.command_answers.specs.declared.wanted.Wanted.TheVariants.{Before, Ami
 use Rattle.command_answers.specs.Answers.{AnswersLine, AnswersWords, LeavesLine, LeavesNone}
 use Rattle.all_bytes.specs.Bytes.{WroteSome}
 
--- nothing was written, and nothing is handed back
+-- nothing was written, and nothing is returned
 abbrev pub DeliversNothing : Ran → Option (List ℕ) → Option (List ℕ) → Type 0
 DeliversNothing r before after = (r.journal ≡ []) × (r.shared ≡ None) × (after ≡ before)
 
--- an answer was given: all its bytes were written; or the sink failed, and a first part of them was; or, before the
--- first byte, the source failed or memory did, and nothing was written. Nothing is handed back then, unless memory was
--- wanting amid a run: then what it leaves is
+-- an answer was given: all its bytes were written; or the sink failed after a prefix of them; or the source or an
+-- allocation failed before the first byte, and nothing was written. Nothing is returned then, unless memory ran out
+-- during a run: then what the run leaves is returned
 abbrev pub DeliversBy : Status → (Answer → Type 0) → (List EntryValue → Option SharedValue → Type 0) → Ran → Option (List ℕ) → Option (List ℕ) → Type 0
 DeliversBy ReadFault P L r before after = DeliversNothing r before after
 DeliversBy NoMemory P L r before after = DeliversNothing r before after ⊎ (L r.journal r.shared × (after ≡ before))
@@ -31,7 +31,7 @@ DeliversBy WriteFault P L r before after =
 DeliversBy status P L r before after =
     (a : Answer) × P a × (a.status ≡ status) × (r.journal ≡ a.journal) × (r.shared ≡ a.shared) × (after ≡ with_more before a.bytes)
 
--- by an answer of which P is so, or what L says is left of a run
+-- by an answer with P, or by what L says is left of a run
 abbrev pub Delivers : (Answer → Type 0) → (List EntryValue → Option SharedValue → Type 0) → Ran → Option (List ℕ) → Option (List ℕ) → Type 0
 Delivers P L r before after = DeliversBy r.status P L r before after
 
@@ -42,44 +42,44 @@ DeliversLine line input = Delivers (AnswersLine line input) (LeavesLine line inp
 abbrev pub DeliversWords : Ran → Option (List ℕ) → Option (List ℕ) → Type 0
 DeliversWords = Delivers AnswersWords LeavesNone
 
--- the statuses of answers, which are written
+-- the statuses of written answers
 abbrev pub IsAnswered : Status → Type 0
 IsAnswered ReadFault = ⊥
 IsAnswered WriteFault = ⊥
 IsAnswered NoMemory = ⊥
 IsAnswered _ = Unit {0}
 
--- what was handed back is the answer's, and all its bytes were written, or a first part where the sink failed
+-- the journal and the value returned are the answer's, and all its bytes were written, or a prefix if the sink failed
 pub record Delivered (a : Answer) (r : Ran) (before after : Option (List ℕ)) : Type 0 where
   pub journal : r.journal ≡ a.journal
   pub shared : r.shared ≡ a.shared
   pub written : ((r.status ≡ a.status) × (after ≡ with_more before a.bytes)) ⊎ ((r.status ≡ WriteFault) × WroteSome before after a.bytes)
 
--- nothing was handed back
+-- nothing was returned
 pub record ReturnsNothing (named : Status) (r : Ran) : Type 0 where
   pub status : r.status ≡ named
   pub journal : r.journal ≡ []
   pub shared : r.shared ≡ None
 
--- WANT OF MEMORY in the making of an answer
+-- OUT OF MEMORY while an answer is made
 
--- of a run that has made no entry nothing is left, and of any other all that it has come to
+-- a run that has made no entry leaves nothing, any other leaves its shared value so far
 abbrev pub remains_of : Option SharedValue → Wanted
 remains_of None = Before
 remains_of (Some w) = Amid w.journal.items (without_journal w)
 
--- what a replay leaves that has come so far; a refused entry is answered with nothing of its run
+-- what a replay leaves at some point; a refused entry is answered with nothing of its run
 abbrev pub remains_by : Result WorldValue ReplayStop → Wanted
 remains_by (Ok x) = remains_of (Some x.shared)
 remains_by (Err (RefusedAt r)) = Before
 remains_by (Err (WantsMemory x)) = remains_of (Some x.shared)
 
--- before a run began, or amid it, where this is left of it
+-- before a run began, or during it, with this left of it
 abbrev pub IsWanted : (List EntryValue → Option SharedValue → Type 0) → Wanted → Type 0
 IsWanted L Before = Unit {0}
 IsWanted L (Amid journal remains) = L journal (Some remains)
 
--- and what is handed back then
+-- and what is returned then
 abbrev pub ReturnsWanted : Wanted → Ran → Type 0
 ReturnsWanted Before r = (r.journal ≡ []) × (r.shared ≡ None)
 ReturnsWanted (Amid journal remains) r = (r.journal ≡ journal) × (r.shared ≡ Some remains)
@@ -88,7 +88,7 @@ pub record Gives (w : Wanted) (r : Ran) : Type 0 where
   pub status : r.status ≡ NoMemory
   pub returned : ReturnsWanted w r
 
--- AN ANSWER OR NONE IS GIVEN, with no other status than its own, or that of a sink that failed
+-- AN ANSWER IS GIVEN OR NONE, with no status but its own, or that of a sink that failed
 abbrev pub GivesFound : Result Answer Wanted → Ran → Option (List ℕ) → Option (List ℕ) → Type 0
 GivesFound (Ok a) r before after = Delivered a r before after
 GivesFound (Err w) r before after = Gives w r × (after ≡ before)

@@ -1,5 +1,5 @@
--- What holds of every whole run, in one law: nothing reachable is freed, reads are stopped exactly where they have to
--- be, and the heaps handed back hold just what the definitions say.
+-- What holds of every whole run, in one law: nothing reachable is freed, reads are stopped if and only if they have to
+-- be, and the heaps at rest hold exactly what the definitions say.
 use Rattle.std.specs.Prelude.{◌≡◌, true, ◌↔◌, ◌++◌, ℕ, Option, Some, List, ◌∷◌, Contains}
 use Rattle.made_program_laws.specs.below.hh_lang.{ProgramText}
 use Rattle.race_report.specs.below.hh_model.{Name, Object, State, Task, object_at, can_step, run, IsStored}
@@ -14,28 +14,27 @@ use Rattle.world_core.specs.below.shared_value.{SharedValue, value_of}
 use Rattle.command_answers.specs.declared.answer.Answer.{Answer}
 use Rattle.command_answers.specs.Runs.{IsWholeRun}
 
--- after the first part of a journal what is reached from what tasks hold is held, and so is each reference of what is
--- held; and what is held is what was allocated and wasn't dropped by the end of a leaf collection or a sweep
+-- after each prefix of a journal what is reached from what tasks hold is held, and so is each reference of what is
+-- held; and what is held is what was allocated and not dropped by the end of a leaf collection or a sweep
 pub record FreesNoReachable (p : ProgramText) (s : SettingsValue) (first : List EntryValue) : Type 0 where
   pub reachable : KeepsReachable (ledger_of p s first)
   pub undropped : (n : Name) → Contains (held (ledger_of p s first)) n ↔ (IsStored (ledger_of p s first).machine n × (IsDropped p s (opening p s) first n → ⊥))
 
--- after some of the journal's steps the next one, by t: it is taken, t runs and the machine goes on; and if it reads a
--- reference, the read goes on exactly where the strand of what it reads precedes the reader's, and is stopped exactly
--- where it doesn't
+-- the step of t after some of the journal's steps: it is taken, t runs and the machine continues; and if it reads a
+-- reference, the read succeeds if and only if the strand of its target precedes the reader's, and is stopped otherwise
 pub record StopsUnordered (p : ProgramText) (m : State) (t : ℕ) : Type 0 where
   pub taken : can_step m t ≡ true
   pub reads : (x : Task) (d : ℕ) (n : Name) (o : Object) → ReadsNext p m t x d n o → IsDecided p m t x d n o
 
 -- the objects of a task's heap are exactly those of the names that the accounts hold for it, one for each, and each is
--- that of the machine's store
+-- the object in the machine's store
 pub record HeapIsHeld (v : Memory) (l : Ledger) (t : ℕ) : Type 0 where
   pub each : (o : Located) → In (objects v t) o → Contains (held_in (heap_of l t)) (object_name o)
   pub all : (n : Name) → Contains (held_in (heap_of l t)) n → (o : Located) × In (objects v t) o × (object_name o ≡ n)
   pub once : (o q : Located) → In (objects v t) o → In (objects v t) q → object_name o ≡ object_name q → o ≡ q
   pub contents : (o : Located) → In (objects v t) o → (x : Object) × (object_at l.machine.store (object_name o) ≡ Some x) × IsRead (Place v (handed l)) o x
 
--- a value is handed back, in which that holds of each task that no worker holds (once the run is done, of the root too)
+-- a value is returned in which that holds of each task that no worker holds (once the run is done, of the root too)
 pub record HeapsAreHeld (shared : Option SharedValue) (l : Ledger) : Type 0 where
   pub value : SharedValue
   pub is : shared ≡ Some value
@@ -46,7 +45,6 @@ pub record HoldsHeadline (p : ProgramText) (s : SettingsValue) (journal : List E
   pub stops : (before after : List ℕ) (t : ℕ) → tasks_of journal ≡ before ++ t ∷ after → StopsUnordered p (run p (field_limit s.version) before) t
   pub held : HeapsAreHeld shared (ledger_of p s journal)
 
--- THE HEADLINE: of every answer that is that of a whole run. What its bytes and its status are, is in `IsWholeRun`
--- itself
+-- THE HEADLINE, for every answer of a whole run. Its bytes and its status are specified by `IsWholeRun` itself
 abbrev pub RunsHoldTheHeadline : Type 0
 RunsHoldTheHeadline = (p : ProgramText) (s : SettingsValue) (extras : Extras) (a : Answer) → IsWholeRun p s extras a → HoldsHeadline p s a.journal a.shared

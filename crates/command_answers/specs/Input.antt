@@ -1,4 +1,4 @@
--- The inputs of commands: whose bytes they are, and how many of them are read at most.
+-- The inputs of commands: whose bytes they are, and the most bytes read.
 use Rattle.std.specs.Prelude.{ℕ, Bool, true, false, List, [], Option, Some, None, Result, Err, length, nat_le, if◌then◌else◌}
 use Rattle.made_program_laws.specs.below.text_lines.{most_bytes}
 use Rattle.all_bytes.specs.Bytes.{source_bytes}
@@ -31,7 +31,7 @@ abbrev pub reads : Option CommandLine → Bool
 reads None = false
 reads (Some line) = is_reading line
 
--- the bytes that a source tells for a command; `make` reads none
+-- the bytes that a source has for a command; `make` reads none
 abbrev pub source_bytes_for : Option (List ℕ) → (List ℕ → Option (List ℕ)) → CommandLine → Option (List ℕ)
 source_bytes_for left named (Check file) = source_bytes left named file
 source_bytes_for left named (Run file options) = source_bytes left named file

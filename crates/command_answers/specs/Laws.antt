@@ -1,4 +1,4 @@
--- What the answers come to.
+-- What follows for answers.
 use Rattle.std.specs.Prelude.{◌≡◌, ◌≢◌, ◌≤◌, ◌⊎◌, ◌++◌, Bool, List, ℕ, Option, Some, true, length}
 use Rattle.std.specs.List.{All}
 use Rattle.made_program_laws.specs.below.text_lines.{most_bytes}
@@ -23,12 +23,12 @@ use Rattle.command_answers.specs.Answers.{AnswersImaging, AnswersLine, AnswersMo
 use Rattle.command_answers.specs.Delivery.{DeliversLine}
 use Rattle.command_answers.specs.Status.{status_of_end}
 
--- the answer was given with all its bytes, or memory was wanting
+-- the answer was given with all its bytes, or memory ran out
 abbrev pub GivesAll : (Answer → Type 0) → Ran → Option (List ℕ) → Option (List ℕ) → Type 0
 GivesAll P r before after =
     (r.status ≡ NoMemory) ⊎ ((a : Answer) × P a × (r.status ≡ a.status) × (r.journal ≡ a.journal) × (r.shared ≡ a.shared) × (after ≡ with_more before a.bytes))
 
--- no fault rose
+-- no fault occurred
 pub record NoFault (r : Ran) : Type 0 where
   pub read : r.status ≢ ReadFault
   pub write : r.status ≢ WriteFault
@@ -39,17 +39,17 @@ NoFaultGivesAll =
     (line : CommandLine) (input : List ℕ) (r : Ran) (before after : Option (List ℕ)) → DeliversLine line input r before after → NoFault r
     → GivesAll (AnswersLine line input) r before after
 
--- so a program that is to be run is: the answer is that of a whole run
+-- so a program that `run` gets is run: the answer is that of a whole run
 abbrev pub ProgramsAreRun : Type 0
 ProgramsAreRun =
     (file : Option (List ℕ)) (o : Options) (input : List ℕ) (p : ProgramText) (r : Ran) (before after : Option (List ℕ)) → IsProgramInput input p
     → DeliversLine (Run file o) input r before after → NoFault r → GivesAll (AnswersProgram o p) r before after
 
--- a text that was made is the text of its program, and within the limit
+-- a made text is the text of its program, and within the limit
 abbrev pub MadeAreRead : Type 0
 MadeAreRead = (seed size : ℕ) → 1 ≤ size → size ≤ size_limit → IsProgramInput (made_text seed size) (program_of (made_text seed size))
 
--- and so is one that was made
+-- and so is one made by `make`
 abbrev pub MadeAreRun : Type 0
 MadeAreRun =
     (seed size : ℕ) (input : List ℕ) (r : Ran) (before after : Option (List ℕ)) → DeliversLine (Make seed size true) input r before after → NoFault r
@@ -67,7 +67,7 @@ HasProgram input = (r : Refused) → input_fault input ≢ Some (SourceFault r)
 abbrev pub IsEnd : Status → Type 0
 IsEnd status = (e : RunEnd) × (status ≡ status_of_end e)
 
--- a replay of a program, on the core or on the machine that never collects, tells an end of its run, or refuses the
+-- a replay of a program, on the core or on the machine that never collects, reports an end of its run, or refuses the
 -- trace
 abbrev pub TracesAreReplayed : Type 0
 TracesAreReplayed =
@@ -75,13 +75,13 @@ TracesAreReplayed =
     → (DeliversLine (Replay file o) input r before after ⊎ DeliversLine (Model file o) input r before after) → NoFault r
     → (r.status ≡ NoMemory) ⊎ ((r.status ≡ Trace) ⊎ IsEnd r.status)
 
--- what `image` writes of a whole run is verified by `verify`, unless it is too long for it
+-- `verify` verifies what `image` writes of a whole run, unless it is too long
 abbrev pub ImagesAreVerified : Type 0
 ImagesAreVerified =
     (s : SettingsValue) (input : List ℕ) (a b : Answer) → AnswersImaging s input a → a.status ≡ Done → length a.bytes ≤ most_bytes → AnswersVerify a.bytes b → b.status ≡ Done
 
--- what `image` writes of a whole run is the text of a picture whose objects are just those that the heaps of the tasks
--- that don't run hold by the accounts of its trace, each as it stands in the machine's store
+-- `image` writes, of a whole run, the text of a picture whose objects are exactly those that the heaps of the tasks
+-- that don't run hold by the accounts of its trace, each as it is in the machine's store
 pub record HasImage (s : SettingsValue) (input : List ℕ) (a : Answer) : Type 0 where
   pub read : TraceInput
   pub is : IsInput input read
@@ -101,19 +101,19 @@ pub record AreAlike (a b : Answer) : Type 0 where
 abbrev pub ModelWritesTheSame : Type 0
 ModelWritesTheSame = (o : Options) (input : List ℕ) (a b : Answer) → AnswersReplay o input a → AnswersModel o input b → AreAlike a b
 
--- a program's text with the trace of a run's journal behind it: the text ends in a line feed, the entries are such as
+-- a program's text followed by the trace of a run's journal: the text ends in a line feed, the entries are such as
 -- traces have, and both together are within the limit
 pub record IsRecorded (text : List ℕ) (journal : List EntryValue) : Type 0 where
   pub feed : EndsInFeed text
   pub entries : All IsEntry journal
   pub within : length (text ++ trace_text Two journal) ≤ most_bytes
 
--- by the same options `replay` and `model` of it write what the run wrote, with its status
+-- with the same options `replay` and `model` of it write what the run wrote, with its status
 abbrev pub RecordedRunsAreAlike : Type 0
 RecordedRunsAreAlike =
     (o : Options) (text : List ℕ) (p : ProgramText) (a b : Answer) → o.settings.version ≡ Two → IsProgramInput text p → AnswersProgram o p a → IsRecorded text a.journal
     → (AnswersReplay o (text ++ trace_text Two a.journal) b ⊎ AnswersModel o (text ++ trace_text Two a.journal) b) → AreAlike a b
 
--- a trace of which `races` tells no race is never one of an entangled run
+-- a trace for which `races` reports no race is never one of an entangled run
 abbrev pub RacelessAreDisentangled : Type 0
 RacelessAreDisentangled = (o : Options) (input : List ℕ) (a b : Answer) → AnswersRaces o.settings input a → a.status ≡ Done → AnswersReplay o input b → b.status ≢ Entangled

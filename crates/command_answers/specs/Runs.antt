@@ -1,4 +1,4 @@
--- What is answered of runs, and what is handed back of them.
+-- The answers for runs, and what is returned of them.
 use Rattle.std.specs.Prelude.{◌≡◌, true, Option, Some, List}
 use Rattle.made_program_laws.specs.below.hh_lang.{ProgramText}
 use Rattle.made_program_laws.specs.below.run_trace.{EntryValue, SettingsValue}
@@ -8,7 +8,7 @@ use Rattle.world_core.specs.below.shared_value.{SharedValue, without_journal, Is
 use Rattle.command_answers.specs.declared.answer.Answer.{Answer}
 use Rattle.command_answers.specs.Status.{status_of_end}
 
--- the journal of a run of the program with the settings, which is legal, and the shared value that stands for it, from
+-- the journal of a run of the program with the settings, which is legal, and the shared value that represents it, from
 -- which it was moved out
 pub record ReturnsRun (p : ProgramText) (s : SettingsValue) (journal : List EntryValue) (shared : Option SharedValue) : Type 0 where
   pub whole : SharedValue
@@ -19,8 +19,8 @@ pub record ReturnsRun (p : ProgramText) (s : SettingsValue) (journal : List Entr
   pub moved : journal ≡ whole.journal.items
   pub remains : shared ≡ Some (without_journal whole)
 
--- A WHOLE RUN: the journal handed back has an end; the bytes and the status are those of this journal, by the
--- definitions alone
+-- A WHOLE RUN: the journal returned has an end; the definitions alone determine the bytes and the status from this
+-- journal
 pub record IsWholeRun (p : ProgramText) (s : SettingsValue) (extras : Extras) (a : Answer) : Type 0 where
   pub back : ReturnsRun p s a.journal a.shared
   pub end : RunEnd
@@ -32,11 +32,11 @@ pub record IsWholeRun (p : ProgramText) (s : SettingsValue) (extras : Extras) (a
 abbrev pub IsWorkersRun : ProgramText → SettingsValue → Extras → Answer → Type 0
 IsWorkersRun p s extras a = IsWholeRun p s extras a × (is_paced p s a.journal ≡ true)
 
--- one by a list of entries has just these
+-- one by a list of entries has exactly these
 abbrev pub IsReplayedRun : ProgramText → SettingsValue → Extras → List EntryValue → Answer → Type 0
 IsReplayedRun p s extras entries a = IsWholeRun p s extras a × (a.journal ≡ entries)
 
--- AMID A RUN, where memory is wanting: what is handed back stands as far as the run came
+-- OUT OF MEMORY DURING A RUN: the value returned represents the run so far
 
 abbrev pub LeavesPaced : ProgramText → SettingsValue → List EntryValue → Option SharedValue → Type 0
 LeavesPaced p s journal shared = ReturnsRun p s journal shared × (is_paced p s journal ≡ true)

@@ -23,7 +23,7 @@ code_of_status Trace = 11
 code_of_status Races = 12
 code_of_status Image = 13
 
--- the status of a run by its end
+-- the status of a run, by its end
 abbrev pub status_of_machine : End → Status
 status_of_machine MachineDone = Done
 status_of_machine (Trapped kind t at) = Trap

@@ -13,21 +13,21 @@ pub enum Status {
     Done,
     /// The words are no command line.
     Words,
-    /// The input is no program.
+    /// The input isn't a program.
     Source,
     /// A run ended by a trap.
     Trap,
     /// A run ended by a read of a concurrent task's object.
     Entangled,
-    /// A run ended for spent fuel.
+    /// A run ended because its fuel was spent.
     Fuel,
-    /// A run ended for want of chunks.
+    /// A run ended because too few chunks were free.
     Pool,
     /// The source failed; nothing was written.
     ReadFault,
-    /// The sink failed; a first part was written.
+    /// The sink failed; a prefix was written.
     WriteFault,
-    /// Want of memory; nothing was written.
+    /// Out of memory; nothing was written.
     NoMemory,
     /// A line of the trace is bad, an entry isn't legal, or the trace stops before an end of its run.
     Trace,
@@ -37,7 +37,7 @@ pub enum Status {
     Image,
 }
 
-/// What is to be written, with its status and what is handed back.
+/// What to write, with its status and what is returned.
 #[derive(Drop)]
 pub struct Answer {
     pub status: Status,
@@ -46,13 +46,13 @@ pub struct Answer {
     pub shared: Option<Remains>,
 }
 
-/// What a call hands back.
+/// What a call returns.
 #[derive(Drop)]
 pub struct Ran {
     pub status: Status,
-    /// The run's journal, which was moved out of the shared value; empty where no run was made.
+    /// The run's journal, moved out of the shared value; empty if no run was made.
     pub journal: Listed<Entry>,
-    /// What the workers shared; None where no run was made.
+    /// What the workers shared; None if no run was made.
     pub shared: Option<Remains>,
 }
 
@@ -78,7 +78,7 @@ impl Status {
         }
     }
 
-    // The status of a run by the end of its machine.
+    // The status of a run, by the end of its machine.
     fn of_machine(end: End) -> Status
         ensures { result ≡ status_of_machine end }
     {
@@ -89,7 +89,7 @@ impl Status {
         }
     }
 
-    /// The status of a run that ended so.
+    /// The status of a run with this end.
     pub(crate) fn of_end(end: RunEnd) -> Status
         ensures { result ≡ status_of_end end }
     {

@@ -10,7 +10,7 @@ use all_bytes::{Failed, Sink, write_all};
 use race_report::Listed;
 use std::alloc::Global;
 
-/// What is handed back where nothing was answered.
+/// What is returned if nothing was answered.
 pub fn nothing(alloc: Global, status: Status) -> Ran
     ensures { ReturnsNothing status result }
 {
@@ -21,7 +21,7 @@ pub fn nothing(alloc: Global, status: Status) -> Ran
     }
 }
 
-/// What is handed back for want of memory.
+/// What is returned when out of memory.
 pub fn return_wanted(alloc: Global, wanted: Wanted) -> Ran
     ensures { Gives wanted result }
 {

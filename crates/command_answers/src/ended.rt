@@ -15,7 +15,7 @@ use refusal_lines::{Extras, end_text, outputs_text, report_text};
 use std::alloc::{AllocError, Global};
 use world_core::{Counted, Shared};
 
-/// What is written beside the outputs and the end line.
+/// What is written besides the outputs and the end line.
 pub fn extras_of(options: Options) -> Extras
     ensures { result ≡ extras_of options }
 {
@@ -25,7 +25,7 @@ pub fn extras_of(options: Options) -> Extras
     }
 }
 
-// The trace of a run, where it is asked for.
+// The trace of a run, if asked for.
 fn trace_lines(alloc: Global, shared: &Shared, asked: bool) -> Result<Vec<u8>, AllocError>
     ensures { IfOk result (λ text. text.items ≡ trace_part asked shared.now.settings.version shared.now.journal.items) }
 {
@@ -36,7 +36,7 @@ fn trace_lines(alloc: Global, shared: &Shared, asked: bool) -> Result<Vec<u8>, A
     }
 }
 
-// The lines of the report, where it is asked for.
+// The lines of the report, if asked for.
 fn report_lines(alloc: Global, counted: &Counted, asked: bool) -> Result<String, AllocError>
     ensures { IfOk result (λ text. string_bytes text ≡ report_part asked (accounts counted.now) (length counted.now.journal.items) (totals_of counted.now)) }
 {
@@ -47,7 +47,7 @@ fn report_lines(alloc: Global, counted: &Counted, asked: bool) -> Result<String,
     }
 }
 
-// All that is written of a run that ended so.
+// All that is written of a run with this end.
 fn run_text(
     alloc: Global,
     counted: &Counted,
@@ -66,7 +66,7 @@ fn run_text(
     Ok(text)
 }
 
-/// What is left of a run amid which memory was wanting.
+/// What is left of a run that ran out of memory.
 pub fn amid(shared: Counted) -> Wanted
     ensures amid { result ≡ Wanted.Amid shared.journal.items (without_journal shared) }
     ensures stands { IsSharedValue shared }
@@ -76,7 +76,7 @@ pub fn amid(shared: Counted) -> Wanted
     Wanted::Amid(journal, remains)
 }
 
-/// The answer of a run that ended so.
+/// The answer of a run with this end.
 pub fn answer_ended(
     alloc: Global,
     shared: Counted,

@@ -12,7 +12,7 @@ use shared_image::image_text;
 use std::alloc::{AllocError, Global};
 use world_core::{ReplayStop, Shared, replay};
 
-// The answer of the heaps that are left.
+// The answer for the remaining heaps.
 fn answer_drawn(alloc: Global, shared: &Shared) -> Result<Answer, AllocError>
     ensures { IfOk result (λ a. (image : List ℕ) × IsImageOf shared.now image × IsText Status.Done image a) }
 {
@@ -20,7 +20,7 @@ fn answer_drawn(alloc: Global, shared: &Shared) -> Result<Answer, AllocError>
     Ok(bytes_alone(alloc, Status::Done, Listed::from_vec(text)))
 }
 
-// The answer where all entries are made.
+// The answer once all entries are made.
 fn answer_made(alloc: Global, shared: &Shared) -> Result<Answer, AllocError>
     ensures { IfOk result (WhereWhole (IsImaged shared.now.program shared.now.settings shared.now.journal.items) (refused_as_run shared.now.program shared.now.settings shared.now.journal.items)) }
 {

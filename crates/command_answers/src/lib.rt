@@ -1,4 +1,4 @@
-// The answers of commands: bytes, a status, and what is handed back of a run; how an answer is written; and the laws of
+// The answers of commands: bytes, a status, and what is returned of a run; how an answer is written; and the laws of
 // all answers.
 #![tactic(auto)]
 
@@ -10,7 +10,7 @@ mod races;
 mod replay;
 mod verify;
 
-// What they are made of: the input, the end of a run, and the answers that are bytes alone.
+// Their parts: the input, the end of a run, and the answers that are bytes alone.
 mod answer;
 mod ended;
 mod input;

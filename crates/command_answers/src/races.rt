@@ -10,7 +10,7 @@ use race_report::{Listed, Race, ReplayError, Settings, races_of_run, races_text}
 use refusal_lines::{InputError, Refusal, TraceInput, read_trace_input};
 use std::alloc::{AllocError, Global};
 
-// The status where these races were found.
+// The status for these races.
 fn status_of(races: &[Race]) -> Status
     ensures { result ≡ races_status races.now }
 {
@@ -20,7 +20,7 @@ fn status_of(races: &[Race]) -> Status
     }
 }
 
-// The answer of these races.
+// The answer for these races.
 fn answer_found(alloc: Global, races: &[Race]) -> Result<Answer, AllocError>
     ensures { IfOk result (IsText (races_status races.now) (races_text races.now)) }
 {

@@ -42,7 +42,7 @@ fn status_of(refusal: Refusal) -> Status
     }
 }
 
-/// The refusal of words, or of an input.
+/// The refusal of command-line arguments, or of an input.
 pub fn refused(alloc: Global, refusal: Refusal) -> Result<Answer, AllocError>
     ensures { IfOk result (Refuses refusal) }
 {

@@ -17,7 +17,7 @@ use refusal_lines::{Extras, InputError, Refusal, TraceInput, read_trace_input};
 use std::alloc::{AllocError, Global};
 use world_core::{Counted, ReplayStop, World, replay};
 
-// The answer where all entries are made, and the run has no end.
+// The answer once all entries are made, if the run has no end.
 fn answer_short(alloc: Global, shared: Counted) -> Result<Answer, Wanted>
     ensures answer { IfOk result (Refuses (Refusal.Entry (short_of shared.journal.items))) }
     ensures wanted { IfErr result (λ w. w ≡ Wanted.Amid shared.journal.items (without_journal shared)) }
@@ -28,7 +28,7 @@ fn answer_short(alloc: Global, shared: Counted) -> Result<Answer, Wanted>
     }
 }
 
-// The answer where all entries are made.
+// The answer once all entries are made.
 fn answer_made(alloc: Global, shared: Counted, extras: Extras) -> Result<Answer, Wanted>
     ensures answer { IfOk result (WhereWhole (IsReplayedRun shared.program shared.settings extras shared.journal.items) (refused_as_run shared.program shared.settings shared.journal.items)) }
     ensures wanted { IfErr result (λ w. w ≡ Wanted.Amid shared.journal.items (without_journal shared)) }
@@ -41,7 +41,7 @@ fn answer_made(alloc: Global, shared: Counted, extras: Extras) -> Result<Answer,
     }
 }
 
-// The answer where a replay has come so far. Where memory was wanting amid it, all that it leaves is handed back.
+// The answer at some point of a replay. If memory ran out, what the replay leaves is returned.
 fn answer_replayed(
     alloc: Global,
     replayed: Result<World, ReplayStop>,

@@ -12,7 +12,7 @@ use refusal_lines::Refusal;
 use shared_image::{VerifyError, verify};
 use std::alloc::{AllocError, Global};
 
-// The end line of an image of so many objects.
+// The end line of an image with this number of objects.
 fn verified_line(alloc: Global, objects: u64) -> Result<String, AllocError>
     ensures { IfOk result (λ text. string_bytes text ≡ end_line (codes "verified" ∷ decimal objects ∷ [])) }
 {

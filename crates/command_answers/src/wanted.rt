@@ -1,15 +1,15 @@
-// Want of memory in the making of an answer.
+// Out of memory while an answer is made.
 
 use race_report::{Entry, Listed};
 use std::alloc::AllocError;
 use world_core::Remains;
 
-/// Where memory was wanting.
+/// When memory ran out.
 #[derive(Drop)]
 pub enum Wanted {
-    /// Before a run began, or where none is made.
+    /// Before a run began, or without a run.
     Before,
-    /// Amid a run: its journal as far as it came, moved out of what the workers shared.
+    /// During a run: its journal so far, moved out of what the workers shared.
     Amid(Listed<Entry>, Remains),
 }
 

@@ -16,8 +16,8 @@ use Rattle.command_line.specs.declared.line.CommandLine.TheVariants.{Make}
 abbrev pub IsOperand : Text → Type 0
 IsOperand word = strip_byte 45 word ≡ None
 
--- two such words after `make` ask for a program if and only if both are numbers in their ranges, and for its run if
--- the flag follows
+-- two such words after `make` ask for a program if and only if both are numbers in their ranges, and for its run if the
+-- flag follows
 abbrev pub Makes : List Text → Bool → Type 0
 Makes flags run = (seed size : Text) → IsOperand seed → IsOperand size
     → command_line (codes "make" ∷ seed ∷ size ∷ flags)

@@ -1,4 +1,4 @@
--- Of accesses of one strand and kind the first is enough.
+-- Of the accesses of one strand and kind the first is enough.
 use Rattle.std.proofs.Common.{◌≡◌, ℕ, zero, suc, ◌<◌, Bool, true, false, cond, not, ◌==◌, ◌||◌, ◌&&◌, Some, None, List, [], ◌∷◌, ◌++◌, length, slice_get, filter, ◌⊎◌, inl, inr, refl, ap, sym, subst, ◌∙◌, append_assoc, append-nil, eqb-true}
 use Rattle.std.specs.Bool.{beq}
 use Rattle.std.proofs.lemmas.Bool.{or_cases, both_ways, and_parts}
@@ -53,7 +53,7 @@ pushed_ways us v keys way new is at =
 -- THE FIRST THAT RACES IS THE SAME
 
 module _ (x : Seen) where
-  -- of these the alike ones race alike
+  -- of these, accesses of one kind race alike
   abbrev pub SameFor : List Seen → Type 0
   SameFor us = (u w : Seen) → In us u → In us w → same_way (way_of w.access) (way_of u.access) ≡ true → clashes u x ≡ clashes w x
 
@@ -110,7 +110,7 @@ same_bool true false e = absurd cc
 same_bool false true e = absurd cc
 same_bool false false e = refl
 
--- in a list of accesses: those of one strand precede the same later ones, by their labels
+-- in a list of accesses those of one strand precede the same later ones, by their labels
 abbrev pub StrandsTell : List Seen → Type 0
 StrandsTell zs =
     (i k j : ℕ) (u w v : Seen) → i < j → k < j → slice_get zs i ≡ Some u → slice_get zs k ≡ Some w → slice_get zs j ≡ Some v

@@ -1,4 +1,4 @@
--- A bound allows just what all of its strands precede.
+-- A bound precedes exactly what all of its strands precede.
 use Rattle.std.proofs.Common.{◌≡◌, ℕ, ◌<◌, ◌≤◌, Bool, true, false, cond, not, ◌||◌, ◌&&◌, ◌==◌, List, [], ◌∷◌, ◌++◌, nat_lt, refl, ap, sym, ◌∙◌, arith, eq-eqb, eqb-true, ne_eqb, inl, inr}
 use Rattle.std.proofs.lemmas.Bool.{cases_lt, cases_eq}
 use Rattle.std.proofs.Math.Bool.{and-false, and-true}
@@ -16,7 +16,7 @@ use Rattle.race_report.proofs.Clashes.{as_bound}
 
 -- FIRST STRANDS, AND THE REST BY THE REST
 
--- three counts of joins, the bound's, the label's and that of what comes after
+-- three counts of joins: the bound's, the label's, and that of what follows
 both_less : (i j k : ℕ) (a b : Bool) → i < j → (nat_lt j k || ((j == k) && b)) ≡ ((nat_lt i k || ((i == k) && a)) && (nat_lt j k || ((j == k) && b)))
 both_less i j k a b lt =
     elim (cases_lt k j) [
@@ -74,7 +74,7 @@ heads_apart u v w ne x y = by (u.task == w.task) refl
         ap (λ b. (nat_lt u.joins w.joins || ((u.joins == w.joins) && x)) && (b && (nat_lt v.joins w.joins || ((v.joins == w.joins) && y)))) f
         ∙ and-false (nat_lt u.joins w.joins || ((u.joins == w.joins) && x))
 
--- WITH A LABEL MORE
+-- WITH ONE MORE LABEL
 
 abbrev pub Both : List Strand → Bool → List Strand → Type 0
 Both us s vs = (ws : List Strand) → allows (joined_bound us s vs) ws ≡ (bound_allows us s ws && bound_allows vs false ws)
@@ -143,7 +143,7 @@ joined_allows (u ∷ us) s (v ∷ vs) ws =
 
 -- BOUNDS OF SOME ACCESSES
 
--- all of these that are chosen precede what has this label
+-- all of the chosen accesses precede this label
 abbrev pub all_before : (Access → Bool) → List Seen → List Strand → Bool
 all_before chosen [] label = true
 all_before chosen (u ∷ us) label = (not (chosen u.access) || label_precedes u.label label) && all_before chosen us label
@@ -193,7 +193,7 @@ same_chosen f g same [] label = refl
 same_chosen f g same (u ∷ us) label =
     ap (λ b. (not b || label_precedes u.label label) && all_before f us label) (same u.access) ∙ ap (λ b. (not (g u.access) || label_precedes u.label label) && b) (same_chosen f g same us label)
 
--- the bound for an access allows its label just where all that it clashes with precede it
+-- the bound for an access precedes its label if and only if all accesses that it clashes with do
 pub bound_tells : (o : Open) → Bounds o → (v : Access) (label : List Strand) → allows (bound_for o v) label ≡ all_before (λ u. clash u v) o.earlier label
 bound_tells o B v label = by v.writes v.swaps
   where
@@ -227,7 +227,7 @@ bound_tells o B v label = by v.writes v.swaps
         one false true = refl
         one false false = refl
 
--- so none of the earlier ones races with it
+-- so it races with no earlier one
 pub none_clashes : (us : List Seen) (v : Seen) → all_before (λ u. clash u v.access) us v.label ≡ true → (u : Seen) → In us u → clashes u v ≡ false
 none_clashes [] v h u i = absurd i
 none_clashes (y ∷ us) v h u (inl e) = ap (λ (z : Seen). clashes z v) (sym e) ∙ by (clash y.access v.access) (label_precedes y.label v.label) h

@@ -1,4 +1,4 @@
--- What is kept of one field is exact: nothing where it has no access, no race while it waits, and else its pair.
+-- The record of one field is exact: nothing if there is no access, no race while it waits, and otherwise its pair.
 use Rattle.std.proofs.Common.{◌≡◌, ℕ, zero, suc, ◌<◌, ◌≤◌, Bool, true, false, cond, Option, Some, None, List, [], ◌∷◌, ◌++◌, length, slice_get, filter, ◌⊎◌, inl, inr, refl, ap, sym, subst, ◌∙◌, arith, append_assoc, append-nil}
 use Rattle.std.proofs.lemmas.Bool.{both_ways}
 use Rattle.std.proofs.lemmas.Option.{same_Some}
@@ -16,7 +16,7 @@ use Rattle.race_report.proofs.BoundLaws.{Bounds, bound_tells, bounds_more, none_
 abbrev pub key : Seen → Key
 key v = key_of v.access.field
 
--- LISTS WITH ONE MORE
+-- LISTS WITH ONE MORE ITEM
 
 push_got : {A : Type 0} (xs : List A) (x z : A) (k : ℕ) → slice_get (xs ++ x ∷ []) k ≡ Some z → ((k < length xs) × (slice_get xs k ≡ Some z)) ⊎ ((k ≡ length xs) × (z ≡ x))
 push_got [] x z zero e = inr (refl, sym (same_Some x z e))
@@ -47,7 +47,7 @@ no_clash (y ∷ us) x h u i = by (λ h' i'. no_clash us x h' u i') (clashes y x)
     by rest false e h (inl same) = ap (λ (z : Seen). clashes z x) (sym same) ∙ e
     by rest false e h (inr i) = rest h i
 
--- of those that are chosen the first that races with x
+-- the first of the chosen accesses that races with x
 pub record IsFirst (chosen : Seen → Bool) (xs : List Seen) (x u : Seen) : Type 0 where
   pub i : ℕ
   pub is : slice_get xs i ≡ Some u
@@ -176,7 +176,7 @@ module _ (q : Key) where
   -- AN ACCESS OF THE FIELD
 
   module _ (ss : List Seen) (x : Seen) (kx : key x ≡ q) (same : SameFor x (filter chosen ss)) where
-    -- the first that races with it is among those that are kept
+    -- the first that races with it is among those kept
     first_is : (o : Open) → Waiting ss o → first_clash o.earlier x ≡ first_clash (filter chosen ss) x
     first_is o W = ap (λ us. first_clash us x) W.earlier ∙ first_same x [] (filter chosen ss) same
 

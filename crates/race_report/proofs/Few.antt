@@ -1,4 +1,4 @@
--- Objects have few fields where the limit has 32 bits.
+-- Objects have few fields if the limit has 32 bits.
 use Rattle.std.proofs.Common.{◌<◌, ◌≤◌, ◌^◌, length, max, sym, subst, arith}
 use Rattle.run_journal.specs.below.hh_model.{State, MachineValue, IsOfRun, SizesIn, SizesAreBounded}
 use Rattle.race_report.specs.Few.{AreFew}

@@ -21,12 +21,12 @@ raceless_is_disentangled p limit ts t owner (inl none) e = let r = stopped_reads
 raceless_is_disentangled p limit ts t owner (inr report) e =
     let r = stopped_reads_race p limit ts t owner e in no_race (run p limit ts).edges (accesses p limit ts) report r.v.field r.i r.j r.u r.v r.race
 
--- WHERE THE MACHINE HAS ENDED THE RUN, it has ended so
+-- IF THE MACHINE HAS ENDED THE RUN, the run has ended
 
 abbrev EndsAlike : Ledger → Type 0
 EndsAlike l = (e : End) → l.end ≡ Some (Machine e) → l.machine.end ≡ Some e
 
--- the heaps' accounts change alone
+-- only the heaps' accounts change
 heap_alike : (l : Ledger) (t : ℕ) (f : Heap → Heap) → EndsAlike l → EndsAlike (with_heap l t f)
 heap_alike l t f E e h = ap (λ (m : State). m.end) (heap_machine l t f) ∙ E e (sym (heap_end l t f) ∙ h)
 

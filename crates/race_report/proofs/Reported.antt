@@ -1,4 +1,4 @@
--- The races that are found are the report.
+-- The races found are the report.
 use Rattle.std.proofs.Common.{◌≡◌, ℕ, zero, suc, ◌<◌, Bool, true, false, not, ◌||◌, ◌&&◌, Option, Some, None, List, [], ◌∷◌, length, map, slice_get, get_or, Contains, ◌⊎◌, inl, inr, refl, ap, ap₂, sym, subst, ◌∙◌, arith}
 use Rattle.std.proofs.lemmas.Bool.{both_ways, false_from_ne_true}
 use Rattle.std.proofs.lemmas.Option.{get_or_from_slice_get, same_Some}
@@ -182,7 +182,7 @@ in_races (Waits o ∷ ws) r (inr h) = in_races ws r h
 in_races (Found s ∷ ws) r (inl e) = inl (same_found s r e)
 in_races (Found s ∷ ws) r (inr h) = inr (in_races ws r h)
 
--- places of races among what is kept
+-- indices of races among those kept
 race_place : (ws : List Watch) (i : ℕ) (r : Race) → slice_get (races_in ws) i ≡ Some r → (k : ℕ) × (slice_get ws k ≡ Some (Found r))
 race_place [] i r e = absurd cc
 race_place (Waits o ∷ ws) i r e = let k = race_place ws i r e in (suc k.0, k.1)
@@ -206,7 +206,7 @@ strands_tell sight p limit ts i k j u w v li lk eu ew ev same =
 
 module _ (sight : Sight) (p : ProgramText) (limit : ℕ) (ts : List ℕ) (kept : BTreeMap Key Watch) (ordered : tree.IsOrdered key_cmp kept)
     (is : (q : Key) → tree.get key_cmp kept q ≡ watched_from q None (seen sight p limit ts)) where
-  -- a race that is kept is the pair of a field, which is the key's
+  -- a race that is kept is the pair of its key's field
   pub record Told (q : Key) (r : Race) : Type 0 where
     pub u : Access
     pub v : Access

@@ -1,4 +1,4 @@
--- One access more of a field of which no two race.
+-- One more access to a field without a race.
 use Rattle.std.proofs.Common.{◌≡◌, Bool, true, false, cond, refl, ap}
 use Rattle.std.specs.Prelude.{Option, Some, None, option_map}
 use Rattle.race_report.specs.declared.data.Race.{Race}

@@ -1,7 +1,7 @@
--- How many fields the objects have that are accessed.
+-- The number of fields of the objects accessed.
 use Rattle.std.specs.Prelude.{◌≡◌, ◌<◌, ◌^◌, Some, List, length}
 use Rattle.run_journal.specs.below.hh_model.{Name, Object, object_at}
 
--- so few that an index has 32 bits
+-- few enough for a 32-bit index
 abbrev pub AreFew : List (List Object) → Type 0
 AreFew store = (n : Name) (o : Object) → object_at store n ≡ Some o → (length o.refs < 2 ^ 32) × (length o.ints < 2 ^ 32)

@@ -1,5 +1,4 @@
--- What a run is looked through for: accesses of fields; those by compare and swap alone, counted like all others; or
--- prints.
+-- What a run is scanned for: accesses of fields; those by `cas` alone, counted like any access; or prints.
 use Rattle.std.specs.Prelude.{ℕ, Bool, true, false, Option, Some, None, List, [], ◌∷◌, slice_get, if◌then◌else◌}
 use Rattle.run_journal.specs.below.hh_lang.{Instr, Out, Line, ProgramText}
 use Rattle.run_journal.specs.below.hh_model.{Strand, Task, State, can_step, fetched, start, step, strand_of}
@@ -11,7 +10,7 @@ use Rattle.race_report.specs.Accesses.{access, access_of, accesses_from, with_so
 
 -- COMPARE AND SWAPS
 
--- counted like an access that none makes
+-- counted as an access not made by `cas`
 abbrev pub plain : Access → Access
 plain a = record a { swaps = false }
 
@@ -23,12 +22,12 @@ abbrev pub swap_of : Option Access → Option Access
 swap_of None = None
 swap_of (Some a) = swap_if a.swaps a
 
--- those of these accesses that compare and swaps make, each counted like another access
+-- the accesses made by `cas`, each counted like any other
 abbrev pub swaps_of : List Access → List Access
 swaps_of [] = []
 swaps_of (a ∷ rest) = with_some (swap_if a.swaps a) (swaps_of rest)
 
--- PRINTS count as writes to one field, the same for all
+-- PRINTS count as writes to one common field
 
 abbrev pub print_field : Field
 print_field = record { name = record { task = 0; count = 0 }; is_number = false; index = 0 }
@@ -45,7 +44,7 @@ abbrev pub task_said : ProgramText → ℕ → Option Task → Option Access
 task_said p t None = None
 task_said p t (Some x) = line_said t x (fetched p x.top)
 
--- what the next step of a task prints, where it can take one and prints
+-- what the next step of a task prints, if it can take one and prints
 abbrev pub said_of : ProgramText → State → ℕ → Option Access
 said_of p m t = if can_step m t then task_said p t (slice_get m.tasks t) else None
 
@@ -65,6 +64,6 @@ looked_from Fields p m ts = accesses_from p m ts
 looked_from Swaps p m ts = swaps_of (accesses_from p m ts)
 looked_from Prints p m ts = said_from p m ts
 
--- what steps of these tasks make of what is looked for, in this order
+-- what steps of these tasks add to the scan, in this order
 abbrev pub looked : Sight → ProgramText → ℕ → List ℕ → List Access
 looked sight p limit ts = looked_from sight p (start p limit) ts

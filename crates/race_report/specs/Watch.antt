@@ -1,5 +1,4 @@
--- What is kept of each field while accesses come: of the earlier ones the first of each strand and kind until two race,
--- and then the race.
+-- The record of each field during a scan: the first access of each strand and kind until two race, then the race.
 use Rattle.std.specs.Prelude.{ℕ, ◌&&◌, ◌||◌, not, Bool, true, false, Option, Some, None, List, [], ◌∷◌, ◌++◌, if◌then◌else◌}
 use Rattle.std.specs.declared.cmp.Ordering.{Ordering}
 use Rattle.std.specs.Ordering.{is_eq, nat_cmp, ordering_then}
@@ -37,11 +36,11 @@ seen sight p limit ts = seen_from sight p (start p limit) ts
 
 -- ONE FIELD
 
--- two accesses of which one is a write, and not both by a compare and swap
+-- one of two accesses is a write, and not both are by `cas`
 abbrev pub clash : Access → Access → Bool
 clash u v = (u.writes || v.writes) && not (u.swaps && v.swaps)
 
--- two accesses of one field race, as their labels tell
+-- two accesses of one field race, by their labels
 abbrev pub clashes : Seen → Seen → Bool
 clashes u v = clash u.access v.access && not (label_precedes u.label v.label)
 
@@ -50,7 +49,7 @@ abbrev pub first_clash : List Seen → Seen → Option Seen
 first_clash [] v = None
 first_clash (u ∷ us) v = if clashes u v then Some u else first_clash us v
 
--- the bound with one access more, where it is of those that are bound
+-- adds an access to the bound, if it is one that the bound covers
 abbrev pub bound_with : Bool → Bound → List Strand → Bound
 bound_with true b label = joined_bound b.label b.strict label
 bound_with false b label = b
@@ -64,11 +63,11 @@ with_first o v = record {
   plain_writes = bound_with (v.access.writes && not v.access.swaps) o.plain_writes v.label;
 }
 
--- with an access more; of each strand and kind the first is enough
+-- adds an access; of each strand and kind the first is enough
 abbrev pub with_access : Open → Seen → Open
 with_access o v = if has_alike o.earlier v.access then o else with_first o v
 
--- the bound of all that an access may race with
+-- the bound of all accesses that this one may race with
 abbrev pub bound_for : Open → Access → Bound
 bound_for o v = if v.writes then (if v.swaps then o.plain else o.all) else (if v.swaps then o.plain_writes else o.writes)
 
@@ -86,7 +85,7 @@ abbrev pub found_by : Option Seen → Open → Seen → Watch
 found_by None o v = Waits (with_access o v)
 found_by (Some u) o v = Found (race_of u.access v.access)
 
--- one access more of the field
+-- adds one access to the field's record
 abbrev pub watch_with : Watch → Seen → Watch
 watch_with (Found r) v = Found r
 watch_with (Waits o) v = if allows (bound_for o v.access) v.label then Waits (with_access o v) else found_by (first_clash o.earlier v) o v
@@ -117,16 +116,16 @@ key_cmp a b = ordering_then (ordering_then (nat_cmp a.0.0 b.0.0) (nat_cmp a.0.1 
 abbrev pub same_key : Key → Key → Bool
 same_key a b = is_eq (key_cmp a b)
 
--- what is kept at a key, with one access more
+-- the record at a key, with one more access
 abbrev pub watched_with : Key → Option Watch → Seen → Option Watch
 watched_with q w v = if same_key (key_of v.access.field) q then Some (watch_with (or_nothing w) v) else w
 
--- and with these accesses more
+-- and with these accesses
 abbrev pub watched_from : Key → Option Watch → List Seen → Option Watch
 watched_from q w [] = w
 watched_from q w (v ∷ vs) = watched_from q (watched_with q w v) vs
 
--- THE RACES THAT WERE FOUND
+-- THE RACES FOUND
 
 abbrev pub with_race : Watch → List Race → List Race
 with_race (Found r) races = r ∷ races

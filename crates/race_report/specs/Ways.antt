@@ -5,7 +5,7 @@ use Rattle.std.specs.List.{list_any}
 use Rattle.race_report.specs.declared.data.Access.{Access}
 use Rattle.race_report.specs.declared.data.Seen.{Seen}
 
--- the strand, whether it writes, and whether it is made by a compare and swap
+-- the strand, whether it writes, and whether it is by `cas`
 abbrev pub Way : Type 0
 Way = (ℕ × ℕ) × (Bool × Bool)
 

@@ -8,7 +8,7 @@ ghost use Rattle.race_report.specs.Few.{AreFew};
 use crate::data::{Access, Field};
 use run_journal::{Frame, Instr, IntReg, Program, RefReg, State, Strand, is_same};
 
-// A number as the index of one of so many fields.
+// A number as an index, if it is below n.
 fn field_index(count: usize, index: i64) -> Option<u32>
     requires { count < 2 ^ 32 }
     ensures place { result ≡ place_in count index }
@@ -21,7 +21,7 @@ fn field_index(count: usize, index: i64) -> Option<u32>
     if at < count { Some(at as u32) } else { None }
 }
 
-// Where an instruction stands: the strand that takes it, and its line.
+// Where an instruction is: the strand that takes it, and its line.
 #[derive(Clone, Copy)]
 pub(crate) struct Place {
     pub(crate) strand: Strand,
@@ -163,7 +163,7 @@ fn cas_access(
     Some(at.access(field, writes, true))
 }
 
-// The access that an instruction makes, unless it traps.
+// The access of an instruction, unless it traps.
 fn instr_access(state: &State, top: &Frame, at: Place, instr: Instr) -> Option<Access>
     requires { AreFew state.now.store }
     ensures { (s : Setting) → result ≡ unless_trap (effect s top.now state.now.store instr) (access_by at.strand at.line top.now state.now.store instr) }
@@ -180,7 +180,7 @@ fn instr_access(state: &State, top: &Frame, at: Place, instr: Instr) -> Option<A
     }
 }
 
-/// The access that the next step of a task makes, where it can take one and makes one.
+/// The access of a task's next step, if it can take one and makes one.
 pub(crate) fn access_of(program: &Program, state: &State, t: u32) -> Option<Access>
     requires { AreFew state.now.store }
     ensures { result ≡ access_of program.now state.now t }

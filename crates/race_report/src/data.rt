@@ -7,9 +7,9 @@ use run_journal::{Listed, Name, Strand};
 #[derive(Clone, Copy)]
 pub struct Field {
     pub name: Name,
-    /// Whether it is a number field; else it is a reference field.
+    /// Whether it is a number field; otherwise it is a reference field.
     pub is_number: bool,
-    /// Its place among the object's fields of its kind.
+    /// Its index among the object's fields of its kind.
     pub index: u32,
 }
 
@@ -18,27 +18,27 @@ pub struct Field {
 pub struct Access {
     /// The strand that takes the step; its task is the step's.
     pub strand: Strand,
-    /// The line of the text that the instruction stands on.
+    /// The source line of the instruction.
     pub line: u32,
     pub field: Field,
-    /// Whether it is a write; else it is a read.
+    /// Whether it is a write; otherwise it is a read.
     pub writes: bool,
-    /// Whether it is made by a compare and swap.
+    /// Whether it is made by `cas`.
     pub swaps: bool,
 }
 
-/// What a run is looked through for.
+/// What a run is scanned for.
 #[derive(Clone, Copy)]
 pub enum Sight {
     /// All accesses of fields.
     Fields,
-    /// Those by compare and swap alone, counted like all others.
+    /// Those by `cas` alone, counted like all others.
     Swaps,
     /// Prints, counted like writes to one field.
     Prints,
 }
 
-/// Two accesses of a field that race: for each its task and line.
+/// Two accesses of a field that race: the task and the line of each.
 #[derive(Clone, Copy)]
 pub struct Race {
     /// The task and the count of the object's name.
@@ -60,26 +60,26 @@ pub struct Seen {
     pub label: Listed<Strand>,
 }
 
-/// What must precede a strand so that all of several strands do.
+/// What must precede a strand so that several strands all do.
 #[derive(Drop)]
 pub struct Bound {
     pub label: Listed<Strand>,
-    /// Whether the strand must part from the label with more joins, and can't go on where it ends.
+    /// Whether the bound is strict: it precedes no strand whose label continues this one, only those with more joins.
     pub strict: bool,
 }
 
-/// Accesses of a field of which no two race: of each strand and kind the first, and bounds of some of them.
+/// Accesses of a field without a race: the first of each strand and kind, and bounds of some of them.
 #[derive(Drop)]
 pub struct Open {
     pub earlier: Firsts,
     pub all: Bound,
     pub writes: Bound,
-    /// Of those that aren't made by a compare and swap.
+    /// The bound of those that aren't made by `cas`.
     pub plain: Bound,
     pub plain_writes: Bound,
 }
 
-/// What is kept of a field: its accesses, or its race.
+/// The record of a field: its accesses, or its race.
 #[derive(Drop)]
 pub enum Watch {
     Open(Open),

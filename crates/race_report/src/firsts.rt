@@ -1,4 +1,4 @@
-// The accesses that are kept of a field: of each strand and kind the first.
+// The accesses kept for a field: the first of each strand and kind.
 
 ghost use Rattle.std.specs.Prelude.{◌≡◌, ◌∷◌, ◌++◌, [], false, OnOk};
 ghost use Rattle.race_report.specs.Ways.{way_of, has_alike};
@@ -8,7 +8,7 @@ use indexmap::IndexSet;
 use std::alloc::{AllocError, Global};
 use std::marker::Model;
 
-// The strand of an access, whether it writes, and whether it is made by a compare and swap.
+// The strand of an access, whether it writes, and whether it is made by `cas`.
 fn way_of(access: Access) -> ((u32, u32), (bool, bool))
     ensures { result ≡ way_of access }
 {
@@ -18,7 +18,7 @@ fn way_of(access: Access) -> ((u32, u32), (bool, bool))
     )
 }
 
-/// Accesses in their order, no two of one strand and kind.
+/// Accesses in order, no two of one strand and kind.
 #[derive(Drop)]
 pub struct Firsts {
     list: Vec<Seen>,
@@ -57,14 +57,14 @@ impl Firsts {
         self.list.as_slice()
     }
 
-    /// Whether one of this strand and kind is there.
+    /// Whether there is one of this strand and kind.
     pub(crate) fn has_alike(&self, access: Access) -> bool
         ensures { result ≡ has_alike self.now access }
     {
         self.ways.contains(&way_of(access))
     }
 
-    /// Puts one behind the others, the first of its strand and kind.
+    /// Appends the first access of its strand and kind.
     pub(crate) fn push(&mut self, seen: Seen) -> Result<(), AllocError>
         requires { has_alike self.old seen.access ≡ false }
         ensures { OnOk result (self.new ≡ self.old ++ seen ∷ []) }

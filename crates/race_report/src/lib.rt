@@ -1,4 +1,4 @@
-// The races of a journal: accesses to one field that no fork and no join puts in order.
+// The races of a journal: accesses to one field that forks and joins leave unordered.
 #![tactic(auto)]
 
 // The report of a journal's races: data, text and laws.
@@ -7,12 +7,12 @@ mod laws;
 mod report;
 mod text;
 
-// The access of a step, and the label of the strand that makes it.
+// The access of a step, and the label of its strand.
 mod access;
 mod bounds;
 mod label;
 
-// What is kept while the steps of a journal go by.
+// The records during a scan of a journal's steps.
 mod firsts;
 mod scan;
 mod sight;

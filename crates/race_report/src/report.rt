@@ -14,8 +14,8 @@ use crate::watch::races_in;
 use run_journal::{Entry, Program, ReplayError, Settings, model_replay, replayed};
 use std::alloc::{AllocError, Global};
 
-/// Of a journal without refused entries, looked through for something: for each field for which two race their pair, in
-/// the order of the fields, as for `races`.
+/// The pairs of a journal without refused entries, scanned for something: one for each field with a race, in the order
+/// of the fields, as `races` defines it.
 pub fn races_of(
     alloc: Global,
     sight: Sight,
@@ -51,9 +51,9 @@ fn check_journal(
     Ok(())
 }
 
-/// The races of a legal journal, with or without an end: for each field that has one its pair, in the order of the
-/// fields. Of all races for a field the pair is the one whose later access is the earliest, and for that the earliest
-/// other one.
+/// The races of a legal journal, with or without an end: one pair for each field with a race, in the order of the
+/// fields. The pair of a field is the race with the earliest later access, and of those the one with the earliest other
+/// access.
 pub fn races(
     alloc: Global,
     program: &Program,

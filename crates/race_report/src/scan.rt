@@ -1,4 +1,4 @@
-// The steps of a journal, with what is kept of each field.
+// The steps of a journal, and the records of fields.
 
 ghost use Rattle.std.specs.Prelude.{◌≡◌, ◌+◌, ◌<◌, ◌≤◌, ◌^◌, [], None, length, replicate, OnOk, IfOk};
 ghost use Rattle.std.specs.BTreeMap as tree;
@@ -25,7 +25,7 @@ fn field_limit(state: &State) -> u32
     state.field_limit
 }
 
-/// What the next step of a task makes of what is looked for is kept, if it makes any.
+/// Records what a task's next step adds to the scan, if anything.
 fn look(
     alloc: Global,
     sight: Sight,
@@ -64,7 +64,7 @@ fn take(machine: &mut Machine, t: u32) -> Result<(), AllocError>
     }
 }
 
-/// So many steps of a task.
+/// n steps of a task.
 fn take_steps(
     alloc: Global,
     sight: Sight,
@@ -140,7 +140,7 @@ fn scan_onto(
     take_entries(alloc, sight, program, &mut machine, kept, journal)
 }
 
-/// What is kept of each field after the steps of a journal.
+/// The records of all fields after the steps of a journal.
 pub(crate) fn scan(
     alloc: Global,
     sight: Sight,

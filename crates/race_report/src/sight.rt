@@ -1,4 +1,4 @@
-// What the next step of a task makes of what is looked for.
+// What a task's next step adds to a scan.
 
 ghost use Rattle.std.specs.Prelude.{◌≡◌};
 ghost use Rattle.race_report.specs.Few.{AreFew};
@@ -15,7 +15,7 @@ const PRINT_FIELD: Field = Field {
     index: 0,
 };
 
-// An access by a compare and swap, counted like another.
+// An access by `cas`, counted like any other.
 fn swap_of(access: Option<Access>) -> Option<Access>
     ensures { result ≡ swap_of access }
 {
@@ -58,7 +58,7 @@ fn said_of(program: &Program, state: &State, t: u32) -> Option<Access>
     }
 }
 
-/// What the next step of a task makes of what is looked for.
+/// What a task's next step adds to a scan.
 pub(crate) fn looked_of(sight: Sight, program: &Program, state: &State, t: u32) -> Option<Access>
     requires { AreFew state.now.store }
     ensures { result ≡ looked_of sight program.now state.now t }

@@ -1,4 +1,4 @@
-// The lines that are written of races.
+// The lines printed about races.
 
 ghost use Rattle.std.specs.Prelude.{◌≡◌, ◌++◌, ◌∷◌, [], codes, IfOk, OnOk};
 ghost use Rattle.std.specs.String.{string_bytes};
@@ -26,7 +26,7 @@ fn field_text(alloc: Global, race: &Race) -> Result<String, AllocError>
     format!(in alloc; "{} {} {word} {}", race.task, race.count, race.index)
 }
 
-// The line of a race, with a word in front.
+// The line of a race, after a word.
 fn race_text(alloc: Global, word: &str, race: &Race) -> Result<String, AllocError>
     ensures { IfOk result (λ text. string_bytes text ≡ pair_line word.now race.now) }
 {
@@ -36,7 +36,7 @@ fn race_text(alloc: Global, word: &str, race: &Race) -> Result<String, AllocErro
     format!(in alloc; "{word} {field} tasks {first} {second} lines {first_line} {second_line}\n")
 }
 
-// Adds the line of a race, with a word in front.
+// Adds the line of a race, after a word.
 fn add_race(alloc: Global, text: &mut Vec<u8>, word: &str, race: &Race) -> Result<(), AllocError>
     ensures { OnOk result (text.new.items ≡ text.old.items ++ pair_line word.now race.now) }
 {
@@ -44,7 +44,7 @@ fn add_race(alloc: Global, text: &mut Vec<u8>, word: &str, race: &Race) -> Resul
     text.extend_from_slice(line.as_bytes())
 }
 
-/// A line for each race, with a word in front.
+/// A line for each race, after a word.
 pub fn pair_lines(alloc: Global, word: &str, races: &[Race]) -> Result<Vec<u8>, AllocError>
     ensures { IfOk result (λ text. text.items ≡ flat_map (pair_line word.now) races.now) }
 {

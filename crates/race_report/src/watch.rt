@@ -1,4 +1,4 @@
-// What is kept of each field while accesses come.
+// The records of fields during a scan.
 
 ghost use Rattle.std.specs.Prelude.{◌≡◌, None, false, OnOk, IfOk, option_copied, option_map, if◌then◌else◌};
 ghost use Rattle.std.specs.BTreeMap as tree;
@@ -21,7 +21,7 @@ fn label_precedes(first: &[Strand], second: &[Strand]) -> bool
     allows(first, false, second)
 }
 
-/// Whether one of two accesses is a write, and not both are made by a compare and swap.
+/// Whether one of two accesses is a write, and not both are by `cas`.
 fn clash(first: Access, second: Access) -> bool
     ensures { result ≡ clash first second }
 {
@@ -68,7 +68,7 @@ fn race_of(first: Access, second: Access) -> Race
 }
 
 impl Bound {
-    /// Bounds a label too, where it is of those that are bound.
+    /// Takes in a label, if it is one that the bound covers.
     fn include_if(&mut self, alloc: Global, is: bool, label: &[Strand]) -> Result<(), AllocError>
         ensures { OnOk result (self.new ≡ bound_with is self.old label.now) }
     {
@@ -81,7 +81,7 @@ impl Bound {
 }
 
 impl Open {
-    /// Of no accesses.
+    /// The record without accesses.
     pub(crate) fn new(alloc: Global) -> Open
         ensures { Watch.Open result ≡ nothing_yet }
     {
@@ -106,7 +106,7 @@ impl Open {
         }
     }
 
-    /// One access more, which races with none.
+    /// Adds an access that races with none.
     fn add(&mut self, alloc: Global, seen: Seen) -> Result<(), AllocError>
         ensures { OnOk result (self.new ≡ with_access self.old seen) }
     {
@@ -116,7 +116,7 @@ impl Open {
         self.add_first(alloc, seen)
     }
 
-    /// The first access of its strand and kind.
+    /// Adds the first access of its strand and kind.
     fn add_first(&mut self, alloc: Global, seen: Seen) -> Result<(), AllocError>
         requires { has_alike self.old.earlier seen.access ≡ false }
         ensures { OnOk result (self.new ≡ with_first self.old seen) }
@@ -131,7 +131,7 @@ impl Open {
         Ok(())
     }
 
-    /// The bound of all that an access may race with.
+    /// The bound of all accesses that this one may race with.
     fn bound_for(&self, access: Access) -> &Bound
         ensures { result.now ≡ bound_for self.now access }
     {
@@ -145,7 +145,7 @@ impl Open {
     }
 }
 
-/// The race of an access with the first of earlier ones that it races with.
+/// The race of an access with the first earlier one that it races with.
 fn race_with(known: &Open, seen: &Seen) -> Option<Race>
     ensures { result ≡ (if allows (bound_for known.now seen.now.access) seen.now.label then None else option_map (λ first. race_of first.access seen.now.access) (first_clash known.now.earlier seen.now)) }
 {
@@ -159,7 +159,7 @@ fn race_with(known: &Open, seen: &Seen) -> Option<Race>
     }
 }
 
-/// What is kept of a field of which no two accesses race, with one access more.
+/// Adds an access to a record without a race.
 fn open_with(alloc: Global, mut known: Open, seen: Seen) -> Result<Watch, AllocError>
     ensures { IfOk result (λ w. w ≡ watch_with (Watch.Open known) seen) }
 {
@@ -172,7 +172,7 @@ fn open_with(alloc: Global, mut known: Open, seen: Seen) -> Result<Watch, AllocE
     }
 }
 
-/// What is kept of a field with one access more.
+/// Adds an access to a field's record.
 pub(crate) fn watch_with(alloc: Global, watch: Watch, seen: Seen) -> Result<Watch, AllocError>
     ensures { IfOk result (λ w. w ≡ watch_with watch seen) }
 {
@@ -190,7 +190,7 @@ fn key_of(field: Field) -> ((u32, u32), (u32, u32))
     ((field.name.task, field.name.count), (kind, field.index))
 }
 
-/// Keeps one access more.
+/// Records one more access.
 pub(crate) fn keep(
     alloc: Global,
     kept: &mut BTreeMap<((u32, u32), (u32, u32)), Watch>,
@@ -208,7 +208,7 @@ pub(crate) fn keep(
     Ok(())
 }
 
-/// The races that were found, in the order of their fields.
+/// The races found, in the order of their fields.
 pub(crate) fn races_in(
     alloc: Global,
     kept: &BTreeMap<((u32, u32), (u32, u32)), Watch>,

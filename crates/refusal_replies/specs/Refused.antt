@@ -1,4 +1,4 @@
--- The reply to words, or to an input, that are refused.
+-- The reply to refused command-line arguments, or to a refused input.
 use Rattle.refusal_lines.specs.declared.refusal.Refusal.{Refusal}
 use Rattle.refusal_lines.specs.declared.refusal.Refusal.TheVariants.{Words as WordsRefused, Source as SourceRefused, Line, Entry, Image as ImageRefused}
 use Rattle.refusal_lines.specs.Refusals.{refusal_line}

@@ -1,4 +1,4 @@
--- What crates above name of the crates below.
+-- Re-exports from lower crates for the crates above.
 pub mod outside_io
 pub mod refusal_lines
 pub mod whole_call

@@ -23,7 +23,7 @@ fn status_of(refusal: Refusal) -> AnswerStatus
     }
 }
 
-/// The refusal of words, or of an input.
+/// The refusal of command-line arguments, or of an input.
 pub fn refused(alloc: Global, refusal: Refusal) -> Result<Reply, AllocError>
     ensures { IfOk result (Refuses refusal) }
 {

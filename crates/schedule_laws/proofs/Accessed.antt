@@ -1,4 +1,4 @@
--- Which field an access is of: the instruction reaches it.
+-- Which field an access is of: one that the instruction reaches.
 use Rattle.std.proofs.Common.{◌≡◌, ℕ, pos, Bool, true, false, cond, Option, Some, None, length, slice_get, slice_set, unwrap_or, refl, ap, sym, ◌∙◌}
 use Rattle.std.specs.Option.{option_flatten}
 use Rattle.std.proofs.lemmas.Bool.{false≢true}
@@ -35,7 +35,7 @@ module _ (p : ProgramText) (m : State) (N : NamesAreStoredIn m) (u : ℕ) (y : T
   abbrev f : Frame
   f = y.top
 
-  -- what the step accesses, where it isn't a trap
+  -- what the step accesses if it doesn't trap
   abbrev pub made_by : Instr → Option Access
   made_by i = unless_trap (effect s f m.store i) (access_by (strand_of u y) line.number f m.store i)
 
@@ -145,7 +145,7 @@ module _ (p : ProgramText) (m : State) (N : NamesAreStoredIn m) (u : ℕ) (y : T
   traps_none : (kind : Trap) (a : Option Access) (b : Access) → unless_trap (Traps kind) a ≡ Some b → ⊥
   traps_none kind a b e = let h : None ≡ Some b = e in cc
 
-  -- the object, the field and what is made of it
+  -- the object, the field and what is done to it
   found : (number : Bool) (o k : ℕ) (go : Name → Object → ℕ → Effect) (acc : Option Field → Option Access) (a : Access) → acc None ≡ None
       → unless_trap (with_object m.store (ref_in f o) (λ n z. or_trap Range (place_in (fields_of number z) (int_in f k)) (go n z))) (acc (field_at number (ref_in f o) (int_in f k))) ≡ Some a
       → (n : Name) × (z : Object) × (at : ℕ) × (ref_in f o ≡ Some n) × (object_at m.store n ≡ Some z) × (place_in (fields_of number z) (int_in f k) ≡ Some at) × (unless_trap (go n z at) (acc (Some (field_of number n at))) ≡ Some a)
@@ -170,7 +170,7 @@ module _ (p : ProgramText) (m : State) (N : NamesAreStoredIn m) (u : ℕ) (y : T
       by_name None ew h = absurd (traps_none Nil (acc (field_at number None (int_in f k))) a h)
       by_name (Some n) ew h = by_object n ew (object_at m.store n) refl h
 
-  -- an access that is made is this one
+  -- the access made is this one
   made : (e : Effect) (b a : Access) → unless_trap e (Some b) ≡ Some a → b ≡ a
   made (Goes x st) b a h = same_Some b a h
   made (Prints k) b a h = same_Some b a h

@@ -1,6 +1,6 @@
 -- Which tasks a move changes: the task itself, its sibling that has ended, or its parent that waits for both. So moves
--- of two tasks that run at one time change none in common, and what comes of the end of the one isn't changed by the
--- other, but where they are children of one fork.
+-- of two concurrent tasks change no task in common, and one doesn't change the outcome of the other's end, unless they
+-- are children of one fork.
 use Rattle.std.proofs.Common.{◌≡◌, ℕ, ℤ, ◌+◌, ◌-◌, ◌%◌, ◌<◌, Bool, true, false, cond, Option, Some, None, List, [], ◌∷◌, length, slice_get, slice_set, ◌⊎◌, inl, inr, refl, ap, sym, subst, ◌∙◌, arith}
 use Rattle.std.proofs.lemmas.Bool.{both_ways, cases_Bool, cond-false, cond-true, eqb-false, eqb-true, false≢true}
 use Rattle.listed.proofs.Members.{got_cases, got_front, got_other, got_within}
@@ -144,7 +144,7 @@ kept_set ts k v z none plain = by (slice_get (slice_set ts k z) v) refl
       | inr h ↦ ap result_at (sym h) ∙ none
     ]
 
--- a move leaves who hasn't ended so, but its own task by its end
+-- a move leaves unended tasks so, except its own task when it ends
 pub plain_quiet : (ts : List Task) (t : ℕ) (mv : Move) → IsPlain mv → (v : ℕ) → result_at (slice_get ts v) ≡ None → result_at (slice_get (sets (puts t mv) ts) v) ≡ None
 plain_quiet ts t (Acts y op) p v none = kept_set ts t v y none p
 plain_quiet ts t (Splits y c d) p v none = kept_set ts t v y none p
@@ -164,7 +164,7 @@ last_quiet ts t x q r (Some other) (Some xq) (Some xw) v ne none = by (is_left t
     by true = three t (joined_task x) (joined_task xw) (resumed xq r other) refl refl refl
     by false = three (t - 1) (joined_task xw) (joined_task x) (resumed xq other r) refl refl refl
 
--- what comes of the end of u is the same after t's move
+-- the outcome of u's end is the same after t's move
 module _ (m m1 : State) (K : IsForkJoinState m) (t u : ℕ) (mt : Move) (M : Moves m m1 t mt) (two : t ≡ u → ⊥) (run_t : is_running (slice_get m.tasks t) ≡ true) (run_u : is_running (slice_get m.tasks u) ≡ true)
     (kinds : AllAt (Kind m t) (puts t mt)) (q : ℕ) (above : parents m.tasks u ≡ Some q) where
   same_get : (v : ℕ) → v < length m.tasks → AllAt (λ j. v ≡ j → ⊥) (puts t mt) → slice_get m1.tasks v ≡ slice_get m.tasks v

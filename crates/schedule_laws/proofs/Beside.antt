@@ -1,5 +1,5 @@
--- The next step of a task that runs beside another one: what it sees is the same after the other's step, but for the
--- field that this writes.
+-- The next step of a concurrent task sees the same after another task's step, except for the field that the other step
+-- writes.
 use Rattle.std.proofs.Common.{◌≡◌, ℕ, suc, Bool, true, false, Some, None, List, [], ◌∷◌, length, slice_get, inl, inr, refl, ap, sym, subst, ◌∙◌, eq-eqb, ne_eqb, length-set}
 use Rattle.std.proofs.lemmas.Bool.{both_ways, cases_eq, eqb-true}
 use Rattle.listed.proofs.Members.{In, got_other}

@@ -1,4 +1,4 @@
--- Steps of two tasks that run at one time commute.
+-- Steps of two concurrent tasks commute.
 use Rattle.std.proofs.Common.{◌≡◌, ℕ, Bool, true, false, Option, Some, None, List, slice_get, ◌⊎◌, inl, inr, refl, ap, sym, subst, ◌∙◌}
 use Rattle.std.proofs.lemmas.List.{set_comm}
 use Rattle.listed.proofs.Members.{In}
@@ -74,7 +74,7 @@ module _ (p : ProgramText) (limit : ℕ) (ts : List ℕ) where
 
     module _ (x y : Task) (is : slice_get m.tasks t ≡ Some x) (run_t : is_running (Some x) ≡ true) (iu : slice_get m.tasks u ≡ Some y) (run_u : is_running (Some y) ≡ true) where
       module _ (lt lu : Line) (nt : fetched p x.top ≡ Some lt) (nu : fetched p y.top ≡ Some lu) where
-        -- what both write is not of one field
+        -- the writes of both are of different fields
         edits_agree : (k : Name) (d : Edit) (n : Name) (e : Edit) → EditsBy (setting m t x) x.top m.store lt.instr k d → EditsBy (setting m u y) y.top m.store lu.instr n e → n ≡ k → (o : Object) → edited e (edited d o) ≡ edited d (edited e o)
         edits_agree k d n e ha hb same_name o = by d e ha hb
           where

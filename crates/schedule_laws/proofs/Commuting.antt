@@ -1,4 +1,4 @@
--- Two moves of tasks that run at one time, in either order.
+-- Two moves of concurrent tasks, in either order.
 use Rattle.std.proofs.Common.{◌≡◌, ℕ, ◌+◌, ◌<◌, true, Option, Some, None, List, ◌++◌, length, map, slice_get, inl, inr, refl, ap, sym, subst, ◌∙◌, arith, length-append}
 use Rattle.std.specs.Option.{option_map}
 use Rattle.listed.proofs.Members.{In, in_append_cases, in_append_left, in_append_right}
@@ -23,7 +23,7 @@ use Rattle.schedule_laws.proofs.Swapping.{Agree, AllAt, Stored, all_at, changed_
 use Rattle.schedule_laws.proofs.Moves.{Move, Moves, change_in, edges_in, news, puts, rows_in}
 use Rattle.schedule_laws.proofs.Apart.{Kind, kind_within, kinds_apart}
 
--- TWO STATES THAT ARE THE SAME but for the order of edges and the outputs
+-- TWO STATES THAT ARE EQUAL except for the order of edges and the outputs
 pub record Even (m m' : State) : Type 0 where
   pub limit : m'.field_limit ≡ m.field_limit
   pub tasks : m'.tasks ≡ m.tasks
@@ -58,7 +58,7 @@ even_alike m m' E = record {
   end = E.end ∙ sym (end_same m.end);
 }
 
--- edges that are added in either order
+-- edges added in either order
 pub in_swap : (es xs bs : List Edge) (e : Edge) → In ((es ++ xs) ++ bs) e → In ((es ++ bs) ++ xs) e
 in_swap es xs bs e i = elim (in_append_cases (es ++ xs) bs e i) [
   | inr b ↦ in_append_left (es ++ bs) xs e (in_append_right es bs e b)

@@ -1,4 +1,4 @@
--- Steps of two tasks that run at one time, in either order.
+-- Steps of two concurrent tasks, in either order.
 use Rattle.std.proofs.Common.{◌≡◌, ℕ, ℤ, ◌+◌, ◌-◌, ◌<◌, Bool, true, false, cond, Option, Some, None, List, [], ◌∷◌, ◌++◌, length, map, slice_get, slice_set, ◌⊎◌, inl, inr, refl, ap, sym, subst, ◌∙◌, arith, append-nil, length-append, length-set}
 use Rattle.std.specs.Option.{option_map}
 use Rattle.listed.proofs.Members.{In}
@@ -26,7 +26,7 @@ use Rattle.schedule_laws.proofs.Commuting.{Even, edges_then, even_alike, even_ba
 use Rattle.schedule_laws.proofs.Forked.{edges_swap, f, rows_swap, tasks_swap}
 use Rattle.schedule_laws.proofs.Lows.{LowIn}
 
--- m12 and m21 are the same but for the numbers of tasks that m doesn't have
+-- m12 and m21 are equal except for the numbers of tasks that m doesn't have
 pub record SameButNumbers (m m12 m21 : State) : Type 0 where
   pub f : ℕ → ℕ
   pub renaming : IsRenaming (length m12.tasks) f f
@@ -55,7 +55,7 @@ module _ (m : State) (K : IsForkJoinState m) (D : Disentangled m.tasks m.store) 
   -- TWO MOVES
 
   module _ (t u : ℕ) (two : t ≡ u → ⊥) (run_t : is_running (slice_get m.tasks t) ≡ true) (run_u : is_running (slice_get m.tasks u) ≡ true) (m1 m2 m12 m21 : State) where
-    -- the first one adds no tasks
+    -- the first move adds no tasks
     pub even : (mt mu : Move) → news mt ≡ [] → rows_in mt ≡ [] → ((k j : ℕ) → edges_in t mt k ≡ edges_in t mt j)
         → AllAt (Kind m t) (puts t mt) → AllAt (Kind m u) (puts u mu) → Stored m.store (change_in mt) → Stored m.store (change_in mu) → Agree (change_in mu) (change_in mt)
         → Moves m m1 t mt → Moves m m2 u mu → Moves m1 m12 u mu → Moves m2 m21 t mt → Even m12 m21
@@ -88,7 +88,7 @@ module _ (m : State) (K : IsForkJoinState m) (D : Disentangled m.tasks m.store) 
         }
 
   module _ (t u : ℕ) (two : t ≡ u → ⊥) (run_t : is_running (slice_get m.tasks t) ≡ true) (run_u : is_running (slice_get m.tasks u) ≡ true) (m1 m2 m12 m21 : State) where
-    -- the second one adds none, beside a fork
+    -- the second one adds none, after a fork
     flipped : {zt ct dt : Task} (mu : Move) → news mu ≡ [] → rows_in mu ≡ [] → ((k j : ℕ) → edges_in u mu k ≡ edges_in u mu j)
         → AllAt (Kind m t) (puts t (Splits zt ct dt)) → AllAt (Kind m u) (puts u mu) → Stored m.store Same → Stored m.store (change_in mu) → Agree Same (change_in mu)
         → Moves m m1 t (Splits zt ct dt) → Moves m m2 u mu → Moves m1 m12 u mu → Moves m2 m21 t (Splits zt ct dt) → Even m12 m21

@@ -1,5 +1,4 @@
--- A whole run in order, and another one of the same program in which tasks have other numbers: so the law speaks of
--- something.
+-- A whole run in order, and another of the same program in which tasks have other numbers: the law isn't vacuous.
 use Rattle.std.proofs.Common.{◌≡◌, ℕ, pos, ◌&&◌, ◌||◌, not, Bool, true, false, Some, List, [], ◌∷◌, ◌⊎◌, inl, inr, refl, sym, subst, ◌∙◌}
 use Rattle.std.proofs.lemmas.Bool.{and_parts, false≢true}
 use Rattle.listed.proofs.Members.{In}
@@ -19,8 +18,8 @@ use Rattle.schedule_laws.specs.Clashes.{Clash}
 use Rattle.schedule_laws.specs.Laws.{SomeRunSpeaksUp}
 use Rattle.schedule_laws.proofs.Splits.{InOrder, from_order}
 
--- the root makes an object of one number field, writes it and forks two tasks; each of them forks two, which read the
--- field. The sums are joined, and the root prints 84
+-- the root makes an object with one number field, writes it and forks two tasks; each forks two, which read the field.
+-- The sums are joined, and the root prints 84
 p : ProgramText
 p = record {
   functions =

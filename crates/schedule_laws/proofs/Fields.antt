@@ -1,4 +1,4 @@
--- Fields stay.
+-- Fields persist.
 use Rattle.std.proofs.Common.{◌≡◌, ℕ, true, false, Some, inl, inr, refl, ap, sym, ◌∙◌, length-set}
 use Rattle.std.proofs.lemmas.Bool.{cases_eq, eqb-true}
 use Rattle.listed.proofs.Members.{got_other}

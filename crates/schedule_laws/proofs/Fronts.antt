@@ -1,4 +1,4 @@
--- A step that can be taken now comes to the front of a run in order: with it first, the run comes to the same.
+-- A step that can be taken now moves to the front of a run in order, with the same result.
 use Rattle.std.proofs.Common.{◌≡◌, ℕ, suc, ◌+◌, ◌<◌, ◌≤◌, Bool, true, false, cond, Option, Some, None, List, [], ◌∷◌, ◌++◌, length, map, slice_get, ◌⊎◌, inl, inr, refl, ap, sym, subst, ◌∙◌, arith}
 use Rattle.std.specs.Option.{option_map}
 use Rattle.std.proofs.lemmas.Bool.{cases_Bool, cases_eq}
@@ -50,11 +50,11 @@ use Rattle.schedule_laws.proofs.Leaving.{can_there, clashes_stay, steps_leave_st
 use Rattle.schedule_laws.proofs.SideBySide.{running_tasks_are_apart}
 use Rattle.schedule_laws.proofs.Splits.{InOrder, Split, split_next}
 
--- two prints of one strand, or in order
+-- two prints of one strand, or of ordered strands
 abbrev pub Near : List Edge → Print → Print → Type 0
 Near es a b = (a.strand ≡ b.strand) ⊎ Precedes es a.strand b.strand
 
--- from m a run comes to this end with these accesses, prints and turns; and so it does with u's step first, but for
+-- from m a run has this end with these accesses, prints and turns; and so it has with u's step first, except for
 -- numbers of tasks
 pub record Fronted (p : ProgramText) (m : State) (u : ℕ) (end : State) (all : List Access) (said : List Print) (turns : ℕ) : Type 0 where
   pub rest : List ℕ
@@ -98,7 +98,7 @@ module _ (p : ProgramText) (limit : ℕ) (hs : List ℕ) where
   abbrev m : State
   m = run p limit hs
 
-  -- no step beside another task's ends the run by the return of main
+  -- no step concurrent to another task's ends the run by the return of main
   lone : (t u : ℕ) → (t ≡ u → ⊥) → can_step m t ≡ true → can_step m u ≡ true → (step p m t).end ≡ Some Done → ⊥
   lone t u two can_t can_u done =
       let R = runs_have_one_root p limit hs in
@@ -107,7 +107,7 @@ module _ (p : ProgramText) (limit : ℕ) (hs : List ℕ) where
       let zero_u : u ≡ 0 = R.alone u (ap (λ k. is_running (slice_get m.tasks k)) (sym zero_t) ∙ can_runs m t can_t) (can_runs m u can_u) in
       two (zero_t ∙ sym zero_u)
 
-  -- an access names tasks that are there
+  -- an access names tasks that exist
   pub access_low : (f : ℕ → ℕ) → ((v : ℕ) → v < length m.tasks → f v ≡ v) → (t : ℕ) → can_step m t ≡ true → (a : Access) → access_of p m t ≡ Some a → access_to f a ≡ a
   access_low f old t can a ia =
       let x = can_task m t can in
@@ -137,7 +137,7 @@ module _ (p : ProgramText) (limit : ℕ) (hs : List ℕ) where
           reach_object (Cas d o k e v) b n at r = (r.object, r.is)
           reach_object _ b n at r = absurd r
 
-  -- the strand of what a task does
+  -- the strand of a task's step
   pub access_strand : (t : ℕ) (can : can_step m t ≡ true) (a : Access) → access_of p m t ≡ Some a → a.strand ≡ strand_of t (can_task m t can).0
   access_strand t can a ia = by (fetched p x.0.top) refl
     where
@@ -172,7 +172,7 @@ module _ (p : ProgramText) (limit : ℕ) (hs : List ℕ) where
       let s : f a.strand.task ≡ a.strand.task = old a.strand.task (subst (λ (w : Strand). w.task < length m.tasks) (sym (print_strand t can a ia)) (can_made m t can)) in
       λ i. record a { strand = record a.strand { task = s i } }
 
-  -- strands of tasks that run at one time aren't in order
+  -- strands of concurrent tasks are unordered
   unordered : (ts : List ℕ) (t u : ℕ) (two : t ≡ u → ⊥) (can_t : can_step m t ≡ true) (can_u : can_step m u ≡ true) → Precedes (run_from p m ts).edges (strand_of t (can_task m t can_t).0) (strand_of u (can_task m u can_u).0) → ⊥
   unordered ts t u two can_t can_u =
       let x = can_task m t can_t in
@@ -317,7 +317,7 @@ can_beside : (p : ProgramText) (limit : ℕ) (hs : List ℕ) (t u : ℕ) → (t 
 can_beside p limit hs t u two can_t can_u going1 = let y = can_task (run p limit hs) u can_u in can_there p limit hs t u two can_t can_u going1 y.0 y.1 y.2
 
 module _ (p : ProgramText) (limit : ℕ) where
-  -- its own step is in front already
+  -- its own step is already first
   own : (m : State) (u : ℕ) (ts : List ℕ) → can_step m u ≡ true → Fronted p m u (run_from p m (u ∷ ts)) (accesses_from p m (u ∷ ts)) (prints_from p m (u ∷ ts)) (turns_from p m (u ∷ ts))
   own m u ts can = record {
     rest = ts;

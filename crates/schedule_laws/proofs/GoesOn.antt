@@ -1,4 +1,4 @@
--- A run that hasn't ended can go on.
+-- A run that hasn't ended can continue.
 use Rattle.std.proofs.Common.{◌≡◌, ℕ, ◌+◌, ◌≤◌, Bool, true, false, cond, Option, Some, None, List, [], ◌∷◌, ◌++◌, slice_get, ◌⊎◌, inl, inr, refl, ap, sym, subst, ◌∙◌, arith}
 use Rattle.std.specs.Option.{option_map}
 use Rattle.std.proofs.lemmas.Bool.{cases_Bool}
@@ -43,7 +43,7 @@ module _ (p : ProgramText) where
       by true = omega arith
       by false = refl
 
-  -- one of the steps that end a run can be taken first
+  -- one of the steps of the ended run can be taken first
   pub record Goes (m : State) (more : List ℕ) : Type 0 where
     pub t : ℕ
     pub can : can_step m t ≡ true

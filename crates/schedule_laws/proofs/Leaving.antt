@@ -1,5 +1,5 @@
--- A step leaves the next step of a task that runs beside it, unless their accesses clash; and accesses that clash do so
--- after it too.
+-- A step leaves a concurrent task's next step as it is unless their accesses clash; and accesses that clash still clash
+-- after it.
 use Rattle.std.proofs.Common.{◌≡◌, ℕ, ℤ, ◌+◌, ◌-◌, ◌++◌, Bool, true, false, cond, Option, Some, None, List, [], ◌∷◌, length, nat_lt, slice_get, ◌⊎◌, inl, inr, refl, ap, sym, subst, ◌∙◌}
 use Rattle.std.specs.Option.{option_flatten}
 use Rattle.std.proofs.lemmas.Bool.{cases_Bool, false≢true}
@@ -282,7 +282,7 @@ module _ (p : ProgramText) (limit : ℕ) (ts : List ℕ) (t u : ℕ) (two : t �
           let h = reached_at p m N u y line here_acting b n at r in
           free a h.0 ia h.1 (record { field = fa ∙ sym h.2; writes = inl wa })
 
-    -- where there is no next instruction, nothing happens
+    -- without a next instruction nothing happens
     pub left_none : fetched p y.top ≡ None → LeavesStep p m t u
     left_none next = record {
       can = can_there;

@@ -1,4 +1,4 @@
--- Every frame names only tasks that are there, also those of tasks that have ended.
+-- Every frame names only tasks that exist, also the frames of ended tasks.
 use Rattle.std.proofs.Common.{◌≡◌, ℕ, zero, suc, ◌+◌, ◌<◌, true, Option, Some, List, [], ◌∷◌, length, slice_get, slice_set, ◌⊎◌, inl, inr, refl, ap, sym, subst, ◌∙◌, arith}
 use Rattle.std.proofs.lemmas.Bool.{false≢true}
 use Rattle.listed.proofs.Members.{In, contains_from_in, got_cases}

@@ -1,4 +1,4 @@
--- What a step does to the tasks, the store and the edges, told so that the same can be done to another state.
+-- What a step does to the tasks, the store and the edges, in a form that can be applied to another state.
 use Rattle.std.proofs.Common.{◌≡◌, ℕ, ℤ, ◌+◌, ◌-◌, Bool, true, false, cond, Option, Some, None, List, [], ◌∷◌, ◌++◌, length, slice_get, slice_set, nat_lt, ◌⊎◌, inl, inr, refl, ap, sym, subst, ◌∙◌, append-nil}
 use Rattle.hh_lang.specs.declared.instr.Instr.{Instr}
 use Rattle.hh_model.specs.declared.data.Name.{Name}
@@ -51,7 +51,7 @@ edges_in t (Acts y op) n = []
 edges_in t (Splits y c d) n = edge (strand t y.joins) (strand n 0) ∷ edge (strand t y.joins) (strand (n + 1) 0) ∷ []
 edges_in t (Joins q l yl yr yq) n = edge (strand l yl.joins) (strand q yq.joins) ∷ edge (strand (l + 1) yr.joins) (strand q yq.joins) ∷ []
 
--- m' is m after the move, but for the outputs
+-- m' is m after the move, except for the outputs
 pub record Moves (m m' : State) (t : ℕ) (mv : Move) : Type 0 where
   pub tasks : m'.tasks ≡ sets (puts t mv) m.tasks ++ news mv
   pub store : m'.store ≡ changed (change_in mv) t m.store ++ rows_in mv
@@ -59,7 +59,7 @@ pub record Moves (m m' : State) (t : ℕ) (mv : Move) : Type 0 where
   pub limit : m'.field_limit ≡ m.field_limit
   pub end : m'.end ≡ m.end
 
--- a move by which a task that ran doesn't end
+-- a move after which a running task hasn't ended
 abbrev pub IsPlain : Move → Type 0
 IsPlain (Acts y op) = result_in y.status ≡ None
 IsPlain (Splits y c d) = result_in y.status ≡ None
@@ -132,9 +132,9 @@ last_moves m u y q r is (Some other) = by_parent (slice_get m.tasks q)
 
 -- TWO STATES
 
--- the same task, which runs in both, takes its next step in both
+-- the same task, running in both, takes its next step in both
 module _ (m m1 : State) (u : ℕ) (y : Task) (running : y.status ≡ Running) (going : m.end ≡ None) where
-  -- the step is no end of the task: it is the same move in both
+  -- the step doesn't end the task: it is the same move in both
   pub record Plain (w w1 : State) (i : Instr) : Type 0 where
     pub move : Move
     pub here : Moves m w u move
@@ -143,7 +143,7 @@ module _ (m m1 : State) (u : ℕ) (y : Task) (running : y.status ≡ Running) (g
     pub shape : Shape u y move
     pub by : ChangesBy (setting m u y) y.top m.store i (change_in move)
 
-  -- or the task ends, and what comes of it depends on its sibling
+  -- or the task ends, and the outcome depends on its sibling
   pub record Last (w w1 : State) : Type 0 where
     pub parent : ℕ
     pub above : y.parent ≡ Some parent

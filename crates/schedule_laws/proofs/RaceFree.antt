@@ -1,4 +1,4 @@
--- Runs in order are those without races in which no compare and swaps contend; and what follows for journals.
+-- Runs in order are those without races and without contending compare and swaps; and the consequences for journals.
 use Rattle.std.proofs.Common.{◌≡◌, ℕ, true, List, [], inl, inr, refl, ap, sym, ◌∙◌}
 use Rattle.std.proofs.lemmas.Bool.{both_ways, cases_Bool}
 use Rattle.listed.proofs.Members.{in_from_contains}

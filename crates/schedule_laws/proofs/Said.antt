@@ -103,7 +103,7 @@ printed_map f g back s [] = refl
 printed_map f g back s (x ∷ xs) =
     ap₂ (λ b w. cond b (x.number ∷ w) w) (strand_there f g back x.strand s) (printed_map f g back s xs)
 
--- the print in the middle comes to the front
+-- the middle print moves to the front
 pub printed_moves : (s : Strand) (front back : List Print) (o : Option Print) → ((a b : Print) → In front a → o ≡ Some b → a.strand ≡ b.strand → ⊥) → printed_by s (with_some o (front ++ back)) ≡ printed_by s (front ++ with_some o back)
 printed_moves s front back None free = refl
 printed_moves s front back (Some b) free = by front (λ a i. free a b i refl)
@@ -145,7 +145,7 @@ said_map es es' f walk (x ∷ xs) h = ((λ b i. by xs (λ c j. h.0 c j) b i), sa
     by (y ∷ ys) h b (inl e) = subst (λ (w : Print). Precedes es' (strand_to f x.strand) w.strand) e (walk x.strand y.strand (h y (inl refl)))
     by (y ∷ ys) h b (inr i) = by ys (λ c j. h c (inr j)) b i
 
--- where all prints are in order, the one in the middle stood in front already
+-- if all prints are in order, the middle one was already first
 pub said_moves : (es : List Edge) (front back : List Print) (o : Option Print) → ((a b : Print) → In front a → o ≡ Some b → Precedes es a.strand b.strand → ⊥) → SaidInOrder es (front ++ with_some o back)
     → SaidInOrder es (front ++ back) × (numbers (with_some o (front ++ back)) ≡ numbers (front ++ with_some o back))
 said_moves es front back None free h = (h, refl)

@@ -1,4 +1,4 @@
--- One whole run in order speaks for all schedules.
+-- One whole run in order determines all schedules.
 use Rattle.std.proofs.Common.{◌≡◌, ℕ, ◌+◌, ◌<◌, Bool, true, false, cond, Option, Some, None, List, [], ◌∷◌, ◌++◌, length, map, slice_get, inl, inr, refl, ap, sym, subst, ◌∙◌, arith}
 use Rattle.std.specs.Option.{option_map}
 use Rattle.std.proofs.lemmas.Option.{same_Some}
@@ -34,7 +34,7 @@ use Rattle.schedule_laws.proofs.Fronts.{Front, access_low, front, print_low}
 use Rattle.schedule_laws.proofs.Said.{SaidInOrder, numbers, numbers_map, outputs_are, printed_map, printed_moves, said_map, said_moves, said_order, strand_there}
 use Rattle.schedule_laws.proofs.Splits.{InOrder, from_order, in_some, order_moves, to_order}
 
--- a run from m by ts, and another one that came to this end with these accesses, prints and turns
+-- a run from m by ts, and another that had this end with these accesses, prints and turns
 pub record Comes (p : ProgramText) (m : State) (ts : List ℕ) (end : State) (all : List Access) (said : List Print) (turns : ℕ) : Type 0 where
   pub f : ℕ → ℕ
   pub g : ℕ → ℕ
@@ -47,7 +47,7 @@ pub record Comes (p : ProgramText) (m : State) (ts : List ℕ) (end : State) (al
   pub printed : (s : Strand) → printed_by (strand_to f s) said ≡ printed_by s (prints_from p m ts)
   pub spoken : SaidInOrder (run_from p m ts).edges (prints_from p m ts) → numbers said ≡ numbers (prints_from p m ts)
 
--- a list of steps that comes to the same
+-- a list of steps with the same result
 abbrev pub ComesAs : ProgramText → State → List ℕ → List ℕ → Type 0
 ComesAs p m ts us = Comes p m ts (run_from p m us) (accesses_from p m us) (prints_from p m us) (turns_from p m us)
 

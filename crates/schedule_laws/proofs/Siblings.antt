@@ -1,4 +1,4 @@
--- The two last returns into one join, in either order; and with them all steps of two tasks that run at one time.
+-- The two last returns into one join, in either order; and hence all steps of two concurrent tasks.
 use Rattle.std.proofs.Common.{◌≡◌, ℕ, ℤ, ◌+◌, ◌-◌, ◌%◌, ◌<◌, true, false, cond, Option, Some, None, List, [], ◌∷◌, ◌++◌, length, slice_get, slice_set, ◌⊎◌, inl, inr, refl, ap, sym, subst, ◌∙◌, arith, append-nil, eq-eqb}
 use Rattle.std.proofs.lemmas.Bool.{cases_Bool, cases_eq, cond-false, cond-true, eqb-false, eqb-true}
 use Rattle.std.proofs.lemmas.Option.{same_Some}
@@ -23,7 +23,7 @@ use Rattle.schedule_laws.proofs.Commuting.{Even}
 use Rattle.schedule_laws.proofs.Crossed.{Resolved, SameButNumbers, both, last_resolved, moved_last, plain_kinds, plain_resolved, same_itself}
 use Rattle.schedule_laws.proofs.Lows.{LowIn}
 
--- a child's record is written over by the join
+-- the join overwrites a child's record
 join_over : (ts : List Task) (q l : ℕ) (a b c : Task) (k : ℕ) (z : Task) → (k ≡ l) ⊎ (k ≡ l + 1) → sets ((l, a) ∷ (l + 1, b) ∷ (q, c) ∷ []) (slice_set ts k z) ≡ sets ((l, a) ∷ (l + 1, b) ∷ (q, c) ∷ []) ts
 join_over ts q l a b c k z (inl e) = subst (λ j. sets ((l, a) ∷ (l + 1, b) ∷ (q, c) ∷ []) (slice_set ts j z) ≡ sets ((l, a) ∷ (l + 1, b) ∷ (q, c) ∷ []) ts) (sym e) (ap (λ w. slice_set (slice_set w (l + 1) b) q c) (set-set ts l z a))
 join_over ts q l a b c k z (inr e) =
@@ -56,7 +56,7 @@ module _ (m : State) (K : IsForkJoinState m) (D : Disentangled m.tasks m.store) 
   abbrev ru : ℤ × Option Name
   ru = result_of y.top
 
-  -- what comes of the second end, after the first
+  -- the outcome of the second end, after the first
   second : (v w : ℕ) (a b : Task) (ra rb : ℤ × Option Name) (n n' : State) (q : ℕ) → (v ≡ w → ⊥) → slice_get m.tasks v ≡ Some a → slice_get m.tasks w ≡ Some b → is_running (slice_get m.tasks v) ≡ true → sibling w ≡ v
       → parents m.tasks w ≡ Some q → (xq : Task) → slice_get m.tasks q ≡ Some xq → (q ≡ v → ⊥) → n.tasks ≡ slice_set m.tasks v (ended_task a ra) → n' ≡ child_ended_by n w b q rb (result_at (slice_get n.tasks (sibling w)))
       → Moves n n' w (cond (is_left w) (Joins q w (joined_task b) (joined_task a) (resumed xq rb ra)) (Joins q (w - 1) (joined_task a) (joined_task b) (resumed xq ra rb)))
@@ -92,7 +92,7 @@ module _ (m : State) (K : IsForkJoinState m) (D : Disentangled m.tasks m.store) 
       top : (xq : Task) × (slice_get m.tasks q ≡ Some xq)
       top = wait_there (slice_get m.tasks q) (K.tree.waits u q pu (runs_tell (slice_get m.tasks u) run_u).2)
 
-      -- with the left one's number told, the right one's
+      -- given the left one's number, the right one's
       ended : sibling t ≡ u → (a b c : Task) (l : ℕ) → (t ≡ l) ⊎ (t ≡ l + 1) → (u ≡ l) ⊎ (u ≡ l + 1)
           → cond (is_left u) (Joins q u (joined_task y) (joined_task x) (resumed top.0 ru rt)) (Joins q (u - 1) (joined_task x) (joined_task y) (resumed top.0 rt ru)) ≡ Joins q l a b c
           → cond (is_left t) (Joins q t (joined_task x) (joined_task y) (resumed top.0 rt ru)) (Joins q (t - 1) (joined_task y) (joined_task x) (resumed top.0 ru rt)) ≡ Joins q l a b c

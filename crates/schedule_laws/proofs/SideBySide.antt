@@ -1,4 +1,4 @@
--- Of two tasks that run at one time neither's strand precedes the other's.
+-- The strands of two concurrent tasks are unordered.
 use Rattle.std.proofs.Common.{◌≡◌, ℕ, false, length, ap, sym, ◌∙◌, arith}
 use Rattle.std.proofs.lemmas.Bool.{both_ways}
 use Rattle.listed.proofs.Members.{got_within}

@@ -1,4 +1,4 @@
--- Lists of what steps make, of which one is moved to the front.
+-- Lists of what steps make, of which one item moves to the front.
 use Rattle.std.proofs.Common.{◌≡◌, ℕ, zero, suc, Option, Some, None, List, [], ◌∷◌, ◌++◌, map, ◌⊎◌, inl, inr, refl, ap, sym, subst, ◌∙◌, arith}
 use Rattle.std.proofs.lemmas.Option.{same_Some}
 use Rattle.listed.proofs.Members.{In, got_in, in_append_cases, in_append_left, in_append_right}
@@ -10,7 +10,7 @@ use Rattle.race_report.specs.Accesses.{with_some}
 use Rattle.schedule_laws.specs.Clashes.{Clash}
 use Rattle.schedule_laws.specs.Ordered.{AreOrdered}
 
--- all of them are those in front, this one where there is one, and those behind it; the rest are the others, renamed
+-- all of them are those before, this one if there is one, and those after; the rest are the others, renamed
 pub record Split {X : Type 0} (to : (ℕ → ℕ) → X → X) (Bad : X → X → Type 0) (f : ℕ → ℕ) (all : List X) (o : Option X) (rest : List X) : Type 0 where
   pub front : List X
   pub back : List X
@@ -69,7 +69,7 @@ from_order es (x ∷ xs) h zero (suc j) u v lt iu iv c = let e : x ≡ u = same_
 from_order es (x ∷ xs) h (suc i) zero u v lt iu iv c = absurd (omega arith)
 from_order es (x ∷ xs) h (suc i) (suc j) u v lt iu iv c = from_order es xs h.1 i j u v (omega arith) iu iv c
 
--- the one in the middle comes to the front
+-- the middle one moves to the front
 pub order_moves : (es : List Edge) (front back : List Access) (o : Option Access) → InOrder es (front ++ with_some o back) → ((a b : Access) → In front a → o ≡ Some b → Clash a b → ⊥) → InOrder es (with_some o (front ++ back))
 order_moves es front back None h free = h
 order_moves es front back (Some b) h free = ((λ c i k. by front h (λ a j. free a b j refl) c i k), rest front h)

@@ -1,4 +1,4 @@
--- What a step makes of the store.
+-- How a step changes the store.
 use Rattle.std.proofs.Common.{◌≡◌, ℕ, ℤ, Bool, true, false, cond, Option, Some, None, List, [], ◌∷◌, ◌++◌, slice_get, slice_set, ◌⊎◌, inl, inr, refl, ap, sym, subst, ◌∙◌, append-nil}
 use Rattle.std.specs.Option.{option_flatten}
 use Rattle.std.proofs.lemmas.Bool.{cases_eq, false≢true}
@@ -66,14 +66,14 @@ module _ (p : ProgramText) (m : State) (N : NamesAreStoredIn m) (t : ℕ) where
   pub in_field : (n q : Name) (o : Object) (k : ℕ) → object_at m.store n ≡ Some o → option_flatten (slice_get o.refs k) ≡ Some q → (z : Object) × (object_at m.store q ≡ Some z)
   in_field n q o k is got = N.in_fields n q o is (contains_from_in o.refs (Some q) (got_in o.refs k (Some q) (flat_at (slice_get o.refs k) q got)))
 
-  -- the next instruction, where the step can be taken
+  -- the next instruction, if the step can be taken
   pub record Acting (x : Task) (line : Line) : Type 0 where
     pub can : can_step m t ≡ true
     pub is : slice_get m.tasks t ≡ Some x
     pub running : is_running (Some x) ≡ true
     pub next : fetched p x.top ≡ Some line
 
-  -- an instruction that goes on with this frame and store
+  -- an instruction that continues with this frame and store
   pub record GoesBy (op : Change) : Type 0 where
     pub task : Task
     pub line : Line

@@ -1,4 +1,4 @@
--- Writes of lists at different places, in either order.
+-- Writes to different indices of a list commute.
 use Rattle.std.proofs.Common.{◌≡◌, ℕ, zero, suc, ◌<◌, Option, Some, None, List, [], ◌∷◌, ◌++◌, length, slice_get, slice_set, inl, inr, refl, ap, sym, subst, ◌∙◌, length-set}
 use Rattle.std.proofs.lemmas.Bool.{cases_eq}
 use Rattle.std.proofs.lemmas.List.{set-set, set_comm, set-append_left}
@@ -11,7 +11,7 @@ use Rattle.renaming_laws.proofs.Changed.{Change, Same, Grows, Edits, Edit, chang
 
 -- TASKS
 
--- this holds of each place that is written
+-- this holds of each index written
 abbrev pub AllAt : (ℕ → Type 0) → List (ℕ × Task) → Type 0
 AllAt P [] = Unit {0}
 AllAt P (x ∷ xs) = P x.0 × AllAt P xs
@@ -80,7 +80,7 @@ Stored store Same = Unit {0}
 Stored store (Grows o) = Unit {0}
 Stored store (Edits n e) = (o : Object) × (object_at store n ≡ Some o)
 
--- two edits of one object may come in either order
+-- two edits of one object commute
 abbrev pub Agree : Change → Change → Type 0
 Agree (Edits n e) (Edits k d) = n ≡ k → (o : Object) → edited e (edited d o) ≡ edited d (edited e o)
 Agree a b = Unit {0}
@@ -147,7 +147,7 @@ changed_length Same t store = refl
 changed_length (Grows o) t store = length-set store t (row_of (slice_get store t) ++ o ∷ [])
 changed_length (Edits n e) t store = length-set store n.task (edited_row (row_of (slice_get store n.task)) n.count e)
 
--- rows behind are left
+-- later rows are unchanged
 pub changed_front : (op : Change) (t : ℕ) (store more : List (List Object)) → t < length store → Stored store op → changed op t (store ++ more) ≡ changed op t store ++ more
 changed_front Same t store more lt s = refl
 changed_front (Grows o) t store more lt s =

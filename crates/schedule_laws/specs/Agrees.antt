@@ -1,4 +1,4 @@
--- Two runs that come to the same.
+-- Two runs with the same result.
 use Rattle.std.specs.Prelude.{◌≡◌, ◌↔◌, ℕ, List, length, Contains}
 use Rattle.hh_lang.specs.Form.{ProgramText}
 use Rattle.hh_model.specs.declared.data.Strand.{Strand}
@@ -18,9 +18,9 @@ field_to f x = record x { name = name_to f x.name }
 abbrev pub access_to : (ℕ → ℕ) → Access → Access
 access_to f a = record a { strand = strand_to f a.strand; field = field_to f a.field }
 
--- the run by us comes to the same as that by ts, but for the numbers of tasks
+-- the run by us has the same result as that by ts, except for the numbers of tasks
 pub record Agrees (p : ProgramText) (limit : ℕ) (ts us : List ℕ) : Type 0 where
-  -- f gives each task of the first run its number in the other one, and g takes it back
+  -- f maps the numbers of tasks in the first run to those in the second, and g is its inverse
   pub f : ℕ → ℕ
   pub g : ℕ → ℕ
   pub renaming : IsRenaming (length (run p limit ts).tasks) f g
@@ -29,6 +29,6 @@ pub record Agrees (p : ProgramText) (limit : ℕ) (ts us : List ℕ) : Type 0 wh
   pub turns : turns p limit us ≡ turns p limit ts
   pub accesses : (a : Access) → Contains (accesses p limit us) (access_to f a) ↔ Contains (accesses p limit ts) a
   pub ordered : IsOrdered p limit us
-  -- each strand prints the same numbers in the same order; where the prints are in order, so are the outputs
+  -- each strand prints the same numbers in the same order; if the prints are in order, the outputs are the same
   pub printed : (s : Strand) → printed_by (strand_to f s) (prints p limit us) ≡ printed_by s (prints p limit ts)
   pub outputs : PrintsAreOrdered (run p limit ts).edges (prints p limit ts) → (run p limit us).outputs ≡ (run p limit ts).outputs

@@ -1,4 +1,4 @@
--- Accesses that clash: two of one field, of which one is a write. Those made by compare and swap count like all others.
+-- Accesses that clash: two of one field, of which one is a write. Those by compare and swap count like all others.
 use Rattle.std.specs.Prelude.{◌≡◌, ◌⊎◌, true}
 use Rattle.race_report.specs.declared.data.Access.{Access}
 

@@ -1,4 +1,4 @@
--- One whole run without races speaks for all schedules.
+-- One whole run without races determines all schedules.
 use Rattle.std.specs.Prelude.{◌≡◌, ◌<◌, ◌++◌, ℕ, true, Some, None, List, []}
 use Rattle.hh_lang.specs.Form.{ProgramText}
 use Rattle.run_trace.specs.Entry.{EntryValue}
@@ -18,17 +18,17 @@ pub record SpeaksUp (p : ProgramText) (limit : ℕ) (ts : List ℕ) : Type 0 whe
   pub done : (run p limit ts).end ≡ Some Done
   pub ordered : IsOrdered p limit ts
 
--- THE LAW: every list of steps is the beginning of one that comes to the same
+-- THE LAW: every list of steps is a prefix of one with the same result
 abbrev pub OneRunSpeaksForAll : Type 0
 OneRunSpeaksForAll =
     (p : ProgramText) (limit : ℕ) (ts us : List ℕ) → SpeaksUp p limit ts → (more : List ℕ) × Agrees p limit ts (us ++ more)
 
--- so a run that ends, ends alike; it isn't stopped and doesn't trap
+-- so every run that ends has the same end; it isn't stopped and doesn't trap
 abbrev pub EveryEndAgrees : Type 0
 EveryEndAgrees =
     (p : ProgramText) (limit : ℕ) (ts us : List ℕ) (e : End) → SpeaksUp p limit ts → (run p limit us).end ≡ Some e → (e ≡ Done) × Agrees p limit ts us
 
--- and one that hasn't ended can go on, has taken fewer steps, and is in order as far as it came
+-- and one that hasn't ended can continue, has taken fewer steps, and is in order so far
 pub record GoesOn (p : ProgramText) (limit : ℕ) (ts us : List ℕ) : Type 0 where
   pub t : ℕ
   pub can : can_step (run p limit us) t ≡ true
@@ -39,8 +39,8 @@ abbrev pub EveryRunGoesOn : Type 0
 EveryRunGoesOn =
     (p : ProgramText) (limit : ℕ) (ts us : List ℕ) → SpeaksUp p limit ts → (run p limit us).end ≡ None → GoesOn p limit ts us
 
--- over journals: where the machine of one is done, `races` tells none of it, and no compare and swaps contend in it,
--- the machine of each journal of the program with as many fields allowed agrees as soon as it has an end
+-- over journals: if the machine of one is done, `races` reports no race of it, and no compare and swaps contend in it,
+-- then the machine of every journal of the program with the same limit of fields agrees as soon as it has an end
 abbrev pub JournalsAgree : Type 0
 JournalsAgree =
     (p : ProgramText) (s s' : SettingsValue) (journal journal' : List EntryValue) (e : End)
@@ -50,8 +50,8 @@ JournalsAgree =
     field_limit s'.version ≡ limit → m.end ≡ Some Done → IsReport m.edges (accesses p limit ts) [] → (SwapsContend m.edges (accesses p limit ts) → ⊥) → (machine_of p s' journal').end ≡ Some e
     → (e ≡ Done) × Agrees p limit ts (tasks_of journal')
 
--- and the law speaks of something: some program has a whole run in order, and another one that ends too, in which a
--- task's parent has another number
+-- the law isn't vacuous: some program has a whole run in order, and another that ends, in which a task's parent has
+-- another number
 abbrev pub SomeRunSpeaksUp : Type 0
 SomeRunSpeaksUp =
     (p : ProgramText) × (limit : ℕ) × (ts : List ℕ) × (us : List ℕ) × SpeaksUp p limit ts × ((run p limit us).end ≡ Some Done)

@@ -16,13 +16,13 @@ AreOrdered edges all = (i j : ℕ) (u v : Access) → i < j → slice_get all i 
 abbrev pub IsOrdered : ProgramText → ℕ → List ℕ → Type 0
 IsOrdered p limit ts = AreOrdered (run p limit ts).edges (accesses p limit ts)
 
--- two compare and swaps clash, and aren't in order
+-- two compare and swaps clash, and are unordered
 abbrev pub SwapsContend : List Edge → List Access → Type 0
 SwapsContend edges all =
     (i : ℕ) × (j : ℕ) × (u : Access) × (v : Access) × (i < j) × (slice_get all i ≡ Some u) × (slice_get all j ≡ Some v) × Clash u v × (u.swaps ≡ true) × (v.swaps ≡ true)
     × (Precedes edges u.strand v.strand → ⊥)
 
--- a run is in order exactly where it has no race and no compare and swaps contend
+-- a run is in order if and only if it has no race and no compare and swaps contend
 abbrev pub OrderedIsRaceFree : Type 0
 OrderedIsRaceFree =
     (p : ProgramText) (limit : ℕ) (ts : List ℕ)

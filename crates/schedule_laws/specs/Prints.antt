@@ -1,4 +1,4 @@
--- What steps print, each with the strand that does.
+-- What steps print, and in which strand.
 use Rattle.std.specs.Prelude.{◌≡◌, ℕ, ℤ, ◌+◌, ◌<◌, Option, Some, None, List, [], ◌∷◌, if◌then◌else◌, slice_get}
 use Rattle.hh_lang.specs.declared.program.Line.{Line}
 use Rattle.hh_lang.specs.Form.{ProgramText}
@@ -32,7 +32,7 @@ abbrev pub task_print : ProgramText → State → ℕ → Option Task → Option
 task_print p m t None = None
 task_print p m t (Some x) = line_print m t x (fetched p x.top)
 
--- what the next step of a task prints, where it can take one and prints
+-- what the next step of a task prints, if it can take one and prints
 abbrev pub print_of : ProgramText → State → ℕ → Option Print
 print_of p m t = if can_step m t then task_print p m t (slice_get m.tasks t) else None
 
@@ -53,7 +53,7 @@ printed_by s (x ∷ xs) = if same_strand x.strand s then x.number ∷ printed_by
 abbrev pub PrintsAreOrdered : List Edge → List Print → Type 0
 PrintsAreOrdered edges all = (i j : ℕ) (u v : Print) → i < j → slice_get all i ≡ Some u → slice_get all j ≡ Some v → Precedes edges u.strand v.strand
 
--- how many of these steps are taken
+-- the number of these steps that are taken
 abbrev pub turns_from : ProgramText → State → List ℕ → ℕ
 turns_from p m [] = 0
 turns_from p m (t ∷ ts) = if can_step m t then turns_from p (step p m t) ts + 1 else turns_from p (step p m t) ts

@@ -1,4 +1,4 @@
--- Steps of two tasks that run at one time: what one leaves of the other's, and that they commute.
+-- Steps of two concurrent tasks: what one leaves of the other's, and that they commute.
 use Rattle.std.specs.Prelude.{◌≡◌, ◌⊎◌, ◌<◌, ℕ, true, false, Option, Some, None, List, length, slice_get}
 use Rattle.hh_lang.specs.declared.instr.Instr.TheVariants.{Freeze}
 use Rattle.hh_lang.specs.declared.program.Line.{Line}
@@ -24,8 +24,7 @@ use Rattle.schedule_laws.specs.Clashes.{Clash}
 
 -- STRANDS
 
--- of two tasks that run at one time neither's strand precedes the other's, by the edges of that time or of any later
--- one
+-- the strands of two concurrent tasks are unordered, by the edges of that time or of any later one
 abbrev pub RunningTasksAreApart : Type 0
 RunningTasksAreApart =
     (p : ProgramText) (limit : ℕ) (ts more : List ℕ) (t u : ℕ) (x y : Task)
@@ -41,7 +40,7 @@ WritesField p m t field = (a : Access) × (access_of p m t ≡ Some a) × (a.fie
 abbrev pub FreezesNext : ProgramText → State → ℕ → Name → Type 0
 FreezesNext p m t n = (x : Task) × (line : Line) × (o : ℕ) × IsNext p m t x line × (line.instr ≡ Freeze o) × (ref_in x.top o ≡ Some n) × (owner_of m.tasks n.task ≡ t)
 
--- of an object a step changes only the field that its access writes, and whether it is mutable only by a freeze
+-- a step changes only the field of an object that its access writes, and its mutability only by a freeze
 pub record ChangesOnly (p : ProgramText) (m : State) (t : ℕ) (n : Name) (old new : Object) : Type 0 where
   pub strand : new.strand ≡ old.strand
   pub references : length new.refs ≡ length old.refs
@@ -50,7 +49,7 @@ pub record ChangesOnly (p : ProgramText) (m : State) (t : ℕ) (n : Name) (old n
   pub ints : (k : ℕ) → (slice_get new.ints k ≡ slice_get old.ints k) ⊎ WritesField p m t (record { name = n; is_number = true; index = k })
   pub mutable : (new.mutable ≡ old.mutable) ⊎ FreezesNext p m t n
 
--- every object stays, and so do its fields but the one that the step writes
+-- every object persists, and so do its fields except the one that the step writes
 abbrev pub FieldsStay : Type 0
 FieldsStay =
     (p : ProgramText) (limit : ℕ) (ts : List ℕ) (t : ℕ) (n : Name) (old : Object)
@@ -58,14 +57,14 @@ FieldsStay =
 
 -- TWO STEPS
 
--- t and u are two tasks, each can take a step, and what these access doesn't clash
+-- t and u are two tasks, each can take a step, and the accesses of these don't clash
 pub record AreBeside (p : ProgramText) (m : State) (t u : ℕ) : Type 0 where
   pub two : t ≡ u → ⊥
   pub first : can_step m t ≡ true
   pub second : can_step m u ≡ true
   pub free : (a b : Access) → access_of p m t ≡ Some a → access_of p m u ≡ Some b → Clash a b → ⊥
 
--- no end, or the same one; but the owner whom a stop names may have joined
+-- no end, or the same end, except that the owner named by a stop may have joined
 abbrev pub EndAlike : Option End → Option End → Type 0
 EndAlike None None = Unit {0}
 EndAlike (Some Done) (Some Done) = Unit {0}
@@ -73,22 +72,21 @@ EndAlike (Some (Trapped kind t line)) (Some (Trapped kind' t' line')) = (kind' �
 EndAlike (Some (Entangled reader owner)) (Some (Entangled reader' owner')) = reader' ≡ reader
 EndAlike _ _ = ⊥
 
--- u's step isn't changed by that of t before it
+-- u's step is the same after t's
 pub record LeavesStep (p : ProgramText) (m : State) (t u : ℕ) : Type 0 where
   pub can : can_step (step p m t) u ≡ true
   pub access : access_of p (step p m t) u ≡ access_of p m u
   pub print : print_of p (step p m t) u ≡ print_of p m u
   pub ends : EndAlike (step p m u).end (step p (step p m t) u).end
 
--- a step that doesn't end the run leaves the next step of a task beside it
+-- a step that doesn't end the run leaves the next step of a concurrent task as it is
 abbrev pub StepsLeaveSteps : Type 0
 StepsLeaveSteps =
     (p : ProgramText) (limit : ℕ) (ts : List ℕ) (t u : ℕ)
     → let m = run p limit ts in AreBeside p m t u → (step p m t).end ≡ None → LeavesStep p m t u
 
--- accesses that clash in one state clash after t's step too: u's is then of the same field, by the same strand, and is
--- the same one where t's doesn't write. So a clash of steps that stand side by side is one of the accesses that the run
--- makes
+-- accesses that clash in one state clash after t's step too: u's is then of the same field, in the same strand, and is
+-- the same access if t's doesn't write. So a clash of concurrent next steps is one of the accesses that the run makes
 abbrev pub ClashesStay : Type 0
 ClashesStay =
     (p : ProgramText) (limit : ℕ) (ts : List ℕ) (t u : ℕ) (a b : Access)
@@ -96,14 +94,14 @@ ClashesStay =
     → access_of p m t ≡ Some a → access_of p m u ≡ Some b → Clash a b
     → (c : Access) × (access_of p (step p m t) u ≡ Some c) × Clash a c × (c.strand ≡ b.strand)
 
--- in either order they come to the same, but for the numbers of tasks that both made
+-- in either order they have the same result, except for the numbers of tasks that both made
 pub record Commutes (p : ProgramText) (m : State) (t u : ℕ) : Type 0 where
   pub f : ℕ → ℕ
   pub renaming : IsRenaming (length (step p (step p m t) u).tasks) f f
   pub old : (v : ℕ) → v < length m.tasks → f v ≡ v
   pub alike : AreAlike f (step p (step p m t) u) (step p (step p m u) t)
 
--- steps of two tasks beside one another commute
+-- steps of two concurrent tasks commute
 abbrev pub StepsCommute : Type 0
 StepsCommute =
     (p : ProgramText) (limit : ℕ) (ts : List ℕ) (t u : ℕ)

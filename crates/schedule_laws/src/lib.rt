@@ -1,4 +1,4 @@
-// What one schedule of a program says of the others: one whole run in order speaks for all.
+// What one schedule of a program determines about the others: one whole run in order determines all.
 #![tactic(auto)]
 
 mod laws;

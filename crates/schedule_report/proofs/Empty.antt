@@ -1,4 +1,4 @@
--- A report is empty exactly where nothing races.
+-- A report is empty if and only if there is no race.
 use Rattle.std.proofs.Common.{◌≡◌, ℕ, List, [], ◌∷◌, inl, refl}
 use Rattle.race_report.proofs.below.listed.{contains_from_in, in_from_contains}
 use Rattle.hh_model.specs.declared.data.Edge.{Edge}

@@ -1,4 +1,4 @@
--- Prints are in order exactly where none race, counted like writes to one field.
+-- Prints are in order if and only if none race when counted as writes to one field.
 use Rattle.std.proofs.Common.{◌≡◌, ℕ, zero, suc, ◌==◌, Bool, true, false, cond, Option, Some, None, List, [], ◌∷◌, length, slice_get, inl, inr, refl, sym, subst, ◌∙◌}
 use Rattle.std.specs.Option.{option_flatten}
 use Rattle.std.specs.Prelude.{slice_set, pos}

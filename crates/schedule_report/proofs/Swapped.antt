@@ -1,4 +1,4 @@
--- Compare and swaps contend exactly where they race, counted like other accesses.
+-- Compare and swaps contend if and only if they race when counted like other accesses.
 use Rattle.std.proofs.Common.{◌≡◌, ℕ, zero, suc, ◌<◌, Bool, true, false, Some, List, [], ◌∷◌, slice_get, inl, refl, ap, sym, subst, ◌∙◌, arith}
 use Rattle.std.proofs.lemmas.Option.{same_Some}
 use Rattle.hh_model.specs.declared.data.Edge.{Edge}

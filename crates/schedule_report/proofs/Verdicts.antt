@@ -1,4 +1,4 @@
--- Verdicts are exact, and speak for all schedules.
+-- Verdicts are exact, and hold for all schedules.
 use Rattle.std.proofs.Common.{◌≡◌, ℕ, ◌+◌, ◌-◌, ◌^◌, ◌<◌, ◌==◌, min, lit<, cond, Option, Some, None, List, [], ◌∷◌, length, refl, ap, sym, subst, ◌∙◌, arith}
 use Rattle.race_report.proofs.below.listed.{not_zero}
 use Rattle.race_report.specs.below.hh_lang.{ProgramText}

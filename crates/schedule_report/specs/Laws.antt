@@ -1,4 +1,4 @@
--- What the pairs of one whole run say of all schedules.
+-- What the pairs of one whole run say about all schedules.
 use Rattle.std.specs.Prelude.{◌≡◌, ℕ, Option, Some, None, List}
 use Rattle.race_report.specs.below.hh_lang.{ProgramText}
 use Rattle.race_report.specs.below.run_trace.{EntryValue, SettingsValue, field_limit}
@@ -19,32 +19,32 @@ use Rattle.schedule_report.specs.Schedules.{AreClashes, IsWhole, verdict_of}
 abbrev pub HasPrintsOrdered : ProgramText → ℕ → List ℕ → Type 0
 HasPrintsOrdered p limit ts = PrintsAreOrdered (run p limit ts).edges (prints p limit ts)
 
--- what each verdict means: the run is in order, and so are its prints; it is, but for its prints; or it isn't
+-- what each verdict means: the run is in order, and so are its prints; it is, except its prints; or it isn't
 abbrev pub Means : ProgramText → ℕ → List ℕ → Verdict → Type 0
 Means p limit ts Agree = IsOrdered p limit ts × HasPrintsOrdered p limit ts
 Means p limit ts AgreeButForPrints = IsOrdered p limit ts × (HasPrintsOrdered p limit ts → ⊥)
 Means p limit ts (MayDiffer n) = IsOrdered p limit ts → ⊥
 
--- the verdict of a run's pairs is the one that is meant
+-- the verdict of a run's pairs is the right one
 abbrev pub VerdictsAreExact : Type 0
 VerdictsAreExact =
     (p : ProgramText) (s : SettingsValue) (journal : List EntryValue) (c : Clashes)
     → AreClashes p s journal c → Means p (field_limit s.version) (tasks_of journal) (verdict_of c)
 
--- a verdict that schedules agree, and one that makes no exception
+-- a verdict that schedules agree, and one without an exception
 abbrev pub SaysAgree : Verdict → Type 0
 SaysAgree Agree = Unit {0}
 SaysAgree AgreeButForPrints = Unit {0}
 SaysAgree (MayDiffer n) = ⊥
 
--- the run by us ends by the return of main and comes to the same as that by ts, also in its outputs where the verdict
--- makes no exception; or it hasn't ended, and can go on
+-- the run by us ends by the return of main with the same result as that by ts, with the same outputs if the verdict
+-- makes no exception; or it hasn't ended, and can continue
 abbrev pub Follows : ProgramText → ℕ → List ℕ → Verdict → List ℕ → Option End → Type 0
 Follows p limit ts v us None = GoesOn p limit ts us
 Follows p limit ts v us (Some e) = (e ≡ Done) × Agrees p limit ts us × (v ≡ Agree → (run p limit us).outputs ≡ (run p limit ts).outputs)
 
--- where one whole run's verdict is that schedules agree, each other one of the program with as many fields allowed
--- follows it
+-- if the verdict of one whole run is that schedules agree, every other one of the program with the same limit of fields
+-- agrees with it
 abbrev pub AgreeingRunsSpeakForAll : Type 0
 AgreeingRunsSpeakForAll =
     (p : ProgramText) (s s' : SettingsValue) (journal journal' : List EntryValue) (c : Clashes)

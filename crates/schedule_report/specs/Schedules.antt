@@ -1,4 +1,4 @@
--- The pairs of a run that the graph doesn't put in order, and what they say of other schedules.
+-- The unordered pairs of a run, and what they say about other schedules.
 use Rattle.std.specs.Prelude.{◌≡◌, ℕ, ◌==◌, Option, Some, None, List, length, if◌then◌else◌}
 use Rattle.race_report.specs.below.hh_lang.{ProgramText}
 use Rattle.race_report.specs.below.run_trace.{EntryValue, SettingsValue, field_limit}
@@ -19,7 +19,7 @@ use Rattle.schedule_report.specs.declared.data.Verdict.TheVariants.{Agree, Agree
 abbrev pub IsWhole : ProgramText → SettingsValue → List EntryValue → Type 0
 IsWhole p s journal = end_of p s journal ≡ Some (Machine Done)
 
--- of what a journal's run is looked through for these are the pairs that aren't in order, one for each field
+-- the unordered pairs in a journal's run of what it is scanned for, one for each field
 abbrev pub ArePairs : Sight → ProgramText → SettingsValue → List EntryValue → List Race → Type 0
 ArePairs sight p s journal = IsReport (machine_of p s journal).edges (looked sight p (field_limit s.version) (tasks_of journal))
 
@@ -29,15 +29,15 @@ pub record AreClashes (p : ProgramText) (s : SettingsValue) (journal : List Entr
   pub swaps : ArePairs Swaps p s journal c.swaps
   pub prints : ArePairs Prints p s journal c.prints
 
--- a whole run has its pairs told, and no other has
+-- a whole run, and no other, has its pairs reported
 abbrev pub IsAnswer : ProgramText → SettingsValue → List EntryValue → Option Clashes → Type 0
 IsAnswer p s journal None = IsWhole p s journal → ⊥
 IsAnswer p s journal (Some c) = IsWhole p s journal × AreClashes p s journal c
 
--- how many pairs of accesses are told, as a number of 64 bits
+-- the number of pairs of accesses reported, in 64 bits
 abbrev pub clash_count : Clashes → ℕ
 clash_count c = raised_by (length c.races) (length c.swaps)
 
--- what that says of all schedules
+-- what that says about all schedules
 abbrev pub verdict_of : Clashes → Verdict
 verdict_of c = if clash_count c == 0 then (if length c.prints == 0 then Agree else AgreeButForPrints) else MayDiffer (clash_count c)

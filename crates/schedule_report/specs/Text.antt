@@ -1,4 +1,4 @@
--- What is written of the pairs of a run, and of other schedules.
+-- What is printed about the pairs of a run and about other schedules.
 use Rattle.std.specs.Prelude.{ℕ, List, [], ◌∷◌, ◌++◌, codes}
 use Rattle.std.specs.List.{flat_map}
 use Rattle.std.specs.Fmt.{decimal}
@@ -13,11 +13,11 @@ use Rattle.schedule_report.specs.Schedules.{verdict_of}
 abbrev pub swap_line : Race → List ℕ
 swap_line = pair_line (codes "swap")
 
--- the tasks and the lines of two prints that aren't in order
+-- the tasks and the lines of two unordered prints
 abbrev pub unordered_line : Race → List ℕ
 unordered_line r = line (codes "prints unordered tasks" ∷ decimal r.first.0 ∷ decimal r.second.0 ∷ codes "lines" ∷ decimal r.first.1 ∷ decimal r.second.1 ∷ [])
 
--- whether the prints are in order, and else the first two that aren't
+-- whether the prints are in order; otherwise the first two that aren't
 abbrev pub prints_line : List Race → List ℕ
 prints_line [] = line (codes "prints ordered" ∷ [])
 prints_line (r ∷ rest) = unordered_line r

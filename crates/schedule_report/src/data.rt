@@ -1,42 +1,42 @@
-// The pairs of a run that aren't in order, and what they say of other schedules.
+// The unordered pairs of a run, and what they say about other schedules.
 
 ghost use Rattle.std.specs.Prelude.{◌≡◌};
 ghost use Rattle.schedule_report.specs.Schedules.{clash_count, verdict_of};
 
 use race_report::{Listed, Race};
 
-/// The pairs of a whole run that the graph doesn't put in order.
+/// The pairs of a whole run that the graph leaves unordered.
 #[derive(Drop)]
 pub struct Clashes {
-    /// For each field that has a race its pair, in the order of the fields.
+    /// The pair of each field that has a race, in the order of the fields.
     pub races: Listed<Race>,
-    /// For each field for which compare and swaps contend their pair, in the order of the fields.
+    /// The pair of each field for which compare and swaps contend, in the order of the fields.
     pub swaps: Listed<Race>,
-    /// The first pair of prints, where not all of them are in order.
+    /// The first pair of unordered prints, if there is one.
     pub prints: Listed<Race>,
 }
 
-/// What a whole run says of all schedules.
+/// What a whole run says about all schedules.
 #[derive(Clone, Copy)]
 pub enum Verdict {
-    /// Every schedule comes to the same.
+    /// Every schedule has the same result.
     Agree,
-    /// Every schedule comes to the same, but prints may come in another order.
+    /// Every schedule has the same result, but prints may be in another order.
     AgreeButForPrints,
-    /// So many fields have a race or compare and swaps that contend: schedules may differ.
+    /// This many fields have a race or compare and swaps that contend: schedules may differ.
     MayDiffer(u64),
 }
 
 impl Clashes {
-    /// How many fields have a race, and for how many compare and swaps contend, together; it stops at the most that the
-    /// type holds.
+    /// The number of fields that have a race, plus that of fields for which compare and swaps contend; saturates at the
+    /// type's maximum.
     pub fn count(&self) -> u64
         ensures { result ≡ clash_count self.now }
     {
         (self.races.len() as u64).saturating_add(self.swaps.len() as u64)
     }
 
-    /// What the run says of all schedules.
+    /// What the run says about all schedules.
     pub fn verdict(&self) -> Verdict
         ensures { result ≡ verdict_of self.now }
     {

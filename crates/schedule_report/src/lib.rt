@@ -1,5 +1,5 @@
-// What one run of a program says of all its schedules: the pairs that the graph doesn't put in order, or that every
-// schedule comes to the same.
+// What one run of a program says about all its schedules: the pairs that the graph leaves unordered, or that every
+// schedule has the same result.
 #![tactic(auto)]
 
 mod data;

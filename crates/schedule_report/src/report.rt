@@ -1,4 +1,4 @@
-// The pairs of a run that aren't in order.
+// The unordered pairs of a run.
 
 ghost use Rattle.std.specs.Prelude.{◌≡◌, ◌↔◌, None, IsTrue, OnOk, IfOk, IfErr};
 ghost use Rattle.run_ledger.specs.Journals.{first_refused, refused_as_run};
@@ -42,8 +42,8 @@ fn clashes_in(
     })
 }
 
-/// The pairs of a journal's run that the graph doesn't put in order; None where the run didn't end by the return of
-/// main. A journal without an end is refused, as short.
+/// The pairs of a journal's run that the graph leaves unordered; None if the run didn't end by the return of main. A
+/// journal without an end is refused, as short.
 pub fn clashes_of_run(
     alloc: Global,
     program: &Program,

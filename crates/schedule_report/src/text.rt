@@ -1,4 +1,4 @@
-// What is written of the pairs of a run, and of other schedules.
+// What is printed about the pairs of a run and about other schedules.
 
 ghost use Rattle.std.specs.Prelude.{◌≡◌, IfOk, string_bytes};
 ghost use Rattle.schedule_report.specs.Text.{unordered_line, prints_line, verdict_line, clashes_text};
@@ -7,7 +7,7 @@ use crate::data::{Clashes, Verdict};
 use race_report::{Race, pair_lines};
 use std::alloc::{AllocError, Global};
 
-// The line of two prints that aren't in order.
+// The line of two unordered prints.
 fn unordered_line(alloc: Global, pair: &Race) -> Result<String, AllocError>
     ensures { IfOk result (λ text. string_bytes text ≡ unordered_line pair.now) }
 {

@@ -15,8 +15,8 @@ Bears q n = (q.birth.task ≡ n.task) × (q.birth.count ≡ n.count)
 abbrev pub LiesInRunning : Picture → Ledger → ℕ → ℕ → Type 0
 LiesInRunning p l v u = (is_running (slice_get l.machine.tasks u) ≡ true) × IsOwned p v u
 
--- nil for nil; for a name the address of the object that bears it, or, if the name's owner runs, an address
--- in a chunk of that owner (so not nil)
+-- nil for nil; for a name the address of the object that bears it, or, if the name's owner runs, an address in a chunk
+-- of that owner (so not nil)
 abbrev pub IsReference : Picture → Ledger → ℕ → Option Name → Type 0
 IsReference p l v None = v ≡ 0
 IsReference p l v (Some n) = ((q : Picked) × In p.objects q × (q.address ≡ v) × Bears q n) ⊎ LiesInRunning p l v (owner_of l.machine.tasks n.task)

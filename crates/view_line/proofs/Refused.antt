@@ -1,4 +1,4 @@
--- Words with a fault ask for nothing.
+-- Words with a fault are refused.
 use Rattle.std.proofs.Common.{◌≡◌, ◌⊎◌, cond, true, refl, sym, ap, List, [], None, inl, inr}
 use Rattle.clap.specs.Words.{Text, fault_of, matches_of, is_simple, is_simple_and_free}
 use Rattle.clap.specs.Kinds.{IsAmong, Kinds}

@@ -1,10 +1,10 @@
--- The words behind `heaps`, as the parser's definition of a simple command speaks of them.
+-- The words after `heaps`, in the terms of the parser's definition of a simple command.
 use Rattle.std.specs.Prelude.{[], ◌∷◌, Some, codes, true}
 use Rattle.clap.specs.Words.{App, Rule, Text, new_rule}
 use Rattle.clap.specs.Simple.{new_shape}
 use Rattle.command_line.specs.App.{file}
 
--- `--name VALUE`, any text, which may be left out
+-- `--name VALUE`, any text, optional
 abbrev pub option : Text → Rule
 option name = record (new_rule name) { long = Some name }
 

@@ -1,5 +1,5 @@
--- What the words behind `faults` ask for: `--json`, before FILE or behind it, and FILE, each of which may be left out; a
--- FILE that begins with a minus stands behind `--`.
+-- What the words after `faults` ask for: `--json`, before FILE or after it, and FILE, both optional; a FILE that begins
+-- with a hyphen stands after `--`.
 use Rattle.std.specs.Prelude.{ℕ, ◌==◌, ◌&&◌, not, Bool, true, false, List, [], ◌∷◌, Option, Some, None, codes, if◌then◌else◌}
 use Rattle.std.specs.Str.{bytes_eq}
 use Rattle.clap.specs.Words.{Text}
@@ -23,7 +23,7 @@ any_file json [] = Some (Of None (Faults json))
 any_file json (name ∷ []) = Some (Of (Some name) (Faults json))
 any_file json (name ∷ other ∷ words) = None
 
--- behind all options
+-- after all options
 abbrev pub file_line : Bool → List Text → Option View
 file_line json [] = any_file json []
 file_line json (word ∷ words) =
@@ -31,7 +31,7 @@ file_line json (word ∷ words) =
     else if begins_option word then None
     else any_file json (word ∷ words)
 
--- FILE and `--json` behind it
+-- FILE and `--json` after it
 abbrev pub json_behind : List Text → Bool
 json_behind (name ∷ flag ∷ []) = not (ends_options name) && is_json flag
 json_behind _ = false

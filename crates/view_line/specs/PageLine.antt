@@ -1,4 +1,4 @@
--- What the words behind `page` ask for.
+-- What the words after `page` ask for.
 use Rattle.std.specs.Prelude.{◌+◌, ℕ, List, [], ◌∷◌, ◌++◌, Option, Some, None, codes, drop, take}
 use Rattle.std.specs.List.{position_from}
 use Rattle.std.specs.Str.{bytes_eq}
@@ -10,23 +10,23 @@ use Rattle.view_line.specs.declared.line.Picture.TheVariants.{Page}
 use Rattle.view_line.specs.declared.line.View.{View}
 use Rattle.view_line.specs.declared.line.View.TheVariants.{Of}
 
--- the place of the first word `--title` among those from one on
+-- the index of the first word `--title` among those from one on
 abbrev pub title_from : ℕ → List Text → Option ℕ
 title_from at words = position_from (λ w. bytes_eq w (codes "--title")) at words
 
 abbrev pub title_at : List Text → Option ℕ
 title_at words = title_from 0 words
 
--- but for its title a page takes what `races` of hheap takes
+-- apart from its title a page takes what `races` of hheap takes
 abbrev pub page_in : Option Text → Option CommandLine → Option View
 page_in title (Some (Races file settings)) = Some (Of file (Page title settings))
 page_in title _ = None
 
--- a page of this title, by the words before `--title` and those behind the title
+-- a page with this title, by the words before `--title` and those after the title
 abbrev pub page_of : Option Text → List Text → List Text → Option View
 page_of title before behind = page_in title (command_line (codes "races" ∷ (before ++ behind)))
 
--- the first word behind `--title` is the title
+-- the first word after `--title` is the title
 abbrev pub titled : List Text → List Text → Option View
 titled before [] = None
 titled before (title ∷ behind) = page_of (Some title) before behind

@@ -1,4 +1,4 @@
--- What the words of a call ask for.
+-- What the command-line arguments ask for.
 use Rattle.std.specs.Prelude.{ℕ, List, [], ◌∷◌, Option, Some, None, codes, option_map, option_and_then, unwrap_or, if◌then◌else◌}
 use Rattle.std.specs.Str.{bytes_eq}
 use Rattle.clap.specs.Words.{Row, Text, fault_of, first_of, matches_of}
@@ -18,7 +18,7 @@ use Rattle.view_line.specs.PageLine.{page_line}
 
 -- HEAPS
 
--- a number of 32 bits, where a text is given
+-- a 32-bit number, if a text is given
 abbrev pub maybe_number : Option Text → Option (Option ℕ)
 maybe_number None = Some None
 maybe_number (Some t) = option_map Some (short_number t)
@@ -38,7 +38,7 @@ heaps_line words = if is_empty (fault_of heaps_app words) then heaps_in (matches
 
 -- RUNS
 
--- the view of a run that has this name
+-- the view of a run with this name
 abbrev pub run_view : Text → Option RunView
 run_view name =
     if bytes_eq name (codes "timeline") then Some Timeline
@@ -69,7 +69,7 @@ named_line name words =
     else if bytes_eq name (codes "--help") then usage_line words
     else option_and_then (run_line words) (run_view name)
 
--- what the words after the program's name ask for; None if they ask for nothing
+-- what the words after the program's name ask for; None if they are no command line
 abbrev pub view_line : List Text → Option View
 view_line [] = None
 view_line (name ∷ words) = named_line name words

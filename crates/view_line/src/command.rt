@@ -1,4 +1,4 @@
-// The words behind `heaps`, as the parser of command lines wants them.
+// The words after `heaps`, as the parser of command lines expects them.
 
 ghost use Rattle.std.specs.Prelude.{◌≡◌, IfOk, false};
 ghost use Rattle.clap.specs.Words.{app_of, rule_of};
@@ -9,7 +9,7 @@ use clap::{Arg, Command};
 use command_line::with_argument;
 use std::alloc::{AllocError, Global};
 
-// A file's name, which may be left out.
+// A file's name, optional.
 fn file<'w>(alloc: Global) -> Arg<'w>
     ensures rule { rule_of result ≡ file }
     ensures own { result.global ≡ false }
@@ -17,7 +17,7 @@ fn file<'w>(alloc: Global) -> Arg<'w>
     Arg::new(alloc, "FILE")
 }
 
-// A text, which may be left out.
+// A text, optional.
 fn option<'w>(alloc: Global, name: &'w str) -> Arg<'w>
     ensures rule { rule_of result ≡ option name.entry.now }
     ensures own { result.global ≡ false }

@@ -1,4 +1,4 @@
-// Reads the words behind `faults`.
+// Reads the words after `faults`.
 
 ghost use Rattle.std.specs.Prelude.{◌≡◌, IfOk, Some, map, option_map, string_bytes};
 ghost use Rattle.view_line.specs.FaultsLine.{any_file, begins_option, ends_options, faults_line, file_line, is_json, json_behind};
@@ -28,7 +28,7 @@ fn ends_options(word: &str) -> bool
     word == "--"
 }
 
-// The faults of a file of this name, or of standard input.
+// The faults of a file with this name, or of standard input.
 fn faults_of(alloc: Global, json: bool, name: Option<&str>) -> Result<Option<View>, AllocError>
     ensures { IfOk result (λ asked. asked ≡ Some (View.Of (option_map (λ s. s.now) name.entry) (Picture.Faults json))) }
 {
@@ -48,7 +48,7 @@ fn any_file(alloc: Global, json: bool, words: &[String]) -> Result<Option<View>,
     }
 }
 
-// What stands behind all options.
+// What follows all options.
 fn file_line(alloc: Global, json: bool, words: &[String]) -> Result<Option<View>, AllocError>
     ensures { IfOk result (λ asked. asked ≡ file_line json (map string_bytes words.now)) }
 {
@@ -76,7 +76,7 @@ fn json_behind(words: &[String]) -> bool
     }
 }
 
-/// What the words behind `faults` ask for.
+/// What the words after `faults` ask for.
 pub(crate) fn faults_line(alloc: Global, words: &[String]) -> Result<Option<View>, AllocError>
     ensures { IfOk result (λ asked. asked ≡ faults_line (map string_bytes words.now)) }
 {

@@ -1,4 +1,4 @@
-// What the words of a call of `hhview` ask for.
+// What the command-line arguments of `hhview` ask for.
 #![tactic(auto)]
 
 mod command;

@@ -1,4 +1,4 @@
-// What a call asks for.
+// What the arguments ask for.
 
 ghost use Rattle.std.specs.Prelude.{◌≡◌, string_bytes};
 
@@ -41,7 +41,7 @@ pub enum RunView {
     Timeline,
     /// The tasks.
     Tasks,
-    /// What the run says of all schedules.
+    /// What the run says about all schedules.
     Schedules,
     /// Its races, by pairs of lines.
     Races,
@@ -61,7 +61,7 @@ pub enum Picture {
         view: RunView,
         settings: Settings,
     },
-    /// A run with these settings as a page; the file's name stands for a title that is left out.
+    /// A run with these settings as a page; without a title it has the file's name.
     Page {
         title: Option<PageTitle>,
         settings: Settings,
@@ -72,7 +72,7 @@ pub enum Picture {
     },
 }
 
-/// What a call asks for. A file that is left out stands for standard input.
+/// What the arguments ask for. Without a file standard input is read.
 #[derive(Drop)]
 pub enum View {
     /// How the program is called.

@@ -1,4 +1,4 @@
-// Reads the words behind `page`.
+// Reads the words after `page`.
 
 ghost use Rattle.std.specs.Prelude.{◌≡◌, ◌∷◌, ◌++◌, ◌<◌, IfOk, IfSome, OnOk, codes, length, map, string_bytes};
 ghost use Rattle.view_line.specs.PageLine.{page_in, page_line, page_of, title_at, titled};
@@ -9,7 +9,7 @@ use crate::title::PageTitle;
 use command_line::{CommandLine, read_command_line};
 use std::alloc::{AllocError, Global};
 
-// The place of the first word `--title`.
+// The index of the first word `--title`.
 fn title_at(words: &[String]) -> Option<usize>
     ensures place { result ≡ title_at (map string_bytes words.now) }
     ensures bound { IfSome result (λ at. at < length words.now) }
@@ -35,7 +35,7 @@ fn add_words(alloc: Global, all: &mut Vec<String>, words: &[String]) -> Result<(
     Ok(())
 }
 
-// The page of this title that a command line of `races` asks for.
+// The page with this title, for a command line of `races`.
 fn page_in(
     alloc: Global,
     title: Option<PageTitle>,
@@ -56,7 +56,7 @@ fn page_in(
     }
 }
 
-// The page of this title that the words before `--title` and those behind the title ask for.
+// The page with this title, by the words before `--title` and those after the title.
 fn page_of(
     alloc: Global,
     title: Option<PageTitle>,
@@ -71,7 +71,7 @@ fn page_of(
     page_in(alloc, title, line)
 }
 
-// The page whose title is the first word behind `--title`.
+// The page whose title is the first word after `--title`.
 fn titled(alloc: Global, before: &[String], behind: &[String]) -> Result<Option<View>, AllocError>
     ensures { IfOk result (λ asked. asked ≡ titled (map string_bytes before.now) (map string_bytes behind.now)) }
 {
@@ -84,7 +84,7 @@ fn titled(alloc: Global, before: &[String], behind: &[String]) -> Result<Option<
     }
 }
 
-/// What the words behind `page` ask for.
+/// What the words after `page` ask for.
 pub(crate) fn page_line(alloc: Global, words: &[String]) -> Result<Option<View>, AllocError>
     ensures { IfOk result (λ asked. asked ≡ page_line (map string_bytes words.now)) }
 {

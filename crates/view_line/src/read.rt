@@ -1,4 +1,4 @@
-// Reads the words of a call.
+// Reads the command-line arguments.
 
 ghost use Rattle.std.specs.Prelude.{◌≡◌, ◌≢◌, ◌∷◌, IfOk, None, codes, map, option_map, option_and_then, string_bytes};
 ghost use Rattle.clap.specs.Words.{found_of, rows_of, first_of};
@@ -14,17 +14,17 @@ use command_line::{CommandLine, FileName, read_command_line};
 use image_check::read_short;
 use std::alloc::{AllocError, Global};
 
-/// So many objects are drawn one by one where no limit is given.
+/// The limit of objects drawn one by one, if none is given.
 const USUAL_LIMIT: u64 = 300;
 
-/// A text of one's own.
+/// An owned text.
 pub(crate) fn copy_of(alloc: Global, text: &str) -> Result<String, AllocError>
     ensures { IfOk result (λ own. string_bytes own ≡ text.now) }
 {
     format!(in alloc; "{text}")
 }
 
-/// The file of this name, if there is one.
+/// The file with this name, if there is one.
 pub(crate) fn file_of(alloc: Global, name: Option<&str>) -> Result<Option<InputFile>, AllocError>
     ensures { IfOk result (λ file. file ≡ option_map (λ s. s.now) name.entry) }
 {
@@ -37,7 +37,7 @@ pub(crate) fn file_of(alloc: Global, name: Option<&str>) -> Result<Option<InputF
     }
 }
 
-// The number that a text gives, where there is one; None where it is no number.
+// The number that a text gives, if there is one; None if it isn't a number.
 fn maybe_number(text: Option<&str>) -> Option<Option<u64>>
     ensures { result ≡ maybe_number (option_map (λ s. s.now) text.entry) }
 {
@@ -75,7 +75,7 @@ fn heaps_of(alloc: Global, matches: &ArgMatches) -> Result<Option<View>, AllocEr
     }))
 }
 
-// The answer to words that aren't taken, or to want of memory.
+// The answer if the words are refused, or memory has run out.
 fn refused(kind: ErrorKind) -> Result<Option<View>, AllocError>
     ensures { IfOk result (λ view. (view ≡ None) × (kind ≢ ErrorKind.OutOfMemory)) }
 {
@@ -85,7 +85,7 @@ fn refused(kind: ErrorKind) -> Result<Option<View>, AllocError>
     }
 }
 
-// What the words behind `heaps` ask for.
+// What the words after `heaps` ask for.
 fn heaps_line(alloc: Global, words: &[String]) -> Result<Option<View>, AllocError>
     ensures { IfOk result (λ view. view ≡ heaps_line (map string_bytes words.now)) }
 {
@@ -95,7 +95,7 @@ fn heaps_line(alloc: Global, words: &[String]) -> Result<Option<View>, AllocErro
     }
 }
 
-/// These words behind `races`.
+/// These words after `races`.
 pub(crate) fn behind_races(alloc: Global, words: &[String]) -> Result<Vec<String>, AllocError>
     ensures { IfOk result (λ all. map string_bytes all.items ≡ codes "races" ∷ map string_bytes words.now) }
 {
@@ -130,7 +130,7 @@ fn run_in(
     }
 }
 
-// What the words behind the name of a view of a run ask for.
+// What the words after the name of a view of a run ask for.
 fn run_line(alloc: Global, words: &[String], view: RunView) -> Result<Option<View>, AllocError>
     ensures { IfOk result (λ asked. asked ≡ run_line (map string_bytes words.now) view) }
 {
@@ -139,7 +139,7 @@ fn run_line(alloc: Global, words: &[String], view: RunView) -> Result<Option<Vie
     run_in(alloc, view, line)
 }
 
-// The view of a run that has this name.
+// The view of a run with this name.
 fn run_view(name: &str) -> Option<RunView>
     ensures { result ≡ run_view name.now }
 {
@@ -174,7 +174,7 @@ fn usage_line(words: &[String]) -> Option<View>
     }
 }
 
-// What a name and the words behind it ask for.
+// What a name and the words after it ask for.
 fn named_line(alloc: Global, name: &str, words: &[String]) -> Result<Option<View>, AllocError>
     ensures { IfOk result (λ view. view ≡ named_line name.now (map string_bytes words.now)) }
 {
@@ -187,7 +187,7 @@ fn named_line(alloc: Global, name: &str, words: &[String]) -> Result<Option<View
     }
 }
 
-/// What the words after the program's name ask for; None if they ask for nothing.
+/// What the words after the program's name ask for; None if they are no command line.
 pub fn read_view(alloc: Global, words: &[String]) -> Result<Option<View>, AllocError>
     ensures { IfOk result (λ view. view ≡ view_line (map string_bytes words.now)) }
 {

@@ -32,7 +32,7 @@ input_at reads before (Some whole) e = (
 )
 input_at reads before None e = ([], record { within = omega arith; first = λ other h. absurd (some_is_told other (sym e ∙ h)) })
 
--- whatever the source tells, there is an input
+-- whatever the source has, there is an input
 pub some_input : (reads : Reads) (before : SourceState) → InputAt reads before
 some_input reads before = input_at reads before (bytes_for reads before) refl
 
@@ -44,7 +44,7 @@ nothing_taken (ReadsUpTo limit file) before e = absurd (let f : ReadsUpTo limit 
 -- CALLS
 
 module _ {A : Type 0} (IsInput Ends : A → Type 0) (ReadsNone Taken WriteFails : Type 0) (before after : SourceState) where
-  -- memory failed before the input was there; this is one
+  -- an allocation failed before the input was there; this is one
   pub call_without_memory : (input : A) → IsInput input → Ends input → (ReadsNone → Taken) → IsCallWith IsInput Ends ReadsNone Taken WriteFails NoMemory before after
   call_without_memory input is ends untouched = record {
     answered = (input, is, ends);
@@ -75,7 +75,7 @@ module _ {A : Type 0} (IsInput Ends : A → Type 0) (ReadsNone Taken WriteFails 
   }
 
 module _ (reads : Reads) (Ends : List ℕ → Type 0) (WriteFails : Type 0) (before after : SourceState) where
-  -- memory failed before the input was there
+  -- an allocation failed before the input was there
   pub without_memory : ((input : List ℕ) → Ends input) → (reads ≡ ReadsNothing → HasTaken reads before after) → IsCall reads Ends WriteFails NoMemory before after
   without_memory ends untouched =
       let at = some_input reads before in
@@ -101,7 +101,7 @@ nothing_read before = record {
 
 -- STREAMS
 
--- with the reply that was made, or without memory for it
+-- with the reply that was made, or out of memory
 pub gives_ends : (P : Reply → Type 0) (found : Result Reply AllocError) (status : Status) (before after : Streams) → IfOk found P → Gives found status before after → Ends P status before after
 gives_ends P (Ok r) status before after is given = inr (r, is, given)
 gives_ends P (Err e) status before after is given = inl (record { cause = inr given.0; nothing = given.1 })

@@ -5,7 +5,7 @@ use Rattle.all_bytes.specs.declared.read.ReadError.{ReadError}
 use Rattle.all_bytes.specs.Bytes.{input_of, source_bytes}
 use Rattle.whole_call.specs.Input.{HasRead, ReadsUpTo, SourceState}
 
--- within the limit, the first bytes of all that the source tells, which were taken
+-- within the limit, the first bytes of all that the source has, which were taken
 pub was_read : (limit : ℕ) (file : Option (List ℕ)) (r : Result (Vec ℕ Global) ReadError) (before after : SourceState)
     → IfOk r (λ input. length input.items ≤ limit + 1)
     → IfOk r (λ input. (whole : List ℕ) → source_bytes before.left before.named file ≡ Some whole → input.items ≡ input_of limit whole)

@@ -5,16 +5,16 @@ use Rattle.whole_call.specs.declared.status.Status.{Status}
 use Rattle.whole_call.specs.declared.status.Status.TheVariants.{ReadFault, WriteFault, NoMemory}
 use Rattle.whole_call.specs.Input.{Reads, ReadsNothing, SourceState, IsInputOf, HasTaken}
 
--- a call that has an input in A ended so: by its input, whose end `Ends` says; and with a fault only where one rose
+-- a call that has an input in A ended so: by its input, whose end `Ends` says; and with a fault only if one occurred
 pub record IsCallWith {A : Type 0} (IsInput Ends : A → Type 0) (ReadsNone Taken WriteFails : Type 0) (status : Status) (before after : SourceState) : Type 0 where
-  -- it answered an input of its own, whatever the source tells
+  -- it answered some input, whatever the source has
   pub answered : (input : A) × IsInput input × Ends input
-  -- which it took whole, unless reading failed or memory did; a source that isn't read from stays as it was in any case
+  -- which it took whole, unless reading or an allocation failed; a source that isn't read is unchanged in any case
   pub taken : status ≢ ReadFault → status ≢ NoMemory → Taken
   pub untouched : ReadsNone → Taken
-  -- reading failed only where something is read, and the source's count of faults rose
+  -- reading failed only if something is read, and the source's count of faults rose
   pub read_fault : status ≡ ReadFault → (¬ ReadsNone) × HasRisen before.faults after.faults
-  -- writing failed only where a sink did
+  -- writing failed only if a sink did
   pub write_fault : status ≡ WriteFault → WriteFails
 
 -- a call that reads this

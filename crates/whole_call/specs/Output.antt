@@ -12,11 +12,11 @@ pub record Says (status : AnswerStatus) (bytes : List ℕ) (r : Reply) : Type 0 
   pub status_is : r.status ≡ status
   pub bytes_are : r.bytes ≡ bytes
 
--- a reply was written to a sink, all of it; or the sink failed, and a first part was
+-- a reply was written to a sink, all of it; or the sink failed after a prefix
 abbrev pub Wrote : Reply → Status → Option (List ℕ) → Option (List ℕ) → Type 0
 Wrote r status before after = ((status ≡ Answered r.status) × (after ≡ with_more before r.bytes)) ⊎ ((status ≡ WriteFault) × WroteSome before after r.bytes)
 
--- reading failed, or memory did, and what was written stays as it was
+-- reading or an allocation failed, and what was written is unchanged
 pub record EndsSilent {A : Type 0} (status : Status) (before after : A) : Type 0 where
   pub cause : (status ≡ ReadFault) ⊎ (status ≡ NoMemory)
   pub nothing : after ≡ before

@@ -1,4 +1,4 @@
--- What a call writes where.
+-- What a call writes to which stream.
 use Rattle.std.specs.Prelude.{◌≡◌, ◌⊎◌, ℕ, List, Option, Result, Ok, Err}
 use Rattle.std.specs.declared.alloc.AllocError.{AllocError}
 use Rattle.whole_call.specs.declared.status.AnswerStatus.{AnswerStatus}
@@ -30,11 +30,11 @@ WroteTo Error r status before after = Wrote r status before.error after.error ×
 abbrev pub Delivers : Reply → Status → Streams → Streams → Type 0
 Delivers r = WroteTo (stream_of r.status) r
 
--- a reply that was made was written, or memory failed
+-- a reply that was made was written, or an allocation failed
 abbrev pub Gives : Result Reply AllocError → Status → Streams → Streams → Type 0
 Gives (Ok r) status before after = Delivers r status before after
 Gives (Err e) status before after = (status ≡ NoMemory) × (after ≡ before)
 
--- a reply of which P is so was written; or reading failed, or memory did, and nothing was
+-- a reply with P was written; or reading or an allocation failed, and nothing was written
 abbrev pub Ends : (Reply → Type 0) → Status → Streams → Streams → Type 0
 Ends P status before after = EndsSilent status before after ⊎ ((r : Reply) × P r × Delivers r status before after)

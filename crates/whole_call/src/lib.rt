@@ -1,5 +1,5 @@
-// What a whole call of a program is, the same for each program: its words, its input, what it writes where, faults, and
-// the status that it ends with.
+// A whole call of a program, the same for each program: its arguments, its input, what it writes where, faults, and its
+// exit status.
 #![tactic(auto)]
 
 mod input;

@@ -1,4 +1,4 @@
-// What is to be written, and how it is.
+// What to write, and how it is written.
 
 ghost use Rattle.std.specs.Prelude.{◌≡◌, string_bytes};
 ghost use Rattle.outside_io.specs.Fault.{HasRisen};
@@ -9,7 +9,7 @@ use all_bytes::write_all;
 use listed::Listed;
 use outside_io::{Failed, Sink};
 
-/// What is to be written, with its status.
+/// What to write, with its status.
 #[derive(Drop)]
 pub struct Reply {
     pub status: AnswerStatus,
@@ -34,7 +34,7 @@ impl Reply {
         Reply::of_bytes(status, text.into_bytes())
     }
 
-    /// Writes it to a sink, and says how that ended.
+    /// Writes it to a sink, and returns how that ended.
     pub fn write<K: Sink>(&self, sink: &mut K) -> Status
         ensures wrote { Wrote self.now result (K.written sink.old) (K.written sink.new) }
         ensures fault { result ≡ Status.WriteFault → HasRisen (K.faults sink.old) (K.faults sink.new) }

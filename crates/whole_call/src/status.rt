@@ -3,14 +3,14 @@
 ghost use Rattle.std.specs.Prelude.{◌≡◌};
 ghost use Rattle.whole_call.specs.Status.{code_of_answer, code_of_status};
 
-/// How the words of a call, or its input, were answered.
+/// How the command-line arguments, or the input, were answered.
 #[derive(Clone, Copy)]
 pub enum AnswerStatus {
-    /// What was asked for is done.
+    /// The request is done.
     Done,
-    /// The words ask for nothing.
+    /// The arguments are no command line.
     Words,
-    /// The input is no program.
+    /// The input isn't a program.
     Source,
     /// A run ended by a trap.
     Trap,
@@ -26,25 +26,25 @@ pub enum AnswerStatus {
     Races,
     /// An image is refused.
     Image,
-    /// A log is accepted that was cut off.
+    /// A truncated log is accepted.
     CutOff,
 }
 
 /// How a call ended.
 #[derive(Clone, Copy)]
 pub enum Status {
-    /// Its answer was written, all of it.
+    /// All of the answer was written.
     Answered(AnswerStatus),
     /// Reading failed; nothing was written.
     ReadFault,
-    /// Writing failed; a first part of the answer was written.
+    /// Writing failed; a prefix of the answer was written.
     WriteFault,
     /// Out of memory; nothing was written.
     NoMemory,
 }
 
 impl AnswerStatus {
-    // The exit status of a call that was answered so.
+    // The exit status of a call with this answer.
     fn code(self) -> u8
         ensures { result ≡ code_of_answer self }
     {

@@ -37,7 +37,7 @@ fn deliver<K: Sink, E: Sink>(reply: &Reply, out: &mut K, error: &mut E) -> Statu
     }
 }
 
-/// Gives a reply, where memory sufficed to make it: a report to standard output, a refusal to standard error.
+/// Writes a reply if it could be made: a report to standard output, a refusal to standard error.
 pub fn give<K: Sink, E: Sink>(
     found: Result<Reply, AllocError>,
     out: &mut K,

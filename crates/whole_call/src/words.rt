@@ -1,4 +1,4 @@
-// The words of a call as the outside has them, and the exit status.
+// The command-line arguments and the exit status, as the operating system has them.
 
 ghost use Rattle.std.specs.Prelude.{◌≡◌, IfOk, drop};
 ghost use Rattle.std.specs.Process.{exit_status};
@@ -13,7 +13,7 @@ use std::process::ExitCode;
 use std::rt::Env;
 use std::{env, io};
 
-// All words, in their order.
+// All arguments, in order.
 fn gathered(alloc: Global, words: Args) -> Result<Vec<String>, AllocError>
     ensures { IfOk result (λ all. all.items ≡ into_iter_items words) }
 {
@@ -25,7 +25,7 @@ fn gathered(alloc: Global, words: Args) -> Result<Vec<String>, AllocError>
     Ok(all)
 }
 
-// No words if one of them isn't UTF-8, since no command has such a word; else memory failed.
+// No arguments if one of them isn't UTF-8, since no command has such an argument; otherwise an allocation failed.
 fn unread(alloc: Global, error: &io::Error) -> Result<Vec<String>, AllocError> {
     match error.kind() {
         ErrorKind::InvalidData => Ok(Vec::new(alloc)),
@@ -33,8 +33,8 @@ fn unread(alloc: Global, error: &io::Error) -> Result<Vec<String>, AllocError> {
     }
 }
 
-/// All words of a call, of which the first is the program's name; none if one of them isn't UTF-8, since no command has
-/// such a word.
+/// All command-line arguments, of which the first is the program's name; none if one of them isn't UTF-8, since no
+/// command has such an argument.
 pub fn words_of_call<R: Env + AllocGlobal>(rt: &R) -> Result<Vec<String>, AllocError> {
     match env::args(rt) {
         Ok(words) => gathered(rt.alloc(), words),
@@ -42,7 +42,7 @@ pub fn words_of_call<R: Env + AllocGlobal>(rt: &R) -> Result<Vec<String>, AllocE
     }
 }
 
-/// The words after the program's name.
+/// The arguments after the program's name.
 pub fn words_after_name(words: &[String]) -> &[String]
     ensures { result.now ≡ drop 1 words.now }
 {

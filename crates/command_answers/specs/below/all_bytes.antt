@@ -1,2 +1,2 @@
--- What crates above name of `all_bytes`.
+-- Re-exports from `all_bytes` for the crates above.
 pub use Rattle.all_bytes.specs.Bytes.{input_of}

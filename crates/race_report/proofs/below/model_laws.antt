@@ -1,2 +1,2 @@
--- What crates above name of `model_laws`.
+-- Re-exports from `model_laws` for the crates above.
 pub use Rattle.model_laws.proofs.Stopped.{reads_are_decided}

@@ -1,2 +1,2 @@
--- What crates above name of `run_trace`.
+-- Re-exports from `run_trace` for the crates above.
 pub use Rattle.run_journal.specs.below.run_trace.{EntryValue, SettingsValue, field_limit}

@@ -1,2 +1,2 @@
--- What crates above name of `outside_io`.
+-- Re-exports from `outside_io` for the crates above.
 pub use Rattle.outside_io.specs.Fault.{HasRisen}

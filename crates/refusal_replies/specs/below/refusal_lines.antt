@@ -1,3 +1,3 @@
--- What crates above name of `refusal_lines`.
+-- Re-exports from `refusal_lines` for the crates above.
 pub use Rattle.refusal_lines.specs.Refusals.{refusal_of}
 pub use Rattle.refusal_lines.specs.declared.refusal.Refusal.TheVariants.{Entry, Image, Source, Words}

@@ -1,4 +1,4 @@
--- What crates above name of `whole_call`.
+-- Re-exports from `whole_call` for the crates above.
 pub use Rattle.whole_call.specs.Call.{IsCall}
 pub use Rattle.whole_call.specs.Input.{HasRead, HasTaken, Reads, ReadsNothing, ReadsUpTo, SourceState}
 pub use Rattle.whole_call.specs.Output.{Says}
