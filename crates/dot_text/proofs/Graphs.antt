@@ -24,7 +24,7 @@ each_balances f h (x ∷ xs) = joined (f x) (flat_map f xs) (h x) (each_balances
 attributes_balance : (given : Attributes) → IsBalanced (flat_map attribute given)
 attributes_balance given = each_balances attribute (λ a. pair_balances a.0 a.1 (32 ∷ []) (λ ws. refl)) given
 
--- a head, and what stands in brackets behind it
+-- a head, and what follows in brackets
 bracketed : (head : List ℕ) (given : Attributes) → IsBalanced head → IsBalanced ((head ++ codes " [") ++ flat_map attribute given ++ codes "];\n")
 bracketed head given h =
     subst IsBalanced (four head (flat_map attribute given))
@@ -35,7 +35,7 @@ bracketed head given h =
     four : (a b : List ℕ) → a ++ (32 ∷ (91 ∷ (b ++ 93 ∷ []) ++ 59 ∷ 10 ∷ [])) ≡ (a ++ codes " [") ++ b ++ codes "];\n"
     four a b = simp append_assoc
 
--- a head, and what stands in braces behind it
+-- a head, and what follows in braces
 braced : (head body : List ℕ) → IsBalanced head → IsBalanced body → IsBalanced ((head ++ codes " {\n") ++ body ++ codes "}\n")
 braced head body h k =
     subst IsBalanced (four head body)

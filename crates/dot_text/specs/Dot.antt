@@ -7,8 +7,8 @@ use Rattle.quoted_text.specs.Quoted.{quoted}
 abbrev pub Attributes : Type 0
 Attributes = List (List ℕ × List ℕ)
 
--- a statement: an attribute of the graph or cluster that it stands in; a node; an edge from a port of a node to a node;
--- or a cluster of statements
+-- a statement: an attribute of the enclosing graph or cluster; a node; an edge from a port of a node to a node; or a
+-- cluster of statements
 mutual
   pub data Statement : Type 0 where
     Setting : List ℕ → List ℕ → Statement

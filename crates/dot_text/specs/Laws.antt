@@ -1,4 +1,4 @@
--- What holds of the texts of graphs.
+-- Laws of the texts of graphs.
 use Rattle.std.specs.Prelude.{ℕ, List}
 use Rattle.quoted_text.specs.Balanced.{IsBalanced}
 use Rattle.dot_text.specs.Dot.{Statement, graph}

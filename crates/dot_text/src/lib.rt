@@ -1,5 +1,5 @@
-// The part of Graphviz's DOT language that drawings of heaps need: its definition is in specs/; here it is written
-// piece by piece.
+// The part of Graphviz's DOT language that drawings of heaps need: specs/ defines it; here it is written piece by
+// piece.
 #![tactic(auto)]
 
 mod laws;

@@ -6,7 +6,7 @@ ghost use Rattle.dot_text.specs.Dot.{attribute, setting, node_begin, edge_begin,
 use quoted_text::add_quoted;
 use std::alloc::AllocError;
 
-/// Adds an attribute of the node or edge that was begun.
+/// Adds an attribute of the node or edge begun.
 pub fn add_attribute(text: &mut Vec<u8>, name: &[u8], value: &[u8]) -> Result<(), AllocError>
     ensures { OnOk result (text.new.items ≡ text.old.items ++ attribute (name.now, value.now)) }
 {
@@ -17,7 +17,7 @@ pub fn add_attribute(text: &mut Vec<u8>, name: &[u8], value: &[u8]) -> Result<()
     Ok(())
 }
 
-/// Sets an attribute of the graph or cluster that was begun.
+/// Sets an attribute of the graph or cluster begun.
 pub fn set_attribute(text: &mut Vec<u8>, name: &[u8], value: &[u8]) -> Result<(), AllocError>
     ensures { OnOk result (text.new.items ≡ text.old.items ++ setting name.now value.now) }
 {
@@ -68,7 +68,7 @@ pub fn begin_graph(text: &mut Vec<u8>, name: &[u8]) -> Result<(), AllocError>
     text.extend_from_slice(b" {\n")
 }
 
-/// Begins a cluster, or goes on with it, where one of its name was begun in the same graph or cluster.
+/// Begins a cluster, or continues it if one of its name was begun in the same graph or cluster.
 pub fn begin_cluster(text: &mut Vec<u8>, name: &[u8]) -> Result<(), AllocError>
     ensures { OnOk result (text.new.items ≡ text.old.items ++ cluster_begin name.now) }
 {

@@ -24,7 +24,7 @@ boxed_text (t ∷ ts) s =
     inner : (a b c d e : List ℕ) → a ++ ((b ++ c ++ d) ++ []) ++ e ≡ (a ++ b) ++ c ++ (d ++ e)
     inner a b c d e = simp (append_assoc, append-nil)
 
--- boxes begin, a statement stands in them, and they end
+-- boxes begin, a statement inside them, and they end
 pub boxed_made : (ts : List ℕ) (s : Statement) (before a b c : List ℕ) → a ≡ before ++ flat_map opened ts → b ≡ a ++ dot s → c ≡ b ++ flat_map (λ _. braces_end) ts → c ≡ before ++ dot (boxed ts s)
 boxed_made ts s before a b c e f g =
     g ∙ ap (λ x. x ++ flat_map (λ _. braces_end) ts) (f ∙ ap (λ x. x ++ dot s) e)
@@ -38,7 +38,7 @@ statements_text : (ss : List Statement) → all_dot (statements ss) ≡ flat_map
 statements_text [] = refl
 statements_text (s ∷ ss) = ap (λ x. dot s ++ x) (statements_text ss)
 
--- a box begins, its title, its point and what lies in it stand in it, and it ends
+-- a box begins, its title, its point and its contents follow, and it ends
 pub titled_made : (cluster name title : List ℕ) (ss : List Statement) (w before a b c d e : List ℕ) → w ≡ flat_map dot ss → a ≡ before ++ cluster_begin cluster → b ≡ a ++ setting (codes "label") title → c ≡ b ++ dot (point name) → d ≡ c ++ w → e ≡ d ++ braces_end
     → e ≡ before ++ dot (titled cluster name title ss)
 titled_made cluster name title ss w before a b c d e ew ea eb ec ed ee =
@@ -49,14 +49,14 @@ titled_made cluster name title ss w before a b c d e ew ea eb ec ed ee =
     six : (a b c d e f : List ℕ) → ((((a ++ b) ++ c) ++ d) ++ e) ++ f ≡ a ++ ((b ++ (c ++ (d ++ e))) ++ f)
     six a b c d e f = simp append_assoc
 
--- the same box by names that are the same
+-- the same box, by equal names
 pub titled_along : (ss : List Statement) (c d n m t u before after : List ℕ) → c ≡ d → n ≡ m → t ≡ u → after ≡ before ++ dot (titled c n t ss) → after ≡ before ++ dot (titled d m u ss)
 titled_along ss c d n m t u before after ec en et e =
     e ∙ ap (λ x. before ++ dot (titled x n t ss)) ec
     ∙ ap (λ x. before ++ dot (titled d x t ss)) en
     ∙ ap (λ x. before ++ dot (titled d m x ss)) et
 
--- the same, where the tasks stand in slices of one vector
+-- the same, for tasks in slices of one vector
 pub boxed_along : (ts : List ℕ) (s : Statement) (way xs ys before a b c : List ℕ) → way ≡ ts → xs ≡ way → ys ≡ way → a ≡ before ++ flat_map opened xs → b ≡ a ++ dot s → c ≡ b ++ flat_map (λ _. braces_end) ys
     → c ≡ before ++ dot (boxed ts s)
 boxed_along ts s way xs ys before a b c ew ex ey ea eb ec =

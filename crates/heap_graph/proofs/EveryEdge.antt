@@ -31,7 +31,7 @@ each_edge r t a long j (x ∷ xs) (suc k) v u h e =
     let q : k + (j + 1) ≡ suc k + j = omega arith in
     Contains-append_right (edge_by r t a (port_at long j) x (owner_at r.chunks x)) (edges_from r t a long (j + 1) xs) _ (subst P q (each_edge r t a long (j + 1) xs k v u h e))
 
--- how many references lead into a heap
+-- the number of references that lead into a heap
 count : Read → List ℕ → ℕ
 count r [] = 0
 count r (x ∷ xs) = cond (leads r x) (1 + count r xs) (count r xs)

@@ -8,7 +8,7 @@ use Rattle.dot_text.specs.Dot.{dot}
 use Rattle.image_check.specs.declared.read.Read.{Read}
 use Rattle.heap_graph.specs.Overview.{Links, link_edge, links_drawn}
 
--- one item more has the same piece as each
+-- one more item has the same piece as each
 same_next : (piece : List ℕ) (xs : List ℕ) (i : ℕ) → i < length xs → flat_map (λ _. piece) (take (suc i) xs) ≡ flat_map (λ _. piece) (take i xs) ++ piece
 same_next piece [] i lt = absurd (omega (arith, lt))
 same_next piece (x ∷ xs) zero lt = append-nil piece
@@ -19,12 +19,12 @@ same_next piece (x ∷ xs) (suc i) lt =
 pub same_more : (piece : List ℕ) (xs : List ℕ) (i : ℕ) → i < length xs → flat_map (λ _. piece) (take (i + 1) xs) ≡ flat_map (λ _. piece) (take i xs) ++ piece
 same_more piece xs i lt = let next : i + 1 ≡ suc i = omega arith in ap (λ n. flat_map (λ _. piece) (take n xs)) next ∙ same_next piece xs i lt
 
--- one piece more is written of what is left
+-- one more piece is written of what is left
 pub piece_more : (now later piece left rest all : List ℕ) → now ++ left ≡ all → left ≡ piece ++ rest → later ≡ now ++ piece → later ++ rest ≡ all
 piece_more now later piece left rest all e f g =
     ap (λ x. x ++ rest) g ∙ append_assoc now piece rest ∙ ap (λ x. now ++ x) (sym f) ∙ e
 
--- the edge of the pair at a place, and those behind it
+-- the edge of the pair at an index, and those after it
 pub pairs_cut : (r : Read) (ls : Links) (i : ℕ) (l : (ℕ × ℕ) × ℕ) → slice_get ls i ≡ Some l
     → flat_map dot (links_drawn r (drop i ls)) ≡ dot (link_edge r l) ++ flat_map dot (links_drawn r (drop (i + 1) ls))
 pairs_cut r ls i l e =

@@ -1,4 +1,4 @@
--- An image object by object.
+-- An image, object by object.
 use Rattle.std.specs.Prelude.{ℕ, zero, suc, ◌+◌, ◌==◌, not, Bool, false, Option, Some, None, List, [], ◌∷◌, ◌++◌, codes, drop, length, nat_lt, if◌then◌else◌}
 use Rattle.std.specs.List.{flat_map}
 use Rattle.std.specs.Fmt.{decimal}
@@ -26,7 +26,7 @@ abbrev pub path_above : (ℕ → List ℕ) → Option ℕ → List ℕ
 path_above walk None = []
 path_above walk (Some p) = walk p
 
--- the tasks from the root to t, of which the last so many at most
+-- the tasks from the root to t, but at most the last n
 abbrev pub path : ℕ → Tasks → ℕ → List ℕ
 path zero tasks t = []
 path (suc n) tasks t = path_above (path n tasks) (parent_of tasks t) ++ t ∷ []
@@ -34,12 +34,12 @@ path (suc n) tasks t = path_above (path n tasks) (parent_of tasks t) ++ t ∷ []
 abbrev pub path_to : Tasks → ℕ → List ℕ
 path_to tasks t = path (length tasks) tasks t
 
--- a statement in the boxes of these tasks, each in the one before
+-- a statement in nested boxes of these tasks
 abbrev pub boxed : List ℕ → Statement → Statement
 boxed [] s = s
 boxed (t ∷ ts) s = Cluster (task_cluster t) (alone (boxed ts s))
 
--- in the box of a task, which stands in its parent's
+-- in the box of a task, which is inside its parent's
 abbrev pub inside : Tasks → ℕ → Statement → Statement
 inside tasks t s = boxed (path_to tasks t) s
 
@@ -78,11 +78,11 @@ abbrev pub first_of : List (List ℕ) → List ℕ
 first_of [] = []
 first_of (w ∷ ws) = w
 
--- in the line of an object four words stand in front of the one for its kind, and two more in front of its references
+-- in an object's line four words come before the one for its kind, and two more before its references
 abbrev pub kind_title : List ℕ → List ℕ
 kind_title line = word_field (first_of (drop 4 (words_of line)))
 
--- as they stand in the line, or how many there are
+-- as in the line, or only their number
 abbrev pub numbers_title : List ℕ → Object → List ℕ
 numbers_title line o =
     if nat_lt field_limit o.numbers then codes "|numbers: " ++ decimal o.numbers
@@ -105,8 +105,8 @@ abbrev pub lies_elsewhere : ℕ → Said → Bool
 lies_elsewhere c (OfObject o) = not (chunk_number o.address == c)
 lies_elsewhere c _ = false
 
--- the objects up to the first one in another chunk: the lines of an image rise, so that those of a chunk follow on
--- those of the chunk before
+-- the objects up to the first one in another chunk: the lines of an image ascend, so that those of a chunk follow those
+-- of the chunk before
 abbrev pub nodes_in : ℕ → List (List ℕ) → List Statement
 nodes_in c [] = []
 nodes_in c (l ∷ ls) = if lies_elsewhere c (said_by l) then [] else node_by l (said_by l) ++ nodes_in c ls
@@ -121,7 +121,7 @@ lines_behind c (l ∷ ls) = if lies_elsewhere c (said_by l) then l ∷ ls else l
 abbrev pub point : List ℕ → Statement
 point name = Node name ((codes "shape", codes "point") ∷ (codes "style", codes "invis") ∷ [])
 
--- a box with a title, a point and what lies in it
+-- a box with a title, a point and its contents
 abbrev pub titled : List ℕ → List ℕ → List ℕ → List Statement → Statement
 titled cluster name title within = Cluster cluster (Statement_ (Setting (codes "label") title) (Statement_ (point name) (statements within)))
 
@@ -148,14 +148,14 @@ drawn_task r m p t = if is_drawn r p t.number then task_drawn r m t ∷ [] else 
 abbrev pub drawn_chunk : Read → Option ℕ → Chunk → List (List ℕ) → List Statement
 drawn_chunk r p c objects = if is_drawn r p c.owner then chunk_drawn r c objects ∷ [] else []
 
--- what a line adds, where these lines are left of which no object is drawn yet
+-- what a line adds, given the lines whose objects aren't drawn yet
 abbrev pub drawn : Read → Heaps → Option ℕ → List (List ℕ) → Said → List Statement
 drawn r m p objects (OfTask t) = drawn_task r m p t
 drawn r m p objects (OfChunk c) = drawn_chunk r p c objects
 drawn r m p objects (OfObject o) = edges_drawn r p o (owner_at r.chunks o.address)
 drawn r m p objects _ = []
 
--- the lines that are left then
+-- the lines left after that
 abbrev pub undrawn_after : Said → List (List ℕ) → List (List ℕ)
 undrawn_after (OfChunk c) objects = lines_behind c.number objects
 undrawn_after _ objects = objects

@@ -1,4 +1,4 @@
--- What heaps hold, in counts of 64 bits, of which the last value stays; and which heaps are drawn.
+-- What heaps hold, in saturating 64-bit counts; and which heaps are drawn.
 use Rattle.std.specs.Prelude.{ℕ, ◌+◌, Bool, true, false, Option, Some, None, List, [], ◌∷◌, length}
 use Rattle.image_check.specs.declared.line.Object.{Object}
 use Rattle.image_check.specs.declared.line.Said.{Said}
@@ -14,7 +14,7 @@ use Rattle.heap_graph.specs.declared.held.Held.{Held}
 
 -- WHICH HEAPS ARE DRAWN
 
--- a task, or one above it
+-- a task, or an ancestor
 abbrev pub is_on_path : Relation → Bool
 is_on_path Own = true
 is_on_path Above = true
@@ -52,13 +52,13 @@ abbrev pub with_object_of : Heaps → Object → Option ℕ → Heaps
 with_object_of m o None = m
 with_object_of m o (Some t) = with_entry m t (with_object (held_of m t) o)
 
--- with what a line says
+-- adds what a line says
 abbrev pub held_with : Read → Heaps → Said → Heaps
 held_with r m (OfChunk c) = with_entry m c.owner (with_chunk (held_of m c.owner))
 held_with r m (OfObject o) = with_object_of m o (owner_at r.chunks o.address)
 held_with r m _ = m
 
--- with what lines say
+-- adds what lines say
 abbrev pub held_by : Read → Heaps → List (List ℕ) → Heaps
 held_by r m [] = m
 held_by r m (l ∷ ls) = held_by r (held_with r m (said_by l)) ls

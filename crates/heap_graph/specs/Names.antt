@@ -1,4 +1,4 @@
--- What tasks, chunks, objects and fields are called in a graph.
+-- The names of tasks, chunks, objects and fields in a graph.
 use Rattle.std.specs.Prelude.{ℕ, List, [], ◌++◌, codes}
 use Rattle.std.specs.Fmt.{decimal}
 use Rattle.image_check.specs.declared.line.Task.{Task}
@@ -8,8 +8,8 @@ use Rattle.image_check.specs.declared.line.State.TheVariants.{Running}
 use Rattle.image_check.specs.Line.{state_word}
 use Rattle.heap_graph.specs.declared.held.Held.{Held}
 
--- Graphviz draws what is called cluster as a box; a task's has a point in it, of the task's name, for edges that lead
--- into its heap
+-- Graphviz draws a `cluster` as a box; a task's box contains a point with the task's name, for edges that lead into its
+-- heap
 abbrev pub task_cluster : ℕ → List ℕ
 task_cluster t = codes "cluster task " ++ decimal t
 
@@ -23,11 +23,11 @@ chunk_cluster c = codes "cluster chunk " ++ decimal c
 abbrev pub object_name : ℕ → List ℕ
 object_name a = decimal a
 
--- a field by its place
+-- a field by its index
 abbrev pub port_name : ℕ → List ℕ
 port_name k = codes "f" ++ decimal k
 
--- the words that a task's heap holds; of a task that runs an image doesn't say them
+-- the words that a task's heap holds; an image doesn't say those of a running task
 abbrev pub words_held : State → ℕ → List ℕ
 words_held Running words = []
 words_held _ words = codes ", " ++ decimal words ++ codes " words"
@@ -39,6 +39,6 @@ task_title t h = codes "task " ++ decimal t.number ++ codes " " ++ state_word t.
 abbrev pub chunk_title : Chunk → List ℕ
 chunk_title c = codes "chunk " ++ decimal c.number ++ codes " of " ++ decimal c.words ++ codes " words"
 
--- fields of a record: the same, and how many objects and chunks its heap has
+-- fields of a record: the same, and the numbers of objects and chunks in its heap
 abbrev pub heap_title : Task → Held → List ℕ
 heap_title t h = codes "<f0> " ++ task_title t h ++ codes "|objects: " ++ decimal h.objects ++ codes "|chunks: " ++ decimal h.chunks

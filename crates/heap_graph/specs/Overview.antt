@@ -1,4 +1,4 @@
--- An image heap by heap.
+-- An image, heap by heap.
 use Rattle.std.specs.Prelude.{ℕ, Bool, Option, Some, None, List, [], ◌∷◌, codes, if◌then◌else◌}
 use Rattle.std.specs.List.{flat_map}
 use Rattle.std.specs.Map.{lookup}
@@ -43,7 +43,7 @@ heap_by r m p _ = []
 abbrev pub heaps_drawn : Read → Heaps → Option ℕ → List (List ℕ) → List Statement
 heaps_drawn r m p lines = flat_map (λ l. heap_by r m p (said_by l)) lines
 
--- HOW MANY REFERENCES LEAD FROM A HEAP TO A HEAP
+-- THE NUMBERS OF REFERENCES FROM HEAP TO HEAP
 
 abbrev pub Links : Type 0
 Links = List ((ℕ × ℕ) × ℕ)
@@ -59,7 +59,7 @@ links_at m t u = or_none (lookup (same_birth (t, u)) m)
 abbrev pub with_link : Links → ℕ → ℕ → Links
 with_link m t u = insert_entry same_birth m (t, u) (raised_by (links_at m t u) 1)
 
--- to where an address lies, if it lies in a heap
+-- to the heap of an address, if it is in one
 abbrev pub with_link_to : Links → ℕ → Option ℕ → Links
 with_link_to m t None = m
 with_link_to m t (Some u) = with_link m t u
@@ -73,7 +73,7 @@ abbrev pub with_links_of : Read → Option ℕ → Links → Object → Option �
 with_links_of r p m o None = m
 with_links_of r p m o (Some t) = if is_drawn r p t then with_links r m t o.references else m
 
--- with those of a line, whose object's heap is drawn
+-- adds those of a line, if its object's heap is drawn
 abbrev pub links_with : Read → Option ℕ → Links → Said → Links
 links_with r p m (OfObject o) = with_links_of r p m o (owner_at r.chunks o.address)
 links_with r p m _ = m
@@ -87,7 +87,7 @@ links_by r p m (l ∷ ls) = links_by r p (links_with r p m (said_by l)) ls
 abbrev pub style_of : Bool → List ℕ
 style_of runs = if runs then codes "dashed" else codes "solid"
 
--- of its kind, into the heap of a running task dashed, and with the number
+-- of its kind, dashed into the heap of a running task, and with the number
 abbrev pub link_attributes : Bool → ℕ → Relation → Attributes
 link_attributes runs n kind = (codes "style", style_of runs) ∷ (codes "label", decimal n) ∷ kind_attributes kind
 

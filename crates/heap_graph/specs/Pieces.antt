@@ -1,4 +1,4 @@
--- How boxes begin, and what is left of lines.
+-- How boxes begin, and the remaining lines.
 use Rattle.std.specs.Prelude.{ℕ, List, [], Option, Some, None}
 use Rattle.text_lines.specs.Lines.{lines_of}
 use Rattle.dot_text.specs.Dot.{cluster_begin}

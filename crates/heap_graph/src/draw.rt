@@ -30,7 +30,7 @@ fn add_last(way: &mut Vec<u64>, task: u64) -> Result<(), AllocError>
     Ok(())
 }
 
-// Adds the tasks from the root to one, the last so many at most.
+// Adds the tasks from the root to one, but at most the last n.
 fn add_path(way: &mut Vec<u64>, tasks: &Tasks, task: u64, links: usize) -> Result<(), AllocError>
     ensures { OnOk result (way.new.items ≡ way.old.items ++ path links tasks.now task) }
 {
@@ -66,7 +66,7 @@ fn begin_box(alloc: Global, text: &mut Vec<u8>, task: u64) -> Result<(), AllocEr
     begin_cluster(text, name.as_bytes())
 }
 
-// Begins the boxes of tasks, each in the one before.
+// Begins the boxes of tasks, each inside the one before.
 fn begin_boxes(alloc: Global, text: &mut Vec<u8>, way: &[u64]) -> Result<(), AllocError>
     ensures { OnOk result (text.new.items ≡ text.old.items ++ flat_map opened way.now) }
 {
@@ -76,7 +76,7 @@ fn begin_boxes(alloc: Global, text: &mut Vec<u8>, way: &[u64]) -> Result<(), All
     Ok(())
 }
 
-// Ends the boxes of as many tasks.
+// Ends n boxes.
 fn end_boxes(text: &mut Vec<u8>, way: &[u64]) -> Result<(), AllocError>
     ensures { OnOk result (text.new.items ≡ text.old.items ++ flat_map (λ _. braces_end) way.now) }
 {
@@ -86,7 +86,7 @@ fn end_boxes(text: &mut Vec<u8>, way: &[u64]) -> Result<(), AllocError>
     Ok(())
 }
 
-// Adds a point that isn't seen.
+// Adds an invisible point.
 fn add_point(text: &mut Vec<u8>, name: &[u8]) -> Result<(), AllocError>
     ensures { OnOk result (text.new.items ≡ text.old.items ++ dot (point name.now)) }
 {
@@ -103,7 +103,7 @@ fn add_text(text: &mut Vec<u8>, more: &[u8]) -> Result<(), AllocError>
     text.extend_from_slice(more)
 }
 
-// Adds a box with a title, a point and the text of what lies in it.
+// Adds a box with a title, a point and the text of its contents.
 fn add_titled(
     text: &mut Vec<u8>,
     cluster: &[u8],
@@ -157,7 +157,7 @@ fn add_task(
     end_boxes(text, way.as_slice())
 }
 
-// Adds the box of a chunk, in which these objects lie.
+// Adds the box of a chunk with these objects.
 fn add_chunk_box(
     alloc: Global,
     text: &mut Vec<u8>,
@@ -178,7 +178,7 @@ fn add_chunk_box(
     )
 }
 
-// Adds a chunk, in which these objects lie, in the boxes of its tasks.
+// Adds a chunk with these objects, in the boxes of its tasks.
 fn add_chunk(
     alloc: Global,
     text: &mut Vec<u8>,
@@ -194,7 +194,7 @@ fn add_chunk(
     end_boxes(text, way.as_slice())
 }
 
-// The number of the chunk that an address lies in.
+// The number of the chunk of an address.
 fn chunk_number(address: u64) -> u64
     ensures { result ≡ chunk_number address }
 {
@@ -227,7 +227,7 @@ fn add_said_node(
     }
 }
 
-// Adds the objects of lines up to the first one in another chunk, and hands back the lines from that one on.
+// Adds the objects of lines up to the first one in another chunk, and returns the lines from that one on.
 fn add_nodes<'t>(
     alloc: Global,
     text: &mut Vec<u8>,
@@ -252,7 +252,7 @@ fn add_nodes<'t>(
     }
 }
 
-// Adds a chunk with its objects, and hands back the lines whose objects aren't drawn yet.
+// Adds a chunk with its objects, and returns the lines whose objects aren't drawn yet.
 fn add_chunk_with<'t>(
     alloc: Global,
     text: &mut Vec<u8>,
@@ -272,7 +272,7 @@ fn add_chunk_with<'t>(
     Ok(left)
 }
 
-// Adds the edges of an object, where its heap is drawn.
+// Adds the edges of an object, if its heap is drawn.
 fn add_object(
     alloc: Global,
     text: &mut Vec<u8>,
@@ -294,7 +294,7 @@ fn add_object(
     }
 }
 
-// Adds a task, where its heap is drawn.
+// Adds a task, if its heap is drawn.
 fn add_task_with(
     alloc: Global,
     text: &mut Vec<u8>,
@@ -312,7 +312,7 @@ fn add_task_with(
     }
 }
 
-// Adds what a line says, and hands back the lines whose objects aren't drawn yet.
+// Adds what a line says, and returns the lines whose objects aren't drawn yet.
 fn add_said<'t>(
     alloc: Global,
     text: &mut Vec<u8>,

@@ -117,7 +117,7 @@ fn add_edge_to(
     }
 }
 
-// Adds the edge of a reference, where it has one.
+// Adds the edge of a reference, if it has one.
 fn add_edge(
     alloc: Global,
     text: &mut Vec<u8>,
@@ -133,7 +133,7 @@ fn add_edge(
     }
 }
 
-/// A record of more references has one field for all.
+/// A record with more references has one field for all.
 pub(crate) const FIELD_LIMIT: usize = 64;
 
 /// Whether an object has one field for all its references.
@@ -143,7 +143,7 @@ pub(crate) fn is_long(object: &Object) -> bool
     FIELD_LIMIT < object.references.len()
 }
 
-// The field of the record that stands for a field.
+// The record's field for a field of the object.
 fn port_at(long: bool, place: u64) -> u64
     ensures { result ≡ port_at long place }
 {

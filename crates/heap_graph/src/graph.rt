@@ -17,7 +17,7 @@ use dot_text::{begin_graph, end_braces, set_attribute};
 use image_check::{Read, Table, VerifyError, read_image};
 use std::alloc::{AllocError, Global};
 
-// Adds what the whole graph has.
+// Adds what all graphs have.
 fn add_settings(graph: &mut Vec<u8>) -> Result<(), AllocError>
     ensures { OnOk result (graph.new.items ≡ graph.old.items ++ flat_map dot settings) }
 {
@@ -50,7 +50,7 @@ fn is_large(read: &Read, limit: u64) -> bool
     limit < read.objects.len() as u64 || limit < read.tasks.len() as u64
 }
 
-// Adds an image heap by heap where it is large, and else object by object.
+// Adds an image, heap by heap if it is large, otherwise object by object.
 fn add_image(
     alloc: Global,
     graph: &mut Vec<u8>,
@@ -70,7 +70,7 @@ fn add_image(
     }
 }
 
-// The graph of an image of which this was read.
+// The graph of an image that was read.
 fn graph_from(
     alloc: Global,
     read: &Read,
@@ -89,8 +89,8 @@ fn graph_from(
     Ok(graph)
 }
 
-/// The graph of an image in which there is no fault, or its first fault: of all its heaps, or of those on the path from
-/// the root to a task; heap by heap where it has more objects, or more tasks, than the limit.
+/// The graph of an image without a fault, or its first fault: of all its heaps, or of those on the path from the root
+/// to a task; heap by heap if it has more objects, or more tasks, than the limit.
 pub fn graph_text(
     alloc: Global,
     path: Option<u64>,

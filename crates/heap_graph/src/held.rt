@@ -12,7 +12,7 @@ use std::alloc::{AllocError, Global};
 use still_counts::raised_by;
 use text_lines::next_line;
 
-/// What a heap holds; 64 bits each, and the last value stays.
+/// What a heap holds, in saturating 64-bit counts.
 #[derive(Clone, Copy)]
 pub(crate) struct Held {
     pub(crate) chunks: u64,
@@ -30,7 +30,7 @@ fn is_on_path(relation: Relation) -> bool
     }
 }
 
-/// Whether the heap of a task is drawn: each is, or those on the path from the root to a task.
+/// Whether the heap of a task is drawn: all are, or those on the path from the root to a task.
 pub(crate) fn is_drawn(read: &Read, path: Option<u64>, task: u64) -> bool
     ensures { result ≡ is_drawn read.now path task }
 {
@@ -54,7 +54,7 @@ pub(crate) fn held_of(heaps: &Table<Held>, task: u64) -> Held
     }
 }
 
-// With a chunk more.
+// Adds a chunk.
 fn with_chunk(held: Held) -> Held
     ensures { result ≡ with_chunk held }
 {
@@ -65,7 +65,7 @@ fn with_chunk(held: Held) -> Held
     }
 }
 
-// With an object more.
+// Adds an object.
 fn with_object(held: Held, object: &Object) -> Held
     requires { length object.now.references + object.now.numbers ≤ most_fields }
     ensures { result ≡ with_object held object.now }

@@ -1,4 +1,4 @@
-// What holds of the edges of an image.
+// Laws of the edges of an image.
 
 ghost use Rattle.heap_graph.specs.Laws.{ReferencesAreEdges};
 

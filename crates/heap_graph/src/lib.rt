@@ -1,5 +1,6 @@
-// The graph of an image, for Graphviz: a cluster for each task, its chunks in it, objects as records, and an edge for
-// each reference; or, of a large image, a box for each heap, and an edge for all references from a heap to a heap.
+// The graph of an image, for Graphviz: a cluster for each task with its chunks inside, objects as records, and an edge
+// for each reference; or, if the image is large, a box for each heap, and one edge for all references from heap to
+// heap.
 #![tactic(auto)]
 
 // The graph of an image, object by object or heap by heap.
@@ -14,7 +15,7 @@ mod held;
 mod links;
 mod objects;
 
-// What stands in it: names, and the words of the lines read.
+// What it contains: names, and the words of the lines read.
 mod names;
 mod words;
 

@@ -1,4 +1,4 @@
-// How many references lead from a heap to a heap.
+// The numbers of references from heap to heap.
 
 ghost use Rattle.std.specs.Prelude.{◌≡◌, [], length, OnOk, slice_get};
 ghost use Rattle.heap_graph.specs.Overview.{links_at, with_link, with_link_to};
@@ -8,7 +8,7 @@ use std::alloc::{AllocError, Global};
 use std::marker::Model;
 use still_counts::raised_by;
 
-/// Counts of references from a heap to a heap, in the order in which the first of each was met.
+/// Counts of references from heap to heap, in the order in which the first of each was met.
 #[derive(Drop)]
 pub(crate) struct Links {
     counts: IndexMap<(u64, u64), u64>,
@@ -32,7 +32,7 @@ impl Links {
         }
     }
 
-    // How many lead from a heap to a heap.
+    // The number from a heap to a heap.
     fn at(&self, task: u64, other: u64) -> u64
         ensures { result ≡ links_at self.now task other }
     {
@@ -42,7 +42,7 @@ impl Links {
         }
     }
 
-    // With one more.
+    // Counts one more.
     fn add(&mut self, task: u64, other: u64) -> Result<(), AllocError>
         ensures { OnOk result (self.new ≡ with_link self.old task other) }
     {
@@ -51,7 +51,7 @@ impl Links {
         Ok(())
     }
 
-    /// With one more, where the other heap is known.
+    /// Counts one more, if the other heap is known.
     pub(crate) fn add_to(&mut self, task: u64, other: Option<u64>) -> Result<(), AllocError>
         ensures { OnOk result (self.new ≡ with_link_to self.old task other) }
     {
@@ -61,14 +61,14 @@ impl Links {
         }
     }
 
-    /// How many pairs of heaps there are.
+    /// The number of pairs of heaps.
     pub(crate) fn len(&self) -> usize
         ensures { result ≡ length self.now }
     {
         self.counts.len()
     }
 
-    /// The pair at a place, with its count.
+    /// The pair at an index, with its count.
     pub(crate) fn entry(&self, place: usize) -> Option<((u64, u64), u64)>
         ensures { result ≡ slice_get self.now place }
     {

@@ -1,4 +1,4 @@
-// What tasks, chunks, objects and fields are called in a graph.
+// The names of tasks, chunks, objects and fields in a graph.
 
 ghost use Rattle.std.specs.Prelude.{◌≡◌, IfOk, string_bytes};
 ghost use Rattle.quoted_text.specs.Labels.{task_name};
@@ -44,7 +44,7 @@ pub(crate) fn port_name(alloc: Global, place: u64) -> Result<String, AllocError>
     format!(in alloc; "f{place}")
 }
 
-// The words that a task's heap holds; nothing of a task that runs.
+// The words that a task's heap holds; nothing for a running task.
 fn words_held(alloc: Global, state: State, words: u64) -> Result<String, AllocError>
     ensures { IfOk result (λ text. string_bytes text ≡ words_held state words) }
 {

@@ -60,7 +60,7 @@ fn add_ports(alloc: Global, title: &mut Vec<u8>, references: &[u64]) -> Result<(
     Ok(())
 }
 
-// Adds one field for so many references.
+// Adds one field for n references.
 fn add_count(alloc: Global, title: &mut Vec<u8>, references: usize) -> Result<(), AllocError>
     ensures { OnOk result (title.new.items ≡ title.old.items ++ count_title references) }
 {
@@ -79,7 +79,7 @@ fn add_references(alloc: Global, title: &mut Vec<u8>, object: &Object) -> Result
     }
 }
 
-// Adds how many numbers an object has.
+// Adds the number of an object's number fields.
 fn add_number_count(alloc: Global, title: &mut Vec<u8>, numbers: u64) -> Result<(), AllocError>
     ensures { OnOk result (title.new.items ≡ title.old.items ++ codes "|numbers: " ++ decimal numbers) }
 {
@@ -87,7 +87,7 @@ fn add_number_count(alloc: Global, title: &mut Vec<u8>, numbers: u64) -> Result<
     add_text(title, &text)
 }
 
-// Adds the numbers of an object as they stand in its line, or how many there are.
+// Adds the numbers of an object as they are in its line, or only how many there are.
 fn add_numbers(
     alloc: Global,
     title: &mut Vec<u8>,

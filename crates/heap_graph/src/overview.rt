@@ -1,4 +1,4 @@
-// An image heap by heap.
+// An image, heap by heap.
 
 ghost use Rattle.std.specs.Prelude.{◌≡◌, ◌++◌, OnOk};
 ghost use Rattle.std.specs.List.{flat_map};
@@ -45,7 +45,7 @@ fn begin_link(alloc: Global, text: &mut Vec<u8>, task: u64, other: u64) -> Resul
     begin_edge(text, source.as_bytes(), port.as_bytes(), target.as_bytes())
 }
 
-// Adds a line from the parent's heap, where there is a parent.
+// Adds a line from the parent's heap, if there is a parent.
 fn add_tree_edge(
     alloc: Global,
     text: &mut Vec<u8>,
@@ -137,7 +137,7 @@ fn count_references(
     Ok(())
 }
 
-// Counts the references of an object, where its heap is drawn.
+// Counts the references of an object, if its heap is drawn.
 fn count_object(
     links: &mut Links,
     read: &Read,
@@ -201,7 +201,7 @@ fn style_of(runs: bool) -> &'static str
     if runs { "dashed" } else { "solid" }
 }
 
-// Adds the attributes of an edge that stands for so many references.
+// Adds the attributes of an edge that represents n references.
 fn add_link_attributes(
     alloc: Global,
     text: &mut Vec<u8>,
@@ -217,7 +217,7 @@ fn add_link_attributes(
     add_kind(text, kind)
 }
 
-// Adds the edge of so many references from a heap to a heap.
+// Adds the edge of n references from a heap to a heap.
 fn add_link(
     alloc: Global,
     text: &mut Vec<u8>,
@@ -233,7 +233,7 @@ fn add_link(
     end_statement(text)
 }
 
-/// Adds the edges of references from heaps to heaps.
+/// Adds the edges of references between heaps.
 pub(crate) fn add_links(
     alloc: Global,
     text: &mut Vec<u8>,

@@ -8,7 +8,7 @@ ghost use Rattle.heap_graph.specs.Drawn.{word_field, first_of, kind_title};
 use std::alloc::AllocError;
 use text_lines::next_word;
 
-/// The line behind so many words.
+/// The line after `count` words.
 pub(crate) fn words_behind(line: &[u8], count: usize) -> &[u8]
     ensures { words_of result.now ≡ drop count (words_of line.now) }
 {

@@ -30,7 +30,7 @@ number_balances n = balanced.plain_balance (decimal n) (unfold digits in plain_o
 nothing : IsBalanced []
 nothing ws = refl
 
--- a comma or a colon in front
+-- after a comma or a colon
 behind : (c : ℕ) → ((ws : List ℕ) → read_all (Outside ws) (c ∷ []) ≡ Outside ws) → (a : List ℕ) → IsBalanced a → IsBalanced (c ∷ a)
 behind c h a k = joined (c ∷ []) a h k
 

@@ -19,7 +19,7 @@ mutual
     NoMember : Members
     Member : List ℕ → Json → Members → Members
 
--- the text of a value; and of values and of members, each behind a comma
+-- the text of a value; and of values and of members, each after a comma
 abbrev mutual
   pub json : Json → List ℕ
   json (Number n) = decimal n
@@ -55,11 +55,11 @@ first_member name v = quoted name ++ 58 ∷ json v
 abbrev pub more_member : List ℕ → Json → List ℕ
 more_member name v = 44 ∷ (quoted name ++ 58 ∷ json v)
 
--- a value behind a comma
+-- a value after a comma
 abbrev pub further : Json → List ℕ
 further v = 44 ∷ 10 ∷ json v
 
--- members in front of others
+-- members before others
 abbrev pub with_members : Members → Members → Members
 with_members NoMember others = others
 with_members (Member name v ms) others = Member name v (with_members ms others)

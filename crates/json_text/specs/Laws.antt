@@ -1,4 +1,4 @@
--- What holds of the texts of values.
+-- Laws of the texts of values.
 use Rattle.std.specs.Prelude.{◌≡◌, ℕ, List, [], ◌∷◌, ◌++◌}
 use Rattle.std.specs.List.{flat_map}
 use Rattle.quoted_text.specs.Balanced.{IsBalanced}

@@ -1,4 +1,4 @@
-// The text of JSON values, of which specs/ has the definition; here a text is written piece by piece.
+// The text of JSON values, which specs/ defines; here a text is written piece by piece.
 #![tactic(auto)]
 
 mod laws;

@@ -1,4 +1,4 @@
--- A frame that calls another, until that one has returned.
+-- A frame that calls another, until that one returns.
 use Rattle.std.proofs.Common.{◌≡◌, ℕ, ℤ, zero, suc, ◌+◌, ◌-◌, ◌≤◌, Bool, true, false, cond, Option, Some, None, List, [], ◌∷◌, ◌++◌, length, slice_get, nat_lt, ◌⊎◌, inl, inr, refl, ap, sym, subst, ◌∙◌, arith, length-append, append_assoc}
 use Rattle.std.proofs.lemmas.Bool.{cases_eq, cases_lt}
 use Rattle.std.proofs.lemmas.Option.{same_Some}
@@ -156,7 +156,7 @@ module _ (p : ProgramText) (limit : ℕ) (ts : List ℕ) (a : Activation) (bs : 
     pub until_back : (i : ℕ) → i ≤ m → Over i → Called i
     until_back i le s = find (m - i) i (omega arith) s
 
-  -- a frame to which this was handed back
+  -- a frame to which this was returned
   abbrev pub handed : Frame → ℤ → Option Name → Frame
   handed f k r = with_ref (with_int f 0 k) 0 r
 

@@ -32,11 +32,11 @@ last_empty (x ∷ y ∷ xs) e = absurd (some_last (y ∷ xs) y xs refl e)
     some_last (z ∷ q ∷ zs) y xs e h = some_last (q ∷ zs) q zs refl h
 
 module _ (p : ProgramText) (limit : ℕ) (ts : List ℕ) (a : Activation) (bs : List Frame) (d m : ℕ) (w : Takes p limit ts a m) (is_ret : w.line.instr ≡ Ret) (high : length bs ≡ a.height) where
-  -- a frame to which its children handed these back
+  -- a frame to which its children returned these
   abbrev pub rejoined : Frame → ℤ × Option Name → ℤ × Option Name → Frame
   rejoined f l r = with_ref (with_ref (with_int (with_int f 0 l.0) 1 r.0) 0 l.1) 1 r.1
 
-  -- the frame forks, and goes on once both children have joined
+  -- the frame forks, and continues once both children have joined
   pub record ForksAndGoesOn (i : ℕ) (f : Frame) (g h : ℕ) : Type 0 where
     pub k : ℕ
     pub from : i ≤ k
@@ -139,7 +139,7 @@ module _ (p : ProgramText) (limit : ℕ) (ts : List ℕ) (a : Activation) (bs : 
       }
 
       module _ (j : ℕ) (s : Waits j) where
-        -- a child goes on as a child where its parent isn't resumed
+        -- a child stays a child while its parent isn't resumed
         kid_step : (c : ℕ) → Kid c j → slice_get (at p limit ts (suc j)).tasks a.task ≡ Some xw → Kid c (suc j)
         kid_step c kid waiter = let moved = move_at p limit ts j c kid.0 kid.1 in by moved.0 moved.1 moved.2
           where

@@ -152,7 +152,7 @@ module _ (p : ProgramText) (limit : ℕ) (ts : List ℕ) where
       ]
     ]
 
-  -- where a frame comes to a return, that is its last step
+  -- a frame's return is its last step
   module _ (a : Activation) (bs : List Frame) (d m : ℕ) (w : Takes p limit ts a m) where
     pub record IsLast (i : ℕ) (f : Frame) : Type 0 where
       pub top : w.task.top ≡ f

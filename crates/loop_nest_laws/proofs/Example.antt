@@ -1,4 +1,4 @@
--- A loop over two numbers that has returned, so that the law speaks of something.
+-- A loop over two numbers that has returned: the law isn't vacuous.
 use Rattle.std.proofs.Common.{◌≡◌, ℕ, pos, ◌≤◌, Option, Some, None, List, [], ◌∷◌, ◌++◌, length, slice_get, refl, ap, sym, subst, arith, replicate}
 use Rattle.std.proofs.lemmas.Option.{same_Some}
 use Rattle.hh_lang.specs.declared.instr.Operator.TheVariants.{Add}
@@ -37,7 +37,7 @@ task_of : Option Task → Task
 task_of None = root p
 task_of (Some x) = x
 
--- the first task after so many steps
+-- the first task after n steps
 task_at : ℕ → Task
 task_at i = task_of (slice_get (after p 1022 ts i).tasks 0)
 

@@ -19,7 +19,7 @@ use Rattle.loop_nest_laws.proofs.Children.{ForksAndGoesOn, forks_and_goes_on, re
 use Rattle.loop_nest_laws.proofs.Ends.{comes_to_last}
 use Rattle.loop_nest_laws.proofs.Registers.{int_set, int_other, nil_set, code_at, Holds, sets_13, sets_14, moved}
 
--- an instruction that stays in its function goes on to the next place
+-- an instruction that stays in its function continues at the next place
 pub onto : (k n : ℕ) → k + 1 ≡ n → (F : Frame → Frame) → ((f : Frame) → (F f).function ≡ f.function) → ((f : Frame) → (F f).next ≡ f.next + 1) → (f : Frame) → f.next ≡ k → ((F f).function ≡ f.function) × ((F f).next ≡ n)
 onto k n e F fun next f at = (fun f, next f ∙ (ap (λ z. z + 1) at ∙ e))
 
@@ -33,7 +33,7 @@ module _ (p : ProgramText) (limit : ℕ) (ts : List ℕ) (a : Activation) (bs : 
     pub reach : Reaches p limit ts a bs d m w i f
 
   module _ (q : ℕ) (code : List Instr) (is : instrs_of p q ≡ code) where
-    -- one instruction more
+    -- one more instruction
     pub next_at : (i k : ℕ) (instr : Instr) (X Y : Frame → Type 0) (F : Frame → Frame) (n : ℕ) → slice_get code k ≡ Some instr → IsPlain instr → (instr ≡ Ret → ⊥)
         → ((f : Frame) → X f → (s : Setting) (store : List (List Object)) → effect s f store instr ≡ Goes (F f) store)
         → ((f : Frame) → f.next ≡ k → ((F f).function ≡ f.function) × ((F f).next ≡ n))
@@ -52,7 +52,7 @@ module _ (p : ProgramText) (limit : ℕ) (ts : List ℕ) (a : Activation) (bs : 
           reach = then p limit ts a bs d m w i s.f (F s.f) s.reach step;
         }
 
-    -- it comes to its last return
+    -- it reaches its last return
     pub ends_at : (i k : ℕ) (X : Frame → Type 0) → slice_get code k ≡ Some Ret → At i q k X
         → (f : Frame) × X f × (w.task.top ≡ f) × ((j : ℕ) (v : Takes p limit ts a j) → i ≤ j → IsPlain v.line.instr)
     ends_at i k X at s =

@@ -155,7 +155,7 @@ module _ (p : ProgramText) (limit : ℕ) (ts : List ℕ) (loop : Loop) (i now : 
     below = refl;
   }
 
-  -- IN THE WORDS OF THE STATEMENT
+  -- IN THE TERMS OF THE STATEMENT
 
   module _ (L : IsLoop p loop) (range : IsInRange first last) where
     tells : (n : ℕ) → n ≡ numbers_between first last → Told p limit ts loop L.apart a x.top x.depth first n result.0 × (result.1 ≡ None) → CallsEachNumber p limit ts loop i s now

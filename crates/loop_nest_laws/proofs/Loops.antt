@@ -1,4 +1,4 @@
--- A loop calls each number: by induction on how many numbers there are.
+-- A loop calls each number: by induction on the number of numbers.
 use Rattle.std.proofs.Common.{◌≡◌, ℕ, ℤ, pos, zero, suc, ◌+◌, ◌-◌, ◌/◌, ◌<◌, ◌≤◌, true, Option, Some, None, List, [], length, slice_get, refl, ap, sym, subst, ◌∙◌, arith}
 use Rattle.std.specs.Prelude.{◌+ℤ◌, FitsSigned, int_lt}
 use Rattle.std.specs.Int.{int_wrapping_add, int_wrapping_div, w64}

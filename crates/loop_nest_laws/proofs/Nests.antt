@@ -1,4 +1,4 @@
--- What is known of the nest of a frame, put together from the nests that it begins.
+-- The nest of a frame, composed of the nests that it begins.
 use Rattle.std.proofs.Common.{◌≡◌, ℕ, ℤ, pos, zero, suc, ◌+◌, ◌-◌, ◌^◌, ◌<◌, ◌≤◌, Some, List, [], ◌∷◌, ◌++◌, length, slice_get, ◌⊎◌, inl, inr, refl, ap, sym, subst, ◌∙◌, arith, length-append}
 use Rattle.std.specs.Prelude.{◌+ℤ◌}
 use Rattle.std.specs.Int.{int_wrapping_add, int_wrapping_sub, int_wrapping_div, w64}
@@ -46,7 +46,7 @@ module _ (p : ProgramText) (limit : ℕ) (ts : List ℕ) (loop : Loop) (apart : 
       let x : s.x ≡ q.x = same_Some s.x q.x (sym s.is ∙ (ap (slice_get (after p limit ts i).tasks) t ∙ q.is)) in
       s.here ∙ (ap (λ (w : Task). middle (int_in w.top 0) (int_in w.top 1)) x ∙ sym q.here)
 
-  -- the nest of a frame that goes over n numbers from the first one and hands back k; its task lies d deep
+  -- the nest of a frame that loops over n numbers from the first one and returns k; its task has depth d
   pub record Told (a : Activation) (g : Frame) (d : ℕ) (first : ℤ) (n : ℕ) (k : ℤ) : Type 0 where
     pub calls : List ℕ
     pub results : List ℤ

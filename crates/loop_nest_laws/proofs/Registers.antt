@@ -34,7 +34,7 @@ code_at p q code is f k instr fun next at =
     let got = map_got (λ (l : Line). l.instr) (code_of (slice_get p.functions q)) k instr (ap (λ c. slice_get c k) is ∙ at) in
     (got.0, ap (λ z. slice_get (code_of (slice_get p.functions z)) f.next) fun ∙ (ap (λ z. slice_get (code_of (slice_get p.functions q)) z) next ∙ got.1), got.2)
 
--- the frame goes over the numbers from first to last - 1, and has all else from the frame g
+-- the frame loops over the numbers from first to last - 1, and has all else from the frame g
 pub record Holds (g f : Frame) (first last : ℤ) : Type 0 where
   pub i0 : int_in f 0 ≡ first
   pub i1 : int_in f 1 ≡ last

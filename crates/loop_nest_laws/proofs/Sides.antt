@@ -23,7 +23,7 @@ module _ (p : ProgramText) (limit : ℕ) (ts : List ℕ) (a : Activation) (bs : 
   abbrev Has : ℤ → ℤ → Frame → Type 0
   Has lo hi f = Holds g f lo hi
 
-  -- the frame of a half calls that of its numbers, and hands back what it gets
+  -- the frame of a half calls that of its numbers, and returns what it gets
   pub record RunsHalf (i : ℕ) (lo hi : ℤ) : Type 0 where
     pub k0 : ℕ
     pub takes : Takes p limit ts a k0

@@ -52,7 +52,7 @@ module _ (p : ProgramText) (limit : ℕ) (ts : List ℕ) where
   pub at_next : (i u : ℕ) → slice_get ts i ≡ Some u → at (suc i) ≡ step p (at i) u
   at_next i u e = run_next p (start p limit) ts i u e
 
-  -- WHAT BECOMES OF A TASK
+  -- THE FATE OF A TASK
 
   abbrev pub MoveAt : ℕ → ℕ → Task → Task → Type 0
   MoveAt i t x y = (y ≡ x) ⊎ ((u : ℕ) × (slice_get ts i ≡ Some u) × Moves p (at i) u (at (suc i)) t x y)
@@ -92,14 +92,14 @@ module _ (p : ProgramText) (limit : ℕ) (ts : List ℕ) where
   pub turn_runs : (i t : ℕ) (x : Task) → IsTurn p limit ts i t → slice_get (at i).tasks t ≡ Some x → is_running (Some x) ≡ true
   turn_runs i t x turn is = ap is_running (sym is) ∙ can_runs (at i) t turn.can
 
-  -- a task that a step resumes waited
+  -- a task that a step resumes waited before
   pub joins_waits : (i u t : ℕ) (x : Task) (rl rr : ℤ × Option Name) → slice_get (at i).tasks t ≡ Some x → JoinsIn p (at i) u t x rl rr → waits x.status ≡ true
   joins_waits i u t x rl rr is j =
       let K = fork_join_at i in
       ap is_waiting (sym is)
       ∙ K.tree.waits j.left t (ap parent_of j.il ∙ j.pl) (ap (λ (o : Option Task). is_joined o) j.il ∙ hands_tells p (at i) u j.left j.xl rl j.gl)
 
-  -- a running task stays as it is where the step isn't its own
+  -- a running task is unchanged by a step that isn't its own
   pub unturned : (i t : ℕ) (x : Task) → slice_get (at i).tasks t ≡ Some x → is_running (Some x) ≡ true → (IsTurn p limit ts i t → ⊥) → slice_get (at (suc i)).tasks t ≡ Some x
   unturned i t x is run other = let moved = move_at i t x is in by moved.0 moved.1 moved.2
     where
@@ -128,7 +128,7 @@ module _ (p : ProgramText) (limit : ℕ) (ts : List ℕ) where
   end_by i e is None h = run_past p (start p limit) ts i h
   end_by i e is (Some u) h = at_next i u h ∙ step_idle p (at i) u (ended_idle (at i).end e (is_running (slice_get (at i).tasks u)) is)
 
-  -- once the machine has ended no task has a turn
+  -- once the machine has ended no task takes a step
   pub ended_over : (n i t : ℕ) (e : End) → (at i).end ≡ Some e → IsTurn p limit ts (n + i) t → ⊥
   ended_over zero i t e is turn = now_over (subst (λ k. IsTurn p limit ts k t) (let h : zero + i ≡ i = omega arith in h) turn)
     where
@@ -143,8 +143,8 @@ module _ (p : ProgramText) (limit : ℕ) (ts : List ℕ) where
 
   -- A FRAME ON TOP
 
-  -- the frame a is on top of its running task after i steps: it is f, those frames wait below, and the task lies that
-  -- deep
+  -- the frame a is on top of its running task after i steps: it is f, those frames wait below, and the task has this
+  -- depth
   pub record OnTop (a : Activation) (bs : List Frame) (d i : ℕ) (f : Frame) : Type 0 where
     pub x : Task
     pub is : slice_get (at i).tasks a.task ≡ Some x

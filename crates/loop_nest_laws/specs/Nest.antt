@@ -1,4 +1,4 @@
--- The nest of a parallel loop: the frames by which it runs.
+-- The nest of a parallel loop: the frames that run it.
 use Rattle.std.specs.Prelude.{◌≡◌, ℕ, zero, suc, ◌⊎◌, List}
 use Rattle.hh_lang.specs.declared.instr.Instr.{Instr}
 use Rattle.hh_lang.specs.declared.instr.Instr.TheVariants.{Call, Par}
@@ -8,7 +8,7 @@ use Rattle.loop_nest_laws.specs.Frames.{Activation, Takes, left_frame, right_fra
 
 module _ (p : ProgramText) (limit : ℕ) (ts : List ℕ) (loop : Loop) where
   -- what a frame of a nest begins in it by an instruction: the first frames of both halves by a fork, and the loop's
-  -- frame by the call of a half. A frame of the body is none of the nest, nor what it begins
+  -- frame by the call of a half. Frames of the body, and what they begin, don't belong to the nest
   abbrev pub Starts : Activation → ℕ → Instr → Activation → Type 0
   Starts a i (Par g h) b = ((g ≡ loop.left) × (b ≡ left_frame p limit ts i)) ⊎ ((h ≡ loop.right) × (b ≡ right_frame p limit ts i))
   Starts a i (Call g) b = (g ≡ loop.whole) × (b ≡ called_frame a i)
@@ -17,7 +17,7 @@ module _ (p : ProgramText) (limit : ℕ) (ts : List ℕ) (loop : Loop) where
   abbrev pub Begins : Activation → Activation → Type 0
   Begins a b = (i : ℕ) × (w : Takes p limit ts a i) × Starts a i w.line.instr b
 
-  -- the second frame comes from the first one by so many beginnings
+  -- the second frame comes from the first one by n beginnings
   abbrev pub ComesBy : ℕ → Activation → Activation → Type 0
   ComesBy zero a b = b ≡ a
   ComesBy (suc n) a b = (c : Activation) × Begins a c × ComesBy n c b

@@ -1,8 +1,8 @@
-// What holds of parallel loops.
+// Laws of parallel loops.
 
 ghost use Rattle.loop_nest_laws.specs.LoopLaw.{LoopsCallEachNumber};
 
-/// Where a loop has returned, its nest has called the function once for each number, and hands back the sum.
+/// Once a loop has returned, its nest has called the function once for each number, and returns the sum.
 pub fn loops_call_each_number()
     ensures { LoopsCallEachNumber }
 {}

@@ -1,4 +1,4 @@
--- A run with two compare and swaps on one field, so that the law of one winner speaks of something.
+-- A run with two compare and swaps on one field: the law of one winner isn't vacuous.
 use Rattle.std.proofs.Common.{◌≡◌, ℕ, zero, suc, pos, ◌≤◌, Bool, true, false, Option, Some, None, List, [], ◌∷◌, slice_get, refl, ap, sym, ◌∙◌, arith}
 use Rattle.std.proofs.lemmas.Bool.{false≢true}
 use Rattle.hh_lang.specs.declared.instr.Instr.{Instr}
@@ -15,7 +15,8 @@ use Rattle.hh_model.specs.Step.{fetched, root, strand}
 use Rattle.hh_model.specs.Store.{IsNext}
 use Rattle.model_laws.specs.Winner.{Field, IsCas, IsPutr, IsTurn, IsUntried, OnlyFromNil, SomeCasWins, Yields, after}
 
--- the root makes an object of one reference field, and forks; each child makes an object, and would set the field to it
+-- the root makes an object of one reference field, and forks; each child makes an object, and tries to set the field
+-- to it
 p : ProgramText
 p = record { functions = fun (Set 0 (pos 1) ∷ Newm 0 0 1 ∷ Par 1 1 ∷ Ret ∷ []) ∷ fun (Pack 1 0 0 ∷ Cas 2 0 1 2 1 ∷ Ret ∷ []) ∷ []; main = 0 }
 
@@ -47,7 +48,7 @@ step_is : (i t : ℕ) (x : Task) (line : Line) → IsTurn p 1022 ts i t → IsNe
 unfolding at_step
 step_is i t x line turn next = ap (of_turn p (after p 1022 ts i)) turn.task ∙ (ap (of_task p) next.task ∙ ap (with_line x) next.fetched)
 
--- WHAT IT IS: whether a putr or a cas, what a cas expects, and what it brings
+-- WHAT IT IS: whether a putr or a cas, what a cas expects, and what it stores
 
 abbrev is_putr : Instr → Bool
 is_putr (Putr o k v) = true

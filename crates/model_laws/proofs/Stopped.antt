@@ -1,4 +1,4 @@
--- Where reads are stopped.
+-- Which reads are stopped.
 use Rattle.std.proofs.Common.{◌≡◌, ℕ, Bool, true, false, cond, Option, Some, None, List, length, slice_get, slice_set, ◌⊎◌, inl, inr, refl, ap, ap₂, sym, ◌∙◌, is_some}
 use Rattle.std.specs.Option.{option_flatten}
 use Rattle.std.proofs.lemmas.Bool.{both_ways}

@@ -1,4 +1,4 @@
--- Of the tasks that try to set a nil field by compare and swap, the first one does.
+-- Of the tasks that try to set a nil field by compare and swap, the first succeeds.
 use Rattle.std.proofs.Common.{◌≡◌, ℕ, ℤ, zero, suc, pos, negsuc, ◌+◌, ◌-◌, ◌<◌, ◌≤◌, Bool, true, false, cond, Option, Some, None, List, [], ◌∷◌, length, take, slice_get, slice_set, nat_lt, ◌⊎◌, inl, inr, refl, ap, sym, subst, ◌∙◌, arith, add-one}
 use Rattle.std.specs.Option.{option_flatten}
 use Rattle.std.proofs.lemmas.Bool.{cases_eq, cases_lt, both_ways, lt-ltb, ltb-true}
@@ -237,7 +237,7 @@ module _ (p : ProgramText) (m : State) (t : ℕ) (x : Task) (line : Line) (d o k
 
 -- ALL STEPS
 
--- the object of a name that an object has become
+-- the object now at a name
 stays_to : (store : List (List Object)) (n : Name) (old new o : Object) → object_at store n ≡ Some new → object_at store n ≡ Some o → StaysAs old new → StaysAs old o
 stays_to store n old new o is is' stays = subst (StaysAs old) (same_Some new o (sym is ∙ is')) stays
 
@@ -265,7 +265,7 @@ module _ (p : ProgramText) (limit : ℕ) (ts : List ℕ) (field : Field) (only :
   fork_join : (i : ℕ) → IsForkJoinState (At i)
   fork_join i = run_is_fork_join_state p (start p limit) (take i ts) (start_is_fork_join_state p limit)
 
-  -- the next moment comes by a step, or by none
+  -- the next moment comes by one step, or by none
   module _ (i : ℕ) (C : State → Type 0) (idle : C (At i)) (taken : (t : ℕ) → slice_get ts i ≡ Some t → can_step (At i) t ≡ true → C (step p (At i) t)) where
     moment_by : (t : ℕ) → slice_get ts i ≡ Some t → (b : Bool) → can_step (At i) t ≡ b → C (step p (At i) t)
     moment_by t e true can = taken t e can
@@ -309,7 +309,7 @@ module _ (p : ProgramText) (limit : ℕ) (ts : List ℕ) (field : Field) (only :
     writes = h.writes;
   }
 
-  -- while no cas finds what it expects, the field stays
+  -- while no cas finds what it expects, the field is unchanged
   field_stays : (i : ℕ) (r : Option Name) → ((c : IsCas p limit ts field i) → same_name r (expects p limit ts field i c) ≡ true → ⊥) → FieldHolds (At i) field r → FieldHolds (At (suc i)) field r
   field_stays i r never h =
       moment i (λ m. FieldHolds m field r) h (λ t e can.
@@ -346,7 +346,7 @@ module _ (p : ProgramText) (limit : ℕ) (ts : List ℕ) (field : Field) (only :
       moment i NilIn (nil_until i (λ j c. let h = un j c in omega arith)) (λ t e can.
       nil_step i t e can (λ c. let h : suc i ≤ i = un i c in omega arith) (nil_until i (λ j c. let h = un j c in omega arith)) (object_at (At i).store field.object) refl)
 
-  -- from one moment to a later one a field stays as long as no cas finds what it expects
+  -- from one moment to a later one a field is unchanged while no cas finds what it expects
   field_from : (i d : ℕ) (r : Option Name) → ((j : ℕ) → i ≤ j → j < d + i → (c : IsCas p limit ts field j) → same_name r (expects p limit ts field j c) ≡ true → ⊥)
       → FieldHolds (At i) field r → FieldHolds (At (d + i)) field r
   field_from i zero r never h = subst (λ k. FieldHolds (At k) field r) (let e : i ≡ zero + i = omega arith in e) h
@@ -390,7 +390,7 @@ module _ (p : ProgramText) (limit : ℕ) (ts : List ℕ) (field : Field) (only :
   next_is i c = ap At (add-one i) ∙ run_next p (start p limit) ts i c.t c.turn.task
 
   module _ (i : ℕ) (c : IsCas p limit ts field i) (un : IsUntried p limit ts field i) where
-    -- what a field holds where a cas on it is taken
+    -- what a field holds when a cas on it is taken
     found : (r : Option Name) × (slice_get c.writes.object.refs field.index ≡ Some r)
     found = got_some c.writes.object.refs field.index c.writes.within
 

@@ -5,16 +5,16 @@ use Rattle.hh_model.specs.declared.data.State.{State}
 use Rattle.hh_model.specs.Step.{can_step, run, step}
 
 module _ (p : ProgramText) (limit : ℕ) (ts : List ℕ) where
-  -- the machine after the first so many steps of the list
+  -- the machine after the first n steps of the list
   abbrev pub after : ℕ → State
   after i = run p limit (take i ts)
 
-  -- the task whose step comes after the first i steps, where it can take one
+  -- the task that takes the step after the first i, if it can take one
   pub record IsTurn (i t : ℕ) : Type 0 where
     pub task : slice_get ts i ≡ Some t
     pub can : can_step (after i) t ≡ true
 
-  -- the step after the first i ones is that of the task whose number stands there; behind the list there is none
+  -- the step after the first i is that of the task whose number stands there; after the list there is none
   pub record GoesOn (i : ℕ) : Type 0 where
     pub next : (t : ℕ) → slice_get ts i ≡ Some t → after (i + 1) ≡ step p (after i) t
     pub past : slice_get ts i ≡ None → after (i + 1) ≡ after i

@@ -1,4 +1,4 @@
--- One winner of compare and swap: of the tasks that try to set a nil field, the first one does.
+-- One winner of compare and swap: of the tasks that try to set a nil field, the first succeeds.
 use Rattle.std.specs.Prelude.{◌≡◌, ℕ, ℤ, pos, ◌+◌, ◌<◌, ◌≤◌, true, Option, Some, None, List, length, slice_get}
 use Rattle.hh_lang.specs.declared.instr.Instr.TheVariants.{Putr, Cas}
 use Rattle.hh_lang.specs.declared.program.Line.{Line}
@@ -62,18 +62,18 @@ module _ (p : ProgramText) (limit : ℕ) (ts : List ℕ) where
     pub writes : MayWrite (after p limit ts i) task.top object index field
 
   module _ (field : Field) (i : ℕ) (c : IsCas field i) where
-    -- what a cas expects, and what it brings: its registers before the step
+    -- what a cas expects, and what it stores: its registers before the step
     abbrev pub expects : Option Name
     expects = ref_in c.task.top c.expected
 
     abbrev pub brings : Option Name
     brings = ref_in c.task.top c.value
 
-    -- it yields this number: its task goes on with the number in the target register
+    -- it yields this number: its task continues with the number in the target register
     abbrev pub Yields : ℤ → Type 0
     Yields y = slice_get (after p limit ts (i + 1)).tasks c.t ≡ Some (record c.task { top = onward (with_int c.task.top c.target y) })
 
-  -- no putr is taken on the field, and each cas on it expects nil and brings an object
+  -- no putr is taken on the field, and each cas on it expects nil and stores an object
   pub record OnlyFromNil (field : Field) : Type 0 where
     pub no_putr : (i : ℕ) → IsPutr field i → ⊥
     pub from_nil : (i : ℕ) (c : IsCas field i) → expects field i c ≡ None
@@ -84,22 +84,22 @@ module _ (p : ProgramText) (limit : ℕ) (ts : List ℕ) where
   IsUntried field i = (j : ℕ) → IsCas field j → i ≤ j
 
   pub record HasOneWinner (field : Field) : Type 0 where
-    -- the field of an object that is or was mutable (so a newm made it) is nil as long as no cas was taken on it
+    -- the field of an object that is or was mutable (so a newm made it) is nil until the first cas on it
     pub nil_at_first : (i h : ℕ) (o : Object) (r : Option Name) → IsUntried field i → object_at (after p limit ts h).store field.object ≡ Some o → o.mutable ≡ true → FieldHolds (after p limit ts i) field r → r ≡ None
     -- the first cas yields 1
     pub first_wins : (i : ℕ) (c : IsCas field i) → IsUntried field i → Yields field i c (pos 1)
     -- each other one yields 0
     pub others_lose : (i j : ℕ) (c : IsCas field i) (d : IsCas field j) → IsUntried field i → i < j → Yields field j d (pos 0)
-    -- from the first one on the field holds what that one brought
+    -- from the first one on the field holds what that one stored
     pub keeps : (i j : ℕ) (c : IsCas field i) → IsUntried field i → i < j → FieldHolds (after p limit ts j) field (brings field i c)
 
--- ONE WINNER: for every list of steps and every reference field that no putr writes, and which each cas would set from
--- nil to an object
+-- ONE WINNER: for every list of steps and every reference field that no putr writes, and that each cas tries to set
+-- from nil to an object
 abbrev pub OneWinner : Type 0
 OneWinner = (p : ProgramText) (limit : ℕ) (ts : List ℕ) (field : Field) → OnlyFromNil p limit ts field → HasOneWinner p limit ts field
 
--- SOME CAS WINS: so the law speaks of something. There is a run in which no putr is taken on a field, and each cas on
--- it would set it from nil to an object, with two of them, by two tasks: the first yields 1 and the second 0
+-- SOME CAS WINS: the law isn't vacuous. There is a run in which no putr is taken on a field, and each cas on it tries
+-- to set it from nil to an object, with two of them, by two tasks: the first yields 1 and the second 0
 abbrev pub SomeCasWins : Type 0
 SomeCasWins =
     (p : ProgramText) × (limit : ℕ) × (ts : List ℕ) × (field : Field) × OnlyFromNil p limit ts field × (i : ℕ) × (j : ℕ) × (c : IsCas p limit ts field i) × (d : IsCas p limit ts field j)

@@ -5,24 +5,24 @@ ghost use Rattle.hh_model.specs.PathLaw.{PathIsPrecedence};
 ghost use Rattle.path_laws.specs.ReadLaws.{ReadsAreDecided};
 ghost use Rattle.model_laws.specs.Winner.{OneWinner, SomeCasWins};
 
-/// Who owns an object stands on a running task's path exactly where the object's strand precedes the task's.
+/// The owner of an object is on a running task's path if and only if the object's strand precedes the task's.
 pub fn path_is_precedence()
     ensures { PathIsPrecedence }
 {}
 
-/// Of the compare and swaps that would set a field from nil, the first yields 1 and all others 0; the field keeps its
+/// Of the compare and swaps that try to set a field from nil, the first yields 1 and all others 0; the field keeps its
 /// value.
 pub fn one_winner()
     ensures { OneWinner }
 {}
 
-/// There are such: a run in which two tasks try to set one field, and the first one does.
+/// The law of one winner isn't vacuous: in some run two tasks try to set one field, and the first succeeds.
 pub fn some_cas_wins()
     ensures { SomeCasWins }
 {}
 
-/// A read goes on exactly where the strand of what it reads precedes the reader's, and is stopped exactly where it
-/// doesn't; a stop changes nothing but the end.
+/// A read succeeds if and only if the strand of its target precedes the reader's, and is stopped otherwise; a stop
+/// changes nothing but the end.
 pub fn reads_are_decided()
     ensures { ReadsAreDecided }
 {}

@@ -19,7 +19,7 @@ step o fs gs k e at d h =
     ∙ append_assoc fs (loop_functions o (loop_function o k) e) (loops_from o (k + 1) (drop (k + 1) o.loops))
     ∙ ap (λ xs. fs ++ loops_from o k xs) (sym d)
 
--- one loop more
+-- one more loop
 pub loop_more : (o : Outline) (fs gs : List Fun) (k : ℕ) → k < length o.loops → MatchOption (slice_get o.loops k) (gs ≡ fs) (λ e. gs ≡ fs ++ loop_functions o (loop_function o k) e) → gs ++ loops_from o (k + 1) (drop (k + 1) o.loops) ≡ fs ++ loops_from o k (drop k o.loops)
 loop_more o fs gs k lt h =
     let d : NotedName = record { name = []; number = 0 } in

@@ -1,4 +1,4 @@
--- A text without a fault has the functions of its loops behind those that its lines begin.
+-- A text without a fault has the functions of its loops after those that its lines begin.
 use Rattle.std.proofs.Common.{◌≡◌, ◌<◌, ◌+◌, ◌*◌, ◌++◌, ℕ, zero, suc, Bool, true, false, cond, List, [], ◌∷◌, length, arith, refl, ap, sym, ◌∙◌, get_or, length-append}
 use Rattle.std.specs.Prelude.{Option, Some, None, map, slice_get, codes}
 use Rattle.std.specs.Str.{bytes_eq, is_utf8}
@@ -30,7 +30,7 @@ use Rattle.program_reader.specs.LoopLaw.{LoopsAreRead}
 
 -- AS MANY FUNCTIONS AS NAMES
 
--- where there is no first cause the name isn't a second one
+-- without a first cause the name isn't a second one
 no_second : (word operand no_end two no_name no_label no_main many : Bool) → first_cause word operand no_end two no_name no_label no_main many ≡ None → two ≡ false
 no_second true operand no_end two no_name no_label no_main many e = absurd cc
 no_second false true no_end two no_name no_label no_main many e = absurd cc
@@ -62,7 +62,7 @@ noted_if_new : (es : List NotedName) (name : Option (List ℕ)) (number : ℕ) �
 noted_if_new es None number new = omega arith
 noted_if_new es (Some name) number new = noted_new es name number new
 
--- a line notes a name exactly where it begins a function
+-- a line notes a name if and only if it begins a function
 line_notes : (above : List (List ℕ)) (l : List ℕ) (ls : List (List ℕ)) (h : Head) (ws : List (List ℕ)) (number : ℕ) → is_second (spot_of above l ls) h ws ≡ false
     → length (noted_if (outline_above above).functions (begun_name h ws) number) ≡ length (outline_above above).functions + one_if (begun_name h ws)
 line_notes above l ls Begin ws number new = noted_if_new (outline_above above).functions (only_name ws) number new
@@ -102,7 +102,7 @@ map_on_line number [] = refl
 map_on_line number (i ∷ is) = ap (λ c. i ∷ c) (map_on_line number is)
 
 module _ (o : Outline) where
-  -- the three functions of the loop at a place
+  -- the three functions of a loop, by its index
   loop_at : (j : ℕ) (es : List NotedName) (k : ℕ) (e : NotedName) → slice_get es k ≡ Some e → (s : ℕ) (fun : Fun) → slice_get (loop_functions o (loop_function o (j + k)) e) s ≡ Some fun → s < 3 → slice_get (loops_from o j es) (3 * k + s) ≡ Some fun
   loop_at j [] k e is s fun at lt = absurd cc
   loop_at j (x ∷ es) zero e is s fun at lt =
@@ -115,7 +115,7 @@ module _ (o : Outline) where
       ap (slice_get (loops_from o j (x ∷ es))) (let h : 3 * suc k + s ≡ suc (suc (suc (3 * k + s))) = omega arith in h)
       ∙ loop_at (j + 1) es k e is s fun (ap (λ n. slice_get (loop_functions o (loop_function o n) e) s) (let h : j + 1 + k ≡ j + suc k = omega arith in h) ∙ at) lt
 
-  -- a function of the program, by its place behind the text's functions
+  -- a function of the program, by its index after the text's functions
   instrs_at : (fs : List Fun) (main : ℕ) → length fs ≡ length o.functions → (k : ℕ) (e : NotedName) → slice_get o.loops k ≡ Some e → (s : ℕ) (name : List ℕ) (code : List Instr) → slice_get (loop_functions o (loop_function o k) e) s ≡ Some (function_of name e.number code) → s < 3
       → (q : ℕ) → q ≡ loop_function o k + s → instrs_of (record { functions = fs ++ loops_from o 0 o.loops; main = main }) q ≡ code
   instrs_at fs main long k e is s name code at lt q place =

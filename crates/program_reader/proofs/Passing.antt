@@ -1,4 +1,4 @@
--- Lines that have no fault, and the lines that follow them: what crates above say of texts by their lines.
+-- Lines without a fault, and the lines that follow them: what the crates above say of texts by their lines.
 use Rattle.std.proofs.Common.{◌≡◌, ◌≤◌, ◌<◌, ◌+◌, ◌++◌, ℕ, Bool, true, false, cond, List, [], ◌∷◌, length, arith, refl, ap, sym, ◌∙◌, ◌&&◌, ◌||◌, true≢false}
 use Rattle.std.specs.Prelude.{Option, Some, None, not, nat_le, codes}
 use Rattle.std.specs.Str.{is_utf8}
@@ -72,7 +72,7 @@ module _ (o : Outline) (s : Spot) (l : List ℕ) (utf8 : is_utf8 l ≡ true) whe
       by_sense Begin (operands_of_line l) Fits eh refl (ap named en)
       (sym (gives_none o s Begin (operands_of_line l) Fits (ap (λ b. is_misplaced b Begin) outside) refl (shut_begin s.inside s.last outside last) (ap (λ n. is_named_in s.named n) en ∙ new) refl refl (and_left s.last (not (is_noted o.functions (codes "main"))) last) few))
 
-  -- an empty line behind all functions
+  -- an empty line after all functions
   pub blank_free : head_of_line l ≡ Blank → operands_of_line l ≡ [] → s.inside ≡ false → is_noted o.functions (codes "main") ≡ true → fault_on o s l ≡ None
   blank_free eh ew outside main =
       by_sense Blank [] Fits eh ew refl
@@ -86,7 +86,7 @@ module _ (o : Outline) (s : Spot) (l : List ℕ) (utf8 : is_utf8 l ≡ true) whe
       no_lack true b e = rw e refl
       no_lack false b e = refl
 
--- INSTRUCTIONS ONE BEHIND THE OTHER
+-- CONSECUTIVE INSTRUCTIONS
 
 abbrev pub is_order : Head → Bool
 is_order (Order v) = true
@@ -96,7 +96,7 @@ abbrev pub is_instr : Sense → Bool
 is_instr (Does i) = true
 is_instr _ = false
 
--- a line is read as an instruction, where these are the labels of its function
+-- a line is read as an instruction, if these are the labels of its function
 abbrev pub is_read : Outline → List NotedName → List ℕ → Bool
 is_read o labels l = is_utf8 l && (is_order (head_of_line l) && is_instr (sense_of o labels (head_of_line l) (operands_of_line l)))
 
@@ -161,7 +161,7 @@ pub not_last : (ls rest : Lines) → is_last rest ≡ false → is_last (ls ++ r
 not_last [] rest e = e
 not_last (l ∷ ls) rest e = refl
 
--- so many instructions, behind which the function is still open
+-- n instructions, after which the function is still open
 pub record Passed (o : Outline) (labels passed : List NotedName) (above ls rest : Lines) (most : ℕ) : Type 0 where
   pub within : Within labels passed (turned above ls) rest
   pub orders : orders_above (turned above ls) ≤ most
@@ -209,7 +209,7 @@ label_passes o labels passed name above l rest utf8 eh en w new last = record {
 abbrev pub begins_none : List ℕ → Bool
 begins_none l = not (is_begin (head_of_line l))
 
--- what they leave as it is
+-- what they leave unchanged
 pub record Kept (above ls : Lines) : Type 0 where
   pub begun : begun_above (turned above ls) ≡ begun_above above
   pub functions : (outline_above (turned above ls)).functions ≡ (outline_above above).functions
@@ -252,7 +252,7 @@ none_begin (l ∷ ls) above all =
       orders = omega (arith, more.orders, most);
     }
 
--- A NAME THAT IS NOTED HAS A PLACE
+-- A NAME THAT IS NOTED HAS AN INDEX
 
 pub some_place : (r : Option ℕ) (n : ℕ) → comes_before r n ≡ true → (k : ℕ) × (r ≡ Some k)
 some_place None n e = absurd (true≢false (sym e))
@@ -262,6 +262,6 @@ pub has_place : (es : List NotedName) (name : List ℕ) → is_noted es name ≡
 has_place es name h =
     some_place (place_of es name) (length es) (noted_before es name (length es) ∙ ap (λ xs. is_noted xs name) (take_all (length es) es (omega arith)) ∙ h)
 
--- a name that isn't noted yet is noted behind the others
+-- a name that isn't noted yet is noted after the others
 pub new_entry : (es : List NotedName) (name : List ℕ) (number : ℕ) → is_noted es name ≡ false → noted es name number ≡ es ++ noted_name_of name number ∷ []
 new_entry es name number e = new_name es name number e

@@ -1,4 +1,4 @@
--- Instructions name functions and places that there are.
+-- Instructions name existing functions and places.
 use Rattle.std.proofs.Common.{◌≡◌, ◌<◌, ◌≤◌, ◌+◌, ◌*◌, ℕ, Bool, true, false, cond, List, [], ◌∷◌, ◌++◌, length, arith, refl, subst}
 use Rattle.std.specs.Prelude.{Option, Some, None, ◌&&◌, nat_le}
 use Rattle.std.specs.Str.{bytes_eq}
@@ -26,7 +26,7 @@ use Rattle.program_reader.specs.Around.{head_of_line, operands_of_line, noted_if
 abbrev pub all_functions : Outline → ℕ
 all_functions o = length o.functions + 3 * length o.loops
 
--- an instruction, and what it names is there
+-- an instruction, and what it names exists
 abbrev pub IsInRange : ℕ → ℕ → Sense → Type 0
 IsInRange f p (Does i) = NamesExist f p i
 IsInRange f p Fits = ⊥
@@ -181,7 +181,7 @@ module _ (o : Outline) (labels : List NotedName) (p : ℕ) (b : AreAtMost p labe
   no_operand Ret = tt
   no_operand _ = tt
 
-  -- what an instruction names is there, and its operands never just fit
+  -- what an instruction names exists, and its operands yield an instruction or a fault
   pub order_in : (v : Verb) (ws : List (List ℕ)) → IsInRange (all_functions o) (p + 1) (order_of o labels v ws)
   order_in v [] = no_operand v
   order_in v (a ∷ []) = one_operand v a

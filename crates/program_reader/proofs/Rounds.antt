@@ -110,7 +110,7 @@ module _ (o : Outline) (r : Reader) (above : List (List ℕ)) (l : List ℕ) (ls
   closed_by true c e = absurd (cc)
   closed_by false c e = e
 
-  -- no function stays open behind the last line, and main is there
+  -- no function stays open after the last line, and main is there
   pub at_last : last ≡ true → (line_taken o r n l ls).inside ≡ false
   at_last e = step.inside ∙ ap (is_open_after h) (sym f.inside) ∙ closed_by (r.inside && is_begin h) (is_open_after h r.inside) (ap (λ b. (r.inside && is_begin h) || (b && is_open_after h r.inside)) (sym e) ∙ fine.no_end)
 
@@ -121,7 +121,7 @@ module _ (o : Outline) (r : Reader) (above : List (List ℕ)) (l : List ℕ) (ls
   pub has_main : last ≡ true → is_noted o.functions (codes "main") ≡ true
   has_main e = main_by (is_noted o.functions (codes "main")) (ap (λ b. b && not (is_noted o.functions (codes "main"))) (sym e) ∙ fine.no_main)
 
--- the reader has read some lines of the text, and found no fault; these follow
+-- the reader has read some lines of the text without a fault; these follow
 pub record IsReading (o : Outline) (text : List ℕ) (r : Reader) (number : ℕ) (rest : List (List ℕ)) : Type 0 where
   pub above : List (List ℕ)
   pub counted : number ≡ length above + 1
@@ -140,7 +140,7 @@ at_first text o e = record {
   functions = refl;
 }
 
--- one line more
+-- one more line
 pub next_line : (o : Outline) (text : List ℕ) (r s : Reader) (n : ℕ) (l : List ℕ) (ls : List (List ℕ)) (last : Bool) → IsReading o text r n (l ∷ ls) → n ≤ 16777217 → last ≡ is_last ls → fault_on o (spot_in o r last) l ≡ None → s ≡ line_taken o r n l ls → IsReading o text s (n + 1) ls
 next_line o text r s n l ls last h le e none same =
     let few : length h.above < 2 ^ 31 = omega (arith, h.counted, le) in

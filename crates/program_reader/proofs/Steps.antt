@@ -1,4 +1,4 @@
--- One line without a fault more.
+-- One more line without a fault.
 use Rattle.std.proofs.Common.{◌≡◌, ◌+◌, ◌++◌, ℕ, Bool, true, false, cond, List, [], ◌∷◌, length, take, arith, refl, ap, sym, ◌∙◌, append_assoc}
 use Rattle.std.specs.Prelude.{Option, Some, None, ◌&&◌, ◌||◌}
 use Rattle.std.proofs.lemmas.Bool.{both_ways}
@@ -49,7 +49,7 @@ pub unknown_never : (b : Bool) → is_misplaced b Unknown ≡ false → ⊥
 unknown_never true e = cc
 unknown_never false e = cc
 
--- a name that is new is noted behind the others
+-- a new name is noted after the others
 pub new_name : (es : List NotedName) (name : List ℕ) (n : ℕ) → is_noted es name ≡ false → noted es name n ≡ es ++ record { name = name; number = n } ∷ []
 new_name es name n e = ap (λ b. cond b es (es ++ record { name = name; number = n } ∷ [])) e
 
@@ -60,7 +60,7 @@ Told o labels Begin ws x = x ≡ named (only_name ws)
 Told o labels Label ws x = x ≡ named (only_name ws)
 Told o labels _ ws x = x ≡ alone ws
 
--- ---- what the lines tell, with one more
+-- ---- what the lines say, with one more
 
 pub record After (r : Reader) (above : List (List ℕ)) (h : Head) (ws : List (List ℕ)) (name : Option (List ℕ)) (ls : List (List ℕ)) : Type 0 where
   pub inside : r.inside ≡ is_open_after h (is_inside above)

@@ -56,7 +56,7 @@ added_last k number m h =
 pub kept_all : (name : List ℕ) (number : ℕ) (es : Pairs) → is_some (lookup (is_key name) es) ≡ true → shown es ≡ noted (shown es) name number
 kept_all name number es h = ap (λ t. cond t (shown es) (shown es ++ noted_name_of name number ∷ [])) (sym h ∙ found_any name es)
 
--- ONE OF THE FIRST SO MANY
+-- ONE OF THE FIRST n
 
 less_more : (a b : ℕ) → nat_lt (1 + a) (suc b) ≡ nat_lt a b
 less_more a b = grind arith
@@ -78,7 +78,7 @@ any_first p (x ∷ xs) zero = nothing (position_or_len p (x ∷ xs)) (nat_lt (po
     nothing n b = let e : nat_lt n 0 ≡ false = grind arith in rw e refl
 any_first p (x ∷ xs) (suc n) = any_more p x xs n (p x) refl (any_first p xs n)
 
--- whether a place is below a number
+-- whether an index is below a number
 abbrev pub comes_before : Option ℕ → ℕ → Bool
 comes_before None n = false
 comes_before (Some i) n = nat_lt i n

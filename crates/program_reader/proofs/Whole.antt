@@ -100,7 +100,7 @@ renamed : (r : Option Fun) (a b : List ℕ) → a ≡ b → IsSomeAnd r (λ f. f
 renamed None a b e h = h
 renamed (Some f) a b e h = h ∙ e
 
--- a name that is noted has a place
+-- a name that is noted has an index
 main_place : (o : Outline) → is_noted o.functions (codes "main") ≡ true → (k : ℕ) × (place_of o.functions (codes "main") ≡ Some k)
 main_place o h = some_place (place_of o.functions (codes "main")) (length o.functions) (noted_before o.functions (codes "main") (length o.functions) ∙ ap (λ es. is_noted es (codes "main")) (take_all (length o.functions) o.functions (omega arith)) ∙ h)
 

@@ -1,4 +1,4 @@
--- What the lines around a line tell of it. The lines above a line are given nearest first.
+-- What the lines around a line say about it. The lines above a line are given nearest first.
 use Rattle.std.specs.Prelude.{ℕ, ◌+◌, Bool, true, false, Option, Some, None, List, [], ◌∷◌, length, if◌then◌else◌}
 use Rattle.program_reader.specs.declared.head.Verb.{Verb}
 use Rattle.program_reader.specs.declared.head.Verb.TheVariants.{Pfor}
@@ -24,12 +24,12 @@ is_open_after Begin b = true
 is_open_after End b = false
 is_open_after _ b = b
 
--- the last of `fn` and `end` above is `fn`
+-- the last `fn` or `end` above is `fn`
 abbrev pub is_inside : List (List ℕ) → Bool
 is_inside [] = false
 is_inside (l ∷ above) = is_open_after (head_of_line l) (is_inside above)
 
--- ---- the names of functions and of loops, each with the line on which it first stands
+-- ---- the names of functions and of loops, each with the line on which it first occurs
 
 abbrev pub noted_if : List NotedName → Option (List ℕ) → ℕ → List NotedName
 noted_if es (Some name) number = noted es name number
@@ -49,7 +49,7 @@ abbrev pub looped_name : Head → List (List ℕ) → Option (List ℕ)
 looped_name (Order v) ws = looped_by v ws
 looped_name _ ws = None
 
--- with what the line of this number names
+-- adds what the line of this number names
 abbrev pub outline_line : ℕ → Outline → List ℕ → Outline
 outline_line number o line = record {
   functions = noted_if o.functions (begun_name (head_of_line line) (operands_of_line line)) number;
@@ -78,7 +78,7 @@ outline_of text = outline_onto 1 no_names (lines_of text)
 abbrev pub no_labels : Labels
 no_labels = record { entries = []; next = 0 }
 
--- a label is noted with the number of the instructions before it: it stands for the next one
+-- a label is noted with the number of the instructions before it, which is the index of the next one
 abbrev pub label_line : Head → List (List ℕ) → Labels → Labels
 label_line Label ws s = record s { entries = noted_if s.entries (only_name ws) s.next }
 label_line (Order v) ws s = record s { next = s.next + 1 }

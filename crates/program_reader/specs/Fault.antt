@@ -14,7 +14,7 @@ use Rattle.program_reader.specs.Names.{NotedName, is_noted}
 use Rattle.program_reader.specs.Sense.{sense_of, only_name}
 use Rattle.program_reader.specs.Around.{head_of_line, operands_of_line, is_inside, is_open_after, outline_above, outline_of, labels_above, labels_onto, begun_above, orders_above}
 
--- what the lines around a line tell of it
+-- what the lines around a line say about it
 pub record Spot : Type 0 where
   -- a function is open
   pub inside : Bool
@@ -44,7 +44,7 @@ spot_of above line below = record {
 
 -- ---- one test for each cause
 
--- outside a function a line is empty or begins with `fn`; inside, its first word is one that there is
+-- outside a function a line is empty or begins with `fn`; inside, its first word is a known one
 abbrev pub is_misplaced : Bool → Head → Bool
 is_misplaced true Unknown = true
 is_misplaced true _ = false
@@ -60,7 +60,7 @@ abbrev pub is_begin : Head → Bool
 is_begin Begin = true
 is_begin _ = false
 
--- `fn` inside a function, or the last line where a function stays open
+-- `fn` inside a function, or the last line while a function is open
 abbrev pub leaves_open : Spot → Head → Bool
 leaves_open s h = (s.inside && is_begin h) || (s.last && is_open_after h s.inside)
 
@@ -68,7 +68,7 @@ abbrev pub is_named_in : List NotedName → Option (List ℕ) → Bool
 is_named_in es (Some name) = is_noted es name
 is_named_in es None = false
 
--- a second `fn` with one name, or a second `lab` in one function
+-- a second `fn` with the same name, or a second `lab` with the same name in its function
 abbrev pub is_second : Spot → Head → List (List ℕ) → Bool
 is_second s Begin ws = is_named_in s.named (only_name ws)
 is_second s Label ws = is_named_in s.labeled (only_name ws)
@@ -86,7 +86,7 @@ names_no_label _ = false
 abbrev pub lacks_main : Outline → Spot → Bool
 lacks_main o s = s.last && not (is_noted o.functions (codes "main"))
 
--- a text has at most so many functions, and so many instructions
+-- the most functions of a text, and the most instructions
 abbrev pub function_limit : ℕ
 function_limit = 1024
 

@@ -1,4 +1,4 @@
--- What the first fault of a text is, of all its lines.
+-- The first fault of a text, by all its lines.
 use Rattle.std.specs.Prelude.{◌≡◌, ℕ, ◌+◌, ◌<◌, Option, Some, None, List, [], ◌∷◌, ◌++◌, length}
 use Rattle.program_reader.specs.declared.cause.Cause.{Cause}
 use Rattle.program_reader.specs.declared.cause.Refused.{Refused}
@@ -11,11 +11,11 @@ abbrev pub turned : List (List ℕ) → List (List ℕ) → List (List ℕ)
 turned others [] = others
 turned others (l ∷ ls) = turned (l ∷ others) ls
 
--- the first cause on a line that stands between others
+-- the first cause on a line, given the lines around it
 abbrev pub cause_at : List ℕ → List (List ℕ) → List ℕ → List (List ℕ) → Option Cause
 cause_at text before line below = fault_on (outline_of text) (spot_of (turned [] before) line below) line
 
--- a text has no fault exactly where no line has one
+-- a text has no fault if and only if no line has one
 abbrev pub HasNoFault : List ℕ → Type 0
 HasNoFault text = (before : List (List ℕ)) (line : List ℕ) (below : List (List ℕ)) → lines_of text ≡ before ++ line ∷ below → cause_at text before line below ≡ None
 

@@ -9,13 +9,13 @@ use Rattle.program_reader.specs.Around.{outline_of}
 use Rattle.program_reader.specs.Fault.{first_fault}
 use Rattle.program_reader.specs.Program.{program_of}
 
--- the loop over the function of this name: `pfor` with the name calls a function of the program by which it runs
+-- the loop over the function of this name: `pfor` with the name calls a function of the program that implements it
 pub record IsLoopOver (text name : List ℕ) (loop : Loop) : Type 0 where
   pub instr : loop_over (outline_of text) name ≡ Does (Call loop.whole)
   pub body : place_of (outline_of text).functions name ≡ Some loop.body
   pub runs : IsLoop (program_of text) loop
 
--- LOOPS ARE READ: in every text without a fault, for each name that stands behind a `fn` and behind a `pfor`
+-- LOOPS ARE READ: in every text without a fault, for each name that occurs after a `fn` and after a `pfor`
 abbrev pub LoopsAreRead : Type 0
 LoopsAreRead =
     (text name : List ℕ) (f k : ℕ) → first_fault text ≡ None → is_name name ≡ true

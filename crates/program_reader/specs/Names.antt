@@ -1,4 +1,4 @@
--- Names, and lists of names in which each stands once.
+-- Names, and lists of names without duplicates.
 use Rattle.std.specs.Prelude.{ℕ, ◌==◌, ◌&&◌, ◌||◌, Bool, false, List, [], ◌∷◌, ◌++◌, Option, Some, None, length, nat_le, position, if◌then◌else◌}
 use Rattle.std.specs.List.{list_any, list_all}
 use Rattle.std.specs.Str.{bytes_eq}
@@ -28,11 +28,11 @@ pub record NotedName : Type 0 where
 abbrev pub is_noted : List NotedName → List ℕ → Bool
 is_noted es name = list_any (λ e. bytes_eq name e.name) es
 
--- a name that isn't there yet is noted behind the others
+-- a new name is noted after the others
 abbrev pub noted : List NotedName → List ℕ → ℕ → List NotedName
 noted es name number = if is_noted es name then es else es ++ record { name = name; number = number } ∷ []
 
--- at which place a name stands
+-- the index of a name
 abbrev pub place_of : List NotedName → List ℕ → Option ℕ
 place_of es name = position (λ e. bytes_eq name e.name) es
 

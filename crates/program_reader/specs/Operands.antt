@@ -21,6 +21,6 @@ int_register w = register_of 105 w
 abbrev pub ref_register : List ℕ → Option ℕ
 ref_register w = register_of 114 w
 
--- how many registers a `pack` takes: decimal digits without a sign, 0 to 16
+-- the number of registers of a `pack`: an unsigned decimal number, 0 to 16
 abbrev pub field_count : List ℕ → Option ℕ
 field_count w = if is_numeral w && nat_le (digits_value 10 w) 16 then Some (digits_value 10 w) else None

@@ -24,8 +24,8 @@ line_of instr number = record { instr = instr; number = number }
 
 -- ---- the functions of the text
 
--- a line's part of the code of its function, before that of the lines that follow: an instruction, or
--- at `end` the last return
+-- a line's part of the code of its function, before that of the lines that follow: an instruction, or the last return
+-- at `end`
 abbrev pub code_by : Head → Sense → ℕ → List Line → List Line
 code_by Begin sense number rest = []
 code_by End sense number rest = line_of Ret number ∷ []
@@ -72,7 +72,7 @@ loop_functions o first e =
     function_of (e.name ++ codes "<") e.number (left_code first) ∷
     function_of (e.name ++ codes ">") e.number (right_code first) ∷ []
 
--- the functions of the loops from a place on
+-- the functions of the loops from an index on
 abbrev pub loops_from : Outline → ℕ → List NotedName → List Fun
 loops_from o k [] = []
 loops_from o k (e ∷ es) = loop_functions o (loop_function o k) e ++ loops_from o (k + 1) es

@@ -1,4 +1,4 @@
--- How far a text was read, and what a line adds to that: what the reader's own functions say.
+-- How far a text was read, and what a line adds: the states of the reader's own functions.
 use Rattle.std.specs.Prelude.{ℕ, ◌+◌, ◌<◌, ◌^◌, Bool, true, false, Option, Some, None, List, [], ◌∷◌, ◌++◌, take, codes}
 use Rattle.hh_lang.specs.declared.instr.Instr.TheVariants.{Ret}
 use Rattle.program_reader.specs.declared.head.Head.{Head}
@@ -37,7 +37,7 @@ abbrev pub after_order : Reader → Sense → ℕ → Reader
 after_order r (Does instr) number = record r { orders = r.orders + 1; code = r.code ++ line_of instr number ∷ [] }
 after_order r _ number = r
 
--- with a line without a fault more
+-- adds a line without a fault
 abbrev pub after_line : Reader → Head → List (List ℕ) → Sense → ℕ → List (List ℕ) → Reader
 after_line r Begin ws sense number below = after_begin r (only_name ws) below
 after_line r End ws sense number below = after_end r number
@@ -49,7 +49,7 @@ after_line r _ ws sense number below = r
 abbrev pub line_taken : Outline → Reader → ℕ → List ℕ → List (List ℕ) → Reader
 line_taken o r number line below = after_line r (head_of_line line) (operands_of_line line) (sense_of o r.labels.entries (head_of_line line) (operands_of_line line)) number below
 
--- the counts are those of a text, and are counted by 32 bits
+-- the counts are those of a text, and fit in 32 bits
 pub record IsCounted (r : Reader) : Type 0 where
   pub begun : r.begun < 2 ^ 31
   pub labeled : r.labeled < 2 ^ 31

@@ -91,7 +91,7 @@ forking _ _ = NoSuchFunction
 abbrev pub fork : Outline → List ℕ → List ℕ → Sense
 fork o a b = if is_name a && is_name b then forking (place_of o.functions a) (place_of o.functions b) else WrongOperand
 
--- the functions of loops stand behind those of the text, three for each loop
+-- the functions of loops follow those of the text, three for each loop
 abbrev pub loop_function : Outline → ℕ → ℕ
 loop_function o k = length o.functions + 3 * k
 
@@ -128,7 +128,7 @@ order_of o labels v (a ∷ b ∷ c ∷ d ∷ []) = WrongOperand
 order_of o labels v (a ∷ b ∷ c ∷ d ∷ e ∷ []) = plain (plain_five v a b c d e)
 order_of o labels v (a ∷ b ∷ c ∷ d ∷ e ∷ f ∷ ws) = WrongOperand
 
--- the name behind `fn` or `lab`, which stands alone
+-- the name after `fn` or `lab`, which is the only operand
 abbrev pub only_name : List (List ℕ) → Option (List ℕ)
 only_name (a ∷ []) = if is_name a then Some a else None
 only_name _ = None
@@ -148,6 +148,6 @@ sense_of o labels Label ws = named (only_name ws)
 sense_of o labels (Order v) ws = order_of o labels v ws
 sense_of o labels _ ws = alone ws
 
--- all functions, those of loops included, are counted by 32 bits
+-- the number of all functions, those of loops included, fits in 32 bits
 abbrev pub IsSmall : Outline → Type 0
 IsSmall o = length o.functions + 3 * length o.loops < 2 ^ 32

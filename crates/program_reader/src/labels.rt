@@ -11,14 +11,14 @@ use crate::outline::{note_if, split_line};
 use std::alloc::{AllocError, Global};
 use text_lines::{behind, line_end};
 
-/// Labels, each with the number of the instructions before it; and how many instructions there are.
+/// Labels, each with the number of the instructions before it; and the number of all instructions.
 #[derive(Drop)]
 pub struct Labels<'a> {
     pub entries: Table<'a>,
     pub next: u32,
 }
 
-// Whether the lines of a function end before such a line.
+// Whether a line of this kind ends the lines of a function.
 fn is_end(head: Head) -> bool
     ensures { result ≡ ends_body head }
 {
@@ -38,7 +38,7 @@ impl<'a> Labels<'a> {
         }
     }
 
-    // Notes what a line of this kind says, behind its first word.
+    // Notes a line of this kind, given the words after its first.
     fn add_line(&mut self, head: Head, rest: &'a [u8]) -> Result<(), AllocError>
         requires { self.old.next < 2 ^ 31 }
         ensures { OnOk result (self.new ≡ label_line head (words_of rest.now) self.old) }

@@ -13,7 +13,7 @@ mod operands;
 mod plain;
 mod sense;
 
-// What bears names: functions, loops and labels.
+// What has names: functions, loops and labels.
 mod labels;
 mod loops;
 mod names;
@@ -23,7 +23,7 @@ pub use cause::{Cause, Refused};
 pub use laws::{first_fault_is_first, loops_are_read};
 pub use read::read_program;
 
-// What others read of a text by the same rules.
+// What other crates read of a text by the same rules.
 pub use head::{Head, Verb, head_of};
 pub use labels::{Labels, read_labels};
 pub use names::{Table, is_name_word};

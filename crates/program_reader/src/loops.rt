@@ -11,7 +11,7 @@ use hh_lang::{Fun, Instr, IntReg, Line, Operator, RefReg};
 use listed::Listed;
 use std::alloc::{AllocError, Global};
 
-// Instructions that all stand on one line.
+// Instructions that all have the same line.
 fn lines_on(alloc: Global, number: u32, instrs: &[Instr]) -> Result<Listed<Line>, AllocError>
     ensures { IfOk result (λ code. code ≡ on_line number instrs.now) }
 {
@@ -25,7 +25,7 @@ fn lines_on(alloc: Global, number: u32, instrs: &[Instr]) -> Result<Listed<Line>
     Ok(code)
 }
 
-// The function of this name and a sign behind it.
+// The function with this name followed by a sign.
 fn function_on(
     alloc: Global,
     name: &[u8],
@@ -43,8 +43,7 @@ fn function_on(
     })
 }
 
-// `f?`: calls f where one number is left, forks both halves where there are more, and answers 0
-// where there is none.
+// `f?`: calls f if one number is left, forks both halves if there are more, and returns 0 if there is none.
 fn whole_function(
     alloc: Global,
     name: &[u8],
@@ -81,7 +80,7 @@ fn whole_function(
     function_on(alloc, name, b'?', number, &code)
 }
 
-// `f<`, which goes over the first half.
+// `f<`, which loops over the first half.
 fn left_function(alloc: Global, name: &[u8], number: u32, first: u32) -> Result<Fun, AllocError>
     ensures { IfOk result (λ f. f ≡ function_of (name.now ++ codes "<") number (left_code first)) }
 {
@@ -100,7 +99,7 @@ fn left_function(alloc: Global, name: &[u8], number: u32, first: u32) -> Result<
     function_on(alloc, name, b'<', number, &code)
 }
 
-// `f>`, which goes over the second half.
+// `f>`, which loops over the second half.
 fn right_function(alloc: Global, name: &[u8], number: u32, first: u32) -> Result<Fun, AllocError>
     ensures { IfOk result (λ f. f ≡ function_of (name.now ++ codes ">") number (right_code first)) }
 {
@@ -130,7 +129,7 @@ pub(crate) fn number_in(outline: &Outline<'_>, name: &[u8]) -> u32
     }
 }
 
-// Adds the functions of a loop, of which the first one's number is given.
+// Adds the functions of a loop, given the number of the first.
 fn add_named(
     alloc: Global,
     outline: &Outline<'_>,
@@ -150,7 +149,7 @@ fn add_named(
     Ok(())
 }
 
-// Adds the functions of the loop at a place.
+// Adds the functions of the loop at an index.
 fn add_loop(
     alloc: Global,
     outline: &Outline<'_>,

@@ -43,7 +43,7 @@ pub fn is_name_word(word: &[u8]) -> bool
     begins_as_name(word) && word.len() <= 32 && are_name_parts(word)
 }
 
-/// Names in the order in which they were noted, each once, and with each a number.
+/// Names without duplicates, in the order in which they were noted, each with a number.
 #[derive(Drop)]
 pub struct Table<'a> {
     numbers: IndexMap<&'a [u8], u32>,
@@ -68,21 +68,21 @@ impl<'a> Table<'a> {
         }
     }
 
-    /// How many names there are.
+    /// The number of names.
     pub(crate) fn len(&self) -> usize
         ensures { result ≡ length self.now }
     {
         self.numbers.len()
     }
 
-    /// At which place a name stands.
+    /// The index of a name.
     pub(crate) fn find(&self, name: &[u8]) -> Option<usize>
         ensures { result ≡ place_of self.now name.now }
     {
         self.numbers.get_index_of(name)
     }
 
-    /// The name at a place, and its number.
+    /// The name at an index, and its number.
     pub fn entry(&self, place: usize) -> Option<(&'a [u8], u32)>
         ensures { option_map (λ e. noted_name_of e.0.now e.1) result ≡ slice_get self.now place }
     {
@@ -97,7 +97,7 @@ impl<'a> Table<'a> {
         self.numbers.contains_key(name)
     }
 
-    /// Whether a name stands among so many first ones.
+    /// Whether a name is among the first n.
     pub(crate) fn has_among_first(&self, count: usize, name: &[u8]) -> bool
         ensures { result ≡ is_noted (take count self.now) name.now }
     {

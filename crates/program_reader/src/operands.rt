@@ -9,7 +9,7 @@ use crate::names::is_name_word;
 use hh_lang::{FieldCount, IntReg, RefReg, read_u32};
 use text_lines::next_word;
 
-// The number of a register, behind its letter.
+// The number of a register, after its letter.
 fn read_register(digits: &[u8]) -> Option<u8>
     ensures value { result ≡ register_number digits.now }
     ensures below { IfSome result (λ n. n < 16) }
@@ -41,7 +41,7 @@ pub fn read_ref_register(word: &[u8]) -> Option<RefReg>
     }
 }
 
-/// How many registers a `pack` takes.
+/// The number of registers of a `pack`.
 pub fn read_field_count(word: &[u8]) -> Option<FieldCount>
     ensures { result ≡ field_count word.now }
 {
@@ -53,7 +53,7 @@ pub fn read_field_count(word: &[u8]) -> Option<FieldCount>
     }
 }
 
-/// The name that stands alone in the rest of a line.
+/// The name that is all of the rest of a line.
 pub(crate) fn read_only_name(rest: &[u8]) -> Option<&[u8]>
     ensures { option_copied result ≡ only_name (words_of rest.now) }
 {

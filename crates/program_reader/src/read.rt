@@ -49,7 +49,7 @@ fn finish(
     Ok(Program::new(functions, number_in(outline, b"main")))
 }
 
-// The reading of a text that has this first fault, or else these functions.
+// The result for a text with this first fault, or otherwise these functions.
 fn reading_by(
     alloc: Global,
     outline: &Outline<'_>,
@@ -104,7 +104,7 @@ fn read_lines<'a>(
     }
 }
 
-// Reads the program of a text of which this is the outline.
+// Reads the program of a text with this outline.
 fn read_by(
     alloc: Global,
     outline: &Outline<'_>,
@@ -134,8 +134,8 @@ fn read_onto<'a>(
     read_by(alloc, outline, text)
 }
 
-/// Reads a program: the program that the text is, or the first line with a fault and the first cause
-/// on it. The error is want of memory.
+/// Reads a program: the program that the text is, or the first line with a fault and its first cause. Fails if out of
+/// memory.
 pub fn read_program(alloc: Global, text: &[u8]) -> Result<Result<Program, Refused>, AllocError>
     requires { length text.now ≤ most_bytes }
     ensures { IfOk result (λ reading. reading ≡ reading_of text.now) }

@@ -30,11 +30,11 @@ pub const ORDER_LIMIT: u32 = 65536;
 pub(crate) struct Reader<'a> {
     /// Whether a function is open.
     pub inside: bool,
-    /// How many functions began.
+    /// The number of functions begun.
     pub begun: usize,
-    /// How many labels of the open function were passed.
+    /// The number of labels passed in the open function.
     pub labeled: usize,
-    /// How many instructions were passed.
+    /// The number of instructions passed.
     pub orders: u32,
     /// All labels of the open function.
     pub labels: Labels<'a>,
@@ -44,7 +44,7 @@ pub(crate) struct Reader<'a> {
     pub done: Listed<Fun>,
 }
 
-// Whether such a line may not stand here.
+// Whether a line of this kind isn't allowed here.
 fn misplaced(inside: bool, head: Head) -> bool
     ensures { result ≡ is_misplaced inside head }
 {
@@ -73,14 +73,14 @@ fn no_label(sense: &Sense) -> bool
     matches!(sense, Sense::NoSuchLabel)
 }
 
-/// Whether such a line begins a function.
+/// Whether a line of this kind begins a function.
 pub fn begins_function(head: Head) -> bool
     ensures { result ≡ is_begin head }
 {
     matches!(head, Head::Begin)
 }
 
-/// Whether a function is open behind such a line.
+/// Whether a function is open after a line of this kind.
 pub fn open_after(head: Head, inside: bool) -> bool
     ensures { result ≡ is_open_after head inside }
 {
@@ -112,14 +112,14 @@ impl<'a> Reader<'a> {
     ghost use Rattle.program_reader.specs.Fault.{leaves_open, is_second, is_too_many};
     ghost use Rattle.program_reader.specs.Reading.{spot_in, after_begin, after_end, after_order, after_line, line_taken, IsCounted};
 
-    // Whether a function stays open where none may.
+    // Whether a function is open when none may be.
     fn stays_open(&self, head: Head, last: bool) -> bool
         ensures { (o : Outline) → result ≡ leaves_open (spot_in o self.now last) head }
     {
         (self.inside && begins_function(head)) || (last && open_after(head, self.inside))
     }
 
-    // Whether a line gives a name that stands above.
+    // Whether a line gives a name that occurs above.
     fn is_again(&self, outline: &Outline<'_>, head: Head, rest: &[u8]) -> bool
         ensures { (last : Bool) → result ≡ is_second (spot_in outline.now self.now last) head (words_of rest.now) }
     {
@@ -133,7 +133,7 @@ impl<'a> Reader<'a> {
         }
     }
 
-    // Whether a line is one more than there may be.
+    // Whether a line exceeds a limit.
     fn passes_limit(&self, head: Head) -> bool
         ensures { (o : Outline) (last : Bool) → result ≡ is_too_many (spot_in o self.now last) head }
     {
@@ -176,7 +176,7 @@ impl<'a> Reader<'a> {
         }
     }
 
-    // A function begins, with this rest of its line and these lines below.
+    // Begins a function, given the rest of its line and the lines below.
     fn begin(&mut self, alloc: Global, rest: &[u8], below: &'a [u8]) -> Result<(), AllocError>
         requires counted { IsCounted self.old }
         requires sized { length below.now ≤ most_bytes }
@@ -196,7 +196,7 @@ impl<'a> Reader<'a> {
         Ok(())
     }
 
-    // The open function ends with a return on this line.
+    // Ends the open function with a return on this line.
     fn end(&mut self, alloc: Global, number: u32) -> Result<(), AllocError>
         ensures { OnOk result (self.new ≡ after_end self.old number) }
     {
@@ -211,7 +211,7 @@ impl<'a> Reader<'a> {
         Ok(())
     }
 
-    // An instruction stands on this line.
+    // Adds the instruction of this line.
     fn order(&mut self, sense: &Sense, number: u32) -> Result<(), AllocError>
         requires { IsCounted self.old }
         ensures { OnOk result (self.new ≡ after_order self.old sense.now number) }
@@ -255,7 +255,7 @@ impl<'a> Reader<'a> {
         }
     }
 
-    /// Takes a line, or answers the first cause on it, and then takes nothing.
+    /// Takes a line, or returns its first cause, and then takes nothing.
     pub(crate) fn read_line(
         &mut self,
         alloc: Global,

@@ -14,17 +14,16 @@ use text_lines::next_word;
 /// What the operands of a line say.
 #[derive(Drop)]
 pub enum Sense {
-    /// They fit, and the line isn't an instruction.
+    /// They are valid, and the line isn't an instruction.
     Fits,
-    /// They fit, and the line is this instruction.
+    /// They are valid, and the line is this instruction.
     Does(Instr),
     WrongOperand,
     NoSuchFunction,
     NoSuchLabel,
 }
 
-/// The names of the functions of a text, and of those that its loops name, each with the line on
-/// which it first stands.
+/// The names of the functions of a text, and of those that its loops name, each with the line on which it first occurs.
 #[derive(Drop)]
 pub struct Outline<'a> {
     pub functions: Table<'a>,
@@ -188,7 +187,7 @@ fn read_name_operand(rest: &[u8]) -> Sense
     }
 }
 
-/// What the rest of a line of this kind says, behind its first word.
+/// What the rest of a line of this kind says, after its first word.
 pub(crate) fn read_operands(
     outline: &Outline<'_>,
     labels: &Table<'_>,

@@ -11,7 +11,7 @@ read_on r (c ∷ cs) b = read_on (read_byte r c) cs b
 
 -- STRINGS
 
--- a hexadecimal digit is read on in a string
+-- a hexadecimal digit continues a string
 hex_inside : (n : ℕ) (ws : List ℕ) → read_inside (hex n) ws ≡ Inside ws
 hex_inside n ws = by (nat_lt n 10) refl
   where

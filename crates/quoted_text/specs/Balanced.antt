@@ -2,15 +2,15 @@
 use Rattle.std.specs.Prelude.{◌≡◌, ℕ, ◌==◌, ◌||◌, Bool, true, false, List, [], ◌∷◌, ◌++◌, nat_lt, if◌then◌else◌}
 use Rattle.quoted_text.specs.Quoted.{quoted}
 
--- how far a text is read: outside strings behind brackets that wait for these closing ones, the last one in front; in a
--- string; there behind a backslash; or with a fault
+-- the state of a scan: outside strings, with the closing brackets that are due, innermost first; in a string; in a
+-- string after a backslash; or at a fault
 pub data Reading : Type 0 where
   Outside : List ℕ → Reading
   Inside : List ℕ → Reading
   Behind : List ℕ → Reading
   Broken : Reading
 
--- a bracket closes if it is the one that is waited for
+-- a bracket closes if it is the one due
 abbrev pub closed : ℕ → List ℕ → Reading
 closed c [] = Broken
 closed c (w ∷ ws) = if c == w then Outside ws else Broken
@@ -23,7 +23,7 @@ read_outside c ws =
     else if (c == 93) || (c == 125) then closed c ws
     else Outside ws
 
--- no control byte stands in a string
+-- a string has no control byte
 abbrev pub read_inside : ℕ → List ℕ → Reading
 read_inside c ws =
     if c == 34 then Outside ws
@@ -41,7 +41,7 @@ abbrev pub read_all : Reading → List ℕ → Reading
 read_all r [] = r
 read_all r (c ∷ cs) = read_all (read_byte r c) cs
 
--- each quote that opens a string is followed by the one that closes it, and each bracket by its own
+-- each quote that opens a string is followed by the one that closes it, and each bracket by its partner
 abbrev pub IsBalanced : List ℕ → Type 0
 IsBalanced text = (ws : List ℕ) → read_all (Outside ws) text ≡ Outside ws
 
@@ -59,7 +59,7 @@ QuotedBalance = (word : List ℕ) → IsBalanced (quoted word)
 abbrev pub PlainBalance : Type 0
 PlainBalance = (text : List ℕ) → ArePlain text → IsBalanced text
 
--- one behind the other, in brackets, and in braces
+-- concatenated, in brackets, and in braces
 pub record JoinedBalance : Type 0 where
   pub nothing : IsBalanced []
   pub joined : (a b : List ℕ) → IsBalanced a → IsBalanced b → IsBalanced (a ++ b)

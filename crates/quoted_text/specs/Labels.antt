@@ -1,4 +1,4 @@
--- What pictures call a task.
+-- The names of tasks in pictures.
 use Rattle.std.specs.Prelude.{ℕ, List, ◌++◌, codes}
 use Rattle.std.specs.Fmt.{decimal}
 

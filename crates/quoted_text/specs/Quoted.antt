@@ -6,8 +6,8 @@ use Rattle.std.specs.List.{flat_map}
 abbrev pub hex : ℕ → ℕ
 hex n = if nat_lt n 10 then n + 48 else n + 87
 
--- a byte in a string: a quote and a backslash behind a backslash, a control byte as \u00 and two digits, another one as
--- it is
+-- a byte in a string: a quote and a backslash after a backslash, a control byte as \u00 and two digits, any other
+-- unchanged
 abbrev pub escaped : ℕ → List ℕ
 escaped c =
     if c == 34 then 92 ∷ 34 ∷ []

@@ -1,4 +1,4 @@
-// Strings in quotes that can stand in a page's script element.
+// Quoted strings that may occur in a page's script element.
 
 ghost use Rattle.std.specs.Prelude.{◌≡◌, ◌++◌, OnOk};
 ghost use Rattle.std.specs.List.{flat_map};
@@ -25,7 +25,7 @@ fn add_guarded_bytes(text: &mut Vec<u8>, word: &[u8]) -> Result<(), AllocError>
     Ok(())
 }
 
-/// Adds a word in quotes without a `<`, which stands as `\u003c`.
+/// Adds a word in quotes, with `\u003c` for each `<`.
 pub fn add_guarded(text: &mut Vec<u8>, word: &[u8]) -> Result<(), AllocError>
     ensures { OnOk result (text.new.items ≡ text.old.items ++ guarded word.now) }
 {

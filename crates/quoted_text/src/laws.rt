@@ -1,9 +1,9 @@
-// What balances.
+// Laws of balanced texts.
 
 ghost use Rattle.quoted_text.specs.Balanced.{QuotedBalance, PlainBalance, JoinedBalance};
 ghost use Rattle.quoted_text.specs.Guarded.{GuardedHasNoTag};
 
-/// Any word in quotes balances, whatever its bytes are.
+/// Every word in quotes balances, whatever its bytes.
 pub fn quoted_balance()
     ensures { QuotedBalance }
 {}
@@ -13,12 +13,12 @@ pub fn plain_balance()
     ensures { PlainBalance }
 {}
 
-/// Texts that balance do so one behind the other, and in brackets.
+/// Balanced texts still balance when concatenated, and in brackets.
 pub fn joined_balance()
     ensures { JoinedBalance }
 {}
 
-/// A guarded word in quotes has no `<`, whatever its bytes are.
+/// A guarded word in quotes has no `<`, whatever its bytes.
 pub fn guarded_has_no_tag()
     ensures { GuardedHasNoTag }
 {}

@@ -13,7 +13,7 @@ fn hex(digit: u8) -> u8
     if digit < 10 { digit + 48 } else { digit + 87 }
 }
 
-/// Adds a byte, escaped where it could end the string or begin an escape, or is a control byte.
+/// Adds a byte, escaped if it could end the string or begin an escape, or is a control byte.
 pub(crate) fn add_escaped(text: &mut Vec<u8>, byte: u8) -> Result<(), AllocError>
     ensures { OnOk result (text.new.items ≡ text.old.items ++ escaped byte) }
 {

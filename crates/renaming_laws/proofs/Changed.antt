@@ -1,4 +1,4 @@
--- What an instruction makes of the store, told by what it does and not by what the store becomes.
+-- How an instruction changes the store, by what it does and not by the resulting store.
 use Rattle.std.proofs.Common.{◌≡◌, ℕ, ℤ, ◌==◌, Bool, true, false, Option, Some, None, List, [], ◌∷◌, ◌++◌, length, slice_get, slice_set}
 use Rattle.std.specs.Option.{option_flatten}
 use Rattle.hh_lang.specs.declared.instr.Instr.{Instr}
@@ -25,7 +25,7 @@ edit_to f (SetRef at v) = SetRef at (ref_to f v)
 edit_to f (SetNumber at k) = SetNumber at k
 edit_to f Freezes = Freezes
 
--- nothing changes, the task has one object more, or an object is edited
+-- nothing changes, the task has one more object, or an object is edited
 pub data Change : Type 0 where
   Same : Change
   Grows : Object → Change
@@ -55,7 +55,7 @@ fields_of false o = length o.refs
 fields_of true o = length o.ints
 
 module _ (s : Setting) (x : Frame) (store : List (List Object)) where
-  -- two registers name a field that is there; where it is to be written its object is mutable
+  -- two registers name a field that exists; if it is to be written its object is mutable
   pub record Reach (number writes : Bool) (o k : ℕ) (b : Bool) (n : Name) (at : ℕ) : Type 0 where
     pub kind : b ≡ number
     pub name : ref_in x o ≡ Some n

@@ -1,5 +1,5 @@
--- What an instruction does is carried by a renaming: where the frame, the object that it names, the field that it reads
--- and its tests are alike, so is its effect.
+-- A renaming preserves what an instruction does: if the frame, the object that it names, the field that it reads and
+-- its tests are alike, so is its effect.
 use Rattle.std.proofs.Common.{◌≡◌, ℕ, zero, suc, pos, ◌==◌, ◌&&◌, Bool, true, false, cond, Option, Some, None, List, [], ◌∷◌, ◌++◌, length, map, take, replicate, slice_get, slice_set, unwrap_or, inl, inr, refl, ap, ap₂, sym, subst, ◌∙◌, eq-eqb, ne_eqb}
 use Rattle.std.specs.Option.{option_flatten, option_map}
 use Rattle.std.proofs.lemmas.Bool.{cases_eq, false≢true}
@@ -52,7 +52,7 @@ module _ (f g : ℕ → ℕ) (back : (t : ℕ) → g (f t) ≡ t) where
 
   -- WHAT IS SEEN
 
-  -- May b n k: the instruction may see the field k of the object n, a number field where b
+  -- May b n k: the instruction may see field k of object n, a number field if b
   module _ (s : Setting) (edges' : List Edge) (owner' : ℕ → ℕ) (x : Frame) (store store' : List (List Object)) (May : Bool → Name → ℕ → Type 0) where
     abbrev s' : Setting
     s' = record { task = f s.task; strand = strand_to f s.strand; field_limit = s.field_limit; edges = edges'; owner = owner' }
@@ -86,7 +86,7 @@ module _ (f g : ℕ → ℕ) (back : (t : ℕ) → g (f t) ≡ t) where
       pub owners : (n : Name) → In x.refs (Some n) → (owner' (f n.task) == f s.task) ≡ (s.owner n.task == s.task)
       pub tests : (n q : Name) (o : Object) (k : ℕ) → In x.refs (Some n) → object_at store n ≡ Some o → May false n k → option_flatten (slice_get o.refs k) ≡ Some q → TestTo (object_at store q) (object_at store' (name_to f q))
 
-    -- WHAT BECOMES OF BOTH
+    -- THE EFFECT ON BOTH
 
     abbrev pub EffectTo : Instr → Effect → Effect → Type 0
     EffectTo instr (Goes a st) (Goes b st') = (op : Change) × (b ≡ frame_to f a) × (st ≡ changed op s.task store) × (st' ≡ changed (change_to f op) (f s.task) store') × ChangesBy s x store instr op
@@ -128,7 +128,7 @@ module _ (f g : ℕ → ℕ) (back : (t : ℕ) → g (f t) ≡ t) where
           by None e = refl
           by (Some n) e = pair n e (object_at store n) (object_at store' (name_to f n)) refl refl (S.objects n (at_in x.refs o n e))
 
-      -- the place of a field, among as many
+      -- the index of a field, among as many
       place : (c c' : ℕ) (k : ℕ) (go go' : ℕ → Effect) → c' ≡ c → ((at : ℕ) → place_in c (int_in x k) ≡ Some at → To (go at) (go' at)) → To (or_trap Range (place_in c (int_in x k)) go) (or_trap Range (place_in c' (int_in x' k)) go')
       place c c' k go go' e each = subst (λ d. To (or_trap Range (place_in c (int_in x k)) go) (or_trap Range (place_in d (int_in x k)) go')) (sym e) (trap Range (place_in c (int_in x k)) go go' each)
 

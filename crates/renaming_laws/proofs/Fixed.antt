@@ -1,4 +1,4 @@
--- What a renaming leaves as it is: whatever names only tasks that keep their numbers.
+-- What a renaming leaves unchanged: whatever names only tasks that keep their numbers.
 use Rattle.std.proofs.Common.{◌≡◌, ℕ, ℤ, Option, Some, None, List, [], ◌∷◌, map, inl, inr, refl, ap}
 use Rattle.std.specs.Option.{option_map}
 use Rattle.listed.proofs.Members.{In}

@@ -67,7 +67,7 @@ module _ (n : ℕ) (f g : ℕ → ℕ) (R : IsRenaming n f g) (m m' : State) (A 
       ap (λ w. slice_get (row_of w) k.count) (A.objects k.task)
       ∙ (ap (λ (w : List Object). slice_get w k.count) (row_to f (slice_get m.store k.task)) ∙ slice_get-map (object_to f) (row_of (slice_get m.store k.task)) k.count)
 
-  -- WHAT A STEP MAKES OF BOTH
+  -- THE EFFECT OF A STEP ON BOTH
 
   -- a task's record becomes another
   pub own : (t : ℕ) (y y' : Task) (st st' : List (List Object)) (outs outs' : List ℤ) → y' ≡ task_to f y → StoreTo st st'

@@ -1,4 +1,4 @@
--- Places name tasks.
+-- Places identify tasks.
 use Rattle.std.proofs.Common.{◌≡◌, ℕ, zero, suc, ◌+◌, ◌<◌, ◌≤◌, ◌%◌, ◌⊎◌, inl, inr, true, false, Some, List, [], ◌∷◌, ◌++◌, Contains, length, slice_get, slice_set, refl, ap, sym, subst, ◌∙◌, arith, eq-eqb, ne_eqb, length-append, length-set}
 use Rattle.std.proofs.lemmas.Bool.{cases_eq, cases_lt}
 use Rattle.std.proofs.lemmas.Option.{same_Some}
@@ -16,7 +16,7 @@ use Rattle.hh_model.proofs.Steps.{runs_is, step_cases}
 use Rattle.renaming_laws.specs.PlaceLaw.{PlacesAreNames}
 use Rattle.renaming_laws.specs.Places.{IsPlace, Place}
 
--- WHAT RUNS KEEP of the edges of forks, which lead into first strands
+-- INVARIANTS of the edges of forks, which lead into first strands
 
 -- a fork from this strand has been made: its task has been joined since, or waits at it
 pub record HasForked (tasks : List Task) (s : Strand) : Type 0 where
@@ -35,7 +35,7 @@ pub record Forks (tasks : List Task) (edges : List Edge) : Type 0 where
   pub one_child : (e f : Edge) → In edges e → In edges f → e.target.joins ≡ 0 → f.target.joins ≡ 0 → e.source ≡ f.source → is_left e.target.task ≡ is_left f.target.task → e.target.task ≡ f.target.task
   pub each : (t : ℕ) → 0 < t → t < length tasks → (e : Edge) × In edges e × (e.target ≡ strand t 0)
 
--- other tasks, where those that have forked have still, and there are as many
+-- as many other tasks, of which those that had forked still have
 with_tasks : (tasks tasks' : List Task) (edges : List Edge) → length tasks' ≡ length tasks → ((s : Strand) → HasForked tasks s → HasForked tasks' s) → Forks tasks edges → Forks tasks' edges
 with_tasks tasks tasks' edges same keeps F = record {
   forks = λ e i z.
@@ -47,7 +47,7 @@ with_tasks tasks tasks' edges same keeps F = record {
   each = λ t pos lt. F.each t pos (omega arith);
 }
 
--- a task that doesn't wait becomes another, joined as often at least; or one that is joined once more
+-- a task that doesn't wait becomes another, joined at least as often; or one that is joined once more
 set_forked : (tasks : List Task) (t : ℕ) (x y : Task) → slice_get tasks t ≡ Some x → ((x.status ≡ Waiting → ⊥) × (x.joins ≤ y.joins)) ⊎ (x.joins < y.joins) → (s : Strand) → HasForked tasks s → HasForked (slice_set tasks t y) s
 set_forked tasks t x y is why s H = elim (cases_eq s.task t) [
   | inr other ↦ record { task = H.task; is = got_other tasks t s.task y other ∙ H.is; past = H.past }

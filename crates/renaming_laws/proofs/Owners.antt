@@ -1,4 +1,4 @@
--- Owners, and which strand precedes which, under a renaming.
+-- Owners, and precedence of strands, under a renaming.
 use Rattle.std.proofs.Common.{◌≡◌, ℕ, zero, suc, ◌<◌, ◌≤◌, Bool, true, false, cond, Option, Some, None, slice_get, ◌⊎◌, inl, inr, refl, ap, sym, subst, ◌∙◌, arith}
 use Rattle.std.specs.Option.{option_map}
 use Rattle.std.proofs.lemmas.Bool.{cases_Bool}
@@ -32,7 +32,7 @@ joined_to : (f : ℕ → ℕ) (o : Option Task) → is_joined (option_map (task_
 joined_to f None = refl
 joined_to f (Some x) = over_to f x.status
 
--- what precedes goes on to precede
+-- what precedes still precedes
 pub walks : (f : ℕ → ℕ) (a b : State) → AreAlike f a b → (u v : Strand) → Precedes a.edges u v → Precedes b.edges (strand_to f u) (strand_to f v)
 walks f a b A u v w = walk_to f a.edges b.edges (λ e. (A.edges e).1) w.0 u v w.1
 

@@ -15,7 +15,7 @@ use Rattle.renaming_laws.specs.Laws.{RunsAreCarried}
 use Rattle.renaming_laws.specs.Renaming.{IsRenaming}
 use Rattle.renaming_laws.proofs.Stepped.{step_to}
 
--- tasks stay
+-- tasks persist
 pub step_grows : (p : ProgramText) (m : State) (t : ℕ) → IsForkJoinState m → length m.tasks ≤ length (step p m t).tasks
 step_grows p m t K =
     step_cases p m t K (λ m'. length m.tasks ≤ length m'.tasks) (omega arith) (λ x e is run why. omega arith)

@@ -1,5 +1,4 @@
--- What an instruction does where nothing is renamed: it does the same in another setting, where all that it sees is the
--- same.
+-- An instruction does the same in another setting if nothing is renamed and all that it sees is the same.
 use Rattle.std.proofs.Common.{◌≡◌, ℕ, ◌==◌, Bool, true, false, Option, Some, None, List, length, slice_get, refl, ap, sym, subst, ◌∙◌}
 use Rattle.std.specs.Option.{option_flatten, option_map}
 use Rattle.listed.proofs.Members.{In}
@@ -37,7 +36,7 @@ change_same (Grows o) = ap Grows (object_fixed itself o refl (λ r i. refl))
 change_same (Edits n e) = ap (Edits n) (edit_same e)
 
 module _ (s : Setting) (edges' : List Edge) (owner' : ℕ → ℕ) (x : Frame) (store store' : List (List Object)) (May : Bool → Name → ℕ → Type 0) where
-  -- an object in both stores: the same but for fields that the instruction may not see
+  -- an object in both stores: equal except for fields that the instruction may not see
   pub record IsSame (n : Name) (o o' : Object) : Type 0 where
     pub mutable : o'.mutable ≡ o.mutable
     pub refs : length o'.refs ≡ length o.refs

@@ -1,4 +1,4 @@
--- Two machines that are the same but for the numbers of tasks, the order of edges and the outputs.
+-- Two machines that are equal except for the numbers of tasks, the order of edges and the outputs.
 use Rattle.std.specs.Prelude.{◌≡◌, ◌↔◌, ℕ, length, map, slice_get}
 use Rattle.std.specs.Option.{option_map}
 use Rattle.listed.specs.Members.{In}

@@ -9,9 +9,9 @@ use Rattle.renaming_laws.specs.Alike.{AreAlike}
 abbrev pub swap : ℕ → ℕ → ℕ
 swap n t = if nat_lt t n then t else (if nat_lt t (n + 2) then t + 2 else (if nat_lt t (n + 4) then t - 2 else t))
 
--- NUMBERS OF TASKS MEAN NOTHING: where two runs of a program are alike, a step of a renamed task in the one comes to
+-- NUMBERS OF TASKS MEAN NOTHING
 
--- and so do any further steps
+-- two runs of a program that are alike stay alike when both take the same further steps, renamed in the second run
 abbrev pub RunsAreCarried : Type 0
 RunsAreCarried =
     (p : ProgramText) (n limit : ℕ) (f g : ℕ → ℕ) (ts us more : List ℕ)

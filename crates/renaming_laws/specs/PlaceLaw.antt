@@ -1,16 +1,16 @@
--- The law that places name tasks.
+-- The law that places identify tasks.
 use Rattle.std.specs.Prelude.{◌≡◌, ℕ, ◌<◌, List, length}
 use Rattle.hh_lang.specs.Form.{ProgramText}
 use Rattle.hh_model.specs.declared.data.Edge.{Edge}
 use Rattle.hh_model.specs.Step.{run}
 use Rattle.renaming_laws.specs.Places.{Place, IsPlace}
 
--- of so many tasks each has a place, and no other one; and no two have the same
+-- each of n tasks has exactly one place, and no two have the same
 pub record NameTasks (edges : List Edge) (tasks : ℕ) : Type 0 where
   pub each : (t : ℕ) → t < tasks → (place : Place) × IsPlace edges place t
   pub one : (place other : Place) (t : ℕ) → IsPlace edges place t → IsPlace edges other t → place ≡ other
   pub apart : (place : Place) (t u : ℕ) → IsPlace edges place t → IsPlace edges place u → t ≡ u
 
--- so a renaming that carries one run to another is no mere existence: it leads each task to the one at its place
+-- so a renaming of one run into another is determined: it maps each task to the one at its place
 abbrev pub PlacesAreNames : Type 0
 PlacesAreNames = (p : ProgramText) (limit : ℕ) (ts : List ℕ) → let m = run p limit ts in NameTasks m.edges (length m.tasks)

@@ -1,10 +1,10 @@
--- Where a task stands in the tree of forks, told without its number.
+-- The place of a task in the tree of forks, without its number.
 use Rattle.std.specs.Prelude.{◌≡◌, ℕ, Bool, List, [], ◌∷◌, Contains}
 use Rattle.hh_model.specs.declared.data.Edge.{Edge}
 use Rattle.hh_model.specs.Step.{is_left, strand, edge}
 
--- for a task and each one above it but the root, the lowest first: how many forks of its parent had joined when it was
--- forked, and whether it is the left child
+-- for a task and each of its ancestors except the root, the lowest first: how many forks of its parent had joined when
+-- it was forked, and whether it is the left child
 abbrev pub Place : Type 0
 Place = List (ℕ × Bool)
 

@@ -1,4 +1,4 @@
--- Other numbers for tasks, and what they make of what names tasks.
+-- Renumberings of tasks, applied to whatever names tasks.
 use Rattle.std.specs.Prelude.{◌≡◌, ℕ, ◌≤◌, Option, map}
 use Rattle.std.specs.Option.{option_map}
 use Rattle.hh_model.specs.declared.data.Name.{Name}
@@ -13,7 +13,7 @@ use Rattle.hh_model.specs.declared.data.End.{End}
 use Rattle.hh_model.specs.declared.data.End.TheVariants.{Done, Trapped, Entangled}
 use Rattle.hh_model.specs.Step.{is_left, sibling}
 
--- f renames the tasks of machines that have at least n tasks, and g takes it back: the root and the numbers from n on
+-- f renames the tasks of machines that have at least n tasks, and g is its inverse: the root and the numbers from n on
 -- stay, and children of one fork stay so, the left one left
 pub record IsRenaming (n : ℕ) (f g : ℕ → ℕ) : Type 0 where
   pub back : (t : ℕ) → g (f t) ≡ t

@@ -3,7 +3,8 @@
 ghost use Rattle.renaming_laws.specs.PlaceLaw.{PlacesAreNames};
 ghost use Rattle.renaming_laws.specs.Laws.{RunsAreCarried};
 
-/// And so do any further steps: the numbers of tasks mean nothing to a program.
+/// The numbers of tasks mean nothing to a program: two runs that are alike stay alike when both take the same further
+/// steps, renamed in the second run.
 pub fn runs_are_carried()
     ensures { RunsAreCarried }
 {}

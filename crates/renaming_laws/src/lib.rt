@@ -1,5 +1,5 @@
-// The machine with other numbers for its tasks: what a renaming of tasks is, and that a run of renamed tasks is the
-// renamed run.
+// The machine with its tasks renumbered: what a renaming of tasks is, and that a run of renamed tasks is the renamed
+// run.
 #![tactic(auto)]
 
 mod laws;

@@ -1,2 +1,2 @@
--- What crates above name of `text_lines`.
+-- Re-exports from `text_lines` for the crates above.
 pub use Rattle.text_lines.specs.Lines.{most_bytes}
