@@ -6,7 +6,7 @@ use Rattle.memory_scenes.specs.below.task_frames.{FramesValue}
 use Rattle.leaf_copy_gc.specs.Survivors.{IsClosed, IsSound, outside}
 use Rattle.leaf_copy_gc.specs.Laid.{small_words}
 
--- all that a collection into one new chunk of this number asks
+-- the precondition of a collection into one new chunk with this number
 pub record IsReady (h : LeafHeapValue) (s : FramesValue) (roots : List Addr) (number : ℕ) : Type 0 where
   pub closed : IsClosed h.chunks
   pub outside : All (IsSound h.chunks) (outside s roots)

@@ -11,7 +11,7 @@ use memory_scenes::{
 use outside_io::EmptyGate;
 use std::alloc::Global;
 
-// Whether the heap, the frames and the roots are as a collection into one new chunk of this number asks.
+// Whether the heap, the frames and the roots satisfy the precondition of a collection into one new chunk.
 fn is_ready(heap: &LeafHeap, frames: &Frames, roots: &[Addr], number: u32) -> bool
     ensures { IsTrue result → IsReady heap.now frames.now roots.now number }
 {
@@ -30,7 +30,7 @@ fn is_ready(heap: &LeafHeap, frames: &Frames, roots: &[Addr], number: u32) -> bo
     is_fresh(heap.chunks(), number)
 }
 
-/// Collects the heap into one new chunk of this number, if all is as a collection asks.
+/// Collects the heap into one new chunk with this number, if the precondition holds.
 pub fn collect(
     alloc: Global,
     heap: &mut LeafHeap,

@@ -5,18 +5,18 @@ use leaf_copy_gc::Moved;
 use memory_scenes::{Addr, Frames, LeafHeap, Put, Seen, Spot, at_spot, heap_of, holds, one_frame};
 use std::alloc::Global;
 
-// A heap, what refers to its objects, and what a collection into the chunk 20 makes of them.
+// A heap, the references to its objects, and the result of a collection into chunk 20.
 struct Case {
     heap: &'static [Put],
     registers: &'static [(u32, Spot)],
     root: Option<Spot>,
-    // How many new chunks the heap has kept, how many units are given back, and how many words are left.
+    // The number of new chunks kept, of units given back, and of words left.
     counts: (u32, u32, u32),
     // The old and the new addresses.
     moved: &'static [(Spot, Spot)],
     registers_after: &'static [(u32, Spot)],
     objects_after: &'static [Seen],
-    // The words that are left in the chunk that is being filled.
+    // The words left in the chunk that is being filled.
     room: u32,
 }
 
@@ -52,13 +52,13 @@ fn are_moves(moved: &[(Addr, Addr)], expected: &[(Spot, Spot)]) -> bool {
     true
 }
 
-// Whether a collection counted and moved what it should.
+// Whether a collection counted and moved as expected.
 fn is_told(moved: &Moved, case: &Case) -> bool {
     (moved.taken, moved.given, moved.left) == case.counts
         && are_moves(moved.moved.as_slice(), case.moved)
 }
 
-// Whether a collection of the heap does, and counts and moves what it should.
+// Whether a collection of the heap counts and moves as expected.
 fn is_collected(alloc: Global, heap: &mut LeafHeap, frames: &mut Frames, case: &Case) -> bool {
     let roots = case.root.map(at_spot);
     match collect(alloc, heap, frames, roots.as_slice(), 20) {
@@ -67,14 +67,14 @@ fn is_collected(alloc: Global, heap: &mut LeafHeap, frames: &mut Frames, case: &
     }
 }
 
-// Whether the frame and the heap are then as they should be.
+// Whether the frame and the heap are then the expected ones.
 fn is_left(heap: &LeafHeap, frames: &Frames, case: &Case) -> bool {
     has_registers(frames, case.registers_after)
         && holds(heap, case.objects_after)
         && (heap.since(), heap.room()) == (0, case.room)
 }
 
-// Both of a case; None without memory.
+// Both for a case; None if out of memory.
 fn outcome(alloc: Global, case: &Case) -> Option<(bool, bool)> {
     let mut heap = heap_of(alloc, case.heap)?;
     let mut frames = frame_of(alloc, case.registers)?;
@@ -99,7 +99,7 @@ const REFERS_TO_ITSELF: Case = Case {
     room: 1021,
 };
 
-// Survivors are laid out in order of birth: one that a register leads to, and one that a root does.
+// Survivors are laid out in order of birth: one reached from a register, and one from a root.
 const OUT_OF_ORDER: Case = Case {
     heap: &[Put::Chunk(7, 1), Put::Object(1, 0, 9), Put::Object(1, 1, 4)],
     registers: &[(0, (7, 0))],
@@ -111,8 +111,8 @@ const OUT_OF_ORDER: Case = Case {
     room: 1017,
 };
 
-// Of two large objects one is kept where it is, its reference to a moved object led there; the other is given back. The
-// reserved chunk stays.
+// Of two large objects one stays, with its reference to a moved object updated; the other is given back. The reserved
+// chunk stays.
 const LARGE_OBJECTS: Case = Case {
     heap: &[
         Put::Chunk(7, 1),

@@ -1,4 +1,4 @@
-// Families: a root and its descendants, of which the right child of each fork may fork again.
+// Families: a root and its descendants, where the right child of each fork may fork again.
 
 use fork_join::{Child, EndedChild, Side};
 use heap_tree::{State, Tree};
@@ -8,7 +8,7 @@ use memory_scenes::{
 use remembered_set::{Remembered, Source};
 use std::alloc::Global;
 
-/// What a child hands back.
+/// What a child returns.
 pub type Outcome = (i64, Option<Addr>);
 
 /// A field of the object at offset 8 of a chunk: the chunk's number, and the field's.
@@ -23,7 +23,7 @@ pub struct Family {
     sides: Vec<Side>,
 }
 
-/// Notes these fields in a set, and says whether it did.
+/// Records these fields in a set; returns whether that succeeded.
 pub fn note_all(set: &mut Remembered, fields: &[Field]) -> bool {
     for &(chunk, field) in fields {
         if set.note(at(chunk, 8), field).is_err() {
@@ -73,7 +73,7 @@ fn root_side(alloc: Global) -> Option<Vec<Side>> {
     Some(sides)
 }
 
-// Adds the sides of two children, and says whether it did.
+// Adds the sides of two children; returns whether that succeeded.
 fn add_sides(alloc: Global, sides: &mut Vec<Side>, left: Child, right: Child) -> bool {
     let Ok(()) = sides.reserve(2) else {
         return false;
@@ -93,13 +93,13 @@ fn ended_child(tree: &mut Tree, sides: &mut Vec<Side>, answer: Outcome) -> Optio
     })
 }
 
-// A chunk's number, and whose the pool has it.
+// A chunk's number, and its owner by the pool.
 fn owned(pool: &Pool, chunk: &Chunk) -> (u32, Option<u32>) {
     let number = chunk.number();
     (number, owner(pool, number))
 }
 
-// Each change says whether it was made.
+// Each change returns whether it was made.
 impl Family {
     /// A root without chunks.
     pub fn new(alloc: Global) -> Option<Family> {
@@ -133,7 +133,7 @@ impl Family {
         }
     }
 
-    /// A task places an object of so many words.
+    /// A task places an object of n words.
     pub fn place(&mut self, t: usize, words: u32) -> bool {
         match self.sides.get_mut(t) {
             Some(side) => place(&mut side.heap, 0, words.saturating_sub(2), 0),
@@ -141,7 +141,7 @@ impl Family {
         }
     }
 
-    /// Notes fields that point down into the heap of a task.
+    /// Records fields that point down into the heap of a task.
     pub fn note(&mut self, t: usize, fields: &[Field]) -> bool {
         match self.sides.get_mut(t) {
             Some(side) => note_all(&mut side.remembered, fields),
@@ -163,7 +163,7 @@ impl Family {
         }
     }
 
-    /// Whether just these fields are noted for a task, in this order.
+    /// Whether exactly these fields are recorded for a task, in this order.
     pub fn has_noted(&self, t: usize, fields: &[Field]) -> bool {
         match self.sides.get(t) {
             Some(side) => are_sources(side.remembered.sources(), fields),
@@ -171,13 +171,13 @@ impl Family {
         }
     }
 
-    /// The words that a task placed, those that it holds, and those that are left in its chunk.
+    /// The words that a task placed, those that it holds, and those left in its chunk.
     pub fn words(&self, t: usize) -> Option<(u64, u64, u32)> {
         let heap = &self.sides.get(t)?.heap;
         Some((heap.since(), heap.words(), heap.room()))
     }
 
-    /// The numbers of the root's chunks, if it has three, and whose the pool has each.
+    /// The numbers of the root's chunks, if it has three, and the owner of each by the pool.
     pub fn chunks(&self) -> Option<[(u32, Option<u32>); 3]> {
         let root = self.sides.first()?;
         match root.heap.chunks() {

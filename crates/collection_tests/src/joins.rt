@@ -28,8 +28,8 @@ fn frame(alloc: Global) -> Option<Frames> {
     Some(frames)
 }
 
-// Whether a child is of this number, and stands before the first instruction of its function with the registers of such
-// a frame and an empty heap.
+// Whether a child has this number, and is before the first instruction of its function with the registers of such a
+// frame and an empty heap.
 fn begins(child: &Child, task: u32, function: u32) -> bool {
     let (frames, heap) = (&child.frames, &child.heap);
     (child.task, frames.fun(), frames.next()) == (task, function, 0)
@@ -45,7 +45,7 @@ fn begin(alloc: Global, tree: &mut Tree, top: &Frames) -> Option<(bool, bool)> {
     Some((begins(&left, 1, 5), begins(&right, 2, 6)))
 }
 
-// The same of a new tree.
+// The same for a new tree.
 fn begin_in_new_tree(alloc: Global) -> Option<(bool, bool)> {
     let Ok(mut tree) = Tree::new(alloc) else {
         return None;
@@ -77,8 +77,8 @@ fn three_levels(alloc: Global) -> Option<Tree> {
     }
 }
 
-// The parent that goes on as the first of two tasks ends, the states then of that task and of task 2, and the parent
-// that goes on as the second one ends.
+// The parent that continues when the first of two tasks ends, the states then of that task and of task 2, and the
+// parent that continues when the second one ends.
 type Ends = (Option<u32>, Option<State>, Option<State>, Option<u32>);
 
 // Both end, if they are children.
@@ -98,7 +98,7 @@ const ENDED: Option<State> = Some(State::Ended);
 
 const WAITING: Option<State> = Some(State::Waiting);
 
-// Whichever child ends last, its parent goes on.
+// Whichever child ends last, its parent continues.
 #[test]
 fn children_end(rt: HostRuntime) {
     let alloc = rt.alloc();
@@ -149,7 +149,7 @@ fn taken_over(family: &mut Family, top: &mut Frames) -> Option<(Registers, Taken
     Some((registers(top), taken(family)))
 }
 
-// The same of a new family.
+// The same for a new family.
 fn taken_over_in_new_family(alloc: Global) -> Option<(Registers, Taken)> {
     let mut top = frame(alloc)?;
     let mut family = Family::new(alloc)?;
@@ -159,7 +159,7 @@ fn taken_over_in_new_family(alloc: Global) -> Option<(Registers, Taken)> {
 const JOINED: Option<State> = Some(State::Joined);
 
 // The parent gets the results in its first registers, the words that its children placed, and their chunks before its
-// own; it goes on filling its own.
+// own; it continues to fill its own.
 #[test]
 fn a_parent_takes_over(rt: HostRuntime) {
     let registers = ([-5, 6, 25], [LEFT, RIGHT, LEFT]);
@@ -169,15 +169,15 @@ fn a_parent_takes_over(rt: HostRuntime) {
     assert!(rt; taken_over_in_new_family(rt.alloc()) == Some((registers, taken)));
 }
 
-// The fields that the parent, the left and the right child have noted, and those that the parent has after the join.
-// Its own chunk has the number 0.
+// The fields recorded for the parent, the left and the right child, and those of the parent after the join. Its own
+// chunk has the number 0.
 const NOTED: &[Noted] = &[
     (&[], &[], &[], &[]),
     // Those of objects elsewhere are kept, the left child's before the right one's.
     (&[], &[(9, 0)], &[(8, 0)], &[(9, 0), (8, 0)]),
-    // Those of the parent's objects don't point down any more.
+    // Those of the parent's objects no longer point down.
     (&[], &[(0, 0), (9, 1)], &[(0, 1)], &[(9, 1)]),
-    // What both children know, or the parent, stands once.
+    // What both children know, or the parent, occurs once.
     (&[], &[(9, 0), (9, 1)], &[(9, 1), (9, 0)], &[(9, 0), (9, 1)]),
     (&[(8, 2)], &[(8, 2)], &[(7, 2), (8, 2)], &[(8, 2), (7, 2)]),
     // One of a sibling's object is kept too.
@@ -191,12 +191,12 @@ type Noted = (
     &'static [Field],
 );
 
-// Whether a task is joined with its children, and has just these fields then.
+// Whether a task is joined with its children, and has exactly these fields then.
 fn has_after_join(family: &mut Family, top: &mut Frames, t: usize, expected: &[Field]) -> bool {
     family.join(top, NOTHING, NOTHING) && family.has_noted(t, expected)
 }
 
-// Whether a join makes of the noted fields what it should.
+// Whether a join leaves the expected fields.
 fn are_joined(family: &mut Family, top: &mut Frames, noted: Noted) -> bool {
     let (parent, left, right, expected) = noted;
     family.add_chunk(0)
@@ -207,7 +207,7 @@ fn are_joined(family: &mut Family, top: &mut Frames, noted: Noted) -> bool {
         && has_after_join(family, top, 0, expected)
 }
 
-// The same of a new family.
+// The same for a new family.
 fn are_joined_in_new_family(alloc: Global, noted: Noted) -> bool {
     match (one_frame(alloc), Family::new(alloc)) {
         (Some(mut top), Some(mut family)) => are_joined(&mut family, &mut top, noted),
@@ -241,7 +241,7 @@ fn are_lifted(family: &mut Family, top: &mut Frames) -> bool {
         && has_after_join(family, top, 0, &[])
 }
 
-// The same of a new family.
+// The same for a new family.
 fn are_lifted_in_new_family(alloc: Global) -> bool {
     match (one_frame(alloc), Family::new(alloc)) {
         (Some(mut top), Some(mut family)) => are_lifted(&mut family, &mut top),
@@ -249,8 +249,8 @@ fn are_lifted_in_new_family(alloc: Global) -> bool {
     }
 }
 
-// A field of the root's object that points down by three levels is lifted twice, and dropped when it doesn't point down
-// any more. One of an object of the task between is dropped at the first join.
+// A field of the root's object that points down by three levels is lifted twice, and dropped when it no longer points
+// down. One of an object of the task between is dropped at the first join.
 #[test]
 fn lifted_twice(rt: HostRuntime) {
     assert!(rt; are_lifted_in_new_family(rt.alloc()));

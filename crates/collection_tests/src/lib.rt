@@ -1,4 +1,4 @@
-// Tests of collections, sweeps and joins, and of what is remembered for them. It has no code of its own.
+// Tests of collections, sweeps and joins, and of remembered sets. It has no code of its own.
 #![tactic(auto)]
 
 #[cfg(test)]

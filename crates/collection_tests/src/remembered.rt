@@ -1,4 +1,4 @@
-// Remembered fields: noted once, lifted at a join, and rewritten in a leaf heap.
+// Remembered fields: recorded once, lifted at a join, and rewritten in a leaf heap.
 
 ghost use Rattle.std.specs.Prelude.{IsTrue};
 ghost use Rattle.remembered_set.specs.Moved.{AreFields};
@@ -9,7 +9,7 @@ use memory_scenes::{Addr, CHUNK_WORDS, Chunk, LeafHeap, Put, Seen, at, heap_of, 
 use remembered_set::{Remembered, Source};
 use std::alloc::Global;
 
-// A set in which these fields were noted.
+// A set in which these fields were recorded.
 fn set_of(alloc: Global, fields: &[Field]) -> Option<Remembered> {
     let mut set = Remembered::new(alloc);
     if note_all(&mut set, fields) {
@@ -19,7 +19,7 @@ fn set_of(alloc: Global, fields: &[Field]) -> Option<Remembered> {
     }
 }
 
-// Lifts the fields of a child's set to that of a parent with these chunks, and says whether they were few enough.
+// Lifts the fields of a child's set to that of a parent with these chunks; returns whether they were few enough.
 fn lift(parent: &mut Remembered, from: Remembered, chunks: &[Chunk]) -> bool {
     if from.sources().len() > 10 || chunks.len() > 1 {
         return false;
@@ -31,7 +31,7 @@ fn lift(parent: &mut Remembered, from: Remembered, chunks: &[Chunk]) -> bool {
     true
 }
 
-// Lifts these fields of a child's set to that of a parent that has the chunk 2, and says whether it did.
+// Lifts these fields of a child's set to that of a parent that has chunk 2; returns whether that succeeded.
 fn lift_all(alloc: Global, parent: &mut Remembered, fields: &[Field]) -> bool {
     let Some(heap) = heap_of(alloc, &[Put::Chunk(2, 1)]) else {
         return false;
@@ -42,7 +42,7 @@ fn lift_all(alloc: Global, parent: &mut Remembered, fields: &[Field]) -> bool {
     }
 }
 
-// Whether the set of such a parent, which knows these fields, has the expected ones once those of its child were
+// Whether the set of such a parent, which knows these fields, has the expected ones after those of its child were
 // lifted.
 fn is_lifted(alloc: Global, known: &[Field], fields: &[Field], expected: &[Field]) -> bool {
     match set_of(alloc, known) {
@@ -53,7 +53,7 @@ fn is_lifted(alloc: Global, known: &[Field], fields: &[Field], expected: &[Field
     }
 }
 
-// The field of an object in the parent's chunk is dropped, and one that the parent knows stands once.
+// The field of an object in the parent's chunk is dropped, and one that the parent knows occurs once.
 #[test]
 fn fields_lifted(rt: HostRuntime) {
     let fields = [(2, 0), (1, 0), (1, 0), (3, 4)];
@@ -74,7 +74,7 @@ fn are_fields(heap: &LeafHeap, sources: &[Source]) -> bool
     }
 }
 
-// Whether a set's sources are fields of objects, and just these are what they hold that points into these chunks.
+// Whether a set's sources are fields of objects, and exactly these of their references point into these chunks.
 fn are_targets(
     alloc: Global,
     set: &Remembered,
@@ -96,8 +96,8 @@ const OLD: Addr = Addr {
     offset: 4,
 };
 
-// Leads the sources of a set that hold the old address to another one, if they are fields of objects, and says whether
-// just these objects lie in the heap then.
+// Redirects the sources of a set that hold the old address, if they are fields of objects; returns whether the heap
+// then has exactly these objects.
 fn is_rewritten(set: &Remembered, heap: &mut LeafHeap, to: Addr, expected: &[Seen]) -> bool {
     if !are_fields(heap, set.sources()) || to.offset >= CHUNK_WORDS as u32 {
         return false;
@@ -116,7 +116,7 @@ const LEADS_AWAY: &[Put] = &[
 
 const REWRITTEN: &[Seen] = &[((7, 0), 1, None), ((7, 8), 0, Some((11, 0)))];
 
-// Whether the field is what a collection of the chunk 9 looks for.
+// Whether the field is one that a collection of chunk 9 looks for.
 fn is_found(alloc: Global, set: &Remembered, heap: &LeafHeap) -> bool {
     match heap_of(alloc, &[Put::Chunk(9, 1)]) {
         Some(collected) => are_targets(alloc, set, heap, collected.chunks(), &[OLD]),
@@ -135,7 +135,7 @@ fn is_followed(alloc: Global, set: &Remembered, heap: &mut LeafHeap) -> [bool; 3
     ]
 }
 
-// The same of a new heap and its set.
+// The same for a new heap and its set.
 fn is_followed_in_new_heap(alloc: Global) -> Option<[bool; 3]> {
     let mut heap = heap_of(alloc, LEADS_AWAY)?;
     let set = set_of(alloc, &[(7, 0)])?;

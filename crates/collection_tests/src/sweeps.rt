@@ -1,4 +1,4 @@
-// Markings and sweeps of whole heaps.
+// Marks and sweeps of whole heaps.
 
 use crate::collecting::collect;
 use memory_scenes::{
@@ -7,28 +7,27 @@ use memory_scenes::{
 };
 use std::alloc::Global;
 
-// A heap, and what a marking from a root and an overwritten reference, so many objects at a time, and a sweep make of
-// it.
+// A heap, and the result of a mark from a root and an overwritten reference, n objects at a time, and a sweep of it.
 struct Case {
     heap: &'static [Put],
     root: Spot,
     kept: Option<Spot>,
     step: u32,
-    // How many calls marked as many objects as they were to, how many units were given back, and how many are in use.
+    // The number of calls that marked n objects, of units given back, and of units in use.
     swept: (u32, u32, u32),
     objects_after: &'static [Seen],
-    // The chunks, the words, the words that are left in the chunk that is being filled, and which chunk is reserved.
+    // The chunks, the words, the words left in the chunk that is being filled, and which chunk is reserved.
     left: (usize, u64, u32, Option<usize>),
 }
 
-// Whether the heap is then as it should be.
+// Whether the heap is then the expected one.
 fn is_left(heap: &LeafHeap, case: &Case) -> bool {
     let chunks = heap.chunks().len();
     let left = (chunks, heap.words(), heap.room(), heap.reserved());
     left == case.left && holds(heap, case.objects_after)
 }
 
-// Whether all that should comes of marking and sweeping the heap.
+// Whether marking and sweeping the heap has the expected result.
 fn is_swept(alloc: Global, heap: &mut LeafHeap, case: &Case) -> bool {
     let kept = case.kept.map(at_spot);
     let root = [at_spot(case.root)];
@@ -36,7 +35,7 @@ fn is_swept(alloc: Global, heap: &mut LeafHeap, case: &Case) -> bool {
     told == Some(case.swept) && is_left(heap, case)
 }
 
-// The heap once it is swept, if it is as it should be.
+// The heap after the sweep, if it is the expected one.
 fn swept(alloc: Global, case: &Case) -> Option<LeafHeap> {
     let mut heap = heap_of(alloc, case.heap)?;
     if is_swept(alloc, &mut heap, case) {
@@ -73,14 +72,14 @@ fn collected(alloc: Global, heap: &mut LeafHeap) -> Option<(u32, u32, u32)> {
 
 const COLLECTED: &[Seen] = &[((20, 0), 0, Some((20, 3))), ((20, 3), 2, None)];
 
-// The words placed before a collection, its counts, and whether the heap has then just the objects that it should.
+// The words placed before a collection, its counts, and whether the heap then has exactly the expected objects.
 fn with_hole(alloc: Global, heap: &mut LeafHeap) -> Option<(u64, (u32, u32, u32), bool)> {
     let since = heap.since();
     let counts = collected(alloc, heap)?;
     Some((since, counts, holds(heap, COLLECTED)))
 }
 
-// The same of a heap in which a hole is left.
+// The same for a heap with a hole.
 fn collected_with_hole(alloc: Global) -> Option<(u64, (u32, u32, u32), bool)> {
     let mut heap = swept(alloc, &HOLE)?;
     with_hole(alloc, &mut heap)
@@ -92,7 +91,7 @@ fn a_hole_is_left(rt: HostRuntime) {
     assert!(rt; collected_with_hole(rt.alloc()) == Some((10, (1, 1, 7), true)));
 }
 
-// A reference that was overwritten before the marking began is kept, and its object with it.
+// A reference that was overwritten before the mark began is kept, and its object with it.
 const KEPT: Case = Case {
     heap: OVERWRITTEN,
     root: (0, 0),
@@ -121,8 +120,8 @@ const OVERWRITTEN: &[Put] = &[
     Put::Lead((0, 0), (0, 0)),
 ];
 
-// Of two large objects one is left where it is; the three units of the other are given back. The reserved chunk stays,
-// and the chunk that was being filled goes.
+// Of two large objects one stays; the three units of the other are given back. The reserved chunk stays, and the chunk
+// that was being filled goes.
 const LARGE_OBJECTS: Case = Case {
     heap: &[
         Put::Chunk(0, 3),
@@ -150,8 +149,8 @@ fn what_is_kept(rt: HostRuntime) {
     }
 }
 
-// A heap of three objects is marked and swept twice, from two roots and then from one or none. How many objects each
-// marking marks, and what is left.
+// A heap of three objects is marked and swept twice, from two roots and then from one or none. The number of objects
+// marked each time, and what is left.
 struct Twice {
     first: (Spot, Spot),
     second: Option<Spot>,
@@ -159,7 +158,7 @@ struct Twice {
     left: &'static [Seen],
 }
 
-// The room is cleared whole, and one object by one.
+// The scratch space is cleared whole, and object by object.
 const TWICE: &[Twice] = &[
     Twice {
         first: ((0, 0), (0, 3)),
@@ -182,7 +181,7 @@ const THREE: &[Put] = &[
     Put::Object(0, 1, 2),
 ];
 
-// Whether the heap is left so through one room.
+// Whether the heap is left so with one scratch space.
 fn is_left_by_one(alloc: Global, case: &Twice, first: &[Addr], second: &[Addr]) -> bool {
     let Some(mut heap) = heap_of(alloc, THREE) else {
         return false;
@@ -191,7 +190,7 @@ fn is_left_by_one(alloc: Global, case: &Twice, first: &[Addr], second: &[Addr]) 
     marked == Some(case.marked) && holds(&heap, case.left)
 }
 
-// Whether it is left so where each marking has a room of its own.
+// Whether it is left so if each mark has its own scratch space.
 fn is_left_by_two(alloc: Global, case: &Twice, first: &[Addr], second: &[Addr]) -> bool {
     let Some(mut heap) = heap_of(alloc, THREE) else {
         return false;

@@ -1,10 +1,10 @@
-// Reads of objects of the tasks above: immutable ones without the turn, and others with it.
+// Reads of ancestors' objects: immutable ones without the turn, and others with it.
 
 use crate::calls::{Row, check_calls};
 
-// Runs with their reports and journals. A packed object is read twice in one entry, before and while its heap is swept;
-// a task reads the root's object, its parent's and its own in one entry; the number of a swept chunk is taken by the
-// reader itself; counts, a reference and a frozen object are read. A read of a mutable object, and one that fails, end
+// Runs with their reports and journals. A packed object is read twice in one entry, before and during a sweep of its
+// heap; a task reads the root's object, its parent's and its own in one entry; the reader itself reuses the number of a
+// swept chunk; counts, a reference and a frozen object are read. A read of a mutable object, and one that fails, end
 // their entries.
 const RUNS: &[Row] = &[
     (
@@ -177,7 +177,7 @@ fn such_journals_are_replayed(rt: HostRuntime) {
     check_calls(&rt, "model", REPLAYED);
 }
 
-// A read of a mutable object of another task amid an entry, in both versions.
+// A read of a mutable object of another task during an entry, in both versions.
 const REFUSED: &[Row] = &[
     (
         "",

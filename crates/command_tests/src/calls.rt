@@ -1,4 +1,4 @@
-// Calls of the whole program, over sources and sinks in memory, and what they answer.
+// Calls of the whole program, over sources and sinks in memory, and their answers.
 
 use command_core::{Ran, command};
 use outside_io::{EmptyGate, Gate, MemSink, MemSource};
@@ -13,7 +13,7 @@ pub(crate) type Row = (&'static str, &'static str, u8, &'static str);
 /// An exit status, and what is written.
 pub(crate) type Answer<'a> = (u8, &'a [u8]);
 
-// Adds a word that isn't empty, and says whether there was memory for it.
+// Adds a word that isn't empty; returns whether there was memory for it.
 fn add_word(alloc: Global, words: &mut Vec<String>, word: &str) -> bool {
     if word.is_empty() {
         return true;
@@ -24,7 +24,7 @@ fn add_word(alloc: Global, words: &mut Vec<String>, word: &str) -> bool {
     }
 }
 
-// Puts the words of a line behind others, and says whether there was memory for them.
+// Appends the words of a line; returns whether there was memory for them.
 fn add_words(alloc: Global, words: &mut Vec<String>, line: &str) -> bool {
     for word in line.split(' ') {
         if !add_word(alloc, words, word) {
@@ -44,7 +44,7 @@ fn words_of(alloc: Global, command: &str, options: &str) -> Option<Vec<String>> 
     }
 }
 
-/// A source of these bytes, which each file has too.
+/// A source of these bytes, in which each file has them too.
 pub(crate) fn source_of(alloc: Global, bytes: &[u8]) -> Result<MemSource, AllocError> {
     let input = bytes.to_vec(alloc)?;
     let named = bytes.to_vec(alloc)?;
@@ -56,7 +56,7 @@ pub(crate) fn sink_of(alloc: Global) -> MemSink {
     MemSink::new(alloc, 65536, Vec::new(alloc))
 }
 
-/// What a call hands back; none where there is no memory for its words.
+/// What a call returns; None if there is no memory for its words.
 pub(crate) fn ran<R: AllocGlobal + Threads + Wait + Sync, G: Gate>(
     rt: &R,
     (name, options): (&str, &str),
@@ -110,7 +110,7 @@ pub(crate) fn answers<R: AllocGlobal + Threads + Wait + Sync, G: Gate>(
     code == Some(status) && sink.written() == bytes
 }
 
-/// The same of a call with this input.
+/// The same for a call with this input.
 pub(crate) fn answers_input<R: AllocGlobal + Threads + Wait + Sync>(
     rt: &R,
     words: (&str, &str),
@@ -123,7 +123,7 @@ pub(crate) fn answers_input<R: AllocGlobal + Threads + Wait + Sync>(
     }
 }
 
-/// Whether a call over a source is answered so, and doesn't take the last bytes of it, so many.
+/// Whether a call over a source has this answer, and leaves this number of its last bytes.
 pub(crate) fn answers_leaving<R: AllocGlobal + Threads + Wait + Sync>(
     rt: &R,
     words: (&str, &str),
@@ -139,7 +139,7 @@ pub(crate) fn answers_leaving<R: AllocGlobal + Threads + Wait + Sync>(
     }
 }
 
-/// Checks that each call of a command is answered as it should be.
+/// Checks the answer of each call of a command.
 pub(crate) fn check_calls<R: Abort + AllocGlobal + Threads + Wait + Sync>(
     rt: &R,
     command: &str,

@@ -1,4 +1,4 @@
-// Two workers that meet: gates that note which task has come where, and hold a task back for a limited time.
+// Two workers that meet: gates that record where each task has come, and hold a task for a limited time.
 
 use crate::calls::{answers, source_of};
 use outside_io::{Gate, Point};
@@ -7,7 +7,7 @@ use std::sync::Wait;
 use std::sync::atomic::{AtomicBool, Ordering};
 use std::thread::Threads;
 
-// The most turns that a task waits at one place.
+// The most rounds that a task waits at one place.
 const MOST_TURNS: u32 = 10_000_000;
 
 // What a task has done at the gate.
@@ -27,7 +27,7 @@ impl Visit {
         }
     }
 
-    // The task comes, and at its first time waits for the other.
+    // A task comes, and at its first time waits for the other.
     fn comes(&self, other: &AtomicBool) {
         if !self.came.swap(true, Ordering::SeqCst) {
             self.met.store(is_set_in_time(other), Ordering::SeqCst);
@@ -39,7 +39,7 @@ impl Visit {
     }
 }
 
-// Waits until it is set, but for a limited time.
+// Waits until the flag is set, but for a limited time.
 fn is_set_in_time(flag: &AtomicBool) -> bool {
     for _ in 0..MOST_TURNS {
         if flag.load(Ordering::SeqCst) {
@@ -50,7 +50,7 @@ fn is_set_in_time(flag: &AtomicBool) -> bool {
     false
 }
 
-// Before their first instructions, tasks 1 and 2 wait for one another.
+// Before their first instructions, tasks 1 and 2 wait for each other.
 #[derive(Drop)]
 struct SideBySide {
     left: Visit,
@@ -102,7 +102,7 @@ const FORKS: &str =
 const COLLECTS: &str =
     "fn left\nset i0 0\nset i1 14\nnewm r1 i0 i1\nputr r0 i0 r1\nnil r1\nnewm r2 i0 i1\nret\nend\nfn right\nset i0 0\nnil r1\nputr r0 i0 r1\nret\nend\nfn main\nset i0 1\nset i1 0\nnewm r0 i0 i1\npar left right\nset i2 0\ngetr r3 r0 i2\nnil r4\nsame i3 r3 r4\nout i3\nret\nend\n";
 
-// Whether a run whose workers pass a gate is done, and writes just this.
+// Whether a run whose workers pass a gate is done, and writes exactly this.
 fn runs_through<R: AllocGlobal + Threads + Wait + Sync, G: Gate>(
     rt: &R,
     (options, input, bytes): (&str, &str, &str),
@@ -117,7 +117,7 @@ fn runs_through<R: AllocGlobal + Threads + Wait + Sync, G: Gate>(
     }
 }
 
-// Instructions of two tasks are run at the same time, not one behind the other and not in turns.
+// Instructions of two tasks run at the same time, neither one after the other nor by turns.
 #[test]
 fn both_run_at_once(rt: HostRuntime) {
     let gate = SideBySide {

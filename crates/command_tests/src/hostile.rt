@@ -7,21 +7,21 @@ use std::alloc::{AllocError, Global};
 use std::sync::Wait;
 use std::thread::Threads;
 
-// An input: these bytes, which each file has too; or one byte, so many times.
+// An input: these bytes, in each file too; or n times one byte.
 #[derive(Clone, Copy)]
 enum Input {
     Text(&'static [u8]),
     Many(u8, usize),
 }
 
-// The most bytes of one call of a source or a sink, and the call that fails, from 1 on.
+// The most bytes of one call of a source or a sink, and the call that fails, counted from 1.
 type Calls = (usize, u64);
 
 // No call fails.
 const WHOLE: Calls = (65536, 0);
 
-// The words, the input, the source, the sink; the status, what is written, how many bytes of the input aren't taken,
-// and how many entries the journal has that is handed back.
+// The words, the input, the source, the sink; the status, what is written, the number of bytes of the input that aren't
+// taken, and the number of entries of the journal returned.
 type Row = (
     &'static str,
     Input,
@@ -34,7 +34,7 @@ type Row = (
 
 const SEVEN: &[u8] = b"fn main\nset i0 7\nout i0\nret\nend";
 
-// A sink of one byte a call fails at each call that the run makes.
+// A sink of one byte a call fails in each call that the run makes.
 const SINKS: &[Row] = &[
     ("run", Input::Text(SEVEN), (16, 0), (1, 1), 9, "", (0, 3)),
     ("run", Input::Text(SEVEN), (16, 0), (1, 2), 9, "7", (0, 3)),
@@ -131,8 +131,8 @@ const SINKS: &[Row] = &[
     ),
 ];
 
-// A source fails at each call that a command makes, with a file and without one; or it gives little, and the sink takes
-// little.
+// A source fails in each call that a command makes, with a file and without one; or it returns few bytes a call, and
+// the sink takes few.
 const SOURCES: &[Row] = &[
     ("run", Input::Text(SEVEN), (16, 1), WHOLE, 8, "", (31, 0)),
     ("run", Input::Text(SEVEN), (16, 2), WHOLE, 8, "", (15, 0)),
@@ -188,7 +188,7 @@ const SOURCES: &[Row] = &[
     ),
 ];
 
-// Texts that are no program, and traces with a bad line.
+// Texts that aren't programs, and traces with a bad line.
 const TEXTS: &[Row] = &[
     (
         "run",
@@ -369,7 +369,7 @@ fn bytes_of(alloc: Global, input: Input) -> Result<Vec<u8>, AllocError> {
     }
 }
 
-// What each file has.
+// The contents of each file.
 fn named_of(alloc: Global, input: Input) -> Result<Vec<u8>, AllocError> {
     match input {
         Input::Text(text) => text.to_vec(alloc),
@@ -395,7 +395,7 @@ fn sink_for(alloc: Global, (most, fails): Calls) -> Result<MemSink, AllocError> 
     Ok(MemSink::new(alloc, most, failing))
 }
 
-// The exit status, and how many entries are handed back.
+// The exit status, and the number of entries returned.
 fn told_of(ran: Option<Ran>) -> Option<(u8, usize)> {
     match ran {
         Some(ran) => Some((ran.status.code(), ran.journal.as_slice().len())),
@@ -403,7 +403,7 @@ fn told_of(ran: Option<Ran>) -> Option<(u8, usize)> {
     }
 }
 
-// Whether the call of a row, over this source and this sink, is answered as the row says.
+// Whether the call of a row, over this source and this sink, has the answer of the row.
 fn is_answered<R: AllocGlobal + Threads + Wait + Sync>(
     rt: &R,
     (words, _, _, _, status, written, (left, entries)): Row,
@@ -425,7 +425,7 @@ fn is_met<R: AllocGlobal + Threads + Wait + Sync>(rt: &R, row: Row) -> bool {
     }
 }
 
-// The place, from 1 on, of the first row that isn't answered as it says; 0 where there is none.
+// The index, from 1 on, of the first row whose call has another answer; 0 if there is none.
 fn first_unmet<R: AllocGlobal + Threads + Wait + Sync>(rt: &R, rows: &[Row]) -> u32 {
     let mut place = 1u32;
     for &row in rows {

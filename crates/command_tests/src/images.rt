@@ -10,7 +10,7 @@ use std::thread::Threads;
 const JOINED: &str =
     "fn left\nset i0 0\nset i1 1\nnewm r1 i0 i1\nputr r0 i0 r1\nret\nend\nfn right\nset i0 0\ngetr r1 r0 i0\nret\nend\nfn main\nset i0 1\nset i1 0\nnewm r0 i0 i1\npar left right\nret\nend\ntrace 1\n0 took 0\n0 ran 0 2\n0 chunk 0\n0 ran 0 2\n0 took 2\n0 ran 2 2\n0 ran 2 1\n0 took 1\n0 ran 1 2\n0 chunk 1\n0 ran 1 2\n0 ran 1 1\n0 took 0\n0 ran 0 1\n";
 
-// Where the read is stopped the tasks are still there.
+// When the read is stopped the tasks still exist.
 const WRITTEN: &[Call] = &[
     (
         "image",
@@ -31,10 +31,10 @@ fn images_are_written(rt: HostRuntime) {
     check_calls(&rt, WRITTEN);
 }
 
-// A call that writes an image, its input, and what `verify` writes of the image.
+// A call that writes an image, its input, and what `verify` writes for the image.
 type Verified = (&'static str, &'static str, &'static str);
 
-// Whether a written image is verified as it should be.
+// Whether `verify` writes the expected text for the image.
 fn is_verified<R: AllocGlobal + Threads + Wait + Sync>(
     rt: &R,
     (line, input, bytes): Verified,
@@ -131,14 +131,14 @@ fn images_are_verified(rt: HostRuntime) {
 // Three tasks: 0 waits for 1 and 2, of which 2 runs.
 const TASKS: &str = "image 1\ntask 0 - waiting\ntask 1 0 ended\ntask 2 0 running\n";
 
-// The tasks, and these lines behind them.
+// The tasks, and these lines after them.
 fn image_of(alloc: Global, lines: &str) -> Result<String, AllocError> {
     let mut image = String::from_str(alloc, TASKS)?;
     image.push_str(lines)?;
     Ok(image)
 }
 
-// The lines of an image behind those of the tasks, the exit status of `verify`, and what it writes.
+// The lines of an image after those of the tasks, the exit status of `verify`, and what it writes.
 type Told = (&'static str, u8, &'static str);
 
 fn is_told<R: AllocGlobal + Threads + Wait + Sync>(rt: &R, (lines, status, bytes): Told) -> bool {

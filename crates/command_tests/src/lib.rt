@@ -1,7 +1,7 @@
 // Tests of whole calls: command lines over sources and sinks in memory. It has no code of its own.
 #![tactic(auto)]
 
-// What the tests are made of: calls of the whole program, and gates where workers meet.
+// What the tests are made of: calls of the whole program, and gates at which workers meet.
 #[cfg(test)]
 mod calls;
 #[cfg(test)]

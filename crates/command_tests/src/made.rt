@@ -8,7 +8,7 @@ use std::alloc::Global;
 use std::sync::Wait;
 use std::thread::Threads;
 
-// The first made program. Its constants are the first three draws of the generator's rule from 1.
+// The first made program. Its constants are the first three draws from seed 1.
 const FIRST: &str =
     "fn f0\nmovr r3 r0\nset i2 2\nset i3 0\nnewm r0 i2 i3\nmovr r2 r0\nset i5 496\nset i2 0\nset i3 21\nset i7 7\nset i8 1\nlab a\nnewm r5 i2 i3\nputi r5 i2 i7\nsub i7 i7 i8\njz i7 b\njmp a\nlab b\nset i4 0\nputr r3 i4 r5\nset i3 1\nnewm r6 i2 i3\nputi r6 i2 i5\nputr r3 i4 r6\ngetr r7 r3 i4\ngeti i0 r7 i2\nnil r0\nret\nend\nfn main\nset i2 2\nset i3 0\nnewm r0 i2 i3\nmovr r9 r0\ncall f0\nset i4 0\ngetr r4 r9 i4\ngeti i6 r4 i4\nout i6\nret\nend\n";
 
@@ -29,8 +29,8 @@ fn a_program_is_made(rt: HostRuntime) {
     assert!(rt; (made, accepted) == (true, true));
 }
 
-// What made programs write: the sum of the first draws of the functions that are reached from the first one, by the
-// generator's rule.
+// What made programs print: the sum of the first draws of the functions reached from the first one, by the generator's
+// rule.
 const SUMS: &[(&str, &str)] = &[
     ("1 1 --run", "496\n"),
     ("7 60 --run", "31503\n"),
@@ -50,7 +50,7 @@ fn is_made_alike<R: AllocGlobal + Threads + Wait + Sync>(
         && answers_input(rt, ("make", options), &[], (0, sink.written()))
 }
 
-// Each made program writes its sum, twice the same bytes.
+// Each made program prints its sum, twice with the same bytes.
 #[test]
 fn made_programs_write_their_sums(rt: HostRuntime) {
     for &(options, first) in SUMS {
@@ -68,7 +68,7 @@ fn a_large_program_writes_its_sum(rt: HostRuntime) {
 
 const WORKERS: &str = "--workers 4 --leaf 512 --inner 1024";
 
-// The words of a made program, the command that replays its run, and what the program writes.
+// The words for a made program, the command that replays its run, and what the program prints.
 const SHARED: &[(&str, &str, &[u8])] = &[
     ("1 120", "replay", b"55024\nend: done\n"),
     ("1 500", "replay", b"237983\nend: done\n"),
@@ -77,7 +77,7 @@ const SHARED: &[(&str, &str, &[u8])] = &[
 // A larger one.
 const LARGE_SHARED: (&str, &str, &[u8]) = ("7 1000", "model", b"496486\nend: done\n");
 
-// Puts the trace of a journal behind a program, and says whether there was memory for it.
+// Appends the trace of a journal to a program; returns whether there was memory for it.
 fn add_trace(alloc: Global, text: &mut Vec<u8>, journal: &[Entry]) -> bool {
     match trace_text(alloc, Version::Two, journal) {
         Ok(trace) => text.extend_from_slice(trace.as_slice()).is_ok(),
@@ -85,7 +85,7 @@ fn add_trace(alloc: Global, text: &mut Vec<u8>, journal: &[Entry]) -> bool {
     }
 }
 
-// Whether the journal of a program's run is replayed by a command, which answers so.
+// Whether a command replays the journal of a program's run with this answer.
 fn is_replayed<R: AllocGlobal + Threads + Wait + Sync>(
     rt: &R,
     command: &str,
@@ -102,7 +102,7 @@ fn is_replayed<R: AllocGlobal + Threads + Wait + Sync>(
     }
 }
 
-// What four workers hand back.
+// What four workers return.
 fn ran_by_four<R: AllocGlobal + Threads + Wait + Sync>(
     rt: &R,
     program: &[u8],
@@ -114,7 +114,7 @@ fn ran_by_four<R: AllocGlobal + Threads + Wait + Sync>(
     }
 }
 
-// Whether four workers write the sum, and the journal that they hand back is replayed.
+// Whether four workers print the sum, and the journal that they return is replayed.
 fn is_shared<R: AllocGlobal + Threads + Wait + Sync>(
     rt: &R,
     command: &str,
@@ -131,7 +131,7 @@ fn is_shared<R: AllocGlobal + Threads + Wait + Sync>(
     }
 }
 
-// The same of a program that is made first.
+// The same for a program that is made first.
 fn is_made_and_shared<R: AllocGlobal + Threads + Wait + Sync>(
     rt: &R,
     (options, command, sum): (&str, &str, &[u8]),
@@ -141,7 +141,7 @@ fn is_made_and_shared<R: AllocGlobal + Threads + Wait + Sync>(
     made == Some(0) && is_shared(rt, command, sink.written(), sum)
 }
 
-// Four workers write the sum, and the journal that they hand back is replayed.
+// Four workers print the sum, and the journal that they return is replayed.
 #[test]
 fn workers_share_made_programs(rt: HostRuntime) {
     for &row in SHARED {
@@ -154,8 +154,8 @@ fn workers_share_a_large_program(rt: HostRuntime) {
     assert!(rt; is_made_and_shared(&rt, LARGE_SHARED));
 }
 
-// A made program whose accesses are in order, and what all its runs begin with: its outputs, and how many tasks and
-// steps they come to.
+// A made program whose accesses are in order, and how all its runs begin: its outputs, and the numbers of tasks and
+// steps.
 const IN_ORDER: (&str, &[u8]) = ("7 60", b"31503\nreport tasks 59 steps 6936 turns ");
 
 const CROWDS: &[&str] = &[
@@ -177,7 +177,7 @@ fn begins<R: AllocGlobal + Threads + Wait + Sync>(
     code == Some(0) && sink.written().starts_with(first)
 }
 
-// Whatever the workers' course, the runs of a program in order agree.
+// All schedules of the workers of a program in order have the same result.
 #[test]
 fn all_schedules_agree(rt: HostRuntime) {
     let mut made = sink_of(rt.alloc());

@@ -1,4 +1,4 @@
-// Calls of what stands beside runs: races, and replays of parallel loops. They hand no run back.
+// Calls besides runs: races, and replays of parallel loops. They return no run.
 
 use crate::calls::{ran, sink_of, source_of};
 use command_core::Ran;
@@ -7,10 +7,10 @@ use std::process::Abort;
 use std::sync::Wait;
 use std::thread::Threads;
 
-/// The words of a call, its input, its exit status, and what it writes.
+/// The command-line arguments, its input, its exit status, and what it writes.
 pub(crate) type Call = (&'static str, &'static str, u8, &'static str);
 
-// It adds the doubles of 0 to 9, by one worker.
+// It adds the doubles of 0 to 9, with one worker.
 const TEN: &str =
     "fn dbl\nadd i0 i0 i0\nret\nend\nfn main\nset i0 0\nset i1 10\npfor dbl\nout i0\nret\nend\ntrace 2\n0 took 0\n0 ran 0 10\n0 took 1\n0 ran 1 12\n0 took 3\n0 ran 3 12\n0 took 5\n0 ran 5 17\n0 took 6\n0 ran 6 17\n0 took 3\n0 ran 3 4\n0 took 4\n0 ran 4 12\n0 took 7\n0 ran 7 17\n0 took 8\n0 ran 8 12\n0 took 9\n0 ran 9 17\n0 took 10\n0 ran 10 17\n0 took 8\n0 ran 8 4\n0 took 4\n0 ran 4 4\n0 took 1\n0 ran 1 4\n0 took 2\n0 ran 2 12\n0 took 11\n0 ran 11 12\n0 took 13\n0 ran 13 17\n0 took 14\n0 ran 14 17\n0 took 11\n0 ran 11 4\n0 took 12\n0 ran 12 12\n0 took 15\n0 ran 15 17\n0 took 16\n0 ran 16 12\n0 took 17\n0 ran 17 17\n0 took 18\n0 ran 18 17\n0 took 16\n0 ran 16 4\n0 took 12\n0 ran 12 4\n0 took 2\n0 ran 2 4\n0 took 0\n0 ran 0 4\n0 ran 0 1\n";
 
@@ -18,15 +18,15 @@ const TEN: &str =
 const NO_NUMBER: &str =
     "fn dbl\nadd i0 i0 i0\nret\nend\nfn main\nset i0 0\nset i1 0\npfor dbl\nout i0\nret\nend\ntrace 2\n0 took 0\n0 ran 0 9\n0 ran 0 1\n";
 
-// Its loop calls a function that isn't there.
+// Its loop calls a function that doesn't exist.
 const NO_FUNCTION: &str =
     "fn dbl\nadd i0 i0 i0\nret\nend\nfn main\nset i0 0\nset i1 10\npfor x\nout i0\nret\nend\n";
 
-// Two tasks write one field of the root's object, and a collection comes between.
+// Two tasks write one field of the root's object, with a collection in between.
 pub(crate) const COLLECTS: &str =
     "fn left\nset i0 0\nset i1 14\nnewm r1 i0 i1\nputr r0 i0 r1\nnil r1\nnewm r2 i0 i1\nret\nend\nfn right\nset i0 0\nnil r1\nputr r0 i0 r1\nret\nend\nfn main\nset i0 1\nset i1 0\nnewm r0 i0 i1\npar left right\nset i2 0\ngetr r3 r0 i2\nnil r4\nsame i3 r3 r4\nout i3\nret\nend\ntrace 1\n0 took 0\n0 ran 0 2\n0 chunk 0\n0 ran 0 2\n0 took 1\n1 took 2\n0 ran 1 2\n0 chunk 1\n0 ran 1 2\n0 ran 1 1\n0 begin 1\n1 ran 2 3\n0 end 1 1 1 16\n0 ran 1 2\n1 ran 2 1\n1 took 0\n1 ran 0 5\n1 ran 0 1\n";
 
-// A task reads a field that a task beside it has written: the read is stopped.
+// A task reads a field that a concurrent task has written: the read is stopped.
 pub(crate) const ENTANGLES: &str =
     "fn left\nset i0 0\nset i1 1\nnewm r1 i0 i1\nputr r0 i0 r1\nret\nend\nfn right\nset i0 0\ngetr r1 r0 i0\nret\nend\nfn main\nset i0 1\nset i1 0\nnewm r0 i0 i1\npar left right\nret\nend\ntrace 2\n0 took 0\n0 ran 0 2\n0 chunk 0\n0 ran 0 2\n0 took 1\n0 ran 1 2\n0 chunk 1\n0 ran 1 2\n0 ran 1 1\n0 took 2\n0 ran 2 2\n";
 
@@ -38,12 +38,12 @@ const DISENTANGLED: &str =
 const SWAPS: &str =
     "fn left\nset i0 0\nset i1 1\nnewm r1 i0 i1\nnil r2\ncas i0 r0 i0 r2 r1\nret\nend\nfn right\nset i0 0\nset i1 1\nnewm r1 i0 i1\nnil r2\ncas i0 r0 i0 r2 r1\nret\nend\nfn main\nset i0 1\nset i1 0\nnewm r0 i0 i1\npar left right\nadd i2 i0 i1\nout i2\nout i0\nret\nend\ntrace 2\n0 took 0\n0 ran 0 2\n0 chunk 0\n0 ran 0 2\n0 took 2\n0 ran 2 2\n0 chunk 2\n0 ran 2 3\n0 ran 2 1\n0 took 1\n0 ran 1 2\n0 chunk 1\n0 ran 1 3\n0 ran 1 1\n0 took 0\n0 ran 0 2\n0 ran 0 1\n0 ran 0 1\n";
 
-// Whether a call has this exit status, and hands no run back.
+// Whether a call has this exit status, and returns no run.
 fn has_status(ran: &Ran, status: u8) -> bool {
     ran.journal.is_empty() && ran.shared.is_none() && ran.status.code() == status
 }
 
-// The same of a command line over a source.
+// The same for a command line over a source.
 fn exits_over<R: AllocGlobal + Threads + Wait + Sync>(
     rt: &R,
     line: &str,
@@ -57,7 +57,7 @@ fn exits_over<R: AllocGlobal + Threads + Wait + Sync>(
     }
 }
 
-/// Whether a command line that writes to a sink has this exit status, and hands no run back.
+/// Whether a command line that writes to a sink has this exit status, and returns no run.
 pub(crate) fn exits<R: AllocGlobal + Threads + Wait + Sync>(
     rt: &R,
     line: &str,
@@ -71,7 +71,7 @@ pub(crate) fn exits<R: AllocGlobal + Threads + Wait + Sync>(
     }
 }
 
-/// The same of a command line that writes just these bytes.
+/// The same for a command line that writes exactly these bytes.
 pub(crate) fn answers<R: AllocGlobal + Threads + Wait + Sync>(
     rt: &R,
     line: &str,
@@ -84,7 +84,7 @@ pub(crate) fn answers<R: AllocGlobal + Threads + Wait + Sync>(
     exits && sink.written() == bytes
 }
 
-/// Checks that each call is answered as it should be.
+/// Checks the answer of each call.
 pub(crate) fn check_calls<R: Abort + AllocGlobal + Threads + Wait + Sync>(rt: &R, calls: &[Call]) {
     for &(line, input, status, bytes) in calls {
         let answers = answers(rt, line, input.as_bytes(), status, bytes.as_bytes());

@@ -1,5 +1,5 @@
-// Calls by what they take and leave: the journal and the shared value of a run, refused words, and an input of a
-// thousand lines.
+// What calls take and leave: the journal and the shared value of a run, refused words, and an input of a thousand
+// lines.
 
 use crate::calls::{answers_leaving, ran, sink_of, source_of};
 use command_core::Ran;
@@ -13,7 +13,7 @@ use std::thread::Threads;
 
 const SEVEN: &str = "fn main\nset i0 7\nout i0\nret\nend";
 
-// A source of these bytes, where each file is empty.
+// A source of these bytes, in which each file is empty.
 fn input_of(alloc: Global, bytes: &[u8]) -> Result<MemSource, AllocError> {
     let input = bytes.to_vec(alloc)?;
     Ok(MemSource::new(input, Vec::new(alloc), 65536, Vec::new(alloc)))
@@ -29,7 +29,7 @@ fn begins_with(journal: &[Entry], kinds: &[Kind]) -> bool {
     kinds.len() <= journal.len()
 }
 
-// The exit status of a run, how many entries it hands back, and whether those of a table come first.
+// The exit status of a run, the number of entries it returns, and whether those of a table come first.
 type Look = (u8, usize, bool);
 
 fn look(ran: &Ran, kinds: &[Kind]) -> Look {
@@ -41,7 +41,7 @@ fn look(ran: &Ran, kinds: &[Kind]) -> Look {
     )
 }
 
-// A look at a run over a source and a sink.
+// The same for a run over a source and a sink.
 fn looked<R: AllocGlobal + Threads + Wait + Sync>(
     rt: &R,
     source: &mut MemSource,
@@ -54,7 +54,7 @@ fn looked<R: AllocGlobal + Threads + Wait + Sync>(
     }
 }
 
-// The same where the source was made.
+// The same, given the source.
 fn looked_over<R: AllocGlobal + Threads + Wait + Sync>(
     rt: &R,
     source: Result<MemSource, AllocError>,
@@ -67,7 +67,7 @@ fn looked_over<R: AllocGlobal + Threads + Wait + Sync>(
     }
 }
 
-// Whether the shared value that is handed back is that of a run that wrote one 7 in three steps.
+// Whether the shared value returned is that of a run that printed one 7 in three steps.
 fn has_shared(ran: &Ran) -> bool {
     match &ran.shared {
         None => false,
@@ -81,13 +81,13 @@ fn has_shared(ran: &Ran) -> bool {
 
 const JOURNAL: &[Kind] = &[Kind::Took(0), Kind::Ran(0, 2), Kind::Ran(0, 1)];
 
-// Whether this journal and this shared value are handed back.
+// Whether this journal and this shared value are returned.
 fn is_handed_back(ran: &Ran) -> bool {
     let journal = ran.journal.as_slice();
     journal.len() == 3 && begins_with(journal, JOURNAL) && has_shared(ran)
 }
 
-// The same of a run over a source.
+// The same for a run over a source.
 fn hands_back<R: AllocGlobal + Threads + Wait + Sync>(rt: &R, source: &mut MemSource) -> bool {
     let mut sink = sink_of(rt.alloc());
     match ran(rt, ("run", ""), source, &mut sink, &EmptyGate) {
@@ -133,7 +133,7 @@ fn words_are_refused(rt: HostRuntime) {
     }
 }
 
-// Adds a line so many times, and says whether there was memory for it.
+// Adds a line n times; returns whether there was memory for it.
 fn add_lines(text: &mut Vec<u8>, count: u32, line: &[u8]) -> bool {
     for _ in 0..count {
         if text.extend_from_slice(line).is_err() {
@@ -143,7 +143,7 @@ fn add_lines(text: &mut Vec<u8>, count: u32, line: &[u8]) -> bool {
     true
 }
 
-// A program that sets a register 600 times, and writes it 400 times.
+// A program that sets a register 600 times, and prints it 400 times.
 fn thousand_lines(alloc: Global) -> Option<Vec<u8>> {
     let mut text = Vec::new(alloc);
     if add_lines(&mut text, 1, b"fn main\n")
@@ -165,7 +165,7 @@ const FIRST: &[Kind] = &[
     Kind::Ran(0, 1),
 ];
 
-// A look at the run of the thousand lines.
+// The same for the run of the thousand lines.
 fn thousand_run<R: AllocGlobal + Threads + Wait + Sync>(
     rt: &R,
     sink: &mut MemSink,

@@ -1,4 +1,4 @@
-// Replays of journals, by the core and on the definitions alone, which write the same.
+// Replays of journals, by the core and by the definitions alone, which write the same.
 
 use crate::calls::{Row, answers_input, check_calls, sink_of, status_with};
 use std::alloc::Global;
@@ -198,11 +198,11 @@ fn replays_are_refused(rt: HostRuntime) {
 const COLLECTED: &str =
     "fn left\nset i0 0\nset i1 14\nnewm r1 i0 i1\nputr r0 i0 r1\nnil r1\nnewm r2 i0 i1\nret\nend\nfn right\nset i0 0\nnil r1\nputr r0 i0 r1\nret\nend\nfn main\nset i0 1\nset i1 0\nnewm r0 i0 i1\npar left right\nset i2 0\ngetr r3 r0 i2\nnil r4\nsame i3 r3 r4\nout i3\nret\nend\ntrace 1\n0 took 0\n0 ran 0 2\n0 chunk 0\n0 ran 0 2\n0 took 1\n1 took 2\n0 ran 1 2\n0 chunk 1\n0 ran 1 2\n0 ran 1 1\n0 begin 1\n1 ran 2 3\n0 end 1 1 1 16\n0 ran 1 2\n1 ran 2 1\n1 took 0\n1 ran 0 5\n1 ran 0 1\n";
 
-// A program with a journal in which a heap that waits is marked and swept.
+// A program with a journal in which a waiting heap is marked and swept.
 const MARKED: &str =
     "fn left\nset i0 0\ngetr r1 r0 i0\nnil r2\nputr r0 i0 r2\ngeti i0 r1 i0\nret\nend\nfn right\nret\nend\nfn main\nset i0 1\nset i1 0\nnewm r0 i0 i1\nset i0 0\nset i1 14\nnewm r1 i0 i1\nset i2 5\nputi r1 i0 i2\nputr r0 i0 r1\nnil r1\npar left right\nout i0\nret\nend\ntrace 1\n0 took 0\n0 ran 0 2\n0 chunk 0\n0 ran 0 9\n0 took 1\n0 ran 1 2\n0 ran 1 2\n0 mark 0\n0 some 0 64\n0 sweep 0 0\n0 ran 1 1\n0 ran 1 1\n0 took 2\n0 ran 2 1\n0 took 0\n0 ran 0 1\n0 ran 0 1\n";
 
-// Whether a replay by the core has the exit status of one on the definitions alone, and writes the same.
+// Whether a replay by the core has the exit status of one by the definitions alone, and writes the same.
 fn are_alike<R: AllocGlobal + Threads + Wait + Sync>(rt: &R, options: &str, input: &[u8]) -> bool {
     let mut sink = sink_of(rt.alloc());
     match status_with(rt, ("replay", options), input, &mut sink) {
@@ -211,7 +211,7 @@ fn are_alike<R: AllocGlobal + Threads + Wait + Sync>(rt: &R, options: &str, inpu
     }
 }
 
-// The text with another digit at a place.
+// The text with another digit at one position.
 fn with_other_digit(alloc: Global, text: &[u8], at: usize) -> Option<Vec<u8>> {
     let Ok(mut changed) = text.to_vec(alloc) else {
         return None;
@@ -222,7 +222,7 @@ fn with_other_digit(alloc: Global, text: &[u8], at: usize) -> Option<Vec<u8>> {
     Some(changed)
 }
 
-// Whether both replays write the same of the text with another digit at a place.
+// Whether both replays write the same for the text with another digit at one position.
 fn are_alike_at<R: AllocGlobal + Threads + Wait + Sync>(
     rt: &R,
     (options, text): (&str, &[u8]),
@@ -234,8 +234,8 @@ fn are_alike_at<R: AllocGlobal + Threads + Wait + Sync>(
     }
 }
 
-// How many digits of the trace can be changed, each by itself, so that both replays still write the same; None where
-// they don't.
+// The number of digits of the trace that can be changed, each alone, with the same results of both replays; None if
+// these differ.
 fn alike_changes<R: AllocGlobal + Threads + Wait + Sync>(
     rt: &R,
     options: &str,
@@ -254,7 +254,7 @@ fn alike_changes<R: AllocGlobal + Threads + Wait + Sync>(
     Some(digits)
 }
 
-// The options of both replays, a text, where its trace begins, and how many digits that has.
+// The options of both replays, a text, where its trace begins, and the number of its digits.
 const CHANGED: &[(&str, &str, usize, u32)] = &[
     ("--workers 2 --leaf 16 --report", COLLECTED, 253, 50),
     ("--inner 16 --report", MARKED, 246, 46),

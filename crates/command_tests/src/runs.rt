@@ -291,8 +291,8 @@ fn traced_runs(rt: HostRuntime) {
     check_calls(&rt, "run", TRACED);
 }
 
-// Two tasks compare and swap one field from nil, each to its own object; the sum of what both got, and what the left
-// one got.
+// Two tasks compare and swap one field from nil, each to its own object; the sum of both results, and the left one's
+// result.
 const SWAPS: &str =
     "fn left\nset i0 0\nset i1 1\nnewm r1 i0 i1\nnil r2\ncas i0 r0 i0 r2 r1\nret\nend\nfn right\nset i0 0\nset i1 1\nnewm r1 i0 i1\nnil r2\ncas i0 r0 i0 r2 r1\nret\nend\nfn main\nset i0 1\nset i1 0\nnewm r0 i0 i1\npar left right\nadd i2 i0 i1\nout i2\nout i0\nret\nend";
 

@@ -56,7 +56,7 @@ fn programs_of_a_file(rt: HostRuntime) {
     check_calls(&rt, "run", OF_A_FILE);
 }
 
-// Programs that are checked alone.
+// Programs that are only checked.
 const CHECKED: &[Row] = &[
     (
         "",

@@ -1,5 +1,5 @@
-// All faults of texts, as they are shown; each cause once, each of those that the reader calls `operand`, and texts with
-// several. The first fault is the one that the reader of programs tells.
+// All faults of texts, as they are shown; each cause once, each variant of `operand`, and texts with several. The first
+// fault is the one that the reader of programs reports.
 
 use fault_lines::{faults_json, faults_text};
 use program_reader::read_program;
@@ -7,7 +7,7 @@ use std::alloc::{AllocError, Global};
 use text_faults::{Fault, text_faults};
 use text_lines::MOST_BYTES;
 
-// A text, and what is shown of it.
+// A text, and how its faults are shown.
 type Case = (&'static str, &'static str);
 
 const OPERANDS: &[Case] = &[
@@ -104,7 +104,7 @@ const VALUES: &[Case] = &[
     ),
 ];
 
-// Whether the reader of programs tells the first of these faults, or takes the text where there is none.
+// Whether the reader of programs reports the first of these faults, or accepts the text if there is none.
 fn is_first(alloc: Global, text: &[u8], faults: &[Fault]) -> Result<bool, AllocError> {
     if text.len() > MOST_BYTES {
         return Ok(false);
@@ -134,7 +134,7 @@ fn is_shown(alloc: Global, case: Case, json: bool) -> Result<bool, AllocError> {
     Ok(first && shown.as_slice() == case.1.as_bytes())
 }
 
-// How many rows, from the first on, are shown so.
+// The number of rows, from the first on, that are shown so.
 fn shown(alloc: Global, cases: &[Case], json: bool) -> usize {
     let mut count = 0;
     for (place, case) in cases.iter().enumerate() {

@@ -2,14 +2,14 @@
 
 use near_words::nearest;
 
-// A word, and the word that is nearest to it among `WORDS`, or nothing.
+// A word, and its nearest word among `WORDS`, or nothing.
 const ROWS: &[(&str, &str)] = &[
-    // one letter in another one's place, one out, one in, two turned round
+    // one letter replaced, one missing, one added, two swapped
     ("mxin", "main"),
     ("mai", "main"),
     ("maiin", "main"),
     ("mian", "main"),
-    // two edits, for words of five letters and more
+    // two edits, for words of at least five letters
     ("rigth", "right"),
     ("ryght1", "right"),
     ("left_hand", ""),

@@ -39,7 +39,7 @@ fn family_heaps(alloc: Global) -> Option<Listed<Heap>> {
     }
 }
 
-// Whether just these are reached within a task's heap, in this order.
+// Whether exactly these are reached within a task's heap, in this order.
 fn reached(
     alloc: Global,
     machine: &State,
@@ -56,7 +56,7 @@ fn reached(
     }
 }
 
-// The same of the heap of a task of the family.
+// The same for the heap of a task of the family.
 fn are_reached(alloc: Global, task: u32, expected: &[Pair]) -> bool {
     let Some(machine) = machine_of(alloc, FAMILY) else {
         return false;
@@ -73,7 +73,7 @@ fn reached_within_heaps(rt: HostRuntime) {
     assert!(rt; are_reached(rt.alloc(), 1, &[(1, 2), (1, 0), (1, 1)]));
 }
 
-// A lone task with objects of 600, 400, 24, 500, 3,000, 1,025, 2,048 and 10 words, two of which are no fields.
+// A lone task with objects of 600, 400, 24, 500, 3,000, 1,025, 2,048 and 10 words, two of which have no fields.
 const LONE: &[Row] = &[Row {
     parent: None,
     register: None,
@@ -91,7 +91,7 @@ const OBJECTS: &[Fields] = &[
     (&[], 8),
 ];
 
-// The account of its heap, of whose objects these survive, and these are in the snapshot.
+// The account of its heap, in which these objects survive, and these are in the snapshot.
 fn lone_heap(alloc: Global, survivors: &[u32], snapshot: &[u32]) -> Option<Heap> {
     let survivors = names(alloc, 0, survivors)?;
     let snapshot = names(alloc, 0, snapshot)?;
@@ -105,8 +105,8 @@ fn lone_heap(alloc: Global, survivors: &[u32], snapshot: &[u32]) -> Option<Heap>
     Some(heap)
 }
 
-// The words of a heap, its units, the chunks that a collection of it takes, and the words of its large objects, where
-// its words can be counted.
+// The words of a heap, its units, the chunks that a collection of it takes, and the words of its large objects, if its
+// words are countable.
 fn counts(machine: &State, heap: &Heap) -> Option<(u64, u64, u64, u64)> {
     if !is_countable(machine, heap) {
         return None;
@@ -125,7 +125,7 @@ fn lone_counts(alloc: Global, machine: &State) -> Option<(u64, u64, u64, u64)> {
     counts(machine, &heap)
 }
 
-// The same, and the words of an object and of none.
+// The same, and the words of an object that exists and of one that doesn't.
 fn words(alloc: Global) -> Option<((u64, u64, u64, u64), usize, usize)> {
     let machine = machine_of(alloc, LONE)?;
     let counts = lone_counts(alloc, &machine)?;
@@ -142,8 +142,7 @@ fn words_and_units(rt: HostRuntime) {
     assert!(rt; units(1024) == 1 && units(1025) == 2);
 }
 
-// Collects a heap whose words can be counted, and says which units that takes and gives back, and the words that are
-// left.
+// Collects a heap whose words are countable; returns the units taken and given back, and the words left.
 fn collected(alloc: Global, machine: &State, heap: &mut Heap) -> Option<(u64, u64, u64)> {
     if !is_countable(machine, heap) {
         return None;
@@ -156,14 +155,14 @@ fn collected(alloc: Global, machine: &State, heap: &mut Heap) -> Option<(u64, u6
     Some(numbers)
 }
 
-// Whether the lone heap has just its survivors, and its room and its counts are those after a collection.
+// Whether the lone heap has exactly its survivors, and its room and its counts are those after a collection.
 fn is_collected(heap: &Heap) -> bool {
     has_lists(heap, &[&[(0, 0), (0, 1), (0, 2)], &[(0, 3)]])
         && are(heap.large.as_slice(), &[(0, 5), (0, 6)])
         && (heap.room, heap.since, heap.begun) == (524, 0, None)
 }
 
-// What a collection of the lone heap says, and whether the heap is then as it should be.
+// What a collection of the lone heap returns, and whether the heap is then the expected one.
 fn collection(alloc: Global, machine: &State) -> Option<((u64, u64, u64), bool)> {
     let mut heap = lone_heap(alloc, &[6, 3, 2, 5, 1, 0], &[])?;
     let numbers = collected(alloc, machine, &mut heap)?;
@@ -181,7 +180,7 @@ fn collected_by_birth(rt: HostRuntime) {
     assert!(rt; lone_collection(rt.alloc()) == Some(((2, 7, 4597), true)));
 }
 
-// Whether the lone heap has just what its snapshot has. The list that was filled last is emptied, and the room is 0.
+// Whether the lone heap has exactly its snapshot. The list filled last is emptied, and the room is 0.
 fn is_swept(heap: &Heap) -> bool {
     has_lists(heap, &[&[(0, 2)], &[(0, 0)]])
         && are(heap.large.as_slice(), &[(0, 6)])
@@ -190,7 +189,7 @@ fn is_swept(heap: &Heap) -> bool {
         && heap.swept
 }
 
-// Sweeps a heap whose words can be counted, and says how many units that gives back.
+// Sweeps a heap whose words are countable; returns the number of units given back.
 fn swept(alloc: Global, machine: &State, heap: &mut Heap) -> Option<u64> {
     if !is_countable(machine, heap) {
         return None;
@@ -203,7 +202,7 @@ fn swept(alloc: Global, machine: &State, heap: &mut Heap) -> Option<u64> {
     Some(given)
 }
 
-// What a sweep of the lone heap gives back, and whether the heap is then as it should be.
+// What a sweep of the lone heap gives back, and whether the heap is then the expected one.
 fn sweeping(alloc: Global, machine: &State) -> Option<(u64, bool)> {
     let mut heap = lone_heap(alloc, &[], &[2, 0, 6])?;
     let given = swept(alloc, machine, &mut heap)?;
@@ -221,8 +220,8 @@ fn swept_by_snapshot(rt: HostRuntime) {
     assert!(rt; lone_sweeping(rt.alloc()) == Some((6, true)));
 }
 
-// Places an object that fills a chunk, puts a name behind it, and places a large object, in a heap of which no word
-// counts; says whether all that went.
+// Places an object that fills a chunk, a name after it, and a large object, in a heap in which no word counts; returns
+// whether all that succeeded.
 fn place_three(alloc: Global, heap: &mut Heap) -> bool {
     heap.since = 0;
     place(alloc, heap, name((0, 0)), 1024).is_ok()
@@ -230,7 +229,7 @@ fn place_three(alloc: Global, heap: &mut Heap) -> bool {
         && place(alloc, heap, name((0, 2)), 1025).is_ok()
 }
 
-// Whether the names stand in a heap where they should, and what is reserved, the room, and the words since.
+// Whether the names are where they should be in a heap, and what is reserved, the room, and the words since.
 fn placed(alloc: Global) -> Option<(bool, (u32, u32, u64))> {
     let mut heap = fresh(alloc);
     heap.room = 1024;

@@ -8,7 +8,7 @@ use ledger_heaps::join;
 use run_journal::{Heap, Listed};
 use std::alloc::Global;
 
-// The account of a heap that is to join: a list of one name, a large name, the room and the words since.
+// The account of a heap before a join: a list of one name, a large name, the room and the words since.
 fn joining(alloc: Global, task: u32, since: u32) -> Option<Heap> {
     let mut heap = heap_of(alloc, task, &[&[0]], &[1])?;
     heap.room = since;
@@ -17,7 +17,7 @@ fn joining(alloc: Global, task: u32, since: u32) -> Option<Heap> {
     Some(heap)
 }
 
-// Adds such an account, and says whether it did.
+// Adds such an account; returns whether that succeeded.
 fn add_joining(alloc: Global, heaps: &mut Listed<Heap>, task: u32, since: u32) -> bool {
     match joining(alloc, task, since) {
         Some(heap) => heaps.push(heap).is_ok(),
@@ -35,7 +35,7 @@ fn has_few_since(heaps: &Listed<Heap>, task: u32) -> bool
     }
 }
 
-// Joins the tasks 1 and 2 with their parent 0, and says whether it did.
+// Joins the tasks 1 and 2 with their parent 0; returns whether that succeeded.
 fn join_three(alloc: Global, heaps: &mut Listed<Heap>) -> bool {
     if heaps.len() != 3 || !has_few_since(heaps, 0) {
         return false;
@@ -46,7 +46,7 @@ fn join_three(alloc: Global, heaps: &mut Listed<Heap>) -> bool {
     join(alloc, heaps, 0, 1).is_ok()
 }
 
-// Whether the parent has what was the children's, in front of its own.
+// Whether the parent has what was the children's, before its own.
 fn is_parent(heap: &Heap) -> bool {
     has_lists(heap, &[&[(1, 0)], &[(2, 0)], &[(0, 0)]])
         && are(heap.large.as_slice(), &[(1, 1), (2, 1), (0, 1)])
@@ -58,7 +58,7 @@ fn is_empty(heap: &Heap) -> bool {
     (heap.chunks.len(), heap.since, heap.worker) == (0, 0, None)
 }
 
-// Whether the heaps are then as they should be.
+// Whether the heaps are then the expected ones.
 fn are_joined(heaps: &Listed<Heap>) -> bool {
     match (heaps.get(0), heaps.get(2)) {
         (Some(parent), Some(right)) => is_parent(parent) && is_empty(right),
@@ -66,7 +66,7 @@ fn are_joined(heaps: &Listed<Heap>) -> bool {
     }
 }
 
-// The same of three new heaps that are joined.
+// The same for three new heaps that are joined.
 fn three_are_joined(alloc: Global) -> bool {
     let mut heaps = Listed::new(alloc);
     add_joining(alloc, &mut heaps, 0, 5)

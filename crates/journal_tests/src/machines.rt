@@ -11,7 +11,7 @@ pub(crate) fn name((task, count): Pair) -> Name {
     Name { task, count }
 }
 
-/// An object of a table: its references, and how many number fields it has.
+/// An object in a table: its references, and the number of its number fields.
 pub(crate) type Fields = (&'static [Option<Pair>], usize);
 
 /// A task of a table: its parent, what its one frame holds, and its objects.
@@ -54,7 +54,7 @@ fn object(alloc: Global, task: u32, (refs, ints): Fields) -> Option<Object> {
     })
 }
 
-// Adds an object of a task, and says whether it did.
+// Adds an object of a task; returns whether that succeeded.
 fn add_object(alloc: Global, objects: &mut Listed<Object>, task: u32, fields: Fields) -> bool {
     match object(alloc, task, fields) {
         Some(object) => objects.push(object).is_ok(),
@@ -72,7 +72,7 @@ fn objects(alloc: Global, task: u32, table: &[Fields]) -> Option<Listed<Object>>
     Some(objects)
 }
 
-// A frame whose register `r3` holds an object, or none.
+// A frame whose register `r3` holds an object, or nil.
 fn frame(register: Option<Pair>) -> Frame {
     let mut refs = [None; 16];
     refs[3] = register.map(name);
@@ -95,7 +95,7 @@ fn task(alloc: Global, row: Row) -> Task {
     }
 }
 
-// Adds the task of this number with its objects, and says whether it did.
+// Adds the task of this number with its objects; returns whether that succeeded.
 fn add_task(alloc: Global, machine: &mut State, number: u32, row: Row) -> bool {
     match objects(alloc, number, row.objects) {
         Some(objects) => {
@@ -139,7 +139,7 @@ pub(crate) fn names(alloc: Global, task: u32, counts: &[u32]) -> Option<Listed<N
     Some(names)
 }
 
-// Adds a list of a task's names, and says whether it did.
+// Adds a list of a task's names; returns whether that succeeded.
 fn add_list(alloc: Global, lists: &mut Listed<Listed<Name>>, task: u32, counts: &[u32]) -> bool {
     match names(alloc, task, counts) {
         Some(names) => lists.push(names).is_ok(),
@@ -157,7 +157,7 @@ fn lists(alloc: Global, task: u32, table: &[&[u32]]) -> Option<Listed<Listed<Nam
     Some(lists)
 }
 
-/// The account of a heap of lists of a task's names, and of large ones.
+/// The account of a heap with lists of a task's names, and large ones.
 pub(crate) fn heap_of(alloc: Global, task: u32, chunks: &[&[u32]], large: &[u32]) -> Option<Heap> {
     let chunks = lists(alloc, task, chunks)?;
     let large = names(alloc, task, large)?;
@@ -167,7 +167,7 @@ pub(crate) fn heap_of(alloc: Global, task: u32, chunks: &[&[u32]], large: &[u32]
     Some(heap)
 }
 
-/// Whether these are just the names of a table.
+/// Whether these are exactly the names of a table.
 pub(crate) fn are(names: &[Name], expected: &[Pair]) -> bool {
     for (found, wanted) in names.iter().zip(expected) {
         if *found != name(*wanted) {
@@ -177,7 +177,7 @@ pub(crate) fn are(names: &[Name], expected: &[Pair]) -> bool {
     names.len() == expected.len()
 }
 
-/// Whether a heap has just these lists of names.
+/// Whether a heap has exactly these lists of names.
 pub(crate) fn has_lists(heap: &Heap, expected: &[&[Pair]]) -> bool {
     for (found, wanted) in heap.chunks.as_slice().iter().zip(expected) {
         if !are(found.as_slice(), wanted) {

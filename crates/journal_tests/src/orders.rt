@@ -17,7 +17,7 @@ const TO_FIRST: &str =
 
 const BEGUN: &str = "0 begin 1\n";
 
-// MARKS is swept where it waits.
+// MARKS is swept while it waits.
 const SWEPT: &str = "0 mark 0\n0 some 0 64\n0 sweep 0 0\n";
 
 // MARKS is swept while the left child runs, and both children join.
@@ -195,7 +195,7 @@ fn first_cause_is_told(rt: HostRuntime) {
     }
 }
 
-// The second entry is refused, and then each is.
+// The second entry is refused, then all are.
 const STOPPED: &[&str] = &["trace 1\n0 took 0\n0 ran 0 3\n0 ran 0 2\n5 fuel\n"];
 
 const ANSWERS: &[Result<(), ApplyError>] = &[
@@ -205,7 +205,7 @@ const ANSWERS: &[Result<(), ApplyError>] = &[
     Err(ApplyError::Refused(Refused::Stopped)),
 ];
 
-// Whether a book answers so to the entries, one behind the other, and is stopped from the first refused one on.
+// Whether a book gives these answers to consecutive entries, and is stopped from the first refused one on.
 fn answers(book: &mut Book, entries: &[Entry], expected: &[Result<(), ApplyError>]) -> bool {
     for (entry, answer) in entries.iter().zip(expected) {
         if book.apply(*entry) != *answer || book.is_stopped() != answer.is_err() {
@@ -218,7 +218,7 @@ fn answers(book: &mut Book, entries: &[Entry], expected: &[Result<(), ApplyError
     entries.len() == expected.len()
 }
 
-// The same of a new book of a program that was read with the entries.
+// The same for a new book of a program that was read with the entries.
 fn answers_in_new_book(alloc: Global, read: &TraceInput) -> bool {
     match Book::open(alloc, &read.program, settings(FEW_STEPS)) {
         Ok(mut book) => answers(&mut book, read.trace.entries.as_slice(), ANSWERS),
@@ -226,7 +226,7 @@ fn answers_in_new_book(alloc: Global, read: &TraceInput) -> bool {
     }
 }
 
-// The same of the program and the entries of a text.
+// The same for the program and the entries of a text.
 fn stops(alloc: Global, program: &str, journal: &[&str]) -> bool {
     match read(alloc, program, journal) {
         Some(read) => answers_in_new_book(alloc, &read),

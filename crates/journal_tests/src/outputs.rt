@@ -2,7 +2,7 @@
 
 use crate::reports::{Run, is_written};
 
-// Both children add 3 to a number of their own, and the parent adds up.
+// Both children add 3 to their own number, and the parent adds these.
 const ADDS: &str =
     "fn left\nset i1 10\nadd i0 i1 i2\nret\nend\nfn right\nset i1 20\nadd i0 i1 i2\nret\nend\nfn main\nset i2 3\npar left right\nadd i0 i0 i1\nout i0\nret\nend\n";
 
@@ -12,7 +12,7 @@ const COUNTS: &str = "fn main\nlab a\nout i0\njmp a\nend\n";
 
 const DEEPENS: &str = "fn main\ncall main\nend\n";
 
-// Both children want to put an object of their own into the parent's, where there is none.
+// Both children try to put their own object into the parent's, which holds nil.
 const SWAPS: &str =
     "fn left\nset i0 0\nset i1 1\nnewm r1 i0 i1\nnil r2\ncas i0 r0 i0 r2 r1\nret\nend\nfn right\nset i0 0\nset i1 1\nnewm r1 i0 i1\nnil r2\ncas i0 r0 i0 r2 r1\nret\nend\nfn main\nset i0 1\nset i1 0\nnewm r0 i0 i1\npar left right\nadd i2 i0 i1\nout i2\nout i0\nret\nend\n";
 

@@ -9,14 +9,14 @@ pub(crate) const PRINTS: &str = "fn main\nset i0 7\nout i0\nret\nend\n";
 /// The root of any program is taken.
 pub(crate) const TOOK: &str = "trace 1\n0 took 0\n";
 
-// Its left child allocates 16 words, and is then to allocate more.
+// Its left child allocates 16 words, and is about to allocate more.
 pub(crate) const COLLECTS: &str =
     "fn left\nset i0 0\nset i1 14\nnewm r1 i0 i1\nputr r0 i0 r1\nnil r1\nnewm r2 i0 i1\nret\nend\nfn right\nset i0 0\nnil r1\nputr r0 i0 r1\nret\nend\nfn main\nset i0 1\nset i1 0\nnewm r0 i0 i1\npar left right\nset i2 0\ngetr r3 r0 i2\nnil r4\nsame i3 r3 r4\nout i3\nret\nend\n";
 
 pub(crate) const TO_BEGIN: &str =
     "trace 1\n0 took 0\n0 ran 0 2\n0 chunk 0\n0 ran 0 2\n0 took 1\n1 took 2\n0 ran 1 2\n0 chunk 1\n0 ran 1 2\n0 ran 1 1\n";
 
-// It forks over two objects of 19 words together.
+// It forks above two objects of 19 words together.
 pub(crate) const MARKS: &str =
     "fn left\nset i0 0\ngetr r1 r0 i0\nnil r2\nputr r0 i0 r2\ngeti i0 r1 i0\nret\nend\nfn right\nret\nend\nfn main\nset i0 1\nset i1 0\nnewm r0 i0 i1\nset i0 0\nset i1 14\nnewm r1 i0 i1\nset i2 5\nputi r1 i0 i2\nputr r0 i0 r1\nnil r1\npar left right\nout i0\nret\nend\n";
 
@@ -30,7 +30,7 @@ pub(crate) const TWO_OBJECTS: &str =
 pub(crate) const LISTS: &str =
     "fn main\nset i0 1\nset i1 597\nlab top\nnewm r1 i0 i1\nset i2 0\nputr r1 i2 r0\nmovr r0 r1\njmp top\nend\n";
 
-/// It forks over an object of 502 words and one of 1,002 that it holds no longer.
+/// It forks above an object of 502 words and one of 1,002 that it no longer holds.
 pub(crate) const SWEEPS: &str =
     "fn kid\nout i0\nret\nend\nfn main\nset i0 0\nset i1 1000\nnewm r0 i0 i1\nnil r0\nset i1 500\nnewm r1 i0 i1\npar kid kid\nret\nend\n";
 
@@ -45,7 +45,7 @@ pub(crate) const LARGE_AND_SMALL: &str =
 /// inner heaps are due.
 pub(crate) type Limits = (u32, u64, u32, u32, u32);
 
-/// The settings of a run of the first version with these limits; the usual ones where a limit is out of its range.
+/// The settings of a version 1 run with these limits; the usual ones if a limit is out of its range.
 pub(crate) fn settings((workers, fuel, chunks, leaf, inner): Limits) -> Settings {
     if workers < 1 || 64 < workers || fuel < 1 || 1_000_000_000 < fuel || chunks < 2 {
         return Settings::usual();
@@ -56,7 +56,7 @@ pub(crate) fn settings((workers, fuel, chunks, leaf, inner): Limits) -> Settings
     Settings::new(Version::One, workers, fuel, chunks, leaf, inner)
 }
 
-/// The text of all these parts, one behind the other.
+/// All these parts, concatenated.
 pub(crate) fn joined(alloc: Global, first: &str, rest: &[&str]) -> Option<String> {
     let Ok(mut text) = String::from_str(alloc, first) else {
         return None;

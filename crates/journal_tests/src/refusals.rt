@@ -6,10 +6,10 @@ use run_report::{end_text, refused_text};
 use std::alloc::Global;
 use trace_input::TraceInput;
 
-/// A run's limits, its program, the parts of its journal, and what is written last of the replay.
+/// A run's limits, its program, the parts of its journal, and the last line of the replay.
 pub(crate) type Case = (Limits, &'static str, &'static [&'static str], &'static str);
 
-// What is written last of a replay that comes to this.
+// The last line of a replay with this result.
 fn last_line(alloc: Global, end: Result<RunEnd, ReplayError>) -> Option<String> {
     match end {
         Ok(end) => end_text(alloc, end).ok(),
@@ -18,7 +18,7 @@ fn last_line(alloc: Global, end: Result<RunEnd, ReplayError>) -> Option<String> 
     }
 }
 
-// Whether this is written last of the replay of a journal that was read.
+// Whether this is the last line of the replay of a journal that was read.
 fn ends_with(alloc: Global, read: &TraceInput, limits: Limits, line: &str) -> bool {
     let entries = read.trace.entries.as_slice();
     let end = model_replay(alloc, &read.program, settings(limits), entries);
@@ -28,7 +28,7 @@ fn ends_with(alloc: Global, read: &TraceInput, limits: Limits, line: &str) -> bo
     }
 }
 
-/// Whether what is written last is what should be.
+/// Whether the last line is the expected one.
 pub(crate) fn is_told(alloc: Global, (limits, program, journal, line): Case) -> bool {
     match read(alloc, program, journal) {
         Some(read) => ends_with(alloc, &read, limits, line),

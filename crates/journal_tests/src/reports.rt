@@ -13,7 +13,7 @@ const PUT_OFF: &str =
 const COLLECTED: &str =
     "trace 1\n0 took 0\n0 ran 0 2\n0 chunk 0\n0 ran 0 5\n0 chunk 0\n0 ran 0 5\n0 begin 0\n0 end 0 2 3 1200\n0 chunk 0\n0 ran 0 5\n0 chunk 0\n0 ran 0 5\n0 putoff 0\n0 chunk 0\n0 ran 0 5\n0 chunk 0\n";
 
-// SWEEPS, up to where its heap may be marked, and from there on to its end.
+// SWEEPS, up to where its heap may be marked, and from there to its end.
 const TO_SWEEP: &str = "trace 1\n0 took 0\n0 ran 0 2\n0 chunk 0\n0 ran 0 3\n0 chunk 0\n0 ran 0 2\n";
 
 const SWEPT: &str =
@@ -30,7 +30,7 @@ pub(crate) struct Run {
     pub(crate) text: &'static [&'static str],
 }
 
-// Whether a text has just these parts.
+// Whether a text is exactly these parts.
 fn has_parts(alloc: Global, text: &[u8], parts: &[&str]) -> bool {
     match joined(alloc, "", parts) {
         Some(whole) => text == whole.as_bytes(),
@@ -38,7 +38,7 @@ fn has_parts(alloc: Global, text: &[u8], parts: &[&str]) -> bool {
     }
 }
 
-// Whether what should be is written of a run that was read.
+// Whether the expected text is written of a run that was read.
 fn writes(alloc: Global, read: &TraceInput, run: &Run) -> bool {
     let settings = settings(run.limits).with_version(read.trace.version);
     let entries = read.trace.entries.as_slice();
@@ -52,7 +52,7 @@ fn writes(alloc: Global, read: &TraceInput, run: &Run) -> bool {
     }
 }
 
-/// Whether what should be is written of a run.
+/// Whether the expected text is written of a run.
 pub(crate) fn is_written(alloc: Global, run: &Run) -> bool {
     match read(alloc, run.program, run.journal) {
         Some(read) => writes(alloc, &read, run),
@@ -155,7 +155,7 @@ fn writes_report(alloc: Global, read: &TraceInput, limits: Limits, text: &str) -
 // The most chunks, the journal, and what is written.
 type Pool = (u32, &'static str, &'static str);
 
-// Whether what should be is written.
+// Whether the expected text is written.
 fn runs_out(alloc: Global, (chunks, journal, text): Pool) -> bool {
     let limits = (1, 1_000_000, chunks, 1000, 8192);
     match read(alloc, LISTS, &[journal]) {

@@ -26,7 +26,7 @@ const BIRTH: Birth = Birth { task: 3, count: 5 };
 
 const NEXT: Birth = Birth { task: 3, count: 6 };
 
-// Where an object leads before and after it is forwarded, and its header then.
+// An object's target before and after it is forwarded, and its header then.
 fn forwarding(alloc: Global) -> Option<(Option<Addr>, Option<Addr>, Header)> {
     let Ok(mut chunk) = Chunk::new(alloc, 7, 1) else {
         return None;
@@ -37,7 +37,7 @@ fn forwarding(alloc: Global) -> Option<(Option<Addr>, Option<Addr>, Header)> {
     Some((before, forwarded_at(&chunk, 0), header_at(&chunk, 0)))
 }
 
-// The birth name that an object is given, and whether it is mutable once it is frozen.
+// The birth name given to an object, and whether it is mutable after a freeze.
 fn birth_and_frozen(alloc: Global) -> Option<(Birth, bool)> {
     let Ok(mut chunk) = Chunk::new(alloc, 7, 1) else {
         return None;
@@ -56,7 +56,7 @@ fn marks_of_an_object(rt: HostRuntime) {
     assert!(rt; birth_and_frozen(rt.alloc()) == Some((NEXT, false)));
 }
 
-// Whether an object is born, whether it is one once it was dropped, and where the next one begins then.
+// Whether an object is born, whether it is one after a drop, and where the next one begins then.
 fn hole(alloc: Global) -> Option<(bool, bool, u32)> {
     let Ok(mut chunk) = Chunk::new(alloc, 7, 1) else {
         return None;
@@ -67,7 +67,7 @@ fn hole(alloc: Global) -> Option<(bool, bool, u32)> {
     Some((born, is_object_at(&chunk, 0), next_at(&chunk, 0)))
 }
 
-// The number, the size and the used words of a chunk that is cleared.
+// The number, the size and the used words of a cleared chunk.
 fn cleared(alloc: Global) -> Option<(u32, u32, u32)> {
     let Ok(mut chunk) = Chunk::new(alloc, 7, 1) else {
         return None;
@@ -84,7 +84,7 @@ fn holes(rt: HostRuntime) {
     assert!(rt; cleared(rt.alloc()) == Some((7, 1024, 0)));
 }
 
-// Where an object is copied to, its reference, and its numbers.
+// The address of an object's copy, its reference, and its numbers.
 fn copied(from: &mut Chunk, to: &mut Chunk) -> (u32, Option<Addr>, i64, i64)
     requires from_cells { from.old.cells ≡ [] }
     requires from_size { from.old.size ≡ 1024 }
@@ -98,7 +98,7 @@ fn copied(from: &mut Chunk, to: &mut Chunk) -> (u32, Option<Addr>, i64, i64)
     (at, ref_at(to, 0, 0), int_at(to, 0, 0), int_at(to, 0, 1))
 }
 
-// The same of two chunks.
+// The same for two chunks.
 fn copied_between(alloc: Global) -> Option<(u32, Option<Addr>, i64, i64)> {
     let Ok(mut from) = Chunk::new(alloc, 7, 1) else {
         return None;
@@ -114,8 +114,8 @@ fn fields_of_a_copy(rt: HostRuntime) {
     assert!(rt; copied_between(rt.alloc()) == Some((0, Some(TO), 0, -1)));
 }
 
-// The number of a chunk that is taken from a new pool, whether three units are too many then, the units in use, the
-// number and the size of a chunk that comes and goes, the units in use then, and the owner of its number.
+// The number of a chunk taken from a new pool, whether three units are too many then, the units in use, the number and
+// the size of a chunk that comes and goes, the units in use then, and the owner of its number.
 fn first_taken(pool: &mut Pool) -> (Option<u32>, bool, u32, Option<(u32, u32)>, u32, Option<u32>) {
     let number = take(pool, 7, 1);
     let full = is_full(pool, 3);
@@ -125,7 +125,7 @@ fn first_taken(pool: &mut Pool) -> (Option<u32>, bool, u32, Option<(u32, u32)>, 
 }
 
 // The number of the next chunk, whether one unit is too many then, the units in use, and the owners of both once the
-// second got another one.
+// second got another.
 fn next_taken(pool: &mut Pool) -> (Option<u32>, bool, u32, Option<u32>, Option<u32>) {
     let number = take(pool, 8, 2);
     let full = is_full(pool, 1);
@@ -134,8 +134,7 @@ fn next_taken(pool: &mut Pool) -> (Option<u32>, bool, u32, Option<u32>, Option<u
     (number, full, in_use, owner(pool, 0), owner(pool, 1))
 }
 
-// A pool that is filled to its limit: a chunk changes its owner, and the number of one that was handed back is used
-// again.
+// A pool that is filled to its limit: a chunk changes its owner, and a returned number is used again.
 #[test]
 fn chunks_come_and_go(rt: HostRuntime) {
     let mut pool = Pool::new(rt.alloc(), 3);

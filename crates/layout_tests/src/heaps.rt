@@ -18,7 +18,7 @@ const FIELDS: &[Put] = &[
 
 const FIELDS_SEEN: &[Seen] = &[((7, 0), 5, Some((9, 4)))];
 
-// Whether the object's second number is written, whether its reference is seen then, and its two numbers.
+// Whether the object's second number is written, whether its reference is then visible, and its two numbers.
 fn numbers(heap: &mut LeafHeap) -> (bool, bool, Option<i64>, Option<i64>) {
     let written = set_number(heap, OBJECT, 1, -1);
     let seen = holds(heap, FIELDS_SEEN);
@@ -30,14 +30,14 @@ fn numbers(heap: &mut LeafHeap) -> (bool, bool, Option<i64>, Option<i64>) {
     )
 }
 
-// Whether the object is mutable, whether it is frozen then, and whether it is mutable after that.
+// Whether the object is mutable, whether it is then frozen, and whether it is mutable after that.
 fn mutability(heap: &mut LeafHeap) -> (bool, bool, bool) {
     let before = is_mutable(heap, OBJECT);
     let frozen = freeze(heap, OBJECT);
     (before, frozen, is_mutable(heap, OBJECT))
 }
 
-// Both of a heap with such an object.
+// Both for a heap with such an object.
 fn looks(alloc: Global) -> Option<((bool, bool, Option<i64>, Option<i64>), (bool, bool, bool))> {
     let mut heap = heap_of(alloc, FIELDS)?;
     let numbers = numbers(&mut heap);
@@ -50,17 +50,17 @@ fn fields_of_own_objects(rt: HostRuntime) {
     assert!(rt; looks(rt.alloc()) == Some(expected));
 }
 
-// Whether an empty chunk has a place for the largest small object, its room, and whether places are made for one
-// object.
+// Whether the largest small object fits in an empty chunk, its room, and whether capacity for one object can be
+// reserved.
 fn empty(alloc: Global) -> Option<(bool, u32, bool)> {
     let mut heap = heap_of(alloc, &[Put::Chunk(7, 1)])?;
     let (has_place, room) = (heap.has_place(1024), heap.room());
     Some((has_place, room, heap.make_spare(1).is_ok()))
 }
 
-// Of a heap with the largest small object: the room, the words since the count began and all words; whether the
-// smallest object has a place, and whether the heap owns a place of its chunk and of another; and the words since the
-// count began anew.
+// For a heap with the largest small object: the room, the words since the count began and all words; whether the
+// smallest object fits, and whether the heap owns an address of its chunk and one of another; and the words after the
+// count was reset.
 fn full(alloc: Global) -> Option<((u32, u64, u64), (bool, bool, bool), u64)> {
     let mut heap = heap_of(alloc, &[Put::Chunk(7, 1), Put::Object(0, 1022, 0)])?;
     let words = (heap.room(), heap.since(), heap.words());
@@ -76,7 +76,7 @@ fn room_for_small_objects(rt: HostRuntime) {
     assert!(rt; full(rt.alloc()) == Some(((0, 1024, 1024), (false, true, false), 0)));
 }
 
-// Of a heap with a chunk of many units: the room, which chunk is reserved, and which of two sizes has a place.
+// For a heap with a chunk of many units: the room, which chunk is reserved, and which of two sizes fits.
 fn reserved(alloc: Global) -> Option<(u32, Option<usize>, bool, bool)> {
     let heap = heap_of(alloc, &[Put::Chunk(7, 977)])?;
     let (room, reserved) = (heap.room(), heap.reserved());
@@ -96,7 +96,7 @@ fn filled(alloc: Global) -> Option<((u64, u64, u64), u64, Option<usize>)> {
     Some((counts, heap.small_words(), heap.reserved()))
 }
 
-// A large object, of 1,023 fields or more, has a chunk of just its units.
+// A large object, of at least 1,023 fields, has a chunk of exactly its units.
 #[test]
 fn chunks_of_large_objects(rt: HostRuntime) {
     assert!(rt; reserved(rt.alloc()) == Some((0, Some(0), false, true)));

@@ -5,7 +5,7 @@ use object_layout::Chunk;
 use std::alloc::Global;
 use std::sync::Arc;
 
-// Whether all was let go, whether all is shown, how many layers there are, and how many share the first.
+// Whether all was released, whether all is shown, the number of layers, and how many share the first.
 fn state(alloc: Global, pieces: &Pieces) -> Option<(bool, bool, usize, usize)> {
     let layers = pieces.layers(alloc).ok()?;
     let owners = match layers.first() {
@@ -15,7 +15,7 @@ fn state(alloc: Global, pieces: &Pieces) -> Option<(bool, bool, usize, usize)> {
     Some((pieces.lost(), pieces.is_settled(), layers.len(), owners))
 }
 
-// Puts a layer with the piece of an empty chunk of a number.
+// Adds a layer with the piece of an empty chunk with this number.
 fn put_one(alloc: Global, pieces: &mut Pieces, number: u32) -> Option<()> {
     let chunk = Chunk::new(alloc, number, 1).ok()?;
     let mut layer = Layer::new(alloc);
@@ -23,7 +23,7 @@ fn put_one(alloc: Global, pieces: &mut Pieces, number: u32) -> Option<()> {
     pieces.put(alloc, layer, 1).ok()
 }
 
-// The states before a piece is kept, then, once its chunk changed, and once all is let go.
+// The states before a piece is kept, then, once its chunk changed, and once all is released.
 fn states(alloc: Global) -> Option<[Option<(bool, bool, usize, usize)>; 4]> {
     let mut pieces = Pieces::new();
     let none = state(alloc, &pieces);
@@ -48,7 +48,7 @@ fn chunk_pieces_are_shared(rt: HostRuntime) {
     );
 }
 
-// The layers once so many pieces were put one by one.
+// The layers after n pieces were added one by one.
 fn layers_of(alloc: Global, count: u32) -> Option<Vec<Arc<Layer, Global>>> {
     let mut pieces = Pieces::new();
     for number in 0..count {
@@ -57,7 +57,7 @@ fn layers_of(alloc: Global, count: u32) -> Option<Vec<Arc<Layer, Global>>> {
     pieces.layers(alloc).ok()
 }
 
-// How many of so many pieces are found in layers.
+// The number of n pieces that are found in layers.
 fn found_in(layers: &[Arc<Layer, Global>], count: u32) -> usize {
     let mut found: usize = 0;
     for number in 0..count {
@@ -68,7 +68,7 @@ fn found_in(layers: &[Arc<Layer, Global>], count: u32) -> usize {
     found
 }
 
-// How many layers there are once so many pieces were put one by one, and how many of the pieces are found in them.
+// The number of layers after n pieces were added one by one, and the number of those pieces found in them.
 fn counts_of(alloc: Global, count: u32) -> Option<(usize, usize)> {
     let layers = layers_of(alloc, count)?;
     let found = found_in(&layers, count);

@@ -9,7 +9,7 @@ use memory_scenes::{
 use object_layout::{Addr, Header};
 use std::alloc::Global;
 
-// An object that refers to another one, and has a number. That of the other one can be written.
+// An object with a reference to another one, and a number. The other one's number can be written.
 const UPPER: [Put; 4] = [
     Put::Chunk(5, 1),
     Put::Object(1, 1, 0),
@@ -53,7 +53,7 @@ fn hidden(alloc: Global) -> Option<View> {
     seen_below(alloc, &heap_of(alloc, &[Put::Chunk(5, 1)])?)
 }
 
-// A number, or a reference, of what a view shows.
+// A number, or a reference, that a view shows.
 fn shown_int(view: &View, object: Addr, field: u32) -> Option<i64> {
     let header = view.find(object)?;
     if field < header.nints {
@@ -137,12 +137,12 @@ enum Change {
     Nothing,
     // A number is written into the object that lies there.
     Write(Spot, i64),
-    // An object with one number is placed, which may be written or not.
+    // An object with one number is placed, mutable or not.
     Place(bool),
     Freeze(Spot),
-    // All goes that this object doesn't lead to.
+    // All is dropped that isn't reachable from this object.
     Sweep(Spot),
-    // The pieces are made ready.
+    // The pieces are prepared.
     Settle,
 }
 
@@ -157,10 +157,10 @@ fn happens(alloc: Global, heap: &mut LeafHeap, what: Change) -> bool {
     }
 }
 
-// Two objects with a number each, 7 and 9, of which the second one can be written.
+// Two objects with a number each, 7 and 9, of which the second is mutable.
 const TWO: [Put; 3] = [Put::Chunk(0, 1), Put::Object(0, 1, 0), Put::Object(0, 1, 1)];
 
-// The numbers that a view shows of objects at the first three places of chunk 0.
+// The numbers that a view shows for objects at the first three addresses of chunk 0.
 type Numbers = [Option<i64>; 3];
 
 fn shown(heap: &LeafHeap) -> Option<Numbers> {
@@ -216,7 +216,7 @@ fn shows_changes(alloc: Global, changes: &[Change], after: Numbers) -> bool {
     shown_around(alloc, changes) == Some((FIRST_SHOWN, after))
 }
 
-// Pieces that were made ready don't outlast a change of what they show.
+// Prepared pieces don't outlast a change of what they show.
 #[test]
 fn views_show_what_changed(rt: HostRuntime) {
     for &(changes, after) in CHANGES {

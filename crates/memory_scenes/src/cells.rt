@@ -1,4 +1,4 @@
-// Whether references within a heap lead to objects, and how many words the small objects take.
+// Whether references within a heap lead to objects, and the words of the small objects.
 
 ghost use Rattle.std.specs.Prelude.{◌≡◌, All, IfSome, IsTrue};
 ghost use Rattle.object_layout.specs.Cell.{IsBorn};
@@ -33,7 +33,7 @@ fn is_fit(heap: &LeafHeap, chunk: &Chunk, at: u32) -> bool
     !is_born_at(chunk, at) || leads_to_objects(heap, chunk, at)
 }
 
-// Whether all that lies in a chunk is.
+// Whether everything in a chunk is.
 fn is_fit_chunk(heap: &LeafHeap, chunk: &Chunk) -> bool
     ensures { IsTrue result → All (IsFit heap.now.chunks) chunk.now.cells }
 {
@@ -77,7 +77,7 @@ fn small_in_chunk(chunk: &Chunk) -> u32
     words
 }
 
-/// The words of the small objects of these chunks; None where 32 bits don't count them.
+/// The words of the small objects of these chunks; None if the number doesn't fit in 32 bits.
 pub fn small_in_all(chunks: &[Chunk]) -> Option<u32>
     ensures { IfSome result (λ n. n ≡ small_words chunks.now) }
 {

@@ -44,7 +44,7 @@ fn are_in_use(pool: &Pool, chunks: &[Chunk]) -> bool
     }
 }
 
-// Whether none of these chunks has the number of another of them, or of one behind them.
+// Whether none of these chunks has the number of another of them, or of one after them.
 #[tactic(auto, using(inner_mark_gc::proofs::Giving::fresh_both))]
 fn are_apart(chunks: &[Chunk], behind: &[Chunk]) -> bool
     requires { AreApart behind.now }
@@ -60,7 +60,7 @@ fn are_apart(chunks: &[Chunk], behind: &[Chunk]) -> bool
     }
 }
 
-// The same of two lists behind one another.
+// The same for two lists, concatenated.
 #[tactic(auto, using(inner_mark_gc::proofs::Giving::fresh_both))]
 fn are_all_apart(left: &[Chunk], right: &[Chunk], behind: &[Chunk]) -> bool
     requires { AreApart behind.now }
@@ -77,7 +77,7 @@ fn are_all_apart(left: &[Chunk], right: &[Chunk], behind: &[Chunk]) -> bool
     }
 }
 
-/// A worker takes a task of this heap, and it forks, if it may: its children begin the functions 5 and 6.
+/// A worker takes a task with this heap, and it forks, if it may: its children begin the functions 5 and 6.
 pub fn forked(
     alloc: Global,
     tree: &mut Tree,
@@ -96,12 +96,12 @@ pub fn forked(
     fork(alloc, tree, t, heap, above, top, 5, 6).ok()
 }
 
-/// Whether a task without chunks forks. Its children are let go.
+/// Whether a task without chunks forks. Its children are dropped.
 pub fn has_forked(alloc: Global, tree: &mut Tree, t: u32, top: &Frames) -> bool {
     forked(alloc, tree, t, &LeafHeap::new(alloc), None, top).is_some()
 }
 
-/// A worker takes a child, and it ends: the parent that goes on. None where it is no child.
+/// A worker takes a child, and it ends: returns the parent that continues; None if it isn't a child.
 pub fn ended(tree: &mut Tree, t: u32) -> Option<Option<u32>> {
     if t == 0 || t >= tree.made() {
         return None;
@@ -113,7 +113,7 @@ pub fn ended(tree: &mut Tree, t: u32) -> Option<Option<u32>> {
     Some(finish(tree, t))
 }
 
-// Makes places for a join, and says whether two children may be joined with their parent.
+// Reserves capacity for a join; returns whether two children may be joined with their parent.
 fn prepare(tree: &Tree, pool: &Pool, parent: &mut Side, left: &Side, right: &Side) -> bool
     ensures room { IsTrue result → HasRoom parent.new left.now right.now }
     ensures ended { IsTrue result → HaveEnded tree.now parent.new.task left.now.task right.now.task }
@@ -134,7 +134,7 @@ fn prepare(tree: &Tree, pool: &Pool, parent: &mut Side, left: &Side, right: &Sid
         )
 }
 
-/// Joins two children with their parent, if they may be, and says whether it did.
+/// Joins two children with their parent, if they may be; returns whether that succeeded.
 pub fn joined(
     tree: &mut Tree,
     pool: &mut Pool,

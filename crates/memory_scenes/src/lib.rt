@@ -1,4 +1,4 @@
-// Heaps, pools, forks and sweeps of tests: each call checks what it needs, and says where that doesn't hold.
+// Heaps, pools, forks and sweeps for tests: each call checks its preconditions, and reports if they don't hold.
 #![tactic(auto)]
 
 mod cells;

@@ -1,10 +1,10 @@
-// Pools of tests. Each call checks what it needs.
+// Pools for tests. Each call checks its preconditions.
 
 use crate::soundness::is_fresh;
 use alloc_path::LeafHeap;
 use chunk_pool::{NotTaken, Pool};
 
-/// A chunk of so many units for this owner is taken, and goes: its number stays in use.
+/// Takes a chunk of n units for this owner, and drops it: its number stays in use.
 pub fn take(pool: &mut Pool, owner: u32, units: u32) -> Option<u32> {
     if units == 0 || units > 1000 {
         return None;
@@ -15,7 +15,7 @@ pub fn take(pool: &mut Pool, owner: u32, units: u32) -> Option<u32> {
     }
 }
 
-/// A chunk of so many units is taken and handed back: what its number was, and its words.
+/// Takes a chunk of n units and returns it: the number it had, and its words.
 pub fn take_and_give(pool: &mut Pool, units: u32) -> Option<(u32, u32)> {
     if units == 0 || units > 1000 {
         return None;
@@ -31,7 +31,7 @@ pub fn take_and_give(pool: &mut Pool, units: u32) -> Option<(u32, u32)> {
     Some((number, size))
 }
 
-/// Whether so many units are more than are left.
+/// Whether n units are more than are left.
 pub fn is_full(pool: &mut Pool, units: u32) -> bool {
     0 < units && units <= 1000 && matches!(pool.take(0, units), Err(NotTaken::Full))
 }
@@ -51,7 +51,7 @@ pub fn relabel(pool: &mut Pool, number: u32, owner: u32) {
     }
 }
 
-/// Adds a chunk of one unit to the heap of its owner, and says its number.
+/// Adds a chunk of one unit to the heap of its owner; returns its number.
 pub fn add_taken(pool: &mut Pool, heap: &mut LeafHeap, owner: u32) -> Option<u32> {
     let Ok(chunk) = pool.take(owner, 1) else {
         return None;

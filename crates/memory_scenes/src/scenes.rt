@@ -1,4 +1,4 @@
-// Heaps of tests. Each call checks what it needs, and says where that doesn't hold.
+// Heaps for tests. Each call checks its preconditions, and reports if they don't hold.
 
 ghost use Rattle.std.specs.Prelude.{IsTrue};
 ghost use Rattle.object_layout.specs.Cell.{IsObject};
@@ -18,7 +18,7 @@ pub fn at(chunk: u32, offset: u32) -> Addr {
     Addr { chunk, offset }
 }
 
-/// The address that a table tells.
+/// The address that a table gives.
 pub fn at_spot(spot: Spot) -> Addr {
     at(spot.0, spot.1)
 }
@@ -28,7 +28,7 @@ pub fn one_frame(alloc: Global) -> Option<Frames> {
     Frames::start(alloc, 0, &[0; 16], &[NOWHERE; 16]).ok()
 }
 
-// Adds an empty chunk, and says whether it did.
+// Adds an empty chunk; returns whether that succeeded.
 fn add(alloc: Global, heap: &mut LeafHeap, number: u32, units: u32) -> bool {
     if units == 0 || units > 1000 || !is_fresh(heap.chunks(), number) {
         return false;
@@ -39,7 +39,7 @@ fn add(alloc: Global, heap: &mut LeafHeap, number: u32, units: u32) -> bool {
     }
 }
 
-/// Places an object of task 3, and says whether it did.
+/// Places an object of task 3; returns whether that succeeded.
 pub fn place(heap: &mut LeafHeap, nrefs: u32, nints: u32, count: u32) -> bool {
     if nrefs > 1000000 || nints > 1000000 {
         return false;
@@ -53,7 +53,7 @@ pub fn place(heap: &mut LeafHeap, nrefs: u32, nints: u32, count: u32) -> bool {
     matches!(heap.place(New { header, birth }), Ok(Some(_)))
 }
 
-/// Places an object of task 3 with so many numbers, which may be written or not, and says whether it did.
+/// Places an object of task 3 with n numbers, mutable or not; returns whether that succeeded.
 pub fn place_kind(heap: &mut LeafHeap, nints: u32, mutable: bool) -> bool {
     if nints > 1000000 {
         return false;
@@ -73,11 +73,11 @@ pub type Spot = (u32, u32);
 /// What is put into a heap.
 #[derive(Clone, Copy)]
 pub enum Put {
-    /// An empty chunk of this number and so many units.
+    /// An empty chunk of this number and size in units.
     Chunk(u32, u32),
-    /// An object of so many references and numbers, and the count of its birth name.
+    /// An object with these numbers of references and numbers, and the count of its birth name.
     Object(u32, u32, u32),
-    /// The first reference of the object that lies there, and where it leads.
+    /// The first reference of the object at this address, and its target.
     Lead(Spot, Spot),
 }
 
@@ -89,7 +89,7 @@ fn put_in(alloc: Global, heap: &mut LeafHeap, what: Put) -> bool {
     }
 }
 
-/// A heap into which these were put one behind the other.
+/// A heap into which these were put in order.
 pub fn heap_of(alloc: Global, all: &[Put]) -> Option<LeafHeap> {
     let mut heap = LeafHeap::new(alloc);
     for &what in all {
@@ -100,7 +100,7 @@ pub fn heap_of(alloc: Global, all: &[Put]) -> Option<LeafHeap> {
     Some(heap)
 }
 
-/// An object as tests see it: where it lies, the count of its birth name, and where its first reference leads.
+/// An object as tests see it: its address, the count of its birth name, and the target of its first reference.
 pub type Seen = (Spot, u32, Option<Spot>);
 
 // Whether such an object lies in the heap.
@@ -118,7 +118,7 @@ fn is_seen(heap: &LeafHeap, seen: Seen) -> bool {
     first == to.map(at_spot)
 }
 
-/// Whether just these objects lie in the heap.
+/// Whether exactly these objects lie in the heap.
 pub fn holds(heap: &LeafHeap, objects: &[Seen]) -> bool {
     for &object in objects {
         if !is_seen(heap, object) {
@@ -136,7 +136,7 @@ fn is_object(heap: &LeafHeap, object: Addr) -> bool
     is_live(heap.chunks(), object)
 }
 
-// Writes the first reference of an object, and says whether it did.
+// Writes the first reference of an object; returns whether that succeeded.
 fn lead(heap: &mut LeafHeap, object: Addr, to: Addr) -> bool {
     if !is_object(heap, object)
         || to.offset >= CHUNK_WORDS as u32
@@ -148,7 +148,7 @@ fn lead(heap: &mut LeafHeap, object: Addr, to: Addr) -> bool {
     true
 }
 
-/// Writes a number of an object, and says whether it did.
+/// Writes a number of an object; returns whether that succeeded.
 pub fn set_number(heap: &mut LeafHeap, object: Addr, field: u32, value: i64) -> bool {
     if !is_object(heap, object) || heap.own_header(object).nints <= field {
         return false;
@@ -157,7 +157,7 @@ pub fn set_number(heap: &mut LeafHeap, object: Addr, field: u32, value: i64) -> 
     true
 }
 
-/// A number of an object; None where no object has it.
+/// A number of an object; None if no object has it.
 pub fn number(heap: &LeafHeap, object: Addr, field: u32) -> Option<i64> {
     if !is_object(heap, object) || heap.own_header(object).nints <= field {
         return None;
@@ -165,7 +165,7 @@ pub fn number(heap: &LeafHeap, object: Addr, field: u32) -> Option<i64> {
     Some(heap.own_int(object, field))
 }
 
-/// Makes an object immutable, and says whether it did.
+/// Makes an object immutable; returns whether that succeeded.
 pub fn freeze(heap: &mut LeafHeap, object: Addr) -> bool {
     if !is_object(heap, object) {
         return false;

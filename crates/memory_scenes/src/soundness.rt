@@ -59,7 +59,7 @@ pub fn is_sound(heap: &LeafHeap, reference: Option<Addr>) -> bool
     }
 }
 
-// The same of each of these.
+// The same for each of these.
 fn are_sound(heap: &LeafHeap, references: &[Option<Addr>]) -> bool
     ensures { IsTrue result → All (IsSound heap.now.chunks) references.now }
 {
@@ -71,7 +71,7 @@ fn are_sound(heap: &LeafHeap, references: &[Option<Addr>]) -> bool
     true
 }
 
-// The same of each root.
+// The same for each root.
 fn roots_are_sound(heap: &LeafHeap, roots: &[Addr]) -> bool
     ensures { IsTrue result → All (IsSound heap.now.chunks) (map as_reference roots.now) }
 {
@@ -83,7 +83,7 @@ fn roots_are_sound(heap: &LeafHeap, roots: &[Addr]) -> bool
     true
 }
 
-// The same of each reference that a frame holds.
+// The same for each reference that a frame holds.
 fn frames_are_sound(heap: &LeafHeap, frames: &Frames) -> bool
     ensures { IsTrue result → All (IsSound heap.now.chunks) (frame_references (frames_of frames.now)) }
 {

@@ -1,4 +1,4 @@
-// Markings and sweeps of heaps that were checked.
+// Marks and sweeps of heaps that were checked.
 
 ghost use Rattle.std.specs.Prelude.{All, IfSome, IsSome, IsTrue};
 ghost use Rattle.chunk_pool.specs.PoolValue.{slot_at};
@@ -39,7 +39,7 @@ fn are_objects(heap: &LeafHeap, objects: &[Addr]) -> bool
     true
 }
 
-// A pool in which the numbers of these chunks are in use, if it hands out just these.
+// A pool in which the numbers of these chunks are in use, if it gives out exactly these.
 fn pool_of(alloc: Global, chunks: &[Chunk]) -> Option<Pool>
     ensures { IfSome result (λ pool. All (λ k. IsSome (slot_at pool k.number)) chunks.now) }
 {
@@ -59,7 +59,7 @@ fn pool_of(alloc: Global, chunks: &[Chunk]) -> Option<Pool>
     Some(pool)
 }
 
-// Marks so many objects at a time until fewer are left, and says how many calls marked that many.
+// Marks n objects at a time until fewer are left; returns the number of calls that marked n.
 fn mark_all(marking: &mut Marking, heap: &LeafHeap, kept: &[Addr], step: u32) -> u32
     requires closed { IsClosed heap.now.chunks }
     requires kept { All (HasObjectAt heap.now.chunks) kept.now }
@@ -74,8 +74,7 @@ fn mark_all(marking: &mut Marking, heap: &LeafHeap, kept: &[Addr], step: u32) ->
     100
 }
 
-// Goes on with a marking that was begun, so many objects at a time, until nothing is left to mark, and says how many
-// calls marked that many.
+// Continues a mark, n objects at a time, until nothing is left to mark; returns the number of calls that marked n.
 fn marked(mut marking: Marking, heap: &LeafHeap, kept: &[Addr], step: u32) -> Option<(u32, Marking)>
     requires closed { IsClosed heap.now.chunks }
     requires kept { All (HasObjectAt heap.now.chunks) kept.now }
@@ -91,7 +90,7 @@ fn marked(mut marking: Marking, heap: &LeafHeap, kept: &[Addr], step: u32) -> Op
     }
 }
 
-// Sweeps a heap, and says how many units were given back, if those were foretold, and how many are then in use.
+// Sweeps a heap; returns the number of units given back, if it is the predicted one, and of those then in use.
 fn sweep(heap: &mut LeafHeap, pool: &mut Pool, marking: Marking) -> Option<(u32, u32)>
     requires done { IsDone marking }
     requires room { HasRoom heap.old.chunks marking }
@@ -115,8 +114,8 @@ fn is_sound(heap: &LeafHeap, roots: &[Addr], kept: &[Addr]) -> bool
     is_closed(heap) && are_objects(heap, roots) && are_objects(heap, kept)
 }
 
-/// Marks a heap from these roots and kept references, so many objects at a time, and sweeps it, if all is as that asks.
-/// Says how many calls marked that many, how many units were given back, and how many are then in use.
+/// Marks a heap from these roots and kept references, n objects at a time, and sweeps it, if the preconditions hold.
+/// Returns the number of calls that marked n, of units given back, and of units then in use.
 pub fn mark_and_sweep(
     alloc: Global,
     heap: &mut LeafHeap,
@@ -142,8 +141,8 @@ pub fn mark_and_sweep(
     }
 }
 
-// Marks a heap from these roots and sweeps it, through this room, if all is as that asks. Hands out the room, and how
-// many objects were marked.
+// Marks a heap from these roots and sweeps it, with this scratch space, if the preconditions hold. Returns the scratch
+// space, and the number of objects marked.
 fn mark_and_sweep_in(
     alloc: Global,
     room: MarkingRoom,
@@ -169,8 +168,8 @@ fn mark_and_sweep_in(
     }
 }
 
-/// Marks a heap from the first roots and sweeps it, and then from others, both through one room, if all is as that
-/// asks. Says how many objects each time were marked.
+/// Marks a heap from the first roots and sweeps it, and then from others, both with one scratch space, if the
+/// preconditions hold. Returns the number of objects marked each time.
 pub fn mark_and_sweep_twice(
     alloc: Global,
     heap: &mut LeafHeap,

@@ -24,7 +24,7 @@ const TWO_SWAPS: &str = "\
 
 const SWAP_AT_NIL: &str = "fn main / cas i0 r0 i1 r2 r3 / end";
 
-// The index register is the target too; then a swap that expects nil, and one that expects the object that is there.
+// The index register is the target too; then a swap that expects nil, and one that expects the object present.
 const SWAPS_OF_ONE_TASK: &str = "\
     fn main / set i0 1 / set i1 0 / newm r0 i0 i1 / newm r1 i0 i1 / cas i1 r0 i1 r2 r1 / out i1 / \
     set i2 0 / cas i3 r0 i2 r2 r0 / out i3 / cas i3 r0 i2 r1 r0 / out i3 / getr r3 r0 i2 / \

@@ -29,7 +29,7 @@ const OWN_DOWN_POINTER: &str = "\
     fn right / set i0 0 / ret / end / \
     fn main / set i0 1 / set i1 0 / newm r0 i0 i1 / par left right / out i0 / ret / end";
 
-// What a child of a child stored is read once both levels have joined.
+// What a grandchild stored is read once both levels have joined.
 const LIFTED_ENTRY: &str = "\
     fn nop / ret / end / \
     fn store / set i0 0 / set i1 1 / newm r1 i0 i1 / set i2 7 / puti r1 i0 i2 / putr r0 i0 r1 / ret / \
@@ -186,7 +186,7 @@ fn runs_of_programs(rt: HostRuntime) {
 
 const SIZE_TRAP: Option<End> = Some(End::Trapped(Trap::Size, 0, 4));
 
-// The most fields, the lines that set the numbers of references and of numbers, and how the run has ended.
+// The most fields, the lines that set the numbers of references and of numbers, and how the run ended.
 const LARGEST: &[(u32, &str, Option<End>)] = &[
     (1022, "set i0 0 / set i1 1022", None),
     (1022, "set i0 0 / set i1 1023", SIZE_TRAP),
@@ -211,7 +211,7 @@ fn the_largest_object(rt: HostRuntime) {
     }
 }
 
-// The left child of the root forks, and then the left child of each task that has forked.
+// The left child of the root forks, then the left child of each task that has forked.
 fn forks_below(machine: &mut Machine<'_>) -> bool {
     for level in 0..999 {
         if !takes(machine, (2 * level + 1, 1)) {
@@ -221,7 +221,7 @@ fn forks_below(machine: &mut Machine<'_>) -> bool {
     true
 }
 
-// A thousand forks below one another are taken, and the next one isn't.
+// A thousand nested forks are taken, and the next one isn't.
 fn forks_to_the_end(machine: &mut Machine<'_>) -> bool {
     takes(machine, (0, 1))
         && forks_below(machine)

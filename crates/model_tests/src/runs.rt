@@ -1,20 +1,20 @@
-// Runs of programs in a given order of their tasks, and whether they come to what they should.
+// Runs of programs in a given order of their tasks, and whether they have the expected result.
 
 use crate::texts::program;
 use hh_lang::Program;
 use hh_model::{End, Machine};
 use std::alloc::Global;
 
-/// A task, and how many steps it takes.
+/// A task, and the number of steps it takes.
 pub(crate) type Turn = (u32, u32);
 
-/// What a run has put out, and how it has ended; none where it goes on.
+/// What a run has printed, and how it ended; None if it hasn't.
 pub(crate) type Outcome<'a> = (&'a [i64], Option<End>);
 
-/// A program, the order of its tasks, and what comes of it.
+/// A program, the order of its tasks, and the result.
 pub(crate) type Run = (&'static str, &'static [Turn], Outcome<'static>);
 
-/// Takes so many steps of a task, and says whether it could.
+/// Takes n steps of a task; returns whether it could.
 pub(crate) fn takes(machine: &mut Machine<'_>, (task, count): Turn) -> bool {
     for _ in 0..count {
         if machine.steps() >= 1 << 30 || machine.step(task).is_err() {
@@ -33,7 +33,7 @@ fn takes_all(machine: &mut Machine<'_>, turns: &[Turn]) -> bool {
     true
 }
 
-/// Whether a machine has put out just this, and has ended so.
+/// Whether a machine has printed exactly this, and has this end.
 pub(crate) fn is_at(machine: &Machine<'_>, (outputs, end): Outcome<'_>) -> bool {
     machine.outputs() == outputs && machine.end() == end
 }
@@ -51,7 +51,7 @@ fn runs_to(
     }
 }
 
-/// Whether the program whose text has these parts can be run by these turns, and comes to just this.
+/// Whether the program whose text has these parts can be run by these turns, with exactly this result.
 pub(crate) fn comes_to(
     alloc: Global,
     text: &[&str],
@@ -65,7 +65,7 @@ pub(crate) fn comes_to(
     }
 }
 
-/// Whether a run with the usual limit of fields comes to what it should.
+/// Whether a run with the usual limit of fields has the expected result.
 pub(crate) fn runs_as(alloc: Global, (text, turns, outcome): Run) -> bool {
     comes_to(alloc, &[text], 1022, turns, outcome)
 }

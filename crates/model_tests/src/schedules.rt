@@ -1,11 +1,10 @@
-// Programs whose schedules differ, though some run of each has no race: what a run has to have so that it speaks for
-// all of them.
+// Programs whose schedules differ, though some run of each has no race: what a run needs to determine all of them.
 
 use crate::runs::{Run, runs_as};
 use hh_model::{End, Trap};
 
-// A run that traps ends before accesses that other schedules make: it is no whole run. The compare and swaps of two
-// tasks, of which `races` tells nothing, are among the programs that freeze and swap.
+// A run that traps ends before accesses that other schedules make: it isn't a whole run. The compare and swaps of two
+// tasks, of which `races` reports none, are among the programs that freeze and swap.
 const TRAPS_OR_ENTANGLES: &str = "\
     fn left / set i1 1 / newm r1 i15 i1 / putr r2 i15 r1 / div i0 i1 i15 / end / \
     fn right / getr r1 r2 i15 / end / \

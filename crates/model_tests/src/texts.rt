@@ -1,4 +1,4 @@
-// Small programs as texts: `/` stands between lines.
+// Small programs as texts: `/` separates lines.
 
 use hh_lang::Program;
 use listed::Listed;
@@ -6,7 +6,7 @@ use program_reader::read_program;
 use std::alloc::Global;
 use text_lines::MOST_BYTES;
 
-// Adds a text to lines, and says whether it did.
+// Appends lines; returns whether that succeeded.
 fn add(lines: &mut Listed<u8>, text: &str) -> bool {
     for byte in text.bytes() {
         if lines.push(if byte == b'/' { b'\n' } else { byte }).is_err() {

@@ -73,7 +73,7 @@ fn which_trap_comes(rt: HostRuntime) {
     }
 }
 
-// What comes close to a trap.
+// Near misses of traps.
 const NO_TRAPS: &[&str] = &[
     "newm r3 i3 i0",
     "getr r3 r2 i0",
@@ -91,7 +91,7 @@ fn no_trap_comes(rt: HostRuntime) {
     }
 }
 
-// What another task owns can't be frozen, immutable or not; nil comes before that.
+// What another task owns can't be frozen, immutable or not; the trap for nil comes before that.
 const FREEZES: &[(&str, Trap)] = &[
     ("freeze r0", Trap::Nil),
     ("freeze r1", Trap::Frozen),

@@ -1,4 +1,4 @@
-// A task that goes on: after a collection that was put off, and after a call that had no memory.
+// A task that continues: after a collection that was put off, and after a call that ran out of memory.
 
 ghost use Rattle.std.specs.Prelude.{◌≡◌, None};
 ghost use Rattle.task_machine.specs.Ready.{FitsSome};
@@ -18,14 +18,14 @@ const DUE_SOON: Setup = Setup {
     units: 1,
 };
 
-// Ends the collection that has begun, and gives what it has taken.
+// Ends the collection that has begun, and returns what it took.
 fn end_collection(part: &mut Private) -> Option<Begun>
     ensures changed { part.new ≡ record part.old { begun = None } }
 {
     part.begun.take()
 }
 
-// A collection begins and ends, and another entry begins: what it had taken.
+// A collection begins and ends, and another entry begins: what the collection took.
 fn collected(alloc: Global, program: &Program, part: &mut Private) -> Option<Begun>
     requires fits { FitsSome program.now part.old }
     requires idle { part.old.begun ≡ None }
@@ -42,7 +42,7 @@ fn collected(alloc: Global, program: &Program, part: &mut Private) -> Option<Beg
     begun
 }
 
-// A part's pause, and how many words it has placed then.
+// A part's pause, and the number of words it has placed then.
 type Placed = (Option<Pause>, u64);
 
 // A part's pause before a collection, whether that was made and what it left, its allocations, and its pause after it.
@@ -68,7 +68,7 @@ fn around_collection(
     )
 }
 
-// Whether both pauses and the collection are as they should be.
+// Whether both pauses and the collection are the expected ones.
 fn collects(alloc: Global, program: &Program) -> bool {
     match root_of(alloc, program, DUE_SOON) {
         Some(mut part) => {
@@ -104,7 +104,7 @@ fn stand(part: &Private) -> (u32, u32, u32) {
     (part.fresh, part.frames.next(), part.frames.depth())
 }
 
-// Whether the part stands before the call, and the call is taken when there is memory.
+// Whether the part is before the call, and the call is taken when there is memory.
 fn calls_later(program: &Program, part: &mut Private) -> bool
     requires fits { FitsSome program.now part.old }
     requires idle { part.old.begun ≡ None }
@@ -138,8 +138,8 @@ fn call_is_taken(alloc: Global) -> bool {
     }
 }
 
-// Where the call's frame has no memory (as with `rt try --test --fail-alloc`), the part stands before the call, and the
-// call is taken when there is memory.
+// If the call's frame has no memory (as with `rt try --test --fail-alloc`), the part is before the call, and the call
+// is taken when there is memory.
 #[test]
 fn a_call_without_memory(rt: HostRuntime) {
     assert!(rt; call_is_taken(rt.alloc()));

@@ -49,7 +49,7 @@ end";
 // The number registers at the end.
 const REGISTERS: [i64; 16] = [24, 6, 6, 6, 0, 1, 1, 1, 6, 1, 2, 1, 0, 0, 0, 0];
 
-// The first number register that doesn't hold what it should.
+// The first number register with an unexpected value.
 fn wrong_register(part: &Private, expected: &[i64; 16]) -> Option<u32> {
     for i in 0..16 {
         if part.frames.int(i) != expected[i as usize] {
@@ -59,7 +59,7 @@ fn wrong_register(part: &Private, expected: &[i64; 16]) -> Option<u32> {
     None
 }
 
-// Why and when a part pauses, how many objects it has allocated, of how many words, and its first wrong register.
+// Why and when a part pauses, the number of objects it has allocated and of their words, and its first wrong register.
 type Outcome = (Option<Pause>, u32, u64, Option<u32>);
 
 fn run_part(part: &mut Private, program: &Program) -> Outcome
@@ -95,7 +95,7 @@ fn every_instruction(rt: HostRuntime) {
     assert!(rt; outcome == Some((Some((Paused::Shared, 27, 24)), 2, 4 + 5, None)));
 }
 
-// A program that pauses at a shared step, and after how many private ones.
+// A program that pauses at a shared step, and the number of private steps before it.
 const SHARED: &[(&str, Pause)] = &[
     ("fn main\nout i0\nend", (Paused::Shared, 0, 0)),
     (

@@ -1,4 +1,4 @@
-// Programs from texts, the root's part of each, and what comes of its steps.
+// Programs from texts, the root's part of each, and the result of its steps.
 
 ghost use Rattle.std.specs.Prelude.{◌≡◌, ◌≤◌, [], IfSome, IsTrue, None};
 ghost use Rattle.object_layout.specs.Cell.{chunk_words};
@@ -69,7 +69,7 @@ fn bare_root(alloc: Global, frames: Frames, setup: Setup) -> Private
     }
 }
 
-// Gives a part that has no chunk this one, which is empty, and says whether it did.
+// Gives a part without chunks this empty one; returns whether that succeeded.
 fn add_first_chunk(part: &mut Private, chunk: Chunk) -> bool
     requires number { chunk.number ≡ 7 }
     requires empty { chunk.cells ≡ [] }
@@ -103,7 +103,7 @@ pub(crate) fn root_of(alloc: Global, program: &Program, setup: Setup) -> Option<
     }
 }
 
-/// Takes a part's private steps within a budget; None for want of memory, or where a number is above what tests need.
+/// Takes a part's private steps within a budget; None if out of memory, or if a number exceeds what tests need.
 pub(crate) fn pause(part: &mut Private, program: &Program, budget: u32) -> Option<Pause>
     requires fits { FitsSome program.now part.old }
     requires idle { part.old.begun ≡ None }
@@ -122,7 +122,7 @@ pub(crate) fn pause(part: &mut Private, program: &Program, budget: u32) -> Optio
     }
 }
 
-// The same of the root of a program.
+// The same for the root of a program.
 fn root_pause(alloc: Global, program: &Program, setup: Setup, budget: u32) -> Option<Pause> {
     match root_of(alloc, program, setup) {
         Some(mut part) => pause(&mut part, program, budget),
@@ -130,7 +130,7 @@ fn root_pause(alloc: Global, program: &Program, setup: Setup, budget: u32) -> Op
     }
 }
 
-/// The same of the root of a text.
+/// The same for the root of a text.
 pub(crate) fn pause_of(alloc: Global, text: &str, setup: Setup, budget: u32) -> Option<Pause> {
     match program_of(alloc, text) {
         Some(program) => root_pause(alloc, &program, setup, budget),

@@ -1,4 +1,4 @@
-// Why a task's private steps pause: the first reason that fits.
+// Why a task's private steps pause: the first reason that applies.
 
 use crate::parts::{AMPLE, Pause, Setup, pause_of};
 use task_machine::Paused;
@@ -6,7 +6,7 @@ use task_machine::Paused;
 // A due collection comes with the second object.
 const TWO_OBJECTS: &str = "fn main\nset i1 14\nnewm r0 i0 i1\nnewm r0 i0 i1\nend";
 
-// The second object has no place either.
+// The second object doesn't fit either.
 const TWO_CHUNKS: &str = "fn main\nset i1 1000\nnewm r0 i0 i1\nnewm r0 i0 i1\nend";
 
 const TOO_LARGE: &str = "fn main\nset i1 14\nset i2 -1\nnewm r0 i0 i1\nnewm r0 i0 i2\nend";

@@ -1,22 +1,22 @@
-// Words that are command lines or not, and what they ask for.
+// Command lines, valid or not, and what they ask for.
 
 use command_line::{CommandLine, FileName, Options, read_command_line};
 use heap_image::Settings;
 use std::alloc::{AllocError, Global};
 
-// What words ask for: the command, its file, its numbers and its switches.
+// What a command line asks for: the command, its file, its numbers and its flags.
 type Meaning = (&'static str, Option<&'static str>, [u64; 5], [bool; 2]);
 
-// The numbers and the switches that a command has where no word changes them, or where it has none.
+// The numbers and flags of a command if no word changes them, or if it has none.
 const USUAL: [u64; 5] = [1, 1000000, 4096, 4096, 8192];
 
 const NONE: [u64; 5] = [0; 5];
 
 const OFF: [bool; 2] = [false; 2];
 
-// Words, with a bar between them, and what they ask for. The numbers are the workers, the steps, the chunks, and the
-// words of a leaf and of an inner heap; or the seed and the size. The switches are those for a report and for a trace;
-// or for a run. Zeros and `false` fill the places that a command doesn't have.
+// Words, separated by bars, and what they ask for. The numbers are the workers, the steps, the chunks, and the words of
+// a leaf and of an inner heap; or the seed and the size. The flags are those for a report and for a trace; or for a
+// run. Zeros and `false` stand for what a command doesn't have.
 const TAKEN: &[(&str, Meaning)] = &[
     ("check", ("check", None, NONE, OFF)),
     ("check|a.hh", ("check", Some("a.hh"), NONE, OFF)),
@@ -212,7 +212,7 @@ fn named<'w>(line: &CommandLine<'w>) -> (&'static str, Option<&'w str>) {
     }
 }
 
-// The numbers and the switches of a command.
+// The numbers and the flags of a command.
 fn values(line: &CommandLine) -> ([u64; 5], [bool; 2]) {
     match line {
         CommandLine::Run { options, .. }
@@ -247,7 +247,7 @@ fn is_refused(alloc: Global, words: &[String]) -> bool {
     }
 }
 
-// Adds a word, and says whether it did.
+// Adds a word; returns whether that succeeded.
 fn add_word(alloc: Global, words: &mut Vec<String>, word: &str) -> bool {
     match String::from_str(alloc, word) {
         Ok(word) => words.push(word).is_ok(),
@@ -255,7 +255,7 @@ fn add_word(alloc: Global, words: &mut Vec<String>, word: &str) -> bool {
     }
 }
 
-// The words with a bar between them.
+// The words between the bars.
 fn words_of(alloc: Global, bars: &str) -> Result<Vec<String>, AllocError> {
     let mut words = Vec::new(alloc);
     for word in bars.split('|') {

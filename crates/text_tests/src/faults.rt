@@ -1,4 +1,4 @@
-// Texts with their first faults, and codes that are programs or not.
+// Texts with their first faults, and code that is a program or not.
 
 use heap_image::MOST_BYTES;
 use hh_lang::{Fun, Instr, IntReg, Line, Program, is_program};
@@ -6,7 +6,7 @@ use listed::Listed;
 use program_reader::read_program;
 use std::alloc::{AllocError, Global};
 
-// The line and the cause of a text's first fault; none where it has no fault.
+// The line and the cause of a text's first fault; None if it has no fault.
 fn fault_of(alloc: Global, text: &[u8]) -> Option<(u32, &'static str)> {
     if text.len() > MOST_BYTES {
         return Some((0, "long"));
@@ -61,7 +61,7 @@ const CASES: &[(&[u8], Option<(u32, &str)>)] = &[
     (b"fn main\nlab a\nlab a", Some((3, "noend"))),
     // A second name before a missing main.
     (b"fn g\nend\nfn g", Some((3, "noend"))),
-    // A line `fn NAME` is there whatever other fault it has, and a label's range ends at any `end` or `fn`.
+    // A line `fn NAME` counts whatever other fault it has, and a label's range ends at any `end` or `fn`.
     (b"fn main\ncall g\nend\nfn g # \xff", Some((4, "notutf8"))),
     (b"fn main\njmp a\nend x\nlab a\nend", Some((2, "nolabel"))),
     (b"fn main\njmp a\nfn\nlab a\nend", Some((2, "nolabel"))),
@@ -76,7 +76,7 @@ fn first_faults(rt: HostRuntime) {
     }
 }
 
-// An instruction of a table; a register is `i0`.
+// An instruction in a table; a register is `i0`.
 #[derive(Clone, Copy)]
 enum Step {
     Ret,
@@ -98,7 +98,7 @@ fn instr_of(step: Step) -> Instr {
     }
 }
 
-// A list of this code, each line the first.
+// A list of this code, each instruction with line 1.
 fn lines_of(alloc: Global, code: &[Step]) -> Result<Listed<Line>, AllocError> {
     let mut lines = Listed::new(alloc);
     for step in code {
@@ -133,7 +133,7 @@ fn functions_of(alloc: Global, code: &[Step]) -> Result<Listed<Fun>, AllocError>
     Ok(functions)
 }
 
-// Whether these functions are a program, and whether a program is made of them.
+// Whether these functions are a program, and whether a program can be made of them.
 fn are_program(alloc: Global, code: &[Step], main: u32) -> Option<(bool, bool)> {
     match functions_of(alloc, code) {
         Ok(functions) => {
@@ -144,7 +144,7 @@ fn are_program(alloc: Global, code: &[Step], main: u32) -> Option<(bool, bool)> 
     }
 }
 
-// What main does, its code, the number of the function that is to be main, and whether that is a program.
+// What main does, its code, the number of the function that is main, and whether that is a program.
 const CODES: &[(&str, &[Step], u32, bool)] = &[
     ("returns", &[Step::Ret], 1, true),
     ("has another name", &[Step::Ret], 0, false),

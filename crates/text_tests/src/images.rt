@@ -1,11 +1,11 @@
-// The text of an image, and that the verifier reads it.
+// The text of an image, and whether the verifier accepts it.
 
 use heap_image::{Picked, Picture, picture_text};
 use image_check::{Birth, Chunk, Remembered, State, Task, verify};
 use listed::Listed;
 use std::alloc::{AllocError, Global};
 
-// An object of a table: its address, its birth, whether it can change, its references and its numbers.
+// An object in a table: its address, its birth, whether it is mutable, its references and its numbers.
 type Row = (u64, (u64, u64), bool, &'static [u64], &'static [i64]);
 
 // A picture as a table, and its text.
@@ -35,7 +35,7 @@ fn picked(alloc: Global, row: Row) -> Result<Picked, AllocError> {
     })
 }
 
-// Adds an object, and says whether it did.
+// Adds an object; returns whether that succeeded.
 fn add_object(alloc: Global, objects: &mut Listed<Picked>, row: Row) -> bool {
     match picked(alloc, row) {
         Ok(object) => objects.push(object).is_ok(),
@@ -66,12 +66,12 @@ fn picture_of(alloc: Global, drawn: &Drawn) -> Result<Picture, AllocError> {
     })
 }
 
-// Whether a text is as it should be, and how many objects the verifier finds in it.
+// Whether a text is the expected one, and the number of objects that the verifier finds in it.
 fn verified(alloc: Global, text: &[u8], drawn: &Drawn) -> (bool, Option<u64>) {
     (text == drawn.text, verify(alloc, text).ok())
 }
 
-// The same of the text of a picture; none where there is no memory for it.
+// The same for the text of a picture; None if out of memory.
 fn written(alloc: Global, picture: &Picture, drawn: &Drawn) -> Option<(bool, Option<u64>)> {
     match picture_text(alloc, picture) {
         Ok(text) => Some(verified(alloc, text.as_slice(), drawn)),
@@ -79,7 +79,7 @@ fn written(alloc: Global, picture: &Picture, drawn: &Drawn) -> Option<(bool, Opt
     }
 }
 
-// The same, once the picture is made.
+// The same, given the picture.
 fn drawn_and_written(alloc: Global, drawn: &Drawn) -> Option<(bool, Option<u64>)> {
     match picture_of(alloc, drawn) {
         Ok(picture) => written(alloc, &picture, drawn),

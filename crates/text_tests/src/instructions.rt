@@ -1,4 +1,4 @@
-// What instructions are read as: the line, the name and the operands, a register as its number.
+// How instructions are read: the line, the name and the operands, a register as its number.
 
 use heap_image::MOST_BYTES;
 use hh_lang::{Fun, Instr, IntReg, Operator, Program, RefReg};
@@ -17,7 +17,7 @@ fn name_of(operator: Operator) -> &'static str {
     }
 }
 
-// The number of a register, among those of numbers or those of references.
+// The number of a register, a number register or a reference register.
 fn number(register: IntReg) -> i64 {
     register.index() as i64
 }
@@ -26,7 +26,7 @@ fn reference(register: RefReg) -> i64 {
     register.index() as i64
 }
 
-// An instruction on numbers or on what comes next.
+// An instruction on numbers or on control flow.
 fn number_parts(instr: &Instr) -> (&'static str, [i64; 5]) {
     match instr {
         Instr::Set(d, k) => ("set", [number(*d), *k, 0, 0, 0]),
@@ -80,7 +80,7 @@ fn parts(instr: &Instr) -> (&'static str, [i64; 5]) {
 // The line, the name and the operands, followed by zeros.
 type Read = (u32, &'static str, [i64; 5]);
 
-// Whether the code of a function is just this.
+// Whether the code of a function is exactly this.
 fn is_code(fun: &Fun, expected: &[Read]) -> bool {
     for (line, read) in fun.code.as_slice().iter().zip(expected) {
         let (name, operands) = parts(&line.instr);
@@ -91,7 +91,7 @@ fn is_code(fun: &Fun, expected: &[Read]) -> bool {
     fun.code.len() == expected.len()
 }
 
-// The same of the function of a program; no code where there is no such function.
+// The same for the function of a program; no code if there is no such function.
 fn has_code(program: &Program, function: usize, expected: &[Read]) -> bool {
     match program.functions().get(function) {
         Some(fun) => is_code(fun, expected),
@@ -99,7 +99,7 @@ fn has_code(program: &Program, function: usize, expected: &[Read]) -> bool {
     }
 }
 
-// The same, once the program is read.
+// The same, given the program.
 fn is_read(alloc: Global, text: &[u8], function: usize, expected: &[Read]) -> bool {
     if text.len() > MOST_BYTES {
         return false;
@@ -206,7 +206,7 @@ const RIGHT: &[Read] = &[
     (8, "ret", [0; 5]),
 ];
 
-// A loop becomes a call of three functions behind the others: the whole, its left half and its right half.
+// A loop becomes a call of three functions after the others: the whole, its left half and its right half.
 const FUNCTIONS: &[(usize, &[Read])] = &[(1, MAIN), (2, WHOLE), (3, LEFT), (4, RIGHT), (5, &[])];
 
 #[test]

@@ -1,4 +1,4 @@
-// Tests of texts, command lines and the outside. It has no code of its own.
+// Tests of texts, command lines, sources and sinks. It has no code of its own.
 #![tactic(auto)]
 
 // Programs: their words, lines and faults.

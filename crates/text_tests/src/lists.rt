@@ -1,8 +1,8 @@
-// Lists and lists with room.
+// Lists, and lists with spare capacity.
 
 use listed::{Listed, Roomy};
 
-// Adds three items and changes two, and says whether the list has them.
+// Adds three items and changes two; returns whether the list has them.
 fn is_filled(list: &mut Listed<i32>) -> bool {
     let Ok(()) = list.push(3) else {
         return false;
@@ -15,7 +15,7 @@ fn is_filled(list: &mut Listed<i32>) -> bool {
     list.as_slice() == [2, 6, 7].as_slice()
 }
 
-// Takes the third item off and drops the second, and says whether the list gives them so.
+// Pops the third item and drops the second; returns whether the list returns them so.
 fn is_emptied(list: &mut Listed<i32>) -> bool {
     let last = list.pop();
     let left = (list.get(1).copied(), list.get(2).copied());
@@ -30,7 +30,7 @@ fn items_come_and_go(rt: HostRuntime) {
     assert!(rt; (filled, emptied) == (true, true));
 }
 
-// Adds two items in room that it makes, takes one off, and says whether the list has them and gives it.
+// Adds two items with reserved capacity, and pops one; returns whether the list has and returns them.
 fn is_used(list: &mut Roomy<i32>) -> bool {
     let Ok(()) = list.reserve(2) else {
         return false;

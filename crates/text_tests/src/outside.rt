@@ -1,4 +1,4 @@
-// Sources and sinks: of readers and writers, in memory, and those that never fail.
+// Sources and sinks: over readers and writers, in memory, and those that never fail.
 
 use outside_io::{
     Failed, FileSource, MemSink, MemSource, OutSink, Sink, Source, SureSink, SureSource,
@@ -7,7 +7,7 @@ use std::alloc::{AllocError, Global};
 use std::io;
 use std::io::{ErrorKind, Read, Write};
 
-// A reader and a writer that fail at each second call, and take one byte at the others.
+// A reader and a writer that fail in every second call, and take one byte in the others.
 #[derive(Drop)]
 struct Flaky {
     fails: bool,
@@ -70,7 +70,7 @@ fn sure_source(alloc: Global) -> Result<SureSource, AllocError> {
     Ok(SureSource::new(bytes, named))
 }
 
-// Whether a source gives its bytes, and those of a name when it is found.
+// Whether a source returns its bytes, and those of a name that exists.
 fn is_sure(source: &mut SureSource) -> bool {
     let mut buf = [0u8; 3];
     source.take(&mut buf) == Ok(3)
@@ -90,7 +90,7 @@ fn sure_ends_never_fail(rt: HostRuntime) {
     assert!(rt; SureSink.put(b"ab") == Ok(2));
 }
 
-// A source that gives at most four bytes in a call, and fails at the second call and the fifth.
+// A source that returns at most four bytes a call, and fails in the second and the fifth call.
 fn failing_source(alloc: Global) -> Result<MemSource, AllocError> {
     let bytes = b"hello".to_vec(alloc)?;
     let named = b"file".to_vec(alloc)?;
@@ -98,7 +98,7 @@ fn failing_source(alloc: Global) -> Result<MemSource, AllocError> {
     Ok(MemSource::new(bytes, named, 4, failing))
 }
 
-// Whether a source gives just these bytes, or fails.
+// Whether a source returns exactly these bytes, or fails.
 fn gives(source: &mut MemSource, expected: Result<&[u8], Failed>) -> bool {
     let mut buf = [0u8; 8];
     match source.take(&mut buf) {
@@ -107,7 +107,7 @@ fn gives(source: &mut MemSource, expected: Result<&[u8], Failed>) -> bool {
     }
 }
 
-// Whether a source gives its first bytes in three calls, of which the second fails, and then has no more.
+// Whether a source returns its first bytes in three calls, of which the second fails, and then has no more.
 fn gives_bytes(source: &mut MemSource) -> bool {
     gives(source, Ok(b"hell"))
         && gives(source, Err(Failed))
@@ -116,7 +116,7 @@ fn gives_bytes(source: &mut MemSource) -> bool {
         && gives(source, Ok(b""))
 }
 
-// Whether a source finds a name in two calls, of which the first fails and changes nothing, and gives its bytes.
+// Whether a source finds a name in two calls, of which the first fails and changes nothing, and returns its bytes.
 fn gives_named(source: &mut MemSource) -> bool {
     source.find("a") == Err(Failed)
         && source.left() == b"".as_slice()
@@ -133,7 +133,7 @@ fn a_source_gives_its_bytes_and_fails_where_told(rt: HostRuntime) {
     assert!(rt; given == (true, true));
 }
 
-// A sink that takes at most three bytes in a call, and fails at the second call.
+// A sink that takes at most three bytes a call, and fails in the second call.
 fn failing_sink(alloc: Global) -> Result<MemSink, AllocError> {
     let failing = [2].to_vec(alloc)?;
     Ok(MemSink::new(alloc, 3, failing))

@@ -10,11 +10,11 @@ use trace_input::{InputError, InputFault, read_trace_input};
 const TEXT: &[u8] =
     b"trace 2 # versions\n\n0 took 0\r\n\t63 ran 007 257 #no word\n0 chunk 1\n0 begin 1\n0 end 1 2 3 4\n0 putoff 1\n1 mark 0 # #\n1 some 0 1024\n1 sweep 0 5\n0 fuel";
 
-// The same trace as it is written, by the first version.
+// The same trace in version 1.
 const WRITTEN: &[u8] =
     b"trace 1\n0 took 0\n63 ran 7 257\n0 chunk 1\n0 begin 1\n0 end 1 2 3 4\n0 putoff 1\n1 mark 0\n1 some 0 1024\n1 sweep 0 5\n0 fuel\n";
 
-// Whether a trace is the one that TEXT is.
+// Whether a trace is the one in TEXT.
 fn is_read(trace: &Trace) -> bool {
     let read = trace.entries.as_slice();
     trace.version == Version::Two
@@ -65,7 +65,7 @@ const BAD: &[(&[u8], u32)] = &[
     (b"trace 1\n0 fuel # \xff", 7),
 ];
 
-// The first bad line of a text that begins on line 6; 0 where it has none.
+// The first bad line of a text that begins on line 6; 0 if it has none.
 fn bad_line(alloc: Global, text: &[u8]) -> u32 {
     if text.len() > MOST_BYTES {
         return 0;
@@ -83,7 +83,7 @@ fn the_first_bad_line_is_told(rt: HostRuntime) {
     }
 }
 
-// What settings say.
+// The contents of settings.
 fn limits(settings: Settings) -> [u64; 6] {
     [
         u64::from(settings.workers()),
@@ -105,8 +105,8 @@ fn settings_of_versions(rt: HostRuntime) {
     assert!(rt; usual.with_version(Version::One) != usual);
 }
 
-// How many functions and entries an input has; or the line of its first fault, and the fault's cause where it is in the
-// program.
+// The numbers of functions and entries of an input; or the line of its first fault, and the fault's cause if it is in
+// the program.
 type Told = Result<(usize, usize), (u32, Option<Cause>)>;
 
 fn told(alloc: Global, input: &[u8]) -> Told {
@@ -139,7 +139,7 @@ const INPUTS: &[(&[u8], Told)] = &[
     (b"fn main\nend\nx\ntrace 9", Err((3, Some(Cause::Word)))),
     (b"fn main\nend\ntrace 9\nx", Err((3, None))),
     (b"fn main\nend\ntrace 1\n0 took 0\ntrace 1", Err((5, None))),
-    // Newer programs have no older trace.
+    // Newer programs have no trace of version 1.
     (b"fn main\nfreeze r0\nend\ntrace 1\nx", Err((4, None))),
     (b"fn main\nfreeze r0\nend\ntrace 2\nx", Err((5, None))),
     (b"fn main\ncas i0 r0 i0 r0 r0\nend\ntrace 1", Err((4, None))),

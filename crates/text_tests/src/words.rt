@@ -3,7 +3,7 @@
 use heap_image::{next_line, next_word};
 use hh_lang::{read_i64, read_u32};
 
-// A text, its first line, and the text behind it.
+// A text, its first line, and the text after it.
 const LINES: &[(&[u8], &[u8], Option<&[u8]>)] = &[
     (b"a b\n\nc", b"a b", Some(b"\nc")),
     (b"\nc", b"", Some(b"c")),
@@ -19,7 +19,7 @@ fn lines_are_cut_at_line_feeds(rt: HostRuntime) {
     }
 }
 
-// A line, its first word, and the line behind it.
+// A line, its first word, and the rest of the line.
 const WORDS: &[(&[u8], Option<(&[u8], &[u8])>)] = &[
     (b" \tset\r i0 #1", Some((b"set", b" i0 #1"))),
     (b" i0 #1", Some((b"i0", b"#1"))),
@@ -35,7 +35,7 @@ fn words_stand_between_blanks(rt: HostRuntime) {
     }
 }
 
-// A word, and the numbers that it is.
+// A word, and the numbers that it stands for.
 const NUMBERS: &[(&[u8], Option<u32>, Option<i64>)] = &[
     (b"4294967295", Some(4294967295), Some(4294967295)),
     (b"4294967296", None, Some(4294967296)),

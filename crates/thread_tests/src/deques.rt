@@ -11,7 +11,7 @@ use steal_scheduler::{Deques, Hand};
 // Each worker's numbers begin at a multiple of this.
 const EACH: u32 = 1000;
 
-// A theft, where there is such a victim.
+// A theft, if there is such a victim.
 fn stolen<R: Wait>(rt: &R, hand: &mut Hand, victim: u32) -> Option<u32> {
     if (victim as usize) < hand.workers() {
         hand.steal_from(rt, victim)
@@ -20,7 +20,7 @@ fn stolen<R: Wait>(rt: &R, hand: &mut Hand, victim: u32) -> Option<u32> {
     }
 }
 
-// How many thefts from the victim found at most one number, where there is such a victim.
+// The number of thefts from the victim that found at most one number, if there is such a victim.
 fn vain(hand: &Hand, victim: u32) -> Option<u64> {
     if (victim as usize) < hand.workers() {
         Some(hand.vain_thefts(victim))

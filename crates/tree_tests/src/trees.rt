@@ -12,7 +12,7 @@ use std::marker::Brand;
 use std::sync::ledger::{Blank, Ledger};
 use task_homes::Addr;
 
-// Forks a task; its children's numbers.
+// Forks a task; returns its children's numbers.
 fn forked(tree: &mut Tree, t: u32) -> Option<(u32, u32)> {
     if t >= tree.made() || tree.made() >= 100000 || tree.depth(t) >= DEPTH_LIMIT {
         return None;
@@ -54,7 +54,7 @@ fn path_counted<L: Ledger>(tree: &Tree, t: u32, depth: u32, blank: Blank) -> Opt
     Some(tree.path_counted(t, depth, &mut links))
 }
 
-// How many tasks a new tree has, the root's state, its parent, and whether it is on its own path.
+// The number of tasks of a new tree, the root's state, its parent, and whether it is on its own path.
 type First = (u32, Option<State>, Option<u32>, Option<bool>);
 
 fn first(tree: &Tree) -> First {
@@ -76,7 +76,7 @@ fn states(tree: &Tree) -> States {
     )
 }
 
-// What a new tree is, the numbers of the children that its root gets, and what it is then.
+// The facts of a new tree, the numbers of the root's children after a fork, and the facts then.
 fn one_fork(alloc: Global) -> Option<(First, (u32, u32), States)> {
     let Ok(mut tree) = Tree::new(alloc) else {
         return None;
@@ -103,7 +103,7 @@ fn three_levels(alloc: Global, second: u32) -> Option<Tree> {
     Some(tree)
 }
 
-// The parent of task 4, and whether 0, 2 and 3 are on its path, and it is on the root's.
+// The parent of task 4, whether 0, 2 and 3 are on its path, and whether it is on the root's.
 fn paths_of(alloc: Global) -> Option<(Option<u32>, [Option<bool>; 4])> {
     let tree = three_levels(alloc, 1)?;
     let [root, other, beside] = [
@@ -131,7 +131,7 @@ fn links_are_counted(rt: HostRuntime) {
     assert!(rt; links_counted(rt.alloc()) == Some(2));
 }
 
-// The left child of each fork forks, so many levels down: the number of the last one.
+// The left child of each fork forks, down to a depth: the number of the last one.
 fn fork_down(tree: &mut Tree, levels: u32) -> Option<u32> {
     let mut last = 0;
     for _ in 0..levels {
@@ -140,7 +140,7 @@ fn fork_down(tree: &mut Tree, levels: u32) -> Option<u32> {
     Some(last)
 }
 
-// Whether the left child at a depth is the one above a task, and on its path, and the right child isn't.
+// Whether the left child at a depth is the ancestor of a task there, and on its path, and the right child isn't.
 fn is_above(tree: &Tree, t: u32, depth: u32) -> bool
     requires least { 0 < depth }
     requires most { depth < 1000 }
@@ -160,7 +160,7 @@ fn are_above(tree: &Tree, t: u32) -> bool {
     true
 }
 
-// The number of the task at depth 1,000, which is at depth 0 above it, and whether those between are.
+// The number of the task at depth 1,000, its ancestor at depth 0, and whether those between are the expected ones.
 fn deep(alloc: Global) -> Option<(u32, Option<u32>, bool)> {
     let Ok(mut tree) = Tree::new(alloc) else {
         return None;
@@ -175,7 +175,7 @@ fn a_thousand_deep(rt: HostRuntime) {
     assert!(rt; deep(rt.alloc()) == Some((1999, Some(0), true)));
 }
 
-// What a reader gets that reads an address, if its chunk is a task's of the tree.
+// What a reader gets for an address, if its chunk belongs to a task of the tree.
 fn read(tree: &Tree, pool: &Pool, reader: u32, to: Addr) -> Option<Result<Addr, Stop>> {
     let held = pool.slot(to.chunk)?;
     if reader >= tree.made() || held.owner >= tree.made() {
@@ -184,7 +184,7 @@ fn read(tree: &Tree, pool: &Pool, reader: u32, to: Addr) -> Option<Result<Addr, 
     Some(check(tree, pool, reader, to))
 }
 
-// What four tasks read, the root, task 1, its sibling and its child.
+// What four tasks read: the root, task 1, its sibling and its child.
 type Reads = [Option<Result<Addr, Stop>>; 4];
 
 fn reads(tree: &Tree, pool: &Pool, to: Addr) -> Reads {
@@ -192,7 +192,7 @@ fn reads(tree: &Tree, pool: &Pool, to: Addr) -> Reads {
     [root, own, read(tree, pool, 2, to), read(tree, pool, 4, to)]
 }
 
-// What they read of a chunk that is task 1's, whose number is told, and then the root's.
+// What they read of a chunk that is task 1's, with its number, and then of the root's.
 fn reads_of(tree: &Tree, pool: &mut Pool) -> (Option<u32>, Reads, Reads) {
     let number = take(pool, 1, 1);
     let before = reads(tree, pool, THERE);

@@ -1,4 +1,4 @@
-// What writes of references into an object of a root that has two children note in the sets of the three heaps.
+// What writes of references into an object of a root with two children record in the sets of the three heaps.
 
 ghost use Rattle.std.specs.Prelude.{IsTrue, length};
 ghost use Rattle.write_barrier.specs.Stored.{IsOwned};
@@ -23,7 +23,7 @@ fn is_owned(tree: &Tree, pool: &Pool, reference: Option<Addr>) -> bool
     }
 }
 
-// Notes a write, if the barrier may be asked to.
+// Records a write, if the barrier may be called.
 fn note_checked(
     tree: &Tree,
     pool: &Pool,
@@ -49,7 +49,7 @@ struct Scene {
     homes: Homes,
 }
 
-// Where the object lies whose field is written.
+// The address of the object whose field is written.
 const OBJECT: Addr = Addr {
     chunk: 0,
     offset: 0,
@@ -91,7 +91,7 @@ fn three_homes(alloc: Global) -> Option<Homes> {
     Some(homes)
 }
 
-// Takes a chunk for a task, and says its number.
+// Takes a chunk for a task; returns its number.
 fn take_chunk(alloc: Global, pool: &mut Pool, owner: u32) -> Option<u32> {
     let mut heap = LeafHeap::new(alloc);
     add_taken(pool, &mut heap, owner)
@@ -109,7 +109,7 @@ impl Scene {
         }
     }
 
-    // Notes the write of a reference in place of another one, and says whether it did.
+    // Records the write of one reference over another; returns whether that succeeded.
     fn write(&mut self, overwritten: Option<Addr>, value: Option<Addr>) -> bool {
         let source = Source {
             object: OBJECT,
@@ -125,7 +125,7 @@ impl Scene {
         )
     }
 
-    // Whether the root's heap keeps from now on.
+    // Sets whether the root's heap keeps overwritten references from now on.
     fn set_keeps(&mut self, keeps: bool) {
         if self.homes.keeps(0) != keeps && self.homes.len() > 0 && self.homes.has_block(0) {
             self.homes.set_keeps(0, keeps);
@@ -142,7 +142,7 @@ impl Scene {
     }
 }
 
-// The place behind eight words of a chunk of the left child.
+// The address after eight words of a chunk of the left child.
 fn place_below(alloc: Global, pool: &mut Pool) -> Option<Addr> {
     Some(at(take_chunk(alloc, pool, 1)?, 8))
 }
@@ -158,20 +158,20 @@ fn points_down(alloc: Global, scene: &mut Scene) -> Option<(bool, bool, [(usize,
     Some((first, second, scene.counts()))
 }
 
-// The same of a new scene.
+// The same in a new scene.
 fn points_down_in_new_scene(alloc: Global) -> Option<(bool, bool, [(usize, usize); 3])> {
     let mut scene = Scene::new(alloc)?;
     points_down(alloc, &mut scene)
 }
 
-// The field is noted once in the set of the child into whose chunk it points.
+// The field is recorded once in the set of the child into whose chunk it points.
 #[test]
 fn a_down_pointer_is_noted_once(rt: HostRuntime) {
     let noted = [(0, 0), (1, 0), (0, 0)];
     assert!(rt; points_down_in_new_scene(rt.alloc()) == Some((true, true, noted)));
 }
 
-// Whether the root's heap keeps, what is overwritten, what is written, and how many references are kept then.
+// Whether the root's heap keeps, what is overwritten, what is written, and the number of references kept then.
 type Write = (bool, Option<Addr>, Option<Addr>, usize);
 
 const WRITES: &[Write] = &[
@@ -181,13 +181,13 @@ const WRITES: &[Write] = &[
     (true, None, Some(OBJECT), 1),
 ];
 
-// Whether a reference is written, and so many are kept in the root's set alone then.
+// Whether a reference is written, and n are kept then, in the root's set alone.
 fn keeps(scene: &mut Scene, (keeps, overwritten, value, kept): Write) -> bool {
     scene.set_keeps(keeps);
     scene.write(overwritten, value) && scene.counts() == [(0, kept), (0, 0), (0, 0)]
 }
 
-// Whether the reference that is overwritten is kept, each time that it should be.
+// Whether the overwritten reference is kept, in each case in which it should be.
 fn keeps_overwritten(scene: &mut Scene) -> bool {
     for &write in WRITES {
         if !keeps(scene, write) {
@@ -197,7 +197,7 @@ fn keeps_overwritten(scene: &mut Scene) -> bool {
     true
 }
 
-// The same of a new scene.
+// The same in a new scene.
 fn keeps_overwritten_in_new_scene(alloc: Global) -> bool {
     match Scene::new(alloc) {
         Some(mut scene) => keeps_overwritten(&mut scene),
@@ -205,7 +205,7 @@ fn keeps_overwritten_in_new_scene(alloc: Global) -> bool {
     }
 }
 
-// Where the heap keeps, a reference into it that is overwritten is kept; nil isn't.
+// If the heap keeps, an overwritten reference into it is kept; nil isn't.
 #[test]
 fn an_overwritten_reference_is_kept(rt: HostRuntime) {
     assert!(rt; keeps_overwritten_in_new_scene(rt.alloc()));

@@ -33,7 +33,7 @@ pub(crate) fn call_with(alloc: Global, line: &str, input: Vec<u8>) -> Result<Cal
 }
 
 impl Call {
-    /// What it hands back.
+    /// What it returns.
     pub(crate) fn answer<R: AllocGlobal + Threads + Wait + Sync>(&mut self, rt: &R) -> Ran {
         command(
             rt,

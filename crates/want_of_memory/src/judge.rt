@@ -1,4 +1,4 @@
-// What came of a call amid which one allocation was refused.
+// The result of a call during which one allocation was refused.
 
 use crate::call::{Call, call_of, call_with, program_of};
 use crate::trials::Trial;
@@ -8,29 +8,29 @@ use std::alloc::{AllocError, Global};
 use std::sync::Wait;
 use std::thread::Threads;
 
-/// What came of it.
+/// The result.
 #[derive(Clone, Copy)]
 pub(crate) enum Told {
     /// The allocation was refused before the call.
     Before,
-    /// The call met no refusal; how many allocations there were from the beginning up to its end.
+    /// The call met no refusal; the number of allocations from the beginning up to its end.
     Unmet(u64),
-    /// Want of memory, with nothing handed back.
+    /// Out of memory, with nothing returned.
     Nothing,
-    /// Want of memory, with a legal journal without an end.
+    /// Out of memory, with a legal journal without an end.
     Part,
-    /// Want of memory, with a legal journal that has an end.
+    /// Out of memory, with a legal journal that has an end.
     Whole,
     /// A write fault with nothing written, since the sink had no memory, and a legal journal that has an end.
     Unwritten,
-    /// The call answered what it answers with memory to spare.
+    /// The call gave the answer that it gives with memory to spare.
     Answered,
     /// Anything else.
     Wrong,
 }
 
 impl Told {
-    /// What is written of it.
+    /// The word that is printed for it.
     pub(crate) fn text(self) -> &'static str {
         match self {
             Told::Before => "before",
@@ -44,7 +44,7 @@ impl Told {
         }
     }
 
-    /// How many allocations a call took that met no refusal, else 0.
+    /// The number of allocations of a call that met no refusal, otherwise 0.
     pub(crate) fn count(self) -> u64 {
         match self {
             Told::Unmet(count) => count,
@@ -53,13 +53,13 @@ impl Told {
     }
 }
 
-// One allocation; whether it was there.
+// One allocation; whether it succeeded.
 fn has_memory(alloc: Global) -> bool {
     let mut bytes = Vec::new(alloc);
     bytes.push(0u8).is_ok()
 }
 
-// So many allocations; which one, from 0 on, is refused.
+// n allocations; which one, from 0 on, is refused.
 fn refused_of(alloc: Global, count: u64) -> Option<u64> {
     for at in 0..count {
         if !has_memory(alloc) {
@@ -83,7 +83,7 @@ fn replay_text<R: AllocGlobal + Threads + Wait + Sync>(
 
 const SHORT: &[u8] = b"end: trace refused short\n";
 
-// Whether a journal is replayed: to its end, or as far as it goes.
+// Whether a journal is replayed: to its end, or to its last entry.
 fn is_replayed<R: AllocGlobal + Threads + Wait + Sync>(
     rt: &R,
     trial: Trial,
@@ -100,7 +100,7 @@ fn is_replayed<R: AllocGlobal + Threads + Wait + Sync>(
     }
 }
 
-// What is handed back for want of memory.
+// The result when out of memory.
 fn handed_back<R: AllocGlobal + Threads + Wait + Sync>(rt: &R, trial: Trial, ran: &Ran) -> Told {
     let journal = ran.journal.as_slice();
     let Some(left) = &ran.shared else {
@@ -118,7 +118,7 @@ fn handed_back<R: AllocGlobal + Threads + Wait + Sync>(rt: &R, trial: Trial, ran
     }
 }
 
-// What is handed back where the sink had no memory.
+// The result when the sink had no memory.
 fn unwritten<R: AllocGlobal + Threads + Wait + Sync>(rt: &R, trial: Trial, ran: &Ran) -> Told {
     match handed_back(rt, trial, ran) {
         Told::Whole => Told::Unwritten,
@@ -126,7 +126,7 @@ fn unwritten<R: AllocGlobal + Threads + Wait + Sync>(rt: &R, trial: Trial, ran: 
     }
 }
 
-// Whether the call is answered so with memory to spare.
+// Whether the call has the answer that it gives with memory to spare.
 fn is_answer<R: AllocGlobal + Threads + Wait + Sync>(
     rt: &R,
     trial: Trial,
@@ -139,7 +139,7 @@ fn is_answer<R: AllocGlobal + Threads + Wait + Sync>(
     }
 }
 
-// What came of a call that met the refusal.
+// The result of a call that met the refusal.
 fn judged<R: AllocGlobal + Threads + Wait + Sync>(
     rt: &R,
     trial: Trial,
@@ -158,7 +158,7 @@ fn judged<R: AllocGlobal + Threads + Wait + Sync>(
     }
 }
 
-// What comes of a call after so many allocations.
+// The result of a call after `first` allocations.
 fn told_over<R: AllocGlobal + Threads + Wait + Sync>(
     rt: &R,
     trial: Trial,
@@ -176,7 +176,7 @@ fn told_over<R: AllocGlobal + Threads + Wait + Sync>(
     }
 }
 
-/// What comes of the call of a trial after so many allocations, where the refused one is at most so many further on.
+/// The result of a trial's call after `first` allocations, if the refused one is at most `at` further on.
 pub(crate) fn told_of<R: AllocGlobal + Threads + Wait + Sync>(
     rt: &R,
     trial: Trial,

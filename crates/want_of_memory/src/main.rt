@@ -1,5 +1,5 @@
-// Calls `command` where one allocation is refused, and tells what came of it. `scripts/want_of_memory.bash` builds it
-// so that its allocation with the number REFUSED is refused, and runs it for each allocation of each trial.
+// Calls `command` with one allocation refused, and prints the result. `scripts/want_of_memory.bash` builds it so that
+// allocation number REFUSED is refused, and runs it for each allocation of each trial.
 #![tactic(auto)]
 
 mod call;
@@ -16,7 +16,7 @@ use std::thread::Threads;
 /// The number of the allocation of this program that is refused.
 const REFUSED: u64 = 5000;
 
-// The numbers of a line; those that aren't there are 0.
+// The numbers of a line; missing ones are 0.
 fn numbers_of(line: &[u8]) -> (u64, u64, u64) {
     let mut numbers = (0u64, 0u64, 0u64);
     for byte in line {
@@ -32,7 +32,7 @@ fn numbers_of(line: &[u8]) -> (u64, u64, u64) {
     numbers
 }
 
-// The number of a trial, of its workers, and of the allocation from its beginning that is refused.
+// The numbers of a trial and of its workers, and the number, from its beginning, of the allocation that is refused.
 fn read_case<R: Input>(rt: &R) -> (u64, u64, u64) {
     let mut line = [0u8; 32];
     match rt.reader().read(&mut line) {

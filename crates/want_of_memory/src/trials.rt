@@ -2,24 +2,24 @@
 
 use run_trace::Version;
 
-/// A call, and how a journal that it hands back is replayed.
+/// A call, and how a journal that it returns is replayed.
 #[derive(Clone, Copy)]
 pub(crate) struct Trial {
     /// The words of the call.
     pub words: &'static str,
     /// Those of the replay.
     pub replay: &'static str,
-    /// The program; where it is empty, the one that `make` writes.
+    /// The program; if empty, the one that `make` writes.
     pub program: &'static str,
-    /// The trace behind it, by the first version, where the call replays one.
+    /// The trace after it, of version 1, if the call replays one.
     pub trace: &'static str,
 }
 
-// It adds up what two tasks hand back.
+// It adds what two tasks return.
 const FORK: &str =
     "fn left\nset i1 10\nadd i0 i1 i2\nend\nfn right\nset i1 20\nadd i0 i1 i2\nend\nfn main\nset i2 3\npar left right\nadd i0 i0 i1\nout i0\nend\n";
 
-// An object of a grandchild hangs on the root's; it is lifted at a join, and led to where a collection moves it.
+// An object of a grandchild hangs on the root's; it is lifted at a join, and updated when a collection moves it.
 const LIFTED: &str =
     "fn nop\nret\nend\nfn store\nset i0 0\nset i1 1\nnewm r1 i0 i1\nset i2 7\nputi r1 i0 i2\nputr r0 i0 r1\nret\nend\nfn mid\npar nop store\nset i2 0\nset i3 18\nnewm r2 i2 i3\nnewm r2 i2 i3\nret\nend\nfn main\nset i0 1\nset i1 0\nnewm r0 i0 i1\nmovr r5 r0\npar mid nop\nset i2 0\ngetr r3 r5 i2\ngeti i4 r3 i2\nout i4\nret\nend\n";
 
@@ -100,7 +100,7 @@ const BY_FOUR: &[Trial] = &[
     },
 ];
 
-/// The trial with this number, from 1 on, by one worker or by four.
+/// The trial with this number, from 1 on, with one worker or with four.
 pub(crate) fn trial_of(number: u64, workers: u64) -> Option<Trial> {
     let trials = if workers == 4 { BY_FOUR } else { BY_ONE };
     let mut left = number;

@@ -1,2 +1,2 @@
--- What crates above name of `alloc_path`.
+-- Re-exports from `alloc_path` for the crates above.
 pub use Rattle.alloc_path.specs.LeafHeapValue.{IsFresh, LeafHeapValue}
