@@ -1,4 +1,4 @@
-// Frames at their limit, and registers of each.
+// Frames at their limit, and the registers of each.
 
 use object_layout::Addr;
 use std::alloc::Global;
@@ -16,7 +16,7 @@ fn started(alloc: Global) -> Option<Frames> {
     Frames::start(alloc, 4, &[0; 16], &[NOWHERE; 16]).ok()
 }
 
-// Whether so many calls have a place.
+// Whether n calls fit.
 fn can_push(frames: &mut Frames, calls: u32) -> bool {
     for _ in 0..calls {
         if frames.push(5).is_err() {
@@ -26,8 +26,7 @@ fn can_push(frames: &mut Frames, calls: u32) -> bool {
     true
 }
 
-// Whether 999 calls have a place, how deep the frames then are, whether one call more is too deep, and the function
-// that runs.
+// Whether 999 calls fit, the depth of the frames then, whether one more call is too deep, and the running function.
 fn at_the_limit(alloc: Global) -> Option<(bool, u32, bool, u32)> {
     let mut frames = started(alloc)?;
     let (pushed, depth) = (can_push(&mut frames, 999), frames.depth());
@@ -43,7 +42,7 @@ fn to_the_limit(rt: HostRuntime) {
 // A number register, a reference register, and the top frame's function, its next instruction and its depth.
 type Top = (i64, Option<Addr>, u32, u32, u32);
 
-// All that of a top frame.
+// All that for a top frame.
 fn top(frames: &Frames) -> Top {
     let (number, reference) = (frames.int(15), frames.reference(0));
     (
@@ -75,15 +74,15 @@ fn first_call(alloc: Global) -> Option<(Top, Top)> {
     call(&mut frames)
 }
 
-// A call begins with the registers of its caller, and leaves them as they were.
+// A call begins with the registers of its caller, and leaves the caller's unchanged.
 #[test]
 fn registers_of_a_call(rt: HostRuntime) {
     let expected = ((-7, THERE, 8, 0, 2), (-7, THERE, 4, 2, 1));
     assert!(rt; first_call(rt.alloc()) == Some(expected));
 }
 
-// Register 1 of the top frame, and of the oldest one, once that was written; and register 4 of the top frame, once all
-// its registers were written.
+// Register 1 of the top frame, and of the oldest one after a write to that; and register 4 of the top frame, after a
+// write to all its registers.
 fn written(frames: &mut Frames) -> Option<(Option<Addr>, Option<Addr>, Option<Addr>)> {
     let Ok(()) = frames.push(8) else {
         return None;
