@@ -52,7 +52,7 @@ options() {
   sed -n 's/^# words: run//p' "$(source_of "$1")"
 }
 
-# Calls a command: seconds elapsed, of the user and of the system, and KiB. What it writes stands in `written`.
+# Calls a command: seconds elapsed, of the user and of the system, and KiB. Its output is left in `written`.
 time_call() {
   local TIMEFORMAT='%3R %3U %3S'
   {
@@ -61,7 +61,7 @@ time_call() {
   echo "$(cat "$room/time") $(tail -n 1 "$room/most")"
 }
 
-# Calls a command so often: the least elapsed seconds, the least processor seconds, the most KiB.
+# Calls a command `repeat` times: the least elapsed seconds, the least processor seconds, the most KiB.
 measure() {
   local number
   for ((number = 0; number < repeat; number++)); do
@@ -73,7 +73,7 @@ measure() {
     END { printf "%.3f %.3f %d\n", elapsed, used, most }'
 }
 
-# A run of a text, with further options: what `measure` tells.
+# Measures a run of a text, with further options.
 measure_run() {
   local name=$1 file=$2
   shift 2
@@ -101,7 +101,7 @@ record() {
   trace_of "$1" "$2"
 }
 
-# So many units for each of so many, to three places.
+# `used` divided by `count`, times `scale`, to three digits.
 each() {
   awk -v used="$1" -v count="$2" -v scale="$3" 'BEGIN {
     each = used * scale / count
@@ -133,7 +133,7 @@ head_of() {
   echo
 }
 
-# A row of a table of costs: of `run`, `replay`, `model` and the peer, each for one of so many.
+# A row of a table of costs: of `run`, `replay`, `model` and the peer, each divided by the count.
 cost_row() {
   local name=$1 count=$2 scale=$3 file peers=
   file=$(text "$name")
@@ -308,7 +308,7 @@ means_row() {
     }' "$room/ratios"
 }
 
-# The load of the machine, where it can be read.
+# The load of the machine, if it can be read.
 load() {
   [ ! -r /proc/loadavg ] || echo "Load of the last minute $1: $(cut -d ' ' -f 1 /proc/loadavg), on $(nproc) processors."
 }
@@ -374,7 +374,7 @@ thefts() {
     }'
 }
 
-# A row of tasks with so many private steps.
+# A row of tasks with n private steps.
 grain_row() {
   local steps=$1 name=$2 file=$3 workers gain cells=() least=()
   for workers in 1 2 4; do
@@ -387,7 +387,7 @@ grain_row() {
   row "$steps" "${least[@]}" "$gain" "${cells[@]}"
 }
 
-# The place of a text of small tasks; the tree has 6 levels, in place of 14, if it is only tried.
+# The place of a text of small tasks; the tree has 6 levels, instead of 14, if it is only tried.
 grain_text() {
   local file
   file=$(text "$@")

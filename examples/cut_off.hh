@@ -1,5 +1,5 @@
 # A cut-off of parallelism: the sum of the numbers from i0 up to i1 - 1 is split by forks as long as there are more than
-# 250 of them, and added in a loop below that. So 1,000 numbers take 3 forks in place of 999.
+# 250 of them, and added in a loop below that. So 1,000 numbers take 3 forks instead of 999.
 # words: run --report
 fn sum
   sub i2 i1 i0     # how many

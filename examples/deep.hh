@@ -1,5 +1,5 @@
 # A walk over a tree that is 2,000 nodes deep, where a task has at most 1,000 frames: the nodes still to be visited are
-# in a list, in place of a frame for each.
+# in a list, instead of a frame for each.
 # words: run
 fn grow            # returns a tree of i0 nodes, each of which has a first child alone
   set i1 1

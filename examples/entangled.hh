@@ -1,4 +1,4 @@
-# An entangled read: the right task reads what the left task allocated beside it. If the left task has written
+# An entangled read: the right task reads what the concurrent left task allocated. If the left task has written
 # before, as it has with one worker, the run is stopped.
 # words: run
 fn left

@@ -1,4 +1,4 @@
-# An inner collection beside running children: `main` has dropped 1,002 words when it forks, so its waiting heap is
+# An inner collection while children run: `main` has dropped 1,002 words when it forks, so its waiting heap is
 # marked and swept while its children run. What the children hold of it, the object in r1, was reachable at the fork and
 # stays where it is.
 # words: run --inner 512 --report --trace

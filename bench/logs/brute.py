@@ -58,7 +58,7 @@ def check_place(numbers):
 
 
 def parse(text, at):
-    """A line's act; None if it is none, else the cause is raised."""
+    """A line's act; None if it isn't one, or else the cause is raised."""
     if text == "" or text.startswith("#"):
         return None
     letter, *words = text.split(" ")
@@ -232,7 +232,7 @@ def attached(log):
 
 
 class Verdict:
-    """What a log comes to. `accesses`: location to [(strand, act)]; `after`: strand to all that it precedes."""
+    """The result of a log. `accesses`: location to [(strand, act)]; `after`: strand to all that it precedes."""
 
     def __init__(self, log, reached):
         self.log, self.reached = log, reached

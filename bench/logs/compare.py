@@ -21,7 +21,7 @@ MERGED = re.compile(r"race (\d+) (\d+) (\d+): .*, .*; locations (\d+)\Z")
 WORK = re.compile(r"work (\d+) span (\d+) parallelism ")
 END = re.compile(r"end: races (\d+) reads (\d+) uses (\d+) stale (\d+)(?: cut (\d+))?\Z")
 REFUSED = re.compile(r"end: log refused (?:line (\d+):(\d+)|task (\d+)) ([a-z-]+)\Z")
-# Which of these a line with several faults has is left open.
+# For a line with several faults any of these may be reported.
 FORM = ("number", "word", "count", "limit", "overlap")
 
 

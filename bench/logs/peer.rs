@@ -320,7 +320,7 @@ impl Hasher for Mixer {
 
 type Map<K, V> = HashMap<K, V, BuildHasherDefault<Mixer>>;
 
-/// What ends a strand; `Open` where its last piece just stops.
+/// What ends a strand; `Open` if its last piece just stops.
 #[derive(Clone, Copy, PartialEq)]
 enum StrandEnd {
     Open,
@@ -789,7 +789,7 @@ impl Log {
         (self.rows[row as usize].index == index).then_some(row)
     }
 
-    /// What ends a strand in the text, even one behind a gap.
+    /// What ends a strand in the text, even one after a gap.
     fn written_end(&self, task: &Task, index: u32) -> StrandEnd {
         self.row_at(task, index).map_or(StrandEnd::Open, |row| self.rows[row as usize].end)
     }
@@ -1056,7 +1056,7 @@ impl Log {
         self.files[file as usize].bytes = bytes;
     }
 
-    /// The strand of a block's birth, where it is attached, with its line.
+    /// The strand of a block's birth, if it is attached, with its line.
     fn birth(&self, block: &Block) -> Option<(u32, u32)> {
         let (row, line) = block.birth?;
         let place = self.rows[row as usize].place;
@@ -1075,7 +1075,7 @@ impl Log {
         }
     }
 
-    /// Looks whether a block is accessed beside its birth, or after its release.
+    /// Looks whether a block is accessed concurrently with its birth, or after its release.
     fn check_block(&mut self, scan: &mut Scan, block: u32, entry: Entry) {
         let known = &self.blocks[block as usize];
         if known.born_before == entry.strand && known.release == NOBODY {

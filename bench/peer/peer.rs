@@ -172,7 +172,7 @@ impl Peer {
         &mut object[2 + index + if numbers { references } else { 0 }]
     }
 
-    /// Runs a function with these registers, and hands back its `i0` and `r0`.
+    /// Runs a function with these registers, and returns its `i0` and `r0`.
     fn call(&mut self, function: usize, registers: &Frame) -> (i64, u64) {
         let mut top = *registers;
         let mut at = 0;
@@ -258,7 +258,7 @@ impl Peer {
                     self.waiting.push(top);
                     first = self.call(left, &top);
                     top = self.waiting.pop().unwrap();
-                    // (what the first hands back is kept alive in a frame of its own)
+                    // (what the first returns is kept alive in a separate frame)
                     let mut kept = top;
                     kept.references[0] = first.1;
                     self.waiting.push(top);

@@ -1,7 +1,7 @@
 //! answers FILE    writes the lines of FILE again, each with what it says the program writes computed here, in plain Rust.
 //!
 //! A line is the name of a program beside this file, its size N, and the numbers that it writes. Nothing here reads a program:
-//! each answer is computed by another way than the program's where there is one.
+//! each answer is computed in another way than the program's if there is one.
 
 use std::collections::{BTreeMap, BTreeSet, VecDeque};
 

@@ -82,7 +82,7 @@ lab last
   mul i5 i12 i3
   mul i5 i5 i3
   newm r1 i4 i5
-  add i12 i12 i11  # the first body behind it
+  add i12 i12 i11  # the first body after it
   set i10 0        # where a body's state goes
 lab body
   geti i5 r7 i11

@@ -96,7 +96,7 @@ fn next_block      # puts the distances of the block i0 after a round; returns h
   set i5 0         # the node in its block
   set i13 0        # its next edge
 lab node
-  add i14 i13 i12  # the first edge behind its own
+  add i14 i13 i12  # the first edge after its own
   geti i6 r2 i5
   lt i1 i6 i4
   jz i1 known

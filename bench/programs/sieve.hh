@@ -60,7 +60,7 @@ lab prime
   geti i13 r7 i8
   mul i14 i13 i13
   lt i7 i14 i11
-  jz i7 count      # the squares of this prime and of all others lie behind
+  jz i7 count      # the squares of this prime and of all others lie after the segment
   sub i14 i14 i5   # the place of its square,
   lt i7 i14 i4
   jz i7 first_multiple

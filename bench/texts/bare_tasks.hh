@@ -1,4 +1,4 @@
-# A tree of tasks, whose 16,384 leaves take one private step each. Beside it: small_tasks.
+# A tree of tasks, whose 16,384 leaves take one private step each. Compare small_tasks.
 # words: run --fuel 1000000000
 fn tree
   jz i0 leaf       # the private step of a leaf

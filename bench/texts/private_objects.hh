@@ -1,4 +1,4 @@
-# Eight tasks that read and write fields of their own object, four at a time: what workers gain where a step costs more.
+# Eight tasks that read and write fields of their own object, four at a time: what workers gain when a step costs more.
 # words: run --fuel 1000000000 --workers 4
 fn work
   set i0 500000 # N

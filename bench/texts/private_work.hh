@@ -1,4 +1,4 @@
-# Eight tasks of private arithmetic, four at a time: what workers gain where tasks work on what is theirs.
+# Eight tasks of private arithmetic, four at a time: what workers gain when tasks work on their own data.
 # words: run --fuel 1000000000 --workers 4
 fn work
   set i1 2000000 # N

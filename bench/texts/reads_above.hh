@@ -1,4 +1,4 @@
-# Ten times N reads of a number of an immutable object of the task above, without a turn. Beside it: reads_own.
+# Ten times N reads of a number of an immutable object of the task above, without a turn. Compare reads_own.
 # words: run --fuel 1000000000
 fn reads
   set i1 1000000 # N

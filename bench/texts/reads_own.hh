@@ -1,4 +1,4 @@
-# Ten times N reads of a number of an immutable object of the task's own. Beside it: reads_above.
+# Ten times N reads of a number of an immutable object of the task's own. Compare reads_above.
 # words: run --fuel 1000000000
 fn reads
   set i1 1000000 # N

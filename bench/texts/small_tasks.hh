@@ -1,4 +1,4 @@
-# A tree of tasks, whose 16,384 leaves take 4 private steps and 3 in each of N turns of a loop. Beside it: bare_tasks.
+# A tree of tasks, whose 16,384 leaves take 4 private steps and 3 in each of N turns of a loop. Compare bare_tasks.
 # words: run --fuel 1000000000
 fn tree
   jz i0 leaf

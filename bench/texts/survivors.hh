@@ -1,4 +1,4 @@
-# Leaf collections: a list of N objects of 11 words stays, and 595,800 objects alike are dropped, in a hundred collections.
+# Leaf collections: a list of N objects of 11 words stays, 595,800 such objects are dropped, in a hundred collections.
 # words: run --leaf 65536 --fuel 1000000000 --chunks 65536
 fn main
   set i0 1

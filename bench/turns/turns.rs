@@ -1,8 +1,8 @@
-//! What it costs to hand a turn on, by the least that hands one on: threads that each go round some private work and an
+//! The cost of passing a turn on, in the least program that does so: threads that loop over some private work and an
 //! entry under a lock, which writes some lines of memory. No journal, no heaps: so no run can make its entries faster.
 //!
 //! turns PRIVATE LINES    prints, for each lock and 1, 2 and 4 threads, the nanoseconds from one entry to the next.
-//! PRIVATE is the rounds of a loop outside the lock, LINES how many lines of 64 bytes an entry writes beside the lock's.
+//! PRIVATE is the rounds of a loop outside the lock, LINES the 64-byte lines that an entry writes besides the lock's.
 
 use std::env;
 use std::hint::{black_box, spin_loop};

@@ -1,4 +1,4 @@
-// The allocator's functions, before those of the C library: each allocation is a block, and its release ends that.
+// The allocator's functions, linked before those of the C library: each allocation is a block until its release.
 #include "recorder.h"
 #include <errno.h>
 #include <malloc.h>
@@ -22,7 +22,7 @@ void free(void *block) {
     __libc_free(block);
 }
 
-// The old block is read and released, the new one born and written, also where it stays in its place.
+// The old block is read and released, the new one born and written, also if it stays in place.
 void *realloc(void *old, size_t size) {
     if (!old) return malloc(size);
     if (size == 0) {

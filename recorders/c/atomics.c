@@ -1,5 +1,5 @@
 // What the compiler calls for atomic accesses of 1, 2, 4, 8 and 16 bytes. An update that wrote is an atomic write, a
-// comparison that failed an atomic read. All are made in the strongest order, whichever one was asked for.
+// comparison that failed an atomic read. All use the strongest memory order, whichever was requested.
 #include "recorder.h"
 
 #define ORDER __ATOMIC_SEQ_CST
@@ -55,7 +55,7 @@ ATOMIC(16, uint16_t)
 ATOMIC(32, uint32_t)
 ATOMIC(64, uint64_t)
 
-// Sixteen bytes are compared and swapped by an instruction of the processor; all else is made of that.
+// Sixteen bytes are compared and swapped by an instruction of the processor; the rest is built on that.
 #if defined(__SIZEOF_INT128__) && defined(__GCC_HAVE_SYNC_COMPARE_AND_SWAP_16)
 typedef unsigned __int128 u128;
 

@@ -1,10 +1,10 @@
-// From an address to its block and the offset in it. Each allocation is a block of its own, also where it stands at an
-// address that was used before; so is the stretch of a stack that a task's frames take. Static data is block 1; all other
+// From an address to its block and the offset in it. Each allocation is a separate block, even at an
+// address that was used before; so is the stretch of a stack with a task's frames. Static data is block 1; all other
 // memory (mapped by the program, or by libraries before the recorder began) is block 2, by its address.
 //
 // Allocations stand in a table that shadows the address space: a page that one block fills holds its slot, any other page
-// has a slot for each 16 bytes, which is what the allocator aligns to. A block that was released keeps its places there
-// until others take them or so many more have been released, so that a late access is seen as one of it.
+// has a slot for each 16 bytes, which is what the allocator aligns to. A released block keeps its places there
+// until others take them or KEPT_SLOTS more have been released, so that a late access is attributed to it.
 #include "recorder.h"
 #include <sched.h>
 #include <stdlib.h>
@@ -145,7 +145,7 @@ static void keep_slot(uint32_t number) {
     unused_slots = oldest;
 }
 
-// The slot of the allocation that an address lies in; NULL where it lies in none.
+// The slot of the allocation that an address lies in; NULL if there is none.
 static inline Slot *find_slot(uintptr_t address) {
     uintptr_t page = address >> PAGE_BITS;
     if (page >> DIRECTORY_BITS >= DIRECTORIES) return NULL;
@@ -159,7 +159,7 @@ static inline Slot *find_slot(uintptr_t address) {
     return slot ? slot_at(slot) : NULL;
 }
 
-// A new allocation is a new block, told to the log where a task made it.
+// A new allocation is a new block, logged if a task made it.
 void block_born(uintptr_t base, size_t size, bool is_told) {
     if (!base || size == 0) return;
     uint32_t block = block_new();
@@ -182,7 +182,7 @@ void block_released(uintptr_t base, bool is_told) {
     give_lock();
 }
 
-// How long an allocation is, as it was asked for; 0 where it isn't known.
+// The requested length of an allocation; 0 if unknown.
 size_t block_size(uintptr_t base) {
     const Slot *slot = find_slot(base);
     return slot && slot->base == base ? slot->size : 0;

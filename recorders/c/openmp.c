@@ -1,4 +1,4 @@
-// OpenMP as gcc compiles it: what stands between the program and libgomp. A task is a task; a member of a team is one
+// OpenMP as gcc compiles it: a layer between the program and libgomp. A task is a task; a member of a team is one
 // from barrier to barrier, spawned by the task that made the team.
 #define _GNU_SOURCE
 #include "recorder.h"
@@ -46,7 +46,7 @@ static Thread *enter_program(Call call) {
 
 // TASKS
 
-// A task's function with its own copy of its data, which is a block of its own.
+// A task's function with its own copy of its data, which is a separate block.
 typedef struct {
     void (*function)(void *);
     void *data;
@@ -80,7 +80,7 @@ static void run_task(void *argument) {
     __libc_free(job);
 }
 
-// A task that may not be put off is waited for by its parent, as by a join.
+// An undeferred task is waited for by its parent, as by a join.
 static bool is_included(bool may_defer) { return !may_defer || (omp_in_final && omp_in_final()); }
 
 static void mark_last(Task *task) { task->open[task->open_count - 1].is_joined = true; }
@@ -340,7 +340,7 @@ void GOMP_atomic_end(void) {
     real();
 }
 
-// What no forks and joins say.
+// What forks and joins can't express.
 
 #define REFUSED(result, name, parameters, arguments, why) \
     result name parameters { \

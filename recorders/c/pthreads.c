@@ -1,4 +1,4 @@
-// Threads: each is a task of its own, spawned where it is created and joined where its parent joins it.
+// Threads: each is a task, spawned where it is created and joined where its parent joins it.
 #define _GNU_SOURCE
 #include "recorder.h"
 #include <dlfcn.h>
@@ -21,7 +21,7 @@ void pthreads_begin(void) {
 
 static bool is_told(void) { return me && me->task && !me->in_runtime; }
 
-// At a return from the thread's function, at pthread_exit, and where it is cancelled.
+// At a return from the thread's function, at pthread_exit, and when it is cancelled.
 static void end_thread(void *thread) {
     Thread *t = thread;
     if (t->task) task_end(t);

@@ -58,7 +58,7 @@ typedef struct {
 typedef struct Thread Thread;
 
 struct Thread {
-    Task *task;          // what this thread works on; nothing is recorded where there is none
+    Task *task;          // what this thread works on; nothing is recorded if there is none
     Thread *next_idle;
     Log log;
     uintptr_t stack_low, stack_high;

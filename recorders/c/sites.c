@@ -10,7 +10,7 @@
 
 static _Atomic uint64_t places[PLACES];
 
-// Where the table is full, further places go without names.
+// If the table is full, further places go without names.
 void site_seen(uint64_t site) {
     uint32_t at = (uint32_t)(site * 0x9E3779B97F4A7C15u >> 48);
     for (uint32_t tries = 0; tries < 64; tries++, at = (at + 1) % PLACES) {

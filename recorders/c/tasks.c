@@ -24,13 +24,13 @@ void task_resume(Thread *t, Task *task) {
     log_line(t, 's', 2, (uint64_t[]){task->number, task->strand});
 }
 
-// The same after a call in which it may have run others: where nothing was written, the task's strand is still open.
+// The same after a call in which it may have run others: if nothing was written, the task's strand is still open.
 void task_return(Thread *t, Task *task, uint64_t lines_before) {
     if (t->lines == lines_before) t->task = task;
     else task_resume(t, task);
 }
 
-// The thread starts a task, whose frames lie below a place of its stack; answers how many stretches there were before.
+// The thread starts a task, whose frames lie below a place of its stack; returns how many stretches there were before.
 uint32_t task_enter(Thread *t, Task *task, uintptr_t stack_base) {
     if (t->task) runs_settle(t);
     uint32_t before = t->segment_count;
@@ -71,7 +71,7 @@ static void write_join(Thread *t, uint32_t child) {
 }
 
 // Joins the children that a call has waited for, last first. A wait for children alone doesn't wait for their children:
-// where some of those may run on, no forks and joins say what comes before what.
+// if some of those may run on, forks and joins don't order them.
 void task_join_marked(Thread *t, bool with_descendants) {
     Task *task = t->task;
     runs_settle(t);

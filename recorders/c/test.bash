@@ -1,9 +1,9 @@
 #!/usr/bin/env bash
 # test.bash [PROGRAM]    builds the tests with the recorder, runs them, and compares their logs and what a checker says.
 #
-# It needs gcc with OpenMP. PROGRAM is called as `PROGRAM check FILE..`; without one the unverified checker is built, where
-# rustc is there. What is left out for want of a program is said. Each test names its words and statuses in comments; where
-# a file .log stands beside it, that is its log.
+# It needs gcc with OpenMP. PROGRAM is called as `PROGRAM check FILE..`; without one the unverified checker is built, if
+# rustc is there. What is left out is reported. Each test names its words and statuses in comments; if a
+# file .log is beside it, that is its log.
 set -u
 here=$(dirname "$(realpath "${BASH_SOURCE[0]}")")
 room=$(mktemp -d) || exit 1
@@ -25,8 +25,8 @@ fi
 # What a test's comments say after a word.
 said() { sed -n "s|^// $2: ||p" "$1"; }
 
-# A log as it is compared: by tasks, each strand sorted, with names for sites. What hangs on the compiler and the library is left out: the
-# numbers of blocks, places on stacks and of static data, births and releases.
+# A log as it is compared: by tasks, each strand sorted, with names for sites. Compiler and library determine the
+# numbers of blocks, places on stacks and of static data, births and releases, which are left out.
 readable() {
   awk '
     FNR == 1 || $1 == "k" || $1 == "end" || $1 == "a" || $1 == "f" { next }

@@ -29,7 +29,7 @@ USES_OPENMP = {"merge_sort", "tree_reduction", "breadth_first", "queens"}
 
 
 class Run:
-    """What a run came to: its status (None where it took too long), seconds, megabytes, and what it wrote."""
+    """The result of a run: its status (None if it took too long), seconds, megabytes, and what it wrote."""
 
     def __init__(self, words, folder, **environment):
         variables = dict(os.environ, OMP_NUM_THREADS=str(THREADS), RAYON_NUM_THREADS=str(THREADS), OMP_WAIT_POLICY="passive",
@@ -85,7 +85,7 @@ class Log:
         return sum(os.path.getsize(name) for name in self.files()) / 1e6
 
     def found(self, words, runs, **environment):
-        """In how many runs a race stands in the log."""
+        """The number of runs with a race in the log."""
         number = 0
         for _ in range(runs):
             self.record(words, **environment)

@@ -2,8 +2,8 @@
 # test.bash [PROGRAM]    builds the tests and the examples of the Rust recorder, runs them, and compares.
 #
 # It needs rustc; for rayon also cargo and Debian's package librust-rayon-dev. PROGRAM is called as `PROGRAM check FILE..`;
-# without one the unverified checker is built. What is left out is said. Each test names its statuses in comments; where a
-# file .log stands beside it, that is its log.
+# without one the unverified checker is built. What is left out is reported. Each test names its statuses in comments;
+# if a file .log is beside it, that is its log.
 set -u
 here=$(dirname "$(realpath "${BASH_SOURCE[0]}")")
 room=$(mktemp -d) || exit 1

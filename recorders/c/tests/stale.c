@@ -1,4 +1,4 @@
-// A block is read after the thread that released it was joined; and a block is released beside a read of it.
+// A block is read after the thread that released it was joined; and a block is released while another thread reads it.
 // status: 12
 // found: races 8
 // found: stale 1

@@ -1,4 +1,4 @@
-// A taskwait that leaves a grandchild running: no forks and joins say what comes after what.
+// A taskwait that leaves a grandchild running: forks and joins don't order it.
 // words: -fopenmp
 // status: 11
 #include <stdio.h>

@@ -7,12 +7,12 @@ use std::sync::atomic::{AtomicU32, Ordering::Relaxed};
 
 static NEXT_BLOCK: AtomicU32 = AtomicU32::new(1);
 
-/// A block of numbered locations: its calls say what the program does to memory of its own, and touch none themselves.
+/// A block of numbered locations: its calls say what the program does to its own memory, and touch none themselves.
 #[derive(Clone, Copy, PartialEq, Eq, Debug)]
 pub struct Block(u32);
 
 impl Block {
-    /// The birth of a block of `length` locations. Where it is made outside of a recording, it was there before.
+    /// The birth of a block of `length` locations. If it is made outside of a recording, it was there before.
     #[must_use]
     pub fn new(length: usize) -> Block {
         let block = NEXT_BLOCK.fetch_add(1, Relaxed);

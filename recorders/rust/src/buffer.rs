@@ -89,7 +89,7 @@ impl Buffer {
     /// A new log file.
     ///
     /// # Panics
-    /// Where the file can't be made.
+    /// If the file can't be made.
     pub fn create(path: &Path) -> Buffer {
         let mut file = MappedFile::create(path).unwrap_or_else(|error| panic!("{}: {error}", path.display()));
         file.put(b"hhlog 1\n");
@@ -103,7 +103,7 @@ impl Buffer {
         self.finish_line();
     }
 
-    /// The same with a site, for what a strand does in no order.
+    /// The same with a site, for the unordered acts of a strand.
     pub fn put_line_at(&mut self, letter: u8, numbers: &[u64], site: Site) {
         let site = self.site(site);
         self.accesses += 1;

@@ -1,7 +1,7 @@
 //! Records what a fork-join program does to memory that its tasks share, as a log that a checker of races reads.
 //!
 //! [`record`] runs a program, [`join`] forks and joins two tasks, [`Logged`] is an array that tasks share, and [`Block`]
-//! stands for memory of the program's own. Each thread writes one file; nothing is shared while recording but counters.
+//! represents the program's own memory. Each thread writes one file; nothing is shared while recording but counters.
 //! Built with `--cfg hhrec_off` nothing is recorded, and the calls cost nothing.
 //!
 //! ```

@@ -45,7 +45,7 @@ impl Word for f64 {
 }
 
 /// An array of numbers that several tasks may read and write at once. Its accesses are recorded as plain ones; they are
-/// made so that a race of them is no undefined behaviour, and a checker's report all that comes of it.
+/// atomic, so that a race isn't undefined behaviour: a checker's report is its only result.
 pub struct Logged<T> {
     block: Block,
     cells: Box<[AtomicU64]>,
@@ -127,7 +127,7 @@ impl<T: Word> Logged<T> {
         T::from_bits(old)
     }
 
-    /// Replaces `old` by `new` where it is there; whether it was. An atomic write then, else an atomic read.
+    /// Replaces `old` by `new` if it is there; returns whether it was. An atomic write if so, else an atomic read.
     ///
     /// # Panics
     /// As an index does.

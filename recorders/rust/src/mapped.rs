@@ -19,7 +19,7 @@ mod system {
     }
 }
 
-/// The file, and the window that bytes go to. Where the file has no more room nothing more is written.
+/// The file, and the window that bytes go to. If the file has no more room nothing more is written.
 pub struct MappedFile {
     file: File,
     window: *mut u8,

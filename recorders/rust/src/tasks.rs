@@ -120,7 +120,7 @@ fn take_buffer() -> *mut Buffer {
     })
 }
 
-/// Calls with this thread's buffer, where it works on a task.
+/// Calls with this thread's buffer, if it works on a task.
 #[inline]
 pub(crate) fn log(with: impl FnOnce(&mut Buffer)) {
     if cfg!(hhrec_off) || STRAND.get().is_none() {
@@ -176,10 +176,10 @@ impl Drop for Recording {
     }
 }
 
-/// Runs a program as the root task, and records it: files `hhrec.0`, `hhrec.1`, .., or what `HHREC` says in place of `hhrec`.
+/// Runs a program as the root task, and records it in files `hhrec.0`, `hhrec.1`, ..; `HHREC` can replace `hhrec`.
 ///
 /// # Panics
-/// Where it is called a second time in a process, or a file can't be made.
+/// If it is called a second time in a process, or a file can't be made.
 pub fn record<R>(program: impl FnOnce() -> R) -> R {
     if cfg!(hhrec_off) {
         return program();
@@ -223,7 +223,7 @@ impl Drop for Forked {
     }
 }
 
-/// Runs two closures, at once where it can, as two tasks that are joined before it returns.
+/// Runs two closures, at once if possible, as two tasks that are joined before it returns.
 pub fn join_by<J, A, B, RA, RB>(a: A, b: B) -> (RA, RB)
 where
     J: Join,
@@ -257,7 +257,7 @@ where
     join_by::<Threads, A, B, RA, RB>(a, b)
 }
 
-/// Says that the running task did so many units of work beside its accesses, which count one each.
+/// Reports that the running task did `units` of work besides its accesses, which count one each.
 pub fn work(units: u64) {
     log(|buffer| buffer.put_line(b'k', &[units]));
 }

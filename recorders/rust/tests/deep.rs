@@ -1,4 +1,4 @@
-// Many forks, most of which run one after the other: each task is told, and threads take over files of those that ended.
+// Many forks, mostly run one after the other: each task is logged, and threads take over the files of ended ones.
 // status: 0
 // found: races 0
 use hhrec::{join, record, Logged};

@@ -15,7 +15,7 @@ impl hhrec::Join for Rayon {
     }
 }
 
-/// In place of `rayon::join`.
+/// Replaces `rayon::join`.
 pub fn join<A, B, RA, RB>(a: A, b: B) -> (RA, RB)
 where
     A: FnOnce() -> RA + Send,
