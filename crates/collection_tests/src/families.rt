@@ -63,7 +63,7 @@ fn child_side(alloc: Global, child: Child) -> Side {
     side(alloc, child.task, child.heap)
 }
 
-// The root's side alone.
+// Only the root's side.
 fn root_side(alloc: Global) -> Option<Vec<Side>> {
     let mut sides = Vec::new(alloc);
     if sides.reserve(1).is_err() {

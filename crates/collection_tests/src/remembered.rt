@@ -124,7 +124,7 @@ fn is_found(alloc: Global, set: &Remembered, heap: &LeafHeap) -> bool {
     }
 }
 
-// Whether the field is found and rewritten, and stays then.
+// Whether the field is found and rewritten, and then stays.
 fn is_followed(alloc: Global, set: &Remembered, heap: &mut LeafHeap) -> [bool; 3] {
     let found = is_found(alloc, set, heap);
     let rewritten = is_rewritten(set, heap, at(11, 0), REWRITTEN);

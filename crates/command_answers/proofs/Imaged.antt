@@ -51,7 +51,7 @@ abbrev IsDone : Status → Type 0
 IsDone Done = Unit {0}
 IsDone _ = ⊥
 
--- a refusal isn't done
+-- a refusal's status isn't `Done`
 undone : (named : Status) (bytes : List ℕ) (a : Answer) → (IsDone named → ⊥) → IsText named bytes a → a.status ≡ Done → ⊥
 undone named bytes a other h e = other (subst IsDone (sym e ∙ h.status) tt)
 

@@ -58,7 +58,7 @@ module _ (p : ProgramText) (s : SettingsValue) (I : IsProgram p) where
     abbrev l : Ledger
     l = ledger_of p s first
 
-    -- the step after j others, of an entry of more
+    -- step j of an entry of more than j steps
     entry_taken : (w u k j n : ℕ) → refusal p s l (record { worker = w; kind = Ran u k }) ≡ None → k ≡ suc (j + n) → can_step (run_from p l.machine (replicate j u)) u ≡ true
     entry_taken w u k j n free count =
         let fewer = fewer_steps_are_legal p s l w u (suc j) k (omega (arith, count)) free in

@@ -33,7 +33,7 @@ use Rattle.command_answers.specs.Status.{status_of_end, status_of_refusal}
 use Rattle.command_answers.specs.Input.{program_in}
 use Rattle.command_answers.specs.Runs.{IsReplayedRun, IsWorkersRun, LeavesPaced, LeavesPrefix}
 
--- bytes alone; nothing of a run is returned
+-- only bytes; nothing of a run is returned
 pub record IsText (named : Status) (bytes : List ℕ) (a : Answer) : Type 0 where
   pub status : a.status ≡ named
   pub written : a.bytes ≡ bytes

@@ -56,7 +56,7 @@ pub fn recorded_runs_are_alike()
     ensures { RecordedRunsAreAlike }
 {}
 
-/// A trace for which `races` reports no race is never one of an entangled run: `replay` doesn't report so.
+/// A trace for which `races` reports no race is never one of an entangled run: `replay` never has that status.
 pub fn raceless_are_disentangled()
     ensures { RacelessAreDisentangled }
 {}

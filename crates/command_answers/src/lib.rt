@@ -10,7 +10,7 @@ mod races;
 mod replay;
 mod verify;
 
-// Their parts: the input, the end of a run, and the answers that are bytes alone.
+// Their parts: the input, the end of a run, and the answers that return nothing of a run.
 mod answer;
 mod ended;
 mod input;

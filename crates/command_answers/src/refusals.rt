@@ -1,4 +1,4 @@
-// Answers of bytes alone.
+// Answers that return nothing of a run.
 
 ghost use Rattle.std.specs.Prelude.{◌≡◌, IfOk};
 ghost use Rattle.std.specs.String.{string_bytes};
@@ -10,7 +10,7 @@ use race_report::{Entry, Listed, Refused, RefusedAt};
 use refusal_lines::{Refusal, refusal_text};
 use std::alloc::{AllocError, Global};
 
-/// Bytes alone.
+/// Bytes, with nothing of a run.
 pub fn bytes_alone(alloc: Global, status: Status, bytes: Listed<u8>) -> Answer
     ensures { IsText status bytes result }
 {
@@ -22,7 +22,7 @@ pub fn bytes_alone(alloc: Global, status: Status, bytes: Listed<u8>) -> Answer
     }
 }
 
-/// A text alone.
+/// A text, with nothing of a run.
 pub(crate) fn text_alone(alloc: Global, status: Status, text: String) -> Answer
     ensures { IsText status (string_bytes text) result }
 {

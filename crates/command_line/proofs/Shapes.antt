@@ -21,7 +21,7 @@ check_shape = nth 0 whole.subs
 abbrev pub runner_shape : Text → Shape
 runner_shape name = record (nth 1 whole.subs) { name = name }
 
--- a command that has limits alone, by its name
+-- a command that only has limits, by its name
 abbrev pub limited_shape : Text → Shape
 limited_shape name = record (nth 4 whole.subs) { name = name }
 

@@ -121,7 +121,7 @@ fits_runner name none make known words e =
       is_asked = known (rows_after (runner_shape name).rules [] words);
     }
 
--- the matches of a command that has limits alone
+-- the matches of a command that only has limits
 limited_limits : (name : Text) (words : List Text) → level_fault (limited_shape name) [] nothing_held words false [] ≡ [] → HasSettings (rows_after (limited_shape name).rules [] words)
 limited_limits name words e =
     let s = limited_shape name in

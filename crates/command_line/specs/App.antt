@@ -69,7 +69,7 @@ replay = runner (codes "replay")
 abbrev pub model : Shape
 model = runner (codes "model")
 
--- a command that reads a program with its trace, and writes nothing besides its answer: its limits alone
+-- a command that reads a program with its trace, and writes nothing besides its answer: it only has limits
 abbrev pub limited : Text → Shape
 limited name = record (new_shape name) {
   rules = file

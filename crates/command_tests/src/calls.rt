@@ -97,7 +97,7 @@ pub(crate) fn status_with<R: AllocGlobal + Threads + Wait + Sync>(
     }
 }
 
-/// Whether a call over a source has this exit status and writes just this.
+/// Whether a call over a source has this exit status and writes exactly this.
 pub(crate) fn answers<R: AllocGlobal + Threads + Wait + Sync, G: Gate>(
     rt: &R,
     words: (&str, &str),

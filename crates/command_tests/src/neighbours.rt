@@ -14,7 +14,7 @@ pub(crate) type Call = (&'static str, &'static str, u8, &'static str);
 const TEN: &str =
     "fn dbl\nadd i0 i0 i0\nret\nend\nfn main\nset i0 0\nset i1 10\npfor dbl\nout i0\nret\nend\ntrace 2\n0 took 0\n0 ran 0 10\n0 took 1\n0 ran 1 12\n0 took 3\n0 ran 3 12\n0 took 5\n0 ran 5 17\n0 took 6\n0 ran 6 17\n0 took 3\n0 ran 3 4\n0 took 4\n0 ran 4 12\n0 took 7\n0 ran 7 17\n0 took 8\n0 ran 8 12\n0 took 9\n0 ran 9 17\n0 took 10\n0 ran 10 17\n0 took 8\n0 ran 8 4\n0 took 4\n0 ran 4 4\n0 took 1\n0 ran 1 4\n0 took 2\n0 ran 2 12\n0 took 11\n0 ran 11 12\n0 took 13\n0 ran 13 17\n0 took 14\n0 ran 14 17\n0 took 11\n0 ran 11 4\n0 took 12\n0 ran 12 12\n0 took 15\n0 ran 15 17\n0 took 16\n0 ran 16 12\n0 took 17\n0 ran 17 17\n0 took 18\n0 ran 18 17\n0 took 16\n0 ran 16 4\n0 took 12\n0 ran 12 4\n0 took 2\n0 ran 2 4\n0 took 0\n0 ran 0 4\n0 ran 0 1\n";
 
-// The same over no number.
+// The same over an empty range.
 const NO_NUMBER: &str =
     "fn dbl\nadd i0 i0 i0\nret\nend\nfn main\nset i0 0\nset i1 0\npfor dbl\nout i0\nret\nend\ntrace 2\n0 took 0\n0 ran 0 9\n0 ran 0 1\n";
 

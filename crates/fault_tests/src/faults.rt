@@ -118,7 +118,7 @@ fn is_first(alloc: Global, text: &[u8], faults: &[Fault]) -> Result<bool, AllocE
     }
 }
 
-// Whether a text is shown so.
+// Whether a text's faults are shown so.
 fn is_shown(alloc: Global, case: Case, json: bool) -> Result<bool, AllocError> {
     let text = case.0.as_bytes();
     if text.len() > MOST_BYTES {
@@ -134,7 +134,7 @@ fn is_shown(alloc: Global, case: Case, json: bool) -> Result<bool, AllocError> {
     Ok(first && shown.as_slice() == case.1.as_bytes())
 }
 
-// The number of rows, from the first on, that are shown so.
+// The number of rows, from the first on, whose faults are shown so.
 fn shown(alloc: Global, cases: &[Case], json: bool) -> usize {
     let mut count = 0;
     for (place, case) in cases.iter().enumerate() {

@@ -23,7 +23,7 @@ impl Model for Links {
 }
 
 impl Links {
-    /// None.
+    /// No counts.
     pub(crate) fn new(alloc: Global) -> Links
         ensures { result ≡ [] }
     {

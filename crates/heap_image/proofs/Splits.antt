@@ -39,7 +39,7 @@ module _ {A : Type 0} where
         by (inr (inl e)) = absurd (let f : Some x ≡ Some y = sym g ∙ ap (slice_get xs) e ∙ h in let q : x ≡ y = cc in let k : key x ≡ key y = ap key q in omega (arith, lt, k))
         by (inr (inr l)) = absurd (let k : key y < key x = up y x (r j i y x l h g) in omega (arith, lt, k))
 
-    -- no number stands at two places
+    -- no number occurs twice
     pub one_place : (i j : ℕ) (x y : A) → slice_get xs i ≡ Some x → slice_get xs j ≡ Some y → key x ≡ key y → i ≡ j
     one_place i j x y g h e = by (first_of_two i j)
       where
@@ -48,7 +48,7 @@ module _ {A : Type 0} where
         by (inr (inl q)) = q
         by (inr (inr l)) = absurd (let k : key y < key x = up y x (r j i y x l h g) in omega (arith, e, k))
 
-    -- a number names one item
+    -- a number identifies one item
     pub same_item : (x y : A) → In xs x → In xs y → key x ≡ key y → x ≡ y
     same_item x y a b e =
         let i = in_got xs x a in

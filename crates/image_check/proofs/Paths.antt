@@ -15,7 +15,7 @@ use Rattle.image_check.proofs.Entries.{itself}
 abbrev pub Entry : Type 0
 Entry = ℕ × Task
 
--- no number stands at two places
+-- no number occurs twice
 abbrev pub AreApart : Tasks → Type 0
 AreApart es = (i j : ℕ) (e f : Entry) → slice_get es i ≡ Some e → slice_get es j ≡ Some f → e.0 ≡ f.0 → i ≡ j
 

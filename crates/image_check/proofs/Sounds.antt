@@ -132,7 +132,7 @@ module _ (ls : List (List ℕ)) (r : Read) where
     keeps = λ k v u at e. keeps_on o.address k h.chunk.owner v u e (none_of (crosses r h.chunk.owner) o.references k v h.stays at) (subst (λ y. is_forgotten w r h.chunk.owner o.address y (owner_at r.chunks v) ≡ false) (let z : 0 + k ≡ k = omega arith in z) (not_forgotten w r h.chunk.owner o.address 0 o.references k v h.keeps at));
   }
 
--- soundness sees the tasks and the chunks alone
+-- soundness depends only on the tasks and the chunks
 abbrev with_tables : Tasks → Chunks → Read
 with_tables tasks chunks = record nothing_read { tasks = tasks; chunks = chunks }
 

@@ -135,7 +135,7 @@ fn children_see_their_parents_heap(rt: HostRuntime) {
 #[derive(Clone, Copy)]
 enum Change {
     Nothing,
-    // A number is written into the object that lies there.
+    // A number is written into the object at this address.
     Write(Spot, i64),
     // An object with one number is placed, mutable or not.
     Place(bool),

@@ -15,7 +15,7 @@ use Rattle.hh_lang.specs.Loop.{Loop, IsLoop}
 use Rattle.loop_nest_laws.specs.Frames.{Activation, StandsAt, called_frame, ReturnsBy}
 use Rattle.loop_nest_laws.specs.Nest.{InNest, CallsBody, ForksIn}
 
--- the wrapping sum of numbers of 64 bits
+-- the wrapping sum of 64-bit numbers
 abbrev pub wrapping_sum : List ℤ → ℤ
 wrapping_sum [] = pos 0
 wrapping_sum (k ∷ []) = k

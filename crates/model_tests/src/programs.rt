@@ -77,7 +77,7 @@ const LEAST_NUMBER: &str = "\
     fn main / set i0 -9223372036854775808 / set i1 -1 / div i2 i0 i1 / out i2 / rem i3 i0 i1 / \
     out i3 / add i2 i0 i1 / out i2 / set i1 0 / div i2 i0 i1 / ret / end";
 
-// The callee has the caller's registers; the caller gets back i0 and r0 alone.
+// The callee has the caller's registers; the caller gets back only i0 and r0.
 const CALL_AND_RETURN: &str = "\
     fn f / out i3 / set i0 11 / set i3 12 / newm r0 i3 i3 / nil r4 / ret / end / \
     fn main / set i3 4 / mov i4 i3 / newm r4 i3 i4 / call f / out i0 / out i3 / cntr i5 r0 / out i5 / \

@@ -66,7 +66,7 @@ module _ (o : Outline) (s : Spot) (l : List ℕ) (utf8 : is_utf8 l ≡ true) whe
       by_sense End [] Fits eh ew refl
       (sym (gives_none o s End [] Fits (ap (λ b. is_misplaced b End) inside) refl (shut_last s.inside s.last last) refl refl refl (and_left s.last (not (is_noted o.functions (codes "main"))) last) refl))
 
-  -- the begin of a function
+  -- the start of a function
   pub begin_free : (name : List ℕ) → head_of_line l ≡ Begin → only_name (operands_of_line l) ≡ Some name → s.inside ≡ false → s.last ≡ false → is_noted s.named name ≡ false → nat_le 1024 s.begun ≡ false → fault_on o s l ≡ None
   begin_free name eh en outside last new few =
       by_sense Begin (operands_of_line l) Fits eh refl (ap named en)

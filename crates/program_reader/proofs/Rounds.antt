@@ -38,7 +38,7 @@ inside_order : (b : Bool) (v : _) → is_misplaced b (Order v) ≡ false → b �
 inside_order true v e = refl
 inside_order false v e = absurd (cc)
 
--- the lines of a function end before such a line
+-- the lines of a function end before a line of this kind
 stops : (l : List ℕ) (ls : List (List ℕ)) (s : Labels) → ends_body (head_of_line l) ≡ true → labels_onto s (l ∷ ls) ≡ s
 stops l ls s e = ap (λ b. cond b s (labels_onto (label_line (head_of_line l) (operands_of_line l) s) ls)) e
 

@@ -103,7 +103,7 @@ abbrev pub labels_onto : Labels → List (List ℕ) → Labels
 labels_onto s [] = s
 labels_onto s (l ∷ ls) = if ends_body (head_of_line l) then s else labels_onto (label_line (head_of_line l) (operands_of_line l) s) ls
 
--- ---- how many functions begin, and how many instructions stand, above
+-- ---- the numbers of functions and of instructions above
 
 abbrev pub begins : Head → ℕ
 begins Begin = 1

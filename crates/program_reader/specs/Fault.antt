@@ -22,9 +22,9 @@ pub record Spot : Type 0 where
   pub last : Bool
   -- the names of functions above
   pub named : List NotedName
-  -- how many functions begin above
+  -- the number of functions that begin above
   pub begun : ℕ
-  -- how many instructions stand above
+  -- the number of instructions above
   pub orders : ℕ
   -- the labels above in its function
   pub labeled : List NotedName

@@ -39,7 +39,7 @@ object_verb w =
     else if bytes_eq w (codes "cas") then Some Cas
     else None
 
--- instructions on what comes next, and the output
+-- instructions on control flow, and the output
 abbrev pub flow_verb : List ℕ → Option Verb
 flow_verb w =
     if bytes_eq w (codes "jmp") then Some Jmp

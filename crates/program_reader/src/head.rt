@@ -112,7 +112,7 @@ fn object_verb_of(word: &[u8]) -> Option<Verb>
     }
 }
 
-// An instruction on what comes next.
+// An instruction on control flow, or the output.
 fn flow_verb_of(word: &[u8]) -> Option<Verb>
     ensures { result ≡ flow_verb word.now }
 {

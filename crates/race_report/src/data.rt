@@ -32,7 +32,7 @@ pub struct Access {
 pub enum Sight {
     /// All accesses of fields.
     Fields,
-    /// Those by `cas` alone, counted like all others.
+    /// Only those by `cas`, counted like any access.
     Swaps,
     /// Prints, counted like writes to one field.
     Prints,

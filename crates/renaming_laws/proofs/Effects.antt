@@ -128,7 +128,7 @@ module _ (f g : ℕ → ℕ) (back : (t : ℕ) → g (f t) ≡ t) where
           by None e = refl
           by (Some n) e = pair n e (object_at store n) (object_at store' (name_to f n)) refl refl (S.objects n (at_in x.refs o n e))
 
-      -- the index of a field, among as many
+      -- the index of a field, if the counts agree
       place : (c c' : ℕ) (k : ℕ) (go go' : ℕ → Effect) → c' ≡ c → ((at : ℕ) → place_in c (int_in x k) ≡ Some at → To (go at) (go' at)) → To (or_trap Range (place_in c (int_in x k)) go) (or_trap Range (place_in c' (int_in x' k)) go')
       place c c' k go go' e each = subst (λ d. To (or_trap Range (place_in c (int_in x k)) go) (or_trap Range (place_in d (int_in x k)) go')) (sym e) (trap Range (place_in c (int_in x k)) go go' each)
 

@@ -15,7 +15,7 @@ fn is_filled(list: &mut Listed<i32>) -> bool {
     list.as_slice() == [2, 6, 7].as_slice()
 }
 
-// Pops the third item and drops the second; returns whether the list returns them so.
+// Pops the third item and drops the second; returns whether the list returns these items.
 fn is_emptied(list: &mut Listed<i32>) -> bool {
     let last = list.pop();
     let left = (list.get(1).copied(), list.get(2).copied());

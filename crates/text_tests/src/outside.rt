@@ -51,7 +51,7 @@ fn a_writer_is_a_sink(rt: HostRuntime) {
     assert!(rt; answers == (Err(Failed), Ok(1)));
 }
 
-// What a sink answers whose writer is these bytes.
+// The answer of a sink that writes to these bytes.
 fn put_into(bytes: &mut Vec<u8>) -> Result<usize, Failed> {
     let mut sink = OutSink::new(bytes);
     sink.put(b"ab")

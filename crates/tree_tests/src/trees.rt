@@ -40,7 +40,7 @@ fn on_path(tree: &Tree, reader: u32, owner: u32) -> Option<bool> {
     }
 }
 
-// With a count of the links, at a brand of its own.
+// With a count of the links, under a fresh brand.
 fn path_counted<L: Ledger>(tree: &Tree, t: u32, depth: u32, blank: Blank) -> Option<u32>
     requires name { blank.name ≡ L.name }
     requires parts { blank.parts ≡ L.parts }

@@ -181,7 +181,7 @@ const WRITES: &[Write] = &[
     (true, None, Some(OBJECT), 1),
 ];
 
-// Whether a reference is written, and n are kept then, in the root's set alone.
+// Whether a reference is written, and n are kept then, all in the root's set.
 fn keeps(scene: &mut Scene, (keeps, overwritten, value, kept): Write) -> bool {
     scene.set_keeps(keeps);
     scene.write(overwritten, value) && scene.counts() == [(0, kept), (0, 0), (0, 0)]

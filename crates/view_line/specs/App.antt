@@ -8,7 +8,7 @@ use Rattle.command_line.specs.App.{file}
 abbrev pub option : Text → Rule
 option name = record (new_rule name) { long = Some name }
 
--- before its first argument: no words of help or of the version
+-- before its first argument: without help or version words
 abbrev pub bare : App
 bare = record {
   top = record (new_shape (codes "heaps")) {

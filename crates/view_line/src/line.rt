@@ -75,7 +75,7 @@ pub enum Picture {
 /// What the arguments ask for. Without a file standard input is read.
 #[derive(Drop)]
 pub enum View {
-    /// How the program is called.
+    /// How to call the program.
     Usage,
     /// A picture of an input.
     Of {

@@ -1,4 +1,4 @@
--- How calls end: without memory, without their input, and with it.
+-- How calls end: out of memory, without their input, and with it.
 use Rattle.std.proofs.Common.{◌≡◌, ◌∙◌, ℕ, List, [], take, refl, sym, ap, arith, inl, inr}
 use Rattle.std.specs.Prelude.{◌≢◌, Option, Some, None, Result, Ok, Err, IfOk}
 use Rattle.std.specs.declared.alloc.AllocError.{AllocError}
@@ -36,7 +36,7 @@ input_at reads before None e = ([], record { within = omega arith; first = λ ot
 pub some_input : (reads : Reads) (before : SourceState) → InputAt reads before
 some_input reads before = input_at reads before (bytes_for reads before) refl
 
--- a source that isn't touched stays as it was
+-- an untouched source is unchanged
 pub nothing_taken : (reads : Reads) (before : SourceState) → reads ≡ ReadsNothing → HasTaken reads before before
 nothing_taken ReadsNothing before e = refl
 nothing_taken (ReadsUpTo limit file) before e = absurd (let f : ReadsUpTo limit file ≡ ReadsNothing = e in cc)
