@@ -7,7 +7,7 @@ use std::process::Abort;
 use std::sync::Wait;
 use std::thread::Threads;
 
-/// The command-line arguments, its input, its exit status, and what it writes.
+/// The arguments of a call, its input, its exit status, and what it writes.
 pub(crate) type Call = (&'static str, &'static str, u8, &'static str);
 
 // It adds the doubles of 0 to 9, with one worker.
