@@ -1,4 +1,4 @@
-// Marks and sweeps of whole heaps.
+// Marking and sweeping of whole heaps.
 
 use crate::collecting::collect;
 use memory_scenes::{
@@ -7,7 +7,7 @@ use memory_scenes::{
 };
 use std::alloc::Global;
 
-// A heap, and the result of a mark from a root and an overwritten reference, n objects at a time, and a sweep of it.
+// A heap, and the result of marking from a root and an overwritten reference, n objects at a time, and a sweep of it.
 struct Case {
     heap: &'static [Put],
     root: Spot,
@@ -91,7 +91,7 @@ fn a_hole_is_left(rt: HostRuntime) {
     assert!(rt; collected_with_hole(rt.alloc()) == Some((10, (1, 1, 7), true)));
 }
 
-// A reference that was overwritten before the mark began is kept, and its object with it.
+// A reference that was overwritten before the marking began is kept, and its object with it.
 const KEPT: Case = Case {
     heap: OVERWRITTEN,
     root: (0, 0),
@@ -190,7 +190,7 @@ fn is_left_by_one(alloc: Global, case: &Twice, first: &[Addr], second: &[Addr]) 
     marked == Some(case.marked) && holds(&heap, case.left)
 }
 
-// Whether it is left so if each mark has its own scratch space.
+// Whether it is left so if each marking has its own scratch space.
 fn is_left_by_two(alloc: Global, case: &Twice, first: &[Addr], second: &[Addr]) -> bool {
     let Some(mut heap) = heap_of(alloc, THREE) else {
         return false;

@@ -7,7 +7,7 @@ use std::sync::Wait;
 use std::sync::atomic::{AtomicBool, Ordering};
 use std::thread::Threads;
 
-// The most rounds that a task waits at one place.
+// The most iterations of the loop in which a task waits.
 const MOST_TURNS: u32 = 10_000_000;
 
 // What a task has done at the gate.
@@ -27,7 +27,7 @@ impl Visit {
         }
     }
 
-    // A task comes, and at its first time waits for the other.
+    // A task comes, and waits for the other one the first time.
     fn comes(&self, other: &AtomicBool) {
         if !self.came.swap(true, Ordering::SeqCst) {
             self.met.store(is_set_in_time(other), Ordering::SeqCst);

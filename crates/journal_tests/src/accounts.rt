@@ -73,7 +73,7 @@ fn reached_within_heaps(rt: HostRuntime) {
     assert!(rt; are_reached(rt.alloc(), 1, &[(1, 2), (1, 0), (1, 1)]));
 }
 
-// A lone task with objects of 600, 400, 24, 500, 3,000, 1,025, 2,048 and 10 words, two of which have no fields.
+// A lone task with objects of 600, 400, 24, 500, 3,000, 1,025, 2,048 and 10 words, two of each besides the fields.
 const LONE: &[Row] = &[Row {
     parent: None,
     register: None,

@@ -16,7 +16,7 @@ pub(crate) const COLLECTS: &str =
 pub(crate) const TO_BEGIN: &str =
     "trace 1\n0 took 0\n0 ran 0 2\n0 chunk 0\n0 ran 0 2\n0 took 1\n1 took 2\n0 ran 1 2\n0 chunk 1\n0 ran 1 2\n0 ran 1 1\n";
 
-// It forks above two objects of 19 words together.
+// It forks with two objects of 19 words together in its heap.
 pub(crate) const MARKS: &str =
     "fn left\nset i0 0\ngetr r1 r0 i0\nnil r2\nputr r0 i0 r2\ngeti i0 r1 i0\nret\nend\nfn right\nret\nend\nfn main\nset i0 1\nset i1 0\nnewm r0 i0 i1\nset i0 0\nset i1 14\nnewm r1 i0 i1\nset i2 5\nputi r1 i0 i2\nputr r0 i0 r1\nnil r1\npar left right\nout i0\nret\nend\n";
 
@@ -30,7 +30,7 @@ pub(crate) const TWO_OBJECTS: &str =
 pub(crate) const LISTS: &str =
     "fn main\nset i0 1\nset i1 597\nlab top\nnewm r1 i0 i1\nset i2 0\nputr r1 i2 r0\nmovr r0 r1\njmp top\nend\n";
 
-/// It forks above an object of 502 words and one of 1,002 that it no longer holds.
+/// It forks with an object of 502 words, and one of 1,002 that it no longer holds, in its heap.
 pub(crate) const SWEEPS: &str =
     "fn kid\nout i0\nret\nend\nfn main\nset i0 0\nset i1 1000\nnewm r0 i0 i1\nnil r0\nset i1 500\nnewm r1 i0 i1\npar kid kid\nret\nend\n";
 

@@ -1,4 +1,4 @@
-// Marks and sweeps of heaps that were checked.
+// Marking and sweeping of heaps that were checked.
 
 ghost use Rattle.std.specs.Prelude.{All, IfSome, IsSome, IsTrue};
 ghost use Rattle.chunk_pool.specs.PoolValue.{slot_at};
@@ -74,7 +74,7 @@ fn mark_all(marking: &mut Marking, heap: &LeafHeap, kept: &[Addr], step: u32) ->
     100
 }
 
-// Continues a mark, n objects at a time, until nothing is left to mark; returns the number of calls that marked n.
+// Continues a marking, n objects at a time, until nothing is left to mark; returns the number of calls that marked n.
 fn marked(mut marking: Marking, heap: &LeafHeap, kept: &[Addr], step: u32) -> Option<(u32, Marking)>
     requires closed { IsClosed heap.now.chunks }
     requires kept { All (HasObjectAt heap.now.chunks) kept.now }

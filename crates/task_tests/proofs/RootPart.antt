@@ -1,4 +1,4 @@
--- The root before its first step represents the machine before its first.
+-- The root before its first step fits the machine before its first.
 use Rattle.std.proofs.Common.{◌≡◌, ℕ, None, List, [], replicate, refl, sym, subst}
 use Rattle.std.specs.Prelude.{pos}
 use Rattle.std.proofs.lemmas.Option.{none-some}
