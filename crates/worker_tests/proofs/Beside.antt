@@ -1,4 +1,4 @@
--- The desks of two workers, and what they keep.
+-- The desks of two workers, and what they preserve.
 use Rattle.std.proofs.Common.{◌≡◌, ◌<◌, List, [], ◌∷◌, length, get_or, remove, slice_get, sym, subst, arith, Some}
 use Rattle.atomic_table.specs.Seated.{TableId}
 use Rattle.world_core.specs.below.hh_lang.{ProgramText}
@@ -10,7 +10,7 @@ use Rattle.worker_run.specs.below.turn_entries.{Ready, ComesWith}
 use Rattle.worker_run.specs.Desks.{AreAllDesks, ChangesHand, IsDesk}
 use Rattle.worker_run.proofs.Rows.{first_of}
 
--- what the worker comes with rests on nothing of its hand
+-- what the worker comes with doesn't depend on its hand
 pub comes_still : (p : ProgramText) (d e : Desk SharedValue) (ready : Ready) → ChangesHand d e → ComesWith p d.worker (view d.seat).part ready → ComesWith p e.worker (view e.seat).part ready
 comes_still p d e ready C with_it = subst (λ (x : Desk SharedValue). ComesWith p x.worker (view x.seat).part ready) (sym C.rest) with_it
 

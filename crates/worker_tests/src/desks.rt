@@ -53,7 +53,7 @@ fn makes_ready<R: Wait>(
     ready
 }
 
-// The worker comes for its turn, and has it; one that has stopped stays so.
+// The worker comes for its turn, and gets it; one that has stopped stays so.
 fn goes_on<R: Wait>(
     rt: &R,
     shop: &Workshop<Paced, EmptyGate>,
@@ -99,8 +99,7 @@ fn drive<R: Wait>(
     }
 }
 
-// Whether a shared value tells just these entries, and what they come to: what is written, the steps and the chunks in
-// use.
+// Whether a shared value has exactly these entries, and their result: what is written, the steps and the chunks in use.
 fn is_told(shared: &Shared, entries: &[Entry]) -> bool {
     shared.journal() == entries
         && shared.outputs() == [1].as_slice()
@@ -108,7 +107,7 @@ fn is_told(shared: &Shared, entries: &[Entry]) -> bool {
         && shared.in_use() == 2
 }
 
-// Whether the run's entries are legal, and how replaying them ends.
+// Whether the run's entries are legal, and how their replay ends.
 fn replayed(
     alloc: Global,
     program: &Program,
@@ -130,7 +129,7 @@ fn replayed(
 
 const DONE: Option<RunEnd> = Some(RunEnd::Machine(End::Done));
 
-// Whether a shared value has just these entries, which are legal, what the program writes, and its end.
+// Whether a shared value has exactly these entries, which are legal, what the program writes, and its end.
 fn is_left(
     alloc: Global,
     program: &Program,
@@ -145,7 +144,7 @@ fn is_left(
         && replayed(alloc, program, settings, shared.journal()) == DONE
 }
 
-// The number of entries, as a worker that has no turn sees it.
+// The number of entries, as a worker without the turn sees it.
 fn looked(turn: &Turn<Run<Paced>>, desk: &mut Desk<Paced>) -> u64
     requires { HasNoTurn (identity turn.now) desk.old.seat }
     ensures desk { (p : ProgramText) → IsDesk (identity turn.now) p desk.old → IsDesk (identity turn.now) p desk.new }
@@ -196,8 +195,8 @@ fn see_entries<R: Wait>(
     }
 }
 
-// The desks take the turns that the trace asks for, and leave the value as it should be; a look then gives the number
-// of entries.
+// Whether the desks take the turns of the trace and leave the expected value, and a look then returns the number of
+// entries.
 fn leave_all<R: Wait>(
     rt: &R,
     alloc: Global,
@@ -226,7 +225,7 @@ fn leave_all<R: Wait>(
     left && looked == entries.len() as u64
 }
 
-// The same where there are two desks.
+// The same if there are two desks.
 fn at_two<R: Wait>(
     rt: &R,
     alloc: Global,
@@ -253,7 +252,7 @@ fn at_two<R: Wait>(
     }
 }
 
-// The same of new desks.
+// The same for new desks.
 fn at_desks<R: Wait>(
     rt: &R,
     alloc: Global,

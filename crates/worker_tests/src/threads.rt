@@ -20,7 +20,7 @@ const ROUNDS: u32 = 1000;
 
 const LENGTH: u32 = 20;
 
-// Whether a worker has the turn, how often one has had it, and how often one got it that another had.
+// Whether a worker has the turn, how often one had it, and how often one got it while another had it.
 #[derive(Drop)]
 struct Watch {
     taken: AtomicBool,
@@ -58,7 +58,7 @@ impl Watch {
     }
 }
 
-// The worker has the turn once, and gives the value back as it was.
+// The worker has the turn once, and returns the value unchanged.
 fn pass<R: Wait>(rt: &R, turn: &Turn<Run<Paced>>, watch: &Watch, desk: &mut Desk<Paced>)
     requires { HasNoTurn (identity turn.now) desk.old.seat }
     ensures { HasNoTurn (identity turn.now) desk.new.seat }
