@@ -32,7 +32,7 @@ say_unproved() {
   if is_installed; then
     say "answered by an unproved build"
   else
-    say "answered by the unproved build; $called prove proves it, ${text_of[proof]}"
+    say "answered by the unproved build; $called prove proves it, $(proof_time)"
   fi
 }
 

@@ -1,4 +1,4 @@
-# What ./hheap and ./hhview do. They have set `top`, the folder in which they are, and `crate`, the program's name.
+# What ./hheap, ./hhview and ./hhlog do. They have set `top`, the folder in which they are, and `crate`, the program's name.
 
 for part in apart table words help hints find prove try calls manual completion install; do
   . "$top/scripts/$part.bash"

@@ -49,6 +49,10 @@ usage() {
   for name in "${switches[@]}"; do
     printf '  %-14s %s\n' "--$name" "${about_switch[$name]}"
   done
+  if [ "$crate" = hhlog ]; then
+    printf '\n%s help COMMAND explains one command; docs/LOGS.md says what a log is, and how to get one.\n' "$called"
+    return
+  fi
   printf '\nWithout FILE, or if it is -, standard input is read. %s help COMMAND explains one command;\n' "$called"
   printf 'README.md is the first page, and docs/USAGE.md has all of this with examples.\n'
 }
@@ -58,7 +62,7 @@ usage_of() {
   local name=$1 word samples
   printf 'usage: %s %s\n\n' "$called" "$(form_of "$name")"
   printf '%s: %s.\n' "$name" "${does_of[$crate $name]}"
-  [[ ${operands_of[$crate $name]} != *FILE* ]] || printf 'FILE may be -, which is standard input.\n'
+  [[ ! ${operands_of[$crate $name]} =~ FILE\]?$ ]] || printf 'FILE may be -, which is standard input.\n'
   for word in ${operands_of[$crate $name]}; do
     [ -z "${about_operand[$word]+x}" ] || operand_line "$word"
   done
@@ -108,7 +112,8 @@ kit_line() {
 }
 
 version() {
-  local commit kit state="not proved; $called prove proves it, ${text_of[proof]}"
+  local commit kit state
+  state="not proved; $called prove proves it, $(proof_time)"
   if is_installed; then
     { read -r commit && read -r kit && read -r state; } < <(installed_lines)
   else

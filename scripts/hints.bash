@@ -64,8 +64,22 @@ hint_refused() {
   say "$meaning (all causes: $2)"
 }
 
+# What a status of hhlog means.
+hint_of_log() {
+  case $1 in
+    10) say "out of memory" ;;
+    11) say "the log is refused: the end line has the place and the cause (docs/LOGS.md)" ;;
+    12) say "no fork or join orders the two accesses of a race, nor a birth and a read or use (docs/LOGS.md)" ;;
+    14) say "the log is cut off, and nothing was found in what is left of it" ;;
+  esac
+}
+
 hint() {
   local status=$1 command=$2
+  if [[ $crate = hhlog && $status -ge 10 ]]; then
+    hint_of_log "$status"
+    return
+  fi
   case $status in
     2) say "invalid arguments: $called help shows the commands and their options" ;;
     3) hint_refused "$command" docs/USAGE.md ;;

@@ -1,7 +1,7 @@
 #!/usr/bin/env bash
 # keep.bash          prints a checksum of the sources of each program
 # keep.bash SUM ..   after the gate: keeps the programs that it proved and built, if their checksums are still these, so
-#                    that ./hheap and ./hhview answer by them
+#                    that ./hheap, ./hhview and ./hhlog answer by them
 set -u
 top=$(dirname "$(dirname "$(realpath "${BASH_SOURCE[0]}")")") || exit 1
 crate=hheap

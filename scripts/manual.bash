@@ -59,7 +59,11 @@ manual() {
   printf '%s \\- %s\n' "$crate" "$(roff <<<"${about_program[$crate]}")"
   printf '.SH SYNOPSIS\n.B %s\n[\\fB\\-\\-proved\\fR] [\\fB\\-\\-quiet\\fR] \\fICOMMAND\\fR ..\n' "$crate"
   printf '.SH DESCRIPTION\n'
-  roff <<<'Without FILE, or if it is -, standard input is read. A number is written in decimal digits.'
+  if [ "$crate" = hhlog ]; then
+    roff <<<'A log is one file or several, each a text of lines.'
+  else
+    roff <<<'Without FILE, or if it is -, standard input is read. A number is written in decimal digits.'
+  fi
   printf '.SH COMMANDS\n'
   manual_commands
   printf '.SH OPTIONS\n'

@@ -1,16 +1,17 @@
 #!/usr/bin/env bash
-# pages.bash HHEAP HHVIEW    types the commands of the pages, with two built programs, and compares what they write with
-# the pages.
+# pages.bash HHEAP HHVIEW HHLOG    types the commands of the pages, with three built programs, and compares what they
+# write with the pages.
 set -u
 top=$(dirname "$(dirname "$(realpath "${BASH_SOURCE[0]}")")") || exit 1
-if [ ! -x "${1-}" ] || [ ! -x "${2-}" ]; then
-  echo "usage: scripts/pages.bash HHEAP HHVIEW, two built programs" >&2
+if [ ! -x "${1-}" ] || [ ! -x "${2-}" ] || [ ! -x "${3-}" ]; then
+  echo "usage: scripts/pages.bash HHEAP HHVIEW HHLOG, three built programs" >&2
   exit 1
 fi
 hheap=$(realpath "$1")
 hhview=$(realpath "$2")
+hhlog=$(realpath "$3")
 . "$top/scripts/room.bash"
-copy_top && put_built hheap "$hheap" && put_built hhview "$hhview" || exit 1
+copy_top && put_built hheap "$hheap" && put_built hhview "$hhview" && put_built hhlog "$hhlog" || exit 1
 # (without Graphviz, `dot` passes its input on)
 mkdir "$room/bin" || exit 1
 command -v dot >/dev/null || { printf '#!/usr/bin/env bash\ncat\n' >"$room/bin/dot" && chmod +x "$room/bin/dot"; }
@@ -225,13 +226,13 @@ while IFS='|' read -r _ name value least most default _; do
 done < <(grep -E '^option\|(workers|fuel|chunks|leaf|inner)\|' scripts/words.table)
 
 # Each sample in the table works.
-for program in hheap hhview; do
+for program in hheap hhview hhlog; do
   sed -n "s/^sample|$program|[a-z]*|/.\/$program /p" scripts/words.table
 done >samples
 while IFS= read -r command; do
   HOME=$room bash -c "$command" >written 2>said </dev/null
   is=$?
-  [ "$is" = 0 ] || [[ $is = 12 && $command = *' races '* ]] || fail "$command: status $is: $(cat said)"
+  [ "$is" = 0 ] || [[ $is = 12 && $command = *' races '* ]] || [[ $is = 12 && $command = *hhlog* ]] || fail "$command: status $is: $(cat said)"
 done <samples
 
 # Each piece of a program on these pages stands in an example, which has a stored output, but for indentation. A piece

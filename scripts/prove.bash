@@ -106,7 +106,7 @@ sum_left() {
 time_left() {
   local seconds
   if ((10 * (whole - left) < whole || whole == left || SECONDS == 0)); then
-    printf '%s in all' "${text_of[proof]}"
+    printf '%s in all' "$(proof_time)"
   else
     seconds=$((left * SECONDS / (whole - left)))
     if ((seconds < 90)); then
@@ -126,7 +126,7 @@ report_progress() {
   weigh_crates
   sum_left
   whole=$left
-  say "proving $crate: $of crates, ${text_of[proof]} if nothing is proved yet; first$(in_proof)"
+  say "proving $crate: $of crates, $(proof_time) if nothing is proved yet; first$(in_proof)"
   while IFS= read -r line; do
     printf '%s\n' "$line" >>"$top/out/proof.log"
     [[ $line != rt:\ *waiting* && $line != rt:\ note:* ]] || say "${line#rt: }"

@@ -25,7 +25,7 @@ use_just() {
 # Makes a copy of the top of the repository in the room, with crates that are nearly empty, so that checksums are quick.
 copy_top() {
   local name
-  cp -r "$top/hheap" "$top/hhview" "$top/scripts" "$top/examples" "$top/docs" "$top/README.md" "$top/crates.txt" \
+  cp -r "$top/hheap" "$top/hhview" "$top/hhlog" "$top/scripts" "$top/examples" "$top/docs" "$top/README.md" "$top/crates.txt" \
     "$top/HANDLES" "$room" && mkdir "$room/out" || return
   sed -n 's/^\([a-z][a-z_]*\).*:.*/\1/p' "$top/crates.txt" >"$room/names"
   while read -r name; do

@@ -83,6 +83,11 @@ read_table() {
   done <"$top/scripts/words.table"
 }
 
+# How long the proof of the program takes.
+proof_time() {
+  printf '%s' "${text_of[$crate proof]:-${text_of[proof]}}"
+}
+
 # Whether this program or its script has this command.
 has_command() {
   [ -n "${does_of[$1 $2]+x}" ]

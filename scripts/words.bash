@@ -134,6 +134,12 @@ read_option() {
   is_in_range "$name" "$number" || find_fault "--$name takes $(range_of "$name"), and '$number' is none"
 }
 
+# Of a command that takes one file or more: none is standard input, and options stand before them.
+check_files() {
+  [[ " ${operands[*]} " != *' - '* ]] || find_fault "$1 reads files, and - is standard input"
+  passed=("$1" "${settings[@]}" "${operands[@]}")
+}
+
 # Says which operand is wrong, missing or extra.
 check_operands() {
   local command=$1 place=0 name
@@ -147,7 +153,10 @@ check_operands() {
     fi
     place=$((place + 1))
   done
-  if [ "${#operands[@]}" -le "$place" ]; then
+  if [[ ${name-} = *.. ]]; then
+    check_files "$command"
+    return
+  elif [ "${#operands[@]}" -le "$place" ]; then
     return
   elif [[ ${name-} = *FILE* ]]; then
     find_fault "'${operands[place]}' is a second FILE, and $command takes one"
