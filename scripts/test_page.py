@@ -3,12 +3,12 @@
 
     scripts/test_page.py HHEAP HHVIEW [EXAMPLE ..]
 
-HHEAP and HHVIEW are the built programs. Of each example's page, and of a sort of 330 numbers with 5,000 entries (each eleventh of them): no
-script fails and nothing is asked of a network, at any entry, forwards and backwards; each state is the same on the way
-back; keys, the search and links to entries lead where they say; and at each tenth entry after a `ran`, where the trace
-is cut, the tasks, the objects at rest with their fields, the chunks with what lies in each, and the remembered fields
-are those of `hheap image`. An entry takes 200 bytes at most on the examples' mean. Without a browser the test is left
-out, which a line says.
+HHEAP and HHVIEW are the built programs. Of each example's page, of a run with large objects, and of a sort of 330
+numbers with 5,000 entries (each eleventh of them): no script fails and nothing is asked of a network, at any entry,
+forwards and backwards; each state is the same on the way back; keys, the search and links to entries lead where they
+say; and at each tenth entry after a `ran`, where the trace is cut, the tasks, the objects at rest with their fields,
+the chunks with what lies in each, and the remembered fields are those of `hheap image`. An entry takes 200 bytes at
+most on the examples' mean. Without a browser the test is left out, which a line says.
 """
 import os
 import subprocess
@@ -29,6 +29,33 @@ RUNS = {
     'sort.hh': ['--workers', '4'], 'squares.hh': [], 'trap_div.hh': [], 'no_chunks.hh': ['--chunks', '32'],
     'queens.hh': ['--workers', '4'], 'graph.hh': ['--workers', '3', '--leaf', '64', '--inner', '64'],
 }
+LARGE = 'large objects'
+LARGE_OPTIONS = ['--leaf', '500', '--inner', '100', '--chunks', '30']
+LARGE_TEXT = '''fn kid
+  set i0 0
+  set i1 3000
+  newm r1 i0 i1
+  set i3 500
+  newm r2 i0 i3
+  newm r3 i0 i1
+  movr r0 r1
+end
+fn main
+  set i0 1
+  set i1 1500
+  newm r5 i0 i1
+  newm r6 i0 i1
+  nil r6
+  par kid kid
+  set i4 0
+  putr r5 i4 r0
+  set i1 600
+  set i0 0
+  newm r7 i0 i1
+  newm r7 i0 i1
+  newm r7 i0 i1
+end
+'''
 LONG = 'sort of 330'
 LONG_OPTIONS = ['--workers', '4', '--chunks', '65536']
 LONG_CUTS = 12
@@ -67,6 +94,8 @@ def output(*words, text=None):
 
 def text_of(example):
     """The program, and the options of its run."""
+    if example == LARGE:
+        return LARGE_TEXT, LARGE_OPTIONS
     name, options = ('sort.hh', LONG_OPTIONS) if example == LONG else (example, RUNS.get(example, []))
     with open(os.path.join(TOP, 'examples', name), encoding='utf-8') as f:
         program = f.read()
@@ -216,7 +245,7 @@ def main():
     failed, sizes = 0, []
     page = browser.Browser()
     with tempfile.TemporaryDirectory() as room:
-        for example in examples or [*RUNS, LONG]:
+        for example in examples or [*RUNS, LARGE, LONG]:
             try:
                 sizes.append(test(page, hheap, hhview, example, room))
             except (AssertionError, RuntimeError) as e:
