@@ -1,5 +1,5 @@
 -- What the entries of a legal journal tell of heaps gives what these hold.
-use Rattle.std.proofs.Common.{◌≡◌, ◌<◌, ◌≤◌, ℕ, ℤ, pos, zero, suc, ◌+◌, ◌-◌, ◌==◌, ◌⊎◌, Bool, true, false, cond, Option, Some, None, List, [], ◌∷◌, ◌++◌, length, map, slice_get, slice_set, replicate, take, nat_lt, inl, inr, refl, ap, ap₂, sym, subst, ◌∙◌, is_some, is_none, arith, eq-eqb, ne_eqb, append_assoc, min}
+use Rattle.std.proofs.Common.{◌≡◌, ◌<◌, ◌≤◌, ℕ, pos, zero, suc, ◌+◌, ◌-◌, ◌==◌, ◌⊎◌, Bool, true, false, cond, Option, Some, None, List, [], ◌∷◌, ◌++◌, length, map, slice_get, slice_set, replicate, take, nat_lt, inl, inr, refl, ap, ap₂, sym, subst, ◌∙◌, is_some, is_none, arith, eq-eqb, ne_eqb, append_assoc}
 use Rattle.std.specs.Prelude.{option_map, unwrap_or}
 use Rattle.std.proofs.lemmas.Bool.{cond-true, cond-false, false≢true, both_ways, and_parts, le-leb, leb-false}
 use Rattle.std.proofs.lemmas.Option.{slice_get-map, same_Some}
@@ -16,14 +16,13 @@ use Rattle.hh_model.specs.declared.data.Object.{Object}
 use Rattle.hh_model.specs.declared.data.Frame.{Frame}
 use Rattle.hh_model.specs.declared.data.End.{End}
 use Rattle.hh_model.specs.declared.data.End.TheVariants.{Done}
-use Rattle.hh_model.specs.declared.data.Status.{Status}
-use Rattle.hh_model.specs.declared.data.Status.TheVariants.{Running, Waiting, Ended, Joined}
+use Rattle.hh_model.specs.declared.data.Status.TheVariants.{Running, Waiting, Joined}
 use Rattle.hh_model.specs.declared.data.Task.{Task}
 use Rattle.hh_model.specs.declared.data.Trap.TheVariants.{Size}
 use Rattle.hh_model.specs.declared.data.State.{State}
 use Rattle.hh_model.specs.Effect.{Effect, Goes, effect, made, object_at, row_of, counts_in, place_in, same_name, int_in, ref_in, or_trap, with_ref, onward}
 use Rattle.hh_model.specs.Names.{next_name, words_asked, words_for}
-use Rattle.hh_model.specs.Step.{step, start, follow, setting, fetched, can_step, asked, asked_line, runs, is_running, is_left, owner_of, parent_of, child, strand, strand_of, edge, joined_task, resumed, join_of, ended_task, result_of, ended_by, run_from}
+use Rattle.hh_model.specs.Step.{step, follow, setting, fetched, can_step, asked, asked_line, runs, is_running, is_left, owner_of, parent_of, child, strand, strand_of, edge, joined_task, resumed, join_of, ended_task, result_of, ended_by}
 use Rattle.hh_model.proofs.Lists.{set_got}
 use Rattle.hh_model.proofs.Closed.{asked_at}
 use Rattle.hh_model.specs.Counts.{Counted}
@@ -31,7 +30,7 @@ use Rattle.hh_model.proofs.Counts.{rows_from, runs_are_counted}
 use Rattle.hh_model.proofs.Next.{packs_are_few}
 use Rattle.hh_model.proofs.Runs.{waiting, grown_length, grown_at, grown_left, grown_right, three_top, three_left, three_right, three_length, below, parr}
 use Rattle.hh_model.proofs.Steps.{step_cases, runs_is}
-use Rattle.hh_model.proofs.Taken.{can_task, step_taken, step_none, step_idle}
+use Rattle.hh_model.proofs.Taken.{can_task, step_taken}
 use Rattle.path_laws.proofs.Stored.{made_here}
 use Rattle.run_trace.specs.declared.entry.Kind.{Kind}
 use Rattle.run_trace.specs.declared.entry.Kind.TheVariants.{Took, Ran, Chunk, Begin, End as EndOf, PutOff, Mark, More, Sweep, Fuel}
@@ -40,17 +39,17 @@ use Rattle.run_trace.specs.Settings.{SettingsValue, field_limit}
 use Rattle.run_ledger.specs.declared.data.Heap.{Heap}
 use Rattle.run_ledger.specs.declared.data.Ledger.{Ledger}
 use Rattle.run_ledger.specs.declared.data.RunEnd.TheVariants.{Pool}
-use Rattle.run_ledger.specs.Heaps.{chunk_words, units, is_small, words_of, begun_in, heap_at, heap_of, or_fresh, with_heap, with_heap_at, in_use, within, lacks_room, placed, put_last, fresh, forked_heap, merged, emptied, let_go, collected, swept_heap, take_of}
+use Rattle.run_ledger.specs.Heaps.{chunk_words, units, is_small, words_of, begun_in, heap_of, or_fresh, with_heap, with_heap_at, in_use, within, lacks_room, placed, put_last, fresh, forked_heap, merged, emptied, let_go, collected, swept_heap}
 use Rattle.run_ledger.specs.Steps.{is_due, is_in_need, allocated_by, allocated_in, settled, moved_on, moved_to, at_join, join_heaps, stepped_to, task_step, task_steps, on_asked}
-use Rattle.run_ledger.specs.Entries.{refusal, kind_refusal, after_kind, after, is_out, with_chunk, chunk_units, given_chunk}
-use Rattle.run_ledger.specs.Journals.{opening, after_all, ledger_of, is_legal, is_legal_from, tasks_of}
+use Rattle.run_ledger.specs.Entries.{refusal, kind_refusal, after_kind, after, with_chunk, chunk_units}
+use Rattle.run_ledger.specs.Journals.{after_all, ledger_of, is_legal, is_legal_from, tasks_of}
 use Rattle.run_ledger.proofs.Machine.{stepped_machine, task_step_machine, machine_is_run}
 use Rattle.run_ledger.proofs.Sound.{SoundLedger, collecting}
-use Rattle.run_ledger.proofs.Steps.{SoundAt, step_keeps, steps_last, task_steps_sound, running_at, can_tells, heap_of_task}
+use Rattle.run_ledger.proofs.Steps.{SoundAt, steps_last, task_steps_sound, running_at, can_tells}
 use Rattle.run_ledger.proofs.Stocks.{with_heap_any}
 use Rattle.run_ledger.proofs.Booked.{wait_run}
 use Rattle.run_ledger.proofs.Holders.{heap_end}
-use Rattle.run_ledger.proofs.Journals.{none_where, none_unless, out_tells, out_runs, wait_tells, entry_tells, legal_sound, collecting_is}
+use Rattle.run_ledger.proofs.Journals.{none_where, none_unless, out_tells, wait_tells, entry_tells, legal_sound}
 use Rattle.run_ledger.proofs.Use.{chunks_are_used}
 use Rattle.run_ledger.proofs.Cuts.{journals_can_be_cut}
 use Rattle.run_deltas.specs.declared.data.Deed.{Deed}
@@ -59,14 +58,13 @@ use Rattle.run_deltas.specs.declared.data.Act.{Act}
 use Rattle.run_deltas.specs.declared.data.Birth.{Birth}
 use Rattle.run_deltas.specs.declared.data.Change.{Change}
 use Rattle.run_deltas.specs.declared.data.Changes.{Changes}
-use Rattle.run_deltas.specs.declared.data.TaskNow.{TaskNow}
 use Rattle.run_deltas.specs.declared.data.Value.TheVariants.{Reference, Number}
 use Rattle.run_deltas.specs.Deeds.{deed, act_of, act_by, act_line, if_there, reference_in, number_in, number_place}
 use Rattle.run_deltas.specs.Steps.{born, changed_by, with_act, changes, stepped}
-use Rattle.run_deltas.specs.Tasks.{standing_for, now_of, now_out, now_free, joined_now, moved_by, moved, children, child_of}
-use Rattle.run_deltas.specs.Deltas.{delta, machine_after}
+use Rattle.run_deltas.specs.Tasks.{standing_for, now_of, joined_now, moved_by, moved, children, child_of}
+use Rattle.run_deltas.specs.Deltas.{delta}
 use Rattle.run_deltas.specs.News.{units_given, news_in, news_at, news_for, news}
-use Rattle.run_deltas.proofs.Machines.{machine_moves, after_run}
+use Rattle.run_deltas.proofs.Machines.{after_run}
 use Rattle.delta_laws.specs.Holdings.{Holding, holding, holdings, nothing_held, changed_in, changed_at, with_birth, put_birth, put_births, put_made, or_nothing, with_children, without_objects, put_join, has_joined, put_moves, put_delta, with_given, put_news, held_after}
 use Rattle.delta_laws.specs.Laws.{DeltasGiveHoldings}
 

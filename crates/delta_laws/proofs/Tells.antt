@@ -34,7 +34,7 @@ use Rattle.run_ledger.proofs.Sound.{SoundLedger}
 use Rattle.run_ledger.proofs.Moves.{moves_each}
 use Rattle.run_ledger.proofs.Steps.{SoundAt, StepLeaves, step_leaves, step_keeps, steps_keep, heap_of_task, running_at, can_tells, worker_at, allots}
 use Rattle.run_ledger.proofs.Stocks.{with_heap_any}
-use Rattle.run_ledger.proofs.Holders.{Manned, MannedLedger, moved_to_end, allocated_end, placed_worker, worker_of, step_manned, chunk_worker_by, tasks_are_out_once}
+use Rattle.run_ledger.proofs.Holders.{MannedLedger, moved_to_end, allocated_end, placed_worker, worker_of, step_manned, chunk_worker_by, tasks_are_out_once}
 use Rattle.run_ledger.proofs.Frames.{held_is}
 use Rattle.run_ledger.proofs.Booked.{wait_run}
 use Rattle.run_ledger.proofs.Journals.{none_unless, out_tells, entry_tells, legal_sound, collecting_is}
