@@ -15,8 +15,8 @@ use Rattle.log_births.specs.declared.lines.LineAt.{LineAt}
 use Rattle.log_births.specs.declared.lines.BlockLines.{BlockLines}
 use Rattle.log_births.specs.declared.lines.Lifetimes.{Lifetimes}
 use Rattle.log_births.specs.declared.findings.Finding.{Finding}
-use Rattle.log_births.specs.Findings.{Does}
-use Rattle.log_births.specs.Lines.{line_told, DoesAt, IsLineOf, Know}
+use Rattle.log_births.specs.Findings.{DoesToBlock}
+use Rattle.log_births.specs.Lines.{line_told, DoesToBlockAt, IsLineOf, Know}
 use Rattle.log_births.specs.Checks.{IsFound, IsAdded}
 use Rattle.log_births.specs.Found.{IsDoneOnce, IsScene, AreJustBelow}
 use Rattle.log_births.proofs.Standing.{walk_is_serial, one_strand, done_at, at_done}
@@ -37,7 +37,7 @@ module _ (tasks : LogTasks) (events : List Event) (walk : WalkValue) (known : Li
       pub number : line.line ≡ m
       pub at : slice_get walk.order line.place ≡ Some u
 
-    told_by : (b m : ℕ) (u : Strand) → Does does events tasks b m u → (o : Option LineAt) → line_told table b ≡ o → IsLineOf does tasks walk.order events (length events) b o → IsTold b m u
+    told_by : (b m : ℕ) (u : Strand) → DoesToBlock does events tasks b m u → (o : Option LineAt) → line_told table b ≡ o → IsLineOf does tasks walk.order events (length events) b o → IsTold b m u
     told_by b m u d None e h =
         let done = done_at does tasks walk.order events serial b m u d in
         absurd (h m done.0 (slice_get_within events m (event (log_strand tasks.numbers u) d.act) d.at) done.2)
@@ -47,31 +47,31 @@ module _ (tasks : LogTasks) (events : List Event) (walk : WalkValue) (known : Li
         let strand : h.stands.strand ≡ u = one_strand tasks scene.ascending scene.size h.stands.strand u h.stands.known d.known (h.stands.is ∙ ap (λ (x : Event). x.strand) same) in
         record { line = line; told = e; number = number; at = h.stands.at ∙ ap (λ (v : Strand). Some v) strand }
 
-    pub is_told : (b m : ℕ) (u : Strand) → Does does events tasks b m u → IsTold b m u
+    pub is_told : (b m : ℕ) (u : Strand) → DoesToBlock does events tasks b m u → IsTold b m u
     is_told b m u d = told_by b m u d (line_told table b) refl (know b)
 
-    pub told_does : (b : ℕ) (line : LineAt) → line_told table b ≡ Some line → DoesAt does tasks walk.order events b line.line line.place
+    pub told_does : (b : ℕ) (line : LineAt) → line_told table b ≡ Some line → DoesToBlockAt does tasks walk.order events b line.line line.place
     told_does b line e = subst (λ (o : Option LineAt). IsLineOf does tasks walk.order events (length events) b o) e (know b)
 
   -- an act of a strand of the log
   module _ (n : ℕ) (s : Strand) (a : Act) (at : slice_get events n ≡ Some (event s a)) (sees : Act → Option ℕ) where
     -- which has no place
-    pub not_seen : StandsNowhere tasks walk.order s → (b : ℕ) (v : Strand) → Does sees events tasks b n v → ⊥
+    pub not_seen : StandsNowhere tasks walk.order s → (b : ℕ) (v : Strand) → DoesToBlock sees events tasks b n v → ⊥
     not_seen nowhere b v d =
         let same : event (log_strand tasks.numbers v) d.act ≡ event s a = same_event n (event (log_strand tasks.numbers v) d.act) (event s a) d.at at in
         let all = serial.all v d.attached in
         nowhere all.0 (record { strand = v; at = all.1; known = d.known; is = ap (λ (x : Event). x.strand) same })
 
     module _ (place : ℕ) (stands : StandsAt tasks walk.order s place) where
-      seen_block : (b : ℕ) (v : Strand) → Does sees events tasks b n v → sees a ≡ Some b
+      seen_block : (b : ℕ) (v : Strand) → DoesToBlock sees events tasks b n v → sees a ≡ Some b
       seen_block b v d = ap (λ (x : Event). sees x.act) (same_event n (event s a) (event (log_strand tasks.numbers v) d.act) at d.at) ∙ d.block
 
-      seen_strand : (b : ℕ) (v : Strand) → Does sees events tasks b n v → stands.strand ≡ v
+      seen_strand : (b : ℕ) (v : Strand) → DoesToBlock sees events tasks b n v → stands.strand ≡ v
       seen_strand b v d =
           one_strand tasks scene.ascending scene.size stands.strand v stands.known d.known
           (stands.is ∙ ap (λ (x : Event). x.strand) (same_event n (event s a) (event (log_strand tasks.numbers v) d.act) at d.at))
 
-      see : (b : ℕ) → sees a ≡ Some b → Does sees events tasks b n stands.strand
+      see : (b : ℕ) → sees a ≡ Some b → DoesToBlock sees events tasks b n stands.strand
       see b e = at_done sees tasks walk.order events serial b n place (record { event = event s a; at = at; block = e; stands = stands })
 
       module _ (does : Act → Option ℕ) (table : BlockLines) (know : Know does tasks walk.order events (length events) table) (once : IsDoneOnce does events)
@@ -80,8 +80,8 @@ module _ (tasks : LogTasks) (events : List Event) (walk : WalkValue) (known : Li
         pub record IsSo (f : Finding) : Type 0 where
           pub first : Strand
           pub second : Strand
-          pub done : Does does events tasks f.block f.other first
-          pub seen : Does sees events tasks f.block f.line second
+          pub done : DoesToBlock does events tasks f.block f.other first
+          pub seen : DoesToBlock sees events tasks f.block f.line second
           pub bad : IsBad first second
 
         sound : (answer : Option Finding) → IsFound Bad (line_told table) (sees a) (record { place = place; line = n }) answer → (f : Finding) → answer ≡ Some f → (f.line ≡ n) × IsSo f
@@ -91,20 +91,20 @@ module _ (tasks : LogTasks) (events : List Event) (walk : WalkValue) (known : Li
           record {
             first = told.stands.strand;
             second = stands.strand;
-            done = subst (λ (k : ℕ). Does does events tasks g.block k told.stands.strand) (sym h.4) (at_done does tasks walk.order events serial g.block h.0.line h.0.place told);
-            seen = subst (λ (k : ℕ). Does sees events tasks g.block k stands.strand) (sym h.3) (see g.block h.1);
+            done = subst (λ (k : ℕ). DoesToBlock does events tasks g.block k told.stands.strand) (sym h.4) (at_done does tasks walk.order events serial g.block h.0.line h.0.place told);
+            seen = subst (λ (k : ℕ). DoesToBlock sees events tasks g.block k stands.strand) (sym h.3) (see g.block h.1);
             bad = (same h.0.place place told.stands.strand stands.strand told.stands.at stands.at).0 h.5;
           },
         )
           where
-            told : DoesAt does tasks walk.order events g.block h.0.line h.0.place
+            told : DoesToBlockAt does tasks walk.order events g.block h.0.line h.0.place
             told = told_does does table know once g.block h.0 h.2
 
         complete : (answer : Option Finding) → IsFound Bad (line_told table) (sees a) (record { place = place; line = n }) answer → (f : Finding) → f.line ≡ n → IsSo f → answer ≡ Some f
         complete answer h f line so = by_answer answer h
           where
-            here : Does sees events tasks f.block n so.second
-            here = subst (λ (k : ℕ). Does sees events tasks f.block k so.second) line so.seen
+            here : DoesToBlock sees events tasks f.block n so.second
+            here = subst (λ (k : ℕ). DoesToBlock sees events tasks f.block k so.second) line so.seen
 
             told : IsTold does table know once f.block f.other so.first
             told = is_told does table know once f.block f.other so.first so.done

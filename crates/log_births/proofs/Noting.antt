@@ -14,7 +14,7 @@ use Rattle.log_births.specs.declared.lines.LineAt.{LineAt}
 use Rattle.log_births.specs.declared.lines.BlockLines.{BlockLines}
 use Rattle.log_births.specs.declared.lines.Lifetimes.{Lifetimes}
 use Rattle.log_births.specs.Blocks.{born, released}
-use Rattle.log_births.specs.Lines.{line_told, noted, DoesAt, IsLineOf, Know, KnowAll}
+use Rattle.log_births.specs.Lines.{line_told, noted, DoesToBlockAt, IsLineOf, Know, KnowAll}
 
 option_true : (o : Option ℕ) (b : ℕ) → option_is o b ≡ true → o ≡ Some b
 option_true None b e = absurd (let z : false ≡ true = e in cc)
@@ -33,7 +33,7 @@ module _ (does : Act → Option ℕ) (tasks : LogTasks) (order : List Strand) (e
       → IsLineOf does tasks order events n b old → IsLineOf does tasks order events (n + 1) b old
   none_more other None h = λ m place lt there. by_place m place there (below_next m n lt)
     where
-      by_place : (m place : ℕ) → DoesAt does tasks order events b m place → (m < n) ⊎ (m ≡ n) → ⊥
+      by_place : (m place : ℕ) → DoesToBlockAt does tasks order events b m place → (m < n) ⊎ (m ≡ n) → ⊥
       by_place m place there (inl below) = h m place below there
       by_place m place there (inr is) = other there.event place (same_event m there.event is there.at) there.block there.stands
   none_more other (Some line) h = h

@@ -15,8 +15,8 @@ use Rattle.log_tasks.proofs.Ascending.{one_place}
 use Rattle.log_strands.specs.Places.{is_up_to, is_known}
 use Rattle.log_strands.specs.below.log_lines.{Act}
 use Rattle.log_strands.specs.below.log_form.{Event, event}
-use Rattle.log_births.specs.Lines.{DoesAt}
-use Rattle.log_births.specs.Findings.{Does}
+use Rattle.log_births.specs.Lines.{DoesToBlockAt}
+use Rattle.log_births.specs.Findings.{DoesToBlock}
 
 -- the order of a walk is a serial one
 pub walk_is_serial : (walk : WalkValue) → IsWalked walk → IsSerial (tasks_in walk.tasks) walk.order
@@ -41,12 +41,12 @@ module _ (tasks : LogTasks) (up : IsStrictlyIncreasing tasks.numbers) (size : le
 
 module _ (does : Act → Option ℕ) (tasks : LogTasks) (order : List Strand) (events : List Event) (serial : IsSerial (tasks_in tasks.turns) order) (b n : ℕ) where
   -- what a strand does stands at its place
-  pub done_at : (u : Strand) → Does does events tasks b n u → (p : ℕ) × (slice_get order p ≡ Some u) × DoesAt does tasks order events b n p
+  pub done_at : (u : Strand) → DoesToBlock does events tasks b n u → (p : ℕ) × (slice_get order p ≡ Some u) × DoesToBlockAt does tasks order events b n p
   done_at u d = let all = serial.all u d.attached in
       (all.0, all.1, record { event = event (log_strand tasks.numbers u) d.act; at = d.at; block = d.block; stands = record { strand = u; at = all.1; known = d.known; is = refl } })
 
   -- and what stands at a place is done by its strand
-  pub at_done : (p : ℕ) (d : DoesAt does tasks order events b n p) → Does does events tasks b n d.stands.strand
+  pub at_done : (p : ℕ) (d : DoesToBlockAt does tasks order events b n p) → DoesToBlock does events tasks b n d.stands.strand
   at_done p d = record {
     act = d.event.act;
     at = d.at ∙ ap (λ (s : Strand). Some (event s d.event.act)) (sym d.stands.is);
@@ -55,5 +55,5 @@ module _ (does : Act → Option ℕ) (tasks : LogTasks) (order : List Strand) (e
     attached = serial.attached p d.stands.strand d.stands.at;
   }
 
-  pub strand_is : (p : ℕ) (d : DoesAt does tasks order events b n p) → strand_at order p ≡ d.stands.strand
+  pub strand_is : (p : ℕ) (d : DoesToBlockAt does tasks order events b n p) → strand_at order p ≡ d.stands.strand
   strand_is p d = get_or_from_slice_get order p d.stands.strand (strand 0 0) d.stands.at

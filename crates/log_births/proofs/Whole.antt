@@ -21,7 +21,7 @@ use Rattle.log_births.specs.declared.lines.Lifetimes.{Lifetimes}
 use Rattle.log_births.specs.declared.findings.Finding.{Finding}
 use Rattle.log_births.specs.declared.findings.Findings.{Findings}
 use Rattle.log_births.specs.Blocks.{born, released, yielded, used}
-use Rattle.log_births.specs.Findings.{Does, IsEntangled, IsEntangledRead, IsEntangledUse, IsStaleUse, AreJust, AreFindings}
+use Rattle.log_births.specs.Findings.{DoesToBlock, IsEntangled, IsEntangledRead, IsEntangledUse, IsStaleUse, AreJust, AreFindings}
 use Rattle.log_births.specs.Lines.{line_told, IsLineOf, KnowAll}
 use Rattle.log_births.specs.Checks.{AreBothWithin, PrecedesAt, IsEarly, IsLate, AreAdded}
 use Rattle.log_births.specs.Found.{IsScene, AreJustBelow, AreFoundBelow}
@@ -58,9 +58,9 @@ module _ (tasks : LogTasks) (events : List Event) (walk : WalkValue) (known : Li
     found_by : (place : Option ℕ) → IsPlaceOf tasks walk.order s place → (before after : Findings) → AreAdded walk known a place n before after
         → AreFoundBelow events tasks n before → AreFoundBelow events tasks (n + 1) after
     found_by None nowhere before after h found = subst (AreFoundBelow events tasks (n + 1)) (sym h) (record {
-      reads = none_found (IsEntangledRead events tasks) n before.reads found.reads (λ f line is. not_seen tasks events walk known scene n s a at yielded nowhere f.block is.strand (subst (λ (k : ℕ). Does yielded events tasks f.block k is.strand) line is.seen_here));
-      uses = none_found (IsEntangledUse events tasks) n before.uses found.uses (λ f line is. not_seen tasks events walk known scene n s a at used nowhere f.block is.strand (subst (λ (k : ℕ). Does used events tasks f.block k is.strand) line is.seen_here));
-      stale = none_found (IsStaleUse events tasks) n before.stale found.stale (λ f line is. not_seen tasks events walk known scene n s a at used nowhere f.block is.strand (subst (λ (k : ℕ). Does used events tasks f.block k is.strand) line is.used_here));
+      reads = none_found (IsEntangledRead events tasks) n before.reads found.reads (λ f line is. not_seen tasks events walk known scene n s a at yielded nowhere f.block is.strand (subst (λ (k : ℕ). DoesToBlock yielded events tasks f.block k is.strand) line is.seen_here));
+      uses = none_found (IsEntangledUse events tasks) n before.uses found.uses (λ f line is. not_seen tasks events walk known scene n s a at used nowhere f.block is.strand (subst (λ (k : ℕ). DoesToBlock used events tasks f.block k is.strand) line is.seen_here));
+      stale = none_found (IsStaleUse events tasks) n before.stale found.stale (λ f line is. not_seen tasks events walk known scene n s a at used nowhere f.block is.strand (subst (λ (k : ℕ). DoesToBlock used events tasks f.block k is.strand) line is.used_here));
     })
     found_by (Some place) stands before after h found = record {
       reads =

@@ -16,7 +16,7 @@ use Rattle.log_births.specs.Blocks.{born, released, yielded, used}
 -- LINES
 
 -- act n of the log, counted from 0 over all its files, is on strand u of the graph, and does this to block b
-pub record Does (does : Act → Option ℕ) (events : List Event) (tasks : LogTasks) (b n : ℕ) (u : Strand) : Type 0 where
+pub record DoesToBlock (does : Act → Option ℕ) (events : List Event) (tasks : LogTasks) (b n : ℕ) (u : Strand) : Type 0 where
   pub act : Act
   pub at : slice_get events n ≡ Some (event (log_strand tasks.numbers u) act)
   pub block : does act ≡ Some b
@@ -29,8 +29,8 @@ pub record Does (does : Act → Option ℕ) (events : List Event) (tasks : LogTa
 pub record IsEntangled (sees : Act → Option ℕ) (events : List Event) (tasks : LogTasks) (f : Finding) : Type 0 where
   pub birth : Strand
   pub strand : Strand
-  pub born_there : Does born events tasks f.block f.other birth
-  pub seen_here : Does sees events tasks f.block f.line strand
+  pub born_there : DoesToBlock born events tasks f.block f.other birth
+  pub seen_here : DoesToBlock sees events tasks f.block f.line strand
   pub not_before : Precedes (tasks_in tasks.turns) birth strand → ⊥
 
 -- a read that yields the block
@@ -45,8 +45,8 @@ IsEntangledUse = IsEntangled used
 pub record IsStaleUse (events : List Event) (tasks : LogTasks) (f : Finding) : Type 0 where
   pub release : Strand
   pub strand : Strand
-  pub released_there : Does released events tasks f.block f.other release
-  pub used_here : Does used events tasks f.block f.line strand
+  pub released_there : DoesToBlock released events tasks f.block f.other release
+  pub used_here : DoesToBlock used events tasks f.block f.line strand
   pub before : Precedes (tasks_in tasks.turns) release strand
   pub apart : release ≢ strand
 

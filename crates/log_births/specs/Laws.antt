@@ -6,11 +6,11 @@ use Rattle.log_tasks.specs.declared.tasks.LogTasks.{LogTasks}
 use Rattle.log_strands.specs.below.log_form.{Event}
 use Rattle.log_births.specs.declared.findings.Finding.{Finding}
 use Rattle.log_births.specs.Blocks.{yielded}
-use Rattle.log_births.specs.Findings.{Does, IsEntangledRead, IsEntangledUse}
+use Rattle.log_births.specs.Findings.{DoesToBlock, IsEntangledRead, IsEntangledUse}
 
 -- a read that yields a block is entangled if it happens before an entangled use of the block
 abbrev pub UsesTellReads : Type 0
 UsesTellReads =
     (events : List Event) (tasks : LogTasks) (found : Finding) (entangled : IsEntangledUse events tasks found) (n : ℕ) (read : Strand)
-    → Does yielded events tasks found.block n read → Precedes (tasks_in tasks.turns) read entangled.strand
+    → DoesToBlock yielded events tasks found.block n read → Precedes (tasks_in tasks.turns) read entangled.strand
     → IsEntangledRead events tasks (record { block = found.block; line = n; other = found.other })

@@ -29,7 +29,7 @@ pub record IsPart (events : List Event) (first : ℕ) (s : Strand) (acts : List 
   pub count : length before ≡ first
 
 -- act n does something to block b, and its strand stands at a place of the order
-pub record DoesAt (does : Act → Option ℕ) (tasks : LogTasks) (order : List Strand) (events : List Event) (b n place : ℕ) : Type 0 where
+pub record DoesToBlockAt (does : Act → Option ℕ) (tasks : LogTasks) (order : List Strand) (events : List Event) (b n place : ℕ) : Type 0 where
   pub event : Event
   pub at : slice_get events n ≡ Some event
   pub block : does event.act ≡ Some b
@@ -38,7 +38,7 @@ pub record DoesAt (does : Act → Option ℕ) (tasks : LogTasks) (order : List S
 -- of the acts below n one that does something to the block, if there is one
 abbrev pub IsLineOf : (Act → Option ℕ) → LogTasks → List Strand → List Event → ℕ → ℕ → Option LineAt → Type 0
 IsLineOf does tasks order events n b line =
-    MatchOption line ((m place : ℕ) → m < n → DoesAt does tasks order events b m place → ⊥) (λ at. DoesAt does tasks order events b at.line at.place)
+    MatchOption line ((m place : ℕ) → m < n → DoesToBlockAt does tasks order events b m place → ⊥) (λ at. DoesToBlockAt does tasks order events b at.line at.place)
 
 abbrev pub Know : (Act → Option ℕ) → LogTasks → List Strand → List Event → ℕ → BlockLines → Type 0
 Know does tasks order events n known = (b : ℕ) → IsLineOf does tasks order events n b (line_told known b)
