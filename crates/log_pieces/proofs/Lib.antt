@@ -3,3 +3,4 @@ pub mod Whole
 pub mod Steps
 pub mod Along
 pub mod OverFiles
+pub mod Lines

@@ -6,7 +6,9 @@ mod claims;
 mod files;
 mod log;
 mod piece;
+mod text;
 mod walk;
 
 pub use log::{CutLog, LogError, cut_log};
 pub use piece::Piece;
+pub use text::{act_in, piece_text};

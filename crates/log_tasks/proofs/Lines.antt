@@ -13,6 +13,7 @@ use Rattle.log_form.specs.Events.{Event}
 use Rattle.log_form.specs.Faults.{spawns}
 use Rattle.log_pieces.specs.declared.piece.Piece.{Piece}
 use Rattle.log_pieces.specs.Pieces.{act_said, acts_in, events_in, events_of_pieces}
+use Rattle.log_pieces.proofs.Lines.{line_more, line_last}
 use Rattle.log_tasks.specs.declared.ending.StrandEnd.{StrandEnd}
 use Rattle.log_tasks.specs.declared.told.Told.{Told}
 use Rattle.log_tasks.specs.Ends.{end_by, first_end, or_later}
@@ -21,12 +22,6 @@ use Rattle.log_tasks.proofs.Acts.{first_end_append, or_assoc, later_none}
 use Rattle.log_tasks.proofs.Puts.{after_twice, after_none, or_false}
 
 -- LINES
-
-pub line_more : (left line rest : List ℕ) → lines_of left ≡ line ∷ lines_of rest → acts_in left ≡ act_said (line_of line) ++ acts_in rest
-line_more left line rest e = ap (λ (ls : List (List ℕ)). flat_map (λ l. act_said (line_of l)) ls) e
-
-pub line_last : (left line : List ℕ) → lines_of left ≡ line ∷ [] → acts_in left ≡ act_said (line_of line)
-line_last left line e = ap (λ (ls : List (List ℕ)). flat_map (λ l. act_said (line_of l)) ls) e ∙ append-nil (act_said (line_of line))
 
 told_left : (xs ys : List Act) → is_told xs ≡ true → is_told (xs ++ ys) ≡ true
 told_left [] ys e = absurd (let z : false ≡ true = e in cc)
@@ -47,10 +42,6 @@ next_told left line rest e f = sym (ap is_told (line_more left line rest e) ∙ 
 
 pub last_told : (left line : List ℕ) → lines_of left ≡ line ∷ [] → is_told (act_said (line_of line)) ≡ false → is_told (acts_in left) ≡ false
 last_told left line e f = ap is_told (line_last left line e) ∙ f
-
--- the rest of a text where it goes on
-pub at_some : {X : Type 0} (now : X → List ℕ) (o : Option X) (left line : List ℕ) (r : X) → o ≡ Some r → MatchOption o (lines_of left ≡ line ∷ []) (λ x. lines_of left ≡ line ∷ lines_of (now x)) → lines_of left ≡ line ∷ lines_of (now r)
-at_some now o left line r e h = subst (λ p. MatchOption p (lines_of left ≡ line ∷ []) (λ x. lines_of left ≡ line ∷ lines_of (now x))) e h
 
 -- NO ACT
 

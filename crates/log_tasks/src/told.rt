@@ -1,11 +1,11 @@
 // What the pieces of a log tell of its strands and tasks.
 
-ghost use Rattle.std.specs.Prelude.{◌≡◌, ◌==◌, ◌||◌, ◌&&◌, ◌++◌, ℕ, [], List, Some, OnOk, IfOk, option_to_list, slice_range};
+ghost use Rattle.std.specs.Prelude.{◌≡◌, ◌==◌, ◌||◌, ◌&&◌, ◌++◌, ℕ, [], List, Some, OnOk, IfOk};
 ghost use Rattle.std.specs.List.{list_any};
 ghost use Rattle.log_lines.specs.Grammar.{line_of};
 ghost use Rattle.log_form.specs.Events.{Event};
 ghost use Rattle.log_form.specs.Faults.{spawns};
-ghost use Rattle.log_pieces.specs.Pieces.{act_said, acts_in, on_strand, text_at, events_of_pieces};
+ghost use Rattle.log_pieces.specs.Pieces.{act_said, acts_in, on_strand, events_of_pieces};
 ghost use Rattle.log_tasks.specs.Ends.{end_by, first_end};
 ghost use Rattle.log_tasks.specs.Told.{Knows, is_told, greater, is_below, index_of, index_if, end_told, top_told, task_told, end_after};
 
@@ -13,7 +13,7 @@ use crate::ending::StrandEnd;
 use fork_graph::{Strand, Turn};
 use listed::Listed;
 use log_lines::{Act, Line, read_line};
-use log_pieces::Piece;
+use log_pieces::{Piece, act_in, piece_text};
 use std::alloc::{AllocError, Global};
 use std::collections::{BTreeSet, HashMap};
 use text_lines::next_line;
@@ -27,16 +27,6 @@ pub(crate) struct Told {
     pub(crate) tops: HashMap<u32, u32>,
     /// The root, the tasks that do something, and those that are spawned.
     pub(crate) tasks: BTreeSet<u32>,
-}
-
-/// The act that a line says, if it says one.
-pub fn act_in(line: &[u8]) -> Option<Act>
-    ensures { option_to_list result ≡ act_said (line_of line.now) }
-{
-    match read_line(line) {
-        Ok(Line::Act(act)) => Some(act),
-        _ => None,
-    }
 }
 
 // Whether a line is an act.
@@ -215,23 +205,4 @@ impl Told {
         }
         Ok(())
     }
-}
-
-/// The text of a piece.
-pub fn piece_text(texts: &[Listed<u8>], piece: Piece) -> &[u8]
-    ensures { result.now ≡ slice_range (text_at texts.now piece.file) piece.begin piece.end }
-{
-    match texts.get(piece.file) {
-        Some(text) => part_of(text.as_slice(), piece.begin, piece.end),
-        None => &[],
-    }
-}
-
-// The part of a text from one place up to another, as far as the text goes.
-fn part_of(text: &[u8], begin: usize, end: usize) -> &[u8]
-    ensures { result.now ≡ slice_range text.now begin end }
-{
-    let end = end.min(text.len());
-    let begin = begin.min(end);
-    &text[begin..end]
 }

@@ -1,42 +1,37 @@
 -- The acts of a text, line by line.
-use Rattle.std.proofs.Common.{◌≡◌, ◌<◌, ◌≤◌, ◌+◌, ◌++◌, ◌∷◌, ◌∙◌, ℕ, suc, List, [], All, length, refl, sym, ap, subst, Option, Some, None, inl, inr, append-nil, arith}
-use Rattle.std.specs.Prelude.{MatchOption, option_map, option_to_list}
-use Rattle.std.specs.List.{flat_map}
+use Rattle.std.proofs.Common.{◌≡◌, ◌+◌, ◌++◌, ◌∷◌, ◌∙◌, ℕ, suc, List, [], All, length, refl, sym, ap, subst, Option, Some, Result, Ok, Err, append-nil, arith}
+use Rattle.std.specs.Prelude.{IfOk, option_map, option_to_list}
 use Rattle.std.proofs.lemmas.Grind.{flat_map-append}
 use Rattle.std.proofs.lemmas.List.{append_assoc, length-append}
 use Rattle.listed.proofs.Members.{In, in_append_left, in_append_right}
 use Rattle.listed.proofs.Places.{all_from, read_in}
-use Rattle.text_lines.specs.Lines.{lines_of}
+use Rattle.log_lines.specs.declared.cause.Cause.{Cause}
 use Rattle.log_lines.specs.declared.line.Act.{Act}
+use Rattle.log_lines.specs.declared.line.Line.{Line}
+use Rattle.log_lines.specs.declared.line.Line.TheVariants as lines
+use Rattle.log_lines.specs.Limits.{IsAct, IsLine}
 use Rattle.log_lines.specs.Grammar.{line_of}
-use Rattle.log_pieces.specs.Pieces.{act_said, acts_in}
+use Rattle.log_lines.proofs.Within.{lines_within}
+use Rattle.log_pieces.specs.Pieces.{act_said}
 use Rattle.log_places.specs.declared.region.Region.{Region}
 use Rattle.race_scan.specs.declared.touch.Touch.{Touch}
 use Rattle.log_touches.specs.declared.access.ActAccess.{ActAccess}
 use Rattle.log_touches.specs.Accesses.{access_of, touch_by, touches_of_act, touches_from, regions_of_act, regions_of_acts}
 
--- LINES
-
-pub line_more : (left line rest : List ℕ) → lines_of left ≡ line ∷ lines_of rest → acts_in left ≡ act_said (line_of line) ++ acts_in rest
-line_more left line rest e = ap (λ (ls : List (List ℕ)). flat_map (λ l. act_said (line_of l)) ls) e
-
-pub line_last : (left line : List ℕ) → lines_of left ≡ line ∷ [] → acts_in left ≡ act_said (line_of line)
-line_last left line e = ap (λ (ls : List (List ℕ)). flat_map (λ l. act_said (line_of l)) ls) e ∙ append-nil (act_said (line_of line))
-
--- the rest of a text if it goes on
-pub at_some : {X : Type 0} (now : X → List ℕ) (o : Option X) (left line : List ℕ) (r : X) → o ≡ Some r → MatchOption o (lines_of left ≡ line ∷ []) (λ x. lines_of left ≡ line ∷ lines_of (now x)) → lines_of left ≡ line ∷ lines_of (now r)
-at_some now o left line r e h = subst (λ p. MatchOption p (lines_of left ≡ line ∷ []) (λ x. lines_of left ≡ line ∷ lines_of (now x))) e h
-
-pub at_none : {X : Type 0} (now : X → List ℕ) (o : Option X) (left line : List ℕ) → o ≡ None → MatchOption o (lines_of left ≡ line ∷ []) (λ x. lines_of left ≡ line ∷ lines_of (now x)) → lines_of left ≡ line ∷ []
-at_none now o left line e h = subst (λ p. MatchOption p (lines_of left ≡ line ∷ []) (λ x. lines_of left ≡ line ∷ lines_of (now x))) e h
-
--- the first line's acts, and those of what follows it
-pub said_first : {X : Type 0} (now : X → List ℕ) (o : Option X) (left line : List ℕ) → MatchOption o (lines_of left ≡ line ∷ []) (λ x. lines_of left ≡ line ∷ lines_of (now x))
-    → (rest : List Act) × (acts_in left ≡ act_said (line_of line) ++ rest)
-said_first now None left line h = ([], line_last left line h ∙ sym (append-nil (act_said (line_of line))))
-said_first now (Some r) left line h = (acts_in (now r), line_more left line (now r) h)
-
 -- ACTS
+
+said_by : (r : Result Line Cause) (act : Act) → IfOk r IsLine → act ∷ [] ≡ act_said r → IsAct act
+said_by (Ok (lines.Act a)) act h e = subst IsAct (let same : a ≡ act = (let z : ◌≡◌ {A = List Act} (act ∷ []) (a ∷ []) = e in cc) in same) h
+said_by (Ok lines.Version) act h e = absurd (let z : ◌≡◌ {A = List Act} (act ∷ []) [] = e in cc)
+said_by (Ok (lines.Strand t i)) act h e = absurd (let z : ◌≡◌ {A = List Act} (act ∷ []) [] = e in cc)
+said_by (Ok (lines.Name site)) act h e = absurd (let z : ◌≡◌ {A = List Act} (act ∷ []) [] = e in cc)
+said_by (Ok lines.Comment) act h e = absurd (let z : ◌≡◌ {A = List Act} (act ∷ []) [] = e in cc)
+said_by (Ok lines.End) act h e = absurd (let z : ◌≡◌ {A = List Act} (act ∷ []) [] = e in cc)
+said_by (Err cause) act h e = absurd (let z : ◌≡◌ {A = List Act} (act ∷ []) [] = e in cc)
+
+-- an act that a line says is within the limits
+pub said_within : (line : List ℕ) (act : Act) → act ∷ [] ≡ act_said (line_of line) → IsAct act
+said_within line act e = said_by (line_of line) act (lines_within line) e
 
 pub region_of_access : (o : Option ActAccess) (a : ActAccess) (act : Act) → o ≡ access_of act → o ≡ Some a → regions_of_act act ≡ a.region ∷ []
 region_of_access o a act v is = ap (λ (p : Option ActAccess). option_to_list (option_map (λ (x : ActAccess). x.region) p)) (sym v ∙ is)

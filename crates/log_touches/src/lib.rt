@@ -6,7 +6,6 @@ mod mark;
 mod numbers;
 mod pieces;
 mod scan;
-mod text;
 
 pub use access::ActAccess;
 pub use log_places::Numbers;

@@ -13,10 +13,9 @@ ghost use Rattle.log_touches.specs.Limits.{most_acts, AreTooMany};
 
 use crate::access::access_of;
 use crate::numbers::RacesError;
-use crate::text::{act_in, piece_text};
 use listed::Listed;
 use log_lines::Act;
-use log_pieces::Piece;
+use log_pieces::{Piece, act_in, piece_text};
 use log_places::Places;
 use std::alloc::{AllocError, Global};
 use text_lines::next_line;

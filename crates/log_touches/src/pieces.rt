@@ -6,10 +6,9 @@ ghost use Rattle.log_pieces.specs.Claims.{is_pair, is_that};
 ghost use Rattle.log_pieces.specs.Pieces.{acts_in, acts_of_piece};
 ghost use Rattle.log_touches.specs.Chains.{firsts_from, next_on, AreLinks};
 
-use crate::text::piece_text;
 use fork_graph::Strand;
 use listed::Listed;
-use log_pieces::Piece;
+use log_pieces::{Piece, piece_text};
 use std::alloc::{AllocError, Global};
 use std::collections::HashMap;
 use std::marker::Model;

@@ -15,9 +15,9 @@ ghost use Rattle.log_touches.specs.Limits.{most_acts};
 
 use crate::access::{access_of, touch_by};
 use crate::pieces::StrandPieces;
-use crate::text::act_in;
 use fork_graph::Strand;
 use log_lines::Act;
+use log_pieces::act_in;
 use log_places::Numbers;
 use race_scan::{RaceScan, Strands};
 use std::alloc::{AllocError, Global};

@@ -5,7 +5,8 @@ use Rattle.log_pieces.specs.Pieces.{act_said, acts_in}
 use Rattle.log_places.specs.declared.region.Region.{Region}
 use Rattle.log_places.specs.Counting.{AreMarked}
 use Rattle.log_touches.specs.Accesses.{regions_of_acts}
-use Rattle.log_touches.proofs.Texts.{at_some, at_none, line_more, line_last, count_next, regions_next}
+use Rattle.log_pieces.proofs.Lines.{at_some, at_none, line_more, line_last}
+use Rattle.log_touches.proofs.Texts.{count_next, regions_next}
 use Rattle.log_touches.proofs.mark.mark_text.Goals as goal
 
 pub returns-in-None-clause-marked : goal.returns-in-None-clause-marked

@@ -9,7 +9,8 @@ use Rattle.log_places.specs.Places.{IsRegionCut}
 use Rattle.race_scan.specs.declared.touch.Touch.{Touch}
 use Rattle.race_scan.specs.Scan.{HasScanned}
 use Rattle.log_touches.specs.Accesses.{regions_of_acts, touches_from}
-use Rattle.log_touches.proofs.Texts.{at_some, at_none, said_first, line_more, line_last, count_next, regions_append, touches_next, all_left, all_right}
+use Rattle.log_pieces.proofs.Lines.{at_some, at_none, said_first, line_more, line_last}
+use Rattle.log_touches.proofs.Texts.{count_next, regions_append, touches_next, all_left, all_right}
 use Rattle.log_touches.proofs.scan.touch_text.Goals as goal
 
 pub touch_line-requires-clause-cut : goal.touch_line-requires-clause-cut

@@ -1,5 +1,6 @@
 use Rattle.std.proofs.Common.{◌∙◌, ℕ, List, Bor}
-use Rattle.log_tasks.proofs.Lines.{ends_next, tasks_next, at_some}
+use Rattle.log_pieces.proofs.Lines.{at_some}
+use Rattle.log_tasks.proofs.Lines.{ends_next, tasks_next}
 use Rattle.log_tasks.proofs.told.Told.take_lines.Goals as goal
 
 pub lines-preserved : goal.lines-preserved

@@ -1,18 +1,16 @@
-// The texts of pieces, and the acts in them.
+// The texts of pieces, and the acts that lines say.
 
-ghost use Rattle.std.specs.Prelude.{◌≡◌, IfSome, option_to_list, slice_range};
+ghost use Rattle.std.specs.Prelude.{◌≡◌, option_to_list, slice_range};
 ghost use Rattle.log_lines.specs.Grammar.{line_of};
-ghost use Rattle.log_lines.specs.Limits.{IsAct};
 ghost use Rattle.log_pieces.specs.Pieces.{act_said, text_at};
 
+use crate::piece::Piece;
 use listed::Listed;
 use log_lines::{Act, Line, read_line};
-use log_pieces::Piece;
 
 /// The act that a line says, if it says one.
-pub(crate) fn act_in(line: &[u8]) -> Option<Act>
-    ensures value { option_to_list result ≡ act_said (line_of line.now) }
-    ensures within { IfSome result IsAct }
+pub fn act_in(line: &[u8]) -> Option<Act>
+    ensures { option_to_list result ≡ act_said (line_of line.now) }
 {
     match read_line(line) {
         Ok(Line::Act(act)) => Some(act),
@@ -21,7 +19,7 @@ pub(crate) fn act_in(line: &[u8]) -> Option<Act>
 }
 
 /// The text of a piece.
-pub(crate) fn piece_text(texts: &[Listed<u8>], piece: Piece) -> &[u8]
+pub fn piece_text(texts: &[Listed<u8>], piece: Piece) -> &[u8]
     ensures { result.now ≡ slice_range (text_at texts.now piece.file) piece.begin piece.end }
 {
     match texts.get(piece.file) {
