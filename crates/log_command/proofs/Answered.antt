@@ -11,7 +11,7 @@ use Rattle.whole_call.specs.Streams.{Streams, Ends, Gives}
 use Rattle.whole_call.proofs.Calls.{call_with_input, call_without_input, call_without_memory, gives_ends, silent_without_input, silent_without_memory}
 use Rattle.log_command.specs.Words.{Asked, Usage, Check, asked, asked_by_names, files_for, is_usage, log_names}
 use Rattle.log_command.specs.Files.{AreInputsOf, HasTakenFiles, HasReadFiles}
-use Rattle.log_command.specs.Shown.{ShowsLog}
+use Rattle.log_replies.specs.Shown.{ShowsLog}
 use Rattle.log_command.specs.Call.{Answers, Shows}
 use Rattle.log_command.proofs.Names.{some_inputs}
 

@@ -8,11 +8,11 @@ use Rattle.whole_call.specs.Output.{Says}
 use Rattle.whole_call.specs.Streams.{Streams, Ends}
 use Rattle.whole_call.specs.Call.{IsCallWith}
 use Rattle.log_form.specs.Text.{texts_of}
-use Rattle.log_command.specs.Words.{Asked, Nothing, Usage, Check, files_for}
+use Rattle.log_replies.specs.Shown.{ShowsLog}
+use Rattle.log_command.specs.Words.{Asked, Nothing, Usage, Check, files_for, usage, words_line}
 use Rattle.log_command.specs.Files.{AreInputsOf, HasTakenFiles}
-use Rattle.log_command.specs.Shown.{ShowsLog, usage, words_line}
 
--- what is shown of the inputs
+-- what is written of the inputs
 abbrev pub Shows : Asked → List (List ℕ) → Reply → Type 0
 Shows Nothing inputs = Says Words words_line
 Shows Usage inputs = Says Done usage

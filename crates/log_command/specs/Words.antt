@@ -42,3 +42,11 @@ abbrev pub files_for : Asked → List (List ℕ)
 files_for Nothing = []
 files_for Usage = []
 files_for (Check names) = names
+
+-- WHAT IS WRITTEN OF THEM
+
+abbrev pub usage : List ℕ
+usage = codes "usage: hhlog check FILE..\n"
+
+abbrev pub words_line : List ℕ
+words_line = codes "end: words refused\n"

@@ -1,38 +1,20 @@
 // The whole call.
 
-ghost use Rattle.std.specs.Prelude.{◌≡◌, ◌⊎◌, map, IfOk, string_bytes};
+ghost use Rattle.std.specs.Prelude.{◌⊎◌, map, string_bytes};
 ghost use Rattle.outside_io.specs.Fault.{HasRisen};
 ghost use Rattle.log_command.specs.Words.{Check, asked};
-ghost use Rattle.log_command.specs.Shown.{ShowsLog};
 ghost use Rattle.log_command.specs.Call.{Answers};
 
 use crate::read::read_texts;
-use crate::texts::{refusal, report, usage, words_refusal};
+use crate::texts::{usage, words_refusal};
 use crate::words::{is_usage, log_names};
 use all_bytes::ReadError;
-use listed::Listed;
-use log_pieces::{CutLog, LogError, cut_log};
+use log_replies::show_log;
 use outside_io::{Sink, Source};
-use std::alloc::{AllocError, Global};
-use whole_call::{Reply, Status, give};
+use std::alloc::Global;
+use whole_call::{Status, give};
 
-// What is shown of a log.
-fn show_log(alloc: Global, names: &[String], texts: &[Listed<u8>]) -> Result<Reply, AllocError>
-    ensures { IfOk result (ShowsLog (map string_bytes names.now) texts.now) }
-{
-    match cut_log(alloc, texts) {
-        Ok(
-            CutLog {
-                pieces: _pieces,
-                is_cut,
-            },
-        ) => report(alloc, is_cut),
-        Err(LogError::Refused(found)) => refusal(alloc, names, found),
-        Err(LogError::NoMemory) => Err(AllocError),
-    }
-}
-
-// Reads the files of a log, and shows what is to be said of it.
+// Reads the files of a log, and writes what is to be said of it.
 fn answer<S: Source, K: Sink, E: Sink>(
     alloc: Global,
     names: &[String],

@@ -1,0 +1,4 @@
+pub mod Placed
+pub mod Search
+pub mod Causes
+pub mod Texts
