@@ -1,0 +1,10 @@
+use Rattle.std.proofs.Common.{◌≡◌, ◌≤◌, ◌*◌, ◌^◌, take}
+use Rattle.std.specs.Prelude.{sum_by}
+use Rattle.log_report.specs.Told.{locations_of}
+use Rattle.log_report.proofs.end.racing_locations.Given as goal
+
+abbrev pub invariant-loop-race : goal.invariant-loop-race
+invariant-loop-race l = record {
+  count : l.count ≡ sum_by locations_of (take l.race-index l.races);
+  below : l.count ≤ l.race-index * 2 ^ 64;
+}

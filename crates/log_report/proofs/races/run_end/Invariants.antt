@@ -1,0 +1,6 @@
+use Rattle.std.proofs.Common.{◌≡◌, drop}
+use Rattle.log_report.specs.Races.{run_end}
+use Rattle.log_report.proofs.races.run_end.Given as goal
+
+abbrev pub invariant-loop-at : goal.invariant-loop-at
+invariant-loop-at l = run_end l.last (drop l.at l.races) ≡ run_end l.fn.first (drop l.fn.from l.races)

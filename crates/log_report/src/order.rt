@@ -1,0 +1,25 @@
+// Races in the order of their locations.
+
+ghost use Rattle.std.specs.Prelude.{◌≡◌};
+ghost use Rattle.std.specs.List.Sorted.{IsPermutation, IsNonDecreasingBy};
+ghost use Rattle.log_report.specs.Told.{place_of};
+
+use crate::told::ToldRace;
+use listed::Listed;
+
+// The place of a race's first location among those of all blocks.
+fn place_of(race: &ToldRace) -> u128
+    ensures { result ≡ place_of race.now }
+{
+    (race.block as u128) * (1 << 64) + race.start as u128
+}
+
+/// The races in ascending order of blocks and locations.
+pub fn in_order(races: Listed<ToldRace>) -> Listed<ToldRace>
+    ensures permutation { IsPermutation races result }
+    ensures sorted { IsNonDecreasingBy place_of result }
+{
+    let mut sorted = races.into_vec();
+    sorted.sort_unstable_by_key(|race| place_of(race));
+    Listed::from_vec(sorted)
+}
