@@ -1,0 +1,5 @@
+// Tests of the report of a log. It has no code of its own.
+#![tactic(auto)]
+
+#[cfg(test)]
+mod texts;
