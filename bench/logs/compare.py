@@ -1,7 +1,7 @@
 #!/usr/bin/env python3
 """compare.py PROGRAM.. [--logs N] [--seed S]    compares checkers of logs with brute force, on N random logs (20,000).
 
-Each PROGRAM is called as `PROGRAM check FILE.. [--all]`: bench/logs/peer.rs built, or hhlog. Its status must be that of the
+Each PROGRAM is called as `PROGRAM check [--all] FILE..`: bench/logs/peer.rs built, or hhlog. Its status must be that of the
 definition. With --all each racing location stands on a line, with its first access that races and one that it races with.
 Without, the merged lines count the same locations. Refusals must name the same line or task. Work, span and the numbers of
 entangled and stale uses must agree. What differs is printed with the seed of its log; the status is then 1.
@@ -21,6 +21,18 @@ MERGED = re.compile(r"race (\d+) (\d+) (\d+): .*, .*; locations (\d+)\Z")
 WORK = re.compile(r"work (\d+) span (\d+) parallelism ")
 END = re.compile(r"end: races (\d+) reads (\d+) uses (\d+) stale (\d+)(?: cut (\d+))?\Z")
 REFUSED = re.compile(r"end: log refused (?:line (\d+):(\d+)|task (\d+)) ([a-z-]+)\Z")
+# hhlog names the file and says the cause in words, and a task's fault with the last line of the strand at fault.
+REFUSED_LINE = re.compile(r"end: log refused \S*log\.(\d+) line (\d+): (?!task \d)(.*)\Z")
+REFUSED_TASK = re.compile(r"end: log refused(?: \S+ line \d+)?: task (\d+) (.*)\Z")
+CAUSES = {
+    "bad word": "word", "bad number": "number", "wrong count of words": "count", "over a limit": "limit",
+    "runs overlap": "overlap", "unknown version": "version", "no version": "version", "after the end": "after-end",
+    "no strand is open": "closed", "strand has ended": "ended", "task spawned twice": "spawned-twice",
+    "block born twice": "born-twice", "block released twice": "released-twice",
+    "joins no open child of its own": "joins-no-child", "has no end": "unended",
+    "leaves children unjoined": "unjoined", "is spawned by no task that the root leads to": "unreached",
+    "goes on after its end": "unreached",
+}
 # For a line with several faults any of these may be reported.
 FORM = ("number", "word", "count", "limit", "overlap")
 
@@ -35,14 +47,26 @@ def expect(what, is_, should):
 
 
 def call(program, names, *options):
-    done = subprocess.run([program, "check", *names, *options], capture_output=True, check=False)
-    return done.returncode, done.stdout.decode().splitlines()
+    done = subprocess.run([program, "check", *options, *names], capture_output=True, check=False)
+    return done.returncode, (done.stdout or done.stderr).decode().splitlines()
+
+
+def read_refusal(line):
+    """The task, or the file and the line in it, that a refusal names, and its cause."""
+    found = REFUSED.match(line)
+    if found:
+        file, number, task, cause = found.groups()
+        return int(task) if task else (int(file), int(number)), cause
+    found = REFUSED_TASK.match(line)
+    if found:
+        return int(found[1]), CAUSES[found[2]]
+    file, number, cause = REFUSED_LINE.match(line).groups()
+    return (int(file) + 1, int(number)), CAUSES[cause]
 
 
 def check_refusal(refused, status, lines):
     expect("the status", status, 11)
-    file, line, task, cause = REFUSED.match(lines[-1]).groups()
-    where = int(task) if task else (int(file), int(line))
+    where, cause = read_refusal(lines[-1])
     expect("the refusal", where, refused.args[0])
     if cause not in FORM or refused.args[1] not in FORM:
         expect("the cause", cause, refused.args[1])

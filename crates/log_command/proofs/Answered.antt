@@ -9,7 +9,8 @@ use Rattle.whole_call.specs.declared.reply.Reply.{Reply}
 use Rattle.whole_call.specs.Input.{SourceState}
 use Rattle.whole_call.specs.Streams.{Streams, Ends, Gives}
 use Rattle.whole_call.proofs.Calls.{call_with_input, call_without_input, call_without_memory, gives_ends, silent_without_input, silent_without_memory}
-use Rattle.log_command.specs.Words.{Asked, Usage, Check, asked, asked_by_names, files_for, is_usage, log_names}
+use Rattle.log_report.specs.declared.report.Detail.{Detail}
+use Rattle.log_command.specs.Words.{Asked, Usage, Check, asked, asked_by, files_for, is_usage, log_check}
 use Rattle.log_command.specs.Files.{AreInputsOf, HasTakenFiles, HasReadFiles}
 use Rattle.log_replies.specs.Shown.{ShowsLog}
 use Rattle.log_command.specs.Call.{Answers, Shows}
@@ -28,34 +29,34 @@ module _ (a : Asked) (found : Result Reply AllocError) (status : Status) (source
       call_with_input (AreInputsOf (files_for a) source) (λ inputs. Ends (Shows a inputs) status before after) (files_for a ≡ []) (HasTakenFiles (files_for a) source source) WriteFails source source status [] (no_files (files_for a) source none) (untouched (files_for a) source none)
       (gives_ends (Shows a []) found status before after shows given) read fails
 
-module _ (names : List (List ℕ)) (source left : SourceState) (WriteFails : Type 0) where
+module _ (detail : Detail) (names : List (List ℕ)) (source left : SourceState) (WriteFails : Type 0) where
   -- memory failed before all files were read
-  pub answered_without_memory : (streams : Streams) → names ≢ [] → Answers (Check names) NoMemory source left streams streams WriteFails
+  pub answered_without_memory : (streams : Streams) → names ≢ [] → Answers (Check detail names) NoMemory source left streams streams WriteFails
   answered_without_memory streams some =
       let at = some_inputs names source (length names) in
-      call_without_memory (AreInputsOf names source) (λ inputs. Ends (Shows (Check names) inputs) NoMemory streams streams) (names ≡ []) (HasTakenFiles names source left) WriteFails source left at.0 at.1
-      (silent_without_memory (Shows (Check names) at.0) streams) (λ e. absurd (some e))
+      call_without_memory (AreInputsOf names source) (λ inputs. Ends (Shows (Check detail names) inputs) NoMemory streams streams) (names ≡ []) (HasTakenFiles names source left) WriteFails source left at.0 at.1
+      (silent_without_memory (Shows (Check detail names) at.0) streams) (λ e. absurd (some e))
 
   -- a file couldn't be read
-  pub answered_without_input : (streams : Streams) → names ≢ [] → HasRisen source.faults left.faults → Answers (Check names) ReadFault source left streams streams WriteFails
+  pub answered_without_input : (streams : Streams) → names ≢ [] → HasRisen source.faults left.faults → Answers (Check detail names) ReadFault source left streams streams WriteFails
   answered_without_input streams some risen =
       let at = some_inputs names source (length names) in
-      call_without_input (AreInputsOf names source) (λ inputs. Ends (Shows (Check names) inputs) ReadFault streams streams) (names ≡ []) (HasTakenFiles names source left) WriteFails source left at.0 at.1
-      (silent_without_input (Shows (Check names) at.0) streams) some risen
+      call_without_input (AreInputsOf names source) (λ inputs. Ends (Shows (Check detail names) inputs) ReadFault streams streams) (names ≡ []) (HasTakenFiles names source left) WriteFails source left at.0 at.1
+      (silent_without_input (Shows (Check detail names) at.0) streams) some risen
 
   -- all files were read
-  pub answered_log : (texts shown : List (List ℕ)) (found : Result Reply AllocError) (status : Status) (before after : Streams) → HasReadFiles names source left texts → shown ≡ texts → IfOk found (ShowsLog names shown) → Gives found status before after → status ≢ ReadFault → (status ≡ WriteFault → WriteFails)
-      → Answers (Check names) status source left before after WriteFails
+  pub answered_log : (texts shown : List (List ℕ)) (found : Result Reply AllocError) (status : Status) (before after : Streams) → HasReadFiles names source left texts → shown ≡ texts → IfOk found (ShowsLog names shown detail) → Gives found status before after → status ≢ ReadFault → (status ≡ WriteFault → WriteFails)
+      → Answers (Check detail names) status source left before after WriteFails
   answered_log texts shown found status before after read same shows given none fails =
-      call_with_input (AreInputsOf names source) (λ inputs. Ends (Shows (Check names) inputs) status before after) (names ≡ []) (HasTakenFiles names source left) WriteFails source left status read.inputs read.are read.taken
-      (gives_ends (Shows (Check names) read.inputs) found status before after (subst (λ (ts : List (List ℕ)). IfOk found (ShowsLog names ts)) (same ∙ read.texts_are) shows) given) none fails
+      call_with_input (AreInputsOf names source) (λ inputs. Ends (Shows (Check detail names) inputs) status before after) (names ≡ []) (HasTakenFiles names source left) WriteFails source left status read.inputs read.are read.taken
+      (gives_ends (Shows (Check detail names) read.inputs) found status before after (subst (λ (ts : List (List ℕ)). IfOk found (ShowsLog names ts detail)) (same ∙ read.texts_are) shows) given) none fails
 
 -- WORDS
 
 pub usage_asked : (words : List (List ℕ)) → is_usage words ≡ true → asked words ≡ Usage
 usage_asked words e = rw e
 
-pub names_asked : (words : List (List ℕ)) (o : Option (List (List ℕ))) → is_usage words ≡ false → o ≡ log_names words → asked words ≡ asked_by_names o
+pub names_asked : (words : List (List ℕ)) (o : Option (Detail × List (List ℕ))) → is_usage words ≡ false → o ≡ log_check words → asked words ≡ asked_by o
 names_asked words o e is = rw (e, ← is)
 
 pub answered_as : (a b : Asked) (status : Status) (source left : SourceState) (before after : Streams) (WriteFails : Type 0) → a ≡ b → Answers b status source left before after WriteFails → Answers a status source left before after WriteFails

@@ -16,7 +16,7 @@ use Rattle.log_command.specs.Files.{AreInputsOf, HasTakenFiles}
 abbrev pub Shows : Asked → List (List ℕ) → Reply → Type 0
 Shows Nothing inputs = Says Words words_line
 Shows Usage inputs = Says Done usage
-Shows (Check names) inputs = ShowsLog names (texts_of inputs)
+Shows (Check detail names) inputs = ShowsLog names (texts_of inputs) detail
 
 -- a whole call that asks for this, of a source and the streams; `WriteFails` says that writing failed
 abbrev pub Answers : Asked → Status → SourceState → SourceState → Streams → Streams → Type 0 → Type 0

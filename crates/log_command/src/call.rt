@@ -7,9 +7,9 @@ ghost use Rattle.log_command.specs.Call.{Answers};
 
 use crate::read::read_texts;
 use crate::texts::{usage, words_refusal};
-use crate::words::{is_usage, log_names};
+use crate::words::{is_usage, log_check};
 use all_bytes::ReadError;
-use log_replies::show_log;
+use log_replies::{Detail, show_log};
 use outside_io::{Sink, Source};
 use std::alloc::Global;
 use whole_call::{Status, give};
@@ -17,17 +17,18 @@ use whole_call::{Status, give};
 // Reads the files of a log, and writes what is to be said of it.
 fn answer<S: Source, K: Sink, E: Sink>(
     alloc: Global,
+    detail: Detail,
     names: &[String],
     source: &mut S,
     out: &mut K,
     error: &mut E,
 ) -> Status
-    ensures { Answers (Check (map string_bytes names.now)) result (record { left = S.left source.old; named = S.named source.old; faults = S.faults source.old }) (record { left = S.left source.new; named = S.named source.new; faults = S.faults source.new }) (record { out = K.written out.old; error = E.written error.old }) (record { out = K.written out.new; error = E.written error.new }) (HasRisen (K.faults out.old) (K.faults out.new) ⊎ HasRisen (E.faults error.old) (E.faults error.new)) }
+    ensures { Answers (Check detail (map string_bytes names.now)) result (record { left = S.left source.old; named = S.named source.old; faults = S.faults source.old }) (record { left = S.left source.new; named = S.named source.new; faults = S.faults source.new }) (record { out = K.written out.old; error = E.written error.old }) (record { out = K.written out.new; error = E.written error.new }) (HasRisen (K.faults out.old) (K.faults out.new) ⊎ HasRisen (E.faults error.old) (E.faults error.new)) }
 {
     match read_texts(alloc, source, names) {
         Err(ReadError::Fault) => Status::ReadFault,
         Err(ReadError::NoMemory) => Status::NoMemory,
-        Ok(texts) => give(show_log(alloc, names, texts.as_slice()), out, error),
+        Ok(texts) => give(show_log(alloc, names, texts.as_slice(), detail), out, error),
     }
 }
 
@@ -47,8 +48,8 @@ pub fn check<S: Source, K: Sink, E: Sink>(
     if is_usage(words) {
         return give(usage(alloc), out, error);
     }
-    match log_names(words) {
+    match log_check(words) {
         None => give(words_refusal(alloc), out, error),
-        Some(names) => answer(alloc, names, source, out, error),
+        Some((detail, names)) => answer(alloc, detail, names, source, out, error),
     }
 }

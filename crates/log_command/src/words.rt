@@ -3,7 +3,9 @@
 ghost use Rattle.std.specs.Prelude.{◌≡◌, map, option_map, string_bytes};
 ghost use Rattle.std.specs.List.{list_all};
 ghost use Rattle.std.specs.Str.{bytes_eq};
-ghost use Rattle.log_command.specs.Words.{is_name, are_names, log_names, is_usage};
+ghost use Rattle.log_command.specs.Words.{is_name, are_names, names_for, check_of, log_check, is_usage};
+
+use log_replies::Detail;
 
 // Whether a word is a name.
 fn is_name(word: &str) -> bool
@@ -37,13 +39,36 @@ fn word_is(word: &String, text: &str) -> bool
     word.as_str() == text
 }
 
-/// The names of a log's files, where the words ask for its check.
-pub(crate) fn log_names(words: &[String]) -> Option<&[String]>
-    ensures { option_map (λ names. map string_bytes names.now) result ≡ log_names (map string_bytes words.now) }
+// The check of files with these names.
+fn names_for(detail: Detail, names: &[String]) -> Option<(Detail, &[String])>
+    ensures { option_map (λ c. (c.0, map string_bytes c.1.now)) result ≡ names_for detail (map string_bytes names.now) }
 {
-    let (verb, names) = words.split_first()?;
-    if word_is(verb, "check") && are_names(names) {
-        Some(names)
+    if are_names(names) {
+        Some((detail, names))
+    } else {
+        None
+    }
+}
+
+// What the words after `check` ask for.
+fn check_of(words: &[String]) -> Option<(Detail, &[String])>
+    ensures { option_map (λ c. (c.0, map string_bytes c.1.now)) result ≡ check_of (map string_bytes words.now) }
+{
+    let (first, rest) = words.split_first()?;
+    if word_is(first, "--all") {
+        names_for(Detail::Locations, rest)
+    } else {
+        names_for(Detail::Merged, words)
+    }
+}
+
+/// How a log's races are told, and the names of its files, where the words ask for its check.
+pub(crate) fn log_check(words: &[String]) -> Option<(Detail, &[String])>
+    ensures { option_map (λ c. (c.0, map string_bytes c.1.now)) result ≡ log_check (map string_bytes words.now) }
+{
+    let (verb, rest) = words.split_first()?;
+    if word_is(verb, "check") {
+        check_of(rest)
     } else {
         None
     }

@@ -1,5 +1,5 @@
 -- What is written of a log.
-use Rattle.std.specs.Prelude.{◌⊎◌, ℕ, Bool, true, false, Option, Some, None, List, codes}
+use Rattle.std.specs.Prelude.{◌≢◌, ◌⊎◌, ℕ, Bool, true, false, Option, Some, None, List, ◌++◌, codes}
 use Rattle.fork_graph.specs.declared.fault.Extent.{Extent}
 use Rattle.fork_graph.specs.declared.fault.Extent.TheVariants.{Whole, Cut}
 use Rattle.log_form.specs.declared.fault.Found.{Found}
@@ -10,10 +10,18 @@ use Rattle.log_tasks.specs.declared.tasks.LogTasks.{LogTasks}
 use Rattle.log_tasks.specs.Faults.{IsFirstTaskFault}
 use Rattle.log_tasks.specs.Log.{IsLog}
 use Rattle.log_refusals.specs.Texts.{line_refusal, task_refusal}
-use Rattle.whole_call.specs.declared.status.AnswerStatus.{AnswerStatus}
-use Rattle.whole_call.specs.declared.status.AnswerStatus.TheVariants.{Done, Trace, CutOff}
+use Rattle.log_sites.specs.Names.{site_name}
+use Rattle.log_report.specs.declared.told.Report.{Report}
+use Rattle.log_report.specs.declared.report.Detail.{Detail}
+use Rattle.log_report.specs.Report.{report_text}
+use Rattle.log_findings.specs.declared.error.ReportError.{ReportError}
+use Rattle.log_findings.specs.declared.error.ReportError.TheVariants.{TooLong, TooManyStretches, TooMuchWork, NoMemory}
+use Rattle.log_findings.specs.Errors.{IsTooLarge}
+use Rattle.log_findings.specs.Reported.{IsReportOf}
+use Rattle.whole_call.specs.declared.status.AnswerStatus.TheVariants.{Trace}
 use Rattle.whole_call.specs.declared.reply.Reply.{Reply}
 use Rattle.whole_call.specs.Output.{Says}
+use Rattle.log_replies.specs.Status.{status_of}
 
 -- how much of its run a log has, by whether it was cut off
 abbrev pub extent_of : Bool → Extent
@@ -23,15 +31,16 @@ extent_of false = Whole
 abbrev pub log_extent : List (List ℕ) → Extent
 log_extent texts = extent_of (is_cut texts)
 
--- THE REPORT
+-- LOGS THAT ARE TOO LARGE
 
-abbrev pub end_line : Bool → List ℕ
-end_line true = codes "end: log cut off\n"
-end_line false = codes "end: log accepted\n"
+abbrev pub size_text : ReportError → List ℕ
+size_text TooLong = codes "too many lines or strands"
+size_text TooManyStretches = codes "too many locations"
+size_text TooMuchWork = codes "too much work"
+size_text NoMemory = codes "out of memory"
 
-abbrev pub status_of_end : Bool → AnswerStatus
-status_of_end true = CutOff
-status_of_end false = Done
+abbrev pub size_line : ReportError → List ℕ
+size_line cause = codes "end: log refused: " ++ size_text cause ++ codes "\n"
 
 -- A LOG, whose files have these names and texts
 
@@ -41,19 +50,30 @@ pub record RefusesTask (names texts : List (List ℕ)) (reply : Reply) : Type 0 
   pub is_first : IsFirstTaskFault (events_of texts) (log_extent texts) fault
   pub says : Says Trace (task_refusal names texts fault) reply
 
--- no task is at fault, and it is reported
-pub record Reports (texts : List (List ℕ)) (reply : Reply) : Type 0 where
+-- no task is at fault, but it is too large
+pub record RefusesSize (texts : List (List ℕ)) (reply : Reply) : Type 0 where
   pub tasks : LogTasks
   pub are : IsLog (events_of texts) (log_extent texts) tasks
-  pub says : Says (status_of_end (is_cut texts)) (end_line (is_cut texts)) reply
+  pub cause : ReportError
+  pub no_memory : cause ≢ NoMemory
+  pub too_large : IsTooLarge texts tasks cause
+  pub says : Says Trace (size_line cause) reply
+
+-- no task is at fault, and it is reported
+pub record Reports (texts : List (List ℕ)) (detail : Detail) (reply : Reply) : Type 0 where
+  pub tasks : LogTasks
+  pub are : IsLog (events_of texts) (log_extent texts) tasks
+  pub report : Report
+  pub reported : IsReportOf texts tasks (is_cut texts) report
+  pub says : Says (status_of report) (report_text (site_name texts) detail report) reply
 
 -- what is written of a log without a faulty line
-abbrev pub ShowsTasks : List (List ℕ) → List (List ℕ) → Reply → Type 0
-ShowsTasks names texts reply = RefusesTask names texts reply ⊎ Reports texts reply
+abbrev pub ShowsTasks : List (List ℕ) → List (List ℕ) → Detail → Reply → Type 0
+ShowsTasks names texts detail reply = RefusesTask names texts reply ⊎ (RefusesSize texts reply ⊎ Reports texts detail reply)
 
-abbrev pub ShowsFault : List (List ℕ) → List (List ℕ) → Option Found → Reply → Type 0
-ShowsFault names texts None = ShowsTasks names texts
-ShowsFault names texts (Some found) = Says Trace (line_refusal names found)
+abbrev pub ShowsFault : List (List ℕ) → List (List ℕ) → Detail → Option Found → Reply → Type 0
+ShowsFault names texts detail None = ShowsTasks names texts detail
+ShowsFault names texts detail (Some found) = Says Trace (line_refusal names found)
 
-abbrev pub ShowsLog : List (List ℕ) → List (List ℕ) → Reply → Type 0
-ShowsLog names texts = ShowsFault names texts (log_fault texts)
+abbrev pub ShowsLog : List (List ℕ) → List (List ℕ) → Detail → Reply → Type 0
+ShowsLog names texts detail = ShowsFault names texts detail (log_fault texts)

@@ -1,17 +1,21 @@
 // What is written of a log.
 
-ghost use Rattle.std.specs.Prelude.{◌≡◌, None, IfOk, map, string_bytes};
+ghost use Rattle.std.specs.Prelude.{◌≡◌, ◌⊎◌, None, IfOk, map, string_bytes};
 ghost use Rattle.log_form.specs.Events.{events_of, is_cut};
 ghost use Rattle.log_form.specs.Faults.{log_fault};
 ghost use Rattle.log_pieces.specs.Pieces.{events_of_pieces};
-ghost use Rattle.log_replies.specs.Shown.{extent_of, ShowsTasks, ShowsLog};
+ghost use Rattle.log_tasks.specs.Log.{IsLog};
+ghost use Rattle.log_replies.specs.Shown.{extent_of, log_extent, RefusesSize, Reports, ShowsTasks, ShowsLog};
 
-use crate::end::report;
+use crate::report::show_report;
+use crate::size::size_refusal;
 use fork_graph::Extent;
 use listed::Listed;
+use log_findings::{ReportError, report_log};
 use log_pieces::{CutLog, LogError, Piece, cut_log};
 use log_refusals::{line_refusal, task_refusal};
-use log_tasks::{TasksError, log_tasks};
+use log_report::Detail;
+use log_tasks::{LogTasks, TasksError, log_tasks};
 use std::alloc::{AllocError, Global};
 use whole_call::Reply;
 
@@ -22,6 +26,28 @@ fn extent_of(is_cut: bool) -> Extent
     if is_cut { Extent::Cut } else { Extent::Whole }
 }
 
+// What is written of a log without a fault.
+fn show_tasks(
+    alloc: Global,
+    texts: &[Listed<u8>],
+    pieces: &[Piece],
+    tasks: &LogTasks,
+    cut: bool,
+    detail: Detail,
+) -> Result<Reply, AllocError>
+    requires whole { log_fault texts.now ≡ None }
+    requires pieces { events_of_pieces texts.now pieces.now ≡ events_of texts.now }
+    requires extent { cut ≡ is_cut texts.now }
+    requires tasks { IsLog (events_of texts.now) (log_extent texts.now) tasks.now }
+    ensures { IfOk result (λ reply. RefusesSize texts.now reply ⊎ Reports texts.now detail reply) }
+{
+    match report_log(alloc, texts, pieces, tasks, cut) {
+        Ok(report) => show_report(alloc, texts, detail, &report),
+        Err(ReportError::NoMemory) => Err(AllocError),
+        Err(cause) => size_refusal(alloc, cause),
+    }
+}
+
 // What is written of a log without a faulty line.
 fn show_pieces(
     alloc: Global,
@@ -29,26 +55,32 @@ fn show_pieces(
     texts: &[Listed<u8>],
     pieces: &[Piece],
     cut: bool,
+    detail: Detail,
 ) -> Result<Reply, AllocError>
     requires whole { log_fault texts.now ≡ None }
     requires pieces { events_of_pieces texts.now pieces.now ≡ events_of texts.now }
     requires extent { cut ≡ is_cut texts.now }
-    ensures { IfOk result (ShowsTasks (map string_bytes names.now) texts.now) }
+    ensures { IfOk result (ShowsTasks (map string_bytes names.now) texts.now detail) }
 {
     match log_tasks(alloc, texts, pieces, extent_of(cut)) {
-        Ok(_tasks) => report(alloc, cut),
+        Ok(tasks) => show_tasks(alloc, texts, pieces, &tasks, cut, detail),
         Err(TasksError::Refused(fault)) => task_refusal(alloc, names, texts, fault),
         Err(TasksError::NoMemory) => Err(AllocError),
     }
 }
 
 /// What is written of a log, whose files have these names and texts.
-pub fn show_log(alloc: Global, names: &[String], texts: &[Listed<u8>]) -> Result<Reply, AllocError>
-    ensures { IfOk result (ShowsLog (map string_bytes names.now) texts.now) }
+pub fn show_log(
+    alloc: Global,
+    names: &[String],
+    texts: &[Listed<u8>],
+    detail: Detail,
+) -> Result<Reply, AllocError>
+    ensures { IfOk result (ShowsLog (map string_bytes names.now) texts.now detail) }
 {
     match cut_log(alloc, texts) {
         Ok(CutLog { pieces, is_cut }) => {
-            show_pieces(alloc, names, texts, pieces.as_slice(), is_cut)
+            show_pieces(alloc, names, texts, pieces.as_slice(), is_cut, detail)
         }
         Err(LogError::Refused(found)) => line_refusal(alloc, names, found),
         Err(LogError::NoMemory) => Err(AllocError),

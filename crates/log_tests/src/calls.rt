@@ -4,55 +4,68 @@ use log_command::check;
 use outside_io::{MemSink, MemSource};
 use std::alloc::{AllocError, Global};
 
-/// The words of a call, the bytes of each file, the calls of the source and of standard output that fail, the exit
-/// status, and what is written to standard output and to standard error.
-type Call = (
-    &'static str,
-    &'static [u8],
-    &'static [u64],
-    &'static [u64],
-    u8,
-    &'static str,
-    &'static str,
-);
-
-const USAGE: &str = "usage: hhlog check FILE..\n";
+const USAGE: &str = "usage: hhlog check [--all] FILE..\n";
 
 const WORDS: &str = "end: words refused\n";
 
 const SOUND: &[u8] = b"hhlog 1\ns 0 0\n.\nend\n";
 
-const CALLS: &[Call] = &[
-    ("--help", b"", &[], &[], 0, USAGE, ""),
-    ("", b"", &[], &[], 2, "", WORDS),
-    ("check", b"", &[], &[], 2, "", WORDS),
-    ("check --all a", b"", &[], &[], 2, "", WORDS),
-    ("verify a", b"", &[], &[], 2, "", WORDS),
-    ("--help a", b"", &[], &[], 2, "", WORDS),
-    ("check a", SOUND, &[], &[], 0, "end: log accepted\n", ""),
+const QUIET: &str = "work 0 span 0 parallelism 1.00\nend: races 0 reads 0 uses 0 stale 0\n";
+
+// A root and its child write one location.
+const RACING: &[u8] =
+    b"hhlog 1\ns 0 0\n+ 1\nw 1 0\n- 1\n.\ns 1 0\nw 1 0 2 @3\nw 1 5 2\n.\n@ 3 x\nend\n";
+
+// What is written where nothing fails.
+const REPLIES: &[(&str, &[u8], u8, &str, &str)] = &[
+    ("--help", b"", 0, USAGE, ""),
+    ("", b"", 2, "", WORDS),
+    ("check", b"", 2, "", WORDS),
+    ("check --all", b"", 2, "", WORDS),
+    ("check a --all", b"", 2, "", WORDS),
+    ("check --all --all a", b"", 2, "", WORDS),
+    ("verify a", b"", 2, "", WORDS),
+    ("--help a", b"", 2, "", WORDS),
+    ("check a", SOUND, 0, QUIET, ""),
+    ("check --all a", SOUND, 0, QUIET, ""),
     (
         "check a",
-        b"hhlog 1\ns 0 0\n.\n",
-        &[],
-        &[],
-        14,
-        "end: log cut off\n",
+        b"hhlog 1\ns 0 0\n.\nend\n\x00\x00\nx",
+        0,
+        QUIET,
         "",
     ),
     (
         "check a",
-        b"hhlog 1\ns 0 0\n.\nend\n\x00\x00\nx",
-        &[],
-        &[],
-        0,
-        "end: log accepted\n",
+        RACING,
+        12,
+        "race 1 0 1: write x line 1:8, write line 1:4; locations 1\nwork 0 span 0 parallelism 1.00\nend: races 1 reads 0 uses 0 stale 0\n",
+        "",
+    ),
+    (
+        "check --all a",
+        RACING,
+        12,
+        "race 1 0: write x line 1:8, write line 1:4\nwork 0 span 0 parallelism 1.00\nend: races 1 reads 0 uses 0 stale 0\n",
+        "",
+    ),
+    (
+        "check a",
+        b"hhlog 1\ns 0 0\n.\n",
+        14,
+        "work 0 span 0 parallelism 1.00\nend: races 0 reads 0 uses 0 stale 0 cut 0\n",
+        "",
+    ),
+    (
+        "check a",
+        b"hhlog 1\ns 0 0\n+ 1\nk 7\ns 3 4\nr 1 2\n",
+        14,
+        "work 7 span 7 parallelism 1.00\nend: races 0 reads 0 uses 0 stale 0 cut 1\n",
         "",
     ),
     (
         "check a",
         b"\x00\x00\x00\x00",
-        &[],
-        &[],
         11,
         "",
         "end: log refused a line 1: no version\n",
@@ -60,8 +73,6 @@ const CALLS: &[Call] = &[
     (
         "check a b",
         SOUND,
-        &[],
-        &[],
         11,
         "",
         "end: log refused b line 3: strand has ended\n",
@@ -69,16 +80,60 @@ const CALLS: &[Call] = &[
     (
         "check a",
         b"hhlog 1\nr 1\n",
-        &[],
-        &[],
         11,
         "",
         "end: log refused a line 2: wrong count of words\n",
     ),
-    ("check a", SOUND, &[1], &[], 8, "", ""),
-    ("check a", SOUND, &[2], &[], 8, "", ""),
-    ("check a b", SOUND, &[4], &[], 8, "", ""),
-    ("check a", SOUND, &[], &[1], 9, "", ""),
+    (
+        "check a",
+        b"hhlog 1\ns 0 0\n- 1\n.\nend\n",
+        11,
+        "",
+        "end: log refused a line 3: task 0 joins no open child of its own\n",
+    ),
+    (
+        "check a",
+        b"hhlog 1\ns 0 0\nk 1\nend\n",
+        11,
+        "",
+        "end: log refused a line 3: task 0 has no end\n",
+    ),
+    (
+        "check a",
+        b"hhlog 1\nend\n",
+        11,
+        "",
+        "end: log refused: task 0 has no end\n",
+    ),
+    (
+        "check a",
+        b"hhlog 1\ns 0 0\n+ 1\n.\ns 1 0\n.\nend\n",
+        11,
+        "",
+        "end: log refused a line 4: task 0 leaves children unjoined\n",
+    ),
+    (
+        "check a",
+        b"hhlog 1\ns 0 0\n.\ns 5 0\n.\nend\n",
+        11,
+        "",
+        "end: log refused a line 5: task 5 is spawned by no task that the root leads to\n",
+    ),
+    (
+        "check a",
+        b"hhlog 1\ns 0 0\n.\ns 0 2\nk 1\nend\n",
+        11,
+        "",
+        "end: log refused a line 3: task 0 goes on after its end\n",
+    ),
+];
+
+// The calls of the source and of standard output that fail, and the exit status.
+const FAILING: &[(&str, &[u64], &[u64], u8)] = &[
+    ("check a", &[1], &[], 8),
+    ("check a", &[2], &[], 8),
+    ("check a b", &[4], &[], 8),
+    ("check a", &[], &[1], 9),
 ];
 
 // Adds a word that isn't empty, and says whether there was memory for it.
@@ -148,9 +203,14 @@ fn writes(
     }
 }
 
-// Whether a call is answered as it should be.
-fn answers(alloc: Global, call: &Call) -> bool {
-    let (line, bytes, reads, failing, status, out, error) = *call;
+// Whether a call of which these calls fail is answered so.
+fn answers(
+    alloc: Global,
+    line: &str,
+    bytes: &[u8],
+    (reads, failing): (&[u64], &[u64]),
+    (status, out, error): (u8, &str, &str),
+) -> bool {
     match (source_of(alloc, bytes, reads), sink_of(alloc, failing)) {
         (Ok(mut source), Some(mut sink)) => {
             writes(
@@ -167,7 +227,14 @@ fn answers(alloc: Global, call: &Call) -> bool {
 
 #[test]
 fn calls_are_answered(rt: HostRuntime) {
-    for call in CALLS {
-        assert!(rt; answers(rt.alloc(), call));
+    for (line, bytes, status, out, error) in REPLIES {
+        assert!(rt; answers(rt.alloc(), line, bytes, (&[], &[]), (*status, out, error)));
+    }
+}
+
+#[test]
+fn faults_are_told(rt: HostRuntime) {
+    for (line, reads, writes, status) in FAILING {
+        assert!(rt; answers(rt.alloc(), line, SOUND, (reads, writes), (*status, "", "")));
     }
 }

@@ -16,5 +16,5 @@ returns-in-None g c =
 
 pub returns-in-Some : goal.returns-in-Some
 returns-in-Some g c =
-    answered_as (asked (map (string_bytes {Z = Global}) c.args.words.now)) (Check (map (string_bytes {Z = Global}) c.in-Some.names.now)) _ _ _ _ _ _
-    (names_asked (map (string_bytes {Z = Global}) c.args.words.now) (Some (map (string_bytes {Z = Global}) c.in-Some.names.now)) (sym c.is_usage.ensures ∙ c.if-is_usage.false) c.in-Some.ensures) c.answer.ensures
+    answered_as (asked (map (string_bytes {Z = Global}) c.args.words.now)) (Check c.in-Some.detail (map (string_bytes {Z = Global}) c.in-Some.names.now)) _ _ _ _ _ _
+    (names_asked (map (string_bytes {Z = Global}) c.args.words.now) (Some (c.in-Some.detail, map (string_bytes {Z = Global}) c.in-Some.names.now)) (sym c.is_usage.ensures ∙ c.if-is_usage.false) c.in-Some.ensures) c.answer.ensures

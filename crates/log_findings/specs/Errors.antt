@@ -1,0 +1,36 @@
+-- Why nothing is reported of a log that has no fault.
+use Rattle.std.specs.Prelude.{◌⊎◌, ◌<◌, ◌≤◌, ◌^◌, ◌-◌, ℕ, List, length, sum}
+use Rattle.log_form.specs.Events.{events_of}
+use Rattle.log_tasks.specs.declared.tasks.LogTasks.{LogTasks}
+use Rattle.log_touches.specs.declared.numbers.RacesError.{RacesError}
+use Rattle.log_touches.specs.declared.numbers.RacesError.TheVariants as races
+use Rattle.log_touches.specs.Strands.{regions_of_events}
+use Rattle.log_touches.specs.below.log_places.{AreOver}
+use Rattle.log_births.specs.declared.find.FindError.{FindError}
+use Rattle.log_births.specs.declared.find.FindError.TheVariants as births
+use Rattle.log_weights.specs.declared.cost.CostError.{CostError}
+use Rattle.log_weights.specs.declared.cost.CostError.TheVariants as costs
+use Rattle.log_weights.specs.Weights.{weights_of}
+use Rattle.log_findings.specs.declared.error.ReportError.{ReportError}
+use Rattle.log_findings.specs.declared.error.ReportError.TheVariants.{TooLong, TooManyStretches, TooMuchWork, NoMemory}
+use Rattle.log_findings.specs.Reported.{order_of}
+
+abbrev pub of_races : RacesError → ReportError
+of_races races.TooLong = TooLong
+of_races races.TooManyStretches = TooManyStretches
+of_races races.NoMemory = NoMemory
+
+abbrev pub of_find : FindError → ReportError
+of_find births.TooLong = TooLong
+of_find births.NoMemory = NoMemory
+
+abbrev pub of_cost : CostError → ReportError
+of_cost costs.TooMuchWork = TooMuchWork
+of_cost costs.NoMemory = NoMemory
+
+-- the log is too large in this way
+abbrev pub IsTooLarge : List (List ℕ) → LogTasks → ReportError → Type 0
+IsTooLarge texts tasks TooLong = (2 ^ 32 < length (order_of tasks)) ⊎ (2 ^ 32 ≤ length (events_of texts))
+IsTooLarge texts tasks TooManyStretches = AreOver (regions_of_events (events_of texts)) (2 ^ 64 - 1)
+IsTooLarge texts tasks TooMuchWork = 2 ^ 64 ≤ sum (weights_of (events_of texts) tasks (order_of tasks))
+IsTooLarge texts tasks NoMemory = Unit {0}

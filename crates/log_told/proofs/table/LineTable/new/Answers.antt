@@ -1,0 +1,12 @@
+use Rattle.std.proofs.Common.{◌∙◌, ℕ, List, ap, map, subst, sym}
+use Rattle.std.specs.Prelude.{Contains}
+use Rattle.std.specs.List.Sorted.{IsStrictlyIncreasing}
+use Rattle.act_lines.specs.ActLines.{act_line}
+use Rattle.log_told.proofs.table.LineTable.new.Goals as goal
+
+pub returns : goal.returns
+returns c = record {
+  ascending = subst (λ (xs : List ℕ). IsStrictlyIncreasing xs) (sym c.from_vec.ensures) c.ascending-numbers.ensures.ascending;
+  lines = c.in_ok-lines.ensures ∙ ap (map (act_line c.args.texts.now)) (c.as_slice.ensures.value ∙ sym c.from_vec.ensures);
+  has = λ n h. subst (λ (xs : List ℕ). Contains xs n) (sym c.from_vec.ensures) (c.ascending-numbers.ensures.kept n h);
+}
