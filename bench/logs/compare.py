@@ -61,6 +61,8 @@ def read_refusal(line):
     if found:
         return int(found[1]), CAUSES[found[2]]
     file, number, cause = REFUSED_LINE.match(line).groups()
+    if cause == "no version" and number != "1":
+        return (int(file) + 1, int(number)), "word"
     return (int(file) + 1, int(number)), CAUSES[cause]
 
 
