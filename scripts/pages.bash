@@ -67,8 +67,10 @@ typed README.md 5 <<'END'
 ./hheap run examples/peeked.hh
 END
 typed README.md 12 <<'END'
-./hheap record examples/peeked.hh > peeked.trace
-./hhview races peeked.trace
+./hheap record examples/peeked.hh > peeked.trace && ./hhview races peeked.trace
+END
+typed README.md 12 <<'END'
+./hhlog check examples/squares.log
 END
 
 usage=docs/USAGE.md
@@ -220,6 +222,16 @@ typed docs/LANGUAGE.md 0 <<'END'
 END
 cmp -s written <(printf '41\nend: done\n') || fail "docs/LANGUAGE.md: other data"
 
+# (the log that the recorder leaves of the page's program)
+printf '%s\n' 'hhlog 1' 's 0 0' '+ 1' '+ 2' 's 1 0' 'w 1 53696 2004 @9700' 'k 501' . 's 0 2' '- 2' '- 1' 'r 1 55696 4 @9802' \
+  'k 1' . end >hhrec.0
+printf '%s\n' 'hhlog 1' 's 2 0' 'w 1 55696 2004 @9700' 'k 501' . end >hhrec.1
+printf '%s\n' 'hhlog 1' '@ 9700 squares.c:7' '@ 9802 squares.c:8' end >hhrec.names
+typed docs/LOGS.md 12 'race 1 55696 4: write squares.c:7 line 1:6, write squares.c:7 line 2:3; locations 4' \
+  'work 1003 span 502 parallelism 2.00' 'end: races 4 reads 0 uses 0 stale 0' <<'END'
+./hhlog check hhrec.*
+END
+
 # The page of options has the ranges and defaults of the table.
 while IFS='|' read -r _ name value least most default _; do
   grep -qF "| \`--$name $value\` | $least to $most | $default |" docs/USAGE.md || fail "docs/USAGE.md has no row of --$name like the table's"
@@ -232,7 +244,7 @@ done >samples
 while IFS= read -r command; do
   HOME=$room bash -c "$command" >written 2>said </dev/null
   is=$?
-  [ "$is" = 0 ] || [[ $is = 12 && $command = *' races '* ]] || [[ $is = 12 && $command = *hhlog* ]] || fail "$command: status $is: $(cat said)"
+  [ "$is" = 0 ] || [[ $is = 12 && $command =~ ' races '|hhlog ]] || fail "$command: status $is: $(cat said)"
 done <samples
 
 # Each piece of a program on these pages stands in an example, which has a stored output, but for indentation. A piece
