@@ -67,7 +67,7 @@ typed README.md 5 <<'END'
 ./hheap run examples/peeked.hh
 END
 typed README.md 12 <<'END'
-./hheap record examples/peeked.hh > peeked.trace && ./hhview races peeked.trace
+./hheap record examples/peeked.hh > peeked.trace; ./hhview races peeked.trace
 END
 typed README.md 12 <<'END'
 ./hhlog check examples/squares.log
