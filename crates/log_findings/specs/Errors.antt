@@ -1,11 +1,10 @@
 -- Why nothing is reported of a log that has no fault.
 use Rattle.std.specs.Prelude.{◌⊎◌, ◌<◌, ◌≤◌, ◌^◌, ◌-◌, ℕ, List, length, sum}
-use Rattle.log_form.specs.Events.{events_of}
-use Rattle.log_tasks.specs.declared.tasks.LogTasks.{LogTasks}
-use Rattle.log_touches.specs.declared.numbers.RacesError.{RacesError}
-use Rattle.log_touches.specs.declared.numbers.RacesError.TheVariants as races
-use Rattle.log_touches.specs.Strands.{regions_of_events}
-use Rattle.log_touches.specs.below.log_places.{AreOver}
+use Rattle.log_left.specs.below.log_form.{events_of}
+use Rattle.log_left.specs.below.log_tasks.{LogTasks}
+use Rattle.log_races.specs.below.log_touches.{RacesError, regions_of_events}
+use Rattle.log_races.specs.below.log_touches as races
+use Rattle.log_races.specs.below.log_places.{AreOver}
 use Rattle.log_births.specs.declared.find.FindError.{FindError}
 use Rattle.log_births.specs.declared.find.FindError.TheVariants as births
 use Rattle.log_weights.specs.declared.cost.CostError.{CostError}

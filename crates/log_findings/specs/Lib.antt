@@ -1,2 +1,3 @@
 pub mod Errors
 pub mod Reported
+pub mod below

@@ -1,26 +1,24 @@
 -- What is reported of a log.
 use Rattle.std.specs.Prelude.{◌≡◌, ℕ, Bool, true, false, Option, Some, None, List, length, map, sum}
 use Rattle.std.specs.List.Sorted.{IsPermutation, IsNonDecreasingBy}
-use Rattle.fork_graph.specs.declared.graph.Strand.{Strand}
-use Rattle.fork_graph.specs.Graph.{tasks_in}
-use Rattle.ancestor_laws.specs.Serial.{serial_order}
-use Rattle.ancestor_laws.specs.Span.{IsSpan}
 use Rattle.log_walk.specs.Value.{WalkValue}
-use Rattle.log_verdict.specs.Verdict.{AreVerdicts}
-use Rattle.log_form.specs.Events.{events_of}
-use Rattle.log_tasks.specs.declared.tasks.LogTasks.{LogTasks}
-use Rattle.race_scan.specs.declared.cells.FoundRace.{FoundRace}
+use Rattle.log_races.specs.below.log_verdict.{AreVerdicts}
 use Rattle.log_races.specs.Touches.{touches_of}
 use Rattle.log_births.specs.declared.findings.Findings.{Findings}
 use Rattle.log_births.specs.Findings.{AreFindings}
 use Rattle.log_weights.specs.declared.cost.Cost.{Cost}
 use Rattle.log_weights.specs.Weights.{weight_of, weights_of}
+use Rattle.log_weights.specs.below.ancestor_laws.{IsSpan, serial_order}
 use Rattle.log_left.specs.Left.{HasLeftOut}
+use Rattle.log_left.specs.below.fork_graph.{Strand, tasks_in}
+use Rattle.log_left.specs.below.log_form.{events_of}
+use Rattle.log_left.specs.below.log_tasks.{LogTasks}
 use Rattle.log_report.specs.declared.told.ToldRace.{ToldRace}
 use Rattle.log_report.specs.declared.told.Report.{Report}
 use Rattle.log_report.specs.Told.{place_of}
 use Rattle.log_told.specs.declared.telling.ToldFindings.{ToldFindings}
 use Rattle.log_told.specs.Told.{told_findings}
+use Rattle.log_told.specs.below.race_scan.{FoundRace}
 
 -- the strands of a log's graph in their serial order
 abbrev pub order_of : LogTasks → List Strand

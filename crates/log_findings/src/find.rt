@@ -1,22 +1,19 @@
 // Finds what is reported of a log.
 
 ghost use Rattle.std.specs.Prelude.{◌≡◌, None, IfOk, IfErr};
-ghost use Rattle.fork_graph.specs.declared.fault.Extent.{Extent};
-ghost use Rattle.log_form.specs.Events.{events_of};
-ghost use Rattle.log_form.specs.Faults.{log_fault};
-ghost use Rattle.log_pieces.specs.Pieces.{events_of_pieces};
-ghost use Rattle.log_tasks.specs.Log.{IsLog};
+ghost use Rattle.log_left.specs.below.fork_graph.{Extent};
+ghost use Rattle.log_left.specs.below.log_form.{events_of, log_fault};
+ghost use Rattle.log_left.specs.below.log_pieces.{events_of_pieces};
+ghost use Rattle.log_left.specs.below.log_tasks.{IsLog};
 ghost use Rattle.log_findings.specs.Errors.{IsTooLarge};
 ghost use Rattle.log_findings.specs.Reported.{walk_of, order_of, IsFound, HasCost, IsLeftOutIf, IsReportOf, IsToldInOrder};
 
 use crate::error::ReportError;
 use listed::Listed;
 use log_births::find_uses;
-use log_left::left_out;
-use log_pieces::Piece;
+use log_left::{LogTasks, Piece, left_out};
 use log_races::log_races;
 use log_report::{Report, in_order};
-use log_tasks::LogTasks;
 use log_told::{ToldFindings, tell};
 use log_walk::SerialWalk;
 use log_weights::{Cost, work_and_span};

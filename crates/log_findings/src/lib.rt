@@ -6,3 +6,4 @@ mod find;
 
 pub use error::ReportError;
 pub use find::report_log;
+pub use log_left::Extent;

@@ -1,2 +1,3 @@
 pub mod Touches
 pub mod Limits
+pub mod below

@@ -1,10 +1,5 @@
 -- What is written of a log.
 use Rattle.std.specs.Prelude.{◌≢◌, ◌⊎◌, ℕ, Bool, true, false, Option, Some, None, List, ◌++◌, codes}
-use Rattle.fork_graph.specs.declared.fault.Extent.{Extent}
-use Rattle.fork_graph.specs.declared.fault.Extent.TheVariants.{Whole, Cut}
-use Rattle.log_form.specs.declared.fault.Found.{Found}
-use Rattle.log_form.specs.Events.{events_of, is_cut}
-use Rattle.log_form.specs.Faults.{log_fault}
 use Rattle.log_tasks.specs.declared.fault.TaskFault.{TaskFault}
 use Rattle.log_tasks.specs.declared.tasks.LogTasks.{LogTasks}
 use Rattle.log_tasks.specs.Faults.{IsFirstTaskFault}
@@ -18,6 +13,8 @@ use Rattle.log_findings.specs.declared.error.ReportError.{ReportError}
 use Rattle.log_findings.specs.declared.error.ReportError.TheVariants.{TooLong, TooManyStretches, TooMuchWork, NoMemory}
 use Rattle.log_findings.specs.Errors.{IsTooLarge}
 use Rattle.log_findings.specs.Reported.{IsReportOf}
+use Rattle.log_findings.specs.below.fork_graph.{Cut, Extent, Whole}
+use Rattle.log_findings.specs.below.log_form.{Found, events_of, is_cut, log_fault}
 use Rattle.whole_call.specs.declared.status.AnswerStatus.TheVariants.{Trace}
 use Rattle.whole_call.specs.declared.reply.Reply.{Reply}
 use Rattle.whole_call.specs.Output.{Says}

@@ -1,17 +1,15 @@
 // What is written of a log.
 
 ghost use Rattle.std.specs.Prelude.{◌≡◌, ◌⊎◌, None, IfOk, map, string_bytes};
-ghost use Rattle.log_form.specs.Events.{events_of, is_cut};
-ghost use Rattle.log_form.specs.Faults.{log_fault};
+ghost use Rattle.log_findings.specs.below.log_form.{events_of, is_cut, log_fault};
 ghost use Rattle.log_pieces.specs.Pieces.{events_of_pieces};
 ghost use Rattle.log_tasks.specs.Log.{IsLog};
 ghost use Rattle.log_replies.specs.Shown.{extent_of, log_extent, RefusesSize, Reports, ShowsTasks, ShowsLog};
 
 use crate::report::show_report;
 use crate::size::size_refusal;
-use fork_graph::Extent;
 use listed::Listed;
-use log_findings::{ReportError, report_log};
+use log_findings::{Extent, ReportError, report_log};
 use log_pieces::{CutLog, LogError, Piece, cut_log};
 use log_refusals::{line_refusal, task_refusal};
 use log_report::Detail;

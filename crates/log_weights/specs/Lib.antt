@@ -1,3 +1,4 @@
 pub mod Weights
 pub mod Sums
 pub mod Known
+pub mod below

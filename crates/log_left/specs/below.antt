@@ -1,0 +1,5 @@
+-- What crates above name of the crates below.
+pub mod fork_graph
+pub mod log_form
+pub mod log_pieces
+pub mod log_tasks

@@ -1,0 +1,2 @@
+-- What crates above name of `race_scan`.
+pub use Rattle.race_scan.specs.declared.cells.FoundRace.{FoundRace}
