@@ -160,17 +160,24 @@ def check(program, files, verdict, refused, folder):
         merged = lines
 
 
+def without_releases(data):
+    return b"\n".join(line for line in data.split(b"\n") if not line.startswith(b"f "))
+
+
 def main():
     words = argparse.ArgumentParser()
     words.add_argument("programs", nargs="+")
     words.add_argument("--logs", type=int, default=20000)
     words.add_argument("--seed", type=int, default=0)
+    words.add_argument("--without-releases", action="store_true")
     words = words.parse_args()
     counts = {"refused": 0, "cut": 0, "with a finding": 0}
     differ = 0
     with tempfile.TemporaryDirectory(dir="/dev/shm" if sys.platform == "linux" else None) as folder:
         for seed in range(words.seed, words.seed + words.logs):
             files = random_logs.random_log(random.Random(seed))
+            if words.without_releases:
+                files = [without_releases(data) for data in files]
             verdict = refused = None
             try:
                 verdict = brute.judge(files)
