@@ -62,7 +62,7 @@ impl Counted {
         self.shared.reserve()
     }
 
-    /// No more entries are to be made, since some worker has met want of memory. No other call depends on it, and none
+    /// Makes no more entries: an allocation of some worker has failed. No other call depends on it, and none
     /// changes it.
     pub fn halt(&mut self)
         ensures same { self.new ≡ record self.old { halted = true } }

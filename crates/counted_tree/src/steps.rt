@@ -35,8 +35,8 @@ impl Counted {
         Ok(())
     }
 
-    /// The fresh steps of a part, and its next one, which isn't private, are entered, where that one doesn't give the
-    /// part up. Where it does, or memory is wanting, nothing is, though heaps and sets may have places for more.
+    /// Enters the fresh steps of a part and its next one, which isn't private, if that one doesn't give the part up. If
+    /// it does, or an allocation fails, nothing is entered, though heaps and sets may have spare capacity.
     pub fn ran_lent(&mut self, worker: u32, part: &mut Private) -> Result<Lent, NotEntered>
         requires room { 0 < self.old.journal.room }
         requires fits { Fits self.old worker part.old }
@@ -54,8 +54,8 @@ impl Counted {
         }
     }
 
-    /// The fresh steps of a part are entered with its next one, which gives it up so. Where memory is wanting nothing
-    /// is, though heaps and sets may have places for more.
+    /// Enters the fresh steps of a part together with its next one, which gives the part up in this way. If an
+    /// allocation fails nothing is entered, though heaps and sets may have spare capacity.
     pub fn ran_leaving(
         &mut self,
         worker: u32,

@@ -44,8 +44,8 @@ pub record EntersSteps (w after : SharedValue) (k : ℕ) (p q : Private) (answer
   pub fits : Fits after k q
   pub others : OnOk answer (OthersFit w after k)
 
--- they are entered with its next one, which isn't private, where that one doesn't give the part up. Where it does, or
--- memory is wanting, nothing is, though heaps and sets may have places for more
+-- they are entered with its next one, which isn't private, if that one doesn't give the part up. If it does, or an
+-- allocation fails, nothing is entered, though heaps and sets may have spare capacity
 pub record EntersLent (w after : SharedValue) (k : ℕ) (p q : Private) (answer : Result Lent NotEntered) : Type 0 where
   pub refused : Answers answer (refused w (alone_entry k p))
   pub same : IfErr answer (λ (e : NotEntered). IsUnchanged e w after)

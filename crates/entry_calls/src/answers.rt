@@ -2,12 +2,12 @@
 
 use shared_value::{Moved, Private, Refused};
 
-/// What a task comes to by a step that gives its part up.
+/// The result for a task of a step that gives its part up.
 #[derive(Drop)]
 pub enum Ran {
     /// It waits for two children of these numbers, which are ready.
     Forked { left: u32, right: u32 },
-    /// It has ended, and the parent goes on, which may be taken, where both its children have.
+    /// It has ended; if both children of its parent have, the parent goes on, and may be taken.
     Ended { resumed: Option<u32> },
     /// Its step has ended the run: the task stands before it, and the worker still holds the part.
     Over(Private),
@@ -26,18 +26,18 @@ pub enum Leaving {
     Finishes,
 }
 
-/// What a part that is lent comes to by a step that isn't private.
+/// The result for a lent part of a step that isn't private.
 #[derive(Clone, Copy)]
 pub enum Lent {
     /// Its steps are entered, and its task goes on.
     Goes,
     /// Its steps are entered, and the last of them has ended the run: the task stands before it.
     Over,
-    /// Nothing is entered: its next step gives it up, and so.
+    /// Nothing is entered: its next step gives it up, in this way.
     Leaves(Leaving),
 }
 
-/// Why a leaf collection didn't end, and what copying came to.
+/// Why a leaf collection didn't end, and the result of copying.
 #[derive(Drop)]
 pub struct NotEnded {
     pub cause: Refused,

@@ -46,7 +46,7 @@ pub trait EntryCalls {
         ensures room { OnOk result (0 < (value self.new).journal.room) }
         ensures fit { (k : ℕ) (p : PrivateOf) → Fits (value self.old) k p → Fits (value self.new) k p };
 
-    /// No more entries are to be made, since some worker has met want of memory. No other call depends on it, and none
+    /// Makes no more entries: an allocation of some worker has failed. No other call depends on it, and none
     /// changes it.
     fn halt(&mut self)
         ensures same { value self.new ≡ record (value self.old) { halted = true } }
@@ -66,8 +66,8 @@ pub trait EntryCalls {
         requires pays { Pays (value self.old) (record { worker = worker; kind = Kind.Ran part.old.task part.old.fresh }) }
         ensures { EntersSteps (value self.old) (value self.new) worker part.old part.new result };
 
-    /// The fresh steps of a part, and its next one, which isn't private, are entered, where that one doesn't give the
-    /// part up. Where it does, or memory is wanting, nothing is, though heaps and sets may have places for more.
+    /// Enters the fresh steps of a part and its next one, which isn't private, if that one doesn't give the part up. If
+    /// it does, or an allocation fails, nothing is entered, though heaps and sets may have spare capacity.
     fn ran_lent(&mut self, worker: u32, part: &mut Private) -> Result<Lent, NotEntered>
         requires room { 0 < (value self.old).journal.room }
         requires fits { Fits (value self.old) worker part.old }
@@ -75,8 +75,8 @@ pub trait EntryCalls {
         requires pays { Pays (value self.old) (alone_entry worker part.old) }
         ensures { EntersLent (value self.old) (value self.new) worker part.old part.new result };
 
-    /// The fresh steps of a part are entered with its next one, which gives it up so. Where memory is wanting nothing
-    /// is, though heaps and sets may have places for more.
+    /// Enters the fresh steps of a part together with its next one, which gives the part up in this way. If an
+    /// allocation fails nothing is entered, though heaps and sets may have spare capacity.
     fn ran_leaving(&mut self, worker: u32, part: Private, leaving: Leaving) -> Result<Ran, NotRan>
         requires room { 0 < (value self.old).journal.room }
         requires fits { Fits (value self.old) worker part }
@@ -134,7 +134,7 @@ pub trait EntryCalls {
         requires pays { Pays (value self.old) (record { worker = worker; kind = Kind.Mark t }) }
         ensures { BeginsMarking (value self.old) (value self.new) worker t result };
 
-    /// Up to so many objects more are marked: the answer is how many. It takes no memory.
+    /// Marks up to `n` objects more, and returns how many. It takes no memory.
     fn some(&mut self, worker: u32, t: u32, n: u32) -> Result<u32, Refused>
         requires room { 0 < (value self.old).journal.room }
         requires some { 0 < n }
@@ -176,7 +176,7 @@ pub trait EntryCalls {
     fn ended(&self) -> Option<RunEnd>
         ensures { result ≡ (accounts (value self.now)).end };
 
-    /// Whether some worker has met want of memory.
+    /// Whether an allocation of some worker has failed.
     fn halted(&self) -> bool
         ensures { result ≡ (value self.now).halted };
 

@@ -36,7 +36,7 @@ impl Model for Paced {
     ghost invariant = { λ p. KeepsPaces p.shared p.paces };
 }
 
-/// The shared value behind a pointer. For want of memory it is dropped.
+/// The shared value behind a pointer. If the allocation fails it is dropped.
 pub(crate) fn put_apart(alloc: Global, shared: Counted) -> Result<Apart<Counted>, AllocError>
     ensures { IfOk result (λ s. s ≡ shared) }
 {

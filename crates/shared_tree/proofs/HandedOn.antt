@@ -8,7 +8,7 @@ pub handed_on : {A E : Type 0} → (P : SharedValue → Result A E → Type 0) (
 handed_on P w z same (Ok x) e is h = absurd is
 handed_on P w z same (Err y) e is h = subst (λ (v : SharedValue). P v (Err y)) same (subst (λ q. P w (Err q)) (sym is) h)
 
--- all that is so of want of memory is so of an answer that tells it
+-- all that holds if an allocation fails holds of an answer that reports it
 pub for_memory : {A : Type 0} → (P : Result A NotEntered → Type 0) → P (Err NoMemory) → (r : Result A NotEntered) → IsErrAnd r (λ e. e ≡ NoMemory) → P r
 for_memory P h (Ok x) is = absurd is
 for_memory P h (Err e) is = subst (λ z. P (Err z)) (sym is) h

@@ -1,4 +1,4 @@
--- How other tasks have part in a part's next step, by the line that comes next; what is left where memory is wanting.
+-- How other tasks have part in a part's next step, by the line that comes next; what is left if an allocation fails.
 use Rattle.std.specs.Result.{IfErr, OnErr}
 use Rattle.std.proofs.Common.{◌≡◌, ℕ, Result, Ok, Err, ◌||◌, not, true, Option, Some, None, List, length, slice_get, slice_set, option_map, is_some, refl, ap, sym, subst, ◌∙◌}
 use Rattle.std.specs.Option.{option_flatten}
@@ -105,7 +105,7 @@ same_places w after S =
       sets = S.sets;
     }
 
--- an entry that isn't refused wasn't made for want of memory alone
+-- an entry that isn't refused wasn't made only because an allocation failed
 pub room_unchanged : (w after : SharedValue) (e : NotEntered) → IsCaused e None → SameButRoom w after → IsUnchanged e w after
 room_unchanged w after (Refuses cause) why S = absurd (none_cause why)
   where

@@ -87,8 +87,8 @@ impl Shared {
     }
 
     /// The fresh steps of a part, and its next one, which is the last return of a task that another one forked, are
-    /// entered. The answer is the parent, where both its children have ended: it may be taken then. For want of memory
-    /// nothing changes but the places of the parent's heap and set.
+    /// entered. The answer is the parent if both its children have ended: it may be taken then. If an allocation fails
+    /// nothing changes but the spare capacity of the parent's heap and set.
     pub(crate) fn ran_ending(&mut self, worker: u32, part: Private) -> Result<Option<u32>, NotRan>
         requires room { 0 < self.old.journal.room }
         requires fits { Fits self.old worker part }

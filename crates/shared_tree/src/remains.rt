@@ -53,7 +53,7 @@ impl Remains {
         self.end
     }
 
-    /// Whether some worker has met want of memory.
+    /// Whether an allocation of some worker has failed.
     pub fn halted(&self) -> bool
         ensures { result ≡ self.now.halted }
     {

@@ -18,7 +18,7 @@ use Rattle.turn_entries.proofs.Stepping.{first}
 
 -- ---- CAUSES
 
--- what isn't refused fails for want of memory alone
+-- what isn't refused fails only if an allocation does
 pub only_memory : (e : NotEntered) (why : Option Refused) → why ≡ None → IsCaused e why → e ≡ NoMemory
 only_memory (Refuses cause) why none h = not_refused why cause none h
 only_memory NoMemory why none h = refl

@@ -80,7 +80,7 @@ module _ {P : Type 0} (value : P → SharedValue) where
   EndsEntered after next acted = (w : SharedValue) (k : ℕ) (ready : Ready) (kind : Kind) → EntersOne w after k kind → w.halted ≡ false → (Goes after → Follows w after k ready next)
       → ActsFor w k ready (Some kind) acted
 
-  -- none was made for want of memory
+  -- none was made, since an allocation failed
   abbrev pub EndsHalted : SharedValue → Acted P → Type 0
   EndsHalted after acted = (w : SharedValue) (k : ℕ) (ready : Ready) (kind : Option Kind) → IsSame w after → is_over w ≡ false → ActsFor w k ready kind acted
 

@@ -24,7 +24,7 @@ paused_kind w part Spent = Ran part.task part.fresh
 paused_kind w part Due = after_steps part (due_kind w part.task)
 paused_kind w part NeedChunk = after_steps part (Chunk part.task)
 
--- the entry that a worker comes for; none where it has found no task, or comes for want of memory
+-- the entry that a worker comes for; none if it has found no task, or an allocation has failed
 abbrev pub brought_kind : SharedValue → Ready → Option Kind
 brought_kind w (HasPaused part why) = Some (paused_kind w part why)
 brought_kind w (IsCopied c) = Some (End c.part.task c.moved.taken c.moved.given c.moved.left)

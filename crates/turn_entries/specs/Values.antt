@@ -12,7 +12,7 @@ use Rattle.turn_entries.specs.declared.run.Setup.{Setup}
 abbrev pub worker_of : EntryValue → ℕ
 worker_of e = e.worker
 
--- no more entries are made: the run has ended, or some worker has met want of memory
+-- no more entries are made: the run has ended, or an allocation of some worker has failed
 abbrev pub is_over : SharedValue → Bool
 is_over w = w.halted || is_some (accounts w).end
 

@@ -44,7 +44,7 @@ impl<P: EntryCalls + Drop> Run<P> {
         Acted::Same(run, Next::Stop)
     }
 
-    // No entry was made, which can be for want of memory alone.
+    // No entry was made: the only possible cause is a failed allocation.
     pub(crate) fn wanting(self, cause: NotEntered) -> Acted<P>
         requires { cause ≡ NotEntered.NoMemory }
         ensures { EndsHalted P.value (P.value self.paced) result }

@@ -37,7 +37,7 @@ pub enum Ready {
 }
 
 impl Ready {
-    /// Whether it comes for want of memory.
+    /// Whether it comes because an allocation has failed.
     pub(crate) fn is_wanting(&self) -> bool
         ensures { result ≡ is_wanting self.now }
     {

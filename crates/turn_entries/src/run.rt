@@ -56,7 +56,7 @@ impl<P: EntryCalls + Drop> Run<P> {
         self.paced.entries();
     }
 
-    /// Whether entries may be made: the run hasn't ended, and no worker has met want of memory.
+    /// Whether entries may be made: the run hasn't ended, and no worker's allocation has failed.
     pub fn goes_on(&self) -> bool
         ensures { result ≡ not (is_over (P.value self.now.paced)) }
     {

@@ -76,7 +76,7 @@ impl<P: EntryCalls + Drop> Run<P> {
         }
     }
 
-    // The fresh steps of the part are entered with its next one, which gives it up so.
+    // Enters the fresh steps of the part together with its next one, which gives the part up in this way.
     fn ran_in(self, worker: u32, part: Private, leaving: Leaving) -> Acted<P>
         requires enter { MayEnter (P.value self.paced) worker OwedOf.Nothing }
         requires paused { IsPaused (P.value self.paced) worker part Paused.Shared }

@@ -95,14 +95,14 @@ Looks k old new (IsCopied c) = ⊥
 Looks k old new (Found o) = Finds k old new o
 Looks k old new Wanting = ⊥
 
--- it has put both children of its fork, and looked; or has met want of memory
+-- it has put both children of its fork, and looked; or an allocation has failed
 abbrev pub SharesBoth : ℕ → ℕ → ℕ → Hand → Hand → Ready → Type 0
 SharesBoth k left right old new (HasPaused part why) = ⊥
 SharesBoth k left right old new (IsCopied c) = ⊥
 SharesBoth k left right old new (Found o) = (between : Hand) × PutsBoth old between left right × Finds k between new o
 SharesBoth k left right old new Wanting = PutsFewer old new right
 
--- it has put the task that runs again, and looked; or has met want of memory
+-- it has put the task that runs again, and looked; or an allocation has failed
 abbrev pub Shares : ℕ → ℕ → Hand → Hand → Ready → Type 0
 Shares k task old new (HasPaused part why) = ⊥
 Shares k task old new (IsCopied c) = ⊥

@@ -25,7 +25,7 @@ pub(crate) fn find<R: Wait>(rt: &R, hand: &mut Hand, worker: u32) -> Option<u32>
     None
 }
 
-/// Puts a task on the own deque. For want of memory the hand is as before.
+/// Puts a task on the own deque. If an allocation fails the hand is as before.
 pub(crate) fn put(hand: &mut Hand, task: u32) -> Result<(), AllocError>
     ensures ok { OnOk result (Puts hand.old hand.new task) }
     ensures err { IfErr result (λ _. KeepsHand hand.old hand.new) }
@@ -34,7 +34,7 @@ pub(crate) fn put(hand: &mut Hand, task: u32) -> Result<(), AllocError>
     Ok(())
 }
 
-/// Puts both children of a fork on the own deque, the left one on top. Where memory is wanting the right one may have
+/// Puts both children of a fork on the own deque, the left one on top. If an allocation fails the right one may have
 /// been put.
 pub(crate) fn put_both(hand: &mut Hand, left: u32, right: u32) -> Result<(), AllocError>
     ensures ok { OnOk result (PutsBoth hand.old hand.new left right) }

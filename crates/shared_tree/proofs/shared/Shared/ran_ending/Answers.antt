@@ -11,7 +11,7 @@ use Rattle.child_tasks.proofs.NextStepForks.{few_tasks}
 use Rattle.child_tasks.proofs.JoinPlaces.{places_ends, places_fit, places_same, same_world}
 use Rattle.shared_tree.proofs.shared.Shared.ran_ending.Goals as goal
 
--- where nothing has changed for want of memory, no place was made either
+-- if nothing has changed since an allocation failed, no place was made either
 unchanged : (w after : SharedValue) (r : Result (Option ℕ) NotRan) → IfErr r (λ e. e.cause ≡ NoMemory) → OnErr r (after ≡ w) → IfErr r (λ e. IsUnchanged e.cause w after)
 unchanged w after (Ok x) m e = m
 unchanged w after (Err x) m e = subst (λ c. IsUnchanged c w after) (sym m) (subst (SameButPlaces w) (sym e) (same_world w))
