@@ -103,7 +103,7 @@ options_in() {
 read_commands_of_traces() {
   case $crate in
     hheap) commands=(replay model races image) limited=record ;;
-    hhview) commands=(page timeline tasks schedules races) limited=timeline ;;
+    hhview) commands=(page timeline tasks schedules races log) limited=timeline ;;
   esac
 }
 

@@ -4,7 +4,7 @@
 set -u
 top=$(dirname "$(dirname "$(realpath "${BASH_SOURCE[0]}")")") || exit 1
 if [ ! -x "${1-}" ] || [ ! -x "${2-}" ] || [ ! -x "${3-}" ]; then
-  echo "usage: scripts/pages.bash HHEAP HHVIEW HHLOG, three built programs" >&2
+  echo "usage: bash scripts/pages.bash HHEAP HHVIEW HHLOG, three built programs" >&2
   exit 1
 fi
 hheap=$(realpath "$1")
@@ -176,6 +176,12 @@ typed docs/RACES.md 12 'lines 14 and 8: 1 field' '  14: putr r0 i0 r2' '  8: cas
 ./hheap record examples/spin_lock.hh > lock.trace
 ./hhview races lock.trace
 END
+typed docs/RACES.md 12 'race 1 0 1: write left:9 line 1:16, read right:14 line 1:22; locations 1' \
+  'entangled read 1000000001: read right:14 line 1:22, born line 1:15; lines 1' \
+  'work 11 span 9 parallelism 1.22' 'end: races 1 reads 1 uses 0 stale 0 cut 0' <<'END'
+./hhview log examples/race.trace > race.log
+./hhlog check race.log
+END
 typed docs/IMAGES.md 0 'end: verified 2' <<'END'
 ./hheap verify examples/two_objects.image
 END
@@ -231,6 +237,13 @@ typed docs/LOGS.md 12 'race 1 55696 4: write squares.c:7 line 1:6, write squares
   'work 1003 span 502 parallelism 2.00' 'end: races 4 reads 0 uses 0 stale 0' <<'END'
 ./hhlog check hhrec.*
 END
+typed docs/LOGS.md 12 'race 1 0 1: write add_one:14 line 1:26, atomic write add_one:8 line 1:32; locations 1' \
+  'race 1 1 1: write add_one:13 line 1:23, read add_one:10 line 1:35; locations 1' \
+  'work 29 span 19 parallelism 1.53' 'end: races 2 reads 0 uses 0 stale 0' <<'END'
+./hheap record examples/spin_lock.hh > lock.trace
+./hhview log lock.trace > lock.log
+./hhlog check lock.log
+END
 
 # The page of options has the ranges and defaults of the table.
 while IFS='|' read -r _ name value least most default _; do
@@ -278,7 +291,7 @@ plainer='want of memory|memory (is|was|were) wanting|hand(s|ed)? (it |them |that
 plainer+='|\bcomes? of it|an (end|answer) of its own|exactly where|in no order|behind (an|the|each|that) entry|that many'
 plainer+='|so many (words|bytes|entries|tasks|chunks|steps)|words of a call|without looking at|no time to speak of'
 plainer+='|no place has it|such a one|what is said of'
-plainer+='|for want of|(is|are) told\b|\btells? (a|the|of|all)\b|\bamid\b|the last value stays'
+plainer+='|for want of|(is|are) told\b|\btells? (a|the|of|all)\b|\bamid\b|the last value stays|\b(desk|bell)s?\b'
 for page in README.md docs/*.md; do
   # shellcheck disable=SC2016
   sed '/^    /d; s/`[^`]*`//g' "$page" | grep -niE -e "$plainer" | sed "s|^|$page: |"

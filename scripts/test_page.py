@@ -7,9 +7,12 @@ HHEAP and HHVIEW are the built programs. Of each example's page, of a run with l
 numbers with 5,000 entries (each eleventh of them): no script fails and nothing is asked of a network, at any entry,
 forwards and backwards; each state is the same on the way back; keys, the search and links to entries lead where they
 say; and at each tenth entry after a `ran`, where the trace is cut, the tasks, the objects at rest with their fields,
-the chunks with what lies in each, and the remembered fields are those of `hheap image`. An entry takes 200 bytes at
-most on the examples' mean. Without a browser the test is left out, which a line says.
+the chunks with what lies in each, and the remembered fields are those of `hheap image`. An image doesn't have what tasks
+hold: from the roots on the page, and the fields of objects above, just those objects of a heap are reached that its leaf
+collection keeps, and just those of which its marking is. An entry takes 200 bytes at most on the examples' mean. Without
+a browser the test is left out, which a line says.
 """
+import json
 import os
 import subprocess
 import sys
@@ -59,15 +62,19 @@ end
 LONG = 'sort of 330'
 LONG_OPTIONS = ['--workers', '4', '--chunks', '65536']
 LONG_CUTS = 12
+MOST_COLLECTIONS = 40
 LONG_STRIDE = 11
 STATE = '''(() => { const S = hh.state; return {
   tasks: [...S.tasks.values()].filter(x => x.state !== 'joined').map(x => [String(x.t), x.state]),
+  parents: [...S.tasks.values()].map(x => [x.t, x.parent]),
+  roots: [...S.tasks.values()].map(x => [x.t, x.holds]),
   objects: [...S.objs.values()].map(o => [o.n, [hh.ownerOf(o.n), o.m, o.R, o.I, o.f]]),
   chunks: [...S.heaps].map(([t, h]) => [String(t), hh.chunksOf(t)]),
   noted: [...S.noted.values()] }; })()'''
 DIGEST = '''JSON.stringify(Object.values(hh.state).map(m => [...m.entries()].sort((a, b) => String(a[0]) < String(b[0]) ? -1 : 1)))'''
 BAD = '''(() => { const bad = [], S = hh.state, said = document.getElementById('said').textContent;
   for (const el of document.querySelectorAll('#stage .obj')) if (!S.objs.has(el.dataset.o)) bad.push('card ' + el.dataset.o);
+  for (const x of S.tasks.values()) for (const n of x.holds) if (!S.objs.has(n)) bad.push('root ' + n);
   for (const el of document.querySelectorAll('#arrows path')) if (/NaN|undefined/.test(el.getAttribute('d'))) bad.push('arrow');
   if (!said || /undefined|NaN|null/.test(said)) bad.push(said);
   if (/undefined|NaN/.test(document.getElementById('stage').textContent)) bad.push('stage');
@@ -178,6 +185,45 @@ def same_as_image(page, hheap, program, trace, options, at):
     assert at_rest == set(objects), (at, at_rest ^ set(objects))
 
 
+def reached(told, t):
+    """What is reached within the heap of a task from its roots, and from what objects above it refer to."""
+    parents, roots, objects = dict(told['parents']), dict(told['roots']), dict(told['objects'])
+    above, at = set(), parents[t]
+    while at is not None:
+        above.add(at)
+        at = parents[at]
+    starts = [*roots[t]] + [v for o in objects.values() if o[0] in above for v in o[4][:o[2]] if v]
+    met, todo = set(), starts
+    while todo:
+        name = todo.pop()
+        if name not in met and objects[name][0] == t:
+            met.add(name)
+            todo += [v for v in objects[name][4][:objects[name][2]] if v]
+    return met
+
+
+def kept(entries):
+    """Of each leaf collection and each marking: after which entry its objects were found, the task, and the objects."""
+    forks, found = {}, []
+    for i, entry in enumerate(entries):
+        for made in entry.get('made', []):
+            forks[made[1]] = i
+        if 'take' in entry:
+            found.append((i - 1, entry['take'][0], entry['take'][2]))
+        if 'snap' in entry:
+            found.append((forks[entry['snap'][0]], *entry['snap']))
+    return found
+
+
+def same_as_kept(page, entries):
+    found = kept(entries)
+    for at, t, names in found[::len(found) // MOST_COLLECTIONS + 1]:
+        page.run(f'hh.go({at})')
+        here = reached(page.run(STATE), t)
+        assert here == set(names), (at, t, here ^ set(names))
+    return len(found)
+
+
 def walk(page, count, stride):
     """Forwards and backwards through the entries, a few at a time."""
     places, bad = list(range(0, count + 1, stride)), []
@@ -229,11 +275,14 @@ def test(page, hheap, hhview, example, room):
     leads(page, count)
     for at in cuts(example, trace):
         same_as_image(page, hheap, program, trace, options, at)
+    start = written.index(b' id="run">') + len(b' id="run">')
+    collections = same_as_kept(page, json.loads(written[start:written.index(b'</script>', start)])['entries'])
     assert not page.faults(), page.faults()
     assert all(url.startswith(('file://', 'about:')) for url in page.asked()), page.asked()
     data = written[written.index(b'"entries":'):written.index(b'\n"end":')]
     print(f'{example}: {count} entries, {len(written)} bytes, {len(data) / count:.0f} an entry; '
-          f'opened in {opened:.2f} s, half of the steps in {step:.0f} ms; {time.time() - began:.1f} s in all', flush=True)
+          f'{collections} collections; opened in {opened:.2f} s, half of the steps in {step:.0f} ms; '
+          f'{time.time() - began:.1f} s in all', flush=True)
     return len(data) / count
 
 

@@ -56,6 +56,11 @@ find_fault() {
   [ -n "$fault" ] || fault=$*
 }
 
+# Whether an option takes one number or more.
+takes_numbers() {
+  [[ ${value_of[$1]} = *.. ]]
+}
+
 # Whether an option takes a text.
 takes_text() {
   [[ -n ${value_of[$1]} && -z ${least_of[$1]} ]]
@@ -102,8 +107,19 @@ read_text_option() {
   fi
 }
 
-# Reads an option; `set_before` has those before it. The third argument is the next word, which may be its number;
-# `taken` is set to how many words it takes.
+# Reads an option that takes one number or more, which are the next words: numbers as they are in a log.
+read_numbers_option() {
+  local name=$1
+  shift 2
+  while [[ ${1-} =~ ^(0|[1-9][0-9]{0,17})$ ]]; do
+    taken=$((taken + 1))
+    shift
+  done
+  [ "$taken" != 1 ] || find_fault "--$name takes numbers below 10^18, each a word, and none follows"
+}
+
+# Reads an option; `set_before` has those before it. From the third argument on stand the next words, which may be its
+# numbers; `taken` is set to how many words it takes.
 read_option() {
   local command=$1 word=$2 name=${2#--} number
   name=${name%%=*}
@@ -116,6 +132,10 @@ read_option() {
   set_before[$name]=1
   if [ -z "${value_of[$name]}" ]; then
     [ "$word" = "--$name" ] || find_fault "--$name takes no value, and '${word#*=}' is one"
+    return
+  fi
+  if takes_numbers "$name"; then
+    read_numbers_option "$name" "${@:2}"
     return
   fi
   if takes_text "$name"; then
@@ -134,10 +154,16 @@ read_option() {
   is_in_range "$name" "$number" || find_fault "--$name takes $(range_of "$name"), and '$number' is none"
 }
 
-# Of a command that takes one file or more: none is standard input, and options stand before them.
+# Of a command that takes one file or more: none is standard input, and they stand side by side.
 check_files() {
+  local word
+  local -a words=()
+  for word in "${passed[@]}"; do
+    [ "$word" = -- ] || words+=("$word")
+  done
+  passed=("${words[@]}")
   [[ " ${operands[*]} " != *' - '* ]] || find_fault "$1 reads files, and - is standard input"
-  passed=("$1" "${settings[@]}" "${operands[@]}")
+  [[ " ${passed[*]} " = *" ${operands[*]} "* ]] || find_fault "the files stand side by side, and options before or behind them"
 }
 
 # Says which operand is wrong, missing or extra.
@@ -180,7 +206,7 @@ read_words() {
         taken=$#
         ;;
       --*)
-        read_option "$command" "${@:1:2}"
+        read_option "$command" "$@"
         settings+=("${@:1:taken}")
         ;;
       -?*) find_fault "$word is no option: options begin with --" ;;

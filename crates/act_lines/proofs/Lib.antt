@@ -1,3 +1,4 @@
 pub mod Searching
 pub mod Lines
 pub mod Saying
+mod Common

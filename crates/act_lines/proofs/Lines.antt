@@ -1,14 +1,5 @@
 -- The lines of a text that are acts, one after the other.
-use Rattle.std.proofs.Common.{◌≡◌, ◌<◌, ◌+◌, ◌++◌, ◌∷◌, ◌∙◌, ℕ, false, Option, Some, None, List, [], length, drop, get_or, refl, sym, ap, subst}
-use Rattle.std.specs.Prelude.{MatchOption}
-use Rattle.std.proofs.lemmas.Bool.{false≢true}
-use Rattle.std.proofs.lemmas.List.{append_assoc, append-nil, drop_more}
-use Rattle.text_lines.specs.Lines.{lines_of, is_last}
-use Rattle.text_lines.proofs.Last.{some_line}
-use Rattle.log_lines.specs.Grammar.{line_of}
-use Rattle.log_form.specs.Text.{lines_in, all_but_last}
-use Rattle.act_lines.specs.declared.line.ActLine.{ActLine}
-use Rattle.act_lines.specs.ActLines.{act_line_at, act_lines_from, act_lines_behind}
+use Rattle.act_lines.proofs.Common.{◌≡◌, ◌<◌, ◌+◌, ◌++◌, ◌∷◌, ◌∙◌, ℕ, false, Option, Some, None, List, [], length, drop, get_or, refl, sym, ap, subst, MatchOption, false≢true, append_assoc, append-nil, drop_more, lines_of, is_last, some_line, line_of, lines_in, all_but_last, ActLine, act_line_at, act_lines_from, act_lines_behind}
 
 but_last : (line : List ℕ) (ls : List (List ℕ)) → is_last ls ≡ false → all_but_last (line ∷ ls) ≡ line ∷ all_but_last ls
 but_last line [] e = absurd (false≢true (sym e))

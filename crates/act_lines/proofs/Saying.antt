@@ -1,24 +1,8 @@
 -- In a log without a faulty line, the lines of acts say what happens.
-use Rattle.std.proofs.Common.{◌≡◌, ◌+◌, ◌++◌, ◌∷◌, ◌∙◌, ℕ, Bool, true, false, Option, Some, None, Result, Ok, Err, List, [], map, refl, sym, ap}
-use Rattle.std.proofs.lemmas.List.{append_assoc, append-nil, map-append}
-use Rattle.listed.proofs.Options.{some_none}
-use Rattle.log_lines.specs.declared.cause.Cause.{Cause}
-use Rattle.log_lines.specs.declared.cause.Cause.TheVariants as causes
-use Rattle.log_lines.specs.declared.line.Act.{Act}
-use Rattle.log_lines.specs.declared.line.Line.{Line}
-use Rattle.log_lines.specs.declared.line.Line.TheVariants as lines
-use Rattle.log_lines.specs.Grammar.{line_of}
-use Rattle.fork_graph.specs.declared.graph.Strand.{Strand}
-use Rattle.log_form.specs.declared.fault.Fault.{Fault}
-use Rattle.log_form.specs.declared.fault.Fault.TheVariants as faults
-use Rattle.log_form.specs.declared.fault.Found.{Found}
-use Rattle.log_form.specs.declared.fault.Position.{Position}
-use Rattle.log_form.specs.Text.{lines_in}
-use Rattle.log_form.specs.Events.{Event, Spot, event, spot_behind_act, spot_behind_said, spot_behind_all, file_begin, file_end, events_behind}
-use Rattle.log_form.specs.Faults.{where_true, act_fault, said_fault, line_fault, first_fault, found_at, fault_from, fault_of_lines, or_later, fault_behind}
-use Rattle.act_lines.specs.declared.line.ActLine.{ActLine}
-use Rattle.act_lines.specs.ActLines.{act_line_at, act_lines_from, act_lines_behind}
-use Rattle.act_lines.specs.Laws.{LinesSayWhatHappens}
+use Rattle.act_lines.proofs.Common.{◌≡◌, ◌+◌, ◌++◌, ◌∷◌, ◌∙◌, ℕ, Bool, true, false, Option, Some, None, Result, Ok, Err, List, [], map, refl, sym, ap, append_assoc, append-nil, map-append, some_none, LogCause, Act, LogLine, line_of, GraphStrand, LogFault, LocatedFault, LogPosition, lines_in, Event, Spot, event, spot_behind_act, spot_behind_said, spot_behind_all, file_begin, file_end, events_behind, where_true, act_fault, said_fault, line_fault, first_fault, found_at, fault_from, fault_of_lines, or_later, fault_behind, ActLine, act_line_at, act_lines_from, act_lines_behind, LinesSayWhatHappens}
+use Rattle.log_lines.specs.declared.cause.LogCause.TheVariants as causes
+use Rattle.log_lines.specs.declared.line.LogLine.TheVariants as lines
+use Rattle.log_form.specs.declared.fault.LogFault.TheVariants as faults
 
 abbrev acts_told : List ActLine → List Act
 acts_told ls = map (λ l. l.act) ls
@@ -28,25 +12,25 @@ acts_done es = map (λ e. e.act) es
 
 -- NO FAULT
 
-no_found : (file line : ℕ) (fault : Option Fault) (later : Option Found) → found_at file line fault later ≡ None → (fault ≡ None) × (later ≡ None)
+no_found : (file line : ℕ) (fault : Option LogFault) (later : Option LocatedFault) → found_at file line fault later ≡ None → (fault ≡ None) × (later ≡ None)
 no_found file line None later e = (refl, e)
 no_found file line (Some fault) later e = some_none e
 
-not_where : (b : Bool) (fault : Fault) (otherwise : Option Fault) → where_true b fault otherwise ≡ None → otherwise ≡ None
+not_where : (b : Bool) (fault : LogFault) (otherwise : Option LogFault) → where_true b fault otherwise ≡ None → otherwise ≡ None
 not_where true fault otherwise e = some_none e
 not_where false fault otherwise e = e
 
-no_later : (first later : Option Found) → or_later first later ≡ None → (first ≡ None) × (later ≡ None)
+no_later : (first later : Option LocatedFault) → or_later first later ≡ None → (first ≡ None) × (later ≡ None)
 no_later None later e = (refl, e)
 no_later (Some found) later e = some_none e
 
 -- ONE LINE
 
-one_act : (spot : Spot) (here : Option Strand) (act : Act) → act_fault spot.events here act ≡ None → acts_done (spot_behind_act spot here act).events ≡ acts_done spot.events ++ act ∷ []
+one_act : (spot : Spot) (here : Option GraphStrand) (act : Act) → act_fault spot.events here act ≡ None → acts_done (spot_behind_act spot here act).events ≡ acts_done spot.events ++ act ∷ []
 one_act spot None act e = some_none e
 one_act spot (Some u) act e = map-append (λ (x : Event). x.act) spot.events (event u act ∷ [])
 
-one_said : (spot : Spot) (at : Position) (said : Result Line Cause) → said_fault spot said ≡ None → acts_done (spot_behind_said spot said).events ≡ acts_done spot.events ++ acts_told (act_line_at at said)
+one_said : (spot : Spot) (at : LogPosition) (said : Result LogLine LogCause) → said_fault spot said ≡ None → acts_done (spot_behind_said spot said).events ≡ acts_done spot.events ++ acts_told (act_line_at at said)
 one_said spot at (Ok lines.Version) e = some_none e
 one_said spot at (Ok (lines.Strand t i)) e = sym (append-nil (acts_done spot.events))
 one_said spot at (Ok (lines.Act act)) e = one_act spot spot.here act e
@@ -60,7 +44,7 @@ one_said spot at (Err cause) e = some_none e
 all_said : (file : ℕ) (spot : Spot) (line : ℕ) (ls : List (List ℕ)) → fault_from file spot line ls ≡ None → acts_done (spot_behind_all spot ls).events ≡ acts_done spot.events ++ acts_told (act_lines_from file line ls)
 all_said file spot line [] e = sym (append-nil (acts_done spot.events))
 all_said file spot line (l ∷ ls) e =
-    let at : Position = record { file = file; line = line } in
+    let at : LogPosition = record { file = file; line = line } in
     let f = no_found file line (line_fault spot (line_of l)) (fault_from file (spot_behind_said spot (line_of l)) (line + 1) ls) e in
     all_said file (spot_behind_said spot (line_of l)) (line + 1) ls f.1
     ∙ (ap (λ xs. xs ++ acts_told (act_lines_from file (line + 1) ls)) (one_said spot at (line_of l) (not_where spot.closed faults.AfterEnd (said_fault spot (line_of l)) f.0))
@@ -68,7 +52,7 @@ all_said file spot line (l ∷ ls) e =
     ∙ ap (λ xs. acts_done spot.events ++ xs) (sym (map-append (λ (x : ActLine). x.act) (act_line_at at (line_of l)) (act_lines_from file (line + 1) ls)))))
 
 -- the first line of a file is its version, which is no act
-is_version : (spot : Spot) (at : Position) (said : Result Line Cause) → first_fault said ≡ None → (spot_behind_said spot said ≡ spot) × (act_line_at at said ≡ [])
+is_version : (spot : Spot) (at : LogPosition) (said : Result LogLine LogCause) → first_fault said ≡ None → (spot_behind_said spot said ≡ spot) × (act_line_at at said ≡ [])
 is_version spot at (Ok lines.Version) e = (refl, refl)
 is_version spot at (Ok (lines.Strand t i)) e = some_none e
 is_version spot at (Ok (lines.Act act)) e = some_none e
@@ -85,7 +69,7 @@ is_version spot at (Err causes.UnknownVersion) e = some_none e
 file_said : (file : ℕ) (before : List Event) (ls : List (List ℕ)) → fault_of_lines file before ls ≡ None → acts_done (spot_behind_all (file_begin before) ls).events ≡ acts_done before ++ acts_told (act_lines_from file 1 ls)
 file_said file before [] e = some_none e
 file_said file before (l ∷ ls) e =
-    let at : Position = record { file = file; line = 1 } in
+    let at : LogPosition = record { file = file; line = 1 } in
     let f = no_found file 1 (first_fault (line_of l)) (fault_from file (file_begin before) 2 ls) e in
     let v = is_version (file_begin before) at (line_of l) f.0 in
     ap (λ (s : Spot). acts_done (spot_behind_all s ls).events) v.0

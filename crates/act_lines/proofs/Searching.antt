@@ -1,15 +1,5 @@
 -- A search goes on, line by line.
-use Rattle.std.proofs.Common.{◌≡◌, ◌<◌, ◌≤◌, ◌+◌, ◌++◌, ◌∷◌, ◌∙◌, ℕ, suc, Option, Some, None, List, [], map, length, slice_get, get_or, inl, inr, refl, sym, ap, arith}
-use Rattle.std.specs.List.Sorted.{IsStrictlyIncreasing}
-use Rattle.std.proofs.lemmas.Bool.{cases_lt}
-use Rattle.std.proofs.lemmas.List.{length-append}
-use Rattle.std.proofs.lemmas.List.Kept.{AllPairs-from_increasing}
-use Rattle.std.proofs.lemmas.Option.{same_Some, get_or_from_slice_get}
-use Rattle.listed.proofs.Members.{got_within, got_past, got_front}
-use Rattle.listed.proofs.Places.{got_last, got_none}
-use Rattle.act_lines.specs.declared.line.ActLine.{ActLine}
-use Rattle.act_lines.specs.declared.find.Search.{Search}
-use Rattle.act_lines.specs.Search.{HasFound, IsSearch}
+use Rattle.act_lines.proofs.Common.{◌≡◌, ◌<◌, ◌≤◌, ◌+◌, ◌++◌, ◌∷◌, ◌∙◌, ℕ, suc, Option, Some, None, List, [], map, length, slice_get, get_or, inl, inr, refl, sym, ap, arith, IsStrictlyIncreasing, cases_lt, length-append, AllPairs-from_increasing, same_Some, get_or_from_slice_get, got_within, got_past, got_front, got_last, got_none, ActLine, Search, HasFound, IsSearch}
 
 length_more : {A : Type 0} (xs : List A) (x : A) → length (xs ++ x ∷ []) ≡ length xs + 1
 length_more xs x = length-append xs (x ∷ [])

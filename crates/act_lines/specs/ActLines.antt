@@ -1,12 +1,12 @@
 -- The lines of a log that are acts, in the order of its files and their lines.
 use Rattle.std.specs.Prelude.{◌+◌, ℕ, Option, None, Result, Ok, Err, List, [], ◌∷◌, ◌++◌, slice_get}
-use Rattle.log_lines.specs.declared.cause.Cause.{Cause}
+use Rattle.log_lines.specs.declared.cause.LogCause.{LogCause}
 use Rattle.log_lines.specs.declared.line.Act.{Act}
 use Rattle.log_lines.specs.declared.line.Act.TheVariants as acts
-use Rattle.log_lines.specs.declared.line.Line.{Line}
-use Rattle.log_lines.specs.declared.line.Line.TheVariants as lines
+use Rattle.log_lines.specs.declared.line.LogLine.{LogLine}
+use Rattle.log_lines.specs.declared.line.LogLine.TheVariants as lines
 use Rattle.log_lines.specs.Grammar.{line_of}
-use Rattle.log_form.specs.declared.fault.Position.{Position}
+use Rattle.log_form.specs.declared.fault.LogPosition.{LogPosition}
 use Rattle.log_form.specs.Text.{lines_in}
 use Rattle.act_lines.specs.declared.line.ActLine.{ActLine}
 
@@ -17,7 +17,7 @@ site_of (acts.Store r) = r.site
 site_of _ = None
 
 -- a line that stands here, if it is an act
-abbrev pub act_line_at : Position → Result Line Cause → List ActLine
+abbrev pub act_line_at : LogPosition → Result LogLine LogCause → List ActLine
 act_line_at at (Ok lines.Version) = []
 act_line_at at (Ok (lines.Strand t i)) = []
 act_line_at at (Ok (lines.Act act)) = record { at = at; act = act } ∷ []

@@ -9,9 +9,9 @@ ghost use Rattle.act_lines.specs.ActLines.{act_line_at, act_lines_from, act_line
 ghost use Rattle.act_lines.specs.Search.{HasFound, IsSearch};
 
 use crate::line::ActLine;
-use listed::Listed;
-use log_form::Position;
-use log_lines::{Line, read_line};
+use log_form::LogPosition;
+use log_lines::{LogLine, read_line};
+use plain_vec::Listed;
 use std::alloc::{AllocError, Global};
 use text_lines::next_line;
 
@@ -67,13 +67,13 @@ impl Search {
     }
 
     // A line that stands somewhere.
-    fn take_line(&mut self, numbers: &[u32], at: Position, line: &[u8]) -> Result<(), AllocError>
+    fn take_line(&mut self, numbers: &[u32], at: LogPosition, line: &[u8]) -> Result<(), AllocError>
         requires ascending { IsStrictlyIncreasing numbers.now }
         requires some { IsSearch numbers.now self.old }
         ensures { OnOk result ((seen : List ActLine) → HasFound numbers.now seen self.old → HasFound numbers.now (seen ++ act_line_at at (line_of line.now)) self.new) }
     {
         match read_line(line) {
-            Ok(Line::Act(act)) => self.take(numbers, ActLine { at, act }),
+            Ok(LogLine::Act(act)) => self.take(numbers, ActLine { at, act }),
             _ => Ok(()),
         }
     }
@@ -94,7 +94,7 @@ impl Search {
             match rest {
                 None => return Ok(()),
                 Some(rest) => {
-                    self.take_line(numbers, Position { file, line }, said)?;
+                    self.take_line(numbers, LogPosition { file, line }, said)?;
                     line += 1;
                     left = rest;
                 }

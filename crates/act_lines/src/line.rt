@@ -3,14 +3,14 @@
 ghost use Rattle.std.specs.Prelude.{◌≡◌};
 ghost use Rattle.act_lines.specs.ActLines.{site_of};
 
-use log_form::Position;
+use log_form::LogPosition;
 use log_lines::Act;
 
 /// A line that says what a strand does.
 #[derive(Clone, Copy)]
 pub struct ActLine {
     /// Where it stands.
-    pub at: Position,
+    pub at: LogPosition,
     pub act: Act,
 }
 

@@ -1,15 +1,5 @@
--- Chunks of the same numbers, sizes and objects are the same.
-use Rattle.std.proofs.Common.{◌≡◌, ℕ, suc, ◌+◌, List, [], ◌∷◌, ◌++◌, map, refl, sym, ap, ◌∙◌, subst, arith, inl, inr, ◌⊎◌, eqb, eqb-true, eq-eqb}
-use Rattle.std.specs.Prelude.{nat_le}
-use Rattle.std.proofs.lemmas.Bool.{cases_Bool, cases_eq}
-use Rattle.object_layout.specs.declared.word.Addr.{Addr}
-use Rattle.object_layout.specs.Cell.{Cell, no_cell, size_of}
-use Rattle.object_layout.specs.ChunkValue.{ChunkValue}
-use Rattle.object_layout.specs.Place.{cell_at}
-use Rattle.object_layout.specs.Chunks.{cell_of}
-use Rattle.listed.proofs.Members.{In}
-use Rattle.object_layout.proofs.PlaceLemmas.{cell_at-past}
-use Rattle.address_laws.specs.Alike.{AreAlike}
+-- Chunks with the same numbers, sizes and objects are equal.
+use Rattle.address_laws.proofs.Common.{◌≡◌, ℕ, suc, ◌+◌, List, [], ◌∷◌, ◌++◌, map, refl, sym, ap, ◌∙◌, subst, arith, inl, inr, ◌⊎◌, eqb, eqb-true, eq-eqb, nat_le, cases_Bool, cases_eq, Addr, Cell, no_cell, size_of, ChunkValue, cell_at, cell_of, In, cell_at-past, AreAlike}
 use Rattle.address_laws.proofs.Numbers.{numbers, Distinct, alike_numbers}
 
 cells_same : (cs ds : List Cell) → map size_of ds ≡ map size_of cs → ((at : ℕ) → cell_at cs at ≡ cell_at ds at) → cs ≡ ds
@@ -34,8 +24,8 @@ nowhere (k ∷ ks) a n =
       | inr e ↦ rw e (nowhere ks a (λ i. n (inr i)))
     ]
 
-pub here : (k : ChunkValue) (ks : List ChunkValue) (a : Addr) → k.number ≡ a.chunk → cell_of (k ∷ ks) a ≡ cell_at k.cells a.offset
-here k ks a e = rw (eq-eqb k.number a.chunk e) refl
+pub cell_in_first : (k : ChunkValue) (ks : List ChunkValue) (a : Addr) → k.number ≡ a.chunk → cell_of (k ∷ ks) a ≡ cell_at k.cells a.offset
+cell_in_first k ks a e = rw (eq-eqb k.number a.chunk e) refl
 
 pub later : (k : ChunkValue) (ks : List ChunkValue) (a : Addr) → (k.number ≡ a.chunk → ⊥) → cell_of (k ∷ ks) a ≡ cell_of ks a
 later k ks a n =
@@ -56,7 +46,7 @@ same_chunks [] [] a d e = refl
 same_chunks [] (l ∷ ls) a d e = absurd a
 same_chunks (k ∷ ks) [] a d e = absurd a
 same_chunks (k ∷ ks) (l ∷ ls) a d e =
-    let cells : k.cells ≡ l.cells = cells_same k.cells l.cells a.0.2 (λ at. let x : Addr = record { chunk = k.number; offset = at } in sym (here k ks x refl) ∙ (e x ∙ here l ls x a.0.0)) in
+    let cells : k.cells ≡ l.cells = cells_same k.cells l.cells a.0.2 (λ at. let x : Addr = record { chunk = k.number; offset = at } in sym (cell_in_first k ks x refl) ∙ (e x ∙ cell_in_first l ls x a.0.0)) in
     let head : k ≡ l = same_content k l a.0.0 a.0.1 cells in
     λ i. head i ∷ same_chunks ks ls a.1 d.1 (rest) i
   where
@@ -69,13 +59,13 @@ same_chunks (k ∷ ks) (l ∷ ls) a d e =
           | inr n ↦ sym (later k ks x n) ∙ (e x ∙ later l ls x (λ q. n (sym a.0.0 ∙ q)))
         ]
 
--- ---- chunks together
+-- ---- lists together
 
 pub in_first : (ks ls : List ChunkValue) (a : Addr) → In (numbers ks) a.chunk → cell_of (ks ++ ls) a ≡ cell_of ks a
 in_first [] ls a i = absurd i
 in_first (k ∷ ks) ls a i =
     elim (cases_eq k.number a.chunk) [
-      | inl e ↦ here k (ks ++ ls) a e ∙ sym (here k ks a e)
+      | inl e ↦ cell_in_first k (ks ++ ls) a e ∙ sym (cell_in_first k ks a e)
       | inr n ↦ later k (ks ++ ls) a n ∙ (in_first ks ls a (elim i [ inl e ↦ absurd (n e) | inr j ↦ j ]) ∙ sym (later k ks a n))
     ]
 
@@ -88,17 +78,17 @@ number_there [] k i = i
 number_there (x ∷ ks) k (inl e) = inl (ap (λ (z : ChunkValue). z.number) e)
 number_there (x ∷ ks) k (inr i) = inr (number_there ks k i)
 
--- it is where addresses lead, whatever is made of the chunks
+-- it is what addresses lead to, after any map of the chunks
 pub mapped_there : (f : ChunkValue → ChunkValue) → ((k : ChunkValue) → (f k).number ≡ k.number) → (ks : List ChunkValue) (k : ChunkValue) → Distinct (numbers ks) → In ks k → (a : Addr) → k.number ≡ a.chunk → cell_of (map f ks) a ≡ cell_at (f k).cells a.offset
 mapped_there f e [] k d i a q = absurd i
-mapped_there f e (x ∷ ks) k d (inl p) a q = subst (λ (z : ChunkValue). cell_of (map f (x ∷ ks)) a ≡ cell_at (f z).cells a.offset) p (here (f x) (map f ks) a (e x ∙ (ap (λ (z : ChunkValue). z.number) p ∙ q)))
+mapped_there f e (x ∷ ks) k d (inl p) a q = subst (λ (z : ChunkValue). cell_of (map f (x ∷ ks)) a ≡ cell_at (f z).cells a.offset) p (cell_in_first (f x) (map f ks) a (e x ∙ (ap (λ (z : ChunkValue). z.number) p ∙ q)))
 mapped_there f e (x ∷ ks) k d (inr i) a q =
     later (f x) (map f ks) a (λ p. d.0 (subst (In (numbers ks)) (q ∙ sym (sym (e x) ∙ p)) (number_there ks k i)))
     ∙ mapped_there f e ks k d.1 i a q
 
 pub chunk_there : (ks : List ChunkValue) (k : ChunkValue) → Distinct (numbers ks) → In ks k → (a : Addr) → k.number ≡ a.chunk → cell_of ks a ≡ cell_at k.cells a.offset
 chunk_there [] k d i a q = absurd i
-chunk_there (x ∷ ks) k d (inl p) a q = subst (λ (z : ChunkValue). cell_of (x ∷ ks) a ≡ cell_at z.cells a.offset) p (here x ks a (ap (λ (z : ChunkValue). z.number) p ∙ q))
+chunk_there (x ∷ ks) k d (inl p) a q = subst (λ (z : ChunkValue). cell_of (x ∷ ks) a ≡ cell_at z.cells a.offset) p (cell_in_first x ks a (ap (λ (z : ChunkValue). z.number) p ∙ q))
 chunk_there (x ∷ ks) k d (inr i) a q =
     later x ks a (λ p. d.0 (subst (In (numbers ks)) (q ∙ sym p) (number_there ks k i)))
     ∙ chunk_there ks k d.1 i a q

@@ -1,3 +1,4 @@
 pub mod Numbers
 pub mod Extent
 pub mod Puts
+mod Common

@@ -1,14 +1,5 @@
 -- The numbers of chunks, each once.
-use Rattle.std.proofs.Common.{◌≡◌, ℕ, zero, suc, ◌<◌, Bool, true, false, cond, List, [], ◌∷◌, ◌++◌, length, map, filter, refl, sym, ap, ◌∙◌, subst, arith, inl, inr, All}
-use Rattle.std.specs.Prelude.{remove, reverse}
-use Rattle.std.proofs.lemmas.List.{reverse-append}
-use Rattle.std.proofs.lemmas.List.Elements.{All-head, All-tail}
-use Rattle.object_layout.specs.ChunkValue.{ChunkValue, number_of}
-use Rattle.object_layout.specs.Chunks.{chunk_at}
-use Rattle.alloc_path.specs.LeafHeapValue.{AreApart, IsFresh}
-use Rattle.alloc_path.proofs.HeapLemmas.{fresh_cons, fresh_head, fresh_tail}
-use Rattle.listed.proofs.Members.{In, in_append_left, in_append_right, in_append_cases}
-use Rattle.address_laws.specs.Alike.{AreAlike}
+use Rattle.address_laws.proofs.Common.{◌≡◌, ℕ, zero, suc, ◌<◌, Bool, true, false, cond, List, [], ◌∷◌, ◌++◌, length, map, filter, refl, sym, ap, ◌∙◌, subst, arith, inl, inr, All, remove, reverse, reverse-append, All-head, All-tail, ChunkValue, number_of, chunk_at, HaveDistinctNumbers, IsFresh, fresh_cons, fresh_head, fresh_tail, In, in_append_left, in_append_right, in_append_cases, AreAlike}
 
 abbrev pub numbers : List ChunkValue → List ℕ
 numbers ks = map number_of ks
@@ -28,11 +19,11 @@ pub fresh_from : (ks : List ChunkValue) (n : ℕ) → (In (numbers ks) n → ⊥
 fresh_from [] n f = refl
 fresh_from (k ∷ ks) n f = fresh_cons k ks n (λ e. f (inl e)) (fresh_from ks n (λ i. f (inr i)))
 
-pub apart_distinct : (ks : List ChunkValue) → AreApart ks → Distinct (numbers ks)
+pub apart_distinct : (ks : List ChunkValue) → HaveDistinctNumbers ks → Distinct (numbers ks)
 apart_distinct [] a = tt
 apart_distinct (k ∷ ks) a = (fresh_none ks k.number a.0, apart_distinct ks a.1)
 
-pub distinct_apart : (ks : List ChunkValue) → Distinct (numbers ks) → AreApart ks
+pub distinct_apart : (ks : List ChunkValue) → Distinct (numbers ks) → HaveDistinctNumbers ks
 distinct_apart [] d = tt
 distinct_apart (k ∷ ks) d = (fresh_from ks k.number d.0, distinct_apart ks d.1)
 
@@ -67,8 +58,8 @@ fresh_in h [] n a i = absurd i
 fresh_in h (k ∷ ks) n a (inl e) = subst (IsFresh h) e (All-head (λ x. IsFresh h x.number) k ks a)
 fresh_in h (k ∷ ks) n a (inr i) = fresh_in h ks n (All-tail (λ x. IsFresh h x.number) k ks a) i
 
--- chunks with fresh numbers stay apart from those that are there
-pub apart_append : (h ks : List ChunkValue) → AreApart h → AreApart ks → All (λ k. IsFresh h k.number) ks → AreApart (h ++ ks)
+-- chunks with fresh numbers and the others have distinct numbers
+pub apart_append : (h ks : List ChunkValue) → HaveDistinctNumbers h → HaveDistinctNumbers ks → All (λ k. IsFresh h k.number) ks → HaveDistinctNumbers (h ++ ks)
 apart_append h ks a b fresh =
     distinct_apart (h ++ ks)
     (subst Distinct (sym (numbers_append h ks))
@@ -121,7 +112,7 @@ pub numbers_of_map : (f : ChunkValue → ChunkValue) → ((k : ChunkValue) → (
 numbers_of_map f e [] = refl
 numbers_of_map f e (k ∷ ks) = λ i. e k i ∷ numbers_of_map f e ks i
 
--- alike chunks have the same numbers
+-- chunks that differ only in their objects have the same numbers
 pub alike_numbers : (h g : List ChunkValue) → AreAlike h g → numbers g ≡ numbers h
 alike_numbers [] [] a = refl
 alike_numbers [] (l ∷ ls) a = absurd a

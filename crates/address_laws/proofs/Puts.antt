@@ -1,14 +1,6 @@
--- Objects of a heap by their addresses, where one was put elsewhere or marked.
-use Rattle.std.proofs.Common.{◌≡◌, ℕ, ◌<◌, true, List, [], ◌∷◌, length, refl, sym, ap, ◌∙◌, subst, inl, inr, ◌⊎◌, is_some}
-use Rattle.std.proofs.lemmas.Bool.{cases_lt, le-ltb}
-use Rattle.object_layout.specs.declared.word.Addr.{Addr}
-use Rattle.object_layout.specs.Cell.{Cell, Mark, IsBorn, IsObject, with_mark}
-use Rattle.object_layout.specs.ChunkValue.{ChunkValue}
-use Rattle.object_layout.specs.Chunks.{cell_of, place_in, place_of, put_object}
-use Rattle.object_layout.specs.Graph.{HasObjectAt}
+-- Objects of a heap by their addresses, after one was put elsewhere or marked.
+use Rattle.address_laws.proofs.Common.{◌≡◌, ℕ, ◌<◌, true, List, [], ◌∷◌, length, refl, sym, ap, ◌∙◌, subst, inl, inr, ◌⊎◌, is_some, cases_lt, le-ltb, Addr, Cell, Mark, IsBorn, IsObject, with_mark, ChunkValue, cell_of, place_in, place_of, put_object, HasObjectAt, addr_cases, put_cases, In}
 use Rattle.object_layout.proofs.ChunkLaws as laws
-use Rattle.object_layout.proofs.ChunkLaws.{addr_cases, put_cases}
-use Rattle.listed.proofs.Members.{In}
 
 pub in_or_not : (xs : List Addr) (a : Addr) → In xs a ⊎ (In xs a → ⊥)
 in_or_not [] a = inr (λ h. h)
@@ -27,7 +19,7 @@ module _ (h : List ChunkValue) (x : Addr) (m : Mark) where
   pub mark_other : (a : Addr) → (x ≡ a → ⊥) → cell_of (put_object h x (with_mark (cell_of h x) m)) a ≡ cell_of h a
   mark_other a ne = laws.cell_of-put_other h x a (with_mark (cell_of h x) m) refl (λ e. ne (sym e))
 
-  -- nothing but marks changes
+  -- only marks change
   pub mark_alone : (a : Addr) (n : Mark) → with_mark (cell_of (put_object h x (with_mark (cell_of h x) m)) a) n ≡ with_mark (cell_of h a) n
   mark_alone a n =
       elim (addr_cases x a) [
@@ -48,7 +40,7 @@ module _ (h : List ChunkValue) (x : Addr) (m : Mark) where
         | inr ne ↦ subst (λ (c : Cell). IsObject c.mark) (sym (mark_other a ne)) was
       ]
 
-  -- what isn't to bear its birth name doesn't
+  -- an object whose mark is replaced has no birth name
   pub mark_dead : (IsBorn m → ⊥) → HasObjectAt (put_object h x (with_mark (cell_of h x) m)) x → ⊥
   mark_dead d l =
       elim (put_cases h x (with_mark (cell_of h x) m)) [
@@ -56,11 +48,11 @@ module _ (h : List ChunkValue) (x : Addr) (m : Mark) where
         | inr p ↦ let z = subst (λ (c : Cell). IsBorn c.mark) (p.0 ∙ p.1) l in z
       ]
 
--- what bears its birth name lies in a chunk
+-- an object with its birth name is in a chunk
 pub live_chunk : (h : List ChunkValue) (a : Addr) → HasObjectAt h a → place_of h a.chunk < length h
 live_chunk h a l = laws.chunk_of_object h a (laws.born_object h a l)
 
--- ---- whether an address lies in a chunk of the heap
+-- ---- whether an address is in a chunk of the heap
 
 pub owned : (h : List ChunkValue) (n : ℕ) → is_some (place_in h n) ≡ true → place_of h n < length h
 owned h n e =

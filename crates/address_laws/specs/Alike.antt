@@ -1,4 +1,4 @@
--- Chunks that differ at most in what their objects are.
+-- Chunks that differ only in their objects.
 use Rattle.std.specs.Prelude.{◌≡◌, List, [], ◌∷◌, map}
 use Rattle.object_layout.specs.Cell.{size_of}
 use Rattle.object_layout.specs.ChunkValue.{ChunkValue}

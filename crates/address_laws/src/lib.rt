@@ -1,2 +1,3 @@
-// What addresses lead to among chunks numbered apart, as chunks come and go and objects are put elsewhere or marked.
+// What addresses lead to in chunks with distinct numbers, as chunks come and go and objects are put elsewhere or
+// marked.
 #![tactic(auto)]

@@ -1,26 +1,15 @@
 -- How tasks stand in the serial order.
-use Rattle.std.proofs.Common.{◌≡◌, ◌↔◌, ℕ, zero, suc, ◌+◌, ◌-◌, ◌<◌, ◌≤◌, length, inl, inr, refl, ap, sym, subst, ◌∙◌, arith, Some, slice_get}
-use Rattle.std.proofs.lemmas.Bool.{cases_lt}
-use Rattle.std.proofs.lemmas.Option.{same_Some, slice_get_within}
-use Rattle.listed.proofs.Members.{got_in}
-use Rattle.listed.proofs.Places.{got_some}
-use Rattle.fork_graph.specs.declared.graph.Turn.TheVariants.{Spawn, Join}
-use Rattle.fork_graph.specs.declared.graph.Strand.{Strand}
-use Rattle.fork_graph.specs.Graph.{Tasks, strand, first_of, last_of, Does, Precedes, IsParent, IsAncestor}
-use Rattle.fork_graph.specs.Nested.{IsNested}
-use Rattle.ancestor_laws.specs.Meeting.{IsExit, IsEntry, IsMeeting}
-use Rattle.ancestor_laws.specs.Serial.{serial_in, serial_order, AreLevels, IsSerial}
-use Rattle.ancestor_laws.specs.Blocks.{AreBlocks, TellsPrecedence, SerialOrderTells}
+use Rattle.ancestor_laws.proofs.Common.{◌≡◌, ◌↔◌, ℕ, zero, suc, ◌+◌, ◌-◌, ◌<◌, ◌≤◌, length, inl, inr, refl, ap, sym, subst, ◌∙◌, arith, Some, slice_get, cases_lt, same_Some, slice_get_within, got_in, got_some, Spawn, Join, GraphStrand, Tasks, strand, first_of, last_of, Does, Precedes, IsParent, IsAncestor, IsNested, IsExit, IsEntry, IsMeeting, serial_in, serial_order, AreLevels, IsSerialOrder, AreBlocks, TellsPrecedence, SerialOrderTells}
 use Rattle.ancestor_laws.proofs.Trees.{IsLine, through, child_above, up_cases, joins_child, one_parent, one_line}
 use Rattle.ancestor_laws.proofs.Walks.{both, along, IsRooted, attached_rooted, rooted_attached}
 use Rattle.ancestor_laws.proofs.Meetings.{exit_walk, entry_walk, some_entry, before_at_lowest, walks_meet}
 use Rattle.ancestor_laws.proofs.Serial.{offset, rest_length, offset_spawn, offset_upto, in_below, IsPlaced, child_placed, placed_by, strand_placed, serial_order_extends}
 
 module _ (tasks : Tasks) (levels : ℕ) (n : IsNested tasks) (enough : AreLevels tasks levels) where
-  serial : IsSerial tasks (serial_order tasks levels)
+  serial : IsSerialOrder tasks (serial_order tasks levels)
   serial = serial_order_extends tasks levels n enough
 
-  rooted_at : (i : ℕ) (u : Strand) → slice_get (serial_order tasks levels) i ≡ Some u → IsRooted tasks u
+  rooted_at : (i : ℕ) (u : GraphStrand) → slice_get (serial_order tasks levels) i ≡ Some u → IsRooted tasks u
   rooted_at i u h = attached_rooted tasks n.fork_join u (serial.attached i u h)
 
   -- the part of the order that a task has lies within that of a task above it
@@ -53,7 +42,7 @@ module _ (tasks : Tasks) (levels : ℕ) (n : IsNested tasks) (enough : AreLevels
       child_within w.0 x w.2.0 s (length (serial_in tasks (suc l) c)) (within_by c k l s m w.0 p w.1) w.2.1
 
   -- a strand of a task below stands within
-  strand_within : (c k l s i : ℕ) (v : Strand) → IsPlaced tasks levels c k l s → IsAncestor tasks c v.task → slice_get (serial_order tasks levels) i ≡ Some v
+  strand_within : (c k l s i : ℕ) (v : GraphStrand) → IsPlaced tasks levels c k l s → IsAncestor tasks c v.task → slice_get (serial_order tasks levels) i ≡ Some v
       → (s ≤ i) × (i < s + length (serial_in tasks (suc l) c))
   strand_within c k l s i v p up h =
       let w = within_by c k l s up.0 v.task p up.1 in
@@ -69,7 +58,7 @@ module _ (tasks : Tasks) (levels : ℕ) (n : IsNested tasks) (enough : AreLevels
       let upto : w.s' + length (serial_in tasks (suc w.l') v.task) ≤ s + length (serial_in tasks (suc l) c) = w.upto in
       (omega arith, omega arith)
 
-  block : (c first last i : ℕ) (v : Strand) → slice_get (serial_order tasks levels) first ≡ Some (first_of c) → slice_get (serial_order tasks levels) last ≡ Some (last_of tasks c)
+  block : (c first last i : ℕ) (v : GraphStrand) → slice_get (serial_order tasks levels) first ≡ Some (first_of c) → slice_get (serial_order tasks levels) last ≡ Some (last_of tasks c)
       → slice_get (serial_order tasks levels) i ≡ Some v → (IsAncestor tasks c v.task ↔ ((first ≤ i) × (i ≤ last)))
   block c first last i v hf hl h =
       let r = rooted_at first (first_of c) hf in
@@ -91,7 +80,7 @@ module _ (tasks : Tasks) (levels : ℕ) (n : IsNested tasks) (enough : AreLevels
             let there : s + (i - s) ≡ i = omega arith in
             let at : slice_get (serial_order tasks levels) i ≡ Some x.0 = subst (λ k. slice_get (serial_order tasks levels) k ≡ Some x.0) there (p.2.window (i - s) x.0 x.1) in
             let same : x.0 ≡ v = same_Some x.0 v (sym at ∙ h) in
-            subst (λ (y : Strand). IsAncestor tasks c y.task) same (in_below tasks (suc l) c x.0 (got_in (serial_in tasks (suc l) c) (i - s) x.0 x.1)).0,
+            subst (λ (y : GraphStrand). IsAncestor tasks c y.task) same (in_below tasks (suc l) c x.0 (got_in (serial_in tasks (suc l) c) (i - s) x.0 x.1)).0,
       )
 
   spawner : (t i c k : ℕ) → Does tasks t i (Spawn c) → slice_get (serial_order tasks levels) k ≡ Some (strand t i) → slice_get (serial_order tasks levels) (k + 1) ≡ Some (first_of c)
@@ -106,7 +95,7 @@ module _ (tasks : Tasks) (levels : ℕ) (n : IsNested tasks) (enough : AreLevels
       subst (λ m. slice_get (serial_order tasks levels) m ≡ Some (first_of c)) there
       (strand_placed tasks levels enough c (suc r.rooted.0) q.0 (s + (o + 1)) 0 q.2 (omega arith))
 
-  child : (t i c k j : ℕ) (v : Strand) → Does tasks t i (Spawn c) → IsAncestor tasks c v.task
+  child : (t i c k j : ℕ) (v : GraphStrand) → Does tasks t i (Spawn c) → IsAncestor tasks c v.task
       → slice_get (serial_order tasks levels) k ≡ Some v → slice_get (serial_order tasks levels) j ≡ Some (strand t (i + 1)) → k < j
   child t i c k j v sp up hk hj =
       let r = rooted_at j (strand t (i + 1)) hj in
@@ -139,7 +128,7 @@ module _ (tasks : Tasks) (levels : ℕ) (n : IsNested tasks) (enough : AreLevels
       serial.all (strand q j) (rooted_attached tasks (strand q j) (record { stands = omega arith; rooted = r.rooted }))
 
   -- what is entered before strand i of q stands before it
-  entered_before : (q i e k j : ℕ) (v : Strand) → IsEntry tasks q v e → e < i → slice_get (serial_order tasks levels) k ≡ Some (strand q i) → slice_get (serial_order tasks levels) j ≡ Some v → j < k
+  entered_before : (q i e k j : ℕ) (v : GraphStrand) → IsEntry tasks q v e → e < i → slice_get (serial_order tasks levels) k ≡ Some (strand q i) → slice_get (serial_order tasks levels) j ≡ Some v → j < k
   entered_before q i e k j v (inl (et, ei)) lt hk hj =
       let is : v ≡ strand q e = ap (λ x. strand x v.index) et ∙ ap (strand q) ei in
       let at : slice_get (serial_order tasks levels) j ≡ Some (strand q e) = hj ∙ ap Some is in
@@ -149,7 +138,7 @@ module _ (tasks : Tasks) (levels : ℕ) (n : IsNested tasks) (enough : AreLevels
         | inr ge ↦
             let same : j ≡ k = omega arith in
             let clash : strand q e ≡ strand q i = same_Some (strand q e) (strand q i) (sym at ∙ subst (λ m. slice_get (serial_order tasks levels) m ≡ Some (strand q i)) (sym same) hk) in
-            let equal : e ≡ i = ap (λ (x : Strand). x.index) clash in
+            let equal : e ≡ i = ap (λ (x : GraphStrand). x.index) clash in
             absurd (omega arith)
       ]
   entered_before q i e k j v (inr (c, up, sp)) lt hk hj =
@@ -158,16 +147,16 @@ module _ (tasks : Tasks) (levels : ℕ) (n : IsNested tasks) (enough : AreLevels
       let le : m.0 ≤ k = own_order q (e + 1) i m.0 k m.1 hk (omega arith) in
       omega arith
 
-  entry_stands : (q e : ℕ) (v : Strand) → v.index ≤ length (tasks v.task) → IsEntry tasks q v e → e ≤ length (tasks q)
+  entry_stands : (q e : ℕ) (v : GraphStrand) → v.index ≤ length (tasks v.task) → IsEntry tasks q v e → e ≤ length (tasks q)
   entry_stands q e v st (inl (et, ei)) = subst (λ x. x ≤ length (tasks q)) ei (subst (λ t. v.index ≤ length (tasks t)) et st)
   entry_stands q e v st (inr (c, anc, sp)) = let lt : e < length (tasks q) = slice_get_within (tasks q) e (Spawn c) sp in omega arith
 
   -- a strand of q precedes what is entered from there on
-  entered_from : (q i e : ℕ) (v : Strand) → v.index ≤ length (tasks v.task) → IsEntry tasks q v e → i ≤ e → Precedes tasks (strand q i) v
+  entered_from : (q i e : ℕ) (v : GraphStrand) → v.index ≤ length (tasks v.task) → IsEntry tasks q v e → i ≤ e → Precedes tasks (strand q i) v
   entered_from q i e v st entry le =
       both tasks (strand q i) (strand q e) v (along tasks q i e le (entry_stands q e v st entry)) (entry_walk tasks n v q e st entry)
 
-  own : (q i k j : ℕ) (v : Strand) → IsAncestor tasks q v.task → slice_get (serial_order tasks levels) k ≡ Some (strand q i) → slice_get (serial_order tasks levels) j ≡ Some v
+  own : (q i k j : ℕ) (v : GraphStrand) → IsAncestor tasks q v.task → slice_get (serial_order tasks levels) k ≡ Some (strand q i) → slice_get (serial_order tasks levels) j ≡ Some v
       → (Precedes tasks (strand q i) v ↔ (k ≤ j))
   own q i k j v up hk hj =
       let rv = rooted_at j v hj in
@@ -190,7 +179,7 @@ module _ (tasks : Tasks) (levels : ℕ) (n : IsNested tasks) (enough : AreLevels
         ]
       ]
 
-  left : (q i c k j : ℕ) (u v : Strand) → IsAncestor tasks c u.task → Does tasks q i (Join c) → IsAncestor tasks q v.task
+  left : (q i c k j : ℕ) (u v : GraphStrand) → IsAncestor tasks c u.task → Does tasks q i (Join c) → IsAncestor tasks q v.task
       → (IsAncestor tasks c v.task → ⊥) → (m : ℕ) → slice_get (serial_order tasks levels) m ≡ Some u
       → slice_get (serial_order tasks levels) k ≡ Some (strand q (i + 1)) → slice_get (serial_order tasks levels) j ≡ Some v → (Precedes tasks u v ↔ (k ≤ j))
   left q i c k j u v up join over apart m hm hk hj =

@@ -1,16 +1,5 @@
 -- What a run that was cut off says of the whole one.
-use Rattle.std.proofs.Common.{◌≡◌, ℕ, zero, suc, ◌<◌, ◌≤◌, List, [], ◌∷◌, length, take, inl, inr, sym, subst, arith, Some, slice_get}
-use Rattle.std.proofs.lemmas.Option.{slice_get_within}
-use Rattle.listed.proofs.Options.{none_some}
-use Rattle.fork_graph.specs.declared.graph.Turn.{Turn}
-use Rattle.fork_graph.specs.declared.graph.Turn.TheVariants.{Spawn, Join}
-use Rattle.fork_graph.specs.declared.graph.Strand.{Strand}
-use Rattle.fork_graph.specs.Graph.{Tasks, Stands, Does, IsParent, IsAncestor}
-use Rattle.fork_graph.specs.Nested.{IsForkJoin, IsNested}
-use Rattle.fork_graph.specs.Cut.{with_joins, IsCut}
-use Rattle.fork_graph.proofs.Cut.{completed_front, completed_cases, completed_spawn, completed_are_nested}
-use Rattle.ancestor_laws.specs.Meeting.{IsExit, IsEntry}
-use Rattle.ancestor_laws.specs.CutRuns.{IsKept, CutRunsSpeakTruly}
+use Rattle.ancestor_laws.proofs.Common.{◌≡◌, ℕ, zero, suc, ◌<◌, ◌≤◌, List, [], ◌∷◌, length, take, inl, inr, sym, subst, arith, Some, slice_get, slice_get_within, none_some, GraphTurn, Spawn, Join, GraphStrand, Tasks, Stands, Does, IsParent, IsAncestor, IsForkJoin, IsNested, with_joins, IsCut, completed_front, completed_cases, completed_spawn, completed_are_nested, IsExit, IsEntry, IsKept, CutRunsSpeakTruly}
 use Rattle.ancestor_laws.proofs.Trees.{IsLine, same_ancestor, below, up_cases, one_parent, no_root_parent, rooted_above}
 use Rattle.ancestor_laws.proofs.Walks.{IsRooted, attached_rooted, rooted_attached}
 use Rattle.ancestor_laws.proofs.Meetings.{Meets, walks_meet, meeting_walk}
@@ -29,12 +18,12 @@ got_front_of (suc n) zero (y ∷ xs) x h lt = h
 got_front_of (suc n) (suc i) (y ∷ xs) x h lt = got_front_of n i xs x h (omega arith)
 
 module _ (cut whole : Tasks) (part : IsCut cut whole) where
-  pub cut_does : (t i : ℕ) (turn : Turn) → Does cut t i turn → Does whole t i turn
+  pub cut_does : (t i : ℕ) (turn : GraphTurn) → Does cut t i turn → Does whole t i turn
   cut_does t i turn h =
       let p = part t in
       front_got p.0 i (whole t) turn (subst (λ turns. slice_get turns i ≡ Some turn) p.1 h)
 
-  pub kept_does : (t i : ℕ) (turn : Turn) → Does whole t i turn → i < length (cut t) → Does cut t i turn
+  pub kept_does : (t i : ℕ) (turn : GraphTurn) → Does whole t i turn → i < length (cut t) → Does cut t i turn
   kept_does t i turn h lt =
       let p = part t in
       subst (λ turns. slice_get turns i ≡ Some turn) (sym p.1)
@@ -97,7 +86,7 @@ module _ (cut whole : Tasks) (part : IsCut cut whole) where
               subst (λ k. Does (with_joins cut) q k (Spawn c)) one.1 (subst (λ x. Does (with_joins cut) x e.0 (Spawn c)) one.0 e.1)
         ]
 
-    exit_up : (q i : ℕ) (u : Strand) → i ≤ length (cut q) → IsExit (with_joins cut) q u i → IsExit whole q u i
+    exit_up : (q i : ℕ) (u : GraphStrand) → i ≤ length (cut q) → IsExit (with_joins cut) q u i → IsExit whole q u i
     exit_up q i u le (inl own) = inl own
     exit_up q i u le (inr (c, j, anc, jn, e)) =
         elim (completed_cases (cut q) j (Join c) jn) [
@@ -105,25 +94,25 @@ module _ (cut whole : Tasks) (part : IsCut cut whole) where
           | inr (d, same, ge, at) ↦ absurd (omega arith)
         ]
 
-    entry_up : (q j : ℕ) (v : Strand) → IsEntry (with_joins cut) q v j → IsEntry whole q v j
+    entry_up : (q j : ℕ) (v : GraphStrand) → IsEntry (with_joins cut) q v j → IsEntry whole q v j
     entry_up q j v (inl own) = inl own
     entry_up q j v (inr (c, anc, sp)) = inr (c, above_up c v.task anc, spawn_up q j c sp)
 
-    entry_kept : (q j : ℕ) (v : Strand) → Stands cut v → IsEntry (with_joins cut) q v j → j ≤ length (cut q)
+    entry_kept : (q j : ℕ) (v : GraphStrand) → Stands cut v → IsEntry (with_joins cut) q v j → j ≤ length (cut q)
     entry_kept q j v st (inl (et, ei)) = subst (λ k. k ≤ length (cut q)) ei (subst (λ t. v.index ≤ length (cut t)) et st)
     entry_kept q j v st (inr (c, anc, sp)) =
         let lt : j < length (cut q) = slice_get_within (cut q) j (Spawn c) (completed_spawn (cut q) j c sp) in omega arith
 
-    exit_down : (q i : ℕ) (u : Strand) → IsAncestor (with_joins cut) 0 u.task → i ≤ length (cut q) → IsExit whole q u i → IsExit (with_joins cut) q u i
+    exit_down : (q i : ℕ) (u : GraphStrand) → IsAncestor (with_joins cut) 0 u.task → i ≤ length (cut q) → IsExit whole q u i → IsExit (with_joins cut) q u i
     exit_down q i u root le (inl own) = inl own
     exit_down q i u root le (inr (c, j, anc, jn, e)) =
         inr (c, j, above_down c u.task root anc, completed_front (cut q) j (Join c) (kept_does q j (Join c) jn (omega arith)), e)
 
-    entry_down : (q j : ℕ) (v : Strand) → IsAncestor (with_joins cut) 0 v.task → IsEntry whole q v j → IsEntry (with_joins cut) q v j
+    entry_down : (q j : ℕ) (v : GraphStrand) → IsAncestor (with_joins cut) 0 v.task → IsEntry whole q v j → IsEntry (with_joins cut) q v j
     entry_down q j v root (inl own) = inl own
     entry_down q j v root (inr (c, anc, sp)) = inr (c, above_down c v.task root anc, spawn_down q j c v.task root anc sp)
 
-    meets_up : (u v : Strand) → Stands cut v → Meets (with_joins cut) u v → Meets whole u v
+    meets_up : (u v : GraphStrand) → Stands cut v → Meets (with_joins cut) u v → Meets whole u v
     meets_up u v st m =
         let kept : m.entered ≤ length (cut m.at) = entry_kept m.at m.entered v st m.entry in
         let le : m.left ≤ m.entered = m.before in
@@ -136,7 +125,7 @@ module _ (cut whole : Tasks) (part : IsCut cut whole) where
           before = le;
         }
 
-    meets_down : (u v : Strand) → IsRooted (with_joins cut) u → IsRooted (with_joins cut) v → Stands cut v → Meets whole u v → Meets (with_joins cut) u v
+    meets_down : (u v : GraphStrand) → IsRooted (with_joins cut) u → IsRooted (with_joins cut) v → Stands cut v → Meets whole u v → Meets (with_joins cut) u v
     meets_down u v ru rv st m =
         let entry = entry_down m.at m.entered v rv.rooted m.entry in
         let kept : m.entered ≤ length (cut m.at) = entry_kept m.at m.entered v st entry in
@@ -159,8 +148,8 @@ pub cut_runs_speak_truly : CutRunsSpeakTruly
 cut_runs_speak_truly cut whole n part =
     let fj = n.fork_join in
     let nested : IsNested (with_joins cut) = completed_are_nested cut (cut_fork_join cut whole part fj) in
-    let rooted = λ (u : Strand) (k : IsKept cut u). attached_rooted (with_joins cut) nested.fork_join u k.attached in
-    let stands : (u : Strand) → IsKept cut u → Stands whole u = λ u k.
+    let rooted = λ (u : GraphStrand) (k : IsKept cut u). attached_rooted (with_joins cut) nested.fork_join u k.attached in
+    let stands : (u : GraphStrand) → IsKept cut u → Stands whole u = λ u k.
     let p = part u.task in
     let le : length (cut u.task) ≤ length (whole u.task) = subst (λ turns. length turns ≤ length (whole u.task)) (sym p.1) (cut_shorter p.0 (whole u.task)) in
     let st : u.index ≤ length (cut u.task) = k.stands in

@@ -5,3 +5,4 @@ pub mod CutRuns
 pub mod Span
 pub mod Serial
 pub mod Blocks
+mod Common

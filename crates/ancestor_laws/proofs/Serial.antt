@@ -1,23 +1,6 @@
 -- The serial order.
-use Rattle.std.proofs.Common.{◌≡◌, ℕ, zero, suc, ◌+◌, ◌-◌, ◌<◌, ◌≤◌, List, [], ◌∷◌, ◌++◌, length, ◌⊎◌, inl, inr, refl, ap, sym, subst, ◌∙◌, arith, Some, slice_get, eqb, false}
+use Rattle.ancestor_laws.proofs.Common.{◌≡◌, ℕ, zero, suc, ◌+◌, ◌-◌, ◌<◌, ◌≤◌, List, [], ◌∷◌, ◌++◌, length, ◌⊎◌, inl, inr, refl, ap, sym, subst, ◌∙◌, arith, Some, slice_get, eqb, false, ne_eqb, eqb-true, length-append, IsDistinct-cons, length-le_from_distinct_below, same_Some, slice_get_within, In, got_in, got_front, got_back, in_append_cases, in_from_any, each_from, none_some, reached_within, GraphTurn, Spawn, Join, GraphStrand, Tasks, strand, last_of, Stands, Does, ContinuesTo, Spawns, IsGraphEdge, Precedes, IsAncestor, IsForkJoin, same_spawn, spawn_no_join, EachOnce, one_place, once_append, serial_rest, serial_in, serial_order, AreLevels, SerialOrderExtends, LevelsAreFew}
 use Rattle.std.specs.List.{IsDistinct}
-use Rattle.std.proofs.lemmas.Bool.{ne_eqb, eqb-true}
-use Rattle.std.proofs.lemmas.List.{length-append}
-use Rattle.std.proofs.lemmas.Map.Keys.{IsDistinct-cons}
-use Rattle.std.proofs.lemmas.Map.Steps.{length-le_from_distinct_below}
-use Rattle.std.proofs.lemmas.Option.{same_Some, slice_get_within}
-use Rattle.listed.proofs.Members.{In, got_in, got_front, got_back, in_append_cases, in_from_any}
-use Rattle.listed.proofs.Places.{each_from}
-use Rattle.listed.proofs.Options.{none_some}
-use Rattle.walk_laws.proofs.Reached.{reached_within}
-use Rattle.fork_graph.specs.declared.graph.Turn.{Turn}
-use Rattle.fork_graph.specs.declared.graph.Turn.TheVariants.{Spawn, Join}
-use Rattle.fork_graph.specs.declared.graph.Strand.{Strand}
-use Rattle.fork_graph.specs.Graph.{Tasks, strand, last_of, Stands, Does, GoesOn, Spawns, Leads, Precedes, IsAncestor}
-use Rattle.fork_graph.specs.Nested.{IsForkJoin}
-use Rattle.fork_graph.proofs.Cut.{same_spawn, spawn_no_join}
-use Rattle.fork_graph.proofs.Once.{EachOnce, one_place, once_append}
-use Rattle.ancestor_laws.specs.Serial.{serial_rest, serial_in, serial_order, AreLevels, SerialOrderExtends, LevelsAreFew}
 use Rattle.ancestor_laws.proofs.Trees.{IsLine, itself, same_ancestor, below, through, child_above, no_self, same_child}
 use Rattle.ancestor_laws.proofs.Walks.{IsRooted, rooted_more, attached_rooted, rooted_attached}
 
@@ -36,19 +19,19 @@ window_in order xs ys s r w v i u h = at_place order (s + (r + i)) (s + r + i) u
 -- THE STRANDS OF A TASK AND ITS CHILDREN
 
 -- how many strands come before strand i of the task
-abbrev pub offset : (ℕ → List Strand) → ℕ → List Turn → ℕ
+abbrev pub offset : (ℕ → List GraphStrand) → ℕ → List GraphTurn → ℕ
 offset child zero turns = 0
 offset child (suc i) [] = 0
 offset child (suc i) (Spawn c ∷ rest) = suc (length (child c) + offset child i rest)
 offset child (suc i) (Join c ∷ rest) = suc (offset child i rest)
 
-module _ (child : ℕ → List Strand) where
-  rest_first : (t b : ℕ) (turns : List Turn) → slice_get (serial_rest child t b turns) 0 ≡ Some (strand t b)
+module _ (child : ℕ → List GraphStrand) where
+  rest_first : (t b : ℕ) (turns : List GraphTurn) → slice_get (serial_rest child t b turns) 0 ≡ Some (strand t b)
   rest_first t b [] = refl
   rest_first t b (Spawn c ∷ rest) = refl
   rest_first t b (Join c ∷ rest) = refl
 
-  rest_at : (t b i : ℕ) (turns : List Turn) → i ≤ length turns → slice_get (serial_rest child t b turns) (offset child i turns) ≡ Some (strand t (b + i))
+  rest_at : (t b i : ℕ) (turns : List GraphTurn) → i ≤ length turns → slice_get (serial_rest child t b turns) (offset child i turns) ≡ Some (strand t (b + i))
   rest_at t b zero turns le = rest_first t b turns ∙ ap (λ x. Some (strand t x)) (let e : b ≡ b + 0 = omega arith in e)
   rest_at t b (suc i) [] le = absurd (omega arith)
   rest_at t b (suc i) (Spawn c ∷ rest) le =
@@ -57,7 +40,7 @@ module _ (child : ℕ → List Strand) where
   rest_at t b (suc i) (Join c ∷ rest) le =
       rest_at t (b + 1) i rest (omega arith) ∙ ap (λ x. Some (strand t x)) (let e : b + 1 + i ≡ b + suc i = omega arith in e)
 
-  rest_child : (t b i c : ℕ) (turns : List Turn) → slice_get turns i ≡ Some (Spawn c) → IsWindow (serial_rest child t b turns) (child c) (offset child i turns + 1)
+  rest_child : (t b i c : ℕ) (turns : List GraphTurn) → slice_get turns i ≡ Some (Spawn c) → IsWindow (serial_rest child t b turns) (child c) (offset child i turns + 1)
   rest_child t b i c [] g = none_some g
   rest_child t b zero c (Spawn d ∷ rest) g = λ k u h.
       let same : d ≡ c = same_spawn d c (same_Some (Spawn d) (Spawn c) g) in
@@ -75,7 +58,7 @@ module _ (child : ℕ → List Strand) where
       let o = offset child i rest in
       at_place (strand t b ∷ serial_rest child t (b + 1) rest) (suc (o + 1 + k)) (suc o + 1 + k) u (omega arith) (rest_child t (b + 1) i c rest g k u h)
 
-  pub rest_length : (t b : ℕ) (turns : List Turn) → length (serial_rest child t b turns) ≡ offset child (length turns) turns + 1
+  pub rest_length : (t b : ℕ) (turns : List GraphTurn) → length (serial_rest child t b turns) ≡ offset child (length turns) turns + 1
   rest_length t b [] = refl
   rest_length t b (Spawn c ∷ rest) =
       let more : length (serial_rest child t (b + 1) rest) ≡ offset child (length rest) rest + 1 = rest_length t (b + 1) rest in
@@ -86,7 +69,7 @@ module _ (child : ℕ → List Strand) where
       let more : length (serial_rest child t (b + 1) rest) ≡ offset child (length rest) rest + 1 = rest_length t (b + 1) rest in
       omega arith
 
-  pub offset_spawn : (i c : ℕ) (turns : List Turn) → slice_get turns i ≡ Some (Spawn c) → offset child (suc i) turns ≡ offset child i turns + length (child c) + 1
+  pub offset_spawn : (i c : ℕ) (turns : List GraphTurn) → slice_get turns i ≡ Some (Spawn c) → offset child (suc i) turns ≡ offset child i turns + length (child c) + 1
   offset_spawn i c [] g = none_some g
   offset_spawn zero c (Spawn d ∷ rest) g =
       let same : length (child d) ≡ length (child c) = ap (λ x. length (child x)) (same_spawn d c (same_Some (Spawn d) (Spawn c) g)) in
@@ -97,14 +80,14 @@ module _ (child : ℕ → List Strand) where
   offset_spawn (suc i) c (Join d ∷ rest) g =
       let more : offset child (suc i) rest ≡ offset child i rest + length (child c) + 1 = offset_spawn i c rest g in omega arith
 
-  offset_next : (i : ℕ) (turns : List Turn) → offset child i turns ≤ offset child (suc i) turns ⊎ (length turns ≤ i)
+  offset_next : (i : ℕ) (turns : List GraphTurn) → offset child i turns ≤ offset child (suc i) turns ⊎ (length turns ≤ i)
   offset_next i [] = inr (omega arith)
   offset_next zero (Spawn d ∷ rest) = inl (omega arith)
   offset_next zero (Join d ∷ rest) = inl (omega arith)
   offset_next (suc i) (Spawn d ∷ rest) = elim (offset_next i rest) [ inl le ↦ inl (omega arith) | inr past ↦ inr (omega arith) ]
   offset_next (suc i) (Join d ∷ rest) = elim (offset_next i rest) [ inl le ↦ inl (omega arith) | inr past ↦ inr (omega arith) ]
 
-  pub offset_upto : (d i j : ℕ) (turns : List Turn) → i + d ≡ j → j ≤ length turns → offset child i turns ≤ offset child j turns
+  pub offset_upto : (d i j : ℕ) (turns : List GraphTurn) → i + d ≡ j → j ≤ length turns → offset child i turns ≤ offset child j turns
   offset_upto zero i j turns e le = let same : offset child i turns ≡ offset child j turns = ap (λ k. offset child k turns) (let s : i ≡ j = omega arith in s) in omega arith
   offset_upto (suc d) i j turns e le =
       let m : ℕ = i + d in
@@ -112,19 +95,19 @@ module _ (child : ℕ → List Strand) where
       let same : offset child (suc m) turns ≡ offset child j turns = ap (λ k. offset child k turns) (let s : suc m ≡ j = omega arith in s) in
       elim (offset_next m turns) [ inl more ↦ omega arith | inr past ↦ absurd (omega arith) ]
 
-  own_in : (t b n : ℕ) (x : Strand) → strand t b ≡ x → (x.task ≡ t) × (b ≤ x.index) × (x.index ≤ b + n)
+  own_in : (t b n : ℕ) (x : GraphStrand) → strand t b ≡ x → (x.task ≡ t) × (b ≤ x.index) × (x.index ≤ b + n)
   own_in t b n x e =
-      let f : b ≡ x.index = ap (λ (y : Strand). y.index) e in
-      (sym (ap (λ (y : Strand). y.task) e), omega arith, omega arith)
+      let f : b ≡ x.index = ap (λ (y : GraphStrand). y.index) e in
+      (sym (ap (λ (y : GraphStrand). y.task) e), omega arith, omega arith)
 
-  later_in : (t b : ℕ) (turn : Turn) (rest : List Turn) (x : Strand)
+  later_in : (t b : ℕ) (turn : GraphTurn) (rest : List GraphTurn) (x : GraphStrand)
       → ((x.task ≡ t) × (b + 1 ≤ x.index) × (x.index ≤ b + 1 + length rest)) ⊎ ((i c : ℕ) × (slice_get rest i ≡ Some (Spawn c)) × In (child c) x)
       → ((x.task ≡ t) × (b ≤ x.index) × (x.index ≤ b + length (turn ∷ rest))) ⊎ ((i c : ℕ) × (slice_get (turn ∷ rest) i ≡ Some (Spawn c)) × In (child c) x)
   later_in t b turn rest x (inl (e, low, high)) = inl (e, omega arith, omega arith)
   later_in t b turn rest x (inr (i, c, g, h)) = inr (suc i, c, g, h)
 
   -- what a task's part of the order has: strands of its own, and those of its children
-  rest_in : (t b : ℕ) (turns : List Turn) (x : Strand) → In (serial_rest child t b turns) x
+  rest_in : (t b : ℕ) (turns : List GraphTurn) (x : GraphStrand) → In (serial_rest child t b turns) x
       → ((x.task ≡ t) × (b ≤ x.index) × (x.index ≤ b + length turns)) ⊎ ((i c : ℕ) × (slice_get turns i ≡ Some (Spawn c)) × In (child c) x)
   rest_in t b [] x (inl e) = inl (own_in t b 0 x e)
   rest_in t b [] x (inr none) = absurd none
@@ -140,11 +123,11 @@ module _ (child : ℕ → List Strand) where
 -- WHAT STANDS IN THE ORDER
 
 module _ (tasks : Tasks) where
-  pub in_below : (l t : ℕ) (x : Strand) → In (serial_in tasks l t) x → IsAncestor tasks t x.task × Stands tasks x
+  pub in_below : (l t : ℕ) (x : GraphStrand) → In (serial_in tasks l t) x → IsAncestor tasks t x.task × Stands tasks x
   in_below zero t x h = absurd h
   in_below (suc l) t x h = in_below_by l t x (in_below l) (rest_in (serial_in tasks l) t 0 (tasks t) x h)
     where
-      in_below_by : (l t : ℕ) (x : Strand) → ((c : ℕ) (y : Strand) → In (serial_in tasks l c) y → IsAncestor tasks c y.task × Stands tasks y)
+      in_below_by : (l t : ℕ) (x : GraphStrand) → ((c : ℕ) (y : GraphStrand) → In (serial_in tasks l c) y → IsAncestor tasks c y.task × Stands tasks y)
           → ((x.task ≡ t) × (0 ≤ x.index) × (x.index ≤ 0 + length (tasks t))) ⊎ ((i c : ℕ) × Does tasks t i (Spawn c) × In (serial_in tasks l c) x)
           → IsAncestor tasks t x.task × Stands tasks x
       in_below_by l t x again (inl (e, low, high)) =
@@ -154,13 +137,13 @@ module _ (tasks : Tasks) where
 
 module _ (tasks : Tasks) (fj : IsForkJoin tasks) where
   -- a later part of a task's turns
-  abbrev IsPart : ℕ → ℕ → List Turn → Type 0
+  abbrev IsPart : ℕ → ℕ → List GraphTurn → Type 0
   IsPart t b turns = (i c : ℕ) → slice_get turns i ≡ Some (Spawn c) → Does tasks t (b + i) (Spawn c)
 
-  part_rest : (t b : ℕ) (turn : Turn) (rest : List Turn) → IsPart t b (turn ∷ rest) → IsPart t (b + 1) rest
+  part_rest : (t b : ℕ) (turn : GraphTurn) (rest : List GraphTurn) → IsPart t b (turn ∷ rest) → IsPart t (b + 1) rest
   part_rest t b turn rest part i c g = at_place (tasks t) (b + suc i) (b + 1 + i) (Spawn c) (omega arith) (part (suc i) c g)
 
-  not_own : (l t b : ℕ) (rest : List Turn) → IsAncestor tasks 0 t → IsPart t (b + 1) rest → In (serial_rest (serial_in tasks l) t (b + 1) rest) (strand t b) → ⊥
+  not_own : (l t b : ℕ) (rest : List GraphTurn) → IsAncestor tasks 0 t → IsPart t (b + 1) rest → In (serial_rest (serial_in tasks l) t (b + 1) rest) (strand t b) → ⊥
   not_own l t b rest root part h =
       elim (rest_in (serial_in tasks l) t (b + 1) rest (strand t b) h) [
         | inl (e, low, high) ↦ omega arith
@@ -168,7 +151,7 @@ module _ (tasks : Tasks) (fj : IsForkJoin tasks) where
       ]
 
   -- a child's strands aren't among those that follow
-  apart : (l t b c : ℕ) (rest : List Turn) (x : Strand) → IsAncestor tasks 0 t → Does tasks t b (Spawn c) → IsPart t (b + 1) rest
+  apart : (l t b c : ℕ) (rest : List GraphTurn) (x : GraphStrand) → IsAncestor tasks 0 t → Does tasks t b (Spawn c) → IsPart t (b + 1) rest
       → In (serial_in tasks l c) x → In (serial_rest (serial_in tasks l) t (b + 1) rest) x → ⊥
   apart l t b c rest x root sp part h later =
       let above = (in_below tasks l c x h).0 in
@@ -181,7 +164,7 @@ module _ (tasks : Tasks) (fj : IsForkJoin tasks) where
             omega arith
       ]
 
-  rest_once : (l : ℕ) → ((c : ℕ) → IsAncestor tasks 0 c → EachOnce (serial_in tasks l c)) → (t b : ℕ) (turns : List Turn) → IsAncestor tasks 0 t → IsPart t b turns
+  rest_once : (l : ℕ) → ((c : ℕ) → IsAncestor tasks 0 c → EachOnce (serial_in tasks l c)) → (t b : ℕ) (turns : List GraphTurn) → IsAncestor tasks 0 t → IsPart t b turns
       → EachOnce (serial_rest (serial_in tasks l) t b turns)
   rest_once l again t b [] root part = (λ h. h, tt)
   rest_once l again t b (Spawn c ∷ rest) root part =
@@ -213,7 +196,7 @@ pub record IsPlaced (tasks : Tasks) (levels : ℕ) (t k l s : ℕ) : Type 0 wher
   pub window : IsWindow (serial_order tasks levels) (serial_in tasks (suc l) t) s
 
 module _ (tasks : Tasks) (levels : ℕ) (enough : AreLevels tasks levels) where
-  order : List Strand
+  order : List GraphStrand
   order = serial_order tasks levels
 
   root_placed : (l : ℕ) → suc l ≡ levels → IsPlaced tasks levels 0 0 l 0
@@ -262,20 +245,20 @@ module _ (tasks : Tasks) (levels : ℕ) (enough : AreLevels tasks levels) where
       p.window (offset (serial_in tasks l) i (tasks t)) (strand t i)
       (rest_at (serial_in tasks l) t 0 i (tasks t) le ∙ ap (λ x. Some (strand t x)) (let e : 0 + i ≡ i = omega arith in e))
 
-  pub place_of : (u : Strand) → IsRooted tasks u → (i : ℕ) × (slice_get (serial_order tasks levels) i ≡ Some u)
+  pub place_of : (u : GraphStrand) → IsRooted tasks u → (i : ℕ) × (slice_get (serial_order tasks levels) i ≡ Some u)
   place_of u r =
       let p = placed_by r.rooted.0 u.task r.rooted.1 in
       (p.1 + offset (serial_in tasks p.0) u.index (tasks u.task), strand_placed u.task r.rooted.0 p.0 p.1 u.index p.2 r.stands)
 
   -- places of two strands, the second no earlier than the first
-  pub record AreInOrder (x y : Strand) : Type 0 where
+  pub record AreInOrder (x y : GraphStrand) : Type 0 where
     pub first : ℕ
     pub second : ℕ
     pub first_at : slice_get (serial_order tasks levels) first ≡ Some x
     pub second_at : slice_get (serial_order tasks levels) second ≡ Some y
     pub upto : first ≤ second
 
-  on_forward : (x y : Strand) → IsRooted tasks x → GoesOn tasks x y → AreInOrder x y
+  on_forward : (x y : GraphStrand) → IsRooted tasks x → ContinuesTo tasks x y → AreInOrder x y
   on_forward x y r (turn, h, e) =
       let t = x.task in
       let p = placed_by r.rooted.0 t r.rooted.1 in
@@ -290,7 +273,7 @@ module _ (tasks : Tasks) (levels : ℕ) (enough : AreLevels tasks levels) where
         upto = omega arith;
       }
 
-  spawn_forward : (x y : Strand) → IsRooted tasks x → Spawns tasks x y → AreInOrder x y
+  spawn_forward : (x y : GraphStrand) → IsRooted tasks x → Spawns tasks x y → AreInOrder x y
   spawn_forward x y r (c, h, e) =
       let t = x.task in
       let p = placed_by r.rooted.0 t r.rooted.1 in
@@ -304,7 +287,7 @@ module _ (tasks : Tasks) (levels : ℕ) (enough : AreLevels tasks levels) where
         upto = omega arith;
       }
 
-  join_forward : (fj : IsForkJoin tasks) (x y : Strand) (t j c : ℕ) → IsAncestor tasks 0 t → Does tasks t j (Join c) → x ≡ last_of tasks c → y ≡ strand t (j + 1) → AreInOrder x y
+  join_forward : (fj : IsForkJoin tasks) (x y : GraphStrand) (t j c : ℕ) → IsAncestor tasks 0 t → Does tasks t j (Join c) → x ≡ last_of tasks c → y ≡ strand t (j + 1) → AreInOrder x y
   join_forward fj x y t j c root h ex ey =
       let p = placed_by root.0 t root.1 in
       let l = p.0 in
@@ -329,21 +312,21 @@ module _ (tasks : Tasks) (levels : ℕ) (enough : AreLevels tasks levels) where
         upto = omega arith;
       }
 
-  edge_forward : (fj : IsForkJoin tasks) (x y : Strand) → IsRooted tasks x → Leads tasks x y → AreInOrder x y
+  edge_forward : (fj : IsForkJoin tasks) (x y : GraphStrand) → IsRooted tasks x → IsGraphEdge tasks x y → AreInOrder x y
   edge_forward fj x y r (inl on) = on_forward x y r on
   edge_forward fj x y r (inr (inl spawn)) = spawn_forward x y r spawn
   edge_forward fj x y r (inr (inr (t, i, c, h, ex, ey))) =
       let r' = rooted_more tasks fj x y r (inr (inr (t, i, c, h, ex, ey))) in
-      join_forward fj x y t i c (subst (λ (z : Strand). IsAncestor tasks 0 z.task) ey r'.rooted) h ex ey
+      join_forward fj x y t i c (subst (λ (z : GraphStrand). IsAncestor tasks 0 z.task) ey r'.rooted) h ex ey
 
-  pub one_place_of : (fj : IsForkJoin tasks) (i j : ℕ) (u : Strand) → slice_get (serial_order tasks levels) i ≡ Some u → slice_get (serial_order tasks levels) j ≡ Some u → i ≡ j
+  pub one_place_of : (fj : IsForkJoin tasks) (i j : ℕ) (u : GraphStrand) → slice_get (serial_order tasks levels) i ≡ Some u → slice_get (serial_order tasks levels) j ≡ Some u → i ≡ j
   one_place_of fj i j u a b = one_place (serial_order tasks levels) (in_once tasks fj levels 0 (itself tasks 0)) i j u a b
 
-  walk_forward : (fj : IsForkJoin tasks) (i : ℕ) (u : Strand) → IsRooted tasks u → slice_get (serial_order tasks levels) i ≡ Some u → (v : Strand) → Precedes tasks u v
+  walk_forward : (fj : IsForkJoin tasks) (i : ℕ) (u : GraphStrand) → IsRooted tasks u → slice_get (serial_order tasks levels) i ≡ Some u → (v : GraphStrand) → Precedes tasks u v
       → IsRooted tasks v × ((j : ℕ) × (slice_get (serial_order tasks levels) j ≡ Some v) × (i ≤ j))
   walk_forward fj i u r at v w =
-      reached_within (λ (x : Strand). x ≡ u) (Leads tasks)
-      (λ (x : Strand). IsRooted tasks x × ((j : ℕ) × (slice_get (serial_order tasks levels) j ≡ Some x) × (i ≤ j)))
+      reached_within (λ (x : GraphStrand). x ≡ u) (IsGraphEdge tasks)
+      (λ (x : GraphStrand). IsRooted tasks x × ((j : ℕ) × (slice_get (serial_order tasks levels) j ≡ Some x) × (i ≤ j)))
       (λ a e. (subst (IsRooted tasks) (sym e) r, (i, at ∙ ap Some (sym e), omega arith)))
       (λ m a p e.
       let f = edge_forward fj m a p.0 e in
@@ -356,7 +339,7 @@ module _ (tasks : Tasks) (levels : ℕ) (enough : AreLevels tasks levels) where
 pub serial_order_extends : SerialOrderExtends
 serial_order_extends tasks levels n enough =
     let fj = n.fork_join in
-    let listed : (i : ℕ) (u : Strand) → slice_get (serial_order tasks levels) i ≡ Some u → IsRooted tasks u = λ i u h.
+    let listed : (i : ℕ) (u : GraphStrand) → slice_get (serial_order tasks levels) i ≡ Some u → IsRooted tasks u = λ i u h.
     let r = in_below tasks levels 0 u (got_in (serial_order tasks levels) i u h) in
     record { stands = r.1; rooted = r.0 } in
     record {

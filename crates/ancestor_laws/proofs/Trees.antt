@@ -1,10 +1,5 @@
 -- The tree that spawns make of tasks.
-use Rattle.std.proofs.Common.{◌≡◌, ℕ, zero, suc, ◌⊎◌, inl, inr, refl, sym, subst}
-use Rattle.std.proofs.lemmas.Bool.{cases_eq}
-use Rattle.walk_laws.specs.Reached.{IsWalk}
-use Rattle.fork_graph.specs.declared.graph.Turn.TheVariants.{Join}
-use Rattle.fork_graph.specs.Graph.{Tasks, Does, IsParent, IsAncestor}
-use Rattle.fork_graph.specs.Nested.{IsForkJoin}
+use Rattle.ancestor_laws.proofs.Common.{◌≡◌, ℕ, zero, suc, ◌⊎◌, inl, inr, refl, sym, subst, cases_eq, IsWalk, Join, Tasks, Does, IsParent, IsAncestor, IsForkJoin}
 
 -- so many spawns lead from a to t
 abbrev pub IsLine : Tasks → ℕ → ℕ → ℕ → Type 0

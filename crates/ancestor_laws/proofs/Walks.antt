@@ -1,30 +1,23 @@
 -- Walks along edges between strands.
-use Rattle.std.proofs.Common.{◌≡◌, ℕ, zero, suc, ◌+◌, ◌-◌, ◌<◌, ◌≤◌, length, inl, inr, refl, ap, sym, subst, ◌∙◌, arith}
-use Rattle.std.proofs.lemmas.Option.{slice_get_within}
-use Rattle.listed.proofs.Places.{got_some}
-use Rattle.walk_laws.proofs.Reached.{reached_within, reached_more}
-use Rattle.fork_graph.specs.declared.graph.Turn.TheVariants.{Spawn, Join}
-use Rattle.fork_graph.specs.declared.graph.Strand.{Strand}
-use Rattle.fork_graph.specs.Graph.{Tasks, strand, first_of, last_of, Stands, GoesOn, Spawns, Joins, Leads, Precedes, IsAttached, IsParent, IsAncestor}
-use Rattle.fork_graph.specs.Nested.{IsForkJoin, IsNested}
+use Rattle.ancestor_laws.proofs.Common.{◌≡◌, ℕ, zero, suc, ◌+◌, ◌-◌, ◌<◌, ◌≤◌, length, inl, inr, refl, ap, sym, subst, ◌∙◌, arith, slice_get_within, got_some, reached_within, reached_more, Spawn, Join, GraphStrand, Tasks, strand, first_of, last_of, Stands, ContinuesTo, Spawns, JoinsTo, IsGraphEdge, Precedes, IsAttached, IsParent, IsAncestor, IsForkJoin, IsNested}
 use Rattle.ancestor_laws.proofs.Trees.{IsLine, itself, below, no_root_parent, joins_child, parent_line}
 
-pub strand_is : (u : Strand) (t i : ℕ) → u.task ≡ t → u.index ≡ i → u ≡ strand t i
+pub strand_is : (u : GraphStrand) (t i : ℕ) → u.task ≡ t → u.index ≡ i → u ≡ strand t i
 strand_is u t i e f = ap (λ x. strand x u.index) e ∙ ap (λ x. strand t x) f
 
 module _ (tasks : Tasks) where
-  pub here : (u : Strand) → Precedes tasks u u
-  here u = (zero, refl)
+  pub precedes_itself : (u : GraphStrand) → Precedes tasks u u
+  precedes_itself u = (zero, refl)
 
-  pub same_strand : (u v : Strand) → v ≡ u → Precedes tasks u v
+  pub same_strand : (u v : GraphStrand) → v ≡ u → Precedes tasks u v
   same_strand u v e = (zero, e)
 
-  pub and_then : (u m v : Strand) → Precedes tasks u m → Leads tasks m v → Precedes tasks u v
-  and_then u m v w e = reached_more (λ (x : Strand). x ≡ u) (Leads tasks) m v w e
+  pub and_then : (u m v : GraphStrand) → Precedes tasks u m → IsGraphEdge tasks m v → Precedes tasks u v
+  and_then u m v w e = reached_more (λ (x : GraphStrand). x ≡ u) (IsGraphEdge tasks) m v w e
 
-  pub both : (u m v : Strand) → Precedes tasks u m → Precedes tasks m v → Precedes tasks u v
+  pub both : (u m v : GraphStrand) → Precedes tasks u m → Precedes tasks m v → Precedes tasks u v
   both u m v w more =
-      reached_within (λ (x : Strand). x ≡ m) (Leads tasks) (Precedes tasks u)
+      reached_within (λ (x : GraphStrand). x ≡ m) (IsGraphEdge tasks) (Precedes tasks u)
       (λ a e. subst (Precedes tasks u) (sym e) w)
       (λ x a p e. and_then u x a p e) v more
 
@@ -63,7 +56,7 @@ module _ (tasks : Tasks) (n : IsNested tasks) where
       let join = n.all_joined t p w.2.0 w.2.1 in
       let j = join.0 in
       let lt : j < length (tasks p) = slice_get_within (tasks p) j (Join t) join.1 in
-      let up = and_then tasks (last_of tasks t) (last_of tasks t) (strand p (j + 1)) (here tasks (last_of tasks t)) (inr (inr (p, j, t, join.1, refl, refl))) in
+      let up = and_then tasks (last_of tasks t) (last_of tasks t) (strand p (j + 1)) (precedes_itself tasks (last_of tasks t)) (inr (inr (p, j, t, join.1, refl, refl))) in
       both tasks (last_of tasks t) (strand p (j + 1)) (last_of tasks c) up
       (both tasks (strand p (j + 1)) (last_of tasks p) (last_of tasks c)
       (along tasks p (j + 1) (length (tasks p)) (omega arith) (omega arith))
@@ -76,44 +69,44 @@ module _ (tasks : Tasks) (n : IsNested tasks) where
 -- STRANDS THAT WALKS LEAD TO
 
 -- it is a strand of a task below the root
-pub record IsRooted (tasks : Tasks) (u : Strand) : Type 0 where
+pub record IsRooted (tasks : Tasks) (u : GraphStrand) : Type 0 where
   pub stands : Stands tasks u
   pub rooted : IsAncestor tasks 0 u.task
 
 module _ (tasks : Tasks) (fj : IsForkJoin tasks) where
-  rooted_on : (u v : Strand) → IsRooted tasks u → GoesOn tasks u v → IsRooted tasks v
+  rooted_on : (u v : GraphStrand) → IsRooted tasks u → ContinuesTo tasks u v → IsRooted tasks v
   rooted_on u v r (turn, h, e) =
       let lt : u.index < length (tasks u.task) = slice_get_within (tasks u.task) u.index turn h in
       subst (IsRooted tasks) (sym e) (record { stands = omega arith; rooted = r.rooted })
 
-  rooted_spawn : (u v : Strand) → IsRooted tasks u → Spawns tasks u v → IsRooted tasks v
+  rooted_spawn : (u v : GraphStrand) → IsRooted tasks u → Spawns tasks u v → IsRooted tasks v
   rooted_spawn u v r (c, h, e) =
       subst (IsRooted tasks) (sym e) (record { stands = omega arith; rooted = below tasks 0 u.task c r.rooted (u.index, h) })
 
-  rooted_join : (u v : Strand) → IsRooted tasks u → Joins tasks u v → IsRooted tasks v
+  rooted_join : (u v : GraphStrand) → IsRooted tasks u → JoinsTo tasks u v → IsRooted tasks v
   rooted_join u v r (t, i, c, h, eu, ev) =
       let lt : i < length (tasks t) = slice_get_within (tasks t) i (Join c) h in
       let up = joins_child tasks fj t i c h in
-      let root : IsAncestor tasks 0 c = subst (λ (x : Strand). IsAncestor tasks 0 x.task) eu r.rooted in
+      let root : IsAncestor tasks 0 c = subst (λ (x : GraphStrand). IsAncestor tasks 0 x.task) eu r.rooted in
       subst (IsRooted tasks) (sym ev) (record {
         stands = omega arith;
         rooted = parent_line tasks fj 0 t c (λ e. no_root_parent tasks fj t (subst (IsParent tasks t) e up)) up root;
       })
 
-  pub rooted_more : (u v : Strand) → IsRooted tasks u → Leads tasks u v → IsRooted tasks v
+  pub rooted_more : (u v : GraphStrand) → IsRooted tasks u → IsGraphEdge tasks u v → IsRooted tasks v
   rooted_more u v r (inl on) = rooted_on u v r on
   rooted_more u v r (inr (inl spawn)) = rooted_spawn u v r spawn
   rooted_more u v r (inr (inr join)) = rooted_join u v r join
 
-  pub rooted_walk : (u v : Strand) → IsRooted tasks u → Precedes tasks u v → IsRooted tasks v
+  pub rooted_walk : (u v : GraphStrand) → IsRooted tasks u → Precedes tasks u v → IsRooted tasks v
   rooted_walk u v r w =
-      reached_within (λ (x : Strand). x ≡ u) (Leads tasks) (IsRooted tasks)
+      reached_within (λ (x : GraphStrand). x ≡ u) (IsGraphEdge tasks) (IsRooted tasks)
       (λ a e. subst (IsRooted tasks) (sym e) r) (λ m a p e. rooted_more m a p e) v w
 
-  pub attached_rooted : (u : Strand) → IsAttached tasks u → IsRooted tasks u
+  pub attached_rooted : (u : GraphStrand) → IsAttached tasks u → IsRooted tasks u
   attached_rooted u w = rooted_walk (first_of 0) u (record { stands = omega arith; rooted = itself tasks 0 }) w
 
 -- and to each of them one leads
-pub rooted_attached : (tasks : Tasks) (u : Strand) → IsRooted tasks u → IsAttached tasks u
+pub rooted_attached : (tasks : Tasks) (u : GraphStrand) → IsRooted tasks u → IsAttached tasks u
 rooted_attached tasks u r =
     both tasks (first_of 0) (first_of u.task) u (descend tasks 0 u.task r.rooted) (along tasks u.task 0 u.index (omega arith) r.stands)

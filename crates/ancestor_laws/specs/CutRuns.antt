@@ -1,12 +1,9 @@
 -- What a run that was cut off says of the whole one.
 use Rattle.std.specs.Prelude.{◌↔◌}
-use Rattle.fork_graph.specs.declared.graph.Strand.{Strand}
-use Rattle.fork_graph.specs.Graph.{Tasks, Stands, Precedes, IsAttached}
-use Rattle.fork_graph.specs.Nested.{IsNested}
-use Rattle.fork_graph.specs.Cut.{with_joins, IsCut}
+use Rattle.ancestor_laws.specs.Common.{GraphStrand, Tasks, Stands, Precedes, IsAttached, IsNested, with_joins, IsCut}
 
 -- a strand that was kept, at least in part: it is attached, and all turns before it are there
-pub record IsKept (cut : Tasks) (u : Strand) : Type 0 where
+pub record IsKept (cut : Tasks) (u : GraphStrand) : Type 0 where
   pub attached : IsAttached (with_joins cut) u
   pub stands : Stands cut u
 
@@ -15,4 +12,4 @@ abbrev pub CutRunsSpeakTruly : Type 0
 CutRunsSpeakTruly =
     (cut whole : Tasks) → IsNested whole → IsCut cut whole
     → IsNested (with_joins cut)
-    × ((u v : Strand) → IsKept cut u → IsKept cut v → IsAttached whole u × (Precedes (with_joins cut) u v ↔ Precedes whole u v))
+    × ((u v : GraphStrand) → IsKept cut u → IsKept cut v → IsAttached whole u × (Precedes (with_joins cut) u v ↔ Precedes whole u v))

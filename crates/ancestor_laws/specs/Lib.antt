@@ -3,3 +3,4 @@ pub mod Serial
 pub mod Span
 pub mod CutRuns
 pub mod Blocks
+mod Common

@@ -1,15 +1,15 @@
--- Walks over nodes that bear names are walks over the names.
+-- Walks over nodes with names are walks over the names.
 use Rattle.std.proofs.Common.{ℕ, zero, suc, List, subst}
 use Rattle.std.specs.Prelude.{◌↔◌}
 use Rattle.object_layout.specs.declared.word.Addr.{Addr}
 use Rattle.object_layout.specs.declared.word.Birth.{Birth}
 use Rattle.object_layout.specs.ChunkValue.{ChunkValue}
 use Rattle.object_layout.specs.Chunks.{cell_of}
-use Rattle.object_layout.specs.Graph.{Leads}
+use Rattle.object_layout.specs.Graph.{RefersTo}
 use Rattle.walk_laws.specs.Reached.{IsWalk, IsReached}
 use Rattle.object_layout.proofs.PlaceLemmas.{born_name}
-use Rattle.leaf_copy_gc.specs.Survivors.{Starts as StartsCopying}
-use Rattle.inner_mark_gc.specs.Snapshot.{Starts as StartsMarking}
+use Rattle.copying_gc.specs.Survivors.{Starts as StartsCopying}
+use Rattle.mark_sweep_gc.specs.Snapshot.{Starts as StartsMarking}
 use Rattle.birth_walk_laws.specs.Births.{Bears, AreBornOnce, StartsNamed, LeadsNamed, IsReachedByName}
 use Rattle.birth_walk_laws.specs.Laws.{SurvivorsAreNamed, SnapshotIsNamed}
 
@@ -36,7 +36,7 @@ module _ (h : List ChunkValue) (starts : Addr → Type 0) (leads : Addr → Addr
   carried a n e = ((λ w. (w.0, by_names w.0 a n e w.1)), (λ w. (w.0, by_addresses w.0 a n e w.1)))
 
 pub survivors : SurvivorsAreNamed
-survivors = λ h from once. carried h (StartsCopying h from) (Leads h) once (λ a s. born_name (cell_of h a).mark s.0) (λ b a l. born_name (cell_of h a).mark l.1)
+survivors = λ h from once. carried h (StartsCopying h from) (RefersTo h) once (λ a s. born_name (cell_of h a).mark s.0) (λ b a l. born_name (cell_of h a).mark l.1)
 
 pub snapshot : SnapshotIsNamed
-snapshot = λ f kept once. carried f.heap (StartsMarking f kept) (Leads f.heap) once (λ a s. born_name (cell_of f.heap a).mark s.0) (λ b a l. born_name (cell_of f.heap a).mark l.1)
+snapshot = λ f kept once. carried f.heap (StartsMarking f kept) (RefersTo f.heap) once (λ a s. born_name (cell_of f.heap a).mark s.0) (λ b a l. born_name (cell_of f.heap a).mark l.1)

@@ -7,11 +7,11 @@ use Rattle.object_layout.specs.ChunkValue.{ChunkValue}
 use Rattle.object_layout.specs.Chunks.{cell_of}
 use Rattle.walk_laws.specs.Reached.{IsReached}
 
--- the object at this address bears this name
+-- the object at this address has this name
 abbrev pub Bears : List ChunkValue → Addr → Birth → Type 0
 Bears h a n = (cell_of h a).mark ≡ Born n
 
--- no name is borne twice
+-- names are distinct
 abbrev pub AreBornOnce : List ChunkValue → Type 0
 AreBornOnce h = (a b : Addr) (n : Birth) → Bears h a n → Bears h b n → a ≡ b
 

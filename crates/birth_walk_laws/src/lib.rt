@@ -1,4 +1,4 @@
-// What both collectors keep, told by birth names: walks over the addresses of a heap as walks over the names of its
+// What both collectors keep, in terms of birth names: walks over the addresses of a heap as walks over the names of its
 // objects.
 #![tactic(auto)]
 

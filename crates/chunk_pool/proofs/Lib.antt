@@ -1,3 +1,4 @@
 mod UnitLemmas
 mod Numbering
 pub mod OwnerLaws
+mod Common

@@ -1,14 +1,5 @@
 -- Chunks that are numbered one after another.
-use Rattle.std.proofs.Common.{◌≡◌, ◌≢◌, ℕ, ◌+◌, true, false, cond, ◌||◌, Option, Some, None, List, [], ◌∷◌, ◌++◌, length, length-append, get_or, sym, ap, ◌∙◌, inl, inr, eqb, arith, append_assoc}
-use Rattle.std.specs.Prelude.{All}
-use Rattle.std.proofs.lemmas.Bool.{cases_Bool, cases_eq, eq-eqb, ne_eqb, cond-true, cond-false}
-use Rattle.std.proofs.lemmas.List.Elements.{All-append, All-cons, All-head, All-nil, All-tail}
-use Rattle.std.proofs.Math.Bool.{or-false, or-true}
-use Rattle.object_layout.specs.ChunkValue.{ChunkValue}
-use Rattle.object_layout.specs.Chunks.{has_chunk}
-use Rattle.object_layout.proofs.Owning.{apart_more, has_append, has_one}
-use Rattle.chunk_pool.specs.declared.pool.Slot.{Slot}
-use Rattle.chunk_pool.specs.PoolValue.{AreNumbered, IsBlank, NumbersBehind, slot_in, one_unit, slot_units, units_in}
+use Rattle.chunk_pool.proofs.Common.{◌≡◌, ◌≢◌, ℕ, ◌+◌, true, false, cond, ◌||◌, Option, Some, None, List, [], ◌∷◌, ◌++◌, length, length-append, get_or, sym, ap, ◌∙◌, inl, inr, eqb, arith, append_assoc, All, cases_Bool, cases_eq, eq-eqb, ne_eqb, cond-true, cond-false, All-append, All-cons, All-head, All-nil, All-tail, or-false, or-true, ChunkValue, has_chunk, apart_more, has_append, has_one, Slot, AreNumbered, IsBlank, NumbersBehind, slot_in, one_unit, slot_units, units_in}
 use Rattle.chunk_pool.proofs.UnitLemmas.{units_changed}
 
 module _ (xs ys zs : List (Option Slot)) (owner : ℕ) (ks : List ChunkValue) (k : ChunkValue) (was : AreNumbered xs ys owner ks)

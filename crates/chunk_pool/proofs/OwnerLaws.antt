@@ -1,16 +1,10 @@
--- Whose a number in use is.
-use Rattle.std.proofs.Common.{◌≡◌, ◌≢◌, ℕ, Bool, true, false, ◌⊎◌, inl, inr, Option, Some, None, refl, sym, ap, ◌∙◌, subst}
-use Rattle.std.specs.Prelude.{IfSome, IsSome, option_map}
-use Rattle.std.proofs.lemmas.Bool.{cases_eq, cond-true, cond-false, false≢true}
-use Rattle.object_layout.specs.Chunks.{has_chunk}
-use Rattle.chunk_pool.specs.declared.pool.Slot.{Slot}
-use Rattle.chunk_pool.specs.PoolValue.{PoolValue, slot_at, one_unit, owner_of, KeepsOthers}
-use Rattle.chunk_pool.specs.Laws.{OwnersFrom, OwnersStay, TakenAreOwned}
+-- The owner of a number in use.
+use Rattle.chunk_pool.proofs.Common.{◌≡◌, ◌≢◌, ℕ, Bool, true, false, ◌⊎◌, inl, inr, Option, Some, None, refl, sym, ap, ◌∙◌, subst, IfSome, IsSome, option_map, cases_eq, cond-true, cond-false, false≢true, has_chunk, Slot, PoolValue, slot_at, one_unit, owner_of, KeepsOthers, OwnersFrom, OwnersStay, TakenAreOwned}
 
 stay : (old new : PoolValue) (n : ℕ) → KeepsOthers old new n → OwnersStay old new n
 stay old new n kept = λ k ne. ap (λ (o : Option Slot). option_map (λ (h : Slot). h.owner) o) (kept.others k ne)
 
--- what is kept at the number is one of these
+-- the slot at the number is one of these
 from : (old new : PoolValue) (n o : ℕ) → KeepsOthers old new n → ((u : ℕ) → owner_of new n ≡ Some u → u ≡ o) → OwnersFrom old new n o
 from old new n o kept here = λ k u e. elim (cases_eq k n) [
   | inl is ↦ inl (is, here u (ap (owner_of new) (sym is) ∙ e))

@@ -1,10 +1,5 @@
 -- Units in use after a change at one number.
-use Rattle.std.proofs.Common.{◌≡◌, ◌≢◌, IfSome, subst, ℕ, zero, suc, ◌+◌, ◌-◌, ◌^◌, ◌<◌, ◌≤◌, Option, Some, None, List, [], ◌∷◌, get_or, set, length, inl, inr, refl, sym, ap, ◌∙◌, arith}
-use Rattle.std.proofs.lemmas.Bool.{cases_eq}
-use Rattle.std.proofs.lemmas.Option.{same_Some}
-use Rattle.std.proofs.lemmas.List.{get_or-set_same, get_or-set_other}
-use Rattle.chunk_pool.specs.declared.pool.Slot.{Slot}
-use Rattle.chunk_pool.specs.PoolValue.{PoolValue, slot_units, units_in, Takes, Gives, Relabels, KeepsOthers, IsWithin, AreChunks}
+use Rattle.chunk_pool.proofs.Common.{◌≡◌, ◌≢◌, IfSome, subst, ℕ, zero, suc, ◌+◌, ◌-◌, ◌^◌, ◌<◌, ◌≤◌, Option, Some, None, List, [], ◌∷◌, get_or, set, length, inl, inr, refl, sym, ap, ◌∙◌, arith, cases_eq, same_Some, get_or-set_same, get_or-set_other, Slot, PoolValue, slot_units, units_in, Reserves, Releases, Relabels, KeepsOthers, IsWithin, AreChunks}
 
 abbrev first : List (Option Slot) → Option Slot
 first [] = None
@@ -98,7 +93,7 @@ module _ (limit used : ℕ) (xs ys : List (Option Slot)) (within : IsWithin limi
         let b : slot_units (get_or ys n None) ≡ h.units = ap slot_units now in
         omega (arith, change)
 
-    pub takes : Takes (pool_of limit xs) (pool_of limit ys) n h
+    pub takes : Reserves (pool_of limit xs) (pool_of limit ys) n h
     takes = record { was_free = free; taken = now; units = taken_units; rest = kept }
 
     pub takes_within : used + h.units ≤ limit → (n < 2 ^ 32) × (0 < h.units) → IsWithin limit (used + h.units) ys
@@ -120,7 +115,7 @@ module _ (limit used : ℕ) (xs ys : List (Option Slot)) (within : IsWithin limi
         let c : used ≡ units_in xs = within.counted in
         omega (arith, u)
 
-    pub gives : Gives (pool_of limit xs) (pool_of limit ys) n
+    pub gives : Releases (pool_of limit xs) (pool_of limit ys) n
     gives =
         let b : slot_units (get_or ys n None) ≡ 0 = ap slot_units now in
         record { free = now; units = omega (arith, change); rest = kept }

@@ -1,4 +1,4 @@
-// The numbers of chunks: which are in use, who owns each, and how many units they take together.
+// The numbers of chunks: which are in use, who owns each, and how many units they have in total.
 #![tactic(auto)]
 
 mod numbers;

@@ -1,4 +1,4 @@
-// Many chunks at once: they are made before the first of them gets a number.
+// Many chunks at once: all are allocated before the first of them gets a number.
 
 ghost use Rattle.std.specs.Prelude.{◌≡◌, ◌+◌, ◌*◌, ◌^◌, ◌<◌, ◌≤◌, [], All, IfOk, None, OnOk, Some, length, vec_capacity, vec_len};
 ghost use Rattle.slab.specs.Slab.{slab_len, HasRoomFor, Updates};
@@ -13,7 +13,7 @@ use std::alloc::{AllocError, Global};
 // How many words a chunk of one unit has.
 const UNIT: u32 = CHUNK_WORDS as u32;
 
-/// An empty chunk of this number and so many units: one of those kept, where that will do, or a new one.
+/// An empty chunk with this number and these units: a cached one if it has one unit, or a new one.
 pub fn chunk_of(
     alloc: Global,
     kept: &mut Vec<Chunk>,
@@ -34,7 +34,7 @@ pub fn chunk_of(
     Chunk::new(alloc, number, units)
 }
 
-/// So many empty chunks of one unit, without numbers of their own: those kept, as far as they go, and new ones.
+/// `count` empty chunks of one unit, without numbers of their own: cached ones as far as they go, and new ones.
 pub fn blank_chunks(
     alloc: Global,
     kept: &mut Vec<Chunk>,
@@ -53,14 +53,14 @@ pub fn blank_chunks(
     Ok(blank)
 }
 
-/// Makes places to keep all chunks that are in use, should they come back, once so many units more are taken.
+/// Reserves capacity to cache all chunks in use, should they be released, once `more` units are taken.
 pub fn make_places(kept: &mut Vec<Chunk>, used: u32, more: u32) -> Result<(), AllocError>
     ensures { kept.new.items ≡ kept.old.items }
 {
     kept.reserve(used as usize + more as usize)
 }
 
-/// Keeps a chunk of one unit, without its objects, where there is a place for it; else it is let go.
+/// Caches a chunk of one unit, without its objects, if there is capacity; otherwise drops it.
 pub fn keep(kept: &mut Vec<Chunk>, mut chunk: Chunk)
     requires { All IsBlank kept.old.items }
     ensures { All IsBlank kept.new.items }
@@ -71,8 +71,7 @@ pub fn keep(kept: &mut Vec<Chunk>, mut chunk: Chunk)
     }
 }
 
-/// Makes places for so many numbers of 32 bits. A table that has no such number left is as good as no
-/// memory.
+/// Reserves capacity for more numbers of 32 bits. Without enough such numbers it fails as if out of memory.
 pub fn make_numbers(slots: &mut Slab<Slot>, count: u32) -> Result<(), AllocError>
     ensures slots { slots.new.slots ≡ slots.old.slots }
     ensures room { OnOk result (HasRoomFor slots.new count) }
@@ -100,7 +99,7 @@ fn number_one(slots: &mut Slab<Slot>, owner: u32, chunk: &mut Chunk)
     chunk.renumber(number as u32);
 }
 
-/// Numbers all chunks of a list for an owner, and puts them behind those of another.
+/// Numbers all chunks of a list for an owner, and appends them to another list.
 pub fn number_all(slots: &mut Slab<Slot>, owner: u32, blank: &mut Vec<Chunk>, list: &mut Vec<Chunk>)
     requires room { HasRoomFor slots.old (length blank.old.items) }
     requires small { slots.old.capacity ≤ 2 ^ 32 }

@@ -2,7 +2,7 @@
 
 ghost use Rattle.std.specs.Prelude.{◌≡◌, ℕ, ◌+◌, ◌*◌, ◌^◌, ◌<◌, ◌≤◌, ◌↔◌, [], OnErr, OnOk, IfOk, Err, Some, IsSome};
 ghost use Rattle.object_layout.specs.Cell.{chunk_words};
-ghost use Rattle.chunk_pool.specs.PoolValue.{slot_at, owner_of, units_in_use, AreChunks, Takes, TakesAll, Gives, Relabels};
+ghost use Rattle.chunk_pool.specs.PoolValue.{slot_at, owner_of, units_in_use, AreChunks, Reserves, TakesAll, Releases, Relabels};
 
 use crate::numbers::{blank_chunks, chunk_of, keep, make_numbers, make_places, number_all};
 use object_layout::Chunk;
@@ -10,7 +10,7 @@ use slab::Slab;
 use std::alloc::Global;
 use std::marker::Model;
 
-/// What the pool keeps of a chunk in use: the task that owns it, and its units of 1,024 words.
+/// The slot of a chunk in use: the task that owns it, and its units of 1,024 words.
 #[derive(Clone, Copy)]
 pub struct Slot {
     pub owner: u32,
@@ -20,16 +20,16 @@ pub struct Slot {
 /// Why no chunk was taken.
 #[derive(Clone, Copy)]
 pub enum NotTaken {
-    /// The units in use and those asked for are more than the limit.
+    /// The units in use and those asked for exceed the limit.
     Full,
-    /// There was no memory for the chunk.
+    /// Out of memory.
     NoMemory,
 }
 
 /// The chunks in use, up to a limit in units of 1,024 words.
 ///
-/// Chunks of one unit that come back are kept without their objects, and are handed out again: with those in use
-/// they are never more than were once in use.
+/// Released chunks of one unit are cached without their objects and reused: with those in use, they are never more than
+/// were once in use.
 pub struct Pool {
     limit: u32,
     used: u32,
@@ -62,7 +62,7 @@ impl Model for Pool {
 }
 
 impl Pool {
-    /// No chunk in use. The limit counts units of 1,024 words.
+    /// A pool without chunks in use. The limit is in units of 1,024 words.
     pub fn new(alloc: Global, limit: u32) -> Pool
         requires { limit < 2 ^ 22 }
         ensures { result ≡ record { limit = limit; slots = [] } }
@@ -76,14 +76,14 @@ impl Pool {
         }
     }
 
-    /// An empty chunk of so many units, with a number that was not in use, for this owner.
+    /// An empty chunk of `units` units for this owner, with a number that wasn't in use.
     ///
-    /// Whether the limit allows it is checked before memory is asked for.
+    /// The limit is checked before memory is allocated.
     pub fn take(&mut self, owner: u32, units: u32) -> Result<Chunk, NotTaken>
         requires some { 0 < units }
         requires few { units < 2 ^ 22 }
         ensures full { (result ≡ Err NotTaken.Full) ↔ (self.old.limit < units_in_use self.old + units) }
-        ensures taken { IfOk result (λ chunk. Takes self.old self.new chunk.number (record { owner = owner; units = units })) }
+        ensures taken { IfOk result (λ chunk. Reserves self.old self.new chunk.number (record { owner = owner; units = units })) }
         ensures chunk { IfOk result (λ chunk. chunk ≡ record { number = chunk.number; size = chunk_words * units; cells = [] }) }
         ensures err { OnErr result (self.new ≡ self.old) }
     {
@@ -96,7 +96,7 @@ impl Pool {
         if self.slots.reserve(1).is_err() {
             return Err(NotTaken::NoMemory);
         }
-        // A table that has no number of 32 bits left is as good as no memory.
+        // Without a 32-bit number it fails as if out of memory.
         let Ok(number) = u32::try_from(self.slots.vacant_key()) else {
             return Err(NotTaken::NoMemory);
         };
@@ -108,9 +108,8 @@ impl Pool {
         Ok(chunk)
     }
 
-    /// So many empty chunks of one unit for this owner, put behind those of a list. All of them or none
-    /// are taken: whether the limit allows them is checked before memory is asked for, and memory is
-    /// asked for before the first is taken.
+    /// Appends `count` empty chunks of one unit, for this owner, to a list. All of them or none are taken: the limit is
+    /// checked before memory is allocated, and memory is allocated before the first is taken.
     pub fn take_all(
         &mut self,
         owner: u32,
@@ -143,10 +142,10 @@ impl Pool {
         Ok(())
     }
 
-    /// Takes a chunk back. Its number is no longer in use.
+    /// Releases a chunk. Its number is no longer in use.
     pub fn give(&mut self, chunk: Chunk)
         requires { IsSome (slot_at self.old chunk.number) }
-        ensures { Gives self.old self.new chunk.number }
+        ensures { Releases self.old self.new chunk.number }
     {
         let number = chunk.number() as usize;
         let held = self.slots.remove(number);
@@ -154,14 +153,14 @@ impl Pool {
         keep(&mut self.kept, chunk);
     }
 
-    /// What is kept of the chunk of a number, if that is in use.
+    /// The slot of a number, if that is in use.
     pub fn slot(&self, number: u32) -> Option<Slot>
         ensures { result ≡ slot_at self.now number }
     {
         self.slots.get(number as usize).copied()
     }
 
-    /// The numbers in use are all below this, and have 32 bits; each chunk in use has a unit at least.
+    /// An exclusive upper bound of the numbers in use, which fit in 32 bits; each chunk in use has at least one unit.
     pub fn numbers(&self) -> usize
         ensures below { (number : ℕ) → IsSome (slot_at self.now number) → number < result }
         ensures chunks { AreChunks self.now.slots }
@@ -180,7 +179,7 @@ impl Pool {
         }
     }
 
-    /// Gives the chunk of a number another owner.
+    /// Changes the owner of the chunk of a number.
     pub fn relabel(&mut self, number: u32, owner: u32)
         requires { IsSome (slot_at self.old number) }
         ensures { Relabels self.old self.new number owner }

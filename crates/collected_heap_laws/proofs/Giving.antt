@@ -1,21 +1,5 @@
--- The chunks after a collection and those given back.
-use Rattle.std.proofs.Common.{◌≡◌, ℕ, Bool, true, false, cond, List, [], ◌∷◌, ◌++◌, map, filter, refl, sym, ap, ◌∙◌, subst, Option, Some, None, append_assoc}
-use Rattle.std.specs.Prelude.{nat_lt, reverse}
-use Rattle.std.specs.List.Sorted.{IsPermutation}
-use Rattle.std.proofs.lemmas.List.Sorted.{IsPermutation-append, IsPermutation-append_comm, IsPermutation-append_left, IsPermutation-append_right, IsPermutation-filter_both, IsPermutation-map, IsPermutation-refl, IsPermutation-remove, IsPermutation-reverse, IsPermutation-trans}
-use Rattle.std.proofs.lemmas.List.{get_or_default}
-use Rattle.object_layout.specs.declared.word.Addr.{Addr}
-use Rattle.object_layout.specs.Cell.{Cell, size_of}
-use Rattle.object_layout.specs.ChunkValue.{ChunkValue}
-use Rattle.object_layout.specs.Chunks.{cell_of, chunk_at, no_chunk}
-use Rattle.alloc_path.specs.LeafHeapValue.{LeafHeapValue, IsReserved}
-use Rattle.leaf_copy_gc.specs.declared.lists.Survivor.{Survivor}
-use Rattle.leaf_copy_gc.specs.Survivors.{olds}
-use Rattle.leaf_copy_gc.specs.Laid.{Laying, before, laid_all, laid_one, open_next, opened, placed, room_in, smalls}
-use Rattle.leaf_copy_gc.specs.Redirected.{led_chunk}
-use Rattle.leaf_copy_gc.specs.Exchanged.{emptied, reserved_of, unreserved}
-use Rattle.leaf_copy_gc.specs.Collected.{back_of, collected, keeps, large_of, laid_of, laying_of, leaves, redirection}
-use Rattle.collected_heap_laws.specs.Laws.{labels, NoChunkIsLost}
+-- The chunks after a collection and those released.
+use Rattle.collected_heap_laws.proofs.Common.{◌≡◌, ℕ, Bool, true, false, cond, List, [], ◌∷◌, ◌++◌, map, filter, refl, sym, ap, ◌∙◌, subst, Option, Some, None, append_assoc, nat_lt, reverse, IsPermutation, IsPermutation-append, IsPermutation-append_comm, IsPermutation-append_left, IsPermutation-append_right, IsPermutation-filter_both, IsPermutation-map, IsPermutation-refl, IsPermutation-remove, IsPermutation-reverse, IsPermutation-trans, get_or_default, Addr, Cell, size_of, ChunkValue, cell_of, chunk_at, no_chunk, LeafHeapValue, IsReserved, Survivor, olds, Laying, before, laid_all, laid_one, open_next, opened, placed, room_in, smalls, led_chunk, emptied, reserved_of, unreserved, back_of, collected, keeps, large_of, laid_of, laying_of, leaves, redirection, labels, NoChunkIsLost}
 
 abbrev Label : Type 0
 Label = ℕ × ℕ

@@ -1,3 +1,4 @@
 pub mod Reading
 pub mod Telling
 mod Giving
+mod Common

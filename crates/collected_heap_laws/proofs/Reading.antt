@@ -1,43 +1,14 @@
 -- What is read at a new address.
-use Rattle.std.proofs.Common.{◌≡◌, ℕ, zero, suc, ◌+◌, ◌-◌, Contains, ◌<◌, Bool, true, false, cond, List, [], ◌∷◌, ◌++◌, length, map, refl, sym, ap, ◌∙◌, subst, arith, inl, inr, ◌⊎◌, Option, Some, None, eqb}
-use Rattle.std.specs.Prelude.{nat_lt, nat_le, not, remove, reverse, ◌&&◌}
-use Rattle.std.specs.List.{list_any}
-use Rattle.std.proofs.lemmas.List.{length-reverse}
-use Rattle.std.proofs.lemmas.Bool.{cases_Bool, cases_lt, le-leb, lt-leb, false≢true}
-use Rattle.object_layout.specs.declared.word.Addr.{Addr}
-use Rattle.object_layout.specs.Cell.{Cell, IsBorn, IsObject, no_cell, size_of}
-use Rattle.object_layout.specs.ChunkValue.{ChunkValue, number_of}
-use Rattle.object_layout.specs.Place.{cell_at, IsCellAt}
-use Rattle.object_layout.specs.Chunks.{cell_of, chunk_at}
-use Rattle.object_layout.specs.Graph.{HasObjectAt}
+use Rattle.collected_heap_laws.proofs.Common.{◌≡◌, ℕ, zero, suc, ◌+◌, ◌-◌, Contains, ◌<◌, Bool, true, false, cond, List, [], ◌∷◌, ◌++◌, length, map, refl, sym, ap, ◌∙◌, subst, arith, inl, inr, ◌⊎◌, Option, Some, None, eqb, nat_lt, nat_le, not, remove, reverse, ◌&&◌, list_any, length-reverse, cases_Bool, cases_lt, le-leb, lt-leb, false≢true, Addr, Cell, IsBorn, IsObject, no_cell, size_of, ChunkValue, number_of, cell_at, IsCellAt, cell_of, chunk_at, HasObjectAt, once_from, In, in_append_left, in_from_contains, in_kept, map_in, read_in, LeafHeapValue, IsReserved, IsSettled, IsTidy, Survivor, olds, reserved_of, unreserved, AreSurvivors, collected, keeps, large_of, laid_of, moves_of, redirection, CanTake, first_of, none_at, same_address, small_lives, small_room, Laying, HaveRoom, before, is_small, smalls, laid_all, laid_at, laid_one, next_place, opened, open_next, placed, relocations, room_in, led_cell, led_chunk, size_led, some_room, numbers, Distinct, within_at, LargeAreRead, MovedAreRead}
 use Rattle.object_layout.proofs.PlaceLemmas as place
 use Rattle.object_layout.proofs.ChunkLaws as laws
-use Rattle.object_layout.proofs.Distinct.{once_from}
-use Rattle.listed.proofs.Members.{In, in_append_left, in_from_contains, in_kept}
-use Rattle.listed.proofs.Places.{map_in, read_in}
-use Rattle.alloc_path.specs.LeafHeapValue.{LeafHeapValue, IsReserved, IsSettled, IsTidy}
-use Rattle.leaf_copy_gc.specs.declared.lists.Survivor.{Survivor}
-use Rattle.leaf_copy_gc.specs.Survivors.{olds}
-use Rattle.leaf_copy_gc.specs.Exchanged.{reserved_of, unreserved}
-use Rattle.leaf_copy_gc.specs.Collected.{AreSurvivors, collected, keeps, large_of, laid_of, moves_of, redirection}
-use Rattle.leaf_copy_gc.specs.Laws.{CanTake}
-use Rattle.collected_heap_laws.specs.Laws.{LargeAreRead, MovedAreRead}
-use Rattle.leaf_copy_gc.proofs.Naming as naming
-use Rattle.leaf_copy_gc.proofs.Rebuilt as rebuilt
-use Rattle.leaf_copy_gc.proofs.Rebuilt.{first_of, none_at}
-use Rattle.remembered_set.specs.Moved.{same_address}
-use Rattle.leaf_copy_gc.proofs.SmallSurvivors.{small_lives, small_room}
-use Rattle.leaf_copy_gc.specs.Laid.{Laying, HaveRoom, before, is_small, smalls, laid_all, laid_at, laid_one, next_place, opened, open_next, placed, relocations, room_in}
-use Rattle.leaf_copy_gc.specs.Redirected.{led_cell, led_chunk}
-use Rattle.leaf_copy_gc.proofs.FollowLemmas.{size_led}
-use Rattle.leaf_copy_gc.proofs.LastChunk.{some_room}
+use Rattle.copying_gc.proofs.Naming as naming
+use Rattle.copying_gc.proofs.Rebuilt as rebuilt
 use Rattle.address_laws.proofs.Numbers as nums
-use Rattle.leaf_copy_gc.proofs.NewNumbers as new_numbers
-use Rattle.address_laws.proofs.Numbers.{numbers, Distinct}
-use Rattle.leaf_copy_gc.proofs.NewNumbers.{within_at}
+use Rattle.copying_gc.proofs.NewNumbers as new_numbers
 use Rattle.address_laws.proofs.Extent as extent
 
--- what has an object has its number
+-- an object is in the chunk with its number
 pub object_number : (ks : List ChunkValue) (a : Addr) → IsObject (cell_of ks a).mark → In (numbers ks) a.chunk
 object_number ks a o =
     elim (extent.in_numbers (numbers ks) a.chunk) [
@@ -53,12 +24,12 @@ next_number (k ∷ (x ∷ ks)) l = inr (next_number (x ∷ ks) (omega arith))
 -- an object is read where it was placed
 placed_there : (ks : List ChunkValue) (c : Cell) → 0 < length ks → Distinct (numbers ks) → cell_of (placed ks c) (next_place ks) ≡ c
 placed_there [] c l d = absurd (omega arith)
-placed_there (k ∷ []) c l d = extent.here (record k { cells = k.cells ++ c ∷ [] }) [] (next_place (k ∷ [])) refl ∙ place.cell_at-last k.cells c
+placed_there (k ∷ []) c l d = extent.cell_in_first (record k { cells = k.cells ++ c ∷ [] }) [] (next_place (k ∷ [])) refl ∙ place.cell_at-last k.cells c
 placed_there (k ∷ (x ∷ ks)) c l d =
     extent.later k (placed (x ∷ ks) c) (next_place (x ∷ ks)) (λ e. d.0 (subst (In (numbers (x ∷ ks))) (sym e) (next_number (x ∷ ks) (omega arith))))
     ∙ placed_there (x ∷ ks) c (omega arith) d.1
 
--- other objects stay
+-- other objects are unchanged
 placed_other : (ks : List ChunkValue) (c : Cell) (b : Addr) → IsObject (cell_of ks b).mark → cell_of (placed ks c) b ≡ cell_of ks b
 placed_other [] c b o = refl
 placed_other (k ∷ []) c b o =
@@ -114,7 +85,7 @@ moved_from y h [] m i = absurd i
 moved_from y h (a ∷ xs) m (inl e) = inl (ap (λ (p : Addr × Addr). p.0) e)
 moved_from y h (a ∷ xs) m (inr i) = inr (moved_from (laid_one y (cell_of h a)) h xs m i)
 
--- ---- with references led
+-- ---- with references updated
 
 led_cell_at : (f : Option Addr → Option Addr) (cs : List Cell) (at : ℕ) → cell_at (map (led_cell f) cs) at ≡ led_cell f (cell_at cs at)
 led_cell_at f [] at = refl

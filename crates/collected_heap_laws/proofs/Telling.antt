@@ -1,36 +1,14 @@
--- What a relocation list tells, in whatever order it stands.
-use Rattle.std.proofs.Common.{◌≡◌, ◌<◌, false, List, [], ◌∷◌, map, refl, sym, ap, ◌∙◌, subst, inl, inr, Option, Some, None}
-use Rattle.std.specs.Prelude.{reverse, unwrap_or}
-use Rattle.std.specs.List.Sorted.{IsPermutation}
-use Rattle.std.proofs.lemmas.Bool.{cases_Bool}
-use Rattle.std.proofs.lemmas.List.Sorted.{Contains-permutation, IsPermutation-map, IsPermutation-sym}
-use Rattle.listed.proofs.Members.{In, contains_from_in, in_from_contains}
-use Rattle.listed.proofs.Places.{map_in}
-use Rattle.object_layout.specs.declared.word.Addr.{Addr}
-use Rattle.object_layout.specs.ChunkValue.{ChunkValue}
-use Rattle.object_layout.specs.Chunks.{cell_of, has_chunk}
-use Rattle.object_layout.proofs.Distinct.{Once, is_same, once_from, same_is}
+-- The meaning of a relocation list, in any order.
+use Rattle.collected_heap_laws.proofs.Common.{◌≡◌, ◌<◌, false, List, [], ◌∷◌, map, refl, sym, ap, ◌∙◌, subst, inl, inr, Option, Some, None, reverse, unwrap_or, IsPermutation, cases_Bool, Contains-permutation, IsPermutation-map, IsPermutation-sym, In, contains_from_in, in_from_contains, map_in, Addr, ChunkValue, cell_of, has_chunk, Once, is_same, once_from, same_is, fresh_none, LeafHeapValue, ArePlaces, new_of, same_address, Survivor, olds, before, laid_one, relocations, smalls, HaveRoom, Laying, redirected, moves_of, AreSurvivors, CanTake, once_sorted, first_in, firsts, in_first, MovesAreTold}
 use Rattle.object_layout.proofs.ChunkLaws as laws
-use Rattle.object_layout.proofs.Owning.{fresh_none}
-use Rattle.alloc_path.specs.LeafHeapValue.{LeafHeapValue}
-use Rattle.remembered_set.specs.Moved.{ArePlaces, new_of, same_address}
-use Rattle.leaf_copy_gc.specs.declared.lists.Survivor.{Survivor}
-use Rattle.leaf_copy_gc.specs.Survivors.{olds}
-use Rattle.leaf_copy_gc.specs.Laid.{before, laid_one, relocations, smalls, HaveRoom, Laying}
-use Rattle.leaf_copy_gc.specs.Redirected.{redirected}
-use Rattle.leaf_copy_gc.specs.Collected.{moves_of, AreSurvivors}
-use Rattle.leaf_copy_gc.specs.Laws.{CanTake}
-use Rattle.collected_heap_laws.specs.Laws.{MovesAreTold}
-use Rattle.leaf_copy_gc.proofs.Evacuated.{once_sorted}
-use Rattle.leaf_copy_gc.proofs.Moves as moves
+use Rattle.copying_gc.proofs.Moves as moves
 use Rattle.address_laws.proofs.Numbers as nums
-use Rattle.leaf_copy_gc.proofs.Order.{first_in, firsts, in_first}
 use Rattle.collected_heap_laws.proofs.Reading as reading
 
 abbrev Moved : Type 0
 Moved = Addr × Addr
 
--- ---- a list with each old address once
+-- ---- a list with distinct old addresses
 
 none_by : (ms : List Moved) (a : Addr) → (In (map first_in ms) a → ⊥) → new_of ms a ≡ None
 none_by [] a n = refl
@@ -57,7 +35,7 @@ picked (x ∷ ms) a b e = elim (cases_Bool (same_address x.0 a)) [
   | inr f ↦ let r = picked ms a b (rw f at e) in (r.0, inr r.1, r.2)
 ]
 
--- lists with the same moves lead alike
+-- lists with the same moves map addresses alike
 abbrev AreSame : List Moved → List Moved → Type 0
 AreSame ms ns = (m : Moved) → In ms m → In ns m
 
@@ -68,7 +46,7 @@ same_by ms ns a once once' to from (Some b) e =
     let r = picked ms a b e in
     ap (new_of ns) (sym r.2) ∙ (some_by ns r.0 once' (to r.0 r.1) ∙ (sym (some_by ms r.0 once r.1) ∙ (ap (new_of ms) r.2 ∙ e)))
 
--- the moves of survivors have each old address once
+-- the moves of survivors have distinct old addresses
 pub once_moves : (ks : List ChunkValue) (from : List (Option Addr)) (ss : List Survivor) (spare : List ChunkValue) → AreSurvivors ks from ss → Once (map first_in (moves_of ks ss spare))
 once_moves ks from ss spare s = subst Once (sym (firsts (before spare) ks (smalls ks (olds ss)))) (moves.once_smalls ks (olds ss) (once_from (olds ss) s.once))
 
@@ -105,12 +83,12 @@ module _ (h : LeafHeapValue) (from : List (Option Addr)) (ss : List Survivor) (n
   once_moved : Once (map first_in moved)
   once_moved = once_sorted (map first_in all) (map first_in moved) (IsPermutation-map first_in all moved p) once_all
 
-  pub same : (a : Addr) → new_of moved a ≡ new_of all a
-  same a = same_by all moved a once_all once_moved to back (new_of all a) refl
+  pub same_new_address : (a : Addr) → new_of moved a ≡ new_of all a
+  same_new_address a = same_by all moved a once_all once_moved to back (new_of all a) refl
 
   pub leads : (r : Option Addr) → redirected moved r ≡ redirected all r
   leads None = refl
-  leads (Some a) = ap (λ (o : Option Addr). Some (unwrap_or o a)) (same a)
+  leads (Some a) = ap (λ (o : Option Addr). Some (unwrap_or o a)) (same_new_address a)
 
   pub places : ArePlaces moved
   places = all_places moved (λ m i. places_of (before (reverse news)) h.chunks (smalls h.chunks (olds ss)) (reading.room h from ss news s t) m (back m i))
@@ -127,7 +105,7 @@ module _ (h : LeafHeapValue) (from : List (Option Addr)) (ss : List Survivor) (n
 pub moves_are_told : MovesAreTold
 moves_are_told h from ss news moved s t p = record {
   places = places h from ss news moved s t p;
-  same = same h from ss news moved s t p;
+  same = same_new_address h from ss news moved s t p;
   leads = leads h from ss news moved s t p;
   outside = outside h from ss news moved s t p;
 }

@@ -1,19 +1,19 @@
--- What is read in a heap once it was collected.
+-- What is read in a heap after a collection.
 use Rattle.std.specs.Prelude.{◌≡◌, ℕ, false, ◌++◌, List, None, Option, Contains, map, reverse}
 use Rattle.std.specs.List.Sorted.{IsPermutation}
 use Rattle.object_layout.specs.declared.word.Addr.{Addr}
 use Rattle.object_layout.specs.ChunkValue.{ChunkValue}
 use Rattle.object_layout.specs.Chunks.{cell_of, has_chunk}
-use Rattle.alloc_path.specs.LeafHeapValue.{LeafHeapValue, IsReserved, IsSettled}
-use Rattle.leaf_copy_gc.specs.declared.lists.Survivor.{Survivor}
-use Rattle.leaf_copy_gc.specs.Survivors.{olds}
-use Rattle.leaf_copy_gc.specs.Laid.{is_small}
+use Rattle.leaf_heap.specs.LeafHeapValue.{LeafHeapValue, IsReserved, IsSettled}
+use Rattle.copying_gc.specs.declared.lists.Survivor.{Survivor}
+use Rattle.copying_gc.specs.Survivors.{olds}
+use Rattle.copying_gc.specs.Laid.{is_small}
 use Rattle.remembered_set.specs.Moved.{new_of, ArePlaces}
-use Rattle.leaf_copy_gc.specs.Redirected.{led_cell, redirected}
-use Rattle.leaf_copy_gc.specs.Collected.{AreSurvivors, back_of, collected, moves_of, redirection}
-use Rattle.leaf_copy_gc.specs.Laws.{CanTake}
+use Rattle.copying_gc.specs.Redirected.{led_cell, redirected}
+use Rattle.copying_gc.specs.Collected.{AreSurvivors, back_of, collected, moves_of, redirection}
+use Rattle.copying_gc.specs.Laws.{CanTake}
 
--- an object that was moved is read at its new address as it was at the old one, under the same name, its references led
+-- a moved object is read at its new address as it was at the old one, under the same name, its references updated
 abbrev pub MovedAreRead : Type 0
 MovedAreRead =
     (h : LeafHeapValue) (from : List (Option Addr)) (ss : List Survivor) (news : List ChunkValue)
@@ -21,7 +21,7 @@ MovedAreRead =
     → (old new : Addr) → Contains (moves_of h.chunks ss (reverse news)) (old, new)
     → cell_of (collected h ss (reverse news)).chunks new ≡ led_cell (redirection h.chunks ss (reverse news)) (cell_of h.chunks old)
 
--- a large survivor is read where it was, as it was, its references led
+-- a large survivor is read where it was, unchanged except that its references are updated
 abbrev pub LargeAreRead : Type 0
 LargeAreRead =
     (h : LeafHeapValue) (from : List (Option Addr)) (ss : List Survivor) (news : List ChunkValue)
@@ -29,8 +29,8 @@ LargeAreRead =
     → (a : Addr) → Contains (olds ss) a → is_small h.chunks a ≡ false
     → cell_of (collected h ss (reverse news)).chunks a ≡ led_cell (redirection h.chunks ss (reverse news)) (cell_of h.chunks a)
 
--- what a relocation list, in any order, tells: new addresses are places, it leads as the moves do, and an address
--- outside the heap's chunks stays
+-- the meaning of a relocation list, in any order: new addresses are addresses of objects, it maps old addresses as the
+-- moves do, and an address outside the heap's chunks is unchanged
 pub record TellsMoves (h : LeafHeapValue) (ss : List Survivor) (news : List ChunkValue) (moved : List (Addr × Addr)) : Type 0 where
   pub places : ArePlaces moved
   pub same : (a : Addr) → new_of moved a ≡ new_of (moves_of h.chunks ss (reverse news)) a
@@ -43,11 +43,11 @@ MovesAreTold =
     → AreSurvivors h.chunks from ss → CanTake h.chunks news → IsPermutation (moves_of h.chunks ss (reverse news)) moved
     → TellsMoves h ss news moved
 
--- the numbers of chunks, each with the words that the chunk has in all
+-- the numbers of chunks, each with the chunk's words in all
 abbrev pub labels : List ChunkValue → List (ℕ × ℕ)
 labels ks = map (λ k. (k.number, k.size)) ks
 
--- the chunks after a collection and those to give back are together those before it and the new ones
+-- the chunks after a collection and those to release are together those before it and the new ones
 abbrev pub NoChunkIsLost : Type 0
 NoChunkIsLost =
     (h : LeafHeapValue) (ss : List Survivor) (news : List ChunkValue) → IsReserved h.chunks h.reserved

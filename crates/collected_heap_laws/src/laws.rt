@@ -1,4 +1,4 @@
-// Laws of collected heaps, each the clause of a function that does nothing.
+// Laws of collected heaps, each the contract of a function that does nothing.
 
 ghost use Rattle.collected_heap_laws.specs.Laws.{NoChunkIsLost, MovedAreRead, MovesAreTold};
 
@@ -7,7 +7,7 @@ pub fn moved_are_read()
     ensures { MovedAreRead }
 {}
 
-/// A relocation list holds places and leads as the moves do, and an address elsewhere stays.
+/// A relocation list holds addresses of objects and maps as the moves do, and an address elsewhere is unchanged.
 pub fn moves_are_told()
     ensures { MovesAreTold }
 {}

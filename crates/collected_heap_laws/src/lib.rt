@@ -1,4 +1,4 @@
-// What is read in a heap that was collected: objects, old addresses, the chunks that are kept.
+// What is read in a collected heap: objects, old addresses, the chunks that are kept.
 #![tactic(auto)]
 
 mod laws;

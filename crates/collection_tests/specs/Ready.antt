@@ -1,15 +1,15 @@
 -- What is checked before a collection.
 use Rattle.std.specs.Prelude.{ℕ, ◌≤◌, List, Option, All}
 use Rattle.memory_scenes.specs.below.object_layout.{Addr, object_of}
-use Rattle.memory_scenes.specs.below.alloc_path.{LeafHeapValue, IsFresh}
+use Rattle.memory_scenes.specs.below.leaf_heap.{LeafHeapValue, IsFresh}
 use Rattle.memory_scenes.specs.below.task_frames.{FramesValue}
-use Rattle.leaf_copy_gc.specs.Survivors.{IsClosed, IsSound, outside}
-use Rattle.leaf_copy_gc.specs.Laid.{small_words}
+use Rattle.copying_gc.specs.Survivors.{IsClosed, IsSoundReference, outside}
+use Rattle.copying_gc.specs.Laid.{small_words}
 
 -- the precondition of a collection into one new chunk with this number
 pub record IsReady (h : LeafHeapValue) (s : FramesValue) (roots : List Addr) (number : ℕ) : Type 0 where
   pub closed : IsClosed h.chunks
-  pub outside : All (IsSound h.chunks) (outside s roots)
+  pub outside : All (IsSoundReference h.chunks) (outside s roots)
   pub fresh : IsFresh h.chunks number
   pub few : small_words h.chunks ≤ 1024
 

@@ -3,12 +3,12 @@
 ghost use Rattle.std.specs.Prelude.{IsTrue};
 ghost use Rattle.collection_tests.specs.Ready.{IsReady};
 
-use leaf_copy_gc::{Moved, ToChunks, copy};
+use copying_gc::{Moved, ToChunks, copy};
+use io_traits::EmptyGate;
 use memory_scenes::{
     Addr, CHUNK_WORDS, Chunk, Frames, LeafHeap, is_fit_heap, is_fresh, outside_is_sound,
     small_in_all,
 };
-use outside_io::EmptyGate;
 use std::alloc::Global;
 
 // Whether the heap, the frames and the roots satisfy the precondition of a collection into one new chunk.

@@ -1,7 +1,7 @@
 // Collections of whole heaps.
 
 use crate::collecting::collect;
-use leaf_copy_gc::Moved;
+use copying_gc::Moved;
 use memory_scenes::{Addr, Frames, LeafHeap, Put, Seen, Spot, at_spot, heap_of, holds, one_frame};
 use std::alloc::Global;
 

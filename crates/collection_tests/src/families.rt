@@ -1,11 +1,11 @@
 // Families: a root and its descendants, where the right child of each fork may fork again.
 
 use fork_join::{Child, EndedChild, Side};
-use heap_tree::{State, Tree};
+use heap_tree::{TaskState, Tree};
 use memory_scenes::{
     Addr, Chunk, Frames, LeafHeap, Pool, add_taken, at, ended, forked, joined, owner, place,
 };
-use remembered_set::{Remembered, Source};
+use remembered_set::{RefField, Remembered};
 use std::alloc::Global;
 
 /// What a child returns.
@@ -34,15 +34,15 @@ pub fn note_all(set: &mut Remembered, fields: &[Field]) -> bool {
 }
 
 // The field of the object at offset 8 of a chunk.
-fn source((chunk, field): Field) -> Source {
-    Source {
+fn source((chunk, field): Field) -> RefField {
+    RefField {
         object: at(chunk, 8),
         field,
     }
 }
 
 /// Whether the sources are these fields.
-pub fn are_sources(sources: &[Source], fields: &[Field]) -> bool {
+pub fn are_sources(sources: &[RefField], fields: &[Field]) -> bool {
     for (i, &field) in fields.iter().enumerate() {
         if sources.get(i).copied() != Some(source(field)) {
             return false;
@@ -191,7 +191,7 @@ impl Family {
     }
 
     /// The state of a task.
-    pub fn state(&self, t: u32) -> Option<State> {
+    pub fn state(&self, t: u32) -> Option<TaskState> {
         self.tree.state(t)
     }
 }

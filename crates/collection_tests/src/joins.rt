@@ -2,7 +2,7 @@
 
 use crate::families::{Family, Field, Outcome};
 use fork_join::Child;
-use heap_tree::{State, Tree};
+use heap_tree::{TaskState, Tree};
 use memory_scenes::{Addr, Frames, LeafHeap, ended, forked, has_forked, one_frame};
 use std::alloc::Global;
 
@@ -79,7 +79,12 @@ fn three_levels(alloc: Global) -> Option<Tree> {
 
 // The parent that continues when the first of two tasks ends, the states then of that task and of task 2, and the
 // parent that continues when the second one ends.
-type Ends = (Option<u32>, Option<State>, Option<State>, Option<u32>);
+type Ends = (
+    Option<u32>,
+    Option<TaskState>,
+    Option<TaskState>,
+    Option<u32>,
+);
 
 // Both end, if they are children.
 fn ends(tree: &mut Tree, first: u32, second: u32) -> Option<Ends> {
@@ -94,9 +99,9 @@ fn ended_one_by_one(alloc: Global, first: u32, second: u32) -> Option<Ends> {
     ends(&mut tree, first, second)
 }
 
-const ENDED: Option<State> = Some(State::Ended);
+const ENDED: Option<TaskState> = Some(TaskState::Ended);
 
-const WAITING: Option<State> = Some(State::Waiting);
+const WAITING: Option<TaskState> = Some(TaskState::Waiting);
 
 // Whichever child ends last, its parent continues.
 #[test]
@@ -133,7 +138,7 @@ fn registers(top: &Frames) -> Registers {
 type Taken = (
     Option<(u64, u64, u32)>,
     Option<[(u32, Option<u32>); 3]>,
-    [Option<State>; 3],
+    [Option<TaskState>; 3],
 );
 
 fn taken(family: &Family) -> Taken {
@@ -156,7 +161,7 @@ fn taken_over_in_new_family(alloc: Global) -> Option<(Registers, Taken)> {
     taken_over(&mut family, &mut top)
 }
 
-const JOINED: Option<State> = Some(State::Joined);
+const JOINED: Option<TaskState> = Some(TaskState::Joined);
 
 // The parent gets the results in its first registers, the words that its children placed, and their chunks before its
 // own; it continues to fill its own.
@@ -164,7 +169,7 @@ const JOINED: Option<State> = Some(State::Joined);
 fn a_parent_takes_over(rt: HostRuntime) {
     let registers = ([-5, 6, 25], [LEFT, RIGHT, LEFT]);
     let chunks = [(2, Some(0)), (1, Some(0)), (0, Some(0))];
-    let states = [Some(State::Ready), JOINED, JOINED];
+    let states = [Some(TaskState::Ready), JOINED, JOINED];
     let taken = (Some((523, 523, 1021)), Some(chunks), states);
     assert!(rt; taken_over_in_new_family(rt.alloc()) == Some((registers, taken)));
 }

@@ -6,7 +6,7 @@ ghost use Rattle.collection_tests.specs.Ready.{fields_of};
 
 use crate::families::{Field, are_sources, note_all};
 use memory_scenes::{Addr, CHUNK_WORDS, Chunk, LeafHeap, Put, Seen, at, heap_of, holds, is_live};
-use remembered_set::{Remembered, Source};
+use remembered_set::{RefField, Remembered};
 use std::alloc::Global;
 
 // A set in which these fields were recorded.
@@ -61,7 +61,7 @@ fn fields_lifted(rt: HostRuntime) {
 }
 
 // Whether the sources of a set are fields of objects of the heap.
-fn are_fields(heap: &LeafHeap, sources: &[Source]) -> bool
+fn are_fields(heap: &LeafHeap, sources: &[RefField]) -> bool
     ensures { IsTrue result → AreFields fields_of heap.now sources.now }
 {
     match sources.split_first() {

@@ -1,19 +1,7 @@
 -- `replay` and `model` write the same.
-use Rattle.std.proofs.Common.{◌≡◌, ◌∙◌, ℕ, List, [], ◌∷◌, ap, ap₂, sym, subst}
-use Rattle.std.specs.Prelude.{Option, Some, None, unwrap_or}
-use Rattle.made_program_laws.specs.below.text_lines.{lines_of}
-use Rattle.made_program_laws.specs.below.hh_lang.{ProgramText}
-use Rattle.made_program_laws.specs.below.run_trace.{EntryValue, SettingsValue, AreTraceLines, Version, Trace}
-use Rattle.round_trip_laws.specs.below.trace_input.{InputFault, TraceInput, trace_lines, IsInput, input_fault, settings_for}
-use Rattle.race_report.specs.below.run_ledger.{RefusedAt, RunEnd, end_of, refused_as_run, out_text}
-use Rattle.command_line.specs.declared.line.Options.{Options}
-use Rattle.command_answers.specs.declared.answer.Status.{Status}
-use Rattle.command_answers.specs.declared.answer.Answer.{Answer}
-use Rattle.command_answers.specs.Status.{status_of_end}
-use Rattle.command_answers.specs.Answers.{AnswersTrace, IsModelled, IsReplay, IsText, WhereTraced, WhereWhole}
-use Rattle.command_answers.specs.Laws.{AreAlike, ModelWritesTheSame}
+use Rattle.command_answers.proofs.Common.{◌≡◌, ◌∙◌, ℕ, List, [], ◌∷◌, ap, ap₂, sym, subst, Option, Some, None, unwrap_or, lines_of, ProgramText, EntryValue, SettingsValue, AreTraceLines, Version, Trace, InputFault, TraceInput, trace_lines, IsInput, input_fault, settings_for, RefusedAt, RunEnd, end_of, refused_as_run, out_text, Options, CommandStatus, Answer, status_of_end, AnswersTrace, IsModelled, IsReplay, IsText, WhereTraced, WhereWhole, WriteTheSame, ModelWritesTheSame}
 
-texts_alike : (named : Status) (bytes : List ℕ) (a b : Answer) → IsText named bytes a → IsText named bytes b → AreAlike a b
+texts_alike : (named : CommandStatus) (bytes : List ℕ) (a b : Answer) → IsText named bytes a → IsText named bytes b → WriteTheSame a b
 texts_alike named bytes a b h k = record { status = h.status ∙ sym k.status; bytes = h.written ∙ sym k.written }
 
 -- an input says one thing
@@ -29,7 +17,7 @@ same_input input t u h k =
     ap₂ made (h.program ∙ sym k.program) (same_trace (trace_lines (lines_of input)) t.trace u.trace h.trace k.trace)
 
 module _ (o : Options) (a b : Answer) where
-  runs : (p : ProgramText) (s : SettingsValue) (entries : List EntryValue) → IsReplay o p s entries a → IsModelled o p s entries b → AreAlike a b
+  runs : (p : ProgramText) (s : SettingsValue) (entries : List EntryValue) → IsReplay o p s entries a → IsModelled o p s entries b → WriteTheSame a b
   runs p s entries h k =
       let ended : end_of p s entries ≡ Some h.0.end = subst (λ j. end_of p s j ≡ Some h.0.end) h.1 h.0.ended in
       let same : h.0.end ≡ k.end = ap (λ (x : Option RunEnd). unwrap_or x k.end) (sym ended ∙ k.ended) in
@@ -38,11 +26,11 @@ module _ (o : Options) (a b : Answer) where
         bytes = subst (λ j. a.bytes ≡ out_text p s o.report o.trace j) h.1 h.0.bytes ∙ sym k.text.written;
       }
 
-  wholes : (p : ProgramText) (s : SettingsValue) (entries : List EntryValue) (r : Option RefusedAt) → WhereWhole (IsReplay o p s entries) r a → WhereWhole (IsModelled o p s entries) r b → AreAlike a b
+  wholes : (p : ProgramText) (s : SettingsValue) (entries : List EntryValue) (r : Option RefusedAt) → WhereWhole (IsReplay o p s entries) r a → WhereWhole (IsModelled o p s entries) r b → WriteTheSame a b
   wholes p s entries None h k = runs p s entries h k
   wholes p s entries (Some r) h k = texts_alike _ _ a b h k
 
-  traces : (input : List ℕ) (f : Option InputFault) → WhereTraced (AnswersTrace (IsReplay o) o.settings) input f a → WhereTraced (AnswersTrace (IsModelled o) o.settings) input f b → AreAlike a b
+  traces : (input : List ℕ) (f : Option InputFault) → WhereTraced (AnswersTrace (IsReplay o) o.settings) input f a → WhereTraced (AnswersTrace (IsModelled o) o.settings) input f b → WriteTheSame a b
   traces input (Some f) h k = texts_alike _ _ a b h k
   traces input None h k =
       let t = h.0 in

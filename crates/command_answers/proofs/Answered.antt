@@ -1,32 +1,9 @@
 -- Every answer has a status of a written answer.
-use Rattle.std.proofs.Common.{◌∙◌, ◌≡◌, ℕ, List, [], ◌∷◌, Bool, true, false, sym, subst, inl, inr}
-use Rattle.std.specs.Prelude.{Option, Some, None, Result, Ok, Err}
-use Rattle.made_program_laws.specs.below.hh_lang.{ProgramText}
-use Rattle.made_program_laws.specs.below.program_reader.{Refused}
-use Rattle.race_report.specs.below.hh_model.{End, Done, Trapped, Entangled}
-use Rattle.made_program_laws.specs.below.run_trace.{EntryValue, SettingsValue}
-use Rattle.round_trip_laws.specs.below.trace_input.{InputFault, TraceInput, input_fault, settings_for}
-use Rattle.race_report.specs.below.run_ledger.{RunEnd, Machine, Fuel, Pool, RefusedAt, refused_as_run}
-use Rattle.refusal_lines.specs.below.run_report.{Extras}
-use Rattle.race_report.specs.declared.data.Race.{Race}
-use Rattle.shared_image.specs.below.image_check.{Fault, image_fault, objects_in}
-use Rattle.refusal_lines.specs.declared.refusal.Refusal.{Refusal}
-use Rattle.refusal_lines.specs.declared.refusal.Refusal.TheVariants.{Words, Source, Line, Entry, Image as ImageRefused}
-use Rattle.refusal_lines.specs.Refusals.{refusal_of}
-use Rattle.command_line.specs.declared.line.Options.{Options}
-use Rattle.command_line.specs.declared.line.CommandLine.{CommandLine}
-use Rattle.command_line.specs.declared.line.CommandLine.TheVariants.{Check, Run, Replay, Model, Races, Image, Make, Verify}
-use Rattle.command_answers.specs.declared.answer.Status.{Status}
-use Rattle.command_answers.specs.declared.answer.Status.TheVariants.{ReadFault}
-use Rattle.command_answers.specs.declared.answer.Answer.{Answer}
-use Rattle.command_answers.specs.declared.answer.Ran.{Ran}
-use Rattle.command_answers.specs.Status.{status_of_end}
-use Rattle.command_answers.specs.Input.{program_in}
-use Rattle.command_answers.specs.Runs.{IsWholeRun}
-use Rattle.command_answers.specs.Answers.{IsText, Refuses, WhereProgram, AnswersText, AnswersProgram, AnswersRun, WhereWhole, AnswersTrace, WhereTraced, AnswersTraced, IsReplay, IsModelled, IsRaceAnswer, IsImaged, extras_of, races_status, AnswersImage, AnswersMake, AnswersLine}
-use Rattle.command_answers.specs.Delivery.{IsAnswered, Delivered}
+use Rattle.command_answers.proofs.Common.{◌∙◌, ◌≡◌, ℕ, List, [], ◌∷◌, Bool, true, false, sym, subst, inl, inr, Option, Some, None, Result, Ok, Err, ProgramText, TextFault, End, Done, Trapped, Entangled, EntryValue, SettingsValue, InputFault, TraceInput, input_fault, settings_for, RunEnd, Machine, Fuel, Pool, RefusedAt, refused_as_run, Extras, Race, ImageFault, image_fault, objects_in, Refusal, Words, Line, Entry, Image as ImageRefused, refusal_of, Options, CommandLine, Check, Run, Replay, Model, Races, Make, Verify, CommandStatus, ReadFault, Answer, CallResult, status_of_end, program_in, IsWholeRun, IsText, Refuses, WhereProgram, AnswersText, AnswersProgram, AnswersRun, WhereWhole, AnswersTrace, WhereTraced, AnswersTraced, IsReplay, IsModelled, IsRaceAnswer, IsImaged, extras_of, races_status, AnswersImage, AnswersMake, AnswersLine, IsAnswered, Delivered}
+use Rattle.refusal_lines.specs.declared.refusal.Refusal.TheVariants.{Source}
+use Rattle.command_line.specs.declared.line.CommandLine.TheVariants.{Image}
 
-text : (named : Status) (bytes : List ℕ) (a : Answer) → IsAnswered named → IsText named bytes a → IsAnswered a.status
+text : (named : CommandStatus) (bytes : List ℕ) (a : Answer) → IsAnswered named → IsText named bytes a → IsAnswered a.status
 text named bytes a ok h = subst IsAnswered (sym h.status) ok
 
 machine_end : (e : End) → IsAnswered (status_of_end (Machine e))
@@ -46,7 +23,7 @@ refused (Line n) a h = text _ _ a tt h
 refused (Entry r) a h = text _ _ a tt h
 refused (ImageRefused f) a h = text _ _ a tt h
 
-read_text : (P : ProgramText → Answer → Type 0) (r : Result ProgramText Refused) (a : Answer) → ((p : ProgramText) → P p a → IsAnswered a.status) → WhereProgram P r a → IsAnswered a.status
+read_text : (P : ProgramText → Answer → Type 0) (r : Result ProgramText TextFault) (a : Answer) → ((p : ProgramText) → P p a → IsAnswered a.status) → WhereProgram P r a → IsAnswered a.status
 read_text P (Ok p) a f h = f p h
 read_text P (Err r) a f h = refused (Source r) a h
 
@@ -77,7 +54,7 @@ races_are : (races : List Race) → IsAnswered (races_status races)
 races_are [] = tt
 races_are (r ∷ rs) = tt
 
-image : (f : Option Fault) (objects : ℕ) (a : Answer) → AnswersImage f objects a → IsAnswered a.status
+image : (f : Option ImageFault) (objects : ℕ) (a : Answer) → AnswersImage f objects a → IsAnswered a.status
 image (Some f) objects a h = refused (ImageRefused f) a h
 image None objects a h = text _ _ a tt h
 
@@ -96,7 +73,7 @@ answered (Make seed size run) input a h = of_make seed size run a h
 answered (Verify file) input a h = image (image_fault input) (objects_in input) a h
 
 -- what was written isn't reported as a read fault
-pub never_read_fault : (a : Answer) (r : Ran) (before after : Option (List ℕ)) → IsAnswered a.status → Delivered a r before after → r.status ≡ ReadFault → ⊥
+pub never_read_fault : (a : Answer) (r : CallResult) (before after : Option (List ℕ)) → IsAnswered a.status → Delivered a r before after → r.status ≡ ReadFault → ⊥
 never_read_fault a r before after ok d e = elim d.written [
   | inl w ↦ subst IsAnswered (sym w.0 ∙ e) ok
   | inr w ↦ absurd (let f = w.0 in cc)

@@ -1,29 +1,13 @@
 -- A command's answer if no fault occurred.
-use Rattle.std.proofs.Common.{◌≡◌, ◌∙◌, ◌⊎◌, ℕ, List, Bool, true, false, subst, sym, inl, inr, refl}
-use Rattle.std.specs.Prelude.{Option, Some, None, Result}
-use Rattle.made_program_laws.specs.below.hh_lang.{ProgramText}
-use Rattle.made_program_laws.specs.below.program_reader.{Refused}
-use Rattle.made_program_laws.specs.below.run_trace.{EntryValue, SettingsValue}
-use Rattle.round_trip_laws.specs.below.trace_input.{InputFault, Source, BadLine, TraceInput, input_fault, settings_for}
-use Rattle.race_report.specs.below.hh_model.{Done as Finished, Trapped, Entangled}
-use Rattle.race_report.specs.below.run_ledger.{RunEnd, Machine, Fuel, Pool, RefusedAt, refused_as_run}
-use Rattle.command_line.specs.declared.line.Options.{Options}
-use Rattle.command_line.specs.declared.line.CommandLine.TheVariants.{Run, Replay, Model, Make}
-use Rattle.command_answers.specs.declared.answer.Status.{Status}
-use Rattle.command_answers.specs.declared.answer.Status.TheVariants.{Done, Source as RefusedSource, NoMemory, Trace}
-use Rattle.command_answers.specs.declared.answer.Answer.{Answer}
-use Rattle.command_answers.specs.declared.answer.Ran.{Ran}
-use Rattle.command_answers.specs.Status.{status_of_end}
-use Rattle.command_answers.specs.Answers.{AnswersLine, AnswersMake, AnswersProgram, AnswersRun, AnswersTrace, AnswersTraced, IsModelled, IsProgramInput, IsReplay, LeavesLine, LeavesMake, WhereProgram, WhereTraced, WhereWhole}
-use Rattle.command_answers.specs.Delivery.{DeliversBy}
-use Rattle.command_answers.specs.Laws.{GivesAll, HasProgram, IsEnd, MadeAreAccepted, MadeAreRun, NoFaultGivesAll, ProgramsAreRun, TracesAreReplayed}
+use Rattle.command_answers.proofs.Common.{◌≡◌, ◌∙◌, ◌⊎◌, ℕ, List, Bool, true, false, subst, sym, inl, inr, refl, Option, Some, None, Result, ProgramText, TextFault, EntryValue, SettingsValue, InputFault, Source, BadLine, TraceInput, input_fault, settings_for, Done as Finished, Trapped, Entangled, RunEnd, Machine, Fuel, Pool, RefusedAt, refused_as_run, Options, Run, Replay, Model, Make, CommandStatus, Answer, CallResult, status_of_end, AnswersLine, AnswersMake, AnswersProgram, AnswersRun, AnswersTrace, AnswersTraced, IsModelled, IsProgramInput, IsReplay, LeavesLine, LeavesMake, WhereProgram, WhereTraced, WhereWhole, DeliversBy, GivesAll, HasProgram, IsEnd, MadeAreAccepted, MadeAreRun, NoFaultGivesAll, ProgramsAreRun, TracesAreReplayed}
+use Rattle.command_answers.specs.declared.answer.CommandStatus.TheVariants.{Done, Source as RefusedSource, NoMemory, Trace}
 use Rattle.command_answers.proofs.Deliveries.{gives_all}
 
 pub no_fault_gives_all : NoFaultGivesAll
 no_fault_gives_all = λ line input r before after d none. gives_all (AnswersLine line input) (LeavesLine line input) r before after d none
 
 -- the same, stated by what follows from answers
-gives_so : (P Q : Answer → Type 0) (r : Ran) (before after : Option (List ℕ)) → ((a : Answer) → P a → Q a) → GivesAll P r before after → GivesAll Q r before after
+gives_so : (P Q : Answer → Type 0) (r : CallResult) (before after : Option (List ℕ)) → ((a : Answer) → P a → Q a) → GivesAll P r before after → GivesAll Q r before after
 gives_so P Q r before after f g = elim g [
   | inl e ↦ inl e
   | inr h ↦ inr (h.0, f h.0 h.1, h.2, h.3, h.4, h.5)
@@ -33,7 +17,7 @@ gives_so P Q r before after f g = elim g [
 
 program_run : (o : Options) (input : List ℕ) (p : ProgramText) (a : Answer) → IsProgramInput input p → AnswersRun o input a → AnswersProgram o p a
 program_run o input p a is h =
-    subst (λ (r : Result ProgramText Refused). WhereProgram (AnswersProgram o) r a) is h
+    subst (λ (r : Result ProgramText TextFault). WhereProgram (AnswersProgram o) r a) is h
 
 pub programs_are_run : ProgramsAreRun
 programs_are_run = λ file o input p r before after is d none.
@@ -61,7 +45,7 @@ made_are_accepted = λ seed size run input r before after d e.
 -- TRACES
 
 -- the status says this, or that the trace is refused
-module _ (E : Status → Type 0) where
+module _ (E : CommandStatus → Type 0) where
   abbrev SaysOrRefuses : Answer → Type 0
   SaysOrRefuses a = (a.status ≡ Trace) ⊎ E a.status
 
@@ -69,7 +53,7 @@ module _ (E : Status → Type 0) where
   whole_end P None a f h = inr (f h)
   whole_end P (Some r) a f h = inl h.status
 
-  input_end : (P : TraceInput → Answer → Type 0) (input : List ℕ) (f : Option InputFault) (a : Answer) → ((t : TraceInput) → P t a → SaysOrRefuses a) → ((r : Refused) → f ≡ Some (Source r) → ⊥)
+  input_end : (P : TraceInput → Answer → Type 0) (input : List ℕ) (f : Option InputFault) (a : Answer) → ((t : TraceInput) → P t a → SaysOrRefuses a) → ((r : TextFault) → f ≡ Some (Source r) → ⊥)
       → WhereTraced P input f a → SaysOrRefuses a
   input_end P input None a g none h = g h.0 h.2
   input_end P input (Some (Source r)) a g none h = absurd (none r refl)
@@ -82,7 +66,7 @@ module _ (E : Status → Type 0) where
       (λ t. whole_end (P t.program (settings_for s t) t.trace.entries) (refused_as_run t.program (settings_for s t) t.trace.entries) a (f t.program (settings_for s t) t.trace.entries))
       has h
 
-  given_end : (P : Answer → Type 0) (r : Ran) (before after : Option (List ℕ)) → ((a : Answer) → P a → SaysOrRefuses a) → GivesAll P r before after → (r.status ≡ NoMemory) ⊎ ((r.status ≡ Trace) ⊎ E r.status)
+  given_end : (P : Answer → Type 0) (r : CallResult) (before after : Option (List ℕ)) → ((a : Answer) → P a → SaysOrRefuses a) → GivesAll P r before after → (r.status ≡ NoMemory) ⊎ ((r.status ≡ Trace) ⊎ E r.status)
   given_end P r before after f g = elim g [
     | inl e ↦ inl e
     | inr h ↦ inr (elim (f h.0 h.1) [

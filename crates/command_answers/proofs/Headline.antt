@@ -1,21 +1,5 @@
 -- Every whole run keeps what is reachable, decides its reads by precedence, and returns exactly what is held.
-use Rattle.std.proofs.Common.{◌≡◌, ◌∙◌, ◌++◌, ◌∷◌, ℕ, List, Option, Some, true, refl, sym, ap, subst}
-use Rattle.race_report.proofs.below.listed.{contains_from_in, in_from_contains}
-use Rattle.made_program_laws.specs.below.hh_lang.{IsProgram, ProgramText}
-use Rattle.race_report.specs.below.hh_model.{State, object_at, run}
-use Rattle.race_report.proofs.below.model_laws.{reads_are_decided}
-use Rattle.race_report.proofs.below.path_laws.{can_going}
-use Rattle.made_program_laws.specs.below.run_trace.{EntryValue, SettingsValue, field_limit}
-use Rattle.race_report.specs.below.run_ledger.{Ledger, heap_of, held_in, IsPrefix, is_legal, ledger_of, tasks_of}
-use Rattle.race_report.proofs.below.run_ledger.{journals_can_be_cut, nothing_reachable_is_freed}
-use Rattle.race_report.proofs.below.journal_laws.{held_is_undropped}
-use Rattle.world_core.specs.below.ledger_step_laws.{Rests}
-use Rattle.world_core.specs.below.core_relation.{BelongingsStand, In, Memory, object_name, handed}
-use Rattle.world_core.proofs.below.core_relation.{held_object, object_held}
-use Rattle.world_core.specs.below.shared_value.{IsSharedValue, SharedValue, accounts, value_of, without_journal}
-use Rattle.world_core.proofs.below.heap_reading.{handed_held, same_machine}
-use Rattle.command_answers.specs.Runs.{ReturnsRun}
-use Rattle.command_answers.specs.Headline.{FreesNoReachable, HeapIsHeld, HeapsAreHeld, RunsHoldTheHeadline, StopsUnordered}
+use Rattle.command_answers.proofs.Common.{◌≡◌, ◌∙◌, ◌++◌, ◌∷◌, ℕ, List, Option, Some, true, refl, sym, ap, subst, contains_from_in, in_from_contains, IsProgram, ProgramText, MachineState, object_at, run, reads_are_decided, can_going, EntryValue, SettingsValue, field_limit, Ledger, heap_of, held_in, IsPrefix, is_legal, ledger_of, tasks_of, journals_can_be_cut, nothing_reachable_is_freed, held_is_undropped, Rests, BelongingsStand, In, Memory, object_name, handed, held_object, object_held, IsSharedValue, SharedValue, accounts, value_of, without_journal, handed_held, same_machine, ReturnsRun, FreesNoReachable, HeapIsHeld, HeapsAreHeld, RunsHoldTheHeadline, StopsUnordered}
 use Rattle.command_answers.proofs.Taken.{step_taken}
 
 -- THE HEAPS of a value that represents its journal
@@ -35,7 +19,7 @@ module _ (w : SharedValue) (I : IsSharedValue w) (t : ℕ) (R : Rests (handed (a
         contains_from_in (held_in (heap_of l t)) (object_name o) (subst (λ ns. In ns (object_name o)) (handed_held l t) (object_held (v.belongings t).chunks (heap_of (handed l) t) H.names o i));
     all = λ n c. held_object (v.belongings t).chunks (heap_of (handed l) t) H.names n (subst (λ ns. In ns n) (sym (handed_held l t)) (in_from_contains (held_in (heap_of l t)) n c));
     once = H.named;
-    contents = λ o i. let x = I.stands.belongings.contents t o R i in (x.0, ap (λ (m : State). object_at m.store (object_name o)) (sym (same_machine w I)) ∙ x.1, x.2);
+    contents = λ o i. let x = I.stands.belongings.contents t o R i in (x.0, ap (λ (m : MachineState). object_at m.store (object_name o)) (sym (same_machine w I)) ∙ x.1, x.2);
   }
 
 heaps_are_held : (w : SharedValue) (I : IsSharedValue w) → HeapsAreHeld (Some (without_journal w)) (accounts w)

@@ -1,23 +1,6 @@
 -- The answer for the heaps that a trace leaves.
-use Rattle.std.proofs.Common.{◌≡◌, ◌∙◌, ◌≤◌, ℕ, List, refl, sym, ap, subst, length}
-use Rattle.std.specs.Prelude.{Option, Some, None}
-use Rattle.made_program_laws.specs.below.text_lines.{most_bytes}
-use Rattle.made_program_laws.specs.below.hh_lang.{ProgramText}
-use Rattle.made_program_laws.specs.below.run_trace.{EntryValue, SettingsValue}
-use Rattle.round_trip_laws.specs.below.trace_input.{InputFault, Source as SourceFault, BadLine, TraceInput, input_fault, settings_for, IsInput}
-use Rattle.race_report.specs.below.run_ledger.{RunEnd, RefusedAt, ledger_of, refused_as_run}
-use Rattle.world_core.specs.below.shared_value.{SharedValue, accounts, IsSharedValue}
-use Rattle.shared_image.specs.below.image_check.{Fault, image_fault, objects_in}
-use Rattle.shared_image.specs.below.heap_image.{Picture, text_of}
-use Rattle.shared_image.specs.Held.{HasJustHeld}
-use Rattle.shared_image.proofs.below.heap_image.{sound_is_faultless}
-use Rattle.refusal_lines.specs.declared.refusal.Refusal.TheVariants.{Entry}
-use Rattle.refusal_lines.specs.Refusals.{refusal_of}
-use Rattle.command_answers.specs.declared.answer.Status.{Status}
-use Rattle.command_answers.specs.declared.answer.Status.TheVariants.{Done}
-use Rattle.command_answers.specs.declared.answer.Answer.{Answer}
-use Rattle.command_answers.specs.Answers.{AnswersImage, AnswersTrace, IsImageOf, IsImaged, IsText, Refuses, WhereTraced, WhereWhole, short_of}
-use Rattle.command_answers.specs.Laws.{ImagesAreVerified, ImagesHaveJustHeld}
+use Rattle.command_answers.proofs.Common.{◌≡◌, ◌∙◌, ◌≤◌, ℕ, List, refl, sym, ap, subst, length, Option, Some, None, most_bytes, ProgramText, EntryValue, SettingsValue, InputFault, Source as SourceFault, BadLine, TraceInput, input_fault, settings_for, IsInput, RunEnd, RefusedAt, ledger_of, refused_as_run, SharedValue, accounts, IsSharedValue, ImageFault, image_fault, objects_in, ImageData, text_of, HasJustHeld, sound_is_faultless, Entry, refusal_of, CommandStatus, Answer, AnswersImage, AnswersTrace, IsImageOf, IsImaged, IsText, Refuses, WhereTraced, WhereWhole, short_of, ImagesAreVerified, ImagesHaveJustHeld}
+use Rattle.command_answers.specs.declared.answer.CommandStatus.TheVariants.{Done}
 use Rattle.command_answers.proofs.Runs.{short_journal, whole_journal}
 use Rattle.command_answers.proofs.Traces.{trace_told}
 
@@ -47,12 +30,12 @@ imaged l t s entries w a limits is program settings journal h =
 
 -- VERIFIED
 
-abbrev IsDone : Status → Type 0
+abbrev IsDone : CommandStatus → Type 0
 IsDone Done = Unit {0}
 IsDone _ = ⊥
 
 -- a refusal's status isn't `Done`
-undone : (named : Status) (bytes : List ℕ) (a : Answer) → (IsDone named → ⊥) → IsText named bytes a → a.status ≡ Done → ⊥
+undone : (named : CommandStatus) (bytes : List ℕ) (a : Answer) → (IsDone named → ⊥) → IsText named bytes a → a.status ≡ Done → ⊥
 undone named bytes a other h e = other (subst IsDone (sym e ∙ h.status) tt)
 
 module _ (a : Answer) (done : a.status ≡ Done) where
@@ -76,7 +59,7 @@ verified : (p : ProgramText) (l : SettingsValue) (entries : List EntryValue) (a 
 verified p l entries a b fits h is =
     let same : a.bytes ≡ text_of is.shows.picture = is.text.written ∙ is.shows.written in
     let none : image_fault a.bytes ≡ None = subst (λ x. length x ≤ most_bytes → image_fault x ≡ None) (sym same) (sound_is_faultless is.shows.picture is.shows.sound).fits fits in
-    (subst (λ (f : Option Fault). AnswersImage f (objects_in a.bytes) b) none h).status
+    (subst (λ (f : Option ImageFault). AnswersImage f (objects_in a.bytes) b) none h).status
 
 pub images_are_verified : ImagesAreVerified
 images_are_verified = λ s input a b h done fits v.
@@ -85,7 +68,7 @@ images_are_verified = λ s input a b h done fits v.
 
 -- HELD
 
-held_by : (p : ProgramText) (l : SettingsValue) (entries : List EntryValue) (w : SharedValue) (q : Picture) → w.program ≡ p → w.settings ≡ l → w.journal.items ≡ entries → HasJustHeld q (accounts w) → HasJustHeld q (ledger_of p l entries)
+held_by : (p : ProgramText) (l : SettingsValue) (entries : List EntryValue) (w : SharedValue) (q : ImageData) → w.program ≡ p → w.settings ≡ l → w.journal.items ≡ entries → HasJustHeld q (accounts w) → HasJustHeld q (ledger_of p l entries)
 held_by p l entries w q program settings journal h =
     subst (λ j. HasJustHeld q (ledger_of p l j)) journal
     (subst (λ x. HasJustHeld q (ledger_of p x w.journal.items)) settings (subst (λ y. HasJustHeld q (ledger_of y w.settings w.journal.items)) program h))

@@ -1,13 +1,6 @@
 -- The answers for images.
-use Rattle.std.proofs.Common.{◌≡◌, ℕ, List, [], ◌∷◌, codes, sym, subst}
-use Rattle.std.specs.Prelude.{Some, None}
-use Rattle.std.specs.Fmt.{decimal}
-use Rattle.race_report.specs.below.run_ledger.{end_line}
-use Rattle.shared_image.specs.below.image_check.{Fault, image_fault, objects_in}
-use Rattle.refusal_lines.specs.declared.refusal.Refusal.TheVariants.{Image}
-use Rattle.command_answers.specs.declared.answer.Status.TheVariants.{Done}
-use Rattle.command_answers.specs.declared.answer.Answer.{Answer}
-use Rattle.command_answers.specs.Answers.{IsText, Refuses, AnswersImage, AnswersVerify}
+use Rattle.command_answers.proofs.Common.{◌≡◌, ℕ, List, [], ◌∷◌, codes, sym, subst, Some, None, decimal, end_line, ImageFault, image_fault, objects_in, Image, Answer, IsText, Refuses, AnswersImage, AnswersVerify}
+use Rattle.command_answers.specs.declared.answer.CommandStatus.TheVariants.{Done}
 
 -- an image that is verified
 pub image_told : (input : List ℕ) (count : ℕ) (bytes : List ℕ) (a : Answer) → image_fault input ≡ None → count ≡ objects_in input
@@ -17,5 +10,5 @@ image_told input count bytes a none is text h =
     (subst (λ n. IsText Done (end_line (codes "verified" ∷ decimal n ∷ [])) a) is (subst (λ x. IsText Done x a) text h))
 
 -- and one that is refused
-pub image_refused : (input : List ℕ) (f : Fault) (a : Answer) → image_fault input ≡ Some f → Refuses (Image f) a → AnswersVerify input a
+pub image_refused : (input : List ℕ) (f : ImageFault) (a : Answer) → image_fault input ≡ Some f → Refuses (Image f) a → AnswersVerify input a
 image_refused input f a e h = subst (λ o. AnswersImage o (objects_in input) a) (sym e) h

@@ -10,3 +10,4 @@ mod Recorded
 mod Raceless
 mod Headline
 mod Taken
+mod Common

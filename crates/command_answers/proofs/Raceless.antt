@@ -1,27 +1,10 @@
 -- A trace without races is never one of an entangled run.
-use Rattle.std.proofs.Common.{◌≡◌, ◌≢◌, ◌∙◌, ℕ, List, [], ◌∷◌, sym, subst}
-use Rattle.std.specs.Prelude.{Option, Some, None}
-use Rattle.made_program_laws.specs.below.hh_lang.{ProgramText}
-use Rattle.race_report.specs.below.hh_model.{Done as IsDone, Trapped, Entangled as Stopped}
-use Rattle.made_program_laws.specs.below.run_trace.{EntryValue, SettingsValue, field_limit}
-use Rattle.round_trip_laws.specs.below.trace_input.{InputFault, Source as InProgram, BadLine, TraceInput, input_fault, settings_for}
-use Rattle.race_report.specs.below.run_ledger.{RefusedAt, RunEnd, Machine, Fuel as FuelEnd, Pool as PoolEnd, end_of, machine_of, refused_as_run, tasks_of}
-use Rattle.race_report.specs.declared.data.Race.{Race}
-use Rattle.race_report.specs.Accesses.{accesses}
-use Rattle.race_report.specs.Report.{IsReport}
-use Rattle.race_report.proofs.Raceless.{raceless_journals_are_disentangled}
-use Rattle.refusal_lines.specs.Refusals.{refusal_of}
-use Rattle.command_line.specs.declared.line.Options.{Options}
-use Rattle.command_answers.specs.declared.answer.Status.{Status}
-use Rattle.command_answers.specs.declared.answer.Status.TheVariants.{Done, Entangled}
-use Rattle.command_answers.specs.declared.answer.Answer.{Answer}
-use Rattle.command_answers.specs.Status.{status_of_end}
-use Rattle.command_answers.specs.Answers.{AnswersTrace, IsRaceAnswer, IsReplay, IsText, Refuses, WhereTraced, WhereWhole, races_status}
-use Rattle.command_answers.specs.Laws.{RacelessAreDisentangled}
+use Rattle.command_answers.proofs.Common.{◌≡◌, ◌≢◌, ◌∙◌, ℕ, List, [], ◌∷◌, sym, subst, Option, Some, None, ProgramText, Done as IsDone, Trapped, Entangled as Stopped, EntryValue, SettingsValue, field_limit, InputFault, Source as InProgram, BadLine, TraceInput, input_fault, settings_for, RefusedAt, RunEnd, Machine, Fuel as FuelEnd, Pool as PoolEnd, end_of, machine_of, refused_as_run, tasks_of, Race, accesses, IsReport, raceless_journals_are_disentangled, refusal_of, Options, CommandStatus, Answer, status_of_end, AnswersTrace, IsRaceAnswer, IsReplay, IsText, Refuses, WhereTraced, WhereWhole, races_status, RacelessAreDisentangled}
+use Rattle.command_answers.specs.declared.answer.CommandStatus.TheVariants.{Done, Entangled}
 use Rattle.command_answers.proofs.Alike.{same_input}
 
 -- a text with another status isn't one that is done
-no_text : (named : Status) (bytes : List ℕ) (a : Answer) → named ≢ Done → IsText named bytes a → a.status ≡ Done → ⊥
+no_text : (named : CommandStatus) (bytes : List ℕ) (a : Answer) → named ≢ Done → IsText named bytes a → a.status ≡ Done → ⊥
 no_text named bytes a other h done = other (sym h.status ∙ done)
 
 no_fault : (f : InputFault) (a : Answer) → Refuses (refusal_of f) a → a.status ≡ Done → ⊥

@@ -1,27 +1,12 @@
 -- A program's text followed by its run's trace is replayed with the same result.
-use Rattle.std.proofs.Common.{◌≡◌, ◌∙◌, ◌++◌, ℕ, Bool, cond, true, false, List, length, inl, inr, refl, ap, sym, subst}
-use Rattle.std.specs.Prelude.{Option, Some, None, Result, Ok, Err, nat_le}
-use Rattle.made_program_laws.specs.below.hh_lang.{ProgramText, program_limit}
-use Rattle.made_program_laws.specs.below.program_reader.{Refused, reading_of}
-use Rattle.made_program_laws.specs.below.run_trace.{Two, Trace, EntryValue, SettingsValue, trace_text}
-use Rattle.round_trip_laws.specs.below.trace_input.{InputFault, TraceInput, settings_for, too_long}
-use Rattle.round_trip_laws.specs.RoundTrip.{CanFollow, IsReadAs}
-use Rattle.round_trip_laws.proofs.Inputs.{recorded_inputs_are_read}
-use Rattle.race_report.specs.below.run_ledger.{RunEnd, RefusedAt, end_of, refused_as_run, out_text}
-use Rattle.command_line.specs.declared.line.Options.{Options}
-use Rattle.command_answers.specs.declared.answer.Answer.{Answer}
-use Rattle.command_answers.specs.Status.{status_of_end}
-use Rattle.command_answers.specs.Input.{program_in}
-use Rattle.command_answers.specs.Runs.{IsWholeRun}
-use Rattle.command_answers.specs.Answers.{AnswersTrace, AnswersTraced, IsModelled, IsReplay, WhereTraced, WhereWhole, extras_of}
-use Rattle.command_answers.specs.Laws.{AreAlike, IsRecorded, RecordedRunsAreAlike}
+use Rattle.command_answers.proofs.Common.{◌≡◌, ◌∙◌, ◌++◌, ℕ, Bool, cond, true, false, List, length, inl, inr, refl, ap, sym, subst, Option, Some, None, Result, Ok, Err, nat_le, ProgramText, program_limit, TextFault, reading_of, Two, Trace, EntryValue, SettingsValue, trace_text, InputFault, TraceInput, settings_for, too_long, CanFollow, IsReadAs, recorded_inputs_are_read, RunEnd, RefusedAt, end_of, refused_as_run, out_text, Options, Answer, status_of_end, program_in, IsWholeRun, AnswersTrace, AnswersTraced, IsModelled, IsReplay, WhereTraced, WhereWhole, extras_of, WriteTheSame, IsRecorded, RecordedRunsAreAlike}
 use Rattle.command_answers.proofs.Runs.{whole_journal}
 
 -- the text of a program within the limit is read as that program
-refused_is : (r : Refused) (p : ProgramText) → Err r ≡ Ok p → ⊥
+refused_is : (r : TextFault) (p : ProgramText) → Err r ≡ Ok p → ⊥
 refused_is r p e = cc
 
-read_by : (b : Bool) (r : Result ProgramText Refused) (p : ProgramText) → cond b r (Err too_long) ≡ Ok p → r ≡ Ok p
+read_by : (b : Bool) (r : Result ProgramText TextFault) (p : ProgramText) → cond b r (Err too_long) ≡ Ok p → r ≡ Ok p
 read_by true r p e = e
 read_by false r p e = absurd (refused_is too_long p e)
 
@@ -63,7 +48,7 @@ module _ (text : List ℕ) (p : ProgramText) (journal : List EntryValue) (is : I
         let found = subst (λ (f : Option InputFault). WhereTraced (AnswersTrace P s) input f b) (((read_as read).1 refl).no_fault) h in
         of_trace (subst (λ t. AnswersTrace P s t b) ((read_as found.0).0 found.1) found.2)
 
-replay_alike : (o : Options) (p : ProgramText) (a b : Answer) → IsWholeRun p o.settings (extras_of o) a → IsReplay o p o.settings a.journal b → AreAlike a b
+replay_alike : (o : Options) (p : ProgramText) (a b : Answer) → IsWholeRun p o.settings (extras_of o) a → IsReplay o p o.settings a.journal b → WriteTheSame a b
 replay_alike o p a b run again =
     let here : end_of p o.settings a.journal ≡ Some again.0.end = subst (λ j. end_of p o.settings j ≡ Some again.0.end) again.1 again.0.ended in
     let same = same_end run.end again.0.end (sym run.ended ∙ here) in
@@ -72,7 +57,7 @@ replay_alike o p a b run again =
       bytes = run.bytes ∙ (ap (λ j. out_text p o.settings o.report o.trace j) (sym again.1) ∙ sym again.0.bytes);
     }
 
-model_alike : (o : Options) (p : ProgramText) (a b : Answer) → IsWholeRun p o.settings (extras_of o) a → IsModelled o p o.settings a.journal b → AreAlike a b
+model_alike : (o : Options) (p : ProgramText) (a b : Answer) → IsWholeRun p o.settings (extras_of o) a → IsModelled o p o.settings a.journal b → WriteTheSame a b
 model_alike o p a b run again =
     let same = same_end run.end again.end (sym run.ended ∙ again.ended) in
     record { status = run.status ∙ (ap status_of_end same ∙ sym again.text.status); bytes = run.bytes ∙ sym again.text.written }

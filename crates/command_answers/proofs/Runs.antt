@@ -1,26 +1,6 @@
 -- The answers for runs.
-use Rattle.std.proofs.Common.{◌∙◌, ◌≡◌, ◌+◌, List, [], true, ap, ap₂, refl, sym, subst, append-nil, length}
-use Rattle.std.specs.Prelude.{Option, Some, None, Result, Ok, Err}
-use Rattle.made_program_laws.specs.below.hh_lang.{ProgramText}
-use Rattle.made_program_laws.specs.below.run_trace.{EntryValue, SettingsValue}
-use Rattle.round_trip_laws.specs.below.trace_input.{TraceInput, settings_for}
-use Rattle.race_report.specs.below.run_ledger.{RunEnd, RefusedAt, IsPrefix, end_of, first_refused, is_legal, or_short, refused_as_run, out_text}
-use Rattle.race_report.proofs.below.run_ledger.{first_refused_is_first}
-use Rattle.refusal_lines.specs.below.run_report.{Extras}
-use Rattle.world_core.specs.below.shared_value.{SharedValue, accounts, without_journal, IsSharedValue}
-use Rattle.world_core.specs.declared.replaying.ReplayStop.{ReplayStop}
-use Rattle.world_core.specs.declared.replaying.ReplayStop.TheVariants.{RefusedAt as Stops, NoMemory as WantsMemory}
-use Rattle.world_core.specs.Replay.{ReplayGives}
-use Rattle.world_core.specs.WorldValue.{WorldValue}
-use Rattle.refusal_lines.specs.declared.refusal.Refusal.TheVariants.{Entry}
-use Rattle.command_line.specs.declared.line.Options.{Options}
-use Rattle.command_answers.specs.declared.answer.Answer.{Answer}
-use Rattle.command_answers.specs.declared.wanted.Wanted.{Wanted}
-use Rattle.command_answers.specs.declared.wanted.Wanted.TheVariants.{Amid}
-use Rattle.command_answers.specs.Status.{status_of_end}
-use Rattle.command_answers.specs.Answers.{AnswersReplayed, AnswersTrace, IsReplay, Refuses, StandsReplayed, WhereWhole, extras_of, short_of}
-use Rattle.command_answers.specs.Delivery.{IsWanted, remains_by}
-use Rattle.command_answers.specs.Runs.{ReturnsRun, IsReplayedRun, LeavesPrefix}
+use Rattle.command_answers.proofs.Common.{◌∙◌, ◌≡◌, ◌+◌, List, [], true, ap, ap₂, refl, sym, subst, append-nil, length, Option, Some, None, Result, Ok, Err, ProgramText, EntryValue, SettingsValue, TraceInput, settings_for, RunEnd, RefusedAt, IsPrefix, end_of, first_refused, is_legal, or_short, refused_as_run, out_text, first_refused_is_first, Extras, SharedValue, accounts, without_journal, IsSharedValue, ReplayStop, NoMemory as WantsMemory, ReplayGives, WorldValue, Entry, Options, Answer, Wanted, Amid, status_of_end, AnswersReplayed, AnswersTrace, IsReplay, Refuses, StandsReplayed, WhereWhole, extras_of, short_of, IsWanted, remains_by, ReturnsRun, IsReplayedRun, LeavesPrefix}
+use Rattle.journal_replay.specs.declared.replaying.ReplayStop.TheVariants.{RefusedAt as Stops}
 use Rattle.command_answers.proofs.Traces.{trace_told}
 
 -- a legal journal with an end is one of a whole run

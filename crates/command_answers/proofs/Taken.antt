@@ -1,16 +1,6 @@
 -- Each step of a legal journal is taken: its task runs, and the machine continues.
-use Rattle.std.proofs.Common.{◌≡◌, ℕ, zero, suc, ◌+◌, true, None, List, [], ◌∷◌, ◌++◌, length, replicate, is_none, ◌⊎◌, inl, inr, refl, ap, sym, subst, ◌∙◌, arith, append_assoc}
-use Rattle.std.proofs.lemmas.Bool.{and_parts}
-use Rattle.std.proofs.lemmas.List.{length-append, length-replicate}
-use Rattle.race_report.proofs.below.listed.{none_is}
-use Rattle.made_program_laws.specs.below.hh_lang.{IsProgram, ProgramText}
-use Rattle.race_report.specs.below.hh_model.{can_step, run, run_from}
-use Rattle.race_report.proofs.below.hh_model.{run_on}
-use Rattle.made_program_laws.specs.below.run_trace.{Kind, Took, Ran, Chunk, Begin, End as EndOf, PutOff, Mark, More, Sweep, Fuel, EntryValue, SettingsValue, field_limit}
-use Rattle.race_report.specs.below.run_ledger.{Ledger, after, refusal, is_legal, is_legal_from, ledger_of, tasks_in, tasks_of}
-use Rattle.race_report.proofs.below.run_ledger.{journals_can_be_cut, entries_move_machine, kind_machine}
-use Rattle.race_report.proofs.below.journal_laws.{fewer_steps_are_legal}
-use Rattle.world_core.proofs.below.ledger_step_laws.{split_leaves}
+use Rattle.command_answers.proofs.Common.{◌≡◌, ℕ, zero, suc, ◌+◌, true, None, List, [], ◌∷◌, ◌++◌, length, replicate, is_none, ◌⊎◌, inl, inr, refl, ap, sym, subst, ◌∙◌, arith, append_assoc, and_parts, length-append, length-replicate, none_is, IsProgram, ProgramText, can_step, run, run_from, run_on, Kind, Took, Ran, Chunk, Begin, PutOff, Mark, More, Sweep, EntryValue, SettingsValue, field_limit, Ledger, after, refusal, is_legal, is_legal_from, ledger_of, tasks_in, tasks_of, journals_can_be_cut, entries_move_machine, kind_machine, fewer_steps_are_legal, split_leaves}
+use Rattle.made_program_laws.specs.below.run_trace.{End as EndOf, Fuel}
 
 -- LISTS OF STEPS
 

@@ -1,27 +1,6 @@
 -- The answers for texts, and for programs with a trace.
-use Rattle.std.proofs.Common.{◌≡◌, ◌∙◌, ◌≤◌, ℕ, Bool, List, true, false, ap, length, sym, subst}
-use Rattle.std.specs.Prelude.{Option, Result, Some, Ok, nat_le}
-use Rattle.std.proofs.lemmas.Bool.{le-leb}
-use Rattle.made_program_laws.specs.below.hh_lang.{ProgramText, program_limit}
-use Rattle.made_program_laws.specs.below.program_reader.{program_of, reading_of}
-use Rattle.made_program_laws.specs.below.program_make.{made_text}
-use Rattle.made_program_laws.proofs.below.program_make.{made_are_short}
-use Rattle.made_program_laws.proofs.Made.{made_are_programs}
-use Rattle.made_program_laws.specs.below.run_trace.{EntryValue, SettingsValue, usual_settings}
-use Rattle.round_trip_laws.specs.below.trace_input.{TraceInput, settings_for}
-use Rattle.race_report.specs.below.run_ledger.{RunEnd, RefusedAt, end_of, refused_as_run, out_text}
-use Rattle.command_line.specs.declared.line.Options.{Options}
-use Rattle.command_answers.specs.declared.answer.Status.{Status}
-use Rattle.command_answers.specs.declared.answer.Status.TheVariants.{Done}
-use Rattle.command_answers.specs.declared.answer.Answer.{Answer}
-use Rattle.command_answers.specs.declared.wanted.Wanted.{Wanted}
-use Rattle.command_answers.specs.declared.wanted.Wanted.TheVariants.{Amid, Before}
-use Rattle.command_answers.specs.Status.{status_of_end}
-use Rattle.command_answers.specs.Input.{program_in}
-use Rattle.command_answers.specs.Answers.{AnswersMake, AnswersProgram, AnswersRun, AnswersTrace, IsModelled, IsText, LeavesMake, LeavesRun, WhereProgram, WhereWhole, summary}
-use Rattle.command_answers.specs.Delivery.{IsWanted}
-use Rattle.command_answers.specs.Laws.{MadeAreRead}
-use Rattle.command_answers.specs.Runs.{LeavesPaced}
+use Rattle.command_answers.proofs.Common.{◌≡◌, ◌∙◌, ◌≤◌, ℕ, Bool, List, true, false, ap, length, sym, subst, Option, Result, Some, Ok, nat_le, le-leb, ProgramText, program_limit, program_of, reading_of, made_text, made_are_short, made_are_programs, EntryValue, SettingsValue, usual_settings, TraceInput, settings_for, RunEnd, RefusedAt, end_of, refused_as_run, out_text, Options, CommandStatus, Answer, Wanted, Amid, Before, status_of_end, program_in, AnswersMake, AnswersProgram, AnswersRun, AnswersTrace, IsModelled, IsText, LeavesMake, LeavesRun, WhereProgram, WhereWhole, summary, IsWanted, MadeAreRead, LeavesPaced}
+use Rattle.command_answers.specs.declared.answer.CommandStatus.TheVariants.{Done}
 
 -- the answer for a journal, which is the trace's, with its settings
 pub trace_told : (P : ProgramText → SettingsValue → List EntryValue → Answer → Type 0) (l : SettingsValue) (t : TraceInput) (s : SettingsValue) (journal : List EntryValue) (r : Option RefusedAt) (a : Answer)
@@ -32,7 +11,7 @@ trace_told P l t s journal r a settings entries is h =
     (subst (λ o. WhereWhole (P t.program s journal) o a) (sym is) h))
 
 -- a journal of a whole run on the machine that never collects
-pub modelled : (o : Options) (p : ProgramText) (s : SettingsValue) (journal : List EntryValue) (end : RunEnd) (named : Status) (bytes : List ℕ) (a : Answer) → end_of p s journal ≡ Some end
+pub modelled : (o : Options) (p : ProgramText) (s : SettingsValue) (journal : List EntryValue) (end : RunEnd) (named : CommandStatus) (bytes : List ℕ) (a : Answer) → end_of p s journal ≡ Some end
     → named ≡ status_of_end end → bytes ≡ out_text p s o.report o.trace journal → IsText named bytes a → IsModelled o p s journal a
 modelled o p s journal end named bytes a ended status text h = record {
   end = end;

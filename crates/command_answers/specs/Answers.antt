@@ -1,40 +1,18 @@
 -- Each command's answer to its input: the bytes, the status, and what is returned.
 use Rattle.std.specs.Prelude.{◌≡◌, ◌+◌, ℕ, true, false, Bool, Option, Some, None, List, [], ◌∷◌, Result, Ok, Err, length, codes}
 use Rattle.std.specs.Fmt.{decimal}
-use Rattle.made_program_laws.specs.below.hh_lang.{ProgramText}
-use Rattle.made_program_laws.specs.below.program_reader.{Refused, program_of}
-use Rattle.made_program_laws.specs.below.program_make.{made_text}
-use Rattle.made_program_laws.specs.below.run_trace.{SettingsValue, field_limit, usual_settings, EntryValue}
-use Rattle.round_trip_laws.specs.below.trace_input.{InputFault, TraceInput, input_fault, settings_for, IsInput}
-use Rattle.race_report.specs.below.run_ledger.{RunEnd, Short, RefusedAt, end_of, refused_as_run, machine_of, tasks_of, end_line, out_text}
-use Rattle.refusal_lines.specs.below.run_report.{Extras}
-use Rattle.race_report.specs.declared.data.Race.{Race}
-use Rattle.race_report.specs.Accesses.{accesses}
-use Rattle.race_report.specs.Report.{IsReport}
-use Rattle.race_report.specs.Text.{races_text}
-use Rattle.world_core.specs.below.shared_value.{SharedValue, accounts, IsSharedValue}
-use Rattle.world_core.specs.WorldValue.{WorldValue}
-use Rattle.world_core.specs.declared.replaying.ReplayStop.{ReplayStop}
-use Rattle.world_core.specs.declared.replaying.ReplayStop.TheVariants.{RefusedAt as Stops, NoMemory as WantsMemory}
-use Rattle.shared_image.specs.below.image_check.{Fault, image_fault, objects_in}
-use Rattle.shared_image.specs.below.heap_image.{Picture, IsSoundPicture, text_of}
-use Rattle.shared_image.specs.Drawn.{IsPictureOf}
-use Rattle.shared_image.specs.Held.{HasJustHeld}
-use Rattle.refusal_lines.specs.declared.refusal.Refusal.{Refusal}
-use Rattle.refusal_lines.specs.declared.refusal.Refusal.TheVariants.{Words, Source, Entry, Image as ImageRefused}
-use Rattle.refusal_lines.specs.Refusals.{refusal_line, refusal_of}
-use Rattle.command_line.specs.declared.line.Options.{Options}
-use Rattle.command_line.specs.declared.line.CommandLine.{CommandLine}
-use Rattle.command_line.specs.declared.line.CommandLine.TheVariants.{Check, Run, Replay, Model, Races, Image as ImageOf, Make, Verify}
-use Rattle.command_answers.specs.declared.answer.Status.{Status}
-use Rattle.command_answers.specs.declared.answer.Status.TheVariants.{Done, Races as RacesFound}
+use Rattle.command_answers.specs.Common.{ProgramText, TextFault, program_of, made_text, SettingsValue, field_limit, usual_settings, EntryValue, InputFault, TraceInput, input_fault, settings_for, IsInput, RunEnd, Short, end_of, refused_as_run, machine_of, tasks_of, end_line, out_text, Extras, Race, accesses, IsReport, races_text, SharedValue, accounts, IsSharedValue, WorldValue, ReplayStop, RefusedAt as Stops, NoMemory as WantsMemory, ImageFault, image_fault, objects_in, ImageData, IsSoundPicture, text_of, IsPictureOf, HasJustHeld, Refusal, Words, Source, Entry, Image as ImageRefused, refusal_line, refusal_of, Options, CommandLine, Check, Run, Replay, Model, Races, Make, Verify}
+use Rattle.race_report.specs.below.run_ledger.{RefusedAt}
+use Rattle.command_line.specs.declared.line.CommandLine.TheVariants.{Image as ImageOf}
+use Rattle.command_answers.specs.declared.answer.CommandStatus.{CommandStatus}
+use Rattle.command_answers.specs.declared.answer.CommandStatus.TheVariants.{Done, Races as RacesFound}
 use Rattle.command_answers.specs.declared.answer.Answer.{Answer}
-use Rattle.command_answers.specs.Status.{status_of_end, status_of_refusal}
+use Rattle.command_answers.specs.CommandStatus.{status_of_end, status_of_refusal}
 use Rattle.command_answers.specs.Input.{program_in}
 use Rattle.command_answers.specs.Runs.{IsReplayedRun, IsWorkersRun, LeavesPaced, LeavesPrefix}
 
 -- only bytes; nothing of a run is returned
-pub record IsText (named : Status) (bytes : List ℕ) (a : Answer) : Type 0 where
+pub record IsText (named : CommandStatus) (bytes : List ℕ) (a : Answer) : Type 0 where
   pub status : a.status ≡ named
   pub written : a.bytes ≡ bytes
   pub journal : a.journal ≡ []
@@ -53,7 +31,7 @@ AnswersWords = Refuses Words
 -- PROGRAMS
 
 -- an input that is a program has this answer, any other is refused by its first fault
-abbrev pub WhereProgram : (ProgramText → Answer → Type 0) → Result ProgramText Refused → Answer → Type 0
+abbrev pub WhereProgram : (ProgramText → Answer → Type 0) → Result ProgramText TextFault → Answer → Type 0
 WhereProgram P (Ok p) = P p
 WhereProgram P (Err r) = Refuses (Source r)
 
@@ -131,7 +109,7 @@ AnswersModel o = AnswersTraced (IsModelled o) o.settings
 
 -- RACES
 
-abbrev pub races_status : List Race → Status
+abbrev pub races_status : List Race → CommandStatus
 races_status [] = Done
 races_status (r ∷ rs) = RacesFound
 
@@ -148,7 +126,7 @@ AnswersRaces = AnswersTraced IsRaceAnswer
 
 -- the text of a sound picture of a shared value, with exactly the objects of heaps at rest
 pub record IsImageOf (w : SharedValue) (text : List ℕ) : Type 0 where
-  pub picture : Picture
+  pub picture : ImageData
   pub draws : IsPictureOf w picture
   pub sound : IsSoundPicture picture
   pub held : HasJustHeld picture (accounts w)
@@ -170,7 +148,7 @@ AnswersImaging = AnswersTraced IsImaged
 
 -- VERIFY
 
-abbrev pub AnswersImage : Option Fault → ℕ → Answer → Type 0
+abbrev pub AnswersImage : Option ImageFault → ℕ → Answer → Type 0
 AnswersImage (Some f) objects = Refuses (ImageRefused f)
 AnswersImage None objects = IsText Done (end_line (codes "verified" ∷ decimal objects ∷ []))
 

@@ -1,16 +1,7 @@
 -- What holds of every whole run, in one law: nothing reachable is freed, reads are stopped if and only if they have to
 -- be, and the heaps at rest hold exactly what the definitions say.
 use Rattle.std.specs.Prelude.{◌≡◌, true, ◌↔◌, ◌++◌, ℕ, Option, Some, List, ◌∷◌, Contains}
-use Rattle.made_program_laws.specs.below.hh_lang.{ProgramText}
-use Rattle.race_report.specs.below.hh_model.{Name, Object, State, Task, object_at, can_step, run, IsStored}
-use Rattle.race_report.specs.below.path_laws.{IsDecided, ReadsNext}
-use Rattle.made_program_laws.specs.below.run_trace.{EntryValue, SettingsValue, field_limit}
-use Rattle.race_report.specs.below.run_ledger.{Ledger, heap_of, held, held_in, IsPrefix, ledger_of, opening, tasks_of, IsDropped, KeepsReachable}
-use Rattle.refusal_lines.specs.below.run_report.{Extras}
-use Rattle.world_core.specs.below.ledger_step_laws.{Rests}
-use Rattle.world_core.specs.below.core_relation.{IsRead, Place, In, Memory, object_name, objects, handed}
-use Rattle.world_core.specs.below.object_layout.{Located}
-use Rattle.world_core.specs.below.shared_value.{SharedValue, value_of}
+use Rattle.command_answers.specs.Common.{ProgramText, Name, Object, MachineState, Task, object_at, can_step, run, IsStored, IsDecided, ReadsNext, EntryValue, SettingsValue, field_limit, Ledger, heap_of, held, held_in, IsPrefix, ledger_of, opening, tasks_of, IsDropped, KeepsReachable, Extras, Rests, IsModelObject, Place, In, Memory, object_name, objects, handed, Located, SharedValue, value_of}
 use Rattle.command_answers.specs.declared.answer.Answer.{Answer}
 use Rattle.command_answers.specs.Runs.{IsWholeRun}
 
@@ -21,8 +12,9 @@ pub record FreesNoReachable (p : ProgramText) (s : SettingsValue) (first : List 
   pub undropped : (n : Name) → Contains (held (ledger_of p s first)) n ↔ (IsStored (ledger_of p s first).machine n × (IsDropped p s (opening p s) first n → ⊥))
 
 -- the step of t after some of the journal's steps: it is taken, t runs and the machine continues; and if it reads a
--- reference, the read succeeds if and only if the strand of its target precedes the reader's, and is stopped otherwise
-pub record StopsUnordered (p : ProgramText) (m : State) (t : ℕ) : Type 0 where
+-- reference, the read succeeds if and only if the strand of its target happens before the reader's, and is stopped
+-- otherwise
+pub record StopsUnordered (p : ProgramText) (m : MachineState) (t : ℕ) : Type 0 where
   pub taken : can_step m t ≡ true
   pub reads : (x : Task) (d : ℕ) (n : Name) (o : Object) → ReadsNext p m t x d n o → IsDecided p m t x d n o
 
@@ -32,9 +24,9 @@ pub record HeapIsHeld (v : Memory) (l : Ledger) (t : ℕ) : Type 0 where
   pub each : (o : Located) → In (objects v t) o → Contains (held_in (heap_of l t)) (object_name o)
   pub all : (n : Name) → Contains (held_in (heap_of l t)) n → (o : Located) × In (objects v t) o × (object_name o ≡ n)
   pub once : (o q : Located) → In (objects v t) o → In (objects v t) q → object_name o ≡ object_name q → o ≡ q
-  pub contents : (o : Located) → In (objects v t) o → (x : Object) × (object_at l.machine.store (object_name o) ≡ Some x) × IsRead (Place v (handed l)) o x
+  pub contents : (o : Located) → In (objects v t) o → (x : Object) × (object_at l.machine.store (object_name o) ≡ Some x) × IsModelObject (Place v (handed l)) o x
 
--- a value is returned in which that holds of each task that no worker holds (once the run is done, of the root too)
+-- a value is returned in which that holds of each task that no worker holds (after the run is done, of the root too)
 pub record HeapsAreHeld (shared : Option SharedValue) (l : Ledger) : Type 0 where
   pub value : SharedValue
   pub is : shared ≡ Some value

@@ -1,15 +1,10 @@
 -- The inputs of commands: whose bytes they are, and the most bytes read.
 use Rattle.std.specs.Prelude.{ℕ, Bool, true, false, List, [], Option, Some, None, Result, Err, length, nat_le, if◌then◌else◌}
-use Rattle.made_program_laws.specs.below.text_lines.{most_bytes}
-use Rattle.all_bytes.specs.Bytes.{source_bytes}
-use Rattle.made_program_laws.specs.below.hh_lang.{ProgramText, program_limit}
-use Rattle.made_program_laws.specs.below.program_reader.{Refused, reading_of}
-use Rattle.round_trip_laws.specs.below.trace_input.{too_long}
-use Rattle.command_line.specs.declared.line.CommandLine.{CommandLine}
-use Rattle.command_line.specs.declared.line.CommandLine.TheVariants.{Check, Run, Replay, Model, Races, Image, Make, Verify}
+use Rattle.command_answers.specs.Common.{most_bytes, source_bytes, ProgramText, program_limit, TextFault, reading_of, too_long, CommandLine, Check, Run, Replay, Model, Races, Make, Verify}
+use Rattle.command_line.specs.declared.line.CommandLine.TheVariants.{Image}
 
 -- the program that an input is, or why it is refused
-abbrev pub program_in : List ℕ → Result ProgramText Refused
+abbrev pub program_in : List ℕ → Result ProgramText TextFault
 program_in input = if nat_le (length input) program_limit then reading_of input else Err too_long
 
 abbrev pub limit_of : CommandLine → ℕ

@@ -1,4 +1,4 @@
-pub mod Status
+pub mod CommandStatus
 pub mod Input
 pub mod Runs
 pub mod Answers
@@ -6,3 +6,4 @@ pub mod Delivery
 pub mod Laws
 pub mod Headline
 pub mod below
+mod Common

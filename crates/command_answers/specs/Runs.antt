@@ -1,12 +1,8 @@
 -- The answers for runs, and what is returned of them.
 use Rattle.std.specs.Prelude.{◌≡◌, true, Option, Some, List}
-use Rattle.made_program_laws.specs.below.hh_lang.{ProgramText}
-use Rattle.made_program_laws.specs.below.run_trace.{EntryValue, SettingsValue}
-use Rattle.race_report.specs.below.run_ledger.{RunEnd, IsPrefix, end_of, is_legal, is_paced, out_text}
-use Rattle.refusal_lines.specs.below.run_report.{Extras}
-use Rattle.world_core.specs.below.shared_value.{SharedValue, without_journal, IsSharedValue}
+use Rattle.command_answers.specs.Common.{ProgramText, EntryValue, SettingsValue, RunEnd, IsPrefix, end_of, is_legal, is_paced, out_text, Extras, SharedValue, without_journal, IsSharedValue}
 use Rattle.command_answers.specs.declared.answer.Answer.{Answer}
-use Rattle.command_answers.specs.Status.{status_of_end}
+use Rattle.command_answers.specs.CommandStatus.{status_of_end}
 
 -- the journal of a run of the program with the settings, which is legal, and the shared value that represents it, from
 -- which it was moved out

@@ -1,3 +1,3 @@
 -- Re-exports from lower crates for the crates above.
-pub mod all_bytes
+pub mod read_write_all
 pub mod hh_lang

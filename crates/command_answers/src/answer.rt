@@ -1,14 +1,14 @@
 // What the top call answers.
 
 ghost use Rattle.std.specs.Prelude.{◌≡◌};
-ghost use Rattle.command_answers.specs.Status.{code_of_status, status_of_end, status_of_machine};
+ghost use Rattle.command_answers.specs.CommandStatus.{code_of_status, status_of_end, status_of_machine};
 
+use journal_replay::Remains;
 use race_report::{End, Entry, Listed, RunEnd};
-use world_core::Remains;
 
 /// How a call ended.
 #[derive(Clone, Copy)]
-pub enum Status {
+pub enum CommandStatus {
     /// A run is done; or a program was read or made.
     Done,
     /// The words are no command line.
@@ -19,7 +19,7 @@ pub enum Status {
     Trap,
     /// A run ended by a read of a concurrent task's object.
     Entangled,
-    /// A run ended because its fuel was spent.
+    /// A run ended because its fuel was used up.
     Fuel,
     /// A run ended because too few chunks were free.
     Pool,
@@ -40,7 +40,7 @@ pub enum Status {
 /// What to write, with its status and what is returned.
 #[derive(Drop)]
 pub struct Answer {
-    pub status: Status,
+    pub status: CommandStatus,
     pub bytes: Listed<u8>,
     pub journal: Listed<Entry>,
     pub shared: Option<Remains>,
@@ -48,55 +48,55 @@ pub struct Answer {
 
 /// What a call returns.
 #[derive(Drop)]
-pub struct Ran {
-    pub status: Status,
+pub struct CallResult {
+    pub status: CommandStatus,
     /// The run's journal, moved out of the shared value; empty if no run was made.
     pub journal: Listed<Entry>,
     /// What the workers shared; None if no run was made.
     pub shared: Option<Remains>,
 }
 
-impl Status {
+impl CommandStatus {
     /// The exit status.
     pub fn code(self) -> u8
         ensures { result ≡ code_of_status self }
     {
         match self {
-            Status::Done => 0,
-            Status::Words => 2,
-            Status::Source => 3,
-            Status::Trap => 4,
-            Status::Entangled => 5,
-            Status::Fuel => 6,
-            Status::Pool => 7,
-            Status::ReadFault => 8,
-            Status::WriteFault => 9,
-            Status::NoMemory => 10,
-            Status::Trace => 11,
-            Status::Races => 12,
-            Status::Image => 13,
+            CommandStatus::Done => 0,
+            CommandStatus::Words => 2,
+            CommandStatus::Source => 3,
+            CommandStatus::Trap => 4,
+            CommandStatus::Entangled => 5,
+            CommandStatus::Fuel => 6,
+            CommandStatus::Pool => 7,
+            CommandStatus::ReadFault => 8,
+            CommandStatus::WriteFault => 9,
+            CommandStatus::NoMemory => 10,
+            CommandStatus::Trace => 11,
+            CommandStatus::Races => 12,
+            CommandStatus::Image => 13,
         }
     }
 
     // The status of a run, by the end of its machine.
-    fn of_machine(end: End) -> Status
+    fn of_machine(end: End) -> CommandStatus
         ensures { result ≡ status_of_machine end }
     {
         match end {
-            End::Done => Status::Done,
-            End::Trapped(_, _, _) => Status::Trap,
-            End::Entangled(_, _) => Status::Entangled,
+            End::Done => CommandStatus::Done,
+            End::Trapped(_, _, _) => CommandStatus::Trap,
+            End::Entangled(_, _) => CommandStatus::Entangled,
         }
     }
 
     /// The status of a run with this end.
-    pub(crate) fn of_end(end: RunEnd) -> Status
+    pub(crate) fn of_end(end: RunEnd) -> CommandStatus
         ensures { result ≡ status_of_end end }
     {
         match end {
-            RunEnd::Machine(end) => Status::of_machine(end),
-            RunEnd::Fuel(_) => Status::Fuel,
-            RunEnd::Pool(_) => Status::Pool,
+            RunEnd::Machine(end) => CommandStatus::of_machine(end),
+            RunEnd::Fuel(_) => CommandStatus::Fuel,
+            RunEnd::Pool(_) => CommandStatus::Pool,
         }
     }
 }

@@ -4,7 +4,7 @@ ghost use Rattle.std.specs.Prelude.{◌∷◌, [], codes, IfOk};
 ghost use Rattle.race_report.specs.below.run_ledger.{end_line};
 ghost use Rattle.command_answers.specs.Answers.{IsText, AnswersCheck};
 
-use crate::answer::{Answer, Status};
+use crate::answer::{Answer, CommandStatus};
 use crate::input::program_in;
 use crate::refusals::{refused, text_alone};
 use refusal_lines::Refusal;
@@ -12,10 +12,10 @@ use std::alloc::{AllocError, Global};
 
 // The answer to a text that is a program.
 fn accepted(alloc: Global) -> Result<Answer, AllocError>
-    ensures { IfOk result (IsText Status.Done (end_line (codes "accepted" ∷ []))) }
+    ensures { IfOk result (IsText CommandStatus.Done (end_line (codes "accepted" ∷ []))) }
 {
     let text = format!(in alloc; "end: accepted\n")?;
-    Ok(text_alone(alloc, Status::Done, text))
+    Ok(text_alone(alloc, CommandStatus::Done, text))
 }
 
 /// Whether a text is a program.

@@ -1,20 +1,20 @@
 // Writes an answer.
 
 ghost use Rattle.std.specs.Prelude.{◌≡◌};
-ghost use Rattle.all_bytes.specs.below.outside_io.{HasRisen};
-ghost use Rattle.command_answers.specs.Delivery.{IsAnswered, Delivered, Gives, ReturnsNothing};
+ghost use Rattle.read_write_all.specs.below.io_traits.{HasRisen};
+ghost use Rattle.command_answers.specs.Delivery.{IsAnswered, Delivered, ReturnsBlock, ReturnsNothing};
 
-use crate::answer::{Answer, Ran, Status};
+use crate::answer::{Answer, CallResult, CommandStatus};
 use crate::wanted::Wanted;
-use all_bytes::{Failed, Sink, write_all};
 use race_report::Listed;
+use read_write_all::{Failed, Sink, write_all};
 use std::alloc::Global;
 
 /// What is returned if nothing was answered.
-pub fn nothing(alloc: Global, status: Status) -> Ran
+pub fn nothing(alloc: Global, status: CommandStatus) -> CallResult
     ensures { ReturnsNothing status result }
 {
-    Ran {
+    CallResult {
         status,
         journal: Listed::new(alloc),
         shared: None,
@@ -22,13 +22,13 @@ pub fn nothing(alloc: Global, status: Status) -> Ran
 }
 
 /// What is returned when out of memory.
-pub fn return_wanted(alloc: Global, wanted: Wanted) -> Ran
-    ensures { Gives wanted result }
+pub fn return_wanted(alloc: Global, wanted: Wanted) -> CallResult
+    ensures { ReturnsBlock wanted result }
 {
     match wanted {
-        Wanted::Before => nothing(alloc, Status::NoMemory),
-        Wanted::Amid(journal, remains) => Ran {
-            status: Status::NoMemory,
+        Wanted::Before => nothing(alloc, CommandStatus::NoMemory),
+        Wanted::Amid(journal, remains) => CallResult {
+            status: CommandStatus::NoMemory,
             journal,
             shared: Some(remains),
         },
@@ -36,10 +36,10 @@ pub fn return_wanted(alloc: Global, wanted: Wanted) -> Ran
 }
 
 /// Writes an answer.
-pub fn deliver<K: Sink>(answer: Answer, sink: &mut K) -> Ran
+pub fn deliver<K: Sink>(answer: Answer, sink: &mut K) -> CallResult
     requires { IsAnswered answer.status }
     ensures delivered { Delivered answer result (K.written sink.old) (K.written sink.new) }
-    ensures fault { result.status ≡ Status.WriteFault → HasRisen (K.faults sink.old) (K.faults sink.new) }
+    ensures fault { result.status ≡ CommandStatus.WriteFault → HasRisen (K.faults sink.old) (K.faults sink.new) }
 {
     let Answer {
         status,
@@ -49,9 +49,9 @@ pub fn deliver<K: Sink>(answer: Answer, sink: &mut K) -> Ran
     } = answer;
     let status = match write_all(sink, bytes.as_slice()) {
         Ok(()) => status,
-        Err(Failed) => Status::WriteFault,
+        Err(Failed) => CommandStatus::WriteFault,
     };
-    Ran {
+    CallResult {
         status,
         journal,
         shared,

@@ -2,18 +2,18 @@
 
 ghost use Rattle.std.specs.Prelude.{◌≡◌, IfOk, IfErr, Some, length, string_bytes};
 ghost use Rattle.refusal_lines.specs.below.run_report.{report_part, text_from, trace_part};
-ghost use Rattle.world_core.specs.below.shared_value.{IsSharedValue, accounts, without_journal};
-ghost use Rattle.world_core.specs.below.counted_tree.{totals_of};
+ghost use Rattle.journal_replay.specs.below.core_invariant.{IsSharedValue, accounts, without_journal};
+ghost use Rattle.journal_replay.specs.below.run_statistics.{totals_of};
 ghost use Rattle.command_answers.specs.Answers.{extras_of};
 ghost use Rattle.command_answers.specs.Runs.{IsReplayedRun};
 
-use crate::answer::{Answer, Status};
+use crate::answer::{Answer, CommandStatus};
 use crate::wanted::Wanted;
 use command_line::Options;
+use journal_replay::{Counted, Shared};
 use race_report::{Listed, RunEnd, trace_text};
 use refusal_lines::{Extras, end_text, outputs_text, report_text};
 use std::alloc::{AllocError, Global};
-use world_core::{Counted, Shared};
 
 /// What is written besides the outputs and the end line.
 pub fn extras_of(options: Options) -> Extras
@@ -93,7 +93,7 @@ pub fn answer_ended(
         Ok(text) => {
             let (journal, remains) = shared.take_journal();
             Ok(Answer {
-                status: Status::of_end(end),
+                status: CommandStatus::of_end(end),
                 bytes: Listed::from_vec(text),
                 journal,
                 shared: Some(remains),

@@ -4,20 +4,20 @@ ghost use Rattle.std.specs.Prelude.{List, ℕ, IfOk};
 ghost use Rattle.race_report.specs.below.run_ledger.{refused_as_run};
 ghost use Rattle.command_answers.specs.Answers.{AnswersImaging, AnswersTrace, IsImageOf, IsImaged, IsText, WhereWhole};
 
-use crate::answer::{Answer, Status};
+use crate::answer::{Answer, CommandStatus};
 use crate::refusals::{bytes_alone, refused, trace_short};
+use journal_replay::{ReplayStop, Shared, replay};
 use race_report::{Listed, Settings};
 use refusal_lines::{InputError, Refusal, TraceInput, read_trace_input};
 use shared_image::image_text;
 use std::alloc::{AllocError, Global};
-use world_core::{ReplayStop, Shared, replay};
 
 // The answer for the remaining heaps.
 fn answer_drawn(alloc: Global, shared: &Shared) -> Result<Answer, AllocError>
-    ensures { IfOk result (λ a. (image : List ℕ) × IsImageOf shared.now image × IsText Status.Done image a) }
+    ensures { IfOk result (λ a. (image : List ℕ) × IsImageOf shared.now image × IsText CommandStatus.Done image a) }
 {
     let text = image_text(alloc, shared)?;
-    Ok(bytes_alone(alloc, Status::Done, Listed::from_vec(text)))
+    Ok(bytes_alone(alloc, CommandStatus::Done, Listed::from_vec(text)))
 }
 
 // The answer once all entries are made.

@@ -2,19 +2,19 @@
 
 ghost use Rattle.std.specs.Prelude.{◌≡◌, ◌≤◌, ◌+◌, true, false, length, drop, option_map, IfOk, OnOk, IfErr, Some, List, ℕ};
 ghost use Rattle.made_program_laws.specs.below.text_lines.{most_bytes};
-ghost use Rattle.all_bytes.specs.below.outside_io.{HasRisen};
-ghost use Rattle.all_bytes.specs.Bytes.{input_of, source_bytes};
+ghost use Rattle.read_write_all.specs.below.io_traits.{HasRisen};
+ghost use Rattle.read_write_all.specs.Bytes.{input_of, source_bytes};
 ghost use Rattle.command_answers.specs.Input.{limit_of, is_reading, program_in, source_bytes_for};
 
-use all_bytes::{ReadError, Source, read_file};
 use command_line::{CommandLine, FileName};
 use race_report::{PROGRAM_LIMIT, Program};
-use refusal_lines::{Refused, TOO_LONG, read_program};
+use read_write_all::{ReadError, Source, read_file};
+use refusal_lines::{TOO_LONG, TextFault, read_program};
 use shared_image::MOST_BYTES;
 use std::alloc::{AllocError, Global};
 
 /// The program that an input is, or why it is refused.
-pub fn program_in(alloc: Global, input: &[u8]) -> Result<Result<Program, Refused>, AllocError>
+pub fn program_in(alloc: Global, input: &[u8]) -> Result<Result<Program, TextFault>, AllocError>
     ensures { IfOk result (λ program. program ≡ program_in input.now) }
 {
     if input.len() > PROGRAM_LIMIT {

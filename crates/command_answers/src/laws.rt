@@ -2,7 +2,7 @@
 
 ghost use Rattle.command_answers.specs.Headline.{RunsHoldTheHeadline};
 ghost use Rattle.command_answers.specs.Laws.{ImagesAreVerified, ImagesHaveJustHeld, MadeAreAccepted, MadeAreRead, MadeAreRun, ModelWritesTheSame, NoFaultGivesAll, ProgramsAreRun, RacelessAreDisentangled, RecordedRunsAreAlike, TracesAreReplayed};
-ghost use Rattle.command_answers.specs.Status.{StatusesOfEnds};
+ghost use Rattle.command_answers.specs.CommandStatus.{StatusesOfEnds};
 
 /// A command with its input, without a fault: all bytes and the status of its answer, or out of memory.
 pub fn no_fault_gives_all()
@@ -67,7 +67,7 @@ pub fn statuses_of_ends()
 {}
 
 /// The headline, for every whole run's answer: nothing reachable is freed, each read is stopped if and only if its
-/// target doesn't precede the reader, and the heaps at rest hold exactly the objects that are held.
+/// target doesn't happen before the reader, and the heaps at rest hold exactly the objects that are held.
 pub fn runs_hold_the_headline()
     ensures { RunsHoldTheHeadline }
 {}

@@ -21,8 +21,7 @@ mod wanted;
 mod delivery;
 mod laws;
 
-pub use all_bytes::ReadError;
-pub use answer::{Answer, Ran, Status};
+pub use answer::{Answer, CallResult, CommandStatus};
 pub use check::answer_check;
 pub use delivery::{deliver, nothing, return_wanted};
 pub use ended::{amid, answer_ended, extras_of};
@@ -36,6 +35,7 @@ pub use laws::{
 pub use model::answer_model;
 pub use race_report::{Listed, Program};
 pub use races::answer_races;
+pub use read_write_all::ReadError;
 pub use refusals::{bytes_alone, refused};
 pub use replay::answer_replay;
 pub use verify::answer_verify;

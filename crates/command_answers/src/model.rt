@@ -3,7 +3,7 @@
 ghost use Rattle.std.specs.Prelude.{IfOk};
 ghost use Rattle.command_answers.specs.Answers.{AnswersModel, AnswersTrace, IsModelled};
 
-use crate::answer::{Answer, Status};
+use crate::answer::{Answer, CommandStatus};
 use crate::ended::extras_of;
 use crate::refusals::{bytes_alone, refused};
 use command_line::Options;
@@ -19,7 +19,7 @@ fn answer_trace(alloc: Global, options: Options, read: &TraceInput) -> Result<An
     let settings = options.settings.with_version(trace.version);
     let journal = trace.entries.as_slice();
     match whole_run(alloc, program, settings, journal, extras_of(options)) {
-        Ok(run) => Ok(bytes_alone(alloc, Status::of_end(run.end), run.text)),
+        Ok(run) => Ok(bytes_alone(alloc, CommandStatus::of_end(run.end), run.text)),
         Err(ReplayError::RefusedAt(entry)) => refused(alloc, Refusal::Entry(entry)),
         Err(ReplayError::NoMemory) => Err(AllocError),
     }

@@ -4,19 +4,19 @@ ghost use Rattle.std.specs.Prelude.{◌≡◌, IfOk};
 ghost use Rattle.race_report.specs.Text.{races_text};
 ghost use Rattle.command_answers.specs.Answers.{IsText, IsRaceAnswer, AnswersRaces, AnswersTrace, races_status};
 
-use crate::answer::{Answer, Status};
+use crate::answer::{Answer, CommandStatus};
 use crate::refusals::{bytes_alone, refused};
 use race_report::{Listed, Race, ReplayError, Settings, races_of_run, races_text};
 use refusal_lines::{InputError, Refusal, TraceInput, read_trace_input};
 use std::alloc::{AllocError, Global};
 
 // The status for these races.
-fn status_of(races: &[Race]) -> Status
+fn status_of(races: &[Race]) -> CommandStatus
     ensures { result ≡ races_status races.now }
 {
     match races {
-        [] => Status::Done,
-        _ => Status::Races,
+        [] => CommandStatus::Done,
+        _ => CommandStatus::Races,
     }
 }
 

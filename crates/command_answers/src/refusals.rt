@@ -2,16 +2,16 @@
 
 ghost use Rattle.std.specs.Prelude.{◌≡◌, IfOk};
 ghost use Rattle.std.specs.String.{string_bytes};
-ghost use Rattle.command_answers.specs.Status.{status_of_refusal};
+ghost use Rattle.command_answers.specs.CommandStatus.{status_of_refusal};
 ghost use Rattle.command_answers.specs.Answers.{IsText, Refuses, short_of};
 
-use crate::answer::{Answer, Status};
+use crate::answer::{Answer, CommandStatus};
 use race_report::{Entry, Listed, Refused, RefusedAt};
 use refusal_lines::{Refusal, refusal_text};
 use std::alloc::{AllocError, Global};
 
 /// Bytes, with nothing of a run.
-pub fn bytes_alone(alloc: Global, status: Status, bytes: Listed<u8>) -> Answer
+pub fn bytes_alone(alloc: Global, status: CommandStatus, bytes: Listed<u8>) -> Answer
     ensures { IsText status bytes result }
 {
     Answer {
@@ -23,22 +23,22 @@ pub fn bytes_alone(alloc: Global, status: Status, bytes: Listed<u8>) -> Answer
 }
 
 /// A text, with nothing of a run.
-pub(crate) fn text_alone(alloc: Global, status: Status, text: String) -> Answer
+pub(crate) fn text_alone(alloc: Global, status: CommandStatus, text: String) -> Answer
     ensures { IsText status (string_bytes text) result }
 {
     bytes_alone(alloc, status, Listed::from_vec(text.into_bytes()))
 }
 
 // The status of a refusal.
-fn status_of(refusal: Refusal) -> Status
+fn status_of(refusal: Refusal) -> CommandStatus
     ensures { result ≡ status_of_refusal refusal }
 {
     match refusal {
-        Refusal::Words => Status::Words,
-        Refusal::Source(_) => Status::Source,
-        Refusal::Line(_) => Status::Trace,
-        Refusal::Entry(_) => Status::Trace,
-        Refusal::Image(_) => Status::Image,
+        Refusal::Words => CommandStatus::Words,
+        Refusal::Source(_) => CommandStatus::Source,
+        Refusal::Line(_) => CommandStatus::Trace,
+        Refusal::Entry(_) => CommandStatus::Trace,
+        Refusal::Image(_) => CommandStatus::Image,
     }
 }
 

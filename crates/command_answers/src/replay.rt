@@ -2,7 +2,7 @@
 
 ghost use Rattle.std.specs.Prelude.{◌≡◌, IfOk, IfErr};
 ghost use Rattle.race_report.specs.below.run_ledger.{refused_as_run};
-ghost use Rattle.world_core.specs.below.shared_value.{IsSharedValue, without_journal};
+ghost use Rattle.journal_replay.specs.below.core_invariant.{IsSharedValue, without_journal};
 ghost use Rattle.round_trip_laws.specs.below.trace_input.{settings_for};
 ghost use Rattle.command_answers.specs.Answers.{AnswersReplay, AnswersReplayed, AnswersTrace, IsReplay, LeavesReplay, Refuses, StandsReplayed, WhereWhole, short_of};
 ghost use Rattle.command_answers.specs.Delivery.{IsWanted, remains_by};
@@ -13,9 +13,9 @@ use crate::ended::{amid, answer_ended, extras_of};
 use crate::refusals::{refused, trace_short};
 use crate::wanted::Wanted;
 use command_line::Options;
+use journal_replay::{Counted, ReplayStop, World, replay};
 use refusal_lines::{Extras, InputError, Refusal, TraceInput, read_trace_input};
 use std::alloc::{AllocError, Global};
-use world_core::{Counted, ReplayStop, World, replay};
 
 // The answer once all entries are made, if the run has no end.
 fn answer_short(alloc: Global, shared: Counted) -> Result<Answer, Wanted>

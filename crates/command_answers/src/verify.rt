@@ -6,7 +6,7 @@ ghost use Rattle.std.specs.Fmt.{decimal};
 ghost use Rattle.race_report.specs.below.run_ledger.{end_line};
 ghost use Rattle.command_answers.specs.Answers.{AnswersVerify};
 
-use crate::answer::{Answer, Status};
+use crate::answer::{Answer, CommandStatus};
 use crate::refusals::{refused, text_alone};
 use refusal_lines::Refusal;
 use shared_image::{VerifyError, verify};
@@ -26,7 +26,7 @@ pub fn answer_verify(alloc: Global, input: &[u8]) -> Result<Answer, AllocError>
     match verify(alloc, input) {
         Ok(objects) => {
             let text = verified_line(alloc, objects)?;
-            Ok(text_alone(alloc, Status::Done, text))
+            Ok(text_alone(alloc, CommandStatus::Done, text))
         }
         Err(VerifyError::Refused(fault)) => refused(alloc, Refusal::Image(fault)),
         Err(VerifyError::NoMemory) => Err(AllocError),

@@ -1,8 +1,8 @@
 // Out of memory while an answer is made.
 
+use journal_replay::Remains;
 use race_report::{Entry, Listed};
 use std::alloc::AllocError;
-use world_core::Remains;
 
 /// When memory ran out.
 #[derive(Drop)]

@@ -1,25 +1,8 @@
 -- How the calls of commands end.
-use Rattle.std.proofs.Common.{◌≡◌, ◌≤◌, ◌+◌, ℕ, Bool, true, false, List, [], length, take, drop, refl, ap, sym, subst, arith}
-use Rattle.std.specs.Prelude.{◌≢◌, Option, Some, None}
-use Rattle.std.proofs.lemmas.Bool.{false≢true}
-use Rattle.outside_io.specs.Fault.{HasRisen}
-use Rattle.command_answers.specs.below.all_bytes.{input_of}
-use Rattle.command_line.specs.declared.line.CommandLine.{CommandLine}
-use Rattle.command_line.specs.declared.line.CommandLine.TheVariants.{Check, Run, Replay, Model, Races as RacesOf, Image as ImageOf, Make, Verify}
-use Rattle.command_answers.specs.declared.answer.Status.{Status}
-use Rattle.command_answers.specs.declared.answer.Status.TheVariants.{Done, Words, Source, Trap, Entangled, Fuel, Pool, ReadFault, WriteFault, NoMemory, Trace, Races, Image}
-use Rattle.command_answers.specs.declared.answer.Ran.{Ran}
-use Rattle.command_answers.specs.Answers.{AnswersLine, AnswersWords, LeavesLine, LeavesNone}
-use Rattle.command_answers.specs.Delivery.{DeliversLine, DeliversWords, ReturnsNothing}
-use Rattle.command_answers.proofs.Deliveries.{IsSilent, nothing_given}
-use Rattle.command_answers.specs.Input.{is_reading, limit_of, source_bytes_for}
-use Rattle.whole_call.specs.declared.status.Status.{Status as CallStatus}
-use Rattle.whole_call.specs.declared.status.Status.TheVariants.{Answered, ReadFault as ReadFailed, WriteFault as WriteFailed, NoMemory as MemoryFailed}
-use Rattle.whole_call.specs.declared.status.AnswerStatus.{AnswerStatus}
-use Rattle.whole_call.specs.Input.{Reads, ReadsNothing, ReadsUpTo, SourceState, HasRead, HasTaken}
-use Rattle.whole_call.specs.Call.{IsCall}
+use Rattle.command_core.proofs.Common.{◌≡◌, ◌≤◌, ◌+◌, ℕ, Bool, true, false, List, [], length, take, drop, refl, ap, sym, subst, arith, ◌≢◌, Option, Some, None, false≢true, HasRisen, input_of, CommandLine, Check, Run, Replay, Model, Races as RacesOf, Image as ImageOf, Make, Verify, CommandStatus, Done, Words, Source, Trap, Entangled, Fuel, Pool, ReadFault, WriteFault, NoMemory, Trace, CallResult, AnswersLine, AnswersWords, LeavesLine, LeavesNone, DeliversLine, DeliversWords, ReturnsNothing, IsSilent, nothing_given, is_reading, limit_of, source_bytes_for, CallStatus, Answered, AnswerStatus, Reads, ReadsNothing, ReadsUpTo, SourceState, HasRead, HasTaken, IsCall, AnswersCommand, Ends, call_reads, call_status, line_reads}
+use Rattle.command_answers.specs.declared.answer.CommandStatus.TheVariants.{Races, Image}
+use Rattle.whole_call.specs.declared.status.CallStatus.TheVariants.{ReadFault as ReadFailed, WriteFault as WriteFailed, NoMemory as MemoryFailed}
 use Rattle.whole_call.proofs.Calls as calls
-use Rattle.command_core.specs.Call.{Answers, Ends, call_reads, call_status, line_reads}
 
 -- STATUSES
 
@@ -29,7 +12,7 @@ no_read s e = cc
 no_write : (s : AnswerStatus) → Answered s ≡ WriteFailed → ⊥
 no_write s e = cc
 
-pub read_failed : (s : Status) → call_status s ≡ ReadFailed → s ≡ ReadFault
+pub read_failed : (s : CommandStatus) → call_status s ≡ ReadFailed → s ≡ ReadFault
 read_failed ReadFault e = refl
 read_failed WriteFault e = absurd cc
 read_failed NoMemory e = absurd cc
@@ -44,7 +27,7 @@ read_failed Trace e = absurd (no_read _ e)
 read_failed Races e = absurd (no_read _ e)
 read_failed Image e = absurd (no_read _ e)
 
-pub write_failed : (s : Status) → call_status s ≡ WriteFailed → s ≡ WriteFault
+pub write_failed : (s : CommandStatus) → call_status s ≡ WriteFailed → s ≡ WriteFault
 write_failed WriteFault e = refl
 write_failed ReadFault e = absurd cc
 write_failed NoMemory e = absurd cc
@@ -112,33 +95,33 @@ module _ (before after : SourceState) where
 
 -- HOW A CALL ENDS
 
-nothing_ends : (asked : Option CommandLine) (input : List ℕ) (r : Ran) (w : Option (List ℕ)) (s : Status) → IsSilent s → ReturnsNothing s r → Ends asked input r w w
+nothing_ends : (asked : Option CommandLine) (input : List ℕ) (r : CallResult) (w : Option (List ℕ)) (s : CommandStatus) → IsSilent s → ReturnsNothing s r → Ends asked input r w w
 nothing_ends None input r w s ok h = nothing_given AnswersWords LeavesNone r w s ok h
 nothing_ends (Some line) input r w s ok h = nothing_given (AnswersLine line input) (LeavesLine line input) r w s ok h
 
-module _ (asked : Option CommandLine) (r : Ran) (before after : SourceState) (w : Option (List ℕ)) (WriteFails : Type 0) where
-  ends_as : (s : Status) → r.status ≡ s → IsCall (call_reads asked) (λ input. Ends asked input r w w) WriteFails (call_status s) before after → Answers asked r before after w w WriteFails
+module _ (asked : Option CommandLine) (r : CallResult) (before after : SourceState) (w : Option (List ℕ)) (WriteFails : Type 0) where
+  ends_as : (s : CommandStatus) → r.status ≡ s → IsCall (call_reads asked) (λ input. Ends asked input r w w) WriteFails (call_status s) before after → AnswersCommand asked r before after w w WriteFails
   ends_as s e is = subst (λ x. IsCall (call_reads asked) (λ input. Ends asked input r w w) WriteFails (call_status x) before after) (sym e) is
 
   -- reading failed
-  pub without_input : ReturnsNothing ReadFault r → call_reads asked ≢ ReadsNothing → HasRisen before.faults after.faults → Answers asked r before after w w WriteFails
+  pub without_input : ReturnsNothing ReadFault r → call_reads asked ≢ ReadsNothing → HasRisen before.faults after.faults → AnswersCommand asked r before after w w WriteFails
   without_input h some risen = ends_as ReadFault h.status (calls.without_input _ _ WriteFails _ _ (λ input. nothing_ends asked input r w ReadFault tt h) some risen)
 
-  -- memory failed before the input was there
-  pub without_memory : ReturnsNothing NoMemory r → (call_reads asked ≡ ReadsNothing → HasTaken (call_reads asked) before after) → Answers asked r before after w w WriteFails
+  -- an allocation failed before the input was there
+  pub without_memory : ReturnsNothing NoMemory r → (call_reads asked ≡ ReadsNothing → HasTaken (call_reads asked) before after) → AnswersCommand asked r before after w w WriteFails
   without_memory h untouched = ends_as NoMemory h.status (calls.without_memory _ _ WriteFails _ _ (λ input. nothing_ends asked input r w NoMemory tt h) untouched)
 
--- memory failed before the words were read
-pub unread_words : (asked : Option CommandLine) (r : Ran) (source : SourceState) (w : Option (List ℕ)) (WriteFails : Type 0) → ReturnsNothing NoMemory r → Answers asked r source source w w WriteFails
+-- an allocation failed before the arguments were read
+pub unread_words : (asked : Option CommandLine) (r : CallResult) (source : SourceState) (w : Option (List ℕ)) (WriteFails : Type 0) → ReturnsNothing NoMemory r → AnswersCommand asked r source source w w WriteFails
 unread_words asked r source w W h = without_memory asked r source source w W h (calls.nothing_taken (call_reads asked) source)
 
 -- an input was answered
-pub served : (asked : Option CommandLine) (r : Ran) (before after : SourceState) (w w' : Option (List ℕ)) (WriteFails : Type 0) (input : List ℕ) → HasRead (call_reads asked) before after input → Ends asked input r w w' → r.status ≢ ReadFault
-    → (r.status ≡ WriteFault → WriteFails) → Answers asked r before after w w' WriteFails
+pub served : (asked : Option CommandLine) (r : CallResult) (before after : SourceState) (w w' : Option (List ℕ)) (WriteFails : Type 0) (input : List ℕ) → HasRead (call_reads asked) before after input → Ends asked input r w w' → r.status ≢ ReadFault
+    → (r.status ≡ WriteFault → WriteFails) → AnswersCommand asked r before after w w' WriteFails
 served asked r before after w w' W input read ends none fails =
     calls.with_input _ _ W _ _ (call_status r.status) input read ends (λ e. none (read_failed r.status e)) (λ e. fails (write_failed r.status e))
 
--- words that are no command line were refused
-pub refused : (asked : Option CommandLine) (r : Ran) (source : SourceState) (w w' : Option (List ℕ)) (WriteFails : Type 0) → asked ≡ None → DeliversWords r w w' → r.status ≢ ReadFault → (r.status ≡ WriteFault → WriteFails)
-    → Answers asked r source source w w' WriteFails
-refused asked r source w w' W is words none fails = subst (λ v. Answers v r source source w w' W) (sym is) (served None r source source w w' W [] (calls.nothing_read source) words none fails)
+-- arguments that are no command line were refused
+pub refused : (asked : Option CommandLine) (r : CallResult) (source : SourceState) (w w' : Option (List ℕ)) (WriteFails : Type 0) → asked ≡ None → DeliversWords r w w' → r.status ≢ ReadFault → (r.status ≡ WriteFault → WriteFails)
+    → AnswersCommand asked r source source w w' WriteFails
+refused asked r source w w' W is words none fails = subst (λ v. AnswersCommand v r source source w w' W) (sym is) (served None r source source w w' W [] (calls.nothing_read source) words none fails)

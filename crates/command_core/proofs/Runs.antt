@@ -1,22 +1,8 @@
--- What is answered of runs by workers.
-use Rattle.std.proofs.Common.{◌≡◌, Bool, true, true≢false, ap, refl, sym, subst}
-use Rattle.std.specs.Prelude.{Option, Some, None, IfSome, false}
-use Rattle.command_answers.specs.below.hh_lang.{ProgramText}
-use Rattle.command_line.specs.below.run_trace.{SettingsValue}
-use Rattle.refusal_lines.specs.below.run_ledger.{RunEnd, end_of, is_paced}
-use Rattle.refusal_lines.specs.below.run_report.{Extras}
-use Rattle.worker_run.specs.below.shared_value.{SharedValue, accounts, without_journal}
-use Rattle.worker_run.specs.declared.end.Finish.{Finish}
-use Rattle.worker_run.specs.declared.end.Finish.TheVariants.{Ended, NoMemory}
-use Rattle.worker_run.specs.Outcomes.{IsRun, finish_of}
-use Rattle.command_answers.specs.declared.answer.Answer.{Answer}
-use Rattle.command_answers.specs.declared.wanted.Wanted.{Wanted}
-use Rattle.command_answers.specs.declared.wanted.Wanted.TheVariants.{Amid}
-use Rattle.command_answers.specs.Delivery.{IsWanted, remains_of}
-use Rattle.command_answers.specs.Runs.{IsReplayedRun, IsWorkersRun, LeavesPaced}
-use Rattle.command_answers.proofs.Runs.{handed}
+-- The results of runs by workers.
+use Rattle.command_core.proofs.Common.{◌≡◌, Bool, true, true≢false, ap, refl, sym, subst, Option, Some, None, IfSome, false, ProgramText, SettingsValue, RunEnd, end_of, is_paced, Extras, SharedValue, accounts, without_journal, Finish, Ended, IsRun, finish_of, Answer, Wanted, Amid, IsWanted, remains_of, IsReplayedRun, IsWorkersRun, LeavesPaced, handed}
+use Rattle.worker_run.specs.declared.end.Finish.TheVariants.{NoMemory}
 
--- a run by workers has ended so
+-- a run by workers has ended in this way
 pub workers_run : (p : ProgramText) (s : SettingsValue) (extras : Extras) (w : SharedValue) (a : Answer) → IsRun p s w → IsReplayedRun w.program w.settings extras w.journal.items a
     → IsWorkersRun p s extras a
 workers_run p s extras w a run h =
@@ -24,7 +10,7 @@ workers_run p s extras w a run h =
     subst (λ l. IsReplayedRun p l extras w.journal.items a) run.settings (subst (λ q. IsReplayedRun q w.settings extras w.journal.items a) run.program h) in
     (at.0, subst (λ j. is_paced p s j ≡ true) (sym at.1) run.paced)
 
--- memory was wanting amid it
+-- an allocation failed during it
 pub workers_left : (p : ProgramText) (s : SettingsValue) (w : SharedValue) (found : Wanted) → IsRun p s w → found ≡ Amid w.journal.items (without_journal w) → IsWanted (LeavesPaced p s) found
 workers_left p s w found run is =
     subst (IsWanted (LeavesPaced p s)) (sym is) (handed p s w w.journal.items (Some (without_journal w)) run.stands run.program run.settings refl refl, run.paced)
@@ -34,7 +20,7 @@ pub left_wanted : (p : ProgramText) (s : SettingsValue) (o : Option SharedValue)
 left_wanted p s None found run is = subst (IsWanted (LeavesPaced p s)) (sym is) tt
 left_wanted p s (Some w) found run is = workers_left p s w found run is
 
--- the end that workers tell is that of their journal
+-- the end that workers report is that of their journal
 pub told_end : (p : ProgramText) (s : SettingsValue) (w : SharedValue) (end : RunEnd) → IsRun p s w → Ended end ≡ finish_of (end_of p s w.journal.items) → (accounts w).end ≡ Some end
 told_end p s w end run is =
     let at : end_of p s w.journal.items ≡ Some end = of_finish (end_of p s w.journal.items) is in

@@ -1,20 +1,20 @@
--- A whole call of `command`, as a call of any program is told.
+-- A whole call of `command`, in the terms of a call of any program.
 use Rattle.std.specs.Prelude.{ℕ, Option, Some, None, List}
 use Rattle.command_line.specs.declared.line.CommandLine.{CommandLine}
 use Rattle.command_line.specs.declared.line.CommandLine.TheVariants.{Check, Run, Replay, Model, Races as RacesOf, Image as ImageOf, Make, Verify}
-use Rattle.command_answers.specs.declared.answer.Status.{Status}
-use Rattle.command_answers.specs.declared.answer.Status.TheVariants.{Done, Words, Source, Trap, Entangled, Fuel, Pool, ReadFault, WriteFault, NoMemory, Trace, Races, Image}
-use Rattle.command_answers.specs.declared.answer.Ran.{Ran}
+use Rattle.command_answers.specs.declared.answer.CommandStatus.{CommandStatus}
+use Rattle.command_answers.specs.declared.answer.CommandStatus.TheVariants.{Done, Words, Source, Trap, Entangled, Fuel, Pool, ReadFault, WriteFault, NoMemory, Trace, Races, Image}
+use Rattle.command_answers.specs.declared.answer.CallResult.{CallResult}
 use Rattle.command_answers.specs.Input.{limit_of}
 use Rattle.command_answers.specs.Delivery.{DeliversLine, DeliversWords}
 use Rattle.whole_call.specs.declared.status.AnswerStatus.TheVariants.{Done as DoneAnswer, Words as WordsAnswer, Source as SourceAnswer, Trap as TrapAnswer, Entangled as EntangledAnswer, Fuel as FuelAnswer, Pool as PoolAnswer, Trace as TraceAnswer, Races as RacesAnswer, Image as ImageAnswer}
-use Rattle.whole_call.specs.declared.status.Status.{Status as CallStatus}
-use Rattle.whole_call.specs.declared.status.Status.TheVariants.{Answered, ReadFault as ReadFailed, WriteFault as WriteFailed, NoMemory as MemoryFailed}
+use Rattle.whole_call.specs.declared.status.CallStatus.{CallStatus}
+use Rattle.whole_call.specs.declared.status.CallStatus.TheVariants.{Answered, ReadFault as ReadFailed, WriteFault as WriteFailed, NoMemory as MemoryFailed}
 use Rattle.whole_call.specs.Input.{Reads, ReadsNothing, ReadsUpTo, SourceState}
 use Rattle.whole_call.specs.Call.{IsCall}
 
--- how a whole call ended that ended so
-abbrev pub call_status : Status → CallStatus
+-- the status of a whole call that ended in this way
+abbrev pub call_status : CommandStatus → CallStatus
 call_status Done = Answered DoneAnswer
 call_status Words = Answered WordsAnswer
 call_status Source = Answered SourceAnswer
@@ -29,7 +29,7 @@ call_status Trace = Answered TraceAnswer
 call_status Races = Answered RacesAnswer
 call_status Image = Answered ImageAnswer
 
--- what a command reads: a file or standard input, as far as this limit; `make` reads nothing
+-- what a command reads: a file or standard input, up to this limit; `make` reads nothing
 abbrev pub reads_within : ℕ → CommandLine → Reads
 reads_within limit (Check file) = ReadsUpTo limit file
 reads_within limit (Run file options) = ReadsUpTo limit file
@@ -44,16 +44,16 @@ reads_within limit (Verify file) = ReadsUpTo limit file
 abbrev pub line_reads : CommandLine → Reads
 line_reads line = reads_within (limit_of line) line
 
--- words that are no command line read nothing
+-- arguments that are no command line read nothing
 abbrev pub call_reads : Option CommandLine → Reads
 call_reads None = ReadsNothing
 call_reads (Some line) = line_reads line
 
--- words that are no command line are refused; a command answers its input
-abbrev pub Ends : Option CommandLine → List ℕ → Ran → Option (List ℕ) → Option (List ℕ) → Type 0
+-- arguments that are no command line are refused; a command answers its input
+abbrev pub Ends : Option CommandLine → List ℕ → CallResult → Option (List ℕ) → Option (List ℕ) → Type 0
 Ends None input = DeliversWords
 Ends (Some line) input = DeliversLine line input
 
--- a whole call that asks for this, of a source and a sink; `WriteFails` says that the sink failed
-abbrev pub Answers : Option CommandLine → Ran → SourceState → SourceState → Option (List ℕ) → Option (List ℕ) → Type 0 → Type 0
-Answers asked r source left before after WriteFails = IsCall (call_reads asked) (λ input. Ends asked input r before after) WriteFails (call_status r.status) source left
+-- a whole call with this command line, with a source and a sink; `WriteFails` means that the sink failed
+abbrev pub AnswersCommand : Option CommandLine → CallResult → SourceState → SourceState → Option (List ℕ) → Option (List ℕ) → Type 0 → Type 0
+AnswersCommand asked r source left before after WriteFails = IsCall (call_reads asked) (λ input. Ends asked input r before after) WriteFails (call_status r.status) source left

@@ -1,4 +1,4 @@
-pub use Rattle.command_answers.specs.Status
+pub use Rattle.command_answers.specs.CommandStatus
 pub use Rattle.command_answers.specs.Input
 pub use Rattle.command_answers.specs.Runs
 pub use Rattle.command_answers.specs.Answers

@@ -8,16 +8,16 @@ ghost use Rattle.command_answers.specs.Delivery.{IsWanted};
 
 use crate::run::answer_run;
 use command_answers::{
-    Answer, Listed, Status, Wanted, answer_check, answer_image, answer_model, answer_races,
+    Answer, CommandStatus, Listed, Wanted, answer_check, answer_image, answer_model, answer_races,
     answer_replay, answer_verify, bytes_alone,
 };
 use command_line::{CommandLine, Options, Settings, make};
-use outside_io::Gate;
+use io_traits::Gate;
 use std::alloc::Global;
 use std::sync::Wait;
 use std::thread::Threads;
 
-// Makes a program, and runs it where that is asked for.
+// Makes a program, and runs it if that is asked for.
 fn answer_make<R: Threads + Wait + Sync, G: Gate>(
     rt: &R,
     alloc: Global,
@@ -40,7 +40,7 @@ fn answer_make<R: Threads + Wait + Sync, G: Gate>(
         };
         return answer_run(rt, alloc, options, text.as_slice(), gate);
     }
-    Ok(bytes_alone(alloc, Status::Done, Listed::from_vec(text)))
+    Ok(bytes_alone(alloc, CommandStatus::Done, Listed::from_vec(text)))
 }
 
 /// The answer of a command to its input.

@@ -2,7 +2,7 @@
 
 ghost use Rattle.std.specs.Prelude.{◌≡◌, IfOk, IfErr, Some};
 ghost use Rattle.refusal_lines.specs.below.run_ledger.{RunEnd};
-ghost use Rattle.worker_run.specs.below.shared_value.{SharedValue, accounts};
+ghost use Rattle.worker_run.specs.below.core_invariant.{SharedValue, accounts};
 ghost use Rattle.command_answers.specs.Answers.{AnswersProgram, AnswersRun, LeavesRun};
 ghost use Rattle.command_answers.specs.Delivery.{IsWanted, remains_of};
 ghost use Rattle.command_answers.specs.Runs.{LeavesPaced};
@@ -12,15 +12,15 @@ use command_answers::{
     Answer, Program, Wanted, amid, answer_ended, extras_of, program_in, refused,
 };
 use command_line::Options;
-use outside_io::Gate;
-use paced_tree::Paced;
+use gc_pacer::Paced;
+use io_traits::Gate;
 use refusal_lines::{Extras, Refusal};
 use std::alloc::Global;
 use std::sync::Wait;
 use std::thread::Threads;
 use worker_run::{Finish, Outcome, run_on_workers};
 
-// The answer of what workers have left. Where memory was wanting, all that they have left is handed back.
+// The answer from what workers have left. If an allocation fails, all that they have left is returned.
 fn answer_outcome(alloc: Global, outcome: Outcome<Paced>, extras: Extras) -> Result<Answer, Wanted>
     requires { (w : SharedValue) (end : RunEnd) → outcome.shared ≡ Some w → outcome.finish ≡ Finish.Ended end → (accounts w).end ≡ Some end }
     ensures answer { IfOk result (AnswersOutcome outcome extras) }

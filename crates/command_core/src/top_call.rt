@@ -1,42 +1,43 @@
 // The top call.
 
 ghost use Rattle.std.specs.Prelude.{◌≡◌, ◌≢◌, map, Some, string_bytes, IfOk};
-ghost use Rattle.outside_io.specs.Fault.{HasRisen};
+ghost use Rattle.io_traits.specs.Fault.{HasRisen};
 ghost use Rattle.command_line.specs.CommandLine.{command_line, HasSize};
-ghost use Rattle.command_answers.specs.Status.{code_of_status};
+ghost use Rattle.command_answers.specs.CommandStatus.{code_of_status};
 ghost use Rattle.command_answers.specs.Delivery.{DeliversLine, DeliversWords, GivesFound, IsAnswered};
-ghost use Rattle.whole_call.specs.Status.{code_of_status as code_of_call};
-ghost use Rattle.command_core.specs.Call.{call_status, Answers};
+ghost use Rattle.whole_call.specs.CallStatus.{code_of_status as code_of_call};
+ghost use Rattle.command_core.specs.Call.{call_status, AnswersCommand};
 
 use crate::answers::answer_line;
 use command_answers::{
-    Answer, Ran, ReadError, Status, Wanted, deliver, nothing, read_input, refused, return_wanted,
+    Answer, CallResult, CommandStatus, ReadError, Wanted, deliver, nothing, read_input, refused,
+    return_wanted,
 };
 use command_line::{CommandLine, read_command_line};
-use outside_io::{Gate, Sink, Source};
+use io_traits::{Gate, Sink, Source};
 use refusal_lines::Refusal;
 use std::alloc::{AllocError, Global};
 use std::sync::Wait;
 use std::thread::Threads;
-use whole_call::{AnswerStatus, Status as CallStatus};
+use whole_call::{AnswerStatus, CallStatus};
 
-// Answers words that are no command line.
-fn refuse_words<K: Sink>(alloc: Global, sink: &mut K) -> Ran
+// Answers arguments that are no command line.
+fn refuse_words<K: Sink>(alloc: Global, sink: &mut K) -> CallResult
     ensures answer { DeliversWords result (K.written sink.old) (K.written sink.new) }
-    ensures read { result.status ≢ Status.ReadFault }
-    ensures write_fault { result.status ≡ Status.WriteFault → HasRisen (K.faults sink.old) (K.faults sink.new) }
+    ensures read { result.status ≢ CommandStatus.ReadFault }
+    ensures write_fault { result.status ≡ CommandStatus.WriteFault → HasRisen (K.faults sink.old) (K.faults sink.new) }
 {
     match refused(alloc, Refusal::Words) {
         Ok(answer) => deliver(answer, sink),
-        Err(AllocError) => nothing(alloc, Status::NoMemory),
+        Err(AllocError) => nothing(alloc, CommandStatus::NoMemory),
     }
 }
 
-// Gives an answer, or what is left where memory was wanting.
-fn give<K: Sink>(alloc: Global, found: Result<Answer, Wanted>, sink: &mut K) -> Ran
+// Writes an answer, or what is left if an allocation failed.
+fn give<K: Sink>(alloc: Global, found: Result<Answer, Wanted>, sink: &mut K) -> CallResult
     requires { IfOk found (λ a. IsAnswered a.status) }
     ensures given { GivesFound found result (K.written sink.old) (K.written sink.new) }
-    ensures write_fault { result.status ≡ Status.WriteFault → HasRisen (K.faults sink.old) (K.faults sink.new) }
+    ensures write_fault { result.status ≡ CommandStatus.WriteFault → HasRisen (K.faults sink.old) (K.faults sink.new) }
 {
     match found {
         Ok(answer) => deliver(answer, sink),
@@ -52,11 +53,11 @@ fn serve<R: Threads + Wait + Sync, K: Sink, G: Gate>(
     input: &[u8],
     sink: &mut K,
     gate: &G,
-) -> Ran
+) -> CallResult
     requires { HasSize (Some line.now) }
     ensures answer { DeliversLine line.now input.now result (K.written sink.old) (K.written sink.new) }
-    ensures read { result.status ≢ Status.ReadFault }
-    ensures write_fault { result.status ≡ Status.WriteFault → HasRisen (K.faults sink.old) (K.faults sink.new) }
+    ensures read { result.status ≢ CommandStatus.ReadFault }
+    ensures write_fault { result.status ≡ CommandStatus.WriteFault → HasRisen (K.faults sink.old) (K.faults sink.new) }
 {
     let found = answer_line(rt, alloc, line, input, gate);
     give(alloc, found, sink)
@@ -70,20 +71,20 @@ fn answer<R: Threads + Wait + Sync, S: Source, K: Sink, G: Gate>(
     source: &mut S,
     sink: &mut K,
     gate: &G,
-) -> Ran
+) -> CallResult
     requires { HasSize (Some line.now) }
-    ensures { Answers (Some line.now) result (record { left = S.left source.old; named = S.named source.old; faults = S.faults source.old }) (record { left = S.left source.new; named = S.named source.new; faults = S.faults source.new }) (K.written sink.old) (K.written sink.new) (HasRisen (K.faults sink.old) (K.faults sink.new)) }
+    ensures { AnswersCommand (Some line.now) result (record { left = S.left source.old; named = S.named source.old; faults = S.faults source.old }) (record { left = S.left source.new; named = S.named source.new; faults = S.faults source.new }) (K.written sink.old) (K.written sink.new) (HasRisen (K.faults sink.old) (K.faults sink.new)) }
 {
     match read_input(alloc, source, line) {
-        Err(ReadError::Fault) => nothing(alloc, Status::ReadFault),
-        Err(ReadError::NoMemory) => nothing(alloc, Status::NoMemory),
+        Err(ReadError::Fault) => nothing(alloc, CommandStatus::ReadFault),
+        Err(ReadError::NoMemory) => nothing(alloc, CommandStatus::NoMemory),
         Ok(input) => serve(rt, alloc, line, input.as_slice(), sink, gate),
     }
 }
 
 /// Answers a command line: reads its input from the source, does what it asks for, and writes to the sink.
 ///
-/// `words` are those after the program's name. All bytes are built before the first is written.
+/// `words` are the command-line arguments after the program's name. All bytes are built before the first is written.
 pub fn command<R: Threads + Wait + Sync, S: Source, K: Sink, G: Gate>(
     rt: &R,
     alloc: Global,
@@ -91,34 +92,34 @@ pub fn command<R: Threads + Wait + Sync, S: Source, K: Sink, G: Gate>(
     source: &mut S,
     sink: &mut K,
     gate: &G,
-) -> Ran
-    ensures { Answers (command_line (map string_bytes words.now)) result (record { left = S.left source.old; named = S.named source.old; faults = S.faults source.old }) (record { left = S.left source.new; named = S.named source.new; faults = S.faults source.new }) (K.written sink.old) (K.written sink.new) (HasRisen (K.faults sink.old) (K.faults sink.new)) }
+) -> CallResult
+    ensures { AnswersCommand (command_line (map string_bytes words.now)) result (record { left = S.left source.old; named = S.named source.old; faults = S.faults source.old }) (record { left = S.left source.new; named = S.named source.new; faults = S.faults source.new }) (K.written sink.old) (K.written sink.new) (HasRisen (K.faults sink.old) (K.faults sink.new)) }
 {
     match read_command_line(alloc, words) {
-        Err(AllocError) => nothing(alloc, Status::NoMemory),
+        Err(AllocError) => nothing(alloc, CommandStatus::NoMemory),
         Ok(None) => refuse_words(alloc, sink),
         Ok(Some(line)) => answer(rt, alloc, &line, source, sink, gate),
     }
 }
 
-/// How a call ended, as the calls of each program are told to end.
-pub fn call_status(status: Status) -> CallStatus
+/// How a call ended, in the terms of a call of any program.
+pub fn call_status(status: CommandStatus) -> CallStatus
     ensures status { result ≡ call_status status }
     ensures code { code_of_call result ≡ code_of_status status }
 {
     match status {
-        Status::Done => CallStatus::Answered(AnswerStatus::Done),
-        Status::Words => CallStatus::Answered(AnswerStatus::Words),
-        Status::Source => CallStatus::Answered(AnswerStatus::Source),
-        Status::Trap => CallStatus::Answered(AnswerStatus::Trap),
-        Status::Entangled => CallStatus::Answered(AnswerStatus::Entangled),
-        Status::Fuel => CallStatus::Answered(AnswerStatus::Fuel),
-        Status::Pool => CallStatus::Answered(AnswerStatus::Pool),
-        Status::ReadFault => CallStatus::ReadFault,
-        Status::WriteFault => CallStatus::WriteFault,
-        Status::NoMemory => CallStatus::NoMemory,
-        Status::Trace => CallStatus::Answered(AnswerStatus::Trace),
-        Status::Races => CallStatus::Answered(AnswerStatus::Races),
-        Status::Image => CallStatus::Answered(AnswerStatus::Image),
+        CommandStatus::Done => CallStatus::Answered(AnswerStatus::Done),
+        CommandStatus::Words => CallStatus::Answered(AnswerStatus::Words),
+        CommandStatus::Source => CallStatus::Answered(AnswerStatus::Source),
+        CommandStatus::Trap => CallStatus::Answered(AnswerStatus::Trap),
+        CommandStatus::Entangled => CallStatus::Answered(AnswerStatus::Entangled),
+        CommandStatus::Fuel => CallStatus::Answered(AnswerStatus::Fuel),
+        CommandStatus::Pool => CallStatus::Answered(AnswerStatus::Pool),
+        CommandStatus::ReadFault => CallStatus::ReadFault,
+        CommandStatus::WriteFault => CallStatus::WriteFault,
+        CommandStatus::NoMemory => CallStatus::NoMemory,
+        CommandStatus::Trace => CallStatus::Answered(AnswerStatus::Trace),
+        CommandStatus::Races => CallStatus::Answered(AnswerStatus::Races),
+        CommandStatus::Image => CallStatus::Answered(AnswerStatus::Image),
     }
 }

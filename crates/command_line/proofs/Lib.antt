@@ -7,3 +7,4 @@ mod Rows
 mod Shapes
 pub mod Taken
 mod Plain
+mod Common

@@ -1,18 +1,9 @@
 -- An option and its value set one limit.
-use Rattle.std.proofs.Common.{◌≡◌, ◌∙◌, ℕ, Bool, cond, codes, true, false, refl, ap, ap₂, List, [], ◌∷◌, Option, Some, None}
-use Rattle.std.specs.Option.{option_map_or}
-use Rattle.std.specs.Str.Parse.{digits_value, without_leading_plus}
-use Rattle.clap.specs.Walk.{Held, Rule, Step, Text, Walk, after_step, finished, is_empty, long_or_other, nothing_held, option, plain_word, rows_after, short_or_plain, trailing, walk_from, walked, word_met}
-use Rattle.clap.specs.Kinds.{Kinds, or_else}
-use Rattle.clap.specs.Faults.{bundle_fault, flag_word_fault, level_fault, step_fault, turn_fault, walk_fault, word_fault}
-use Rattle.clap.specs.ValueTests.{is_unsigned_in}
+use Rattle.command_line.proofs.Common.{◌≡◌, ◌∙◌, ℕ, Bool, cond, codes, true, false, refl, ap, ap₂, List, [], ◌∷◌, Option, Some, None, option_map_or, digits_value, without_leading_plus, Held, Rule, Step, Text, Walk, after_step, finished, is_empty, long_or_other, nothing_held, option, plain_word, rows_after, short_or_plain, trailing, walk_from, word_met, Kinds, or_else, bundle_fault, flag_word_fault, level_fault, step_fault, turn_fault, word_fault, is_unsigned_in, SettingsValue, usual_settings, file_in, options_in, usual_options, IsOperand, Sets, Options}
+use Rattle.clap.specs.Walk.{walked}
+use Rattle.clap.specs.Faults.{walk_fault}
 use Rattle.clap.proofs.OnLiterals.{clap_on_literals}
-use Rattle.run_trace.specs.Settings.{SettingsValue, usual_settings}
-use Rattle.command_line.specs.CommandLine.{file_in, options_in}
-use Rattle.command_line.specs.Examples.{usual_options}
-use Rattle.command_line.specs.Operands.{IsOperand, Sets}
 use Rattle.command_line.specs.declared.line.CommandLine.{CommandLine}
-use Rattle.command_line.specs.declared.line.Options.{Options}
 use Rattle.command_line.proofs.Operands.{IsRunner, level, line_by, no_dashes, no_long, no_short, value_kinds_by}
 use Rattle.command_line.proofs.Shapes.{runner_shape}
 

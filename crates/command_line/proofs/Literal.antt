@@ -1,7 +1,6 @@
 -- The examples, computed.
-use Rattle.std.proofs.Common.{refl}
+use Rattle.command_line.proofs.Common.{refl, FilesAreNamed, NumbersAreRead, OptionsAreRead, OthersAreRefused}
 use Rattle.clap.proofs.OnLiterals.{clap_on_literals}
-use Rattle.command_line.specs.Examples.{FilesAreNamed, NumbersAreRead, OptionsAreRead, OthersAreRefused}
 
 pub files : FilesAreNamed
 unfolding clap_on_literals

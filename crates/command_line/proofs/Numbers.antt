@@ -1,8 +1,6 @@
 -- A number in its range is read as it is written.
-use Rattle.std.proofs.Common.{◌≡◌, Some, None, Option, Result, Ok, Err, arith, ℕ}
-use Rattle.std.specs.Prelude.{unwrap_or}
-use Rattle.std.specs.Str.Parse.{ParsesUnsigned, digits_value, without_leading_plus}
-use Rattle.clap.specs.Words.{IsUnsignedIn, ReadsOne, Text}
+use Rattle.command_line.proofs.Common.{◌≡◌, Some, None, Option, Result, Ok, Err, arith, ℕ, unwrap_or, ParsesUnsigned, digits_value, without_leading_plus, IsUnsignedIn, ReadsOne}
+use Rattle.clap.specs.Words.{Text}
 
 pub number_read : {E : Type 0} (gives : Text → Result ℕ E → Type 0) (t : Text) (o : Option ℕ) → ReadsOne gives t o
     → ((r : Result ℕ E) → gives t r → ParsesUnsigned 32 10 t r) → IsUnsignedIn 0 4294967295 t

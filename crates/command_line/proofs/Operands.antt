@@ -1,32 +1,18 @@
 -- Words without a leading hyphen are positional arguments.
-use Rattle.std.proofs.Common.{◌≡◌, ◌∙◌, ◌&&◌, ℕ, Bool, cond, codes, true, false, refl, sym, ap, ap₂, List, [], ◌∷◌, Option, Some, None, true≢false}
-use Rattle.std.proofs.lemmas.Slice.Eq.{bytes_eq-Decides}
-use Rattle.std.specs.Prelude.{option_and_then, is_some, fold}
-use Rattle.std.specs.Option.{option_map_or}
-use Rattle.std.specs.Str.{bytes_eq}
-use Rattle.clap.specs.Lexer.{long_of, long_of_rest, short_of, short_of_rest, strip_byte}
-use Rattle.clap.specs.Walk.{Held, Row, Step, Text, Walk, after_step, arg_by_index, finished, idle, is_empty, long_or_other, nothing_held, rows_after, settled, short_or_plain, to_positional, trailing, value, walked, word_met}
-use Rattle.clap.specs.Simple.{Shape}
-use Rattle.clap.specs.Kinds.{Kinds, or_else}
-use Rattle.clap.specs.Faults.{check_fault, defaults_fault, flag_word_fault, level_fault, positional_fault, settle_fault, step_fault, stray_fault, turn_fault, walk_fault, word_fault, bundle_fault}
-use Rattle.clap.specs.ValueTests.{is_unsigned_in}
+use Rattle.command_line.proofs.Common.{◌≡◌, ◌∙◌, ◌&&◌, ℕ, Bool, cond, codes, true, false, refl, sym, ap, ap₂, List, [], ◌∷◌, Option, Some, None, true≢false, bytes_eq-Decides, option_and_then, is_some, fold, option_map_or, bytes_eq, long_of, long_of_rest, short_of, short_of_rest, strip_byte, Held, Row, Step, Text, Walk, after_step, arg_by_index, finished, idle, is_empty, long_or_other, nothing_held, rows_after, settled, short_or_plain, to_positional, trailing, value, word_met, Shape, Kinds, or_else, check_fault, flag_word_fault, level_fault, positional_fault, settle_fault, step_fault, stray_fault, turn_fault, word_fault, bundle_fault, is_unsigned_in, SettingsValue, digits_value, without_leading_plus, asked, command_line, file_in, options_in, settings_in, IsOperand, AsksForMake, Check, Run, Replay, Model, Races, Image, Make, Verify, Options}
+use Rattle.clap.specs.Walk.{walked}
+use Rattle.clap.specs.Faults.{defaults_fault, walk_fault}
 use Rattle.clap.specs.declared.error.kind.ErrorKind.TheVariants as kind
 use Rattle.clap.proofs.OnLiterals.{clap_on_literals}
-use Rattle.run_trace.specs.Settings.{SettingsValue}
-use Rattle.command_line.specs.CommandLine.{asked, command_line, file_in, options_in, settings_in}
-use Rattle.command_line.specs.Operands.{IsOperand, Makes}
 use Rattle.command_line.specs.declared.line.CommandLine.{CommandLine}
-use Rattle.command_line.specs.declared.line.CommandLine.TheVariants.{Check, Run, Replay, Model, Races, Image, Make, Verify}
-use Rattle.command_line.specs.declared.line.Options.{Options}
-use Rattle.std.specs.Str.Parse.{digits_value, without_leading_plus}
 use Rattle.command_line.proofs.Shapes.{check_shape, limited_shape, make_shape, runner_shape, verify_shape}
 
 pub no_dashes : (word : Text) → IsOperand word → bytes_eq word (45 ∷ 45 ∷ []) ≡ false
-no_dashes word h = go (bytes_eq word (45 ∷ 45 ∷ [])) refl
+no_dashes word h = no_dashes_by_cases (bytes_eq word (45 ∷ 45 ∷ [])) refl
   where
-    go : (b : Bool) → bytes_eq word (45 ∷ 45 ∷ []) ≡ b → b ≡ false
-    go false e = refl
-    go true e =
+    no_dashes_by_cases : (b : Bool) → bytes_eq word (45 ∷ 45 ∷ []) ≡ b → b ≡ false
+    no_dashes_by_cases false e = refl
+    no_dashes_by_cases true e =
         let is : word ≡ 45 ∷ 45 ∷ [] = (bytes_eq-Decides word (45 ∷ 45 ∷ [])).0 e in
         absurd (true≢false (ap is_some (ap (strip_byte 45) (sym is) ∙ h)))
 
@@ -37,8 +23,8 @@ pub no_short : (word : Text) → IsOperand word → short_of word ≡ None
 no_short word h = ap (λ (o : Option Text). option_and_then short_of_rest o) h
 
 -- the walk between two words, when no option waits for a value
-abbrev pub at : Held → ℕ → Walk
-at h position = record { held = h; waiting = idle; position = position; is_trailing = false; stopped = None }
+abbrev pub walk_at : Held → ℕ → Walk
+walk_at h position = record { held = h; waiting = idle; position = position; is_trailing = false; stopped = None }
 
 module _ (s : Shape) (word : Text) (operand : IsOperand word) where
   met_is : (h : Held) (position : ℕ) → word_met s.rules [] false idle position word h ≡ (h, value)
@@ -47,11 +33,11 @@ module _ (s : Shape) (word : Text) (operand : IsOperand word) where
       ap₂ (λ (b : Bool) (l : Option (Text × Option Text)). cond b (h, trailing position) (long_or_other s.rules idle word l h)) (no_dashes word operand) (no_long word operand) in
       first ∙ ap (λ (o : Option Text). short_or_plain s.rules idle word o h) (no_short word operand)
 
-  walked_is : (h : Held) (position : ℕ) → walked s.rules [] (at h position) word ≡ to_positional s.rules (arg_by_index s.rules position) word (at h position) h
+  walked_is : (h : Held) (position : ℕ) → walked s.rules [] (walk_at h position) word ≡ to_positional s.rules (arg_by_index s.rules position) word (walk_at h position) h
   unfolding walked
-  walked_is h position = ap (λ (m : Held × Step). after_step s.rules word (at h position) m.0 m.1) (met_is h position)
+  walked_is h position = ap (λ (m : Held × Step). after_step s.rules word (walk_at h position) m.0 m.1) (met_is h position)
 
-  turn_is : (h : Held) (position : ℕ) → turn_fault s [] (at h position) word
+  turn_is : (h : Held) (position : ℕ) → turn_fault s [] (walk_at h position) word
       ≡ option_map_or (λ a. positional_fault s.rules s.args_override_self a h) (arg_by_index s.rules position) (stray_fault s)
   turn_is h position =
       let none : word_fault s [] false idle word h ≡ [] =
@@ -72,11 +58,11 @@ line_by name kinds rows = cond (is_empty (or_else kinds [])) (asked name rows) N
 module _ (s : Shape) (file : Text) (operand : IsOperand file) where
   file_level : level_fault s [] nothing_held (file ∷ []) false []
       ≡ level s (or_else (option_map_or (λ a. positional_fault s.rules s.args_override_self a nothing_held) (arg_by_index s.rules 1) (stray_fault s)) [])
-      (to_positional s.rules (arg_by_index s.rules 1) file (at nothing_held 1) nothing_held)
+      (to_positional s.rules (arg_by_index s.rules 1) file (walk_at nothing_held 1) nothing_held)
   unfolding walk_fault
   file_level = ap₂ (λ (k : Kinds) (w : Walk). level s (or_else k []) w) (turn_is s file operand nothing_held 1) (walked_is s file operand nothing_held 1)
 
-  file_rows : rows_after s.rules [] (file ∷ []) ≡ finished s.rules (to_positional s.rules (arg_by_index s.rules 1) file (at nothing_held 1) nothing_held).held
+  file_rows : rows_after s.rules [] (file ∷ []) ≡ finished s.rules (to_positional s.rules (arg_by_index s.rules 1) file (walk_at nothing_held 1) nothing_held).held
   file_rows = ap (λ (w : Walk). finished s.rules w.held) (walked_is s file operand nothing_held 1)
 
 -- a command of this name has this shape, and asks for this
@@ -122,7 +108,7 @@ verify_is = record { one = λ word. refl; two = λ first second. refl; asks = λ
 
 -- the walk over a word that is the file, if the first argument is one
 abbrev file_walk : Shape → Text → Walk
-file_walk s file = to_positional s.rules (arg_by_index s.rules 1) file (at nothing_held 1) nothing_held
+file_walk s file = to_positional s.rules (arg_by_index s.rules 1) file (walk_at nothing_held 1) nothing_held
 
 abbrev file_kinds : Shape → Kinds
 file_kinds s = or_else (option_map_or (λ a. positional_fault s.rules s.args_override_self a nothing_held) (arg_by_index s.rules 1) (stray_fault s)) []
@@ -156,10 +142,10 @@ run_flag = codes "--run" ∷ []
 module _ (seed size : Text) (h1 : IsOperand seed) (h2 : IsOperand size) where
   -- the seed waits to be used
   abbrev seed_held : Held
-  seed_held = (to_positional make_shape.rules (arg_by_index make_shape.rules 1) seed (at nothing_held 1) nothing_held).held
+  seed_held = (to_positional make_shape.rules (arg_by_index make_shape.rules 1) seed (walk_at nothing_held 1) nothing_held).held
 
   abbrev size_walk : Walk
-  size_walk = to_positional make_shape.rules (arg_by_index make_shape.rules 2) size (at seed_held 2) seed_held
+  size_walk = to_positional make_shape.rules (arg_by_index make_shape.rules 2) size (walk_at seed_held 2) seed_held
 
   abbrev turn_at : ℕ → Held → Kinds
   turn_at position h = option_map_or (λ a. positional_fault make_shape.rules false a h) (arg_by_index make_shape.rules position) (stray_fault make_shape)
@@ -225,7 +211,7 @@ by_both true false x = refl
 by_both false true x = refl
 by_both false false x = refl
 
-made : Makes [] false
+made : AsksForMake [] false
 made seed size h1 h2 =
     line_of_make seed size
     ∙ ap₂ (line_by (codes "make")) (make_level seed size h1 h2 [] ∙ both_level seed size h1 h2) (make_rows seed size h1 h2 [])

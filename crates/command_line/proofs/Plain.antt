@@ -1,9 +1,5 @@
 -- A command without global arguments is added as a subcommand of its shape.
-use Rattle.std.proofs.Common.{◌≡◌, true, ap, ◌∙◌}
-use Rattle.std.proofs.lemmas.Bool.{and_parts, not-true}
-use Rattle.clap.specs.Words.{App, app_of, with_subcommand}
-use Rattle.clap.specs.declared.builder.command.Command.{Command}
-use Rattle.command_line.specs.Adds.{IsShaped}
+use Rattle.command_line.proofs.Common.{◌≡◌, true, ap, ◌∙◌, and_parts, not-true, App, app_of, with_subcommand, Command, IsShaped}
 
 pub shaped : (m : Command) (a : App) → app_of m ≡ a → a.top.is_plain ≡ true → IsShaped a.top m
 shaped m a e plain = λ old new adds.

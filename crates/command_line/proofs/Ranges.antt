@@ -1,15 +1,8 @@
 -- Numbers of matches in their ranges.
-use Rattle.std.proofs.Common.{◌≡◌, ◌≤◌, ℕ, Bool, cond, codes, true, false, refl, ap, arith, List, Option, Some, None}
-use Rattle.std.specs.Option.{option_map_or, option_and_then}
-use Rattle.std.specs.Str.{bytes_eq}
-use Rattle.std.specs.Str.Parse.{digits_value, without_leading_plus}
-use Rattle.std.proofs.lemmas.Slice.Eq.{bytes_eq-Decides}
+use Rattle.command_line.proofs.Common.{◌≡◌, ◌≤◌, ℕ, Bool, cond, codes, true, false, refl, ap, arith, List, Option, Some, None, option_map_or, bytes_eq, digits_value, without_leading_plus, bytes_eq-Decides, AreSettings, HasSize, asked, file_in, flag_in, number_in, settings_in, options_in, FitsCommand, FitsFound, HasNumber, HasSettings, Check, Run, Replay, Model, Races, Image, Make, Verify}
+use Rattle.std.specs.Option.{option_and_then}
 use Rattle.clap.specs.Words.{Row, Text}
-use Rattle.run_trace.specs.Settings.{AreSettings}
-use Rattle.command_line.specs.CommandLine.{HasSize, asked, file_in, flag_in, number_in, settings_in, options_in}
-use Rattle.command_line.specs.Values.{FitsCommand, FitsFound, HasNumber, HasSettings}
 use Rattle.command_line.specs.declared.line.CommandLine.{CommandLine}
-use Rattle.command_line.specs.declared.line.CommandLine.TheVariants.{Check, Run, Replay, Model, Races, Image, Make, Verify}
 
 pub wider : (id : Text) (least most : ℕ) (rows : List Row) → most ≤ 4294967295 → HasNumber id least most rows → HasNumber id 0 4294967295 rows
 wider id least most rows lt h = (h.0, h.1, (h.2.0, h.2.1, omega arith, omega (arith, h.2.3, lt)))

@@ -1,29 +1,8 @@
 -- If a level of a parse has no fault, each value of its matches passed the parser of its argument.
-use Rattle.std.proofs.Common.{◌≡◌, ◌∙◌, ◌<◌, ◌+◌, ◌++◌, ◌&&◌, ◌||◌, ◌⊎◌, ◌==◌, ℕ, Bool, cond, true, false, not, zero, suc, refl, sym, ap, subst, arith, inl, inr, List, [], ◌∷◌, length, drop, Option, Some, None, is_some, nat_lt, true≢false}
-use Rattle.std.specs.Prelude.{⊤, unwrap_or, find, fold, slice_get, encode_utf8, option_and_then}
-use Rattle.std.specs.List.{list_any}
-use Rattle.std.specs.Option.{option_map_or, option_map}
-use Rattle.std.specs.Str.{bytes_eq, chars}
-use Rattle.std.proofs.lemmas.List.{length-append}
-use Rattle.std.proofs.lemmas.Slice.Eq.{bytes_eq-Decides}
-use Rattle.clap.specs.Facts.{explicit_source, unwrap_or_range}
-use Rattle.clap.specs.Walk.{Held, Names, Outcome, Row, Rule, Step, Text, Waiting, Walk, action_of, after_flag, after_step, arg_by_id, arg_by_index, arg_by_long, arg_by_short, at_row, attached_value, bundle_met, bundle_step, default_rows, finished, flag_met, has_row, is_empty, is_pending, long_met, long_or_other, more_values, most_values, one_of, option, option_met, option_word, plain_word, positional_held, pushed, reacted, reading_by, row_text, settled, settled_rows, short_met, short_or_plain, subcommand_met, subcommand_or_other, takes_several, takes_values, to_positional, used, used_as, value, values_or_missing, walk, walk_from, walked, with_default, with_values, without, word_met, used_by_id, bundle, walked_from}
-use Rattle.clap.specs.Walk.{next, trailing, subcommand, done, waits, plain, refused, idle, positional}
-use Rattle.clap.specs.Lexer.{long_of, short_of}
-use Rattle.clap.specs.Simple.{Shape}
-use Rattle.clap.specs.Takes.{is_given, value_passes}
-use Rattle.clap.specs.Kinds.{Kinds, or_else, range_kinds, value_kinds, request_kinds}
-use Rattle.clap.specs.Faults.{action_fault, check_fault, default_fault, defaults_fault, bundle_fault, bundle_step_fault, flag_word_fault, flags_fault, given_default_fault, level_fault, long_fault, option_fault, other_fault, positional_fault, react_fault, set_fault, settle_fault, short_fault, step_fault, stray_fault, turn_fault, use_fault, values_fault, walk_fault, word_fault}
-use Rattle.clap.specs.Values.{refused_kind, read_as}
-use Rattle.clap.specs.Facts.{parser_of_value}
-use Rattle.clap.specs.declared.builder.action.ArgAction.{ArgAction}
-use Rattle.clap.specs.declared.builder.action.ArgAction.TheVariants.{Set, SetTrue}
-use Rattle.clap.specs.declared.builder.value_parser.Reading.{Reading}
-use Rattle.clap.specs.declared.builder.value_parser.Reading.TheVariants.{AsWritten}
-use Rattle.clap.specs.declared.error.kind.ErrorKind.{ErrorKind}
+use Rattle.command_line.proofs.Common.{◌≡◌, ◌∙◌, ◌<◌, ◌+◌, ◌++◌, ◌&&◌, ◌||◌, ◌⊎◌, ◌==◌, ℕ, Bool, cond, true, false, not, zero, suc, refl, sym, ap, subst, arith, inl, inr, List, [], ◌∷◌, length, drop, Option, Some, None, is_some, nat_lt, true≢false, ⊤, unwrap_or, find, fold, slice_get, encode_utf8, option_and_then, list_any, option_map_or, option_map, bytes_eq, chars, length-append, bytes_eq-Decides, explicit_source, unwrap_or_range, Held, Names, Outcome, Row, Rule, Step, Text, Waiting, Walk, action_of, after_flag, after_step, arg_by_id, arg_by_index, arg_by_long, arg_by_short, at_row, attached_value, bundle_step, default_rows, finished, flag_met, has_row, is_empty, is_pending, long_met, long_or_other, more_values, most_values, one_of, option, option_met, option_word, plain_word, positional_held, pushed, reacted, reading_by, row_text, settled, settled_rows, short_met, short_or_plain, subcommand_met, subcommand_or_other, takes_several, takes_values, to_positional, used, used_as, value, values_or_missing, walk, walk_from, with_default, with_values, without, word_met, used_by_id, bundle, walked_from, next, trailing, subcommand, done, waits, plain, refused, idle, positional, long_of, short_of, Shape, is_given, value_passes, Kinds, or_else, range_kinds, value_kinds, request_kinds, action_fault, check_fault, default_fault, bundle_fault, bundle_step_fault, flag_word_fault, given_default_fault, level_fault, long_fault, option_fault, other_fault, positional_fault, react_fault, set_fault, settle_fault, short_fault, step_fault, stray_fault, turn_fault, use_fault, values_fault, word_fault, refused_kind, read_as, parser_of_value, ArgAction, Set, SetTrue, Reading, AsWritten, ErrorKind, ValueSource, CommandLine, DefaultValue}
+use Rattle.clap.specs.Walk.{bundle_met, walked}
+use Rattle.clap.specs.Faults.{defaults_fault, flags_fault, walk_fault}
 use Rattle.clap.specs.declared.error.kind.ErrorKind.TheVariants as kind
-use Rattle.clap.specs.declared.parser.matches.ValueSource.{ValueSource}
-use Rattle.clap.specs.declared.parser.matches.ValueSource.TheVariants.{CommandLine, DefaultValue}
 
 -- ---- lists
 
@@ -37,13 +16,13 @@ each_joined P (x ∷ xs) ys h k = (h.0, each_joined P xs ys h.1 k)
 
 pub found : {X : Type 0} (P : X → Type 0) (p : X → Bool) (xs : List X) (x : X) → each P xs → find p xs ≡ Some x → P x × (p x ≡ true)
 found P p [] x h e = absurd (true≢false (ap (λ o. not (is_some o)) e))
-found P p (y ∷ ys) x h e = go (p y) refl (found P p ys x h.1) e
+found P p (y ∷ ys) x h e = found_by_cases (p y) refl (found P p ys x h.1) e
   where
-    go : (b : Bool) → p y ≡ b → (find p ys ≡ Some x → P x × (p x ≡ true)) → cond b (Some y) (find p ys) ≡ Some x → P x × (p x ≡ true)
-    go true t rest e =
+    found_by_cases : (b : Bool) → p y ≡ b → (find p ys ≡ Some x → P x × (p x ≡ true)) → cond b (Some y) (find p ys) ≡ Some x → P x × (p x ≡ true)
+    found_by_cases true t rest e =
         let same : y ≡ x = ap (λ o. unwrap_or o y) e in
         (subst P same h.0, subst (λ z. p z ≡ true) same t)
-    go false t rest e = rest e
+    found_by_cases false t rest e = rest e
 
 -- ---- kinds
 
@@ -94,11 +73,11 @@ module _ (c : List Rule) where
   at_passed : (id : Text) (change : Row → List Row) (missing : List Row) → ((r : Row) → bytes_eq r.id id ≡ true → IsPassed r → each IsPassed (change r)) → each IsPassed missing
       → (rows : List Row) → each IsPassed rows → each IsPassed (at_row id change missing rows)
   at_passed id change missing f m [] h = m
-  at_passed id change missing f m (r ∷ rs) h = go (bytes_eq r.id id) refl (at_passed id change missing f m rs h.1)
+  at_passed id change missing f m (r ∷ rs) h = at_passed_by_cases (bytes_eq r.id id) refl (at_passed id change missing f m rs h.1)
     where
-      go : (b : Bool) → bytes_eq r.id id ≡ b → each IsPassed (at_row id change missing rs) → each IsPassed (cond b (change r ++ rs) (r ∷ at_row id change missing rs))
-      go true e rest = each_joined IsPassed (change r) rs (f r e h.0) h.1
-      go false e rest = (h.0, rest)
+      at_passed_by_cases : (b : Bool) → bytes_eq r.id id ≡ b → each IsPassed (at_row id change missing rs) → each IsPassed (cond b (change r ++ rs) (r ∷ at_row id change missing rs))
+      at_passed_by_cases true e rest = each_joined IsPassed (change r) rs (f r e h.0) h.1
+      at_passed_by_cases false e rest = (h.0, rest)
 
   more_passed : (id : Text) (s : ValueSource) (vs : List Text) → each (Passes id) vs → (r : Row) → bytes_eq r.id id ≡ true → IsPassed r → each IsPassed (more_values s vs r)
   more_passed id s vs v r e h =
@@ -129,11 +108,11 @@ module _ (c : List Rule) where
 
   some_value : (a : Rule) → IsPlain a → (raw : List Text) → range_kinds (unwrap_or_range a.range).start_inclusive (most_values a) (length raw) ≡ [] → 0 < length (values_or_missing a raw)
   some_value a p (v ∷ vs) e = omega arith
-  some_value a p [] e = go (nat_lt 0 (unwrap_or_range a.range).start_inclusive) refl p.filled
+  some_value a p [] e = some_value_by_cases (nat_lt 0 (unwrap_or_range a.range).start_inclusive) refl p.filled
     where
-      go : (b : Bool) → nat_lt 0 (unwrap_or_range a.range).start_inclusive ≡ b → (b || not (is_empty a.missing)) ≡ true → 0 < length a.missing
-      go true t f = absurd (some_kind _ _ (rw t at e))
-      go false t f = not_zero true (length a.missing) f
+      some_value_by_cases : (b : Bool) → nat_lt 0 (unwrap_or_range a.range).start_inclusive ≡ b → (b || not (is_empty a.missing)) ≡ true → 0 < length a.missing
+      some_value_by_cases true t f = absurd (some_kind _ _ (rw t at e))
+      some_value_by_cases false t f = not_zero true (length a.missing) f
 
   used_passed : (again : Bool) (a : Rule) → IsPlain a → (raw : List Text) (rows : List Row) → each IsPassed rows → use_fault again a raw rows ≡ [] → each IsPassed (used a raw rows)
   used_passed again a p raw rows h e =
@@ -153,17 +132,17 @@ module _ (c : List Rule) where
     IsHeld h = each IsPassed h.rows
 
     settled_passed : (h : Held) → IsHeld h → settle_fault c again h ≡ [] → IsHeld (settled c h)
-    settled_passed h k e = go h.pending e
+    settled_passed h k e = settled_passed_by_cases h.pending e
       where
         by_id : (p : Text × List Text) (o : Option Rule) → arg_by_id c p.0 ≡ o → option_map_or (λ a. use_fault again a p.1 h.rows) o [] ≡ []
             → each IsPassed (used_by_id o p.1 h.rows)
         by_id p None at f = k
         by_id p (Some a) at f = used_passed again a (found IsPlain (λ b. bytes_eq b.id p.0) c a plain_rules at).0 p.1 h.rows k f
 
-        go : (o : Option (Text × List Text)) → option_map_or (λ p. option_map_or (λ a. use_fault again a p.1 h.rows) (arg_by_id c p.0) []) o [] ≡ []
+        settled_passed_by_cases : (o : Option (Text × List Text)) → option_map_or (λ p. option_map_or (λ a. use_fault again a p.1 h.rows) (arg_by_id c p.0) []) o [] ≡ []
             → each IsPassed (settled_rows c o h.rows)
-        go None f = k
-        go (Some p) f = by_id p (arg_by_id c p.0) refl f
+        settled_passed_by_cases None f = k
+        settled_passed_by_cases (Some p) f = by_id p (arg_by_id c p.0) refl f
 
     reacted_passed : (a : Rule) → IsPlain a → (vs : List Text) (h : Held) → IsHeld h → react_fault c again a vs h ≡ [] → IsHeld (reacted c a vs h)
     reacted_passed a p vs h k e =
@@ -176,50 +155,50 @@ module _ (c : List Rule) where
 
     long_passed : (o : Option Rule) → ((a : Rule) → o ≡ Some a → IsPlain a) → (v : Option Text) (h : Held) → IsHeld h → long_fault c again o v h ≡ [] → IsHeld (long_met c o v h).0
     long_passed None p v h k e = k
-    long_passed (Some a) p v h k e = go (takes_values a) e
+    long_passed (Some a) p v h k e = long_passed_by_cases (takes_values a) e
       where
         flag_passed : (w : Option Text) → cond (is_some w) (kind.TooManyValues ∷ []) (react_fault c again a [] h) ≡ [] → IsHeld (flag_met c a w h).0
         flag_passed None f = reacted_passed a (p a refl) [] h k f
         flag_passed (Some w) f = k
 
-        go : (b : Bool) → cond b (option_fault c again a v h) (cond (is_some v) (kind.TooManyValues ∷ []) (react_fault c again a [] h)) ≡ []
+        long_passed_by_cases : (b : Bool) → cond b (option_fault c again a v h) (cond (is_some v) (kind.TooManyValues ∷ []) (react_fault c again a [] h)) ≡ []
             → IsHeld (cond b (option_met c a v h) (flag_met c a v h)).0
-        go true f = option_passed a (p a refl) v h k f
-        go false f = flag_passed v f
+        long_passed_by_cases true f = option_passed a (p a refl) v h k f
+        long_passed_by_cases false f = flag_passed v f
 
     short_passed : (o : Option Rule) → ((a : Rule) → o ≡ Some a → IsPlain a) → (rest : Text) (h : Held) (on : Held → Held × Outcome) (fault : Held → Kinds)
         → ((g : Held) → IsHeld g → fault g ≡ [] → IsHeld (on g).0) → IsHeld h → short_fault c again o rest h fault ≡ [] → IsHeld (short_met c o rest h on).0
     short_passed None p rest h on fault n k e = k
-    short_passed (Some a) p rest h on fault n k e = go (takes_values a) e
+    short_passed (Some a) p rest h on fault n k e = short_passed_by_cases (takes_values a) e
       where
-        go : (b : Bool) → cond b (option_fault c again a (attached_value rest) h) (or_else (react_fault c again a [] h) (fault (reacted c a [] h))) ≡ []
+        short_passed_by_cases : (b : Bool) → cond b (option_fault c again a (attached_value rest) h) (or_else (react_fault c again a [] h) (fault (reacted c a [] h))) ≡ []
             → IsHeld (cond b (option_met c a (attached_value rest) h) (on (reacted c a [] h))).0
-        go true f = option_passed a (p a refl) (attached_value rest) h k f
-        go false f =
+        short_passed_by_cases true f = option_passed a (p a refl) (attached_value rest) h k f
+        short_passed_by_cases false f =
             let parts = none_of (react_fault c again a [] h) _ f in
             n (reacted c a [] h) (reacted_passed a (p a refl) [] h k parts.0) parts.1
 
     bundle_passed : (n : ℕ) (flags : Text) (skip : ℕ) (so_far : Outcome) (h : Held) → IsHeld h → flags_fault c again n flags skip h ≡ [] → IsHeld (bundle_met c n flags skip so_far h).0
     unfolding bundle_met flags_fault
     bundle_passed zero flags skip so_far h k e = k
-    bundle_passed (suc n) flags skip so_far h k e = go (slice_get (chars flags) 0) skip (bundle_passed n) e
+    bundle_passed (suc n) flags skip so_far h k e = bundle_passed_by_cases (slice_get (chars flags) 0) skip (bundle_passed n) e
       where
-        go : (o : Option ℕ) (skip : ℕ) → ((fs : Text) (s : ℕ) (so : Outcome) (g : Held) → IsHeld g → flags_fault c again n fs s g ≡ [] → IsHeld (bundle_met c n fs s so g).0)
+        bundle_passed_by_cases : (o : Option ℕ) (skip : ℕ) → ((fs : Text) (s : ℕ) (so : Outcome) (g : Held) → IsHeld g → flags_fault c again n fs s g ≡ [] → IsHeld (bundle_met c n fs s so g).0)
             → bundle_step_fault c again o flags skip h (flags_fault c again n) ≡ [] → IsHeld (bundle_step c o flags skip so_far h (bundle_met c n)).0
-        go None skip rec f = k
-        go (Some x) (suc skip) rec f = rec (drop (length (encode_utf8 x)) flags) skip so_far h k f
-        go (Some x) zero rec f =
+        bundle_passed_by_cases None skip rec f = k
+        bundle_passed_by_cases (Some x) (suc skip) rec f = rec (drop (length (encode_utf8 x)) flags) skip so_far h k f
+        bundle_passed_by_cases (Some x) zero rec f =
             let rest = drop (length (encode_utf8 x)) flags in
             short_passed (arg_by_short c x) (λ a at. (found IsPlain _ c a plain_rules at).0) rest h (bundle_met c n rest 0 done) (flags_fault c again n rest 0)
             (λ g kg fg. rec rest 0 done g kg fg) k f
 
     -- a word that isn't a flag uses nothing
     plain_same : (waiting : Waiting) (word : Text) (h : Held) → IsHeld h → IsHeld (plain_word c waiting word h).0
-    plain_same (option id) word h k = go (arg_by_id c id)
+    plain_same (option id) word h k = plain_same_by_cases (arg_by_id c id)
       where
-        go : (o : Option Rule) → IsHeld (option_word o id word h).0
-        go None = k
-        go (Some a) = k
+        plain_same_by_cases : (o : Option Rule) → IsHeld (option_word o id word h).0
+        plain_same_by_cases None = k
+        plain_same_by_cases (Some a) = k
     plain_same idle word h k = k
     plain_same positional word h k = k
 
@@ -233,20 +212,20 @@ module _ (c : List Rule) where
     other_passed waiting word (Some p) h k e =
         after_same waiting word (long_met c (arg_by_long c p.0) p.1 h).0 (long_met c (arg_by_long c p.0) p.1 h).1
         (long_passed (arg_by_long c p.0) (λ a at. (found IsPlain _ c a plain_rules at).0) p.1 h k e)
-    other_passed waiting word None h k e = go (short_of word) e
+    other_passed waiting word None h k e = other_passed_by_cases (short_of word) e
       where
-        go : (o : Option Text) → option_map_or (λ flags. bundle_fault c again flags h) o [] ≡ [] → IsHeld (short_or_plain c waiting word o h).0
-        go None f = plain_same waiting word h k
-        go (Some flags) f =
+        other_passed_by_cases : (o : Option Text) → option_map_or (λ flags. bundle_fault c again flags h) o [] ≡ [] → IsHeld (short_or_plain c waiting word o h).0
+        other_passed_by_cases None f = plain_same waiting word h k
+        other_passed_by_cases (Some flags) f =
             after_same waiting word (bundle c flags h).0 (bundle c flags h).1
             (bundle_passed (length flags) flags h.skip plain (record h { skip = 0 }) k f)
 
     positional_passed : (a : Rule) (word : Text) (h : Held) → IsHeld h → positional_fault c again a h ≡ [] → IsHeld (positional_held c a word h)
-    positional_passed a word h k e = go (is_pending a h.pending && takes_several a) e
+    positional_passed a word h k e = positional_passed_by_cases (is_pending a h.pending && takes_several a) e
       where
-        go : (b : Bool) → cond b [] (settle_fault c again h) ≡ [] → IsHeld (pushed a.id word (cond b h (settled c h)))
-        go true f = k
-        go false f = settled_passed h k f
+        positional_passed_by_cases : (b : Bool) → cond b [] (settle_fault c again h) ≡ [] → IsHeld (pushed a.id word (cond b h (settled c h)))
+        positional_passed_by_cases true f = k
+        positional_passed_by_cases false f = settled_passed h k f
 
 module _ (s : Shape) (plain_rules : each (IsPlain s.rules) s.rules) (names : Names) where
   abbrev HasPassed : Held → Type 0
@@ -255,12 +234,12 @@ module _ (s : Shape) (plain_rules : each (IsPlain s.rules) s.rules) (names : Nam
   met_passed : (waiting : Waiting) (position : ℕ) (word : Text) (o : Option Text) (h : Held) → HasPassed h → other_fault s o word h ≡ []
       → HasPassed (subcommand_or_other s.rules o waiting position word h).0
   met_passed waiting position word (Some name) h k e = k
-  met_passed waiting position word None h k e = go (bytes_eq word (45 ∷ 45 ∷ [])) e
+  met_passed waiting position word None h k e = met_passed_by_cases (bytes_eq word (45 ∷ 45 ∷ [])) e
     where
-      go : (b : Bool) → cond b [] (flag_word_fault s.rules s.args_override_self (long_of word) word h) ≡ []
+      met_passed_by_cases : (b : Bool) → cond b [] (flag_word_fault s.rules s.args_override_self (long_of word) word h) ≡ []
           → HasPassed (cond b (h, trailing position) (long_or_other s.rules waiting word (long_of word) h)).0
-      go true f = k
-      go false f = other_passed s.rules s.args_override_self plain_rules waiting word (long_of word) h k f
+      met_passed_by_cases true f = k
+      met_passed_by_cases false f = other_passed s.rules s.args_override_self plain_rules waiting word (long_of word) h k f
 
   word_passed : (is_trailing : Bool) (waiting : Waiting) (position : ℕ) (word : Text) (h : Held) → HasPassed h → word_fault s names is_trailing waiting word h ≡ []
       → HasPassed (word_met s.rules names is_trailing waiting position word h).0
@@ -280,17 +259,17 @@ module _ (s : Shape) (plain_rules : each (IsPlain s.rules) s.rules) (names : Nam
 
   turn_passed : (w : Walk) (word : Text) → HasPassed w.held → turn_fault s names w word ≡ [] → HasPassed (walked s.rules names w word).held
   unfolding walked
-  turn_passed w word k e = go w.stopped e
+  turn_passed w word k e = turn_passed_by_cases w.stopped e
     where
       met : Held × Step
       met = word_met s.rules names w.is_trailing w.waiting w.position word w.held
 
-      go : (o : Option (Text × List Text))
+      turn_passed_by_cases : (o : Option (Text × List Text))
           → cond (is_some o) [] (or_else (word_fault s names w.is_trailing w.waiting word w.held)
           (step_fault s w.position (word_met s.rules names w.is_trailing w.waiting w.position word w.held).0 (word_met s.rules names w.is_trailing w.waiting w.position word w.held).1)) ≡ []
           → HasPassed (walked_from s.rules names o w word).held
-      go (Some p) f = k
-      go None f =
+      turn_passed_by_cases (Some p) f = k
+      turn_passed_by_cases None f =
           let parts = none_of (word_fault s names w.is_trailing w.waiting word w.held) _ f in
           step_passed word w (word_met s.rules names w.is_trailing w.waiting w.position word w.held).0 (word_met s.rules names w.is_trailing w.waiting w.position word w.held).1
           (word_passed w.is_trailing w.waiting w.position word w.held k parts.0) parts.1
@@ -313,15 +292,15 @@ module _ (s : Shape) (plain_rules : each (IsPlain s.rules) s.rules) (names : Nam
       (passed s.rules a p (v ∷ vs) parts.1) (omega arith) p.reads rows h
 
   default_passed : (a : Rule) → IsPlain s.rules a → (rows : List Row) → default_fault rows a ≡ [] → each (IsPassed s.rules) rows → each (IsPassed s.rules) (with_default rows a)
-  default_passed a p rows e h = go (has_row a.id rows) a.defaults e
+  default_passed a p rows e h = default_passed_by_cases (has_row a.id rows) a.defaults e
     where
       some : (b : Bool) (vs : List Text) → cond (is_empty vs) [] (given_default_fault a vs) ≡ [] → each (IsPassed s.rules) (default_rows a.id (reading_by a) vs rows)
       some b [] f = h
       some b (v ∷ vs) f = given_passed a p (v ∷ vs) (rw (never_zero (length vs)) at f) rows h
 
-      go : (b : Bool) (vs : List Text) → cond (b || is_empty vs) [] (given_default_fault a vs) ≡ [] → each (IsPassed s.rules) (cond b rows (default_rows a.id (reading_by a) vs rows))
-      go true vs f = h
-      go false vs f = some false vs f
+      default_passed_by_cases : (b : Bool) (vs : List Text) → cond (b || is_empty vs) [] (given_default_fault a vs) ≡ [] → each (IsPassed s.rules) (cond b rows (default_rows a.id (reading_by a) vs rows))
+      default_passed_by_cases true vs f = h
+      default_passed_by_cases false vs f = some false vs f
 
   defaults_passed : (rest : List Rule) → each (IsPlain s.rules) rest → (rows : List Row) → each (IsPassed s.rules) rows → defaults_fault rows rest ≡ []
       → each (IsPassed s.rules) (fold with_default rows rest)
@@ -349,24 +328,24 @@ module _ (s : Shape) (plain_rules : each (IsPlain s.rules) s.rules) (names : Nam
 module _ (id : Text) where
   kept_at : (other : Text) (v : ValueSource) (vs : List Text) (missing rows : List Row) → has_row id rows ≡ true → has_row id (at_row other (more_values v vs) missing rows) ≡ true
   kept_at other v vs missing [] e = absurd (true≢false (sym e))
-  kept_at other v vs missing (r ∷ rs) e = go (bytes_eq r.id other) (kept_at other v vs missing rs)
+  kept_at other v vs missing (r ∷ rs) e = kept_at_by_cases (bytes_eq r.id other) (kept_at other v vs missing rs)
     where
-      go : (b : Bool) → (has_row id rs ≡ true → has_row id (at_row other (more_values v vs) missing rs) ≡ true)
+      kept_at_by_cases : (b : Bool) → (has_row id rs ≡ true → has_row id (at_row other (more_values v vs) missing rs) ≡ true)
           → has_row id (cond b (more_values v vs r ++ rs) (r ∷ at_row other (more_values v vs) missing rs)) ≡ true
-      go true rec = e
-      go false rec = here (bytes_eq r.id id) e
+      kept_at_by_cases true rec = e
+      kept_at_by_cases false rec = kept_at_by_cases_here (bytes_eq r.id id) e
         where
-          here : (b : Bool) → (b || has_row id rs) ≡ true → (b || has_row id (at_row other (more_values v vs) missing rs)) ≡ true
-          here true f = refl
-          here false f = rec f
+          kept_at_by_cases_here : (b : Bool) → (b || has_row id rs) ≡ true → (b || has_row id (at_row other (more_values v vs) missing rs)) ≡ true
+          kept_at_by_cases_here true f = refl
+          kept_at_by_cases_here false f = rec f
 
   kept_row : (a : Rule) (rows : List Row) → has_row id rows ≡ true → has_row id (with_default rows a) ≡ true
-  kept_row a rows e = go (has_row a.id rows) a.defaults
+  kept_row a rows e = kept_row_by_cases (has_row a.id rows) a.defaults
     where
-      go : (b : Bool) (vs : List Text) → has_row id (cond b rows (default_rows a.id (reading_by a) vs rows)) ≡ true
-      go true vs = e
-      go false [] = e
-      go false (v ∷ vs) = kept_at a.id DefaultValue (v ∷ vs) _ rows e
+      kept_row_by_cases : (b : Bool) (vs : List Text) → has_row id (cond b rows (default_rows a.id (reading_by a) vs rows)) ≡ true
+      kept_row_by_cases true vs = e
+      kept_row_by_cases false [] = e
+      kept_row_by_cases false (v ∷ vs) = kept_at a.id DefaultValue (v ∷ vs) _ rows e
 
   kept_rows : (rest : List Rule) (rows : List Row) → has_row id rows ≡ true → has_row id (fold with_default rows rest) ≡ true
   kept_rows [] rows e = e
@@ -376,58 +355,58 @@ module _ (id : Text) where
   new_at v vs r is [] =
       let same : bytes_eq r.id id ≡ true = (bytes_eq-Decides r.id id).1 is in
       rw same refl
-  new_at v vs r is (x ∷ xs) = go (bytes_eq x.id id) refl (new_at v vs r is xs)
+  new_at v vs r is (x ∷ xs) = new_at_by_cases (bytes_eq x.id id) refl (new_at v vs r is xs)
     where
-      go : (b : Bool) → bytes_eq x.id id ≡ b → has_row id (at_row id (more_values v vs) (r ∷ []) xs) ≡ true
+      new_at_by_cases : (b : Bool) → bytes_eq x.id id ≡ b → has_row id (at_row id (more_values v vs) (r ∷ []) xs) ≡ true
           → has_row id (cond b (more_values v vs x ++ xs) (x ∷ at_row id (more_values v vs) (r ∷ []) xs)) ≡ true
-      go true t rec = rw t refl
-      go false t rec = rw (t, rec) refl
+      new_at_by_cases true t rec = rw t refl
+      new_at_by_cases false t rec = rw (t, rec) refl
 
   new_row : (a : Rule) (rows : List Row) → a.id ≡ id → not (is_empty a.defaults) ≡ true → has_row id (with_default rows a) ≡ true
-  new_row a rows is e = go (has_row a.id rows) refl a.defaults e
+  new_row a rows is e = new_row_by_cases (has_row a.id rows) refl a.defaults e
     where
       new : (v : Text) (vs : List Text) → has_row id (default_rows a.id (reading_by a) (v ∷ vs) rows) ≡ true
       new v vs = subst (λ (t : Text). has_row id (default_rows t (reading_by a) (v ∷ vs) rows) ≡ true) (sym is)
           (new_at DefaultValue (v ∷ vs) _ refl rows)
 
-      go : (b : Bool) → has_row a.id rows ≡ b → (vs : List Text) → not (is_empty vs) ≡ true → has_row id (cond b rows (default_rows a.id (reading_by a) vs rows)) ≡ true
-      go true t vs f = subst (λ (i : Text). has_row i rows ≡ true) is t
-      go false t [] f = absurd (true≢false (sym f))
-      go false t (v ∷ vs) f = new v vs
+      new_row_by_cases : (b : Bool) → has_row a.id rows ≡ b → (vs : List Text) → not (is_empty vs) ≡ true → has_row id (cond b rows (default_rows a.id (reading_by a) vs rows)) ≡ true
+      new_row_by_cases true t vs f = subst (λ (i : Text). has_row i rows ≡ true) is t
+      new_row_by_cases false t [] f = absurd (true≢false (sym f))
+      new_row_by_cases false t (v ∷ vs) f = new v vs
 
   -- an argument with a default has a row at the end
   pub default_row : (rest : List Rule) → list_any (λ a. bytes_eq a.id id && not (is_empty a.defaults)) rest ≡ true → (rows : List Row) → has_row id (fold with_default rows rest) ≡ true
   default_row [] e rows = absurd (true≢false (sym e))
-  default_row (a ∷ rest) e rows = go (bytes_eq a.id id) refl (not (is_empty a.defaults)) refl (λ f. default_row rest f (with_default rows a)) e
+  default_row (a ∷ rest) e rows = default_row_by_cases (bytes_eq a.id id) refl (not (is_empty a.defaults)) refl (λ f. default_row rest f (with_default rows a)) e
     where
-      go : (b : Bool) → bytes_eq a.id id ≡ b → (d : Bool) → not (is_empty a.defaults) ≡ d
+      default_row_by_cases : (b : Bool) → bytes_eq a.id id ≡ b → (d : Bool) → not (is_empty a.defaults) ≡ d
           → (list_any (λ x. bytes_eq x.id id && not (is_empty x.defaults)) rest ≡ true → has_row id (fold with_default (with_default rows a) rest) ≡ true)
           → ((b && d) || list_any (λ x. bytes_eq x.id id && not (is_empty x.defaults)) rest) ≡ true → has_row id (fold with_default (with_default rows a) rest) ≡ true
-      go true t true u rec f = kept_rows rest (with_default rows a) (new_row a rows ((bytes_eq-Decides a.id id).0 t) u)
-      go true t false u rec f = rec f
-      go false t d u rec f = rec f
+      default_row_by_cases true t true u rec f = kept_rows rest (with_default rows a) (new_row a rows ((bytes_eq-Decides a.id id).0 t) u)
+      default_row_by_cases true t false u rec f = rec f
+      default_row_by_cases false t d u rec f = rec f
 
   -- what was given has a row
   pub given_row : (rows : List Row) → is_given id rows ≡ true → has_row id rows ≡ true
   given_row [] e = absurd (true≢false (sym e))
-  given_row (r ∷ rs) e = go (bytes_eq r.id id) (given_row rs) e
+  given_row (r ∷ rs) e = given_row_by_cases (bytes_eq r.id id) (given_row rs) e
     where
-      go : (b : Bool) → (is_given id rs ≡ true → has_row id rs ≡ true)
+      given_row_by_cases : (b : Bool) → (is_given id rs ≡ true → has_row id rs ≡ true)
           → option_map_or (λ (x : Row). explicit_source x.source) (cond b (Some r) (find (λ x. bytes_eq x.id id) rs)) false ≡ true → (b || has_row id rs) ≡ true
-      go true rec f = refl
-      go false rec f = rec f
+      given_row_by_cases true rec f = refl
+      given_row_by_cases false rec f = rec f
 
   -- the text of a row, which passed
   pub text_in : (c : List Rule) (rows : List Row) → each (IsPassed c) rows → has_row id rows ≡ true → (t : Text) × (one_of id rows ≡ Some t) × Passes c id t
   text_in c [] h e = absurd (true≢false (sym e))
-  text_in c (r ∷ rs) h e = go (bytes_eq r.id id) refl (text_in c rs h.1) e
+  text_in c (r ∷ rs) h e = text_in_by_cases (bytes_eq r.id id) refl (text_in c rs h.1) e
     where
       first : r.id ≡ id → (vs : List Text) → each (Passes c r.id) vs → 0 < length vs
           → (t : Text) × (option_map (read_as r.reading) (slice_get vs 0) ≡ Some t) × Passes c id t
       first is [] p lt = absurd (omega arith)
       first is (v ∷ vs) p lt = (v, ap (λ (how : Reading). Some (read_as how v)) h.0.reading, subst (λ (i : Text). Passes c i v) is p.0)
 
-      go : (b : Bool) → bytes_eq r.id id ≡ b → (has_row id rs ≡ true → (t : Text) × (one_of id rs ≡ Some t) × Passes c id t) → (b || has_row id rs) ≡ true
+      text_in_by_cases : (b : Bool) → bytes_eq r.id id ≡ b → (has_row id rs ≡ true → (t : Text) × (one_of id rs ≡ Some t) × Passes c id t) → (b || has_row id rs) ≡ true
           → (t : Text) × (option_and_then row_text (cond b (Some r) (find (λ x. bytes_eq x.id id) rs)) ≡ Some t) × Passes c id t
-      go true t rec f = first ((bytes_eq-Decides r.id id).0 t) r.values h.0.values h.0.filled
-      go false t rec f = rec f
+      text_in_by_cases true t rec f = first ((bytes_eq-Decides r.id id).0 t) r.values h.0.values h.0.filled
+      text_in_by_cases false t rec f = rec f

@@ -1,8 +1,6 @@
 -- The command as it is built, and its subcommands.
-use Rattle.std.proofs.Common.{refl, inl, inr, ℕ, zero, suc, List, [], ◌∷◌}
-use Rattle.clap.specs.Walk.{Text}
-use Rattle.clap.specs.Simple.{App, Shape, built}
-use Rattle.command_line.specs.App.{app}
+use Rattle.command_line.proofs.Common.{refl, inl, inr, ℕ, zero, suc, List, [], ◌∷◌, Text, Shape, built, app}
+use Rattle.clap.specs.Simple.{App}
 use Rattle.command_line.proofs.Rows.{IsPlain, each}
 
 abbrev pub whole : App

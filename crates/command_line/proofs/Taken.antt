@@ -1,23 +1,10 @@
 -- What a command line without a fault has.
-use Rattle.std.proofs.Common.{◌≡◌, ◌∙◌, ◌||◌, ◌⊎◌, ℕ, Bool, cond, codes, true, false, not, refl, sym, ap, inl, inr, List, [], ◌∷◌, length, Option, Some, None, is_some, true≢false}
-use Rattle.std.specs.Prelude.{find, option_map, option_and_then}
-use Rattle.std.specs.Option.{option_map_or}
-use Rattle.std.specs.Str.{bytes_eq}
-use Rattle.std.proofs.lemmas.Slice.Eq.{bytes_eq-Decides}
-use Rattle.clap.specs.Walk.{Row, Text, answers_to, finished, is_empty, nothing_held, one_of, has_row, rows_after, settled, stop_after, walk}
-use Rattle.clap.specs.Simple.{App, Shape, entered, is_simple, label_of, names_of, rows_at, subcommand_of}
-use Rattle.clap.specs.Takes.{is_given}
-use Rattle.clap.specs.Kinds.{IsAmong, Kinds}
-use Rattle.clap.specs.Faults.{check_fault, entered_fault, fault_of, is_simple_and_free, level_fault}
+use Rattle.command_line.proofs.Common.{◌≡◌, ◌∙◌, ◌||◌, ◌⊎◌, ℕ, Bool, cond, codes, true, false, not, refl, sym, ap, inl, inr, List, [], ◌∷◌, length, Option, Some, None, is_some, true≢false, find, option_and_then, option_map_or, bytes_eq, bytes_eq-Decides, Row, Text, answers_to, finished, is_empty, nothing_held, one_of, has_row, rows_after, settled, stop_after, walk, Shape, entered, is_simple, label_of, names_of, rows_at, subcommand_of, is_given, IsAmong, Kinds, check_fault, entered_fault, fault_of, is_simple_and_free, level_fault, ErrorKind, accepts-Accepts, accepts, app, asked, command_line, FitsCommand, FitsFound, HasFlag, HasNumber, HasOptions, HasSettings}
+use Rattle.std.specs.Prelude.{option_map}
+use Rattle.clap.specs.Simple.{App}
 use Rattle.clap.specs.declared.builder.value_parser.ValueParser.TheVariants as vp
-use Rattle.clap.specs.declared.error.kind.ErrorKind.{ErrorKind}
 use Rattle.clap.specs.declared.error.kind.ErrorKind.TheVariants as kind
-use Rattle.clap.proofs.ValueTestLemmas.{accepts-Accepts}
-use Rattle.clap.specs.ValueTests.{accepts}
-use Rattle.command_line.specs.App.{app}
-use Rattle.command_line.specs.CommandLine.{asked, command_line}
 use Rattle.command_line.specs.declared.line.CommandLine.{CommandLine}
-use Rattle.command_line.specs.Values.{FitsCommand, FitsFound, HasFlag, HasNumber, HasOptions, HasSettings}
 use Rattle.command_line.proofs.Shapes.{check_shape, limited_shape, make_shape, plain_limited, plain_make, plain_runner, runner_shape, verify_shape, whole}
 use Rattle.command_line.proofs.Rows.{IsPassed, Passes, default_row, each, found, given_row, level_passed, never_zero, text_in, some_kind}
 
@@ -42,11 +29,11 @@ flag_has : (s : Shape) (rows : List Row) (id : Text) → PassedRows s rows → (
     → has_row id rows ≡ true → HasFlag id rows
 flag_has s rows id h is has =
     let t = text_in id s.rules rows h has in
-    go t.0 t.1 (bytes_eq t.0 (codes "true")) refl (is t.0 t.2)
+    flag_has_by_cases t.0 t.1 (bytes_eq t.0 (codes "true")) refl (is t.0 t.2)
   where
-    go : (t : Text) → one_of id rows ≡ Some t → (b : Bool) → bytes_eq t (codes "true") ≡ b → (b || bytes_eq t (codes "false")) ≡ true → HasFlag id rows
-    go t at true e f = inl (at ∙ ap Some ((bytes_eq-Decides t (codes "true")).0 e))
-    go t at false e f = inr (at ∙ ap Some ((bytes_eq-Decides t (codes "false")).0 f))
+    flag_has_by_cases : (t : Text) → one_of id rows ≡ Some t → (b : Bool) → bytes_eq t (codes "true") ≡ b → (b || bytes_eq t (codes "false")) ≡ true → HasFlag id rows
+    flag_has_by_cases t at true e f = inl (at ∙ ap Some ((bytes_eq-Decides t (codes "true")).0 e))
+    flag_has_by_cases t at false e f = inr (at ∙ ap Some ((bytes_eq-Decides t (codes "false")).0 f))
 
 record Fits (s : Shape) (words : List Text) : Type 0 where
   fits : FitsCommand s.name (rows_after s.rules [] words)
@@ -196,12 +183,12 @@ IsFound o = FitsFound o × (is_some o ≡ true → is_some (option_and_then (λ 
 
 entered_fits : (a : App) → each FitsAll a.subs → (stop : Option (Text × List Text)) → entered_fault a stop ≡ [] → IsFound (entered a stop)
 entered_fits a h None e = (tt, λ s. s)
-entered_fits a h (Some p) e = go (find (λ s. answers_to p.0 (label_of s)) a.subs) refl e
+entered_fits a h (Some p) e = entered_fits_by_cases (find (λ s. answers_to p.0 (label_of s)) a.subs) refl e
   where
-    go : (o : Option Shape) → find (λ s. answers_to p.0 (label_of s)) a.subs ≡ o → option_map_or (λ s. level_fault s [] nothing_held p.1 false []) o [] ≡ []
+    entered_fits_by_cases : (o : Option Shape) → find (λ s. answers_to p.0 (label_of s)) a.subs ≡ o → option_map_or (λ s. level_fault s [] nothing_held p.1 false []) o [] ≡ []
         → IsFound (option_map (λ s. rows_at s p.1) o)
-    go None at f = (tt, λ s. s)
-    go (Some s) at f =
+    entered_fits_by_cases None at f = (tt, λ s. s)
+    entered_fits_by_cases (Some s) at f =
         let fit = (found FitsAll (λ x. answers_to p.0 (label_of x)) a.subs s h at).0 p.1 f in
         (fit.fits, λ _. fit.is_asked)
 

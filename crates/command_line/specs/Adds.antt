@@ -1,7 +1,6 @@
 -- A command as a subcommand.
 use Rattle.std.specs.Prelude.{◌≡◌}
-use Rattle.clap.specs.Words.{AddsSubcommand, Shape, app_of, with_subcommand}
-use Rattle.clap.specs.declared.builder.command.Command.{Command}
+use Rattle.command_line.specs.Common.{AddsSubcommand, Shape, app_of, with_subcommand, Command}
 
 -- a command with c as a subcommand gets this shape
 abbrev pub IsShaped : Shape → Command → Type 0

@@ -1,11 +1,6 @@
 -- The command line, in the terms of the parser's definition of a simple command.
 use Rattle.std.specs.Prelude.{ℕ, [], ◌∷◌, Some, codes, true, false}
-use Rattle.program_make.specs.Text.{size_limit}
-use Rattle.run_trace.specs.Settings.{chunk_limit, fuel_limit, words_limit, worker_limit}
-use Rattle.clap.specs.Words.{App, Rule, Shape, Text, new_rule}
-use Rattle.clap.specs.Simple.{new_shape}
-use Rattle.clap.specs.declared.builder.action.ArgAction.TheVariants.{SetTrue}
-use Rattle.clap.specs.declared.builder.value_parser.ValueParser.TheVariants.{Unsigned}
+use Rattle.command_line.specs.Common.{size_limit, chunk_limit, fuel_limit, words_limit, worker_limit, App, Rule, Shape, Text, new_rule, new_shape, SetTrue, Unsigned}
 
 -- FILE, any text, optional
 abbrev pub file : Rule

@@ -6,11 +6,7 @@ use Rattle.std.specs.Prelude.{◌≤◌, ℕ, Bool, false, List, Option, Some, N
 use Rattle.std.specs.Option.{option_map_or}
 use Rattle.std.specs.Str.{bytes_eq}
 use Rattle.std.specs.Str.Parse.{digits_value, without_leading_plus}
-use Rattle.clap.specs.Words.{Row, Text, fault_of, first_of, one_of, subcommand_of}
-use Rattle.clap.specs.Walk.{is_empty}
-use Rattle.program_make.specs.Text.{size_limit}
-use Rattle.run_trace.specs.Settings.{SettingsValue}
-use Rattle.run_trace.specs.declared.settings.Version.TheVariants.{Two}
+use Rattle.command_line.specs.Common.{Row, Text, fault_of, first_of, one_of, subcommand_of, is_empty, size_limit, SettingsValue, Two}
 use Rattle.command_line.specs.App.{app}
 use Rattle.command_line.specs.declared.line.CommandLine.{CommandLine}
 use Rattle.command_line.specs.declared.line.CommandLine.TheVariants.{Check, Run, Replay, Model, Races, Image, Make, Verify}

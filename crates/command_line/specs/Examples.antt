@@ -1,7 +1,6 @@
 -- What some command lines ask for.
 use Rattle.std.specs.Prelude.{◌≡◌, List, [], ◌∷◌, Some, None, codes, true, false}
-use Rattle.clap.specs.Words.{Text}
-use Rattle.run_trace.specs.Settings.{usual_settings}
+use Rattle.command_line.specs.Common.{Text, usual_settings}
 use Rattle.command_line.specs.CommandLine.{command_line}
 use Rattle.command_line.specs.declared.line.CommandLine.{CommandLine}
 use Rattle.command_line.specs.declared.line.Options.{Options}

@@ -5,3 +5,4 @@ pub mod Examples
 pub mod Operands
 pub mod Values
 pub mod below
+mod Common

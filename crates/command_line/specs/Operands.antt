@@ -1,11 +1,7 @@
 -- What files and numbers ask for.
 use Rattle.std.specs.Prelude.{◌≡◌, ◌&&◌, ℕ, Bool, true, false, List, [], ◌∷◌, Option, Some, None, codes, if◌then◌else◌}
 use Rattle.std.specs.Str.Parse.{digits_value, without_leading_plus}
-use Rattle.clap.specs.Lexer.{strip_byte}
-use Rattle.clap.specs.ValueTests.{is_unsigned_in}
-use Rattle.clap.specs.Words.{Text}
-use Rattle.program_make.specs.Text.{size_limit}
-use Rattle.run_trace.specs.Settings.{SettingsValue}
+use Rattle.command_line.specs.Common.{strip_byte, is_unsigned_in, Text, size_limit, SettingsValue}
 use Rattle.command_line.specs.CommandLine.{command_line}
 use Rattle.command_line.specs.Examples.{usual_options}
 use Rattle.command_line.specs.declared.line.CommandLine.{CommandLine}
@@ -18,8 +14,8 @@ IsOperand word = strip_byte 45 word ≡ None
 
 -- two such words after `make` ask for a program if and only if both are numbers in their ranges, and for its run if the
 -- flag follows
-abbrev pub Makes : List Text → Bool → Type 0
-Makes flags run = (seed size : Text) → IsOperand seed → IsOperand size
+abbrev pub AsksForMake : List Text → Bool → Type 0
+AsksForMake flags run = (seed size : Text) → IsOperand seed → IsOperand size
     → command_line (codes "make" ∷ seed ∷ size ∷ flags)
     ≡ (if is_unsigned_in 0 4294967295 seed && is_unsigned_in 1 size_limit size
     then Some (Make (digits_value 10 (without_leading_plus seed)) (digits_value 10 (without_leading_plus size)) run)

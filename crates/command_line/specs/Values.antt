@@ -1,8 +1,6 @@
 -- The values of a command's matches.
 use Rattle.std.specs.Prelude.{◌≡◌, ◌⊎◌, ℕ, List, Option, Some, None, ⊤, codes}
-use Rattle.program_make.specs.Text.{size_limit}
-use Rattle.run_trace.specs.Settings.{chunk_limit, fuel_limit, words_limit, worker_limit}
-use Rattle.clap.specs.Words.{IsUnsignedIn, Row, Text, one_of}
+use Rattle.command_line.specs.Common.{size_limit, chunk_limit, fuel_limit, words_limit, worker_limit, IsUnsignedIn, Row, Text, one_of}
 
 -- the argument gives a number from `least` to `most`
 abbrev pub HasNumber : Text → ℕ → ℕ → List Row → Type 0

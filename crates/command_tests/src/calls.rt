@@ -1,7 +1,7 @@
 // Calls of the whole program, over sources and sinks in memory, and their answers.
 
-use command_core::{Ran, command};
-use outside_io::{EmptyGate, Gate, MemSink, MemSource};
+use command_core::{CallResult, command};
+use io_traits::{EmptyGate, Gate, MemSink, MemSource};
 use std::alloc::{AllocError, Global};
 use std::process::Abort;
 use std::sync::Wait;
@@ -63,7 +63,7 @@ pub(crate) fn ran<R: AllocGlobal + Threads + Wait + Sync, G: Gate>(
     source: &mut MemSource,
     sink: &mut MemSink,
     gate: &G,
-) -> Option<Ran> {
+) -> Option<CallResult> {
     match words_of(rt.alloc(), name, options) {
         Some(words) => Some(command(rt, rt.alloc(), &words, source, sink, gate)),
         None => None,

@@ -1,7 +1,7 @@
 // Two workers that meet: gates that record where each task has come, and hold a task for a limited time.
 
 use crate::calls::{answers, source_of};
-use outside_io::{Gate, Point};
+use io_traits::{Gate, Point};
 use std::hint::spin_loop;
 use std::sync::Wait;
 use std::sync::atomic::{AtomicBool, Ordering};

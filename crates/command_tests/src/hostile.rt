@@ -1,8 +1,8 @@
 // Hostile sources, sinks and inputs: rows of one form, each a call.
 
 use crate::calls::{ran, sink_of};
-use command_core::Ran;
-use outside_io::{EmptyGate, MemSink, MemSource};
+use command_core::CallResult;
+use io_traits::{EmptyGate, MemSink, MemSource};
 use std::alloc::{AllocError, Global};
 use std::sync::Wait;
 use std::thread::Threads;
@@ -396,7 +396,7 @@ fn sink_for(alloc: Global, (most, fails): Calls) -> Result<MemSink, AllocError> 
 }
 
 // The exit status, and the number of entries returned.
-fn told_of(ran: Option<Ran>) -> Option<(u8, usize)> {
+fn told_of(ran: Option<CallResult>) -> Option<(u8, usize)> {
     match ran {
         Some(ran) => Some((ran.status.code(), ran.journal.as_slice().len())),
         None => None,

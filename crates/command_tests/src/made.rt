@@ -1,8 +1,8 @@
 // Made programs, run by one worker and by many.
 
 use crate::calls::{Answer, answers_input, answers_leaving, ran, sink_of, source_of, status_with};
-use command_core::Ran;
-use outside_io::{EmptyGate, MemSink};
+use command_core::CallResult;
+use io_traits::{EmptyGate, MemSink};
 use run_trace::{Entry, Version, trace_text};
 use std::alloc::Global;
 use std::sync::Wait;
@@ -107,7 +107,7 @@ fn ran_by_four<R: AllocGlobal + Threads + Wait + Sync>(
     rt: &R,
     program: &[u8],
     sink: &mut MemSink,
-) -> Option<Ran> {
+) -> Option<CallResult> {
     match source_of(rt.alloc(), program) {
         Ok(mut source) => ran(rt, ("run", WORKERS), &mut source, sink, &EmptyGate),
         Err(_) => None,

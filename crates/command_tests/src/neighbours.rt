@@ -1,8 +1,8 @@
 // Calls besides runs: races, and replays of parallel loops. They return no run.
 
 use crate::calls::{ran, sink_of, source_of};
-use command_core::Ran;
-use outside_io::{EmptyGate, MemSink, MemSource};
+use command_core::CallResult;
+use io_traits::{EmptyGate, MemSink, MemSource};
 use std::process::Abort;
 use std::sync::Wait;
 use std::thread::Threads;
@@ -39,7 +39,7 @@ const SWAPS: &str =
     "fn left\nset i0 0\nset i1 1\nnewm r1 i0 i1\nnil r2\ncas i0 r0 i0 r2 r1\nret\nend\nfn right\nset i0 0\nset i1 1\nnewm r1 i0 i1\nnil r2\ncas i0 r0 i0 r2 r1\nret\nend\nfn main\nset i0 1\nset i1 0\nnewm r0 i0 i1\npar left right\nadd i2 i0 i1\nout i2\nout i0\nret\nend\ntrace 2\n0 took 0\n0 ran 0 2\n0 chunk 0\n0 ran 0 2\n0 took 2\n0 ran 2 2\n0 chunk 2\n0 ran 2 3\n0 ran 2 1\n0 took 1\n0 ran 1 2\n0 chunk 1\n0 ran 1 3\n0 ran 1 1\n0 took 0\n0 ran 0 2\n0 ran 0 1\n0 ran 0 1\n";
 
 // Whether a call has this exit status, and returns no run.
-fn has_status(ran: &Ran, status: u8) -> bool {
+fn has_status(ran: &CallResult, status: u8) -> bool {
     ran.journal.is_empty() && ran.shared.is_none() && ran.status.code() == status
 }
 

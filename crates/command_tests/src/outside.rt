@@ -2,9 +2,9 @@
 // lines.
 
 use crate::calls::{answers_leaving, ran, sink_of, source_of};
-use command_core::Ran;
+use command_core::CallResult;
 use hh_model::End;
-use outside_io::{EmptyGate, MemSink, MemSource};
+use io_traits::{EmptyGate, MemSink, MemSource};
 use run_ledger::RunEnd;
 use run_trace::{Entry, Kind};
 use std::alloc::{AllocError, Global};
@@ -32,7 +32,7 @@ fn begins_with(journal: &[Entry], kinds: &[Kind]) -> bool {
 // The exit status of a run, the number of entries it returns, and whether those of a table come first.
 type Look = (u8, usize, bool);
 
-fn look(ran: &Ran, kinds: &[Kind]) -> Look {
+fn look(ran: &CallResult, kinds: &[Kind]) -> Look {
     let journal = ran.journal.as_slice();
     (
         ran.status.code(),
@@ -68,7 +68,7 @@ fn looked_over<R: AllocGlobal + Threads + Wait + Sync>(
 }
 
 // Whether the shared value returned is that of a run that printed one 7 in three steps.
-fn has_shared(ran: &Ran) -> bool {
+fn has_shared(ran: &CallResult) -> bool {
     match &ran.shared {
         None => false,
         Some(shared) => {
@@ -82,7 +82,7 @@ fn has_shared(ran: &Ran) -> bool {
 const JOURNAL: &[Kind] = &[Kind::Took(0), Kind::Ran(0, 2), Kind::Ran(0, 1)];
 
 // Whether this journal and this shared value are returned.
-fn is_handed_back(ran: &Ran) -> bool {
+fn is_handed_back(ran: &CallResult) -> bool {
     let journal = ran.journal.as_slice();
     journal.len() == 3 && begins_with(journal, JOURNAL) && has_shared(ran)
 }

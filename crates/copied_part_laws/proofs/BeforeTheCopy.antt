@@ -1,24 +1,9 @@
--- What is known of a heap before its collection ends; and that no name stands twice in it.
-use Rattle.std.proofs.Common.{◌≡◌, ℕ, ◌+◌, ◌≤◌, ◌==◌, arith, Bool, true, false, cond, List, [], ◌∷◌, ◌++◌, inl, inr, refl, ap, sym, ◌∙◌}
-use Rattle.std.specs.List.{flat_map}
-use Rattle.std.proofs.lemmas.Bool.{eqb-true}
-use Rattle.leaf_collections.proofs.below.listed.{in_append_cases, in_append_left, in_append_right, in_map}
-use Rattle.leaf_collections.specs.below.hh_model.{Name, State}
-use Rattle.leaf_collections.specs.below.run_ledger.{Heap, words_at}
-use Rattle.leaf_collections.specs.below.object_layout.{Born, Cell, Hole, Mark, Moved, size_of, ChunkValue, Located, located, objects_from}
-use Rattle.leaf_collections.proofs.below.object_layout.{behind, first}
-use Rattle.leaf_collections.specs.below.alloc_path.{AreApart, LeafHeapValue}
-use Rattle.leaf_collections.specs.below.leaf_copy_gc.{Survivor, olds}
-use Rattle.leaf_collections.specs.below.core_relation.{In, object_name, objects_in, AreLaidOut, words, HasNames}
-use Rattle.leaf_collections.proofs.below.core_relation.{in_objects}
-use Rattle.leaf_collections.specs.below.task_machine.{named_by, names_in, small_lists, name_of}
-use Rattle.leaf_collections.specs.below.shared_value.{chunk_of, chunks_of, HeapForm}
-use Rattle.leaf_collections.proofs.below.shared_value.{fresh_off}
-use Rattle.leaf_collections.proofs.below.core_entry_laws.{NamedOnce}
+-- What is known of a heap before its collection ends; and that its names are distinct.
+use Rattle.copied_part_laws.proofs.Common.{◌≡◌, ℕ, ◌+◌, ◌≤◌, ◌==◌, arith, Bool, true, false, cond, List, [], ◌∷◌, ◌++◌, inl, inr, refl, ap, sym, ◌∙◌, flat_map, eqb-true, in_append_cases, in_append_left, in_append_right, in_map, Name, MachineState, Heap, words_at, Born, Cell, Hole, Mark, Moved, size_of, ChunkValue, Located, located, objects_from, behind, first, HaveDistinctNumbers, LeafHeapValue, Survivor, olds, In, object_name, objects_in, AreLaidOut, words, HasNames, in_objects, named_by, names_in, small_lists, name_of, chunk_of, chunks_of, HeapForm, fresh_off, NamedOnce}
 use Rattle.copied_part_laws.proofs.ObjectsApart.{span}
 
 -- a heap with these survivors, and its account in this state of the machine
-pub record Old (h : LeafHeapValue) (ss : List Survivor) (m : State) (a : Heap) : Type 0 where
+pub record Old (h : LeafHeapValue) (ss : List Survivor) (m : MachineState) (a : Heap) : Type 0 where
   pub form : HeapForm h
   pub names : HasNames (chunks_of h.chunks) a
   pub named : (o q : Located) → In (objects_in (chunks_of h.chunks)) o → In (objects_in (chunks_of h.chunks)) q → object_name o ≡ object_name q → o ≡ q
@@ -32,28 +17,28 @@ pub record Old (h : LeafHeapValue) (ss : List Survivor) (m : State) (a : Heap) :
 -- a name of cells is that of an object of theirs
 pub name_seen : (cs : List Cell) (number base : ℕ) (n : Name) → In (names_in cs) n → (o : Located) × In (objects_from number base cs) o × (object_name o ≡ n)
 name_seen [] number base n i = absurd i
-name_seen (c ∷ cs) number base n i = by c.mark i refl (name_seen cs number (base + size_of c) n)
+name_seen (c ∷ cs) number base n i = name_seen_by_cases c.mark i refl (name_seen cs number (base + size_of c) n)
   where
-    by : (m : Mark) → In (named_by m (names_in cs)) n → c.mark ≡ m → (In (names_in cs) n → (o : Located) × In (objects_from number (base + size_of c) cs) o × (object_name o ≡ n)) → (o : Located) × In (objects_from number base (c ∷ cs)) o × (object_name o ≡ n)
-    by (Born b) (inl e) q go = (located number base b c, first number base c c.mark b (objects_from number (base + size_of c) cs) q, e)
-    by (Born b) (inr j) q go = let r = go j in (r.0, behind number base c c.mark (objects_from number (base + size_of c) cs) r.0 r.1, r.2)
-    by (Moved to) j q go = let r = go j in (r.0, behind number base c c.mark (objects_from number (base + size_of c) cs) r.0 r.1, r.2)
-    by Hole j q go = let r = go j in (r.0, behind number base c c.mark (objects_from number (base + size_of c) cs) r.0 r.1, r.2)
+    name_seen_by_cases : (m : Mark) → In (named_by m (names_in cs)) n → c.mark ≡ m → (In (names_in cs) n → (o : Located) × In (objects_from number (base + size_of c) cs) o × (object_name o ≡ n)) → (o : Located) × In (objects_from number base (c ∷ cs)) o × (object_name o ≡ n)
+    name_seen_by_cases (Born b) (inl e) q go = (located number base b c, first number base c c.mark b (objects_from number (base + size_of c) cs) q, e)
+    name_seen_by_cases (Born b) (inr j) q go = let r = go j in (r.0, behind number base c c.mark (objects_from number (base + size_of c) cs) r.0 r.1, r.2)
+    name_seen_by_cases (Moved to) j q go = let r = go j in (r.0, behind number base c c.mark (objects_from number (base + size_of c) cs) r.0 r.1, r.2)
+    name_seen_by_cases Hole j q go = let r = go j in (r.0, behind number base c c.mark (objects_from number (base + size_of c) cs) r.0 r.1, r.2)
 
 -- a name of small chunks is that of an object of theirs
 pub small_seen : (ks : List ChunkValue) (n : Name) → In (flat_map (λ ns. ns) (small_lists ks)) n → (k : ChunkValue) × In ks k × (k.size ≡ 1024) × In (names_in k.cells) n
 small_seen [] n i = absurd i
-small_seen (k ∷ ks) n i = by (k.size == 1024) refl i (small_seen ks n)
+small_seen (k ∷ ks) n i = small_seen_by_cases (k.size == 1024) refl i (small_seen ks n)
   where
-    by : (b : Bool) → (k.size == 1024) ≡ b → In (flat_map (λ ns. ns) (cond b (names_in k.cells ∷ small_lists ks) (small_lists ks))) n → (In (flat_map (λ ns. ns) (small_lists ks)) n → (j : ChunkValue) × In ks j × (j.size ≡ 1024) × In (names_in j.cells) n)
+    small_seen_by_cases : (b : Bool) → (k.size == 1024) ≡ b → In (flat_map (λ ns. ns) (cond b (names_in k.cells ∷ small_lists ks) (small_lists ks))) n → (In (flat_map (λ ns. ns) (small_lists ks)) n → (j : ChunkValue) × In ks j × (j.size ≡ 1024) × In (names_in j.cells) n)
         → (j : ChunkValue) × In (k ∷ ks) j × (j.size ≡ 1024) × In (names_in j.cells) n
-    by true q j go = elim (in_append_cases (names_in k.cells) (flat_map (λ ns. ns) (small_lists ks)) n j) [
+    small_seen_by_cases true q j go = elim (in_append_cases (names_in k.cells) (flat_map (λ ns. ns) (small_lists ks)) n j) [
       | inl x ↦ (k, inl refl, eqb-true k.size 1024 q, x)
       | inr x ↦ let r = go x in (r.0, inr r.1, r.2, r.3)
     ]
-    by false q j go = let r = go j in (r.0, inr r.1, r.2, r.3)
+    small_seen_by_cases false q j go = let r = go j in (r.0, inr r.1, r.2, r.3)
 
--- ---- NO NAME TWICE
+-- ---- NAMES ARE DISTINCT
 
 abbrev Injective : List Located → Type 0
 Injective os = (o q : Located) → In os o → In os q → object_name o ≡ object_name q → o ≡ q
@@ -64,13 +49,13 @@ single_append (x ∷ xs) ys s t f = ((λ i. elim (in_append_cases xs ys x i) [ i
 
 pub single_cells : (cs : List Cell) (number base : ℕ) → Injective (objects_from number base cs) → NamedOnce (names_in cs)
 single_cells [] number base f = tt
-single_cells (c ∷ cs) number base f = by c.mark refl (single_cells cs number (base + size_of c) (λ o q i j e. f o q (behind number base c c.mark os o i) (behind number base c c.mark os q j) e))
+single_cells (c ∷ cs) number base f = single_cells_by_cases c.mark refl (single_cells cs number (base + size_of c) (λ o q i j e. f o q (behind number base c c.mark os o i) (behind number base c c.mark os q j) e))
   where
     os : List Located
     os = objects_from number (base + size_of c) cs
 
-    by : (m : Mark) → c.mark ≡ m → NamedOnce (names_in cs) → NamedOnce (named_by m (names_in cs))
-    by (Born b) e go = (
+    single_cells_by_cases : (m : Mark) → c.mark ≡ m → NamedOnce (names_in cs) → NamedOnce (named_by m (names_in cs))
+    single_cells_by_cases (Born b) e go = (
       (λ i.
           let r = name_seen cs number (base + size_of c) (name_of b) i in
           let same : located number base b c ≡ r.0 = f (located number base b c) r.0 (first number base c c.mark b os e) (behind number base c c.mark os r.0 r.1) (sym r.2) in
@@ -79,12 +64,12 @@ single_cells (c ∷ cs) number base f = by c.mark refl (single_cells cs number (
           omega (arith, at, le)),
       go,
     )
-    by (Moved to) e go = go
-    by Hole e go = go
+    single_cells_by_cases (Moved to) e go = go
+    single_cells_by_cases Hole e go = go
 
-pub single_small : (ks : List ChunkValue) → AreApart ks → Injective (objects_in (chunks_of ks)) → NamedOnce (flat_map (λ ns. ns) (small_lists ks))
+pub single_small : (ks : List ChunkValue) → HaveDistinctNumbers ks → Injective (objects_in (chunks_of ks)) → NamedOnce (flat_map (λ ns. ns) (small_lists ks))
 single_small [] A f = tt
-single_small (k ∷ ks) A f = by (k.size == 1024) (single_small ks A.1 (λ o q i j e. f o q (right o i) (right q j) e))
+single_small (k ∷ ks) A f = single_small_by_cases (k.size == 1024) (single_small ks A.1 (λ o q i j e. f o q (right o i) (right q j) e))
   where
     left : (o : Located) → In (objects_from k.number 0 k.cells) o → In (objects_in (chunks_of (k ∷ ks))) o
     left o i = in_append_left (objects_from k.number 0 k.cells) (objects_in (chunks_of ks)) o i
@@ -102,6 +87,6 @@ single_small (k ∷ ks) A f = by (k.size == 1024) (single_small ks A.1 (λ o q i
         let off : q.0.at.chunk ≡ s.0.number = (span s.0.cells s.0.number 0 q.0 q.1).chunk in
         fresh_off ks s.0 k.number A.0 s.1 (sym off ∙ (ap (λ (x : Located). x.at.chunk) (sym same) ∙ here))
 
-    by : (b : Bool) → NamedOnce (flat_map (λ ns. ns) (small_lists ks)) → NamedOnce (flat_map (λ ns. ns) (cond b (names_in k.cells ∷ small_lists ks) (small_lists ks)))
-    by true go = single_append (names_in k.cells) (flat_map (λ ns. ns) (small_lists ks)) (single_cells k.cells k.number 0 (λ o q i j e. f o q (left o i) (left q j) e)) go clash
-    by false go = go
+    single_small_by_cases : (b : Bool) → NamedOnce (flat_map (λ ns. ns) (small_lists ks)) → NamedOnce (flat_map (λ ns. ns) (cond b (names_in k.cells ∷ small_lists ks) (small_lists ks)))
+    single_small_by_cases true go = single_append (names_in k.cells) (flat_map (λ ns. ns) (small_lists ks)) (single_cells k.cells k.number 0 (λ o q i j e. f o q (left o i) (left q j) e)) go clash
+    single_small_by_cases false go = go

@@ -1,15 +1,8 @@
--- Which chunk stands where, behind laid and kept ones.
-use Rattle.std.proofs.Common.{◌≡◌, ℕ, zero, suc, ◌+◌, ◌-◌, ◌<◌, ◌≤◌, arith, Option, Some, None, List, [], ◌∷◌, ◌++◌, length, length-append, refl, ap, sym, subst, ◌∙◌}
-use Rattle.leaf_collections.specs.below.hh_model.{State}
-use Rattle.leaf_collections.specs.below.object_layout.{ChunkValue, chunk_at}
-use Rattle.leaf_collections.proofs.below.object_layout.{chunk_there}
-use Rattle.leaf_collections.specs.below.alloc_path.{IsCurrent, IsReserved}
-use Rattle.leaf_collections.specs.below.leaf_copy_gc.{last_place, reserved_of, reserved_place}
-use Rattle.leaf_collections.specs.below.core_relation.{In}
-use Rattle.leaf_collections.specs.below.task_machine.{IsLastLarge, IsLastSmall}
+-- Which chunk has which position, after laid and kept ones.
+use Rattle.copied_part_laws.proofs.Common.{◌≡◌, ℕ, zero, suc, ◌+◌, ◌-◌, ◌<◌, ◌≤◌, arith, Option, Some, None, List, [], ◌∷◌, ◌++◌, length, length-append, refl, ap, sym, subst, ◌∙◌, MachineState, ChunkValue, chunk_at, chunk_there, IsCurrent, IsReserved, last_place, reserved_of, reserved_place, In, IsLastLarge, IsLastSmall}
 use Rattle.copied_part_laws.proofs.NamesLaid.{Told}
 
--- ---- PLACES IN LISTS OF CHUNKS
+-- ---- POSITIONS IN LISTS OF CHUNKS
 
 pub at_behind : (ks js : List ChunkValue) (j : ℕ) → length ks ≤ j → chunk_at (ks ++ js) j ≡ chunk_at js (j - length ks)
 at_behind [] js j le = ap (chunk_at js) (let e : j ≡ j - 0 = omega arith in e)
@@ -21,7 +14,7 @@ at_front [] js j lt = absurd (omega (arith, lt))
 at_front (k ∷ ks) js zero lt = refl
 at_front (k ∷ ks) js (suc j) lt = at_front ks js j (omega (arith, lt))
 
-pub current_of : (m : State) (ks js : List ChunkValue) → Told m ks → IsCurrent (ks ++ js) (last_place ks)
+pub current_of : (m : MachineState) (ks js : List ChunkValue) → Told m ks → IsCurrent (ks ++ js) (last_place ks)
 current_of m [] js t = tt
 current_of m (k ∷ ks) js t = along k ks t
   where
@@ -37,7 +30,7 @@ last_small (k ∷ ks) js big = λ j lt le size.
     let e = ap (λ (z : ChunkValue). z.size) (at_behind (k ∷ ks) js j (omega (arith, lt))) in
     omega (arith, b, e, size)
 
--- the reserved chunk behind the others
+-- the reserved chunk after the others
 module _ (h : List ChunkValue) (L K : List ChunkValue) where
   behind_at : (i : ℕ) → chunk_at (L ++ (K ++ chunk_at h i ∷ [])) (length L + length K) ≡ chunk_at h i
   behind_at i =
@@ -59,7 +52,7 @@ module _ (h : List ChunkValue) (L K : List ChunkValue) where
   last_behind None = tt
   last_behind (Some i) = λ j lt le. let n = count_at i in absurd (omega (arith, lt, le, n))
 
-  -- what stands behind both is the reserved chunk
+  -- what comes after both is the reserved chunk
   pub place_behind : (o : Option ℕ) (i : ℕ) → length L + length K ≤ i → i < length (L ++ (K ++ reserved_of h o)) → reserved_place (length L + length K) o ≡ Some i
   place_behind None i le lt =
       let x = length-append L (K ++ []) in let z = length-append K [] in absurd (omega (arith, le, lt, x, z))

@@ -1,26 +1,10 @@
--- The chunks that a collection gives back: none twice, and none of the heap's.
-use Rattle.std.proofs.Common.{◌≡◌, ◌⊎◌, ℕ, ◌*◌, ◌/◌, not, arith, All, Bool, true, false, Option, Some, List, [], ◌∷◌, ◌++◌, map, filter, inl, inr, refl, ap, sym, subst, ◌∙◌}
-use Rattle.std.specs.Prelude.{reverse}
-use Rattle.std.proofs.lemmas.Bool.{false≢true}
-use Rattle.std.proofs.lemmas.List.{reverse-append}
+-- The chunks that a collection releases: all distinct, and none of them in the heap.
+use Rattle.copied_part_laws.proofs.Common.{◌≡◌, ◌⊎◌, ℕ, ◌*◌, ◌/◌, not, arith, All, Bool, true, false, Option, Some, List, [], ◌∷◌, ◌++◌, map, filter, inl, inr, refl, ap, sym, subst, ◌∙◌, reverse, false≢true, reverse-append, in_append_cases, in_append_left, in_append_right, in_from_kept, all_from, map_in, MachineState, Heap, Addr, ChunkValue, number_of, Slot, PoolValue, slot_at, owner_of, slot_units, HaveDistinctNumbers, LeafHeapValue, IsFresh, unit_count, Survivor, olds, AreNew, Laying, before, smalls, led_chunk, emptied, reserved_of, unreserved, AreSurvivors, back_of, keeps, large_of, laid_of, laying_of, leaves, CanTake, Distinct, numbers, within_at, in_unreserved, units_in_slots, In, AreMeasured, same_chunk}
 use Rattle.std.specs.Prelude.{option_map}
-use Rattle.leaf_collections.proofs.below.listed.{in_append_cases, in_append_left, in_append_right, in_from_kept, all_from, map_in}
-use Rattle.leaf_collections.specs.below.hh_model.{State}
-use Rattle.leaf_collections.specs.below.run_ledger.{Heap}
-use Rattle.leaf_collections.specs.below.object_layout.{Addr, ChunkValue, number_of}
-use Rattle.leaf_collections.specs.below.chunk_pool.{Slot, PoolValue, slot_at, owner_of, slot_units}
-use Rattle.leaf_collections.specs.below.alloc_path.{AreApart, LeafHeapValue, IsFresh, unit_count}
-use Rattle.leaf_collections.specs.below.leaf_copy_gc.{Survivor, olds, AreNew, Laying, before, smalls, led_chunk, emptied, reserved_of, unreserved, AreSurvivors, back_of, keeps, large_of, laid_of, laying_of, leaves, CanTake}
 use Rattle.address_laws.proofs.Extent as extent
-use Rattle.address_laws.proofs.Numbers.{Distinct, numbers}
 use Rattle.address_laws.proofs.Numbers as nums
-use Rattle.leaf_collections.proofs.below.leaf_copy_gc.NewNumbers as new_numbers
-use Rattle.leaf_collections.proofs.below.leaf_copy_gc.{within_at, in_unreserved}
+use Rattle.leaf_collections.proofs.below.copying_gc.NewNumbers as new_numbers
 use Rattle.collected_heap_laws.proofs.Reading as reading
-use Rattle.leaf_collections.specs.below.inner_mark_gc.{units_in_slots}
-use Rattle.leaf_collections.specs.below.core_relation.{In}
-use Rattle.leaf_collections.specs.below.shared_value.{AreMeasured}
-use Rattle.leaf_collections.proofs.below.shared_value.{same_chunk}
 use Rattle.copied_part_laws.proofs.ChunkWords as units_of
 use Rattle.copied_part_laws.proofs.CopiedForm.{told_in}
 use Rattle.copied_part_laws.proofs.BeforeTheCopy.{Old}
@@ -35,7 +19,7 @@ size_of_new [] k n i = absurd i
 size_of_new (x ∷ ks) k n (inl e) = ap (λ (z : ChunkValue). z.size) (sym e) ∙ n.0.1
 size_of_new (x ∷ ks) k n (inr i) = size_of_new ks k n.1 i
 
-module _ (h : LeafHeapValue) (from : List (Option Addr)) (ss : List Survivor) (news : List ChunkValue) (S : AreSurvivors h.chunks from ss) (T : CanTake h.chunks news) (m : State) (a : Heap) (O : Old h ss m a) where
+module _ (h : LeafHeapValue) (from : List (Option Addr)) (ss : List Survivor) (news : List ChunkValue) (S : AreSurvivors h.chunks from ss) (T : CanTake h.chunks news) (m : MachineState) (a : Heap) (O : Old h ss m a) where
   abbrev y : Laying
   y = laying_of h.chunks ss (reverse news)
 
@@ -69,7 +53,7 @@ module _ (h : LeafHeapValue) (from : List (Option Addr)) (ss : List Survivor) (n
   back_numbers : numbers Back ≡ numbers (filter (leaves ss) U) ++ numbers (reverse y.spare)
   back_numbers = nums.numbers_append (map emptied (filter (leaves ss) U)) (reverse y.spare) ∙ ap (λ ns. ns ++ numbers (reverse y.spare)) (numbers_emptied (filter (leaves ss) U))
 
-  -- a number that leaves is an old one, and a spare one new
+  -- a number that is released is an old one, and a spare one is new
   old_number : (n : ℕ) → In (numbers (filter (leaves ss) U)) n → In (numbers h.chunks) n
   old_number n i = new_numbers.in_unreserved h.chunks once_h h.reserved n (nums.in_filtered (leaves ss) U n i)
 
@@ -79,7 +63,7 @@ module _ (h : LeafHeapValue) (from : List (Option Addr)) (ss : List Survivor) (n
   new_number : (n : ℕ) → In (numbers y.spare) n → In (numbers news) n
   new_number n i = nums.in_reverse news n (subst (λ ns. In ns n) parts (in_append_right (numbers y.laid) (numbers y.spare) n i))
 
-  pub back_apart : AreApart Back
+  pub back_apart : HaveDistinctNumbers Back
   back_apart = nums.distinct_apart Back
       (subst Distinct (sym back_numbers)
       (nums.distinct_append (numbers (filter (leaves ss) U)) (numbers (reverse y.spare))
@@ -87,7 +71,7 @@ module _ (h : LeafHeapValue) (from : List (Option Addr)) (ss : List Survivor) (n
       (nums.distinct_reverse y.spare (nums.distinct_right (numbers y.laid) (numbers y.spare) once_parts))
       (λ n i j. nums.distinct_apart_parts (numbers h.chunks) (numbers news) both n (old_number n i) (new_number n (spare_in n j)))))
 
-  -- one chunk doesn't stay and leave
+  -- no chunk both stays and is released
   stay_or_leave : (n : ℕ) → In (numbers (filter (leaves ss) U)) n → In (numbers K) n → ⊥
   stay_or_leave n i j =
       let c = map_in number_of (filter (leaves ss) U) n i in
@@ -116,23 +100,23 @@ module _ (h : LeafHeapValue) (from : List (Option Addr)) (ss : List Survivor) (n
   laid_same : numbers L ≡ numbers y.laid
   laid_same = reading.laid_numbers h from ss news S T (naming.settled h from ss news S T m a O) (naming.reserved h from ss news S T m a O)
 
-  -- no number of the heap's is given back
+  -- no number of the heap's is released
   not_there : (n : ℕ) → In (numbers Back) n → In (numbers (L ++ (K ++ R))) n → ⊥
   not_there n i j = elim (in_append_cases (numbers (filter (leaves ss) U)) (numbers (reverse y.spare)) n (subst (λ ns. In ns n) back_numbers i)) [
-    | inl l ↦ elim there [
+    | inl l ↦ elim not_there_there [
       | inl q ↦ reading.laid_apart h from ss news S T (naming.settled h from ss news S T m a O) (naming.reserved h from ss news S T m a O) n q (old_number n l)
       | inr (inl q) ↦ stay_or_leave n l q
       | inr (inr q) ↦ new_numbers.reserved_apart h.chunks once_h h.reserved within n (nums.in_filtered (leaves ss) U n l) q
     ]
-    | inr s ↦ elim there [
+    | inr s ↦ elim not_there_there [
       | inl q ↦ nums.distinct_apart_parts (numbers y.laid) (numbers y.spare) once_parts n (subst (λ ns. In ns n) laid_same q) (spare_in n s)
       | inr (inl q) ↦ nums.distinct_apart_parts (numbers h.chunks) (numbers news) both n (kept_old n q) (new_number n (spare_in n s))
       | inr (inr q) ↦ nums.distinct_apart_parts (numbers h.chunks) (numbers news) both n (new_numbers.in_reserved h.chunks once_h h.reserved within n q) (new_number n (spare_in n s))
     ]
   ]
     where
-      there : In (numbers L) n ⊎ (In (numbers K) n ⊎ In (numbers R) n)
-      there = elim (in_append_cases (numbers L) (numbers (K ++ R)) n (subst (λ ns. In ns n) (nums.numbers_append L (K ++ R)) j)) [
+      not_there_there : In (numbers L) n ⊎ (In (numbers K) n ⊎ In (numbers R) n)
+      not_there_there = elim (in_append_cases (numbers L) (numbers (K ++ R)) n (subst (λ ns. In ns n) (nums.numbers_append L (K ++ R)) j)) [
         | inl q ↦ inl q
         | inr q ↦ inr (in_append_cases (numbers K) (numbers R) n (subst (λ ns. In ns n) (nums.numbers_append K R) q))
       ]
@@ -140,7 +124,7 @@ module _ (h : LeafHeapValue) (from : List (Option Addr)) (ss : List Survivor) (n
   pub back_gone : All (λ k. IsFresh (L ++ (K ++ R)) k.number) Back
   back_gone = all_from (λ (k : ChunkValue). IsFresh (L ++ (K ++ R)) k.number) Back (λ k i. nums.fresh_from (L ++ (K ++ R)) k.number (λ j. not_there k.number (extent.number_there Back k i) j))
 
-  -- ---- OF WHAT THEY WERE
+  -- ---- WHAT THEY WERE
 
   reversed : (ks : List ChunkValue) (k : ChunkValue) → In (reverse ks) k → In ks k
   reversed ks k i = in_reversed ks k i
@@ -153,7 +137,7 @@ module _ (h : LeafHeapValue) (from : List (Option Addr)) (ss : List Survivor) (n
         | inr (inr z) ↦ absurd z
       ]
 
-  -- a chunk given back has the number and the size of an old one or of a new one
+  -- a released chunk has the number and the size of an old one or of a new one
   pub record Was (k : ChunkValue) : Type 0 where
     pub chunk : ChunkValue
     pub there : In (h.chunks ++ news) chunk

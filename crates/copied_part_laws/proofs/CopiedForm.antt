@@ -1,23 +1,6 @@
--- A heap after its collection is formed and laid out as every heap is.
-use Rattle.std.proofs.Common.{◌≡◌, ℕ, zero, suc, ◌+◌, ◌-◌, ◌*◌, ◌/◌, ◌<◌, ◌≤◌, ◌==◌, ◌&&◌, not, arith, Bool, true, false, cond, Option, Some, None, List, [], ◌∷◌, ◌++◌, length, map, filter, nat_lt, inl, inr, refl, ap, ap₂, sym, subst, ◌∙◌, eq-eqb, ne_eqb}
-use Rattle.std.specs.Option.{option_map}
-use Rattle.std.specs.Prelude.{reverse}
-use Rattle.std.proofs.lemmas.Bool.{cases_lt, cond-false, cond-true, false≢true}
-use Rattle.std.proofs.lemmas.List.{length-map}
-use Rattle.leaf_collections.specs.below.listed.{is_empty}
-use Rattle.leaf_collections.proofs.below.listed.{in_append_cases, all_from, in_map, map_in, read_in}
-use Rattle.leaf_collections.specs.below.hh_model.{State}
-use Rattle.leaf_collections.specs.below.run_ledger.{Heap, units}
-use Rattle.leaf_collections.specs.below.object_layout.{Addr, Cell, size_of, ChunkValue, words_in, cell_of, chunk_at, Located, led_object, objects_from}
-use Rattle.leaf_collections.proofs.below.object_layout.{led_are_read, words_in-push, chunk_there}
-use Rattle.leaf_collections.specs.below.alloc_path.{LeafHeapValue, IsReserved, room_of, with_places}
-use Rattle.leaf_collections.specs.below.leaf_copy_gc.{Survivor, olds, AreNew, HaveRoom, Laying, before, laid_all, laid_one, open_next, opened, placed, room_in, smalls, led_cell, led_chunk, reserved_of, unreserved, AreSurvivors, collected, keeps, large_of, laid_of, laying_of, CanTake}
-use Rattle.leaf_collections.proofs.below.leaf_copy_gc.{new_reverse, within_at, all_tidy, used_led}
+-- A heap after its collection has the form and the layout of every heap.
+use Rattle.copied_part_laws.proofs.Common.{◌≡◌, ℕ, zero, suc, ◌+◌, ◌-◌, ◌*◌, ◌/◌, ◌<◌, ◌≤◌, ◌==◌, ◌&&◌, not, arith, Bool, true, false, cond, Option, Some, None, List, [], ◌∷◌, ◌++◌, length, map, filter, nat_lt, inl, inr, refl, ap, ap₂, sym, subst, ◌∙◌, eq-eqb, ne_eqb, option_map, reverse, cases_lt, cond-false, cond-true, false≢true, length-map, is_empty, in_append_cases, all_from, in_map, map_in, read_in, MachineState, Heap, units, Addr, Cell, size_of, ChunkValue, words_in, cell_of, chunk_at, Located, led_object, objects_from, led_are_read, words_in-push, chunk_there, LeafHeapValue, IsReserved, room_of, with_places, Survivor, olds, AreNew, HaveRoom, Laying, before, laid_all, laid_one, open_next, opened, placed, room_in, smalls, led_cell, led_chunk, reserved_of, unreserved, AreSurvivors, collected, keeps, large_of, laid_of, laying_of, CanTake, new_reverse, within_at, all_tidy, used_led, Chunk, In, objects_in, AreLaidOut, HoldsLarge, reserved_chunks, reserved_units, words, AreReserved, HeapMatchesAccount, chunk_of, chunks_of, HeapForm, counted_from, is_spare}
 use Rattle.collected_heap_laws.proofs.Reading as reading
-use Rattle.leaf_collections.specs.below.core_relation.{Chunk, In, objects_in, AreLaidOut, HoldsLarge, reserved_chunks, reserved_units, words}
-use Rattle.leaf_collections.specs.below.task_machine.{AreReserved, IsCounted}
-use Rattle.leaf_collections.specs.below.shared_value.{chunk_of, chunks_of, HeapForm}
-use Rattle.leaf_collections.proofs.below.shared_value.{counted_from, is_spare}
 use Rattle.copied_part_laws.proofs.BeforeTheCopy.{Old}
 use Rattle.copied_part_laws.proofs.NamesLaid.{Told}
 use Rattle.copied_part_laws.proofs.ObjectsApart.{Holds, held_by, laid_out, span}
@@ -26,7 +9,7 @@ use Rattle.copied_part_laws.proofs.ChunkPlaces.{at_behind, at_front, current_of,
 use Rattle.copied_part_laws.proofs.ObjectsPlaced.{opened_new}
 use Rattle.copied_part_laws.proofs.CopiedNames as naming
 
--- ---- WORDS INSIDE
+-- ---- WORDS INSIDE THEIR CHUNKS
 
 abbrev Inside : List ChunkValue → Type 0
 Inside [] = Unit {0}
@@ -42,11 +25,11 @@ inside_push [] k f e = (subst (λ cs. words_in cs ≤ k.size) (sym e) (omega ari
 inside_push (x ∷ ks) k f e = (f.0, inside_push ks k f.1 e)
 
 inside_opened : (y : Laying) (b : Bool) → Inside y.laid → AreNew y.spare → Inside (cond b (open_next y.laid y.spare) y).laid
-inside_opened y true f n = by y.spare n
+inside_opened y true f n = inside_opened_by_cases y.spare n
   where
-    by : (spare : List ChunkValue) → AreNew spare → Inside (open_next y.laid spare).laid
-    by [] n = f
-    by (k ∷ ks) n = inside_push y.laid k f n.0.0
+    inside_opened_by_cases : (spare : List ChunkValue) → AreNew spare → Inside (open_next y.laid spare).laid
+    inside_opened_by_cases [] n = f
+    inside_opened_by_cases (k ∷ ks) n = inside_push y.laid k f n.0.0
 inside_opened y false f n = f
 
 inside_all : (y : Laying) (h : List ChunkValue) (xs : List Addr) → Inside y.laid → AreNew y.spare → HaveRoom y h xs → Inside (laid_all y h xs).laid
@@ -61,7 +44,7 @@ inside_in [] k f i = absurd i
 inside_in (x ∷ ks) k f (inl e) = subst (λ (z : ChunkValue). words_in z.cells ≤ z.size) e f.0
 inside_in (x ∷ ks) k f (inr i) = inside_in ks k f.1 i
 
-pub told_in : (m : State) (ks : List ChunkValue) (k : ChunkValue) → Told m ks → In ks k → k.size ≡ 1024
+pub told_in : (m : MachineState) (ks : List ChunkValue) (k : ChunkValue) → Told m ks → In ks k → k.size ≡ 1024
 told_in m [] k t i = absurd i
 told_in m (x ∷ ks) k t (inl e) = ap (λ (z : ChunkValue). z.size) (sym e) ∙ t.0.0
 told_in m (x ∷ ks) k t (inr i) = told_in m ks k t.1 i
@@ -79,13 +62,13 @@ units_reserved h u (Some i) w r =
     let big : 1024 < (chunk_at h i).size = w.1.0 in
     let spare : is_spare (chunk_of (chunk_at h i)) ≡ true = ap₂ (λ b (os : List Located). not b && is_empty os) (ne_eqb (chunk_at h i).size 1024 (λ q. omega (arith, q, big))) (ap (objects_from (chunk_at h i).number 0) w.1.1) in
     ap (map (λ (c : Chunk). c.units)) (cond-true (is_spare (chunk_of (chunk_at h i))) (chunk_of (chunk_at h i) ∷ []) [] spare)
-    ∙ by u r big
+    ∙ units_reserved_by_cases u r big
   where
-    by : (n : ℕ) → (chunk_at h i).size ≡ 1024 * n → 1024 < (chunk_at h i).size → (chunk_at h i).size / 1024 ∷ [] ≡ reserved_units n
-    by zero e b = absurd (omega (arith, e, b))
-    by (suc n) e b = ap (λ z. z ∷ []) (omega (arith, e))
+    units_reserved_by_cases : (n : ℕ) → (chunk_at h i).size ≡ 1024 * n → 1024 < (chunk_at h i).size → (chunk_at h i).size / 1024 ∷ [] ≡ reserved_units n
+    units_reserved_by_cases zero e b = absurd (omega (arith, e, b))
+    units_reserved_by_cases (suc n) e b = ap (λ z. z ∷ []) (omega (arith, e))
 
-module _ (h : LeafHeapValue) (from : List (Option Addr)) (ss : List Survivor) (news : List ChunkValue) (S : AreSurvivors h.chunks from ss) (T : CanTake h.chunks news) (m : State) (a : Heap) (O : Old h ss m a) where
+module _ (h : LeafHeapValue) (from : List (Option Addr)) (ss : List Survivor) (news : List ChunkValue) (S : AreSurvivors h.chunks from ss) (T : CanTake h.chunks news) (m : MachineState) (a : Heap) (O : Old h ss m a) where
   abbrev pub g : Option Addr → Option Addr
   g = naming.g h from ss news S T m a O
 
@@ -184,10 +167,10 @@ module _ (h : LeafHeapValue) (from : List (Option Addr)) (ss : List Survivor) (n
   ]
 
   near_each : (o : Located) → In (objects_in (chunks_of (L ++ (K ++ R)))) o → o.at.offset < 1024
-  near_each o i = by (held_by (L ++ (K ++ R)) o i)
+  near_each o i = near_each_by_cases (held_by (L ++ (K ++ R)) o i)
     where
-      by : Holds (L ++ (K ++ R)) o → o.at.offset < 1024
-      by H = elim (in_append_cases L (K ++ R) H.chunk H.there) [
+      near_each_by_cases : Holds (L ++ (K ++ R)) o → o.at.offset < 1024
+      near_each_by_cases H = elim (in_append_cases L (K ++ R) H.chunk H.there) [
         | inl j ↦
             let s = told_in m L H.chunk told j in
             let w = laid_inside H.chunk j in
@@ -216,14 +199,14 @@ module _ (h : LeafHeapValue) (from : List (Option Addr)) (ss : List Survivor) (n
       ∙ units_reserved h.chunks a.reserved h.reserved O.form.shaped.reserved counted.reserved))
     where
       spare_not : (k : ChunkValue) → ((chunk_of k).objects ≡ [] → ⊥) → is_spare (chunk_of k) ≡ false
-      spare_not k f = by (chunk_of k).large (chunk_of k).objects refl
+      spare_not k f = spare_not_by_cases (chunk_of k).large (chunk_of k).objects refl
         where
-          by : (b : Bool) (os : List Located) → (chunk_of k).objects ≡ os → (b && is_empty os) ≡ false
-          by true [] e = absurd (f e)
-          by true (o ∷ os) e = refl
-          by false os e = refl
+          spare_not_by_cases : (b : Bool) (os : List Located) → (chunk_of k).objects ≡ os → (b && is_empty os) ≡ false
+          spare_not_by_cases true [] e = absurd (f e)
+          spare_not_by_cases true (o ∷ os) e = refl
+          spare_not_by_cases false os e = refl
 
-      counted : IsCounted h (record a { room = room_of h; since = h.since })
+      counted : HeapMatchesAccount h (record a { room = room_of h; since = h.since })
       counted = counted_from h (record a { room = room_of h; since = h.since }) O.form (record { small = O.names.small; large = O.names.large }) refl refl O.laid.reserved
 
   -- ---- THE FORM

@@ -1,27 +1,7 @@
--- The names of a heap after its collection: as its account has them.
-use Rattle.std.proofs.Common.{◌≡◌, ◌⊎◌, ◌+◌, ◌*◌, ◌/◌, ◌<◌, ◌≤◌, ◌==◌, ◌&&◌, not, arith, Bool, true, false, cond, Option, None, List, [], ◌∷◌, ◌++◌, length, map, filter, nat_le, inl, inr, refl, ap, sym, subst, ◌∙◌, eq-eqb}
-use Rattle.std.specs.Prelude.{reverse}
-use Rattle.std.specs.List.{flat_map, list_any}
-use Rattle.std.proofs.lemmas.Bool.{cases_Bool, cases_lt, cond-false, cond-true, eqb-true, false≢true, le-leb, leb-true, lt-leb, not-true}
-use Rattle.std.proofs.lemmas.List.{append-nil}
-use Rattle.leaf_collections.proofs.below.listed.{in_append_cases, in_flat, in_from_kept, in_kept, in_map, map_in, read_in}
-use Rattle.leaf_collections.specs.below.hh_model.{Name, State}
-use Rattle.leaf_collections.specs.below.run_ledger.{Heap, laid_onto, large_survivors, room_behind, small_in, small_survivors, units, words_at, holds_name}
-use Rattle.leaf_collections.proofs.below.run_ledger.{holds_from_in, in_from_holds}
-use Rattle.leaf_collections.specs.below.object_layout.{Addr, Born, Cell, size_of, ChunkValue, cell_at, words_in, cell_of, Located, located, objects_from}
-use Rattle.leaf_collections.proofs.below.object_layout.{Once, once_from, cell_in}
-use Rattle.leaf_collections.specs.below.alloc_path.{LeafHeapValue, IsReserved, IsSettled}
-use Rattle.leaf_collections.specs.below.remembered_set.{same_address}
-use Rattle.leaf_collections.specs.below.leaf_copy_gc.{Survivor, olds, old_of, HaveRoom, Laying, before, is_small, laid_all, room_in, led_chunk, reserved_of, unreserved, AreSurvivors, keeps, large_of, laid_of, laying_of, CanTake}
-use Rattle.leaf_collections.proofs.below.leaf_copy_gc.{in_small, olds_small, small_ones, in_unreserved, new_reverse, any_here, any_none, first_of}
-use Rattle.leaf_collections.proofs.below.leaf_copy_gc.Moves as moves
+-- The names of a heap after its collection: as its account says.
+use Rattle.copied_part_laws.proofs.Common.{◌≡◌, ◌⊎◌, ◌+◌, ◌*◌, ◌/◌, ◌<◌, ◌≤◌, ◌==◌, ◌&&◌, not, arith, Bool, true, false, cond, Option, None, List, [], ◌∷◌, ◌++◌, length, map, filter, nat_le, inl, inr, refl, ap, sym, subst, ◌∙◌, eq-eqb, reverse, flat_map, list_any, cases_Bool, cases_lt, cond-false, cond-true, eqb-true, false≢true, le-leb, leb-true, lt-leb, not-true, append-nil, in_append_cases, in_flat, in_from_kept, in_kept, in_map, map_in, read_in, Name, MachineState, Heap, laid_onto, large_survivors, room_behind, small_in, small_survivors, units, words_at, holds_name, holds_from_in, in_from_holds, Addr, Born, Cell, size_of, ChunkValue, cell_at, words_in, cell_of, Located, located, objects_from, Once, once_from, cell_in, LeafHeapValue, IsReserved, IsSettled, same_address, Survivor, olds, old_of, HaveRoom, Laying, before, is_small, laid_all, room_in, led_chunk, reserved_of, unreserved, AreSurvivors, keeps, large_of, laid_of, laying_of, CanTake, in_small, olds_small, small_ones, in_unreserved, new_reverse, any_here, any_none, first_of, Chunk, In, object_name, objects_in, words, HasNames, names_of, small_chunks, from_flat, in_objects, large_names, names_in, small_lists, chunk_of, chunks_of, object_seen, seen_object, large_are, names_are, small_names, inside_from, NamedOnce}
+use Rattle.leaf_collections.proofs.below.copying_gc.Moves as moves
 use Rattle.collected_heap_laws.proofs.Reading as reading
-use Rattle.leaf_collections.specs.below.core_relation.{Chunk, In, object_name, objects_in, words, HasNames, names_of, small_chunks}
-use Rattle.leaf_collections.proofs.below.core_relation.{from_flat, in_objects}
-use Rattle.leaf_collections.specs.below.task_machine.{large_names, names_in, small_lists}
-use Rattle.leaf_collections.specs.below.shared_value.{chunk_of, chunks_of}
-use Rattle.leaf_collections.proofs.below.shared_value.{object_seen, seen_object, large_are, names_are, small_names, inside_from}
-use Rattle.leaf_collections.proofs.below.core_entry_laws.{NamedOnce}
 use Rattle.copied_part_laws.proofs.SurvivorOrder.{single_names, small_survivors_are, sorted_names}
 use Rattle.copied_part_laws.proofs.BeforeTheCopy.{Old, single_small}
 use Rattle.copied_part_laws.proofs.LargeNames.{large_both, large_led, large_unreserved, none_large}
@@ -29,7 +9,7 @@ use Rattle.copied_part_laws.proofs.NamesLaid.{Told, birth_name, lay_all, lists_l
 use Rattle.copied_part_laws.proofs.ObjectsApart.{held_by, once}
 use Rattle.copied_part_laws.proofs.ObjectsMoved as moving
 
-module _ (h : LeafHeapValue) (from : List (Option Addr)) (ss : List Survivor) (news : List ChunkValue) (S : AreSurvivors h.chunks from ss) (T : CanTake h.chunks news) (m : State) (a : Heap) (O : Old h ss m a) where
+module _ (h : LeafHeapValue) (from : List (Option Addr)) (ss : List Survivor) (news : List ChunkValue) (S : AreSurvivors h.chunks from ss) (T : CanTake h.chunks news) (m : MachineState) (a : Heap) (O : Old h ss m a) where
   pub settled : IsSettled h.chunks
   settled = record { tidy = O.form.tidy; apart = O.form.shaped.apart }
 
@@ -81,7 +61,7 @@ module _ (h : LeafHeapValue) (from : List (Option Addr)) (ss : List Survivor) (n
       let n : length o.ints ≡ length (cell_of h.chunks o.at).ints = ap (λ (z : Located). length z.ints) y.is in
       omega (arith, r, n)
 
-  -- ---- SMALL OBJECTS LIE IN SMALL CHUNKS
+  -- ---- SMALL OBJECTS ARE IN SMALL CHUNKS
 
   one_unit : (k : ChunkValue) → In h.chunks k → k.size / 1024 ≡ 1 → k.size ≡ 1024
   one_unit k i e = let w : k.size ≡ 1024 * (k.size / 1024) = O.form.whole k i in omega (arith, w, e)
@@ -196,11 +176,11 @@ module _ (h : LeafHeapValue) (from : List (Option Addr)) (ss : List Survivor) (n
   first_small k i e =
       let w : words_in k.cells ≤ k.size = read_in (λ k. words_in k.cells ≤ k.size) h.chunks k i O.form.within in
       let s : k.size ≡ 1024 = eqb-true k.size 1024 e in
-      ap (λ b. not b && list_any (λ (s : Survivor). same_address s.old (first_of k)) ss) (le-leb (size_of (cell_at k.cells 0)) 1024 (by k.cells (omega (arith, w, s))))
+      ap (λ b. not b && list_any (λ (s : Survivor). same_address s.old (first_of k)) ss) (le-leb (size_of (cell_at k.cells 0)) 1024 (first_small_by_cases k.cells (omega (arith, w, s))))
     where
-      by : (cs : List Cell) → words_in cs ≤ 1024 → size_of (cell_at cs 0) ≤ 1024
-      by [] le = omega arith
-      by (c ∷ cs) le = omega (arith, le)
+      first_small_by_cases : (cs : List Cell) → words_in cs ≤ 1024 → size_of (cell_at cs 0) ≤ 1024
+      first_small_by_cases [] le = omega arith
+      first_small_by_cases (c ∷ cs) le = omega (arith, le)
 
   module _ (k : ChunkValue) (i : In h.chunks k) (big : (k.size == 1024) ≡ false) (o : Located) (objects : objects_from k.number 0 k.cells ≡ o ∷ []) (zero' : o.at.offset ≡ 0) where
     in_k : In (objects_from k.number 0 k.cells) o
@@ -220,11 +200,11 @@ module _ (h : LeafHeapValue) (from : List (Option Addr)) (ss : List Survivor) (n
         lt-leb (size_of (cell_at k.cells 0)) 1024 (omega (arith, s, l))
 
     pub keeps_is : keeps ss k ≡ holds_name a.survivors (object_name o)
-    keeps_is = ap (λ b. not b && list_any (λ (s : Survivor). same_address s.old (first_of k)) ss) first_big ∙ by (holds_name a.survivors (object_name o)) refl
+    keeps_is = ap (λ b. not b && list_any (λ (s : Survivor). same_address s.old (first_of k)) ss) first_big ∙ keeps_is_by_cases (holds_name a.survivors (object_name o)) refl
       where
-        by : (b : Bool) → holds_name a.survivors (object_name o) ≡ b → list_any (λ (s : Survivor). same_address s.old (first_of k)) ss ≡ b
-        by true e = any_here ss (first_of k) (subst (In (olds ss)) o_first (O.dies o in_h (in_from_holds a.survivors (object_name o) e)))
-        by false e = any_none ss (first_of k) (λ j. false≢true (sym e ∙ holds_from_in a.survivors (object_name o) (O.lives o in_h (subst (In (olds ss)) (sym o_first) j))))
+        keeps_is_by_cases : (b : Bool) → holds_name a.survivors (object_name o) ≡ b → list_any (λ (s : Survivor). same_address s.old (first_of k)) ss ≡ b
+        keeps_is_by_cases true e = any_here ss (first_of k) (subst (In (olds ss)) o_first (O.dies o in_h (in_from_holds a.survivors (object_name o) e)))
+        keeps_is_by_cases false e = any_none ss (first_of k) (λ j. false≢true (sym e ∙ holds_from_in a.survivors (object_name o) (O.lives o in_h (subst (In (olds ss)) (sym o_first) j))))
 
   -- what a large chunk holds: nothing, or one object
   pub record One (k : ChunkValue) : Type 0 where
@@ -249,7 +229,7 @@ module _ (h : LeafHeapValue) (from : List (Option Addr)) (ss : List Survivor) (n
   -- the large names of chunks that are kept are those of survivors
   pub large_kept : (us : List ChunkValue) → ((k : ChunkValue) → In us k → In h.chunks k) → large_names (filter (keeps ss) us) ≡ filter (holds_name a.survivors) (large_names us)
   large_kept [] f = refl
-  large_kept (k ∷ us) f = by (k.size == 1024) refl (large_kept us (λ j i. f j (inr i)))
+  large_kept (k ∷ us) f = large_kept_by_cases (k.size == 1024) refl (large_kept us (λ j i. f j (inr i)))
     where
       none : (b : Bool) → (k.size == 1024) ≡ false → names_in k.cells ≡ [] → large_names (filter (keeps ss) us) ≡ filter (holds_name a.survivors) (large_names us)
           → large_names (cond b (k ∷ filter (keeps ss) us) (filter (keeps ss) us)) ≡ filter (holds_name a.survivors) (names_in k.cells ++ large_names us)
@@ -268,10 +248,10 @@ module _ (h : LeafHeapValue) (from : List (Option Addr)) (ss : List Survivor) (n
       some false n e z h' go =
           go ∙ (sym (cond-false (holds_name a.survivors n) (n ∷ filter (holds_name a.survivors) (large_names us)) (filter (holds_name a.survivors) (large_names us)) h') ∙ ap (λ ns. filter (holds_name a.survivors) (ns ++ large_names us)) (sym z))
 
-      by : (b : Bool) → (k.size == 1024) ≡ b → large_names (filter (keeps ss) us) ≡ filter (holds_name a.survivors) (large_names us)
+      large_kept_by_cases : (b : Bool) → (k.size == 1024) ≡ b → large_names (filter (keeps ss) us) ≡ filter (holds_name a.survivors) (large_names us)
           → large_names (filter (keeps ss) (k ∷ us)) ≡ filter (holds_name a.survivors) (cond b (large_names us) (names_in k.cells ++ large_names us))
-      by true e go = ap (λ b. large_names (cond b (k ∷ filter (keeps ss) us) (filter (keeps ss) us))) (first_small k (f k (inl refl)) e) ∙ go
-      by false e go = elim (one_of k (f k (inl refl)) e) [
+      large_kept_by_cases true e go = ap (λ b. large_names (cond b (k ∷ filter (keeps ss) us) (filter (keeps ss) us))) (first_small k (f k (inl refl)) e) ∙ go
+      large_kept_by_cases false e go = elim (one_of k (f k (inl refl)) e) [
         | inl z ↦ none (keeps ss k) e z go
         | inr o ↦
             ap (λ b. large_names (cond b (k ∷ filter (keeps ss) us) (filter (keeps ss) us))) o.kept

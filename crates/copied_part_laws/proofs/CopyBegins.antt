@@ -1,12 +1,6 @@
 -- A part that has just begun its collection can be copied.
-use Rattle.std.proofs.Common.{◌≡◌, ℕ, ◌+◌, ◌*◌, ◌/◌, ◌≤◌, arith, All, length, refl, ap, sym, subst, ◌∙◌}
-use Rattle.leaf_collections.specs.below.object_layout.{ChunkValue, small_words}
-use Rattle.leaf_collections.specs.below.alloc_path.{IsFresh}
-use Rattle.leaf_collections.specs.below.leaf_copy_gc.{small_words as small_laid}
-use Rattle.leaf_collections.proofs.below.leaf_copy_gc.{needs_are_counted}
-use Rattle.leaf_collections.specs.below.task_machine.{Private}
-use Rattle.leaf_collections.specs.below.shared_value.{take_by}
-use Rattle.copied_part_laws.specs.Handed.{BegunIsCopying}
+use Rattle.copied_part_laws.proofs.Common.{◌≡◌, ℕ, ◌+◌, ◌*◌, ◌/◌, ◌≤◌, arith, All, length, refl, ap, sym, subst, ◌∙◌, ChunkValue, small_words, IsFresh, needs_are_counted, Private, take_by, BegunIsCopying}
+use Rattle.leaf_collections.specs.below.copying_gc.{small_words as small_laid}
 
 enough_taken : (needed counted n : ℕ) → needed ≡ counted → n ≡ take_by counted → 2 * ((needed + 1023) / 1024) ≤ n + 1
 enough_taken needed counted n e q = omega (arith, e, q)

@@ -1,27 +1,9 @@
--- The numbers that a collection comes to are those that its account says.
-use Rattle.std.proofs.Common.{◌≡◌, ℕ, zero, suc, ◌+◌, ◌-◌, ◌*◌, ◌/◌, ◌<◌, ◌≤◌, ◌==◌, not, arith, Bool, true, false, cond, Option, Some, None, List, [], ◌∷◌, ◌++◌, length, length-append, map, filter, inl, inr, refl, ap, sym, subst, ◌∙◌, eq-eqb}
-use Rattle.std.specs.Prelude.{remove, reverse, unwrap_or}
-use Rattle.std.specs.List.{flat_map}
-use Rattle.std.proofs.lemmas.Bool.{cases_Bool, cond-false, eqb-true, false≢true}
-use Rattle.std.proofs.lemmas.List.{length-map, length-reverse}
-use Rattle.std.proofs.lemmas.List.Sums.{sum_by-append, sum_by-cons}
-use Rattle.leaf_collections.proofs.below.listed.{in_map, map_in, read_in}
-use Rattle.leaf_collections.specs.below.hh_model.{Name, State}
-use Rattle.leaf_collections.specs.below.run_ledger.{Heap, begun_in, chunk_words, collected as account_collected, small_in, units, units_in, units_sum, words_at, words_in as words_held, words_sum, holds_name}
-use Rattle.leaf_collections.proofs.below.run_ledger.{Full, heap_words, kept_weight}
-use Rattle.leaf_collections.specs.below.object_layout.{Addr, Cell, moved_to, ChunkValue, words_in, chunk_at, held_words, Located, objects_from}
-use Rattle.leaf_collections.specs.below.alloc_path.{AreTidy, LeafHeapValue, IsReserved, IsTidy, counted32, unit_count}
-use Rattle.leaf_collections.specs.below.leaf_copy_gc.{Survivor, olds, Laying, before, smalls, emptied, reserved_of, unreserved, AreSurvivors, back_of, keeps, large_of, laid_of, laying_of, leaves, CanTake}
-use Rattle.leaf_collections.proofs.below.leaf_copy_gc.{new_reverse, within_at, all_tidy, in_unreserved}
-use Rattle.address_laws.proofs.Numbers.{numbers, removed_at}
-use Rattle.leaf_collections.proofs.below.leaf_copy_gc.NewNumbers as new_numbers
+-- The numbers of a collection are those of its account.
+use Rattle.copied_part_laws.proofs.Common.{◌≡◌, ℕ, zero, suc, ◌+◌, ◌-◌, ◌*◌, ◌/◌, ◌<◌, ◌≤◌, ◌==◌, not, arith, Bool, true, false, cond, Option, Some, None, List, [], ◌∷◌, ◌++◌, length, length-append, map, filter, inl, inr, refl, ap, sym, subst, ◌∙◌, eq-eqb, remove, reverse, unwrap_or, flat_map, cases_Bool, cond-false, eqb-true, false≢true, length-map, length-reverse, sum_by-append, sum_by-cons, in_map, map_in, read_in, Name, MachineState, Heap, begun_in, chunk_words, small_in, units, units_in, units_sum, words_at, words_sum, holds_name, Full, heap_words, kept_weight, Addr, Cell, moved_to, ChunkValue, words_in, chunk_at, held_words, Located, objects_from, AreTidy, LeafHeapValue, IsReserved, IsTidy, counted32, unit_count, Survivor, olds, Laying, before, smalls, emptied, reserved_of, unreserved, AreSurvivors, back_of, keeps, large_of, laid_of, laying_of, leaves, CanTake, new_reverse, within_at, all_tidy, in_unreserved, numbers, removed_at, In, object_name, objects_in, words, in_objects, large_names, names_in, small_lists, chunk_of, chunks_of, large_are, names_are, small_names, place_there, unit_sum}
+use Rattle.leaf_collections.specs.below.run_ledger.{collected as account_collected, words_in as words_held}
+use Rattle.leaf_collections.proofs.below.copying_gc.NewNumbers as new_numbers
 use Rattle.address_laws.proofs.Extent as extent
 use Rattle.collected_heap_laws.proofs.Reading as reading
-use Rattle.leaf_collections.specs.below.core_relation.{In, object_name, objects_in, words}
-use Rattle.leaf_collections.proofs.below.core_relation.{in_objects}
-use Rattle.leaf_collections.specs.below.task_machine.{large_names, names_in, small_lists}
-use Rattle.leaf_collections.specs.below.shared_value.{chunk_of, chunks_of}
-use Rattle.leaf_collections.proofs.below.shared_value.{large_are, names_are, small_names, place_there}
 use Rattle.copied_part_laws.proofs.CopiedForm as forming
 use Rattle.copied_part_laws.proofs.BeforeTheCopy.{Old}
 use Rattle.copied_part_laws.proofs.NamesLaid.{Told}
@@ -29,9 +11,8 @@ use Rattle.copied_part_laws.proofs.LargeNames.{large_unreserved}
 use Rattle.copied_part_laws.proofs.ObjectsMoved as moving
 use Rattle.copied_part_laws.proofs.ChunkWords.{chunks_held, count_numbers, spare_new, units_emptied, units_new}
 use Rattle.copied_part_laws.proofs.CopiedNames as naming
-use Rattle.leaf_collections.proofs.below.inner_mark_gc.{unit_sum}
 
-module _ (h : LeafHeapValue) (from : List (Option Addr)) (ss : List Survivor) (news : List ChunkValue) (S : AreSurvivors h.chunks from ss) (T : CanTake h.chunks news) (m : State) (a : Heap) (O : Old h ss m a) where
+module _ (h : LeafHeapValue) (from : List (Option Addr)) (ss : List Survivor) (news : List ChunkValue) (S : AreSurvivors h.chunks from ss) (T : CanTake h.chunks news) (m : MachineState) (a : Heap) (O : Old h ss m a) where
   abbrev L : List ChunkValue
   L = laid_of h ss (reverse news)
 
@@ -94,7 +75,7 @@ module _ (h : LeafHeapValue) (from : List (Option Addr)) (ss : List Survivor) (n
   abbrev Units : List Name → ℕ
   Units ns = units_sum m ns
 
-  -- each large chunk but the reserved one has its object
+  -- each large chunk except the reserved one has its object
   pub has_one : (k : ChunkValue) → In U k → (k.size == 1024) ≡ false → naming.One h from ss news S T m a O k
   has_one k i big = elim (naming.one_of h from ss news S T m a O k (in_unreserved h.chunks h.reserved k i) big) [
     | inr o ↦ o
@@ -102,11 +83,11 @@ module _ (h : LeafHeapValue) (from : List (Option Addr)) (ss : List Survivor) (n
   ]
     where
       no_objects : (k : ChunkValue) → names_in k.cells ≡ [] → objects_from k.number 0 k.cells ≡ []
-      no_objects k e = by (objects_from k.number 0 k.cells) (names_are k.cells k.number 0 ∙ e)
+      no_objects k e = no_objects_by_cases (objects_from k.number 0 k.cells) (names_are k.cells k.number 0 ∙ e)
         where
-          by : (os : List Located) → map object_name os ≡ [] → os ≡ []
-          by [] q = refl
-          by (o ∷ os) q = absurd cc
+          no_objects_by_cases : (os : List Located) → map object_name os ≡ [] → os ≡ []
+          no_objects_by_cases [] q = refl
+          no_objects_by_cases (o ∷ os) q = absurd cc
 
       empty_not : (k : ChunkValue) → In (unreserved h.chunks h.reserved) k → (k.size == 1024) ≡ false → names_in k.cells ≡ [] → ⊥
       empty_not k i big none =
@@ -118,7 +99,7 @@ module _ (h : LeafHeapValue) (from : List (Option Addr)) (ss : List Survivor) (n
 
   leaving : (us : List ChunkValue) → ((k : ChunkValue) → In us k → In U k) → unit_count (filter (leaves ss) us) + Units (large_names (filter (keeps ss) us)) ≡ length (small_lists us) + Units (large_names us)
   leaving [] f = refl
-  leaving (k ∷ us) f = by (k.size == 1024) refl (leaving us (λ j i. f j (inr i)))
+  leaving (k ∷ us) f = leaving_by_cases (k.size == 1024) refl (leaving us (λ j i. f j (inr i)))
     where
       old : In h.chunks k
       old = in_unreserved h.chunks h.reserved k (f k (inl refl))
@@ -141,12 +122,12 @@ module _ (h : LeafHeapValue) (from : List (Option Addr)) (ss : List Survivor) (n
           let d' = sum_by-cons (λ n. units (words_at m n)) n (large_names us) in
           omega (arith, d, d', q, go)
 
-      by : (b : Bool) → (k.size == 1024) ≡ b → unit_count (filter (leaves ss) us) + Units (large_names (filter (keeps ss) us)) ≡ length (small_lists us) + Units (large_names us)
+      leaving_by_cases : (b : Bool) → (k.size == 1024) ≡ b → unit_count (filter (leaves ss) us) + Units (large_names (filter (keeps ss) us)) ≡ length (small_lists us) + Units (large_names us)
           → unit_count (filter (leaves ss) (k ∷ us)) + Units (large_names (filter (keeps ss) (k ∷ us))) ≡ length (cond b (names_in k.cells ∷ small_lists us) (small_lists us)) + Units (cond b (large_names us) (names_in k.cells ++ large_names us))
-      by true e go =
+      leaving_by_cases true e go =
           ap (λ b. unit_count (cond (not b) (k ∷ filter (leaves ss) us) (filter (leaves ss) us)) + Units (large_names (cond b (k ∷ filter (keeps ss) us) (filter (keeps ss) us)))) (naming.first_small h from ss news S T m a O k old e)
           ∙ small e go
-      by false e go =
+      leaving_by_cases false e go =
           let o = has_one k (f k (inl refl)) e in
           let i : In (objects_in (chunks_of h.chunks)) o.object = in_objects (chunks_of h.chunks) (chunk_of k) o.object (in_map chunk_of h.chunks k old) (subst (λ os. In os o.object) (sym o.objects) (inl refl)) in
           let w : k.size ≡ 1024 * (k.size / 1024) = O.form.whole k old in
@@ -156,7 +137,7 @@ module _ (h : LeafHeapValue) (from : List (Option Addr)) (ss : List Survivor) (n
           ∙ large (holds_name a.survivors (object_name o.object)) (object_name o.object) e o.names (let q : units k.size ≡ k.size / 1024 = omega (arith, w) in q ∙ (u ∙ sym v)) go
 
   small_count : length (small_lists U) ≡ length a.chunks
-  small_count = by h.reserved O.form.shaped.reserved ∙ ap (λ (ls : List (List Name)). length ls) (sym (small_names h.chunks) ∙ O.names.small)
+  small_count = small_count_by_cases h.reserved O.form.shaped.reserved ∙ ap (λ (ls : List (List Name)). length ls) (sym (small_names h.chunks) ∙ O.names.small)
     where
       removed : (ks : List ChunkValue) (i : ℕ) → i < length ks → 1024 < (chunk_at ks i).size → length (small_lists (remove ks i)) ≡ length (small_lists ks)
       removed [] i lt big = absurd (omega (arith, lt))
@@ -170,9 +151,9 @@ module _ (h : LeafHeapValue) (from : List (Option Addr)) (ss : List Survivor) (n
           along true e = ap suc e
           along false e = e
 
-      by : (o : Option ℕ) → IsReserved h.chunks o → length (small_lists (unreserved h.chunks o)) ≡ length (small_lists h.chunks)
-      by None w = refl
-      by (Some i) w = removed h.chunks i w.0 w.1.0
+      small_count_by_cases : (o : Option ℕ) → IsReserved h.chunks o → length (small_lists (unreserved h.chunks o)) ≡ length (small_lists h.chunks)
+      small_count_by_cases None w = refl
+      small_count_by_cases (Some i) w = removed h.chunks i w.0 w.1.0
 
   less_units : Units Then.large ≤ Units a.large
   less_units = kept_weight (λ n. units (words_at m n)) (holds_name a.survivors) a.large
@@ -200,7 +181,7 @@ module _ (h : LeafHeapValue) (from : List (Option Addr)) (ss : List Survivor) (n
         let less = less_units in
         omega (arith, both, one, two, rev, go, kept, all, then_, small, laid, took, begun, less)
 
-    -- ---- 32 BITS COUNT THEM
+    -- ---- THEY FIT IN 32 BITS
 
     module _ (few : units_in m a ≤ 65536) where
       full : Full m Then.chunks

@@ -1,28 +1,7 @@
 -- A part that was copied fits the shared value for the end of its collection.
-use Rattle.std.proofs.Common.{◌≡◌, ℕ, zero, suc, ◌/◌, ◌++◌, ◌≤◌, arith, All, Some, None, List, [], ◌∷◌, length, slice_get, sum_by, refl, ap, sym, subst, ◌∙◌}
-use Rattle.std.specs.Prelude.{pos, reverse}
-use Rattle.std.proofs.lemmas.List.{length-map}
-use Rattle.std.proofs.lemmas.List.Sums.{sum_by-cons}
-use Rattle.leaf_collections.proofs.below.listed.{in_map}
-use Rattle.leaf_collections.specs.below.run_ledger.{Ledger, end_numbers, heap_of, in_use, units_in}
-use Rattle.leaf_collections.proofs.below.run_ledger.{use_is_bounded}
-use Rattle.leaf_collections.specs.below.object_layout.{ChunkValue}
-use Rattle.leaf_collections.specs.below.chunk_pool.{Slot, owner_of}
-use Rattle.leaf_collections.specs.below.alloc_path.{AreApart, LeafHeapValue, IsFresh, counted32, unit_count}
-use Rattle.leaf_collections.specs.below.task_frames.{FramesValue}
-use Rattle.leaf_collections.specs.below.leaf_copy_gc.{Moved, outside, back_of, IsCollected}
-use Rattle.collected_heap_laws.proofs.Telling.{moves_are_told}
-use Rattle.leaf_collections.specs.below.inner_mark_gc.{units_in_slots}
-use Rattle.leaf_collections.specs.below.ledger_step_laws.{aside}
-use Rattle.leaf_collections.proofs.below.ledger_step_laws.{rested_view}
-use Rattle.leaf_collections.specs.below.core_relation.{PartFits, before, part_for, Belongings, In}
-use Rattle.leaf_collections.specs.below.task_machine.{Begun, Private}
-use Rattle.leaf_collections.specs.below.shared_value.{belongings_of_part, AreMeasured, AreUnits, news_of, SharedValue, accounts, frames_down, belongings_with, value_of}
-use Rattle.leaf_collections.proofs.below.shared_value.{measured_both}
-use Rattle.leaf_collections.specs.LeafEnd.{AreBack, FitsCopied}
-use Rattle.heap_marking.proofs.SweptUnits.{few_units}
-use Rattle.copied_part_laws.specs.Copied.{IsBegun, part_belongings}
-use Rattle.copied_part_laws.specs.Handed.{CopiedFits, IsCopying}
+use Rattle.copied_part_laws.proofs.Common.{◌≡◌, ℕ, zero, suc, ◌/◌, ◌++◌, ◌≤◌, arith, All, Some, None, List, [], ◌∷◌, length, slice_get, sum_by, refl, ap, sym, subst, ◌∙◌, pos, reverse, length-map, sum_by-cons, in_map, Ledger, end_numbers, heap_of, in_use, units_in, use_is_bounded, ChunkValue, Slot, owner_of, HaveDistinctNumbers, LeafHeapValue, IsFresh, counted32, unit_count, FramesValue, outside, back_of, IsCollected, moves_are_told, units_in_slots, aside, rested_view, PartFits, part_for, Belongings, In, Begun, Private, belongings_of_part, AreMeasured, AreUnits, news_of, SharedValue, accounts, frames_down, belongings_with, value_of, measured_both, AreBack, FitsCopied, few_units, CollectionHasBegun, part_belongings, CopiedFits, IsCopying}
+use Rattle.leaf_collections.specs.below.copying_gc.{Moved}
+use Rattle.leaf_collections.specs.below.refinement.{before}
 use Rattle.copied_part_laws.proofs.ChunksGivenBack as back
 use Rattle.copied_part_laws.proofs.CopyMade as copying
 use Rattle.copied_part_laws.proofs.CopyMade.{copies_fit}
@@ -51,7 +30,7 @@ module _ (w : SharedValue) (k : ℕ) (p : Private) (b : Begun) (news : List Chun
       subst (λ n. PartFits w.program w.settings (part_for w.settings p.task H n) (value_of w) (aside (accounts w))) C.fresh
       (subst (λ (h : Belongings). PartFits w.program w.settings (part_for w.settings p.task h p.fresh) (value_of w) (aside (accounts w))) belongings_are C.fits.fits.part)
 
-  pub begun : IsBegun w.program w.settings p.task p.heap p.view p.allocations p.frames b news (value_of w) (aside (accounts w))
+  pub begun : CollectionHasBegun w.program w.settings p.task p.heap p.view p.allocations p.frames b news (value_of w) (aside (accounts w))
   begun = record {
     form = C.fits.form;
     fits = fits;
@@ -95,7 +74,7 @@ module _ (w : SharedValue) (k : ℕ) (p : Private) (b : Begun) (news : List Chun
 
     are_back : AreBack w (record p { heap = h'; frames = s' }) out.back.items out.given
     are_back = record {
-      apart = subst AreApart (sym D.back) (back.back_apart p.heap (outside p.frames b.roots) D.survivors news D.are C.new (aside (accounts w)).machine (heap_of (aside (accounts w)) p.task) O);
+      apart = subst HaveDistinctNumbers (sym D.back) (back.back_apart p.heap (outside p.frames b.roots) D.survivors news D.are C.new (aside (accounts w)).machine (heap_of (aside (accounts w)) p.task) O);
       owned = subst (All (λ c. owner_of w.pool c.number ≡ Some p.task)) (sym D.back)
           (back.back_owned p.heap (outside p.frames b.roots) D.survivors news D.are C.new (aside (accounts w)).machine (heap_of (aside (accounts w)) p.task) O w.pool p.task all_measured);
       gone = subst (All (λ c. IsFresh h'.chunks c.number)) (sym D.back)

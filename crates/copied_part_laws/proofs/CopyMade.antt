@@ -1,28 +1,7 @@
--- What a leaf collection makes of a part is a copy of it.
-use Rattle.std.proofs.Common.{◌≡◌, ℕ, ◌+◌, arith, Option, Some, None, is_some, List, [], ◌∷◌, ◌++◌, length, map, filter, inl, inr, refl, ap, ap₂, sym, subst, ◌∙◌}
-use Rattle.std.specs.Option.{option_map}
-use Rattle.std.specs.Prelude.{reverse, unwrap_or}
-use Rattle.leaf_collections.proofs.below.listed.{contains_from_in, in_append_cases, in_from_contains, in_map, map_in}
-use Rattle.leaf_collections.specs.below.hh_lang.{ProgramText}
-use Rattle.leaf_collections.specs.below.hh_model.{Object, State, object_at}
-use Rattle.leaf_collections.specs.below.run_trace.{SettingsValue}
-use Rattle.leaf_collections.specs.below.run_ledger.{Heap, Ledger, heap_of, let_go, words_at, words_of}
-use Rattle.leaf_collections.proofs.below.run_ledger.{heap_machine}
-use Rattle.leaf_collections.specs.below.object_layout.{Addr, ChunkValue, number_of, Located}
-use Rattle.leaf_collections.specs.below.alloc_path.{LeafHeapValue, with_places}
-use Rattle.leaf_collections.specs.below.chunk_rows.{Level}
-use Rattle.leaf_collections.specs.below.task_frames.{Frame, FramesValue, frames_of, led_frame}
-use Rattle.leaf_collections.specs.below.leaf_copy_gc.{Moved, Survivor, olds, outside, led_chunk, new_address, reserved_of, unreserved, AreSurvivors, collected, keeps, large_of, laid_of, IsCollected}
+-- The result of a leaf collection on a part is a copy of it.
+use Rattle.copied_part_laws.proofs.Common.{◌≡◌, ℕ, ◌+◌, arith, Option, Some, None, is_some, List, [], ◌∷◌, ◌++◌, length, map, filter, inl, inr, refl, ap, ap₂, sym, subst, ◌∙◌, option_map, reverse, unwrap_or, contains_from_in, in_append_cases, in_from_contains, in_map, map_in, ProgramText, Object, MachineState, object_at, SettingsValue, Heap, Ledger, heap_of, let_go, words_at, words_of, heap_machine, Addr, ChunkValue, number_of, Located, LeafHeapValue, with_places, Level, CallFrame, FramesValue, frames_of, led_frame, Survivor, olds, outside, led_chunk, new_address, reserved_of, unreserved, AreSurvivors, collected, keeps, large_of, laid_of, IsCollected, moves_are_told, rested, rested_view, rested_worker, Begun, Chunk, Belongings, In, Memory, copied_object, object_name, objects_in, AreLaidOut, words, IsReachedAt, HasNames, BelongingsStand, Place, Stands, with_belongings, BegunStands, CopyFits, IsCopy, at_belongings, chunk_of, chunks_of, HeapForm, frames_down, refs_long, inside_from, CopiesFit, CollectionHasBegun, part_belongings}
+use Rattle.leaf_collections.specs.below.copying_gc.{Moved}
 use Rattle.address_laws.proofs.Extent as extent
-use Rattle.collected_heap_laws.proofs.Telling.{moves_are_told}
-use Rattle.leaf_collections.specs.below.ledger_step_laws.{rested}
-use Rattle.leaf_collections.proofs.below.ledger_step_laws.{rested_view, rested_worker}
-use Rattle.leaf_collections.specs.below.task_machine.{Begun}
-use Rattle.leaf_collections.specs.below.core_relation.{Chunk, Belongings, In, Memory, copied_object, object_name, objects_in, AreLaidOut, words, IsReachedAt, HasNames, BelongingsStand, Place, Stands, with_belongings, BegunStands, CopyFits, IsCopy}
-use Rattle.leaf_collections.proofs.below.core_relation.{at_belongings}
-use Rattle.leaf_collections.specs.below.shared_value.{chunk_of, chunks_of, HeapForm, frames_down}
-use Rattle.leaf_collections.proofs.below.shared_value.{refs_long, inside_from}
-use Rattle.copied_part_laws.specs.Copied.{CopiesFit, IsBegun, part_belongings}
 use Rattle.copied_part_laws.proofs.CopiedForm as forming
 use Rattle.copied_part_laws.proofs.BeforeTheCopy.{Old}
 use Rattle.copied_part_laws.proofs.NamesLaid.{room_last}
@@ -33,7 +12,7 @@ use Rattle.copied_part_laws.proofs.SurvivorsReached.{reached_back, reached_to}
 
 -- ---- FRAMES
 
-last_same : (xs ys : List Frame) (x y : Frame) → xs ++ x ∷ [] ≡ ys ++ y ∷ [] → (xs ≡ ys) × (x ≡ y)
+last_same : (xs ys : List CallFrame) (x y : CallFrame) → xs ++ x ∷ [] ≡ ys ++ y ∷ [] → (xs ≡ ys) × (x ≡ y)
 last_same [] [] x y e = (refl, cc)
 last_same [] (z ∷ []) x y e = absurd cc
 last_same [] (z ∷ (w ∷ ys)) x y e = absurd cc
@@ -45,11 +24,11 @@ last_same (z ∷ xs) (w ∷ ys) x y e =
     let r = last_same xs ys x y tail in
     (ap₂ (λ q qs. q ∷ qs) head r.0, r.1)
 
-map_last : (f : Frame → Frame) (xs : List Frame) (x : Frame) → map f (xs ++ x ∷ []) ≡ map f xs ++ f x ∷ []
+map_last : (f : CallFrame → CallFrame) (xs : List CallFrame) (x : CallFrame) → map f (xs ++ x ∷ []) ≡ map f xs ++ f x ∷ []
 map_last f [] x = refl
 map_last f (z ∷ xs) x = ap (λ qs. f z ∷ qs) (map_last f xs x)
 
--- frames with their references led
+-- frames with their references updated
 frames_led : (f : Addr → Addr) (s s' : FramesValue) → frames_of s' ≡ map (led_frame (option_map f)) (frames_of s) → frames_down s' ≡ map (led_frame (option_map f)) (frames_down s)
 frames_led f s s' e =
     let r = last_same s'.below (map (led_frame (option_map f)) s.below) s'.top (led_frame (option_map f) s.top) (e ∙ map_last (led_frame (option_map f)) s.below s.top) in
@@ -57,7 +36,7 @@ frames_led f s s' e =
 
 -- ---- WORDS
 
-module _ (p : ProgramText) (st : SettingsValue) (t : ℕ) (h : LeafHeapValue) (view : List Level) (count : ℕ) (s : FramesValue) (b : Begun) (news : List ChunkValue) (v : Memory) (l : Ledger) (B : IsBegun p st t h view count s b news v l) where
+module _ (p : ProgramText) (st : SettingsValue) (t : ℕ) (h : LeafHeapValue) (view : List Level) (count : ℕ) (s : FramesValue) (b : Begun) (news : List ChunkValue) (v : Memory) (l : Ledger) (B : CollectionHasBegun p st t h view count s b news v l) where
   abbrev pub H : Belongings
   H = part_belongings h view count s (Some b)
 
@@ -76,55 +55,55 @@ module _ (p : ProgramText) (st : SettingsValue) (t : ℕ) (h : LeafHeapValue) (v
   pub belongings : BelongingsStand V lt t
   belongings = stands.belongings t (rested_worker l t)
 
-  pub here : V.belongings t ≡ H
-  here = at_belongings v t H
+  pub own_belongings : V.belongings t ≡ H
+  own_belongings = at_belongings v t H
 
   pub began : BegunStands V lt t b
   began = B.fits.begun
 
-  pub there : (o : Located) → In (objects_in (chunks_of h.chunks)) o → In (objects_in (V.belongings t).chunks) o
-  there o i = subst (λ (z : Belongings). In (objects_in z.chunks) o) (sym here) i
+  pub object_among_own : (o : Located) → In (objects_in (chunks_of h.chunks)) o → In (objects_in (V.belongings t).chunks) o
+  object_among_own o i = subst (λ (z : Belongings). In (objects_in z.chunks) o) (sym own_belongings) i
 
   names : HasNames (chunks_of h.chunks) a
   names =
-      let n : HasNames (chunks_of h.chunks) (heap_of lt t) = subst (λ (z : Belongings). HasNames z.chunks (heap_of lt t)) here belongings.names in
+      let n : HasNames (chunks_of h.chunks) (heap_of lt t) = subst (λ (z : Belongings). HasNames z.chunks (heap_of lt t)) own_belongings belongings.names in
       record { small = n.small ∙ rested_view (λ x. x.chunks) (λ x. refl) l t; large = n.large ∙ rested_view (λ x. x.large) (λ x. refl) l t }
 
   laid : AreLaidOut (chunks_of h.chunks) a.reserved
-  laid = subst (AreLaidOut (chunks_of h.chunks)) (rested_view (λ x. x.reserved) (λ x. refl) l t) (subst (λ (z : Belongings). AreLaidOut z.chunks (heap_of lt t).reserved) here belongings.laid)
+  laid = subst (AreLaidOut (chunks_of h.chunks)) (rested_view (λ x. x.reserved) (λ x. refl) l t) (subst (λ (z : Belongings). AreLaidOut z.chunks (heap_of lt t).reserved) own_belongings belongings.laid)
 
   survivors_same : (heap_of lt t).survivors ≡ a.survivors
   survivors_same = rested_view (λ x. x.survivors) (λ x. refl) l t
 
   read_words : (o : Located) → In (objects_in (chunks_of h.chunks)) o → words_at l.machine (object_name o) ≡ words o
   read_words o i =
-      let c = stands.contents t o (rested_worker l t) (there o i) in
+      let c = stands.contents t o (rested_worker l t) (object_among_own o i) in
       let x : Object = c.0 in
-      let e : words_at l.machine (object_name o) ≡ words_of (Some c.0) = ap (λ (m : State). words_of (object_at m.store (object_name o))) (sym (heap_machine l t let_go)) ∙ ap words_of c.1 in
+      let e : words_at l.machine (object_name o) ≡ words_of (Some c.0) = ap (λ (m : MachineState). words_of (object_at m.store (object_name o))) (sym (heap_machine l t let_go)) ∙ ap words_of c.1 in
       let r : length c.0.refs ≡ length o.refs = sym (refs_long (Place V lt) o.refs c.0.refs c.2.refs) in
       let n : length c.0.ints ≡ length o.ints = ap (λ zs. length zs) (sym c.2.ints) in
       e ∙ (let q : 2 + length c.0.refs + length c.0.ints ≡ 2 + length o.refs + length o.ints = omega (arith, r, n) in q)
 
   -- its chunks are t's
   pub owned_chunk : (k : ChunkValue) → In h.chunks k → v.owner k.number ≡ Some t
-  owned_chunk k i = belongings.owned (chunk_of k) (subst (λ (z : Belongings). In z.chunks (chunk_of k)) (sym here) (in_map chunk_of h.chunks k i))
+  owned_chunk k i = belongings.owned (chunk_of k) (subst (λ (z : Belongings). In z.chunks (chunk_of k)) (sym own_belongings) (in_map chunk_of h.chunks k i))
 
   module _ (ss : List Survivor) (S : AreSurvivors h.chunks (outside s b.roots) ss) where
     lives : (o : Located) → In (objects_in (chunks_of h.chunks)) o → In (olds ss) o.at → In a.survivors (object_name o)
     lives o i j =
         let w : IsReachedAt H b.roots o.at = reached_back h.chunks B.form.shaped.apart H s b.roots refl refl o.at ((S.exactly o.at).0 (contains_from_in (olds ss) o.at j)) in
-        subst (λ ns. In ns (object_name o)) survivors_same ((began.survivors o (there o i)).0 (subst (λ (z : Belongings). IsReachedAt z b.roots o.at) (sym here) w))
+        subst (λ ns. In ns (object_name o)) survivors_same ((began.survivors o (object_among_own o i)).0 (subst (λ (z : Belongings). IsReachedAt z b.roots o.at) (sym own_belongings) w))
 
     dies : (o : Located) → In (objects_in (chunks_of h.chunks)) o → In a.survivors (object_name o) → In (olds ss) o.at
     dies o i j =
-        let w : IsReachedAt (V.belongings t) b.roots o.at = (began.survivors o (there o i)).1 (subst (λ ns. In ns (object_name o)) (sym survivors_same) j) in
-        in_from_contains (olds ss) o.at ((S.exactly o.at).1 (reached_to h.chunks B.form.shaped.apart H s b.roots refl refl o.at (subst (λ (z : Belongings). IsReachedAt z b.roots o.at) here w)))
+        let w : IsReachedAt (V.belongings t) b.roots o.at = (began.survivors o (object_among_own o i)).1 (subst (λ ns. In ns (object_name o)) (sym survivors_same) j) in
+        in_from_contains (olds ss) o.at ((S.exactly o.at).1 (reached_to h.chunks B.form.shaped.apart H s b.roots refl refl o.at (subst (λ (z : Belongings). IsReachedAt z b.roots o.at) own_belongings w)))
 
     pub old : Old h ss l.machine a
     old = record {
       form = B.form;
       names = names;
-      named = λ o q i j e. belongings.named o q (there o i) (there q j) e;
+      named = λ o q i j e. belongings.named o q (object_among_own o i) (object_among_own q j) e;
       words = read_words;
       laid = laid;
       lives = lives;
@@ -167,7 +146,7 @@ module _ (p : ProgramText) (st : SettingsValue) (t : ℕ) (h : LeafHeapValue) (v
     named_now o q i j e =
         let x = came o i in
         let z = came q j in
-        let same : x.0 ≡ z.0 = belongings.named x.0 z.0 (there x.0 x.1) (there z.0 z.1) (ap object_name (sym x.3) ∙ (e ∙ ap object_name z.3)) in
+        let same : x.0 ≡ z.0 = belongings.named x.0 z.0 (object_among_own x.0 x.1) (object_among_own z.0 z.1) (ap object_name (sym x.3) ∙ (e ∙ ap object_name z.3)) in
         x.3 ∙ (ap (copied_object to) same ∙ sym z.3)
 
     owned_each : (k : ChunkValue) → In (L ++ (K ++ R)) k → v.owner k.number ≡ Some t

@@ -17,3 +17,4 @@ mod ChunksGivenBack
 pub mod CopyHanded
 pub mod CopyBegins
 pub mod below
+mod Common

@@ -1,17 +1,5 @@
 -- The names that a collection lays, chunk by chunk, are laid as the account lays them.
-use Rattle.std.proofs.Common.{◌≡◌, ◌+◌, ◌-◌, ◌<◌, ◌≤◌, ◌==◌, arith, Bool, true, false, cond, Option, Some, List, [], ◌∷◌, ◌++◌, length, map, nat_le, nat_lt, inl, inr, refl, ap, sym, subst, ◌∙◌, eq-eqb, ne_eqb}
-use Rattle.std.proofs.lemmas.Bool.{cond-false, cond-true, le-leb, lt-leb, ltb-true}
-use Rattle.std.proofs.lemmas.List.Sums.{sum_by-append, sum_by-cons}
-use Rattle.leaf_collections.specs.below.hh_model.{Name, State}
-use Rattle.leaf_collections.specs.below.run_ledger.{chunk_words, lay, laid_onto, room_behind, words_at, words_sum}
-use Rattle.leaf_collections.specs.below.object_layout.{Addr, Birth, Born, Cell, size_of, ChunkValue, words_in, cell_of}
-use Rattle.leaf_collections.proofs.below.object_layout.{words_in-push}
-use Rattle.leaf_collections.specs.below.alloc_path.{room_at}
-use Rattle.leaf_collections.specs.below.leaf_copy_gc.{Survivor, olds, AreNew, HasRoom, HaveRoom, Laying, laid_all, laid_one, open_next, opened, placed, room_in, led_cell, led_chunk, last_place}
-use Rattle.leaf_collections.proofs.below.leaf_copy_gc.{some_room, used_led}
-use Rattle.leaf_collections.specs.below.core_relation.{In}
-use Rattle.leaf_collections.specs.below.task_machine.{large_names, named_by, names_in, small_lists, name_of}
-use Rattle.leaf_collections.proofs.below.task_machine.{names-push}
+use Rattle.copied_part_laws.proofs.Common.{◌≡◌, ◌+◌, ◌-◌, ◌<◌, ◌≤◌, ◌==◌, arith, Bool, true, false, cond, Option, Some, List, [], ◌∷◌, ◌++◌, length, map, nat_le, nat_lt, inl, inr, refl, ap, sym, subst, ◌∙◌, eq-eqb, ne_eqb, cond-false, cond-true, le-leb, lt-leb, ltb-true, sum_by-append, sum_by-cons, Name, MachineState, chunk_words, lay, laid_onto, room_behind, words_at, words_sum, Addr, Birth, Born, Cell, size_of, ChunkValue, words_in, cell_of, words_in-push, room_at, Survivor, olds, AreNew, ObjectFits, HaveRoom, Laying, laid_all, laid_one, open_next, opened, placed, room_in, led_cell, led_chunk, last_place, some_room, used_led, In, large_names, named_by, names_in, small_lists, name_of, names-push}
 use Rattle.copied_part_laws.proofs.ObjectsPlaced.{opened_new}
 
 abbrev pub lists_of : List ChunkValue → List (List Name)
@@ -20,8 +8,8 @@ lists_of ks = map (λ (k : ChunkValue). names_in k.cells) ks
 abbrev pub birth_name : Survivor → Name
 birth_name s = name_of s.birth
 
-module _ (m : State) where
-  -- small chunks, the words of whose names are their words
+module _ (m : MachineState) where
+  -- small chunks whose words are those of their names
   abbrev pub Told : List ChunkValue → Type 0
   Told [] = Unit {0}
   Told (k ∷ ks) = ((k.size ≡ 1024) × (words_sum m (names_in k.cells) ≡ words_in k.cells)) × Told ks
@@ -74,7 +62,7 @@ module _ (m : State) where
     lay_by y true e t n le = lay_open y.laid y.spare t n (ltb-true (room_in y.laid) (size_of c) e) le
     lay_by y false e t n le = (lay_here y.laid t (some_room y.laid c le) le, t)
 
-    lay_one : (y : Laying) → Told y.laid → AreNew y.spare → HasRoom y (size_of c) → (lists_of (laid_one y c).laid ≡ lay m (lists_of y.laid) (name_of b)) × Told (laid_one y c).laid
+    lay_one : (y : Laying) → Told y.laid → AreNew y.spare → ObjectFits y (size_of c) → (lists_of (laid_one y c).laid ≡ lay m (lists_of y.laid) (name_of b)) × Told (laid_one y c).laid
     lay_one y t n room =
         let r = lay_by y (nat_lt (room_in y.laid) (size_of c)) refl t n room.0 in
         (r.0, told_placed (opened y (size_of c)).laid r.1)
@@ -90,7 +78,7 @@ module _ (m : State) where
       let rest = lay_all h zs (laid_one y (cell_of h s.old)) one.1 (opened_new y (nat_lt (room_in y.laid) (size_of (cell_of h s.old))) n) room.1 (λ x i. f x (inr i)) in
       (rest.0 ∙ ap (λ lists. laid_onto m lists (map birth_name zs)) one.0, rest.1)
 
-  -- what is left of the last chunk
+  -- the words left in the last chunk
   pub room_told : (ks : List ChunkValue) → Told ks → room_behind m (lists_of ks) ≡ room_in ks
   room_told [] t = refl
   room_told (k ∷ []) t = let size : k.size ≡ 1024 = t.0.0 in let sum : words_sum m (names_in k.cells) ≡ words_in k.cells = t.0.1 in omega (arith, size, sum)
@@ -104,7 +92,7 @@ module _ (m : State) where
   told_large [] t = refl
   told_large (k ∷ ks) t = cond-true (k.size == 1024) (large_names ks) (names_in k.cells ++ large_names ks) (eq-eqb k.size 1024 t.0.0) ∙ told_large ks t.1
 
--- ---- REFERENCES LED
+-- ---- REFERENCES UPDATED
 
 module _ (f : Option Addr → Option Addr) where
   pub names_led : (cs : List Cell) → names_in (map (led_cell f) cs) ≡ names_in cs
@@ -115,7 +103,7 @@ module _ (f : Option Addr → Option Addr) where
   lists_led [] = refl
   lists_led (k ∷ ks) = ap (λ zs. names_in (map (led_cell f) k.cells) ∷ zs) (lists_led ks) ∙ ap (λ ns. ns ∷ lists_of ks) (names_led k.cells)
 
-  pub told_led : (m : State) (ks : List ChunkValue) → Told m ks → Told m (map (led_chunk f) ks)
+  pub told_led : (m : MachineState) (ks : List ChunkValue) → Told m ks → Told m (map (led_chunk f) ks)
   told_led m [] t = tt
   told_led m (k ∷ ks) t = ((t.0.0, ap (words_sum m) (names_led k.cells) ∙ (t.0.1 ∙ sym (used_led f k.cells))), told_led m ks t.1)
 
@@ -123,11 +111,11 @@ module _ (f : Option Addr → Option Addr) where
 
 pub small_both : (ks js : List ChunkValue) → small_lists (ks ++ js) ≡ small_lists ks ++ small_lists js
 small_both [] js = refl
-small_both (k ∷ ks) js = by (k.size == 1024) (small_both ks js)
+small_both (k ∷ ks) js = small_both_by_cases (k.size == 1024) (small_both ks js)
   where
-    by : (b : Bool) → small_lists (ks ++ js) ≡ small_lists ks ++ small_lists js → cond b (names_in k.cells ∷ small_lists (ks ++ js)) (small_lists (ks ++ js)) ≡ cond b (names_in k.cells ∷ small_lists ks) (small_lists ks) ++ small_lists js
-    by true e = ap (λ zs. names_in k.cells ∷ zs) e
-    by false e = e
+    small_both_by_cases : (b : Bool) → small_lists (ks ++ js) ≡ small_lists ks ++ small_lists js → cond b (names_in k.cells ∷ small_lists (ks ++ js)) (small_lists (ks ++ js)) ≡ cond b (names_in k.cells ∷ small_lists ks) (small_lists ks) ++ small_lists js
+    small_both_by_cases true e = ap (λ zs. names_in k.cells ∷ zs) e
+    small_both_by_cases false e = e
 
 pub none_small : (ks : List ChunkValue) → ((k : ChunkValue) → In ks k → k.size ≡ 1024 → ⊥) → small_lists ks ≡ []
 none_small [] f = refl

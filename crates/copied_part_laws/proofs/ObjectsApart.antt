@@ -1,18 +1,9 @@
--- Where the objects of chunks lie: each within its own chunk, and none over another.
-use Rattle.std.proofs.Common.{◌≡◌, ◌⊎◌, ℕ, ◌+◌, ◌*◌, ◌/◌, ◌≤◌, arith, true, List, [], ◌∷◌, map, inl, inr, refl, ap, sym, subst, ◌∙◌}
-use Rattle.std.proofs.lemmas.Bool.{cases_eq}
-use Rattle.leaf_collections.proofs.below.listed.{map_in}
-use Rattle.leaf_collections.specs.below.object_layout.{Addr, Born, Cell, Hole, Mark, Moved, size_of, ChunkValue, words_in, Located, located_by, objects_from}
-use Rattle.leaf_collections.specs.below.alloc_path.{AreApart}
-use Rattle.leaf_collections.specs.below.core_relation.{Chunk, In, objects_in, AreApart as ObjectsApart, AreLaidOut, HoldsLarge, reserved_chunks, reserved_units, words}
-use Rattle.leaf_collections.proofs.below.core_relation.{in_chunk}
-use Rattle.leaf_collections.specs.below.shared_value.{chunk_of, chunks_of}
-use Rattle.leaf_collections.proofs.below.shared_value.{apart_here, distinct_from, same_chunk}
-use Rattle.leaf_collections.proofs.MoreChunksLaid.{small_units}
+-- The positions of objects in chunks: each within its own chunk, and no two overlapping.
+use Rattle.copied_part_laws.proofs.Common.{◌≡◌, ◌⊎◌, ℕ, ◌+◌, ◌*◌, ◌/◌, ◌≤◌, arith, true, List, [], ◌∷◌, map, inl, inr, refl, ap, sym, subst, ◌∙◌, cases_eq, map_in, Addr, Born, Cell, Hole, Mark, Moved, size_of, ChunkValue, words_in, Located, located_by, objects_from, HaveDistinctNumbers, Chunk, In, objects_in, DontOverlap as ObjectsApart, AreLaidOut, HoldsLarge, reserved_chunks, reserved_units, words, in_chunk, chunk_of, chunks_of, apart_here, distinct_from, same_chunk, small_units}
 
 -- ---- IN ONE CHUNK
 
--- the object lies in the chunk of this number, between two offsets
+-- the object is in the chunk of this number, between two offsets
 pub record Span (number base stop : ℕ) (o : Located) : Type 0 where
   pub chunk : o.at.chunk ≡ number
   pub from : base ≤ o.at.offset
@@ -62,7 +53,7 @@ held_by ks o i =
     let k = map_in chunk_of ks c.0 c.1 in
     record { chunk = k.0; there = k.1; object = subst (λ (z : Chunk). In z.objects o) (sym k.2) c.2 }
 
-pub once : (ks : List ChunkValue) → AreApart ks → (o q : Located) → In (objects_in (chunks_of ks)) o → In (objects_in (chunks_of ks)) q → o.at ≡ q.at → o ≡ q
+pub once : (ks : List ChunkValue) → HaveDistinctNumbers ks → (o q : Located) → In (objects_in (chunks_of ks)) o → In (objects_in (chunks_of ks)) q → o.at ≡ q.at → o ≡ q
 once ks A o q i j e =
     let h = held_by ks o i in
     let g = held_by ks q j in
@@ -76,7 +67,7 @@ once ks A o q i j e =
       | inr (inr (inr le)) ↦ let f : o.at.offset ≡ q.at.offset = ap (λ (a : Addr). a.offset) e in absurd (omega (arith, f, le))
     ]
 
-apart : (ks : List ChunkValue) → AreApart ks → (o q : Located) → In (objects_in (chunks_of ks)) o → In (objects_in (chunks_of ks)) q → (o ≡ q) ⊎ ObjectsApart o q
+apart : (ks : List ChunkValue) → HaveDistinctNumbers ks → (o q : Located) → In (objects_in (chunks_of ks)) o → In (objects_in (chunks_of ks)) q → (o ≡ q) ⊎ ObjectsApart o q
 apart ks A o q i j = elim (cases_eq o.at.chunk q.at.chunk) [
   | inr ne ↦ inr (inl ne)
   | inl e ↦
@@ -88,8 +79,8 @@ apart ks A o q i j = elim (cases_eq o.at.chunk q.at.chunk) [
       apart_here h.chunk.cells h.chunk.number 0 o q h.object (subst (λ (z : ChunkValue). In (objects_from z.number 0 z.cells) q) same g.object)
 ]
 
--- how chunks are laid out, by what is known of each
-pub laid_out : (ks : List ChunkValue) (spare : ℕ) → AreApart ks → ((k : ChunkValue) → In ks k → words_in k.cells ≤ k.size) → ((k : ChunkValue) → In ks k → k.size ≡ 1024 * (k.size / 1024))
+-- the layout of chunks, by what is known of each
+pub laid_out : (ks : List ChunkValue) (spare : ℕ) → HaveDistinctNumbers ks → ((k : ChunkValue) → In ks k → words_in k.cells ≤ k.size) → ((k : ChunkValue) → In ks k → k.size ≡ 1024 * (k.size / 1024))
     → ((k : ChunkValue) → In ks k → (chunk_of k).large ≡ true → HoldsLarge (chunk_of k)) → map (λ (c : Chunk). c.units) (reserved_chunks (chunks_of ks)) ≡ reserved_units spare → AreLaidOut (chunks_of ks) spare
 laid_out ks spare A W whole large R = record {
   numbers = distinct_from ks A;

@@ -1,36 +1,18 @@
--- Where the objects of a heap went in its collection: each survivor is read at its new address, and nothing else is
--- there.
-use Rattle.std.proofs.Common.{◌≡◌, ℕ, ◌<◌, ◌≤◌, not, arith, true, Option, Some, None, List, [], ◌∷◌, ◌++◌, map, filter, inl, inr, refl, ap, sym, subst, ◌∙◌}
-use Rattle.std.specs.Option.{option_map}
-use Rattle.std.specs.Prelude.{nat_le, reverse, unwrap_or}
-use Rattle.std.specs.List.{list_any}
-use Rattle.std.proofs.lemmas.Bool.{and_parts, cases_Bool, cases_lt, false≢true, le-leb, leb-true}
-use Rattle.leaf_collections.proofs.below.listed.{contains_from_in, in_append_cases, in_append_left, in_from_any, in_from_kept, in_map, map_in, read_in}
-use Rattle.leaf_collections.specs.below.object_layout.{Addr, Birth, Born, Cell, size_of, ChunkValue, cell_at, cell_of, Located, led_object, located, located_by, objects_from}
-use Rattle.leaf_collections.proofs.below.object_layout.{once_from, same_is, led_are_read, chunk_there}
-use Rattle.leaf_collections.specs.below.alloc_path.{AreApart, LeafHeapValue, IsReserved, IsSettled, IsTidy}
-use Rattle.leaf_collections.specs.below.remembered_set.{same_address}
-use Rattle.leaf_collections.specs.below.leaf_copy_gc.{Survivor, olds, old_of, Laying, before, is_small, smalls, led_cell, led_chunk, new_address, reserved_of, unreserved, AreSurvivors, keeps, large_of, laid_of, laying_of, moves_of, redirection, CanTake}
+-- The objects of a heap after its collection: each survivor is read at its new address, and nothing else is there.
+use Rattle.copied_part_laws.proofs.Common.{◌≡◌, ℕ, ◌<◌, ◌≤◌, not, arith, true, Option, Some, None, List, [], ◌∷◌, ◌++◌, map, filter, inl, inr, refl, ap, sym, subst, ◌∙◌, option_map, nat_le, reverse, unwrap_or, list_any, and_parts, cases_Bool, cases_lt, false≢true, le-leb, leb-true, contains_from_in, in_append_cases, in_append_left, in_from_any, in_from_kept, in_map, map_in, read_in, Addr, Birth, Born, Cell, size_of, ChunkValue, cell_at, cell_of, Located, led_object, located, located_by, objects_from, once_from, same_is, led_are_read, chunk_there, HaveDistinctNumbers, LeafHeapValue, IsReserved, IsSettled, IsTidy, same_address, Survivor, olds, old_of, Laying, before, is_small, smalls, led_cell, led_chunk, new_address, reserved_of, unreserved, AreSurvivors, keeps, large_of, laid_of, laying_of, moves_of, redirection, CanTake, within_at, first_in, firsts, in_first, first_of, none_at, in_unreserved, numbers, once_moves, some_by, In, copied_object, objects_in, in_objects, chunk_of, chunks_of, object_seen, seen_object}
 use Rattle.address_laws.proofs.Extent as extent
-use Rattle.leaf_collections.proofs.below.leaf_copy_gc.Moves as moves
-use Rattle.leaf_collections.proofs.below.leaf_copy_gc.Naming as naming
+use Rattle.leaf_collections.proofs.below.copying_gc.Moves as moves
+use Rattle.leaf_collections.proofs.below.copying_gc.Naming as naming
 use Rattle.address_laws.proofs.Numbers as nums
-use Rattle.leaf_collections.proofs.below.leaf_copy_gc.NewNumbers as new_numbers
-use Rattle.leaf_collections.proofs.below.leaf_copy_gc.{within_at, first_in, firsts, in_first, first_of, none_at, in_unreserved}
-use Rattle.address_laws.proofs.Numbers.{numbers}
+use Rattle.leaf_collections.proofs.below.copying_gc.NewNumbers as new_numbers
 use Rattle.collected_heap_laws.proofs.Reading as reading
-use Rattle.collected_heap_laws.proofs.Telling.{once_moves, some_by}
-use Rattle.leaf_collections.proofs.below.leaf_copy_gc.Rebuilt as rebuilt
-use Rattle.leaf_collections.specs.below.core_relation.{In, copied_object, objects_in}
-use Rattle.leaf_collections.proofs.below.core_relation.{in_objects}
-use Rattle.leaf_collections.specs.below.shared_value.{chunk_of, chunks_of}
-use Rattle.leaf_collections.proofs.below.shared_value.{object_seen, seen_object}
+use Rattle.leaf_collections.proofs.below.copying_gc.Rebuilt as rebuilt
 use Rattle.copied_part_laws.proofs.ObjectsApart.{Holds, held_by}
 use Rattle.copied_part_laws.proofs.ObjectsPlaced.{laid_objects, seen_only}
 
 -- ---- WHERE ADDRESSES LEAD
 
--- the reserved chunk is of the heap, and empty
+-- the reserved chunk is in the heap, and empty
 pub of_reserved : (ks : List ChunkValue) (r : Option ℕ) → IsReserved ks r → (k : ChunkValue) → In (reserved_of ks r) k → In ks k × (1024 < k.size) × (k.cells ≡ [])
 of_reserved ks None w k i = absurd i
 of_reserved ks (Some j) w k (inl e) = (subst (In ks) e (chunk_there ks j w.0), subst (λ (z : ChunkValue). 1024 < z.size) e w.1.0, subst (λ (z : ChunkValue). z.cells ≡ []) e w.1.1)
@@ -50,7 +32,7 @@ module _ (h : LeafHeapValue) (from : List (Option Addr)) (ss : List Survivor) (n
   abbrev pub y : Laying
   y = laying_of h.chunks ss (reverse news)
 
-  -- where an address leads now
+  -- the new address of an address
   abbrev pub to : Addr → Addr
   to a = new_address (moves_of h.chunks ss (reverse news)) a
 
@@ -71,10 +53,10 @@ module _ (h : LeafHeapValue) (from : List (Option Addr)) (ss : List Survivor) (n
   pub laid_new : (n : ℕ) → In (numbers (laid_of h ss (reverse news))) n → In (numbers news) n
   laid_new n i = nums.in_reverse news n (subst (λ ns. In ns n) (reading.laid_parts h from ss news S T settled reserved) (in_append_left (numbers y.laid) (numbers y.spare) n (subst (λ ns. In ns n) (reading.laid_numbers h from ss news S T settled reserved) i)))
 
-  pub apart_now : AreApart ks'
+  pub apart_now : HaveDistinctNumbers ks'
   apart_now = nums.distinct_apart ks' (naming.goal_once h.chunks ss g h.reserved (laid_of h ss (reverse news)) settled.tidy (reading.once_h h from ss news S T settled reserved) (once_from (olds ss) S.once) S.names (reading.laid_apart h from ss news S T settled reserved) (reading.laid_once h from ss news S T settled reserved) (within_at h.chunks h.reserved reserved) (none_at h.chunks h.reserved reserved))
 
-  -- ---- where survivors lead
+  -- ---- the new addresses of survivors
 
   pub in_xs : (a : Addr) → In xs a → In (olds ss) a × (is_small h.chunks a ≡ true)
   in_xs a i = moves.in_smalls h.chunks (olds ss) a i
@@ -98,7 +80,7 @@ module _ (h : LeafHeapValue) (from : List (Option Addr)) (ss : List Survivor) (n
       let born : (cell_of h.chunks s.0.old).mark ≡ Born s.0.birth = read_in (λ (x : Survivor). (cell_of h.chunks x.old).mark ≡ Born x.birth) ss s.0 s.1 S.names in
       (located s.0.old.chunk s.0.old.offset s.0.birth (cell_of h.chunks s.0.old), object_seen h.chunks s.0.old s.0.birth born, s.2)
 
-  -- ---- what was there is there now
+  -- ---- what was there is still there
 
   there_now : (o : Located) (a : Addr) (b : Birth) → o ≡ located o.at.chunk o.at.offset b (cell_of h.chunks o.at) → (cell_of h.chunks o.at).mark ≡ Born b → to o.at ≡ a
       → cell_of ks' a ≡ led_cell g (cell_of h.chunks o.at) → In (objects_in (chunks_of ks')) (copied_object to o)
@@ -133,7 +115,7 @@ module _ (h : LeafHeapValue) (from : List (Option Addr)) (ss : List Survivor) (n
     pub survives : In (olds ss) object.at
     pub is : o' ≡ copied_object to object
 
-  -- an object of a chunk whose references were led
+  -- an object of a chunk whose references were updated
   led_back : (k : ChunkValue) (o' : Located) → In (objects_from k.number 0 (map (led_cell g) k.cells)) o' → (q : Located) × In (objects_from k.number 0 k.cells) q × (led_object (option_map to) q ≡ o')
   led_back k o' i =
       let j : In (objects_from k.number 0 (map (led_cell (option_map to)) k.cells)) o' = subst (λ (w : Option Addr → Option Addr). In (objects_from k.number 0 (map (led_cell w) k.cells)) o') g_is i in
@@ -158,7 +140,7 @@ module _ (h : LeafHeapValue) (from : List (Option Addr)) (ss : List Survivor) (n
             }
       ]
 
-  -- a chunk that is kept holds its large survivor alone
+  -- a chunk that is kept holds only its large survivor
   pub record Alone (k : ChunkValue) : Type 0 where
     pub there : In h.chunks k
     pub one : k.cells ≡ cell_at k.cells 0 ∷ []
@@ -215,10 +197,10 @@ module _ (h : LeafHeapValue) (from : List (Option Addr)) (ss : List Survivor) (n
       }
 
   pub came : (o' : Located) → In (objects_in (chunks_of ks')) o' → Came o'
-  came o' i = by (held_by ks' o' i)
+  came o' i = came_by_cases (held_by ks' o' i)
     where
-      by : Holds ks' o' → Came o'
-      by H = elim (in_append_cases (laid_of h ss (reverse news)) (large_of h ss (reverse news) ++ reserved_of h.chunks h.reserved) H.chunk H.there) [
+      came_by_cases : Holds ks' o' → Came o'
+      came_by_cases H = elim (in_append_cases (laid_of h ss (reverse news)) (large_of h ss (reverse news) ++ reserved_of h.chunks h.reserved) H.chunk H.there) [
         | inl l ↦
             let k = map_in (led_chunk g) y.laid H.chunk l in
             from_laid k.0 o' k.1 (subst (λ (z : ChunkValue). In (objects_from z.number 0 z.cells) o') (sym k.2) H.object)

@@ -1,12 +1,5 @@
 -- Objects that are laid into new chunks, as they are read there.
-use Rattle.std.proofs.Common.{◌≡◌, ◌⊎◌, ℕ, ◌+◌, arith, Bool, true, false, cond, List, [], ◌∷◌, ◌++◌, inl, inr, refl, subst}
-use Rattle.std.specs.Prelude.{nat_lt}
-use Rattle.leaf_collections.proofs.below.listed.{in_append_cases, in_append_left, in_append_right}
-use Rattle.leaf_collections.specs.below.object_layout.{Addr, Birth, Born, Cell, Hole, Mark, Moved, size_of, ChunkValue, words_in, cell_of, Located, located, located_by, objects_from}
-use Rattle.leaf_collections.proofs.below.object_layout.{objects_appended}
-use Rattle.leaf_collections.specs.below.leaf_copy_gc.{AreNew, Laying, laid_all, laid_at, laid_one, next_place, open_next, opened, placed, relocations, room_in}
-use Rattle.leaf_collections.specs.below.core_relation.{In, objects_in}
-use Rattle.leaf_collections.specs.below.shared_value.{chunks_of}
+use Rattle.copied_part_laws.proofs.Common.{◌≡◌, ◌⊎◌, ℕ, ◌+◌, arith, Bool, true, false, cond, List, [], ◌∷◌, ◌++◌, inl, inr, refl, subst, nat_lt, in_append_cases, in_append_left, in_append_right, Addr, Birth, Born, Cell, Hole, Mark, Moved, size_of, ChunkValue, words_in, cell_of, Located, located, located_by, objects_from, objects_appended, AreNew, Laying, laid_all, laid_at, laid_one, next_place, open_next, opened, placed, relocations, room_in, In, objects_in, chunks_of}
 
 -- ---- OBJECTS LAID INTO NEW CHUNKS
 
@@ -16,7 +9,7 @@ seen_only number at c (Born b) q (inr i) = absurd i
 seen_only number at c (Moved to) q i = absurd i
 seen_only number at c Hole q i = absurd i
 
--- an object placed is behind those of the last chunk
+-- an object placed comes after those of the last chunk
 placed_objects : (ks : List ChunkValue) (c : Cell) (q : Located) → In (objects_in (chunks_of (placed ks c))) q → In (objects_in (chunks_of ks)) q ⊎ In (located_by (next_place ks).chunk (next_place ks).offset c c.mark []) q
 placed_objects [] c q i = inl i
 placed_objects (k ∷ []) c q i = elim (in_append_cases (objects_from k.number 0 (k.cells ++ c ∷ [])) [] q i) [

@@ -1,19 +1,11 @@
--- Survivors in order of birth: there is one list of the same names in that order.
-use Rattle.std.proofs.Common.{◌≡◌, ℕ, suc, ◌+◌, ◌<◌, ◌≤◌, arith, Bool, true, false, cond, List, [], ◌∷◌, length, get_or, map, filter, is_lt, inl, inr, refl, ap₂, sym, subst, ◌∙◌, eq-eqb}
-use Rattle.std.proofs.lemmas.Bool.{cases_lt, false≢true, le-ltb, lt-ltb}
-use Rattle.leaf_collections.proofs.below.listed.{contains_from_in, in_from_contains, in_from_kept, in_kept, in_map, map_in}
-use Rattle.leaf_collections.specs.below.hh_model.{Name, State}
-use Rattle.leaf_collections.specs.below.run_ledger.{Heap, by_birth, insert_name, name_le, small_in, small_survivors, AreByBirth, holds_name}
-use Rattle.leaf_collections.proofs.below.run_ledger.{Born, born_from, born_is, born_on, collections_keep_just, born_both, birth_cases, in_birth, insert_cases}
-use Rattle.leaf_collections.proofs.below.object_layout.{Once}
-use Rattle.leaf_collections.specs.below.leaf_copy_gc.{Survivor, olds, old_of, survivor_order}
-use Rattle.leaf_collections.specs.below.core_relation.{In}
-use Rattle.leaf_collections.proofs.below.core_entry_laws.{NamedOnce}
+-- Survivors in order of birth: for given names there is one list in that order.
+use Rattle.copied_part_laws.proofs.Common.{◌≡◌, ℕ, suc, ◌+◌, ◌<◌, ◌≤◌, arith, Bool, true, false, cond, List, [], ◌∷◌, length, get_or, map, filter, is_lt, inl, inr, refl, ap₂, sym, subst, ◌∙◌, eq-eqb, cases_lt, false≢true, le-ltb, lt-ltb, contains_from_in, in_from_contains, in_from_kept, in_kept, in_map, map_in, Name, MachineState, Heap, by_birth, insert_name, name_le, small_in, small_survivors, AreByBirth, holds_name, born_from, born_is, born_on, collections_keep_just, born_both, birth_cases, in_birth, insert_cases, Once, Survivor, olds, old_of, survivor_order, In, NamedOnce}
+use Rattle.leaf_collections.proofs.below.run_ledger.{Born}
 use Rattle.copied_part_laws.proofs.NamesLaid.{birth_name}
 
 -- ---- BIRTHS
 
--- two lists in this order with the same names are one
+-- two lists in this order with the same names are equal
 pub one_order : (xs ys : List Name) → AreByBirth xs → AreByBirth ys → NamedOnce xs → NamedOnce ys → ((n : Name) → In xs n → In ys n) → ((n : Name) → In ys n → In xs n) → xs ≡ ys
 one_order [] [] a b o p f g = refl
 one_order [] (y ∷ ys) a b o p f g = absurd (g y (inl refl))
@@ -72,11 +64,11 @@ rising (s ∷ (t ∷ ss)) h =
 
 some_rising : (p : Survivor → Bool) (ss : List Survivor) → Rising ss → Rising (filter p ss)
 some_rising p [] r = tt
-some_rising p (s ∷ ss) r = by (p s) (some_rising p ss r.1)
+some_rising p (s ∷ ss) r = some_rising_by_cases (p s) (some_rising p ss r.1)
   where
-    by : (b : Bool) → Rising (filter p ss) → Rising (cond b (s ∷ filter p ss) (filter p ss))
-    by true go = ((λ t i. r.0 t (in_from_kept p ss t i).0), go)
-    by false go = go
+    some_rising_by_cases : (b : Bool) → Rising (filter p ss) → Rising (cond b (s ∷ filter p ss) (filter p ss))
+    some_rising_by_cases true go = ((λ t i. r.0 t (in_from_kept p ss t i).0), go)
+    some_rising_by_cases false go = go
 
 names_rising : (ss : List Survivor) → Rising ss → AreByBirth (map birth_name ss)
 names_rising [] r = tt
@@ -89,7 +81,7 @@ names_rising (s ∷ ss) r = (
 pub sorted_names : (p : Survivor → Bool) (ss : List Survivor) → AreSorted ss → AreByBirth (map birth_name (filter p ss))
 sorted_names p ss h = names_rising (filter p ss) (some_rising p ss (rising ss h))
 
--- none bears a name that another bears
+-- names are distinct
 pub single_names : (zs : List Survivor) → Once (olds zs) → ((s t : Survivor) → In zs s → In zs t → birth_name s ≡ birth_name t → s.old ≡ t.old) → NamedOnce (map birth_name zs)
 single_names [] o f = tt
 single_names (s ∷ zs) o f = (
@@ -101,11 +93,11 @@ single_names (s ∷ zs) o f = (
 
 single_insert : (n : Name) (ms : List Name) → (In ms n → ⊥) → NamedOnce ms → NamedOnce (insert_name n ms)
 single_insert n [] f s = ((λ i. i), tt)
-single_insert n (m ∷ ms) f s = by (name_le n m) (single_insert n ms (λ i. f (inr i)) s.1)
+single_insert n (m ∷ ms) f s = single_insert_by_cases (name_le n m) (single_insert n ms (λ i. f (inr i)) s.1)
   where
-    by : (b : Bool) → NamedOnce (insert_name n ms) → NamedOnce (cond b (n ∷ m ∷ ms) (m ∷ insert_name n ms))
-    by true go = (f, s)
-    by false go = ((λ i. elim (insert_cases n ms m i) [ inl e ↦ f (inl (sym e)) | inr j ↦ s.0 j ]), go)
+    single_insert_by_cases : (b : Bool) → NamedOnce (insert_name n ms) → NamedOnce (cond b (n ∷ m ∷ ms) (m ∷ insert_name n ms))
+    single_insert_by_cases true go = (f, s)
+    single_insert_by_cases false go = ((λ i. elim (insert_cases n ms m i) [ inl e ↦ f (inl (sym e)) | inr j ↦ s.0 j ]), go)
 
 single_birth : (ns : List Name) → NamedOnce ns → NamedOnce (by_birth ns)
 single_birth [] s = tt
@@ -113,14 +105,14 @@ single_birth (n ∷ ns) s = single_insert n (by_birth ns) (λ i. s.0 (birth_case
 
 single_some : (p : Name → Bool) (ns : List Name) → NamedOnce ns → NamedOnce (filter p ns)
 single_some p [] s = tt
-single_some p (n ∷ ns) s = by (p n) (single_some p ns s.1)
+single_some p (n ∷ ns) s = single_some_by_cases (p n) (single_some p ns s.1)
   where
-    by : (b : Bool) → NamedOnce (filter p ns) → NamedOnce (cond b (n ∷ filter p ns) (filter p ns))
-    by true go = ((λ i. s.0 (in_from_kept p ns n i).0), go)
-    by false go = go
+    single_some_by_cases : (b : Bool) → NamedOnce (filter p ns) → NamedOnce (cond b (n ∷ filter p ns) (filter p ns))
+    single_some_by_cases true go = ((λ i. s.0 (in_from_kept p ns n i).0), go)
+    single_some_by_cases false go = go
 
 -- the small survivors of an account are these
-pub small_survivors_are : (m : State) (a : Heap) (xs : List Name) → AreByBirth xs → NamedOnce xs → NamedOnce (small_in a) → ((n : Name) → In xs n → In (small_in a) n × (holds_name a.survivors n ≡ true))
+pub small_survivors_are : (m : MachineState) (a : Heap) (xs : List Name) → AreByBirth xs → NamedOnce xs → NamedOnce (small_in a) → ((n : Name) → In xs n → In (small_in a) n × (holds_name a.survivors n ≡ true))
     → ((n : Name) → In (small_in a) n → holds_name a.survivors n ≡ true → In xs n) → xs ≡ small_survivors a
 small_survivors_are m a xs order single once f g =
     let law = collections_keep_just m a in

@@ -1,13 +1,13 @@
--- What crates above name of the crates below.
-pub mod alloc_path
+-- Re-exports from lower crates for the crates above.
+pub mod leaf_heap
 pub mod chunk_pool
 pub mod heap_marking
 pub mod heap_tree
 pub mod hh_lang
-pub mod inner_mark_gc
+pub mod mark_sweep_gc
 pub mod leaf_collections
-pub mod listed
-pub mod out_of_line
+pub mod plain_vec
+pub mod boxed
 pub mod run_trace
-pub mod shared_value
+pub mod core_invariant
 pub mod write_barrier

@@ -1,11 +1,11 @@
 -- A part that was copied fits the shared value for the end of its collection.
 use Rattle.std.specs.Prelude.{◌≡◌, ℕ, Some, List, map}
 use Rattle.leaf_collections.specs.below.object_layout.{ChunkValue, number_of, Addr}
-use Rattle.leaf_collections.specs.below.alloc_path.{LeafHeapValue}
+use Rattle.leaf_collections.specs.below.leaf_heap.{LeafHeapValue}
 use Rattle.leaf_collections.specs.below.task_frames.{FramesValue}
-use Rattle.leaf_collections.specs.below.leaf_copy_gc.{Moved, ToChunks, CanTake, IsCollected}
+use Rattle.leaf_collections.specs.below.copying_gc.{Moved, ToChunks, CanTake, IsCollected}
 use Rattle.leaf_collections.specs.below.task_machine.{Begun, Private}
-use Rattle.leaf_collections.specs.below.shared_value.{Fits, HasBegun, IsSharedValue, SharedValue}
+use Rattle.leaf_collections.specs.below.core_invariant.{Fits, HasBegun, IsSharedValue, SharedValue}
 use Rattle.leaf_collections.specs.LeafEnd.{FitsCopied}
 
 -- a part that fits with its begun collection, before the run's end, and the chunks that this took

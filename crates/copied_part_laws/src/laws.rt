@@ -1,4 +1,4 @@
-// The laws of copied parts, each the clause of a function that does nothing.
+// The laws of copied parts, each the contract of a function that does nothing.
 
 ghost use Rattle.copied_part_laws.specs.Handed.{CopiedFits};
 

@@ -1,4 +1,4 @@
-// That what a leaf collection makes of a part is a copy of it, as the relation of the core has it.
+// The result of a leaf collection on a part is a copy of it, in the sense of the relation of the core.
 #![tactic(auto)]
 
 mod laws;

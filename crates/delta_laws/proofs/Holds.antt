@@ -1,72 +1,6 @@
 -- What the entries of a legal journal tell of heaps gives what these hold.
-use Rattle.std.proofs.Common.{◌≡◌, ◌<◌, ◌≤◌, ℕ, pos, zero, suc, ◌+◌, ◌-◌, ◌==◌, ◌⊎◌, Bool, true, false, cond, Option, Some, None, List, [], ◌∷◌, ◌++◌, length, map, slice_get, slice_set, replicate, take, nat_lt, inl, inr, refl, ap, ap₂, sym, subst, ◌∙◌, is_some, is_none, arith, eq-eqb, ne_eqb, append_assoc}
-use Rattle.std.specs.Prelude.{option_map, unwrap_or}
-use Rattle.std.proofs.lemmas.Bool.{cond-true, cond-false, false≢true, both_ways, and_parts, le-leb, leb-false}
-use Rattle.std.proofs.lemmas.Option.{slice_get-map, same_Some}
-use Rattle.std.proofs.lemmas.List.{length-set, length-take, length-replicate}
-use Rattle.listed.proofs.Members.{got_same, got_within}
-use Rattle.listed.proofs.Places.{got_some}
-use Rattle.listed.proofs.Options.{none_of}
-use Rattle.hh_lang.specs.declared.instr.Instr.{Instr}
-use Rattle.hh_lang.specs.declared.instr.Instr.TheVariants.{Set, Mov, Movr, Nil as NilOf, Calc, Same, Jmp, Jz, Newm, Pack, Getr, Geti, Putr, Puti, Cntr, Cnti, Freeze, Cas, Call, Par, Ret, Out}
-use Rattle.hh_lang.specs.declared.program.Line.{Line}
-use Rattle.hh_lang.specs.Form.{ProgramText, IsProgram, line_at}
-use Rattle.hh_model.specs.declared.data.Name.{Name}
-use Rattle.hh_model.specs.declared.data.Object.{Object}
-use Rattle.hh_model.specs.declared.data.Frame.{Frame}
+use Rattle.delta_laws.proofs.Common.{◌≡◌, ◌<◌, ◌≤◌, ℕ, pos, zero, suc, ◌+◌, ◌-◌, ◌==◌, ◌⊎◌, Bool, true, false, cond, Option, Some, None, List, [], ◌∷◌, ◌++◌, length, map, slice_get, slice_set, replicate, take, nat_lt, inl, inr, refl, ap, ap₂, sym, subst, ◌∙◌, is_some, is_none, arith, eq-eqb, ne_eqb, append_assoc, min, option_map, unwrap_or, cond-true, cond-false, false≢true, both_ways, and_parts, le-leb, leb-false, slice_get-map, same_Some, length-set, length-take, length-replicate, got_same, got_within, got_some, none_of, Instr, Set, Mov, Movr, Nil as NilOf, Calc, Same, Jmp, Jz, Newm, Pack, Getr, Geti, Putr, Puti, Cntr, Cnti, Freeze, Cas, Call, Par, Ret, Out, Line, ProgramText, IsProgram, line_at, Name, Object, Frame, Done, Running, Waiting, Joined, Task, Size, MachineState, Effect, Goes, effect, made, object_at, row_of, counts_in, place_in, same_name, int_in, ref_in, or_trap, with_ref, onward, next_name, words_asked, words_for, step, follow, setting, fetched, can_step, asked, asked_line, runs, is_running, is_left, owner_of, parent_of, child, strand, strand_of, edge, joined_task, resumed, join_of, ended_task, result_of, ended_by, set_got, asked_at, Counted, rows_from, runs_are_counted, packs_are_few, waiting, grown_length, grown_at, grown_left, grown_right, three_top, three_left, three_right, three_length, below, parr, step_cases, runs_is, can_task, step_taken, made_here, Kind, Took, Ran, Chunk, Begin, End as EndOf, PutOff, Mark, More, Sweep, Fuel, EntryValue, SettingsValue, field_limit, Heap, Ledger, Pool, chunk_words, units, is_small, words_of, begun_in, marked_in, left_in, heap_of, or_fresh, with_heap, with_heap_at, in_use, within, lacks_room, placed, put_last, fresh, forked_heap, merged, emptied, let_go, collected, swept_heap, is_due, is_in_need, allocated_by, allocated_in, settled, moved_on, moved_to, at_join, join_heaps, stepped_to, task_step, task_steps, on_asked, refusal, kind_refusal, after_kind, after, with_chunk, chunk_units, after_all, ledger_of, is_legal, is_legal_from, tasks_of, stepped_machine, task_step_machine, machine_is_run, SoundLedger, collecting, SoundAt, steps_last, task_steps_sound, running_at, can_tells, with_heap_any, wait_run, heap_end, none_where, none_unless, out_tells, wait_tells, entry_tells, legal_sound, chunks_are_used, journals_can_be_cut, Deed, Allocates, Reads, Counts, Writes, Swaps, Freezes, Prints, StepAct, NewObject, Change, Changes, Reference, Number, deed, act_of, act_by, act_line, if_there, reference_in, number_in, number_place, born, changed_by, with_act, changes, stepped, standing_for, now_of, joined_now, moved_by, moved, children, child_of, delta, units_given, news_in, news_at, news_for, news, after_run, Marking, Holding, marking_with, holding, holdings, nothing_held, changed_in, changed_at, with_birth, put_birth, put_births, put_made, or_nothing, with_children, without_objects, put_join, has_joined, without_marking, put_moves, put_delta, with_given, with_marked, put_news, held_after, DeltasGiveHoldings}
 use Rattle.hh_model.specs.declared.data.End.{End}
-use Rattle.hh_model.specs.declared.data.End.TheVariants.{Done}
-use Rattle.hh_model.specs.declared.data.Status.TheVariants.{Running, Waiting, Joined}
-use Rattle.hh_model.specs.declared.data.Task.{Task}
-use Rattle.hh_model.specs.declared.data.Trap.TheVariants.{Size}
-use Rattle.hh_model.specs.declared.data.State.{State}
-use Rattle.hh_model.specs.Effect.{Effect, Goes, effect, made, object_at, row_of, counts_in, place_in, same_name, int_in, ref_in, or_trap, with_ref, onward}
-use Rattle.hh_model.specs.Names.{next_name, words_asked, words_for}
-use Rattle.hh_model.specs.Step.{step, follow, setting, fetched, can_step, asked, asked_line, runs, is_running, is_left, owner_of, parent_of, child, strand, strand_of, edge, joined_task, resumed, join_of, ended_task, result_of, ended_by}
-use Rattle.hh_model.proofs.Lists.{set_got}
-use Rattle.hh_model.proofs.Closed.{asked_at}
-use Rattle.hh_model.specs.Counts.{Counted}
-use Rattle.hh_model.proofs.Counts.{rows_from, runs_are_counted}
-use Rattle.hh_model.proofs.Next.{packs_are_few}
-use Rattle.hh_model.proofs.Runs.{waiting, grown_length, grown_at, grown_left, grown_right, three_top, three_left, three_right, three_length, below, parr}
-use Rattle.hh_model.proofs.Steps.{step_cases, runs_is}
-use Rattle.hh_model.proofs.Taken.{can_task, step_taken}
-use Rattle.path_laws.proofs.Stored.{made_here}
-use Rattle.run_trace.specs.declared.entry.Kind.{Kind}
-use Rattle.run_trace.specs.declared.entry.Kind.TheVariants.{Took, Ran, Chunk, Begin, End as EndOf, PutOff, Mark, More, Sweep, Fuel}
-use Rattle.run_trace.specs.Entry.{EntryValue}
-use Rattle.run_trace.specs.Settings.{SettingsValue, field_limit}
-use Rattle.run_ledger.specs.declared.data.Heap.{Heap}
-use Rattle.run_ledger.specs.declared.data.Ledger.{Ledger}
-use Rattle.run_ledger.specs.declared.data.RunEnd.TheVariants.{Pool}
-use Rattle.run_ledger.specs.Heaps.{chunk_words, units, is_small, words_of, begun_in, heap_of, or_fresh, with_heap, with_heap_at, in_use, within, lacks_room, placed, put_last, fresh, forked_heap, merged, emptied, let_go, collected, swept_heap}
-use Rattle.run_ledger.specs.Steps.{is_due, is_in_need, allocated_by, allocated_in, settled, moved_on, moved_to, at_join, join_heaps, stepped_to, task_step, task_steps, on_asked}
-use Rattle.run_ledger.specs.Entries.{refusal, kind_refusal, after_kind, after, with_chunk, chunk_units}
-use Rattle.run_ledger.specs.Journals.{after_all, ledger_of, is_legal, is_legal_from, tasks_of}
-use Rattle.run_ledger.proofs.Machine.{stepped_machine, task_step_machine, machine_is_run}
-use Rattle.run_ledger.proofs.Sound.{SoundLedger, collecting}
-use Rattle.run_ledger.proofs.Steps.{SoundAt, steps_last, task_steps_sound, running_at, can_tells}
-use Rattle.run_ledger.proofs.Stocks.{with_heap_any}
-use Rattle.run_ledger.proofs.Booked.{wait_run}
-use Rattle.run_ledger.proofs.Holders.{heap_end}
-use Rattle.run_ledger.proofs.Journals.{none_where, none_unless, out_tells, wait_tells, entry_tells, legal_sound}
-use Rattle.run_ledger.proofs.Use.{chunks_are_used}
-use Rattle.run_ledger.proofs.Cuts.{journals_can_be_cut}
-use Rattle.run_deltas.specs.declared.data.Deed.{Deed}
-use Rattle.run_deltas.specs.declared.data.Deed.TheVariants.{Allocates, Reads, Counts, Writes, Swaps, Freezes, Prints}
-use Rattle.run_deltas.specs.declared.data.Act.{Act}
-use Rattle.run_deltas.specs.declared.data.Birth.{Birth}
-use Rattle.run_deltas.specs.declared.data.Change.{Change}
-use Rattle.run_deltas.specs.declared.data.Changes.{Changes}
-use Rattle.run_deltas.specs.declared.data.Value.TheVariants.{Reference, Number}
-use Rattle.run_deltas.specs.Deeds.{deed, act_of, act_by, act_line, if_there, reference_in, number_in, number_place}
-use Rattle.run_deltas.specs.Steps.{born, changed_by, with_act, changes, stepped}
-use Rattle.run_deltas.specs.Tasks.{standing_for, now_of, joined_now, moved_by, moved, children, child_of}
-use Rattle.run_deltas.specs.Deltas.{delta}
-use Rattle.run_deltas.specs.News.{units_given, news_in, news_at, news_for, news}
-use Rattle.run_deltas.proofs.Machines.{after_run}
-use Rattle.delta_laws.specs.Holdings.{Holding, holding, holdings, nothing_held, changed_in, changed_at, with_birth, put_birth, put_births, put_made, or_nothing, with_children, without_objects, put_join, has_joined, put_moves, put_delta, with_given, put_news, held_after}
-use Rattle.delta_laws.specs.Laws.{DeltasGiveHoldings}
 
 -- CHANGES OF ONE HEAP
 
@@ -83,11 +17,11 @@ held_there : (l : Ledger) (t : ℕ) (o : Option Heap) → slice_get l.heaps t �
 held_there l t o e = slice_get-map holding l.heaps t ∙ ap (option_map holding) e
 
 changed_now : (l : Ledger) (t : ℕ) (f : Heap → Heap) (g : Holding → Holding) → ((h : Heap) → slice_get l.heaps t ≡ Some h → holding (f h) ≡ g (holding h)) → holdings (with_heap l t f) ≡ changed_at t g (holdings l)
-changed_now l t f g same = by (slice_get l.heaps t) refl
+changed_now l t f g same = changed_now_by_cases (slice_get l.heaps t) refl
   where
-    by : (o : Option Heap) → slice_get l.heaps t ≡ o → holdings (with_heap_at l t f o) ≡ changed_at t g (holdings l)
-    by None e = sym (ap (changed_in t g (holdings l)) (held_there l t None e))
-    by (Some h) e = map_set holding l.heaps t (f h) ∙ (ap (slice_set (holdings l) t) (same h e) ∙ sym (ap (changed_in t g (holdings l)) (held_there l t (Some h) e)))
+    changed_now_by_cases : (o : Option Heap) → slice_get l.heaps t ≡ o → holdings (with_heap_at l t f o) ≡ changed_at t g (holdings l)
+    changed_now_by_cases None e = sym (ap (changed_in t g (holdings l)) (held_there l t None e))
+    changed_now_by_cases (Some h) e = map_set holding l.heaps t (f h) ∙ (ap (slice_set (holdings l) t) (same h e) ∙ sym (ap (changed_in t g (holdings l)) (held_there l t (Some h) e)))
 
 -- what a heap holds stays
 unchanged_now : (l : Ledger) (t : ℕ) (f : Heap → Heap) → ((h : Heap) → holding (f h) ≡ holding h) → holdings (with_heap l t f) ≡ holdings l
@@ -111,7 +45,7 @@ quiet (Some (Swaps n at r swapped)) = true
 quiet (Some (Freezes n)) = true
 quiet (Some (Prints k)) = true
 
-quiet_put : (m : State) (hs : List Holding) (d : Option Deed) → quiet d ≡ true → put_births hs (changed_by m d) ≡ hs
+quiet_put : (m : MachineState) (hs : List Holding) (d : Option Deed) → quiet d ≡ true → put_births hs (changed_by m d) ≡ hs
 quiet_put m hs None h = refl
 quiet_put m hs (Some (Allocates n)) h = absurd (false≢true h)
 quiet_put m hs (Some (Reads n at v)) h = refl
@@ -128,11 +62,11 @@ quiet_place (Some at) go each = each at
 
 quiet_object : (store : List (List Object)) (r : Option Name) (go : Name → Object → Option Deed) → ((n : Name) (y : Object) → quiet (go n y) ≡ true) → quiet (if_there r (λ n. if_there (object_at store n) (go n))) ≡ true
 quiet_object store None go each = refl
-quiet_object store (Some n) go each = by (object_at store n)
+quiet_object store (Some n) go each = quiet_object_by_cases (object_at store n)
   where
-    by : (o : Option Object) → quiet (if_there o (go n)) ≡ true
-    by None = refl
-    by (Some y) = each n y
+    quiet_object_by_cases : (o : Option Object) → quiet (if_there o (go n)) ≡ true
+    quiet_object_by_cases None = refl
+    quiet_object_by_cases (Some y) = each n y
 
 quiet_cond : (b : Bool) (d : Option Deed) → quiet d ≡ true → quiet (cond b d None) ≡ true
 quiet_cond true d h = h
@@ -141,7 +75,7 @@ quiet_cond false d h = refl
 -- ONE INSTRUCTION
 
 module _ (k : Ledger) (t : ℕ) (x : Task) (line : ℕ) (row : List Object) (is_row : slice_get k.machine.store t ≡ Some row) where
-  abbrev at_k : State
+  abbrev at_k : MachineState
   at_k = k.machine
 
   abbrev new_name : Name
@@ -151,18 +85,18 @@ module _ (k : Ledger) (t : ℕ) (x : Task) (line : ℕ) (row : List Object) (is_
   abbrev Lands : Effect → Option Deed → Option ℕ → Type 0
   Lands e d asks = put_births (holdings k) (changed_by (follow at_k t x line e) d) ≡ holdings (allocated_by k t asks)
 
-  abbrev birth : Object → Birth
+  abbrev birth : Object → NewObject
   birth o = record { name = new_name; mutable = o.mutable; refs = o.refs; ints = o.ints }
 
   placed_so : (o : Object) (w : ℕ) (h : Heap) → is_small (words_of (Some o)) ≡ is_small w → holding (placed h new_name w) ≡ with_birth (birth o) (holding h)
-  placed_so o w h same = by (is_small w) (is_small (words_of (Some o))) same
+  placed_so o w h same = placed_so_by_cases (is_small w) (is_small (words_of (Some o))) same
     where
-      by : (v u : Bool) → u ≡ v → holding (cond v (record h { chunks = put_last h.chunks new_name; room = h.room - w; since = h.since + w }) (record h { large = h.large ++ new_name ∷ []; reserved = 0; since = h.since + w }))
+      placed_so_by_cases : (v u : Bool) → u ≡ v → holding (cond v (record h { chunks = put_last h.chunks new_name; room = h.room - w; since = h.since + w }) (record h { large = h.large ++ new_name ∷ []; reserved = 0; since = h.since + w }))
           ≡ cond u (record (holding h) { chunks = put_last h.chunks new_name }) (record (holding h) { large = h.large ++ new_name ∷ []; waiting = 0 })
-      by true true e = refl
-      by true false e = absurd (false≢true e)
-      by false true e = absurd (false≢true (sym e))
-      by false false e = refl
+      placed_so_by_cases true true e = refl
+      placed_so_by_cases true false e = absurd (false≢true e)
+      placed_so_by_cases false true e = absurd (false≢true (sym e))
+      placed_so_by_cases false false e = refl
 
   lands_new : (f : Frame) (o : Object) (w : ℕ) → is_small (words_of (Some o)) ≡ is_small w → Lands (Goes f (slice_set at_k.store t (row_of (slice_get at_k.store t) ++ o ∷ []))) (Some (Allocates new_name)) (Some w)
   lands_new f o w same =
@@ -179,11 +113,11 @@ module _ (k : Ledger) (t : ℕ) (x : Task) (line : ℕ) (row : List Object) (is_
   still_put i q = quiet_put (follow at_k t x line (effect (setting at_k t x) x.top at_k.store i)) (holdings k) (deed at_k t x.top i) q
 
   lands : (instr : Instr) → ((d r i : ℕ) → instr ≡ Pack d r i → (r ≤ 16) × (i ≤ 16)) → Lands (effect (setting at_k t x) x.top at_k.store instr) (deed at_k t x.top instr) (words_asked at_k.field_limit x.top instr)
-  lands (Newm d a b) small = by (counts_in at_k.field_limit (int_in x.top a) (int_in x.top b))
+  lands (Newm d a b) small = lands_by_cases (counts_in at_k.field_limit (int_in x.top a) (int_in x.top b))
     where
-      by : (o : Option (ℕ × ℕ)) → Lands (or_trap Size o (λ c. made (setting at_k t x) x.top at_k.store d (record { strand = strand_of t x; mutable = true; refs = replicate c.0 None; ints = replicate c.1 (pos 0) }))) (if_there o (λ c. Some (Allocates new_name))) (words_for o)
-      by None = refl
-      by (Some c) =
+      lands_by_cases : (o : Option (ℕ × ℕ)) → Lands (or_trap Size o (λ c. made (setting at_k t x) x.top at_k.store d (record { strand = strand_of t x; mutable = true; refs = replicate c.0 None; ints = replicate c.1 (pos 0) }))) (if_there o (λ c. Some (Allocates new_name))) (words_for o)
+      lands_by_cases None = refl
+      lands_by_cases (Some c) =
           lands_new (onward (with_ref x.top d (Some new_name))) (record { strand = strand_of t x; mutable = true; refs = replicate c.0 None; ints = replicate c.1 (pos 0) }) (2 + c.0 + c.1)
           (ap₂ (λ i j. is_small (2 + i + j)) (length-replicate {A = Option Name} c.0 None) (length-replicate c.1 (pos 0)))
   lands (Pack d r i) small =
@@ -216,20 +150,20 @@ one_moved : (p : ProgramText) (hs : List Holding) (t : ℕ) (out : Bool) (o : Op
 one_moved p hs t out None = refl
 one_moved p hs t out (Some x) = refl
 
-none_made : (m : State) (n now : ℕ) → now ≡ n → children m n now ≡ []
+none_made : (m : MachineState) (n now : ℕ) → now ≡ n → children m n now ≡ []
 none_made m n now e = cond-true (now == n) _ _ (eq-eqb now n e)
 
-two_made : (m : State) (n now : ℕ) (c d : Task) → now ≡ n + 2 → slice_get m.tasks n ≡ Some c → slice_get m.tasks (n + 1) ≡ Some d → (hs : List Holding) → put_made hs (children m n now) ≡ (hs ++ nothing_held ∷ []) ++ nothing_held ∷ []
+two_made : (m : MachineState) (n now : ℕ) (c d : Task) → now ≡ n + 2 → slice_get m.tasks n ≡ Some c → slice_get m.tasks (n + 1) ≡ Some d → (hs : List Holding) → put_made hs (children m n now) ≡ (hs ++ nothing_held ∷ []) ++ nothing_held ∷ []
 two_made m n now c d e at_c at_d hs =
     ap (put_made hs) (cond-false (now == n) [] _ (ne_eqb now n (λ q. omega arith)))
     ∙ ap₂ (λ (a b : Option Task). put_made hs (child_of n a ++ child_of (n + 1) b)) at_c at_d
 
 held_in_heap : (l : Ledger) (u : ℕ) → holding (heap_of l u) ≡ or_nothing (slice_get (holdings l) u)
-held_in_heap l u = by (slice_get l.heaps u) refl
+held_in_heap l u = held_in_heap_by_cases (slice_get l.heaps u) refl
   where
-    by : (o : Option Heap) → slice_get l.heaps u ≡ o → holding (or_fresh o) ≡ or_nothing (slice_get (holdings l) u)
-    by None e = sym (ap or_nothing (held_there l u None e))
-    by (Some h) e = sym (ap or_nothing (held_there l u (Some h) e))
+    held_in_heap_by_cases : (o : Option Heap) → slice_get l.heaps u ≡ o → holding (or_fresh o) ≡ or_nothing (slice_get (holdings l) u)
+    held_in_heap_by_cases None e = sym (ap or_nothing (held_there l u None e))
+    held_in_heap_by_cases (Some h) e = sym (ap or_nothing (held_there l u (Some h) e))
 
 join_put : (l : Ledger) (parent left : ℕ) → holdings (join_heaps l parent left) ≡ put_join (holdings l) parent left (left + 1)
 join_put l parent left =
@@ -249,17 +183,17 @@ module _ (p : ProgramText) (l : Ledger) (t : ℕ) where
   first_made = length l.machine.tasks
 
   -- with the tasks that are made and moved, what was put gives what the heaps hold
-  abbrev Whole : State → List Holding → List Holding → Type 0
+  abbrev Whole : MachineState → List Holding → List Holding → Type 0
   Whole m put now = now ≡ put_moves (put_made put (children m first_made (length m.tasks))) (moved p m first_made t (slice_get m.tasks t))
 
   -- as long as the task runs no other was made
-  abbrev RunsOn : State → List Holding → List Holding → Type 0
+  abbrev RunsOn : MachineState → List Holding → List Holding → Type 0
   RunsOn m put now = is_running (slice_get m.tasks t) ≡ true → (now ≡ put) × (length m.tasks ≡ first_made)
 
-  abbrev Holds : State → List Holding → List Holding → Type 0
+  abbrev Holds : MachineState → List Holding → List Holding → Type 0
   Holds m put now = Whole m put now × RunsOn m put now
 
-  stays_on : (m : State) (put now : List Holding) (y : Task) → slice_get m.tasks t ≡ Some y → y.status ≡ Running → now ≡ put → length m.tasks ≡ first_made → Holds m put now
+  stays_on : (m : MachineState) (put now : List Holding) (y : Task) → slice_get m.tasks t ≡ Some y → y.status ≡ Running → now ≡ put → length m.tasks ≡ first_made → Holds m put now
   stays_on m put now y is run same many = (
     same
         ∙ sym (ap₂ (λ cs xs. put_moves (put_made put cs) xs) (none_made m first_made (length m.tasks) many) (ap (moved p m first_made t) is ∙ ap (moved_by p m first_made t y.parent) run)
@@ -268,33 +202,33 @@ module _ (p : ProgramText) (l : Ledger) (t : ℕ) where
   )
 
   -- what a task holds that runs no more is all told
-  stops : (m : State) (put now : List Holding) → is_running (slice_get m.tasks t) ≡ false → Whole m put now → Holds m put now
+  stops : (m : MachineState) (put now : List Holding) → is_running (slice_get m.tasks t) ≡ false → Whole m put now → Holds m put now
   stops m put now e whole = (whole, λ r. absurd (both_ways (is_running (slice_get m.tasks t)) e r))
 
   module _ (k : Ledger) (S : SoundAt t k) (can : can_step k.machine t ≡ true) (many : length k.machine.tasks ≡ first_made) where
-    abbrev m : State
+    abbrev m : MachineState
     m = k.machine
 
     abbrev b : Ledger
     b = allocated_in p k t
 
-    abbrev by_now : State → List Holding
+    abbrev by_now : MachineState → List Holding
     by_now m' = holdings (stepped_to b t m')
 
-    abbrev Owes : State → Type 0
+    abbrev Owes : MachineState → Type 0
     Owes m' = Holds m' (holdings b) (by_now m')
 
     going : m.end ≡ None
     going = (can_tells m t can).0
 
-    abbrev onto : State → Ledger
+    abbrev onto : MachineState → Ledger
     onto m' = record b { machine = m'; steps = b.steps + 1 }
 
     -- the accounts after a step by which the machine doesn't end
-    goes : (m' : State) (y : Task) → m'.end ≡ None → slice_get m'.tasks t ≡ Some y → stepped_to b t m' ≡ moved_on (onto m') t y.parent y.status
+    goes : (m' : MachineState) (y : Task) → m'.end ≡ None → slice_get m'.tasks t ≡ Some y → stepped_to b t m' ≡ moved_on (onto m') t y.parent y.status
     goes m' y end is = ap (settled (onto m') t) end ∙ ap (moved_to (onto m') t) is
 
-    stays : (m' : State) (y : Task) → m'.end ≡ None → slice_get m'.tasks t ≡ Some y → y.status ≡ Running → length m'.tasks ≡ length m.tasks → Owes m'
+    stays : (m' : MachineState) (y : Task) → m'.end ≡ None → slice_get m'.tasks t ≡ Some y → y.status ≡ Running → length m'.tasks ≡ length m.tasks → Owes m'
     stays m' y end is run same = stays_on m' (holdings b) (by_now m') y is run (ap holdings (goes m' y end is) ∙ ap (λ s. holdings (moved_on (onto m') t y.parent s)) run) (same ∙ many)
 
     halts : (e : End) → (y : Task) → slice_get m.tasks t ≡ Some y → y.status ≡ Running → Owes (ended_by m e)
@@ -303,7 +237,7 @@ module _ (p : ProgramText) (l : Ledger) (t : ℕ) where
     ends : (x : Task) (e : Option End) → slice_get m.tasks t ≡ Some x → (e ≡ Some Done) ⊎ (e ≡ m.end) → Owes (record m { tasks = slice_set m.tasks t (ended_task x (result_of x.top)); end = e })
     ends x e is how =
         let y : Task = ended_task x (result_of x.top) in
-        let m' : State = record m { tasks = slice_set m.tasks t y; end = e } in
+        let m' : MachineState = record m { tasks = slice_set m.tasks t y; end = e } in
         let at : slice_get m'.tasks t ≡ Some y = got_same m.tasks t x y is in
         let held : by_now m' ≡ holdings b = elim how [
           | inl over ↦ ap (λ o. holdings (settled (onto m') t o)) over
@@ -313,7 +247,7 @@ module _ (p : ProgramText) (l : Ledger) (t : ℕ) where
         (held ∙ sym (ap₂ (λ cs xs. put_moves (put_made (holdings b) cs) xs) (none_made m' first_made (length m'.tasks) (length-set m.tasks t y ∙ many)) (ap (moved p m' first_made t) at)
         ∙ one_moved p (holdings b) t false (slice_get m'.tasks t)))
 
-    forks : (m' : State) (x y c d : Task) → slice_get m.tasks t ≡ Some x → m'.tasks ≡ slice_set m.tasks t y ++ c ∷ d ∷ [] → y.status ≡ Waiting → c.status ≡ Running → m'.end ≡ None → Owes m'
+    forks : (m' : MachineState) (x y c d : Task) → slice_get m.tasks t ≡ Some x → m'.tasks ≡ slice_set m.tasks t y ++ c ∷ d ∷ [] → y.status ≡ Waiting → c.status ≡ Running → m'.end ≡ None → Owes m'
     forks m' x y c d is grows waits_y runs_c end =
         let n : ℕ = length m.tasks in
         let slot : (u : ℕ) → slice_get m'.tasks u ≡ slice_get (slice_set m.tasks t y ++ c ∷ d ∷ []) u = λ u. ap (λ (ts : List Task). slice_get ts u) grows in
@@ -323,26 +257,27 @@ module _ (p : ProgramText) (l : Ledger) (t : ℕ) where
         let now : length m'.tasks ≡ first_made + 2 = ap length grows ∙ (grown_length m.tasks t x y c d is ∙ ap (λ j. j + 2) many) in
         let two : List Holding = (holdings b ++ nothing_held ∷ []) ++ nothing_held ∷ [] in
         let j : Ledger = onto m' in
-        let held : by_now m' ≡ two =
+        let held : by_now m' ≡ changed_at t without_marking two =
         ap holdings (goes m' y end at) ∙ (ap (λ s. holdings (moved_on j t y.parent s)) waits_y
-        ∙ (unchanged_now (record j { heaps = j.heaps ++ fresh ∷ fresh ∷ [] }) t (forked_heap (within j t)) (λ h. refl) ∙ map_two holding b.heaps fresh fresh)) in
+        ∙ (changed_now (record j { heaps = j.heaps ++ fresh ∷ fresh ∷ [] }) t (forked_heap (within j t)) without_marking (λ h e. refl)
+        ∙ ap (changed_at t without_marking) (map_two holding b.heaps fresh fresh))) in
         let told : moved p m' first_made t (slice_get m'.tasks t) ≡ (now_of p t false (Some y) ++ now_of p first_made false (Some c)) ++ now_of p (first_made + 1) false (Some d) =
         ap (moved p m' first_made t) at ∙ (ap (moved_by p m' first_made t y.parent) waits_y
         ∙ (λ i. (now_of p t false (at i) ++ now_of p first_made false (at_c i)) ++ now_of p (first_made + 1) false (at_d i))) in
         stops m' (holdings b) (by_now m') (ap is_running at ∙ ap runs waits_y)
         (held ∙ sym (ap₂ (λ hs xs. put_moves hs xs) (two_made m' first_made (length m'.tasks) c d now at_c at_d (holdings b)) told
-        ∙ ap (λ s. cond (has_joined (standing_for false s)) (put_join two t first_made (first_made + 1)) two) runs_c))
+        ∙ ap (λ s. cond (has_joined (standing_for false s)) (put_join two t first_made (first_made + 1)) (changed_at t without_marking two)) runs_c))
 
-    joins : (m' : State) (parent c : ℕ) (yl yr yp : Task) → slice_get m'.tasks parent ≡ Some yp → slice_get m'.tasks c ≡ Some yl → slice_get m'.tasks (c + 1) ≡ Some yr
+    joins : (m' : MachineState) (parent c : ℕ) (yl yr yp : Task) → slice_get m'.tasks parent ≡ Some yp → slice_get m'.tasks c ≡ Some yl → slice_get m'.tasks (c + 1) ≡ Some yr
         → yl.status ≡ Joined → yr.status ≡ Joined → yl.parent ≡ Some parent → yr.parent ≡ Some parent → length m'.tasks ≡ length m.tasks → m'.end ≡ None
         → ((t ≡ c) × (is_left t ≡ true)) ⊎ ((t ≡ c + 1) × (is_left t ≡ false)) → Owes m'
     joins m' parent c yl yr yp at_p at_l at_r jl jr pl pr same end side = elim side [
-      | inl q ↦ by yl (ap (slice_get m'.tasks) q.0 ∙ at_l) jl pl (cond-true (is_left t) t (t - 1) q.1 ∙ q.0)
-      | inr q ↦ by yr (ap (slice_get m'.tasks) q.0 ∙ at_r) jr pr (cond-false (is_left t) t (t - 1) q.1 ∙ (let e : t ≡ c + 1 = q.0 in let d : t - 1 ≡ c = omega arith in d))
+      | inl q ↦ joins_by_cases yl (ap (slice_get m'.tasks) q.0 ∙ at_l) jl pl (cond-true (is_left t) t (t - 1) q.1 ∙ q.0)
+      | inr q ↦ joins_by_cases yr (ap (slice_get m'.tasks) q.0 ∙ at_r) jr pr (cond-false (is_left t) t (t - 1) q.1 ∙ (let e : t ≡ c + 1 = q.0 in let d : t - 1 ≡ c = omega arith in d))
     ]
       where
-        by : (y : Task) → slice_get m'.tasks t ≡ Some y → y.status ≡ Joined → y.parent ≡ Some parent → cond (is_left t) t (t - 1) ≡ c → Owes m'
-        by y at j pp left =
+        joins_by_cases : (y : Task) → slice_get m'.tasks t ≡ Some y → y.status ≡ Joined → y.parent ≡ Some parent → cond (is_left t) t (t - 1) ≡ c → Owes m'
+        joins_by_cases y at j pp left =
             let held : by_now m' ≡ put_join (holdings b) parent c (c + 1) =
             ap holdings (goes m' y end at) ∙ (ap (λ s. holdings (moved_on (onto m') t y.parent s)) j
             ∙ (ap (λ o. holdings (at_join (onto m') t o)) pp ∙ (ap (λ v. holdings (join_heaps (onto m') parent v)) left ∙ join_put (onto m') parent c))) in
@@ -351,7 +286,7 @@ module _ (p : ProgramText) (l : Ledger) (t : ℕ) where
             ∙ (λ i. (now_of p parent false (at_p i) ++ now_of p c false (at_l i)) ++ now_of p (c + 1) false (at_r i))))) in
             stops m' (holdings b) (by_now m') (ap is_running at ∙ ap runs j)
             (held ∙ sym (ap₂ (λ cs xs. put_moves (put_made (holdings b) cs) xs) (none_made m' first_made (length m'.tasks) (same ∙ many)) told
-            ∙ ap (λ s. cond (has_joined (standing_for false s)) (put_join (holdings b) parent c (c + 1)) (holdings b)) jl))
+            ∙ ap (λ s. cond (has_joined (standing_for false s)) (put_join (holdings b) parent c (c + 1)) (changed_at parent without_marking (holdings b))) jl))
 
     step_holds : Owes (step p m t)
     step_holds =
@@ -398,19 +333,19 @@ module _ (p : ProgramText) (l : Ledger) (t : ℕ) where
       row : (r : List Object) × (slice_get k.machine.store t ≡ Some r)
       row = got_some k.machine.store t (let lt : t < length k.machine.tasks = got_within k.machine.tasks t runner found.1 in let le : t < length k.machine.store = omega arith in le)
 
-      abbrev Put : Option Act → Type 0
+      abbrev Put : Option StepAct → Type 0
       Put a = holdings (allocated_in p k t) ≡ put_births hs (with_act (step p k.machine t) ch a).all
 
       births_by : (o : Option Line) → fetched p runner.top ≡ o → Put (act_line k.machine t runner o)
       births_by None e = ap (λ w. holdings (allocated_by k t w)) (asked_now ∙ ap (asked_line k.machine.field_limit runner.top) e) ∙ so_far
       births_by (Some line) e =
-          let new : State → List Change = λ q. changed_by q (deed k.machine t runner.top line.instr) in
-          let after : State = follow k.machine t runner line.number (effect (setting k.machine t runner) runner.top k.machine.store line.instr) in
+          let new : MachineState → List Change = λ q. changed_by q (deed k.machine t runner.top line.instr) in
+          let after : MachineState = follow k.machine t runner line.number (effect (setting k.machine t runner) runner.top k.machine.store line.instr) in
           ap (λ w. holdings (allocated_by k t w)) (asked_now ∙ ap (asked_line k.machine.field_limit runner.top) e)
           ∙ (sym (lands k t runner line.number row.0 row.1 line.instr (λ d r i q. packs runner.top.function runner.top.next line d r i e q))
           ∙ (ap (λ zs. put_births zs (new after)) so_far
           ∙ (sym (births_more hs ch.all (new after))
-          ∙ ap (λ (q : State). put_births hs (ch.all ++ new q)) (sym (step_taken p k.machine t runner line can found.1 e)))))
+          ∙ ap (λ (q : MachineState). put_births hs (ch.all ++ new q)) (sym (step_taken p k.machine t runner line can found.1 e)))))
 
       births_now : Put (act_of p k.machine t)
       births_now = subst Put (sym act_is) (births_by (fetched p runner.top) refl)
@@ -427,11 +362,11 @@ module _ (p : ProgramText) (l : Ledger) (t : ℕ) where
           let on = K.1 (can_tells k.machine t can).1 in
           let put = births_now k can rows (holdings l) ch on.0 in
           let next : Ledger = stepped_to (allocated_in p k t) t (step p k.machine t) in
-          subst (λ (q : State). Holds q (put_births (holdings l) with_step) (holdings next)) (sym (stepped_machine (allocated_in p k t) t (step p k.machine t)))
+          subst (λ (q : MachineState). Holds q (put_births (holdings l) with_step) (holdings next)) (sym (stepped_machine (allocated_in p k t) t (step p k.machine t)))
           (subst (λ hs. Holds (step p k.machine t) hs (holdings next)) put (step_holds k S can on.1))
       step_by false can =
           let none : act_of p k.machine t ≡ None = cond-false (can_step k.machine t) (act_by p k.machine t (slice_get k.machine.tasks t)) None can in
-          subst (λ zs. HoldsBy k zs) (sym (ap (λ (a : Option Act). (with_act (step p k.machine t) ch a).all) none)) K
+          subst (λ zs. HoldsBy k zs) (sym (ap (λ (a : Option StepAct). (with_act (step p k.machine t) ch a).all) none)) K
 
       next_holds : HoldsBy (task_step p k t) with_step
       next_holds = step_by (can_step k.machine t) refl
@@ -446,9 +381,9 @@ module _ (p : ProgramText) (l : Ledger) (t : ℕ) where
       steps_hold (suc j) =
           let k : Ledger = task_steps p l t j in
           let ch : Changes = changes p l.machine t j in
-          let rows_k : length k.machine.store ≡ length k.machine.tasks = subst (λ (q : State). length q.store ≡ length q.tasks) (sym (machine_at j)) (rows j) in
+          let rows_k : length k.machine.store ≡ length k.machine.tasks = subst (λ (q : MachineState). length q.store ≡ length q.tasks) (sym (machine_at j)) (rows j) in
           subst (λ (q : Ledger). HoldsBy q (changes p l.machine t (suc j)).all) (sym (steps_last p l t j))
-          (subst (λ (q : State). HoldsBy (task_step p k t) (with_act (step p q t) ch (act_of p q t)).all) (machine_at j) (next_holds k ch (task_steps_sound p j l t S) rows_k (steps_hold j)))
+          (subst (λ (q : MachineState). HoldsBy (task_step p k t) (with_act (step p q t) ch (act_of p q t)).all) (machine_at j) (next_holds k ch (task_steps_sound p j l t S) rows_k (steps_hold j)))
 
 -- ENTRIES
 
@@ -464,21 +399,21 @@ module _ (p : ProgramText) (s : SettingsValue) (before : List EntryValue) (legal
 
   rows : (t j : ℕ) → length (stepped p l.machine t j).store ≡ length (stepped p l.machine t j).tasks
   rows t j =
-      subst (λ (q : State). length q.store ≡ length q.tasks) (sym (after_run p l.machine (Ran t j)))
+      subst (λ (q : MachineState). length q.store ≡ length q.tasks) (sym (after_run p l.machine (Ran t j)))
       (rows_from p l.machine (replicate j t) (length (tasks_of before)) S.fork_join
-      (subst (λ (q : State). Counted (length (tasks_of before)) q.tasks q.store) (sym (machine_is_run p s before)) (runs_are_counted p (field_limit s.version) (tasks_of before))))
+      (subst (λ (q : MachineState). Counted (length (tasks_of before)) q.tasks q.store) (sym (machine_is_run p s before)) (runs_are_counted p (field_limit s.version) (tasks_of before))))
 
   ran_told : (w t k : ℕ) → is_running (slice_get l.machine.tasks t) ≡ true → collecting (slice_get l.heaps t) ≡ false → TellsEntry w (Ran t k)
   ran_told w t k run idle =
       let q : Ledger = task_steps p l t k in
       let whole = (steps_hold p l t (packs_are_few p packs) (S, idle) run (rows t) k).0 in
-      sym (subst (λ (z : State). holdings q ≡ put_moves (put_made (put_births (holdings l) (changes p l.machine t k).all) (children z (length l.machine.tasks) (length z.tasks))) (moved p z (length l.machine.tasks) t (slice_get z.tasks t)))
+      sym (subst (λ (z : MachineState). holdings q ≡ put_moves (put_made (put_births (holdings l) (changes p l.machine t k).all) (children z (length l.machine.tasks) (length z.tasks))) (moved p z (length l.machine.tasks) t (slice_get z.tasks t)))
       (machine_at p l t (packs_are_few p packs) (S, idle) run (rows t) k) whole)
 
   -- a chunk is given
   given_so : (t : ℕ) (asks : Option ℕ) (h : Heap) → slice_get l.heaps t ≡ Some h → asked p l.machine t ≡ asks → is_some asks ≡ true → holding (with_chunk asks h) ≡ with_given (units_given (with_chunk asks h)) (holding h)
   given_so t None h e q some = absurd (false≢true some)
-  given_so t (Some w) h e q some = by (is_small w) refl
+  given_so t (Some w) h e q some = given_so_by_cases (is_small w) refl
     where
       free : is_small w ≡ true → (n : ℕ) → h.reserved ≡ n → n ≡ 0
       free small zero is = refl
@@ -491,12 +426,12 @@ module _ (p : ProgramText) (s : SettingsValue) (before : List EntryValue) (legal
       many_units : is_small w ≡ false → 2 ≤ units w
       many_units large = let a : chunk_words < w = leb-false w chunk_words large in omega arith
 
-      by : (v : Bool) → is_small w ≡ v → holding (cond v (record h { chunks = h.chunks ++ [] ∷ []; room = chunk_words }) (record h { reserved = cond v 1 (units w) }))
+      given_so_by_cases : (v : Bool) → is_small w ≡ v → holding (cond v (record h { chunks = h.chunks ++ [] ∷ []; room = chunk_words }) (record h { reserved = cond v 1 (units w) }))
           ≡ with_given (units_given (cond v (record h { chunks = h.chunks ++ [] ∷ []; room = chunk_words }) (record h { reserved = cond v 1 (units w) }))) (holding h)
-      by true small =
+      given_so_by_cases true small =
           let none : h.reserved ≡ 0 = free small h.reserved refl in
           sym (ap (λ n. with_given (cond (n == 0) 1 n) (holding h)) none)
-      by false large =
+      given_so_by_cases false large =
           let two : 2 ≤ units w = many_units large in
           sym (ap (λ n. with_given n (holding h)) (cond-false (units w == 0) 1 (units w) (ne_eqb (units w) 0 (λ z. omega arith)))
           ∙ cond-false (units w == 1) (record (holding h) { chunks = h.chunks ++ [] ∷ [] }) (record (holding h) { waiting = units w }) (ne_eqb (units w) 1 (λ z. omega arith)))
@@ -504,11 +439,11 @@ module _ (p : ProgramText) (s : SettingsValue) (before : List EntryValue) (legal
   -- an entry that changes the account of one heap, and tells of it
   kind_told : (t : ℕ) (f : Heap → Heap) (kind : Kind) (tell : Heap → Holding → Holding) → ((g : Heap) (hs : List Holding) → put_news hs (news_in kind g) ≡ changed_at t (tell g) hs)
       → ((h : Heap) → slice_get l.heaps t ≡ Some h → holding (f h) ≡ tell (f h) (holding h)) → put_news (holdings l) (news_at kind (slice_get (with_heap l t f).heaps t)) ≡ holdings (with_heap l t f)
-  kind_told t f kind tell tells same = by (slice_get l.heaps t) refl
+  kind_told t f kind tell tells same = kind_told_by_cases (slice_get l.heaps t) refl
     where
-      by : (o : Option Heap) → slice_get l.heaps t ≡ o → put_news (holdings l) (news_at kind (slice_get (with_heap_at l t f o).heaps t)) ≡ holdings (with_heap_at l t f o)
-      by None e = ap (λ o. put_news (holdings l) (news_at kind o)) e
-      by (Some h) e =
+      kind_told_by_cases : (o : Option Heap) → slice_get l.heaps t ≡ o → put_news (holdings l) (news_at kind (slice_get (with_heap_at l t f o).heaps t)) ≡ holdings (with_heap_at l t f o)
+      kind_told_by_cases None e = ap (λ o. put_news (holdings l) (news_at kind o)) e
+      kind_told_by_cases (Some h) e =
           ap (λ o. put_news (holdings l) (news_at kind o)) (got_same l.heaps t h (f h) e)
           ∙ (tells (f h) (holdings l)
           ∙ (ap (changed_in t (tell (f h)) (holdings l)) (held_there l t (Some h) e)
@@ -521,21 +456,21 @@ module _ (p : ProgramText) (s : SettingsValue) (before : List EntryValue) (legal
       ap (λ o. put_news (holdings l) (news_for (Chunk t) (with_heap l t (with_chunk asks)).heaps (cond (is_some o) None (Some t)))) (heap_end l t (with_chunk asks) ∙ on)
       ∙ kind_told t (with_chunk asks) (Chunk t) (λ z. with_given (units_given z)) (λ g hs. refl) (λ h e. given_so t asks h e q some)
 
-  quiet_news : (t : ℕ) (f : Heap → Heap) (kind : Kind) → ((h : Heap) → holding (f h) ≡ holding h) → ((g : Heap) (hs : List Holding) → put_news hs (news_in kind g) ≡ hs)
-      → put_news (holdings l) (news_at kind (slice_get (with_heap l t f).heaps t)) ≡ holdings (with_heap l t f)
-  quiet_news t f kind same quiet = by (slice_get (with_heap l t f).heaps t) ∙ sym (unchanged_now l t f same)
-    where
-      by : (o : Option Heap) → put_news (holdings l) (news_at kind o) ≡ holdings l
-      by None = refl
-      by (Some g) = quiet g (holdings l)
-
   -- a task that waits isn't amid a leaf collection
   none_taken : (t : ℕ) (h : Heap) → waiting l.machine.tasks t ≡ true → slice_get l.heaps t ≡ Some h → begun_in h ≡ 0
-  none_taken t h waits e = by h.begun refl
+  none_taken t h waits e = none_taken_by_cases h.begun refl
     where
-      by : (o : Option ℕ) → h.begun ≡ o → begun_in h ≡ 0
-      by None q = ap (λ o. unwrap_or o 0) q
-      by (Some c) q = absurd (wait_run l.machine t waits (S.running t (ap collecting e ∙ ap is_some q)))
+      none_taken_by_cases : (o : Option ℕ) → h.begun ≡ o → begun_in h ≡ 0
+      none_taken_by_cases None q = ap (λ o. unwrap_or o 0) q
+      none_taken_by_cases (Some c) q = absurd (wait_run l.machine t waits (S.running t (ap collecting e ∙ ap is_some q)))
+
+  -- a marking goes on
+  more_marked : (n : ℕ) (h : Heap) (o : Option ℕ) → h.marked ≡ o → is_some h.marked ≡ true
+      → let f : Heap = record h { marked = Some (marked_in h + min n (left_in h)) } in holding f ≡ with_marked (marked_in f) (holding h)
+  more_marked n h None e some = absurd (false≢true (sym (ap is_some e) ∙ some))
+  more_marked n h (Some k) e some =
+      let f : Heap = record h { marked = Some (marked_in h + min n (left_in h)) } in
+      sym (ap (λ q. record (holding f) { marking = option_map (λ (m : Marking). marking_with m.snapshot (marked_in f)) (option_map (marking_with h.snapshot) q) }) e)
 
   asks_some : (t : ℕ) (o : Option ℕ) → on_asked o (lacks_room (heap_of l t)) ≡ true → is_some o ≡ true
   asks_some t None h = h
@@ -551,11 +486,14 @@ module _ (p : ProgramText) (s : SettingsValue) (before : List EntryValue) (legal
   entry_told w (Begin t) on h = kind_told t _ (Begin t) (λ z x. record x { taken = begun_in z }) (λ g hs. refl) (λ g e. refl)
   entry_told w (EndOf t a g n) on h = kind_told t (collected l.machine) (EndOf t a g n) (λ z x. record x { chunks = z.chunks; large = z.large; taken = 0 }) (λ z hs. refl) (λ z e. refl)
   entry_told w (PutOff t) on h = sym (unchanged_now l t _ (λ g. refl))
-  entry_told w (Mark t) on h = quiet_news t _ (Mark t) (λ g. refl) (λ g hs. refl)
-  entry_told w (More t n) on h = quiet_news t _ (More t n) (λ g. refl) (λ g hs. refl)
+  entry_told w (Mark t) on h = kind_told t _ (Mark t) (λ z x. record x { marking = Some (marking_with z.snapshot 0) }) (λ z hs. refl) (λ z e. refl)
+  entry_told w (More t n) on h =
+      let marks = none_unless (is_some (heap_of l t).marked) _ _ (wait_tells l t _ h).2 in
+      kind_told t _ (More t n) (λ z. with_marked (marked_in z)) (λ z hs. refl)
+      (λ z e. more_marked n z z.marked refl (ap (λ (o : Option Heap). is_some (or_fresh o).marked) (sym e) ∙ marks.0))
   entry_told w (Sweep t g) on h =
       let waits = (wait_tells l t _ h).0 in
-      kind_told t swept_heap (Sweep t g) (λ z x. record x { chunks = z.chunks; large = z.large; taken = 0 }) (λ z hs. refl)
+      kind_told t swept_heap (Sweep t g) (λ z x. record x { chunks = z.chunks; large = z.large; taken = 0; marking = None }) (λ z hs. refl)
       (λ z e. ap (λ n. record (holding (swept_heap z)) { taken = n }) (none_taken t z waits e))
   entry_told w Fuel on h = refl
 

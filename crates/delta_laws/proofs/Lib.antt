@@ -1,3 +1,5 @@
 mod Puts
 mod Tells
+mod Roots
 mod Holds
+mod Common

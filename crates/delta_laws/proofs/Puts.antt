@@ -1,47 +1,7 @@
 -- The deltas of a journal, put together, give its objects and outputs.
-use Rattle.std.proofs.Common.{◌≡◌, ℕ, ℤ, pos, zero, suc, ◌+◌, ◌-◌, ◌==◌, Bool, true, false, cond, Option, Some, None, List, [], ◌∷◌, ◌++◌, length, slice_get, slice_set, replicate, take, inl, inr, refl, ap, sym, ◌∙◌, arith}
-use Rattle.std.proofs.lemmas.Bool.{cases_eq, false≢true}
-use Rattle.listed.proofs.Members.{got_other}
-use Rattle.std.specs.Prelude.{option_map, nat_lt}
-use Rattle.std.specs.Option.{option_flatten}
-use Rattle.hh_lang.specs.declared.instr.Instr.{Instr}
-use Rattle.hh_lang.specs.declared.instr.Instr.TheVariants.{Set, Mov, Movr, Nil as NilOf, Calc, Same, Jmp, Jz, Newm, Pack, Getr, Geti, Putr, Puti, Cntr, Cnti, Freeze, Cas, Call, Par, Ret, Out}
-use Rattle.hh_lang.specs.declared.program.Line.{Line}
-use Rattle.hh_lang.specs.Form.{ProgramText}
-use Rattle.hh_model.specs.declared.data.Name.{Name}
-use Rattle.hh_model.specs.declared.data.Object.{Object}
-use Rattle.hh_model.specs.declared.data.Frame.{Frame}
-use Rattle.hh_model.specs.declared.data.Task.{Task}
-use Rattle.hh_model.specs.declared.data.State.{State}
-use Rattle.hh_model.specs.declared.data.Trap.{Trap}
-use Rattle.hh_model.specs.declared.data.Trap.TheVariants.{Nil, Range, Frozen, Div as DivTrap, Size}
-use Rattle.hh_model.specs.Effect.{Effect, Goes, Calls, Forks, Traps, Stops, effect, object_at, put_object, row_of, or_trap, with_object, made, read_effect, swap_effect, int_in, ref_in, with_int, with_ref, onward, same_name, calculated, counts_in, place_in}
-use Rattle.hh_model.specs.Names.{next_name}
-use Rattle.hh_model.specs.Precedence.{precedes}
-use Rattle.hh_model.specs.Step.{step, start, stepped as step_line, follow, can_step, fetched, setting, returned_to, last_return, last_of, child_ended_by, result_at, or_same, sibling, is_left, result_of, owner_of, run_from, frame_limit, depth_limit, strand_of}
-use Rattle.path_laws.proofs.Leaves.{rows_same, put_leaves}
-use Rattle.path_laws.proofs.Objects.{put_here}
-use Rattle.path_laws.proofs.Stored.{made_here}
-use Rattle.run_trace.specs.declared.entry.Kind.{Kind}
-use Rattle.run_trace.specs.declared.entry.Kind.TheVariants.{Took, Ran, Chunk, Begin, End, PutOff, Mark, More, Sweep, Fuel}
-use Rattle.run_trace.specs.Entry.{EntryValue}
-use Rattle.run_trace.specs.Settings.{field_limit}
-use Rattle.run_ledger.specs.Reachable.{is_name}
-use Rattle.run_ledger.specs.Journals.{tasks_in, tasks_of}
-use Rattle.run_ledger.proofs.Members.{same_from_is_name, is_name_itself}
-use Rattle.run_ledger.proofs.Machine.{machine_is_run}
-use Rattle.run_deltas.specs.declared.data.Value.{Value}
-use Rattle.run_deltas.specs.declared.data.Value.TheVariants.{Reference, Number}
-use Rattle.run_deltas.specs.declared.data.Deed.{Deed}
-use Rattle.run_deltas.specs.declared.data.Deed.TheVariants.{Allocates, Reads, Writes, Swaps, Freezes}
-use Rattle.run_deltas.specs.declared.data.Change.{Change}
-use Rattle.run_deltas.specs.declared.data.Changes.{Changes}
-use Rattle.run_deltas.specs.Deeds.{deed, act_of, act_by, act_line, if_there, reference_in, number_place}
-use Rattle.run_deltas.specs.Steps.{born, changed_by, with_act, changes, stepped}
-use Rattle.run_deltas.specs.Deltas.{deltas_from, delta, machine_after}
-use Rattle.run_deltas.proofs.Machines.{after_run}
-use Rattle.delta_laws.specs.Put.{Body, Seen, seen, body_of, with_field, frozen, put, put_all, put_deltas}
-use Rattle.delta_laws.specs.Laws.{DeltasGiveObjects}
+use Rattle.delta_laws.proofs.Common.{◌≡◌, ℕ, ℤ, pos, zero, suc, ◌+◌, ◌-◌, ◌==◌, Bool, true, false, cond, Option, Some, None, List, [], ◌∷◌, ◌++◌, length, slice_get, slice_set, replicate, take, inl, inr, refl, ap, sym, ◌∙◌, arith, cases_eq, false≢true, got_other, option_map, nat_lt, option_flatten, Instr, Set, Mov, Movr, Nil as NilOf, Calc, Same, Jmp, Jz, Newm, Pack, Getr, Geti, Putr, Puti, Cntr, Cnti, Freeze, Cas, Call, Par, Ret, Out, Line, ProgramText, Name, Object, Frame, Task, MachineState, Trap, Range, Frozen, Div as DivTrap, Size, Effect, Goes, Calls, Forks, Traps, Stops, effect, object_at, put_object, row_of, or_trap, with_object, made, read_effect, swap_effect, int_in, ref_in, with_int, with_ref, onward, same_name, calculated, counts_in, place_in, next_name, precedes, step, start, follow, can_step, fetched, setting, returned_to, last_return, last_of, child_ended_by, result_at, or_same, sibling, is_left, result_of, owner_of, run_from, frame_limit, depth_limit, strand_of, rows_same, put_leaves, put_here, made_here, Kind, Took, Ran, Chunk, Begin, End, PutOff, Mark, More, Sweep, Fuel, EntryValue, field_limit, is_name, tasks_in, tasks_of, same_from_is_name, is_name_itself, machine_is_run, Value, Reference, Number, Deed, Allocates, Reads, Writes, Swaps, Freezes, Change, Changes, deed, act_of, act_by, act_line, if_there, reference_in, number_place, born, changed_by, with_act, changes, stepped, deltas_from, delta, machine_after, after_run, Body, Seen, seen, body_of, with_field, frozen, put, put_all, put_deltas, DeltasGiveObjects}
+use Rattle.hh_model.specs.declared.data.Trap.TheVariants.{Nil}
+use Rattle.hh_model.specs.Step.{stepped as step_line}
 
 abbrev sight : Option Body → List ℤ → Seen
 sight object outputs = record { object = object; outputs = outputs }
@@ -55,11 +15,11 @@ put_more n s (c ∷ cs) b = put_more n (put n s c) cs b
 -- ONE NAME IN A STORE
 
 by_name : {A : Type 0} (k n : Name) (x y z : A) → (is_name k n ≡ true → z ≡ x) → (is_name k n ≡ false → z ≡ y) → cond (is_name k n) x y ≡ z
-by_name k n x y z here off = by (is_name k n) refl
+by_name k n x y z here off = by_name_by_cases (is_name k n) refl
   where
-    by : (b : Bool) → is_name k n ≡ b → cond (is_name k n) x y ≡ z
-    by true e = rw e (sym (here e))
-    by false e = rw e (sym (off e))
+    by_name_by_cases : (b : Bool) → is_name k n ≡ b → cond (is_name k n) x y ≡ z
+    by_name_by_cases true e = rw e (sym (here e))
+    by_name_by_cases false e = rw e (sym (off e))
 
 off_name : (k n : Name) → is_name k n ≡ false → (n.task ≡ k.task) × (n.count ≡ k.count) → ⊥
 off_name k n off h =
@@ -107,8 +67,8 @@ set_absent (x ∷ xs) (suc k) y e = ap (λ zs. x ∷ zs) (set_absent xs k y e)
 
 -- ONE STEP
 
-module _ (m : State) (t : ℕ) (x : Task) (line : ℕ) (n : Name) where
-  abbrev after : Effect → State
+module _ (m : MachineState) (t : ℕ) (x : Task) (line : ℕ) (n : Name) where
+  abbrev after : Effect → MachineState
   after e = follow m t x line e
 
   -- what the step does is what is put
@@ -116,11 +76,11 @@ module _ (m : State) (t : ℕ) (x : Task) (line : ℕ) (n : Name) where
   Fits e d = put_all n (seen m n) (changed_by (after e) d) ≡ seen (after e) n
 
   -- of what leaves objects and outputs nothing is seen
-  unseen_or : {A : Type 0} (b : Option A) (go : A → State) → ((y : A) → seen m n ≡ seen (go y) n) → seen m n ≡ seen (or_same m b go) n
+  unseen_or : {A : Type 0} (b : Option A) (go : A → MachineState) → ((y : A) → seen m n ≡ seen (go y) n) → seen m n ≡ seen (or_same m b go) n
   unseen_or None go each = refl
   unseen_or (Some y) go each = each y
 
-  unseen_either : (b : Bool) (p q : State) → seen m n ≡ seen p n → seen m n ≡ seen q n → seen m n ≡ seen (cond b p q) n
+  unseen_either : (b : Bool) (p q : MachineState) → seen m n ≡ seen p n → seen m n ≡ seen q n → seen m n ≡ seen (cond b p q) n
   unseen_either true p q a b = a
   unseen_either false p q a b = b
 
@@ -131,11 +91,11 @@ module _ (m : State) (t : ℕ) (x : Task) (line : ℕ) (n : Name) where
   on_object : (r : Option Name) (e : Name → Object → Effect) (d : Name → Object → Option Deed)
       → ((k : Name) (o : Object) → object_at m.store k ≡ Some o → Fits (e k o) (d k o)) → Fits (with_object m.store r e) (if_there r (λ k. if_there (object_at m.store k) (d k)))
   on_object None e d each = refl
-  on_object (Some k) e d each = by (object_at m.store k) refl
+  on_object (Some k) e d each = on_object_by_cases (object_at m.store k) refl
     where
-      by : (b : Option Object) → object_at m.store k ≡ b → Fits (or_trap Nil b (e k)) (if_there b (d k))
-      by None is = refl
-      by (Some o) is = each k o is
+      on_object_by_cases : (b : Option Object) → object_at m.store k ≡ b → Fits (or_trap Nil b (e k)) (if_there b (d k))
+      on_object_by_cases None is = refl
+      on_object_by_cases (Some o) is = each k o is
 
   on_flag : (b : Bool) (e : Effect) (trap : Trap) (d : Deed) → Fits e (Some d) → Fits (cond b e (Traps trap)) (cond b (Some d) None)
   on_flag true e trap d fits = fits
@@ -150,45 +110,45 @@ module _ (m : State) (t : ℕ) (x : Task) (line : ℕ) (n : Name) where
 
   swapped : (f : Frame) (d e v : ℕ) (k : Name) (o : Object) (at : ℕ) → object_at m.store k ≡ Some o
       → Fits (swap_effect f m.store d e v k at o) (Some (Swaps k at (ref_in f v) (same_name (reference_in o at) (ref_in f e))))
-  swapped f d e v k o at is = by (same_name (reference_in o at) (ref_in f e))
+  swapped f d e v k o at is = swapped_by_cases (same_name (reference_in o at) (ref_in f e))
     where
-      by : (b : Bool) → Fits (cond b (Goes (onward (with_int f d (pos 1))) (put_object m.store k (record o { refs = slice_set o.refs at (ref_in f v) }))) (Goes (onward (with_int f d (pos 0))) m.store)) (Some (Swaps k at (ref_in f v) b))
-      by true = ap (λ (b : Option Body). sight b m.outputs) (put_sight m.store k n o (record o { refs = slice_set o.refs at (ref_in f v) }) (with_field at (Reference (ref_in f v))) is refl)
-      by false = refl
+      swapped_by_cases : (b : Bool) → Fits (cond b (Goes (onward (with_int f d (pos 1))) (put_object m.store k (record o { refs = slice_set o.refs at (ref_in f v) }))) (Goes (onward (with_int f d (pos 0))) m.store)) (Some (Swaps k at (ref_in f v) b))
+      swapped_by_cases true = ap (λ (b : Option Body). sight b m.outputs) (put_sight m.store k n o (record o { refs = slice_set o.refs at (ref_in f v) }) (with_field at (Reference (ref_in f v))) is refl)
+      swapped_by_cases false = refl
 
   read_on : (f : Frame) (d : ℕ) (k : Name) (at : ℕ) (r : Option Name) → Fits (read_effect (setting m t x) f m.store d r) (Some (Reads k at (Reference r)))
   read_on f d k at None = refl
-  read_on f d k at (Some q) = by (object_at m.store q)
+  read_on f d k at (Some q) = read_on_by_cases (object_at m.store q)
     where
       either : (b : Bool) (o : Object) → Fits (cond b (Goes (onward (with_ref f d (Some q))) m.store) (Stops q)) (Some (Reads k at (Reference (Some q))))
       either true o = refl
       either false o = refl
 
-      by : (b : Option Object) → Fits (or_trap Nil b (λ (o : Object). cond (precedes m.edges o.strand (strand_of t x)) (Goes (onward (with_ref f d (Some q))) m.store) (Stops q))) (Some (Reads k at (Reference (Some q))))
-      by None = refl
-      by (Some o) = either (precedes m.edges o.strand (setting m t x).strand) o
+      read_on_by_cases : (b : Option Object) → Fits (or_trap Nil b (λ (o : Object). cond (precedes m.edges o.strand (strand_of t x)) (Goes (onward (with_ref f d (Some q))) m.store) (Stops q))) (Some (Reads k at (Reference (Some q))))
+      read_on_by_cases None = refl
+      read_on_by_cases (Some o) = either (precedes m.edges o.strand (setting m t x).strand) o
 
   -- a new object is the last of its task's row
   abbrev laid : Object → List (List Object)
   laid o = slice_set m.store t (row_of (slice_get m.store t) ++ o ∷ [])
 
   allocated : (f : Frame) (o : Object) → Fits (Goes f (slice_set m.store t (row_of (slice_get m.store t) ++ o ∷ []))) (Some (Allocates (next_name t m.store)))
-  allocated f o = by (slice_get m.store t) refl
+  allocated f o = allocated_by_cases (slice_get m.store t) refl
     where
-      here : (row : List Object) → slice_get m.store t ≡ Some row → object_at (laid o) (next_name t m.store) ≡ Some o
-      here row is = made_here m.store t row o is
+      allocated_here : (row : List Object) → slice_get m.store t ≡ Some row → object_at (laid o) (next_name t m.store) ≡ Some o
+      allocated_here row is = made_here m.store t row o is
 
-      there : (row : List Object) → slice_get m.store t ≡ Some row → put_all n (seen m n) (born (next_name t m.store) (Some o)) ≡ seen (after (Goes f (laid o))) n
-      there row is = ap (λ (b : Option Body). sight b m.outputs) (by_name (next_name t m.store) n _ _ _
-          (λ e. ap (option_map body_of) (ap (object_at (laid o)) (sym (same_from_is_name (next_name t m.store) n e)) ∙ here row is))
+      allocated_there : (row : List Object) → slice_get m.store t ≡ Some row → put_all n (seen m n) (born (next_name t m.store) (Some o)) ≡ seen (after (Goes f (laid o))) n
+      allocated_there row is = ap (λ (b : Option Body). sight b m.outputs) (by_name (next_name t m.store) n _ _ _
+          (λ e. ap (option_map body_of) (ap (object_at (laid o)) (sym (same_from_is_name (next_name t m.store) n e)) ∙ allocated_here row is))
           (λ e. ap (option_map body_of) (made_leaves m.store t n o (off_name (next_name t m.store) n e))))
 
-      by : (b : Option (List Object)) → slice_get m.store t ≡ b → Fits (Goes f (laid o)) (Some (Allocates (next_name t m.store)))
-      by None is =
+      allocated_by_cases : (b : Option (List Object)) → slice_get m.store t ≡ b → Fits (Goes f (laid o)) (Some (Allocates (next_name t m.store)))
+      allocated_by_cases None is =
           let same : (laid o) ≡ m.store = set_absent m.store t (row_of (slice_get m.store t) ++ o ∷ []) is in
           let none : object_at (laid o) (next_name t m.store) ≡ None = ap (λ (s : List (List Object)). object_at s (next_name t m.store)) same ∙ ap (λ (b : Option (List Object)). slice_get (row_of b) (length (row_of (slice_get m.store t)))) is in
           ap (λ (b : Option Object). put_all n (seen m n) (born (next_name t m.store) b)) none ∙ ap (λ (s : List (List Object)). sight (option_map body_of (object_at s n)) m.outputs) (sym same)
-      by (Some row) is = ap (λ (b : Option Object). put_all n (seen m n) (born (next_name t m.store) b)) (here row is) ∙ there row is
+      allocated_by_cases (Some row) is = ap (λ (b : Option Object). put_all n (seen m n) (born (next_name t m.store) b)) (allocated_here row is) ∙ allocated_there row is
 
   -- what moves frames and tasks alone isn't seen
   calls : (g : ℕ) → Fits (Calls g) None
@@ -214,19 +174,19 @@ module _ (m : State) (t : ℕ) (x : Task) (line : ℕ) (n : Name) where
   fits (Mov d a) = refl
   fits (Movr d a) = refl
   fits (NilOf d) = refl
-  fits (Calc op d a b) = by (calculated op (int_in x.top a) (int_in x.top b))
+  fits (Calc op d a b) = fits_by_cases (calculated op (int_in x.top a) (int_in x.top b))
     where
-      by : (b : Option ℤ) → Fits (or_trap DivTrap b (λ k. Goes (onward (with_int x.top d k)) m.store)) None
-      by None = refl
-      by (Some k) = refl
+      fits_by_cases : (b : Option ℤ) → Fits (or_trap DivTrap b (λ k. Goes (onward (with_int x.top d k)) m.store)) None
+      fits_by_cases None = refl
+      fits_by_cases (Some k) = refl
   fits (Same d a b) = refl
   fits (Jmp to) = refl
   fits (Jz a to) = refl
-  fits (Newm d a b) = by (counts_in m.field_limit (int_in x.top a) (int_in x.top b))
+  fits (Newm d a b) = fits_by_cases (counts_in m.field_limit (int_in x.top a) (int_in x.top b))
     where
-      by : (b : Option (ℕ × ℕ)) → Fits (or_trap Size b (λ c. made (setting m t x) x.top m.store d (record { strand = strand_of t x; mutable = true; refs = replicate c.0 None; ints = replicate c.1 (pos 0) }))) (if_there b (λ c. Some (Allocates (next_name t m.store))))
-      by None = refl
-      by (Some c) = allocated (onward (with_ref x.top d (Some (next_name t m.store)))) (record { strand = strand_of t x; mutable = true; refs = replicate c.0 None; ints = replicate c.1 (pos 0) })
+      fits_by_cases : (b : Option (ℕ × ℕ)) → Fits (or_trap Size b (λ c. made (setting m t x) x.top m.store d (record { strand = strand_of t x; mutable = true; refs = replicate c.0 None; ints = replicate c.1 (pos 0) }))) (if_there b (λ c. Some (Allocates (next_name t m.store))))
+      fits_by_cases None = refl
+      fits_by_cases (Some c) = allocated (onward (with_ref x.top d (Some (next_name t m.store)))) (record { strand = strand_of t x; mutable = true; refs = replicate c.0 None; ints = replicate c.1 (pos 0) })
   fits (Pack d r i) = allocated (onward (with_ref x.top d (Some (next_name t m.store)))) (record { strand = strand_of t x; mutable = false; refs = take r x.top.refs; ints = take i x.top.ints })
   fits (Getr d o k) = on_object (ref_in x.top o) _ _ (λ q b is. on_place (place_in (length b.refs) (int_in x.top k)) Range _ _ (λ at. read_on x.top d q at (option_flatten (slice_get b.refs at))))
   fits (Geti d o k) = on_object (ref_in x.top o) _ _ (λ q b is. on_place (place_in (length b.ints) (int_in x.top k)) Range _ _ (λ at. refl))
@@ -247,8 +207,8 @@ module _ (m : State) (t : ℕ) (x : Task) (line : ℕ) (n : Name) where
 -- STEPS, ENTRIES, JOURNALS
 
 module _ (p : ProgramText) (n : Name) where
-  -- one step more
-  module _ (m : State) (t : ℕ) (s : Seen) (c : Changes) (h : put_all n s c.all ≡ seen m n) where
+  -- one more step
+  module _ (m : MachineState) (t : ℕ) (s : Seen) (c : Changes) (h : put_all n s c.all ≡ seen m n) where
     by_line : (x : Task) (b : Option Line) → put_all n s (with_act (step_line p m t x b) c (act_line m t x b)).all ≡ seen (step_line p m t x b) n
     by_line x None = h
     by_line x (Some line) =
@@ -268,11 +228,11 @@ module _ (p : ProgramText) (n : Name) where
     step_put : put_all n s (with_act (step p m t) c (act_of p m t)).all ≡ seen (step p m t) n
     step_put = by_can (can_step m t)
 
-  steps_put : (m : State) (t k : ℕ) → put_all n (seen m n) (changes p m t k).all ≡ seen (stepped p m t k) n
+  steps_put : (m : MachineState) (t k : ℕ) → put_all n (seen m n) (changes p m t k).all ≡ seen (stepped p m t k) n
   steps_put m t zero = refl
   steps_put m t (suc k) = step_put (stepped p m t k) t (seen m n) (changes p m t k) (steps_put m t k)
 
-  entry_put : (m : State) (kind : Kind) → put_all n (seen m n) (delta p m kind).changes.all ≡ seen (machine_after p m kind) n
+  entry_put : (m : MachineState) (kind : Kind) → put_all n (seen m n) (delta p m kind).changes.all ≡ seen (machine_after p m kind) n
   entry_put m (Took t) = refl
   entry_put m (Ran t k) = steps_put m t k
   entry_put m (Chunk t) = refl
@@ -284,11 +244,11 @@ module _ (p : ProgramText) (n : Name) where
   entry_put m (Sweep t g) = refl
   entry_put m Fuel = refl
 
-  run_joined : (a b : List ℕ) (m : State) → run_from p m (a ++ b) ≡ run_from p (run_from p m a) b
+  run_joined : (a b : List ℕ) (m : MachineState) → run_from p m (a ++ b) ≡ run_from p (run_from p m a) b
   run_joined [] b m = refl
   run_joined (t ∷ ts) b m = run_joined ts b (step p m t)
 
-  journal_put : (journal : List EntryValue) (m : State) → put_deltas n (seen m n) (deltas_from p m journal) ≡ seen (run_from p m (tasks_of journal)) n
+  journal_put : (journal : List EntryValue) (m : MachineState) → put_deltas n (seen m n) (deltas_from p m journal) ≡ seen (run_from p m (tasks_of journal)) n
   journal_put [] m = refl
   journal_put (e ∷ es) m =
       ap (λ q. put_deltas n q (deltas_from p (machine_after p m e.kind) es)) (entry_put m e.kind)

@@ -1,53 +1,9 @@
 -- The deltas of a legal journal tell where its tasks stand.
-use Rattle.std.proofs.Common.{◌≡◌, ◌<◌, ◌≤◌, ℕ, zero, suc, ◌+◌, ◌-◌, ◌==◌, ◌⊎◌, Bool, true, false, cond, Option, Some, None, List, [], ◌∷◌, ◌++◌, length, slice_get, slice_set, nat_lt, inl, inr, refl, ap, sym, subst, ◌∙◌, is_some, is_none, arith, eq-eqb, append_assoc}
-use Rattle.std.proofs.lemmas.Bool.{cases_eq, cases_lt, cond-true, cond-false, false≢true, both_ways, and_parts, ne_eqb}
-use Rattle.std.proofs.lemmas.List.{length-set}
-use Rattle.listed.specs.Members.{In}
-use Rattle.listed.proofs.Members.{got_same, got_other, got_past, got_within}
-use Rattle.listed.proofs.Options.{none_of}
-use Rattle.listed.specs.Options.{option_is}
-use Rattle.hh_lang.specs.Form.{ProgramText}
+use Rattle.delta_laws.proofs.Common.{◌≡◌, ◌<◌, ◌≤◌, ℕ, zero, suc, ◌+◌, ◌-◌, ◌==◌, ◌⊎◌, Bool, true, false, cond, Option, Some, None, List, [], ◌∷◌, ◌++◌, length, slice_get, slice_set, nat_lt, inl, inr, refl, ap, sym, subst, ◌∙◌, is_some, is_none, arith, eq-eqb, append_assoc, cases_eq, cases_lt, cond-true, cond-false, false≢true, both_ways, and_parts, length-set, In, got_same, got_other, got_past, got_within, none_of, option_is, ProgramText, TaskStatus, Running, Waiting, Ended, Joined, Task, MachineState, onward, next_name, step, start, can_step, asked, runs, is_running, is_left, parent_of, child, strand, strand_of, edge, joined_task, resumed, join_of, ended_task, result_of, ended_by, waiting, grown_at, grown_left, grown_right, grown_past, grown_other, three_top, three_left, three_right, three_other, below, parr, wp, step_cases, runs_is, Kind, Took, Ran, Chunk, Begin, End as EndOf, PutOff, Mark, More, Sweep, Fuel, EntryValue, SettingsValue, field_limit, Heap, Ledger, Pool, placed, heap_of, with_heap, with_heap_at, in_use, allocated_by, allocated_in, settled, moved_on, moved_to, stepped_to, task_step, task_steps, on_asked, is_small, refusal, kind_refusal, after_kind, after, is_ready, is_out, with_chunk, chunk_units, opening, after_all, ledger_of, is_legal, is_legal_from, stepped_machine, SoundLedger, moves_each, SoundAt, StepLeaves, step_leaves, step_keeps, steps_keep, heap_of_task, running_at, can_tells, worker_at, allots, with_heap_any, MannedLedger, moved_to_end, allocated_end, placed_worker, worker_of, step_manned, chunk_worker_by, tasks_are_out_once, held_is, wait_run, none_unless, out_tells, entry_tells, legal_sound, collecting_is, journals_can_be_cut, Standing, TaskNow, roots, standing_for, line_for, now_of, now_out, now_free, joined_now, moved_by, moved, deltas_from, delta, machine_after, machine_moves, told, told_by, stands_as, stands, DeltasGiveTasks}
+use Rattle.std.proofs.lemmas.Bool.{ne_eqb}
 use Rattle.hh_model.specs.declared.data.End.{End}
-use Rattle.hh_model.specs.declared.data.Status.{Status}
-use Rattle.hh_model.specs.declared.data.Status.TheVariants.{Running, Waiting, Ended, Joined}
-use Rattle.hh_model.specs.declared.data.Task.{Task}
-use Rattle.hh_model.specs.declared.data.State.{State}
-use Rattle.hh_model.specs.Effect.{onward}
-use Rattle.hh_model.specs.Names.{next_name}
-use Rattle.hh_model.specs.Step.{step, start, can_step, asked, runs, is_running, is_left, parent_of, child, strand, strand_of, edge, joined_task, resumed, join_of, ended_task, result_of, ended_by}
-use Rattle.hh_model.proofs.Runs.{waiting, grown_at, grown_left, grown_right, grown_past, grown_other, three_top, three_left, three_right, three_other, below, parr, wp}
-use Rattle.hh_model.proofs.Steps.{step_cases, runs_is}
-use Rattle.run_trace.specs.declared.entry.Kind.{Kind}
-use Rattle.run_trace.specs.declared.entry.Kind.TheVariants.{Took, Ran, Chunk, Begin, End as EndOf, PutOff, Mark, More, Sweep, Fuel}
-use Rattle.run_trace.specs.Entry.{EntryValue}
-use Rattle.run_trace.specs.Settings.{SettingsValue, field_limit}
-use Rattle.run_ledger.specs.declared.data.Heap.{Heap}
-use Rattle.run_ledger.specs.declared.data.Ledger.{Ledger}
-use Rattle.run_ledger.specs.declared.data.RunEnd.TheVariants.{Pool}
-use Rattle.run_ledger.specs.Heaps.{placed, heap_of, with_heap, with_heap_at, in_use}
-use Rattle.run_ledger.specs.Steps.{allocated_by, allocated_in, settled, moved_on, moved_to, stepped_to, task_step, task_steps, on_asked}
-use Rattle.run_ledger.specs.Heaps.{is_small}
-use Rattle.run_ledger.specs.Entries.{refusal, kind_refusal, after_kind, after, is_ready, is_out, with_chunk, chunk_units}
-use Rattle.run_ledger.specs.Journals.{opening, after_all, ledger_of, is_legal, is_legal_from}
-use Rattle.run_ledger.proofs.Machine.{stepped_machine}
-use Rattle.run_ledger.proofs.Sound.{SoundLedger}
-use Rattle.run_ledger.proofs.Moves.{moves_each}
-use Rattle.run_ledger.proofs.Steps.{SoundAt, StepLeaves, step_leaves, step_keeps, steps_keep, heap_of_task, running_at, can_tells, worker_at, allots}
-use Rattle.run_ledger.proofs.Stocks.{with_heap_any}
-use Rattle.run_ledger.proofs.Holders.{MannedLedger, moved_to_end, allocated_end, placed_worker, worker_of, step_manned, chunk_worker_by, tasks_are_out_once}
-use Rattle.run_ledger.proofs.Frames.{held_is}
-use Rattle.run_ledger.proofs.Booked.{wait_run}
-use Rattle.run_ledger.proofs.Journals.{none_unless, out_tells, entry_tells, legal_sound, collecting_is}
-use Rattle.run_ledger.proofs.Cuts.{journals_can_be_cut}
-use Rattle.run_deltas.specs.declared.data.Standing.{Standing}
-use Rattle.run_deltas.specs.declared.data.TaskNow.{TaskNow}
-use Rattle.run_deltas.specs.Tasks.{standing_for, line_for, now_of, now_out, now_free, joined_now, moved_by, moved}
-use Rattle.run_deltas.specs.Deltas.{deltas_from, delta, machine_after}
-use Rattle.run_deltas.proofs.Machines.{machine_moves}
-use Rattle.delta_laws.specs.Told.{told, told_by, stands_as, stands}
-use Rattle.delta_laws.specs.Laws.{DeltasGiveTasks}
 
--- WHERE A TASK STANDS
+-- THE STATUS OF A TASK
 
 abbrev now_at : ProgramText → List Task → List Heap → ℕ → Option TaskNow
 now_at p tasks heaps u = stands_as p u (is_some (worker_at (slice_get heaps u))) (slice_get tasks u)
@@ -55,21 +11,21 @@ now_at p tasks heaps u = stands_as p u (is_some (worker_at (slice_get heaps u)))
 -- who holds it counts of a task that runs alone
 at_rest : (p : ProgramText) (u : ℕ) (a b : Bool) (o : Option Task) → is_running o ≡ false → stands_as p u a o ≡ stands_as p u b o
 at_rest p u a b None h = refl
-at_rest p u a b (Some x) h = ap (λ (s : Standing). Some (record { task = u; standing = s; line = line_for p x.top x.status })) (by x.status h)
+at_rest p u a b (Some x) h = ap (λ (s : Standing). Some (record { task = u; standing = s; line = line_for p x.top x.status; holds = roots x })) (at_rest_by_cases x.status h)
   where
-    by : (s : Status) → runs s ≡ false → standing_for a s ≡ standing_for b s
-    by Running h = absurd (false≢true (sym h))
-    by Waiting h = refl
-    by (Ended k n) h = refl
-    by Joined h = refl
+    at_rest_by_cases : (s : TaskStatus) → runs s ≡ false → standing_for a s ≡ standing_for b s
+    at_rest_by_cases Running h = absurd (false≢true (sym h))
+    at_rest_by_cases Waiting h = refl
+    at_rest_by_cases (Ended k n) h = refl
+    at_rest_by_cases Joined h = refl
 
 same_now : (p : ProgramText) (tasks tasks' : List Task) (heaps heaps' : List Heap) (u : ℕ) → slice_get tasks' u ≡ slice_get tasks u
     → (is_running (slice_get tasks u) ≡ true → worker_at (slice_get heaps' u) ≡ worker_at (slice_get heaps u)) → now_at p tasks' heaps' u ≡ now_at p tasks heaps u
-same_now p tasks tasks' heaps heaps' u same held = ap (stands_as p u (is_some (worker_at (slice_get heaps' u)))) same ∙ by (is_running (slice_get tasks u)) refl
+same_now p tasks tasks' heaps heaps' u same held = ap (stands_as p u (is_some (worker_at (slice_get heaps' u)))) same ∙ same_now_by_cases (is_running (slice_get tasks u)) refl
   where
-    by : (b : Bool) → is_running (slice_get tasks u) ≡ b → stands_as p u (is_some (worker_at (slice_get heaps' u))) (slice_get tasks u) ≡ now_at p tasks heaps u
-    by true e = ap (λ w. stands_as p u (is_some w) (slice_get tasks u)) (held e)
-    by false e = at_rest p u (is_some (worker_at (slice_get heaps' u))) (is_some (worker_at (slice_get heaps u))) (slice_get tasks u) e
+    same_now_by_cases : (b : Bool) → is_running (slice_get tasks u) ≡ b → stands_as p u (is_some (worker_at (slice_get heaps' u))) (slice_get tasks u) ≡ now_at p tasks heaps u
+    same_now_by_cases true e = ap (λ w. stands_as p u (is_some w) (slice_get tasks u)) (held e)
+    same_now_by_cases false e = at_rest p u (is_some (worker_at (slice_get heaps' u))) (is_some (worker_at (slice_get heaps u))) (slice_get tasks u) e
 
 -- WHAT IS TOLD
 
@@ -86,11 +42,11 @@ tell_other p v u out None x ne = refl
 tell_other p v u out (Some z) x ne = cond-false (v == u) (stands_as p v out (Some z)) x (ne_eqb v u ne)
 
 -- these tasks, with no worker
-abbrev free : ProgramText → State → ℕ → List ℕ → List TaskNow
+abbrev free : ProgramText → MachineState → ℕ → List ℕ → List TaskNow
 free p m v [] = now_free p m v
 free p m v (w ∷ ws) = now_free p m v ++ free p m w ws
 
-module _ (p : ProgramText) (m : State) (u : ℕ) (goal : Option TaskNow) where
+module _ (p : ProgramText) (m : MachineState) (u : ℕ) (goal : Option TaskNow) where
   -- there is such a task, and it stands so
   abbrev Right : ℕ → Type 0
   Right v = v ≡ u → (is_some (slice_get m.tasks v) ≡ true) × (stands_as p v false (slice_get m.tasks v) ≡ goal)
@@ -117,20 +73,20 @@ module _ (p : ProgramText) (l : Ledger) (t : ℕ) where
   made = length l.machine.tasks
 
   -- what these steps moved is told
-  abbrev Told : State → List Heap → Type 0
+  abbrev Told : MachineState → List Heap → Type 0
   Told m heaps = (u : ℕ) (x : Option TaskNow) → x ≡ now_at p l.machine.tasks l.heaps u → told u x (moved p m made t (slice_get m.tasks t)) ≡ now_at p m.tasks heaps u
 
   -- as long as the task runs, a worker holds it, and the others stand where they stood
-  record Runs (m : State) (heaps : List Heap) : Type 0 where
+  record Runs (m : MachineState) (heaps : List Heap) : Type 0 where
     pub many : length m.tasks ≡ made
     pub held : is_some (worker_at (slice_get heaps t)) ≡ true
     pub others : (u : ℕ) → (u ≡ t → ⊥) → now_at p m.tasks heaps u ≡ now_at p l.machine.tasks l.heaps u
 
-  abbrev Tells : State → List Heap → Type 0
+  abbrev Tells : MachineState → List Heap → Type 0
   Tells m heaps = Told m heaps × (is_running (slice_get m.tasks t) ≡ true → Runs m heaps)
 
   -- it runs on
-  runs_on : (m : State) (heaps : List Heap) (y : Task) → slice_get m.tasks t ≡ Some y → y.status ≡ Running → Runs m heaps → Tells m heaps
+  runs_on : (m : MachineState) (heaps : List Heap) (y : Task) → slice_get m.tasks t ≡ Some y → y.status ≡ Running → Runs m heaps → Tells m heaps
   runs_on m heaps y is run R = (told_on, λ r. R)
     where
       out_told : (u : ℕ) (x : Option TaskNow) → x ≡ now_at p l.machine.tasks l.heaps u → told u x (now_out p m t) ≡ now_at p m.tasks heaps u
@@ -143,7 +99,7 @@ module _ (p : ProgramText) (l : Ledger) (t : ℕ) where
       told_on u x e = ap (λ (o : Option Task). told u x (moved p m made t o)) is ∙ (ap (λ s. told u x (moved_by p m made t y.parent s)) run ∙ out_told u x e)
 
   -- it doesn't: these tasks are told of, which are there with no worker, and the others stand where they stood
-  settles : (m : State) (heaps : List Heap) (v : ℕ) (ws : List ℕ) → moved p m made t (slice_get m.tasks t) ≡ free p m v ws → is_running (slice_get m.tasks t) ≡ false
+  settles : (m : MachineState) (heaps : List Heap) (v : ℕ) (ws : List ℕ) → moved p m made t (slice_get m.tasks t) ≡ free p m v ws → is_running (slice_get m.tasks t) ≡ false
       → ((w : ℕ) → In (v ∷ ws) w → (is_some (slice_get m.tasks w) ≡ true) × ((is_running (slice_get m.tasks w) ≡ false) ⊎ (worker_at (slice_get heaps w) ≡ None)))
       → ((u : ℕ) → (now_at p m.tasks heaps u ≡ now_at p l.machine.tasks l.heaps u) ⊎ In (v ∷ ws) u) → Tells m heaps
   settles m heaps v ws is stops each rest =
@@ -156,15 +112,15 @@ module _ (p : ProgramText) (l : Ledger) (t : ℕ) where
       from : (u : ℕ) (x : Option TaskNow) → x ≡ now_at p l.machine.tasks l.heaps u → (x ≡ now_at p m.tasks heaps u) ⊎ In (v ∷ ws) u
       from u x e = elim (rest u) [ inl q ↦ inl (e ∙ sym q) | inr i ↦ inr i ]
 
-  -- one step more
+  -- one more step
   module _ (k : Ledger) (S : SoundAt t k) (I : MannedLedger k) (on : k.end ≡ None) (can : can_step k.machine t ≡ true) (R : Runs k.machine k.heaps) where
-    abbrev m : State
+    abbrev m : MachineState
     m = k.machine
 
     abbrev b : Ledger
     b = allocated_in p k t
 
-    abbrev heaps_by : State → List Heap
+    abbrev heaps_by : MachineState → List Heap
     heaps_by m' = (stepped_to b t m').heaps
 
     -- who holds the others is as it was, and nobody holds a task more
@@ -174,7 +130,7 @@ module _ (p : ProgramText) (l : Ledger) (t : ℕ) where
     abbrev Frees : List Heap → Type 0
     Frees heaps = (u : ℕ) → (u ≡ t → ⊥) → is_running (slice_get m.tasks u) ≡ false → worker_at (slice_get heaps u) ≡ None
 
-    abbrev Owes : State → Type 0
+    abbrev Owes : MachineState → Type 0
     Owes m' = Keeps (heaps_by m') → Frees (heaps_by m') → Tells m' (heaps_by m')
 
     heap : (h : Heap) × (slice_get k.heaps t ≡ Some h)
@@ -190,17 +146,17 @@ module _ (p : ProgramText) (l : Ledger) (t : ℕ) where
         ∙ (ap worker_at (got_same k.heaps t heap.0 (placed heap.0 (next_name t m.store) w) heap.1) ∙ (placed_worker heap.0 (next_name t m.store) w ∙ sym (ap worker_at heap.1)))
 
     none_free : (u : ℕ) → is_running (slice_get m.tasks u) ≡ false → worker_at (slice_get k.heaps u) ≡ None
-    none_free u stops = by (worker_at (slice_get k.heaps u)) refl
+    none_free u stops = none_free_by_cases (worker_at (slice_get k.heaps u)) refl
       where
-        by : (o : Option ℕ) → worker_at (slice_get k.heaps u) ≡ o → worker_at (slice_get k.heaps u) ≡ None
-        by None e = e
-        by (Some w) e = absurd (both_ways (is_running (slice_get m.tasks u)) stops (I.runs on u w e))
+        none_free_by_cases : (o : Option ℕ) → worker_at (slice_get k.heaps u) ≡ o → worker_at (slice_get k.heaps u) ≡ None
+        none_free_by_cases None e = e
+        none_free_by_cases (Some w) e = absurd (both_ways (is_running (slice_get m.tasks u)) stops (I.runs on u w e))
 
-    other_now : (m' : State) → Keeps (heaps_by m') → (u : ℕ) → (u ≡ t → ⊥) → slice_get m'.tasks u ≡ slice_get m.tasks u → now_at p m'.tasks (heaps_by m') u ≡ now_at p l.machine.tasks l.heaps u
+    other_now : (m' : MachineState) → Keeps (heaps_by m') → (u : ℕ) → (u ≡ t → ⊥) → slice_get m'.tasks u ≡ slice_get m.tasks u → now_at p m'.tasks (heaps_by m') u ≡ now_at p l.machine.tasks l.heaps u
     other_now m' keeps u ne same = same_now p m.tasks m'.tasks k.heaps (heaps_by m') u same (keeps u ne) ∙ R.others u ne
 
     -- the task runs on
-    stays : (m' : State) (y : Task) → heaps_by m' ≡ b.heaps → slice_get m'.tasks t ≡ Some y → y.status ≡ Running → length m'.tasks ≡ length m.tasks
+    stays : (m' : MachineState) (y : Task) → heaps_by m' ≡ b.heaps → slice_get m'.tasks t ≡ Some y → y.status ≡ Running → length m'.tasks ≡ length m.tasks
         → ((u : ℕ) → (u ≡ t → ⊥) → slice_get m'.tasks u ≡ slice_get m.tasks u) → Owes m'
     stays m' y same is run many others keeps frees = runs_on m' (heaps_by m') y is run (record {
       many = many ∙ R.many;
@@ -208,7 +164,7 @@ module _ (p : ProgramText) (l : Ledger) (t : ℕ) where
       others = λ u ne. other_now m' keeps u ne (others u ne);
     })
 
-    heaps_on : (m' : State) (y : Task) → m'.end ≡ None → slice_get m'.tasks t ≡ Some y → y.status ≡ Running → heaps_by m' ≡ b.heaps
+    heaps_on : (m' : MachineState) (y : Task) → m'.end ≡ None → slice_get m'.tasks t ≡ Some y → y.status ≡ Running → heaps_by m' ≡ b.heaps
     heaps_on m' y end is run =
         let j : Ledger = record b { machine = m'; steps = b.steps + 1 } in
         ap (λ o. (settled j t o).heaps) end ∙ (ap (λ (o : Option Task). (moved_to j t o).heaps) is ∙ ap (λ s. (moved_on j t y.parent s).heaps) run)
@@ -216,14 +172,14 @@ module _ (p : ProgramText) (l : Ledger) (t : ℕ) where
     -- it has ended before its sibling, or was the first one
     ends : (x : Task) (e : Option End) → slice_get m.tasks t ≡ Some x → Owes (record m { tasks = slice_set m.tasks t (ended_task x (result_of x.top)); end = e })
     ends x e is keeps frees =
-        let m' : State = record m { tasks = slice_set m.tasks t (ended_task x (result_of x.top)); end = e } in
+        let m' : MachineState = record m { tasks = slice_set m.tasks t (ended_task x (result_of x.top)); end = e } in
         let at : slice_get m'.tasks t ≡ Some (ended_task x (result_of x.top)) = got_same m.tasks t x (ended_task x (result_of x.top)) is in
         settles m' (heaps_by m') t [] (ap (moved p m' made t) at) (ap is_running at)
         (λ w i. elim i [ inl q ↦ (ap (λ v. is_some (slice_get m'.tasks v)) (sym q) ∙ ap is_some at, inl (ap (λ v. is_running (slice_get m'.tasks v)) (sym q) ∙ ap is_running at)) | inr j ↦ absurd j ])
         (λ u. elim (cases_eq t u) [ inl q ↦ inr (inl q) | inr ne ↦ inl (other_now m' keeps u (λ q. ne (sym q)) (got_other m.tasks t u (ended_task x (result_of x.top)) (λ q. ne (sym q)))) ])
 
     -- it has forked
-    forks : (m' : State) (x y c d : Task) → slice_get m.tasks t ≡ Some x → m'.tasks ≡ slice_set m.tasks t y ++ c ∷ d ∷ [] → y.status ≡ Waiting → Owes m'
+    forks : (m' : MachineState) (x y c d : Task) → slice_get m.tasks t ≡ Some x → m'.tasks ≡ slice_set m.tasks t y ++ c ∷ d ∷ [] → y.status ≡ Waiting → Owes m'
     forks m' x y c d is grows waits_y keeps frees =
         let n : ℕ = length m.tasks in
         let slot : (u : ℕ) → slice_get m'.tasks u ≡ slice_get (slice_set m.tasks t y ++ c ∷ d ∷ []) u = λ u. ap (λ (ts : List Task). slice_get ts u) grows in
@@ -260,7 +216,7 @@ module _ (p : ProgramText) (l : Ledger) (t : ℕ) where
         ])
 
     -- it and its sibling, c and c + 1, have joined their parent
-    joins : (m' : State) (parent c : ℕ) (yl yr yp : Task) → slice_get m'.tasks parent ≡ Some yp → slice_get m'.tasks c ≡ Some yl → slice_get m'.tasks (c + 1) ≡ Some yr
+    joins : (m' : MachineState) (parent c : ℕ) (yl yr yp : Task) → slice_get m'.tasks parent ≡ Some yp → slice_get m'.tasks c ≡ Some yl → slice_get m'.tasks (c + 1) ≡ Some yr
         → ((u : ℕ) → (u ≡ c → ⊥) → (u ≡ c + 1 → ⊥) → (u ≡ parent → ⊥) → slice_get m'.tasks u ≡ slice_get m.tasks u)
         → yl.status ≡ Joined → yr.status ≡ Joined → yl.parent ≡ Some parent → yr.parent ≡ Some parent → parent < c → is_running (slice_get m.tasks parent) ≡ false
         → ((t ≡ c) × (is_left t ≡ true)) ⊎ ((t ≡ c + 1) × (is_left t ≡ false)) → Owes m'
@@ -308,7 +264,7 @@ module _ (p : ProgramText) (l : Ledger) (t : ℕ) where
     keeps_now : Keeps (heaps_by (step p m t))
     keeps_now u ne run = ap worker_at (leaves.4 u ne (inl run))
 
-    -- who holds a task after the step held it before
+    -- whoever holds a task after the step held it before
     abbrev Was : ℕ → Heap → Type 0
     Was u h = worker_at (slice_get b.heaps u) ≡ None → h.worker ≡ None
 
@@ -318,23 +274,23 @@ module _ (p : ProgramText) (l : Ledger) (t : ℕ) where
         (λ u h x y v w is wait idle q qx qy none. sym (ap worker_at is) ∙ none) (λ u h idle q none. refl)
 
     frees_now : Frees (heaps_by (step p m t))
-    frees_now u ne stops = by (slice_get (heaps_by (step p m t)) u) refl
+    frees_now u ne stops = frees_now_by_cases (slice_get (heaps_by (step p m t)) u) refl
       where
         none_b : worker_at (slice_get b.heaps u) ≡ None
         none_b = ap worker_at ((allots k t heap.0 heap.1 (asked p m t)).others u ne) ∙ none_free u stops
 
-        by : (o : Option Heap) → slice_get (heaps_by (step p m t)) u ≡ o → worker_at o ≡ None
-        by None e = refl
-        by (Some h) e = was u h e none_b
+        frees_now_by_cases : (o : Option Heap) → slice_get (heaps_by (step p m t)) u ≡ o → worker_at o ≡ None
+        frees_now_by_cases None e = refl
+        frees_now_by_cases (Some h) e = was u h e none_b
 
-    -- whatever the step is
+    -- the step in any case
     tells_by : Owes (step p m t)
     tells_by =
         step_cases p m t S.0.fork_join Owes
         (stays m now.0 (heaps_on m now.0 going now.1 now.2) now.1 now.2 refl (λ u ne. refl))
         (λ x e is run why. stays (ended_by m e) x refl is (runs_is x.status run) refl (λ u ne. refl))
         (λ x y store outs is run ep ed es ej names fields alters grows.
-        let m' : State = record m { tasks = slice_set m.tasks t y; store = store; outputs = outs } in
+        let m' : MachineState = record m { tasks = slice_set m.tasks t y; store = store; outputs = outs } in
         let at : slice_get m'.tasks t ≡ Some y = got_same m.tasks t x y is in
         let go : y.status ≡ Running = es ∙ runs_is x.status run in
         stays m' y (heaps_on m' y going at go) at go (length-set m.tasks t y) (λ u ne. got_other m.tasks t u y ne))
@@ -361,11 +317,11 @@ module _ (p : ProgramText) (l : Ledger) (t : ℕ) where
         now = let x = running_at m.tasks t (slice_get m.tasks t) refl (can_tells m t can).1 in (x.0, x.1, runs_is (x.0).status x.2)
 
         stopped : (u : ℕ) → waiting m.tasks u ≡ true → is_running (slice_get m.tasks u) ≡ false
-        stopped u w = by (is_running (slice_get m.tasks u)) refl
+        stopped u w = stopped_by_cases (is_running (slice_get m.tasks u)) refl
           where
-            by : (v : Bool) → is_running (slice_get m.tasks u) ≡ v → v ≡ false
-            by false e = refl
-            by true e = absurd (wait_run m u w e)
+            stopped_by_cases : (v : Bool) → is_running (slice_get m.tasks u) ≡ v → v ≡ false
+            stopped_by_cases false e = refl
+            stopped_by_cases true e = absurd (wait_run m u w e)
 
     step_tells : Tells (step p m t) (heaps_by (step p m t))
     step_tells = tells_by keeps_now frees_now
@@ -374,7 +330,7 @@ module _ (p : ProgramText) (l : Ledger) (t : ℕ) where
     step_on : (stepped_to b t (step p m t)).machine.end ≡ None → (stepped_to b t (step p m t)).end ≡ None
     step_on e =
         let j : Ledger = record b { machine = step p m t; steps = b.steps + 1 } in
-        let over : (step p m t).end ≡ None = sym (ap (λ (q : State). q.end) (stepped_machine b t (step p m t))) ∙ e in
+        let over : (step p m t).end ≡ None = sym (ap (λ (q : MachineState). q.end) (stepped_machine b t (step p m t))) ∙ e in
         ap (λ o. (settled j t o).end) over ∙ (moved_to_end j t (slice_get (step p m t).tasks t) ∙ (allocated_end k t (asked p m t) ∙ on))
 
   -- what the steps keep
@@ -387,7 +343,7 @@ module _ (p : ProgramText) (l : Ledger) (t : ℕ) where
       let on : k.end ≡ None = K.2 tells.0 in
       let R = K.0.1 tells.1 in
       let next : Ledger = stepped_to (allocated_in p k t) t (step p k.machine t) in (
-        subst (λ (q : State). Tells q next.heaps) (sym (stepped_machine (allocated_in p k t) t (step p k.machine t))) (step_tells k S K.1 on can R),
+        subst (λ (q : MachineState). Tells q next.heaps) (sym (stepped_machine (allocated_in p k t) t (step p k.machine t))) (step_tells k S K.1 on can R),
         step_manned p k t S K.1 can,
         step_on k S K.1 on can R,
       )) K
@@ -446,7 +402,7 @@ module _ (p : ProgramText) (s : SettingsValue) (l : Ledger) (S : SoundLedger l) 
   entry_told w (Took t) h = took_told w t (and_parts (is_running (slice_get l.machine.tasks t)) (is_none (heap_of l t).worker) (none_unless (is_ready l t) _ _ h).0).0
   entry_told w (Ran t k) h =
       let a = out_tells l w t _ h in
-      λ u x e. ap (λ (q : State). told u x (moved p q (length l.machine.tasks) t (slice_get q.tasks t))) (machine_moves p s l w (Ran t k))
+      λ u x e. ap (λ (q : MachineState). told u x (moved p q (length l.machine.tasks) t (slice_get q.tasks t))) (machine_moves p s l w (Ran t k))
       ∙ steps_told p l t k (S, a.1) I on a.0 (out_held w t (none_unless (is_out l w t) _ _ h).0) u x e
   entry_told w (Chunk t) h = λ u x e. e ∙ chunk_told t (asked p l.machine t) (nat_lt s.chunks (in_use l + chunk_units (asked p l.machine t))) u
   entry_told w (Begin t) h = λ u x e. e ∙ unmoved t _ (λ g. refl) u
@@ -483,7 +439,7 @@ module _ (p : ProgramText) (s : SettingsValue) (u : ℕ) where
       let legal' : is_legal p s ((before ++ e ∷ []) ++ es) ≡ true = ap (is_legal p s) (append_assoc before (e ∷ []) es) ∙ legal in
       let k : Ledger = ledger_of p s (before ++ e ∷ []) in
       let moved' : machine_after p l.machine e.kind ≡ k.machine = machine_moves p s l e.worker e.kind ∙ ap (λ (q : Ledger). q.machine) (sym next) in
-      ap (λ (q : State). told_by u (told u x (delta p l.machine e.kind).tasks) (deltas_from p q es)) moved'
+      ap (λ (q : MachineState). told_by u (told u x (delta p l.machine e.kind).tasks) (deltas_from p q es)) moved'
       ∙ (rest_told es (before ++ e ∷ []) (told u x (delta p l.machine e.kind).tasks) legal' (now ∙ ap (λ (q : Ledger). now_at p q.machine.tasks q.heaps u) (sym next))
       ∙ ap (λ (q : Ledger). now_at p (after_all p s q es).machine.tasks (after_all p s q es).heaps u) next)
 

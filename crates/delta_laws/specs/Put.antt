@@ -1,16 +1,6 @@
 -- Changes put together: what follows from them of an object, and of the outputs.
 use Rattle.std.specs.Prelude.{ℕ, ℤ, ◌-◌, Bool, false, Option, Some, None, List, [], ◌∷◌, ◌++◌, length, slice_set, option_map, if◌then◌else◌}
-use Rattle.hh_model.specs.declared.data.Name.{Name}
-use Rattle.hh_model.specs.declared.data.Object.{Object}
-use Rattle.hh_model.specs.declared.data.State.{State}
-use Rattle.hh_model.specs.Effect.{object_at}
-use Rattle.run_ledger.specs.Reachable.{is_name}
-use Rattle.run_deltas.specs.declared.data.Value.{Value}
-use Rattle.run_deltas.specs.declared.data.Value.TheVariants.{Reference, Number}
-use Rattle.run_deltas.specs.declared.data.Change.{Change}
-use Rattle.run_deltas.specs.declared.data.Change.TheVariants.{New, Set, Froze, Print}
-use Rattle.run_deltas.specs.declared.data.Birth.{Birth}
-use Rattle.run_deltas.specs.declared.data.Delta.{Delta}
+use Rattle.delta_laws.specs.Common.{Name, Object, MachineState, object_at, is_name, Value, Reference, Number, Change, New, Set, Froze, Print, NewObject, Delta}
 
 -- what is seen of an object: whether it is mutable, and what its fields hold
 pub record Body : Type 0 where
@@ -26,13 +16,13 @@ pub record Seen : Type 0 where
 abbrev pub body_of : Object → Body
 body_of o = record { mutable = o.mutable; refs = o.refs; ints = o.ints }
 
-abbrev pub seen : State → Name → Seen
+abbrev pub seen : MachineState → Name → Seen
 seen m n = record { object = option_map body_of (object_at m.store n); outputs = m.outputs }
 
 abbrev pub nothing_seen : Seen
 nothing_seen = record { object = None; outputs = [] }
 
-abbrev pub newborn : Birth → Body
+abbrev pub newborn : NewObject → Body
 newborn b = record { mutable = b.mutable; refs = b.refs; ints = b.ints }
 
 -- another value in a field; the references come first

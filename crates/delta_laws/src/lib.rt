@@ -3,4 +3,4 @@
 
 mod laws;
 
-pub use laws::{deltas_give_holdings, deltas_give_objects, deltas_give_tasks};
+pub use laws::{deltas_give_holdings, deltas_give_objects, deltas_give_roots, deltas_give_tasks};

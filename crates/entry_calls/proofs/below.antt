@@ -1,9 +1,9 @@
--- What crates above name of the crates below.
+-- Re-exports from lower crates for the crates above.
 pub mod heap_marking
 pub mod hh_model
 pub mod journal_laws
 pub mod leaf_collections
-pub mod listed
-pub mod own_steps
+pub mod plain_vec
+pub mod step_commit
 pub mod run_ledger
-pub mod shared_value
+pub mod core_invariant

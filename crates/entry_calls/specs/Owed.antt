@@ -1,10 +1,10 @@
--- What a worker owes by the journal.
+-- What a worker owes, by the journal.
 use Rattle.std.specs.Prelude.{◌≡◌, ℕ, true}
-use Rattle.shared_value.specs.below.run_trace.{EntryValue}
-use Rattle.shared_value.specs.below.run_ledger.{Owed, WorkerPace, gives, owed, pace_at_end, pace_of}
-use Rattle.shared_value.specs.SharedValue.{SharedValue, accounts}
+use Rattle.core_invariant.specs.below.run_trace.{EntryValue}
+use Rattle.core_invariant.specs.below.run_ledger.{Owed, WorkerPace, gives, owed, pace_at_end, pace_of}
+use Rattle.core_invariant.specs.SharedValue.{SharedValue, accounts}
 
--- what the journal keeps of the worker's entries
+-- the record of the worker's entries in the journal
 abbrev pub worker_pace : SharedValue → ℕ → WorkerPace
 worker_pace w k = pace_of (pace_at_end w.program w.settings w.journal.items) k
 

@@ -1,12 +1,12 @@
--- The one entry of a part's fresh steps and its next one, which isn't private: what becomes of the part.
+-- The one entry of a part's fresh steps and its next one, which isn't private: the part afterwards.
 use Rattle.std.specs.Prelude.{◌≡◌, ℕ}
-use Rattle.shared_value.specs.below.task_machine.{Private}
-use Rattle.shared_value.specs.SharedValue.{SharedValue}
-use Rattle.shared_value.specs.declared.next_step.Ending.TheVariants.{Returns}
-use Rattle.own_steps.specs.Alone.{FinishesAlone, GoesAlone, HaltsAlone, Tells}
-use Rattle.child_tasks.specs.ChildEnds.{EndsChild, IsAtEnd}
-use Rattle.child_tasks.specs.Forks.{ForksOn, IsAtFork}
-use Rattle.child_tasks.specs.NoTask.{HoldsNone}
+use Rattle.core_invariant.specs.below.task_machine.{Private}
+use Rattle.core_invariant.specs.SharedValue.{SharedValue}
+use Rattle.core_invariant.specs.declared.next_step.Ending.TheVariants.{Returns}
+use Rattle.step_commit.specs.Alone.{FinishesAlone, GoesAlone, HaltsAlone, Tells}
+use Rattle.fork_join_commit.specs.ChildEnds.{EndsChild, IsAtEnd}
+use Rattle.fork_join_commit.specs.Forks.{ForksOn, IsAtFork}
+use Rattle.fork_join_commit.specs.NoTask.{HoldsNone}
 use Rattle.entry_calls.specs.declared.answers.Ran.{Ran}
 use Rattle.entry_calls.specs.declared.answers.Ran.TheVariants.{Forked, Ended, Over, Done}
 use Rattle.entry_calls.specs.declared.answers.Leaving.{Leaving}
@@ -21,15 +21,15 @@ pub record IsAtRootEnd (w : SharedValue) (p : Private) : Type 0 where
   pub returns : (line : ℕ) × Tells w p Returns line
   pub root : p.task ≡ 0
 
--- it gives the part up so
+-- it gives the part up in this way
 abbrev pub LeavesBy : SharedValue → Private → Leaving → Type 0
 LeavesBy w p Forks = IsAtFork w p
 LeavesBy w p Ends = IsAtEnd w p
 LeavesBy w p Finishes = IsAtRootEnd w p
 
--- ---- WHAT A LENT PART COMES TO
+-- ---- THE RESULT FOR A LENT PART
 
--- nothing is entered, since the next step gives the part up
+-- nothing is committed, since the next step gives the part up
 pub record LeavesPart (w after : SharedValue) (p q : Private) (leaving : Leaving) : Type 0 where
   pub same : after ≡ w
   pub part : q ≡ p
@@ -40,9 +40,9 @@ LentTo w after k p q Goes = GoesAlone w after k p q
 LentTo w after k p q IsOver = HaltsAlone w after k p q
 LentTo w after k p q (Leaves leaving) = LeavesPart w after p q leaving
 
--- ---- WHAT A TASK COMES TO by a step that gives its part up
+-- ---- THE RESULT FOR A TASK of a step that gives its part up
 
--- where it forks or ends, the worker holds nothing
+-- if it forks or ends, the worker holds nothing
 abbrev pub RanTo : SharedValue → SharedValue → ℕ → Private → Ran → Type 0
 RanTo w after k p (Forked left right) = ForksOn w after k p left right × HoldsNone after k
 RanTo w after k p (Ended resumed) = EndsChild w after k p resumed × HoldsNone after k

@@ -1,15 +1,15 @@
-//! What the calls answer.
+//! The results of the calls.
 
-use shared_value::{Moved, Private, Refused};
+use core_invariant::{Moved, Private, Refused};
 
 /// The result for a task of a step that gives its part up.
 #[derive(Drop)]
 pub enum Ran {
     /// It waits for two children of these numbers, which are ready.
     Forked { left: u32, right: u32 },
-    /// It has ended; if both children of its parent have, the parent goes on, and may be taken.
+    /// It has ended; if both children of its parent have, the parent goes on, and is ready.
     Ended { resumed: Option<u32> },
-    /// Its step has ended the run: the task stands before it, and the worker still holds the part.
+    /// Its step has ended the run: the task is before it, and the worker still holds the part.
     Over(Private),
     /// It is the root, and has returned: the run is done, and no worker holds a task.
     Done,
@@ -20,7 +20,7 @@ pub enum Ran {
 pub enum Leaving {
     /// It forks.
     Forks,
-    /// It is the last return of a task that another one forked.
+    /// It is the last return of a task that isn't the root.
     Ends,
     /// It is the last return of the root.
     Finishes,
@@ -29,11 +29,11 @@ pub enum Leaving {
 /// The result for a lent part of a step that isn't private.
 #[derive(Clone, Copy)]
 pub enum Lent {
-    /// Its steps are entered, and its task goes on.
+    /// Its steps are committed, and its task goes on.
     Goes,
-    /// Its steps are entered, and the last of them has ended the run: the task stands before it.
+    /// Its steps are committed, and the last of them has ended the run: the task is before it.
     Over,
-    /// Nothing is entered: its next step gives it up, in this way.
+    /// Nothing is committed: its next step gives it up, in this way.
     Leaves(Leaving),
 }
 

@@ -1,17 +1,17 @@
 //! The calls of a value that workers share.
 
 ghost use Rattle.std.specs.Prelude.{◌≡◌, ◌<◌, ◌≤◌, ◌^◌, [], ℕ, IfOk, OnOk, None, Some, false, true, length};
-ghost use Rattle.shared_value.specs.below.run_trace.{mark_limit};
-ghost use Rattle.shared_value.specs.below.run_ledger.{heap_of, is_paced, is_pool_enough, left_in, sweep_number};
-ghost use Rattle.shared_value.specs.below.task_machine.{Private as PrivateOf};
-ghost use Rattle.shared_value.specs.below.task_homes.{Rest as RestOf};
-ghost use Rattle.shared_value.specs.Causes.{first_cause};
-ghost use Rattle.shared_value.specs.Due.{IsOutPart};
-ghost use Rattle.shared_value.specs.Entered.{refused};
-ghost use Rattle.shared_value.specs.Fits.{AllFit, Fits};
-ghost use Rattle.shared_value.specs.SharedValue.{accounts, rest_at};
-ghost use Rattle.shared_value.specs.Stands.{IsSharedValue};
-ghost use Rattle.own_steps.specs.Alone.{alone_entry, IsShared};
+ghost use Rattle.core_invariant.specs.below.run_trace.{mark_limit};
+ghost use Rattle.core_invariant.specs.below.run_ledger.{heap_of, is_paced, is_pool_enough, left_in, sweep_number};
+ghost use Rattle.core_invariant.specs.below.task_machine.{Private as PrivateOf};
+ghost use Rattle.core_invariant.specs.below.task_slots.{ParkedTask as RestOf};
+ghost use Rattle.core_invariant.specs.Causes.{first_cause};
+ghost use Rattle.core_invariant.specs.Due.{IsOutPart};
+ghost use Rattle.core_invariant.specs.Entered.{refused};
+ghost use Rattle.core_invariant.specs.Fits.{AllFit, Fits};
+ghost use Rattle.core_invariant.specs.SharedValue.{accounts, rest_at};
+ghost use Rattle.core_invariant.specs.Stands.{IsSharedValue};
+ghost use Rattle.step_commit.specs.Alone.{alone_entry, IsShared};
 ghost use Rattle.leaf_collections.specs.LeafEnd.{end_entry, FitsCopied};
 ghost use Rattle.heap_marking.specs.MarkCauses.{marking_cause};
 ghost use Rattle.entry_calls.specs.Calls.{BeginsLeaf, BeginsMarking, EndsForFuel, EndsLeaf, EntersLeaving, EntersLent, EntersSteps, GetsChunk, MarksMore, PutsOff, SweepsHeap, TakesTask};
@@ -19,16 +19,16 @@ ghost use Rattle.entry_calls.specs.Owed.{Pays, owed_by};
 ghost use Rattle.entry_calls.specs.Ran.{LeavesBy};
 
 use crate::answers::{Leaving, Lent, NotEnded, Ran};
-use shared_value::{
+use core_invariant::{
     Addr, Kind, Moved, NotEntered, NotRan, Owed, Private, Program, Refused, RunEnd, Settings,
     ToChunks,
 };
 use std::alloc::{AllocError, Global};
 
-/// Whoever keeps the value that workers share, so that each entry gives what its worker owes to the collections of the
-/// heaps of waiting tasks, or ends the run for spent fuel. Each call that enters makes one entry of the journal.
+/// Keeps the value that workers share, so that each entry gives what its worker owes to the collections of the heaps of
+/// waiting tasks, or ends the run because the fuel is used up. Each committing call makes one entry of the journal.
 pub trait EntryCalls {
-    ghost use Rattle.shared_value.specs.SharedValue.{SharedValue};
+    ghost use Rattle.core_invariant.specs.SharedValue.{SharedValue};
 
     ghost value: { Self → SharedValue };
 
@@ -40,7 +40,7 @@ pub trait EntryCalls {
         ensures on { IfOk result (λ s. (value s).halted ≡ false) }
         ensures root { IfOk result (λ s. (r : RestOf) → rest_at (value s).rests 0 ≡ Some r → r.heap.chunks ≡ []) };
 
-    /// Makes place for one entry.
+    /// Reserves capacity for one entry.
     fn reserve(&mut self) -> Result<(), AllocError>
         ensures same { value self.new ≡ record (value self.old) { journal = record { items = (value self.old).journal.items; room = (value self.new).journal.room } } }
         ensures room { OnOk result (0 < (value self.new).journal.room) }
@@ -58,7 +58,7 @@ pub trait EntryCalls {
         requires pays { Pays (value self.old) (record { worker = worker; kind = Kind.Took t }) }
         ensures { TakesTask (value self.old) (value self.new) worker t result };
 
-    /// The fresh steps of a part, all private, are entered.
+    /// Commits the fresh steps of a part, all private.
     fn ran_private(&mut self, worker: u32, part: &mut Private) -> Result<(), Refused>
         requires room { 0 < (value self.old).journal.room }
         requires fits { Fits (value self.old) worker part.old }
@@ -66,8 +66,8 @@ pub trait EntryCalls {
         requires pays { Pays (value self.old) (record { worker = worker; kind = Kind.Ran part.old.task part.old.fresh }) }
         ensures { EntersSteps (value self.old) (value self.new) worker part.old part.new result };
 
-    /// Enters the fresh steps of a part and its next one, which isn't private, if that one doesn't give the part up. If
-    /// it does, or an allocation fails, nothing is entered, though heaps and sets may have spare capacity.
+    /// Commits the fresh steps of a part and its next one, which isn't private, unless that one gives the part up. If
+    /// it does, or an allocation fails, nothing is committed, though heaps and sets may have spare capacity.
     fn ran_lent(&mut self, worker: u32, part: &mut Private) -> Result<Lent, NotEntered>
         requires room { 0 < (value self.old).journal.room }
         requires fits { Fits (value self.old) worker part.old }
@@ -75,8 +75,8 @@ pub trait EntryCalls {
         requires pays { Pays (value self.old) (alone_entry worker part.old) }
         ensures { EntersLent (value self.old) (value self.new) worker part.old part.new result };
 
-    /// Enters the fresh steps of a part together with its next one, which gives the part up in this way. If an
-    /// allocation fails nothing is entered, though heaps and sets may have spare capacity.
+    /// Commits the fresh steps of a part together with its next one, which gives the part up in this way. If an
+    /// allocation fails nothing is committed, though heaps and sets may have spare capacity.
     fn ran_leaving(&mut self, worker: u32, part: Private, leaving: Leaving) -> Result<Ran, NotRan>
         requires room { 0 < (value self.old).journal.room }
         requires fits { Fits (value self.old) worker part }
@@ -86,12 +86,12 @@ pub trait EntryCalls {
         requires pays { Pays (value self.old) (alone_entry worker part) }
         ensures { EntersLeaving (value self.old) (value self.new) worker part result };
 
-    /// The run ends, since its fuel is spent.
+    /// The run ends because its fuel is used up.
     fn fuel(&mut self, worker: u32) -> Result<(), Refused>
         requires room { 0 < (value self.old).journal.room }
         ensures { EndsForFuel (value self.old) (value self.new) worker result };
 
-    /// A part gets the chunk that its next step needs. Where too few units are free the run ends.
+    /// A part gets the chunk that its next step needs. If too few units are free the run ends.
     fn chunk(&mut self, worker: u32, part: &mut Private) -> Result<(), NotEntered>
         requires room { 0 < (value self.old).journal.room }
         requires fits { Fits (value self.old) worker part.old }
@@ -99,7 +99,7 @@ pub trait EntryCalls {
         requires pays { Pays (value self.old) (record { worker = worker; kind = Kind.Chunk part.old.task }) }
         ensures { GetsChunk (value self.old) (value self.new) worker part.old part.new result };
 
-    /// A due leaf collection of a part begins: the answer is its roots, and new chunks with all that copying needs.
+    /// A due leaf collection of a part begins: returns its roots, and new chunks with all that copying needs.
     fn leaf_begin(
         &mut self,
         worker: u32,
@@ -111,8 +111,8 @@ pub trait EntryCalls {
         requires pays { Pays (value self.old) (record { worker = worker; kind = Kind.Begin part.old.task }) }
         ensures { BeginsLeaf (value self.old) (value self.new) worker part.old part.new result };
 
-    /// The leaf collection of a part ends, once its heap was copied: fields that still hold old addresses are led to
-    /// the new ones, and the chunks that nothing needs are given back. It takes no memory.
+    /// The leaf collection of a part ends, after its heap was copied: fields that still hold old addresses are updated,
+    /// and the chunks that aren't needed are released. It doesn't allocate.
     fn leaf_end(&mut self, worker: u32, part: &mut Private, moved: Moved) -> Result<(), NotEnded>
         requires room { 0 < (value self.old).journal.room }
         requires fits { FitsCopied (value self.old) worker part.old moved }
@@ -134,15 +134,15 @@ pub trait EntryCalls {
         requires pays { Pays (value self.old) (record { worker = worker; kind = Kind.Mark t }) }
         ensures { BeginsMarking (value self.old) (value self.new) worker t result };
 
-    /// Marks up to `n` objects more, and returns how many. It takes no memory.
-    fn some(&mut self, worker: u32, t: u32, n: u32) -> Result<u32, Refused>
+    /// Marks up to `n` more objects, and returns how many. It doesn't allocate.
+    fn mark_objects(&mut self, worker: u32, t: u32, n: u32) -> Result<u32, Refused>
         requires room { 0 < (value self.old).journal.room }
         requires some { 0 < n }
         requires few { n ≤ mark_limit }
         requires pays { Pays (value self.old) (record { worker = worker; kind = Kind.More t n }) }
         ensures { MarksMore (value self.old) (value self.new) worker t n result };
 
-    /// The heap of a waiting task is swept: what wasn't marked is dropped. It takes no memory.
+    /// The heap of a waiting task is swept: what wasn't marked is dropped. It doesn't allocate.
     fn sweep(&mut self, worker: u32, t: u32, given: u32) -> Result<(), Refused>
         requires room { 0 < (value self.old).journal.room }
         requires pays { Pays (value self.old) (record { worker = worker; kind = Kind.Sweep t given }) }
@@ -154,18 +154,18 @@ pub trait EntryCalls {
         requires goes { (accounts (value self.now)).end ≡ None }
         ensures { result ≡ owed_by (value self.now) worker };
 
-    /// Why a worker may make no entry but the end for spent fuel: the run has ended, its fuel is spent, or there is no
-    /// such worker.
+    /// Why a worker may make no entry except the end without fuel: the run has ended, its fuel is used up, or there is
+    /// no such worker.
     fn refused_first(&self, worker: u32) -> Option<Refused>
         ensures { result ≡ first_cause (value self.now).end (value self.now).steps (value self.now).settings worker false };
 
-    /// Whether the free chunks are enough for a leaf collection of a part.
+    /// Whether enough chunks are free for a leaf collection of a part.
     fn pool_enough(&self, part: &Private) -> bool
         requires out { IsOutPart (value self.now) part.now }
         requires fresh { part.now.fresh ≡ 0 }
         ensures { result ≡ is_pool_enough (value self.now).settings (accounts (value self.now)) part.now.task };
 
-    /// How many units of 1,024 words a sweep of a marked heap gives back.
+    /// How many units of 1,024 words a sweep of a marked heap releases.
     fn would_give(&self, t: u32) -> u32
         requires goes { (accounts (value self.now)).end ≡ None }
         requires marked { marking_cause (value self.now) t ≡ None }
@@ -180,7 +180,7 @@ pub trait EntryCalls {
     fn halted(&self) -> bool
         ensures { result ≡ (value self.now).halted };
 
-    /// How many entries were made. The journal is a list in memory, and none is so long.
+    /// How many entries were made. The journal is a list in memory, so their number fits.
     fn entries(&self) -> u64
         ensures value { result ≡ length (value self.now).journal.items }
         ensures short { length (value self.now).journal.items < 2 ^ 63 };

@@ -6,8 +6,8 @@ mod calls;
 
 pub use answers::{Leaving, Lent, NotEnded, Ran};
 pub use calls::EntryCalls;
-pub use shared_value::{
-    Addr, Apart, Entry, Kind, MARKED_AT_ONCE, Moved, NotEntered, NotRan, Owed, PRIVATE_LIMIT,
-    Paused, Private, Program, Refused, RunEnd, Settings, ToChunks, leaf_copy_gc_copy as copy,
+pub use core_invariant::{
+    Addr, BoxedSlot, Entry, Kind, MARKED_AT_ONCE, Moved, NotEntered, NotRan, Owed, PRIVATE_LIMIT,
+    Paused, Private, Program, Refused, RunEnd, Settings, ToChunks, copying_gc_copy as copy,
     run_local,
 };

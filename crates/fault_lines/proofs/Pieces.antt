@@ -1,14 +1,5 @@
 -- What is added to a text piece by piece.
-use Rattle.std.proofs.Common.{◌≡◌, ◌<◌, ◌≤◌, ◌+◌, ◌++◌, ◌∷◌, [], ℕ, List, length, take, drop, get_or, arith, refl, ap, sym, ◌∙◌, append_assoc}
-use Rattle.std.specs.Prelude.{codes}
-use Rattle.std.specs.List.{flat_map}
-use Rattle.std.proofs.lemmas.List.{flat_map_more, take_more}
-use Rattle.json_text.specs.Json.{Number, Word, first_member, more_member}
-use Rattle.program_reader.specs.Cause.{text_of_cause}
-use Rattle.text_faults.specs.declared.fault.Fault.{Fault}
-use Rattle.text_faults.specs.Faults.{cause_of}
-use Rattle.fault_lines.specs.Expected.{expected}
-use Rattle.fault_lines.specs.Json.{near_piece, fault_piece, further_piece, pieces}
+use Rattle.fault_lines.proofs.Common.{◌≡◌, ◌<◌, ◌≤◌, ◌+◌, ◌++◌, ◌∷◌, [], ℕ, List, length, take, drop, get_or, arith, refl, ap, sym, ◌∙◌, append_assoc, codes, flat_map, flat_map_more, take_more, Number, Word, first_member, more_member, text_of_cause, Fault, cause_of, expected, near_piece, fault_piece, further_piece, pieces}
 
 eight : (t a b c d e n z : List ℕ) → (((((((t ++ 123 ∷ []) ++ a) ++ b) ++ c) ++ d) ++ e) ++ n) ++ z ≡ t ++ 123 ∷ (a ++ b ++ c ++ d ++ e ++ n ++ z)
 eight t a b c d e n z = simp append_assoc

@@ -1,15 +1,5 @@
 -- The pieces of a text are the text of its JSON value.
-use Rattle.std.proofs.Common.{◌≡◌, ℕ, List, [], ◌∷◌, ◌++◌, map, refl, ap, sym, ◌∙◌, append_assoc, append-nil}
-use Rattle.std.specs.Prelude.{Option, Some, None, codes}
-use Rattle.std.specs.List.{flat_map}
-use Rattle.std.specs.Fmt.{decimal}
-use Rattle.quoted_text.specs.Quoted.{quoted}
-use Rattle.json_text.specs.Json.{Json, Number, Word, json, values, more_values, more_members}
-use Rattle.program_reader.specs.Cause.{text_of_cause}
-use Rattle.text_faults.specs.declared.fault.Fault.{Fault}
-use Rattle.text_faults.specs.Faults.{cause_of}
-use Rattle.fault_lines.specs.Expected.{expected}
-use Rattle.fault_lines.specs.Json.{near_members, near_piece, fault_value, fault_piece, further_piece, pieces, array_text, faults_json}
+use Rattle.fault_lines.proofs.Common.{◌≡◌, ℕ, List, [], ◌∷◌, ◌++◌, map, refl, ap, sym, ◌∙◌, append_assoc, append-nil, Option, Some, None, codes, flat_map, decimal, quoted, Json, Number, Word, json, values, more_values, more_members, text_of_cause, Fault, cause_of, expected, near_members, near_piece, fault_value, fault_piece, further_piece, pieces, array_text, faults_json}
 
 near_is : (o : Option (List ℕ)) → near_piece o ≡ more_members (near_members o)
 near_is None = refl

@@ -6,7 +6,7 @@ ghost use Rattle.fault_lines.specs.Json.{near_piece, fault_piece, further_piece,
 
 use crate::expected::expected;
 use json_text::{first_number, more_number, more_word};
-use listed::Listed;
+use plain_vec::Listed;
 use std::alloc::{AllocError, Global};
 use text_faults::Fault;
 

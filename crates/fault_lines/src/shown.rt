@@ -6,8 +6,8 @@ ghost use Rattle.fault_lines.specs.Shown.{shown_as, shown_faults, too_long};
 use crate::json::faults_json;
 use crate::text::faults_text;
 use hh_lang::PROGRAM_LIMIT;
-use listed::Listed;
-use program_reader::{Cause, Refused};
+use plain_vec::Listed;
+use program_reader::{Cause, TextFault};
 use std::alloc::{AllocError, Global};
 use text_faults::{Fault, text_faults};
 
@@ -23,10 +23,10 @@ fn shown_as(alloc: Global, json: bool, faults: &[Fault]) -> Result<Vec<u8>, Allo
 }
 
 // A text that is too long to be a program.
-fn too_long() -> Refused
+fn too_long() -> TextFault
     ensures { result ≡ too_long }
 {
-    Refused {
+    TextFault {
         line: 0,
         cause: Cause::TooLong,
     }
@@ -37,7 +37,7 @@ pub fn shown_faults(
     alloc: Global,
     json: bool,
     text: &[u8],
-) -> Result<Result<Listed<u8>, Refused>, AllocError>
+) -> Result<Result<Listed<u8>, TextFault>, AllocError>
     ensures { IfOk result (λ shown. shown ≡ shown_faults json text.now) }
 {
     if text.len() > PROGRAM_LIMIT {

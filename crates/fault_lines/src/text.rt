@@ -4,7 +4,7 @@ ghost use Rattle.std.specs.Prelude.{◌≡◌, ◌++◌, OnOk, IfOk, string_byte
 ghost use Rattle.fault_lines.specs.Text.{place_text, word_text, near_text, where_text, what_text, fault_line, faults_text};
 
 use crate::expected::expected;
-use listed::Listed;
+use plain_vec::Listed;
 use quoted_text::add_quoted;
 use std::alloc::{AllocError, Global};
 use text_faults::Fault;

@@ -1,15 +1,5 @@
 -- Turns that are completed with joins.
-use Rattle.std.proofs.Common.{◌≡◌, ◌==◌, ℕ, zero, suc, ◌+◌, ◌-◌, ◌<◌, ◌≤◌, true, false, not, List, [], ◌∷◌, length, map, reverse, ◌⊎◌, inl, inr, refl, ap, sym, subst, ◌∙◌, arith, Some, slice_get}
-use Rattle.std.proofs.lemmas.Bool.{cases_lt, cases_Bool, or_cases, or_left, or_right, eqb-true, eq-eqb, not-true, not_from_false, false≢true}
-use Rattle.std.proofs.lemmas.Option.{same_Some, slice_get_within}
-use Rattle.listed.proofs.Members.{In, got_in, got_front, got_back, in_kept, in_from_kept}
-use Rattle.listed.proofs.Places.{in_got, got_map, map_got}
-use Rattle.listed.proofs.Options.{none_some}
-use Rattle.fork_graph.specs.declared.graph.Turn.{Turn}
-use Rattle.fork_graph.specs.declared.graph.Turn.TheVariants.{Spawn, Join}
-use Rattle.fork_graph.specs.Graph.{Tasks, Does}
-use Rattle.fork_graph.specs.Nested.{IsForkJoin}
-use Rattle.fork_graph.specs.Cut.{spawned_by, joins, unjoined, completed, with_joins, CompletedAreNested}
+use Rattle.fork_graph.proofs.Common.{◌≡◌, ◌==◌, ℕ, zero, suc, ◌+◌, ◌-◌, ◌<◌, ◌≤◌, true, false, not, List, [], ◌∷◌, length, map, reverse, ◌⊎◌, inl, inr, refl, ap, sym, subst, ◌∙◌, arith, Some, slice_get, cases_lt, cases_Bool, or_cases, or_left, or_right, eqb-true, eq-eqb, not-true, not_from_false, false≢true, same_Some, slice_get_within, In, got_in, got_front, got_back, in_kept, in_from_kept, in_got, got_map, map_got, none_some, GraphTurn, Spawn, Join, Tasks, Does, IsForkJoin, spawned_by, joins, unjoined, completed, with_joins, CompletedAreNested}
 use Rattle.fork_graph.proofs.Once.{EachOnce, one_place, once_kept, once_reversed, in_reversed, reversed_in}
 
 -- TURNS AND CHILDREN
@@ -23,27 +13,27 @@ same_join c d e = cc
 pub spawn_no_join : {A : Type 0} (c d : ℕ) → Spawn c ≡ Join d → A
 spawn_no_join c d e = absurd cc
 
-pub spawned_from : (turns : List Turn) (i c : ℕ) → slice_get turns i ≡ Some (Spawn c) → In (spawned_by turns) c
+pub spawned_from : (turns : List GraphTurn) (i c : ℕ) → slice_get turns i ≡ Some (Spawn c) → In (spawned_by turns) c
 spawned_from [] i c h = none_some h
 spawned_from (Spawn d ∷ rest) zero c h = inl (same_spawn d c (same_Some (Spawn d) (Spawn c) h))
 spawned_from (Spawn d ∷ rest) (suc i) c h = inr (spawned_from rest i c h)
 spawned_from (Join d ∷ rest) zero c h = spawn_no_join c d (sym (same_Some (Join d) (Spawn c) h))
 spawned_from (Join d ∷ rest) (suc i) c h = spawned_from rest i c h
 
-pub spawned_at : (turns : List Turn) (c : ℕ) → In (spawned_by turns) c → (i : ℕ) × (slice_get turns i ≡ Some (Spawn c))
+pub spawned_at : (turns : List GraphTurn) (c : ℕ) → In (spawned_by turns) c → (i : ℕ) × (slice_get turns i ≡ Some (Spawn c))
 spawned_at [] c h = absurd h
 spawned_at (Spawn d ∷ rest) c (inl e) = (zero, ap (λ x. Some (Spawn x)) e)
 spawned_at (Spawn d ∷ rest) c (inr h) = let r = spawned_at rest c h in (suc r.0, r.1)
 spawned_at (Join d ∷ rest) c h = let r = spawned_at rest c h in (suc r.0, r.1)
 
-pub joins_from : (turns : List Turn) (i c : ℕ) → slice_get turns i ≡ Some (Join c) → joins turns c ≡ true
+pub joins_from : (turns : List GraphTurn) (i c : ℕ) → slice_get turns i ≡ Some (Join c) → joins turns c ≡ true
 joins_from [] i c h = none_some h
 joins_from (Spawn d ∷ rest) zero c h = spawn_no_join d c (same_Some (Spawn d) (Join c) h)
 joins_from (Spawn d ∷ rest) (suc i) c h = joins_from rest i c h
 joins_from (Join d ∷ rest) zero c h = or_left (d == c) (joins rest c) (eq-eqb d c (same_join d c (same_Some (Join d) (Join c) h)))
 joins_from (Join d ∷ rest) (suc i) c h = or_right (d == c) (joins rest c) (joins_from rest i c h)
 
-pub joined_at : (turns : List Turn) (c : ℕ) → joins turns c ≡ true → (i : ℕ) × (slice_get turns i ≡ Some (Join c))
+pub joined_at : (turns : List GraphTurn) (c : ℕ) → joins turns c ≡ true → (i : ℕ) × (slice_get turns i ≡ Some (Join c))
 joined_at [] c h = absurd (false≢true h)
 joined_at (Spawn d ∷ rest) c h = let r = joined_at rest c h in (suc r.0, r.1)
 joined_at (Join d ∷ rest) c h =
@@ -53,12 +43,12 @@ joined_at (Join d ∷ rest) c h =
     ]
 
 -- nothing is spawned at two places, so the list of the spawned has nothing twice
-once_rest : (turn : Turn) (rest : List Turn)
+once_rest : (turn : GraphTurn) (rest : List GraphTurn)
     → ((i j c : ℕ) → slice_get (turn ∷ rest) i ≡ Some (Spawn c) → slice_get (turn ∷ rest) j ≡ Some (Spawn c) → i ≡ j)
     → (i j c : ℕ) → slice_get rest i ≡ Some (Spawn c) → slice_get rest j ≡ Some (Spawn c) → i ≡ j
 once_rest turn rest once i j c a b = let e : suc i ≡ suc j = once (suc i) (suc j) c a b in omega arith
 
-spawned_each_once : (turns : List Turn) → ((i j c : ℕ) → slice_get turns i ≡ Some (Spawn c) → slice_get turns j ≡ Some (Spawn c) → i ≡ j) → EachOnce (spawned_by turns)
+spawned_each_once : (turns : List GraphTurn) → ((i j c : ℕ) → slice_get turns i ≡ Some (Spawn c) → slice_get turns j ≡ Some (Spawn c) → i ≡ j) → EachOnce (spawned_by turns)
 spawned_each_once [] once = tt
 spawned_each_once (Spawn d ∷ rest) once = (
   λ h. let r = spawned_at rest d h in let e : zero ≡ suc r.0 = once zero (suc r.0) d refl r.1 in omega arith,
@@ -66,24 +56,24 @@ spawned_each_once (Spawn d ∷ rest) once = (
 )
 spawned_each_once (Join d ∷ rest) once = spawned_each_once rest (once_rest (Join d) rest once)
 
-pub unjoined_from : (turns : List Turn) (i c : ℕ) → slice_get turns i ≡ Some (Spawn c) → joins turns c ≡ false → In (unjoined turns) c
+pub unjoined_from : (turns : List GraphTurn) (i c : ℕ) → slice_get turns i ≡ Some (Spawn c) → joins turns c ≡ false → In (unjoined turns) c
 unjoined_from turns i c h out =
     in_kept (λ d. not (joins turns d)) (reverse (spawned_by turns)) c
     (reversed_in (spawned_by turns) c (spawned_from turns i c h))
     (not_from_false (joins turns c) out)
 
-pub unjoined_at : (turns : List Turn) (c : ℕ) → In (unjoined turns) c → ((i : ℕ) × (slice_get turns i ≡ Some (Spawn c))) × (joins turns c ≡ false)
+pub unjoined_at : (turns : List GraphTurn) (c : ℕ) → In (unjoined turns) c → ((i : ℕ) × (slice_get turns i ≡ Some (Spawn c))) × (joins turns c ≡ false)
 unjoined_at turns c h =
     let k = in_from_kept (λ d. not (joins turns d)) (reverse (spawned_by turns)) c h in
     (spawned_at turns c (in_reversed (spawned_by turns) c k.0), not-true (joins turns c) k.1)
 
 -- COMPLETED TURNS
 
-pub completed_front : (turns : List Turn) (i : ℕ) (turn : Turn) → slice_get turns i ≡ Some turn → slice_get (completed turns) i ≡ Some turn
+pub completed_front : (turns : List GraphTurn) (i : ℕ) (turn : GraphTurn) → slice_get turns i ≡ Some turn → slice_get (completed turns) i ≡ Some turn
 completed_front turns i turn h = got_front turns (map Join (unjoined turns)) i (slice_get_within turns i turn h) ∙ h
 
 -- a turn of the completed ones is one that was there, or joins what was unjoined
-pub completed_cases : (turns : List Turn) (i : ℕ) (turn : Turn) → slice_get (completed turns) i ≡ Some turn
+pub completed_cases : (turns : List GraphTurn) (i : ℕ) (turn : GraphTurn) → slice_get (completed turns) i ≡ Some turn
     → (slice_get turns i ≡ Some turn) ⊎ ((c : ℕ) × (turn ≡ Join c) × (length turns ≤ i) × (slice_get (unjoined turns) (i - length turns) ≡ Some c))
 completed_cases turns i turn h =
     elim (cases_lt i (length turns)) [
@@ -97,7 +87,7 @@ completed_cases turns i turn h =
           inr (m.0, sym m.2, ge, m.1)
     ]
 
-pub completed_spawn : (turns : List Turn) (i c : ℕ) → slice_get (completed turns) i ≡ Some (Spawn c) → slice_get turns i ≡ Some (Spawn c)
+pub completed_spawn : (turns : List GraphTurn) (i c : ℕ) → slice_get (completed turns) i ≡ Some (Spawn c) → slice_get turns i ≡ Some (Spawn c)
 completed_spawn turns i c h =
     elim (completed_cases turns i (Spawn c) h) [
       | inl g ↦ g

@@ -1,7 +1,8 @@
 pub mod Once
 pub mod Cut
-pub mod Search
+pub mod SpawnSearch
 pub mod States
 pub mod Sound
 pub mod Ends
 pub mod Smallness
+mod Common

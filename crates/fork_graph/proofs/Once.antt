@@ -1,9 +1,5 @@
 -- Lists in which nothing stands twice.
-use Rattle.std.proofs.Common.{◌≡◌, ℕ, zero, suc, Bool, true, false, cond, List, [], ◌∷◌, ◌++◌, filter, reverse, inl, inr, refl, ap, sym, subst, Some, slice_get}
-use Rattle.std.proofs.lemmas.Grind.{reverse_onto}
-use Rattle.std.proofs.lemmas.Option.{same_Some}
-use Rattle.listed.proofs.Members.{In, got_in, in_from_kept, in_append_cases, in_append_left, in_append_right}
-use Rattle.listed.proofs.Options.{none_some}
+use Rattle.fork_graph.proofs.Common.{◌≡◌, ℕ, zero, suc, Bool, true, false, cond, List, [], ◌∷◌, ◌++◌, filter, reverse, inl, inr, refl, ap, sym, subst, Some, slice_get, reverse_onto, same_Some, In, got_in, in_from_kept, in_append_cases, in_append_left, in_append_right, none_some}
 
 abbrev pub EachOnce : {A : Type 0} → List A → Type 0
 EachOnce [] = Unit {0}

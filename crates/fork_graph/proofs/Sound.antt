@@ -1,24 +1,9 @@
 -- Runs without a fault.
-use Rattle.std.proofs.Common.{◌≡◌, ℕ, zero, suc, ◌<◌, Bool, true, false, List, [], ◌∷◌, length, ◌⊎◌, inl, inr, refl, ap, sym, subst, ◌∙◌, arith, Some, slice_get}
-use Rattle.std.proofs.lemmas.Bool.{cases_order, false≢true}
-use Rattle.std.proofs.lemmas.Option.{same_Some, slice_get_within}
-use Rattle.listed.proofs.Places.{got_some}
-use Rattle.listed.proofs.Options.{none_some}
-use Rattle.fork_graph.specs.declared.graph.Turn.{Turn}
-use Rattle.fork_graph.specs.declared.graph.Turn.TheVariants.{Spawn, Join}
-use Rattle.fork_graph.specs.declared.graph.Strand.{Strand}
-use Rattle.fork_graph.specs.declared.fault.Extent.{Extent}
-use Rattle.fork_graph.specs.declared.fault.Extent.TheVariants.{Whole, Cut}
-use Rattle.fork_graph.specs.declared.fault.Cause.{Cause}
-use Rattle.fork_graph.specs.declared.fault.Cause.TheVariants.{SpawnsNoNewTask, JoinsNoOpenChild, LeavesUnjoined, IsUnreached}
-use Rattle.fork_graph.specs.Graph.{tasks_in, strand, last_of, Does, IsEarlier, IsAncestor}
-use Rattle.fork_graph.specs.Nested.{IsForkJoin}
-use Rattle.fork_graph.specs.Faults.{IsNew, IsOpen, IsFault, HasNoEarlier, SpawnsBelow, IsWhole, IsCutOff, IsSound, SoundRunsHaveNoFault}
-use Rattle.fork_graph.specs.Search.{AreReached}
-use Rattle.fork_graph.proofs.Search.{past_no_turn}
+use Rattle.fork_graph.proofs.Common.{◌≡◌, ℕ, zero, suc, ◌<◌, Bool, true, false, List, [], ◌∷◌, length, ◌⊎◌, inl, inr, refl, ap, sym, subst, ◌∙◌, arith, Some, slice_get, cases_order, false≢true, same_Some, slice_get_within, got_some, none_some, GraphTurn, Spawn, Join, GraphStrand, Extent, Whole, Cut, StrandCause, SpawnsNoNewTask, JoinsNoOpenChild, LeavesUnjoined, IsUnreached, tasks_in, strand, last_of, Does, IsEarlier, IsAncestor, IsForkJoin, IsNew, IsOpen, IsFault, HasNoEarlier, SpawnsBelow, IsNestedRun, IsCutOff, IsSoundRun, SoundRunsHaveNoFault, AreReached}
+use Rattle.fork_graph.proofs.SpawnSearch.{past_no_turn}
 use Rattle.fork_graph.proofs.States.{one_spawn, spawn_there}
 
-is_turn : (a b : Turn) → (a ≡ b) ⊎ (a ≡ b → ⊥)
+is_turn : (a b : GraphTurn) → (a ≡ b) ⊎ (a ≡ b → ⊥)
 is_turn (Spawn c) (Spawn d) = elim (cases_order c d) [
   | inl same ↦ inl (ap Spawn same)
   | inr apart ↦ inr (λ e. let same : c ≡ d = cc in elim apart [ inl lt ↦ omega arith | inr gt ↦ omega arith ])
@@ -31,7 +16,7 @@ is_turn (Join c) (Join d) = elim (cases_order c d) [
 ]
 
 -- a turn stands among the first ones, or doesn't
-find : (turn : Turn) (turns : List Turn) (n : ℕ) → ((i : ℕ) × (i < n) × (slice_get turns i ≡ Some turn)) ⊎ ((i : ℕ) → i < n → slice_get turns i ≡ Some turn → ⊥)
+find : (turn : GraphTurn) (turns : List GraphTurn) (n : ℕ) → ((i : ℕ) × (i < n) × (slice_get turns i ≡ Some turn)) ⊎ ((i : ℕ) → i < n → slice_get turns i ≡ Some turn → ⊥)
 find turn [] n = inr (λ i lt h. none_some h)
 find turn (a ∷ rest) zero = inr (λ i lt h. omega arith)
 find turn (a ∷ rest) (suc n) =
@@ -43,12 +28,12 @@ find turn (a ∷ rest) (suc n) =
       ]
     ]
   where
-    none_at : (a : Turn) (rest : List Turn) (n i : ℕ) → (a ≡ turn → ⊥) → ((i : ℕ) → i < n → slice_get rest i ≡ Some turn → ⊥) → i < suc n → slice_get (a ∷ rest) i ≡ Some turn → ⊥
+    none_at : (a : GraphTurn) (rest : List GraphTurn) (n i : ℕ) → (a ≡ turn → ⊥) → ((i : ℕ) → i < n → slice_get rest i ≡ Some turn → ⊥) → i < suc n → slice_get (a ∷ rest) i ≡ Some turn → ⊥
     none_at a rest n zero apart none lt h = apart (same_Some a turn h)
     none_at a rest n (suc i) apart none lt h = none i (omega arith) h
 
-module _ (rows : List (List Turn)) (extent : Extent) (none : HasNoEarlier rows extent (strand (length rows) 0)) where
-  all_earlier : (t i : ℕ) (turn : Turn) → Does (tasks_in rows) t i turn → IsEarlier (strand t i) (strand (length rows) 0)
+module _ (rows : List (List GraphTurn)) (extent : Extent) (none : HasNoEarlier rows extent (strand (length rows) 0)) where
+  all_earlier : (t i : ℕ) (turn : GraphTurn) → Does (tasks_in rows) t i turn → IsEarlier (strand t i) (strand (length rows) 0)
   all_earlier t i turn h = inl (past_no_turn rows t i turn h)
 
   sound_below : SpawnsBelow (tasks_in rows) (length rows)
@@ -115,8 +100,8 @@ module _ (rows : List (List Turn)) (extent : Extent) (none : HasNoEarlier rows e
       let b = got_some met t (subst (λ k. t < k) (sym f.size) lt) in
       reached_by met f whole t lt b.0 b.1
 
-pub sound_by : (rows : List (List Turn)) (extent : Extent) (met : List Bool) → AreReached (tasks_in rows) (length rows) met
-    → HasNoEarlier rows extent (strand (length rows) 0) → IsSound rows extent
+pub sound_by : (rows : List (List GraphTurn)) (extent : Extent) (met : List Bool) → AreReached (tasks_in rows) (length rows) met
+    → HasNoEarlier rows extent (strand (length rows) 0) → IsSoundRun rows extent
 sound_by rows Whole met f none = record {
   nested = record { fork_join = sound_fork_join rows Whole none; all_joined = last_joined rows Whole none refl };
   below = sound_below rows Whole none;
@@ -126,7 +111,7 @@ sound_by rows Cut met f none = record { fork_join = sound_fork_join rows Cut non
 
 -- AND THE OTHER WAY
 
-module _ (rows : List (List Turn)) (fj : IsForkJoin (tasks_in rows)) (below : SpawnsBelow (tasks_in rows) (length rows)) where
+module _ (rows : List (List GraphTurn)) (fj : IsForkJoin (tasks_in rows)) (below : SpawnsBelow (tasks_in rows) (length rows)) where
   not_own_time : (s j t i : ℕ) → (s ≡ t) × (j ≡ i) → IsEarlier (strand s j) (strand t i) → ⊥
   not_own_time s j t i (same, equal) (inl lt) = omega arith
   not_own_time s j t i (same, equal) (inr (e, lt)) = omega arith
@@ -135,20 +120,20 @@ module _ (rows : List (List Turn)) (fj : IsForkJoin (tasks_in rows)) (below : Sp
   root_first zero t i h = absurd (fj.root t i h)
   root_first (suc c) t i h = omega arith
 
-  new_spawn : (u : Strand) (c : ℕ) → Does (tasks_in rows) u.task u.index (Spawn c) → IsNew (tasks_in rows) (length rows) u c
+  new_spawn : (u : GraphStrand) (c : ℕ) → Does (tasks_in rows) u.task u.index (Spawn c) → IsNew (tasks_in rows) (length rows) u c
   new_spawn u c h = record {
     not_root = root_first c u.task u.index h;
     there = below u.task u.index c h;
     unspawned = λ b. not_own_time b.0 b.1 u.task u.index (fj.spawned_once c b.0 b.1 u.task u.index b.2 h) b.3;
   }
 
-  open_join : (u : Strand) (c : ℕ) → Does (tasks_in rows) u.task u.index (Join c) → IsOpen (tasks_in rows) u c
+  open_join : (u : GraphStrand) (c : ℕ) → Does (tasks_in rows) u.task u.index (Join c) → IsOpen (tasks_in rows) u c
   open_join u c h = record {
     spawned = fj.joins_own c u.task u.index h;
     unjoined = λ j lt jn. let same : j ≡ u.index = fj.joined_once c u.task j u.index jn h in omega arith;
   }
 
-whole_clean : (rows : List (List Turn)) → IsWhole (tasks_in rows) (length rows) → (u : Strand) (cause : Cause) → u.task < length rows
+whole_clean : (rows : List (List GraphTurn)) → IsNestedRun (tasks_in rows) (length rows) → (u : GraphStrand) (cause : StrandCause) → u.task < length rows
     → IsFault (tasks_in rows) (length rows) Whole u cause → ⊥
 whole_clean rows w u SpawnsNoNewTask lt (c, h, bad) = bad (new_spawn rows w.nested.fork_join w.below u c h)
 whole_clean rows w u JoinsNoOpenChild lt (c, h, bad) = bad (open_join rows w.nested.fork_join w.below u c h)
@@ -156,11 +141,11 @@ whole_clean rows w u LeavesUnjoined lt (is, end, (c, opened)) =
     let s = opened.spawned in
     let join = w.nested.all_joined c u.task s.0 s.2 in
     let within : join.0 < length (tasks_in rows u.task) = slice_get_within (tasks_in rows u.task) join.0 (Join c) join.1 in
-    let same : u.index ≡ length (tasks_in rows u.task) = ap (λ (x : Strand). x.index) end in
+    let same : u.index ≡ length (tasks_in rows u.task) = ap (λ (x : GraphStrand). x.index) end in
     opened.unjoined join.0 (omega arith) join.1
 whole_clean rows w u IsUnreached lt (is, end, bad) = bad (w.reached u.task lt)
 
-cut_clean : (rows : List (List Turn)) → IsCutOff (tasks_in rows) (length rows) → (u : Strand) (cause : Cause)
+cut_clean : (rows : List (List GraphTurn)) → IsCutOff (tasks_in rows) (length rows) → (u : GraphStrand) (cause : StrandCause)
     → IsFault (tasks_in rows) (length rows) Cut u cause → ⊥
 cut_clean rows w u SpawnsNoNewTask (c, h, bad) = bad (new_spawn rows w.fork_join w.below u c h)
 cut_clean rows w u JoinsNoOpenChild (c, h, bad) = bad (open_join rows w.fork_join w.below u c h)

@@ -1,28 +1,10 @@
 -- How tasks stand with their parents as turns are taken, and what is wrong with a turn that isn't allowed.
-use Rattle.std.proofs.Common.{◌≡◌, ◌==◌, ℕ, zero, suc, ◌+◌, ◌<◌, Bool, true, false, List, length, ◌⊎◌, inl, inr, refl, ap, sym, subst, ◌∙◌, arith, Option, Some, None, slice_get, slice_set, replicate, if◌then◌else◌}
-use Rattle.std.specs.List.{list_any}
-use Rattle.std.proofs.lemmas.Bool.{cases_lt, cases_eq, cases_order, false≢true, eqb-true, eqb-false}
-use Rattle.std.proofs.lemmas.List.{length-set, length-replicate}
-use Rattle.std.proofs.lemmas.Option.{same_Some, slice_get_within}
-use Rattle.listed.proofs.Members.{got_same, got_other, any_from_in, in_from_any, got_in}
-use Rattle.listed.proofs.Places.{got_none, in_got}
-use Rattle.listed.proofs.Options.{none_some}
-use Rattle.fork_graph.specs.declared.graph.Turn.{Turn}
-use Rattle.fork_graph.specs.declared.graph.Turn.TheVariants.{Spawn, Join}
-use Rattle.fork_graph.specs.declared.graph.Strand.{Strand}
-use Rattle.fork_graph.specs.declared.children.ChildState.{ChildState}
-use Rattle.fork_graph.specs.declared.children.ChildState.TheVariants.{Unspawned, Open, Joined}
-use Rattle.fork_graph.specs.declared.fault.Extent.{Extent}
-use Rattle.fork_graph.specs.declared.fault.Cause.{Cause}
-use Rattle.fork_graph.specs.declared.fault.Cause.TheVariants.{SpawnsNoNewTask, JoinsNoOpenChild, LeavesUnjoined, IsUnreached}
-use Rattle.fork_graph.specs.Graph.{Tasks, tasks_in, strand, last_of, Does, IsEarlier}
-use Rattle.fork_graph.specs.Faults.{IsSpawnedBefore, IsNew, IsOpen, IsFault, HasNoEarlier, cause_of}
-use Rattle.fork_graph.specs.Children.{none_spawned, spawned_from, joined_from, after_turn, is_open, spawns_open, HasState, AreStates}
+use Rattle.fork_graph.proofs.Common.{◌≡◌, ◌==◌, ℕ, zero, suc, ◌+◌, ◌<◌, Bool, true, false, List, length, ◌⊎◌, inl, inr, refl, ap, sym, subst, ◌∙◌, arith, Option, Some, None, slice_get, slice_set, replicate, if◌then◌else◌, list_any, cases_lt, cases_eq, cases_order, false≢true, eqb-true, eqb-false, length-set, length-replicate, same_Some, slice_get_within, got_same, got_other, any_from_in, in_from_any, got_in, got_none, in_got, none_some, GraphTurn, Spawn, Join, GraphStrand, ChildState, Unspawned, Open, Joined, Extent, StrandCause, SpawnsNoNewTask, JoinsNoOpenChild, LeavesUnjoined, IsUnreached, Tasks, tasks_in, strand, last_of, Does, IsEarlier, IsSpawnedBefore, IsNew, IsOpen, IsFault, HasNoEarlier, cause_of, none_spawned, spawned_from, joined_from, after_turn, is_open, spawns_open, HasState, AreStates}
 use Rattle.fork_graph.proofs.Cut.{same_spawn, same_join, spawn_no_join}
 
 -- ORDER
 
-pub earlier_next : (u : Strand) (t i : ℕ) → IsEarlier u (strand t (i + 1)) → IsEarlier u (strand t i) ⊎ ((u.task ≡ t) × (u.index ≡ i))
+pub earlier_next : (u : GraphStrand) (t i : ℕ) → IsEarlier u (strand t (i + 1)) → IsEarlier u (strand t i) ⊎ ((u.task ≡ t) × (u.index ≡ i))
 earlier_next u t i (inl lt) = inl (inl lt)
 earlier_next u t i (inr (same, lt)) =
     elim (cases_lt u.index i) [
@@ -30,11 +12,11 @@ earlier_next u t i (inr (same, lt)) =
       | inr ge ↦ inr (same, omega arith)
     ]
 
-pub next_later : (u : Strand) (t i : ℕ) → IsEarlier u (strand t i) → IsEarlier u (strand t (i + 1))
+pub next_later : (u : GraphStrand) (t i : ℕ) → IsEarlier u (strand t i) → IsEarlier u (strand t (i + 1))
 next_later u t i (inl lt) = inl lt
 next_later u t i (inr (same, lt)) = inr (same, omega arith)
 
-pub order : (u v : Strand) → ((u.task ≡ v.task) × (u.index ≡ v.index)) ⊎ (IsEarlier u v ⊎ IsEarlier v u)
+pub order : (u v : GraphStrand) → ((u.task ≡ v.task) × (u.index ≡ v.index)) ⊎ (IsEarlier u v ⊎ IsEarlier v u)
 order u v =
     elim (cases_order u.task v.task) [
       | inl same ↦ elim (cases_order u.index v.index) [
@@ -48,16 +30,16 @@ own_earlier : (t p j i : ℕ) → p ≡ t → IsEarlier (strand p j) (strand t i
 own_earlier t p j i same (inl lt) = absurd (omega arith)
 own_earlier t p j i same (inr (e, lt)) = lt
 
-does_same : (tasks : Tasks) (t i : ℕ) (a b : Turn) → Does tasks t i a → Does tasks t i b → a ≡ b
+does_same : (tasks : Tasks) (t i : ℕ) (a b : GraphTurn) → Does tasks t i a → Does tasks t i b → a ≡ b
 does_same tasks t i a b h k = same_Some a b (sym h ∙ k)
 
 not_both : {A : Type 0} (tasks : Tasks) (t i c d : ℕ) → Does tasks t i (Spawn c) → Does tasks t i (Join d) → A
 not_both tasks t i c d h k = spawn_no_join c d (does_same tasks t i (Spawn c) (Join d) h k)
 
-not_last : {A : Type 0} (tasks : Tasks) (t i : ℕ) (turn : Turn) → Does tasks t i turn → strand t i ≡ last_of tasks t → A
+not_last : {A : Type 0} (tasks : Tasks) (t i : ℕ) (turn : GraphTurn) → Does tasks t i turn → strand t i ≡ last_of tasks t → A
 not_last tasks t i turn h e =
     let lt : i < length (tasks t) = slice_get_within (tasks t) i turn h in
-    let same : i ≡ length (tasks t) = ap (λ (x : Strand). x.index) e in
+    let same : i ≡ length (tasks t) = ap (λ (x : GraphStrand). x.index) e in
     absurd (omega arith)
 
 -- ---- states that a turn of another child leaves
@@ -86,7 +68,7 @@ module _ (tasks : Tasks) (t i c : ℕ) (no_spawn : Does tasks t i (Spawn c) → 
 -- ---- what stands at the start of the next task stands at the end of the one before
 
 module _ (tasks : Tasks) (t : ℕ) where
-  end_from_next : (s j : ℕ) (turn : Turn) → Does tasks s j turn → IsEarlier (strand s j) (strand (t + 1) 0) → IsEarlier (strand s j) (last_of tasks t)
+  end_from_next : (s j : ℕ) (turn : GraphTurn) → Does tasks s j turn → IsEarlier (strand s j) (strand (t + 1) 0) → IsEarlier (strand s j) (last_of tasks t)
   end_from_next s j turn h (inl lt) =
       elim (cases_lt s t) [
         | inl before ↦ inl before
@@ -96,7 +78,7 @@ module _ (tasks : Tasks) (t : ℕ) where
       ]
   end_from_next s j turn h (inr (same, lt)) = absurd (omega arith)
 
-  next_from_end : (u : Strand) → IsEarlier u (last_of tasks t) → IsEarlier u (strand (t + 1) 0)
+  next_from_end : (u : GraphStrand) → IsEarlier u (last_of tasks t) → IsEarlier u (strand (t + 1) 0)
   next_from_end u (inl lt) = inl (omega arith)
   next_from_end u (inr (same, lt)) = inl (omega arith)
 
@@ -109,28 +91,28 @@ module _ (tasks : Tasks) (t : ℕ) where
   pub states_next : (n : ℕ) (states : List ChildState) → AreStates tasks n (last_of tasks t) states → AreStates tasks n (strand (t + 1) 0) states
   states_next n states f = record { size = f.size; each = λ c state h. state_next c state (f.each c state h) }
 
-open_spawn_by : (states : List ChildState) (turn : Turn) (i : ℕ) (turns : List Turn) → slice_get turns i ≡ Some turn → spawns_open states turn ≡ true
+open_spawn_by : (states : List ChildState) (turn : GraphTurn) (i : ℕ) (turns : List GraphTurn) → slice_get turns i ≡ Some turn → spawns_open states turn ≡ true
     → (c : ℕ) × ((i : ℕ) × (slice_get turns i ≡ Some (Spawn c))) × (is_open (slice_get states c) ≡ true)
 open_spawn_by states (Spawn c) i turns at is = (c, (i, at), is)
 open_spawn_by states (Join c) i turns at is = absurd (false≢true is)
 
 -- which of the turns spawned a child that is open
-open_spawn : (states : List ChildState) (turns : List Turn) → list_any (spawns_open states) turns ≡ true
+open_spawn : (states : List ChildState) (turns : List GraphTurn) → list_any (spawns_open states) turns ≡ true
     → (c : ℕ) × ((i : ℕ) × (slice_get turns i ≡ Some (Spawn c))) × (is_open (slice_get states c) ≡ true)
 open_spawn states turns any =
     let r = in_from_any (spawns_open states) turns any in
     let at = in_got turns r.0 r.1 in
     open_spawn_by states r.0 at.0 turns at.1 r.2
 
-module _ (rows : List (List Turn)) (extent : Extent) where
+module _ (rows : List (List GraphTurn)) (extent : Extent) where
   -- SPAWNS WITHOUT A FAULT
 
-  clash : {A : Type 0} (v : Strand) (c s j s' j' : ℕ) → HasNoEarlier rows extent v → Does (tasks_in rows) s j (Spawn c) → Does (tasks_in rows) s' j' (Spawn c)
+  clash : {A : Type 0} (v : GraphStrand) (c s j s' j' : ℕ) → HasNoEarlier rows extent v → Does (tasks_in rows) s j (Spawn c) → Does (tasks_in rows) s' j' (Spawn c)
       → IsEarlier (strand s' j') v → IsEarlier (strand s j) (strand s' j') → A
   clash v c s j s' j' none h h' e' before =
       absurd (none (strand s' j') SpawnsNoNewTask e' (c, h', λ new. new.unspawned (s, j, h, before)))
 
-  pub one_spawn : (v : Strand) (c s j s' j' : ℕ) → HasNoEarlier rows extent v → Does (tasks_in rows) s j (Spawn c) → Does (tasks_in rows) s' j' (Spawn c)
+  pub one_spawn : (v : GraphStrand) (c s j s' j' : ℕ) → HasNoEarlier rows extent v → Does (tasks_in rows) s j (Spawn c) → Does (tasks_in rows) s' j' (Spawn c)
       → IsEarlier (strand s j) v → IsEarlier (strand s' j') v → (s ≡ s') × (j ≡ j')
   one_spawn v c s j s' j' none h h' e e' =
       elim (order (strand s j) (strand s' j')) [
@@ -141,7 +123,7 @@ module _ (rows : List (List Turn)) (extent : Extent) where
         ]
       ]
 
-  pub spawn_there : (v : Strand) (c s j : ℕ) → HasNoEarlier rows extent v → Does (tasks_in rows) s j (Spawn c) → IsEarlier (strand s j) v → (0 < c) × (c < length rows)
+  pub spawn_there : (v : GraphStrand) (c s j : ℕ) → HasNoEarlier rows extent v → Does (tasks_in rows) s j (Spawn c) → IsEarlier (strand s j) v → (0 < c) × (c < length rows)
   spawn_there v c s j none h e = (
     elim (cases_lt 0 c) [
       | inl lt ↦ lt
@@ -156,18 +138,18 @@ module _ (rows : List (List Turn)) (extent : Extent) where
   -- A TURN THAT IS ALLOWED
 
   module _ (t i : ℕ) (states : List ChildState) (f : AreStates (tasks_in rows) (length rows) (strand t i) states) (none : HasNoEarlier rows extent (strand t i)) where
-    on_by : (turn : Turn) → Does (tasks_in rows) t i turn
-        → ((cause : Cause) → IsFault (tasks_in rows) (length rows) extent (strand t i) cause → ⊥) → HasNoEarlier rows extent (strand t (i + 1))
+    on_by : (turn : GraphTurn) → Does (tasks_in rows) t i turn
+        → ((cause : StrandCause) → IsFault (tasks_in rows) (length rows) extent (strand t i) cause → ⊥) → HasNoEarlier rows extent (strand t (i + 1))
     on_by turn h good u cause e bad =
         elim (earlier_next u t i e) [
           | inl before ↦ none u cause before bad
           | inr (same, equal) ↦
-              good cause (subst (λ (x : Strand). IsFault (tasks_in rows) (length rows) extent x cause)
+              good cause (subst (λ (x : GraphStrand). IsFault (tasks_in rows) (length rows) extent x cause)
               (ap (λ x. strand x u.index) same ∙ ap (strand t) equal) bad)
         ]
 
     good_spawn : (c : ℕ) → Does (tasks_in rows) t i (Spawn c) → IsNew (tasks_in rows) (length rows) (strand t i) c
-        → (cause : Cause) → IsFault (tasks_in rows) (length rows) extent (strand t i) cause → ⊥
+        → (cause : StrandCause) → IsFault (tasks_in rows) (length rows) extent (strand t i) cause → ⊥
     good_spawn c h new SpawnsNoNewTask (d, h', bad) =
         bad (subst (IsNew (tasks_in rows) (length rows) (strand t i)) (same_spawn c d (does_same (tasks_in rows) t i (Spawn c) (Spawn d) h h')) new)
     good_spawn c h new JoinsNoOpenChild (d, h', bad) = not_both (tasks_in rows) t i c d h h'
@@ -175,7 +157,7 @@ module _ (rows : List (List Turn)) (extent : Extent) where
     good_spawn c h new IsUnreached (w, e, more) = not_last (tasks_in rows) t i (Spawn c) h e
 
     good_join : (c : ℕ) → Does (tasks_in rows) t i (Join c) → IsOpen (tasks_in rows) (strand t i) c
-        → (cause : Cause) → IsFault (tasks_in rows) (length rows) extent (strand t i) cause → ⊥
+        → (cause : StrandCause) → IsFault (tasks_in rows) (length rows) extent (strand t i) cause → ⊥
     good_join c h opened SpawnsNoNewTask (d, h', bad) = not_both (tasks_in rows) t i d c h' h
     good_join c h opened JoinsNoOpenChild (d, h', bad) =
         bad (subst (IsOpen (tasks_in rows) (strand t i)) (same_join c d (does_same (tasks_in rows) t i (Join c) (Join d) h h')) opened)
@@ -266,7 +248,7 @@ module _ (rows : List (List Turn)) (extent : Extent) where
     join_by c after (Some Joined) h at is = none_some is
     join_by c after None h at is = none_some is
 
-    pub turn_taken : (turn : Turn) (after : List ChildState) → Does (tasks_in rows) t i turn → after_turn states t turn ≡ Some after
+    pub turn_taken : (turn : GraphTurn) (after : List ChildState) → Does (tasks_in rows) t i turn → after_turn states t turn ≡ Some after
         → AreStates (tasks_in rows) (length rows) (strand t (i + 1)) after × HasNoEarlier rows extent (strand t (i + 1))
     turn_taken (Spawn c) after h is = spawn_by c after (slice_get states c) h refl is
     turn_taken (Join c) after h is = join_by c after (slice_get states c) h refl is
@@ -309,7 +291,7 @@ module _ (rows : List (List Turn)) (extent : Extent) where
     own_join after true e is = none_some (sym is)
     own_join after false e is = eqb-false t t e refl
 
-    pub turn_refused : (turn : Turn) → Does (tasks_in rows) t i turn → after_turn states t turn ≡ None
+    pub turn_refused : (turn : GraphTurn) → Does (tasks_in rows) t i turn → after_turn states t turn ≡ None
         → IsFault (tasks_in rows) (length rows) extent (strand t i) (cause_of turn)
     turn_refused (Spawn c) h is = (c, h, spawn_refused c (slice_get states c) h refl is)
     turn_refused (Join c) h is = (
@@ -360,7 +342,7 @@ none_by zero c state h = none_some h
 none_by (suc n) zero state h = sym (same_Some Unspawned state h)
 none_by (suc n) (suc c) state h = none_by n c state h
 
-nothing_before : {A : Type 0} (u : Strand) → IsEarlier u (strand 0 0) → A
+nothing_before : {A : Type 0} (u : GraphStrand) → IsEarlier u (strand 0 0) → A
 nothing_before u (inl lt) = absurd (omega arith)
 nothing_before u (inr (same, lt)) = absurd (omega arith)
 
@@ -377,5 +359,5 @@ none_size (suc n) = ap suc (length-replicate n Unspawned)
 pub states_start : (tasks : Tasks) (n : ℕ) → AreStates tasks n (strand 0 0) (none_spawned n)
 states_start tasks n = record { size = none_size n; each = first_state tasks n }
 
-pub no_fault_before : (rows : List (List Turn)) (extent : Extent) → HasNoEarlier rows extent (strand 0 0)
+pub no_fault_before : (rows : List (List GraphTurn)) (extent : Extent) → HasNoEarlier rows extent (strand 0 0)
 no_fault_before rows extent u cause e bad = nothing_before u e

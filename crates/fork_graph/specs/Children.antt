@@ -1,8 +1,8 @@
 -- How each task stands with its parent, at some turn.
 use Rattle.std.specs.Prelude.{◌≡◌, ◌⊎◌, ◌<◌, ◌==◌, ℕ, zero, suc, Bool, true, false, Option, Some, None, List, [], ◌∷◌, length, slice_get, slice_set, replicate, if◌then◌else◌}
-use Rattle.fork_graph.specs.declared.graph.Turn.{Turn}
-use Rattle.fork_graph.specs.declared.graph.Turn.TheVariants.{Spawn, Join}
-use Rattle.fork_graph.specs.declared.graph.Strand.{Strand}
+use Rattle.fork_graph.specs.declared.graph.GraphTurn.{GraphTurn}
+use Rattle.fork_graph.specs.declared.graph.GraphTurn.TheVariants.{Spawn, Join}
+use Rattle.fork_graph.specs.declared.graph.GraphStrand.{GraphStrand}
 use Rattle.fork_graph.specs.declared.children.ChildState.{ChildState}
 use Rattle.fork_graph.specs.declared.children.ChildState.TheVariants.{Unspawned, Open, Joined}
 use Rattle.fork_graph.specs.Graph.{Tasks, strand, Does, IsEarlier}
@@ -28,12 +28,12 @@ joined_from states t c (Some Joined) = None
 joined_from states t c None = None
 
 -- the states after a task's turn, if that is allowed
-abbrev pub after_turn : List ChildState → ℕ → Turn → Option (List ChildState)
+abbrev pub after_turn : List ChildState → ℕ → GraphTurn → Option (List ChildState)
 after_turn states t (Spawn c) = spawned_from states t c (slice_get states c)
 after_turn states t (Join c) = joined_from states t c (slice_get states c)
 
 -- the turn was taken, or isn't allowed
-abbrev pub IsTaken : List ChildState → ℕ → Turn → Bool → List ChildState → Type 0
+abbrev pub IsTaken : List ChildState → ℕ → GraphTurn → Bool → List ChildState → Type 0
 IsTaken before t turn true after = after_turn before t turn ≡ Some after
 IsTaken before t turn false after = (after_turn before t turn ≡ None) × (after ≡ before)
 
@@ -45,18 +45,18 @@ is_open (Some Joined) = false
 is_open None = false
 
 -- the turn spawned a child that is open
-abbrev pub spawns_open : List ChildState → Turn → Bool
+abbrev pub spawns_open : List ChildState → GraphTurn → Bool
 spawns_open states (Spawn c) = is_open (slice_get states c)
 spawns_open states (Join c) = false
 
 -- the task c as it stands when strand u ends
-abbrev pub HasState : Tasks → Strand → ℕ → ChildState → Type 0
+abbrev pub HasState : Tasks → GraphStrand → ℕ → ChildState → Type 0
 HasState tasks u c Unspawned = (0 < c) × (IsSpawnedBefore tasks u c → ⊥)
 HasState tasks u c (Open p) =
     ((j : ℕ) × Does tasks p j (Spawn c) × IsEarlier (strand p j) u) × ((k : ℕ) → Does tasks p k (Join c) → IsEarlier (strand p k) u → ⊥)
 HasState tasks u c Joined =
     (c ≡ 0) ⊎ ((p j k : ℕ) × Does tasks p j (Spawn c) × IsEarlier (strand p j) u × Does tasks p k (Join c) × IsEarlier (strand p k) u)
 
-pub record AreStates (tasks : Tasks) (n : ℕ) (u : Strand) (states : List ChildState) : Type 0 where
+pub record AreStates (tasks : Tasks) (n : ℕ) (u : GraphStrand) (states : List ChildState) : Type 0 where
   pub size : length states ≡ n
   pub each : (c : ℕ) (state : ChildState) → slice_get states c ≡ Some state → HasState tasks u c state

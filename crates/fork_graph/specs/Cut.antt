@@ -1,28 +1,28 @@
 -- Runs that were cut off: of each task a first part of its turns is known.
 use Rattle.std.specs.Prelude.{◌≡◌, ◌==◌, ◌||◌, ℕ, Bool, false, not, List, [], ◌∷◌, ◌++◌, take, map, filter, reverse}
-use Rattle.fork_graph.specs.declared.graph.Turn.{Turn}
-use Rattle.fork_graph.specs.declared.graph.Turn.TheVariants.{Spawn, Join}
+use Rattle.fork_graph.specs.declared.graph.GraphTurn.{GraphTurn}
+use Rattle.fork_graph.specs.declared.graph.GraphTurn.TheVariants.{Spawn, Join}
 use Rattle.fork_graph.specs.Graph.{Tasks}
 use Rattle.fork_graph.specs.Nested.{IsForkJoin, IsNested}
 
 -- the children that turns spawn, in order
-abbrev pub spawned_by : List Turn → List ℕ
+abbrev pub spawned_by : List GraphTurn → List ℕ
 spawned_by [] = []
 spawned_by (Spawn c ∷ rest) = c ∷ spawned_by rest
 spawned_by (Join c ∷ rest) = spawned_by rest
 
 -- whether one of the turns joins the child
-abbrev pub joins : List Turn → ℕ → Bool
+abbrev pub joins : List GraphTurn → ℕ → Bool
 joins [] c = false
 joins (Spawn d ∷ rest) c = joins rest c
 joins (Join d ∷ rest) c = (d == c) || joins rest c
 
 -- the children that no turn joins, last spawned first
-abbrev pub unjoined : List Turn → List ℕ
+abbrev pub unjoined : List GraphTurn → List ℕ
 unjoined turns = filter (λ c. not (joins turns c)) (reverse (spawned_by turns))
 
 -- the turns, and then joins of all that is unjoined, last spawned first
-abbrev pub completed : List Turn → List Turn
+abbrev pub completed : List GraphTurn → List GraphTurn
 completed turns = turns ++ map Join (unjoined turns)
 
 -- each task with all that it spawned joined

@@ -1,69 +1,69 @@
 -- Tasks, their strands, and the edges that lead from strand to strand.
 use Rattle.std.specs.Prelude.{◌≡◌, ◌⊎◌, ◌+◌, ◌<◌, ◌≤◌, ◌^◌, ℕ, Some, List, [], length, get_or, slice_get}
 use Rattle.walk_laws.specs.Reached.{IsReached}
-use Rattle.fork_graph.specs.declared.graph.Turn.{Turn}
-use Rattle.fork_graph.specs.declared.graph.Turn.TheVariants.{Spawn, Join}
-use Rattle.fork_graph.specs.declared.graph.Strand.{Strand}
+use Rattle.fork_graph.specs.declared.graph.GraphTurn.{GraphTurn}
+use Rattle.fork_graph.specs.declared.graph.GraphTurn.TheVariants.{Spawn, Join}
+use Rattle.fork_graph.specs.declared.graph.GraphStrand.{GraphStrand}
 
 -- the turns of each task, by the task's number; the root is task 0
 abbrev pub Tasks : Type 0
-Tasks = ℕ → List Turn
+Tasks = ℕ → List GraphTurn
 
 -- those of a list; a task past its end takes no turn
-abbrev pub tasks_in : List (List Turn) → Tasks
+abbrev pub tasks_in : List (List GraphTurn) → Tasks
 tasks_in rows t = get_or rows t []
 
 -- tasks and strands have numbers of 32 bits
-pub record AreSmall (rows : List (List Turn)) : Type 0 where
+pub record AreSmall (rows : List (List GraphTurn)) : Type 0 where
   pub tasks : length rows ≤ 2 ^ 32
   pub turns : (t : ℕ) → length (tasks_in rows t) < 2 ^ 32
 
-abbrev pub strand : ℕ → ℕ → Strand
+abbrev pub strand : ℕ → ℕ → GraphStrand
 strand t i = record { task = t; index = i }
 
-abbrev pub first_of : ℕ → Strand
+abbrev pub first_of : ℕ → GraphStrand
 first_of t = strand t 0
 
-abbrev pub last_of : Tasks → ℕ → Strand
+abbrev pub last_of : Tasks → ℕ → GraphStrand
 last_of tasks t = strand t (length (tasks t))
 
 -- the task has this strand
-abbrev pub Stands : Tasks → Strand → Type 0
+abbrev pub Stands : Tasks → GraphStrand → Type 0
 Stands tasks u = u.index ≤ length (tasks u.task)
 
 -- a strand of a task with a lower number, or one before it of its own
-abbrev pub IsEarlier : Strand → Strand → Type 0
+abbrev pub IsEarlier : GraphStrand → GraphStrand → Type 0
 IsEarlier u v = (u.task < v.task) ⊎ ((u.task ≡ v.task) × (u.index < v.index))
 
 -- turn number i of task t
-abbrev pub Does : Tasks → ℕ → ℕ → Turn → Type 0
+abbrev pub Does : Tasks → ℕ → ℕ → GraphTurn → Type 0
 Does tasks t i turn = slice_get (tasks t) i ≡ Some turn
 
 -- EDGES
 
 -- from a strand past its turn to the task's next strand
-abbrev pub GoesOn : Tasks → Strand → Strand → Type 0
-GoesOn tasks u v = (turn : Turn) × Does tasks u.task u.index turn × (v ≡ strand u.task (u.index + 1))
+abbrev pub ContinuesTo : Tasks → GraphStrand → GraphStrand → Type 0
+ContinuesTo tasks u v = (turn : GraphTurn) × Does tasks u.task u.index turn × (v ≡ strand u.task (u.index + 1))
 
 -- from a strand that ends in a spawn to the child's first strand
-abbrev pub Spawns : Tasks → Strand → Strand → Type 0
+abbrev pub Spawns : Tasks → GraphStrand → GraphStrand → Type 0
 Spawns tasks u v = (c : ℕ) × Does tasks u.task u.index (Spawn c) × (v ≡ first_of c)
 
 -- from a child's last strand to the one after its join
-abbrev pub Joins : Tasks → Strand → Strand → Type 0
-Joins tasks u v = (t i c : ℕ) × Does tasks t i (Join c) × (u ≡ last_of tasks c) × (v ≡ strand t (i + 1))
+abbrev pub JoinsTo : Tasks → GraphStrand → GraphStrand → Type 0
+JoinsTo tasks u v = (t i c : ℕ) × Does tasks t i (Join c) × (u ≡ last_of tasks c) × (v ≡ strand t (i + 1))
 
-abbrev pub Leads : Tasks → Strand → Strand → Type 0
-Leads tasks u v = GoesOn tasks u v ⊎ (Spawns tasks u v ⊎ Joins tasks u v)
+abbrev pub IsGraphEdge : Tasks → GraphStrand → GraphStrand → Type 0
+IsGraphEdge tasks u v = ContinuesTo tasks u v ⊎ (Spawns tasks u v ⊎ JoinsTo tasks u v)
 
 -- PRECEDENCE
 
 -- a walk along edges leads from u to v
-abbrev pub Precedes : Tasks → Strand → Strand → Type 0
-Precedes tasks u v = IsReached (λ x. x ≡ u) (Leads tasks) v
+abbrev pub Precedes : Tasks → GraphStrand → GraphStrand → Type 0
+Precedes tasks u v = IsReached (λ x. x ≡ u) (IsGraphEdge tasks) v
 
 -- a walk leads to it from the root's first strand
-abbrev pub IsAttached : Tasks → Strand → Type 0
+abbrev pub IsAttached : Tasks → GraphStrand → Type 0
 IsAttached tasks u = Precedes tasks (first_of 0) u
 
 -- ANCESTORS

@@ -3,4 +3,4 @@ pub mod Nested
 pub mod Cut
 pub mod Faults
 pub mod Children
-pub mod Search
+pub mod SpawnSearch

@@ -1,6 +1,6 @@
 -- Tasks that join their own children.
 use Rattle.std.specs.Prelude.{◌≡◌, ◌<◌, ℕ}
-use Rattle.fork_graph.specs.declared.graph.Turn.TheVariants.{Spawn, Join}
+use Rattle.fork_graph.specs.declared.graph.GraphTurn.TheVariants.{Spawn, Join}
 use Rattle.fork_graph.specs.Graph.{Tasks, Does}
 
 -- each task is spawned at most once, the root never, and joined at most once, by its parent

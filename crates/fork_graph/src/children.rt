@@ -3,10 +3,10 @@
 ghost use Rattle.std.specs.Prelude.{◌≡◌, IfOk};
 ghost use Rattle.std.specs.List.{list_any};
 ghost use Rattle.fork_graph.specs.Children.{none_spawned, spawns_open, IsTaken};
-ghost use Rattle.fork_graph.specs.declared.graph.Turn.TheVariants.{Spawn, Join};
+ghost use Rattle.fork_graph.specs.declared.graph.GraphTurn.TheVariants.{Spawn, Join};
 
-use crate::graph::Turn;
-use listed::Listed;
+use crate::graph::GraphTurn;
+use plain_vec::Listed;
 use std::alloc::{AllocError, Global};
 
 /// How a task stands with its parent.
@@ -32,12 +32,12 @@ pub(crate) fn none_spawned(alloc: Global, count: usize) -> Result<Listed<ChildSt
 }
 
 /// Takes a turn of a task, if it's allowed: a spawn of a task that isn't spawned yet, or a join of an open child.
-pub(crate) fn take_turn(states: &mut Listed<ChildState>, task: u32, turn: Turn) -> bool
+pub(crate) fn take_turn(states: &mut Listed<ChildState>, task: u32, turn: GraphTurn) -> bool
     ensures { IsTaken states.old task turn result states.new }
 {
     match turn {
-        Turn::Spawn(child) => take_spawn(states, task, child),
-        Turn::Join(child) => take_join(states, task, child),
+        GraphTurn::Spawn(child) => take_spawn(states, task, child),
+        GraphTurn::Join(child) => take_join(states, task, child),
     }
 }
 
@@ -68,7 +68,7 @@ fn take_join(states: &mut Listed<ChildState>, task: u32, child: u32) -> bool
 }
 
 /// Whether one of the children that turns spawn is open.
-pub(crate) fn leaves_open(states: &Listed<ChildState>, turns: &[Turn]) -> bool
+pub(crate) fn leaves_open(states: &Listed<ChildState>, turns: &[GraphTurn]) -> bool
     ensures { result ≡ list_any (spawns_open states.now) turns.now }
 {
     for turn in turns {
@@ -80,11 +80,11 @@ pub(crate) fn leaves_open(states: &Listed<ChildState>, turns: &[Turn]) -> bool
 }
 
 // Whether a turn spawned a child that is open.
-fn spawns_open(states: &Listed<ChildState>, turn: Turn) -> bool
+fn spawns_open(states: &Listed<ChildState>, turn: GraphTurn) -> bool
     ensures { result ≡ spawns_open states.now turn }
 {
     match turn {
-        Turn::Spawn(child) => matches!(states.get(child as usize), Some(ChildState::Open(_))),
-        Turn::Join(_) => false,
+        GraphTurn::Spawn(child) => matches!(states.get(child as usize), Some(ChildState::Open(_))),
+        GraphTurn::Join(_) => false,
     }
 }

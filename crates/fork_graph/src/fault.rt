@@ -2,15 +2,15 @@
 
 ghost use Rattle.std.specs.Prelude.{◌≡◌, ◌+◌, ◌<◌, ◌↔◌, IfOk, MatchOption, IsTrue, length, Some, None};
 ghost use Rattle.fork_graph.specs.Graph.{AreSmall, tasks_in, strand, last_of, IsAncestor};
-ghost use Rattle.fork_graph.specs.Faults.{IsFault, IsSound, HasNoEarlier, IsFirstFault};
+ghost use Rattle.fork_graph.specs.Faults.{IsFault, IsSoundRun, HasNoEarlier, IsFirstFault};
 ghost use Rattle.fork_graph.specs.Children.{AreStates};
 ghost use Rattle.fork_graph.specs.Faults.{cause_of};
 ghost use Rattle.fork_graph.specs.declared.fault.Extent.TheVariants.{Whole};
 
 use crate::children::{ChildState, leaves_open, none_spawned, take_turn};
-use crate::graph::{Strand, Turn};
+use crate::graph::{GraphStrand, GraphTurn};
 use crate::reached::reached_tasks;
-use listed::Listed;
+use plain_vec::Listed;
 use std::alloc::{AllocError, Global};
 
 /// How much of a run's turns there is.
@@ -24,7 +24,7 @@ pub enum Extent {
 
 /// What is wrong with a strand; of a strand's causes the one that comes first here is told.
 #[derive(Clone, Copy)]
-pub enum Cause {
+pub enum StrandCause {
     /// It ends in a spawn of the root, of a task that isn't there, or of one that an earlier strand spawned.
     SpawnsNoNewTask,
     /// It ends in a join of what isn't a child that its task has spawned and not joined.
@@ -37,22 +37,22 @@ pub enum Cause {
 
 /// A strand with a fault.
 #[derive(Clone, Copy)]
-pub struct Fault {
+pub struct StrandFault {
     /// The strand; where the cause is one of its task's end, the task's last one.
-    pub strand: Strand,
+    pub strand: GraphStrand,
     /// What is wrong with it.
-    pub cause: Cause,
+    pub cause: StrandCause,
 }
 
 /// The first fault of the earliest strand that has one: of the lowest task, and of that task at its first such turn.
 /// A cut run has faults of turns alone.
 pub fn first_fault(
     alloc: Global,
-    tasks: &Listed<Listed<Turn>>,
+    tasks: &Listed<Listed<GraphTurn>>,
     extent: Extent,
-) -> Result<Option<Fault>, AllocError>
+) -> Result<Option<StrandFault>, AllocError>
     requires { AreSmall tasks.now }
-    ensures { IfOk result (λ found. MatchOption found (IsSound tasks.now extent) (IsFirstFault tasks.now extent)) }
+    ensures { IfOk result (λ found. MatchOption found (IsSoundRun tasks.now extent) (IsFirstFault tasks.now extent)) }
 {
     let reached = reached_tasks(alloc, tasks)?;
     let mut states = none_spawned(alloc, tasks.len())?;
@@ -67,12 +67,12 @@ pub fn first_fault(
 
 // The first fault of a task, where no task before it has one.
 fn task_fault(
-    tasks: &Listed<Listed<Turn>>,
+    tasks: &Listed<Listed<GraphTurn>>,
     task: u32,
     states: &mut Listed<ChildState>,
     extent: Extent,
     is_reached: bool,
-) -> Option<Fault>
+) -> Option<StrandFault>
     requires small { AreSmall tasks.now }
     requires there { task < length tasks.now }
     requires states { AreStates (tasks_in tasks.now) (length tasks.now) (strand task 0) states.old }
@@ -93,11 +93,11 @@ fn task_fault(
 
 // The first fault of a task's turns.
 fn turn_fault(
-    tasks: &Listed<Listed<Turn>>,
+    tasks: &Listed<Listed<GraphTurn>>,
     task: u32,
     states: &mut Listed<ChildState>,
     extent: Extent,
-) -> Option<Fault>
+) -> Option<StrandFault>
     requires small { AreSmall tasks.now }
     requires there { task < length tasks.now }
     requires states { AreStates (tasks_in tasks.now) (length tasks.now) (strand task 0) states.old }
@@ -110,8 +110,8 @@ fn turn_fault(
     for index in 0..turns.len() {
         let turn = *turns.at(index);
         if !take_turn(states, task, turn) {
-            return Some(Fault {
-                strand: Strand {
+            return Some(StrandFault {
+                strand: GraphStrand {
                     task,
                     index: index as u32,
                 },
@@ -123,22 +123,22 @@ fn turn_fault(
 }
 
 // What is wrong with a turn that isn't allowed.
-fn cause_of(turn: Turn) -> Cause
+fn cause_of(turn: GraphTurn) -> StrandCause
     ensures { result ≡ cause_of turn }
 {
     match turn {
-        Turn::Spawn(_) => Cause::SpawnsNoNewTask,
-        Turn::Join(_) => Cause::JoinsNoOpenChild,
+        GraphTurn::Spawn(_) => StrandCause::SpawnsNoNewTask,
+        GraphTurn::Join(_) => StrandCause::JoinsNoOpenChild,
     }
 }
 
 // What is wrong with the end of a task whose turns are all right.
 fn end_fault(
-    tasks: &Listed<Listed<Turn>>,
+    tasks: &Listed<Listed<GraphTurn>>,
     task: u32,
     states: &Listed<ChildState>,
     is_reached: bool,
-) -> Option<Fault>
+) -> Option<StrandFault>
     requires small { AreSmall tasks.now }
     requires there { task < length tasks.now }
     requires states { AreStates (tasks_in tasks.now) (length tasks.now) (last_of (tasks_in tasks.now) task) states.now }
@@ -147,20 +147,20 @@ fn end_fault(
     ensures { MatchOption result (HasNoEarlier tasks.now Whole (strand (task + 1) 0)) (IsFirstFault tasks.now Whole) }
 {
     let turns = tasks.at(task as usize);
-    let strand = Strand {
+    let strand = GraphStrand {
         task,
         index: turns.len() as u32,
     };
     if leaves_open(states, turns.as_slice()) {
-        return Some(Fault {
+        return Some(StrandFault {
             strand,
-            cause: Cause::LeavesUnjoined,
+            cause: StrandCause::LeavesUnjoined,
         });
     }
     if !is_reached {
-        return Some(Fault {
+        return Some(StrandFault {
             strand,
-            cause: Cause::IsUnreached,
+            cause: StrandCause::IsUnreached,
         });
     }
     None

@@ -8,7 +8,7 @@ mod laws;
 mod reached;
 mod small;
 
-pub use fault::{Cause, Extent, Fault, first_fault};
-pub use graph::{Strand, Turn};
+pub use fault::{Extent, StrandCause, StrandFault, first_fault};
+pub use graph::{GraphStrand, GraphTurn};
 pub use laws::{completed_are_nested, sound_runs_have_no_fault};
 pub use small::are_small;

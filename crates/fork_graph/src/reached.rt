@@ -2,22 +2,22 @@
 
 ghost use Rattle.std.specs.Prelude.{◌≡◌, [], IfOk, OnOk, length, replicate, false};
 ghost use Rattle.fork_graph.specs.Graph.{tasks_in};
-ghost use Rattle.fork_graph.specs.Search.{meet, meet_child, meet_children, AreReached};
+ghost use Rattle.fork_graph.specs.SpawnSearch.{meet, meet_child, meet_children, AreReached};
 
-use crate::graph::Turn;
-use listed::Listed;
+use crate::graph::GraphTurn;
+use plain_vec::Listed;
 use std::alloc::{AllocError, Global};
 
 /// A search from the root along spawns.
 #[derive(Drop)]
-pub(crate) struct Search {
+pub(crate) struct SpawnSearch {
     /// For each task whether it was met.
     pub(crate) met: Listed<bool>,
     /// Met tasks whose turns weren't looked at.
     pub(crate) waiting: Listed<u32>,
 }
 
-impl Search {
+impl SpawnSearch {
     // Meets a task that is there.
     fn meet(&mut self, task: u32) -> Result<(), AllocError>
         ensures { OnOk result (self.new ≡ meet self.old task) }
@@ -31,17 +31,17 @@ impl Search {
     }
 
     // Meets the child that a turn spawns.
-    fn meet_child(&mut self, turn: Turn) -> Result<(), AllocError>
+    fn meet_child(&mut self, turn: GraphTurn) -> Result<(), AllocError>
         ensures { OnOk result (self.new ≡ meet_child self.old turn) }
     {
         match turn {
-            Turn::Spawn(child) => self.meet(child),
-            Turn::Join(_) => Ok(()),
+            GraphTurn::Spawn(child) => self.meet(child),
+            GraphTurn::Join(_) => Ok(()),
         }
     }
 
     // Meets the children that turns spawn.
-    fn meet_children(&mut self, turns: &[Turn]) -> Result<(), AllocError>
+    fn meet_children(&mut self, turns: &[GraphTurn]) -> Result<(), AllocError>
         ensures { OnOk result (self.new ≡ meet_children self.old turns.now) }
     {
         for turn in turns {
@@ -51,7 +51,7 @@ impl Search {
     }
 
     // Meets the children of a task.
-    fn follow(&mut self, tasks: &Listed<Listed<Turn>>, task: u32) -> Result<(), AllocError>
+    fn follow(&mut self, tasks: &Listed<Listed<GraphTurn>>, task: u32) -> Result<(), AllocError>
         ensures { OnOk result (self.new ≡ meet_children self.old (tasks_in tasks.now task)) }
     {
         match tasks.get(task as usize) {
@@ -62,10 +62,10 @@ impl Search {
 }
 
 // No task was met.
-fn none_met(alloc: Global, count: usize) -> Result<Search, AllocError>
+fn none_met(alloc: Global, count: usize) -> Result<SpawnSearch, AllocError>
     ensures { IfOk result (λ search. search ≡ record { met = replicate count false; waiting = [] }) }
 {
-    Ok(Search {
+    Ok(SpawnSearch {
         met: Listed::from_vec(vec![in alloc; false; count]?),
         waiting: Listed::new(alloc),
     })
@@ -74,7 +74,7 @@ fn none_met(alloc: Global, count: usize) -> Result<Search, AllocError>
 /// For each task whether the root's spawns lead to it.
 pub(crate) fn reached_tasks(
     alloc: Global,
-    tasks: &Listed<Listed<Turn>>,
+    tasks: &Listed<Listed<GraphTurn>>,
 ) -> Result<Listed<bool>, AllocError>
     ensures { IfOk result (AreReached (tasks_in tasks.now) (length tasks.now)) }
 {

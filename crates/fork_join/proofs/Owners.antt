@@ -1,16 +1,5 @@
--- Whose a number is once chunks have another owner.
-use Rattle.std.proofs.Common.{◌≡◌, ℕ, Bool, true, false, cond, List, ◌++◌, ◌⊎◌, inl, inr, refl, sym, ap, ◌∙◌, Option, Some, None}
-use Rattle.std.specs.Prelude.{IsSome, option_map}
-use Rattle.std.proofs.lemmas.Bool.{cases_Bool, cases_eq, false≢true, or_from, or_left, or_right}
-use Rattle.object_layout.specs.ChunkValue.{ChunkValue}
-use Rattle.object_layout.specs.Chunks.{has_chunk}
-use Rattle.object_layout.proofs.Owning.{has_append}
-use Rattle.chunk_pool.specs.declared.pool.Slot.{Slot}
-use Rattle.chunk_pool.specs.PoolValue.{PoolValue, slot_at, owner_of}
-use Rattle.remembered_set.specs.declared.remembered.Source.{Source}
-use Rattle.fork_join.specs.Joined.{with_owner}
-use Rattle.fork_join.specs.Placement.{Owns}
-use Rattle.fork_join.specs.Laws.{JoinedAreOwned, Merges}
+-- The owner of a number after chunks changed their owner.
+use Rattle.fork_join.proofs.Common.{◌≡◌, ℕ, Bool, true, false, cond, List, ◌++◌, ◌⊎◌, inl, inr, refl, sym, ap, ◌∙◌, Option, Some, None, IsSome, option_map, cases_Bool, cases_eq, false≢true, or_from, or_left, or_right, ChunkValue, has_chunk, has_append, Slot, PoolValue, slot_at, owner_of, RefField, with_owner, Owns, JoinedAreOwned, Merges}
 
 pub some_same : (a b : ℕ) → Some a ≡ Some b → a ≡ b
 some_same a b e = cc
@@ -42,7 +31,7 @@ used_by : (u : ℕ) (h : Option Slot) → owner h ≡ Some u → IsSome h
 used_by u None e = absurd (let n : None ≡ Some u = e in cc)
 used_by u (Some h) e = refl
 
-module _ (old new : PoolValue) (sources after : ℕ → List Source) (p c d : ℕ) (ks ls rs : List ChunkValue) (op : Owns old p ks) (oc : Owns old c ls) (od : Owns old d rs)
+module _ (old new : PoolValue) (sources after : ℕ → List RefField) (p c d : ℕ) (ks ls rs : List ChunkValue) (op : Owns old p ks) (oc : Owns old c ls) (od : Owns old d rs)
     (J : Merges old new sources after p c d ks ls rs) where
   pub owner_left : (n : ℕ) → owner_of old n ≡ Some c → owner_of new n ≡ Some p
   owner_left n e =
@@ -62,7 +51,7 @@ module _ (old new : PoolValue) (sources after : ℕ → List Source) (p c d : �
   owners n u nc nd e =
       (joined_are_owned old new (ls ++ rs) p J.pool n).1 (has_append ls rs n ∙ or_from (has_chunk ls n) (has_chunk rs n) (isnt c u n ls oc nc e) (isnt d u n rs od nd e)) ∙ e
 
-  -- who owned a number, and who owns it now
+  -- the owner of a number before and after
   abbrev pub Moved : ℕ → ℕ → ℕ → Type 0
   Moved n x o = (owner_of old n ≡ Some o) × ((((o ≡ c) ⊎ (o ≡ d)) × (x ≡ p)) ⊎ ((((o ≡ c) ⊎ (o ≡ d)) → ⊥) × (x ≡ o)))
 

@@ -1,8 +1,8 @@
 // The first faults of runs.
 
 use crate::runs::{Table, lists};
-use fork_graph::Turn::{Join, Spawn};
-use fork_graph::{Cause, Extent, Fault, Turn, are_small, first_fault};
+use fork_graph::GraphTurn::{Join, Spawn};
+use fork_graph::{Extent, GraphTurn, StrandCause, StrandFault, are_small, first_fault};
 use std::alloc::Global;
 
 struct Case {
@@ -92,16 +92,16 @@ const CASES: &[Case] = &[
     },
 ];
 
-fn number(cause: Cause) -> u32 {
+fn number(cause: StrandCause) -> u32 {
     match cause {
-        Cause::SpawnsNoNewTask => 0,
-        Cause::JoinsNoOpenChild => 1,
-        Cause::LeavesUnjoined => 2,
-        Cause::IsUnreached => 3,
+        StrandCause::SpawnsNoNewTask => 0,
+        StrandCause::JoinsNoOpenChild => 1,
+        StrandCause::LeavesUnjoined => 2,
+        StrandCause::IsUnreached => 3,
     }
 }
 
-fn found(alloc: Global, table: Table, extent: Extent) -> Option<Option<Fault>> {
+fn found(alloc: Global, table: Table, extent: Extent) -> Option<Option<StrandFault>> {
     let Ok(tasks) = lists(alloc, table) else {
         return None;
     };

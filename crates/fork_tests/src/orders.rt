@@ -1,10 +1,10 @@
 // Which strands of runs precede which.
 
 use crate::runs::{Table, lists};
-use fork_graph::Turn::{Join, Spawn};
-use fork_graph::{Extent, Turn, are_small, first_fault};
-use listed::Listed;
+use fork_graph::GraphTurn::{Join, Spawn};
+use fork_graph::{Extent, GraphTurn, are_small, first_fault};
 use log_walk::SerialWalk;
+use plain_vec::Listed;
 use std::alloc::Global;
 
 struct Case {
@@ -86,7 +86,7 @@ fn has_rows(walk: &SerialWalk, rows: &[&[u8]]) -> bool {
     true
 }
 
-fn is_walked(alloc: Global, tasks: &Listed<Listed<Turn>>, case: &Case) -> bool {
+fn is_walked(alloc: Global, tasks: &Listed<Listed<GraphTurn>>, case: &Case) -> bool {
     if tasks.is_empty() || !are_small(tasks) {
         return false;
     }
@@ -114,7 +114,7 @@ fn orders_and_precedence(rt: HostRuntime) {
 }
 
 // A chain of so many nested forks.
-fn chain(alloc: Global, count: u32) -> Option<Listed<Listed<Turn>>> {
+fn chain(alloc: Global, count: u32) -> Option<Listed<Listed<GraphTurn>>> {
     let mut tasks = Listed::new(alloc);
     for child in 1..count {
         let mut turns = Listed::new(alloc);

@@ -1,10 +1,10 @@
 // Work and span of runs.
 
 use crate::runs::{Table, lists};
-use fork_graph::Turn::{Join, Spawn};
-use fork_graph::{Extent, Turn, are_small, first_fault};
-use listed::Listed;
+use fork_graph::GraphTurn::{Join, Spawn};
+use fork_graph::{Extent, GraphTurn, are_small, first_fault};
 use log_walk::SerialWalk;
+use plain_vec::Listed;
 use run_span::{span_of, total_work};
 use std::alloc::Global;
 
@@ -56,7 +56,7 @@ const CASES: &[Case] = &[
     },
 ];
 
-fn has_span(alloc: Global, tasks: &Listed<Listed<Turn>>, case: &Case) -> bool {
+fn has_span(alloc: Global, tasks: &Listed<Listed<GraphTurn>>, case: &Case) -> bool {
     if tasks.is_empty() || !are_small(tasks) {
         return false;
     }

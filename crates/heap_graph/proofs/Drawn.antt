@@ -1,11 +1,5 @@
 -- How the text of a graph is put together.
-use Rattle.std.proofs.Common.{◌≡◌, ℕ, zero, suc, List, [], ◌∷◌, ◌++◌, refl, ap, sym, ◌∙◌, append_assoc, append-nil}
-use Rattle.std.specs.Prelude.{◌≢◌, codes, Some, None}
-use Rattle.std.specs.List.{flat_map}
-use Rattle.dot_text.specs.Dot.{Statement, Attributes, Node, Edge, attribute, node_begin, edge_begin, statement_end, setting, cluster_begin, braces_end, dot, all_dot}
-use Rattle.image_check.specs.Tasks.{Tasks, parent_of}
-use Rattle.heap_graph.specs.Drawn.{path, path_above, boxed, point, titled, statements}
-use Rattle.heap_graph.specs.Pieces.{opened}
+use Rattle.heap_graph.proofs.Common.{◌≡◌, ℕ, zero, suc, List, [], ◌∷◌, ◌++◌, refl, ap, sym, ◌∙◌, append_assoc, append-nil, ◌≢◌, codes, Some, None, flat_map, Statement, Attributes, Node, Edge, attribute, node_begin, edge_begin, statement_end, setting, cluster_begin, braces_end, dot, all_dot, Tasks, parent_of, path, path_above, boxed, point, titled, statements, opened}
 
 -- BOXES
 

@@ -1,14 +1,5 @@
 -- The edges of an object are its references that lead into a heap.
-use Rattle.std.proofs.Common.{◌≡◌, ◌+◌, ℕ, zero, suc, Bool, cond, List, [], ◌∷◌, ◌++◌, length, refl, ap, sym, subst, ◌∙◌, arith}
-use Rattle.std.specs.Prelude.{Option, Some, None, is_some, Contains, count_by}
-use Rattle.std.proofs.lemmas.List.Elements.{Contains-append_left, Contains-append_right}
-use Rattle.std.proofs.lemmas.List.Recursion.{is_count_by}
-use Rattle.dot_text.specs.Dot.{Statement}
-use Rattle.image_check.specs.declared.read.Read.{Read}
-use Rattle.image_check.specs.Tasks.{owner_at}
-use Rattle.image_check.specs.Sound.{ReferenceIs}
-use Rattle.heap_graph.specs.Kinds.{port_at, edge_to, edge_by, edges_from}
-use Rattle.heap_graph.specs.Laws.{leads}
+use Rattle.heap_graph.proofs.Common.{◌≡◌, ◌+◌, ℕ, zero, suc, Bool, cond, List, [], ◌∷◌, ◌++◌, length, refl, ap, sym, subst, ◌∙◌, arith, Option, Some, None, is_some, Contains, count_by, Contains-append_left, Contains-append_right, is_count_by, Statement, Read, owner_at, ReferenceIs, port_at, edge_to, edge_by, edges_from, leads}
 
 contains_alone : (s : Statement) → Contains (s ∷ []) s
 contains_alone s = (0, omega arith, refl)

@@ -1,6 +1,5 @@
 -- What is left of a text.
-use Rattle.std.proofs.Common.{ℕ, ◌+◌, List, length}
-use Rattle.std.specs.Prelude.{Option, Some, None}
+use Rattle.heap_graph.proofs.Common.{ℕ, ◌+◌, List, length, Option, Some, None}
 
 abbrev pub bytes_left : Option (List ℕ) → ℕ
 bytes_left None = 0

@@ -4,3 +4,4 @@ mod Left
 mod Loops
 mod Titles
 mod Running
+mod Common

@@ -1,12 +1,5 @@
 -- What is left to be written, item by item.
-use Rattle.std.proofs.Common.{◌≡◌, ◌<◌, ◌≤◌, ◌+◌, ℕ, zero, suc, List, [], ◌∷◌, ◌++◌, length, take, drop, get_or, ap, sym, ◌∙◌, append_assoc, append-nil, arith}
-use Rattle.std.proofs.lemmas.List.{length-drop, drop_all, drop_more}
-use Rattle.std.specs.List.{flat_map}
-use Rattle.std.specs.Prelude.{Some, slice_get}
-use Rattle.std.proofs.lemmas.Option.{slice_get_within, get_or_from_slice_get}
-use Rattle.dot_text.specs.Dot.{dot}
-use Rattle.image_check.specs.declared.read.Read.{Read}
-use Rattle.heap_graph.specs.Overview.{Links, link_edge, links_drawn}
+use Rattle.heap_graph.proofs.Common.{◌≡◌, ◌<◌, ◌≤◌, ◌+◌, ℕ, zero, suc, List, [], ◌∷◌, ◌++◌, length, take, drop, get_or, ap, sym, ◌∙◌, append_assoc, append-nil, arith, length-drop, drop_all, drop_more, flat_map, Some, slice_get, slice_get_within, get_or_from_slice_get, dot, Read, Links, link_edge, links_drawn}
 
 -- one more item has the same piece as each
 same_next : (piece : List ℕ) (xs : List ℕ) (i : ℕ) → i < length xs → flat_map (λ _. piece) (take (suc i) xs) ≡ flat_map (λ _. piece) (take i xs) ++ piece

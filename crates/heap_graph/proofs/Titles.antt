@@ -1,8 +1,5 @@
 -- The fields of a record.
-use Rattle.std.proofs.Common.{◌≡◌, ◌==◌, ℕ, false, List, ◌++◌, append_assoc, arith}
-use Rattle.std.specs.Prelude.{codes, ◌≢◌}
-use Rattle.std.specs.Fmt.{decimal}
-use Rattle.heap_graph.specs.Drawn.{port_title}
+use Rattle.heap_graph.proofs.Common.{◌≡◌, ◌==◌, ℕ, false, List, ◌++◌, append_assoc, arith, codes, ◌≢◌, decimal, port_title}
 
 pub nil_port : (k v : ℕ) → v ≡ 0 → codes "|<f" ++ (decimal k ++ codes "> nil") ≡ port_title k v
 nil_port k v e = rw e (four (decimal k))

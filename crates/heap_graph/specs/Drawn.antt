@@ -2,23 +2,11 @@
 use Rattle.std.specs.Prelude.{ℕ, zero, suc, ◌+◌, ◌==◌, not, Bool, false, Option, Some, None, List, [], ◌∷◌, ◌++◌, codes, drop, length, nat_lt, if◌then◌else◌}
 use Rattle.std.specs.List.{flat_map}
 use Rattle.std.specs.Fmt.{decimal}
-use Rattle.text_lines.specs.Lines.{words_of}
-use Rattle.image_check.specs.declared.line.Birth.{Birth}
-use Rattle.image_check.specs.declared.line.Task.{Task}
-use Rattle.image_check.specs.declared.line.Chunk.{Chunk}
-use Rattle.image_check.specs.declared.line.Object.{Object}
-use Rattle.image_check.specs.declared.line.Said.{Said}
-use Rattle.image_check.specs.declared.line.Said.TheVariants.{OfTask, OfChunk, OfObject}
-use Rattle.image_check.specs.declared.read.Read.{Read}
-use Rattle.image_check.specs.Line.{said_by}
-use Rattle.image_check.specs.Place.{chunk_number}
-use Rattle.image_check.specs.Tasks.{Tasks, parent_of, owner_at}
-use Rattle.quoted_text.specs.Labels.{task_name}
-use Rattle.dot_text.specs.Dot.{Statement, Statements, Setting, Node, Cluster, NoStatement, Statement_, alone}
-use Rattle.heap_graph.specs.declared.held.Held.{Held}
+use Rattle.heap_graph.specs.Common.{words_of, ImageBirth, ImageTask, ImageChunk, ImageObject, ImageLine, OfTask, OfChunk, OfObject, Read, said_by, chunk_number, Tasks, parent_of, owner_at, task_name, Statement, Statements, Setting, Node, Cluster, NoStatement, Statement_, alone}
+use Rattle.heap_graph.specs.declared.held.HeapTotals.{HeapTotals}
 use Rattle.heap_graph.specs.Names.{task_cluster, chunk_name, chunk_cluster, object_name, task_title, chunk_title}
 use Rattle.heap_graph.specs.Kinds.{field_limit, is_long, edges_of}
-use Rattle.heap_graph.specs.Held.{Heaps, held_of, is_drawn}
+use Rattle.heap_graph.specs.HeapTotals.{Heaps, held_of, is_drawn}
 
 -- PATHS
 
@@ -60,14 +48,14 @@ abbrev pub port_titles : ℕ → List ℕ → List ℕ
 port_titles k [] = []
 port_titles k (v ∷ vs) = port_title k v ++ port_titles (k + 1) vs
 
-abbrev pub birth_title : Birth → List ℕ
+abbrev pub birth_title : ImageBirth → List ℕ
 birth_title b = codes "(" ++ decimal b.task ++ codes "," ++ decimal b.count ++ codes ")"
 
 -- one field for all references
 abbrev pub count_title : ℕ → List ℕ
 count_title n = codes "|<f0> references: " ++ decimal n
 
-abbrev pub references_title : Object → List ℕ
+abbrev pub references_title : ImageObject → List ℕ
 references_title o = if is_long o then count_title (length o.references) else port_titles 0 o.references
 
 -- a field that says a word
@@ -83,25 +71,25 @@ abbrev pub kind_title : List ℕ → List ℕ
 kind_title line = word_field (first_of (drop 4 (words_of line)))
 
 -- as in the line, or only their number
-abbrev pub numbers_title : List ℕ → Object → List ℕ
+abbrev pub numbers_title : List ℕ → ImageObject → List ℕ
 numbers_title line o =
     if nat_lt field_limit o.numbers then codes "|numbers: " ++ decimal o.numbers
     else flat_map word_field (drop (7 + length o.references) (words_of line))
 
 -- its name, its kind, its references and its numbers
-abbrev pub object_title : List ℕ → Object → List ℕ
+abbrev pub object_title : List ℕ → ImageObject → List ℕ
 object_title line o = birth_title o.birth ++ kind_title line ++ references_title o ++ numbers_title line o
 
-abbrev pub node_of : List ℕ → Object → Statement
+abbrev pub node_of : List ℕ → ImageObject → Statement
 node_of line o = Node (object_name o.address) ((codes "shape", codes "record") ∷ (codes "label", object_title line o) ∷ [])
 
-abbrev pub node_by : List ℕ → Said → List Statement
+abbrev pub node_by : List ℕ → ImageLine → List Statement
 node_by line (OfObject o) = node_of line o ∷ []
 node_by line _ = []
 
 -- THE OBJECTS OF A CHUNK
 
-abbrev pub lies_elsewhere : ℕ → Said → Bool
+abbrev pub lies_elsewhere : ℕ → ImageLine → Bool
 lies_elsewhere c (OfObject o) = not (chunk_number o.address == c)
 lies_elsewhere c _ = false
 
@@ -125,38 +113,38 @@ point name = Node name ((codes "shape", codes "point") ∷ (codes "style", codes
 abbrev pub titled : List ℕ → List ℕ → List ℕ → List Statement → Statement
 titled cluster name title within = Cluster cluster (Statement_ (Setting (codes "label") title) (Statement_ (point name) (statements within)))
 
-abbrev pub task_box : Task → Held → Statement
+abbrev pub task_box : ImageTask → HeapTotals → Statement
 task_box t h = titled (task_cluster t.number) (task_name t.number) (task_title t h) []
 
-abbrev pub task_drawn : Read → Heaps → Task → Statement
+abbrev pub task_drawn : Read → Heaps → ImageTask → Statement
 task_drawn r m t = boxed (path_above (path_to r.tasks) t.parent) (task_box t (held_of m t.number))
 
-abbrev pub chunk_box : Chunk → List Statement → Statement
+abbrev pub chunk_box : ImageChunk → List Statement → Statement
 chunk_box c within = titled (chunk_cluster c.number) (chunk_name c.number) (chunk_title c) within
 
-abbrev pub chunk_drawn : Read → Chunk → List (List ℕ) → Statement
+abbrev pub chunk_drawn : Read → ImageChunk → List (List ℕ) → Statement
 chunk_drawn r c objects = inside r.tasks c.owner (chunk_box c (nodes_in c.number objects))
 
 -- the edges of an object whose heap is drawn
-abbrev pub edges_drawn : Read → Option ℕ → Object → Option ℕ → List Statement
+abbrev pub edges_drawn : Read → Option ℕ → ImageObject → Option ℕ → List Statement
 edges_drawn r p o None = []
 edges_drawn r p o (Some t) = if is_drawn r p t then edges_of r t o else []
 
-abbrev pub drawn_task : Read → Heaps → Option ℕ → Task → List Statement
+abbrev pub drawn_task : Read → Heaps → Option ℕ → ImageTask → List Statement
 drawn_task r m p t = if is_drawn r p t.number then task_drawn r m t ∷ [] else []
 
-abbrev pub drawn_chunk : Read → Option ℕ → Chunk → List (List ℕ) → List Statement
+abbrev pub drawn_chunk : Read → Option ℕ → ImageChunk → List (List ℕ) → List Statement
 drawn_chunk r p c objects = if is_drawn r p c.owner then chunk_drawn r c objects ∷ [] else []
 
 -- what a line adds, given the lines whose objects aren't drawn yet
-abbrev pub drawn : Read → Heaps → Option ℕ → List (List ℕ) → Said → List Statement
+abbrev pub drawn : Read → Heaps → Option ℕ → List (List ℕ) → ImageLine → List Statement
 drawn r m p objects (OfTask t) = drawn_task r m p t
 drawn r m p objects (OfChunk c) = drawn_chunk r p c objects
 drawn r m p objects (OfObject o) = edges_drawn r p o (owner_at r.chunks o.address)
 drawn r m p objects _ = []
 
 -- the lines left after that
-abbrev pub undrawn_after : Said → List (List ℕ) → List (List ℕ)
+abbrev pub undrawn_after : ImageLine → List (List ℕ) → List (List ℕ)
 undrawn_after (OfChunk c) objects = lines_behind c.number objects
 undrawn_after _ objects = objects
 

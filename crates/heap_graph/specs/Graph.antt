@@ -1,10 +1,7 @@
 -- The graph of an image.
 use Rattle.std.specs.Prelude.{ℕ, ◌||◌, Bool, Option, List, [], ◌∷◌, ◌++◌, codes, length, nat_lt, if◌then◌else◌}
-use Rattle.text_lines.specs.Lines.{lines_of}
-use Rattle.image_check.specs.declared.read.Read.{Read}
-use Rattle.image_check.specs.Sound.{all_read}
-use Rattle.dot_text.specs.Dot.{Statement, Setting, graph}
-use Rattle.heap_graph.specs.Held.{held_by}
+use Rattle.heap_graph.specs.Common.{lines_of, Read, all_read, Statement, Setting, graph}
+use Rattle.heap_graph.specs.HeapTotals.{held_by}
 use Rattle.heap_graph.specs.Drawn.{all_drawn}
 use Rattle.heap_graph.specs.Overview.{heaps_drawn, links_by, links_drawn}
 

@@ -1,12 +1,6 @@
 -- The kinds of references, as edges.
 use Rattle.std.specs.Prelude.{ℕ, ◌+◌, Bool, true, false, Option, Some, None, List, [], ◌∷◌, ◌++◌, codes, length, nat_lt, if◌then◌else◌}
-use Rattle.image_check.specs.declared.line.Object.{Object}
-use Rattle.image_check.specs.declared.read.Read.{Read}
-use Rattle.image_check.specs.declared.tasks.Relation.{Relation}
-use Rattle.image_check.specs.declared.tasks.Relation.TheVariants.{Own, Above, Below, Apart}
-use Rattle.image_check.specs.Tasks.{relation_of, is_running, owner_at}
-use Rattle.quoted_text.specs.Labels.{task_name}
-use Rattle.dot_text.specs.Dot.{Attributes, Statement, Edge}
+use Rattle.heap_graph.specs.Common.{ImageObject, Read, Relation, Own, Above, Below, Apart, relation_of, is_running, owner_at, task_name, Attributes, Statement, Edge}
 use Rattle.heap_graph.specs.Names.{task_cluster, object_name, port_name}
 
 -- inside a heap grey, up to an ancestor blue, down to a descendant red and bold, as on pages (page/colours.table); a
@@ -47,7 +41,7 @@ edge_by r t a k v (Some u) = edge_to r t a k v u ∷ []
 abbrev pub field_limit : ℕ
 field_limit = 64
 
-abbrev pub is_long : Object → Bool
+abbrev pub is_long : ImageObject → Bool
 is_long o = nat_lt field_limit (length o.references)
 
 -- the field of the record for field k
@@ -60,5 +54,5 @@ abbrev pub edges_from : Read → ℕ → ℕ → Bool → ℕ → List ℕ → L
 edges_from r t a long k [] = []
 edges_from r t a long k (v ∷ vs) = edge_by r t a (port_at long k) v (owner_at r.chunks v) ++ edges_from r t a long (k + 1) vs
 
-abbrev pub edges_of : Read → ℕ → Object → List Statement
+abbrev pub edges_of : Read → ℕ → ImageObject → List Statement
 edges_of r t o = edges_from r t o.address (is_long o) 0 o.references

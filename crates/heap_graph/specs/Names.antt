@@ -1,12 +1,8 @@
 -- The names of tasks, chunks, objects and fields in a graph.
 use Rattle.std.specs.Prelude.{ℕ, List, [], ◌++◌, codes}
 use Rattle.std.specs.Fmt.{decimal}
-use Rattle.image_check.specs.declared.line.Task.{Task}
-use Rattle.image_check.specs.declared.line.Chunk.{Chunk}
-use Rattle.image_check.specs.declared.line.State.{State}
-use Rattle.image_check.specs.declared.line.State.TheVariants.{Running}
-use Rattle.image_check.specs.Line.{state_word}
-use Rattle.heap_graph.specs.declared.held.Held.{Held}
+use Rattle.heap_graph.specs.Common.{ImageTask, ImageChunk, ImageState, Running, state_word}
+use Rattle.heap_graph.specs.declared.held.HeapTotals.{HeapTotals}
 
 -- Graphviz draws a `cluster` as a box; a task's box contains a point with the task's name, for edges that lead into its
 -- heap
@@ -28,17 +24,17 @@ abbrev pub port_name : ℕ → List ℕ
 port_name k = codes "f" ++ decimal k
 
 -- the words that a task's heap holds; an image doesn't say those of a running task
-abbrev pub words_held : State → ℕ → List ℕ
+abbrev pub words_held : ImageState → ℕ → List ℕ
 words_held Running words = []
 words_held _ words = codes ", " ++ decimal words ++ codes " words"
 
 -- its number, its state, and the words that its heap holds
-abbrev pub task_title : Task → Held → List ℕ
+abbrev pub task_title : ImageTask → HeapTotals → List ℕ
 task_title t h = codes "task " ++ decimal t.number ++ codes " " ++ state_word t.state ++ words_held t.state h.words
 
-abbrev pub chunk_title : Chunk → List ℕ
+abbrev pub chunk_title : ImageChunk → List ℕ
 chunk_title c = codes "chunk " ++ decimal c.number ++ codes " of " ++ decimal c.words ++ codes " words"
 
 -- fields of a record: the same, and the numbers of objects and chunks in its heap
-abbrev pub heap_title : Task → Held → List ℕ
+abbrev pub heap_title : ImageTask → HeapTotals → List ℕ
 heap_title t h = codes "<f0> " ++ task_title t h ++ codes "|objects: " ++ decimal h.objects ++ codes "|chunks: " ++ decimal h.chunks

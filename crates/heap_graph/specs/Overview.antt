@@ -3,26 +3,14 @@ use Rattle.std.specs.Prelude.{ℕ, Bool, Option, Some, None, List, [], ◌∷◌
 use Rattle.std.specs.List.{flat_map}
 use Rattle.std.specs.Map.{lookup}
 use Rattle.std.specs.Fmt.{decimal}
-use Rattle.indexmap.specs.IndexMap.{insert_entry}
-use Rattle.image_check.specs.declared.line.Task.{Task}
-use Rattle.image_check.specs.declared.line.Object.{Object}
-use Rattle.image_check.specs.declared.line.Said.{Said}
-use Rattle.image_check.specs.declared.line.Said.TheVariants.{OfTask, OfObject}
-use Rattle.image_check.specs.declared.read.Read.{Read}
-use Rattle.image_check.specs.declared.tasks.Relation.{Relation}
-use Rattle.image_check.specs.Line.{said_by}
-use Rattle.image_check.specs.Tasks.{relation_of, owner_at, is_running}
-use Rattle.image_check.specs.Sets.{same_birth}
-use Rattle.dot_text.specs.Dot.{Attributes, Statement, Node, Edge}
+use Rattle.heap_graph.specs.Common.{insert_entry, ImageTask, ImageObject, ImageLine, OfTask, OfObject, Read, Relation, said_by, relation_of, owner_at, is_running, same_birth, Attributes, Statement, Node, Edge, raised_by, task_name}
 use Rattle.heap_graph.specs.Names.{port_name, heap_title}
 use Rattle.heap_graph.specs.Kinds.{kind_attributes}
-use Rattle.still_counts.specs.Counts.{raised_by}
-use Rattle.quoted_text.specs.Labels.{task_name}
-use Rattle.heap_graph.specs.Held.{Heaps, held_of, is_drawn}
+use Rattle.heap_graph.specs.HeapTotals.{Heaps, held_of, is_drawn}
 
 -- HEAPS
 
-abbrev pub heap_node : Heaps → Task → Statement
+abbrev pub heap_node : Heaps → ImageTask → Statement
 heap_node m t = Node (task_name t.number) ((codes "shape", codes "record") ∷ (codes "label", heap_title t (held_of m t.number)) ∷ [])
 
 abbrev pub tree_attributes : Attributes
@@ -33,10 +21,10 @@ abbrev pub tree_edges : ℕ → Option ℕ → List Statement
 tree_edges t None = []
 tree_edges t (Some p) = Edge (task_name p) (port_name 0) (task_name t) tree_attributes ∷ []
 
-abbrev pub heap_drawn : Heaps → Task → List Statement
+abbrev pub heap_drawn : Heaps → ImageTask → List Statement
 heap_drawn m t = heap_node m t ∷ tree_edges t.number t.parent
 
-abbrev pub heap_by : Read → Heaps → Option ℕ → Said → List Statement
+abbrev pub heap_by : Read → Heaps → Option ℕ → ImageLine → List Statement
 heap_by r m p (OfTask t) = if is_drawn r p t.number then heap_drawn m t else []
 heap_by r m p _ = []
 
@@ -69,12 +57,12 @@ abbrev pub with_links : Read → Links → ℕ → List ℕ → Links
 with_links r m t [] = m
 with_links r m t (v ∷ vs) = with_links r (with_link_to m t (owner_at r.chunks v)) t vs
 
-abbrev pub with_links_of : Read → Option ℕ → Links → Object → Option ℕ → Links
+abbrev pub with_links_of : Read → Option ℕ → Links → ImageObject → Option ℕ → Links
 with_links_of r p m o None = m
 with_links_of r p m o (Some t) = if is_drawn r p t then with_links r m t o.references else m
 
 -- adds those of a line, if its object's heap is drawn
-abbrev pub links_with : Read → Option ℕ → Links → Said → Links
+abbrev pub links_with : Read → Option ℕ → Links → ImageLine → Links
 links_with r p m (OfObject o) = with_links_of r p m o (owner_at r.chunks o.address)
 links_with r p m _ = m
 

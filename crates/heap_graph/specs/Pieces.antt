@@ -1,7 +1,6 @@
 -- How boxes begin, and the remaining lines.
 use Rattle.std.specs.Prelude.{ℕ, List, [], Option, Some, None}
-use Rattle.text_lines.specs.Lines.{lines_of}
-use Rattle.dot_text.specs.Dot.{cluster_begin}
+use Rattle.heap_graph.specs.Common.{lines_of, cluster_begin}
 use Rattle.heap_graph.specs.Names.{task_cluster}
 
 -- the box of a task begins

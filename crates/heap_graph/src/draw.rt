@@ -11,14 +11,16 @@ ghost use Rattle.heap_graph.specs.Pieces.{opened, optional_lines};
 ghost use Rattle.dot_text.specs.Dot.{Statement, braces_end, dot};
 
 use crate::edges::add_edges;
-use crate::held::{Held, held_of, is_drawn};
+use crate::held::{HeapTotals, held_of, is_drawn};
 use crate::names::{chunk_cluster, chunk_name, chunk_title, task_cluster, task_name, task_title};
 use crate::objects::add_node;
 use chunk_sizes::CHUNK_WORDS;
 use dot_text::{
     add_attribute, begin_cluster, begin_node, end_braces, end_statement, set_attribute,
 };
-use image_check::{Chunk, Object, Read, Said, Table, Task, Tasks, owner_of, read_line};
+use image_check::{
+    ImageChunk, ImageLine, ImageObject, ImageTable, ImageTask, Read, Tasks, owner_of, read_line,
+};
 use std::alloc::{AllocError, Global};
 use text_lines::next_line;
 
@@ -124,8 +126,8 @@ fn add_titled(
 fn add_task_box(
     alloc: Global,
     text: &mut Vec<u8>,
-    task: &Task,
-    held: Held,
+    task: &ImageTask,
+    held: HeapTotals,
 ) -> Result<(), AllocError>
     ensures { OnOk result (text.new.items ≡ text.old.items ++ dot (task_box task.now held)) }
 {
@@ -146,8 +148,8 @@ fn add_task(
     alloc: Global,
     text: &mut Vec<u8>,
     read: &Read,
-    heaps: &Table<Held>,
-    task: &Task,
+    heaps: &ImageTable<HeapTotals>,
+    task: &ImageTask,
 ) -> Result<(), AllocError>
     ensures { OnOk result (text.new.items ≡ text.old.items ++ dot (task_drawn read.now heaps.now task.now)) }
 {
@@ -161,7 +163,7 @@ fn add_task(
 fn add_chunk_box(
     alloc: Global,
     text: &mut Vec<u8>,
-    chunk: &Chunk,
+    chunk: &ImageChunk,
     within: &[u8],
 ) -> Result<(), AllocError>
     ensures { (ss : List Statement) → within.now ≡ flat_map dot ss → OnOk result (text.new.items ≡ text.old.items ++ dot (chunk_box chunk.now ss)) }
@@ -183,7 +185,7 @@ fn add_chunk(
     alloc: Global,
     text: &mut Vec<u8>,
     read: &Read,
-    chunk: &Chunk,
+    chunk: &ImageChunk,
     within: &[u8],
 ) -> Result<(), AllocError>
     ensures { (ss : List Statement) → within.now ≡ flat_map dot ss → OnOk result (text.new.items ≡ text.old.items ++ dot (inside read.now.tasks chunk.now.owner (chunk_box chunk.now ss))) }
@@ -202,11 +204,11 @@ fn chunk_number(address: u64) -> u64
 }
 
 // Whether a line says an object outside a chunk.
-fn lies_elsewhere(chunk: u64, said: &Said) -> bool
+fn lies_elsewhere(chunk: u64, said: &ImageLine) -> bool
     ensures { result ≡ lies_elsewhere chunk said.now }
 {
     match said {
-        Said::OfObject(object) => chunk_number(object.address) != chunk,
+        ImageLine::OfObject(object) => chunk_number(object.address) != chunk,
         _ => false,
     }
 }
@@ -216,13 +218,13 @@ fn add_said_node(
     alloc: Global,
     text: &mut Vec<u8>,
     line: &[u8],
-    said: &Said,
+    said: &ImageLine,
 ) -> Result<(), AllocError>
     requires { IsSized said.now }
     ensures { OnOk result (text.new.items ≡ text.old.items ++ flat_map dot (node_by line.now said.now)) }
 {
     match said {
-        Said::OfObject(object) => add_node(alloc, text, line, object),
+        ImageLine::OfObject(object) => add_node(alloc, text, line, object),
         _ => Ok(()),
     }
 }
@@ -258,7 +260,7 @@ fn add_chunk_with<'t>(
     text: &mut Vec<u8>,
     read: &Read,
     path: Option<u64>,
-    chunk: &Chunk,
+    chunk: &ImageChunk,
     objects: Option<&'t [u8]>,
 ) -> Result<Option<&'t [u8]>, AllocError>
     ensures drawn { OnOk result (text.new.items ≡ text.old.items ++ flat_map dot (drawn_chunk read.now path chunk.now (optional_lines (option_copied objects.entry)))) }
@@ -278,7 +280,7 @@ fn add_object(
     text: &mut Vec<u8>,
     read: &Read,
     path: Option<u64>,
-    object: &Object,
+    object: &ImageObject,
 ) -> Result<(), AllocError>
     ensures { OnOk result (text.new.items ≡ text.old.items ++ flat_map dot (edges_drawn read.now path object.now (owner_at read.now.chunks object.now.address))) }
 {
@@ -299,9 +301,9 @@ fn add_task_with(
     alloc: Global,
     text: &mut Vec<u8>,
     read: &Read,
-    heaps: &Table<Held>,
+    heaps: &ImageTable<HeapTotals>,
     path: Option<u64>,
-    task: &Task,
+    task: &ImageTask,
 ) -> Result<(), AllocError>
     ensures { OnOk result (text.new.items ≡ text.old.items ++ flat_map dot (drawn_task read.now heaps.now path task.now)) }
 {
@@ -317,21 +319,21 @@ fn add_said<'t>(
     alloc: Global,
     text: &mut Vec<u8>,
     read: &Read,
-    heaps: &Table<Held>,
+    heaps: &ImageTable<HeapTotals>,
     path: Option<u64>,
-    said: &Said,
+    said: &ImageLine,
     objects: Option<&'t [u8]>,
 ) -> Result<Option<&'t [u8]>, AllocError>
     ensures drawn { OnOk result (text.new.items ≡ text.old.items ++ flat_map dot (drawn read.now heaps.now path (optional_lines (option_copied objects.entry)) said.now)) }
     ensures left { IfOk result (λ left. optional_lines (option_copied left) ≡ undrawn_after said.now (optional_lines (option_copied objects.entry))) }
 {
     match said {
-        Said::OfTask(task) => {
+        ImageLine::OfTask(task) => {
             add_task_with(alloc, text, read, heaps, path, task)?;
             Ok(objects)
         }
-        Said::OfChunk(chunk) => add_chunk_with(alloc, text, read, path, chunk, objects),
-        Said::OfObject(object) => {
+        ImageLine::OfChunk(chunk) => add_chunk_with(alloc, text, read, path, chunk, objects),
+        ImageLine::OfObject(object) => {
             add_object(alloc, text, read, path, object)?;
             Ok(objects)
         }
@@ -344,7 +346,7 @@ pub(crate) fn add_all(
     alloc: Global,
     graph: &mut Vec<u8>,
     read: &Read,
-    heaps: &Table<Held>,
+    heaps: &ImageTable<HeapTotals>,
     path: Option<u64>,
     text: &[u8],
 ) -> Result<(), AllocError>

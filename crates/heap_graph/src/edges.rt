@@ -8,7 +8,7 @@ ghost use Rattle.dot_text.specs.Dot.{attribute, dot};
 
 use crate::names::{object_name, port_name, task_cluster, task_name};
 use dot_text::{add_attribute, begin_edge, end_statement};
-use image_check::{Object, Read, Relation, owner_of};
+use image_check::{ImageObject, Read, Relation, owner_of};
 use std::alloc::{AllocError, Global};
 
 fn colour_of(kind: Relation) -> &'static str
@@ -56,7 +56,7 @@ fn add_running(
 
 /// A field of a task's object.
 #[derive(Clone, Copy)]
-pub(crate) struct Field {
+pub(crate) struct DrawnField {
     pub(crate) task: u64,
     pub(crate) address: u64,
     pub(crate) place: u64,
@@ -66,7 +66,7 @@ pub(crate) struct Field {
 fn add_dashed(
     alloc: Global,
     text: &mut Vec<u8>,
-    field: Field,
+    field: DrawnField,
     owner: u64,
     kind: Relation,
 ) -> Result<(), AllocError>
@@ -84,7 +84,7 @@ fn add_dashed(
 fn add_plain(
     alloc: Global,
     text: &mut Vec<u8>,
-    field: Field,
+    field: DrawnField,
     reference: u64,
     kind: Relation,
 ) -> Result<(), AllocError>
@@ -103,7 +103,7 @@ fn add_edge_to(
     alloc: Global,
     text: &mut Vec<u8>,
     read: &Read,
-    field: Field,
+    field: DrawnField,
     reference: u64,
     owner: u64,
 ) -> Result<(), AllocError>
@@ -122,7 +122,7 @@ fn add_edge(
     alloc: Global,
     text: &mut Vec<u8>,
     read: &Read,
-    field: Field,
+    field: DrawnField,
     reference: u64,
 ) -> Result<(), AllocError>
     ensures { OnOk result (text.new.items ≡ text.old.items ++ flat_map dot (edge_by read.now field.task field.address field.place reference (owner_at read.now.chunks reference))) }
@@ -137,7 +137,7 @@ fn add_edge(
 pub(crate) const FIELD_LIMIT: usize = 64;
 
 /// Whether an object has one field for all its references.
-pub(crate) fn is_long(object: &Object) -> bool
+pub(crate) fn is_long(object: &ImageObject) -> bool
     ensures { result ≡ is_long object.now }
 {
     FIELD_LIMIT < object.references.len()
@@ -156,13 +156,13 @@ pub(crate) fn add_edges(
     text: &mut Vec<u8>,
     read: &Read,
     task: u64,
-    object: &Object,
+    object: &ImageObject,
 ) -> Result<(), AllocError>
     ensures { OnOk result (text.new.items ≡ text.old.items ++ flat_map dot (edges_of read.now task object.now)) }
 {
     let long = is_long(object);
     for (place, reference) in object.references.as_slice().iter().enumerate() {
-        let field = Field {
+        let field = DrawnField {
             task,
             address: object.address,
             place: port_at(long, place as u64),

@@ -3,18 +3,18 @@
 ghost use Rattle.std.specs.Prelude.{◌≡◌, ◌++◌, [], None, OnOk, IfOk, IfErr};
 ghost use Rattle.std.specs.List.{flat_map};
 ghost use Rattle.text_lines.specs.Lines.{lines_of};
-ghost use Rattle.image_check.specs.Fault.{image_fault, Fails};
+ghost use Rattle.image_check.specs.ImageFault.{image_fault, Fails};
 ghost use Rattle.image_check.specs.Sound.{all_read};
-ghost use Rattle.heap_graph.specs.Held.{held_by};
+ghost use Rattle.heap_graph.specs.HeapTotals.{held_by};
 ghost use Rattle.heap_graph.specs.Graph.{settings, overview, is_large, statements_of, graph_of};
 ghost use Rattle.dot_text.specs.Dot.{dot};
 
-use crate::held::Held;
+use crate::held::HeapTotals;
 use crate::links::Links;
 use crate::overview::{add_heaps, add_links, count_links};
 use crate::{draw, held};
 use dot_text::{begin_graph, end_braces, set_attribute};
-use image_check::{Read, Table, VerifyError, read_image};
+use image_check::{ImageTable, Read, VerifyError, read_image};
 use std::alloc::{AllocError, Global};
 
 // Adds what all graphs have.
@@ -30,7 +30,7 @@ fn add_overview(
     alloc: Global,
     graph: &mut Vec<u8>,
     read: &Read,
-    heaps: &Table<Held>,
+    heaps: &ImageTable<HeapTotals>,
     path: Option<u64>,
     text: &[u8],
 ) -> Result<(), AllocError>
@@ -61,7 +61,7 @@ fn add_image(
 ) -> Result<(), AllocError>
     ensures { OnOk result (graph.new.items ≡ graph.old.items ++ flat_map dot (statements_of read.now path limit (lines_of text.now))) }
 {
-    let mut heaps = Table::new(alloc);
+    let mut heaps = ImageTable::new(alloc);
     held::add_all(alloc, &mut heaps, read, text)?;
     if is_large(read, limit) {
         add_overview(alloc, graph, read, &heaps, path, text)

@@ -5,16 +5,16 @@ ghost use Rattle.image_check.specs.Read.{IsSized};
 ghost use Rattle.image_check.specs.Tasks.{owner_at};
 ghost use Rattle.text_lines.specs.Lines.{lines_of};
 ghost use Rattle.image_check.specs.Line.{most_fields};
-ghost use Rattle.heap_graph.specs.Held.{is_on_path, is_drawn, held_of, with_chunk, with_object, with_object_of, held_with, held_by};
+ghost use Rattle.heap_graph.specs.HeapTotals.{is_on_path, is_drawn, held_of, with_chunk, with_object, with_object_of, held_with, held_by};
 
-use image_check::{Object, Read, Relation, Said, Table, owner_of, read_line};
+use image_check::{ImageLine, ImageObject, ImageTable, Read, Relation, owner_of, read_line};
+use saturating_counts::raised_by;
 use std::alloc::{AllocError, Global};
-use still_counts::raised_by;
 use text_lines::next_line;
 
 /// What a heap holds, in saturating 64-bit counts.
 #[derive(Clone, Copy)]
-pub(crate) struct Held {
+pub(crate) struct HeapTotals {
     pub(crate) chunks: u64,
     pub(crate) objects: u64,
     pub(crate) words: u64,
@@ -41,12 +41,12 @@ pub(crate) fn is_drawn(read: &Read, path: Option<u64>, task: u64) -> bool
 }
 
 /// What the heap of a task holds.
-pub(crate) fn held_of(heaps: &Table<Held>, task: u64) -> Held
+pub(crate) fn held_of(heaps: &ImageTable<HeapTotals>, task: u64) -> HeapTotals
     ensures { result ≡ held_of heaps.now task }
 {
     match heaps.find(task) {
         Some(held) => *held,
-        None => Held {
+        None => HeapTotals {
             chunks: 0,
             objects: 0,
             words: 0,
@@ -55,10 +55,10 @@ pub(crate) fn held_of(heaps: &Table<Held>, task: u64) -> Held
 }
 
 // Adds a chunk.
-fn with_chunk(held: Held) -> Held
+fn with_chunk(held: HeapTotals) -> HeapTotals
     ensures { result ≡ with_chunk held }
 {
-    Held {
+    HeapTotals {
         chunks: raised_by(held.chunks, 1),
         objects: held.objects,
         words: held.words,
@@ -66,12 +66,12 @@ fn with_chunk(held: Held) -> Held
 }
 
 // Adds an object.
-fn with_object(held: Held, object: &Object) -> Held
+fn with_object(held: HeapTotals, object: &ImageObject) -> HeapTotals
     requires { length object.now.references + object.now.numbers ≤ most_fields }
     ensures { result ≡ with_object held object.now }
 {
     let words = 2 + object.references.len() as u64 + object.numbers;
-    Held {
+    HeapTotals {
         chunks: held.chunks,
         objects: raised_by(held.objects, 1),
         words: raised_by(held.words, words),
@@ -79,7 +79,11 @@ fn with_object(held: Held, object: &Object) -> Held
 }
 
 // Counts an object.
-fn add_object(heaps: &mut Table<Held>, read: &Read, object: &Object) -> Result<(), AllocError>
+fn add_object(
+    heaps: &mut ImageTable<HeapTotals>,
+    read: &Read,
+    object: &ImageObject,
+) -> Result<(), AllocError>
     requires { length object.now.references + object.now.numbers ≤ most_fields }
     ensures { OnOk result (heaps.new ≡ with_object_of heaps.old object.now (owner_at read.now.chunks object.now.address)) }
 {
@@ -93,16 +97,20 @@ fn add_object(heaps: &mut Table<Held>, read: &Read, object: &Object) -> Result<(
 }
 
 // Counts what a line says.
-fn add_said(heaps: &mut Table<Held>, read: &Read, said: &Said) -> Result<(), AllocError>
+fn add_said(
+    heaps: &mut ImageTable<HeapTotals>,
+    read: &Read,
+    said: &ImageLine,
+) -> Result<(), AllocError>
     requires { IsSized said.now }
     ensures { OnOk result (heaps.new ≡ held_with read.now heaps.old said.now) }
 {
     match said {
-        Said::OfChunk(chunk) => {
+        ImageLine::OfChunk(chunk) => {
             let held = with_chunk(held_of(heaps, chunk.owner));
             heaps.put(chunk.owner, held)
         }
-        Said::OfObject(object) => add_object(heaps, read, object),
+        ImageLine::OfObject(object) => add_object(heaps, read, object),
         _ => Ok(()),
     }
 }
@@ -110,7 +118,7 @@ fn add_said(heaps: &mut Table<Held>, read: &Read, said: &Said) -> Result<(), All
 /// Counts what the lines of a text say.
 pub(crate) fn add_all(
     alloc: Global,
-    heaps: &mut Table<Held>,
+    heaps: &mut ImageTable<HeapTotals>,
     read: &Read,
     text: &[u8],
 ) -> Result<(), AllocError>

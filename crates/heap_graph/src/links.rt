@@ -4,9 +4,9 @@ ghost use Rattle.std.specs.Prelude.{◌≡◌, [], length, OnOk, slice_get};
 ghost use Rattle.heap_graph.specs.Overview.{links_at, with_link, with_link_to};
 
 use indexmap::IndexMap;
+use saturating_counts::raised_by;
 use std::alloc::{AllocError, Global};
 use std::marker::Model;
-use still_counts::raised_by;
 
 /// Counts of references from heap to heap, in the order in which the first of each was met.
 #[derive(Drop)]

@@ -4,8 +4,8 @@ ghost use Rattle.std.specs.Prelude.{◌≡◌, IfOk, string_bytes};
 ghost use Rattle.quoted_text.specs.Labels.{task_name};
 ghost use Rattle.heap_graph.specs.Names.{task_cluster, chunk_name, chunk_cluster, object_name, port_name, task_title, words_held, chunk_title, heap_title};
 
-use crate::held::Held;
-use image_check::{Chunk, State, Task};
+use crate::held::HeapTotals;
+use image_check::{ImageChunk, ImageState, ImageTask};
 use std::alloc::{AllocError, Global};
 
 pub(crate) fn task_name(alloc: Global, task: u64) -> Result<String, AllocError>
@@ -45,16 +45,20 @@ pub(crate) fn port_name(alloc: Global, place: u64) -> Result<String, AllocError>
 }
 
 // The words that a task's heap holds; nothing for a running task.
-fn words_held(alloc: Global, state: State, words: u64) -> Result<String, AllocError>
+fn words_held(alloc: Global, state: ImageState, words: u64) -> Result<String, AllocError>
     ensures { IfOk result (λ text. string_bytes text ≡ words_held state words) }
 {
     match state {
-        State::Running => Ok(String::new(alloc)),
+        ImageState::Running => Ok(String::new(alloc)),
         _ => format!(in alloc; ", {words} words"),
     }
 }
 
-pub(crate) fn task_title(alloc: Global, task: &Task, held: Held) -> Result<String, AllocError>
+pub(crate) fn task_title(
+    alloc: Global,
+    task: &ImageTask,
+    held: HeapTotals,
+) -> Result<String, AllocError>
     ensures { IfOk result (λ text. string_bytes text ≡ task_title task.now held) }
 {
     let state = task.state.word();
@@ -63,13 +67,17 @@ pub(crate) fn task_title(alloc: Global, task: &Task, held: Held) -> Result<Strin
     format!(in alloc; "task {} {state}{words}", task.number)
 }
 
-pub(crate) fn chunk_title(alloc: Global, chunk: &Chunk) -> Result<String, AllocError>
+pub(crate) fn chunk_title(alloc: Global, chunk: &ImageChunk) -> Result<String, AllocError>
     ensures { IfOk result (λ text. string_bytes text ≡ chunk_title chunk.now) }
 {
     format!(in alloc; "chunk {} of {} words", chunk.number, chunk.words)
 }
 
-pub(crate) fn heap_title(alloc: Global, task: &Task, held: Held) -> Result<String, AllocError>
+pub(crate) fn heap_title(
+    alloc: Global,
+    task: &ImageTask,
+    held: HeapTotals,
+) -> Result<String, AllocError>
     ensures { IfOk result (λ text. string_bytes text ≡ heap_title task.now held) }
 {
     let title = task_title(alloc, task, held)?;

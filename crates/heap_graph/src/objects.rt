@@ -10,7 +10,7 @@ use crate::edges::{FIELD_LIMIT, is_long};
 use crate::names::object_name;
 use crate::words::{add_fields, add_kind_title, words_behind};
 use dot_text::{add_attribute, begin_node, end_statement};
-use image_check::{Birth, Object};
+use image_check::{ImageBirth, ImageObject};
 use std::alloc::{AllocError, Global};
 
 // The field of a reference.
@@ -24,7 +24,7 @@ fn port_title(alloc: Global, place: u64, reference: u64) -> Result<String, Alloc
     }
 }
 
-fn birth_title(alloc: Global, birth: Birth) -> Result<String, AllocError>
+fn birth_title(alloc: Global, birth: ImageBirth) -> Result<String, AllocError>
     ensures { IfOk result (λ text. string_bytes text ≡ birth_title birth) }
 {
     format!(in alloc; "({},{})", birth.task, birth.count)
@@ -69,7 +69,11 @@ fn add_count(alloc: Global, title: &mut Vec<u8>, references: usize) -> Result<()
 }
 
 // Adds the fields of an object's references.
-fn add_references(alloc: Global, title: &mut Vec<u8>, object: &Object) -> Result<(), AllocError>
+fn add_references(
+    alloc: Global,
+    title: &mut Vec<u8>,
+    object: &ImageObject,
+) -> Result<(), AllocError>
     ensures { OnOk result (title.new.items ≡ title.old.items ++ references_title object.now) }
 {
     if is_long(object) {
@@ -92,7 +96,7 @@ fn add_numbers(
     alloc: Global,
     title: &mut Vec<u8>,
     line: &[u8],
-    object: &Object,
+    object: &ImageObject,
 ) -> Result<(), AllocError>
     requires { length object.now.references + object.now.numbers ≤ most_fields }
     ensures { OnOk result (title.new.items ≡ title.old.items ++ numbers_title line.now object.now) }
@@ -104,7 +108,7 @@ fn add_numbers(
     }
 }
 
-fn object_title(alloc: Global, line: &[u8], object: &Object) -> Result<Vec<u8>, AllocError>
+fn object_title(alloc: Global, line: &[u8], object: &ImageObject) -> Result<Vec<u8>, AllocError>
     requires { length object.now.references + object.now.numbers ≤ most_fields }
     ensures { IfOk result (λ title. title.items ≡ object_title line.now object.now) }
 {
@@ -122,7 +126,7 @@ pub(crate) fn add_node(
     alloc: Global,
     text: &mut Vec<u8>,
     line: &[u8],
-    object: &Object,
+    object: &ImageObject,
 ) -> Result<(), AllocError>
     requires { length object.now.references + object.now.numbers ≤ most_fields }
     ensures { OnOk result (text.new.items ≡ text.old.items ++ dot (node_of line.now object.now)) }

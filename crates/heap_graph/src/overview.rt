@@ -10,11 +10,13 @@ ghost use Rattle.heap_graph.specs.Names.{port_name};
 ghost use Rattle.dot_text.specs.Dot.{attribute, edge_begin, dot};
 
 use crate::edges::add_kind;
-use crate::held::{Held, held_of, is_drawn};
+use crate::held::{HeapTotals, held_of, is_drawn};
 use crate::links::Links;
 use crate::names::{heap_title, port_name, task_name};
 use dot_text::{add_attribute, begin_edge, begin_node, end_statement};
-use image_check::{Object, Read, Relation, Said, Table, Task, owner_of, read_line};
+use image_check::{
+    ImageLine, ImageObject, ImageTable, ImageTask, Read, Relation, owner_of, read_line,
+};
 use std::alloc::{AllocError, Global};
 use text_lines::next_line;
 
@@ -22,8 +24,8 @@ use text_lines::next_line;
 fn add_heap_node(
     alloc: Global,
     text: &mut Vec<u8>,
-    heaps: &Table<Held>,
-    task: &Task,
+    heaps: &ImageTable<HeapTotals>,
+    task: &ImageTask,
 ) -> Result<(), AllocError>
     ensures { OnOk result (text.new.items ≡ text.old.items ++ dot (heap_node heaps.now task.now)) }
 {
@@ -67,8 +69,8 @@ fn add_tree_edge(
 fn add_heap(
     alloc: Global,
     text: &mut Vec<u8>,
-    heaps: &Table<Held>,
-    task: &Task,
+    heaps: &ImageTable<HeapTotals>,
+    task: &ImageTask,
 ) -> Result<(), AllocError>
     ensures { OnOk result (text.new.items ≡ text.old.items ++ flat_map dot (heap_drawn heaps.now task.now)) }
 {
@@ -81,14 +83,14 @@ fn add_said_heap(
     alloc: Global,
     text: &mut Vec<u8>,
     read: &Read,
-    heaps: &Table<Held>,
+    heaps: &ImageTable<HeapTotals>,
     path: Option<u64>,
-    said: &Said,
+    said: &ImageLine,
 ) -> Result<(), AllocError>
     ensures { OnOk result (text.new.items ≡ text.old.items ++ flat_map dot (heap_by read.now heaps.now path said.now)) }
 {
     match said {
-        Said::OfTask(task) => {
+        ImageLine::OfTask(task) => {
             if is_drawn(read, path, task.number) {
                 add_heap(alloc, text, heaps, task)
             } else {
@@ -104,7 +106,7 @@ pub(crate) fn add_heaps(
     alloc: Global,
     graph: &mut Vec<u8>,
     read: &Read,
-    heaps: &Table<Held>,
+    heaps: &ImageTable<HeapTotals>,
     path: Option<u64>,
     text: &[u8],
 ) -> Result<(), AllocError>
@@ -142,7 +144,7 @@ fn count_object(
     links: &mut Links,
     read: &Read,
     path: Option<u64>,
-    object: &Object,
+    object: &ImageObject,
 ) -> Result<(), AllocError>
     ensures { OnOk result (links.new ≡ with_links_of read.now path links.old object.now (owner_at read.now.chunks object.now.address)) }
 {
@@ -163,12 +165,12 @@ fn count_said(
     links: &mut Links,
     read: &Read,
     path: Option<u64>,
-    said: &Said,
+    said: &ImageLine,
 ) -> Result<(), AllocError>
     ensures { OnOk result (links.new ≡ links_with read.now path links.old said.now) }
 {
     match said {
-        Said::OfObject(object) => count_object(links, read, path, object),
+        ImageLine::OfObject(object) => count_object(links, read, path, object),
         _ => Ok(()),
     }
 }

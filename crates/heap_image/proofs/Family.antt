@@ -1,65 +1,50 @@
 -- The tasks of a sound picture, as the verifier keeps them.
-use Rattle.std.proofs.Common.{◌≡◌, ◌<◌, ℕ, zero, suc, Bool, true, false, List, refl, ap, sym, ◌∙◌, inl, inr, arith}
-use Rattle.std.specs.Prelude.{Option, Some, None, slice_get, is_some}
-use Rattle.listed.specs.Members.{In}
-use Rattle.listed.proofs.Members.{got_in}
-use Rattle.listed.proofs.Places.{in_got, map_got, got_map}
-use Rattle.image_check.specs.declared.line.State.{State}
-use Rattle.image_check.specs.declared.line.State.TheVariants.{Running, Waiting, Ended}
-use Rattle.image_check.specs.declared.line.Task.{Task}
-use Rattle.image_check.specs.declared.tasks.Relation.TheVariants.{Own, Above, Below}
-use Rattle.image_check.specs.Table.{found, has}
-use Rattle.image_check.specs.Tasks.{Tasks, parent_in, parent_of, is_above, relation_of, runs, is_running, is_running_state}
-use Rattle.image_check.specs.Tasks.{LinksLead, IsAncestor}
-use Rattle.image_check.specs.Links.{StandsAt}
-use Rattle.image_check.proofs.Paths.{AreOrdered, met_ancestor, related}
-use Rattle.heap_image.specs.declared.picture.Picture.{Picture}
-use Rattle.heap_image.specs.Picture.{TaskBefore, IsParent, ParentsLead, IsAbove, HasTask, IsRunning, KeepsToPath, IsSoundPicture}
+use Rattle.heap_image.proofs.Common.{◌≡◌, ◌<◌, ℕ, zero, suc, Bool, true, false, List, refl, ap, sym, ◌∙◌, inl, inr, arith, Option, Some, None, slice_get, is_some, In, got_in, in_got, map_got, got_map, ImageState, Running, Waiting, Ended, ImageTask, Own, Above, Below, found, has, Tasks, parent_in, parent_of, is_above, relation_of, runs, is_running, is_running_state, LinksLead, IsAncestor, StandsAt, AreOrdered, met_ancestor, related, ImageData, TaskBefore, IsParent, ParentsLead, IsAbove, HasTask, IsRunning, KeepsToPath, IsSoundPicture}
 use Rattle.heap_image.proofs.Splits.{comes_first, one_place, same_item}
 use Rattle.heap_image.proofs.Tables.{table, found_in, found_from}
 
-abbrev pub number_of : Task → ℕ
+abbrev pub number_of : ImageTask → ℕ
 number_of t = t.number
 
-abbrev pub itself : Task → Task
+abbrev pub itself : ImageTask → ImageTask
 itself t = t
 
-abbrev pub task_table : List Task → Tasks
+abbrev pub task_table : List ImageTask → Tasks
 task_table ts = table number_of itself ts
 
-pub earlier : (t u : Task) → TaskBefore t u → t.number < u.number
+pub earlier : (t u : ImageTask) → TaskBefore t u → t.number < u.number
 earlier t u h = h
 
-module _ (p : Picture) (s : IsSoundPicture p) where
+module _ (p : ImageData) (s : IsSoundPicture p) where
   abbrev es : Tasks
   es = task_table p.tasks
 
-  pub task_found : (t : Task) → In p.tasks t → found es t.number ≡ Some t
+  pub task_found : (t : ImageTask) → In p.tasks t → found es t.number ≡ Some t
   task_found t h = found_in number_of itself p.tasks t (λ u i e. same_item TaskBefore number_of earlier p.tasks s.tasks_rise u t i h e) h
 
-  pub there : (t : ℕ) → HasTask p t → has es t ≡ true
-  there t h = ap (has es) (sym h.2) ∙ ap is_some (task_found h.0 h.1)
+  pub task_is_in_table : (t : ℕ) → HasTask p t → has es t ≡ true
+  task_is_in_table t h = ap (has es) (sym h.2) ∙ ap is_some (task_found h.0 h.1)
 
   -- PATHS
 
-  parent_stands : (i q : ℕ) (t k : Task) → slice_get p.tasks i ≡ Some t → In p.tasks k → k.number ≡ q → q < t.number → (j : ℕ) × (j < i) × StandsAt es j q
+  parent_stands : (i q : ℕ) (t k : ImageTask) → slice_get p.tasks i ≡ Some t → In p.tasks k → k.number ≡ q → q < t.number → (j : ℕ) × (j < i) × StandsAt es j q
   parent_stands i q t k got there e lt =
       let j = in_got p.tasks k there in (
         j.0,
         comes_first TaskBefore number_of earlier p.tasks s.tasks_rise j.0 i k t j.1 got (let l : q < t.number = lt in omega (arith, l, e)),
-        ((k.number, k), got_map (λ (x : Task). (x.number, x)) p.tasks j.0 k j.1, e),
+        ((k.number, k), got_map (λ (x : ImageTask). (x.number, x)) p.tasks j.0 k j.1, e),
       )
 
   pub ordered : AreOrdered es
   ordered = record {
     apart = λ i j e f g h same.
-        let x = map_got (λ (t : Task). (t.number, t)) p.tasks i e g in
-        let y = map_got (λ (t : Task). (t.number, t)) p.tasks j f h in
+        let x = map_got (λ (t : ImageTask). (t.number, t)) p.tasks i e g in
+        let y = map_got (λ (t : ImageTask). (t.number, t)) p.tasks j f h in
         one_place TaskBefore number_of earlier p.tasks s.tasks_rise i j x.0 y.0 x.1 y.1
-        (ap (λ (z : ℕ × Task). z.0) x.2 ∙ same ∙ sym (ap (λ (z : ℕ × Task). z.0) y.2));
+        (ap (λ (z : ℕ × ImageTask). z.0) x.2 ∙ same ∙ sym (ap (λ (z : ℕ × ImageTask). z.0) y.2));
     behind = λ i e q g h.
-        let x = map_got (λ (t : Task). (t.number, t)) p.tasks i e g in
-        let up = s.parents x.0 q (got_in p.tasks i x.0 x.1) (ap (λ (z : ℕ × Task). z.1.parent) x.2 ∙ h) in
+        let x = map_got (λ (t : ImageTask). (t.number, t)) p.tasks i e g in
+        let up = s.parents x.0 q (got_in p.tasks i x.0 x.1) (ap (λ (z : ℕ × ImageTask). z.1.parent) x.2 ∙ h) in
         parent_stands i q x.0 up.0.0 x.1 up.0.1 up.0.2 up.1;
   }
 
@@ -97,24 +82,24 @@ module _ (p : Picture) (s : IsSoundPicture p) where
 
   -- STATES
 
-  state_runs : (t : Task) → is_running_state t.state ≡ true → t.state ≡ Running
-  state_runs t h = by t.state refl
+  state_runs : (t : ImageTask) → is_running_state t.state ≡ true → t.state ≡ Running
+  state_runs t h = state_runs_by_cases t.state refl
     where
-      by : (x : State) → t.state ≡ x → t.state ≡ Running
-      by Running e = e
-      by Waiting e = absurd (let f : is_running_state Waiting ≡ true = ap is_running_state (sym e) ∙ h in cc)
-      by Ended e = absurd (let f : is_running_state Ended ≡ true = ap is_running_state (sym e) ∙ h in cc)
+      state_runs_by_cases : (x : ImageState) → t.state ≡ x → t.state ≡ Running
+      state_runs_by_cases Running e = e
+      state_runs_by_cases Waiting e = absurd (let f : is_running_state Waiting ≡ true = ap is_running_state (sym e) ∙ h in cc)
+      state_runs_by_cases Ended e = absurd (let f : is_running_state Ended ≡ true = ap is_running_state (sym e) ∙ h in cc)
 
   pub running : (t : ℕ) → IsRunning p t → is_running es t ≡ true
   running t h = ap runs (ap (found es) (sym h.2) ∙ task_found h.0 h.1) ∙ ap is_running_state h.3
 
   pub resting : (t : ℕ) → (IsRunning p t → ⊥) → is_running es t ≡ false
-  resting t rests = by (found es t) refl
+  resting t rests = resting_by_cases (found es t) refl
     where
-      by_state : (k : Task) (b : Bool) → found es t ≡ Some k → is_running_state k.state ≡ b → is_running es t ≡ false
-      by_state k true e f = absurd (let r = found_from number_of itself p.tasks t k e in rests (r.0, r.1, r.2, (ap (λ (z : Task). z.state) r.3 ∙ state_runs k f)))
+      by_state : (k : ImageTask) (b : Bool) → found es t ≡ Some k → is_running_state k.state ≡ b → is_running es t ≡ false
+      by_state k true e f = absurd (let r = found_from number_of itself p.tasks t k e in rests (r.0, r.1, r.2, (ap (λ (z : ImageTask). z.state) r.3 ∙ state_runs k f)))
       by_state k false e f = ap runs e ∙ f
 
-      by : (m : Option Task) → found es t ≡ m → is_running es t ≡ false
-      by None e = ap runs e
-      by (Some k) e = by_state k (is_running_state k.state) e refl
+      resting_by_cases : (m : Option ImageTask) → found es t ≡ m → is_running es t ≡ false
+      resting_by_cases None e = ap runs e
+      resting_by_cases (Some k) e = by_state k (is_running_state k.state) e refl

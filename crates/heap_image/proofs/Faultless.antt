@@ -1,21 +1,5 @@
 -- The verifier finds no fault in the text of a sound picture.
-use Rattle.std.proofs.Common.{◌≡◌, ◌<◌, ◌≤◌, ◌+◌, ◌-◌, ◌^◌, ℕ, suc, true, false, List, [], ◌∷◌, ◌++◌, length, map, refl, ap, ◌∙◌, inl, inr, arith}
-use Rattle.std.specs.Prelude.{None, nat_le}
-use Rattle.std.proofs.lemmas.List.{length-map}
-use Rattle.listed.specs.Members.{In}
-use Rattle.text_lines.specs.Lines.{lines_of, most_bytes}
-use Rattle.image_check.specs.declared.line.Said.{Said}
-use Rattle.image_check.specs.declared.line.Said.TheVariants.{Nothing, Title, OfTask, OfChunk, OfRemembered, OfEnd}
-use Rattle.image_check.specs.declared.read.Read.{Read}
-use Rattle.image_check.specs.declared.whole.Whole.{Whole}
-use Rattle.image_check.specs.Line.{said_by}
-use Rattle.image_check.specs.Read.{nothing_read, nothing_had, after_line, whole_of}
-use Rattle.image_check.specs.Fault.{cause_on, or_later, lines_fault, objects_in}
-use Rattle.heap_image.specs.declared.picture.Picked.{Picked}
-use Rattle.heap_image.specs.declared.picture.Picture.{Picture}
-use Rattle.heap_image.specs.Picture.{Rises, ObjectBefore, IsSoundPicture}
-use Rattle.heap_image.specs.Text.{text_of}
-use Rattle.heap_image.specs.Told.{object_said, SoundIsFaultless}
+use Rattle.heap_image.proofs.Common.{◌≡◌, ◌<◌, ◌≤◌, ◌+◌, ◌-◌, ◌^◌, ℕ, suc, true, false, List, [], ◌∷◌, ◌++◌, length, map, refl, ap, ◌∙◌, inl, inr, arith, None, nat_le, length-map, In, lines_of, most_bytes, ImageLine, Nothing, Title, OfTask, OfChunk, OfRemembered, OfEnd, Read, Whole, said_by, nothing_read, nothing_had, after_line, whole_of, cause_on, or_later, lines_fault, objects_in, Picked, ImageData, Rises, ObjectBefore, IsSoundPicture, text_of, object_said, SoundIsFaultless}
 use Rattle.heap_image.proofs.Splits.{behind_first, rises_from}
 use Rattle.heap_image.proofs.Told.{pictures_are_read, six_behind}
 use Rattle.heap_image.proofs.Passes.{none_left, fault_of, after_said, with_said, fault_said, lines_said, whole_said, more_left, faultless_items, read_items}
@@ -36,27 +20,27 @@ few_between low high (o ∷ os) r above below =
     (above o (inl refl)) (below o (inl refl))
 
 -- addresses differ, and none is 0
-few : (p : Picture) → IsSoundPicture p → length p.objects < 2 ^ 64
+few : (p : ImageData) → IsSoundPicture p → length p.objects < 2 ^ 64
 few p s =
     let n : length p.objects ≤ 2 ^ 64 - 1 = few_between 1 (2 ^ 64) p.objects s.objects_rise (λ o i. let l : 0 < o.address = (s.places o i).lies.1 in omega (arith, l)) (λ o i. (s.form.objects o i).address) in
     omega (arith, n)
 
 -- ALL THAT IS SAID
 
-module _ (p : Picture) (s : IsSoundPicture p) where
+module _ (p : ImageData) (s : IsSoundPicture p) where
   abbrev w : Whole
   w = whole_picture p
 
-  abbrev last_two : List Said
+  abbrev last_two : List ImageLine
   last_two = OfEnd (length p.objects) ∷ Nothing ∷ []
 
-  abbrev from_fields : List Said
+  abbrev from_fields : List ImageLine
   from_fields = map OfRemembered p.fields ++ last_two
 
-  abbrev from_objects : List Said
+  abbrev from_objects : List ImageLine
   from_objects = map object_said p.objects ++ from_fields
 
-  abbrev from_chunks : List Said
+  abbrev from_chunks : List ImageLine
   from_chunks = map OfChunk p.chunks ++ from_objects
 
   more_fields : none_left from_fields ≡ false

@@ -1,20 +1,5 @@
 -- The references of an object of a sound picture are allowed.
-use Rattle.std.proofs.Common.{◌≡◌, ◌≤◌, ◌+◌, ℕ, suc, Bool, true, false, List, [], ◌∷◌, length, refl, ap, sym, ◌∙◌, inl, inr, arith}
-use Rattle.std.specs.Prelude.{Option, Some, None, ◌==◌, ◌&&◌, ◌||◌, not, slice_get, is_some}
-use Rattle.std.specs.List.{list_any}
-use Rattle.std.proofs.lemmas.Bool.{or_left, or_right}
-use Rattle.listed.specs.Members.{In}
-use Rattle.listed.proofs.Places.{in_got}
-use Rattle.image_check.specs.declared.line.Remembered.{Remembered}
-use Rattle.image_check.specs.declared.read.Read.{Read}
-use Rattle.image_check.specs.declared.whole.Whole.{Whole}
-use Rattle.image_check.specs.Sets.{is_among, same_field}
-use Rattle.image_check.specs.Table.{found, has}
-use Rattle.image_check.specs.Tasks.{is_running, owner_at}
-use Rattle.image_check.specs.Fault.{is_astray, owner_runs, relation_to, is_apart, is_below, crosses, is_noted, is_forgotten, forgets}
-use Rattle.heap_image.specs.declared.picture.Picked.{Picked}
-use Rattle.heap_image.specs.declared.picture.Picture.{Picture}
-use Rattle.heap_image.specs.Picture.{LeadsSomewhere, IsOwned, IsSoundPicture}
+use Rattle.heap_image.proofs.Common.{◌≡◌, ◌≤◌, ◌+◌, ℕ, suc, Bool, true, false, List, [], ◌∷◌, length, refl, ap, sym, ◌∙◌, inl, inr, arith, Option, Some, None, ◌==◌, ◌&&◌, ◌||◌, not, slice_get, is_some, list_any, or_left, or_right, In, in_got, ImageRemembered, Read, Whole, is_among, same_field, found, has, is_running, owner_at, is_astray, owner_runs, relation_to, is_apart, is_below, crosses, is_noted, is_forgotten, forgets, Picked, ImageData, LeadsSomewhere, IsOwned, IsSoundPicture}
 use Rattle.heap_image.proofs.Family.{running, Stands, stands}
 use Rattle.heap_image.proofs.Family.Stands.{own, up, down}
 use Rattle.heap_image.proofs.Owners.{owner_found, owned_from}
@@ -25,9 +10,9 @@ abbrev pub HasObject : Whole → ℕ → ℕ → Type 0
 HasObject w a n = (m : ℕ) × (found w.objects a ≡ Some m) × (n ≤ m)
 
 -- what the whole text says: all objects and fields of a picture
-pub record HasAll (p : Picture) (w : Whole) : Type 0 where
+pub record HasAll (p : ImageData) (w : Whole) : Type 0 where
   pub objects : (o : Picked) → In p.objects o → HasObject w o.address (length o.references)
-  pub fields : (f : Remembered) → In p.fields f → is_among same_field w.fields (f.task, f.address, f.place) ≡ true
+  pub fields : (f : ImageRemembered) → In p.fields f → is_among same_field w.fields (f.task, f.address, f.place) ≡ true
 
 pub none_of : (test : ℕ → Bool) (vs : List ℕ) → ((v : ℕ) → In vs v → test v ≡ false) → list_any test vs ≡ false
 none_of test [] h = refl
@@ -40,7 +25,7 @@ none_forgotten w r t a m (v ∷ vs) h =
     ap (λ b. b || forgets w r t a (m + 1) vs) e
     ∙ none_forgotten w r t a (m + 1) vs (λ k u g. let z : (m + 1) + k ≡ m + suc k = omega arith in ap (λ i. is_forgotten w r t a i (owner_at r.chunks u)) z ∙ h (suc k) u g)
 
-module _ (p : Picture) (s : IsSoundPicture p) (w : Whole) (all : HasAll p w) (a : List Picked) where
+module _ (p : ImageData) (s : IsSoundPicture p) (w : Whole) (all : HasAll p w) (a : List Picked) where
   abbrev r : Read
   r = objects_read p a
 

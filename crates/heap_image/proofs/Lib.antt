@@ -15,3 +15,4 @@ mod Had
 pub mod Faultless
 mod Sample
 pub mod below
+mod Common

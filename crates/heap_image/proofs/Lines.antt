@@ -1,33 +1,13 @@
 -- Each line says what it was written for.
-use Rattle.std.proofs.Common.{◌≡◌, ◌≤◌, ◌+◌, ◌-◌, ◌%◌, ℕ, suc, Bool, true, false, List, [], ◌∷◌, ◌++◌, length, map, arith, refl, ap, ◌∙◌, inl, inr}
-use Rattle.std.specs.Prelude.{ℤ, Option, Some, None, nat_le, ◌==◌}
-use Rattle.std.specs.Fmt.{decimal, signed_decimal}
-use Rattle.listed.specs.Members.{In}
-use Rattle.listed.proofs.Numbers.{above_zero}
-use Rattle.hh_lang.specs.Number.{fits_i64}
-use Rattle.run_trace.specs.Line.{spaced}
-use Rattle.run_trace.proofs.Words.{IsProper, AreProper, words_spaced}
-use Rattle.run_trace.proofs.Said.{spaced_utf8}
-use Rattle.image_check.specs.declared.line.State.{State}
-use Rattle.image_check.specs.declared.line.State.TheVariants.{Running, Waiting, Ended}
-use Rattle.image_check.specs.declared.line.Task.{Task}
-use Rattle.image_check.specs.declared.line.Chunk.{Chunk}
-use Rattle.image_check.specs.declared.line.Remembered.{Remembered}
-use Rattle.image_check.specs.declared.line.Said.{Said}
-use Rattle.image_check.specs.declared.line.Said.TheVariants.{Title, OfTask, OfChunk, OfRemembered, OfEnd}
-use Rattle.image_check.specs.Line.{said_by, said_by_words, state_named, state_word, parent_named, is_rooted, most_chunk_words, is_chunk_size, is_kind, is_field_count, references_in}
-use Rattle.heap_image.specs.declared.picture.Picked.{Picked}
-use Rattle.heap_image.specs.Form.{IsLong, HasFitParent, IsTaskForm, IsChunkForm, IsObjectForm, IsFieldForm}
-use Rattle.heap_image.specs.Text.{parent_word, kind_word, title_words, task_words, chunk_words, head_words, object_words, field_words, end_words}
-use Rattle.heap_image.specs.Told.{object_said}
+use Rattle.heap_image.proofs.Common.{◌≡◌, ◌≤◌, ◌+◌, ◌-◌, ◌%◌, ℕ, suc, Bool, true, false, List, [], ◌∷◌, ◌++◌, length, map, arith, refl, ap, ◌∙◌, inl, inr, ℤ, Option, Some, None, nat_le, ◌==◌, decimal, signed_decimal, In, above_zero, fits_i64, spaced, IsProper, AreProper, words_spaced, spaced_utf8, ImageState, Running, Waiting, Ended, ImageTask, ImageChunk, ImageRemembered, ImageLine, Title, OfTask, OfChunk, OfRemembered, OfEnd, said_by, said_by_words, state_named, state_word, parent_named, is_rooted, most_chunk_words, is_chunk_size, is_kind, is_field_count, references_in, Picked, IsLong, HasFitParent, IsTaskForm, IsChunkForm, IsObjectForm, IsFieldForm, parent_word, kind_word, title_words, task_words, chunk_words, head_words, object_words, field_words, end_words, object_said}
 use Rattle.heap_image.proofs.Words.{proper_decimal, proper_signed, short_is_long, short_again, long_again, signed_again, decimal_no_hyphen}
 
 -- words written with single spaces between them say this
-pub record Tells (ws : List (List ℕ)) (s : Said) : Type 0 where
+pub record Tells (ws : List (List ℕ)) (s : ImageLine) : Type 0 where
   pub proper : AreProper ws
   pub says : said_by_words ws ≡ s
 
-pub line_tells : (ws : List (List ℕ)) (s : Said) → Tells ws s → said_by (spaced ws) ≡ s
+pub line_tells : (ws : List (List ℕ)) (s : ImageLine) → Tells ws s → said_by (spaced ws) ≡ s
 line_tells ws s t = rw (spaced_utf8 ws t.proper) (ap said_by_words (words_spaced ws t.proper) ∙ t.says)
 
 one : (n : ℕ) → IsLong n → AreProper (decimal n ∷ [])
@@ -43,12 +23,12 @@ end_tells n h = record { proper = (grind arith, (grind arith, one n h)); says = 
 
 -- TASKS
 
-state_again : (s : State) → state_named (state_word s) ≡ Some s
+state_again : (s : ImageState) → state_named (state_word s) ≡ Some s
 state_again Running = refl
 state_again Waiting = refl
 state_again Ended = refl
 
-state_proper : (s : State) → IsProper (state_word s)
+state_proper : (s : ImageState) → IsProper (state_word s)
 state_proper Running = grind arith
 state_proper Waiting = grind arith
 state_proper Ended = grind arith
@@ -65,7 +45,7 @@ rooted : (t : ℕ) (m : Option ℕ) → HasFitParent t m → is_rooted t m ≡ t
 rooted t None h = grind (arith, h)
 rooted t (Some p) h = grind (arith, h.0)
 
-pub task_tells : (t : Task) → IsTaskForm t → Tells (task_words t) (OfTask t)
+pub task_tells : (t : ImageTask) → IsTaskForm t → Tells (task_words t) (OfTask t)
 task_tells t h = record {
   proper = (grind arith, (proper_decimal t.number (short_is_long t.number h.number), (parent_proper t.number t.parent h.parent, (state_proper t.state, tt))));
   says = rw (short_again t.number h.number, parent_again t.number t.parent h.parent, state_again t.state) rw (rooted t.number t.parent h.parent) refl;
@@ -83,7 +63,7 @@ size_fits w e low high =
 size_long : (w : ℕ) → w ≤ most_chunk_words → IsLong w
 size_long w h = omega (arith, h)
 
-pub chunk_tells : (c : Chunk) → IsChunkForm c → Tells (chunk_words c) (OfChunk c)
+pub chunk_tells : (c : ImageChunk) → IsChunkForm c → Tells (chunk_words c) (OfChunk c)
 chunk_tells c h = record {
   proper = (grind arith, (proper_decimal c.number (short_is_long c.number h.number), (proper_decimal c.owner (short_is_long c.owner h.owner), one c.words (size_long c.words h.most))));
   says = rw (short_again c.number h.number, short_again c.owner h.owner, long_again c.words (size_long c.words h.most)) rw (size_fits c.words h.whole h.least h.most) refl;
@@ -91,7 +71,7 @@ chunk_tells c h = record {
 
 -- REMEMBERED FIELDS
 
-pub field_tells : (f : Remembered) → IsFieldForm f → Tells (field_words f) (OfRemembered f)
+pub field_tells : (f : ImageRemembered) → IsFieldForm f → Tells (field_words f) (OfRemembered f)
 field_tells f h = record {
   proper = (grind arith, (proper_decimal f.task (short_is_long f.task h.task), (proper_decimal f.address h.address, one f.place h.place)));
   says = rw (short_again f.task h.task, long_again f.address h.address, long_again f.place h.place) refl;

@@ -1,14 +1,5 @@
 -- The chunks of a sound picture, as the verifier keeps them.
-use Rattle.std.proofs.Common.{◌≡◌, ◌<◌, ℕ, Bool, true, false, cond, refl, ap, sym, ◌∙◌, arith}
-use Rattle.std.specs.Prelude.{Option, Some, None, ◌==◌}
-use Rattle.std.proofs.lemmas.Option.{same_Some}
-use Rattle.listed.proofs.Numbers.{not_zero}
-use Rattle.image_check.specs.declared.line.Chunk.{Chunk}
-use Rattle.image_check.specs.Table.{found}
-use Rattle.image_check.specs.Place.{chunk_number}
-use Rattle.image_check.specs.Tasks.{Chunks, chunk_at, owner_in, owner_at}
-use Rattle.heap_image.specs.declared.picture.Picture.{Picture}
-use Rattle.heap_image.specs.Picture.{ChunkBefore, LiesIn, IsOwned, IsSoundPicture}
+use Rattle.heap_image.proofs.Common.{◌≡◌, ◌<◌, ℕ, Bool, true, false, cond, refl, ap, sym, ◌∙◌, arith, Option, Some, None, ◌==◌, same_Some, not_zero, ImageChunk, found, chunk_number, Chunks, chunk_at, owner_in, owner_at, ImageData, ChunkBefore, LiesIn, IsOwned, IsSoundPicture}
 use Rattle.heap_image.proofs.Splits.{same_item}
 use Rattle.heap_image.proofs.Tables.{found_in, found_from}
 use Rattle.heap_image.proofs.States.{chunk_number_of, chunk_itself, chunk_table}
@@ -16,14 +7,14 @@ use Rattle.heap_image.proofs.States.{chunk_number_of, chunk_itself, chunk_table}
 above_nil : (a : ℕ) → (a == 0) ≡ false → 0 < a
 above_nil a e = grind (arith, e)
 
-module _ (p : Picture) (s : IsSoundPicture p) where
+module _ (p : ImageData) (s : IsSoundPicture p) where
   abbrev cs : Chunks
   cs = chunk_table p.chunks
 
-  lower : (c d : Chunk) → ChunkBefore c d → c.number < d.number
+  lower : (c d : ImageChunk) → ChunkBefore c d → c.number < d.number
   lower c d h = h
 
-  pub chunk_found : (a : ℕ) (c : Chunk) → LiesIn p a c → chunk_at cs a ≡ Some c
+  pub chunk_found : (a : ℕ) (c : ImageChunk) → LiesIn p a c → chunk_at cs a ≡ Some c
   chunk_found a c h =
       rw (not_zero a h.1)
       (ap (found cs) h.2 ∙ found_in chunk_number_of chunk_itself p.chunks c (λ d i e. same_item ChunkBefore chunk_number_of lower p.chunks s.chunks_rise d c i h.0 e) h.0)
@@ -31,12 +22,12 @@ module _ (p : Picture) (s : IsSoundPicture p) where
   pub owner_found : (a t : ℕ) → IsOwned p a t → owner_at cs a ≡ Some t
   owner_found a t h = ap owner_in (chunk_found a h.0 h.1) ∙ ap Some h.2
 
-  owned_by : (a t : ℕ) (b : Bool) (m : Option Chunk) → (a == 0) ≡ b → found cs (chunk_number a) ≡ m → owner_in (cond b None m) ≡ Some t → IsOwned p a t
+  owned_by : (a t : ℕ) (b : Bool) (m : Option ImageChunk) → (a == 0) ≡ b → found cs (chunk_number a) ≡ m → owner_in (cond b None m) ≡ Some t → IsOwned p a t
   owned_by a t true m e f h = absurd cc
   owned_by a t false None e f h = absurd cc
   owned_by a t false (Some c) e f h =
       let r = found_from chunk_number_of chunk_itself p.chunks (chunk_number a) c f in
-      (r.0, (r.1, above_nil a e, sym r.2), ap (λ (d : Chunk). d.owner) r.3 ∙ same_Some c.owner t h)
+      (r.0, (r.1, above_nil a e, sym r.2), ap (λ (d : ImageChunk). d.owner) r.3 ∙ same_Some c.owner t h)
 
   pub owned_from : (a t : ℕ) → owner_at cs a ≡ Some t → IsOwned p a t
   owned_from a t h = owned_by a t (a == 0) (found cs (chunk_number a)) refl refl h

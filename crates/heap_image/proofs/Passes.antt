@@ -1,33 +1,22 @@
 -- How the verifier passes lines of one kind.
-use Rattle.std.proofs.Common.{◌≡◌, ◌<◌, ◌+◌, ℕ, Bool, true, false, List, [], ◌∷◌, ◌++◌, map, arith, refl, ap, sym, subst, ◌∙◌, inl, inr, append_assoc, append-nil}
-use Rattle.std.specs.Prelude.{Option, Some, None, not, ◌||◌}
-use Rattle.listed.specs.Members.{In}
-use Rattle.text_lines.specs.Lines.{is_last}
-use Rattle.image_check.specs.declared.line.Said.{Said}
-use Rattle.image_check.specs.declared.read.Position.{Position}
-use Rattle.image_check.specs.declared.read.Read.{Read}
-use Rattle.image_check.specs.declared.whole.Whole.{Whole}
-use Rattle.image_check.specs.declared.cause.Fault.{Fault}
-use Rattle.image_check.specs.Line.{said_by}
-use Rattle.image_check.specs.Read.{rises, position_of, after_line, with_line, with_lines}
-use Rattle.image_check.specs.Fault.{cause_on, cause_by, is_misplaced, has_wrong_place, breaks_form, or_later, fault_from, after_lines}
+use Rattle.heap_image.proofs.Common.{◌≡◌, ◌<◌, ◌+◌, ℕ, Bool, true, false, List, [], ◌∷◌, ◌++◌, map, arith, refl, ap, sym, subst, ◌∙◌, inl, inr, append_assoc, append-nil, Option, Some, None, not, ◌||◌, In, is_last, ImageLine, ImagePosition, Read, Whole, ImageFault, said_by, rises, position_of, after_line, with_line, with_lines, cause_on, cause_by, is_misplaced, has_wrong_place, breaks_form, or_later, fault_from, after_lines}
 use Rattle.heap_image.proofs.Splits.{IsCut}
 
 -- STATEMENTS INSTEAD OF LINES
 
-abbrev pub none_left : List Said → Bool
+abbrev pub none_left : List ImageLine → Bool
 none_left [] = true
 none_left (s ∷ ss) = false
 
-abbrev pub fault_of : Whole → Read → ℕ → List Said → Option Fault
+abbrev pub fault_of : Whole → Read → ℕ → List ImageLine → Option ImageFault
 fault_of w r n [] = None
 fault_of w r n (s ∷ ss) = or_later (cause_on w r (none_left ss) s) n (fault_of w (after_line r s) (n + 1) ss)
 
-abbrev pub after_said : Read → List Said → Read
+abbrev pub after_said : Read → List ImageLine → Read
 after_said r [] = r
 after_said r (s ∷ ss) = after_said (after_line r s) ss
 
-abbrev pub with_said : Whole → List Said → Whole
+abbrev pub with_said : Whole → List ImageLine → Whole
 with_said w [] = w
 with_said w (s ∷ ss) = with_said (with_line w s) ss
 
@@ -51,11 +40,11 @@ whole_said w (l ∷ ls) = whole_said (with_line w (said_by l)) ls
 
 -- LINES OF ONE KIND
 
-pub more_left : (xs ss : List Said) → none_left ss ≡ false → none_left (xs ++ ss) ≡ false
+pub more_left : (xs ss : List ImageLine) → none_left ss ≡ false → none_left (xs ++ ss) ≡ false
 more_left [] ss h = h
 more_left (x ∷ xs) ss h = refl
 
-module _ {X : Type 0} (w : Whole) (say : X → Said) (state : List X → Read) where
+module _ {X : Type 0} (w : Whole) (say : X → ImageLine) (state : List X → Read) where
   -- one more line has no fault, and is read
   pub record IsStep (front : List X) (x : X) : Type 0 where
     pub clear : cause_on w (state front) false (say x) ≡ None
@@ -64,7 +53,7 @@ module _ {X : Type 0} (w : Whole) (say : X → Said) (state : List X → Read) w
   shifted : (front : List X) (x : X) (left : List X) → front ++ x ∷ left ≡ (front ++ x ∷ []) ++ left
   shifted front x left = sym (append_assoc front (x ∷ []) left)
 
-  faultless_on : (front left : List X) (n : ℕ) (rest : List Said) → none_left rest ≡ false
+  faultless_on : (front left : List X) (n : ℕ) (rest : List ImageLine) → none_left rest ≡ false
       → ((a : List X) (x : X) (b : List X) → IsCut (front ++ left) a x b → IsStep a x)
       → ((m : ℕ) → fault_of w (state (front ++ left)) m rest ≡ None) → fault_of w (state front) n (map say left ++ rest) ≡ None
   faultless_on front [] n rest more steps behind = subst (λ f. fault_of w (state f) n rest ≡ None) (append-nil front) (behind n)
@@ -78,11 +67,11 @@ module _ {X : Type 0} (w : Whole) (say : X → Said) (state : List X → Read) w
       (λ m. subst (λ f. fault_of w (state f) m rest ≡ None) (shifted front x left) (behind m))
 
   -- the lines of all items have no fault if each has none, nor has what follows
-  pub faultless_items : (xs : List X) (n : ℕ) (rest : List Said) → none_left rest ≡ false → ((a : List X) (x : X) (b : List X) → IsCut xs a x b → IsStep a x)
+  pub faultless_items : (xs : List X) (n : ℕ) (rest : List ImageLine) → none_left rest ≡ false → ((a : List X) (x : X) (b : List X) → IsCut xs a x b → IsStep a x)
       → ((m : ℕ) → fault_of w (state xs) m rest ≡ None) → fault_of w (state []) n (map say xs ++ rest) ≡ None
   faultless_items xs n rest more steps behind = faultless_on [] xs n rest more steps behind
 
-  read_on : (front left : List X) (rest : List Said) → ((a : List X) (x : X) (b : List X) → IsCut (front ++ left) a x b → IsStep a x)
+  read_on : (front left : List X) (rest : List ImageLine) → ((a : List X) (x : X) (b : List X) → IsCut (front ++ left) a x b → IsStep a x)
       → after_said (state front) (map say left ++ rest) ≡ after_said (state (front ++ left)) rest
   read_on front [] rest steps = ap (λ f. after_said (state f) rest) (sym (append-nil front))
   read_on front (x ∷ left) rest steps =
@@ -90,7 +79,7 @@ module _ {X : Type 0} (w : Whole) (say : X → Said) (state : List X → Read) w
       ∙ read_on (front ++ x ∷ []) left rest (λ a y b c. steps a y b (record { cut = shifted front x left ∙ c.cut }))
       ∙ ap (λ f. after_said (state f) rest) (sym (shifted front x left))
 
-  pub read_items : (xs : List X) (rest : List Said) → ((a : List X) (x : X) (b : List X) → IsCut xs a x b → IsStep a x) → after_said (state []) (map say xs ++ rest) ≡ after_said (state xs) rest
+  pub read_items : (xs : List X) (rest : List ImageLine) → ((a : List X) (x : X) (b : List X) → IsCut xs a x b → IsStep a x) → after_said (state []) (map say xs ++ rest) ≡ after_said (state xs) rest
   read_items xs rest steps = read_on [] xs rest steps
 
 -- THE LAST OF THEM
@@ -110,11 +99,11 @@ module _ {X A : Type 0} (at : X → A) where
   last_from P before (y ∷ ys) h each = last_from P (at y) ys (each y (inl refl)) (λ x i. each x (inr i))
 
 -- a line in order after the last one, which isn't the end line
-pub formed : (w : Whole) (r : Read) (s : Said) (q p : Position) → r.last ≡ Some q → position_of s ≡ Some p → (s_is : is_misplaced r.last s ≡ has_wrong_place r.last (position_of s)) → rises q p ≡ true → cause_by w r s ≡ None → cause_on w r false s ≡ None
+pub formed : (w : Whole) (r : Read) (s : ImageLine) (q p : ImagePosition) → r.last ≡ Some q → position_of s ≡ Some p → (s_is : is_misplaced r.last s ≡ has_wrong_place r.last (position_of s)) → rises q p ≡ true → cause_by w r s ≡ None → cause_on w r false s ≡ None
 formed w r s q p at_last at_pos is up none =
     let e : is_misplaced r.last s ≡ false = is ∙ (λ j. has_wrong_place (at_last j) (at_pos j)) ∙ ap not up in
     let f : breaks_form r false s ≡ false = ap (λ b. b || false) e in
     rw f none
 
-pub lower : (q p : Position) → q.kind < p.kind → rises q p ≡ true
+pub lower : (q p : ImagePosition) → q.kind < p.kind → rises q p ≡ true
 lower q p h = grind (arith, h)

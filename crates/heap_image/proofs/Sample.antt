@@ -1,17 +1,5 @@
 -- A sound picture: an object of a waiting task refers to one of its child, which runs and remembers the field.
-use Rattle.std.proofs.Common.{◌≡◌, ◌<◌, ℕ, zero, suc, true, [], ◌∷◌, refl, ap, sym, subst, ◌∙◌, inl, inr, arith}
-use Rattle.std.specs.Prelude.{Some, None, slice_get}
-use Rattle.listed.specs.Members.{In}
-use Rattle.image_check.specs.declared.line.State.TheVariants.{Running, Waiting}
-use Rattle.image_check.specs.declared.line.Task.{Task}
-use Rattle.image_check.specs.declared.line.Chunk.{Chunk}
-use Rattle.image_check.specs.declared.line.Remembered.{Remembered}
-use Rattle.image_check.specs.Place.{chunk_number}
-use Rattle.heap_image.specs.declared.picture.Picked.{Picked}
-use Rattle.heap_image.specs.declared.picture.Picture.{Picture}
-use Rattle.heap_image.specs.Form.{IsTaskForm, IsChunkForm, IsObjectForm, IsFieldForm, IsInForm}
-use Rattle.heap_image.specs.Picture.{Rises, TaskBefore, ChunkBefore, ObjectBefore, FieldBefore, IsAbove, HasTask, IsRunning, IsOwned, IsPlaced, LeadsSomewhere, KeepsToPath, IsFit, IsSoundPicture}
-use Rattle.heap_image.specs.Told.{SomePictureIsSound}
+use Rattle.heap_image.proofs.Common.{◌≡◌, ◌<◌, ℕ, zero, suc, true, [], ◌∷◌, refl, ap, sym, subst, ◌∙◌, inl, inr, arith, Some, None, slice_get, In, Running, Waiting, ImageTask, ImageChunk, ImageRemembered, chunk_number, Picked, ImageData, IsTaskForm, IsChunkForm, IsObjectForm, IsFieldForm, IsInForm, Rises, TaskBefore, ChunkBefore, ObjectBefore, FieldBefore, IsAbove, HasTask, IsRunning, IsOwned, IsPlaced, LeadsSomewhere, KeepsToPath, IsFit, IsSoundPicture, SomePictureIsSound}
 
 -- LISTS OF ONE AND OF TWO
 
@@ -42,25 +30,25 @@ each_two P a b h g x (inr i) = each_one P b g x i
 
 -- THE PICTURE
 
-abbrev parent : Task
+abbrev parent : ImageTask
 parent = record { number = 0; parent = None; state = Waiting }
 
-abbrev child : Task
+abbrev child : ImageTask
 child = record { number = 1; parent = Some 0; state = Running }
 
-abbrev upper : Chunk
+abbrev upper : ImageChunk
 upper = record { number = 0; owner = 0; words = 1024 }
 
-abbrev lower : Chunk
+abbrev lower : ImageChunk
 lower = record { number = 1; owner = 1; words = 1024 }
 
 abbrev object : Picked
 object = record { address = 1; birth = record { task = 0; count = 0 }; mutable = true; references = 1025 ∷ []; numbers = [] }
 
-abbrev field : Remembered
+abbrev field : ImageRemembered
 field = record { task = 1; address = 1; place = 0 }
 
-abbrev sample : Picture
+abbrev sample : ImageData
 sample = record { tasks = parent ∷ child ∷ []; chunks = upper ∷ lower ∷ []; objects = object ∷ []; fields = field ∷ [] }
 
 in_form : IsInForm sample
@@ -96,23 +84,23 @@ no_number_twice : (n : ℕ) → 1 ≡ n → n ≡ 0 → ⊥
 no_number_twice n e f = omega (arith, e, f)
 
 parent_rests : IsRunning sample 0 → ⊥
-parent_rests h = by h.0 h.1 h.2 h.3
+parent_rests h = parent_rests_by_cases h.0 h.1 h.2 h.3
   where
-    by : (k : Task) → In sample.tasks k → k.number ≡ 0 → k.state ≡ Running → ⊥
-    by k (inl e) n r = waits_and_runs (ap (λ (t : Task). t.state) e ∙ r)
-    by k (inr (inl e)) n r = no_number_twice k.number (ap (λ (t : Task). t.number) e) n
-    by k (inr (inr i)) n r = absurd i
+    parent_rests_by_cases : (k : ImageTask) → In sample.tasks k → k.number ≡ 0 → k.state ≡ Running → ⊥
+    parent_rests_by_cases k (inl e) n r = waits_and_runs (ap (λ (t : ImageTask). t.state) e ∙ r)
+    parent_rests_by_cases k (inr (inl e)) n r = no_number_twice k.number (ap (λ (t : ImageTask). t.number) e) n
+    parent_rests_by_cases k (inr (inr i)) n r = absurd i
 
-parents_known : (t : Task) (q : ℕ) → In sample.tasks t → t.parent ≡ Some q → HasTask sample q × (q < t.number)
-parents_known t q (inl e) h = absurd (let f : None ≡ Some q = ap (λ (k : Task). k.parent) e ∙ h in cc)
+parents_known : (t : ImageTask) (q : ℕ) → In sample.tasks t → t.parent ≡ Some q → HasTask sample q × (q < t.number)
+parents_known t q (inl e) h = absurd (let f : None ≡ Some q = ap (λ (k : ImageTask). k.parent) e ∙ h in cc)
 parents_known t q (inr (inl e)) h =
-    let f : Some 0 ≡ Some q = ap (λ (k : Task). k.parent) e ∙ h in
+    let f : Some 0 ≡ Some q = ap (λ (k : ImageTask). k.parent) e ∙ h in
     let z : 0 ≡ q = cc in
-    (subst (HasTask sample) z has_parent, (let n : 1 ≡ t.number = ap (λ (k : Task). k.number) e in omega (arith, z, n)))
+    (subst (HasTask sample) z has_parent, (let n : 1 ≡ t.number = ap (λ (k : ImageTask). k.number) e in omega (arith, z, n)))
 parents_known t q (inr (inr i)) h = absurd i
 
 -- the owner of an address depends on its chunk's number
-owner_is : (c : Chunk) → In sample.chunks c → c.owner ≡ c.number
+owner_is : (c : ImageChunk) → In sample.chunks c → c.owner ≡ c.number
 owner_is = each_two (λ c. c.owner ≡ c.number) upper lower refl refl
 
 owned_by : (a t : ℕ) → IsOwned sample a t → t ≡ chunk_number a

@@ -1,17 +1,5 @@
 -- How lines are put together.
-use Rattle.std.proofs.Common.{◌≡◌, ℕ, ℤ, List, [], ◌∷◌, ◌++◌, length, map, ap, sym, ◌∙◌, append_assoc, append-nil}
-use Rattle.std.specs.Prelude.{codes, Result, Ok, Err, OnOk, if◌then◌else◌, Option, Some, None}
-use Rattle.std.specs.Result.{is_ok}
-use Rattle.std.specs.List.{flat_map}
-use Rattle.std.specs.Fmt.{decimal, signed_decimal}
-use Rattle.std.proofs.lemmas.Grind.{flat_map-append}
-use Rattle.std.proofs.lemmas.List.Folds.{flat_map-map}
-use Rattle.run_trace.specs.Line.{spaced}
-use Rattle.heap_image.specs.declared.picture.Picked.{Picked}
-use Rattle.image_check.specs.declared.line.Task.{Task}
-use Rattle.image_check.specs.declared.line.State.{State}
-use Rattle.image_check.specs.Line.{state_word}
-use Rattle.heap_image.specs.Text.{line, kind_word, parent_word, task_line, object_line, head_words, object_words, reference_text, number_text}
+use Rattle.heap_image.proofs.Common.{◌≡◌, ℕ, ℤ, List, [], ◌∷◌, ◌++◌, length, map, ap, sym, ◌∙◌, append_assoc, append-nil, codes, Result, Ok, Err, OnOk, if◌then◌else◌, Option, Some, None, is_ok, flat_map, decimal, signed_decimal, flat_map-append, flat_map-map, spaced, ImageTask, ImageState, state_word, Picked, line, kind_word, parent_word, task_line, object_line, head_words, object_words, reference_text, number_text}
 
 -- a word after a space
 abbrev behind_space : List ℕ → List ℕ
@@ -47,17 +35,17 @@ object_spaced o =
 four_spaced : (n p w : List ℕ) → codes "task " ++ (n ++ 32 ∷ (p ++ 32 ∷ (w ++ 10 ∷ []))) ≡ line (codes "task" ∷ n ∷ p ∷ w ∷ [])
 four_spaced n p w = simp append_assoc
 
-task_by : (n : ℕ) (m p : Option ℕ) (s : State) (w : List ℕ) → m ≡ p → w ≡ state_word s
+task_by : (n : ℕ) (m p : Option ℕ) (s : ImageState) (w : List ℕ) → m ≡ p → w ≡ state_word s
     → codes "task " ++ (decimal n ++ 32 ∷ (parent_word p ++ 32 ∷ (w ++ 10 ∷ []))) ≡ line (codes "task" ∷ decimal n ∷ parent_word m ∷ state_word s ∷ [])
 task_by n m p s w e f =
     four_spaced (decimal n) (parent_word p) w
     ∙ ap (λ x. line (codes "task" ∷ decimal n ∷ parent_word x ∷ w ∷ [])) (sym e)
     ∙ ap (λ x. line (codes "task" ∷ decimal n ∷ parent_word m ∷ x ∷ [])) f
 
-pub rooted_line : (t : Task) (w : List ℕ) → t.parent ≡ None → w ≡ state_word t.state → codes "task " ++ (decimal t.number ++ (codes " - " ++ (w ++ 10 ∷ []))) ≡ task_line t
+pub rooted_line : (t : ImageTask) (w : List ℕ) → t.parent ≡ None → w ≡ state_word t.state → codes "task " ++ (decimal t.number ++ (codes " - " ++ (w ++ 10 ∷ []))) ≡ task_line t
 rooted_line t w e f = task_by t.number t.parent None t.state w e f
 
-pub child_line : (t : Task) (p : ℕ) (w : List ℕ) → t.parent ≡ Some p → w ≡ state_word t.state → codes "task " ++ (decimal t.number ++ 32 ∷ (decimal p ++ 32 ∷ (w ++ 10 ∷ []))) ≡ task_line t
+pub child_line : (t : ImageTask) (p : ℕ) (w : List ℕ) → t.parent ≡ Some p → w ≡ state_word t.state → codes "task " ++ (decimal t.number ++ 32 ∷ (decimal p ++ 32 ∷ (w ++ 10 ∷ []))) ≡ task_line t
 child_line t p w e f = task_by t.number t.parent (Some p) t.state w e f
 
 -- LINES

@@ -1,19 +1,14 @@
 -- An ascending list, cut before and after one of its items.
-use Rattle.std.proofs.Common.{◌≡◌, ◌<◌, ℕ, suc, Bool, true, false, List, [], ◌∷◌, ◌++◌, length, arith, refl, ap, sym, subst, ◌∙◌, inl, inr, ◌⊎◌}
-use Rattle.std.specs.Prelude.{Some, slice_get, nat_lt}
-use Rattle.listed.specs.Members.{In}
-use Rattle.listed.proofs.Members.{in_append_left, in_append_right, in_append_cases}
-use Rattle.listed.proofs.Places.{got_middle, in_got}
-use Rattle.heap_image.specs.Picture.{Rises}
+use Rattle.heap_image.proofs.Common.{◌≡◌, ◌<◌, ℕ, suc, Bool, true, false, List, [], ◌∷◌, ◌++◌, length, arith, refl, ap, sym, subst, ◌∙◌, inl, inr, ◌⊎◌, Some, slice_get, nat_lt, In, in_append_left, in_append_right, in_append_cases, got_middle, in_got, Rises}
 
 -- of two places one comes first
 first_of_two : (i j : ℕ) → (i < j) ⊎ ((i ≡ j) ⊎ (j < i))
-first_of_two i j = by (nat_lt i j) (nat_lt j i) refl refl
+first_of_two i j = first_of_two_by_cases (nat_lt i j) (nat_lt j i) refl refl
   where
-    by : (a b : Bool) → nat_lt i j ≡ a → nat_lt j i ≡ b → (i < j) ⊎ ((i ≡ j) ⊎ (j < i))
-    by true b e f = inl (grind (arith, e))
-    by false true e f = inr (inr (grind (arith, f)))
-    by false false e f = inr (inl (grind (arith, e, f)))
+    first_of_two_by_cases : (a b : Bool) → nat_lt i j ≡ a → nat_lt j i ≡ b → (i < j) ⊎ ((i ≡ j) ⊎ (j < i))
+    first_of_two_by_cases true b e f = inl (grind (arith, e))
+    first_of_two_by_cases false true e f = inr (inr (grind (arith, f)))
+    first_of_two_by_cases false false e f = inr (inl (grind (arith, e, f)))
 
 module _ {A : Type 0} where
   module _ (before : A → A → Type 0) where
@@ -32,21 +27,21 @@ module _ {A : Type 0} where
   module _ (before : A → A → Type 0) (key : A → ℕ) (up : (x y : A) → before x y → key x < key y) (xs : List A) (r : Rises before xs) where
     -- items come in the order of their numbers
     pub comes_first : (i j : ℕ) (x y : A) → slice_get xs i ≡ Some x → slice_get xs j ≡ Some y → key x < key y → i < j
-    comes_first i j x y g h lt = by (first_of_two i j)
+    comes_first i j x y g h lt = comes_first_by_cases (first_of_two i j)
       where
-        by : (i < j) ⊎ ((i ≡ j) ⊎ (j < i)) → i < j
-        by (inl l) = l
-        by (inr (inl e)) = absurd (let f : Some x ≡ Some y = sym g ∙ ap (slice_get xs) e ∙ h in let q : x ≡ y = cc in let k : key x ≡ key y = ap key q in omega (arith, lt, k))
-        by (inr (inr l)) = absurd (let k : key y < key x = up y x (r j i y x l h g) in omega (arith, lt, k))
+        comes_first_by_cases : (i < j) ⊎ ((i ≡ j) ⊎ (j < i)) → i < j
+        comes_first_by_cases (inl l) = l
+        comes_first_by_cases (inr (inl e)) = absurd (let f : Some x ≡ Some y = sym g ∙ ap (slice_get xs) e ∙ h in let q : x ≡ y = cc in let k : key x ≡ key y = ap key q in omega (arith, lt, k))
+        comes_first_by_cases (inr (inr l)) = absurd (let k : key y < key x = up y x (r j i y x l h g) in omega (arith, lt, k))
 
     -- no number occurs twice
     pub one_place : (i j : ℕ) (x y : A) → slice_get xs i ≡ Some x → slice_get xs j ≡ Some y → key x ≡ key y → i ≡ j
-    one_place i j x y g h e = by (first_of_two i j)
+    one_place i j x y g h e = one_place_by_cases (first_of_two i j)
       where
-        by : (i < j) ⊎ ((i ≡ j) ⊎ (j < i)) → i ≡ j
-        by (inl l) = absurd (let k : key x < key y = up x y (r i j x y l g h) in omega (arith, e, k))
-        by (inr (inl q)) = q
-        by (inr (inr l)) = absurd (let k : key y < key x = up y x (r j i y x l h g) in omega (arith, e, k))
+        one_place_by_cases : (i < j) ⊎ ((i ≡ j) ⊎ (j < i)) → i ≡ j
+        one_place_by_cases (inl l) = absurd (let k : key x < key y = up x y (r i j x y l g h) in omega (arith, e, k))
+        one_place_by_cases (inr (inl q)) = q
+        one_place_by_cases (inr (inr l)) = absurd (let k : key y < key x = up y x (r j i y x l h g) in omega (arith, e, k))
 
     -- a number identifies one item
     pub same_item : (x y : A) → In xs x → In xs y → key x ≡ key y → x ≡ y

@@ -1,12 +1,5 @@
 -- Lookups in the tables that the verifier makes of a picture's lists.
-use Rattle.std.proofs.Common.{◌≡◌, ℕ, Bool, true, false, List, [], ◌∷◌, ◌++◌, map, refl, ap, sym, ◌∙◌, inl, inr}
-use Rattle.std.specs.Prelude.{Some, None, nat_eq, is_some}
-use Rattle.std.proofs.lemmas.Option.{same_Some}
-use Rattle.std.proofs.lemmas.Bool.{ne_eqb, eqb-true}
-use Rattle.listed.specs.Members.{In}
-use Rattle.image_check.specs.Table.{found, has, with_entry, with_new}
-use Rattle.image_check.specs.Sets.{is_among, with_item}
-use Rattle.image_check.proofs.Entries.{itself}
+use Rattle.heap_image.proofs.Common.{◌≡◌, ℕ, Bool, true, false, List, [], ◌∷◌, ◌++◌, map, refl, ap, sym, ◌∙◌, inl, inr, Some, None, nat_eq, is_some, same_Some, ne_eqb, eqb-true, In, found, has, with_entry, with_new, is_among, with_item, itself}
 
 module _ {X V : Type 0} (key : X → ℕ) (val : X → V) where
   abbrev pub entry : X → ℕ × V
@@ -17,12 +10,12 @@ module _ {X V : Type 0} (key : X → ℕ) (val : X → V) where
 
   pub found_in : (xs : List X) (x : X) → ((y : X) → In xs y → key y ≡ key x → val y ≡ val x) → In xs x → found (table xs) (key x) ≡ Some (val x)
   found_in [] x one h = absurd h
-  found_in (y ∷ ys) x one h = by (nat_eq (key x) (key y)) refl h (found_in ys x (λ z i. one z (inr i)))
+  found_in (y ∷ ys) x one h = found_in_by_cases (nat_eq (key x) (key y)) refl h (found_in ys x (λ z i. one z (inr i)))
     where
-      by : (b : Bool) → nat_eq (key x) (key y) ≡ b → In (y ∷ ys) x → (In ys x → found (table ys) (key x) ≡ Some (val x)) → found (table (y ∷ ys)) (key x) ≡ Some (val x)
-      by true e i again = rw e (ap Some (one y (inl refl) (sym (eqb-true (key x) (key y) e))))
-      by false e (inl i) again = absurd (let g : nat_eq (key x) (key y) ≡ true = ap (λ z. nat_eq (key x) (key z)) i ∙ itself (key x) in cc)
-      by false e (inr i) again = rw e (again i)
+      found_in_by_cases : (b : Bool) → nat_eq (key x) (key y) ≡ b → In (y ∷ ys) x → (In ys x → found (table ys) (key x) ≡ Some (val x)) → found (table (y ∷ ys)) (key x) ≡ Some (val x)
+      found_in_by_cases true e i again = rw e (ap Some (one y (inl refl) (sym (eqb-true (key x) (key y) e))))
+      found_in_by_cases false e (inl i) again = absurd (let g : nat_eq (key x) (key y) ≡ true = ap (λ z. nat_eq (key x) (key z)) i ∙ itself (key x) in cc)
+      found_in_by_cases false e (inr i) again = rw e (again i)
 
   pub found_none : (xs : List X) (n : ℕ) → ((y : X) → In xs y → key y ≡ n → ⊥) → found (table xs) n ≡ None
   found_none [] n fresh = refl
@@ -30,11 +23,11 @@ module _ {X V : Type 0} (key : X → ℕ) (val : X → V) where
 
   pub found_from : (xs : List X) (n : ℕ) (v : V) → found (table xs) n ≡ Some v → (x : X) × In xs x × (key x ≡ n) × (val x ≡ v)
   found_from [] n v h = absurd cc
-  found_from (y ∷ ys) n v h = by (nat_eq n (key y)) refl h (found_from ys n v)
+  found_from (y ∷ ys) n v h = found_from_by_cases (nat_eq n (key y)) refl h (found_from ys n v)
     where
-      by : (b : Bool) → nat_eq n (key y) ≡ b → found (table (y ∷ ys)) n ≡ Some v → (found (table ys) n ≡ Some v → (x : X) × In ys x × (key x ≡ n) × (val x ≡ v)) → (x : X) × In (y ∷ ys) x × (key x ≡ n) × (val x ≡ v)
-      by true e g again = (y, inl refl, sym (eqb-true n (key y) e), same_Some (val y) v (rw e at g))
-      by false e g again = let r = again (rw e at g) in (r.0, inr r.1, r.2, r.3)
+      found_from_by_cases : (b : Bool) → nat_eq n (key y) ≡ b → found (table (y ∷ ys)) n ≡ Some v → (found (table ys) n ≡ Some v → (x : X) × In ys x × (key x ≡ n) × (val x ≡ v)) → (x : X) × In (y ∷ ys) x × (key x ≡ n) × (val x ≡ v)
+      found_from_by_cases true e g again = (y, inl refl, sym (eqb-true n (key y) e), same_Some (val y) v (rw e at g))
+      found_from_by_cases false e g again = let r = again (rw e at g) in (r.0, inr r.1, r.2, r.3)
 
   -- one more entry, under a new number
   pub entry_more : (xs : List X) (x : X) → ((y : X) → In xs y → key y ≡ key x → ⊥) → with_entry (table xs) (key x) (val x) ≡ table (xs ++ x ∷ [])

@@ -1,30 +1,19 @@
 -- The lines of a picture's text say all of it.
-use Rattle.std.proofs.Common.{◌≡◌, ℕ, List, [], ◌∷◌, ◌++◌, length, map, refl, ap, sym, ◌∙◌, inl, inr, append_assoc, append-nil}
-use Rattle.std.specs.List.{flat_map}
-use Rattle.std.proofs.lemmas.Str.{is_utf8-from_IsUtf8, IsUtf8-nil}
-use Rattle.listed.specs.Members.{In}
-use Rattle.text_lines.specs.Lines.{lines_of}
-use Rattle.run_trace.proofs.Words.{line_first}
-use Rattle.image_check.specs.declared.line.Said.{Said}
-use Rattle.image_check.specs.declared.line.Said.TheVariants.{Nothing, Title, OfTask, OfChunk, OfRemembered, OfEnd}
-use Rattle.image_check.specs.Line.{said_by}
-use Rattle.heap_image.specs.Form.{IsLong}
-use Rattle.heap_image.specs.Text.{line, title_words, task_words, chunk_words, object_words, field_words, end_words, task_line, chunk_line, object_line, field_line}
-use Rattle.heap_image.specs.Told.{object_said, PicturesAreRead}
+use Rattle.heap_image.proofs.Common.{◌≡◌, ℕ, List, [], ◌∷◌, ◌++◌, length, map, refl, ap, sym, ◌∙◌, inl, inr, append_assoc, append-nil, flat_map, is_utf8-from_IsUtf8, IsUtf8-nil, In, lines_of, line_first, ImageLine, Nothing, Title, OfTask, OfChunk, OfRemembered, OfEnd, said_by, IsLong, line, title_words, task_words, chunk_words, object_words, field_words, end_words, task_line, chunk_line, object_line, field_line, object_said, PicturesAreRead}
 use Rattle.heap_image.proofs.Lines.{Tells, line_tells, title_tells, task_tells, chunk_tells, object_tells, field_tells, end_tells}
 
 -- all that the lines of a text say
-abbrev pub said_in : List ℕ → List Said
+abbrev pub said_in : List ℕ → List ImageLine
 said_in text = map said_by (lines_of text)
 
 nothing_behind : said_in [] ≡ Nothing ∷ []
 nothing_behind = ap (λ s. s ∷ []) (rw (is_utf8-from_IsUtf8 [] IsUtf8-nil) refl)
 
-first_said : (ws : List (List ℕ)) (s : Said) (rest : List ℕ) → Tells ws s → said_in (line ws ++ rest) ≡ s ∷ said_in rest
+first_said : (ws : List (List ℕ)) (s : ImageLine) (rest : List ℕ) → Tells ws s → said_in (line ws ++ rest) ≡ s ∷ said_in rest
 first_said ws s rest t = ap (map said_by) (line_first ws rest t.proper) ∙ ap (λ x. x ∷ said_in rest) (line_tells ws s t)
 
 -- a line for each item
-items_said : {X : Type 0} (words : X → List (List ℕ)) (say : X → Said) (xs : List X) (rest : List ℕ) → ((x : X) → In xs x → Tells (words x) (say x))
+items_said : {X : Type 0} (words : X → List (List ℕ)) (say : X → ImageLine) (xs : List X) (rest : List ℕ) → ((x : X) → In xs x → Tells (words x) (say x))
     → said_in (flat_map (λ x. line (words x)) xs ++ rest) ≡ map say xs ++ said_in rest
 items_said words say [] rest h = refl
 items_said words say (x ∷ xs) rest h =

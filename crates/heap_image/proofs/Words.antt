@@ -1,15 +1,5 @@
 -- The words of numbers are read as these numbers.
-use Rattle.std.proofs.Common.{◌≡◌, ◌<◌, ◌^◌, ℕ, suc, true, false, List, [], ◌∷◌, arith, refl, sym}
-use Rattle.std.specs.Prelude.{ℤ, pos, negsuc, nat_lt, ◌==◌, codes, Some}
-use Rattle.std.specs.Str.{bytes_eq}
-use Rattle.std.specs.Str.Parse.{IsNumeral, digits_value}
-use Rattle.std.specs.Fmt.{decimal, signed_decimal}
-use Rattle.std.proofs.lemmas.Fmt.{decimal_is_IsNumeral}
-use Rattle.hh_lang.specs.Number.{is_numeral, fits_i64, signed_number}
-use Rattle.hh_lang.proofs.Tests.{no_minus, numeral_passes, positive, unsigned}
-use Rattle.run_trace.proofs.Words.{IsProper, digits_are_plain}
-use Rattle.image_check.specs.Line.{number_below, short_number, long_number}
-use Rattle.image_check.proofs.Numbers.{as_option}
+use Rattle.heap_image.proofs.Common.{◌≡◌, ◌<◌, ◌^◌, ℕ, suc, true, false, List, [], ◌∷◌, arith, refl, sym, ℤ, pos, negsuc, nat_lt, ◌==◌, codes, Some, bytes_eq, IsNumeral, digits_value, decimal, signed_decimal, decimal_is_IsNumeral, is_numeral, fits_i64, signed_number, no_minus, numeral_passes, positive, unsigned, IsProper, digits_are_plain, number_below, short_number, long_number, as_option}
 
 -- PROPER WORDS
 

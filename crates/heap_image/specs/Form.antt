@@ -1,15 +1,15 @@
 -- What the lines of an image can say: numbers within their ranges.
 use Rattle.std.specs.Prelude.{◌≡◌, ◌<◌, ◌≤◌, ◌+◌, ◌^◌, ◌%◌, ℕ, ℤ, true, Option, Some, None, length}
 use Rattle.hh_lang.specs.Number.{fits_i64}
-use Rattle.listed.specs.Members.{In}
+use Rattle.plain_vec.specs.Members.{In}
 use Rattle.chunk_sizes.specs.Sizes.{chunk_words}
 use Rattle.run_trace.specs.Entry.{IsWord}
-use Rattle.image_check.specs.declared.line.Task.{Task}
-use Rattle.image_check.specs.declared.line.Chunk.{Chunk}
-use Rattle.image_check.specs.declared.line.Remembered.{Remembered}
+use Rattle.image_check.specs.declared.line.ImageTask.{ImageTask}
+use Rattle.image_check.specs.declared.line.ImageChunk.{ImageChunk}
+use Rattle.image_check.specs.declared.line.ImageRemembered.{ImageRemembered}
 use Rattle.image_check.specs.Line.{most_chunk_words, most_fields}
 use Rattle.heap_image.specs.declared.picture.Picked.{Picked}
-use Rattle.heap_image.specs.declared.picture.Picture.{Picture}
+use Rattle.heap_image.specs.declared.picture.ImageData.{ImageData}
 
 -- an address or an offset; tasks, chunks and births have 32-bit numbers
 abbrev pub IsLong : ℕ → Type 0
@@ -20,12 +20,12 @@ abbrev pub HasFitParent : ℕ → Option ℕ → Type 0
 HasFitParent t None = t ≡ 0
 HasFitParent t (Some p) = (0 < t) × IsWord p
 
-pub record IsTaskForm (t : Task) : Type 0 where
+pub record IsTaskForm (t : ImageTask) : Type 0 where
   pub number : IsWord t.number
   pub parent : HasFitParent t.number t.parent
 
 -- a chunk's words are a multiple of a unit's, up to the largest chunk
-pub record IsChunkForm (c : Chunk) : Type 0 where
+pub record IsChunkForm (c : ImageChunk) : Type 0 where
   pub number : IsWord c.number
   pub owner : IsWord c.owner
   pub whole : c.words % chunk_words ≡ 0
@@ -41,14 +41,14 @@ pub record IsObjectForm (o : Picked) : Type 0 where
   pub references : (v : ℕ) → In o.references v → IsLong v
   pub numbers : (n : ℤ) → In o.numbers n → fits_i64 n ≡ true
 
-pub record IsFieldForm (f : Remembered) : Type 0 where
+pub record IsFieldForm (f : ImageRemembered) : Type 0 where
   pub task : IsWord f.task
   pub address : IsLong f.address
   pub place : IsLong f.place
 
 -- all numbers of a picture are within their ranges
-pub record IsInForm (p : Picture) : Type 0 where
-  pub tasks : (t : Task) → In p.tasks t → IsTaskForm t
-  pub chunks : (c : Chunk) → In p.chunks c → IsChunkForm c
+pub record IsInForm (p : ImageData) : Type 0 where
+  pub tasks : (t : ImageTask) → In p.tasks t → IsTaskForm t
+  pub chunks : (c : ImageChunk) → In p.chunks c → IsChunkForm c
   pub objects : (o : Picked) → In p.objects o → IsObjectForm o
-  pub fields : (f : Remembered) → In p.fields f → IsFieldForm f
+  pub fields : (f : ImageRemembered) → In p.fields f → IsFieldForm f

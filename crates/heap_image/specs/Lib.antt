@@ -1,5 +1,5 @@
 pub mod Form
-pub mod Picture
+pub mod ImageData
 pub mod Text
 pub mod Told
 pub mod below

@@ -2,13 +2,13 @@
 use Rattle.std.specs.Prelude.{ℕ, ℤ, Bool, true, false, Option, Some, None, List, [], ◌∷◌, ◌++◌, codes, length, map}
 use Rattle.std.specs.List.{flat_map}
 use Rattle.std.specs.Fmt.{decimal, signed_decimal}
-use Rattle.image_check.specs.declared.line.Task.{Task}
-use Rattle.image_check.specs.declared.line.Chunk.{Chunk}
-use Rattle.image_check.specs.declared.line.Remembered.{Remembered}
+use Rattle.image_check.specs.declared.line.ImageTask.{ImageTask}
+use Rattle.image_check.specs.declared.line.ImageChunk.{ImageChunk}
+use Rattle.image_check.specs.declared.line.ImageRemembered.{ImageRemembered}
 use Rattle.image_check.specs.Line.{state_word}
 pub use Rattle.run_trace.specs.Line.{line}
 use Rattle.heap_image.specs.declared.picture.Picked.{Picked}
-use Rattle.heap_image.specs.declared.picture.Picture.{Picture}
+use Rattle.heap_image.specs.declared.picture.ImageData.{ImageData}
 
 -- WORDS
 
@@ -26,10 +26,10 @@ kind_word false = codes "imm"
 abbrev pub title_words : List (List ℕ)
 title_words = codes "image" ∷ codes "1" ∷ []
 
-abbrev pub task_words : Task → List (List ℕ)
+abbrev pub task_words : ImageTask → List (List ℕ)
 task_words t = codes "task" ∷ decimal t.number ∷ parent_word t.parent ∷ state_word t.state ∷ []
 
-abbrev pub chunk_words : Chunk → List (List ℕ)
+abbrev pub chunk_words : ImageChunk → List (List ℕ)
 chunk_words c = codes "chunk" ∷ decimal c.number ∷ decimal c.owner ∷ decimal c.words ∷ []
 
 -- an object's words before its fields
@@ -41,7 +41,7 @@ head_words o =
 abbrev pub object_words : Picked → List (List ℕ)
 object_words o = head_words o ++ map decimal o.references ++ map signed_decimal o.numbers
 
-abbrev pub field_words : Remembered → List (List ℕ)
+abbrev pub field_words : ImageRemembered → List (List ℕ)
 field_words f = codes "remembered" ∷ decimal f.task ∷ decimal f.address ∷ decimal f.place ∷ []
 
 -- the end, with the number of objects
@@ -58,20 +58,20 @@ number_text n = 32 ∷ signed_decimal n
 
 -- LINES
 
-abbrev pub task_line : Task → List ℕ
+abbrev pub task_line : ImageTask → List ℕ
 task_line t = line (task_words t)
 
-abbrev pub chunk_line : Chunk → List ℕ
+abbrev pub chunk_line : ImageChunk → List ℕ
 chunk_line c = line (chunk_words c)
 
 abbrev pub object_line : Picked → List ℕ
 object_line o = line (object_words o)
 
-abbrev pub field_line : Remembered → List ℕ
+abbrev pub field_line : ImageRemembered → List ℕ
 field_line f = line (field_words f)
 
 -- the title, the tasks, the chunks, the objects, the remembered fields, and the end
-abbrev pub text_of : Picture → List ℕ
+abbrev pub text_of : ImageData → List ℕ
 text_of p =
     line title_words
     ++ flat_map task_line p.tasks

@@ -1,3 +1,3 @@
 -- Re-exports from lower crates for the crates above.
-pub mod listed
+pub mod plain_vec
 pub mod run_trace

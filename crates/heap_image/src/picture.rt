@@ -1,13 +1,13 @@
 // Pictures of the heaps.
 
-use image_check::{Birth, Chunk, Remembered, Task};
-use listed::Listed;
+use image_check::{ImageBirth, ImageChunk, ImageRemembered, ImageTask};
+use plain_vec::Listed;
 
 /// An object. A reference is an address, or 0 for nil.
 #[derive(Drop)]
 pub struct Picked {
     pub address: u64,
-    pub birth: Birth,
+    pub birth: ImageBirth,
     pub mutable: bool,
     pub references: Listed<u64>,
     pub numbers: Listed<i64>,
@@ -15,13 +15,13 @@ pub struct Picked {
 
 /// What an image shows.
 #[derive(Drop)]
-pub struct Picture {
+pub struct ImageData {
     /// The tasks that haven't joined.
-    pub tasks: Listed<Task>,
+    pub tasks: Listed<ImageTask>,
     /// The chunks in use.
-    pub chunks: Listed<Chunk>,
+    pub chunks: Listed<ImageChunk>,
     /// The objects of heaps at rest.
     pub objects: Listed<Picked>,
     /// The reference fields that heaps remember.
-    pub fields: Listed<Remembered>,
+    pub fields: Listed<ImageRemembered>,
 }

@@ -6,8 +6,8 @@ ghost use Rattle.std.specs.String.{string_bytes};
 ghost use Rattle.run_trace.specs.Line.{spaced};
 ghost use Rattle.heap_image.specs.Text.{kind_word, head_words, end_words, reference_text, number_text, line, task_line, chunk_line, object_line, field_line, text_of};
 
-use crate::picture::{Picked, Picture};
-use image_check::{Chunk, Remembered, Task};
+use crate::picture::{ImageData, Picked};
+use image_check::{ImageChunk, ImageRemembered, ImageTask};
 use std::alloc::{AllocError, Global};
 
 // The word for whether an object is mutable.
@@ -18,7 +18,7 @@ fn kind_text(mutable: bool) -> &'static str
 }
 
 // The line of a task.
-fn task_text(alloc: Global, task: &Task) -> Result<String, AllocError>
+fn task_text(alloc: Global, task: &ImageTask) -> Result<String, AllocError>
     ensures { IfOk result (λ text. string_bytes text ≡ task_line task.now) }
 {
     let state = task.state.word();
@@ -29,7 +29,7 @@ fn task_text(alloc: Global, task: &Task) -> Result<String, AllocError>
 }
 
 // The line of a chunk.
-fn chunk_text(alloc: Global, chunk: &Chunk) -> Result<String, AllocError>
+fn chunk_text(alloc: Global, chunk: &ImageChunk) -> Result<String, AllocError>
     ensures { IfOk result (λ text. string_bytes text ≡ chunk_line chunk.now) }
 {
     format!(in alloc; "chunk {} {} {}\n", chunk.number, chunk.owner, chunk.words)
@@ -50,7 +50,7 @@ fn head_text(alloc: Global, object: &Picked) -> Result<String, AllocError>
 }
 
 // The line of a remembered field.
-fn field_text(alloc: Global, field: &Remembered) -> Result<String, AllocError>
+fn field_text(alloc: Global, field: &ImageRemembered) -> Result<String, AllocError>
     ensures { IfOk result (λ text. string_bytes text ≡ field_line field.now) }
 {
     format!(in alloc;
@@ -114,7 +114,7 @@ fn add_object(alloc: Global, text: &mut Vec<u8>, object: &Picked) -> Result<(), 
 }
 
 // Adds the lines of tasks.
-fn add_tasks(alloc: Global, text: &mut Vec<u8>, tasks: &[Task]) -> Result<(), AllocError>
+fn add_tasks(alloc: Global, text: &mut Vec<u8>, tasks: &[ImageTask]) -> Result<(), AllocError>
     ensures { OnOk result (text.new.items ≡ text.old.items ++ flat_map task_line tasks.now) }
 {
     for task in tasks {
@@ -125,7 +125,7 @@ fn add_tasks(alloc: Global, text: &mut Vec<u8>, tasks: &[Task]) -> Result<(), Al
 }
 
 // Adds the lines of chunks.
-fn add_chunks(alloc: Global, text: &mut Vec<u8>, chunks: &[Chunk]) -> Result<(), AllocError>
+fn add_chunks(alloc: Global, text: &mut Vec<u8>, chunks: &[ImageChunk]) -> Result<(), AllocError>
     ensures { OnOk result (text.new.items ≡ text.old.items ++ flat_map chunk_line chunks.now) }
 {
     for chunk in chunks {
@@ -146,7 +146,7 @@ fn add_objects(alloc: Global, text: &mut Vec<u8>, objects: &[Picked]) -> Result<
 }
 
 // Adds the line of a remembered field.
-fn add_field(alloc: Global, text: &mut Vec<u8>, field: &Remembered) -> Result<(), AllocError>
+fn add_field(alloc: Global, text: &mut Vec<u8>, field: &ImageRemembered) -> Result<(), AllocError>
     ensures { OnOk result (text.new.items ≡ text.old.items ++ field_line field.now) }
 {
     let line = field_text(alloc, field)?;
@@ -154,7 +154,11 @@ fn add_field(alloc: Global, text: &mut Vec<u8>, field: &Remembered) -> Result<()
 }
 
 // Adds the lines of remembered fields.
-fn add_fields(alloc: Global, text: &mut Vec<u8>, fields: &[Remembered]) -> Result<(), AllocError>
+fn add_fields(
+    alloc: Global,
+    text: &mut Vec<u8>,
+    fields: &[ImageRemembered],
+) -> Result<(), AllocError>
     ensures { OnOk result (text.new.items ≡ text.old.items ++ flat_map field_line fields.now) }
 {
     for field in fields {
@@ -164,7 +168,7 @@ fn add_fields(alloc: Global, text: &mut Vec<u8>, fields: &[Remembered]) -> Resul
 }
 
 /// The text of an image.
-pub fn picture_text(alloc: Global, picture: &Picture) -> Result<Vec<u8>, AllocError>
+pub fn picture_text(alloc: Global, picture: &ImageData) -> Result<Vec<u8>, AllocError>
     ensures { IfOk result (λ text. text.items ≡ text_of picture.now) }
 {
     let mut text = Vec::new(alloc);

@@ -1,13 +1,5 @@
--- What an accepted entry leaves of forks and of the heaps of the tasks that wait.
-use Rattle.std.proofs.Common.{◌≡◌, ℕ, zero, suc, ◌+◌, ◌<◌, ◌≤◌, Bool, true, false, cond, Option, Some, None, List, [], ◌∷◌, ◌++◌, slice_get, slice_set, inl, inr, refl, ap, sym, subst, ◌∙◌, arith, is_none, nat_lt}
-use Rattle.std.proofs.lemmas.Bool.{cases_eq}
-use Rattle.shared_value.proofs.below.listed.{got_other, got_same}
-use Rattle.shared_value.specs.below.hh_lang.{ProgramText}
-use Rattle.shared_value.specs.below.hh_model.{Task, State, asked, can_step, is_waiting, step, waits}
-use Rattle.shared_value.specs.below.run_trace.{Kind, Took, Ran, Chunk, Begin, End, PutOff, Mark, More, Sweep, Fuel, EntryValue, SettingsValue}
-use Rattle.shared_value.specs.below.run_ledger.{Heap, Ledger, Pool, chunk_words, collected, heap_of, in_use, is_small, or_fresh, swept_heap, with_heap, allocated_in, on_asked, stepped_to, task_step, task_steps, after, after_kind, chunk_units, kind_refusal, refusal, with_chunk, SoundAt, SoundLedger}
-use Rattle.shared_value.proofs.below.run_ledger.{entry_tells, out_tells, stepped_machine, can_tells, step_leaves, task_step_sound, with_heap_any, wait_run}
-use Rattle.journal_laws.proofs.OwedEntries.{Touched, joins_grow}
+-- What an accepted entry keeps of forks and of the heaps of waiting tasks.
+use Rattle.heap_marking.proofs.Common.{◌≡◌, ℕ, zero, suc, ◌+◌, ◌<◌, ◌≤◌, Bool, true, false, cond, Option, Some, None, List, [], ◌∷◌, ◌++◌, slice_get, slice_set, inl, inr, refl, ap, sym, subst, ◌∙◌, arith, is_none, nat_lt, cases_eq, got_other, got_same, ProgramText, Task, MachineState, asked, can_step, is_waiting, step, waits, Kind, Took, Ran, Chunk, Begin, End, PutOff, Mark, More, Sweep, Fuel, EntryValue, SettingsValue, Heap, Ledger, Pool, chunk_words, collected, heap_of, in_use, is_small, or_fresh, swept_heap, with_heap, allocated_in, on_asked, stepped_to, task_step, task_steps, after, after_kind, chunk_units, kind_refusal, refusal, with_chunk, SoundAt, SoundLedger, entry_tells, out_tells, stepped_machine, can_tells, step_leaves, task_step_sound, with_heap_any, wait_run, Touched, joins_grow}
 use Rattle.heap_marking.proofs.StepsKeepForks.{TreeMoves, step_moves, tree_same}
 
 -- a heap that is marked or swept stays so
@@ -34,7 +26,7 @@ tree_then a b c A B grows = record {
   live = λ h. B.live (A.live h);
 }
 
--- it goes on to wait in between
+-- it waits in between
 between : (a b c : List Task) (u : ℕ) (x : Task) → TreeMoves a b → ((v : ℕ) (z : Task) → slice_get b v ≡ Some z → (y : Task) × (slice_get c v ≡ Some y) × (z.joins ≤ y.joins)) → slice_get a u ≡ Some x → waits x.status ≡ true → slice_get c u ≡ Some x
     → slice_get b u ≡ Some x
 between a b c u x A grows at w at' = elim (A.goes u x at w) [
@@ -83,17 +75,17 @@ module _ (p : ProgramText) (l : Ledger) (t : ℕ) (S : SoundAt t l) (can : can_s
 
   stepped_moves : Moves l k
   stepped_moves = record {
-    tree = subst (λ (m : State). TreeMoves l.machine.tasks m.tasks) (sym machine_is) (step_moves p l.machine t S.0.fork_join);
-    grows = λ u x at. let y = joins_grow p l.machine t u x S.0.fork_join at in (y.0, ap (λ (m : State). slice_get m.tasks u) machine_is ∙ y.1, y.2);
+    tree = subst (λ (m : MachineState). TreeMoves l.machine.tasks m.tasks) (sym machine_is) (step_moves p l.machine t S.0.fork_join);
+    grows = λ u x at. let y = joins_grow p l.machine t u x S.0.fork_join at in (y.0, ap (λ (m : MachineState). slice_get m.tasks u) machine_is ∙ y.1, y.2);
     heaps = λ u x at w at'. let e = heap_stays u x at w at' in subst (λ o. StaysTouched (heap_of l u) (or_fresh o)) (sym e) (λ h. h, λ h. h);
   }
 
 pub task_step_moves : (p : ProgramText) (l : Ledger) (t : ℕ) → SoundAt t l → Moves l (task_step p l t)
-task_step_moves p l t S = by (can_step l.machine t) refl
+task_step_moves p l t S = task_step_moves_by_cases (can_step l.machine t) refl
   where
-    by : (v : Bool) → can_step l.machine t ≡ v → Moves l (cond v (stepped_to (allocated_in p l t) t (step p l.machine t)) (record l { steps = l.steps + 1 }))
-    by false e = record { tree = tree_same l.machine.tasks; grows = λ u x at. (x, at, omega arith); heaps = λ u x at w at'. (λ h. h, λ h. h) }
-    by true e = stepped_moves p l t S e
+    task_step_moves_by_cases : (v : Bool) → can_step l.machine t ≡ v → Moves l (cond v (stepped_to (allocated_in p l t) t (step p l.machine t)) (record l { steps = l.steps + 1 }))
+    task_step_moves_by_cases false e = record { tree = tree_same l.machine.tasks; grows = λ u x at. (x, at, omega arith); heaps = λ u x at w at'. (λ h. h, λ h. h) }
+    task_step_moves_by_cases true e = stepped_moves p l t S e
 
 steps_moves : (p : ProgramText) (k : ℕ) (l : Ledger) (t : ℕ) → SoundAt t l → Moves l (task_steps p l t k)
 steps_moves p zero l t S = same_moves l

@@ -1,32 +1,13 @@
--- What the shared value tells of forks and markings, before the run's end.
-use Rattle.std.proofs.Common.{◌≡◌, ℕ, ◌<◌, ◌&&◌, not, Bool, true, false, Option, Some, None, option_map, slice_get, inl, inr, refl, ap, sym, subst, ◌∙◌, ◌-◌, ◌^◌, arith, is_some, is_none, nat_le, ap₂}
-use Rattle.std.proofs.lemmas.Bool.{false≢true, both_ways, and_parts, cases_lt, le-leb, false_from_ne_true}
-use Rattle.shared_value.proofs.below.listed.{none_is}
-use Rattle.shared_value.specs.below.hh_model.{Status, Running, Waiting, Ended, Joined, State, is_joined, is_over, is_waiting, joined, parents, waiting}
-use Rattle.shared_value.specs.below.run_trace.{field_limit, EntryValue}
-use Rattle.shared_value.specs.below.run_ledger.{Ledger, NotMarking, NotWaiting, Swept, after, refused_unless, heap_of, words_in, ledger_of, tasks_of}
-use Rattle.shared_value.proofs.below.run_ledger.{machine_is_run, legal_sound}
-use Rattle.shared_value.specs.below.alloc_path.{counted}
-use Rattle.shared_value.specs.below.heap_tree.{Node, state_of as state_in}
-use Rattle.shared_value.specs.below.core_relation.{StandsFor, state_by}
-use Rattle.shared_value.specs.Causes.{or_else}
-use Rattle.shared_value.specs.Entered.{Enters}
-use Rattle.shared_value.specs.Stands.{IsSharedValue}
-use Rattle.shared_value.specs.SharedValue.{SharedValue, accounts, marks_at, noted_in, tree_counts_of, value_of}
-use Rattle.shared_value.proofs.JournalGoesOn.{accounts_then}
-use Rattle.shared_value.proofs.BeforeTheEnd.{node_now, stands_now}
-use Rattle.shared_value.proofs.TaskTaken.{parent_is}
+-- What the shared value says of forks and markings, before the run's end.
+use Rattle.heap_marking.proofs.Common.{◌≡◌, ℕ, ◌<◌, ◌&&◌, not, Bool, true, false, Option, Some, None, option_map, slice_get, inl, inr, refl, ap, sym, subst, ◌∙◌, ◌-◌, ◌^◌, arith, is_some, is_none, nat_le, ap₂, false≢true, both_ways, and_parts, cases_lt, le-leb, false_from_ne_true, none_is, TaskStatus, Running, Waiting, Ended, Joined, MachineState, is_joined, is_over, is_waiting, joined, parents, waiting, field_limit, EntryValue, Ledger, NotMarking, NotWaiting, Swept, after, refused_unless, heap_of, words_in, ledger_of, tasks_of, machine_is_run, legal_sound, counted, TaskNode, state_of as state_in, StandsFor, state_by, or_else, Enters, IsSharedValue, SharedValue, accounts, marks_at, noted_in, tree_counts_of, value_of, accounts_then, node_now, stands_now, parent_is, option_is, marking_cause, waiting_cause, IsForkIn, IsForkOf, KeepsPace, PacesStay, is_going, is_live_child, is_state_joined, is_to_begin}
 use Rattle.heap_marking.specs.declared.pace.Fork.{Fork}
-use Rattle.heap_marking.specs.MarkCauses.{marking_cause, waiting_cause}
-use Rattle.heap_marking.specs.Pace.{IsForkIn, IsForkOf, KeepsPace, PacesStay, is_going, is_live_child, is_state_joined, is_to_begin}
-use Rattle.shared_value.specs.below.listed.{option_is}
 use Rattle.heap_marking.proofs.ForksStay.{entry_moves}
 use Rattle.heap_marking.proofs.MarkCauses.{marked_by, waits_told}
 use Rattle.heap_marking.proofs.PaceKeeps.{child_from, child_tells, fork_from, keeps_moves, lives_below}
 use Rattle.heap_marking.proofs.StepsKeepForks.{runs_have_live}
 
--- WHO HAS JOINED
-by_status : (s : Status) (o : Option ℕ) → is_state_joined (Some (state_by s o)) ≡ is_over s
+-- JOINED TASKS
+by_status : (s : TaskStatus) (o : Option ℕ) → is_state_joined (Some (state_by s o)) ≡ is_over s
 by_status Running None = refl
 by_status Running (Some w) = refl
 by_status Waiting o = refl
@@ -55,7 +36,7 @@ module _ (w : SharedValue) (I : IsSharedValue w) (on : (accounts w).end ≡ None
   S = stands_now w I on
 
   pub joined_is : (t : ℕ) → is_state_joined (state_in w.tree t) ≡ joined l.machine.tasks t
-  joined_is t = node_now w I (λ n x. is_state_joined (option_map (λ (m : Node). m.state) n) ≡ is_joined x) refl (λ x worker. by_status x.status worker) t
+  joined_is t = node_now w I (λ n x. is_state_joined (option_map (λ (m : TaskNode). m.state) n) ≡ is_joined x) refl (λ x worker. by_status x.status worker) t
 
   keeps_is : (t : ℕ) → (noted_in (slice_get w.sets t)).keeps ≡ (is_waiting (slice_get l.machine.tasks t) && not (heap_of l t).swept)
   keeps_is t = S.keeps t
@@ -123,7 +104,7 @@ module _ (w : SharedValue) (I : IsSharedValue w) (on : (accounts w).end ≡ None
   pub begin_words : (f : Fork) → is_going l f ≡ true → is_some (marks_at w.marks f.task) ≡ false → is_to_begin w.settings l f ≡ nat_le w.settings.inner (words_in l.machine (heap_of l f.task))
   begin_words f on m = begins_with f on ∙ ap (λ b. not b && nat_le w.settings.inner (words_in l.machine (heap_of l f.task))) m
 
-  -- as 64 bits count the words
+  -- the words saturate at 64 bits
   pub begin_counted : (f : Fork) → is_going l f ≡ true → is_some (marks_at w.marks f.task) ≡ false → is_to_begin w.settings l f ≡ nat_le w.settings.inner (counted (words_in l.machine (heap_of l f.task)))
   begin_counted f on m = begin_words f on m ∙ sym (counted_le w.settings.inner (words_in l.machine (heap_of l f.task)) (let h = I.settings.inner.1 in omega (arith, h)))
 
@@ -136,7 +117,7 @@ module _ (w : SharedValue) (I : IsSharedValue w) (on : (accounts w).end ≡ None
 
   has_live : (t : ℕ) → is_waiting (slice_get l.machine.tasks t) ≡ true → (c : ℕ) × (lives_below l.machine.tasks t c ≡ true)
   has_live t q =
-      let c = subst (λ (m : State). waiting m.tasks t ≡ true → (c : ℕ) × (parents m.tasks c ≡ Some t) × (joined m.tasks c ≡ false)) (sym (machine_is_run w.program w.settings w.journal.items))
+      let c = subst (λ (m : MachineState). waiting m.tasks t ≡ true → (c : ℕ) × (parents m.tasks c ≡ Some t) × (joined m.tasks c ≡ false)) (sym (machine_is_run w.program w.settings w.journal.items))
       (runs_have_live w.program (field_limit w.settings.version) (tasks_of w.journal.items) t) q in
       (c.0, child_from l.machine.tasks t c.0 c.1 c.2)
 

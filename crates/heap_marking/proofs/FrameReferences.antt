@@ -1,13 +1,7 @@
 -- The references of frames, taken frame by frame.
-use Rattle.std.proofs.Common.{◌≡◌, ℕ, zero, suc, ◌+◌, ◌<◌, arith, Option, List, [], ◌∷◌, ◌++◌, length, take, append_assoc, ap, sym, ◌∙◌}
-use Rattle.std.specs.List.{flat_map}
-use Rattle.std.proofs.lemmas.Grind.{flat_map-append}
-use Rattle.std.proofs.lemmas.List.{append-nil}
-use Rattle.shared_value.specs.below.object_layout.{Addr}
-use Rattle.shared_value.specs.below.task_frames.{Frame, references_of}
-use Rattle.shared_value.specs.below.leaf_copy_gc.{frame_references}
+use Rattle.heap_marking.proofs.Common.{◌≡◌, ℕ, zero, suc, ◌+◌, ◌<◌, arith, Option, List, [], ◌∷◌, ◌++◌, length, take, append_assoc, ap, sym, ◌∙◌, flat_map, flat_map-append, append-nil, Addr, CallFrame, references_of, frame_references}
 
-pub frames_more : (g : Option Addr → List Addr) (fs : List Frame) (k : ℕ) → k < length fs → flat_map g (frame_references (take (k + 1) fs)) ≡ flat_map g (frame_references (take k fs)) ++ flat_map g (references_of fs k)
+pub frames_more : (g : Option Addr → List Addr) (fs : List CallFrame) (k : ℕ) → k < length fs → flat_map g (frame_references (take (k + 1) fs)) ≡ flat_map g (frame_references (take k fs)) ++ flat_map g (references_of fs k)
 frames_more g [] k lt = absurd (omega (arith, lt))
 frames_more g (x ∷ xs) zero lt = ap (flat_map g) (append-nil x.refs)
 frames_more g (x ∷ xs) (suc k) lt =

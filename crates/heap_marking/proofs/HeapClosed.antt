@@ -1,34 +1,24 @@
--- The heap of a task, as its belongings stand: each reference into it leads to an object.
-use Rattle.std.proofs.Common.{◌≡◌, ℕ, ◌<◌, true, Option, Some, None, List, is_some, length, nat_lt, refl, ap, sym, subst, ◌∙◌}
-use Rattle.std.proofs.lemmas.Bool.{cond-true, lt-ltb}
-use Rattle.std.proofs.lemmas.Option.{same_Some}
-use Rattle.shared_value.proofs.below.listed.{all_from, in_got, in_map}
-use Rattle.shared_value.specs.below.hh_model.{Name}
-use Rattle.shared_value.specs.below.run_ledger.{Ledger}
-use Rattle.shared_value.specs.below.object_layout.{Addr, Born, Hole, IsBorn, Mark, Moved, AreApart, cell_of, has_chunk, place_of, ChunkValue, IsClosed, HasObjectAt, IsSound, Located, located}
-use Rattle.shared_value.specs.below.ledger_step_laws.{Rests, own}
-use Rattle.shared_value.specs.below.core_relation.{Chunk, In, Memory, objects, objects_in, Place, Stands}
-use Rattle.shared_value.proofs.below.core_relation.{name_at}
-use Rattle.shared_value.specs.Objects.{AreNear, chunk_of, chunks_of}
-use Rattle.shared_value.proofs.CellsRead.{object_seen, seen_object}
-use Rattle.shared_value.proofs.RootsHeld.{chunk_in}
+-- The heap of a task, by its belongings: each reference into it leads to an object.
+use Rattle.heap_marking.proofs.Common.{◌≡◌, ℕ, ◌<◌, true, Option, Some, None, List, is_some, length, nat_lt, refl, ap, sym, subst, ◌∙◌, cond-true, lt-ltb, same_Some, all_from, in_got, in_map, Name, Ledger, Addr, Born, Hole, IsBorn, Moved, HaveDistinctNumbers, cell_of, has_chunk, place_of, ChunkValue, IsClosed, HasObjectAt, IsSoundReference, Located, located, Rests, own, In, Memory, objects, objects_in, Place, Stands, name_at, AreNear, chunk_of, chunks_of, object_seen, seen_object, chunk_in}
+use Rattle.core_invariant.specs.below.object_layout.{Mark}
+use Rattle.core_invariant.specs.below.refinement.{Chunk}
 
 -- what is held is read
 pub held_seen : (ks : List ChunkValue) (a : Addr) → HasObjectAt ks a → (o : Located) × In (objects_in (chunks_of ks)) o × (o.at ≡ a) × ((cell_of ks a).refs ≡ o.refs)
-held_seen ks a h = by (cell_of ks a).mark refl h
+held_seen ks a h = held_seen_by_cases (cell_of ks a).mark refl h
   where
-    by : (m : Mark) → (cell_of ks a).mark ≡ m → IsBorn m → (o : Located) × In (objects_in (chunks_of ks)) o × (o.at ≡ a) × ((cell_of ks a).refs ≡ o.refs)
-    by (Born b) e o = (located a.chunk a.offset b (cell_of ks a), object_seen ks a b e, refl, refl)
-    by (Moved to) e o = absurd o
-    by Hole e o = absurd o
+    held_seen_by_cases : (m : Mark) → (cell_of ks a).mark ≡ m → IsBorn m → (o : Located) × In (objects_in (chunks_of ks)) o × (o.at ≡ a) × ((cell_of ks a).refs ≡ o.refs)
+    held_seen_by_cases (Born b) e o = (located a.chunk a.offset b (cell_of ks a), object_seen ks a b e, refl, refl)
+    held_seen_by_cases (Moved to) e o = absurd o
+    held_seen_by_cases Hole e o = absurd o
 
 -- what is read is held, with the references that are read
-pub seen_held : (ks : List ChunkValue) → AreApart ks → (o : Located) → In (objects_in (chunks_of ks)) o → HasObjectAt ks o.at × ((cell_of ks o.at).refs ≡ o.refs)
+pub seen_held : (ks : List ChunkValue) → HaveDistinctNumbers ks → (o : Located) → In (objects_in (chunks_of ks)) o → HasObjectAt ks o.at × ((cell_of ks o.at).refs ≡ o.refs)
 seen_held ks apart o i = let y = seen_object ks o apart i in (subst IsBorn (sym y.mark) tt, sym (ap (λ (z : Located). z.refs) y.is))
 
-module _ (v : Memory) (l : Ledger) (V : Stands v l) (t : ℕ) (rests : Rests l t) (ks : List ChunkValue) (belongings : (v.belongings t).chunks ≡ chunks_of ks) (apart : AreApart ks) (near : AreNear ks) where
+module _ (v : Memory) (l : Ledger) (V : Stands v l) (t : ℕ) (rests : Rests l t) (ks : List ChunkValue) (belongings : (v.belongings t).chunks ≡ chunks_of ks) (apart : HaveDistinctNumbers ks) (near : AreNear ks) where
   -- where a name is read
-  pub sound_at : (n : Name) (a : Addr) → Place v l n a → IsSound ks (Some a)
+  pub sound_at : (n : Name) (a : Addr) → Place v l n a → IsSoundReference ks (Some a)
   sound_at n a P inside =
       let there : has_chunk ks a.chunk ≡ true = ap is_some (cond-true (nat_lt (place_of ks a.chunk) (length ks)) (Some (place_of ks a.chunk)) None (lt-ltb (place_of ks a.chunk) (length ks) inside)) in
       let k = chunk_in ks a.chunk there in
@@ -42,9 +32,9 @@ module _ (v : Memory) (l : Ledger) (V : Stands v l) (t : ℕ) (rests : Rests l t
       )
 
   pub closed : IsClosed ks
-  closed b held = all_from (IsSound ks) (cell_of ks b).refs one
+  closed b held = all_from (IsSoundReference ks) (cell_of ks b).refs one
     where
-      one : (r : Option Addr) → In (cell_of ks b).refs r → IsSound ks r
+      one : (r : Option Addr) → In (cell_of ks b).refs r → IsSoundReference ks r
       one None i = tt
       one (Some a) i =
           let o = held_seen ks b held in

@@ -4,7 +4,7 @@ mod MarkingEntered
 mod MarkingGoesOn
 mod MarkCounts
 pub mod MarkCauses
-pub mod WaitingHome
+pub mod WaitingSlot
 pub mod MarkedHeap
 pub mod MarkEntries
 mod FrameReferences
@@ -23,3 +23,4 @@ pub mod SweptUnits
 mod SweptBelongings
 pub mod SweepEntered
 pub mod SweptRefusals
+mod Common

@@ -1,19 +1,10 @@
--- Entries that mark and sweep are refused as the shared value tells it.
-use Rattle.std.proofs.Common.{◌≡◌, ℕ, ◌==◌, ◌&&◌, not, Bool, true, false, Option, Some, None, is_some, nat_le, option_map, slice_get, refl, ap, sym, ◌∙◌}
-use Rattle.shared_value.specs.below.hh_model.{Status, Running, Waiting, Ended, Joined, is_waiting, waits}
-use Rattle.shared_value.specs.below.run_ledger.{Ledger, Refused, Left, Marked, Marking, NotDue, NotMarking, NotWaiting, Swept, counted, refused_if, refused_unless, heap_of, left_in, marked_in, sweep_number, words_in}
-use Rattle.shared_value.specs.below.heap_tree.{Node, state_of}
-use Rattle.shared_value.specs.below.inner_mark_gc.{MarkingValue}
-use Rattle.shared_value.specs.below.core_relation.{MarkedBy, Memory, StandsFor, state_by}
-use Rattle.shared_value.specs.Causes.{or_else}
-use Rattle.shared_value.specs.SharedValue.{SharedValue, accounts, marks_at, noted_in, tree_counts_of, value_of}
-use Rattle.shared_value.specs.Stands.{IsSharedValue}
-use Rattle.shared_value.proofs.BeforeTheEnd.{node_now, stands_now}
-use Rattle.heap_marking.specs.MarkCauses.{MarksRefuse, is_state_waiting}
+-- Entries that mark and sweep are refused as the shared value says.
+use Rattle.heap_marking.proofs.Common.{◌≡◌, ℕ, ◌==◌, ◌&&◌, not, Bool, true, false, Option, Some, None, is_some, nat_le, option_map, slice_get, refl, ap, sym, ◌∙◌, TaskStatus, Running, Waiting, Ended, Joined, is_waiting, waits, Ledger, Refused, Left, Marked, Marking, NotDue, NotMarking, NotWaiting, Swept, refused_if, refused_unless, heap_of, left_in, marked_in, sweep_number, words_in, TaskNode, state_of, MarkingValue, MarkedBy, Memory, StandsFor, state_by, or_else, SharedValue, accounts, marks_at, noted_in, tree_counts_of, value_of, IsSharedValue, node_now, stands_now, MarksRefuse, is_state_waiting}
+use Rattle.core_invariant.specs.below.run_ledger.{counted}
 
--- WHO WAITS
+-- WAITING TASKS
 
-by_status : (s : Status) (o : Option ℕ) → is_state_waiting (Some (state_by s o)) ≡ waits s
+by_status : (s : TaskStatus) (o : Option ℕ) → is_state_waiting (Some (state_by s o)) ≡ waits s
 by_status Running None = refl
 by_status Running (Some w) = refl
 by_status Waiting o = refl
@@ -21,7 +12,7 @@ by_status (Ended n r) o = refl
 by_status Joined o = refl
 
 pub waits_told : (w : SharedValue) → IsSharedValue w → (t : ℕ) → is_state_waiting (state_of w.tree t) ≡ is_waiting (slice_get (accounts w).machine.tasks t)
-waits_told w I t = node_now w I (λ n x. is_state_waiting (option_map (λ (m : Node). m.state) n) ≡ is_waiting x) refl (λ x worker. by_status x.status worker) t
+waits_told w I t = node_now w I (λ n x. is_state_waiting (option_map (λ (m : TaskNode). m.state) n) ≡ is_waiting x) refl (λ x worker. by_status x.status worker) t
 
 -- WHAT IS MARKED
 pub marked_by : (v : Memory) (l : Ledger) (t : ℕ) (o : Option MarkingValue) → MarkedBy v l t o → is_some (heap_of l t).marked ≡ is_some o
@@ -34,13 +25,13 @@ marking_is false s k b c rest e f = refl
 marking_is true true false b c rest e f = refl
 marking_is true true true b c rest e f = absurd cc
 marking_is true false false b c rest e f = absurd cc
-marking_is true false true b c rest e f = by b c (f refl)
+marking_is true false true b c rest e f = marking_is_by_cases b c (f refl)
   where
-    by : (b c : Bool) → b ≡ c → refused_unless b NotMarking rest ≡ or_else (refused_unless c NotMarking None) rest
-    by true true q = refl
-    by true false q = absurd cc
-    by false true q = absurd cc
-    by false false q = refl
+    marking_is_by_cases : (b c : Bool) → b ≡ c → refused_unless b NotMarking rest ≡ or_else (refused_unless c NotMarking None) rest
+    marking_is_by_cases true true q = refl
+    marking_is_by_cases true false q = absurd cc
+    marking_is_by_cases false true q = absurd cc
+    marking_is_by_cases false false q = refl
 
 begins_is : (a s k b c : Bool) (rest : Option Refused) → k ≡ (a && not s) → (k ≡ true → b ≡ c)
     → refused_unless a NotWaiting (refused_if s Swept (refused_if b Marking rest)) ≡ or_else (refused_unless a NotWaiting (refused_unless k Swept None)) (refused_if c Marking rest)

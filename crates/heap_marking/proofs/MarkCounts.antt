@@ -1,32 +1,13 @@
--- How many objects a marking marks, as its account counts them.
-use Rattle.std.proofs.Common.{◌≡◌, ℕ, ◌+◌, ◌-◌, ◌<◌, ◌≤◌, arith, min, Option, Some, None, List, length, slice_get, inl, inr, refl, ap, sym, subst, ◌∙◌}
-use Rattle.std.specs.Prelude.{unwrap_or}
-use Rattle.std.proofs.Math.Nat.{min-eq_left, min-eq_right}
-use Rattle.std.proofs.lemmas.Bool.{cases_lt}
-use Rattle.std.proofs.lemmas.List.{length-take-le}
-use Rattle.shared_value.proofs.below.listed.{contains_from_in, in_from_contains, in_take}
-use Rattle.shared_value.proofs.below.walk_laws.{reached_within}
-use Rattle.shared_value.specs.below.hh_model.{Name}
-use Rattle.shared_value.specs.below.run_ledger.{Heap, Ledger, heap_of, held_in, left_in, marked_in, or_fresh, with_heap}
-use Rattle.journal_laws.proofs.History.{snapshots_are_held}
-use Rattle.shared_value.specs.below.object_layout.{Addr, HasObjectAt, Leads, Located}
-use Rattle.shared_value.proofs.below.object_layout.{distinct_take}
-use Rattle.shared_value.specs.below.inner_mark_gc.{MarkingValue, marked_of, IsInSnapshot, Starts}
-use Rattle.shared_value.specs.below.ledger_step_laws.{Rests}
-use Rattle.shared_value.proofs.below.ledger_step_laws.{heap_then, with_at}
-use Rattle.shared_value.specs.below.core_relation.{In, Memory, object_name, objects, GoesOn, MarkedBy, kept, StandsFor}
-use Rattle.shared_value.proofs.below.core_entry_laws.{all_marked, few_marked}
-use Rattle.shared_value.specs.SharedValue.{accounts, tree_counts_of, value_of}
-use Rattle.shared_value.proofs.BeforeTheEnd.{stands_now}
-use Rattle.heap_marking.specs.Marking.{MarksCount}
+-- How many objects a marking marks, by its account.
+use Rattle.heap_marking.proofs.Common.{◌≡◌, ℕ, ◌+◌, ◌-◌, ◌<◌, ◌≤◌, arith, min, Option, Some, None, List, length, slice_get, inl, inr, refl, ap, sym, subst, ◌∙◌, unwrap_or, min-eq_left, min-eq_right, cases_lt, length-take-le, contains_from_in, in_from_contains, in_take, reached_within, Name, Heap, Ledger, heap_of, held_in, left_in, marked_in, or_fresh, with_heap, snapshots_are_held, Addr, HasObjectAt, RefersTo, Located, distinct_take, MarkingValue, marked_of, IsInSnapshot, Starts, Rests, heap_then, with_at, In, Memory, object_name, objects, CanGoOnMarking, MarkedBy, kept, StandsFor, all_marked, few_marked, accounts, tree_counts_of, value_of, stands_now, MarksCount}
 use Rattle.heap_marking.proofs.MarkBegun as begun
 use Rattle.heap_marking.proofs.MarkingGoesOn.{is_since}
 
--- what is marked is of the snapshot
-marked_each : (v : Memory) (t : ℕ) (names : List Name) (m : MarkingValue) → GoesOn v t names m → (a : Addr) → In (marked_of m) a → (q : Located) × In (objects v t) q × (q.at ≡ a) × In names (object_name q)
+-- what is marked is in the snapshot
+marked_each : (v : Memory) (t : ℕ) (names : List Name) (m : MarkingValue) → CanGoOnMarking v t names m → (a : Addr) → In (marked_of m) a → (q : Located) × In (objects v t) q × (q.at ≡ a) × In names (object_name q)
 marked_each v t names m G a i =
     let reached = G.marks.each a (contains_from_in m.found a (in_take m.marked m.found a i)) in
-    let held : HasObjectAt G.fork.heap a = reached_within (Starts G.fork (kept v t)) (Leads G.fork.heap) (HasObjectAt G.fork.heap) (λ x s. s.0) (λ b x h d. d.1) a reached in
+    let held : HasObjectAt G.fork.heap a = reached_within (Starts G.fork (kept v t)) (RefersTo G.fork.heap) (HasObjectAt G.fork.heap) (λ x s. s.0) (λ b x h d. d.1) a reached in
     let o = G.were a held in
     (o.0, o.1, o.2, (G.snapshot o.0 o.1).0 (subst (IsInSnapshot G.fork (kept v t)) (sym o.2) reached))
 
@@ -50,7 +31,7 @@ marks_count w k t r m m' n c I on there wait keeps at G' sum most last =
     let S : StandsFor v (tree_counts_of w) l = stands_now w I on in
     let rests : Rests l t = begun.waiting_rests w I on t wait in
     let M : MarkedBy v l t (Some m) = subst (MarkedBy v l t) at (S.marks t keeps) in
-    let G : GoesOn v t (heap_of l t).snapshot m = M.1 in
+    let G : CanGoOnMarking v t (heap_of l t).snapshot m = M.1 in
     let F = snapshots_are_held w.program w.settings w.journal.items t I.legal wait in
     let each = marked_each v t (heap_of l t).snapshot m' G' in
     let long : length (marked_of m) ≡ m.marked = length-take-le m.marked m.found G.marked in
@@ -70,11 +51,11 @@ marks_count w k t r m m' n c I on there wait keeps at G' sum most last =
     sum_is a b c d e g p q r s = omega (arith, p, q, r, s)
 
     then_is : (l : Ledger) (t : ℕ) (f : Heap → Heap) (x : ℕ) → (heap_of l t).marked ≡ Some x → (heap_of (with_heap l t f) t).marked ≡ (f (heap_of l t)).marked
-    then_is l t f x some = by (slice_get l.heaps t) refl
+    then_is l t f x some = then_is_by_cases (slice_get l.heaps t) refl
       where
         none_some : {A : Type 0} → ◌≡◌ {A = Option ℕ} None (Some x) → A
         none_some q = absurd cc
 
-        by : (o : Option Heap) → slice_get l.heaps t ≡ o → (heap_of (with_heap l t f) t).marked ≡ (f (heap_of l t)).marked
-        by None e = none_some (sym (ap (λ o. (or_fresh o).marked) e) ∙ some)
-        by (Some h) e = ap (λ o. (or_fresh o).marked) (with_at l t f ∙ ap (heap_then f) e) ∙ sym (ap (λ o. (f (or_fresh o)).marked) e)
+        then_is_by_cases : (o : Option Heap) → slice_get l.heaps t ≡ o → (heap_of (with_heap l t f) t).marked ≡ (f (heap_of l t)).marked
+        then_is_by_cases None e = none_some (sym (ap (λ o. (or_fresh o).marked) e) ∙ some)
+        then_is_by_cases (Some h) e = ap (λ o. (or_fresh o).marked) (with_at l t f ∙ ap (heap_then f) e) ∙ sym (ap (λ o. (f (or_fresh o)).marked) e)

@@ -1,41 +1,13 @@
--- Entries that mark a heap: why they are refused, and what they leave.
-use Rattle.std.proofs.Common.{◌≡◌, ◌==◌, ◌↔◌, ℕ, ◌+◌, ◌-◌, ◌^◌, ◌<◌, ◌≤◌, arith, All, Bool, true, false, min, Option, Some, None, List, length, is_none, is_some, slice_get, slice_set, take, inl, inr, refl, ap, sym, subst, ◌∙◌, le-leb}
-use Rattle.std.specs.Option.{option_flatten}
-use Rattle.std.specs.Prelude.{IfSome}
-use Rattle.std.proofs.lemmas.Bool.{cases_lt}
-use Rattle.shared_value.proofs.below.listed.{got_other, got_same, got_within, none_of, got_set}
-use Rattle.shared_value.specs.below.run_trace.{Mark, More, EntryValue, SettingsValue}
-use Rattle.shared_value.specs.below.run_ledger.{Heap, Ledger, Refused, Marked, Marking, NotDue, after, kind_refusal, refused_if, refused_unless, heap_of, left_in, or_fresh, with_heap, words_in, SoundLedger}
-use Rattle.shared_value.proofs.below.run_ledger.{entry_tells, legal_sound, heap_there}
-use Rattle.shared_value.specs.below.object_layout.{Addr, held_words, HasObjectAt}
-use Rattle.shared_value.specs.below.alloc_path.{counted}
-use Rattle.shared_value.specs.below.remembered_set.{AreFields}
-use Rattle.shared_value.specs.below.write_barrier.{SetOf}
-use Rattle.shared_value.specs.below.inner_mark_gc.{IsAllMarked, IsMarking, IsOf, MarkingValue, marked_of, Fork, IsSince}
-use Rattle.shared_value.proofs.below.ledger_step_laws.{heap_then, with_at}
-use Rattle.shared_value.specs.below.core_relation.{GoesOn, kept}
-use Rattle.shared_value.specs.below.task_homes.{kept_of, Rest, refs_in}
-use Rattle.shared_value.specs.Causes.{first_cause, or_else}
-use Rattle.shared_value.specs.Entered.{refused}
-use Rattle.shared_value.specs.Fits.{AllFit}
-use Rattle.shared_value.specs.Roots.{heaps_of, sources_of}
-use Rattle.shared_value.specs.SharedValue.{SharedValue, accounts, marks_at, noted_in, rest_at, value_of}
-use Rattle.shared_value.specs.Stands.{IsSharedValue}
-use Rattle.shared_value.proofs.HeapWords.{words_are}
-use Rattle.shared_value.proofs.EntryMade.{entry_on}
-use Rattle.shared_value.proofs.FirstCauses.{found_first, nothing_first}
-use Rattle.shared_value.proofs.BeforeTheEnd.{stands_now}
-use Rattle.shared_value.proofs.CausesTold.{on_is, refused_is}
-use Rattle.heap_marking.specs.MarkCauses.{marking_cause, waiting_cause, words_cause}
-use Rattle.heap_marking.specs.Marking.{marked_more}
-use Rattle.heap_marking.specs.Starts.{IsBegun, starts_by, starts_in, starts_of}
+-- Entries that mark a heap: why they are refused, and what they keep.
+use Rattle.std.proofs.Common.{le-leb}
+use Rattle.heap_marking.proofs.Common.{◌≡◌, ◌==◌, ◌↔◌, ℕ, ◌+◌, ◌-◌, ◌^◌, ◌<◌, ◌≤◌, arith, All, Bool, true, false, min, Option, Some, None, List, length, is_none, is_some, slice_get, slice_set, take, inl, inr, refl, ap, sym, subst, ◌∙◌, option_flatten, IfSome, cases_lt, got_other, got_same, got_within, none_of, got_set, Mark, More, EntryValue, SettingsValue, Heap, Ledger, Refused, Marked, Marking, NotDue, after, kind_refusal, refused_if, refused_unless, heap_of, left_in, or_fresh, with_heap, words_in, SoundLedger, entry_tells, legal_sound, heap_there, Addr, held_words, HasObjectAt, counted, AreFields, SetOf, IsAllMarked, IsMarking, IsOf, MarkingValue, marked_of, Fork, IsSince, heap_then, with_at, CanGoOnMarking, kept, kept_of, ParkedTask, refs_in, first_cause, or_else, refused, AllFit, heaps_of, sources_of, SharedValue, accounts, marks_at, noted_in, rest_at, value_of, IsSharedValue, words_are, entry_on, found_first, nothing_first, stands_now, on_is, refused_is, marking_cause, waiting_cause, words_cause, marked_more, MarkingHasBegun, starts_by, starts_in, starts_of}
 use Rattle.heap_marking.proofs.MarkBegun.{chunks_at_rest, marks_begin, waiting_rests}
 use Rattle.heap_marking.proofs.MarkCauses.{marks_refuse}
 use Rattle.heap_marking.proofs.MarkCounts.{marks_count}
 use Rattle.heap_marking.proofs.MarkedHeap.{further, keeps, wait}
 use Rattle.heap_marking.proofs.MarkingEntered.{marks_enter}
 use Rattle.heap_marking.proofs.MarkingStarts.{fields_there, starts_are, starts_held}
-use Rattle.heap_marking.proofs.WaitingHome as homes
+use Rattle.heap_marking.proofs.WaitingSlot as task_slots
 
 -- WHY THEY ARE REFUSED
 
@@ -54,7 +26,7 @@ kind_free w e free = is_none_of (kind_refusal w.program w.settings (accounts w) 
     is_none_of None h = refl
     is_none_of (Some c) h = absurd cc
 
--- a heap's words, as far as 64 bits count them, tell as much of whether its marking is due
+-- the saturated count of a heap's words suffices to tell whether its marking is due
 due_by : (s : SettingsValue) (n : ℕ) → s.inner < 2 ^ 32 → words_cause s (counted n) ≡ words_cause s n
 due_by s n few = elim (cases_lt n (2 ^ 64 - 1)) [
   | inl lt ↦ ap (words_cause s) (let q : counted n ≡ n = omega (arith, lt) in q)
@@ -105,7 +77,7 @@ module _ (w : SharedValue) (I : IsSharedValue w) (k t : ℕ) where
       → refused_if b Marked None ≡ refused w (record { worker = k; kind = More t n })
   some_as_left n o h is none b left = ap (λ z. refused_if z Marked None) left ∙ (nothing_first (marking_cause w t) _ (ap is_some (sym is) ∙ none) ∙ sym (some_answer n h))
 
-  -- what an entry tells that isn't refused
+  -- what follows if an entry isn't refused
   pub mark_waits : refused w (record { worker = k; kind = Mark t }) ≡ None → waiting_cause w t ≡ None
   mark_waits free =
       let on = entry_on w (record { worker = k; kind = Mark t }) free in
@@ -116,11 +88,11 @@ module _ (w : SharedValue) (I : IsSharedValue w) (k t : ℕ) where
       let on = entry_on w (record { worker = k; kind = More t n }) free in
       (or_none (marking_cause w t) _ (sym ((marks_refuse w k t I on).more n) ∙ kind_free w (record { worker = k; kind = More t n }) free)).0
 
--- ITS WORDS, of a heap whose task waits
-pub words_now : (w : SharedValue) (I : IsSharedValue w) (t : ℕ) (on : (accounts w).end ≡ None) → waiting_cause w t ≡ None → (r : Rest) → rest_at w.rests t ≡ Some r → words_in (accounts w).machine (heap_of (accounts w) t) ≡ held_words r.heap.chunks
+-- THE WORDS of the heap of a waiting task
+pub words_now : (w : SharedValue) (I : IsSharedValue w) (t : ℕ) (on : (accounts w).end ≡ None) → waiting_cause w t ≡ None → (r : ParkedTask) → rest_at w.rests t ≡ Some r → words_in (accounts w).machine (heap_of (accounts w) t) ≡ held_words r.heap.chunks
 words_now w I t on free r there =
     let l : Ledger = accounts w in
-    let wait = homes.wait w I on t free in
+    let wait = task_slots.wait w I on t free in
     words_are (value_of w) l t r.heap.chunks (stands_now w I on).belongings (waiting_rests w I on t wait)
     (chunks_at_rest w t r there) (I.heaps t r there).tidy
 
@@ -130,55 +102,55 @@ kept_noted None = refl
 kept_noted (Some s) = refl
 
 -- THE MARKING that begins
-pub mark_goes : (w : SharedValue) (I : IsSharedValue w) (t : ℕ) (on : (accounts w).end ≡ None) → waiting_cause w t ≡ None → (r : Rest) → rest_at w.rests t ≡ Some r → (m : MarkingValue) → ((kept : List Addr) → IsOf r.heap.chunks kept m)
-    → ((f : Fork) (kept : List Addr) → f.roots ≡ starts_of w t → ((a : Addr) → HasObjectAt f.heap a ↔ HasObjectAt r.heap.chunks a) → IsMarking f kept m) → GoesOn (value_of w) t (heap_of (accounts w) t).snapshot m
+pub mark_goes : (w : SharedValue) (I : IsSharedValue w) (t : ℕ) (on : (accounts w).end ≡ None) → waiting_cause w t ≡ None → (r : ParkedTask) → rest_at w.rests t ≡ Some r → (m : MarkingValue) → ((kept : List Addr) → IsOf r.heap.chunks kept m)
+    → ((f : Fork) (kept : List Addr) → f.roots ≡ starts_of w t → ((a : Addr) → HasObjectAt f.heap a ↔ HasObjectAt r.heap.chunks a) → IsMarking f kept m) → CanGoOnMarking (value_of w) t (heap_of (accounts w) t).snapshot m
 mark_goes w I t on free r there m own marking =
-    let wait = homes.wait w I on t free in
-    marks_begin w t r (starts_of w t) m I on there wait (homes.keeps w I on t free) (starts_are w I on t r there wait) (own (kept (value_of w) t))
+    let wait = task_slots.wait w I on t free in
+    marks_begin w t r (starts_of w t) m I on there wait (task_slots.keeps w I on t free) (starts_are w I on t r there wait) (own (kept (value_of w) t))
     (marking (record { heap = r.heap.chunks; roots = starts_of w t }) (kept (value_of w) t) refl (λ a. ((λ h. h), (λ h. h))))
 
-pub mark_holds : (w : SharedValue) (I : IsSharedValue w) (t : ℕ) (on : (accounts w).end ≡ None) → waiting_cause w t ≡ None → (r : Rest) → rest_at w.rests t ≡ Some r → All (HasObjectAt r.heap.chunks) (starts_of w t)
-mark_holds w I t on free r there = starts_held w I on t r there (homes.wait w I on t free) (homes.keeps w I on t free)
+pub mark_holds : (w : SharedValue) (I : IsSharedValue w) (t : ℕ) (on : (accounts w).end ≡ None) → waiting_cause w t ≡ None → (r : ParkedTask) → rest_at w.rests t ≡ Some r → All (HasObjectAt r.heap.chunks) (starts_of w t)
+mark_holds w I t on free r there = starts_held w I on t r there (task_slots.wait w I on t free) (task_slots.keeps w I on t free)
 
 pub mark_fields : (w : SharedValue) (I : IsSharedValue w) (t : ℕ) (on : (accounts w).end ≡ None) → waiting_cause w t ≡ None → AreFields refs_in (heaps_of w) (sources_of (slice_get w.sets t))
-mark_fields w I t on free = let r = homes.rest w I on t free in fields_there w I on t r.0 r.1 (homes.wait w I on t free)
+mark_fields w I t on free = let r = task_slots.rest w I on t free in fields_there w I on t r.0 r.1 (task_slots.wait w I on t free)
 
 -- it begins at objects of the heap
 pub mark_starts : (w : SharedValue) (I : IsSharedValue w) (t : ℕ) (on : (accounts w).end ≡ None) → waiting_cause w t ≡ None → IfSome (rest_at w.rests t) (λ r. All (HasObjectAt r.heap.chunks) (starts_in (heaps_of w) (sources_of (slice_get w.sets t)) r))
-mark_starts w I t on free = by (rest_at w.rests t) refl
+mark_starts w I t on free = mark_starts_by_cases (rest_at w.rests t) refl
   where
-    by : (o : Option Rest) → rest_at w.rests t ≡ o → IfSome o (λ r. All (HasObjectAt r.heap.chunks) (starts_in (heaps_of w) (sources_of (slice_get w.sets t)) r))
-    by None e = tt
-    by (Some r) e = subst (λ xs. All (HasObjectAt r.heap.chunks) xs) (ap (starts_by (heaps_of w) (sources_of (slice_get w.sets t))) e) (mark_holds w I t on free r e)
+    mark_starts_by_cases : (o : Option ParkedTask) → rest_at w.rests t ≡ o → IfSome o (λ r. All (HasObjectAt r.heap.chunks) (starts_in (heaps_of w) (sources_of (slice_get w.sets t)) r))
+    mark_starts_by_cases None e = tt
+    mark_starts_by_cases (Some r) e = subst (λ xs. All (HasObjectAt r.heap.chunks) xs) (ap (starts_by (heaps_of w) (sources_of (slice_get w.sets t))) e) (mark_holds w I t on free r e)
 
--- and goes on to just the snapshot
-pub mark_begun : (w : SharedValue) (I : IsSharedValue w) (t : ℕ) (on : (accounts w).end ≡ None) → waiting_cause w t ≡ None → (m : MarkingValue) → IfSome (rest_at w.rests t) (λ r. IsBegun r.heap.chunks (starts_in (heaps_of w) (sources_of (slice_get w.sets t)) r) m)
-    → (m.marked ≡ 0) × GoesOn (value_of w) t (heap_of (accounts w) t).snapshot m
+-- and goes on to exactly the snapshot
+pub mark_begun : (w : SharedValue) (I : IsSharedValue w) (t : ℕ) (on : (accounts w).end ≡ None) → waiting_cause w t ≡ None → (m : MarkingValue) → IfSome (rest_at w.rests t) (λ r. MarkingHasBegun r.heap.chunks (starts_in (heaps_of w) (sources_of (slice_get w.sets t)) r) m)
+    → (m.marked ≡ 0) × CanGoOnMarking (value_of w) t (heap_of (accounts w) t).snapshot m
 mark_begun w I t on free m B =
-    let r = homes.rest w I on t free in
-    let P : Option Rest → Type 0 = λ o. IfSome o (λ x. IsBegun x.heap.chunks (starts_in (heaps_of w) (sources_of (slice_get w.sets t)) x) m) in
-    let b : IsBegun r.0.heap.chunks (starts_in (heaps_of w) (sources_of (slice_get w.sets t)) r.0) m = subst P r.1 B in
+    let r = task_slots.rest w I on t free in
+    let P : Option ParkedTask → Type 0 = λ o. IfSome o (λ x. MarkingHasBegun x.heap.chunks (starts_in (heaps_of w) (sources_of (slice_get w.sets t)) x) m) in
+    let b : MarkingHasBegun r.0.heap.chunks (starts_in (heaps_of w) (sources_of (slice_get w.sets t)) r.0) m = subst P r.1 B in
     (b.none, mark_goes w I t on free r.0 r.1 m b.own (λ f kept e. b.marking f kept (e ∙ ap (starts_by (heaps_of w) (sources_of (slice_get w.sets t))) r.1)))
 
--- WHAT THEY LEAVE
+-- WHAT THEY KEEP
 
 module _ (w : SharedValue) (I : IsSharedValue w) (k t : ℕ) (m : MarkingValue) (marks : List (Option MarkingValue)) (room : ℕ) (at : marks_at marks t ≡ Some m) (others : (u : ℕ) → (u ≡ t → ⊥) → marks_at marks u ≡ marks_at w.marks u) where
   -- a marking that has marked nothing yet
-  pub mark_enters : refused w (record { worker = k; kind = Mark t }) ≡ None → m.marked ≡ 0 → GoesOn (value_of w) t (heap_of (accounts w) t).snapshot m
+  pub mark_enters : refused w (record { worker = k; kind = Mark t }) ≡ None → m.marked ≡ 0 → CanGoOnMarking (value_of w) t (heap_of (accounts w) t).snapshot m
       → IsSharedValue (marked_more w (record { worker = k; kind = Mark t }) marks room) × AllFit w (marked_more w (record { worker = k; kind = Mark t }) marks room)
   mark_enters free none G =
       let l : Ledger = accounts w in
       let on = entry_on w (record { worker = k; kind = Mark t }) free in
       let waits = mark_waits w I k t free in
       let S : SoundLedger l = legal_sound w.program w.settings w.journal.items I.legal in
-      let x = homes.task w I on t waits in
+      let x = task_slots.task w I on t waits in
       let h = heap_there l.machine.tasks l.heaps t S.lengths (got_within l.machine.tasks t x.0 x.1) in
       let f : Heap → Heap = λ h. record h { marked = Some 0 } in
       let then_ : (heap_of (with_heap l t f) t).marked ≡ Some 0 = ap (λ o. (or_fresh o).marked) (with_at l t f ∙ ap (heap_then f) h.1) in
       marks_enter w k (Mark t) t m marks room I free refl at others (then_ ∙ ap Some (ap (λ n. length (take n m.found)) (sym none))) G
 
--- objects more are marked
-module _ (w : SharedValue) (I : IsSharedValue w) (k t n : ℕ) (free : refused w (record { worker = k; kind = More t n }) ≡ None) (r : Rest) (m m' : MarkingValue) (count : ℕ) (there : rest_at w.rests t ≡ Some r) (at : marks_at w.marks t ≡ Some m)
+-- more objects are marked
+module _ (w : SharedValue) (I : IsSharedValue w) (k t n : ℕ) (free : refused w (record { worker = k; kind = More t n }) ≡ None) (r : ParkedTask) (m m' : MarkingValue) (count : ℕ) (there : rest_at w.rests t ≡ Some r) (at : marks_at w.marks t ≡ Some m)
     (own : IsOf r.heap.chunks (kept (value_of w) t) m') (sum : m'.marked ≡ m.marked + count) (most : count ≤ n) (marking : (f : Fork) → IsSince f (kept (value_of w) t) r.heap.chunks → IsMarking f (kept (value_of w) t) m → IsMarking f (kept (value_of w) t) m')
     (left : (f : Fork) → IsSince f (kept (value_of w) t) r.heap.chunks → IsMarking f (kept (value_of w) t) m → count < n → IsAllMarked f (kept (value_of w) t) m') where
   on : (accounts w).end ≡ None
@@ -187,7 +159,7 @@ module _ (w : SharedValue) (I : IsSharedValue w) (k t n : ℕ) (free : refused w
   marks_now : marking_cause w t ≡ None
   marks_now = some_marks w I k t n free
 
-  goes : GoesOn (value_of w) t (heap_of (accounts w) t).snapshot m'
+  goes : CanGoOnMarking (value_of w) t (heap_of (accounts w) t).snapshot m'
   goes = (further w I on t marks_now r m there at).further m' own marking
 
   counts : (count ≡ min n (left_in (heap_of (accounts w) t))) × ((heap_of (after w.program w.settings (accounts w) (record { worker = k; kind = More t n })) t).marked ≡ Some (length (marked_of m')))

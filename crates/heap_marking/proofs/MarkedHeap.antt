@@ -1,25 +1,11 @@
--- What is there of a heap that is being marked.
-use Rattle.std.proofs.Common.{◌≡◌, ◌==◌, ◌↔◌, ℕ, ◌<◌, Bool, true, false, IsTrue, Option, Some, None, List, is_some, length, slice_get, refl, sym, subst}
-use Rattle.std.specs.Option.{option_flatten}
-use Rattle.std.proofs.lemmas.Bool.{eq-eqb, eqb-true}
-use Rattle.shared_value.proofs.below.listed.{got_within}
-use Rattle.shared_value.specs.below.hh_model.{is_waiting}
-use Rattle.shared_value.specs.below.run_ledger.{Ledger, Refused, NotMarking, refused_unless, heap_of, left_in}
-use Rattle.shared_value.specs.below.inner_mark_gc.{IsAllMarked, IsMarking, MarkingValue, Fork, IsSince}
-use Rattle.shared_value.specs.below.core_relation.{MarkedBy, kept, Memory}
-use Rattle.shared_value.specs.below.task_homes.{Rest}
-use Rattle.shared_value.specs.Causes.{or_else}
-use Rattle.shared_value.specs.SharedValue.{SharedValue, accounts, marks_at, rest_at, value_of}
-use Rattle.shared_value.specs.Stands.{IsSharedValue}
-use Rattle.shared_value.proofs.BeforeTheEnd.{stands_now}
-use Rattle.heap_marking.specs.MarkCauses.{marking_cause, waiting_cause}
-use Rattle.heap_marking.specs.Marking.{Further}
-use Rattle.heap_marking.specs.MarkStand.{MarkedHeapStands}
+-- What is known of a heap that is being marked.
+use Rattle.heap_marking.proofs.Common.{◌≡◌, ◌==◌, ◌↔◌, ℕ, ◌<◌, Bool, true, false, IsTrue, Option, Some, None, List, is_some, length, slice_get, refl, sym, subst, option_flatten, eqb-true, got_within, is_waiting, Ledger, Refused, NotMarking, refused_unless, heap_of, left_in, IsAllMarked, IsMarking, MarkingValue, Fork, IsSince, MarkedBy, kept, Memory, ParkedTask, or_else, SharedValue, accounts, marks_at, rest_at, value_of, IsSharedValue, stands_now, marking_cause, waiting_cause, Further, MarkedHeapStands}
+use Rattle.std.proofs.lemmas.Bool.{eq-eqb}
 use Rattle.heap_marking.proofs.MarkingGoesOn.{marks_go_further}
-use Rattle.heap_marking.proofs.WaitingHome as homes
-use Rattle.heap_marking.proofs.WaitingHome.{some_of}
+use Rattle.heap_marking.proofs.WaitingSlot as task_slots
+use Rattle.heap_marking.proofs.WaitingSlot.{some_of}
 
--- no cause is given
+-- there is no cause
 or_none : (o : Option Refused) (b : Bool) → or_else o (refused_unless b NotMarking None) ≡ None → (o ≡ None) × (b ≡ true)
 or_none (Some c) b e = absurd cc
 or_none None false e = absurd cc
@@ -36,38 +22,38 @@ module _ (w : SharedValue) (I : IsSharedValue w) (on : (accounts w).end ≡ None
   tells = or_none (waiting_cause w t) (is_some (marks_at w.marks t)) free
 
   pub wait : is_waiting (slice_get l.machine.tasks t) ≡ true
-  wait = homes.wait w I on t tells.0
+  wait = task_slots.wait w I on t tells.0
 
   pub keeps : ((value_of w).noted t).keeps ≡ true
-  keeps = homes.keeps w I on t tells.0
+  keeps = task_slots.keeps w I on t tells.0
 
-  pub rest : (r : Rest) × (rest_at w.rests t ≡ Some r)
-  rest = homes.rest w I on t tells.0
+  pub rest : (r : ParkedTask) × (rest_at w.rests t ≡ Some r)
+  rest = task_slots.rest w I on t tells.0
 
   pub marks : (m : MarkingValue) × (marks_at w.marks t ≡ Some m)
   marks = some_of (marks_at w.marks t) tells.1
 
   pub never_gone : rest_at w.rests t ≡ None → ⊥
-  never_gone = homes.never_gone w I on t tells.0
+  never_gone = task_slots.never_gone w I on t tells.0
 
   pub never_unmarked : marks_at w.marks t ≡ None → ⊥
-  never_unmarked none = by (marks_at w.marks t) none tells.1
+  never_unmarked none = never_unmarked_by_cases (marks_at w.marks t) none tells.1
     where
-      by : (o : Option MarkingValue) → o ≡ None → is_some o ≡ true → ⊥
-      by None e h = absurd cc
-      by (Some x) e h = absurd cc
+      never_unmarked_by_cases : (o : Option MarkingValue) → o ≡ None → is_some o ≡ true → ⊥
+      never_unmarked_by_cases None e h = absurd cc
+      never_unmarked_by_cases (Some x) e h = absurd cc
 
   pub marks_within : t < length w.marks
   marks_within = within w.marks (tells.1)
     where
       within : (ms : List (Option MarkingValue)) → is_some (marks_at ms t) ≡ true → t < length ms
-      within ms h = by (slice_get ms t) refl h
+      within ms h = within_by_cases (slice_get ms t) refl h
         where
-          by : (o : Option (Option MarkingValue)) → slice_get ms t ≡ o → is_some (option_flatten o) ≡ true → t < length ms
-          by None e h = absurd cc
-          by (Some o) e h = got_within ms t o e
+          within_by_cases : (o : Option (Option MarkingValue)) → slice_get ms t ≡ o → is_some (option_flatten o) ≡ true → t < length ms
+          within_by_cases None e h = absurd cc
+          within_by_cases (Some o) e h = got_within ms t o e
 
-  module _ (r : Rest) (m : MarkingValue) (there : rest_at w.rests t ≡ Some r) (at : marks_at w.marks t ≡ Some m) where
+  module _ (r : ParkedTask) (m : MarkingValue) (there : rest_at w.rests t ≡ Some r) (at : marks_at w.marks t ≡ Some m) where
     M : MarkedBy v l t (Some m)
     M = subst (MarkedBy v l t) at ((stands_now w I on).marks t keeps)
 
@@ -85,7 +71,7 @@ module _ (w : SharedValue) (I : IsSharedValue w) (on : (accounts w).end ≡ None
         not_eq true f = absurd (f refl)
         not_eq false f = refl
 
-    -- nothing is left where all is marked
+    -- nothing is left if all is marked
     pub left_by : (b : Bool) → ((f : Fork) → IsSince f (kept v t) r.heap.chunks → IsMarking f (kept v t) m → IsTrue b ↔ IsAllMarked f (kept v t) m) → b ≡ (left_in (heap_of l t) == 0)
     left_by b ready =
         let F : Further w t r m = further in

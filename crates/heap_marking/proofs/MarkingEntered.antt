@@ -1,30 +1,7 @@
--- An entry that marks a heap further: the shared value that it leaves, and the parts.
-use Rattle.std.proofs.Common.{◌≡◌, ℕ, ◌+◌, min, Option, Some, None, List, [], ◌∷◌, ◌++◌, Contains, length, slice_get, inl, inr, refl, ap, sym, subst, ◌∙◌}
-use Rattle.std.proofs.lemmas.Bool.{cases_eq}
-use Rattle.shared_value.proofs.below.listed.{contains_from_in, in_take}
-use Rattle.shared_value.proofs.below.walk_laws.{reached_within}
-use Rattle.shared_value.specs.below.hh_model.{State, row_of, is_joined}
-use Rattle.shared_value.specs.below.run_trace.{Took, Ran, Chunk, Begin, End, PutOff, Mark, More, Sweep, Fuel, EntryValue}
-use Rattle.shared_value.specs.below.run_ledger.{Heap, Ledger, heap_of, left_in, marked_in, or_fresh, with_heap, after}
-use Rattle.shared_value.proofs.below.run_ledger.{heap_machine}
-use Rattle.shared_value.specs.below.object_layout.{Addr, HasObjectAt, Leads, Located}
-use Rattle.shared_value.proofs.below.object_layout.{distinct_take}
-use Rattle.shared_value.specs.below.inner_mark_gc.{MarkingValue, marked_of, IsInSnapshot, Starts}
-use Rattle.shared_value.proofs.below.ledger_step_laws.{heap_then, with_at, with_off}
-use Rattle.shared_value.specs.below.ledger_step_laws.{Rests}
-use Rattle.shared_value.specs.below.core_relation.{In, Memory, object_name, objects, SameObjects, CountsGo, IsMarked, IsQuiet, GoesOn, MarkedBy, kept, AreLaidOut, HasNames, BelongingsStand, IsBy}
-use Rattle.shared_value.proofs.below.core_relation.{belongings_kept}
-use Rattle.shared_value.specs.SharedValue.{SharedValue, accounts, marks_at, tree_counts_of, value_of}
-use Rattle.shared_value.specs.Stands.{IsSharedValue}
-use Rattle.shared_value.specs.Fits.{AllFit}
-use Rattle.shared_value.specs.Entered.{refused}
-use Rattle.shared_value.proofs.EntryMade.{entry_on}
-use Rattle.shared_value.proofs.NothingMoves.{MovesNothing, quiet_others, quiet_world}
-use Rattle.shared_value.proofs.UnitsMeasured.{all_kept}
-use Rattle.shared_value.proofs.BeforeTheEnd.{stands_now}
-use Rattle.heap_marking.specs.Marking.{MarksEnter}
+-- An entry that marks a heap further: the shared value after it, and the parts.
+use Rattle.heap_marking.proofs.Common.{◌≡◌, ℕ, ◌+◌, min, Option, Some, None, List, [], ◌∷◌, ◌++◌, Contains, length, slice_get, inl, inr, refl, ap, sym, subst, ◌∙◌, cases_eq, contains_from_in, in_take, reached_within, MachineState, row_of, is_joined, Took, Ran, Chunk, Begin, End, PutOff, Mark, More, Sweep, Fuel, EntryValue, Heap, Ledger, heap_of, left_in, marked_in, or_fresh, with_heap, after, heap_machine, Addr, HasObjectAt, RefersTo, Located, distinct_take, MarkingValue, marked_of, IsInSnapshot, Starts, heap_then, with_at, with_off, Rests, In, Memory, object_name, objects, SameObjects, CountsGo, IsMarked, IsQuiet, CanGoOnMarking, MarkedBy, kept, AreLaidOut, HasNames, BelongingsStand, IsBy, belongings_kept, SharedValue, accounts, marks_at, tree_counts_of, value_of, IsSharedValue, AllFit, refused, entry_on, MovesNothing, quiet_others, quiet_world, all_kept, stands_now, MarksEnter}
 
--- belongings whose account has another count of marks alone
+-- belongings whose account differs only in its count of marks
 belongings_marked : (v v' : Memory) (l L : Ledger) (t : ℕ) (o : Option ℕ) → v'.belongings t ≡ v.belongings t → ((k : ℕ) → v.owner k ≡ Some t → v'.owner k ≡ Some t) → L.machine ≡ l.machine → heap_of L t ≡ record (heap_of l t) { marked = o } → BelongingsStand v l t → BelongingsStand v' L t
 belongings_marked v v' l L t o belongings owner machine heap H =
     let before : BelongingsStand v' l t = belongings_kept v v' l l t belongings owner refl refl refl H in
@@ -32,7 +9,7 @@ belongings_marked v v' l L t o belongings owner machine heap H =
       names = subst (HasNames (v'.belongings t).chunks) (sym heap) (record { small = before.names.small; large = before.names.large });
       room = before.room ∙ sym (ap (λ (h : Heap). h.room) heap);
       since = before.since ∙ sym (ap (λ (h : Heap). h.since) heap);
-      count = λ live. before.count (ap (λ (m : State). is_joined (slice_get m.tasks t)) (sym machine) ∙ live) ∙ ap (λ (m : State). length (row_of (slice_get m.store t))) (sym machine);
+      count = λ live. before.count (ap (λ (m : MachineState). is_joined (slice_get m.tasks t)) (sym machine) ∙ live) ∙ ap (λ (m : MachineState). length (row_of (slice_get m.store t))) (sym machine);
       owned = before.owned;
       inside = before.inside;
       once = before.once;
@@ -58,7 +35,7 @@ module _ (w : SharedValue) (e : EntryValue) (I : IsSharedValue w) (free : refuse
   v' = value_of w'
 
   module _ (machine : L.machine ≡ l.machine) (heap_t : heap_of L t ≡ record (heap_of l t) { marked = Some (length (marked_of m)) }) (heaps : (u : ℕ) → (u ≡ t → ⊥) → heap_of L u ≡ heap_of l u)
-      (counts : CountsGo w.program w.settings l (tree_counts_of w) (tree_counts_of w') e.worker e.kind) (G : GoesOn v t (heap_of l t).snapshot m) where
+      (counts : CountsGo w.program w.settings l (tree_counts_of w) (tree_counts_of w') e.worker e.kind) (G : CanGoOnMarking v t (heap_of l t).snapshot m) where
     worker_same : (u : ℕ) → (heap_of L u).worker ≡ (heap_of l u).worker
     worker_same u = elim (cases_eq u t) [
       | inl q ↦ ap (λ z. (heap_of L z).worker) q ∙ (ap (λ (h : Heap). h.worker) heap_t ∙ ap (λ z. (heap_of l z).worker) (sym q))
@@ -70,11 +47,11 @@ module _ (w : SharedValue) (e : EntryValue) (I : IsSharedValue w) (free : refuse
         let H : BelongingsStand v l u = (stands_now w I (entry_on w e free)).belongings.belongings u (sym (worker_same u) ∙ r) in
         elim (cases_eq u t) [
           | inl q ↦ subst (BelongingsStand v' L) (sym q) (belongings_marked v v' l L t (Some (length (marked_of m))) refl (λ k o. o) machine heap_t (subst (BelongingsStand v l) q H))
-          | inr ne ↦ belongings_kept v v' l L u refl (λ k o. o) (heaps u ne) (ap (λ (z : State). length (row_of (slice_get z.store u))) machine) (ap (λ (z : State). is_joined (slice_get z.tasks u)) machine) H
+          | inr ne ↦ belongings_kept v v' l L u refl (λ k o. o) (heaps u ne) (ap (λ (z : MachineState). length (row_of (slice_get z.store u))) machine) (ap (λ (z : MachineState). is_joined (slice_get z.tasks u)) machine) H
         ]
 
-    same : SameObjects v v' l L
-    same = record {
+    same_objects_marked : SameObjects v v' l L
+    same_objects_marked = record {
       belongings = belongings_at;
       objects = λ u. refl;
       chunks = λ u h. refl;
@@ -87,10 +64,10 @@ module _ (w : SharedValue) (e : EntryValue) (I : IsSharedValue w) (free : refuse
       sources = λ u. refl;
     }
 
-    -- what is marked is of the snapshot
-    goes_then : GoesOn v' t (heap_of L t).snapshot m
+    -- what is marked is in the snapshot
+    goes_then : CanGoOnMarking v' t (heap_of L t).snapshot m
     goes_then =
-        subst (λ ns. GoesOn v' t ns m) (sym (ap (λ (h : Heap). h.snapshot) heap_t))
+        subst (λ ns. CanGoOnMarking v' t ns m) (sym (ap (λ (h : Heap). h.snapshot) heap_t))
         (record {
           fork = G.fork;
           marks = G.marks;
@@ -110,7 +87,7 @@ module _ (w : SharedValue) (e : EntryValue) (I : IsSharedValue w) (free : refuse
     each_marked a i =
         let found : Contains m.found a = contains_from_in m.found a (in_take m.marked m.found a i) in
         let reached = G.marks.each a found in
-        let held : HasObjectAt G.fork.heap a = reached_within (Starts G.fork (kept v t)) (Leads G.fork.heap) (HasObjectAt G.fork.heap) (λ x s. s.0) (λ b x h d. d.1) a reached in
+        let held : HasObjectAt G.fork.heap a = reached_within (Starts G.fork (kept v t)) (RefersTo G.fork.heap) (HasObjectAt G.fork.heap) (λ x s. s.0) (λ b x h d. d.1) a reached in
         let o = G.were a held in
         (o.0, o.1, o.2, subst (λ (h : Heap). In h.snapshot (object_name o.0)) (sym heap_t) ((G.snapshot o.0 o.1).0 (subst (λ b. IsInSnapshot G.fork (kept v t) b) (sym o.2) reached)))
 
@@ -127,26 +104,26 @@ module _ (w : SharedValue) (e : EntryValue) (I : IsSharedValue w) (free : refuse
       tasks = refl;
       limit = refl;
       keeps = all_kept w.pool;
-      same = same;
+      same = same_objects_marked;
       notes = λ u none. record { keeps = refl; kept = refl; marked = off_t u (λ q. none (subst (IsMarked e.kind) (sym q) is_marked)) };
       marks = λ u k. record { keeps = refl; kept = refl; marks = subst (λ z. MarkedBy v' L z (marks_at marks z)) (sym (only u k)) (subst (MarkedBy v' L t) (sym at_t) marked_now) };
       counts = counts;
     }
 
-    -- every part that fits fits
+    -- every part that fits still fits
     pub marking_made : IsSharedValue w' × AllFit w w'
     marking_made = (quiet_world I free moves, λ u q F. quiet_others I free moves u q (by_none q.task) F)
 
 -- THE LAW
 heap_by : (l : Ledger) (t n : ℕ) (f : Heap → Heap) → ((h : Heap) → f h ≡ record h { marked = (f h).marked }) → (heap_of (with_heap l t f) t).marked ≡ Some n → heap_of (with_heap l t f) t ≡ record (heap_of l t) { marked = Some n }
-heap_by l t n f alone count = by (slice_get l.heaps t) refl
+heap_by l t n f alone count = heap_by_cases (slice_get l.heaps t) refl
   where
     none_some : {A : Type 0} → ◌≡◌ {A = Option ℕ} None (Some n) → A
     none_some q = absurd cc
 
-    by : (o : Option Heap) → slice_get l.heaps t ≡ o → heap_of (with_heap l t f) t ≡ record (heap_of l t) { marked = Some n }
-    by None e = none_some (sym (ap (λ z. (or_fresh z).marked) (with_at l t f ∙ ap (heap_then f) e)) ∙ count)
-    by (Some h) e =
+    heap_by_cases : (o : Option Heap) → slice_get l.heaps t ≡ o → heap_of (with_heap l t f) t ≡ record (heap_of l t) { marked = Some n }
+    heap_by_cases None e = none_some (sym (ap (λ z. (or_fresh z).marked) (with_at l t f ∙ ap (heap_then f) e)) ∙ count)
+    heap_by_cases (Some h) e =
         let is : heap_of (with_heap l t f) t ≡ f h = ap or_fresh (with_at l t f ∙ ap (heap_then f) e) in
         let then_ : (f h).marked ≡ Some n = ap (λ (z : Heap). z.marked) (sym is) ∙ count in
         is ∙ (alone h ∙ (ap (λ o. let z : Heap = record h { marked = o } in z) then_ ∙ ap (λ z. let y : Heap = record (or_fresh z) { marked = Some n } in y) (sym e)))

@@ -1,29 +1,10 @@
--- A marking that can go on marks more: what it asks of the heap, and that it can go on then.
-use Rattle.std.proofs.Common.{◌≡◌, ◌⊎◌, ◌↔◌, ℕ, ◌+◌, ◌<◌, ◌≤◌, true, Some, None, List, All, Contains, length, slice_get, inl, inr, ap, sym, subst, ◌∙◌}
-use Rattle.shared_value.proofs.below.listed.{contains_from_in, in_from_contains, all_from}
-use Rattle.shared_value.proofs.below.walk_laws.{reached_more, reached_within}
-use Rattle.shared_value.specs.below.hh_model.{is_waiting}
-use Rattle.shared_value.proofs.below.path_laws.{wait_there}
-use Rattle.shared_value.specs.below.run_ledger.{Ledger, heap_of, held_in, left_in}
-use Rattle.journal_laws.proofs.History.{snapshots_are_held}
-use Rattle.shared_value.proofs.below.run_ledger.{legal_sound}
-use Rattle.shared_value.specs.below.object_layout.{Addr, cell_of, object_count, ChunkValue, IsClosed, HasObjectAt, Leads, Located}
-use Rattle.shared_value.specs.below.inner_mark_gc.{IsAllMarked, IsMarking, IsOf, MarkingValue, marked_of, Fork, IsInSnapshot, IsSince, Starts}
-use Rattle.shared_value.specs.below.core_relation.{In, Memory, object_name, objects, objects_in, LeadsAt, GoesOn, MarksStand, kept, StandsFor}
-use Rattle.shared_value.proofs.below.core_entry_laws.{marks_are_all, snapshot_now}
-use Rattle.shared_value.specs.below.core_entry_laws.{IsReachedNow, StartsNow}
-use Rattle.shared_value.proofs.below.core_relation.{lies_in}
-use Rattle.shared_value.specs.below.task_homes.{Rest}
-use Rattle.shared_value.specs.SharedValue.{SharedValue, accounts, rest_at, tree_counts_of, value_of}
-use Rattle.shared_value.specs.Stands.{HeapForm, IsSharedValue}
-use Rattle.shared_value.proofs.ObjectCounts.{objects_counted}
-use Rattle.shared_value.proofs.BeforeTheEnd.{stands_now}
-use Rattle.heap_marking.specs.Marking.{MarksGoFurther}
+-- A marking that can go on marks more: what it requires of the heap, and that it can go on afterwards.
+use Rattle.heap_marking.proofs.Common.{◌≡◌, ◌⊎◌, ◌↔◌, ℕ, ◌+◌, ◌<◌, ◌≤◌, true, Some, None, List, All, Contains, length, slice_get, inl, inr, ap, sym, subst, ◌∙◌, contains_from_in, in_from_contains, all_from, reached_more, reached_within, is_waiting, wait_there, Ledger, heap_of, held_in, left_in, snapshots_are_held, legal_sound, Addr, cell_of, object_count, ChunkValue, IsClosed, HasObjectAt, RefersTo, Located, IsAllMarked, IsMarking, IsOf, MarkingValue, marked_of, Fork, IsInSnapshot, IsSince, Starts, In, Memory, object_name, objects, objects_in, LeadsAt, CanGoOnMarking, MarksStand, kept, StandsFor, marks_are_all, snapshot_now, IsReachedNow, StartsNow, lies_in, ParkedTask, SharedValue, accounts, rest_at, tree_counts_of, value_of, HeapForm, IsSharedValue, objects_counted, stands_now, MarksGoFurther}
 use Rattle.heap_marking.proofs.HeapClosed.{closed as is_closed}
 use Rattle.heap_marking.proofs.MarkBegun as begun
 
-module _ (w : SharedValue) (I : IsSharedValue w) (on : (accounts w).end ≡ None) (t : ℕ) (r : Rest) (there : rest_at w.rests t ≡ Some r) (wait : is_waiting (slice_get (accounts w).machine.tasks t) ≡ true) (keeps : ((value_of w).noted t).keeps ≡ true)
-    (m : MarkingValue) (G : GoesOn (value_of w) t (heap_of (accounts w) t).snapshot m) where
+module _ (w : SharedValue) (I : IsSharedValue w) (on : (accounts w).end ≡ None) (t : ℕ) (r : ParkedTask) (there : rest_at w.rests t ≡ Some r) (wait : is_waiting (slice_get (accounts w).machine.tasks t) ≡ true) (keeps : ((value_of w).noted t).keeps ≡ true)
+    (m : MarkingValue) (G : CanGoOnMarking (value_of w) t (heap_of (accounts w) t).snapshot m) where
   abbrev l : Ledger
   l = accounts w
 
@@ -45,9 +26,9 @@ module _ (w : SharedValue) (I : IsSharedValue w) (on : (accounts w).end ≡ None
       snapshot_now v l t x.0 (legal_sound w.program w.settings w.journal.items I.legal) stands.belongings x.1 wait (begun.waiting_rests w I on t wait) (stands.since t keeps)
 
   reached_held : (a : Addr) → IsInSnapshot G.fork (kept v t) a → HasObjectAt G.fork.heap a
-  reached_held a g = reached_within (Starts G.fork (kept v t)) (Leads G.fork.heap) (HasObjectAt G.fork.heap) (λ x s. s.0) (λ b x h d. d.1) a g
+  reached_held a g = reached_within (Starts G.fork (kept v t)) (RefersTo G.fork.heap) (HasObjectAt G.fork.heap) (λ x s. s.0) (λ b x h d. d.1) a g
 
-  written : (b a : Addr) → IsInSnapshot G.fork (kept v t) b → Leads ks b a → IsInSnapshot G.fork (kept v t) a
+  written : (b a : Addr) → IsInSnapshot G.fork (kept v t) b → RefersTo ks b a → IsInSnapshot G.fork (kept v t) a
   written b a g d =
       let o = G.were b (reached_held b g) in
       let q = begun.seen_at w I on t r there wait keeps a d.1 in
@@ -57,7 +38,7 @@ module _ (w : SharedValue) (I : IsSharedValue w) (on : (accounts w).end ≡ None
       let to : IsReachedNow v l t a = reached_more (StartsNow v l t) (LeadsAt (v.belongings t)) b a from (o.0, q.0, (o.1, o.2), subst (λ rs. In rs (Some a)) refs (in_from_contains (cell_of ks b).refs (Some a) d.2), (q.1, q.2)) in
       subst (IsInSnapshot G.fork (kept v t)) q.2 ((G.snapshot q.0 q.1).1 ((now q.0 q.1).0 (subst (IsReachedNow v l t) (sym q.2) to)))
 
-  overwritten : (b a : Addr) → Leads G.fork.heap b a → Leads ks b a ⊎ Contains (kept v t) a
+  overwritten : (b a : Addr) → RefersTo G.fork.heap b a → RefersTo ks b a ⊎ Contains (kept v t) a
   overwritten b a d =
       let o = G.were b d.0 in
       let q = G.were a d.1 in
@@ -65,7 +46,7 @@ module _ (w : SharedValue) (I : IsSharedValue w) (on : (accounts w).end ≡ None
       let to : HasObjectAt ks a = subst (HasObjectAt ks) q.2 (begun.is_held w I on t r there wait keeps q.0 q.1) in
       let mine : v.owner a.chunk ≡ Some t = ap (λ (z : Addr). v.owner z.chunk) (sym q.2) ∙ lies_in v l stands.belongings t q.0 (begun.waiting_rests w I on t wait) q.1 in
       let refs : (cell_of ks b).refs ≡ o.0.refs = ap (λ x. (cell_of ks x).refs) (sym o.2) ∙ begun.refs_are w I on t r there wait keeps o.0 o.1 in
-      elim (G.overwritten o.0 a o.1 mine (subst (λ z. Leads G.fork.heap z a) (sym o.2) d)) [
+      elim (G.overwritten o.0 a o.1 mine (subst (λ z. RefersTo G.fork.heap z a) (sym o.2) d)) [
         | inl i ↦ inl (from, to, contains_from_in (cell_of ks b).refs (Some a) (subst (λ rs. In rs (Some a)) (sym refs) i))
         | inr k ↦ inr (contains_from_in (kept v t) a k)
       ]
@@ -81,7 +62,7 @@ module _ (w : SharedValue) (I : IsSharedValue w) (on : (accounts w).end ≡ None
   }
 
   -- what was marked further can go on
-  pub goes_further : (m' : MarkingValue) → IsOf ks (kept v t) m' → ((f : Fork) → IsSince f (kept v t) ks → IsMarking f (kept v t) m → IsMarking f (kept v t) m') → GoesOn v t (heap_of l t).snapshot m'
+  pub goes_further : (m' : MarkingValue) → IsOf ks (kept v t) m' → ((f : Fork) → IsSince f (kept v t) ks → IsMarking f (kept v t) m → IsMarking f (kept v t) m') → CanGoOnMarking v t (heap_of l t).snapshot m'
   goes_further m' own marks =
       let count : object_count ks ≡ length (objects v t) = objects_counted ks form.tidy ∙ ap (λ cs. length (objects_in cs)) (sym (begun.chunks_at_rest w t r there)) in
       let chunks : length ks ≡ length (v.belongings t).chunks = sym (begun.length_chunks ks) ∙ ap (λ cs. length cs) (sym (begun.chunks_at_rest w t r there)) in
@@ -100,7 +81,7 @@ module _ (w : SharedValue) (I : IsSharedValue w) (on : (accounts w).end ≡ None
         places = subst (λ n. n ≤ m'.places) chunks own.room.places;
       }
 
-  -- WHAT IT ASKS: what it has found lies in the heap
+  -- WHAT IT REQUIRES: what it has found is in the heap
   pub own : IsOf ks (kept v t) m
   own =
       let count : object_count ks ≡ length (objects v t) = objects_counted ks form.tidy ∙ ap (λ cs. length (objects_in cs)) (sym (begun.chunks_at_rest w t r there)) in

@@ -1,19 +1,9 @@
--- What is kept of a worker's entries stays right past entries that leave forks and touched heaps, and is right with one
--- entry more.
-use Rattle.std.proofs.Common.{◌≡◌, ◌⊎◌, ℕ, ◌<◌, ◌≤◌, ◌==◌, ◌&&◌, not, Bool, true, false, cond, Option, Some, None, List, [], ◌∷◌, ◌++◌, slice_get, inl, inr, refl, ap, sym, subst, ◌∙◌, arith, is_some, eq-eqb}
-use Rattle.std.proofs.lemmas.Bool.{both_ways, and_from, and_parts, eqb-true, not-true}
-use Rattle.shared_value.specs.below.hh_model.{Strand, Task, is_waiting, joined, parents, strand_of, waits}
-use Rattle.shared_value.proofs.below.path_laws.{wait_task}
-use Rattle.shared_value.specs.below.run_ledger.{Heap, Ledger, Previous, Other as OtherEntry, Ran as RanEntry, Forked as ForkedEntry, WorkerPace, heap_of, fork_of, previous_by, waits_on, waits_since}
-use Rattle.journal_laws.proofs.OwedEntries.{waits_tells as since_tells}
-use Rattle.journal_laws.proofs.OwedEntries.{Touched}
+-- The record of a worker's entries stays right after entries that keep forks and touched heaps, and is right after one
+-- more entry of the worker.
+use Rattle.heap_marking.proofs.Common.{◌≡◌, ◌⊎◌, ℕ, ◌<◌, ◌≤◌, ◌==◌, ◌&&◌, not, Bool, true, false, cond, Option, Some, None, List, [], ◌∷◌, ◌++◌, slice_get, inl, inr, refl, ap, sym, subst, ◌∙◌, arith, is_some, eq-eqb, both_ways, and_from, and_parts, eqb-true, not-true, Strand, Task, is_waiting, joined, parents, strand_of, waits, wait_task, Heap, Ledger, Previous, Other as OtherEntry, Forked as ForkedEntry, WorkerPace, heap_of, fork_of, previous_by, waits_on, waits_since, waits_tells as since_tells, Touched, option_is, held_is, Pace, PreviousKind, HasGoneOn, IsForkOf, IsOver, KeepsMarks, KeepsPace, KeepsPrevious, TellsFork, TellsMark, previous_of}
+use Rattle.core_invariant.specs.below.run_ledger.{Ran as RanEntry}
 use Rattle.heap_marking.specs.declared.pace.Fork.{Fork}
-use Rattle.heap_marking.specs.declared.pace.Pace.{Pace}
-use Rattle.heap_marking.specs.declared.pace.PreviousKind.{PreviousKind}
 use Rattle.heap_marking.specs.declared.pace.PreviousKind.TheVariants.{Other, Ran, Forked}
-use Rattle.heap_marking.specs.Pace.{HasGoneOn, IsForkOf, IsOver, KeepsMarks, KeepsPace, KeepsPrevious, TellsFork, TellsMark, previous_of}
-use Rattle.shared_value.specs.below.listed.{option_is}
-use Rattle.shared_value.proofs.below.run_ledger.{held_is}
 use Rattle.heap_marking.proofs.ForksStay.{Moves}
 
 -- WAITING ON A FORK
@@ -24,14 +14,14 @@ pub waits_from : (l : Ledger) (s : Strand) (x : Task) → slice_get l.machine.ta
 waits_from l s x at w j = ap (λ o. waits_since o s.joins) at ∙ and_from (waits x.status) (x.joins == s.joins) w (eq-eqb x.joins s.joins j)
 
 pub gone_waits : (l : Ledger) (s : Strand) → HasGoneOn l s → waits_on l s ≡ false
-gone_waits l s g = ap (λ o. waits_since o s.joins) g.1 ∙ by (waits (g.0).status) ((g.0).joins == s.joins) refl
+gone_waits l s g = ap (λ o. waits_since o s.joins) g.1 ∙ gone_waits_by_cases (waits (g.0).status) ((g.0).joins == s.joins) refl
   where
-    by : (a b : Bool) → ((g.0).joins == s.joins) ≡ b → (a && b) ≡ false
-    by false b e = refl
-    by true false e = refl
-    by true true e = let q : (g.0).joins ≡ s.joins = eqb-true (g.0).joins s.joins e in let lt : s.joins < (g.0).joins = g.2 in absurd (omega arith)
+    gone_waits_by_cases : (a b : Bool) → ((g.0).joins == s.joins) ≡ b → (a && b) ≡ false
+    gone_waits_by_cases false b e = refl
+    gone_waits_by_cases true false e = refl
+    gone_waits_by_cases true true e = let q : (g.0).joins ≡ s.joins = eqb-true (g.0).joins s.joins e in let lt : s.joins < (g.0).joins = g.2 in absurd (omega arith)
 
--- PAST AN ENTRY
+-- AFTER AN ENTRY
 module _ (l l' : Ledger) (M : Moves l l') where
   gone_moves : (s : Strand) → HasGoneOn l s → HasGoneOn l' s
   gone_moves s g = let y = M.grows s.task g.0 g.1 in let lt : s.joins < (g.0).joins = g.2 in let le : (g.0).joins ≤ (y.0).joins = y.2 in (y.0, y.1, omega arith)
@@ -59,7 +49,7 @@ module _ (l l' : Ledger) (M : Moves l l') where
     past = tells_past f s T (joined l.machine.tasks f.left) refl;
   }
 
-  -- what was touched while the task waited is so as long as it waits
+  -- what was touched while the task waited stays so as long as it waits
   still : (s : Strand) (C : Heap → Type 0) → (waits_on l s ≡ true → C (heap_of l s.task)) → ((x : Task) → slice_get l.machine.tasks s.task ≡ Some x → waits x.status ≡ true → slice_get l'.machine.tasks s.task ≡ Some x → C (heap_of l s.task) → C (heap_of l' s.task))
       → (waits_on l s ≡ true) ⊎ HasGoneOn l s → waits_on l' s ≡ true → C (heap_of l' s.task)
   still s C was goes (inr g) w = absurd (both_ways (waits_on l' s) (gone_waits l' s (gone_moves s g)) w)
@@ -110,7 +100,7 @@ module _ (l l' : Ledger) (M : Moves l l') where
 
 -- THE FORK on which a task waits
 
--- a child of t that hasn't joined, as the tasks tell it
+-- a child of t that hasn't joined, by the tasks
 abbrev pub lives_below : List Task → ℕ → ℕ → Bool
 lives_below tasks t c = option_is (parents tasks c) t && not (joined tasks c)
 
@@ -120,7 +110,7 @@ child_tells tasks t c h = let q = and_parts (option_is (parents tasks c) t) (not
 pub child_from : (tasks : List Task) (t c : ℕ) → parents tasks c ≡ Some t → joined tasks c ≡ false → lives_below tasks t c ≡ true
 child_from tasks t c p j = and_from (option_is (parents tasks c) t) (not (joined tasks c)) (ap (λ o. option_is o t) p ∙ eq-eqb t t refl) (ap not j)
 
--- told by a child that hasn't joined
+-- by a child that hasn't joined
 pub fork_from : (l : Ledger) (t c : ℕ) → parents l.machine.tasks c ≡ Some t → joined l.machine.tasks c ≡ false → is_waiting (slice_get l.machine.tasks t) ≡ true → IsForkOf l t (Some (record { task = t; left = c })) (slice_get l.machine.tasks t)
 fork_from l t c p j w =
     let q = wait_task (slice_get l.machine.tasks t) w in
@@ -134,7 +124,7 @@ fork_from l t c p j w =
       },
     )
 
--- WITH ONE ENTRY MORE
+-- WITH ONE MORE ENTRY
 pub steps_kept : (l : Ledger) (t : ℕ) (fork : Option Fork) (o : Option Task) → IsForkOf l t fork o → KeepsPrevious l (previous_of fork) (previous_by t o)
 steps_kept l t None None k = tt
 steps_kept l t None (Some x) k = subst (λ b. KeepsPrevious l Ran (cond b (ForkedEntry (strand_of t x)) RanEntry)) (sym k) tt
@@ -145,7 +135,7 @@ pub mark_kept : (l : Ledger) (t : ℕ) (f : Fork) (o : Option Task) (forks : Lis
 mark_kept l t f None forks ss k m K = absurd k
 mark_kept l t f (Some x) forks ss k m K = inr (forks, f, refl, record { fork = k.1; marked = λ w. inl m }, K)
 
--- by what is kept alone
+-- by the record alone
 pub keeps_items : (l : Ledger) (q q' : Pace) (x : WorkerPace) → q'.previous ≡ q.previous → q'.marks.items ≡ q.marks.items → KeepsPace l q x → KeepsPace l q' x
 keeps_items l q q' x ep em K = record {
   previous = subst (λ a. KeepsPrevious l a x.previous) (sym ep) K.previous;

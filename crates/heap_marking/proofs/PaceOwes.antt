@@ -1,16 +1,8 @@
--- What is owed is told by what is kept.
-use Rattle.std.proofs.Common.{◌≡◌, ℕ, ◌+◌, ◌<◌, ◌&&◌, not, Bool, true, false, cond, Option, Some, None, List, [], ◌∷◌, ◌++◌, length, slice_get, inl, inr, refl, ap, sym, subst, ◌∙◌, arith, is_some, nat_le, length-append}
-use Rattle.std.proofs.lemmas.Bool.{both_ways, cases_lt}
-use Rattle.std.proofs.lemmas.Option.{same_Some}
-use Rattle.shared_value.proofs.below.listed.{got_back, got_front, got_within, and_not_parts}
-use Rattle.shared_value.specs.below.hh_model.{Strand, is_waiting, joined}
-use Rattle.shared_value.specs.below.run_trace.{SettingsValue}
-use Rattle.shared_value.specs.below.run_ledger.{Ledger, Owed, Mark as OwesMark, Nothing, Previous, Other as OtherEntry, Ran as RanEntry, Forked as ForkedEntry, WorkerPace, heap_of, words_in, is_to_mark, is_under_way, is_unmarked, more_of, owed_after, owed_to_marks, waits_on}
+-- The record determines what is owed.
+use Rattle.heap_marking.proofs.Common.{◌≡◌, ℕ, ◌+◌, ◌<◌, ◌&&◌, not, Bool, true, false, cond, Option, Some, None, List, [], ◌∷◌, ◌++◌, length, slice_get, inl, inr, refl, ap, sym, subst, ◌∙◌, arith, is_some, nat_le, length-append, both_ways, cases_lt, same_Some, got_back, got_front, got_within, and_not_parts, Strand, is_waiting, joined, SettingsValue, Ledger, Owed, Nothing, Previous, Other as OtherEntry, Forked as ForkedEntry, WorkerPace, heap_of, words_in, is_to_mark, is_under_way, is_unmarked, more_of, owed_after, owed_to_marks, waits_on, Pace, PreviousKind, IsLastGoing, IsOver, KeepsMarks, KeepsPace, KeepsPrevious, TellsFork, TellsMark, is_going, is_to_begin}
+use Rattle.core_invariant.specs.below.run_ledger.{Mark as OwesMark, Ran as RanEntry}
 use Rattle.heap_marking.specs.declared.pace.Fork.{Fork}
-use Rattle.heap_marking.specs.declared.pace.Pace.{Pace}
-use Rattle.heap_marking.specs.declared.pace.PreviousKind.{PreviousKind}
 use Rattle.heap_marking.specs.declared.pace.PreviousKind.TheVariants.{Other, Ran, Forked}
-use Rattle.heap_marking.specs.Pace.{IsLastGoing, IsOver, KeepsMarks, KeepsPace, KeepsPrevious, TellsFork, TellsMark, is_going, is_to_begin}
 use Rattle.heap_marking.proofs.PaceKeeps.{gone_waits, waits_tells}
 
 -- BY A FORK
@@ -43,7 +35,7 @@ snoc_front front f k g e = got_front front (f ∷ []) k (got_within front k g e)
 snoc_length : (front : List Fork) (f : Fork) → length (front ++ f ∷ []) ≡ length front + 1
 snoc_length front f = length-append front (f ∷ [])
 
--- where the last of a list is under way it is the last that is
+-- if the last of a list is under way it is the last that is
 last_here : (l : Ledger) (front : List Fork) (f : Fork) (r : Option Fork) → is_going l f ≡ true → IsLastGoing l (front ++ f ∷ []) r → r ≡ Some f
 last_here l front f None on L = absurd (both_ways (is_going l f) (L (length front) f (snoc_last front f)) on)
 last_here l front f (Some g) on L = elim (cases_lt (L.0) (length front)) [
@@ -55,7 +47,7 @@ last_here l front f (Some g) on L = elim (cases_lt (L.0) (length front)) [
       sym L.1 ∙ (ap (slice_get (front ++ f ∷ [])) e ∙ snoc_last front f)
 ]
 
--- and where it isn't, the last of those before it is
+-- and if it isn't, the last of those before it is
 last_before : (l : Ledger) (front : List Fork) (f : Fork) (r : Option Fork) → is_going l f ≡ false → IsLastGoing l (front ++ f ∷ []) r → IsLastGoing l front r
 last_before l front f None off L = λ k g e. L k g (snoc_front front f k g e)
 last_before l front f (Some g) off L = elim (cases_lt (L.0) (length front)) [
@@ -77,7 +69,7 @@ abbrev pub owed_to : Ledger → Option Fork → Owed
 owed_to l None = Nothing
 owed_to l (Some f) = more_of l f.task
 
--- what a marking tells while it is under way
+-- what follows while a marking is under way
 abbrev pub IsMarkedThen : Ledger → Option Fork → Type 0
 IsMarkedThen l None = Unit {0}
 IsMarkedThen l (Some f) = (is_going l f ≡ true) × (is_some (heap_of l f.task).marked ≡ true)
@@ -94,18 +86,18 @@ owed_marks l forks [] r K L =
 owed_marks l forks (s ∷ ss) r (inl K) L =
     let rest = owed_marks l forks ss r K.1 L in
     (ap (λ b. cond b (more_of l s.task) (owed_to_marks l ss)) (over_stops l s K.0) ∙ rest.0, rest.1)
-owed_marks l forks (s ∷ ss) r (inr K) L = by (is_going l K.1) refl (owed_marks l K.0 ss r K.4)
+owed_marks l forks (s ∷ ss) r (inr K) L = owed_marks_by_cases (is_going l K.1) refl (owed_marks l K.0 ss r K.4)
   where
     L' : IsLastGoing l (K.0 ++ K.1 ∷ []) r
     L' = subst (λ (fs : List Fork). IsLastGoing l fs r) K.2 L
 
-    by : (b : Bool) → is_going l K.1 ≡ b → (IsLastGoing l K.0 r → (owed_to_marks l ss ≡ owed_to l r) × IsMarkedThen l r) → (cond (is_under_way l s) (more_of l s.task) (owed_to_marks l ss) ≡ owed_to l r) × IsMarkedThen l r
-    by true e rest =
+    owed_marks_by_cases : (b : Bool) → is_going l K.1 ≡ b → (IsLastGoing l K.0 r → (owed_to_marks l ss ≡ owed_to l r) × IsMarkedThen l r) → (cond (is_under_way l s) (more_of l s.task) (owed_to_marks l ss) ≡ owed_to l r) × IsMarkedThen l r
+    owed_marks_by_cases true e rest =
         let here : r ≡ Some K.1 = last_here l K.0 K.1 r e L' in (
           ap (λ b. cond b (more_of l s.task) (owed_to_marks l ss)) (sym (going_is l K.1 s (K.3).fork) ∙ e) ∙ (ap (more_of l) (sym ((K.3).fork).task) ∙ sym (ap (owed_to l) here)),
           subst (IsMarkedThen l) (sym here) (e, marked_now l K.1 s K.3 e),
         )
-    by false e rest =
+    owed_marks_by_cases false e rest =
         let more = rest (last_before l K.0 K.1 r e L') in
         (ap (λ b. cond b (more_of l s.task) (owed_to_marks l ss)) (sym (going_is l K.1 s (K.3).fork) ∙ e) ∙ more.0, more.1)
 
@@ -129,14 +121,14 @@ not_snoc (x ∷ front) f e = let q : length (x ∷ (front ++ f ∷ [])) ≡ 0 = 
 
 stopped_over : (l : Ledger) (f : Fork) (s : Strand) → TellsMark l f s → is_going l f ≡ false → (b : Bool) → joined l.machine.tasks f.left ≡ b → IsOver l s
 stopped_over l f s T off true e = inl ((T.fork).past e)
-stopped_over l f s T off false e = by (heap_of l s.task).swept refl
+stopped_over l f s T off false e = stopped_over_by_cases (heap_of l s.task).swept refl
   where
     w : waits_on l s ≡ true
     w = (T.fork).waits e
 
-    by : (b : Bool) → (heap_of l s.task).swept ≡ b → IsOver l s
-    by true q = inr (w, q)
-    by false q = absurd (both_ways (is_under_way l s) (sym (going_is l f s T.fork) ∙ off) (ap (λ v. v && not (heap_of l s.task).swept) w ∙ ap not q))
+    stopped_over_by_cases : (b : Bool) → (heap_of l s.task).swept ≡ b → IsOver l s
+    stopped_over_by_cases true q = inr (w, q)
+    stopped_over_by_cases false q = absurd (both_ways (is_under_way l s) (sym (going_is l f s T.fork) ∙ off) (ap (λ v. v && not (heap_of l s.task).swept) w ∙ ap not q))
 
 pub drop_last : (l : Ledger) (front : List Fork) (f : Fork) (ss : List Strand) → is_going l f ≡ false → KeepsMarks l (front ++ f ∷ []) ss → KeepsMarks l front ss
 drop_last l front f [] off K = absurd (not_snoc front f K)
@@ -163,7 +155,7 @@ owed_is limits l marks (Forked f) RanEntry k = absurd k
 owed_is limits l marks (Forked f) (ForkedEntry s) k =
     ap (λ b. cond b (OwesMark f.task) (owed_to_marks l marks)) (begins_is l f s k limits) ∙ ap (λ u. cond (is_to_mark limits l s) (OwesMark u) (owed_to_marks l marks)) k.task
 
--- a pace without its last marking, which is over
+-- a record without its last marking, which is over
 pub drop_keeps : (l : Ledger) (q q' : Pace) (f : Fork) (x : WorkerPace) → q'.previous ≡ q.previous → q.marks.items ≡ q'.marks.items ++ f ∷ [] → is_going l f ≡ false → KeepsPace l q x → KeepsPace l q' x
 drop_keeps l q q' f x ep em off K = record {
   previous = subst (λ a. KeepsPrevious l a x.previous) (sym ep) K.previous;

@@ -1,14 +1,8 @@
--- What a step of the machine leaves of forks: whose child each task is, and which have joined; a task that waits goes
--- on to wait until its children join.
-use Rattle.std.proofs.Common.{◌≡◌, ◌⊎◌, ℕ, ℤ, zero, suc, ◌+◌, ◌<◌, Bool, true, false, Option, Some, List, [], ◌∷◌, ◌++◌, length, slice_get, slice_set, inl, inr, refl, ap, sym, subst, ◌∙◌, arith}
-use Rattle.std.proofs.lemmas.Bool.{false≢true, both_ways, cases_eq, cases_lt}
-use Rattle.std.proofs.lemmas.Option.{same_Some}
-use Rattle.shared_value.proofs.below.listed.{got_other, got_within, view_step}
-use Rattle.shared_value.specs.below.hh_lang.{ProgramText}
-use Rattle.shared_value.specs.below.hh_model.{Edge, Waiting, Name, Task, State, onward, child, ended_task, is_joined, is_left, is_over, is_running, is_waiting, joined, joined_task, parent_of, parents, result_of, resumed, run, run_from, sibling, start, step, waits, IsForkJoinState, TreeOf, waiting}
-use Rattle.shared_value.proofs.below.hh_model.{start_is_fork_join_state, step_is_fork_join_state, below, grown_left, grown_other, grown_past, grown_right, grown_view_front, parl, parr, running_tells, sib, three_left, three_other, three_right, three_top, step_cases}
+-- What a step of the machine keeps of forks: each task's parent, and which tasks have joined; a waiting task waits
+-- until its children join.
+use Rattle.heap_marking.proofs.Common.{◌≡◌, ◌⊎◌, ℕ, ℤ, zero, suc, ◌+◌, ◌<◌, Bool, true, false, Option, Some, List, [], ◌∷◌, ◌++◌, length, slice_get, slice_set, inl, inr, refl, ap, sym, subst, ◌∙◌, arith, false≢true, both_ways, cases_eq, cases_lt, same_Some, got_other, got_within, view_step, ProgramText, Edge, Waiting, Name, Task, MachineState, onward, child, ended_task, is_joined, is_left, is_over, is_running, is_waiting, joined, joined_task, parent_of, parents, result_of, resumed, run, run_from, sibling, start, step, waits, IsForkJoinState, TreeOf, waiting, start_is_fork_join_state, step_is_fork_join_state, below, grown_left, grown_other, grown_past, grown_right, grown_view_front, parl, parr, running_tells, sib, three_left, three_other, three_right, three_top, step_cases}
 
--- a task that waited waits as before, with the children that it waits for, or has joined with all that it had
+-- a task that waited still waits, with the children for which it waits, or has joined with all that it had
 abbrev pub WaitsOn : List Task → List Task → ℕ → Task → Type 0
 WaitsOn ts ts' u x =
     ((slice_get ts' u ≡ Some x) × ((c : ℕ) → parents ts c ≡ Some u → joined ts c ≡ false → joined ts' c ≡ false))
@@ -147,7 +141,7 @@ module _ (ts : List Task) (edges : List Edge) (K : TreeOf ts edges) (p l : ℕ) 
   top_live : joined ts p ≡ false
   top_live = K.apart p (K.waits l p parent_left (ap is_joined il ∙ dl))
 
-  -- by where the task stands
+  -- by the status of the task
   four : (C : ℕ → Type 0) → C p → C l → C (l + 1) → ((u : ℕ) → (u ≡ l → ⊥) → (u ≡ l + 1 → ⊥) → (u ≡ p → ⊥) → C u) → (u : ℕ) → C u
   four C cp cl cr co u = elim (cases_eq u p) [
     | inl e ↦ subst C (sym e) cp
@@ -167,16 +161,16 @@ module _ (ts : List Task) (edges : List Edge) (K : TreeOf ts edges) (p l : ℕ) 
 
   -- the children of p have all joined
   all_joined : (c : ℕ) → parents ts c ≡ Some p → joined then c ≡ true
-  all_joined c pc = by (joined ts c) refl
+  all_joined c pc = all_joined_by_cases (joined ts c) refl
     where
-      by : (b : Bool) → joined ts c ≡ b → joined then c ≡ true
-      by true e = joined_then c e
-      by false e = elim (K.brothers l c p parent_left pc (ap is_joined il ∙ dl) e) [
+      all_joined_by_cases : (b : Bool) → joined ts c ≡ b → joined then c ≡ true
+      all_joined_by_cases true e = joined_then c e
+      all_joined_by_cases false e = elim (K.brothers l c p parent_left pc (ap is_joined il ∙ dl) e) [
         | inl same ↦ ap (joined then) same ∙ ap is_joined at_left
         | inr sib ↦ ap (joined then) (sib ∙ next) ∙ ap is_joined at_right
       ]
 
-  -- those of other tasks are as before
+  -- those of other tasks are unchanged
   live_then : (u c : ℕ) → (u ≡ p → ⊥) → parents ts c ≡ Some u → joined ts c ≡ false → joined then c ≡ false
   live_then u c ne = four (λ c. parents ts c ≡ Some u → joined ts c ≡ false → joined then c ≡ false)
       (λ pc j. ap is_joined at_top) (λ pc j. absurd (ne (same_Some u p (sym pc ∙ parent_left)))) (λ pc j. absurd (ne (same_Some u p (sym pc ∙ parent_right)))) (λ v nl nr np pc j. ap is_joined (at_other v nl nr np) ∙ j) c
@@ -205,7 +199,7 @@ module _ (ts : List Task) (edges : List Edge) (K : TreeOf ts edges) (p l : ℕ) 
   }
 
 -- A STEP
-pub step_moves : (p : ProgramText) (m : State) (t : ℕ) → IsForkJoinState m → TreeMoves m.tasks (step p m t).tasks
+pub step_moves : (p : ProgramText) (m : MachineState) (t : ℕ) → IsForkJoinState m → TreeMoves m.tasks (step p m t).tasks
 step_moves p m t K =
     step_cases p m t K (λ m'. TreeMoves m.tasks m'.tasks) (tree_same m.tasks) (λ z e is r why. tree_same m.tasks)
     (λ z y store outs is r ep ed es ej names fields alters grows. let q = running_tells z.status r in set_moves m.tasks t z y is r ep (ap is_over es ∙ q.0) (ap waits es ∙ q.1))
@@ -213,11 +207,11 @@ step_moves p m t K =
     (λ z g h is r next top. fork_moves m.tasks m.edges K.tree t g h z is r)
     (λ parent l xp xl xr rl rr ip il ir pl left dl dr wl wr nl nr side. join_moves m.tasks m.edges K.tree parent l xp xl xr rl rr ip il ir pl left dl dr wl wr)
 
--- A RUN: each task that waits has a child that hasn't joined
+-- A RUN: each waiting task has a child that hasn't joined
 abbrev pub HaveLive : List Task → Type 0
 HaveLive ts = (u : ℕ) → waiting ts u ≡ true → (c : ℕ) × (parents ts c ≡ Some u) × (joined ts c ≡ false)
 
-live_from : (p : ProgramText) (us : List ℕ) (m : State) → IsForkJoinState m → HaveLive m.tasks → HaveLive (run_from p m us).tasks
+live_from : (p : ProgramText) (us : List ℕ) (m : MachineState) → IsForkJoinState m → HaveLive m.tasks → HaveLive (run_from p m us).tasks
 live_from p [] m K h = h
 live_from p (t ∷ us) m K h = live_from p us (step p m t) (step_is_fork_join_state p m t K) ((step_moves p m t K).live h)
 

@@ -1,39 +1,11 @@
--- A sweep is entered: the shared value that it leaves, and the parts.
-use Rattle.std.proofs.Common.{◌≡◌, ℕ, ◌-◌, ◌==◌, ◌++◌, arith, Bool, true, false, Option, Some, None, is_none, List, [], ◌∷◌, length, option_map, slice_get, slice_set, inl, inr, refl, ap, ap₂, sym, subst, ◌∙◌}
-use Rattle.std.specs.Option.{option_flatten}
-use Rattle.std.specs.Prelude.{◌≢◌, IsSome}
-use Rattle.std.proofs.lemmas.Bool.{cases_eq, eqb-true}
-use Rattle.std.proofs.lemmas.Option.{same_Some}
-use Rattle.shared_value.specs.below.listed.{RoomyValue}
-use Rattle.shared_value.proofs.below.listed.{got_other, got_within, all_from, none_some}
-use Rattle.shared_value.specs.below.run_trace.{Sweep, EntryValue}
-use Rattle.shared_value.specs.below.run_ledger.{Ledger, Refused, Count, Left, refused_unless, heap_of, left_in, marked_in, sweep_number, swept_heap, with_heap}
-use Rattle.shared_value.proofs.below.run_ledger.{entry_tells, heap_machine}
-use Rattle.shared_value.specs.below.object_layout.{ChunkValue}
-use Rattle.shared_value.specs.below.chunk_pool.{PoolValue, slot_at}
-use Rattle.shared_value.specs.below.write_barrier.{SetOf, Content, content_at, content_of}
-use Rattle.shared_value.specs.below.inner_mark_gc.{MarkingValue, marked_of, AreGiven, gone_of}
-use Rattle.shared_value.specs.below.core_relation.{KeepsJust, CountsGo, OthersNotes, Belongings, Memory, sources, StandsForAll}
-use Rattle.shared_value.proofs.below.core_entry_laws.{sweeps_stand_for, sweeps_leave}
-use Rattle.shared_value.specs.below.task_machine.{Private}
-use Rattle.shared_value.specs.below.task_homes.{Rest, keeping}
-use Rattle.shared_value.specs.Causes.{or_else}
-use Rattle.shared_value.specs.Entered.{Enters, refused}
-use Rattle.shared_value.specs.Fits.{AllFit, Fits, part_of}
-use Rattle.shared_value.specs.Measured.{KeepsUnits}
-use Rattle.shared_value.specs.Stands.{IsSharedValue}
-use Rattle.shared_value.specs.SharedValue.{SharedValue, accounts, belongings_in, marks_at, noted_in, rest_at, tree_counts_of, value_of}
-use Rattle.shared_value.proofs.EntryMade.{ChangesRest, IsWell, changed_form, entered_world, entry_on, part_fits, rest_off, rest_then}
-use Rattle.shared_value.proofs.UnitsMeasured.{given_keeps, part_kept}
-use Rattle.shared_value.proofs.TaskTaken.{some_flat}
-use Rattle.heap_marking.specs.MarkCauses.{marking_cause}
-use Rattle.heap_marking.specs.Sweeping.{CanSweep, SweepsHome}
+-- A sweep is committed: the shared value after it, and the parts.
+use Rattle.heap_marking.proofs.Common.{◌≡◌, ℕ, ◌-◌, ◌==◌, ◌++◌, arith, Bool, true, false, Option, Some, None, is_none, List, [], ◌∷◌, length, option_map, slice_get, slice_set, inl, inr, refl, ap, ap₂, sym, subst, ◌∙◌, option_flatten, ◌≢◌, IsSome, cases_eq, eqb-true, same_Some, ReservedVecValue, got_other, got_within, all_from, none_some, Sweep, EntryValue, Ledger, Refused, Count, Left, refused_unless, heap_of, left_in, marked_in, sweep_number, swept_heap, with_heap, entry_tells, heap_machine, ChunkValue, PoolValue, slot_at, SetOf, Content, content_at, content_of, MarkingValue, marked_of, AreGiven, gone_of, KeepsJust, CountsGo, OthersNotes, Belongings, Memory, sources, StandsForAll, sweeps_stand_for, sweeps_leave, Private, ParkedTask, keeping, or_else, Enters, refused, AllFit, Fits, part_of, KeepsUnits, IsSharedValue, SharedValue, accounts, belongings_in, marks_at, noted_in, rest_at, tree_counts_of, value_of, ChangesRest, IsWell, changed_form, entered_world, entry_on, part_fits, rest_off, rest_then, given_keeps, part_kept, some_flat, marking_cause, CanSweep, SweepsSlot}
 use Rattle.heap_marking.proofs.MarkCauses.{marks_refuse}
 use Rattle.heap_marking.proofs.SweptBelongings as swept
 use Rattle.heap_marking.proofs.SweptStart as start
 use Rattle.heap_marking.proofs.SweptUnits.{sweep_is}
 
--- WHAT THE ENTRY TELLS
+-- WHAT FOLLOWS FROM THE ENTRY
 pub record SweepTells (w : SharedValue) (t given : ℕ) : Type 0 where
   pub cause : marking_cause w t ≡ None
   pub none_left : left_in (heap_of (accounts w) t) ≡ 0
@@ -44,14 +16,14 @@ sweep_tells w k t given I free =
     let e : EntryValue = record { worker = k; kind = Sweep t given } in
     let on = entry_on w e free in
     let told = ap is_none (sym ((marks_refuse w k t I on).sweep given)) ∙ (entry_tells w.program w.settings (accounts w) e (ap is_none free)).2 in
-    by (marking_cause w t) refl (left_in (heap_of (accounts w) t) == 0) refl (given == sweep_number (accounts w).machine (heap_of (accounts w) t)) refl (Left (marked_in (heap_of (accounts w) t))) (Count given (sweep_number (accounts w).machine (heap_of (accounts w) t))) told
+    sweep_tells_by_cases (marking_cause w t) refl (left_in (heap_of (accounts w) t) == 0) refl (given == sweep_number (accounts w).machine (heap_of (accounts w) t)) refl (Left (marked_in (heap_of (accounts w) t))) (Count given (sweep_number (accounts w).machine (heap_of (accounts w) t))) told
   where
-    by : (c : Option Refused) → marking_cause w t ≡ c → (b : Bool) → (left_in (heap_of (accounts w) t) == 0) ≡ b → (d : Bool) → (given == sweep_number (accounts w).machine (heap_of (accounts w) t)) ≡ d
+    sweep_tells_by_cases : (c : Option Refused) → marking_cause w t ≡ c → (b : Bool) → (left_in (heap_of (accounts w) t) == 0) ≡ b → (d : Bool) → (given == sweep_number (accounts w).machine (heap_of (accounts w) t)) ≡ d
         → (x y : Refused) → is_none (or_else c (refused_unless b x (refused_unless d y None))) ≡ true → SweepTells w t given
-    by (Some c) ec b eb d ed x y h = absurd cc
-    by None ec false eb d ed x y h = absurd cc
-    by None ec true eb false ed x y h = absurd cc
-    by None ec true eb true ed x y h = record { cause = ec; none_left = eqb-true (left_in (heap_of (accounts w) t)) 0 eb; number = eqb-true given (sweep_number (accounts w).machine (heap_of (accounts w) t)) ed }
+    sweep_tells_by_cases (Some c) ec b eb d ed x y h = absurd cc
+    sweep_tells_by_cases None ec false eb d ed x y h = absurd cc
+    sweep_tells_by_cases None ec true eb false ed x y h = absurd cc
+    sweep_tells_by_cases None ec true eb true ed x y h = record { cause = ec; none_left = eqb-true (left_in (heap_of (accounts w) t)) 0 eb; number = eqb-true given (sweep_number (accounts w).machine (heap_of (accounts w) t)) ed }
 
 -- WHAT IS NOTED
 noted_by : (o o' : Option SetOf) → option_map content_of o' ≡ option_map (keeping false) (option_map content_of o) → ((noted_in o').sources ≡ (noted_in o).sources) × ((noted_in o').keeps ≡ false)
@@ -87,14 +59,14 @@ module _ (w : SharedValue) (k t given : ℕ) (I : IsSharedValue w) (free : refus
   abbrev L : Ledger
   L = with_heap l t swept_heap
 
-  abbrev pub r : Rest
+  abbrev pub r : ParkedTask
   r = (start.Z w I on t T.cause).rest
 
   abbrev pub m : MarkingValue
   m = (start.Z w I on t T.cause).marks
 
-  pub there : rest_at w.rests t ≡ Some r
-  there = (start.Z w I on t T.cause).there
+  pub rest_is_there : rest_at w.rests t ≡ Some r
+  rest_is_there = (start.Z w I on t T.cause).there
 
   pub marked : marks_at w.marks t ≡ Some m
   marked = (start.Z w I on t T.cause).at
@@ -107,21 +79,21 @@ module _ (w : SharedValue) (k t given : ℕ) (I : IsSharedValue w) (free : refus
     in_use = all_from (λ (c : ChunkValue). IsSome (slot_at w.pool c.number)) r.heap.chunks (λ c i. is_there (slot_at w.pool c.number) _ (swept.measured_was w I on t T.cause T.none_left c i));
   }
 
-  pub has_home : IsSome (rest_at w.rests t)
-  has_home = is_there (rest_at w.rests t) r there
+  pub has_slot : IsSome (rest_at w.rests t)
+  has_slot = is_there (rest_at w.rests t) r rest_is_there
 
   pub has_marking : IsSome (marks_at w.marks t)
   has_marking = is_there (marks_at w.marks t) m marked
 
-  pub can_all : (x : Rest) (y : MarkingValue) → rest_at w.rests t ≡ Some x → marks_at w.marks t ≡ Some y → CanSweep x.heap y w.pool
-  can_all x y is at = subst (λ (z : Rest). CanSweep z.heap y w.pool) (same_Some r x (sym there ∙ is)) (subst (λ (z : MarkingValue). CanSweep r.heap z w.pool) (same_Some m y (sym marked ∙ at)) can)
+  pub can_all : (x : ParkedTask) (y : MarkingValue) → rest_at w.rests t ≡ Some x → marks_at w.marks t ≡ Some y → CanSweep x.heap y w.pool
+  can_all x y is at = subst (λ (z : ParkedTask). CanSweep z.heap y w.pool) (same_Some r x (sym rest_is_there ∙ is)) (subst (λ (z : MarkingValue). CanSweep r.heap z w.pool) (same_Some m y (sym marked ∙ at)) can)
 
   module _ (pool : PoolValue) (G : AreGiven w.pool pool (gone_of r.heap (marked_of m))) (slots spare : ℕ) (sets : List SetOf) (many : length sets ≡ length w.sets) (kept_none : content_at sets t ≡ option_map (keeping false) (content_at w.sets t))
       (others : (u : ℕ) → u ≢ t → slice_get sets u ≡ slice_get w.sets u) (room : ℕ) where
-    abbrev rest' : Rest
+    abbrev rest' : ParkedTask
     rest' = swept.rest' w I on t T.cause T.none_left pool G slots spare
 
-    abbrev pub rests : List (Option Rest)
+    abbrev pub rests : List (Option ParkedTask)
     rests = slice_set w.rests t (Some rest')
 
     abbrev pub marks : List (Option MarkingValue)
@@ -137,7 +109,7 @@ module _ (w : SharedValue) (k t given : ℕ) (I : IsSharedValue w) (free : refus
     keeps_units u ne = given_keeps w.pool pool (gone_of r.heap (marked_of m)) t u G (swept.owned_gone w I on t T.cause T.none_left) ne
 
     changes : ChangesRest w w' t (Some rest')
-    changes = record { rests = refl; there = got_within w.rests t (Some r) (some_flat (slice_get w.rests t) r there); keeps = keeps_units; free = λ u ne y. y }
+    changes = record { rests = refl; there = got_within w.rests t (Some r) (some_flat (slice_get w.rests t) r rest_is_there); keeps = keeps_units; free = λ u ne y. y }
 
     abbrev v' : Memory
     v' = value_of w'
@@ -185,10 +157,10 @@ module _ (w : SharedValue) (k t given : ℕ) (I : IsSharedValue w) (free : refus
         part_fits I free enters swept_world u q q refl F refl F.form (part_kept w.pool pool q (keeps_units q.task (apart u q F)) F.measured)
         (sweeps_leave w.program w.settings w.journal.items I.legal v v' k t given free keeps (part_of w.settings q) F.fits)
 
-  -- AS THE CALL HAS IT
-  module _ (hs : List (Option Rest)) (pool : PoolValue) (S : SweepsHome w.rests hs w.pool pool t r m) (ms : List (Option MarkingValue)) (cleared : ms ≡ slice_set w.marks t None)
+  -- AS THE CALL MAKES IT
+  module _ (hs : List (Option ParkedTask)) (pool : PoolValue) (S : SweepsSlot w.rests hs w.pool pool t r m) (ms : List (Option MarkingValue)) (cleared : ms ≡ slice_set w.marks t None)
       (sets : List SetOf) (many : length sets ≡ length w.sets) (kept_none : content_at sets t ≡ option_map (keeping false) (content_at w.sets t)) (others : (u : ℕ) → u ≢ t → slice_get sets u ≡ slice_get w.sets u)
-      (j : RoomyValue EntryValue) (made : j ≡ record { items = w.journal.items ++ e ∷ []; room = w.journal.room - 1 }) where
+      (j : ReservedVecValue EntryValue) (made : j ≡ record { items = w.journal.items ++ e ∷ []; room = w.journal.room - 1 }) where
     abbrev pub entered_so : SharedValue
     entered_so = record w { pool = pool; rests = hs; sets = sets; marks = ms; journal = j }
 

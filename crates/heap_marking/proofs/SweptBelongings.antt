@@ -1,29 +1,6 @@
--- A sweep leaves in a heap just what its snapshot names.
-use Rattle.std.proofs.Common.{◌≡◌, ℕ, ◌*◌, ◌/◌, arith, All, true, false, Option, Some, None, List, [], ◌∷◌, filter, length, option_map, slice_get, inl, inr, refl, ap, sym, subst, ◌∙◌}
-use Rattle.std.proofs.lemmas.Bool.{false≢true, not-true}
-use Rattle.std.proofs.lemmas.Option.{same_Some}
-use Rattle.shared_value.proofs.below.listed.{in_from_kept, in_kept, all_from, in_map, map_in}
-use Rattle.shared_value.specs.below.hh_model.{State, row_of, is_joined}
-use Rattle.shared_value.specs.below.run_ledger.{Heap, Ledger, heap_of, left_in, or_fresh, swept_heap, with_heap}
-use Rattle.shared_value.proofs.below.run_ledger.{holds_from_in, in_from_holds}
-use Rattle.shared_value.specs.below.object_layout.{Addr, ChunkValue, Located}
-use Rattle.shared_value.specs.below.chunk_pool.{Slot, PoolValue, slot_at, owner_of, slot_units}
-use Rattle.shared_value.specs.below.alloc_path.{LeafHeapValue as HeapOfCode, IsFresh, room_of, with_places, unit_count}
-use Rattle.shared_value.specs.below.chunk_rows.{Level}
-use Rattle.shared_value.specs.below.inner_mark_gc.{marked_of, AreGiven, gone_of, goes, swept, units_in_slots}
-use Rattle.shared_value.proofs.below.ledger_step_laws.{heap_then, with_at}
-use Rattle.shared_value.specs.below.core_relation.{KeepsJust, AreLaidOut, HasNames, BelongingsStand, Chunk, Belongings, In, Memory, object_name, objects, objects_in, sources}
-use Rattle.shared_value.specs.below.task_homes.{Rest, Work, Calls, Result}
-use Rattle.shared_value.specs.Measured.{AreMeasured}
-use Rattle.shared_value.specs.Objects.{chunk_of, chunks_of}
-use Rattle.shared_value.specs.Stands.{HeapForm, IsSharedValue}
-use Rattle.shared_value.specs.SharedValue.{SharedValue, accounts, belongings_by, belongings_of, value_of}
-use Rattle.shared_value.proofs.HeapForms.{places_form}
-use Rattle.shared_value.proofs.EntryMade.{free_at_rest}
-use Rattle.shared_value.proofs.HeapLaidOut.{inside_from, laid_from, same_chunk}
-use Rattle.shared_value.proofs.FieldsLed.{belongings_chunks}
-use Rattle.shared_value.proofs.FieldsNoted.{fresh_by, owned_before}
-use Rattle.heap_marking.specs.MarkCauses.{marking_cause}
+-- A sweep leaves in a heap exactly what its snapshot names.
+use Rattle.heap_marking.proofs.Common.{◌≡◌, ℕ, ◌*◌, ◌/◌, arith, All, true, false, Option, Some, None, List, [], ◌∷◌, filter, length, option_map, slice_get, inl, inr, refl, ap, sym, subst, ◌∙◌, false≢true, not-true, same_Some, in_from_kept, in_kept, all_from, in_map, map_in, MachineState, row_of, is_joined, Heap, Ledger, heap_of, left_in, or_fresh, swept_heap, with_heap, holds_from_in, in_from_holds, Addr, ChunkValue, Located, Slot, PoolValue, slot_at, owner_of, slot_units, LeafHeapValue as HeapOfCode, IsFresh, room_of, with_places, unit_count, Level, marked_of, AreGiven, gone_of, goes, swept, units_in_slots, heap_then, with_at, KeepsJust, AreLaidOut, HasNames, BelongingsStand, Belongings, In, Memory, object_name, objects, objects_in, sources, ParkedTask, Work, Calls, Result, AreMeasured, chunk_of, chunks_of, HeapForm, IsSharedValue, SharedValue, accounts, belongings_by, belongings_of, value_of, places_form, free_at_rest, inside_from, laid_from, same_chunk, belongings_chunks, fresh_by, owned_before, marking_cause}
+use Rattle.core_invariant.specs.below.refinement.{Chunk}
 use Rattle.heap_marking.proofs.SweptCells.{is_there}
 use Rattle.heap_marking.proofs.SweptChunks.{gone, has, left, objects_left}
 use Rattle.heap_marking.proofs.SweptForm as form
@@ -32,7 +9,7 @@ use Rattle.heap_marking.proofs.SweptStart as start
 use Rattle.heap_marking.proofs.SweptStart.{room_there, since_there}
 use Rattle.heap_marking.proofs.SweptUnits.{know, names_left}
 
--- what goes with a task beside its heap
+-- the belongings of a task beside its heap
 abbrev frames_by : (h g : HeapOfCode) (view : List Level) (n : ℕ) (x : Work) → (belongings_by h view n x).frames ≡ (belongings_by g view n x).frames
 frames_by h g view n (Calls s) = refl
 frames_by h g view n (Result k r) = refl
@@ -49,23 +26,23 @@ abbrev view_by : (h g : HeapOfCode) (view : List Level) (n : ℕ) (x : Work) →
 view_by h g view n (Calls s) = refl
 view_by h g view n (Result k r) = refl
 
-pub idle_belongings : (r : Rest) → (belongings_of r).begun ≡ None
-idle_belongings r = by r.work
+pub idle_belongings : (r : ParkedTask) → (belongings_of r).begun ≡ None
+idle_belongings r = idle_belongings_by_cases r.work
   where
-    by : (x : Work) → (belongings_by r.heap r.view r.allocations x).begun ≡ None
-    by (Calls s) = refl
-    by (Result k b) = refl
+    idle_belongings_by_cases : (x : Work) → (belongings_by r.heap r.view r.allocations x).begun ≡ None
+    idle_belongings_by_cases (Calls s) = refl
+    idle_belongings_by_cases (Result k b) = refl
 
--- a heap that has found nothing, or has, is there
+-- a heap that has found nothing, or something, exists
 pub there_by : (l : Ledger) (t n : ℕ) → (heap_of l t).marked ≡ Some n → heap_of (with_heap l t swept_heap) t ≡ swept_heap (heap_of l t)
-there_by l t n some = by (slice_get l.heaps t) refl
+there_by l t n some = there_by_cases (slice_get l.heaps t) refl
   where
     none_some : {A : Type 0} → ◌≡◌ {A = Option ℕ} None (Some n) → A
     none_some q = absurd cc
 
-    by : (o : Option Heap) → slice_get l.heaps t ≡ o → heap_of (with_heap l t swept_heap) t ≡ swept_heap (heap_of l t)
-    by None e = none_some (sym (ap (λ o. (or_fresh o).marked) e) ∙ some)
-    by (Some h) e = ap or_fresh (with_at l t swept_heap ∙ ap (heap_then swept_heap) e) ∙ sym (ap (λ o. swept_heap (or_fresh o)) e)
+    there_by_cases : (o : Option Heap) → slice_get l.heaps t ≡ o → heap_of (with_heap l t swept_heap) t ≡ swept_heap (heap_of l t)
+    there_by_cases None e = none_some (sym (ap (λ o. (or_fresh o).marked) e) ∙ some)
+    there_by_cases (Some h) e = ap or_fresh (with_at l t swept_heap ∙ ap (heap_then swept_heap) e) ∙ sym (ap (λ o. swept_heap (or_fresh o)) e)
 
 module _ (w : SharedValue) (I : IsSharedValue w) (on : (accounts w).end ≡ None) (t : ℕ) (free : marking_cause w t ≡ None) (none_left : left_in (heap_of (accounts w) t) ≡ 0) where
   abbrev l : Ledger
@@ -77,7 +54,7 @@ module _ (w : SharedValue) (I : IsSharedValue w) (on : (accounts w).end ≡ None
   abbrev a : Heap
   a = heap_of (accounts w) t
 
-  abbrev pub r : Rest
+  abbrev pub r : ParkedTask
   r = (start.Z w I on t free).rest
 
   abbrev pub kept : List Addr
@@ -95,14 +72,14 @@ module _ (w : SharedValue) (I : IsSharedValue w) (on : (accounts w).end ≡ None
   abbrev plain : HeapOfCode
   plain = form.plain kept r.heap F (start.none w I on t free) (start.large w I on t free)
 
-  -- WHAT GOES
+  -- WHAT IS RELEASED
   gone_is : gone_of r.heap kept ≡ gone kept ks
   gone_is = form.gone_plain kept r.heap F (start.none w I on t free) (start.large w I on t free)
 
   gone_was : (c : ChunkValue) → In (gone kept ks) c → In ks c × (has kept c ≡ false)
   gone_was c i = let f = in_from_kept (goes kept None) ks c i in (f.0, not-true (has kept c) f.1)
 
-  -- what is left has none of its numbers
+  -- what stays has none of its numbers
   left_off : (x : ChunkValue) → In ks x → has kept x ≡ true → IsFresh (gone kept ks) x.number
   left_off x i h = fresh_by (gone kept ks) x.number (λ c j e.
       let g = gone_was c j in
@@ -116,14 +93,14 @@ module _ (w : SharedValue) (I : IsSharedValue w) (on : (accounts w).end ≡ None
 
   -- as the pool counts it
   pub units_go : units_in_slots w.pool (gone_of r.heap kept) ≡ unit_count (gone_of r.heap kept)
-  units_go = subst (λ gs. units_in_slots w.pool gs ≡ unit_count gs) (sym gone_is) (by (gone kept ks) (λ c i. (gone_was c i).0))
+  units_go = subst (λ gs. units_in_slots w.pool gs ≡ unit_count gs) (sym gone_is) (units_go_by_cases (gone kept ks) (λ c i. (gone_was c i).0))
     where
-      by : (gs : List ChunkValue) → ((c : ChunkValue) → In gs c → In ks c) → units_in_slots w.pool gs ≡ unit_count gs
-      by [] f = refl
-      by (c ∷ gs) f =
+      units_go_by_cases : (gs : List ChunkValue) → ((c : ChunkValue) → In gs c → In ks c) → units_in_slots w.pool gs ≡ unit_count gs
+      units_go_by_cases [] f = refl
+      units_go_by_cases (c ∷ gs) f =
           let one : slot_units (slot_at w.pool c.number) ≡ c.size / 1024 = ap slot_units (measured_was c (f c (inl refl))) in
           let whole : c.size ≡ 1024 * (c.size / 1024) = F.whole c (f c (inl refl)) in
-          let go : units_in_slots w.pool gs ≡ unit_count gs = by gs (λ d i. f d (inr i)) in
+          let go : units_in_slots w.pool gs ≡ unit_count gs = units_go_by_cases gs (λ d i. f d (inr i)) in
           omega (arith, one, whole, go)
 
   pub owned_gone : All (λ c. owner_of w.pool c.number ≡ Some t) (gone_of r.heap kept)
@@ -133,7 +110,7 @@ module _ (w : SharedValue) (I : IsSharedValue w) (on : (accounts w).end ≡ None
     abbrev pub heap' : HeapOfCode
     heap' = with_places (swept r.heap kept) slots spare
 
-    abbrev pub rest' : Rest
+    abbrev pub rest' : ParkedTask
     rest' = record r { heap = heap' }
 
     heap_is : heap' ≡ with_places plain slots spare
@@ -153,7 +130,7 @@ module _ (w : SharedValue) (I : IsSharedValue w) (on : (accounts w).end ≡ None
         let x = left_was kept ks c (subst (λ cs. In cs c) chunks_are i) in
         subst (λ (z : ChunkValue). slot_at pool z.number ≡ Some (record { owner = t; units = z.size / 1024 })) x.3 (others x.0.number (left_off x.0 x.1 x.2) ∙ measured_was x.0 x.1)
 
-    -- WHO OWNS CHUNKS
+    -- OWNERS OF CHUNKS
     pub owners : (n u : ℕ) → (u ≡ t → ⊥) → owner_of w.pool n ≡ Some u → owner_of pool n ≡ Some u
     owners n u ne o =
         ap (option_map (λ (h : Slot). h.owner)) (others n (fresh_by (gone kept ks) n (λ c i q. ne (same_Some u t (sym o ∙ (ap (owner_of w.pool) (sym q) ∙ owned_was c (gone_was c i).0)))))) ∙ o
@@ -161,7 +138,7 @@ module _ (w : SharedValue) (I : IsSharedValue w) (on : (accounts w).end ≡ None
     pub owned : (n u : ℕ) → owner_of pool n ≡ Some u → owner_of w.pool n ≡ Some u
     owned n u o = owned_before w.pool pool (gone_of r.heap kept) n u G.free (G.others n) o
 
-    -- THE BELONGINGS, in a value and accounts that have them so
+    -- THE BELONGINGS, in a value and accounts that have them
     module _ (v' : Memory) (L : Ledger) (belongings : v'.belongings t ≡ belongings_of rest') (owner : v'.owner ≡ owner_of pool) (account : heap_of L t ≡ swept_heap a) (machine : L.machine ≡ l.machine) where
       chunks_then : (v'.belongings t).chunks ≡ chunks_of now
       chunks_then = ap (λ (h : Belongings). h.chunks) belongings ∙ (belongings_chunks rest' ∙ ap chunks_of chunks_are)
@@ -190,8 +167,8 @@ module _ (w : SharedValue) (I : IsSharedValue w) (on : (accounts w).end ≡ None
         room = ap (λ (h : Belongings). h.room) belongings ∙ (room_there rest' ∙ (ap room_of heap_is
             ∙ (form.plain_room kept r.heap F (start.none w I on t free) (start.large w I on t free) a (start.names w I on t free).small (start.room w I on t free) (start.agree w I on t free none_left) ∙ sym (ap (λ (z : Heap). z.room) account))));
         since = ap (λ (h : Belongings). h.since) belongings ∙ (since_there rest' ∙ (start.since w I on t free ∙ sym (ap (λ (z : Heap). z.since) account)));
-        count = λ live. ap (λ (h : Belongings). h.count) belongings ∙ (count_by heap' r.heap r.view r.allocations r.work ∙ (ap (λ (h : Belongings). h.count) (sym (start.here w I on t free))
-            ∙ ((start.H w I on t free).count (ap (λ (m : State). is_joined (slice_get m.tasks t)) (sym machine) ∙ live) ∙ ap (λ (m : State). length (row_of (slice_get m.store t))) (sym machine))));
+        count = λ live. ap (λ (h : Belongings). h.count) belongings ∙ (count_by heap' r.heap r.view r.allocations r.work ∙ (ap (λ (h : Belongings). h.count) (sym (start.own_belongings w I on t free))
+            ∙ ((start.H w I on t free).count (ap (λ (m : MachineState). is_joined (slice_get m.tasks t)) (sym machine) ∙ live) ∙ ap (λ (m : MachineState). length (row_of (slice_get m.store t))) (sym machine))));
         owned = λ c i.
             let x = chunk_was c i in
             ap (λ (f : ℕ → Option ℕ). f c.number) owner ∙ (ap (owner_of pool) (sym x.3) ∙ (ap (option_map (λ (h : Slot). h.owner)) (others x.0.number (left_off x.0 x.1 x.2)) ∙ owned_was x.0 x.1));
@@ -212,9 +189,9 @@ module _ (w : SharedValue) (I : IsSharedValue w) (on : (accounts w).end ≡ None
             let x = was o i in
             let j : In (objects_in (chunks_of ks)) o = subst (λ os. In os o) objects_before x.0 in
             (x.0, in_from_holds a.snapshot (object_name o) (sym (start.agree w I on t free none_left o j) ∙ x.1));
-        frames = ap (λ (h : Belongings). h.frames) belongings ∙ (frames_by heap' r.heap r.view r.allocations r.work ∙ ap (λ (h : Belongings). h.frames) (sym (start.here w I on t free)));
-        result = ap (λ (h : Belongings). h.result) belongings ∙ (result_by heap' r.heap r.view r.allocations r.work ∙ ap (λ (h : Belongings). h.result) (sym (start.here w I on t free)));
-        view = ap (λ (h : Belongings). h.view) belongings ∙ (view_by heap' r.heap r.view r.allocations r.work ∙ ap (λ (h : Belongings). h.view) (sym (start.here w I on t free)));
+        frames = ap (λ (h : Belongings). h.frames) belongings ∙ (frames_by heap' r.heap r.view r.allocations r.work ∙ ap (λ (h : Belongings). h.frames) (sym (start.own_belongings w I on t free)));
+        result = ap (λ (h : Belongings). h.result) belongings ∙ (result_by heap' r.heap r.view r.allocations r.work ∙ ap (λ (h : Belongings). h.result) (sym (start.own_belongings w I on t free)));
+        view = ap (λ (h : Belongings). h.view) belongings ∙ (view_by heap' r.heap r.view r.allocations r.work ∙ ap (λ (h : Belongings). h.view) (sym (start.own_belongings w I on t free)));
         others = off;
         owners = λ n u ne o. ap (λ (f : ℕ → Option ℕ). f n) owner ∙ owners n u ne o;
         owned = λ n u o. owned n u (ap (λ (f : ℕ → Option ℕ). f n) (sym owner) ∙ o);

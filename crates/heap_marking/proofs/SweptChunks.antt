@@ -1,20 +1,6 @@
--- What a sweep leaves of chunks, none of which is reserved: their objects, the names of these, and the units that go.
-use Rattle.std.proofs.Common.{◌≡◌, ℕ, suc, ◌+◌, ◌*◌, ◌/◌, ◌==◌, ◌++◌, arith, Bool, true, false, cond, not, None, List, [], ◌∷◌, All, filter, length, map, inl, inr, refl, ap, ap₂, sym, subst, ◌∙◌}
-use Rattle.std.proofs.lemmas.Bool.{eqb-true, false≢true}
-use Rattle.std.proofs.lemmas.List.Sums.{sum_by-append, sum_by-cons}
-use Rattle.std.proofs.lemmas.List.{map-append}
-use Rattle.std.proofs.lemmas.List.Elements.{filter-append}
-use Rattle.shared_value.specs.below.listed.{is_empty}
-use Rattle.shared_value.proofs.below.listed.{in_append_left, in_append_right}
-use Rattle.shared_value.specs.below.hh_model.{Name, State}
-use Rattle.shared_value.specs.below.run_ledger.{units_sum, without_empty, words_at}
-use Rattle.shared_value.specs.below.object_layout.{Addr, moved_to, ChunkValue, Located}
-use Rattle.shared_value.proofs.below.object_layout.{sifted_are_filtered}
-use Rattle.shared_value.specs.below.alloc_path.{units, unit_count}
-use Rattle.shared_value.specs.below.inner_mark_gc.{has_address, goes, has_object, stays, swept_chunk}
-use Rattle.shared_value.specs.below.core_relation.{HoldsLarge, words, large_chunks, names_of, small_chunks, In, object_name, objects_in}
-use Rattle.shared_value.specs.Objects.{chunk_of, chunks_of}
-use Rattle.shared_value.proofs.SmallWords.{SameWords}
+-- What a sweep leaves of chunks, none of which is reserved: their objects, the objects' names, and the units that are
+-- released.
+use Rattle.heap_marking.proofs.Common.{◌≡◌, ℕ, suc, ◌+◌, ◌*◌, ◌/◌, ◌==◌, ◌++◌, arith, Bool, true, false, cond, not, None, List, [], ◌∷◌, All, filter, length, map, inl, inr, refl, ap, ap₂, sym, subst, ◌∙◌, eqb-true, false≢true, sum_by-append, sum_by-cons, map-append, filter-append, is_empty, in_append_left, in_append_right, Name, MachineState, units_sum, without_empty, words_at, Addr, moved_to, ChunkValue, Located, sifted_are_filtered, units, unit_count, has_address, goes, has_object, stays, swept_chunk, HoldsLarge, words, large_chunks, names_of, small_chunks, In, object_name, objects_in, chunk_of, chunks_of, SameWords}
 use Rattle.heap_marking.proofs.SweptCells.{is_there, object_left}
 
 -- a chunk of a heap without a reserved one
@@ -32,7 +18,7 @@ none_is [] e = refl
 none_is (o ∷ os) e = absurd (false≢true e)
 
 module _ (kept : List Addr) where
-  -- the chunks that are left, and those that go
+  -- the chunks that stay, and those that are released
   abbrev pub left : List ChunkValue → List ChunkValue
   left ks = map (swept_chunk kept) (filter (stays kept None) ks)
 
@@ -55,25 +41,25 @@ module _ (kept : List Addr) where
   -- OBJECTS
   pub objects_left : (ks : List ChunkValue) → AreFilled ks → objects_in (chunks_of (left ks)) ≡ filter (is_there kept) (objects_in (chunks_of ks))
   objects_left [] F = refl
-  objects_left (k ∷ ks) F = by (has k) refl (objects_left ks (λ j i. F j (inr i))) ∙ sym (filter-append (is_there kept) (chunk_of k).objects (objects_in (chunks_of ks)))
+  objects_left (k ∷ ks) F = objects_left_by_cases (has k) refl (objects_left ks (λ j i. F j (inr i))) ∙ sym (filter-append (is_there kept) (chunk_of k).objects (objects_in (chunks_of ks)))
     where
-      by : (b : Bool) → has k ≡ b → objects_in (chunks_of (left ks)) ≡ filter (is_there kept) (objects_in (chunks_of ks))
+      objects_left_by_cases : (b : Bool) → has k ≡ b → objects_in (chunks_of (left ks)) ≡ filter (is_there kept) (objects_in (chunks_of ks))
           → objects_in (chunks_of (map (swept_chunk kept) (cond b (k ∷ filter (stays kept None) ks) (filter (stays kept None) ks)))) ≡ kept_in k ++ filter (is_there kept) (objects_in (chunks_of ks))
-      by true e go = ap₂ (λ a b. a ++ b) (swept_is k) go
-      by false e go = go ∙ ap (λ a. a ++ filter (is_there kept) (objects_in (chunks_of ks))) (sym (none_is (kept_in k) (sym e ∙ has_is k (F k (inl refl)))))
+      objects_left_by_cases true e go = ap₂ (λ a b. a ++ b) (swept_is k) go
+      objects_left_by_cases false e go = go ∙ ap (λ a. a ++ filter (is_there kept) (objects_in (chunks_of ks))) (sym (none_is (kept_in k) (sym e ∙ has_is k (F k (inl refl)))))
 
-  -- NAMES: where an address is kept just for its object's name
+  -- NAMES: if an address is kept by its object's name alone
   module _ (keep : Name → Bool) where
     abbrev pub Agrees : List Located → Type 0
     Agrees os = (o : Located) → In os o → has_address kept o.at ≡ keep (object_name o)
 
     names_kept : (os : List Located) → Agrees os → map object_name (filter (is_there kept) os) ≡ filter keep (map object_name os)
     names_kept [] A = refl
-    names_kept (o ∷ os) A = by (keep (object_name o)) (A o (inl refl)) (names_kept os (λ q i. A q (inr i)))
+    names_kept (o ∷ os) A = names_kept_by_cases (keep (object_name o)) (A o (inl refl)) (names_kept os (λ q i. A q (inr i)))
       where
-        by : (b : Bool) → has_address kept o.at ≡ b → map object_name (filter (is_there kept) os) ≡ filter keep (map object_name os) → map object_name (filter (is_there kept) (o ∷ os)) ≡ cond b (object_name o ∷ filter keep (map object_name os)) (filter keep (map object_name os))
-        by true e go = ap (λ b. map object_name (cond b (o ∷ filter (is_there kept) os) (filter (is_there kept) os))) e ∙ ap (λ ns. object_name o ∷ ns) go
-        by false e go = ap (λ b. map object_name (cond b (o ∷ filter (is_there kept) os) (filter (is_there kept) os))) e ∙ go
+        names_kept_by_cases : (b : Bool) → has_address kept o.at ≡ b → map object_name (filter (is_there kept) os) ≡ filter keep (map object_name os) → map object_name (filter (is_there kept) (o ∷ os)) ≡ cond b (object_name o ∷ filter keep (map object_name os)) (filter keep (map object_name os))
+        names_kept_by_cases true e go = ap (λ b. map object_name (cond b (o ∷ filter (is_there kept) os) (filter (is_there kept) os))) e ∙ ap (λ ns. object_name o ∷ ns) go
+        names_kept_by_cases false e go = ap (λ b. map object_name (cond b (o ∷ filter (is_there kept) os) (filter (is_there kept) os))) e ∙ go
 
     empty_is : (os : List Located) → is_empty os ≡ is_empty (map object_name os)
     empty_is [] = refl
@@ -89,14 +75,14 @@ module _ (kept : List Addr) where
     has_names k F A = has_is k F ∙ (ap not (empty_is (kept_in k)) ∙ ap (λ (ns : List Name). not (is_empty ns)) (names_kept (chunk_of k).objects A))
 
     no_names : (k : ChunkValue) → IsFilled k → Agrees (chunk_of k).objects → has k ≡ false → names k ≡ []
-    no_names k F A e = by (names k) (sym e ∙ has_names k F A)
+    no_names k F A e = no_names_by_cases (names k) (sym e ∙ has_names k F A)
       where
-        by : (ns : List Name) → false ≡ not (is_empty ns) → ns ≡ []
-        by [] q = refl
-        by (n ∷ ns) q = absurd (false≢true q)
+        no_names_by_cases : (ns : List Name) → false ≡ not (is_empty ns) → ns ≡ []
+        no_names_by_cases [] q = refl
+        no_names_by_cases (n ∷ ns) q = absurd (false≢true q)
 
-    here : (k : ChunkValue) (ks : List ChunkValue) → Agrees (objects_in (chunks_of (k ∷ ks))) → Agrees (chunk_of k).objects
-    here k ks A o i = A o (in_append_left (chunk_of k).objects (objects_in (chunks_of ks)) o i)
+    first_agrees : (k : ChunkValue) (ks : List ChunkValue) → Agrees (objects_in (chunks_of (k ∷ ks))) → Agrees (chunk_of k).objects
+    first_agrees k ks A o i = A o (in_append_left (chunk_of k).objects (objects_in (chunks_of ks)) o i)
 
     behind : (k : ChunkValue) (ks : List ChunkValue) → Agrees (objects_in (chunks_of (k ∷ ks))) → Agrees (objects_in (chunks_of ks))
     behind k ks A o i = A o (in_append_right (chunk_of k).objects (objects_in (chunks_of ks)) o i)
@@ -107,19 +93,19 @@ module _ (kept : List Addr) where
 
     pub small_left : (ks : List ChunkValue) → AreFilled ks → Agrees (objects_in (chunks_of ks)) → map names_of (small_chunks (chunks_of (left ks))) ≡ without_empty (map (filter keep) (map names_of (small_chunks (chunks_of ks))))
     small_left [] F A = refl
-    small_left (k ∷ ks) F A = by (has k) refl (k.size == 1024) refl (small_left ks (λ j i. F j (inr i)) (behind k ks A))
+    small_left (k ∷ ks) F A = small_left_by_cases (has k) refl (k.size == 1024) refl (small_left ks (λ j i. F j (inr i)) (behind k ks A))
       where
-        by : (b : Bool) → has k ≡ b → (s : Bool) → (k.size == 1024) ≡ s → map names_of (small_chunks (chunks_of (left ks))) ≡ lists ks
+        small_left_by_cases : (b : Bool) → has k ≡ b → (s : Bool) → (k.size == 1024) ≡ s → map names_of (small_chunks (chunks_of (left ks))) ≡ lists ks
             → map names_of (small_chunks (chunks_of (map (swept_chunk kept) (cond b (k ∷ filter (stays kept None) ks) (filter (stays kept None) ks)))))
             ≡ without_empty (map (filter keep) (map names_of (cond (not (not s)) (chunk_of k ∷ small_chunks (chunks_of ks)) (small_chunks (chunks_of ks)))))
-        by true e true q go =
+        small_left_by_cases true e true q go =
             ap (λ z. map names_of (cond (not (not z)) (chunk_of (swept_chunk kept k) ∷ small_chunks (chunks_of (left ks))) (small_chunks (chunks_of (left ks))))) q
-            ∙ (ap₂ (λ n ns. n ∷ ns) (names_are k (here k ks A)) go
-            ∙ ap (λ z. cond z (names k ∷ lists ks) (lists ks)) (sym e ∙ has_names k (F k (inl refl)) (here k ks A)))
-        by true e false q go =
+            ∙ (ap₂ (λ n ns. n ∷ ns) (names_are k (first_agrees k ks A)) go
+            ∙ ap (λ z. cond z (names k ∷ lists ks) (lists ks)) (sym e ∙ has_names k (F k (inl refl)) (first_agrees k ks A)))
+        small_left_by_cases true e false q go =
             ap (λ z. map names_of (cond (not (not z)) (chunk_of (swept_chunk kept k) ∷ small_chunks (chunks_of (left ks))) (small_chunks (chunks_of (left ks))))) q ∙ go
-        by false e true q go = go ∙ ap (λ z. cond z (names k ∷ lists ks) (lists ks)) (sym e ∙ has_names k (F k (inl refl)) (here k ks A))
-        by false e false q go = go
+        small_left_by_cases false e true q go = go ∙ ap (λ z. cond z (names k ∷ lists ks) (lists ks)) (sym e ∙ has_names k (F k (inl refl)) (first_agrees k ks A))
+        small_left_by_cases false e false q go = go
 
     -- and of large ones
     abbrev large : List ChunkValue → List Name
@@ -127,39 +113,39 @@ module _ (kept : List Addr) where
 
     pub large_left : (ks : List ChunkValue) → AreFilled ks → Agrees (objects_in (chunks_of ks)) → map object_name (objects_in (large_chunks (chunks_of (left ks)))) ≡ filter keep (map object_name (objects_in (large_chunks (chunks_of ks))))
     large_left [] F A = refl
-    large_left (k ∷ ks) F A = by (has k) refl (k.size == 1024) refl (large_left ks (λ j i. F j (inr i)) (behind k ks A))
+    large_left (k ∷ ks) F A = large_left_by_cases (has k) refl (k.size == 1024) refl (large_left ks (λ j i. F j (inr i)) (behind k ks A))
       where
         both : filter keep (map object_name ((chunk_of k).objects ++ objects_in (large_chunks (chunks_of ks)))) ≡ names k ++ filter keep (large ks)
         both = ap (filter keep) (map-append object_name (chunk_of k).objects (objects_in (large_chunks (chunks_of ks)))) ∙ filter-append keep (names_of (chunk_of k)) (large ks)
 
-        by : (b : Bool) → has k ≡ b → (s : Bool) → (k.size == 1024) ≡ s → large (left ks) ≡ filter keep (large ks)
+        large_left_by_cases : (b : Bool) → has k ≡ b → (s : Bool) → (k.size == 1024) ≡ s → large (left ks) ≡ filter keep (large ks)
             → map object_name (objects_in (large_chunks (chunks_of (map (swept_chunk kept) (cond b (k ∷ filter (stays kept None) ks) (filter (stays kept None) ks))))))
             ≡ filter keep (map object_name (objects_in (cond (not s) (chunk_of k ∷ large_chunks (chunks_of ks)) (large_chunks (chunks_of ks)))))
-        by true e true q go =
+        large_left_by_cases true e true q go =
             ap (λ z. map object_name (objects_in (cond (not z) (chunk_of (swept_chunk kept k) ∷ large_chunks (chunks_of (left ks))) (large_chunks (chunks_of (left ks)))))) q ∙ go
-        by true e false q go =
+        large_left_by_cases true e false q go =
             ap (λ z. map object_name (objects_in (cond (not z) (chunk_of (swept_chunk kept k) ∷ large_chunks (chunks_of (left ks))) (large_chunks (chunks_of (left ks)))))) q
             ∙ (map-append object_name (chunk_of (swept_chunk kept k)).objects (objects_in (large_chunks (chunks_of (left ks))))
-            ∙ (ap₂ (λ a b. a ++ b) (names_are k (here k ks A)) go ∙ sym both))
-        by false e true q go = go
-        by false e false q go = go ∙ (ap (λ a. a ++ filter keep (large ks)) (sym (no_names k (F k (inl refl)) (here k ks A) e)) ∙ sym both)
+            ∙ (ap₂ (λ a b. a ++ b) (names_are k (first_agrees k ks A)) go ∙ sym both))
+        large_left_by_cases false e true q go = go
+        large_left_by_cases false e false q go = go ∙ (ap (λ a. a ++ filter keep (large ks)) (sym (no_names k (F k (inl refl)) (first_agrees k ks A) e)) ∙ sym both)
 
   -- UNITS
   abbrev pub many : List ChunkValue → ℕ
   many ks = length (small_chunks (chunks_of ks))
 
-  abbrev pub large_units : State → List ChunkValue → ℕ
+  abbrev pub large_units : MachineState → List ChunkValue → ℕ
   large_units m ks = units_sum m (map object_name (objects_in (large_chunks (chunks_of ks))))
 
-  -- so many of small chunks go, and so many of large ones
-  pub record Goes (m : State) (ks : List ChunkValue) : Type 0 where
+  -- this many small chunks are released, and this many units of large ones
+  pub record Goes (m : MachineState) (ks : List ChunkValue) : Type 0 where
     pub small : ℕ
     pub large : ℕ
     pub smalls : many ks ≡ many (left ks) + small
     pub larges : large_units m ks ≡ large_units m (left ks) + large
     pub all : unit_count (gone ks) ≡ small + large
 
-  module _ (m : State) where
+  module _ (m : MachineState) where
     abbrev pub KnowWords : List Located → Type 0
     KnowWords os = (o : Located) → In os o → SameWords m o
 
@@ -171,11 +157,11 @@ module _ (kept : List Addr) where
 
     -- a large chunk has its object's units
     one_large : (k : ChunkValue) → IsFilled k → (k.size == 1024) ≡ false → KnowWords (chunk_of k).objects → (o : Located) × ((chunk_of k).objects ≡ o ∷ []) × (units_of (o ∷ []) ≡ units k.size)
-    one_large k F q W = by (F.large q)
+    one_large k F q W = one_large_by_cases (F.large q)
       where
-        by : HoldsLarge (chunk_of k) → (o : Located) × ((chunk_of k).objects ≡ o ∷ []) × (units_of (o ∷ []) ≡ units k.size)
-        by (inl none) = absurd (F.some q none)
-        by (inr (o, only, at, fits)) =
+        one_large_by_cases : HoldsLarge (chunk_of k) → (o : Located) × ((chunk_of k).objects ≡ o ∷ []) × (units_of (o ∷ []) ≡ units k.size)
+        one_large_by_cases (inl none) = absurd (F.some q none)
+        one_large_by_cases (inr (o, only, at, fits)) =
             let w : words_at m (object_name o) ≡ words o = W o (subst (λ os. In os o) (sym only) (inl refl)) in
             let whole : k.size ≡ 1024 * (k.size / 1024) = F.whole in
             let u : units k.size ≡ k.size / 1024 = omega (arith, whole) in (
@@ -184,7 +170,7 @@ module _ (kept : List Addr) where
               sum_by-cons (λ n. units (words_at m n)) (object_name o) [] ∙ (let z : units (words_at m (object_name o)) + 0 ≡ units (words_at m (object_name o)) = omega arith in z ∙ (ap units w ∙ (sym fits ∙ sym u))),
             )
 
-    -- one chunk more, by whether it stays and whether it is small
+    -- one more chunk, by whether it stays and whether it is small
     module _ (k : ChunkValue) (ks : List ChunkValue) (F : IsFilled k) (own : KnowWords (chunk_of k).objects) where
       abbrev ls : Bool → List ChunkValue
       ls b = map (swept_chunk kept) (cond b (k ∷ filter (stays kept None) ks) (filter (stays kept None) ks))
@@ -261,14 +247,14 @@ module _ (kept : List Addr) where
     pub units_gone : (ks : List ChunkValue) → AreFilled ks → KnowWords (objects_in (chunks_of ks)) → Goes m ks
     units_gone [] F W = record { small = 0; large = 0; smalls = refl; larges = refl; all = refl }
     units_gone (k ∷ ks) F W =
-        by (has k) refl (k.size == 1024) refl
+        units_gone_by_cases (has k) refl (k.size == 1024) refl
         (units_gone ks (λ j i. F j (inr i)) (λ o i. W o (in_append_right (chunk_of k).objects (objects_in (chunks_of ks)) o i)))
       where
         own : KnowWords (chunk_of k).objects
         own o i = W o (in_append_left (chunk_of k).objects (objects_in (chunks_of ks)) o i)
 
-        by : (b : Bool) → has k ≡ b → (s : Bool) → (k.size == 1024) ≡ s → Goes m ks → Goes m (k ∷ ks)
-        by b e s q G =
+        units_gone_by_cases : (b : Bool) → has k ≡ b → (s : Bool) → (k.size == 1024) ≡ s → Goes m ks → Goes m (k ∷ ks)
+        units_gone_by_cases b e s q G =
             let C = counts k ks (F k (inl refl)) own b e s q G in record {
               small = C.small;
               large = C.large;

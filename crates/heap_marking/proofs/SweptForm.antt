@@ -1,23 +1,8 @@
--- The heap that a sweep leaves keeps the form of a heap, and has the room that its account says.
-use Rattle.std.proofs.Common.{◌≡◌, ℕ, ◌-◌, ◌*◌, ◌/◌, ◌≤◌, ◌==◌, arith, Bool, true, false, cond, not, Option, Some, None, List, [], map, refl, ap, sym, subst, ◌∙◌, ne_eqb}
-use Rattle.std.proofs.lemmas.Bool.{false≢true}
-use Rattle.std.proofs.lemmas.List.Elements.{All-get_or}
-use Rattle.shared_value.specs.below.listed.{is_empty}
-use Rattle.shared_value.proofs.below.listed.{in_from_kept, all_from, in_map, read_in, none_some}
-use Rattle.shared_value.specs.below.run_ledger.{Heap, in_snapshot, is_last_empty, swept_heap, holds_name}
-use Rattle.shared_value.specs.below.object_layout.{Addr, chunk_at, no_chunk, place_in, ChunkValue, words_in, Located}
-use Rattle.shared_value.proofs.below.object_layout.{chunk_there}
-use Rattle.shared_value.specs.below.alloc_path.{AreWithin, LeafHeapValue, IsCurrent, IsSettled, IsTidy, room_at, room_of}
-use Rattle.shared_value.proofs.below.alloc_path.HeapLemmas as heap
-use Rattle.shared_value.specs.below.inner_mark_gc.{gone_of, number_at, place_at, swept}
-use Rattle.shared_value.proofs.below.inner_mark_gc.Kept as kept_chunks
-use Rattle.shared_value.specs.below.core_relation.{HoldsLarge, In, objects_in}
-use Rattle.shared_value.proofs.below.core_relation.{in_objects}
-use Rattle.shared_value.specs.below.task_machine.{IsLastSmall}
-use Rattle.shared_value.specs.Objects.{chunk_of, chunks_of}
-use Rattle.shared_value.specs.Stands.{HeapForm}
-use Rattle.shared_value.proofs.PlacedForm.{Formed}
-use Rattle.shared_value.proofs.HeapLaidOut.{place_there}
+-- The heap after a sweep has the form of a heap, and the room that its account says.
+use Rattle.heap_marking.proofs.Common.{◌≡◌, ℕ, ◌-◌, ◌*◌, ◌/◌, ◌≤◌, ◌==◌, arith, Bool, true, false, cond, not, Option, Some, None, List, [], map, refl, ap, sym, subst, ◌∙◌, ne_eqb, false≢true, All-get_or, is_empty, in_from_kept, all_from, in_map, read_in, none_some, Heap, in_snapshot, is_last_empty, swept_heap, holds_name, Addr, chunk_at, no_chunk, place_in, ChunkValue, Located, chunk_there, AreWithin, LeafHeapValue, IsCurrent, IsSettled, IsTidy, room_at, room_of, gone_of, number_at, place_at, swept, HoldsLarge, In, objects_in, in_objects, IsLastSmall, chunk_of, chunks_of, HeapForm, Formed, place_there}
+use Rattle.core_invariant.specs.below.object_layout.{words_in}
+use Rattle.core_invariant.proofs.below.leaf_heap.HeapLemmas as heap
+use Rattle.core_invariant.proofs.below.mark_sweep_gc.Kept as kept_chunks
 use Rattle.heap_marking.proofs.SweptCells.{is_there, large_kept, words_kept}
 use Rattle.heap_marking.proofs.SweptChunks.{AreFilled, Agrees, gone, has, has_is, has_names, kept_in, left, names, objects_left, swept_is}
 use Rattle.heap_marking.proofs.SweptPlaces.{goes_off, last_empty, left_was, small_names_of, stays_before}
@@ -30,7 +15,7 @@ module _ (kept : List Addr) (h : LeafHeapValue) (F : HeapForm h) (none : h.reser
   abbrev pub ks : List ChunkValue
   ks = h.chunks
 
-  -- the heap with just what is kept
+  -- the heap with exactly what is kept
   abbrev pub plain : LeafHeapValue
   plain = record h { chunks = left kept h.chunks; current = place_at (left kept h.chunks) (number_at h.chunks h.current); reserved = None }
 
@@ -68,7 +53,7 @@ module _ (kept : List Addr) (h : LeafHeapValue) (F : HeapForm h) (none : h.reser
       let x = left_was kept h.chunks k i in
       subst (λ (z : ChunkValue). HoldsLarge (chunk_of z)) x.3 (large_kept kept x.0 (L x.0 x.1 (ap (λ (z : ChunkValue). z.size == 1024) x.3 ∙ q)))
 
-  -- each chunk that is left holds an object
+  -- each chunk that stays contains an object
   some_left : (k : ChunkValue) → In (left kept h.chunks) k → (chunk_of k).objects ≡ [] → ⊥
   some_left k i e =
       let x = left_was kept h.chunks k i in
@@ -77,15 +62,15 @@ module _ (kept : List Addr) (h : LeafHeapValue) (F : HeapForm h) (none : h.reser
 
   last_left : (o : Option ℕ) → IsCurrent h.chunks o → IsLastSmall h.chunks o → IsLastSmall (left kept h.chunks) (place_at (left kept h.chunks) (number_at h.chunks o))
   last_left None C last = tt
-  last_left (Some i) C last = by (has kept (chunk_at h.chunks i)) refl
+  last_left (Some i) C last = last_left_by_cases (has kept (chunk_at h.chunks i)) refl
     where
-      by : (b : Bool) → has kept (chunk_at h.chunks i) ≡ b → IsLastSmall (left kept h.chunks) (place_in (left kept h.chunks) (chunk_at h.chunks i).number)
-      by true e =
+      last_left_by_cases : (b : Bool) → has kept (chunk_at h.chunks i) ≡ b → IsLastSmall (left kept h.chunks) (place_in (left kept h.chunks) (chunk_at h.chunks i).number)
+      last_left_by_cases true e =
           let S = stays_before kept (λ k. k.size ≡ 1024 → ⊥) (λ k f. f) h.chunks F.shaped.apart i C.0 e last in
           let p = S.place in
           let w = S.within in
           subst (IsLastSmall (left kept h.chunks)) (sym (heap.place_there (left kept h.chunks) (chunk_at h.chunks i).number (omega (arith, p, w)) ∙ ap Some S.place)) S.behind
-      by false e = subst (IsLastSmall (left kept h.chunks)) (sym (goes_off kept h.chunks F.shaped.apart (chunk_at h.chunks i) (chunk_there h.chunks i C.0) e)) tt
+      last_left_by_cases false e = subst (IsLastSmall (left kept h.chunks)) (sym (goes_off kept h.chunks F.shaped.apart (chunk_at h.chunks i) (chunk_there h.chunks i C.0) e)) tt
 
   pub plain_form : HeapForm plain
   plain_form = record {
@@ -120,11 +105,11 @@ module _ (kept : List Addr) (h : LeafHeapValue) (F : HeapForm h) (none : h.reser
       abbrev k : ChunkValue
       k = chunk_at h.chunks i
 
-      there : In h.chunks k
-      there = chunk_there h.chunks i C.0
+      current_is_there : In h.chunks k
+      current_is_there = chunk_there h.chunks i C.0
 
       agreed : Agrees kept (holds_name a.snapshot) (chunk_of k).objects
-      agreed o j = agree o (in_objects (chunks_of h.chunks) (chunk_of k) o (in_map chunk_of h.chunks k there) j)
+      agreed o j = agree o (in_objects (chunks_of h.chunks) (chunk_of k) o (in_map chunk_of h.chunks k current_is_there) j)
 
       abbrev last_gone : Bool
       last_gone = is_last_empty (map (in_snapshot a) a.chunks)
@@ -133,7 +118,7 @@ module _ (kept : List Addr) (h : LeafHeapValue) (F : HeapForm h) (none : h.reser
       last_is = ap (λ z. is_last_empty (map (in_snapshot a) z)) (sym lists) ∙ last_empty (in_snapshot a) h.chunks i C.0 C.1 last
 
       has_last : has kept k ≡ not last_gone
-      has_last = has_names kept (holds_name a.snapshot) k (filled k there) agreed ∙ ap not (sym last_is)
+      has_last = has_names kept (holds_name a.snapshot) k (filled k current_is_there) agreed ∙ ap not (sym last_is)
 
       room_k : k.size - words_in k.cells ≡ a.room
       room_k = ap (room_at h.chunks) (sym here) ∙ room
@@ -155,7 +140,7 @@ module _ (kept : List Addr) (h : LeafHeapValue) (F : HeapForm h) (none : h.reser
           ∙ (ap (λ (z : ChunkValue). z.size - words_in z.cells) S.is
           ∙ (ap (λ n. (chunk_at h.chunks i).size - n) (words_kept kept (chunk_at h.chunks i).number (chunk_at h.chunks i).cells 0)
           ∙ (room_k ∙ full last_gone (sym q ∙ has_last))))
-      room_of_some false q = ap (room_at (left kept h.chunks)) (goes_off kept h.chunks F.shaped.apart (chunk_at h.chunks i) there q) ∙ gone_by last_gone (sym q ∙ has_last)
+      room_of_some false q = ap (room_at (left kept h.chunks)) (goes_off kept h.chunks F.shaped.apart (chunk_at h.chunks i) current_is_there q) ∙ gone_by last_gone (sym q ∙ has_last)
 
     nothing : (b : Bool) → a.room ≡ 0 → 0 ≡ cond b 0 a.room
     nothing true e = refl

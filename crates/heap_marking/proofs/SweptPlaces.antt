@@ -1,23 +1,9 @@
--- Where the chunks stand that a sweep leaves: in the order in which they stood.
-use Rattle.std.proofs.Common.{◌≡◌, ℕ, zero, suc, ◌+◌, ◌<◌, ◌==◌, arith, Bool, true, false, cond, not, Some, None, List, [], ◌∷◌, filter, length, map, refl, ap, sym, subst, ◌∙◌, eq-eqb, ne_eqb}
-use Rattle.std.proofs.lemmas.Bool.{cond-false, cond-true, eqb-true, false≢true}
-use Rattle.shared_value.specs.below.listed.{is_empty}
-use Rattle.shared_value.proofs.below.listed.{in_from_kept, map_in}
-use Rattle.shared_value.specs.below.hh_model.{Name}
-use Rattle.shared_value.specs.below.run_ledger.{is_last_empty}
-use Rattle.shared_value.specs.below.object_layout.{Addr, chunk_at, place_of, ChunkValue}
-use Rattle.shared_value.proofs.below.object_layout.{chunk_there}
-use Rattle.shared_value.specs.below.alloc_path.{AreApart, IsFresh}
-use Rattle.shared_value.specs.below.inner_mark_gc.{stays, swept_chunk}
-use Rattle.shared_value.specs.below.core_relation.{names_of, small_chunks, In}
-use Rattle.shared_value.specs.below.task_machine.{IsLastSmall}
-use Rattle.shared_value.specs.Objects.{chunk_of, chunks_of}
-use Rattle.shared_value.proofs.CellsRead.{fresh_off}
-use Rattle.shared_value.proofs.HeapLaidOut.{place_there, same_chunk}
-use Rattle.shared_value.proofs.FieldsNoted.{fresh_by}
+-- The positions of the chunks after a sweep: in the same order as before.
+use Rattle.heap_marking.proofs.Common.{◌≡◌, ℕ, zero, suc, ◌+◌, ◌<◌, ◌==◌, arith, Bool, true, false, cond, not, Some, None, List, [], ◌∷◌, filter, length, map, refl, ap, sym, subst, ◌∙◌, eq-eqb, ne_eqb, cond-false, cond-true, eqb-true, false≢true, is_empty, in_from_kept, map_in, Name, is_last_empty, Addr, chunk_at, place_of, ChunkValue, chunk_there, IsFresh, stays, swept_chunk, names_of, small_chunks, In, IsLastSmall, chunk_of, chunks_of, fresh_off, place_there, same_chunk, fresh_by}
+use Rattle.core_invariant.specs.below.leaf_heap.{HaveDistinctNumbers}
 use Rattle.heap_marking.proofs.SweptChunks.{has, left}
 
--- in the list a chunk of this number stands, and such ones behind it
+-- the list has a chunk of this number, with such ones after it
 pub record StandsBefore (ls : List ChunkValue) (n : ℕ) (k : ChunkValue) (Q : ChunkValue → Type 0) : Type 0 where
   pub at : ℕ
   pub place : place_of ls n ≡ at
@@ -26,7 +12,7 @@ pub record StandsBefore (ls : List ChunkValue) (n : ℕ) (k : ChunkValue) (Q : C
   pub behind : (j : ℕ) → at < j → j < length ls → Q (chunk_at ls j)
 
 module _ (kept : List Addr) where
-  -- what is left is a chunk that was there, swept
+  -- what stays is a chunk that was there, swept
   pub left_was : (ks : List ChunkValue) (k : ChunkValue) → In (left kept ks) k → (x : ChunkValue) × In ks x × (has kept x ≡ true) × (swept_chunk kept x ≡ k)
   left_was ks k i =
       let m = map_in (swept_chunk kept) (filter (stays kept None) ks) k i in
@@ -40,8 +26,8 @@ module _ (kept : List Addr) where
         let p = place_there ks m.0 m.1 in
         subst Q m.3 (still m.0 (subst Q p.2 (f p.0 p.1)))
 
-    -- a chunk that stays stands before what stood behind it
-    pub stays_before : (ks : List ChunkValue) → AreApart ks → (i : ℕ) → i < length ks → has kept (chunk_at ks i) ≡ true → ((j : ℕ) → i < j → j < length ks → Q (chunk_at ks j))
+    -- a chunk that stays comes before what came after it
+    pub stays_before : (ks : List ChunkValue) → HaveDistinctNumbers ks → (i : ℕ) → i < length ks → has kept (chunk_at ks i) ≡ true → ((j : ℕ) → i < j → j < length ks → Q (chunk_at ks j))
         → StandsBefore (left kept ks) (chunk_at ks i).number (swept_chunk kept (chunk_at ks i)) Q
     stays_before [] A i lt h f = absurd (omega (arith, lt))
     stays_before (k ∷ ks) A zero lt h f =
@@ -59,15 +45,15 @@ module _ (kept : List Addr) where
           is = refl;
           behind = behind;
         }
-    stays_before (k ∷ ks) A (suc i) lt h f = by (has kept k) refl (stays_before ks A.1 i (omega (arith, lt)) h (λ j b l. f (suc j) (omega (arith, b)) (omega (arith, l))))
+    stays_before (k ∷ ks) A (suc i) lt h f = stays_before_by_cases (has kept k) refl (stays_before ks A.1 i (omega (arith, lt)) h (λ j b l. f (suc j) (omega (arith, b)) (omega (arith, l))))
       where
         other : k.number ≡ (chunk_at ks i).number → ⊥
         other e = fresh_off ks (chunk_at ks i) k.number A.0 (chunk_there ks i (omega (arith, lt))) (sym e)
 
-        by : (b : Bool) → has kept k ≡ b → StandsBefore (left kept ks) (chunk_at ks i).number (swept_chunk kept (chunk_at ks i)) Q
+        stays_before_by_cases : (b : Bool) → has kept k ≡ b → StandsBefore (left kept ks) (chunk_at ks i).number (swept_chunk kept (chunk_at ks i)) Q
             → StandsBefore (map (swept_chunk kept) (cond b (k ∷ filter (stays kept None) ks) (filter (stays kept None) ks))) (chunk_at ks i).number (swept_chunk kept (chunk_at ks i)) Q
-        by false e S = S
-        by true e S = record {
+        stays_before_by_cases false e S = S
+        stays_before_by_cases true e S = record {
           at = suc S.at;
           place = cond-false (k.number == (chunk_at ks i).number) 0 (1 + place_of (left kept ks) (chunk_at ks i).number) (ne_eqb k.number (chunk_at ks i).number other) ∙ (let p = S.place in omega (arith, p));
           within = let w = S.within in omega (arith, w);
@@ -79,8 +65,8 @@ module _ (kept : List Addr) where
             behind S zero b l = absurd (omega (arith, b))
             behind S (suc j) b l = S.behind j (omega (arith, b)) (omega (arith, l))
 
-  -- and none has the number of one that goes
-  pub goes_off : (ks : List ChunkValue) → AreApart ks → (k : ChunkValue) → In ks k → has kept k ≡ false → IsFresh (left kept ks) k.number
+  -- and none has the number of a released one
+  pub goes_off : (ks : List ChunkValue) → HaveDistinctNumbers ks → (k : ChunkValue) → In ks k → has kept k ≡ false → IsFresh (left kept ks) k.number
   goes_off ks A k i h = fresh_by (left kept ks) k.number (λ c j e.
       let m = left_was ks c j in
       let same : m.0 ≡ k = same_chunk ks m.0 k A m.1 i (ap (λ (z : ChunkValue). z.number) m.3 ∙ e) in
@@ -90,35 +76,35 @@ module _ (kept : List Addr) where
 abbrev pub small_names_of : List ChunkValue → List (List Name)
 small_names_of ks = map names_of (small_chunks (chunks_of ks))
 
--- with a chunk before them
+-- with a chunk in front of them
 abbrev names_with : Bool → ChunkValue → List ChunkValue → List (List Name)
 names_with b k ks = map names_of (cond (not (not b)) (chunk_of k ∷ small_chunks (chunks_of ks)) (small_chunks (chunks_of ks)))
 
 none_small : (ks : List ChunkValue) → ((j : ℕ) → j < length ks → (chunk_at ks j).size ≡ 1024 → ⊥) → small_names_of ks ≡ []
 none_small [] f = refl
-none_small (k ∷ ks) f = by (k.size == 1024) refl (none_small ks (λ j l. f (suc j) (omega (arith, l))))
+none_small (k ∷ ks) f = none_small_by_cases (k.size == 1024) refl (none_small ks (λ j l. f (suc j) (omega (arith, l))))
   where
-    by : (b : Bool) → (k.size == 1024) ≡ b → small_names_of ks ≡ [] → names_with b k ks ≡ []
-    by true q go = absurd (f 0 (omega arith) (eqb-true k.size 1024 q))
-    by false q go = go
+    none_small_by_cases : (b : Bool) → (k.size == 1024) ≡ b → small_names_of ks ≡ [] → names_with b k ks ≡ []
+    none_small_by_cases true q go = absurd (f 0 (omega arith) (eqb-true k.size 1024 q))
+    none_small_by_cases false q go = go
 
 some_small : (ks : List ChunkValue) (i : ℕ) → i < length ks → (chunk_at ks i).size ≡ 1024 → (ns : List Name) × (rest : List (List Name)) × (small_names_of ks ≡ ns ∷ rest)
 some_small [] i l e = absurd (omega (arith, l))
 some_small (k ∷ ks) zero l e = (names_of (chunk_of k), small_names_of ks, ap (λ b. names_with b k ks) (eq-eqb k.size 1024 e))
-some_small (k ∷ ks) (suc i) l e = by (k.size == 1024) (some_small ks i (omega (arith, l)) e)
+some_small (k ∷ ks) (suc i) l e = some_small_by_cases (k.size == 1024) (some_small ks i (omega (arith, l)) e)
   where
-    by : (b : Bool) → (ns : List Name) × (rest : List (List Name)) × (small_names_of ks ≡ ns ∷ rest) → (ns : List Name) × (rest : List (List Name)) × (names_with b k ks ≡ ns ∷ rest)
-    by true go = (names_of (chunk_of k), small_names_of ks, refl)
-    by false go = go
+    some_small_by_cases : (b : Bool) → (ns : List Name) × (rest : List (List Name)) × (small_names_of ks ≡ ns ∷ rest) → (ns : List Name) × (rest : List (List Name)) × (names_with b k ks ≡ ns ∷ rest)
+    some_small_by_cases true go = (names_of (chunk_of k), small_names_of ks, refl)
+    some_small_by_cases false go = go
 
 pub last_empty : (f : List Name → List Name) (ks : List ChunkValue) (i : ℕ) → i < length ks → (chunk_at ks i).size ≡ 1024 → IsLastSmall ks (Some i) → is_last_empty (map f (small_names_of ks)) ≡ is_empty (f (names_of (chunk_of (chunk_at ks i))))
 last_empty f [] i l e last = absurd (omega (arith, l))
 last_empty f (k ∷ ks) zero l e last =
     ap (λ z. is_last_empty (map f z)) (ap (λ b. names_with b k ks) (eq-eqb k.size 1024 e) ∙ ap (λ ns. names_of (chunk_of k) ∷ ns) (none_small ks (λ j b. last (suc j) (omega arith) (omega (arith, b)))))
 last_empty f (k ∷ ks) (suc i) l e last =
-    by (k.size == 1024) (some_small ks i (omega (arith, l)) e) (last_empty f ks i (omega (arith, l)) e (λ j b w. last (suc j) (omega (arith, b)) (omega (arith, w))))
+    last_empty_by_cases (k.size == 1024) (some_small ks i (omega (arith, l)) e) (last_empty f ks i (omega (arith, l)) e (λ j b w. last (suc j) (omega (arith, b)) (omega (arith, w))))
   where
-    by : (b : Bool) → (ns : List Name) × (rest : List (List Name)) × (small_names_of ks ≡ ns ∷ rest) → is_last_empty (map f (small_names_of ks)) ≡ is_empty (f (names_of (chunk_of (chunk_at ks i))))
+    last_empty_by_cases : (b : Bool) → (ns : List Name) × (rest : List (List Name)) × (small_names_of ks ≡ ns ∷ rest) → is_last_empty (map f (small_names_of ks)) ≡ is_empty (f (names_of (chunk_of (chunk_at ks i))))
         → is_last_empty (map f (names_with b k ks)) ≡ is_empty (f (names_of (chunk_of (chunk_at ks i))))
-    by false some go = go
-    by true some go = ap (λ z. is_last_empty (f (names_of (chunk_of k)) ∷ map f z)) some.2 ∙ (sym (ap (λ z. is_last_empty (map f z)) some.2) ∙ go)
+    last_empty_by_cases false some go = go
+    last_empty_by_cases true some go = ap (λ z. is_last_empty (f (names_of (chunk_of k)) ∷ map f z)) some.2 ∙ (sym (ap (λ z. is_last_empty (map f z)) some.2) ∙ go)

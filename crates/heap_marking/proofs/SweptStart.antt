@@ -1,56 +1,34 @@
--- What is known of a heap that is marked to its end, before it is swept.
-use Rattle.std.proofs.Common.{◌≡◌, ℕ, zero, suc, arith, not, true, Option, Some, None, slice_get, refl, ap, sym, subst, ◌∙◌}
-use Rattle.shared_value.proofs.below.listed.{contains_from_in, in_from_contains, in_map, same_truth}
-use Rattle.shared_value.specs.below.hh_model.{Status, Running, Waiting, Ended, Joined, Task, is_running, is_waiting, runs, waits}
-use Rattle.shared_value.specs.below.run_ledger.{Heap, Ledger, heap_of, held_in, left_in, holds_name}
-use Rattle.journal_laws.proofs.History.{snapshots_are_held}
-use Rattle.shared_value.proofs.below.run_ledger.{holds_from_in, in_from_holds, chunks_are_used}
-use Rattle.shared_value.specs.below.alloc_path.{room_of}
-use Rattle.shared_value.specs.below.inner_mark_gc.{IsDone, has_address, marked_of}
-use Rattle.shared_value.proofs.below.inner_mark_gc.{has_in, in_has, all_marked_is_done}
-use Rattle.shared_value.specs.below.ledger_step_laws.{Rests}
-use Rattle.shared_value.specs.below.core_relation.{AreLaidOut, MarkedBy, kept as kept_of, HasNames, BelongingsStand, Belongings, In, Memory, object_name, objects, objects_in, StandsFor}
-use Rattle.shared_value.specs.below.object_layout.{Located}
-use Rattle.shared_value.proofs.below.core_entry_laws.{marks_are_all}
-use Rattle.shared_value.specs.below.task_machine.{AreReserved}
-use Rattle.shared_value.specs.below.task_homes.{Rest, Work, Calls, Result}
-use Rattle.shared_value.specs.Objects.{chunk_of, chunks_of}
-use Rattle.shared_value.specs.SharedValue.{SharedValue, accounts, belongings_by, belongings_in, belongings_of, tree_counts_of, value_of}
-use Rattle.shared_value.specs.Stands.{HeapForm, IsSharedValue}
-use Rattle.shared_value.proofs.HeapCounts.{counted_from}
-use Rattle.shared_value.proofs.HeapForms.{reserved_none}
-use Rattle.shared_value.proofs.BeforeTheEnd.{stands_now}
-use Rattle.heap_marking.specs.MarkCauses.{marking_cause}
-use Rattle.heap_marking.specs.MarkStand.{StandsMarked}
+-- What is known of a completely marked heap before it is swept.
+use Rattle.heap_marking.proofs.Common.{◌≡◌, ℕ, zero, suc, arith, not, true, Option, Some, None, slice_get, refl, ap, sym, subst, ◌∙◌, contains_from_in, in_from_contains, in_map, same_truth, TaskStatus, Running, Waiting, Ended, Joined, Task, is_running, is_waiting, runs, waits, Heap, Ledger, heap_of, held_in, left_in, holds_name, snapshots_are_held, holds_from_in, in_from_holds, chunks_are_used, room_of, IsDone, has_address, marked_of, has_in, in_has, all_marked_is_done, Rests, AreLaidOut, MarkedBy, kept as kept_of, HasNames, BelongingsStand, Belongings, In, Memory, object_name, objects, objects_in, StandsFor, Located, marks_are_all, AreReserved, ParkedTask, Work, Calls, Result, chunk_of, chunks_of, SharedValue, accounts, belongings_by, belongings_in, belongings_of, tree_counts_of, value_of, HeapForm, IsSharedValue, counted_from, reserved_none, stands_now, marking_cause, StandsMarked}
 use Rattle.heap_marking.proofs.MarkBegun as begun
 use Rattle.heap_marking.proofs.MarkedHeap.{marked_heap_stands}
 use Rattle.heap_marking.proofs.SweptChunks.{Agrees}
 use Rattle.heap_marking.proofs.SweptForm.{HoldLarge}
 
--- a task doesn't run and wait
+-- a task doesn't both run and wait
 apart : (o : Option Task) → is_running o ≡ true → is_waiting o ≡ true → ⊥
 apart None a b = absurd cc
-apart (Some x) a b = by x.status a b
+apart (Some x) a b = apart_by_cases x.status a b
   where
-    by : (s : Status) → runs s ≡ true → waits s ≡ true → ⊥
-    by Running a b = absurd cc
-    by Waiting a b = absurd cc
-    by (Ended n q) a b = absurd cc
-    by Joined a b = absurd cc
+    apart_by_cases : (s : TaskStatus) → runs s ≡ true → waits s ≡ true → ⊥
+    apart_by_cases Running a b = absurd cc
+    apart_by_cases Waiting a b = absurd cc
+    apart_by_cases (Ended n q) a b = absurd cc
+    apart_by_cases Joined a b = absurd cc
 
-pub room_there : (r : Rest) → (belongings_of r).room ≡ room_of r.heap
-room_there r = by r.work
+pub room_there : (r : ParkedTask) → (belongings_of r).room ≡ room_of r.heap
+room_there r = room_there_by_cases r.work
   where
-    by : (x : Work) → (belongings_by r.heap r.view r.allocations x).room ≡ room_of r.heap
-    by (Calls s) = refl
-    by (Result n b) = refl
+    room_there_by_cases : (x : Work) → (belongings_by r.heap r.view r.allocations x).room ≡ room_of r.heap
+    room_there_by_cases (Calls s) = refl
+    room_there_by_cases (Result n b) = refl
 
-pub since_there : (r : Rest) → (belongings_of r).since ≡ r.heap.since
-since_there r = by r.work
+pub since_there : (r : ParkedTask) → (belongings_of r).since ≡ r.heap.since
+since_there r = since_there_by_cases r.work
   where
-    by : (x : Work) → (belongings_by r.heap r.view r.allocations x).since ≡ r.heap.since
-    by (Calls s) = refl
-    by (Result n b) = refl
+    since_there_by_cases : (x : Work) → (belongings_by r.heap r.view r.allocations x).since ≡ r.heap.since
+    since_there_by_cases (Calls s) = refl
+    since_there_by_cases (Result n b) = refl
 
 module _ (w : SharedValue) (I : IsSharedValue w) (on : (accounts w).end ≡ None) (t : ℕ) (free : marking_cause w t ≡ None) where
   abbrev l : Ledger
@@ -80,8 +58,8 @@ module _ (w : SharedValue) (I : IsSharedValue w) (on : (accounts w).end ≡ None
   pub H : BelongingsStand v l t
   H = S.belongings.belongings t rests
 
-  pub here : v.belongings t ≡ belongings_of Z.rest
-  here = ap belongings_in Z.there
+  pub own_belongings : v.belongings t ≡ belongings_of Z.rest
+  own_belongings = ap belongings_in Z.there
 
   pub chunks_here : (v.belongings t).chunks ≡ chunks_of Z.rest.heap.chunks
   chunks_here = begun.chunks_at_rest w t Z.rest Z.there
@@ -93,18 +71,18 @@ module _ (w : SharedValue) (I : IsSharedValue w) (on : (accounts w).end ≡ None
   names = subst (λ cs. HasNames cs a) chunks_here H.names
 
   pub room : room_of Z.rest.heap ≡ a.room
-  room = sym (room_there Z.rest) ∙ (ap (λ (h : Belongings). h.room) (sym here) ∙ H.room)
+  room = sym (room_there Z.rest) ∙ (ap (λ (h : Belongings). h.room) (sym own_belongings) ∙ H.room)
 
   pub since : Z.rest.heap.since ≡ a.since
-  since = sym (since_there Z.rest) ∙ (ap (λ (h : Belongings). h.since) (sym here) ∙ H.since)
+  since = sym (since_there Z.rest) ∙ (ap (λ (h : Belongings). h.since) (sym own_belongings) ∙ H.since)
 
   -- no chunk is reserved while the task waits
   pub nothing_reserved : a.reserved ≡ 0
-  nothing_reserved = by a.reserved refl
+  nothing_reserved = nothing_reserved_by_cases a.reserved refl
     where
-      by : (n : ℕ) → a.reserved ≡ n → a.reserved ≡ 0
-      by zero e = e
-      by (suc n) e = absurd (apart (slice_get l.machine.tasks t) ((chunks_are_used w.program w.settings w.journal.items I.legal).reserved t (omega (arith, e))).runs Z.wait)
+      nothing_reserved_by_cases : (n : ℕ) → a.reserved ≡ n → a.reserved ≡ 0
+      nothing_reserved_by_cases zero e = e
+      nothing_reserved_by_cases (suc n) e = absurd (apart (slice_get l.machine.tasks t) ((chunks_are_used w.program w.settings w.journal.items I.legal).reserved t (omega (arith, e))).runs Z.wait)
 
   pub none : Z.rest.heap.reserved ≡ None
   none = reserved_none Z.rest.heap form Z.rest.heap.reserved refl (subst (AreReserved Z.rest.heap.chunks Z.rest.heap.reserved) nothing_reserved (counted_from Z.rest.heap a form names room since laid.reserved).reserved)
@@ -117,7 +95,7 @@ module _ (w : SharedValue) (I : IsSharedValue w) (on : (accounts w).end ≡ None
   object_there o i = subst (λ cs. In (objects_in cs) o) (sym chunks_here) i
 
   module _ (none_left : left_in a ≡ 0) where
-    -- what is marked is just what the snapshot names
+    -- what is marked is exactly what the snapshot names
     pub agree : Agrees (marked_of Z.marks) (holds_name a.snapshot) (objects_in (chunks_of Z.rest.heap.chunks))
     agree o i = same_truth (has_address (marked_of Z.marks) o.at) (holds_name a.snapshot (object_name o)) named marked
       where

@@ -1,36 +1,15 @@
--- How many units go with the chunks that a sweep gives back: what the account says.
-use Rattle.std.proofs.Common.{◌≡◌, ℕ, zero, suc, ◌+◌, ◌-◌, ◌*◌, ◌^◌, ◌<◌, ◌≤◌, ◌==◌, ◌++◌, arith, Bool, true, false, cond, not, Option, Some, None, List, [], ◌∷◌, filter, length, length-append, map, min, sum_by, slice_get, inl, inr, refl, ap, ap₂, sym, subst, ◌∙◌}
-use Rattle.std.specs.Prelude.{unwrap_or}
-use Rattle.std.specs.List.{flat_map}
-use Rattle.std.proofs.lemmas.Option.{same_Some}
-use Rattle.std.proofs.lemmas.List.{length-map, map-append, length-take-le}
-use Rattle.std.proofs.lemmas.List.Sums.{sum_by-append, sum_by-cons}
-use Rattle.shared_value.proofs.below.listed.{in_append_left, in_append_right}
-use Rattle.shared_value.specs.below.hh_model.{State}
-use Rattle.shared_value.specs.below.run_ledger.{Heap, Ledger, begun_in, heap_of, held, held_in, in_use, left_in, marked_in, or_fresh, small_in, sweep_number, swept_heap, units_in, units_sum, without_empty, words_at, words_sum, holds_name}
-use Rattle.shared_value.proofs.below.run_ledger.{heaps_fit, use_is_bounded}
-use Rattle.shared_value.specs.below.object_layout.{Addr, ChunkValue, Located}
-use Rattle.shared_value.specs.below.alloc_path.{counted32, unit_count}
-use Rattle.shared_value.specs.below.inner_mark_gc.{IsDone, MarkingValue, marked_of, gone_of}
-use Rattle.shared_value.proofs.below.inner_mark_gc.{found_few}
-use Rattle.shared_value.specs.below.core_relation.{words, MarkedBy, HasNames, large_chunks, names_of, small_chunks, In, object_name, objects_in}
-use Rattle.shared_value.specs.below.task_homes.{Rest}
-use Rattle.shared_value.specs.Objects.{chunk_of, chunks_of}
-use Rattle.shared_value.specs.SharedValue.{SharedValue, accounts, marks_at, rest_at, value_of}
-use Rattle.shared_value.specs.Stands.{IsSharedValue}
-use Rattle.shared_value.proofs.HeapWords.{words_same}
-use Rattle.shared_value.proofs.ObjectCounts.{objects_counted}
-use Rattle.heap_marking.specs.MarkCauses.{marking_cause}
+-- How many units a sweep releases with its chunks: as the account says.
+use Rattle.heap_marking.proofs.Common.{◌≡◌, ℕ, zero, suc, ◌+◌, ◌-◌, ◌*◌, ◌^◌, ◌<◌, ◌≤◌, ◌==◌, ◌++◌, arith, Bool, true, false, cond, not, Option, Some, None, List, [], ◌∷◌, filter, length, length-append, map, min, sum_by, slice_get, inl, inr, refl, ap, ap₂, sym, subst, ◌∙◌, unwrap_or, flat_map, same_Some, length-map, map-append, length-take-le, sum_by-append, sum_by-cons, in_append_left, in_append_right, MachineState, Heap, Ledger, begun_in, heap_of, held, held_in, in_use, left_in, marked_in, or_fresh, small_in, sweep_number, swept_heap, units_in, units_sum, without_empty, words_at, words_sum, holds_name, heaps_fit, use_is_bounded, Addr, ChunkValue, Located, counted32, unit_count, IsDone, MarkingValue, marked_of, gone_of, found_few, words, MarkedBy, HasNames, large_chunks, names_of, small_chunks, In, object_name, objects_in, ParkedTask, chunk_of, chunks_of, SharedValue, accounts, marks_at, rest_at, value_of, IsSharedValue, words_same, objects_counted, marking_cause}
 use Rattle.heap_marking.proofs.SweptChunks.{Agrees, AreFilled, Goes, KnowWords, gone, large_left, large_units, left, many, small_left, units_gone}
 use Rattle.heap_marking.proofs.SweptForm.{filled, gone_plain}
 use Rattle.heap_marking.proofs.SweptStart as start
 
 -- THE NUMBER OF A SWEEP, of chunks with these names
-module _ (kept : List Addr) (m : State) (a : Heap) (ks : List ChunkValue) (F : AreFilled ks) (N : HasNames (chunks_of ks) a) (A : Agrees kept (holds_name a.snapshot) (objects_in (chunks_of ks))) (W : KnowWords kept m (objects_in (chunks_of ks))) where
+module _ (kept : List Addr) (m : MachineState) (a : Heap) (ks : List ChunkValue) (F : AreFilled ks) (N : HasNames (chunks_of ks) a) (A : Agrees kept (holds_name a.snapshot) (objects_in (chunks_of ks))) (W : KnowWords kept m (objects_in (chunks_of ks))) where
   G : Goes kept m ks
   G = units_gone kept m ks F W
 
-  -- its names once it is swept
+  -- its names after it is swept
   pub names_left : HasNames (chunks_of (left kept ks)) (swept_heap a)
   names_left = record {
     small = small_left kept (holds_name a.snapshot) ks F A ∙ ap (λ ls. without_empty (map (filter (holds_name a.snapshot)) ls)) N.small;
@@ -72,7 +51,7 @@ one_heap f none (h ∷ hs) (suc t) = let s = sum_by-cons f h hs in let go : f (o
 pub few_units : (l : Ledger) (t : ℕ) → units_in l.machine (heap_of l t) ≤ in_use l
 few_units l t = one_heap (units_in l.machine) refl l.heaps t
 
-one_words : (m : State) (hs : List Heap) (t : ℕ) → words_sum m (held_in (or_fresh (slice_get hs t))) ≤ words_sum m (flat_map held_in hs)
+one_words : (m : MachineState) (hs : List Heap) (t : ℕ) → words_sum m (held_in (or_fresh (slice_get hs t))) ≤ words_sum m (flat_map held_in hs)
 one_words m [] t = omega arith
 one_words m (h ∷ hs) zero = let s = sum_by-append (words_at m) (held_in h) (flat_map held_in hs) in omega (arith, s)
 one_words m (h ∷ hs) (suc t) =
@@ -84,7 +63,7 @@ pub few_words : (l : Ledger) (t : ℕ) → words_sum l.machine (held_in (heap_of
 few_words l t = one_words l.machine l.heaps t
 
 -- an object has words
-module _ (m : State) where
+module _ (m : MachineState) where
   abbrev Know : List Located → Type 0
   Know os = (o : Located) → In os o → words_at m (object_name o) ≡ words o
 
@@ -105,20 +84,20 @@ module _ (m : State) where
   chunks_few : (ks : List ChunkValue) → Know (objects_in (chunks_of ks)) → length (objects_in (chunks_of ks)) ≤ small_words ks + large_words ks
   chunks_few [] W = omega arith
   chunks_few (k ∷ ks) W =
-      by (k.size == 1024) (objects_few (chunk_of k).objects (λ o i. W o (in_append_left (chunk_of k).objects (objects_in (chunks_of ks)) o i)))
+      chunks_few_by_cases (k.size == 1024) (objects_few (chunk_of k).objects (λ o i. W o (in_append_left (chunk_of k).objects (objects_in (chunks_of ks)) o i)))
       (chunks_few ks (λ o i. W o (in_append_right (chunk_of k).objects (objects_in (chunks_of ks)) o i)))
     where
       long : length ((chunk_of k).objects ++ objects_in (chunks_of ks)) ≡ length (chunk_of k).objects + length (objects_in (chunks_of ks))
       long = length-append (chunk_of k).objects (objects_in (chunks_of ks))
 
-      by : (b : Bool) → length (chunk_of k).objects ≤ words_sum m (names_of (chunk_of k)) → length (objects_in (chunks_of ks)) ≤ small_words ks + large_words ks
+      chunks_few_by_cases : (b : Bool) → length (chunk_of k).objects ≤ words_sum m (names_of (chunk_of k)) → length (objects_in (chunks_of ks)) ≤ small_words ks + large_words ks
           → length (objects_in (chunks_of (k ∷ ks)))
           ≤ words_sum m (flat_map (λ ns. ns) (map names_of (cond (not (not b)) (chunk_of k ∷ small_chunks (chunks_of ks)) (small_chunks (chunks_of ks)))))
           + words_sum m (map object_name (objects_in (cond (not b) (chunk_of k ∷ large_chunks (chunks_of ks)) (large_chunks (chunks_of ks)))))
-      by true own go =
+      chunks_few_by_cases true own go =
           let s = sum_by-append (words_at m) (names_of (chunk_of k)) (flat_map (λ ns. ns) (map names_of (small_chunks (chunks_of ks)))) in
           omega (arith, long, own, go, s)
-      by false own go =
+      chunks_few_by_cases false own go =
           let s = ap (words_sum m) (map-append object_name (chunk_of k).objects (objects_in (large_chunks (chunks_of ks)))) ∙ sum_by-append (words_at m) (names_of (chunk_of k)) (map object_name (objects_in (large_chunks (chunks_of ks)))) in
           omega (arith, long, own, go, s)
 
@@ -153,7 +132,7 @@ module _ (w : SharedValue) (I : IsSharedValue w) (on : (accounts w).end ≡ None
       let c : w.settings.chunks ≤ 65536 = I.settings.chunks.1 in
       omega (arith, u, c)
 
-  -- as 32 bits count
+  -- it fits in 32 bits
   few_marked : marks.marked < 2 ^ 32
   few_marked =
       let found : length marks.found ≤ length (objects_in (chunks_of ks)) = subst (λ n. length marks.found ≤ n) (objects_counted ks (start.form w I on t free).tidy) (found_few ks marks (start.Z w I on t free).further.own.room) in
@@ -193,9 +172,9 @@ module _ (w : SharedValue) (I : IsSharedValue w) (on : (accounts w).end ≡ None
         counted : (n m : ℕ) → n ≡ m → m ≤ 65536 → min n (2 ^ 32 - 1) ≡ m
         counted n m e few = omega (arith, e, few)
 
-    -- as a call has the heap and the marking
-    pub would_be : (r : Rest) (m : MarkingValue) → rest_at w.rests t ≡ Some r → marks_at w.marks t ≡ Some m → IsDone m × (counted32 (unit_count (gone_of r.heap (marked_of m))) ≡ sweep_number l.machine a)
+    -- for the heap and the marking that a call has
+    pub would_be : (r : ParkedTask) (m : MarkingValue) → rest_at w.rests t ≡ Some r → marks_at w.marks t ≡ Some m → IsDone m × (counted32 (unit_count (gone_of r.heap (marked_of m))) ≡ sweep_number l.machine a)
     would_be r m there at =
-        subst (λ (x : Rest). IsDone m × (counted32 (unit_count (gone_of x.heap (marked_of m))) ≡ sweep_number l.machine a)) (same_Some (start.Z w I on t free).rest r (sym (start.Z w I on t free).there ∙ there))
+        subst (λ (x : ParkedTask). IsDone m × (counted32 (unit_count (gone_of x.heap (marked_of m))) ≡ sweep_number l.machine a)) (same_Some (start.Z w I on t free).rest r (sym (start.Z w I on t free).there ∙ there))
         (subst (λ (y : MarkingValue). IsDone y × (counted32 (unit_count (gone_of (start.Z w I on t free).rest.heap (marked_of y))) ≡ sweep_number l.machine a)) (same_Some marks m (sym (start.Z w I on t free).at ∙ at))
         (start.done w I on t free none_left, would_is))

@@ -4,3 +4,4 @@ pub mod MarkCauses
 pub mod MarkStand
 pub mod Sweeping
 pub mod Pace
+mod Common

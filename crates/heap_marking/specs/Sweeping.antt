@@ -1,18 +1,15 @@
--- What a sweep asks of a heap and leaves of it.
+-- What a sweep requires of a heap and what it leaves of it.
 use Rattle.std.specs.Prelude.{◌≡◌, ℕ, All, IsSome, Option, Some, List, slice_set}
-use Rattle.shared_value.specs.below.chunk_pool.{PoolValue, slot_at}
-use Rattle.shared_value.specs.below.alloc_path.{LeafHeapValue, with_places}
-use Rattle.shared_value.specs.below.inner_mark_gc.{HasRoom, IsDone, MarkingValue, marked_of, AreGiven, gone_of, swept}
-use Rattle.shared_value.specs.below.task_homes.{Rest}
+use Rattle.heap_marking.specs.Common.{PoolValue, slot_at, LeafHeapValue, with_places, HasCapacityForAll, IsDone, MarkingValue, marked_of, AreGiven, gone_of, swept, ParkedTask}
 
 -- all that was found is marked, and the heap's chunks are in use
 pub record CanSweep (h : LeafHeapValue) (m : MarkingValue) (pool : PoolValue) : Type 0 where
   pub done : IsDone m
-  pub room : HasRoom h.chunks m
+  pub room : HasCapacityForAll h.chunks m
   pub in_use : All (λ k. IsSome (slot_at pool k.number)) h.chunks
 
--- the home of t has just what is marked in its heap, and the chunks that go are given back
-pub record SweepsHome (old new : List (Option Rest)) (pool pool' : PoolValue) (t : ℕ) (r : Rest) (m : MarkingValue) : Type 0 where
+-- the slot of t has exactly what is marked in its heap, and the other chunks are released
+pub record SweepsSlot (old new : List (Option ParkedTask)) (pool pool' : PoolValue) (t : ℕ) (r : ParkedTask) (m : MarkingValue) : Type 0 where
   pub slots : ℕ
   pub spare : ℕ
   pub rests : new ≡ slice_set old t (Some (record r { heap = with_places (swept r.heap (marked_of m)) slots spare }))

@@ -1,11 +1,11 @@
-// The fork on which a task waits, as the tree tells it.
+// The fork on which a task waits, by the tree.
 
 ghost use Rattle.std.specs.Prelude.{◌≡◌};
 ghost use Rattle.heap_marking.specs.Pace.{is_live_child, IsForkIn, IsLiveChild};
 
 use crate::causes::is_waiting;
 use crate::pace::{Fork, is_joined, is_parent};
-use shared_value::Tree;
+use core_invariant::Tree;
 
 // Whether a task is a child of t that hasn't joined.
 fn is_live_child(tree: &Tree, t: u32, child: u32) -> bool
@@ -14,7 +14,7 @@ fn is_live_child(tree: &Tree, t: u32, child: u32) -> bool
     is_parent(tree.parent(child), t) && !is_joined(tree.state(child))
 }
 
-// A child of t that hasn't joined. It takes as long as there are tasks.
+// A child of t that hasn't joined. O(tasks).
 fn live_child(tree: &Tree, t: u32) -> Option<u32>
     ensures { IsLiveChild tree.now t result }
 {
@@ -27,8 +27,8 @@ fn live_child(tree: &Tree, t: u32) -> Option<u32>
     None
 }
 
-/// The fork on which a task waits, if it waits. It takes no time to speak of where the child that is guessed is one of
-/// that fork, or the task doesn't wait; else it takes as long as there are tasks.
+/// The fork on which a task waits, if it waits. O(1) if `guess` is a child of that fork or `t` isn't waiting; otherwise
+/// O(tasks).
 pub fn fork_in(tree: &Tree, t: u32, guess: u32) -> Option<Fork>
     ensures { IsForkIn tree.now t result }
 {

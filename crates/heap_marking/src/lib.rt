@@ -1,4 +1,4 @@
-// Marking and sweeping the heaps of tasks that wait, and the pace at which a worker owes it.
+// Marking and sweeping the heaps of waiting tasks, and the pace at which a worker owes it.
 #![tactic(auto)]
 
 mod causes;

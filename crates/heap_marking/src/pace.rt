@@ -1,51 +1,51 @@
-// What is kept of a worker's own entries, as far as the pace of inner collections asks.
+// The record of a worker's own entries that the pace of inner collections needs.
 
 ghost use Rattle.std.specs.Prelude.{◌≡◌, ◌∷◌, ◌++◌, ◌<◌, ◌-◌, [], OnOk};
 ghost use Rattle.heap_marking.specs.Pace.{is_state_joined, previous_of};
-ghost use Rattle.shared_value.specs.below.listed.{option_is};
+ghost use Rattle.core_invariant.specs.below.plain_vec.{option_is};
 
-use shared_value::{Roomy, State};
+use core_invariant::{ReservedVec, TaskState};
 use std::alloc::{AllocError, Global};
 
-/// A fork: the task that forked, and a child of it, the left one where its number is known.
+/// A fork: the task that forked, and a child of it: the left one, if its number is known.
 #[derive(Clone, Copy)]
 pub struct Fork {
     pub task: u32,
     pub left: u32,
 }
 
-/// What is kept of a worker's previous entry, as far as the pace asks.
+/// The record of a worker's previous entry that the pace needs.
 #[derive(Clone, Copy)]
 pub enum PreviousKind {
-    /// None, or no steps.
+    /// None, or an entry without steps.
     Other,
-    /// Steps that forked nothing.
+    /// Steps that didn't fork.
     Ran,
     /// Steps that ended with this fork.
     Forked(Fork),
 }
 
-/// What is kept of a worker's own entries, as far as the pace asks.
+/// The record of a worker's own entries that the pace needs.
 #[derive(Drop)]
 pub struct Pace {
     pub previous: PreviousKind,
-    /// The forks after which the worker began to mark the heap of the task that waits, the last one at the end.
-    pub marks: Roomy<Fork>,
+    /// The forks after which the worker began to mark the heap of the waiting task, the last one at the end.
+    pub marks: ReservedVec<Fork>,
 }
 
 impl Pace {
-    /// Of a worker without an entry.
+    /// The record of a worker without an entry.
     pub fn new(alloc: Global) -> Pace
         ensures previous { result.previous ≡ PreviousKind.Other }
         ensures marks { result.marks.items ≡ [] }
     {
         Pace {
             previous: PreviousKind::Other,
-            marks: Roomy::new(alloc),
+            marks: ReservedVec::new(alloc),
         }
     }
 
-    /// Makes a place for one marking more.
+    /// Reserves capacity for one more marking.
     pub fn reserve(&mut self) -> Result<(), AllocError>
         ensures previous { self.new.previous ≡ self.old.previous }
         ensures items { self.new.marks.items ≡ self.old.marks.items }
@@ -54,8 +54,8 @@ impl Pace {
         self.marks.reserve(1)
     }
 
-    /// After steps, which ended with this fork where they ended with one. What is as it was isn't written, so that the
-    /// line of memory in which it stands stays with all processors.
+    /// Records steps, which ended with this fork if they ended with one. Unchanged values aren't written, so that their
+    /// cache line stays shared.
     pub fn after_steps(&mut self, fork: Option<Fork>)
         ensures { self.new ≡ record self.old { previous = previous_of fork } }
     {
@@ -66,7 +66,7 @@ impl Pace {
         }
     }
 
-    /// After the marking of a heap has begun, whose task waits on this fork.
+    /// Records that the marking of a heap has begun whose task waits on this fork.
     pub fn after_mark(&mut self, fork: Fork)
         requires { 0 < self.old.marks.room }
         ensures { self.new ≡ record { previous = PreviousKind.Other; marks = record { items = self.old.marks.items ++ fork ∷ []; room = self.old.marks.room - 1 } } }
@@ -75,7 +75,7 @@ impl Pace {
         self.marks.push_reserved(fork);
     }
 
-    /// After any other entry.
+    /// Records any other entry.
     pub fn after_other(&mut self)
         ensures { self.new ≡ record self.old { previous = PreviousKind.Other } }
     {
@@ -83,12 +83,12 @@ impl Pace {
     }
 }
 
-/// Whether a task that is at this has joined.
-pub fn is_joined(state: Option<State>) -> bool
+/// Whether a task in this state has joined.
+pub fn is_joined(state: Option<TaskState>) -> bool
     ensures { result ≡ is_state_joined state }
 {
     match state {
-        Some(State::Joined) => true,
+        Some(TaskState::Joined) => true,
         _ => false,
     }
 }

@@ -1,20 +1,20 @@
-// Where the marking of a heap begins, and how it does.
+// The start of the marking of a heap, and how it begins.
 
 ghost use Rattle.std.specs.Prelude.{◌≡◌, ◌++◌, All, IfOk, IfSome, IsSome, OnOk, slice_get};
 ghost use Rattle.std.specs.List.{flat_map};
-ghost use Rattle.shared_value.specs.below.object_layout.{HasObjectAt};
-ghost use Rattle.shared_value.specs.below.task_frames.{frames_of};
-ghost use Rattle.shared_value.specs.below.remembered_set.{into, AreFields};
-ghost use Rattle.shared_value.specs.below.leaf_copy_gc.{frame_references};
-ghost use Rattle.shared_value.specs.below.task_homes.{refs_in, resting};
-ghost use Rattle.shared_value.specs.Roots.{sources_of};
-ghost use Rattle.shared_value.specs.SharedValue.{rest_at};
-ghost use Rattle.heap_marking.specs.Starts.{starts_in, IsBegun};
+ghost use Rattle.core_invariant.specs.below.object_layout.{HasObjectAt};
+ghost use Rattle.core_invariant.specs.below.task_frames.{frames_of};
+ghost use Rattle.core_invariant.specs.below.remembered_set.{into, AreFields};
+ghost use Rattle.core_invariant.specs.below.copying_gc.{frame_references};
+ghost use Rattle.core_invariant.specs.below.task_slots.{refs_in, resting};
+ghost use Rattle.core_invariant.specs.Roots.{sources_of};
+ghost use Rattle.core_invariant.specs.SharedValue.{rest_at};
+ghost use Rattle.heap_marking.specs.Starts.{starts_in, MarkingHasBegun};
 
-use shared_value::{Addr, Frames, Heaps, LeafHeap, Marking, MarkingRoom, Rest, Work};
+use core_invariant::{Addr, Frames, Heaps, LeafHeap, Marking, MarkingRoom, ParkedTask, Work};
 use std::alloc::{AllocError, Global};
 
-// Adds a reference, if it leads into the heap.
+// Appends a reference, if it leads into the heap.
 fn push_own(
     starts: &mut Vec<Addr>,
     reference: Option<Addr>,
@@ -30,7 +30,7 @@ fn push_own(
     Ok(())
 }
 
-// Adds those of these references that lead into the heap.
+// Appends those of these references that lead into the heap.
 fn push_all_own(
     starts: &mut Vec<Addr>,
     references: &[Option<Addr>],
@@ -44,7 +44,7 @@ fn push_all_own(
     Ok(())
 }
 
-// Adds what the registers of frames hold of the heap.
+// Appends what the registers of frames hold of the heap.
 fn push_registers(
     starts: &mut Vec<Addr>,
     frames: &Frames,
@@ -59,10 +59,15 @@ fn push_registers(
     Ok(())
 }
 
-// What the remembered fields of the heap of a task at rest hold now, and what its registers do.
-fn starts_in(alloc: Global, heaps: &Heaps, task: u32, rest: &Rest) -> Result<Vec<Addr>, AllocError>
-    requires { AreFields refs_in (resting heaps.now) (sources_of (slice_get heaps.now.homes.sets task)) }
-    ensures { IfOk result (λ v. v.items ≡ starts_in (resting heaps.now) (sources_of (slice_get heaps.now.homes.sets task)) rest.now) }
+// What the remembered fields of the heap of a task at rest and its registers hold now.
+fn starts_in(
+    alloc: Global,
+    heaps: &Heaps,
+    task: u32,
+    rest: &ParkedTask,
+) -> Result<Vec<Addr>, AllocError>
+    requires { AreFields refs_in (resting heaps.now) (sources_of (slice_get heaps.now.task_slots.sets task)) }
+    ensures { IfOk result (λ v. v.items ≡ starts_in (resting heaps.now) (sources_of (slice_get heaps.now.task_slots.sets task)) rest.now) }
 {
     let mut starts = heaps.targets(alloc, task, rest.heap.chunks())?;
     if let Work::Calls(frames) = &rest.work {
@@ -71,20 +76,20 @@ fn starts_in(alloc: Global, heaps: &Heaps, task: u32, rest: &Rest) -> Result<Vec
     Ok(starts)
 }
 
-/// A marking in this room that has marked nothing yet, of the heap of a task at rest: it begins at what the heap's
-/// remembered fields hold now, and at what the task's registers do.
+/// A marking in these buffers that has marked nothing yet, of the heap of a task at rest: it starts at what the heap's
+/// remembered fields and the task's registers hold now.
 pub fn begin_marking(
     alloc: Global,
     room: MarkingRoom,
     heaps: &Heaps,
     task: u32,
 ) -> Result<Marking, AllocError>
-    requires there { IsSome (rest_at heaps.now.homes.rests task) }
-    requires fields { AreFields refs_in (resting heaps.now) (sources_of (slice_get heaps.now.homes.sets task)) }
-    requires held { IfSome (rest_at heaps.now.homes.rests task) (λ r. All (HasObjectAt r.heap.chunks) (starts_in (resting heaps.now) (sources_of (slice_get heaps.now.homes.sets task)) r)) }
-    ensures { IfOk result (λ m. IfSome (rest_at heaps.now.homes.rests task) (λ r. IsBegun r.heap.chunks (starts_in (resting heaps.now) (sources_of (slice_get heaps.now.homes.sets task)) r) m)) }
+    requires there { IsSome (rest_at heaps.now.task_slots.rests task) }
+    requires fields { AreFields refs_in (resting heaps.now) (sources_of (slice_get heaps.now.task_slots.sets task)) }
+    requires held { IfSome (rest_at heaps.now.task_slots.rests task) (λ r. All (HasObjectAt r.heap.chunks) (starts_in (resting heaps.now) (sources_of (slice_get heaps.now.task_slots.sets task)) r)) }
+    ensures { IfOk result (λ m. IfSome (rest_at heaps.now.task_slots.rests task) (λ r. MarkingHasBegun r.heap.chunks (starts_in (resting heaps.now) (sources_of (slice_get heaps.now.task_slots.sets task)) r) m)) }
 {
-    match heaps.homes.rest(task) {
+    match heaps.task_slots.rest(task) {
         Some(rest) => {
             let starts = starts_in(alloc, heaps, task, rest)?;
             Marking::begin_in(room, &rest.heap, &starts)

@@ -1,16 +1,14 @@
--- Lists that have just the items that are so, each once, in order.
-use Rattle.std.proofs.Common.{◌≡◌, ◌⊎◌, List, [], ◌∷◌, ◌++◌, inl, inr, refl, subst}
-use Rattle.shared_value.specs.below.listed.{In}
-use Rattle.shared_value.proofs.below.listed.{in_append_cases, in_append_left, in_append_right}
-use Rattle.heap_reading.specs.Image.{AreAll, Rises}
+-- Sorted lists of exactly the items with a property, each once.
+use Rattle.heap_reading.proofs.Common.{◌≡◌, ◌⊎◌, List, [], ◌∷◌, ◌++◌, inl, inr, refl, subst, in_append_cases, in_append_left, in_append_right, AreAll, Rises}
+use Rattle.core_invariant.specs.below.plain_vec.{In}
 
 module _ {A : Type 0} (before : A → A → Type 0) where
   pub rises_more : (xs : List A) (y : A) → Rises before xs → ((x : A) → In xs x → before x y) → Rises before (xs ++ y ∷ [])
   rises_more [] y up first = ((λ z i. absurd i), tt)
-  rises_more (x ∷ xs) y up first = (here, rises_more xs y up.1 (λ z i. first z (inr i)))
+  rises_more (x ∷ xs) y up first = (rises_more_here, rises_more xs y up.1 (λ z i. first z (inr i)))
     where
-      here : (z : A) → In (xs ++ y ∷ []) z → before x z
-      here z i = elim (in_append_cases xs (y ∷ []) z i) [
+      rises_more_here : (z : A) → In (xs ++ y ∷ []) z → before x z
+      rises_more_here z i = elim (in_append_cases xs (y ∷ []) z i) [
         | inl j ↦ up.0 z j
         | inr j ↦ elim j [ inl e ↦ subst (before x) e (first x (inl refl)) | inr none ↦ absurd none ]
       ]

@@ -6,3 +6,4 @@ pub mod InOrder
 pub mod LiveRead
 pub mod FieldsRead
 pub mod below
+mod Common

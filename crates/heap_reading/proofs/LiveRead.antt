@@ -1,14 +1,5 @@
 -- The tasks that haven't joined, and the chunks in use, one after another.
-use Rattle.std.proofs.Common.{◌≡◌, ℕ, ◌+◌, ◌<◌, ◌*◌, arith, List, [], ◌∷◌, ◌++◌, slice_get, inl, inr, ap, sym, subst, ◌∙◌}
-use Rattle.std.proofs.lemmas.Option.{same_Some}
-use Rattle.shared_value.proofs.below.listed.{below_next}
-use Rattle.shared_value.specs.below.hh_model.{owner_of}
-use Rattle.shared_value.specs.below.chunk_pool.{Slot, slot_at}
-use Rattle.shared_value.specs.below.heap_tree.{Node}
-use Rattle.shared_value.specs.SharedValue.{SharedValue, accounts}
-use Rattle.heap_reading.specs.declared.live.InUse.{InUse}
-use Rattle.heap_reading.specs.declared.live.Live.{Live}
-use Rattle.heap_reading.specs.Image.{AreAll, IsInUse, IsLiveIn}
+use Rattle.heap_reading.proofs.Common.{◌≡◌, ℕ, ◌+◌, ◌<◌, ◌*◌, arith, List, [], ◌∷◌, ◌++◌, slice_get, inl, inr, ap, sym, subst, ◌∙◌, same_Some, below_next, owner_of, Slot, slot_at, TaskNode, SharedValue, accounts, InUse, LiveTask, AreAll, IsInUse, IsLiveIn}
 use Rattle.heap_reading.proofs.InOrder.{all_more, all_none, all_same}
 
 module _ {A : Type 0} (number : A → ℕ) (Is : A → Type 0) (once : (x y : A) → Is x → Is y → number x ≡ number y → x ≡ y) where
@@ -38,11 +29,11 @@ module _ {A : Type 0} (number : A → ℕ) (Is : A → Type 0) (once : (x y : A)
   pub all_below : (k : ℕ) (xs : List A) → AreAll Before (Below k) xs → ((x : A) → Is x → number x < k) → AreAll Before Is xs
   all_below k xs all few = all_same Before (Below k) Is xs all (λ x h. h.0) (λ x h. (h, few x h))
 
-pub live_once : (tree : List Node) (x y : Live) → IsLiveIn tree x → IsLiveIn tree y → x.number ≡ y.number → x ≡ y
+pub live_once : (tree : List TaskNode) (x y : LiveTask) → IsLiveIn tree x → IsLiveIn tree y → x.number ≡ y.number → x ≡ y
 live_once tree x y a b e =
     let same : record { parent = x.parent; state = x.state } ≡ record { parent = y.parent; state = y.state } = same_Some (record { parent = x.parent; state = x.state }) (record { parent = y.parent; state = y.state }) (sym a.is ∙ (ap (slice_get tree) e ∙ b.is)) in
-    let p : x.parent ≡ y.parent = ap (λ (n : Node). n.parent) same in
-    let s : x.state ≡ y.state = ap (λ (n : Node). n.state) same in
+    let p : x.parent ≡ y.parent = ap (λ (n : TaskNode). n.parent) same in
+    let s : x.state ≡ y.state = ap (λ (n : TaskNode). n.state) same in
     λ i. record { number = e i; parent = p i; state = s i }
 
 pub chunk_once : (w : SharedValue) (c d : InUse) → IsInUse w c → IsInUse w d → c.number ≡ d.number → c ≡ d

@@ -1,27 +1,16 @@
 -- The tree of a shared value and the machine's tasks, whether or not the run has ended.
-use Rattle.std.proofs.Common.{◌≡◌, ℕ, Bool, true, false, Option, Some, None, List, [], ◌∷◌, option_map, slice_get, refl, ap, sym, subst, ◌∙◌}
-use Rattle.std.proofs.lemmas.Bool.{false≢true}
-use Rattle.std.proofs.lemmas.Option.{same_Some}
-use Rattle.shared_value.specs.below.hh_model.{State as MachineState, Status, Running, Waiting, Ended, Joined, Task, is_joined, is_over, joined, owner_of, parents, TreeOf, joins_in, waiting}
-use Rattle.shared_value.specs.below.path_laws.{AreOwners, IsWalkOfJoined}
-use Rattle.shared_value.proofs.below.path_laws.{owners_are_walks}
-use Rattle.shared_value.specs.below.run_ledger.{Ledger, heap_of, SoundLedger}
-use Rattle.shared_value.proofs.below.run_ledger.{legal_sound}
-use Rattle.shared_value.specs.below.heap_tree.{State, Ready, Out, Waiting as Waits, Ended as HasEnded, Joined as HasJoined, Node}
-use Rattle.shared_value.specs.below.core_relation.{handed, state_by, as_node}
-use Rattle.shared_value.specs.SharedValue.{SharedValue, accounts}
-use Rattle.shared_value.specs.Stands.{IsSharedValue}
-use Rattle.shared_value.proofs.BeforeTheEnd.{goes_by}
+use Rattle.heap_reading.proofs.Common.{◌≡◌, ℕ, Bool, true, false, Option, Some, None, List, [], ◌∷◌, option_map, slice_get, refl, ap, sym, subst, ◌∙◌, false≢true, same_Some, MachineState, TaskStatus, Running, Waiting, Ended, Joined, Task, is_joined, is_over, joined, owner_of, parents, TreeOf, joins_in, waiting, AreOwners, IsWalkOfJoined, owners_are_walks, Ledger, heap_of, SoundLedger, legal_sound, TaskState, Ready, Out, TaskNode, handed, state_by, as_node, SharedValue, accounts, IsSharedValue, goes_by}
+use Rattle.core_invariant.specs.below.heap_tree.{Waiting as Waits, Ended as HasEnded, Joined as HasJoined}
 
--- WHO HAS JOINED
-has_joined : State → Bool
+-- JOINED TASKS
+has_joined : TaskState → Bool
 has_joined Ready = false
 has_joined Out = false
 has_joined Waits = false
 has_joined HasEnded = false
 has_joined HasJoined = true
 
-by_status : (s : Status) (o : Option ℕ) → has_joined (state_by s o) ≡ is_over s
+by_status : (s : TaskStatus) (o : Option ℕ) → has_joined (state_by s o) ≡ is_over s
 unfolding has_joined
 by_status Running None = refl
 by_status Running (Some w) = refl
@@ -29,11 +18,11 @@ by_status Waiting o = refl
 by_status (Ended n r) o = refl
 by_status Joined o = refl
 
-joined_state : (s : State) → s ≡ HasJoined → has_joined s ≡ true
+joined_state : (s : TaskState) → s ≡ HasJoined → has_joined s ≡ true
 unfolding has_joined
 joined_state s e = ap has_joined e
 
-live_state : (s : State) → (s ≡ HasJoined → ⊥) → has_joined s ≡ false
+live_state : (s : TaskState) → (s ≡ HasJoined → ⊥) → has_joined s ≡ false
 unfolding has_joined
 live_state Ready off = refl
 live_state Out off = refl
@@ -41,22 +30,22 @@ live_state Waits off = refl
 live_state HasEnded off = refl
 live_state HasJoined off = absurd (off refl)
 
--- a node and the task that it stands for
-pub record IsNodeOf (worker : Option ℕ) (n : Node) (x : Task) : Type 0 where
+-- a node and its task
+pub record IsNodeOf (worker : Option ℕ) (n : TaskNode) (x : Task) : Type 0 where
   pub parent : n.parent ≡ x.parent
   pub state : n.state ≡ state_by x.status worker
 
-task_by : (worker : Option ℕ) (n : Node) (x : Option Task) → Some n ≡ option_map (as_node worker) x → (y : Task) × (x ≡ Some y) × IsNodeOf worker n y
+task_by : (worker : Option ℕ) (n : TaskNode) (x : Option Task) → Some n ≡ option_map (as_node worker) x → (y : Task) × (x ≡ Some y) × IsNodeOf worker n y
 task_by worker n None e = absurd cc
 task_by worker n (Some y) e =
     let same = same_Some n (as_node worker y) e in
-    (y, refl, record { parent = ap (λ (z : Node). z.parent) same; state = ap (λ (z : Node). z.state) same })
+    (y, refl, record { parent = ap (λ (z : TaskNode). z.parent) same; state = ap (λ (z : TaskNode). z.state) same })
 
-node_by : (worker : Option ℕ) (n : Option Node) (x : Task) → n ≡ Some (as_node worker x) → (m : Node) × (n ≡ Some m) × IsNodeOf worker m x
+node_by : (worker : Option ℕ) (n : Option TaskNode) (x : Task) → n ≡ Some (as_node worker x) → (m : TaskNode) × (n ≡ Some m) × IsNodeOf worker m x
 node_by worker None x e = absurd cc
 node_by worker (Some m) x e =
     let same = same_Some m (as_node worker x) e in
-    (m, refl, record { parent = ap (λ (z : Node). z.parent) same; state = ap (λ (z : Node). z.state) same })
+    (m, refl, record { parent = ap (λ (z : TaskNode). z.parent) same; state = ap (λ (z : TaskNode). z.state) same })
 
 -- OWNERS
 walk_end : (par : ℕ → Option ℕ) (jd : ℕ → Bool) (t a b : ℕ) (ps qs : List ℕ) → IsWalkOfJoined par jd t ps a → IsWalkOfJoined par jd t qs b → jd a ≡ false → jd b ≡ false → a ≡ b
@@ -89,32 +78,32 @@ module _ (w : SharedValue) (I : IsSharedValue w) where
   nodes : (t : ℕ) → slice_get w.tree t ≡ option_map (as_node (worker t)) (slice_get l.machine.tasks t)
   nodes t = I.stands.tree_counts.node t ∙ ap (λ (m : MachineState). option_map (as_node (worker t)) (slice_get m.tasks t)) same_machine
 
-  pub task_of : (t : ℕ) (n : Node) → slice_get w.tree t ≡ Some n → (x : Task) × (slice_get l.machine.tasks t ≡ Some x) × IsNodeOf (worker t) n x
+  pub task_of : (t : ℕ) (n : TaskNode) → slice_get w.tree t ≡ Some n → (x : Task) × (slice_get l.machine.tasks t ≡ Some x) × IsNodeOf (worker t) n x
   task_of t n e = task_by (worker t) n (slice_get l.machine.tasks t) (sym e ∙ nodes t)
 
-  pub node_at : (t : ℕ) (x : Task) → slice_get l.machine.tasks t ≡ Some x → (n : Node) × (slice_get w.tree t ≡ Some n) × IsNodeOf (worker t) n x
+  pub node_at : (t : ℕ) (x : Task) → slice_get l.machine.tasks t ≡ Some x → (n : TaskNode) × (slice_get w.tree t ≡ Some n) × IsNodeOf (worker t) n x
   node_at t x e = node_by (worker t) (slice_get w.tree t) x (nodes t ∙ ap (option_map (as_node (worker t))) e)
 
-  pub joined_now : (t : ℕ) (n : Node) → slice_get w.tree t ≡ Some n → n.state ≡ HasJoined → joined l.machine.tasks t ≡ true
+  pub joined_now : (t : ℕ) (n : TaskNode) → slice_get w.tree t ≡ Some n → n.state ≡ HasJoined → joined l.machine.tasks t ≡ true
   unfolding has_joined
   joined_now t n e j =
       let k = task_of t n e in
       ap is_joined k.1 ∙ (sym (by_status k.0.status (worker t)) ∙ (ap has_joined (sym k.2.state) ∙ joined_state n.state j))
 
-  pub live_now : (t : ℕ) (n : Node) → slice_get w.tree t ≡ Some n → (n.state ≡ HasJoined → ⊥) → joined l.machine.tasks t ≡ false
+  pub live_now : (t : ℕ) (n : TaskNode) → slice_get w.tree t ≡ Some n → (n.state ≡ HasJoined → ⊥) → joined l.machine.tasks t ≡ false
   unfolding has_joined
   live_now t n e j =
       let k = task_of t n e in
       ap is_joined k.1 ∙ (sym (by_status k.0.status (worker t)) ∙ (ap has_joined (sym k.2.state) ∙ live_state n.state j))
 
   pub unmade_now : (t : ℕ) → slice_get w.tree t ≡ None → slice_get l.machine.tasks t ≡ None
-  unmade_now t e = by (slice_get l.machine.tasks t) (sym (nodes t) ∙ e)
+  unmade_now t e = unmade_now_by_cases (slice_get l.machine.tasks t) (sym (nodes t) ∙ e)
     where
-      by : (o : Option Task) → option_map (as_node (worker t)) o ≡ None → o ≡ None
-      by None z = refl
-      by (Some x) z = absurd cc
+      unmade_now_by_cases : (o : Option Task) → option_map (as_node (worker t)) o ≡ None → o ≡ None
+      unmade_now_by_cases None z = refl
+      unmade_now_by_cases (Some x) z = absurd cc
 
-  -- who has joined owns nothing: what it had is its parent's
+  -- a task that has joined owns nothing: what it had is its parent's
   pub owner_up : (t p : ℕ) → joined l.machine.tasks t ≡ true → parents l.machine.tasks t ≡ Some p → owner_of l.machine.tasks t ≡ owner_of l.machine.tasks p
   owner_up t p j e =
       let a = owners.walks t in
@@ -124,18 +113,18 @@ module _ (w : SharedValue) (I : IsSharedValue w) where
   pub owner_live : (t : ℕ) → joined l.machine.tasks t ≡ false → owner_of l.machine.tasks t ≡ t
   owner_live t live = owners.own t live
 
-  -- as the tree tells it
-  state_in : (n : Option Node) (s : State) → option_map (λ (m : Node). m.state) n ≡ Some s → (m : Node) × (n ≡ Some m) × (m.state ≡ s)
+  -- by the tree
+  state_in : (n : Option TaskNode) (s : TaskState) → option_map (λ (m : TaskNode). m.state) n ≡ Some s → (m : TaskNode) × (n ≡ Some m) × (m.state ≡ s)
   state_in None s e = absurd cc
   state_in (Some m) s e = (m, refl, same_Some m.state s e)
 
-  pub told_joined : (t : ℕ) → option_map (λ (m : Node). m.state) (slice_get w.tree t) ≡ Some HasJoined → joined l.machine.tasks t ≡ true
+  pub told_joined : (t : ℕ) → option_map (λ (m : TaskNode). m.state) (slice_get w.tree t) ≡ Some HasJoined → joined l.machine.tasks t ≡ true
   told_joined t e = let k = state_in (slice_get w.tree t) HasJoined e in joined_now t k.0 k.1 k.2
 
-  pub told_live : (t : ℕ) (o : Option State) → option_map (λ (m : Node). m.state) (slice_get w.tree t) ≡ o → (o ≡ Some HasJoined → ⊥) → joined l.machine.tasks t ≡ false
+  pub told_live : (t : ℕ) (o : Option TaskState) → option_map (λ (m : TaskNode). m.state) (slice_get w.tree t) ≡ o → (o ≡ Some HasJoined → ⊥) → joined l.machine.tasks t ≡ false
   told_live t None e off = ap is_joined (unmade_now t (none_in (slice_get w.tree t) e))
     where
-      none_in : (n : Option Node) → option_map (λ (m : Node). m.state) n ≡ None → n ≡ None
+      none_in : (n : Option TaskNode) → option_map (λ (m : TaskNode). m.state) n ≡ None → n ≡ None
       none_in None z = refl
       none_in (Some m) z = absurd cc
   told_live t (Some s) e off = let k = state_in (slice_get w.tree t) s e in live_now t k.0 k.1 (λ j. off (ap Some (sym k.2 ∙ j)))

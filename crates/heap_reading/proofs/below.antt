@@ -1,11 +1,11 @@
--- What crates above name of the crates below.
-pub mod core_entry_laws
-pub mod core_relation
+-- Re-exports from lower crates for the crates above.
+pub mod refinement_laws
+pub mod refinement
 pub mod hh_model
 pub mod journal_laws
 pub mod ledger_step_laws
-pub mod listed
+pub mod plain_vec
 pub mod path_laws
 pub mod run_ledger
-pub mod shared_value
+pub mod core_invariant
 pub mod task_machine

@@ -1,10 +1,10 @@
--- What the heaps of tasks hold that don't run, task by task.
+-- What the heaps of tasks that don't run hold, task by task.
 use Rattle.std.specs.Prelude.{ℕ, Bool, true, false, Option, Some, None, List, [], if◌then◌else◌, slice_get}
-use Rattle.shared_value.specs.below.hh_model.{Name, is_running}
-use Rattle.shared_value.specs.below.run_ledger.{Ledger, heap_of, held_in}
-use Rattle.shared_value.specs.below.heap_tree.{State, Ready, Out, Waiting, Ended, Joined}
+use Rattle.core_invariant.specs.below.hh_model.{Name, is_running}
+use Rattle.core_invariant.specs.below.run_ledger.{Ledger, heap_of, held_in}
+use Rattle.core_invariant.specs.below.heap_tree.{TaskState, Ready, Out, Waiting, Ended, Joined}
 
-abbrev pub is_state_running : Option State → Bool
+abbrev pub is_state_running : Option TaskState → Bool
 is_state_running None = false
 is_state_running (Some Ready) = true
 is_state_running (Some Out) = true

@@ -1,15 +1,15 @@
-// What the heaps of tasks that don't run hold, as it is told.
+// What the heaps of tasks that don't run hold, for images.
 #![tactic(auto)]
 
 mod live;
 mod noted;
 mod seen;
 
-pub use live::{InUse, Live, is_running, live_in};
-pub use noted::{Field, fields_of};
-pub use seen::{Seen, number_of, seen_in};
-pub use shared_value::{
-    Addr, Apart, CHUNK_WORDS, Chunk, End, Entry, Kind, Listed, MARKED_AT_ONCE, Moved, Owed,
-    PRIVATE_LIMIT, Paused, Private, Program, Refused, RefusedAt, Report, RunEnd, Settings, State,
-    ToChunks, Version, leaf_copy_gc_copy as copy, run_local,
+pub use core_invariant::{
+    Addr, BoxedSlot, CHUNK_WORDS, Chunk, End, Entry, Kind, Listed, MARKED_AT_ONCE, Moved, Owed,
+    PRIVATE_LIMIT, Paused, Private, Program, Refused, RefusedAt, Report, RunEnd, Settings,
+    TaskState, ToChunks, Version, copying_gc_copy as copy, run_local,
 };
+pub use live::{InUse, LiveTask, is_running, live_in};
+pub use noted::{FieldAt, fields_of};
+pub use seen::{SeenObject, number_of, seen_in};

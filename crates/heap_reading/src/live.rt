@@ -1,18 +1,18 @@
-// Tasks that run, tasks that haven't joined, and chunks in use, as they are told.
+// Running tasks, tasks that haven't joined, and chunks in use.
 
 ghost use Rattle.std.specs.Prelude.{◌≡◌, IfOk, IfSome, None};
 ghost use Rattle.heap_reading.specs.HeldNames.{is_state_running};
 ghost use Rattle.heap_reading.specs.Image.{AreAll, IsLiveIn, LiveBefore};
 
-use shared_value::{Listed, State, Tree};
+use core_invariant::{Listed, TaskState, Tree};
 use std::alloc::{AllocError, Global};
 
 /// A task that hasn't joined.
 #[derive(Clone, Copy)]
-pub struct Live {
+pub struct LiveTask {
     pub number: u32,
     pub parent: Option<u32>,
-    pub state: State,
+    pub state: TaskState,
 }
 
 /// A chunk in use: its number, its owner and its words.
@@ -23,27 +23,27 @@ pub struct InUse {
     pub words: u64,
 }
 
-/// Whether a task that is at this runs.
-pub fn is_running(state: Option<State>) -> bool
+/// Whether a task in this state runs.
+pub fn is_running(state: Option<TaskState>) -> bool
     ensures { result ≡ is_state_running state }
 {
     match state {
-        Some(State::Ready) => true,
-        Some(State::Out) => true,
+        Some(TaskState::Ready) => true,
+        Some(TaskState::Out) => true,
         _ => false,
     }
 }
 
-// The task of a number, where it was made and hasn't joined.
-fn live_task(tree: &Tree, number: u32) -> Option<Live>
+// The task of a number, if it exists and hasn't joined.
+fn live_task(tree: &Tree, number: u32) -> Option<LiveTask>
     ensures there { IfSome result (λ x. IsLiveIn tree.now x) }
     ensures number { IfSome result (λ x. x.number ≡ number) }
-    ensures none { result ≡ None → (x : Live) → x.number ≡ number → IsLiveIn tree.now x → ⊥ }
+    ensures none { result ≡ None → (x : LiveTask) → x.number ≡ number → IsLiveIn tree.now x → ⊥ }
 {
     match tree.state(number) {
         None => None,
-        Some(State::Joined) => None,
-        Some(state) => Some(Live {
+        Some(TaskState::Joined) => None,
+        Some(state) => Some(LiveTask {
             number,
             parent: tree.parent(number),
             state,
@@ -51,8 +51,8 @@ fn live_task(tree: &Tree, number: u32) -> Option<Live>
     }
 }
 
-/// The tasks of a tree that haven't joined, by rising number.
-pub fn live_in(alloc: Global, tree: &Tree) -> Result<Listed<Live>, AllocError>
+/// The tasks of a tree that haven't joined, by ascending number.
+pub fn live_in(alloc: Global, tree: &Tree) -> Result<Listed<LiveTask>, AllocError>
     ensures { IfOk result (λ tasks. AreAll LiveBefore (IsLiveIn tree.now) tasks) }
 {
     let mut tasks = Listed::new(alloc);

@@ -1,20 +1,20 @@
-// The objects of a chunk as they are told.
+// The objects of a chunk, for images.
 
 ghost use Rattle.std.specs.Prelude.{◌≡◌, ◌^◌, ◌<◌, All, IfOk, IfSome, FitsSigned, None, length, map};
 ghost use Rattle.std.specs.Int.{w64};
-ghost use Rattle.shared_value.specs.below.object_layout.{IsBorn, IsRef, moved_to, Born as IsBornAs, word_of_ref, cell_at, object_at, Birth as BirthOf, located};
-ghost use Rattle.shared_value.specs.Objects.{chunk_of};
+ghost use Rattle.core_invariant.specs.below.object_layout.{IsBorn, IsRef, moved_to, Born as IsBornAs, word_of_ref, cell_at, object_at, Birth as BirthOf, located};
+ghost use Rattle.core_invariant.specs.Objects.{chunk_of};
 ghost use Rattle.heap_reading.specs.Image.{in_words, AreInWords};
 
-use shared_value::{
+use core_invariant::{
     Addr, Birth, CHUNK_WORDS, Chunk, Listed, birth_at, header_at, int_at, is_object_at, next_at,
     ref_at,
 };
 use std::alloc::{AllocError, Global};
 
-/// An object as it is read. Addresses are numbers: 1,024 times the chunk's, and the offset, and 1; nil is 0.
+/// An object as it is read. address = 1024 × chunk + offset + 1; nil is 0.
 #[derive(Drop)]
-pub struct Seen {
+pub struct SeenObject {
     pub at: u64,
     pub birth: Birth,
     pub mutable: bool,
@@ -67,14 +67,14 @@ fn ints_at(alloc: Global, chunk: &Chunk, at: u32, count: u32) -> Result<Listed<i
 }
 
 // The object at an offset.
-fn seen_at(alloc: Global, chunk: &Chunk, at: u32) -> Result<Seen, AllocError>
+fn seen_at(alloc: Global, chunk: &Chunk, at: u32) -> Result<SeenObject, AllocError>
     requires { IsBorn (cell_at chunk.now.cells at).mark }
     ensures object { IfOk result (λ o. (b : BirthOf) → (cell_at chunk.now.cells at).mark ≡ IsBornAs b → o ≡ in_words (located chunk.now.number at b (cell_at chunk.now.cells at))) }
     ensures refs { IfOk result (λ o. All IsRef (cell_at chunk.now.cells at).refs) }
     ensures ints { IfOk result (λ o. All (FitsSigned w64) (cell_at chunk.now.cells at).ints) }
 {
     let header = header_at(chunk, at);
-    Ok(Seen {
+    Ok(SeenObject {
         at: number_of(Addr {
             chunk: chunk.number(),
             offset: at,
@@ -87,7 +87,7 @@ fn seen_at(alloc: Global, chunk: &Chunk, at: u32) -> Result<Seen, AllocError>
 }
 
 /// The objects of a chunk in which none was moved.
-pub fn seen_in(alloc: Global, chunk: &Chunk) -> Result<Listed<Seen>, AllocError>
+pub fn seen_in(alloc: Global, chunk: &Chunk) -> Result<Listed<SeenObject>, AllocError>
     requires { All (λ c. moved_to c.mark ≡ None) chunk.now.cells }
     ensures objects { IfOk result (λ objects. objects ≡ map in_words (chunk_of chunk.now).objects) }
     ensures words { IfOk result (λ objects. AreInWords (chunk_of chunk.now).objects) }

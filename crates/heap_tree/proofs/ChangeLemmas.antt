@@ -1,19 +1,10 @@
--- What a change of state and a fork leave, and what they make.
-use Rattle.std.proofs.Common.{◌≡◌, ◌≢◌, ℕ, ◌+◌, ◌-◌, ◌<◌, ◌≤◌, ◌%◌, arith, List, [], ◌∷◌, ◌++◌, length, set, ◌⊎◌, inl, inr, refl, sym, ap, ◌∙◌, subst, Option, Some, None, slice_get, append_assoc, length-append, length-set}
-use Rattle.std.specs.Prelude.{option_map}
-use Rattle.std.proofs.Math.Path.{fun_ext}
-use Rattle.std.proofs.lemmas.Bool.{cases_eq, cases_lt, eq-eqb, ne_eqb}
-use Rattle.heap_tree.specs.declared.state.State.{State}
-use Rattle.heap_tree.specs.declared.state.State.TheVariants.{Waiting}
-use Rattle.heap_tree.specs.Node.{Node, parent_in, parent_of, set_at, state_of, with_state, child_of, forked}
-use Rattle.heap_tree.specs.Pairs.{ArePaired, sibling}
-use Rattle.heap_tree.specs.Laws.{ForkMakes, StatesChange}
-use Rattle.listed.proofs.Members.{got_front, got_other, view_step}
-use Rattle.listed.proofs.Places.{got_last, got_none, got_set}
+-- What a change of state and a fork keep, and what they change.
+use Rattle.heap_tree.proofs.Common.{◌≡◌, ◌≢◌, ℕ, ◌+◌, ◌-◌, ◌<◌, ◌≤◌, ◌%◌, arith, List, [], ◌∷◌, ◌++◌, length, set, ◌⊎◌, inl, inr, refl, sym, ap, ◌∙◌, subst, Option, Some, None, slice_get, append_assoc, length-append, length-set, option_map, fun_ext, cases_eq, cases_lt, ne_eqb, got_front, got_other, view_step, got_last, got_none, got_set, TaskState, Waiting, TaskNode, parent_in, parent_of, set_at, state_of, with_state, child_of, forked, ArePaired, sibling, ForkMakes, StatesChange}
+use Rattle.std.proofs.lemmas.Bool.{eq-eqb}
 
 -- ---- a change of state
 
-changes_by : (nodes : List Node) (t : ℕ) (s : State) (o : Option Node) → slice_get nodes t ≡ o
+changes_by : (nodes : List TaskNode) (t : ℕ) (s : TaskState) (o : Option TaskNode) → slice_get nodes t ≡ o
     → (length (set_at nodes t s o) ≡ length nodes)
     × ((u : ℕ) → parent_of (set_at nodes t s o) u ≡ parent_of nodes u)
     × (t < length nodes → state_of (set_at nodes t s o) t ≡ Some s)
@@ -22,8 +13,8 @@ changes_by nodes t s None e = (refl, (λ u. refl), (λ lt. absurd (got_none node
 changes_by nodes t s (Some n) e = (
   simp length-set,
   view_step parent_in nodes t n (record n { state = s }) e refl,
-  (λ lt. ap (λ (o : Option Node). option_map (λ (x : Node). x.state) o) (got_set nodes t (record n { state = s }) lt)),
-  (λ u ne. ap (λ (o : Option Node). option_map (λ (x : Node). x.state) o) (got_other nodes t u (record n { state = s }) ne)),
+  (λ lt. ap (λ (o : Option TaskNode). option_map (λ (x : TaskNode). x.state) o) (got_set nodes t (record n { state = s }) lt)),
+  (λ u ne. ap (λ (o : Option TaskNode). option_map (λ (x : TaskNode). x.state) o) (got_other nodes t u (record n { state = s }) ne)),
 )
 
 pub states_change : StatesChange
@@ -31,19 +22,19 @@ states_change nodes t s =
     let all = changes_by nodes t s (slice_get nodes t) refl in
     record { count = all.0; parents = fun_ext all.1; set = all.2; others = all.3 }
 
-state_length : (nodes : List Node) (t : ℕ) (s : State) → length (with_state nodes t s) ≡ length nodes
+state_length : (nodes : List TaskNode) (t : ℕ) (s : TaskState) → length (with_state nodes t s) ≡ length nodes
 state_length nodes t s = (changes_by nodes t s (slice_get nodes t) refl).0
 
-state_parent : (nodes : List Node) (t : ℕ) (s : State) (u : ℕ) → parent_of (with_state nodes t s) u ≡ parent_of nodes u
+state_parent : (nodes : List TaskNode) (t : ℕ) (s : TaskState) (u : ℕ) → parent_of (with_state nodes t s) u ≡ parent_of nodes u
 state_parent nodes t s = (changes_by nodes t s (slice_get nodes t) refl).1
 
 -- ---- a fork
 
-module _ (nodes : List Node) (t : ℕ) where
-  abbrev c : Node
+module _ (nodes : List TaskNode) (t : ℕ) where
+  abbrev c : TaskNode
   c = child_of t
 
-  abbrev old : List Node
+  abbrev old : List TaskNode
   old = with_state nodes t Waiting
 
   count : length old ≡ length nodes
@@ -68,12 +59,12 @@ module _ (nodes : List Node) (t : ℕ) where
   first =
       let there : slice_get (old ++ c ∷ []) (length nodes) ≡ Some c = subst (λ (n : ℕ). slice_get (old ++ c ∷ []) n ≡ Some c) count (got_last old c) in
       let few : length nodes < length (old ++ c ∷ []) = let m : length (old ++ c ∷ []) ≡ length nodes + 1 = more in omega arith in
-      ap (λ (xs : List Node). slice_get xs (length nodes)) split ∙ (got_front (old ++ c ∷ []) (c ∷ []) (length nodes) few ∙ there)
+      ap (λ (xs : List TaskNode). slice_get xs (length nodes)) split ∙ (got_front (old ++ c ∷ []) (c ∷ []) (length nodes) few ∙ there)
 
   second : slice_get (forked nodes t) (length nodes + 1) ≡ Some c
   second =
       let there : slice_get ((old ++ c ∷ []) ++ c ∷ []) (length nodes + 1) ≡ Some c = subst (λ (n : ℕ). slice_get ((old ++ c ∷ []) ++ c ∷ []) n ≡ Some c) more (got_last (old ++ c ∷ []) c) in
-      ap (λ (xs : List Node). slice_get xs (length nodes + 1)) split ∙ there
+      ap (λ (xs : List TaskNode). slice_get xs (length nodes + 1)) split ∙ there
 
   pub first_parent : parent_of (forked nodes t) (length nodes) ≡ Some t
   first_parent = ap parent_in first
@@ -81,8 +72,8 @@ module _ (nodes : List Node) (t : ℕ) where
   pub second_parent : parent_of (forked nodes t) (length nodes + 1) ≡ Some t
   second_parent = ap parent_in second
 
-  abbrev state : Option Node → Option State
-  state o = option_map (λ (x : Node). x.state) o
+  abbrev state : Option TaskNode → Option TaskState
+  state o = option_map (λ (x : TaskNode). x.state) o
 
   pub makes : t < length nodes → ForkMakes nodes t
   makes made = record {
@@ -104,7 +95,7 @@ sibling_left t e = rw (eq-eqb (t % 2) 1 e) refl
 sibling_right : (t : ℕ) → (t % 2 ≡ 1 → ⊥) → sibling t ≡ t - 1
 sibling_right t e = rw (ne_eqb (t % 2) 1 e) refl
 
-states : (nodes : List Node) (t : ℕ) (s : State) → ArePaired nodes → ArePaired (with_state nodes t s)
+states : (nodes : List TaskNode) (t : ℕ) (s : TaskState) → ArePaired nodes → ArePaired (with_state nodes t s)
 states nodes t s pairs = record {
   odd = ap (λ (n : ℕ). n % 2) (state_length nodes t s) ∙ pairs.odd;
   shared = λ u made child.
@@ -112,7 +103,7 @@ states nodes t s pairs = record {
       state_parent nodes t s (sibling u) ∙ (pairs.shared u was child ∙ sym (state_parent nodes t s u));
 }
 
-module _ (nodes : List Node) (t : ℕ) (pairs : ArePaired nodes) where
+module _ (nodes : List TaskNode) (t : ℕ) (pairs : ArePaired nodes) where
   old_sibling : (u : ℕ) → u < length nodes → (u ≡ 0 → ⊥) → sibling u < length nodes
   old_sibling u made child = elim (cases_eq (u % 2) 1) [
     | inl e ↦

@@ -2,3 +2,4 @@ mod WalkLemmas
 mod TreeLemmas
 pub mod ChangeLemmas
 mod PairLemmas
+mod Common

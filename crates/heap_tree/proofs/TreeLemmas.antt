@@ -1,22 +1,6 @@
 -- What callers see of the tree, from the links that it keeps.
-use Rattle.std.proofs.Common.{◌≡◌, ◌==◌, ℕ, zero, suc, ◌+◌, ◌-◌, ◌<◌, ◌≤◌, ◌^◌, Bool, true, false, IsTrue, Option, Some, None, List, [], ◌∷◌, ◌++◌, length, map, set, slice_get, slice_set, option_map, IfSome, inl, inr, refl, sym, ap, subst, ◌∙◌, arith, append_assoc, eqb-true, eq-eqb, length-append}
-use Rattle.std.proofs.lemmas.List.{length-set, length-map}
-use Rattle.std.proofs.lemmas.List.{map-set, map-append}
-use Rattle.std.proofs.lemmas.Option.{slice_get-map, slice_get_within, same_Some}
-use Rattle.std.proofs.lemmas.Bool.{cases_lt, false≢true}
-use Rattle.far_links.specs.Links.{next_far, AreLinked, IsNewLink}
-use Rattle.far_links.proofs.Walks.{walk_depth}
-use Rattle.far_links.proofs.Lists.{linked_more}
-use Rattle.hh_model.specs.Step.{depth_limit}
-use Rattle.heap_tree.specs.declared.state.State.{State}
-use Rattle.heap_tree.specs.declared.state.State.TheVariants.{Ready, Waiting}
-use Rattle.heap_tree.specs.declared.links.Linked.{Linked}
-use Rattle.heap_tree.specs.Walk.{ancestor, IsUpFrom, depth_in, path_in}
-use Rattle.heap_tree.specs.Node.{Node, parent_in, parent_of, state_of, depth_of, is_on_path, set_at, with_state, child_of, forked, IsTree}
-use Rattle.heap_tree.specs.Links.{node_of, linked_parent, linked_depth, linked_far, parent_at, depth_at, far_at, IsLinked}
-use Rattle.listed.proofs.Members.{got_front, view_step}
-use Rattle.listed.proofs.Options.{same_truth}
-use Rattle.listed.proofs.Places.{got_last, got_some}
+use Rattle.heap_tree.proofs.Common.{◌≡◌, ◌==◌, ℕ, zero, suc, ◌+◌, ◌-◌, ◌<◌, ◌≤◌, ◌^◌, Bool, true, false, IsTrue, Option, Some, None, List, [], ◌∷◌, ◌++◌, length, map, set, slice_get, slice_set, option_map, IfSome, inl, inr, refl, sym, ap, subst, ◌∙◌, arith, append_assoc, eqb-true, eq-eqb, length-append, length-map, map-set, map-append, slice_get-map, slice_get_within, same_Some, cases_lt, false≢true, next_far, AreLinked, IsNewLink, walk_depth, linked_more, depth_limit, got_front, view_step, same_truth, got_last, got_some, TaskState, Ready, Waiting, Linked, ancestor, IsUpFrom, depth_in, path_in, TaskNode, parent_in, parent_of, state_of, depth_of, is_on_path, set_at, with_state, child_of, forked, IsTree, node_of, linked_parent, linked_depth, linked_far, parent_at, depth_at, far_at, IsLinked}
+use Rattle.std.proofs.lemmas.List.{length-set}
 use Rattle.heap_tree.proofs.WalkLemmas.{depth_in_is, walk_from_path, path_from_walk}
 
 parent_in_map : (o : Option Linked) → parent_in (option_map node_of o) ≡ linked_parent o
@@ -78,20 +62,20 @@ module _ (es : List Linked) (linked : IsLinked es) where
       absurd (omega arith))
       (λ no. absurd (false≢true no))
 
-  -- the owner is on the path exactly where the task at its depth on the path is the owner
+  -- the owner is on the path if and only if the task at its depth on the path is the owner
   pub on_path_here : (t a r : ℕ) → ancestor (parent_at es) (depth_at es t - depth_at es a) t ≡ Some r → (r == a) ≡ is_on_path (map node_of es) a t
   on_path_here t a r up = rw (parents_seen es) (kept_here t a r up)
 
   pub on_path_deeper : (t a : ℕ) → depth_at es t < depth_at es a → is_on_path (map node_of es) a t ≡ false
   on_path_deeper t a lt = rw (parents_seen es) (kept_deeper t a lt)
 
-  -- the test of a path says what walks say
+  -- the test of a path agrees with walks
   pub on_path_walks : (t a : ℕ) → (IsTrue (is_on_path (map node_of es) a t) → IsUpFrom (parent_of (map node_of es)) t a) × (IsUpFrom (parent_of (map node_of es)) t a → IsTrue (is_on_path (map node_of es) a t))
   on_path_walks t a = rw (parents_seen es) (walks_path a t, path_walks a t)
 
 -- ---- another state
 
-module _ (es : List Linked) (t : ℕ) (e : Linked) (state : State) (is : slice_get es t ≡ Some e) where
+module _ (es : List Linked) (t : ℕ) (e : Linked) (state : TaskState) (is : slice_get es t ≡ Some e) where
   abbrev changed : List Linked
   changed = set es t (record e { state = state })
 
@@ -113,7 +97,7 @@ module _ (es : List Linked) (t : ℕ) (e : Linked) (state : State) (is : slice_g
       let got : slice_get (map node_of es) t ≡ Some (node_of e) = slice_get-map node_of es t ∙ ap (option_map node_of) is in
       map-set node_of es t (record e { state = state }) ∙ sym (ap (set_at (map node_of es) t state) got)
 
--- ---- one child more
+-- ---- one more child
 
 module _ (es : List Linked) (t : ℕ) (c : Linked) (made : t < length es) (its_par : c.parent ≡ Some t) (its_dep : c.depth ≡ depth_at es t + 1) (its_far : c.far ≡ next_far (depth_at es) (far_at es) t) where
   abbrev grown : List Linked
@@ -141,7 +125,7 @@ module _ (es : List Linked) (t : ℕ) (c : Linked) (made : t < length es) (its_p
   grown_far : (u : ℕ) → u < length es → far_at grown u ≡ far_at es u
   grown_far u lt = ap linked_far (got_front es (c ∷ []) u lt)
 
-  -- a sibling's far link leads where the child's does
+  -- a sibling's far link has the same target as the child's
   pub same_far : AreLinked (length es) (parent_at es) (depth_at es) (far_at es) → next_far (depth_at grown) (far_at grown) t ≡ next_far (depth_at es) (far_at es) t
   same_far links =
       let l : far_at es t ≤ t = links.far_low t made in
@@ -189,13 +173,13 @@ module _ (es : List Linked) (t : ℕ) (e c : Linked) (is : slice_get es t ≡ So
   fork_seen its_par its_state =
       let child : node_of c ≡ child_of t = λ i. record { parent = its_par i; state = its_state i } in
       map-append node_of waits (c ∷ (c ∷ []))
-      ∙ (ap (λ (xs : List Node). xs ++ node_of c ∷ (node_of c ∷ [])) (state_seen es t e Waiting is)
-      ∙ ap (λ (x : Node). with_state (map node_of es) t Waiting ++ x ∷ (x ∷ [])) child)
+      ∙ (ap (λ (xs : List TaskNode). xs ++ node_of c ∷ (node_of c ∷ [])) (state_seen es t e Waiting is)
+      ∙ ap (λ (x : TaskNode). with_state (map node_of es) t Waiting ++ x ∷ (x ∷ [])) child)
 
--- ---- the same, of a value that is the view of the entries
+-- ---- the same, for a value that is the view of the entries
 
-module _ (v : List Node) (es : List Linked) (view_is : map node_of es ≡ v) (linked : IsLinked es) where
-  -- a task was made where there is an entry of it
+module _ (v : List TaskNode) (es : List Linked) (view_is : map node_of es ≡ v) (linked : IsLinked es) where
+  -- a task exists if there is an entry of it
   pub made_entry : (t : ℕ) → t < length v → t < length es
   made_entry t made =
       let len : length (map node_of es) ≡ length es = length-map es node_of in
@@ -204,41 +188,41 @@ module _ (v : List Node) (es : List Linked) (view_is : map node_of es ≡ v) (li
 
   pub depth_answer : (t : ℕ) (e : Linked) → t < length v → slice_get es t ≡ Some e → e.depth ≡ depth_of v t
   depth_answer t e made got =
-      sym (ap (λ (w : List Node). depth_of w t) (sym view_is) ∙ (depth_seen es t linked (made_entry t made) ∙ ap linked_depth got))
+      sym (ap (λ (w : List TaskNode). depth_of w t) (sym view_is) ∙ (depth_seen es t linked (made_entry t made) ∙ ap linked_depth got))
 
   pub path_within : (t d : ℕ) → t < length v → d ≤ depth_of v t → d ≤ depth_at es t
   path_within t d made le =
-      let same : depth_of v t ≡ depth_at es t = ap (λ (w : List Node). depth_of w t) (sym view_is) ∙ depth_seen es t linked (made_entry t made) in
+      let same : depth_of v t ≡ depth_at es t = ap (λ (w : List TaskNode). depth_of w t) (sym view_is) ∙ depth_seen es t linked (made_entry t made) in
       omega arith
 
-  -- a bound by the depth that is kept is one by the depth that callers see
+  -- a bound on the stored depth is a bound on the depth that callers see
   pub cost_seen : (t : ℕ) → t < length v → (P : ℕ → Type 0) → ((log : ℕ) → depth_at es t + 1 < 2 ^ (log + 1) → P log) → (log : ℕ) → depth_of v t + 1 < 2 ^ (log + 1) → P log
   cost_seen t made P cost log deep =
-      let same : depth_of v t ≡ depth_at es t = ap (λ (w : List Node). depth_of w t) (sym view_is) ∙ depth_seen es t linked (made_entry t made) in
+      let same : depth_of v t ≡ depth_at es t = ap (λ (w : List TaskNode). depth_of w t) (sym view_is) ∙ depth_seen es t linked (made_entry t made) in
       cost log (rw same at deep)
 
   pub path_up : (t d r : ℕ) → t < length v → ancestor (parent_at es) (depth_at es t - d) t ≡ Some r → ancestor (parent_of v) (depth_of v t - d) t ≡ Some r
   path_up t d r made up =
-      subst (λ (w : List Node). ancestor (parent_of w) (depth_of w t - d) t ≡ Some r) view_is (up_seen es t d r linked (made_entry t made) up)
+      subst (λ (w : List TaskNode). ancestor (parent_of w) (depth_of w t - d) t ≡ Some r) view_is (up_seen es t d r linked (made_entry t made) up)
 
   pub path_there : (r d : ℕ) → r < length es → depth_at es r ≡ d → depth_of v r ≡ d
-  path_there r d made there = ap (λ (w : List Node). depth_of w r) (sym view_is) ∙ (depth_seen es r linked made ∙ there)
+  path_there r d made there = ap (λ (w : List TaskNode). depth_of w r) (sym view_is) ∙ (depth_seen es r linked made ∙ there)
 
   pub on_path_answer : (t a r d : ℕ) (x : Linked) → slice_get es a ≡ Some x → x.depth ≡ d → ancestor (parent_at es) (depth_at es t - d) t ≡ Some r → (r == a) ≡ is_on_path v a t
   on_path_answer t a r d x got is up =
       let same : d ≡ depth_at es a = sym (ap linked_depth got ∙ is) in
       on_path_here es linked t a r (subst (λ (m : ℕ). ancestor (parent_at es) (depth_at es t - m) t ≡ Some r) same up)
-      ∙ ap (λ (w : List Node). is_on_path w a t) view_is
+      ∙ ap (λ (w : List TaskNode). is_on_path w a t) view_is
 
   pub off_path_answer : (t a : ℕ) (x y : Linked) → slice_get es a ≡ Some x → slice_get es t ≡ Some y → y.depth < x.depth → is_on_path v a t ≡ false
   off_path_answer t a x y got_a got_t lt =
       let da : depth_at es a ≡ x.depth = ap linked_depth got_a in
       let dt : depth_at es t ≡ y.depth = ap linked_depth got_t in
-      ap (λ (w : List Node). is_on_path w a t) (sym view_is) ∙ on_path_deeper es linked t a (omega arith)
+      ap (λ (w : List TaskNode). is_on_path w a t) (sym view_is) ∙ on_path_deeper es linked t a (omega arith)
 
   pub walk_answer : (t a : ℕ) (b : Bool) → b ≡ is_on_path v a t → (IsTrue b → IsUpFrom (parent_of v) t a) × (IsUpFrom (parent_of v) t a → IsTrue b)
   walk_answer t a b is =
-      let both = subst (λ (w : List Node). (IsTrue (is_on_path w a t) → IsUpFrom (parent_of w) t a) × (IsUpFrom (parent_of w) t a → IsTrue (is_on_path w a t))) view_is (on_path_walks es linked t a) in
+      let both = subst (λ (w : List TaskNode). (IsTrue (is_on_path w a t) → IsUpFrom (parent_of w) t a) × (IsUpFrom (parent_of w) t a → IsTrue (is_on_path w a t))) view_is (on_path_walks es linked t a) in
       rw is both
 
   pub fork_shallow : (t : ℕ) (e : Linked) → t < length v → slice_get es t ≡ Some e → depth_of v t < depth_limit → e.depth < depth_limit
@@ -246,31 +230,31 @@ module _ (v : List Node) (es : List Linked) (view_is : map node_of es ≡ v) (li
       let same : e.depth ≡ depth_of v t = depth_answer t e made got in
       omega arith
 
--- callers see the state that is kept
-pub entry_state : (v : List Node) (es : List Linked) → map node_of es ≡ v → (t : ℕ) (e : Linked) → slice_get es t ≡ Some e → Some e.state ≡ state_of v t
+-- callers see the stored state
+pub entry_state : (v : List TaskNode) (es : List Linked) → map node_of es ≡ v → (t : ℕ) (e : Linked) → slice_get es t ≡ Some e → Some e.state ≡ state_of v t
 entry_state v es view_is t e got =
-    sym (ap (λ (w : List Node). state_of w t) (sym view_is) ∙ ap (option_map (λ (n : Node). n.state)) (slice_get-map node_of es t ∙ ap (option_map node_of) got))
+    sym (ap (λ (w : List TaskNode). state_of w t) (sym view_is) ∙ ap (option_map (λ (n : TaskNode). n.state)) (slice_get-map node_of es t ∙ ap (option_map node_of) got))
 
--- a task that has a state was made
-pub made_from_state : (v : List Node) (t : ℕ) (s : State) → state_of v t ≡ Some s → t < length v
+-- a task with a state exists
+pub made_from_state : (v : List TaskNode) (t : ℕ) (s : TaskState) → state_of v t ≡ Some s → t < length v
 made_from_state [] t s h = absurd cc
 made_from_state (x ∷ v) zero s h = omega arith
 made_from_state (x ∷ v) (suc t) s h =
     let r : t < length v = made_from_state v t s h in
     omega arith
 
--- what another state leaves of the entries, and of what callers see
-pub state_answer : (v : List Node) (es new : List Linked) (t : ℕ) (state : State) → map node_of es ≡ v → IsLinked es → t < length v
+-- what a change of state keeps of the entries, and of what callers see
+pub state_answer : (v : List TaskNode) (es new : List Linked) (t : ℕ) (state : TaskState) → map node_of es ≡ v → IsLinked es → t < length v
     → IfSome (slice_get es t) (λ e. new ≡ slice_set es t (record e { state = state })) → IsLinked new × (map node_of new ≡ with_state v t state)
 state_answer v es new t state view_is linked made put =
     let got = got_some es t (made_entry v es view_is linked t made) in
     let is : new ≡ slice_set es t (record got.0 { state = state }) = let P : Option Linked → Type 0 = λ o. IfSome o (λ e. new ≡ slice_set es t (record e { state = state })) in subst P got.1 put in (
       subst IsLinked (sym is) (state_linked es t got.0 state got.1 linked),
-      ap (map node_of) is ∙ (state_seen es t got.0 state got.1 ∙ ap (λ (w : List Node). with_state w t state) view_is),
+      ap (map node_of) is ∙ (state_seen es t got.0 state got.1 ∙ ap (λ (w : List TaskNode). with_state w t state) view_is),
     )
 
 -- and a fork
-pub fork_answer : (v : List Node) (es new : List Linked) (t : ℕ) (c : Linked) → map node_of es ≡ v → IsLinked es → t < length v → length v < 2 ^ 31
+pub fork_answer : (v : List TaskNode) (es new : List Linked) (t : ℕ) (c : Linked) → map node_of es ≡ v → IsLinked es → t < length v → length v < 2 ^ 31
     → c.parent ≡ Some t → c.depth ≡ depth_of v t + 1 → c.far ≡ next_far (depth_at es) (far_at es) t → c.state ≡ Ready
     → IfSome (slice_get es t) (λ e. new ≡ slice_set es t (record e { state = Waiting }) ++ c ∷ (c ∷ [])) → IsLinked new × (map node_of new ≡ forked v t)
 fork_answer v es new t c view_is linked made few its_par its_dep its_far its_state put =
@@ -281,5 +265,5 @@ fork_answer v es new t c view_is linked made few its_par its_dep its_far its_sta
     let same : length (map node_of es) ≡ length v = ap length view_is in
     let deep : depth_at es t ≡ depth_of v t = ap linked_depth got.1 ∙ depth_answer v es view_is linked t got.0 made got.1 in (
       subst IsLinked (sym is) (fork_linked es t got.0 c got.1 linked (omega arith) its_par (its_dep ∙ ap (λ (m : ℕ). m + 1) (sym deep)) its_far),
-      ap (map node_of) is ∙ (fork_seen es t got.0 c got.1 its_par its_state ∙ ap (λ (w : List Node). forked w t) view_is),
+      ap (map node_of) is ∙ (fork_seen es t got.0 c got.1 its_par its_state ∙ ap (λ (w : List TaskNode). forked w t) view_is),
     )

@@ -1,10 +1,5 @@
 -- The depths and paths of the model, by the links that the tree keeps.
-use Rattle.std.proofs.Common.{◌≡◌, ◌==◌, ℕ, zero, suc, ◌+◌, ◌<◌, ◌≤◌, true, false, Option, Some, None, inl, inr, refl, sym, ap, ◌∙◌, arith, eqb-true, eq-eqb}
-use Rattle.std.proofs.lemmas.Bool.{or_cases, or_left, or_right, false≢true}
-use Rattle.std.proofs.lemmas.Option.{same_Some}
-use Rattle.far_links.specs.Links.{AreLinked}
-use Rattle.far_links.proofs.Walks.{first_link, link_first, shallow}
-use Rattle.heap_tree.specs.Walk.{through, ancestor, IsUpFrom, depth_by, depth_in, path_by, path_in}
+use Rattle.heap_tree.proofs.Common.{◌≡◌, ◌==◌, ℕ, zero, suc, ◌+◌, ◌<◌, ◌≤◌, true, false, Option, Some, None, inl, inr, refl, sym, ap, ◌∙◌, arith, eqb-true, eq-eqb, or_cases, or_left, or_right, false≢true, same_Some, AreLinked, first_link, link_first, shallow, through, ancestor, IsUpFrom, depth_by, depth_in, path_by, path_in}
 
 module _ (n : ℕ) (par : ℕ → Option ℕ) (dep far : ℕ → ℕ) (links : AreLinked n par dep far) where
   -- ---- depths
@@ -23,11 +18,11 @@ module _ (n : ℕ) (par : ℕ → Option ℕ) (dep far : ℕ → ℕ) (links : A
   depth_by_is (suc fuel) t le made =
       depth_more fuel t (par t) refl made (λ q e. let l : q < t = links.low t q e in depth_by_is fuel q (omega arith) (omega arith))
 
-  -- the depth that is kept is the number of links to the root
+  -- the stored depth is the number of links to the root
   pub depth_in_is : (t : ℕ) → t < n → depth_in par t ≡ dep t
   depth_in_is t made = depth_by_is t t (omega arith) made
 
-  -- ---- the test of a path against walks
+  -- ---- the test of a path and walks
 
   up_through : (fuel a t : ℕ) (p : Option ℕ) → par t ≡ p → through p false (path_by par fuel a) ≡ true → ((q : ℕ) → path_by par fuel a q ≡ true → IsUpFrom par q a) → IsUpFrom par t a
   up_through fuel a t None e h go = absurd (false≢true h)

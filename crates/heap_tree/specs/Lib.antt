@@ -1,5 +1,5 @@
 pub mod Walk
-pub mod Node
+pub mod TaskNode
 pub mod Links
 pub mod Paired
 pub mod Pairs

@@ -1,11 +1,11 @@
--- What the tree keeps beside what callers see: depths, and the far links.
+-- What the tree stores beside what callers see: depths, and the far links.
 use Rattle.std.specs.Prelude.{◌≡◌, ◌+◌, ◌<◌, ◌≤◌, ◌^◌, ℕ, Option, Some, None, List, length, slice_get}
-use Rattle.far_links.specs.Links.{AreLinked}
+use Rattle.jump_pointers.specs.Links.{AreLinked}
 use Rattle.heap_tree.specs.declared.links.Linked.{Linked}
-use Rattle.heap_tree.specs.Node.{Node}
+use Rattle.heap_tree.specs.TaskNode.{TaskNode}
 
 -- what callers see of an entry
-abbrev pub node_of : Linked → Node
+abbrev pub node_of : Linked → TaskNode
 node_of e = record { parent = e.parent; state = e.state }
 
 abbrev pub linked_parent : Option Linked → Option ℕ
@@ -29,7 +29,7 @@ depth_at entries t = linked_depth (slice_get entries t)
 abbrev pub far_at : List Linked → ℕ → ℕ
 far_at entries t = linked_far (slice_get entries t)
 
--- task 0 alone has no parent, and the links are as they should be
+-- only task 0 has no parent, and the links are well formed
 pub record IsLinked (entries : List Linked) : Type 0 where
   pub few : length entries ≤ 2 ^ 31 + 1
   pub rooted : 0 < length entries

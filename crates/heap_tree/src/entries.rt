@@ -1,10 +1,10 @@
-// The entries of all tasks, in few bytes: those of two children of one fork differ in their states alone.
+// The entries of all tasks, stored compactly: those of two children of one fork differ only in their states.
 
 ghost use Rattle.std.specs.Prelude.{◌≡◌, ◌^◌, ◌<◌, ◌++◌, ◌∷◌, [], length, slice_get, slice_set, IfSome, OnErr, OnOk, Some};
 ghost use Rattle.heap_tree.specs.Paired.{child_entry, root_entry, with_child};
 
 use crate::links::Linked;
-use crate::state::State;
+use crate::state::TaskState;
 use std::alloc::{AllocError, Global};
 use std::marker::Model;
 
@@ -14,13 +14,13 @@ pub struct Pair {
     pub parent: u32,
     pub far: u32,
     pub depth: u16,
-    pub left: State,
-    pub right: State,
+    pub left: TaskState,
+    pub right: TaskState,
 }
 
-/// The entries of the root and of those pairs of children.
+/// The entries of the root and of the pairs of children.
 pub struct Entries {
-    root: State,
+    root: TaskState,
     pairs: Vec<Pair>,
 }
 
@@ -52,7 +52,7 @@ fn child_entry(pair: Pair, left: bool) -> Linked
     }
 }
 
-// A pair, if it was made.
+// A pair, if it exists.
 fn pair_at(pairs: &Vec<Pair>, at: usize) -> Option<Pair>
     ensures { result ≡ slice_get pairs.now.items at }
 {
@@ -63,7 +63,7 @@ fn pair_at(pairs: &Vec<Pair>, at: usize) -> Option<Pair>
 }
 
 // Gives one of two children another state.
-fn change_child(pairs: &mut Vec<Pair>, at: usize, left: bool, state: State)
+fn change_child(pairs: &mut Vec<Pair>, at: usize, left: bool, state: TaskState)
     requires { at < length pairs.old.items }
     ensures { IfSome (slice_get pairs.old.items at) (λ p. pairs.new.items ≡ slice_set pairs.old.items at (with_child p left state)) }
 {
@@ -76,8 +76,8 @@ fn change_child(pairs: &mut Vec<Pair>, at: usize, left: bool, state: State)
 }
 
 impl Entries {
-    /// The root's alone.
-    pub fn new(alloc: Global, root: State) -> Entries
+    /// The root's entry alone.
+    pub fn new(alloc: Global, root: TaskState) -> Entries
         ensures { result ≡ root_entry root ∷ [] }
     {
         Entries {
@@ -94,7 +94,7 @@ impl Entries {
         (1 + 2 * self.pairs.len()) as u32
     }
 
-    /// The entry of a task, if it was made.
+    /// The entry of a task, if it exists.
     pub fn get(&self, t: usize) -> Option<Linked>
         ensures { result ≡ slice_get self.now t }
     {
@@ -114,7 +114,7 @@ impl Entries {
     }
 
     /// Gives a task another state.
-    pub fn set_state(&mut self, t: u32, state: State)
+    pub fn set_state(&mut self, t: u32, state: TaskState)
         requires { t < length self.old }
         ensures { IfSome (slice_get self.old t) (λ e. self.new ≡ slice_set self.old t (record e { state = state })) }
     {
@@ -126,7 +126,7 @@ impl Entries {
         change_child(&mut self.pairs, (child / 2) as usize, child % 2 == 0, state);
     }
 
-    /// Puts two children behind the others, or none.
+    /// Adds two children, or none.
     pub fn push_two(&mut self, child: Linked, parent: u32) -> Result<(), AllocError>
         requires parent { child.parent ≡ Some parent }
         requires shallow { child.depth < 2 ^ 16 }

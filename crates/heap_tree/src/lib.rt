@@ -6,6 +6,6 @@ mod links;
 mod state;
 mod tree;
 
-pub use far_links::LinkCount;
-pub use state::State;
+pub use jump_pointers::LinkCount;
+pub use state::TaskState;
 pub use tree::Tree;

@@ -1,19 +1,19 @@
-// What the tree keeps of each task, and its links.
+// What the tree stores of each task, and its links.
 
 ghost use Rattle.std.specs.Prelude.{◌≡◌, ◌<◌, length, slice_get, Some};
 ghost use Rattle.heap_tree.specs.Links.{parent_at, depth_at, far_at};
 
 use crate::entries::Entries;
-use crate::state::State;
-use far_links::{FarLinks, Link};
+use crate::state::TaskState;
+use jump_pointers::{FarLinks, Link};
 
-/// A task in the tree: beside the link to its parent it keeps one to an ancestor farther up.
+/// A task in the tree: beside the link to its parent it has one to a farther ancestor.
 #[derive(Clone, Copy)]
 pub struct Linked {
     pub parent: Option<u32>,
     pub depth: u32,
     pub far: u32,
-    pub state: State,
+    pub state: TaskState,
 }
 
 /// The entry of a task.

@@ -1,9 +1,9 @@
-// Where a task stands.
+// The status of a task.
 
-/// Where a task stands.
+/// The status of a task.
 #[derive(Clone, Copy, PartialEq, Eq)]
-pub enum State {
-    /// It may be taken by a worker.
+pub enum TaskState {
+    /// A worker may take it.
     Ready,
     /// A worker runs it.
     Out,

@@ -3,12 +3,12 @@
 ghost use Rattle.std.specs.Prelude.{◌≡◌, ◌+◌, ◌-◌, ◌*◌, ◌^◌, ℕ, ◌<◌, ◌≤◌, ◌↔◌, ◌∷◌, [], ◌++◌, length, slice_get, slice_set, IfSome, IfOk, OnOk, OnErr, IsTrue, Some};
 ghost use Rattle.hh_model.specs.Step.{depth_limit};
 ghost use Rattle.heap_tree.specs.Walk.{ancestor, IsUpFrom};
-ghost use Rattle.heap_tree.specs.Node.{root_node, parent_of, state_of, depth_of, is_on_path, with_state, forked, IsTree};
+ghost use Rattle.heap_tree.specs.TaskNode.{root_node, parent_of, state_of, depth_of, is_on_path, with_state, forked, IsTree};
 
 use crate::entries::Entries;
 use crate::links::{Linked, entry_at};
-use crate::state::State;
-use far_links::{LinkCount, climb, climb_to, far_below};
+use crate::state::TaskState;
+use jump_pointers::{LinkCount, climb, climb_to, far_below};
 use std::alloc::{AllocError, Global};
 use std::marker::Model;
 use std::sync::ledger::Ledger;
@@ -26,26 +26,26 @@ impl Drop for Tree {
 
 impl Model for Tree {
     ghost use Rattle.std.specs.Prelude.{List, map};
-    ghost use Rattle.heap_tree.specs.Node.{Node};
+    ghost use Rattle.heap_tree.specs.TaskNode.{TaskNode};
     ghost use Rattle.heap_tree.specs.Links.{node_of, IsLinked};
 
-    ghost Value = { List Node };
+    ghost Value = { List TaskNode };
 
     ghost view = { λ t. map node_of t.entries };
 
     ghost invariant = { λ t. IsLinked t.entries };
 }
 
-// Puts two children behind the others, and lets the task wait that forks them. For want of memory nothing changes.
+// Adds two children, and makes the task wait that forks them. If an allocation fails, nothing changes.
 fn put_children(entries: &mut Entries, t: u32, child: Linked) -> Result<(), AllocError>
     requires made { t < length entries.old }
     requires parent { child.parent ≡ Some t }
     requires shallow { child.depth < 2 ^ 16 }
-    ensures ok { OnOk result (IfSome (slice_get entries.old t) (λ e. entries.new ≡ slice_set entries.old t (record e { state = State.Waiting }) ++ child ∷ (child ∷ []))) }
+    ensures ok { OnOk result (IfSome (slice_get entries.old t) (λ e. entries.new ≡ slice_set entries.old t (record e { state = TaskState.Waiting }) ++ child ∷ (child ∷ []))) }
     ensures err { OnErr result (entries.new ≡ entries.old) }
 {
     entries.push_two(child, t)?;
-    entries.set_state(t, State::Waiting);
+    entries.set_state(t, TaskState::Waiting);
     Ok(())
 }
 
@@ -55,11 +55,11 @@ impl Tree {
         ensures { IfOk result (λ tree. tree ≡ root_node ∷ []) }
     {
         Ok(Tree {
-            entries: Entries::new(alloc, State::Ready),
+            entries: Entries::new(alloc, TaskState::Ready),
         })
     }
 
-    /// How many tasks were made. Their numbers are those below it.
+    /// How many tasks were made. Task numbers are below it.
     pub fn made(&self) -> u32
         ensures count { result ≡ length self.now }
         ensures tree { IsTree self.now }
@@ -67,10 +67,9 @@ impl Tree {
         self.entries.len()
     }
 
-    /// Makes two children of a task, the left one first, with the next two numbers. They are ready, and the
-    /// task waits.
+    /// Makes two children of a task, the left one first, with the next two numbers. They are ready, and the task waits.
     pub fn fork(&mut self, t: u32) -> Result<(u32, u32), AllocError>
-        requires out { state_of self.old t ≡ Some State.Out }
+        requires out { state_of self.old t ≡ Some TaskState.Out }
         requires shallow { depth_of self.old t < depth_limit }
         requires few { length self.old < 2 ^ 31 }
         ensures numbers { IfOk result (λ pair. (pair.0 ≡ length self.old) × (pair.1 ≡ length self.old + 1)) }
@@ -82,29 +81,29 @@ impl Tree {
             parent: Some(t),
             depth: entry_at(&self.entries, t as usize).depth + 1,
             far: far_below(&self.entries, t as usize) as u32,
-            state: State::Ready,
+            state: TaskState::Ready,
         };
         put_children(&mut self.entries, t, child)?;
         Ok((left, left + 1))
     }
 
     /// Gives a task another state.
-    pub fn set_state(&mut self, t: u32, state: State)
+    pub fn set_state(&mut self, t: u32, state: TaskState)
         requires { t < length self.old }
         ensures { self.new ≡ with_state self.old t state }
     {
         self.entries.set_state(t, state);
     }
 
-    /// The state of a task; None where no task of this number was made.
-    pub fn state(&self, t: u32) -> Option<State>
+    /// The state of a task; None if there is no task of this number.
+    pub fn state(&self, t: u32) -> Option<TaskState>
         ensures { result ≡ state_of self.now t }
     {
         let entry = self.entries.get(t as usize)?;
         Some(entry.state)
     }
 
-    /// The parent of a task; None for the root, and where no task of this number was made.
+    /// The parent of a task; None for the root, and if there is no task of this number.
     pub fn parent(&self, t: u32) -> Option<u32>
         ensures { result ≡ parent_of self.now t }
     {
@@ -131,8 +130,7 @@ impl Tree {
         climb_to(&self.entries, t as usize, at_depth as usize) as u32
     }
 
-    /// `path`, which counts the links that it follows. They are no more than three times the logarithm of the
-    /// depth of `t` plus one, to base 2 and rounded down.
+    /// `path`, counting the links that it follows: at most 3 ⌊log₂(d + 1)⌋, d being the depth of `t`.
     pub fn path_counted<L: Ledger>(&self, t: u32, at_depth: u32, links: &mut LinkCount<L>) -> u32
         requires made { t < length self.now }
         requires within { at_depth ≤ depth_of self.now t }
@@ -145,7 +143,7 @@ impl Tree {
         climb(&self.entries, t as usize, at_depth as usize, links) as u32
     }
 
-    /// Whether `owner` is `reader` or stands above it. It follows the links that `on_path_counted` counts.
+    /// Whether `owner` is `reader` or an ancestor of it. It follows the links that `on_path_counted` counts.
     pub fn on_path(&self, reader: u32, owner: u32) -> bool
         requires reader { reader < length self.now }
         requires owner { owner < length self.now }
@@ -157,8 +155,7 @@ impl Tree {
             && climb_to(&self.entries, reader as usize, depth as usize) == owner as usize
     }
 
-    /// `on_path`, which counts the links that it follows. They are no more than three times the logarithm of
-    /// the reader's depth plus one, to base 2 and rounded down.
+    /// `on_path`, counting the links that it follows: at most 3 ⌊log₂(d + 1)⌋, d being the reader's depth.
     pub fn on_path_counted<L: Ledger>(
         &self,
         reader: u32,

@@ -1,11 +1,5 @@
 -- Texts of digits are UTF-8.
-use Rattle.std.proofs.Common.{◌≡◌, ◌<◌, ℕ, Bool, true, false, List, [], ◌∷◌, cond, arith, refl, subst}
-use Rattle.std.specs.Prelude.{◌==◌}
-use Rattle.hh_lang.specs.Number.{IsNumber}
-use Rattle.std.proofs.lemmas.Str.{IsUtf8-append, IsUtf8-encode, IsUtf8-nil, encode_ascii}
-use Rattle.std.specs.Str.{IsUtf8}
-use Rattle.std.specs.Char.{digit_value, IsScalar}
-use Rattle.std.specs.Str.Parse.{AllDigits, IsNumeral}
+use Rattle.hh_lang.proofs.Common.{◌≡◌, ◌<◌, ℕ, Bool, true, false, List, [], ◌∷◌, cond, arith, refl, subst, ◌==◌, IsNumber, IsUtf8-append, IsUtf8-encode, IsUtf8-nil, encode_ascii, IsUtf8, digit_value, IsScalar, AllDigits, IsNumeral}
 
 digit_is_ascii : (c : ℕ) → digit_value c < 10 → c < 128
 digit_is_ascii c h = grind arith

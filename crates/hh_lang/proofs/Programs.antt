@@ -1,9 +1,7 @@
--- Whether functions are a program: the last instruction of a code, and the function of a number.
-use Rattle.std.proofs.Common.{◌≡◌, suc, ◌-◌, Option, Some, None, List, [], ◌∷◌, length, slice_get, IsSomeAnd, ◌↔◌, ap, sym, subst, ◌∙◌, arith}
-use Rattle.hh_lang.specs.declared.program.Line.{Line}
-use Rattle.hh_lang.specs.Form.{EndsWithReturn, IsReturn}
+-- Whether functions form a program: the last instruction of a code, and the function of a number.
+use Rattle.hh_lang.proofs.Common.{◌≡◌, suc, ◌-◌, Option, Some, None, List, [], ◌∷◌, length, slice_get, IsSomeAnd, ◌↔◌, ap, sym, subst, ◌∙◌, arith, Line, EndsWithReturn, IsReturn}
 
--- what stands last decides
+-- the last item decides
 pub ends_by_last : (code : List Line) (l : Line) → slice_get code (length code - 1) ≡ Some l → EndsWithReturn code ↔ IsReturn l.instr
 ends_by_last [] l e = absurd cc
 ends_by_last (x ∷ []) l e = let same : x ≡ l = cc in (subst (λ (y : Line). IsReturn y.instr) same, subst (λ (y : Line). IsReturn y.instr) (sym same))

@@ -1,11 +1,5 @@
--- The tests on texts of numbers say what the relations say.
-use Rattle.std.proofs.Common.{◌≡◌, ◌<◌, ◌^◌, ℕ, Bool, true, false, List, [], ◌∷◌, cond, length, arith, refl, ap}
-use Rattle.std.specs.Prelude.{ℤ, pos, negsuc, ◌&&◌, ◌==◌, nat_lt, Option, Some, None, SomeIff, FitsSigned}
-use Rattle.std.specs.Int.{w64}
-use Rattle.std.specs.Char.{digit_value}
-use Rattle.std.specs.Str.Parse.{IsNumeral, AllDigits, digits_value, starts_with_minus}
-use Rattle.std.proofs.lemmas.Bool.{and_parts}
-use Rattle.hh_lang.specs.Number.{IsNumber, digits_of, number_of, are_digits, is_numeral, fits_i64, signed_number}
+-- The tests on texts of numbers decide the relations.
+use Rattle.hh_lang.proofs.Common.{◌≡◌, ◌<◌, ◌^◌, ℕ, Bool, true, false, List, [], ◌∷◌, cond, length, arith, refl, ap, ℤ, pos, negsuc, ◌&&◌, ◌==◌, nat_lt, Option, Some, None, SomeIff, FitsSigned, w64, digit_value, IsNumeral, AllDigits, digits_value, starts_with_minus, and_parts, IsNumber, digits_of, number_of, are_digits, is_numeral, fits_i64, signed_number}
 
 digits_pass : (ds : List ℕ) → AllDigits 10 ds → are_digits ds ≡ true
 digits_pass [] h = refl
@@ -32,7 +26,7 @@ numeral_passes ds h = let i = digits_pass ds h.1 in let l : 0 < length ds = h.0 
 pub passed_numeral : (ds : List ℕ) → is_numeral ds ≡ true → IsNumeral 10 ds
 passed_numeral ds e = let both = and_parts (nat_lt 0 (length ds)) (are_digits ds) e in (grind (arith, both.0), passed_digits ds both.1)
 
--- a numeral has no sign, and is read as what its digits say
+-- a numeral without a sign is read as its digits
 pub no_minus : (c : ℕ) → digit_value c < 10 → (c == 45) ≡ false
 no_minus c h = grind arith
 

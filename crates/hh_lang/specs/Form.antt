@@ -5,13 +5,13 @@ use Rattle.hh_lang.specs.declared.instr.Instr.TheVariants.{Pack, Jmp, Jz, Call, 
 use Rattle.hh_lang.specs.declared.program.Line.{Line}
 use Rattle.hh_lang.specs.declared.program.Fun.{Fun}
 
--- functions, and the number of the one that is main
+-- functions, and the number of `main`
 pub record ProgramText : Type 0 where
   pub functions : List Fun
   pub main : ℕ
 
--- the places, functions and registers that an instruction names exist, where there are so many places and functions; a
--- `pack` names the first registers of each kind, of which there are 16
+-- the places, functions and registers that an instruction names exist, of the given numbers of places and functions; a
+-- `pack` takes at most 16 registers of each kind
 abbrev pub NamesExist : ℕ → ℕ → Instr → Type 0
 NamesExist functions places (Pack d references numbers) = (references ≤ 16) × (numbers ≤ 16)
 NamesExist functions places (Jmp to) = to < places
@@ -30,7 +30,7 @@ EndsWithReturn [] = ⊥
 EndsWithReturn (l ∷ []) = IsReturn l.instr
 EndsWithReturn (l ∷ m ∷ ls) = EndsWithReturn (m ∷ ls)
 
--- a function among so many; its places are numbers of 32 bits
+-- one function of a program with this many; its places fit in 32 bits
 pub record IsFunction (functions : ℕ) (f : Fun) : Type 0 where
   pub sized : length f.code < 2 ^ 32
   pub names : All (λ l. NamesExist functions (length f.code) l.instr) f.code
@@ -46,6 +46,6 @@ abbrev pub code_of : Option Fun → List Line
 code_of None = []
 code_of (Some f) = f.code
 
--- what stands at a place of a function's code
+-- the line at a place of a function's code
 abbrev pub line_at : ProgramText → ℕ → ℕ → Option Line
 line_at p function place = slice_get (code_of (slice_get p.functions function)) place

@@ -1,17 +1,17 @@
--- How long programs are, how deep they go, and how large their objects are.
+-- Limits of programs, of calls and forks, and of objects.
 use Rattle.std.specs.Prelude.{ℕ}
 
--- the text of a program has at most so many bytes
+-- the most bytes of a program's text
 abbrev pub program_limit : ℕ
 program_limit = 1048576
 
--- a task has at most so many frames, and at most so many forks above it
+-- the most frames of a task, and the most forks above it
 abbrev pub frame_limit : ℕ
 frame_limit = 1000
 
 abbrev pub depth_limit : ℕ
 depth_limit = 1000
 
--- an object has at most so many fields
+-- the most fields of an object
 abbrev pub most_fields : ℕ
 most_fields = 1000000

@@ -3,11 +3,11 @@ use Rattle.std.specs.Prelude.{ℕ, ◌^◌, ℤ, pos, negsuc, neg_ℤ, Bool, tru
 use Rattle.std.specs.Char.{digit_value}
 use Rattle.std.specs.Str.Parse.{IsNumeral, digits_value, starts_with_minus}
 
--- the digits of a number, behind its minus
+-- the digits of a number, after its minus
 abbrev pub digits_of : List ℕ → List ℕ
 digits_of bs = cond (starts_with_minus bs) (drop 1 bs) bs
 
--- a minus or none, and then one digit or more
+-- an optional minus, and then at least one digit
 abbrev pub IsNumber : List ℕ → Type 0
 IsNumber bs = IsNumeral 10 (digits_of bs)
 
@@ -28,11 +28,11 @@ abbrev pub fits_i64 : ℤ → Bool
 fits_i64 (pos n) = nat_lt n (2 ^ 63)
 fits_i64 (negsuc n) = nat_lt n (2 ^ 63)
 
--- the number that a text writes, if it writes one that fits
+-- the number that a text denotes, if it is a number that fits
 abbrev pub signed_number : List ℕ → Option ℤ
 signed_number bs = if is_numeral (digits_of bs) && fits_i64 (number_of bs) then Some (number_of bs) else None
 
--- a number in front of others, where there is each of them
+-- a number in front of others, if all of them exist
 abbrev pub onto_number : Option ℕ → Option (List ℕ) → Option (List ℕ)
 onto_number (Some n) (Some ns) = Some (n ∷ ns)
 onto_number _ _ = None

@@ -1,4 +1,4 @@
-// Whether functions are a program: every index in range, a return at every end, and a main.
+// Whether functions form a program: every index in range, a return at every end, and a main.
 
 ghost use Rattle.std.specs.Prelude.{◌≡◌, ◌↔◌, IsTrue, All, IsSomeAnd, length, slice_get, codes};
 ghost use Rattle.hh_lang.specs.Form.{NamesExist, IsReturn, EndsWithReturn, IsFunction, IsProgram};
@@ -6,13 +6,13 @@ ghost use Rattle.hh_lang.specs.Form.{NamesExist, IsReturn, EndsWithReturn, IsFun
 use crate::instr::Instr;
 use crate::program::{Fun, Line};
 
-/// A function has fewer places than this, and a program fewer functions: their numbers have 32 bits.
+/// A function has fewer places than this, and a program fewer functions: their numbers fit in 32 bits.
 const COUNT_LIMIT: usize = 1 << 32;
 
-/// How many registers there are of each kind.
+/// The number of registers of each kind.
 const REGISTERS: usize = 16;
 
-// Whether the places, functions and registers that an instruction names exist, where there are so many.
+// Whether the places, functions and registers that an instruction names exist.
 fn names_exist(instr: Instr, functions: usize, places: usize) -> bool
     ensures { IsTrue result ↔ NamesExist functions places instr }
 {
@@ -55,7 +55,7 @@ fn all_names_exist(code: &[Line], functions: usize) -> bool
     true
 }
 
-// Whether this is a function among so many.
+// Whether this is a function of a program with this many functions.
 fn is_function(fun: &Fun, functions: usize) -> bool
     ensures { IsTrue result ↔ IsFunction functions fun.now }
 {
@@ -74,7 +74,7 @@ fn all_functions(functions: &[Fun]) -> bool
     true
 }
 
-// Whether the function of this number is there and is called main.
+// Whether the function of this number exists and is named main.
 fn is_main(functions: &[Fun], main: u32) -> bool
     ensures { IsTrue result ↔ IsSomeAnd (slice_get functions.now main) (λ f. f.name ≡ codes "main") }
 {
@@ -84,7 +84,7 @@ fn is_main(functions: &[Fun], main: u32) -> bool
     }
 }
 
-/// Whether these functions, of which this one is main, are a program. Its time is linear in the code.
+/// Whether these functions, the one of this number being main, form a program. Linear in the size of the code.
 pub fn is_program(functions: &[Fun], main: u32) -> bool
     ensures { IsTrue result ↔ IsProgram (record { functions = functions.now; main = main }) }
 {

@@ -120,7 +120,7 @@ pub enum Operator {
     Eq,
 }
 
-/// An instruction. The target register stands first; a place in the code and a function are numbers from 0 on.
+/// An instruction. The target register comes first; places in the code and functions are numbers from 0 on.
 #[derive(Clone, Copy)]
 pub enum Instr {
     Set(IntReg, i64),
@@ -133,11 +133,11 @@ pub enum Instr {
     Jmp(u32),
     /// The register that is tested for 0, and the place.
     Jz(IntReg, u32),
-    /// How many references and how many numbers stand in the two registers.
+    /// The registers with the counts of references and of numbers.
     Newm(RefReg, IntReg, IntReg),
     /// How many reference registers and number registers are copied.
     Pack(RefReg, FieldCount, FieldCount),
-    /// The object's register and the register with the field's index; so in the next three.
+    /// The object's register and the register with the field's index; likewise for the next three.
     Getr(RefReg, RefReg, IntReg),
     Geti(IntReg, RefReg, IntReg),
     Putr(RefReg, IntReg, RefReg),

@@ -1,13 +1,13 @@
-// How long programs are, how deep they go, and how large their objects are.
+// Limits of programs, of calls and forks, and of objects.
 
-/// The text of a program has at most so many bytes.
+/// The most bytes of a program's text.
 pub const PROGRAM_LIMIT: usize = 1048576;
 
-/// A task has at most so many frames.
+/// The most frames of a task.
 pub const FRAME_LIMIT: usize = 1000;
 
-/// A task has at most so many forks above it.
+/// The most forks above a task.
 pub const DEPTH_LIMIT: u32 = 1000;
 
-/// An object has at most so many fields.
+/// The most fields of an object.
 pub const MOST_FIELDS: u32 = 1_000_000;

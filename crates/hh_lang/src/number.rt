@@ -1,11 +1,11 @@
-// Numbers as they are written in texts.
+// Numbers in texts.
 
 ghost use Rattle.std.specs.Prelude.{◌≡◌, ◌<◌, ◌^◌, SomeIff, FitsSigned};
 ghost use Rattle.std.specs.Int.{w64};
 ghost use Rattle.std.specs.Str.Parse.{IsNumeral, digits_value};
 ghost use Rattle.hh_lang.specs.Number.{IsNumber, number_of, signed_number};
 
-/// Reads decimal digits without a sign; None where it isn't such a text, or its number doesn't fit.
+/// Reads decimal digits without a sign; None if the text has another form or the number doesn't fit.
 pub fn read_u32(bytes: &[u8]) -> Option<u32>
     ensures { SomeIff result (IsNumeral 10 bytes.now × (digits_value 10 bytes.now < 2 ^ 32)) (digits_value 10 bytes.now) }
 {
@@ -18,7 +18,7 @@ pub fn read_u32(bytes: &[u8]) -> Option<u32>
     }
 }
 
-// The number that a text writes, by what it says.
+// The number that a text denotes.
 fn parse_i64(bytes: &[u8]) -> Option<i64>
     ensures { SomeIff result (IsNumber bytes.now × FitsSigned w64 (number_of bytes.now)) (number_of bytes.now) }
 {
@@ -31,7 +31,7 @@ fn parse_i64(bytes: &[u8]) -> Option<i64>
     }
 }
 
-/// Reads an optional minus and decimal digits; None where it isn't such a text, or its number doesn't fit.
+/// Reads an optional minus and decimal digits; None if the text has another form or the number doesn't fit.
 pub fn read_i64(bytes: &[u8]) -> Option<i64>
     ensures exact { SomeIff result (IsNumber bytes.now × FitsSigned w64 (number_of bytes.now)) (number_of bytes.now) }
     ensures value { result ≡ signed_number bytes.now }

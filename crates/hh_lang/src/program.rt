@@ -5,10 +5,10 @@ ghost use Rattle.hh_lang.specs.Form.{IsProgram, line_at};
 
 use crate::check::is_program;
 use crate::instr::Instr;
-use listed::Listed;
+use plain_vec::Listed;
 use std::marker::Model;
 
-/// An instruction, and the number of the text's line that it stands on, from 1.
+/// An instruction, and the number of its line in the text, from 1.
 #[derive(Clone, Copy)]
 pub struct Line {
     pub instr: Instr,
@@ -27,7 +27,7 @@ impl Drop for Fun {
     }
 }
 
-/// A program whose indices are all in range, whose functions all end with a return, and which has a `main`.
+/// A program: all indices are in range, all functions end with a return, and there is a `main`.
 pub struct Program {
     functions: Listed<Fun>,
     main: u32,
@@ -53,7 +53,7 @@ impl Model for Program {
 }
 
 impl Program {
-    /// The program of these functions, of which one is main.
+    /// The program of these functions, the one of this number being main.
     pub fn new(functions: Listed<Fun>, main: u32) -> Program
         requires { IsProgram (record { functions = functions; main = main }) }
         ensures { result ≡ record { functions = functions; main = main } }
@@ -61,7 +61,7 @@ impl Program {
         Program { functions, main }
     }
 
-    /// The program of these functions, of which one is main, or the functions back where they are none.
+    /// The program of these functions, the one of this number being main, or the functions back if they don't form one.
     pub fn try_new(functions: Listed<Fun>, main: u32) -> Result<Program, Listed<Fun>>
         ensures exact { IsOk result ↔ IsProgram (record { functions = functions; main = main }) }
         ensures ok { IfOk result (λ p. p ≡ record { functions = functions; main = main }) }
@@ -87,7 +87,7 @@ impl Program {
         &self.functions
     }
 
-    /// What stands at a place of a function's code, if there is such a place.
+    /// The line at a place of a function's code, if there is such a place.
     pub fn line(&self, function: u32, place: u32) -> Option<Line>
         ensures { result ≡ line_at self.now function place }
     {
@@ -97,7 +97,7 @@ impl Program {
         }
     }
 
-    /// The laws of its form, for callers who hold a program.
+    /// Facts of its form, for callers that hold a program.
     pub fn form(&self)
         ensures { IsProgram self.now }
     {

@@ -1,18 +1,6 @@
 -- Where the names come from that an instruction leaves in registers and fields.
-use Rattle.std.proofs.Common.{◌≡◌, ℕ, pos, zero, suc, ◌+◌, ◌==◌, Bool, true, false, cond, Option, Some, None, List, [], ◌∷◌, ◌++◌, length, set, slice_get, slice_set, ◌⊎◌, inl, inr, refl, ap, sym, subst, ◌∙◌, replicate, is_some}
-use Rattle.std.specs.Option.{option_flatten}
-use Rattle.listed.proofs.Members.{In, got_in}
-use Rattle.listed.proofs.Places.{in_take}
-use Rattle.hh_lang.specs.declared.instr.Instr.{Instr}
-use Rattle.hh_lang.specs.declared.instr.Instr.TheVariants.{Set, Mov, Movr, Nil as NilOf, Calc, Same, Jmp, Jz, Newm, Pack, Getr, Geti, Putr, Puti, Cntr, Cnti, Freeze, Cas, Call, Par, Ret, Out}
-use Rattle.hh_model.specs.declared.data.Name.{Name}
-use Rattle.hh_model.specs.declared.data.Object.{Object}
-use Rattle.hh_model.specs.declared.data.Frame.{Frame}
-use Rattle.hh_model.specs.declared.data.Trap.{Trap}
-use Rattle.hh_model.specs.declared.data.Trap.TheVariants.{Nil, Range, Frozen, Div as DivTrap, Size}
-use Rattle.hh_model.specs.Effect.{Effect, Goes, Prints, Calls, Forks, Returns, Traps, Stops, Setting, effect, object_at, put_object, row_of, or_trap, with_object, made, read_effect, int_in, ref_in, with_ref, onward, same_name, calculated, counts_in, place_in, int_eq}
-use Rattle.hh_model.specs.Precedence.{precedes}
-use Rattle.hh_model.specs.Names.{named, refs_of, refs_at, words_asked, words_for}
+use Rattle.hh_model.proofs.Common.{◌≡◌, ℕ, pos, zero, suc, ◌+◌, ◌==◌, Bool, true, false, cond, Option, Some, None, List, [], ◌∷◌, ◌++◌, length, set, slice_get, slice_set, ◌⊎◌, inl, inr, refl, ap, sym, subst, ◌∙◌, replicate, is_some, option_flatten, In, got_in, in_take, Instr, Set, Mov, Movr, Nil as NilOf, Calc, Same, Jmp, Jz, Newm, Pack, Getr, Geti, Putr, Puti, Cntr, Cnti, Freeze, Cas, Call, Par, Ret, Out, Name, Object, Frame, Trap, Range, Frozen, Div as DivTrap, Size, Effect, Goes, Prints, Calls, Forks, Returns, Traps, Stops, StepContext, effect, object_at, put_object, row_of, or_trap, with_object, made, read_effect, int_in, ref_in, with_ref, onward, same_name, calculated, counts_in, place_in, int_eq, precedes, named, refs_of, refs_at, words_asked, words_for}
+use Rattle.hh_model.specs.declared.data.Trap.TheVariants.{Nil}
 use Rattle.hh_model.proofs.Stores.{put_cases, made_cases}
 pub use Rattle.hh_model.specs.Names.{next_name}
 
@@ -48,11 +36,11 @@ flat_at (Some r) n e = ap (λ x. Some x) e
 pub at_in : (refs : List (Option Name)) (i : ℕ) (n : Name) → option_flatten (slice_get refs i) ≡ Some n → In refs (Some n)
 at_in refs i n e = got_in refs i (Some n) (flat_at (slice_get refs i) n e)
 
-module _ (s : Setting) (f : Frame) (store : List (List Object)) (alloc : Option ℕ) where
+module _ (s : StepContext) (f : Frame) (store : List (List Object)) (alloc : Option ℕ) where
   abbrev new : Name
   new = next_name s.task store
 
-  -- read from an object that a register names, and let through
+  -- read from an object that a register names, and not stopped
   abbrev pub Read : Name → Type 0
   Read r = (n : Name) × In f.refs (Some n) × In (refs_at store n) r × ((o : Object) × (object_at store r ≡ Some o) × (precedes s.edges o.strand s.strand ≡ true))
 
@@ -74,7 +62,7 @@ module _ (s : Setting) (f : Frame) (store : List (List Object)) (alloc : Option 
   old_fields : (n r : Name) → In (refs_at store n) r → Field store n r
   old_fields n r h = inl h
 
-  -- registers as before, another store
+  -- the same registers with another store
   same_regs : (r : Name) → In f.refs (Some r) → From r
   same_regs r h = inl h
 
@@ -103,21 +91,21 @@ module _ (s : Setting) (f : Frame) (store : List (List Object)) (alloc : Option 
   -- a field of an object that a register names
   put_fields : (m : Name) (x o : Object) → In f.refs (Some m) → object_at store m ≡ Some x → ((r : Name) → In o.refs (Some r) → In x.refs (Some r) ⊎ In f.refs (Some r))
       → (n r : Name) → In (refs_at (put_object store m o) n) r → Field (put_object store m o) n r
-  put_fields m x o reg is fields n r h = go (object_at (put_object store m o) n) refl h
+  put_fields m x o reg is fields n r h = put_fields_by_cases (object_at (put_object store m o) n) refl h
     where
       old : (q : Object) → object_at store n ≡ Some q → In (named q.refs) r → Field (put_object store m o) n r
       old q e i = inl (subst (λ w. In (refs_of w) r) (sym e) i)
 
-      here : (q : Object) → (n ≡ m) × (q ≡ o) → In (named q.refs) r → Field (put_object store m o) n r
-      here q p i =
+      put_fields_here : (q : Object) → (n ≡ m) × (q ≡ o) → In (named q.refs) r → Field (put_object store m o) n r
+      put_fields_here q p i =
           elim (fields r (in_from_named o.refs r (subst (λ (w : Object). In (named w.refs) r) p.1 i))) [
             | inl was ↦ inl (subst (λ w. In (refs_of w) r) (sym (ap (object_at store) p.0 ∙ is)) (named_from_in x.refs r was))
             | inr reg' ↦ inr (inl (subst (λ w. In f.refs (Some w)) (sym p.0) reg), reg')
           ]
 
-      go : (w : Option Object) → object_at (put_object store m o) n ≡ w → In (refs_of w) r → Field (put_object store m o) n r
-      go None e i = absurd i
-      go (Some q) e i = elim (put_cases store m o n q e) [ inl p ↦ here q p i | inr e' ↦ old q e' i ]
+      put_fields_by_cases : (w : Option Object) → object_at (put_object store m o) n ≡ w → In (refs_of w) r → Field (put_object store m o) n r
+      put_fields_by_cases None e i = absurd i
+      put_fields_by_cases (Some q) e i = elim (put_cases store m o n q e) [ inl p ↦ put_fields_here q p i | inr e' ↦ old q e' i ]
 
   written : (m : Name) (x : Object) (at : ℕ) (v : Option Name) → In f.refs (Some m) → object_at store m ≡ Some x → ((r : Name) → v ≡ Some r → In f.refs (Some r))
       → (n r : Name) → In (refs_at (put_object store m (record x { refs = slice_set x.refs at v })) n) r → Field (put_object store m (record x { refs = slice_set x.refs at v })) n r
@@ -127,21 +115,21 @@ module _ (s : Setting) (f : Frame) (store : List (List Object)) (alloc : Option 
   made_carries : (d : ℕ) (o : Object) → is_some alloc ≡ true → ((r : Name) → In o.refs (Some r) → In f.refs (Some r)) → Carries (made s f store d o)
   made_carries d o some fields = (
     set_reg d (Some (next_name s.task store)) (λ r e. inr (inl (cc, some))),
-    λ n r h. go n r (object_at (slice_set store s.task (row_of (slice_get store s.task) ++ o ∷ [])) n) refl h,
+    λ n r h. made_carries_by_cases n r (object_at (slice_set store s.task (row_of (slice_get store s.task) ++ o ∷ [])) n) refl h,
   )
     where
       same_name' : (n : Name) → n.task ≡ s.task → n.count ≡ length (row_of (slice_get store s.task)) → n ≡ next_name s.task store
       same_name' n a b = λ i. record { task = a i; count = b i }
 
-      here : (n r : Name) (q : Object) → (n.task ≡ s.task) × (n.count ≡ length (row_of (slice_get store s.task))) × (q ≡ o) → In (named q.refs) r → Field store n r
-      here n r q p i = inr (inr (same_name' n p.0 p.1, some), fields r (in_from_named o.refs r (subst (λ (w : Object). In (named w.refs) r) p.2 i)))
+      made_carries_here : (n r : Name) (q : Object) → (n.task ≡ s.task) × (n.count ≡ length (row_of (slice_get store s.task))) × (q ≡ o) → In (named q.refs) r → Field store n r
+      made_carries_here n r q p i = inr (inr (same_name' n p.0 p.1, some), fields r (in_from_named o.refs r (subst (λ (w : Object). In (named w.refs) r) p.2 i)))
 
       old : (n r : Name) (q : Object) → object_at store n ≡ Some q → In (named q.refs) r → Field store n r
       old n r q e i = inl (subst (λ w. In (refs_of w) r) (sym e) i)
 
-      go : (n r : Name) (w : Option Object) → object_at (slice_set store s.task (row_of (slice_get store s.task) ++ o ∷ [])) n ≡ w → In (refs_of w) r → Field store n r
-      go n r None e i = absurd i
-      go n r (Some q) e i = elim (made_cases store s.task o n q e) [ inl p ↦ here n r q p i | inr e' ↦ old n r q e' i ]
+      made_carries_by_cases : (n r : Name) (w : Option Object) → object_at (slice_set store s.task (row_of (slice_get store s.task) ++ o ∷ [])) n ≡ w → In (refs_of w) r → Field store n r
+      made_carries_by_cases n r None e i = absurd i
+      made_carries_by_cases n r (Some q) e i = elim (made_cases store s.task o n q e) [ inl p ↦ made_carries_here n r q p i | inr e' ↦ old n r q e' i ]
 
   read_carries : (d : ℕ) (m : Name) (x : Object) (r : Option Name) → In f.refs (Some m) → object_at store m ≡ Some x → ((n : Name) → r ≡ Some n → In x.refs (Some n)) → Carries (read_effect s f store d r)
   read_carries d m x None reg is from = (set_reg d None (λ r e. absurd cc), old_fields)
@@ -157,11 +145,11 @@ module _ (s : Setting) (f : Frame) (store : List (List Object)) (alloc : Option 
       through o e true is' = (set_reg d (Some n) (got o e is'), old_fields)
       through o e false is' = tt
 
-jumps : (s : Setting) (f : Frame) (store : List (List Object)) (x y : Frame) → x.refs ≡ f.refs → y.refs ≡ f.refs → (b : Bool) → Carries s f store None (Goes (cond b x y) store)
+jumps : (s : StepContext) (f : Frame) (store : List (List Object)) (x y : Frame) → x.refs ≡ f.refs → y.refs ≡ f.refs → (b : Bool) → Carries s f store None (Goes (cond b x y) store)
 jumps s f store x y ex ey true = ((λ r h. inl (subst (λ rs. In rs (Some r)) ex h)), old_fields s f store None)
 jumps s f store x y ex ey false = ((λ r h. inl (subst (λ rs. In rs (Some r)) ey h)), old_fields s f store None)
 
-pub effect_carries : (s : Setting) (f : Frame) (store : List (List Object)) (instr : Instr) → Carries s f store (words_asked s.field_limit f instr) (effect s f store instr)
+pub effect_carries : (s : StepContext) (f : Frame) (store : List (List Object)) (instr : Instr) → Carries s f store (words_asked s.field_limit f instr) (effect s f store instr)
 effect_carries s f store (Set d k) = (same_regs s f store None, old_fields s f store None)
 effect_carries s f store (Mov d a) = (same_regs s f store None, old_fields s f store None)
 effect_carries s f store (Movr d a) = (set_reg s f store None d (ref_in f a) (reg_from s f store None a), old_fields s f store None)

@@ -1,31 +1,14 @@
 -- What an instruction changes in the store: nothing, or one new object, or one object that a register names.
-use Rattle.std.proofs.lemmas.Bool.{leb-true, ltb-true}
-use Rattle.std.proofs.lemmas.List.{length-replicate, length-take}
-use Rattle.std.proofs.lemmas.Option.{same_Some}
-use Rattle.hh_model.specs.declared.data.Strand.{Strand}
-use Rattle.std.proofs.Common.{◌≡◌, ℕ, ℤ, pos, negsuc, ◌+◌, ◌≤◌, nat_le, take, replicate, arith, ◌==◌, Bool, true, false, cond, Option, Some, None, List, [], ◌∷◌, ◌++◌, length, slice_get, slice_set, ◌⊎◌, inl, inr, refl, sym, subst, eqb-true, ◌<◌, nat_lt}
-use Rattle.std.specs.Option.{option_flatten}
-use Rattle.listed.proofs.Members.{In}
-use Rattle.listed.proofs.Places.{in_take}
-use Rattle.hh_lang.specs.declared.instr.Instr.{Instr}
-use Rattle.hh_lang.specs.declared.instr.Instr.TheVariants.{Set, Mov, Movr, Nil as NilOf, Calc, Same, Jmp, Jz, Newm, Pack, Getr, Geti, Putr, Puti, Cntr, Cnti, Freeze, Cas, Call, Par, Ret, Out}
-use Rattle.hh_model.specs.declared.data.Name.{Name}
-use Rattle.hh_model.specs.declared.data.Object.{Object}
-use Rattle.hh_model.specs.declared.data.Frame.{Frame}
-use Rattle.hh_model.specs.declared.data.Trap.{Trap}
-use Rattle.hh_model.specs.declared.data.Trap.TheVariants.{Nil, Range, Frozen, Div as DivTrap, Size}
-use Rattle.hh_model.specs.Effect.{Effect, Goes, Prints, Calls, Forks, Returns, Traps, Stops, Setting, effect, object_at, put_object, row_of, or_trap, with_object, made, read_effect, int_in, ref_in, onward, same_name, calculated, counts_in, place_in, with_int}
-use Rattle.hh_model.specs.Precedence.{precedes}
-use Rattle.hh_model.specs.Names.{refs_of, refs_at}
-use Rattle.hh_model.specs.Store.{IsWriteTo}
+use Rattle.hh_model.proofs.Common.{leb-true, ltb-true, length-replicate, length-take, same_Some, ◌≡◌, ℕ, ℤ, pos, negsuc, ◌+◌, ◌≤◌, nat_le, take, replicate, arith, ◌==◌, Bool, true, false, cond, Option, Some, None, List, [], ◌∷◌, ◌++◌, length, slice_get, slice_set, ◌⊎◌, inl, inr, refl, sym, subst, eqb-true, ◌<◌, nat_lt, option_flatten, In, in_take, Instr, Set, Mov, Movr, Nil as NilOf, Calc, Same, Jmp, Jz, Newm, Pack, Getr, Geti, Putr, Puti, Cntr, Cnti, Freeze, Cas, Call, Par, Ret, Out, Strand, Name, Object, Frame, Trap, Range, Frozen, Div as DivTrap, Size, Effect, Goes, Prints, Calls, Forks, Returns, Traps, Stops, StepContext, effect, object_at, put_object, row_of, or_trap, with_object, made, read_effect, int_in, ref_in, onward, same_name, calculated, counts_in, place_in, with_int, precedes, refs_of, refs_at, IsWriteTo}
+use Rattle.hh_model.specs.declared.data.Trap.TheVariants.{Nil}
 use Rattle.hh_model.proofs.Carried.{at_in, flat_at, none_in, named_from_in}
 
--- its fields of both kinds together are within the limit, or those of each kind are no more than the registers
+-- its fields of both kinds are within the limit, or those of each kind are at most as many as the registers
 abbrev pub IsSized : ℕ → Frame → Object → Type 0
 IsSized limit f o = (length o.refs + length o.ints ≤ limit) ⊎ ((length o.refs ≤ length f.refs) × (length o.ints ≤ length f.ints))
 
 -- a new object of the task, at its strand; a mutable one refers to nothing, an immutable one to what registers hold
-pub record Allocates (s : Setting) (f : Frame) (store store' : List (List Object)) : Type 0 where
+pub record Allocates (s : StepContext) (f : Frame) (store store' : List (List Object)) : Type 0 where
   pub new : Object
   pub strand : new.strand ≡ s.strand
   pub fields : (r : Name) → In new.refs (Some r) → (new.mutable ≡ false) × In f.refs (Some r)
@@ -41,7 +24,7 @@ abbrev pub SetsInt : Object → Object → Type 0
 SetsInt x y = (x.mutable ≡ true) × ((at : ℕ) × (k : ℤ) × (y ≡ record x { ints = slice_set x.ints at k }))
 
 -- an object that the task owns becomes immutable
-abbrev pub Freezes : Setting → Name → Object → Object → Type 0
+abbrev pub Freezes : StepContext → Name → Object → Object → Type 0
 Freezes s n x y = (s.owner n.task ≡ s.task) × (y ≡ record x { mutable = false })
 
 -- the reference field that an instruction writes; the others write none
@@ -52,7 +35,7 @@ WritesField f (Cas d o k e v) x y =
     × (same_name (option_flatten (slice_get x.refs at)) (ref_in f e) ≡ true))
 WritesField f _ x y = y.refs ≡ x.refs
 
-pub record Writes (s : Setting) (f : Frame) (instr : Instr) (store store' : List (List Object)) : Type 0 where
+pub record Writes (s : StepContext) (f : Frame) (instr : Instr) (store store' : List (List Object)) : Type 0 where
   pub name : Name
   pub old : Object
   pub new : Object
@@ -63,7 +46,7 @@ pub record Writes (s : Setting) (f : Frame) (instr : Instr) (store store' : List
   pub field : WritesField f instr old new
   pub is : store' ≡ put_object store name new
 
-abbrev pub Change : Setting → Frame → Instr → List (List Object) → List (List Object) → Type 0
+abbrev pub Change : StepContext → Frame → Instr → List (List Object) → List (List Object) → Type 0
 Change s f instr store store' = (store' ≡ store) ⊎ (Allocates s f store store' ⊎ Writes s f instr store store')
 
 -- a read of a reference field, and where the field is
@@ -79,8 +62,8 @@ pub record Reads (f : Frame) (instr : Instr) (store : List (List Object)) (sourc
   pub place : place_in (length object.refs) (int_in f index) ≡ Some at
   pub got : slice_get object.refs at ≡ Some (Some n)
 
--- a read of a field that names an object which doesn't precede the reader
-pub record StopsAt (s : Setting) (f : Frame) (instr : Instr) (store : List (List Object)) (n : Name) : Type 0 where
+-- a read of a field that names an object which doesn't happen before the reader
+pub record StopsAt (s : StepContext) (f : Frame) (instr : Instr) (store : List (List Object)) (n : Name) : Type 0 where
   pub source : Name
   pub held : In f.refs (Some source)
   pub field : In (refs_at store source) n
@@ -89,7 +72,7 @@ pub record StopsAt (s : Setting) (f : Frame) (instr : Instr) (store : List (List
   pub apart : precedes s.edges object.strand s.strand ≡ false
   pub read : Reads f instr store source n
 
-abbrev pub Changes : Setting → Frame → Instr → List (List Object) → Effect → Type 0
+abbrev pub Changes : StepContext → Frame → Instr → List (List Object) → Effect → Type 0
 Changes s f instr store (Goes f' store') = Change s f instr store store'
 Changes s f instr store (Prints k) = Unit {0}
 Changes s f instr store (Calls g) = Unit {0}
@@ -102,20 +85,20 @@ abbrev none_name : Option Name
 none_name = None
 
 pub counts_within : (limit : ℕ) (x y : ℤ) (n : ℕ × ℕ) → counts_in limit x y ≡ Some n → n.0 + n.1 ≤ limit
-counts_within limit (pos a) (pos b) n e = by (nat_le (a + b) limit) refl e
+counts_within limit (pos a) (pos b) n e = counts_within_by_cases (nat_le (a + b) limit) refl e
   where
-    by : (v : Bool) → nat_le (a + b) limit ≡ v → cond v (Some (a, b)) None ≡ Some n → n.0 + n.1 ≤ limit
-    by true h q = let le : a + b ≤ limit = leb-true (a + b) limit h in let same : (a, b) ≡ n = same_Some (a, b) n q in subst (λ (k : ℕ × ℕ). k.0 + k.1 ≤ limit) same le
-    by false h q = absurd cc
+    counts_within_by_cases : (v : Bool) → nat_le (a + b) limit ≡ v → cond v (Some (a, b)) None ≡ Some n → n.0 + n.1 ≤ limit
+    counts_within_by_cases true h q = let le : a + b ≤ limit = leb-true (a + b) limit h in let same : (a, b) ≡ n = same_Some (a, b) n q in subst (λ (k : ℕ × ℕ). k.0 + k.1 ≤ limit) same le
+    counts_within_by_cases false h q = absurd cc
 counts_within limit (pos a) (negsuc b) n e = absurd cc
 counts_within limit (negsuc a) y n e = absurd cc
 
 pub place_within : (count : ℕ) (x : ℤ) (k : ℕ) → place_in count x ≡ Some k → k < count
-place_within count (pos a) k e = by (nat_lt a count) refl e
+place_within count (pos a) k e = place_within_by_cases (nat_lt a count) refl e
   where
-    by : (t : Bool) → nat_lt a count ≡ t → cond t (Some a) None ≡ Some k → k < count
-    by true is e = let h : a ≡ k = cc in let lt = ltb-true a count is in omega arith
-    by false is e = absurd cc
+    place_within_by_cases : (t : Bool) → nat_lt a count ≡ t → cond t (Some a) None ≡ Some k → k < count
+    place_within_by_cases true is e = let h : a ≡ k = cc in let lt = ltb-true a count is in omega arith
+    place_within_by_cases false is e = absurd cc
 place_within count (negsuc a) k e = absurd cc
 
 newm_sized : (limit : ℕ) (f : Frame) (x y : ℤ) (strand : Strand) (n : ℕ × ℕ) → counts_in limit x y ≡ Some n → IsSized limit f (record { strand = strand; mutable = true; refs = replicate n.0 None; ints = replicate n.1 (pos 0) })
@@ -125,7 +108,7 @@ newm_sized limit f x y strand n e =
     let i : length (replicate n.1 (pos 0)) ≡ n.1 = length-replicate n.1 (pos 0) in
     inl (omega (arith, le, r, i))
 
-module _ (s : Setting) (f : Frame) (instr : Instr) (store : List (List Object)) where
+module _ (s : StepContext) (f : Frame) (instr : Instr) (store : List (List Object)) where
   abbrev D : Effect → Type 0
   D e = Changes s f instr store e
 
@@ -205,7 +188,7 @@ module _ (s : Setting) (f : Frame) (instr : Instr) (store : List (List Object)) 
     is = refl;
   }))
 
-pub effect_changes : (s : Setting) (f : Frame) (store : List (List Object)) (instr : Instr) → Changes s f instr store (effect s f store instr)
+pub effect_changes : (s : StepContext) (f : Frame) (store : List (List Object)) (instr : Instr) → Changes s f instr store (effect s f store instr)
 effect_changes s f store (Set d k) = inl refl
 effect_changes s f store (Mov d a) = inl refl
 effect_changes s f store (Movr d a) = inl refl

@@ -1,6 +1,5 @@
--- One step up, of the walks that find an owner and a path.
-use Rattle.std.proofs.Common.{◌≡◌, ℕ, zero, suc, ◌+◌, ◌-◌, ◌<◌, Bool, true, false, cond, ◌||◌, ◌==◌, Option, Some, refl, ap, ◌∙◌, arith}
-use Rattle.hh_model.specs.Step.{through, owner_by, path_by}
+-- One step up in the walks that find an owner and a path.
+use Rattle.hh_model.proofs.Common.{◌≡◌, ℕ, zero, suc, ◌+◌, ◌-◌, ◌<◌, Bool, true, false, cond, ◌||◌, ◌==◌, Option, Some, refl, ap, ◌∙◌, arith, through, owner_by, path_by}
 
 module _ (par : ℕ → Option ℕ) where
   pub path_here : (k a t : ℕ) → (a == t) ≡ true → path_by par k a t ≡ true
@@ -10,7 +9,7 @@ module _ (par : ℕ → Option ℕ) where
   path_next : (k a t : ℕ) (o : Option ℕ) → (a == t) ≡ false → par t ≡ o → path_by par (suc k) a t ≡ through o false (path_by par k a)
   path_next k a t o e is = ap (λ b. b || through (par t) false (path_by par k a)) e ∙ ap (λ x. through x false (path_by par k a)) is
 
-  -- one above, with one try less
+  -- one task higher, with one step less allowed
   pub path_up : (k j a t p : ℕ) → j < k → (a == t) ≡ false → par t ≡ Some p → path_by par (k - j) a t ≡ path_by par (k - (j + 1)) a p
   path_up k j a t p lt e is = ap (λ x. path_by par x a t) (let s : k - j ≡ suc (k - (j + 1)) = omega arith in s) ∙ path_next (k - (j + 1)) a t (Some p) e is
 

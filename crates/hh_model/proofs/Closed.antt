@@ -1,25 +1,13 @@
--- A set of names that holds what the tasks hold and is closed under references stays so: what is out of reach stays out
--- of reach.
-use Rattle.std.proofs.Common.{◌≡◌, ℕ, ℤ, zero, suc, ◌+◌, true, false, cond, Option, Some, None, List, [], ◌∷◌, ◌++◌, length, set, slice_get, slice_set, ◌⊎◌, inl, inr, refl, ap, sym, subst, ◌∙◌, arith, is_some}
-use Rattle.std.proofs.lemmas.Bool.{false≢true}
-use Rattle.listed.proofs.Members.{In, got_cases, got_past, in_append_right, in_append_left}
-use Rattle.hh_lang.specs.Form.{ProgramText}
-use Rattle.hh_model.specs.declared.data.Name.{Name}
-use Rattle.hh_model.specs.declared.data.Object.{Object}
-use Rattle.hh_model.specs.declared.data.Status.{Status}
-use Rattle.hh_model.specs.declared.data.Status.TheVariants.{Running, Waiting, Ended, Joined}
-use Rattle.hh_model.specs.declared.data.Task.{Task}
-use Rattle.hh_model.specs.declared.data.State.{State}
-use Rattle.hh_model.specs.Effect.{row_of, onward, ref_in}
-use Rattle.hh_model.specs.Names.{named, refs_of, refs_at, registers, names_from, task_names}
-use Rattle.hh_model.specs.Step.{waits, is_running, is_waiting, is_joined, parent_of, joined_task, resumed, child, step, asked, asked_by, asked_line, fetched}
+-- A set of names that contains what the tasks hold and is closed under references stays so: what is unreachable stays
+-- unreachable.
+use Rattle.hh_model.proofs.Common.{◌≡◌, ℕ, ℤ, zero, suc, ◌+◌, true, false, cond, Option, Some, None, List, [], ◌∷◌, ◌++◌, length, set, slice_get, slice_set, ◌⊎◌, inl, inr, refl, ap, sym, subst, ◌∙◌, arith, is_some, false≢true, In, got_cases, got_past, in_append_right, in_append_left, ProgramText, Name, Object, TaskStatus, Running, Waiting, Ended, Joined, Task, MachineState, row_of, onward, ref_in, named, refs_of, refs_at, registers, names_from, task_names, waits, is_running, is_waiting, is_joined, parent_of, joined_task, resumed, child, step, asked, asked_by, asked_line, fetched}
 use Rattle.hh_model.proofs.Carried.{in_from_named, named_from_in, in_set_cases, next_name}
 use Rattle.hh_model.proofs.Runs.{waiting}
 use Rattle.hh_model.proofs.ForkJoinStates.{IsForkJoinState}
 use Rattle.hh_model.proofs.Steps.{Drawn, Put, Allocates, runs_is, names_run, register_cases, step_cases}
 pub use Rattle.hh_model.specs.Closed.{Closed}
 
-pub waits_is : (s : Status) → waits s ≡ true → s ≡ Waiting
+pub waits_is : (s : TaskStatus) → waits s ≡ true → s ≡ Waiting
 waits_is Running h = absurd (false≢true h)
 waits_is Waiting h = refl
 waits_is (Ended k n) h = absurd (false≢true h)
@@ -51,7 +39,7 @@ grown_cases (x ∷ tasks) c d (suc u) z e =
       | inr new ↦ inr (elim new [ inl l ↦ inl (ap suc l.0, l.1) | inr r ↦ inr (let e' : u ≡ length tasks + 1 = r.0 in omega arith, r.1) ])
     ]
 
--- a joined pair and their parent
+-- the children of a join and their parent
 pub three_cases : (tasks : List Task) (l p : ℕ) (yl yr yp : Task) (u : ℕ) (z : Task) → slice_get (slice_set (slice_set (slice_set tasks l yl) (l + 1) yr) p yp) u ≡ Some z
     → ((u ≡ p) × (z ≡ yp)) ⊎ ((z ≡ yr) ⊎ ((z ≡ yl) ⊎ (slice_get tasks u ≡ Some z)))
 three_cases tasks l p yl yr yp u z e =
@@ -81,10 +69,10 @@ resumed_names xp rl rr r w h =
     ]
 
 -- whether a stepping task allocates
-pub asked_at : (p : ProgramText) (m : State) (t : ℕ) (x : Task) → slice_get m.tasks t ≡ Some x → is_running (Some x) ≡ true → asked p m t ≡ asked_line m.field_limit x.top (fetched p x.top)
+pub asked_at : (p : ProgramText) (m : MachineState) (t : ℕ) (x : Task) → slice_get m.tasks t ≡ Some x → is_running (Some x) ≡ true → asked p m t ≡ asked_line m.field_limit x.top (fetched p x.top)
 asked_at p m t x is run = ap (asked_by p m) is ∙ ap (λ b. cond b (asked_line m.field_limit x.top (fetched p x.top)) None) run
 
-module _ (p : ProgramText) (m : State) (t : ℕ) (K : IsForkJoinState m) (P P' : Name → Type 0)
+module _ (p : ProgramText) (m : MachineState) (t : ℕ) (K : IsForkJoinState m) (P P' : Name → Type 0)
     (up : (n : Name) → P n → P' n) (down : (n : Name) → P' n → P n ⊎ (n ≡ next_name t m.store)) (new : is_some (asked p m t) ≡ true → P' (next_name t m.store))
     (I : Closed m.tasks m.store P) where
   fields : (n r : Name) → P' n → In (refs_at m.store n) r → P' r
@@ -96,8 +84,8 @@ module _ (p : ProgramText) (m : State) (t : ℕ) (K : IsForkJoinState m) (P P' :
   held_up : (x : Task) (r : Name) → slice_get m.tasks t ≡ Some x → In (task_names x) r → P' r
   held_up x r is h = up r (I.of_task t x r is h)
 
-  same : Closed m.tasks m.store P'
-  same = record { of_task = λ u x r is h. up r (I.of_task u x r is h); of_object = fields }
+  closed_unchanged : Closed m.tasks m.store P'
+  closed_unchanged = record { of_task = λ u x r is h. up r (I.of_task u x r is h); of_object = fields }
 
   allocated : (x : Task) → slice_get m.tasks t ≡ Some x → is_running (Some x) ≡ true → Allocates p m t x → P' (next_name t m.store)
   allocated x is run a = new (ap is_some (asked_at p m t x is run) ∙ a)
@@ -119,7 +107,7 @@ module _ (p : ProgramText) (m : State) (t : ℕ) (K : IsForkJoinState m) (P P' :
 
   pub closed_step : Closed (step p m t).tasks (step p m t).store P'
   closed_step =
-      step_cases p m t K (λ m'. Closed m'.tasks m'.store P') same (λ x e is run why. same)
+      step_cases p m t K (λ m'. Closed m'.tasks m'.store P') closed_unchanged (λ x e is run why. closed_unchanged)
       (λ x y store outs is run ep ed es ej names fields' alters grows. record {
         of_task = written x y is (λ r h. drawn x r is run (names r h));
         of_object = λ n r pn h. put x n r is pn (fields' n r h);

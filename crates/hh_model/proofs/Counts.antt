@@ -1,21 +1,9 @@
--- How many tasks, objects and joins so many steps make.
-use Rattle.std.proofs.Common.{◌≡◌, ℕ, ℤ, zero, suc, ◌+◌, ◌*◌, ◌<◌, ◌≤◌, ◌^◌, Option, Some, List, [], ◌∷◌, ◌++◌, length, slice_get, slice_set, inl, inr, refl, ap, sym, subst, ◌∙◌, arith, length-set, length-append}
-use Rattle.listed.proofs.Members.{got_cases}
-use Rattle.hh_lang.specs.Form.{ProgramText}
-use Rattle.hh_model.specs.declared.data.Name.{Name}
-use Rattle.hh_model.specs.declared.data.Object.{Object}
-use Rattle.hh_model.specs.declared.data.Task.{Task}
-use Rattle.hh_model.specs.declared.data.State.{State}
-use Rattle.hh_model.specs.declared.data.Status.TheVariants.{Waiting}
-use Rattle.hh_model.specs.Effect.{row_of, onward}
-use Rattle.std.proofs.lemmas.Option.{same_Some}
-use Rattle.hh_model.specs.Step.{root, child, joined_task, resumed, ended_task, result_of, step, start, run, run_from, sibling}
-use Rattle.hh_model.specs.Machine.{MachineValue, IsOfRun, IsSound, advanced}
+-- How many tasks, objects and joins a number of steps makes.
+use Rattle.hh_model.proofs.Common.{◌≡◌, ℕ, ℤ, zero, suc, ◌+◌, ◌*◌, ◌<◌, ◌≤◌, ◌^◌, Option, Some, List, [], ◌∷◌, ◌++◌, length, slice_get, slice_set, inl, inr, refl, ap, sym, subst, ◌∙◌, arith, length-set, length-append, got_cases, ProgramText, same_Some, Name, Object, Task, MachineState, Waiting, row_of, onward, root, child, joined_task, resumed, ended_task, result_of, step, start, run, run_from, sibling, MachineValue, IsOfRun, IsSoundState, advanced, RunsAreCounted, StepsCount}
 use Rattle.hh_model.proofs.Closed.{grown_cases, three_cases}
 use Rattle.hh_model.proofs.Runs.{grown_length}
 use Rattle.hh_model.proofs.ForkJoinStates.{IsForkJoinState, step_is_fork_join_state, start_is_fork_join_state, run_is_fork_join_state, path_is_precedence_in}
 use Rattle.hh_model.proofs.Steps.{Alters, step_cases}
-use Rattle.hh_model.specs.Counts.{RunsAreCounted, StepsCount}
 pub use Rattle.hh_model.specs.Counts.{Counted}
 
 -- a row that is set
@@ -33,7 +21,7 @@ two_rows [] (suc (suc t)) k old = omega arith
 two_rows (r ∷ store) zero k old = old
 two_rows (r ∷ store) (suc t) k old = two_rows store t k old
 
-module _ (p : ProgramText) (m : State) (t : ℕ) (K : IsForkJoinState m) (k : ℕ) (I : Counted k m.tasks m.store) where
+module _ (p : ProgramText) (m : MachineState) (t : ℕ) (K : IsForkJoinState m) (k : ℕ) (I : Counted k m.tasks m.store) where
   more : (u : ℕ) → length (row_of (slice_get m.store u)) ≤ suc k
   more u = let h : length (row_of (slice_get m.store u)) ≤ k = I.objects u in omega arith
 
@@ -121,23 +109,23 @@ module _ (p : ProgramText) (m : State) (t : ℕ) (K : IsForkJoinState m) (k : �
             ];
       })
     where
-      three : (m : State) (l parent : ℕ) (xl xr xp : Task) (rl rr : ℤ × Option Name) → length (slice_set (slice_set (slice_set m.tasks l (joined_task xl)) (l + 1) (joined_task xr)) parent (resumed xp rl rr)) ≡ length m.tasks
+      three : (m : MachineState) (l parent : ℕ) (xl xr xp : Task) (rl rr : ℤ × Option Name) → length (slice_set (slice_set (slice_set m.tasks l (joined_task xl)) (l + 1) (joined_task xr)) parent (resumed xp rl rr)) ≡ length m.tasks
       three m l parent xl xr xp rl rr =
           length-set (slice_set (slice_set m.tasks l (joined_task xl)) (l + 1) (joined_task xr)) parent (resumed xp rl rr)
           ∙ (length-set (slice_set m.tasks l (joined_task xl)) (l + 1) (joined_task xr) ∙ length-set m.tasks l (joined_task xl))
 
 -- RUNS
 
-pub run_on : (p : ProgramText) (ts us : List ℕ) (m : State) → run_from p m (ts ++ us) ≡ run_from p (run_from p m ts) us
+pub run_on : (p : ProgramText) (ts us : List ℕ) (m : MachineState) → run_from p m (ts ++ us) ≡ run_from p (run_from p m ts) us
 run_on p [] us m = refl
 run_on p (t ∷ ts) us m = run_on p ts us (step p m t)
 
-pub run_push : (p : ProgramText) (m : State) (ts : List ℕ) (t : ℕ) → run_from p m (ts ++ t ∷ []) ≡ step p (run_from p m ts) t
+pub run_push : (p : ProgramText) (m : MachineState) (ts : List ℕ) (t : ℕ) → run_from p m (ts ++ t ∷ []) ≡ step p (run_from p m ts) t
 run_push p m [] t = refl
 run_push p m (u ∷ ts) t = run_push p (step p m u) ts t
 
 -- the limit of fields stays
-pub step_limit : (p : ProgramText) (m : State) (t : ℕ) → IsForkJoinState m → (step p m t).field_limit ≡ m.field_limit
+pub step_limit : (p : ProgramText) (m : MachineState) (t : ℕ) → IsForkJoinState m → (step p m t).field_limit ≡ m.field_limit
 step_limit p m t K =
     step_cases p m t K (λ m'. m'.field_limit ≡ m.field_limit) refl (λ x e is run why. refl) (λ x y store outs is run ep ed es ej names fields alters grows. refl)
     (λ x parent e is run pp which result. refl) (λ x g h is run next top. refl) (λ parent l xp xl xr rl rr ip il ir pl left dl dr wl wr nl nr side. refl)
@@ -153,7 +141,7 @@ start_counted p limit = record { made = omega arith; rows = refl; objects = none
     first zero x e = subst (λ (w : Task). w.joins ≤ 0) (same_Some (root p) x e) (omega arith)
     first (suc t) x e = absurd cc
 
-pub run_counted : (p : ProgramText) (m : State) (ts : List ℕ) (k : ℕ) → IsForkJoinState m → Counted k m.tasks m.store → (n : ℕ) → n ≡ k + length ts → Counted n (run_from p m ts).tasks (run_from p m ts).store
+pub run_counted : (p : ProgramText) (m : MachineState) (ts : List ℕ) (k : ℕ) → IsForkJoinState m → Counted k m.tasks m.store → (n : ℕ) → n ≡ k + length ts → Counted n (run_from p m ts).tasks (run_from p m ts).store
 run_counted p m [] k K I n e = subst (λ j. Counted j m.tasks m.store) (let h : k ≡ n = omega arith in h) I
 run_counted p m (t ∷ ts) k K I n e = run_counted p (step p m t) ts (suc k) (step_is_fork_join_state p m t K) (counted_step p m t K k I) n (omega arith)
 
@@ -164,7 +152,7 @@ pub steps_count : StepsCount
 steps_count p m t k K I = counted_step p m t K k I
 
 -- the store has a row for each task
-pub rows_from : (p : ProgramText) (m : State) (ts : List ℕ) (k : ℕ) → IsForkJoinState m → Counted k m.tasks m.store → length (run_from p m ts).store ≡ length (run_from p m ts).tasks
+pub rows_from : (p : ProgramText) (m : MachineState) (ts : List ℕ) (k : ℕ) → IsForkJoinState m → Counted k m.tasks m.store → length (run_from p m ts).store ≡ length (run_from p m ts).tasks
 rows_from p m [] k K I = I.rows
 rows_from p m (t ∷ ts) k K I = rows_from p (step p m t) ts (suc k) (step_is_fork_join_state p m t K) (counted_step p m t K k I)
 
@@ -179,11 +167,11 @@ step_reached g t r =
           ∙ ap (λ limit. run g.program limit (r.0 ++ t ∷ [])) (sym (step_limit g.program g.state t K))),
     )
 
-pub reached_sound : (g : MachineValue) → IsOfRun g → g.steps < 2 ^ 30 → IsSound g.state
+pub reached_sound : (g : MachineValue) → IsOfRun g → g.steps < 2 ^ 30 → IsSoundState g.state
 reached_sound g r few =
     let K : IsForkJoinState g.state = subst IsForkJoinState (sym r.2) (run_is_fork_join_state g.program (start g.program g.state.field_limit) r.0 (start_is_fork_join_state g.program g.state.field_limit)) in
     let I : Counted (length r.0) g.state.tasks g.state.store =
-    subst (λ (s : State). Counted (length r.0) s.tasks s.store) (sym r.2) (run_counted g.program (start g.program g.state.field_limit) r.0 0 (start_is_fork_join_state g.program g.state.field_limit) (start_counted g.program g.state.field_limit) (length r.0) (omega arith)) in
+    subst (λ (s : MachineState). Counted (length r.0) s.tasks s.store) (sym r.2) (run_counted g.program (start g.program g.state.field_limit) r.0 0 (start_is_fork_join_state g.program g.state.field_limit) (start_counted g.program g.state.field_limit) (length r.0) (omega arith)) in
     record {
       path = path_is_precedence_in g.state K;
       above = K.tree.low;

@@ -1,24 +1,5 @@
 -- The first state is a fork-join state, and every step keeps the tree and the store.
-use Rattle.std.proofs.Common.{◌≡◌, ℕ, ℤ, zero, suc, ◌+◌, ◌-◌, ◌%◌, ◌<◌, ◌≤◌, Bool, true, false, cond, Option, Some, None, List, [], ◌∷◌, ◌++◌, length, slice_get, slice_set, nat_lt, inl, inr, refl, ap, sym, subst, ◌∙◌, arith, length-set, eq-eqb}
-use Rattle.std.proofs.lemmas.Bool.{both_ways, cond-true, cond-false, false≢true, eqb-false}
-use Rattle.listed.proofs.Members.{got_within, same_view}
-use Rattle.hh_lang.specs.declared.program.Line.{Line}
-use Rattle.hh_lang.specs.Form.{ProgramText}
-use Rattle.hh_model.specs.declared.data.Name.{Name}
-use Rattle.hh_model.specs.declared.data.Strand.{Strand}
-use Rattle.hh_model.specs.declared.data.Edge.{Edge}
-use Rattle.hh_model.specs.declared.data.Object.{Object}
-use Rattle.hh_model.specs.declared.data.Frame.{Frame}
-use Rattle.hh_model.specs.declared.data.Status.TheVariants.{Waiting}
-use Rattle.hh_model.specs.declared.data.Task.{Task}
-use Rattle.hh_model.specs.declared.data.End.{End}
-use Rattle.hh_model.specs.declared.data.End.TheVariants.{Trapped}
-use Rattle.hh_model.specs.declared.data.Trap.TheVariants.{Depth}
-use Rattle.hh_model.specs.declared.data.State.{State}
-use Rattle.hh_model.specs.Effect.{Effect, Goes, Prints, Calls, Forks, Returns, Traps, Stops, effect, object_at, row_of, onward}
-use Rattle.hh_model.specs.Precedence.{precedes}
-use Rattle.hh_model.specs.PathLaw.{PathIsPrecedence, PathIsPrecedenceIn}
-use Rattle.hh_model.specs.Step.{waits, is_over, is_running, is_joined, parent_of, parents, joined, owner_of, is_on_path, path_in, owner_in, strand, strand_of, sibling, is_left, setting, follow, forked, child, child_ended_by, last_return, returned_to, goes_on, join_of, result_at, or_same, last_of, front_of, back_in, result_of, ended_by, depth_limit, frame_limit, ended_task, root, stepped, step, can_step, fetched, start, run_from, run, entry_frame}
+use Rattle.hh_model.proofs.Common.{◌≡◌, ℕ, ℤ, zero, suc, ◌+◌, ◌-◌, ◌%◌, ◌<◌, ◌≤◌, Bool, true, false, cond, Option, Some, None, List, [], ◌∷◌, ◌++◌, length, slice_get, slice_set, nat_lt, inl, inr, refl, ap, sym, subst, ◌∙◌, arith, length-set, eq-eqb, both_ways, cond-true, cond-false, false≢true, eqb-false, got_within, same_view, Line, ProgramText, Name, Strand, Edge, Object, Frame, Waiting, Task, End, Trapped, Depth, MachineState, Effect, Goes, Prints, Calls, Forks, Returns, Traps, Stops, effect, object_at, row_of, onward, precedes, PathIsPrecedence, PathIsPrecedenceIn, waits, is_over, is_running, is_joined, parent_of, parents, joined, owner_of, is_on_path, path_in, owner_in, strand, strand_of, sibling, is_left, setting, follow, forked, child, child_ended_by, last_return, returned_to, goes_on, join_of, result_at, or_same, last_of, front_of, back_in, result_of, ended_by, depth_limit, frame_limit, ended_task, root, stepped, step, can_step, fetched, start, run_from, run, entry_frame}
 use Rattle.hh_model.proofs.Walks.{decides_none, same_itself}
 use Rattle.hh_model.proofs.Tree.{Known}
 use Rattle.hh_model.proofs.Stores.{StandsAs, Keeps, effect_keeps}
@@ -33,7 +14,7 @@ store_wider n n' js js' store le more S m o e =
     let up : js o.strand.task ≤ js' o.strand.task = more o.strand.task in
     (k.0, (omega arith, omega arith))
 
--- a task is written with the same place in the tree
+-- a task is written and keeps its position in the tree
 written : (tasks : List Task) (edges : List Edge) (store : List (List Object)) (t : ℕ) (x y : Task) → slice_get tasks t ≡ Some x
     → y.parent ≡ x.parent → is_over y.status ≡ is_over x.status → waits y.status ≡ waits x.status → y.joins ≡ x.joins
     → IsForkJoinStateIn tasks edges store → IsForkJoinStateIn (slice_set tasks t y) edges store
@@ -47,7 +28,7 @@ written tasks edges store t x y is p d w j K = record {
 }
 
 -- the store after a step of a task
-stored : (tasks : List Task) (edges : List Edge) (store store' : List (List Object)) (m : State) (t : ℕ) (x : Task) → m.tasks ≡ tasks → slice_get tasks t ≡ Some x
+stored : (tasks : List Task) (edges : List Edge) (store store' : List (List Object)) (m : MachineState) (t : ℕ) (x : Task) → m.tasks ≡ tasks → slice_get tasks t ≡ Some x
     → StandsAs (setting m t x) store store' → IsForkJoinStateIn tasks edges store → IsForkJoinStateIn tasks edges store'
 stored tasks edges store store' m t x em is stands K = record {
   tree = K.tree;
@@ -70,15 +51,15 @@ empty_rows [] (suc (suc k)) c o e = absurd cc
 empty_rows (row ∷ rows) zero c o e = e
 empty_rows (row ∷ rows) (suc k) c o e = empty_rows rows k c o e
 
-either_is_fork_join_state : (b : Bool) (m m' : State) → IsForkJoinState m → IsForkJoinState m' → IsForkJoinState (cond b m m')
+either_is_fork_join_state : (b : Bool) (m m' : MachineState) → IsForkJoinState m → IsForkJoinState m' → IsForkJoinState (cond b m m')
 either_is_fork_join_state true m m' k k' = k
 either_is_fork_join_state false m m' k k' = k'
 
-or_same_is_fork_join_state : {A : Type 0} (m : State) (o : Option A) (go : A → State) → IsForkJoinState m → ((x : A) → o ≡ Some x → IsForkJoinState (go x)) → IsForkJoinState (or_same m o go)
+or_same_is_fork_join_state : {A : Type 0} (m : MachineState) (o : Option A) (go : A → MachineState) → IsForkJoinState m → ((x : A) → o ≡ Some x → IsForkJoinState (go x)) → IsForkJoinState (or_same m o go)
 or_same_is_fork_join_state m None go k each = k
 or_same_is_fork_join_state m (Some x) go k each = each x refl
 
-module _ (m : State) (t : ℕ) (x : Task) (is : slice_get m.tasks t ≡ Some x) (run : is_running (Some x) ≡ true) (K : IsForkJoinState m) where
+module _ (m : MachineState) (t : ℕ) (x : Task) (is : slice_get m.tasks t ≡ Some x) (run : is_running (Some x) ≡ true) (K : IsForkJoinState m) where
   abbrev tells : (is_over x.status ≡ false) × (waits x.status ≡ false)
   tells = running_tells x.status run
 
@@ -155,7 +136,7 @@ module _ (m : State) (t : ℕ) (x : Task) (is : slice_get m.tasks t ≡ Some x) 
   stepped_is_fork_join_state p None = K
   stepped_is_fork_join_state p (Some line) = follow_is_fork_join_state line.number (effect (setting m t x) x.top m.store line.instr) (effect_keeps (setting m t x) m.store x.top line.instr)
 
-step_by : (p : ProgramText) (m : State) (t : ℕ) → IsForkJoinState m → (b : Bool) → can_step m t ≡ b → IsForkJoinState (cond b (or_same m (slice_get m.tasks t) (λ x. stepped p m t x (fetched p x.top))) m)
+step_by : (p : ProgramText) (m : MachineState) (t : ℕ) → IsForkJoinState m → (b : Bool) → can_step m t ≡ b → IsForkJoinState (cond b (or_same m (slice_get m.tasks t) (λ x. stepped p m t x (fetched p x.top))) m)
 step_by p m t K false e = K
 step_by p m t K true e = or_same_is_fork_join_state m (slice_get m.tasks t) _ K (λ x is. stepped_is_fork_join_state m t x is (ap is_running (sym is) ∙ running m.end e) K p (fetched p x.top))
   where
@@ -163,10 +144,10 @@ step_by p m t K true e = or_same_is_fork_join_state m (slice_get m.tasks t) _ K 
     running None h = h
     running (Some z) h = absurd (false≢true h)
 
-pub step_is_fork_join_state : (p : ProgramText) (m : State) (t : ℕ) → IsForkJoinState m → IsForkJoinState (step p m t)
+pub step_is_fork_join_state : (p : ProgramText) (m : MachineState) (t : ℕ) → IsForkJoinState m → IsForkJoinState (step p m t)
 step_is_fork_join_state p m t K = step_by p m t K (can_step m t) refl
 
-pub run_is_fork_join_state : (p : ProgramText) (m : State) (ts : List ℕ) → IsForkJoinState m → IsForkJoinState (run_from p m ts)
+pub run_is_fork_join_state : (p : ProgramText) (m : MachineState) (ts : List ℕ) → IsForkJoinState m → IsForkJoinState (run_from p m ts)
 run_is_fork_join_state p m [] K = K
 run_is_fork_join_state p m (t ∷ ts) K = run_is_fork_join_state p (step p m t) ts (step_is_fork_join_state p m t K)
 
@@ -216,8 +197,8 @@ start_is_fork_join_state p limit = record {
   store_of = λ n o e. absurd (no_objects n.task n.count o e);
 }
 
--- the test of precedence sees the path
-pub seen : (m : State) → IsForkJoinState m → (t : ℕ) (x : Task) (n : Name) (o : Object) → slice_get m.tasks t ≡ Some x → is_running (Some x) ≡ true → object_at m.store n ≡ Some o
+-- the test of happens before agrees with the path
+pub seen : (m : MachineState) → IsForkJoinState m → (t : ℕ) (x : Task) (n : Name) (o : Object) → slice_get m.tasks t ≡ Some x → is_running (Some x) ≡ true → object_at m.store n ≡ Some o
     → precedes m.edges o.strand (strand_of t x) ≡ is_on_path m.tasks (owner_of m.tasks n.task) t
 seen m K t x n o is run e =
     let k = K.store_of n o e in
@@ -227,7 +208,7 @@ seen m K t x n o is run e =
     ∙ (I.path o.strand.task o.strand.joins t k.1.0 k.1.1 (got_within m.tasks t x is) live
     ∙ ap (λ a. is_on_path m.tasks (owner_of m.tasks a) t) k.0)
 
-pub path_is_precedence_in : (m : State) → IsForkJoinState m → PathIsPrecedenceIn m
+pub path_is_precedence_in : (m : MachineState) → IsForkJoinState m → PathIsPrecedenceIn m
 path_is_precedence_in m K t x n o is run e =
     let I = K.tree in
     let at = seen m K t x n o is run e in (

@@ -21,3 +21,4 @@ pub mod Next
 pub mod Root
 pub mod EndLaws
 pub mod Sizes
+mod Common

@@ -1,33 +1,13 @@
 -- Each frame of each task has a next instruction.
-use Rattle.std.proofs.Common.{◌≡◌, ℕ, ℤ, zero, suc, pos, ◌+◌, ◌-◌, ◌<◌, ◌==◌, Bool, true, false, cond, Option, Some, None, List, [], ◌∷◌, ◌++◌, length, slice_get, slice_set, nat_lt, IsSomeAnd, inl, inr, refl, ap, sym, subst, ◌∙◌, arith}
-use Rattle.std.specs.Option.{option_flatten}
-use Rattle.std.proofs.lemmas.Option.{slice_get_within}
-use Rattle.listed.proofs.Members.{In, in_append_cases, in_from_contains, got_cases}
-use Rattle.listed.proofs.Places.{all_at, got_some}
-use Rattle.hh_lang.specs.declared.instr.Instr.{Instr}
-use Rattle.hh_lang.specs.declared.instr.Instr.TheVariants.{Set, Mov, Movr, Nil as NilOf, Calc, Same, Jmp, Jz, Newm, Pack, Getr, Geti, Putr, Puti, Cntr, Cnti, Freeze, Cas, Call, Par, Ret, Out}
-use Rattle.hh_lang.specs.declared.program.Line.{Line}
-use Rattle.hh_lang.specs.declared.program.Fun.{Fun}
-use Rattle.hh_lang.specs.Form.{ProgramText, IsProgram, IsFunction, IsReturn, EndsWithReturn, NamesExist, code_of}
-use Rattle.hh_model.specs.declared.data.Name.{Name}
-use Rattle.hh_model.specs.declared.data.Object.{Object}
-use Rattle.hh_model.specs.declared.data.Frame.{Frame}
-use Rattle.hh_model.specs.declared.data.Task.{Task}
-use Rattle.hh_model.specs.declared.data.Status.TheVariants.{Waiting}
-use Rattle.hh_model.specs.declared.data.Trap.{Trap}
-use Rattle.hh_model.specs.declared.data.Trap.TheVariants.{Nil, Range, Frozen, Div as DivTrap, Size}
-use Rattle.hh_model.specs.declared.data.State.{State}
-use Rattle.hh_model.specs.Effect.{Effect, Goes, Prints, Calls, Forks, Returns, Traps, Stops, Setting, effect, object_at, put_object, or_trap, with_object, read_effect, int_in, ref_in, int_eq, onward, same_name, calculated, counts_in, place_in}
-use Rattle.hh_model.specs.Precedence.{precedes}
-use Rattle.hh_model.specs.Step.{fetched, step, start, run_from, root, stepped, follow, setting, can_step, forked, child, entry_frame, frame_limit, depth_limit, returned_to, last_return, child_ended_by, ended_task, joined_task, resumed, join_of, result_of, back_in, last_of, front_of, is_left, sibling, result_at, or_same}
-use Rattle.hh_model.specs.NextLaw.{HasNext, AlwaysNext, PacksAreFew}
+use Rattle.hh_model.proofs.Common.{◌≡◌, ℕ, ℤ, zero, suc, pos, ◌+◌, ◌-◌, ◌<◌, ◌==◌, Bool, true, false, cond, Option, Some, None, List, [], ◌∷◌, ◌++◌, length, slice_get, slice_set, nat_lt, IsSomeAnd, inl, inr, refl, ap, sym, subst, ◌∙◌, arith, option_flatten, slice_get_within, In, in_append_cases, in_from_contains, got_cases, all_at, got_some, Instr, Set, Mov, Movr, Nil as NilOf, Calc, Same, Jmp, Jz, Newm, Pack, Getr, Geti, Putr, Puti, Cntr, Cnti, Freeze, Cas, Call, Par, Ret, Out, Line, Fun, ProgramText, IsProgram, IsFunction, IsReturn, EndsWithReturn, NamesExist, code_of, Name, Object, Frame, Task, Waiting, Trap, Range, Frozen, Div as DivTrap, Size, MachineState, Effect, Goes, Prints, Calls, Forks, Returns, Traps, Stops, StepContext, effect, object_at, put_object, or_trap, with_object, read_effect, int_in, ref_in, int_eq, onward, same_name, calculated, counts_in, place_in, precedes, fetched, step, start, run_from, root, stepped, follow, setting, can_step, forked, child, entry_frame, frame_limit, depth_limit, returned_to, last_return, child_ended_by, ended_task, joined_task, resumed, join_of, result_of, back_in, last_of, front_of, is_left, sibling, result_at, or_same, HasNext, AlwaysNext, PacksAreFew}
+use Rattle.hh_model.specs.declared.data.Trap.TheVariants.{Nil}
 use Rattle.hh_model.proofs.Closed.{grown_cases, three_cases}
 use Rattle.hh_model.proofs.Steps.{last_in}
 use Rattle.hh_model.proofs.Sizes.{front_in}
 
 -- PROGRAMS
 
--- behind an instruction that isn't a return there is another one
+-- an instruction that isn't a return is followed by another one
 behind : (code : List Line) (k : ℕ) (l : Line) → EndsWithReturn code → slice_get code k ≡ Some l → (IsReturn l.instr → ⊥) → (m : Line) × (slice_get code (k + 1) ≡ Some m)
 behind [] k l ends e other = absurd ends
 behind (x ∷ []) zero l ends e other = let same : x ≡ l = cc in absurd (other (subst (λ (y : Line). IsReturn y.instr) same ends))
@@ -58,19 +38,19 @@ module _ (p : ProgramText) (I : IsProgram p) where
     fun : (fun : Fun) × (slice_get p.functions f.function ≡ Some fun)
     fun = in_function (slice_get p.functions f.function) f.next line at
 
-    is : IsFunction (length p.functions) fun.0
-    is = all_at (IsFunction (length p.functions)) p.functions f.function fun.0 I.each fun.1
+    function_is_sound : IsFunction (length p.functions) fun.0
+    function_is_sound = all_at (IsFunction (length p.functions)) p.functions f.function fun.0 I.each fun.1
 
     in_code : slice_get fun.0.code f.next ≡ Some line
     in_code = ap (λ o. slice_get (code_of o) f.next) (sym fun.1) ∙ at
 
     onward_next : (IsReturn line.instr → ⊥) → HasNext p (onward f)
     onward_next other =
-        let next = behind fun.0.code f.next line is.ends in_code other in
+        let next = behind fun.0.code f.next line function_is_sound.ends in_code other in
         (next.0, ap (λ o. slice_get (code_of o) (f.next + 1)) fun.1 ∙ next.1)
 
     names : NamesExist (length p.functions) (length fun.0.code) line.instr
-    names = all_at (λ (l : Line). NamesExist (length p.functions) (length fun.0.code) l.instr) fun.0.code f.next line is.names in_code
+    names = all_at (λ (l : Line). NamesExist (length p.functions) (length fun.0.code) l.instr) fun.0.code f.next line function_is_sound.names in_code
 
     jump_next : (to : ℕ) → to < length fun.0.code → HasNext p (record f { next = to })
     jump_next to lt =
@@ -88,7 +68,7 @@ Leads p f Returns = Unit {0}
 Leads p f (Traps t) = Unit {0}
 Leads p f (Stops n) = Unit {0}
 
-module _ (p : ProgramText) (s : Setting) (f : Frame) (store : List (List Object)) where
+module _ (p : ProgramText) (s : StepContext) (f : Frame) (store : List (List Object)) where
   trap_leads : {A : Type 0} (t : Trap) (o : Option A) (go : A → Effect) → ((x : A) → Leads p f (go x)) → Leads p f (or_trap t o go)
   trap_leads t None go each = tt
   trap_leads t (Some x) go each = each x
@@ -160,7 +140,7 @@ Placed p x = (f : Frame) → In (x.top ∷ x.below) f → HasNext p f
 abbrev pub AllPlaced : ProgramText → List Task → Type 0
 AllPlaced p tasks = (t : ℕ) (x : Task) → slice_get tasks t ≡ Some x → Placed p x
 
-module _ (p : ProgramText) (I : IsProgram p) (m : State) (t : ℕ) (A : AllPlaced p m.tasks) where
+module _ (p : ProgramText) (I : IsProgram p) (m : MachineState) (t : ℕ) (A : AllPlaced p m.tasks) where
   set_placed : (y : Task) → Placed p y → AllPlaced p (slice_set m.tasks t y)
   set_placed y placed u z e = elim (got_cases m.tasks t u y z e) [
     | inl here ↦ subst (Placed p) (sym here.1) placed
@@ -178,11 +158,11 @@ module _ (p : ProgramText) (I : IsProgram p) (m : State) (t : ℕ) (A : AllPlace
     below : (g : Frame) → In x.below g → HasNext p g
     below g h = mine g (inr h)
 
-    either_placed : (b : Bool) (m1 m2 : State) → AllPlaced p m1.tasks → AllPlaced p m2.tasks → AllPlaced p (cond b m1 m2).tasks
+    either_placed : (b : Bool) (m1 m2 : MachineState) → AllPlaced p m1.tasks → AllPlaced p m2.tasks → AllPlaced p (cond b m1 m2).tasks
     either_placed true m1 m2 k l = k
     either_placed false m1 m2 k l = l
 
-    or_placed : {X : Type 0} (o : Option X) (go : X → State) → ((y : X) → o ≡ Some y → AllPlaced p (go y).tasks) → AllPlaced p (or_same m o go).tasks
+    or_placed : {X : Type 0} (o : Option X) (go : X → MachineState) → ((y : X) → o ≡ Some y → AllPlaced p (go y).tasks) → AllPlaced p (or_same m o go).tasks
     or_placed None go each = A
     or_placed (Some y) go each = each y refl
 
@@ -243,7 +223,7 @@ module _ (p : ProgramText) (I : IsProgram p) (m : State) (t : ℕ) (A : AllPlace
     stepped_placed (Some line) e =
         follow_placed line.number (effect (setting m t x) x.top m.store line.instr) (effect_leads p (setting m t x) x.top m.store I line e line.instr refl)
 
-  same_or_placed : (o : Option Task) (go : Task → State) → ((y : Task) → o ≡ Some y → AllPlaced p (go y).tasks) → AllPlaced p (or_same m o go).tasks
+  same_or_placed : (o : Option Task) (go : Task → MachineState) → ((y : Task) → o ≡ Some y → AllPlaced p (go y).tasks) → AllPlaced p (or_same m o go).tasks
   same_or_placed None go each = A
   same_or_placed (Some y) go each = each y refl
 
@@ -254,11 +234,11 @@ module _ (p : ProgramText) (I : IsProgram p) (m : State) (t : ℕ) (A : AllPlace
   step_placed : AllPlaced p (step p m t).tasks
   step_placed = step_by (can_step m t)
 
-run_placed : (p : ProgramText) (I : IsProgram p) (m : State) (ts : List ℕ) → AllPlaced p m.tasks → AllPlaced p (run_from p m ts).tasks
+run_placed : (p : ProgramText) (I : IsProgram p) (m : MachineState) (ts : List ℕ) → AllPlaced p m.tasks → AllPlaced p (run_from p m ts).tasks
 run_placed p I m [] A = A
 run_placed p I m (t ∷ ts) A = run_placed p I (step p m t) ts (step_placed p I m t A)
 
--- main is there
+-- main exists
 main_within : (fs : List Fun) (k : ℕ) (P : Fun → Type 0) (o : Option Fun) → slice_get fs k ≡ o → IsSomeAnd o P → k < length fs
 main_within fs k P None e h = absurd h
 main_within fs k P (Some f) e h = slice_get_within fs k f e
@@ -274,7 +254,7 @@ start_placed p limit I (suc t) x e = absurd cc
 pub always_next : AlwaysNext
 always_next p limit ts t x f I is c = run_placed p I (start p limit) ts (start_placed p limit I) t x is f (in_from_contains (x.top ∷ x.below) f c)
 
--- a frame that stands at a place of a function
+-- a frame at a place of a function
 abbrev frame_at : ℕ → ℕ → Frame
 frame_at g n = record { function = g; next = n; ints = []; refs = [] }
 

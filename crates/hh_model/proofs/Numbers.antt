@@ -1,20 +1,10 @@
 -- Tasks are numbered in the order of the forks.
-use Rattle.std.proofs.Common.{◌≡◌, ℕ, ◌+◌, ◌<◌, Some, List, [], ◌∷◌, ◌++◌, length, slice_get, slice_set, ◌⊎◌, inl, inr, refl, ap, sym, ◌∙◌, arith, length-set}
-use Rattle.std.proofs.lemmas.Bool.{cases_eq}
-use Rattle.std.proofs.lemmas.Option.{same_Some}
-use Rattle.listed.proofs.Members.{got_same, got_other, got_front, got_within}
-use Rattle.hh_lang.specs.Form.{ProgramText}
-use Rattle.hh_model.specs.declared.data.Status.TheVariants.{Waiting}
-use Rattle.hh_model.specs.declared.data.Task.{Task}
-use Rattle.hh_model.specs.declared.data.State.{State}
-use Rattle.hh_model.specs.Effect.{onward}
-use Rattle.hh_model.specs.Step.{step, run, parent_of, child, joined_task, resumed, ended_task, result_of}
-use Rattle.hh_model.specs.Store.{TasksStay, MakesChildren}
+use Rattle.hh_model.proofs.Common.{◌≡◌, ℕ, ◌+◌, ◌<◌, Some, List, [], ◌∷◌, ◌++◌, length, slice_get, slice_set, ◌⊎◌, inl, inr, refl, ap, sym, ◌∙◌, arith, length-set, cases_eq, same_Some, got_same, got_other, got_front, got_within, ProgramText, Waiting, Task, MachineState, onward, step, run, parent_of, child, joined_task, resumed, ended_task, result_of, TasksStay, MakesChildren}
 use Rattle.hh_model.proofs.Runs.{grown_length, grown_left, grown_right}
 use Rattle.hh_model.proofs.ForkJoinStates.{IsForkJoinState}
 use Rattle.hh_model.proofs.Steps.{step_cases}
 
--- a task that stands where another stood, of the same parent and depth
+-- a task in the position of another: with the same parent and depth
 abbrev Stands : List Task → ℕ → Task → Type 0
 Stands tasks u x = (y : Task) × (slice_get tasks u ≡ Some y) × (y.parent ≡ x.parent) × (y.depth ≡ x.depth)
 
@@ -30,19 +20,19 @@ set_stands tasks t u x y z is p d s =
 more_stands : (tasks : List Task) (c d : Task) (u : ℕ) (z : Task) → Stands tasks u z → Stands (tasks ++ c ∷ d ∷ []) u z
 more_stands tasks c d u z s = (s.0, got_front tasks (c ∷ d ∷ []) u (got_within tasks u s.0 s.1) ∙ s.1, s.2, s.3)
 
-module _ (p : ProgramText) (m : State) (t : ℕ) (K : IsForkJoinState m) where
-  abbrev Numbered : State → Type 0
+module _ (p : ProgramText) (m : MachineState) (t : ℕ) (K : IsForkJoinState m) where
+  abbrev Numbered : MachineState → Type 0
   Numbered m' = TasksStay m m' × ((length m'.tasks ≡ length m.tasks) ⊎ MakesChildren p m m' t)
 
   stays : TasksStay m m
   stays u x is = (x, is, refl, refl)
 
-  same : Numbered m
-  same = (stays, inl refl)
+  numbered_unchanged : Numbered m
+  numbered_unchanged = (stays, inl refl)
 
   pub numbered : Numbered (step p m t)
   numbered =
-      step_cases p m t K Numbered same (λ x e is run why. (stays, inl refl))
+      step_cases p m t K Numbered numbered_unchanged (λ x e is run why. (stays, inl refl))
       (λ x y store outs is run ep ed es ej names fields alters grows. (λ u z iz. set_stands m.tasks t u x y z is ep ed (stays u z iz), inl (length-set m.tasks t y)))
       (λ x parent e is run pp which result. (λ u z iz. set_stands m.tasks t u x (ended_task x (result_of x.top)) z is refl refl (stays u z iz), inl (length-set m.tasks t (ended_task x (result_of x.top)))))
       (λ x g h is run next top. (

@@ -1,18 +1,5 @@
--- Only the first task has no parent, and it stands above all others.
-use Rattle.std.proofs.Common.{◌≡◌, ℕ, ℤ, zero, suc, ◌+◌, ◌<◌, ◌≤◌, ◌==◌, arith, true, false, Option, Some, None, List, [], ◌∷◌, ◌++◌, length, slice_get, slice_set, inl, inr, refl, ap, sym, subst, ◌∙◌}
-use Rattle.std.proofs.lemmas.Bool.{cases_eq, both_ways, false≢true, or_right}
-use Rattle.std.proofs.lemmas.Option.{same_Some}
-use Rattle.listed.proofs.Members.{got_same, got_other, got_within}
-use Rattle.listed.proofs.Places.{got_some}
-use Rattle.listed.proofs.Options.{some_none}
-use Rattle.hh_lang.specs.Form.{ProgramText}
-use Rattle.hh_model.specs.declared.data.Name.{Name}
-use Rattle.hh_model.specs.declared.data.Status.TheVariants.{Waiting}
-use Rattle.hh_model.specs.declared.data.Task.{Task}
-use Rattle.hh_model.specs.declared.data.State.{State}
-use Rattle.hh_model.specs.Effect.{onward}
-use Rattle.hh_model.specs.Step.{step, run, run_from, start, parents, joined, parent_of, path_in, is_on_path, is_running, is_waiting, is_joined, child, ended_task, result_of, joined_task, resumed}
-use Rattle.hh_model.specs.Tree.{IsForkJoinState, HasOneRoot, RunsHaveOneRoot, waiting, joins_in}
+-- Only the first task has no parent, and it is an ancestor of all others.
+use Rattle.hh_model.proofs.Common.{◌≡◌, ℕ, ℤ, zero, suc, ◌+◌, ◌<◌, ◌≤◌, ◌==◌, arith, true, false, Option, Some, None, List, [], ◌∷◌, ◌++◌, length, slice_get, slice_set, inl, inr, refl, ap, sym, subst, ◌∙◌, cases_eq, both_ways, false≢true, or_right, same_Some, got_same, got_other, got_within, got_some, some_none, ProgramText, Name, Waiting, Task, MachineState, onward, step, run, run_from, start, parents, joined, parent_of, path_in, is_on_path, is_running, is_waiting, is_joined, child, ended_task, result_of, joined_task, resumed, IsForkJoinState, HasOneRoot, RunsHaveOneRoot, waiting, joins_in}
 use Rattle.hh_model.proofs.Closed.{grown_cases}
 use Rattle.hh_model.proofs.ForkJoinStates.{step_is_fork_join_state, start_is_fork_join_state, run_is_fork_join_state}
 use Rattle.hh_model.proofs.Paths.{path_child, path_itself}
@@ -32,7 +19,7 @@ written tasks t x y is same R u z at none = elim (cases_eq u t) [
   | inr ne ↦ R u z (sym (got_other tasks t u y ne) ∙ at) none
 ]
 
-module _ (p : ProgramText) (m : State) (t : ℕ) (K : IsForkJoinState m) (R : OneRoot m.tasks) where
+module _ (p : ProgramText) (m : MachineState) (t : ℕ) (K : IsForkJoinState m) (R : OneRoot m.tasks) where
   forked : (x : Task) (g h : ℕ) → slice_get m.tasks t ≡ Some x → OneRoot (slice_set m.tasks t (record x { status = Waiting; top = onward x.top }) ++ child t (x.depth + 1) g x.top ∷ child t (x.depth + 1) h x.top ∷ [])
   forked x g h is u z at none = elim (grown_cases (slice_set m.tasks t (record x { status = Waiting; top = onward x.top })) (child t (x.depth + 1) g x.top) (child t (x.depth + 1) h x.top) u z at) [
     | inl old ↦ written m.tasks t x (record x { status = Waiting; top = onward x.top }) is refl R u z old none
@@ -61,7 +48,7 @@ module _ (p : ProgramText) (m : State) (t : ℕ) (K : IsForkJoinState m) (R : On
       (λ x g h is run a b. forked x g h is)
       (λ o c xp xl xr rl rr ip il ir pl a b d e f g h i. joins o c xp xl xr rl rr ip il ir pl)
 
-root_from : (p : ProgramText) (ts : List ℕ) (m : State) → IsForkJoinState m → OneRoot m.tasks → OneRoot (run_from p m ts).tasks
+root_from : (p : ProgramText) (ts : List ℕ) (m : MachineState) → IsForkJoinState m → OneRoot m.tasks → OneRoot (run_from p m ts).tasks
 root_from p [] m K R = R
 root_from p (t ∷ ts) m K R = root_from p ts (step p m t) (step_is_fork_join_state p m t K) (root_step p m t K R)
 
@@ -76,7 +63,7 @@ pub runs_tell : (o : Option Task) → is_running o ≡ true → (x : Task) × (o
 runs_tell None h = absurd (false≢true h)
 runs_tell (Some x) h = let r = running_tells x.status h in (x, refl, r.0, r.1)
 
-module _ (m : State) (K : IsForkJoinState m) (R : OneRoot m.tasks) where
+module _ (m : MachineState) (K : IsForkJoinState m) (R : OneRoot m.tasks) where
   above_by : (k u : ℕ) → ((p : ℕ) → p < u → p < length m.tasks → is_on_path m.tasks 0 p ≡ true) → (x : Task) → slice_get m.tasks u ≡ Some x → (o : Option ℕ) → x.parent ≡ o → is_on_path m.tasks 0 u ≡ true
   above_by k u up x is None e = subst (λ z. is_on_path m.tasks 0 z ≡ true) (sym (R u x is e)) (path_itself (parents m.tasks) K.tree.low 0)
   above_by k u up x is (Some p) e =

@@ -1,15 +1,5 @@
 -- Every step keeps the tree and the store.
-use Rattle.std.proofs.Common.{◌≡◌, ℕ, ℤ, ◌+◌, ◌-◌, ◌<◌, ◌≤◌, Bool, true, false, Option, Some, None, List, [], ◌∷◌, ◌++◌, length, set, slice_get, slice_set, inl, inr, refl, ap, sym, subst, ◌∙◌, arith, length-append, length-set, append_assoc}
-use Rattle.std.proofs.lemmas.Bool.{cases_lt, cases_eq, cond-true, false≢true}
-use Rattle.std.proofs.Math.Path.{fun_ext}
-use Rattle.listed.proofs.Members.{got_same, got_other, got_front, got_back, got_past, got_within, same_view, view_step}
-use Rattle.hh_model.specs.declared.data.Name.{Name}
-use Rattle.hh_model.specs.declared.data.Edge.{Edge}
-use Rattle.hh_model.specs.declared.data.Frame.{Frame}
-use Rattle.hh_model.specs.declared.data.Status.{Status}
-use Rattle.hh_model.specs.declared.data.Status.TheVariants.{Running, Waiting, Ended, Joined}
-use Rattle.hh_model.specs.declared.data.Task.{Task}
-use Rattle.hh_model.specs.Step.{runs, waits, is_over, result_in, is_running, is_waiting, is_joined, parent_of, parents, joined, strand, strand_of, edge, sibling, is_left, child, joined_task, resumed}
+use Rattle.hh_model.proofs.Common.{◌≡◌, ℕ, ℤ, ◌+◌, ◌-◌, ◌<◌, ◌≤◌, Bool, true, false, Option, Some, None, List, [], ◌∷◌, ◌++◌, length, set, slice_get, slice_set, inl, inr, refl, ap, sym, subst, ◌∙◌, arith, length-append, length-set, append_assoc, cases_lt, cases_eq, cond-true, false≢true, fun_ext, got_same, got_other, got_front, got_back, got_past, got_within, same_view, view_step, Name, Edge, Frame, TaskStatus, Running, Waiting, Ended, Joined, Task, runs, waits, is_over, result_in, is_running, is_waiting, is_joined, parent_of, parents, joined, strand, strand_of, edge, sibling, is_left, child, joined_task, resumed}
 use Rattle.hh_model.proofs.Tree.{Tree}
 use Rattle.hh_model.proofs.Joins.{joins_keep}
 use Rattle.hh_model.proofs.Forks.{forks_keep}
@@ -26,7 +16,7 @@ tree_by tasks n par jd wt js es es' en ep ed ew ej ee I =
     (subst (λ f. Tree n par jd wt f es') (sym ej)
     (subst (λ x. Tree n par jd wt js x) (sym ee) I)))))
 
--- a task that is written with the same place in the tree
+-- a task that is written and keeps its position in the tree
 pub same_tree : (tasks : List Task) (edges : List Edge) (t : ℕ) (x y : Task) → slice_get tasks t ≡ Some x
     → parent_of (Some y) ≡ parent_of (Some x) → is_joined (Some y) ≡ is_joined (Some x) → is_waiting (Some y) ≡ is_waiting (Some x) → joins_of (Some y) ≡ joins_of (Some x)
     → TreeOf tasks edges → TreeOf (slice_set tasks t y) edges
@@ -34,21 +24,21 @@ same_tree tasks edges t x y is p d w j I =
     tree_by (slice_set tasks t y) (length tasks) (parents tasks) (joined tasks) (waiting tasks) (joins_in tasks) edges edges
     (length-set tasks t y) (same_view parent_of tasks t x y is p) (same_view is_joined tasks t x y is d) (same_view is_waiting tasks t x y is w) (same_view joins_of tasks t x y is j) refl I
 
--- what a status tells
-pub running_tells : (s : Status) → runs s ≡ true → (is_over s ≡ false) × (waits s ≡ false)
+-- what follows from a status
+pub running_tells : (s : TaskStatus) → runs s ≡ true → (is_over s ≡ false) × (waits s ≡ false)
 running_tells Running h = (refl, refl)
 running_tells Waiting h = absurd (false≢true h)
 running_tells (Ended k n) h = absurd (false≢true h)
 running_tells Joined h = absurd (false≢true h)
 
--- a task that runs isn't over and doesn't wait
+-- a running task has neither joined nor waits
 pub runs_live : {o : Option Task} (x : Task) → o ≡ Some x → x.status ≡ Running → is_joined o ≡ false
 runs_live x is run = ap is_joined is ∙ ap is_over run
 
 pub runs_idle : {o : Option Task} (x : Task) → o ≡ Some x → x.status ≡ Running → is_waiting o ≡ false
 runs_idle x is run = ap is_waiting is ∙ ap waits run
 
-pub ended_tells : (s : Status) (r : ℤ × Option Name) → result_in s ≡ Some r → (is_over s ≡ false) × (waits s ≡ false)
+pub ended_tells : (s : TaskStatus) (r : ℤ × Option Name) → result_in s ≡ Some r → (is_over s ≡ false) × (waits s ≡ false)
 ended_tells Running r h = absurd cc
 ended_tells Waiting r h = absurd cc
 ended_tells (Ended k n) r h = (refl, refl)
@@ -251,7 +241,7 @@ module _ (tasks : List Task) (edges : List Edge) (l p : ℕ) (xl xr xp : Task) (
     | inr np ↦ ap is_joined (three_other tasks l p xl xr xp yl yr yp il ir ip below u nl nr np)
   ]
 
-  -- who joins them goes on
+  -- the task that joins them goes on
   pub joiner_live : joined after p ≡ false
   joiner_live = drest p (λ e. let q : p < l = below in omega arith) (λ e. let q : p < l = below in omega arith) ∙ (ap is_joined ip ∙ dp)
 

@@ -1,26 +1,8 @@
 -- Each frame of each task has 16 registers of each kind, and each object a bounded number of fields.
-use Rattle.std.proofs.Common.{◌≡◌, ℕ, ℤ, zero, suc, pos, ◌+◌, ◌-◌, ◌≤◌, ◌==◌, Bool, true, false, cond, Option, Some, None, List, [], ◌∷◌, ◌++◌, length, slice_get, slice_set, nat_lt, inl, inr, refl, ap, sym, subst, ◌∙◌, length-set, ◌⊎◌, arith, max}
-use Rattle.std.specs.Option.{option_flatten}
-use Rattle.listed.proofs.Members.{In, in_append_cases, in_from_contains, got_cases}
-use Rattle.hh_lang.specs.declared.instr.Instr.{Instr}
-use Rattle.hh_lang.specs.declared.instr.Instr.TheVariants.{Set, Mov, Movr, Nil as NilOf, Calc, Same, Jmp, Jz, Newm, Pack, Getr, Geti, Putr, Puti, Cntr, Cnti, Freeze, Cas}
-use Rattle.hh_lang.specs.declared.program.Line.{Line}
-use Rattle.hh_lang.specs.Form.{ProgramText}
-use Rattle.hh_model.specs.declared.data.Name.{Name}
-use Rattle.hh_model.specs.declared.data.Object.{Object}
-use Rattle.hh_model.specs.declared.data.Frame.{Frame}
-use Rattle.hh_model.specs.declared.data.Task.{Task}
-use Rattle.hh_model.specs.declared.data.Status.TheVariants.{Waiting}
-use Rattle.hh_model.specs.declared.data.Trap.{Trap}
-use Rattle.hh_model.specs.declared.data.Trap.TheVariants.{Nil, Range, Frozen, Div as DivTrap, Size}
-use Rattle.hh_model.specs.declared.data.State.{State}
-use Rattle.hh_model.specs.Effect.{Effect, Goes, Prints, Calls, Forks, Returns, Traps, Stops, Setting, effect, object_at, put_object, or_trap, with_object, read_effect, int_in, ref_in, int_eq, onward, same_name, calculated, counts_in, place_in, flag}
-use Rattle.hh_model.specs.Precedence.{precedes}
-use Rattle.hh_model.specs.Step.{fetched, step, start, run_from, run, root, stepped, follow, setting, can_step, forked, child, entry_frame, frame_limit, depth_limit, returned_to, last_return, child_ended_by, ended_task, joined_task, resumed, join_of, result_of, back_in, last_of, front_of, is_left, sibling, result_at, or_same}
+use Rattle.hh_model.proofs.Common.{◌≡◌, ℕ, ℤ, zero, suc, pos, ◌+◌, ◌-◌, ◌≤◌, ◌==◌, Bool, true, false, cond, Option, Some, None, List, [], ◌∷◌, ◌++◌, length, slice_get, slice_set, nat_lt, inl, inr, refl, ap, sym, subst, ◌∙◌, length-set, ◌⊎◌, arith, max, option_flatten, In, in_append_cases, in_from_contains, got_cases, Instr, Set, Mov, Movr, Nil as NilOf, Calc, Same, Jmp, Jz, Newm, Pack, Getr, Geti, Putr, Puti, Cntr, Cnti, Freeze, Cas, Line, ProgramText, Name, Object, Frame, Task, Waiting, Trap, Range, Frozen, Div as DivTrap, Size, MachineState, Effect, Goes, Prints, Calls, Forks, Returns, Traps, Stops, StepContext, effect, object_at, put_object, or_trap, with_object, read_effect, int_in, ref_in, int_eq, onward, same_name, calculated, counts_in, place_in, flag, precedes, fetched, step, start, run_from, run, root, stepped, follow, setting, can_step, forked, child, entry_frame, frame_limit, depth_limit, returned_to, last_return, child_ended_by, ended_task, joined_task, resumed, join_of, result_of, back_in, last_of, front_of, is_left, sibling, result_at, or_same, IsForkJoinState, IsWide, HasFewFields, SizesAreBounded, LimitStays}
+use Rattle.hh_model.specs.declared.data.Trap.TheVariants.{Nil}
 use Rattle.hh_model.proofs.Closed.{grown_cases, three_cases}
 use Rattle.hh_model.proofs.Steps.{Alters, last_in, step_cases}
-use Rattle.hh_model.specs.Tree.{IsForkJoinState}
-use Rattle.hh_model.specs.Counts.{IsWide, HasFewFields, SizesAreBounded, LimitStays}
 use Rattle.hh_model.proofs.Changes.{SetsRef, SetsInt, Freezes, IsSized}
 use Rattle.hh_model.proofs.Counts.{step_limit}
 use Rattle.hh_model.proofs.ForkJoinStates.{empty_rows, no_objects, start_is_fork_join_state, step_is_fork_join_state}
@@ -32,7 +14,7 @@ abbrev pub Keeps : Frame → Effect → Type 0
 Keeps f (Goes f' store) = (length f'.ints ≡ length f.ints) × (length f'.refs ≡ length f.refs)
 Keeps f _ = Unit {0}
 
-module _ (s : Setting) (f : Frame) (store : List (List Object)) where
+module _ (s : StepContext) (f : Frame) (store : List (List Object)) where
   trap_keeps : {A : Type 0} (t : Trap) (o : Option A) (go : A → Effect) → ((x : A) → Keeps f (go x)) → Keeps f (or_trap t o go)
   trap_keeps t None go each = tt
   trap_keeps t (Some x) go each = each x
@@ -93,7 +75,7 @@ front_in (g ∷ []) f h = absurd h
 front_in (g ∷ k ∷ fs) f (inl e) = inl e
 front_in (g ∷ k ∷ fs) f (inr h) = inr (front_in (k ∷ fs) f h)
 
-module _ (p : ProgramText) (m : State) (t : ℕ) (A : AllWide m.tasks) where
+module _ (p : ProgramText) (m : MachineState) (t : ℕ) (A : AllWide m.tasks) where
   set_wide : (y : Task) → WideTask y → AllWide (slice_set m.tasks t y)
   set_wide y wide u z e = elim (got_cases m.tasks t u y z e) [
     | inl here ↦ subst WideTask (sym here.1) wide
@@ -114,11 +96,11 @@ module _ (p : ProgramText) (m : State) (t : ℕ) (A : AllWide m.tasks) where
     below : (g : Frame) → In x.below g → IsWide g
     below g h = mine g (inr h)
 
-    either_wide : (b : Bool) (m1 m2 : State) → AllWide m1.tasks → AllWide m2.tasks → AllWide (cond b m1 m2).tasks
+    either_wide : (b : Bool) (m1 m2 : MachineState) → AllWide m1.tasks → AllWide m2.tasks → AllWide (cond b m1 m2).tasks
     either_wide true m1 m2 k l = k
     either_wide false m1 m2 k l = l
 
-    or_wide : {X : Type 0} (o : Option X) (go : X → State) → ((y : X) → o ≡ Some y → AllWide (go y).tasks) → AllWide (or_same m o go).tasks
+    or_wide : {X : Type 0} (o : Option X) (go : X → MachineState) → ((y : X) → o ≡ Some y → AllWide (go y).tasks) → AllWide (or_same m o go).tasks
     or_wide None go each = A
     or_wide (Some y) go each = each y refl
 
@@ -181,7 +163,7 @@ module _ (p : ProgramText) (m : State) (t : ℕ) (A : AllWide m.tasks) where
     stepped_wide (Some line) e =
         follow_wide line.number (effect (setting m t x) x.top m.store line.instr) (effect_keeps_width (setting m t x) x.top m.store line.instr)
 
-  same_or_wide : (o : Option Task) (go : Task → State) → ((y : Task) → o ≡ Some y → AllWide (go y).tasks) → AllWide (or_same m o go).tasks
+  same_or_wide : (o : Option Task) (go : Task → MachineState) → ((y : Task) → o ≡ Some y → AllWide (go y).tasks) → AllWide (or_same m o go).tasks
   same_or_wide None go each = A
   same_or_wide (Some y) go each = each y refl
 
@@ -192,7 +174,7 @@ module _ (p : ProgramText) (m : State) (t : ℕ) (A : AllWide m.tasks) where
   step_wide : AllWide (step p m t).tasks
   step_wide = step_by (can_step m t)
 
-run_wide : (p : ProgramText) (m : State) (ts : List ℕ) → AllWide m.tasks → AllWide (run_from p m ts).tasks
+run_wide : (p : ProgramText) (m : MachineState) (ts : List ℕ) → AllWide m.tasks → AllWide (run_from p m ts).tasks
 run_wide p m [] A = A
 run_wide p m (t ∷ ts) A = run_wide p (step p m t) ts (step_wide p m t A)
 
@@ -220,11 +202,11 @@ sized : (limit : ℕ) (f : Frame) (o : Object) → IsWide f → IsSized limit f 
 sized limit f o w (inl s) = (record { refs = omega (arith, s); ints = omega (arith, s) }, omega (arith, s))
 sized limit f o w (inr s) = let a = s.0 in let b = s.1 in let c = w.refs in let d = w.ints in (record { refs = omega (arith, a, c); ints = omega (arith, b, d) }, omega (arith, a, b, c, d))
 
-module _ (p : ProgramText) (m : State) (t : ℕ) (K : IsForkJoinState m) (A : AllWide m.tasks) (F : FewIn m.field_limit m.store) where
+module _ (p : ProgramText) (m : MachineState) (t : ℕ) (K : IsForkJoinState m) (A : AllWide m.tasks) (F : FewIn m.field_limit m.store) where
   resized : (x y : Object) → Bounded m.field_limit x → length y.refs ≡ length x.refs → length y.ints ≡ length x.ints → Bounded m.field_limit y
   resized x y few a b = let c = few.0.refs in let d = few.0.ints in let e = few.1 in (record { refs = omega (arith, a, c); ints = omega (arith, b, d) }, omega (arith, a, b, e))
 
-  changed : (f : Frame) (n : Name) (x y : Object) (s : Setting) → Bounded m.field_limit x → SetsRef f x y ⊎ (SetsInt x y ⊎ Freezes s n x y) → Bounded m.field_limit y
+  changed : (f : Frame) (n : Name) (x y : Object) (s : StepContext) → Bounded m.field_limit x → SetsRef f x y ⊎ (SetsInt x y ⊎ Freezes s n x y) → Bounded m.field_limit y
   changed f n x y s few (inl h) = resized x y few (ap (λ (o : Object). length o.refs) h.1.2 ∙ length-set x.refs h.1.0 h.1.1) (ap (λ (o : Object). length o.ints) h.1.2)
   changed f n x y s few (inr (inl h)) = resized x y few (ap (λ (o : Object). length o.refs) h.1.2) (ap (λ (o : Object). length o.ints) h.1.2 ∙ length-set x.ints h.1.0 h.1.1)
   changed f n x y s few (inr (inr h)) = resized x y few (ap (λ (o : Object). length o.refs) h.1) (ap (λ (o : Object). length o.ints) h.1)
@@ -253,14 +235,14 @@ module _ (p : ProgramText) (m : State) (t : ℕ) (K : IsForkJoinState m) (A : Al
 
 -- RUNS
 
-pub limit_from : (p : ProgramText) (m : State) (ts : List ℕ) → IsForkJoinState m → (run_from p m ts).field_limit ≡ m.field_limit
+pub limit_from : (p : ProgramText) (m : MachineState) (ts : List ℕ) → IsForkJoinState m → (run_from p m ts).field_limit ≡ m.field_limit
 limit_from p m [] K = refl
 limit_from p m (t ∷ ts) K = limit_from p (step p m t) ts (step_is_fork_join_state p m t K) ∙ step_limit p m t K
 
 pub limit_stays : LimitStays
 limit_stays p limit ts = limit_from p (start p limit) ts (start_is_fork_join_state p limit)
 
-few_from : (p : ProgramText) (m : State) (ts : List ℕ) (limit : ℕ) → m.field_limit ≡ limit → IsForkJoinState m → AllWide m.tasks → FewIn limit m.store → FewIn limit (run_from p m ts).store
+few_from : (p : ProgramText) (m : MachineState) (ts : List ℕ) (limit : ℕ) → m.field_limit ≡ limit → IsForkJoinState m → AllWide m.tasks → FewIn limit m.store → FewIn limit (run_from p m ts).store
 few_from p m [] limit e K A F = F
 few_from p m (t ∷ ts) limit e K A F =
     few_from p (step p m t) ts limit (step_limit p m t K ∙ e) (step_is_fork_join_state p m t K) (step_wide p m t A)

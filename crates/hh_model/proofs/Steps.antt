@@ -1,37 +1,17 @@
--- A step by cases: what it leaves of the tasks and the store.
-use Rattle.std.proofs.Common.{◌≡◌, ℕ, ℤ, ◌+◌, ◌-◌, ◌%◌, ◌<◌, Bool, true, false, cond, Option, Some, None, List, [], ◌∷◌, ◌++◌, length, slice_get, slice_set, nat_lt, ◌⊎◌, inl, inr, refl, ap, sym, subst, ◌∙◌, arith, eq-eqb, is_some}
-use Rattle.std.proofs.lemmas.Bool.{cond-true, cond-false, false≢true, eqb-false}
-use Rattle.listed.proofs.Members.{In, in_append_left, in_append_right, in_append_cases}
-use Rattle.hh_lang.specs.declared.instr.Instr.TheVariants.{Par}
-use Rattle.hh_lang.specs.declared.program.Line.{Line}
-use Rattle.hh_lang.specs.Form.{ProgramText}
-use Rattle.hh_model.specs.declared.data.Name.{Name}
-use Rattle.hh_model.specs.declared.data.Object.{Object}
-use Rattle.hh_model.specs.declared.data.Frame.{Frame}
-use Rattle.hh_model.specs.declared.data.Status.{Status}
-use Rattle.hh_model.specs.declared.data.Status.TheVariants.{Running, Waiting, Ended, Joined}
-use Rattle.hh_model.specs.declared.data.Task.{Task}
-use Rattle.hh_model.specs.declared.data.End.{End}
-use Rattle.hh_model.specs.declared.data.End.TheVariants.{Done, Trapped, Entangled}
-use Rattle.hh_model.specs.declared.data.Trap.{Trap}
-use Rattle.hh_model.specs.declared.data.Trap.TheVariants.{Depth}
-use Rattle.hh_model.specs.declared.data.State.{State}
-use Rattle.hh_model.specs.Effect.{Effect, Goes, Prints, Calls, Forks, Returns, Traps, Stops, effect, object_at, onward, ref_in}
-use Rattle.hh_model.specs.Precedence.{precedes}
-use Rattle.hh_model.specs.Names.{named, refs_at, registers, names_from, task_names, words_asked}
-use Rattle.hh_model.specs.Step.{runs, waits, is_over, result_in, is_running, parent_of, parents, owner_of, strand, strand_of, edge, sibling, is_left, setting, follow, child, child_ended_by, last_return, returned_to, goes_on, join_of, result_at, or_same, last_of, front_of, back_in, result_of, ended_by, depth_limit, stepped, step, can_step, fetched, entry_frame, asked_line, ended_task, frame_limit}
+-- A step by cases: the tasks and the store after it.
+use Rattle.hh_model.proofs.Common.{◌≡◌, ℕ, ℤ, ◌+◌, ◌-◌, ◌%◌, ◌<◌, Bool, true, false, cond, Option, Some, None, List, [], ◌∷◌, ◌++◌, length, slice_get, slice_set, nat_lt, ◌⊎◌, inl, inr, refl, ap, sym, subst, ◌∙◌, arith, eq-eqb, is_some, cond-true, cond-false, false≢true, eqb-false, In, in_append_left, in_append_right, in_append_cases, Par, Line, ProgramText, Name, Object, Frame, TaskStatus, Running, Waiting, Ended, Joined, Task, End, Done, Trapped, Entangled, Trap, Depth, MachineState, Effect, Goes, Prints, Calls, Forks, Returns, Traps, Stops, effect, object_at, onward, ref_in, precedes, named, refs_at, registers, names_from, task_names, words_asked, runs, waits, is_over, result_in, is_running, parent_of, parents, owner_of, strand, strand_of, edge, sibling, is_left, setting, follow, child, child_ended_by, last_return, returned_to, goes_on, join_of, result_at, or_same, last_of, front_of, back_in, result_of, ended_by, depth_limit, stepped, step, can_step, fetched, entry_frame, asked_line, ended_task, frame_limit}
 use Rattle.hh_model.proofs.Changes.{Change, Changes, StopsAt, effect_changes}
 use Rattle.hh_model.proofs.Carried.{in_from_named, named_from_in, in_set_cases, at_in, next_name, Carries, effect_carries}
 use Rattle.hh_model.proofs.Runs.{running_tells, ended_tells}
 use Rattle.hh_model.proofs.ForkJoinStates.{IsForkJoinState}
 
-pub runs_is : (s : Status) → runs s ≡ true → s ≡ Running
+pub runs_is : (s : TaskStatus) → runs s ≡ true → s ≡ Running
 runs_is Running h = refl
 runs_is Waiting h = absurd (false≢true h)
 runs_is (Ended k n) h = absurd (false≢true h)
 runs_is Joined h = absurd (false≢true h)
 
-pub ended_is : (s : Status) (r : ℤ × Option Name) → result_in s ≡ Some r → s ≡ Ended r.0 r.1
+pub ended_is : (s : TaskStatus) (r : ℤ × Option Name) → result_in s ≡ Some r → s ≡ Ended r.0 r.1
 ended_is Running r h = absurd cc
 ended_is Waiting r h = absurd cc
 ended_is (Ended k n) r h = ended_same k n r h
@@ -40,7 +20,7 @@ ended_is (Ended k n) r h = ended_same k n r h
     ended_same k n r h = let e : (k, n) ≡ r = cc in ap (λ (w : ℤ × Option Name). Ended w.0 w.1) e
 ended_is Joined r h = absurd cc
 
-pub ended_stops : (s : Status) (r : ℤ × Option Name) → result_in s ≡ Some r → runs s ≡ false
+pub ended_stops : (s : TaskStatus) (r : ℤ × Option Name) → result_in s ≡ Some r → runs s ≡ false
 ended_stops s r e = ap runs (ended_is s r e)
 
 -- names in registers
@@ -80,8 +60,8 @@ names_run x r e h = subst (λ s. In (names_from s (x.top ∷ x.below)) r) (sym e
 pub run_names : (x : Task) (r : Name) → x.status ≡ Running → In (task_names x) r → In (registers (x.top ∷ x.below)) r
 run_names x r e h = subst (λ s. In (names_from s (x.top ∷ x.below)) r) e h
 
--- where the names of a stepping task come from, and those in the fields of the store
-module _ (p : ProgramText) (m : State) (t : ℕ) (x : Task) where
+-- where the names of a stepping task and those in the fields of the store come from
+module _ (p : ProgramText) (m : MachineState) (t : ℕ) (x : Task) where
   abbrev pub Allocates : Type 0
   Allocates = is_some (asked_line m.field_limit x.top (fetched p x.top)) ≡ true
 
@@ -106,7 +86,7 @@ module _ (p : ProgramText) (m : State) (t : ℕ) (x : Task) where
   abbrev pub Put : Name → Name → Type 0
   Put n r = In (refs_at m.store n) r ⊎ ((In (task_names x) n ⊎ ((n ≡ next_name t m.store) × Allocates)) × In (task_names x) r)
 
-module _ (p : ProgramText) (m : State) (t : ℕ) (K : IsForkJoinState m) (C : State → Type 0)
+module _ (p : ProgramText) (m : MachineState) (t : ℕ) (K : IsForkJoinState m) (C : MachineState → Type 0)
     (idle : C m)
     (halt : (x : Task) (e : End) → slice_get m.tasks t ≡ Some x → is_running (Some x) ≡ true → Halts p m t x e → C (ended_by m e))
     (stay : (x y : Task) (store : List (List Object)) (outs : List ℤ) → slice_get m.tasks t ≡ Some x → is_running (Some x) ≡ true
@@ -131,11 +111,11 @@ module _ (p : ProgramText) (m : State) (t : ℕ) (K : IsForkJoinState m) (C : St
     → ((r : Name) → rl.1 ≡ Some r → In (task_names xl) r) → ((r : Name) → rr.1 ≡ Some r → In (task_names xr) r)
     → (((t ≡ l) × (is_left t ≡ true) × (runs xl.status ≡ true) × (runs xr.status ≡ false)) ⊎ ((t ≡ l + 1) × (is_left t ≡ false) × (runs xr.status ≡ true) × (runs xl.status ≡ false)))
     → C (join_of m parent xp l xl xr rl rr)) where
-  either : (b : Bool) (m1 m2 : State) → C m1 → C m2 → C (cond b m1 m2)
+  either : (b : Bool) (m1 m2 : MachineState) → C m1 → C m2 → C (cond b m1 m2)
   either true m1 m2 a b = a
   either false m1 m2 a b = b
 
-  same_or : {A : Type 0} (o : Option A) (go : A → State) → ((x : A) → o ≡ Some x → C (go x)) → C (or_same m o go)
+  same_or : {A : Type 0} (o : Option A) (go : A → MachineState) → ((x : A) → o ≡ Some x → C (go x)) → C (or_same m o go)
   same_or None go each = idle
   same_or (Some x) go each = each x refl
 

@@ -5,15 +5,15 @@ use Rattle.hh_model.specs.declared.data.Name.{Name}
 use Rattle.hh_model.specs.declared.data.Object.{Object}
 use Rattle.hh_model.specs.declared.data.Frame.{Frame}
 use Rattle.hh_model.specs.declared.data.Task.{Task}
-use Rattle.hh_model.specs.declared.data.State.{State}
+use Rattle.hh_model.specs.declared.data.MachineState.{MachineState}
 use Rattle.hh_model.specs.Effect.{object_at, row_of}
 use Rattle.hh_model.specs.Step.{step, run}
 use Rattle.hh_model.specs.Tree.{IsForkJoinState}
 
 -- TASKS, OBJECTS AND JOINS
 
--- after k steps there are at most two tasks for each and the first one, a row of the store for each task, and at most
--- one object in a row and one join of a task for each step
+-- after k steps there are at most 2k + 1 tasks, one row of the store for each task, and at most k objects in a row and
+-- k joins of a task
 pub record Counted (k : ℕ) (tasks : List Task) (store : List (List Object)) : Type 0 where
   pub made : length tasks ≤ 2 * k + 1
   pub rows : length store ≡ length tasks
@@ -24,7 +24,7 @@ abbrev pub RunsAreCounted : Type 0
 RunsAreCounted = (p : ProgramText) (limit : ℕ) (ts : List ℕ) → let m = run p limit ts in Counted (length ts) m.tasks m.store
 
 abbrev pub StepsCount : Type 0
-StepsCount = (p : ProgramText) (m : State) (t k : ℕ) → IsForkJoinState m → Counted k m.tasks m.store → let m' = step p m t in Counted (suc k) m'.tasks m'.store
+StepsCount = (p : ProgramText) (m : MachineState) (t k : ℕ) → IsForkJoinState m → Counted k m.tasks m.store → let m' = step p m t in Counted (suc k) m'.tasks m'.store
 
 -- REGISTERS AND FIELDS
 
@@ -33,13 +33,13 @@ pub record IsWide (f : Frame) : Type 0 where
   pub ints : length f.ints ≡ 16
   pub refs : length f.refs ≡ 16
 
--- an object has at most so many fields of each kind
+-- an object has at most this many fields of each kind
 pub record HasFewFields (most : ℕ) (o : Object) : Type 0 where
   pub refs : length o.refs ≤ most
   pub ints : length o.ints ≤ most
 
 -- a `newm` makes at most as many fields as the limit says, of both kinds together, and a `pack` at most 16 of each kind
-pub record SizesIn (m : State) : Type 0 where
+pub record SizesIn (m : MachineState) : Type 0 where
   pub frames : (t : ℕ) (x : Task) (f : Frame) → slice_get m.tasks t ≡ Some x → Contains (x.top ∷ x.below) f → IsWide f
   pub objects : (n : Name) (o : Object) → object_at m.store n ≡ Some o → HasFewFields (max m.field_limit 16) o
   pub together : (n : Name) (o : Object) → object_at m.store n ≡ Some o → length o.refs + length o.ints ≤ max m.field_limit 32

@@ -1,11 +1,8 @@
--- What one instruction does, seen by the task that takes it: its top frame, and the store.
+-- What one instruction does, from its task's view: its top frame, and the store.
 use Rattle.std.specs.Prelude.{ℕ, ℤ, pos, negsuc, ◌+◌, ◌==◌, ◌&&◌, Bool, true, false, Option, Some, None, List, [], ◌∷◌, ◌++◌, slice_get, slice_set, length, if◌then◌else◌, nat_lt, nat_le, take, replicate, int_rem, int_lt, unwrap_or}
 use Rattle.std.specs.Option.{option_flatten}
 use Rattle.std.specs.Int.{int_wrapping_add, int_wrapping_sub, int_wrapping_mul, int_wrapping_div, w64}
-use Rattle.hh_lang.specs.declared.instr.Operator.{Operator}
-use Rattle.hh_lang.specs.declared.instr.Operator.TheVariants.{Add, Sub, Mul, Div, Rem, Lt, Eq}
-use Rattle.hh_lang.specs.declared.instr.Instr.{Instr}
-use Rattle.hh_lang.specs.declared.instr.Instr.TheVariants.{Set, Mov, Movr, Nil as NilOf, Calc, Same, Jmp, Jz, Newm, Pack, Getr, Geti, Putr, Puti, Cntr, Cnti, Freeze, Cas, Call, Par, Ret, Out}
+use Rattle.hh_model.specs.Common.{Operator, Add, Sub, Mul, Div, Rem, Lt, Eq, Instr, Set, Mov, Movr, Nil as NilOf, Calc, Same, Jmp, Jz, Newm, Pack, Getr, Geti, Putr, Puti, Cntr, Cnti, Freeze, Cas, Call, Par, Ret, Out}
 use Rattle.hh_model.specs.declared.data.Name.{Name}
 use Rattle.hh_model.specs.declared.data.Strand.{Strand}
 use Rattle.hh_model.specs.declared.data.Edge.{Edge}
@@ -15,7 +12,7 @@ use Rattle.hh_model.specs.declared.data.Trap.{Trap}
 use Rattle.hh_model.specs.declared.data.Trap.TheVariants.{Nil, Range, Frozen, Div as DivTrap, Size}
 use Rattle.hh_model.specs.Precedence.{precedes}
 
--- THE STORE: for each task a row of its objects, in the order of their allocation
+-- THE STORE: for each task a row of its objects, in order of allocation
 
 abbrev pub row_of : Option (List Object) → List Object
 row_of None = []
@@ -25,11 +22,11 @@ row_of (Some row) = row
 abbrev pub object_at : List (List Object) → Name → Option Object
 object_at store n = slice_get (row_of (slice_get store n.task)) n.count
 
--- the store in which this is the object of the name
+-- the store with this object under the name
 abbrev pub put_object : List (List Object) → Name → Object → List (List Object)
 put_object store n o = slice_set store n.task (slice_set (row_of (slice_get store n.task)) n.count o)
 
--- REGISTERS: 16 of each kind, so the values for want of a register never come
+-- REGISTERS: 16 of each kind, so the values for missing registers never occur
 
 -- what a number register holds
 abbrev pub int_in : Frame → ℕ → ℤ
@@ -62,9 +59,9 @@ pub data Effect : Type 0 where
   Forks : ℕ → ℕ → Effect
   -- the top frame returns
   Returns : Effect
-  -- the instruction can't be done
+  -- the instruction traps
   Traps : Trap → Effect
-  -- a read is stopped, which would yield this name
+  -- a read is stopped; it would have yielded this name
   Stops : Name → Effect
 
 -- NUMBERS
@@ -79,8 +76,8 @@ abbrev pub flag : Bool → ℤ
 flag true = pos 1
 flag false = pos 0
 
--- what an operator gives, or none where it divides by 0. A quotient is rounded toward zero; the least number by -1
--- gives the least number again, and the remainder 0
+-- the result of an operator, or none if it divides by 0. A quotient is rounded toward zero; the least number divided by
+-- -1 gives the least number, with remainder 0
 abbrev pub calculated : Operator → ℤ → ℤ → Option ℤ
 calculated Add x y = Some (int_wrapping_add w64 x y)
 calculated Sub x y = Some (int_wrapping_sub w64 x y)
@@ -90,13 +87,13 @@ calculated Rem x y = if int_eq y (pos 0) then None else Some (int_rem x y)
 calculated Lt x y = Some (flag (int_lt x y))
 calculated Eq x y = Some (flag (int_eq x y))
 
--- the counts of fields that two numbers ask for, where both are counts and together within the limit
+-- two numbers as counts of fields, if neither is negative and their sum is within the limit
 abbrev pub counts_in : ℕ → ℤ → ℤ → Option (ℕ × ℕ)
 counts_in limit (pos a) (pos b) = if nat_le (a + b) limit then Some (a, b) else None
 counts_in limit (pos a) (negsuc b) = None
 counts_in limit (negsuc a) b = None
 
--- a number as the index of one of so many fields
+-- a number as an index below the number of fields
 abbrev pub place_in : ℕ → ℤ → Option ℕ
 place_in count (pos k) = if nat_lt k count then Some k else None
 place_in count (negsuc k) = None
@@ -108,14 +105,14 @@ same_name None (Some n) = false
 same_name (Some m) None = false
 same_name (Some m) (Some n) = (m.task == n.task) && (m.count == n.count)
 
--- WHAT IS TRIED IN TURN
+-- STEPS THAT CAN FAIL
 
 -- goes on with the value, or traps
 abbrev pub or_trap : {A : Type 0} → Trap → Option A → (A → Effect) → Effect
 or_trap t None go = Traps t
 or_trap t (Some x) go = go x
 
--- goes on with the object of a reference, or traps at nil. The store has the object of every reference, as a law says
+-- goes on with the object of a reference, or traps at nil. By a law, the store has the object of every reference
 abbrev pub with_object : List (List Object) → Option Name → (Name → Object → Effect) → Effect
 with_object store None go = Traps Nil
 with_object store (Some n) go = or_trap Nil (object_at store n) (go n)
@@ -124,9 +121,9 @@ abbrev pub unless_frozen : Object → Effect → Effect
 unless_frozen o go = if o.mutable then go else Traps Frozen
 
 -- what an instruction sees of its task and of the graph
-pub record Setting : Type 0 where
+pub record StepContext : Type 0 where
   pub task : ℕ
-  -- the strand that the task is on
+  -- the strand of the task
   pub strand : Strand
   -- the most fields that an object may have
   pub field_limit : ℕ
@@ -135,28 +132,28 @@ pub record Setting : Type 0 where
   pub owner : ℕ → ℕ
 
 -- a new object is the last of its task's row, and the register d names it
-abbrev pub made : Setting → Frame → List (List Object) → ℕ → Object → Effect
+abbrev pub made : StepContext → Frame → List (List Object) → ℕ → Object → Effect
 made s f store d o =
     let row = row_of (slice_get store s.task) in
     Goes (onward (with_ref f d (Some (record { task = s.task; count = length row })))) (slice_set store s.task (row ++ o ∷ []))
 
--- what a reference field holds is read into the register d: nil always; an object if its strand precedes the reader's,
--- else the read is stopped
-abbrev pub read_effect : Setting → Frame → List (List Object) → ℕ → Option Name → Effect
+-- reads a reference field into the register d: nil always; an object if its strand happens before the reader's,
+-- otherwise the read is stopped
+abbrev pub read_effect : StepContext → Frame → List (List Object) → ℕ → Option Name → Effect
 read_effect s f store d None = Goes (onward (with_ref f d None)) store
 read_effect s f store d (Some n) =
     or_trap Nil (object_at store n) (λ o. if precedes s.edges o.strand s.strand then Goes (onward (with_ref f d (Some n))) store else Stops n)
 
--- a compare and swap at a field of an object that may be written: where the field is what is expected it becomes the
--- new reference, and d is 1; else d is 0
+-- a compare and swap at a field of a mutable object: if the field holds what is expected, it gets the new reference and
+-- d becomes 1; otherwise d becomes 0
 abbrev pub swap_effect : Frame → List (List Object) → ℕ → ℕ → ℕ → Name → ℕ → Object → Effect
 swap_effect f store d e v n at x =
     if same_name (option_flatten (slice_get x.refs at)) (ref_in f e)
     then Goes (onward (with_int f d (pos 1))) (put_object store n (record x { refs = slice_set x.refs at (ref_in f v) }))
     else Goes (onward (with_int f d (pos 0))) store
 
--- what an instruction does; an instruction that can trap for several reasons traps for the first that fits
-abbrev pub effect : Setting → Frame → List (List Object) → Instr → Effect
+-- what an instruction does; one that can trap for several reasons traps for the first that applies
+abbrev pub effect : StepContext → Frame → List (List Object) → Instr → Effect
 effect s f store (Set d k) = Goes (onward (with_int f d k)) store
 effect s f store (Mov d a) = Goes (onward (with_int f d (int_in f a))) store
 effect s f store (Movr d a) = Goes (onward (with_ref f d (ref_in f a))) store

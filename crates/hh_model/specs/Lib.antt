@@ -12,3 +12,4 @@ pub mod Closed
 pub mod Counts
 pub mod Ends
 pub mod NextLaw
+mod Common

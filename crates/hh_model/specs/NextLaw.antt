@@ -1,18 +1,16 @@
--- Laws of a program's instructions: there is always a next one, and each `pack` takes few registers.
+-- Laws of a program's instructions: there is always a next one, and a `pack` takes few registers.
 use Rattle.std.specs.Prelude.{◌≡◌, ℕ, ◌≤◌, List, ◌∷◌, Some, slice_get, Contains}
-use Rattle.hh_lang.specs.declared.instr.Instr.TheVariants.{Pack}
-use Rattle.hh_lang.specs.declared.program.Line.{Line}
-use Rattle.hh_lang.specs.Form.{ProgramText, IsProgram, line_at}
+use Rattle.hh_model.specs.Common.{Pack, Line, ProgramText, IsProgram, line_at}
 use Rattle.hh_model.specs.declared.data.Frame.{Frame}
 use Rattle.hh_model.specs.declared.data.Task.{Task}
 use Rattle.hh_model.specs.Step.{fetched, run}
 
--- an instruction stands where the frame goes on
+-- there is an instruction at the frame's place
 abbrev pub HasNext : ProgramText → Frame → Type 0
 HasNext p f = (line : Line) × (fetched p f ≡ Some line)
 
--- in every run of a program each frame of each task has a next instruction; for a task that has ended it is the return
--- by which it did. So a step of a task that can take one is never for want of an instruction
+-- in every run of a program, each frame of each task has a next instruction; for a task that has ended it is the return
+-- that ended it. So a step never fails for lack of an instruction
 abbrev pub AlwaysNext : Type 0
 AlwaysNext =
     (p : ProgramText) (limit : ℕ) (ts : List ℕ) (t : ℕ) (x : Task) (f : Frame)

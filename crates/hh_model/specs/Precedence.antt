@@ -1,4 +1,4 @@
--- Which strand precedes which: a walk along the edges of the graph of forks and joins, and the test for it.
+-- Which strand happens before which: a walk along the edges of the graph of forks and joins, and a test for it.
 use Rattle.std.specs.Prelude.{◌≡◌, ◌==◌, ◌&&◌, ◌||◌, Bool, true, false, List, [], ◌∷◌, Contains}
 use Rattle.hh_model.specs.declared.data.Strand.{Strand}
 use Rattle.hh_model.specs.declared.data.Edge.{Edge}
@@ -8,7 +8,7 @@ abbrev pub IsWalk : List Edge → Strand → List Edge → Strand → Type 0
 IsWalk edges u [] v = u ≡ v
 IsWalk edges u (e ∷ es) v = (e.source ≡ u) × Contains edges e × IsWalk edges e.target es v
 
--- u precedes v: it is v, or edges lead from u to v
+-- u happens before v, or is v: edges, perhaps none, lead from u to v
 abbrev pub Precedes : List Edge → Strand → Strand → Type 0
 Precedes edges u v = (es : List Edge) × IsWalk edges u es v
 
@@ -28,7 +28,7 @@ abbrev pub found_from : List Edge → List Strand → List Strand
 found_from [] found = found
 found_from (e ∷ es) found = found_from es (with_target found e (holds_strand found e.source))
 
--- whether u precedes v. In a run an edge into a strand is older than the edges out of it, so going over the edges once,
--- the oldest first, finds all that u precedes; the law of walks says that this is `Precedes`
+-- whether u happens before v, or is v. In a run, an edge into a strand is older than the edges out of it; so one pass
+-- over the edges, oldest first, finds all that u happens before. The law of walks says that this is `Precedes`
 abbrev pub precedes : List Edge → Strand → Strand → Bool
 precedes edges u v = holds_strand (found_from edges (u ∷ [])) v

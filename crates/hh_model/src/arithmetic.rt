@@ -6,7 +6,7 @@ ghost use Rattle.hh_model.specs.Effect.{calculated, counts_in, place_in, same_na
 use crate::data::Name;
 use hh_lang::Operator;
 
-/// What an operator gives, or none where it divides by 0.
+/// The result of an operator, or none if it divides by 0.
 #[inline(always)]
 pub fn calculate(operator: Operator, x: i64, y: i64) -> Option<i64>
     ensures { result ≡ calculated operator x y }
@@ -34,7 +34,7 @@ pub fn calculate(operator: Operator, x: i64, y: i64) -> Option<i64>
     }
 }
 
-/// The counts of fields that two numbers ask for, where both are counts and together within the limit.
+/// Two numbers as counts of fields, if neither is negative and their sum is within the limit.
 pub fn field_counts(limit: u32, refs: i64, ints: i64) -> Option<(usize, usize)>
     ensures { result ≡ counts_in limit refs ints }
 {
@@ -50,7 +50,7 @@ pub fn field_counts(limit: u32, refs: i64, ints: i64) -> Option<(usize, usize)>
     }
 }
 
-/// A number as the index of one of so many fields.
+/// A number as an index below the number of fields.
 #[inline(always)]
 pub fn field_index(count: usize, index: i64) -> Option<usize>
     ensures { result ≡ place_in count index }

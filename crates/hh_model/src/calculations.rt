@@ -1,20 +1,20 @@
-// Steps that only calculate: one after the other, with the frame at hand.
+// Steps that only calculate, one after the other, on the current frame.
 
 ghost use Rattle.std.specs.Prelude.{◌≡◌, ◌≤◌, ◌<◌, ◌+◌, ◌^◌, true, false};
-ghost use Rattle.hh_model.specs.Calculations.{calculates_next, is_calculation, Leads, Makes};
+ghost use Rattle.hh_model.specs.Calculations.{calculates_next, is_calculation, Leads, Calculates};
 
 use crate::arithmetic::{calculate, is_same};
 use crate::data::Frame;
 use hh_lang::{Instr, IntReg, Operator, Program};
 
 impl Frame {
-    // Sets a register by an operator and goes on with the next instruction, or leaves the frame as it is where that
+    // Sets a register by an operator and goes on with the next instruction, or leaves the frame unchanged if that
     // divides by 0.
     #[inline(always)]
     fn calc(&mut self, operator: Operator, target: IntReg, left: IntReg, right: IntReg) -> bool
         requires { self.old.next + 1 < 2 ^ 32 }
         ensures only { result ≡ is_calculation self.old (Instr.Calc operator target left right) }
-        ensures makes { result ≡ true → Makes (Instr.Calc operator target left right) self.old self.new }
+        ensures makes { result ≡ true → Calculates (Instr.Calc operator target left right) self.old self.new }
         ensures stays { result ≡ false → self.new ≡ self.old }
         ensures function { self.new.function ≡ self.old.function }
     {
@@ -28,12 +28,12 @@ impl Frame {
         }
     }
 
-    /// Does an instruction that only calculates, or leaves the frame as it is.
+    /// Executes an instruction that only calculates, or leaves the frame unchanged.
     #[inline(always)]
     pub(crate) fn calculate(&mut self, instr: Instr) -> bool
         requires { self.old.next + 1 < 2 ^ 32 }
         ensures only { result ≡ is_calculation self.old instr }
-        ensures makes { result ≡ true → Makes instr self.old self.new }
+        ensures makes { result ≡ true → Calculates instr self.old self.new }
         ensures stays { result ≡ false → self.new ≡ self.old }
         ensures function { self.new.function ≡ self.old.function }
     {
@@ -65,7 +65,7 @@ impl Frame {
         true
     }
 
-    /// Calculates as long as what comes next is a calculation, at most so many times, and says how many times.
+    /// Calculates as long as the next instruction is a calculation, at most `most` times, and returns how many times.
     pub(crate) fn calculate_on(&mut self, program: &Program, most: u32) -> u32
         ensures most { result ≤ most }
         ensures leads { Leads program.now self.old result self.new }

@@ -1,4 +1,4 @@
-// What a step changes, once it is known what its registers name.
+// What a step changes, once the objects of its registers are known.
 
 ghost use Rattle.std.specs.Prelude.{◌≡◌, ◌<◌, ◌+◌, ◌^◌, ℕ, length, pos, true, false, replicate, slice_get, slice_set, IfOk, IfSome, IsSome, IsSomeAnd, None, OnOk, OnErr};
 ghost use Rattle.hh_model.specs.Effect.{int_in, made, object_at, onward, or_trap, put_object, read_effect, ref_in, row_of, swap_effect, with_int, Goes};
@@ -8,12 +8,12 @@ ghost use Rattle.hh_model.specs.Step.{ended_by, follow, is_running, setting, str
 ghost use Rattle.hh_model.specs.declared.data.Trap.TheVariants.{Nil};
 
 use crate::arithmetic::is_same;
-use crate::data::{End, Name, State, Trap};
+use crate::data::{End, MachineState, Name, Trap};
 use hh_lang::{IntReg, RefReg};
 use std::alloc::{AllocError, Global};
 
-impl State {
-    /// A number register gets what was found, or the task is trapped.
+impl MachineState {
+    /// A number register gets what was found, or the task traps.
     #[inline(always)]
     pub(crate) fn set_found(&mut self, t: u32, line: u32, target: IntReg, found: Result<i64, Trap>)
         requires made { t < length self.old.tasks }
@@ -26,8 +26,8 @@ impl State {
         }
     }
 
-    /// A reference register gets what a field holds. A running task is stopped exactly where the owner of what it would
-    /// read isn't on its path, since that is precedence.
+    /// A reference register gets what a field holds. A running task is stopped if and only if the owner of what it
+    /// would read isn't on its path, which is the same as happens before.
     #[inline(always)]
     fn set_read(&mut self, t: u32, line: u32, target: RefReg, read: Option<Name>)
         requires made { t < length self.old.tasks }
@@ -52,7 +52,7 @@ impl State {
         }
     }
 
-    /// A reference register gets what was found to be read, or the task is trapped or stopped.
+    /// A reference register gets what was read, or the task traps or is stopped.
     #[inline(always)]
     pub(crate) fn read_found(
         &mut self,
@@ -73,7 +73,7 @@ impl State {
         }
     }
 
-    /// A number field gets what a register holds, or the task is trapped.
+    /// A number field gets what a register holds, or the task traps.
     #[inline(always)]
     pub(crate) fn put_int_found(
         &mut self,
@@ -93,7 +93,7 @@ impl State {
         }
     }
 
-    /// A reference field gets what a register holds, or the task is trapped.
+    /// A reference field gets what a register holds, or the task traps.
     #[inline(always)]
     pub(crate) fn put_reference_found(
         &mut self,
@@ -113,7 +113,7 @@ impl State {
         }
     }
 
-    /// A compare and swap at a place that may be written.
+    /// A compare and swap at a field of a mutable object.
     fn swap_at(
         &mut self,
         t: u32,
@@ -137,7 +137,7 @@ impl State {
         }
     }
 
-    /// A compare and swap at the place that was found, or the task is trapped.
+    /// A compare and swap at the field that was found, or the task traps.
     pub(crate) fn swap_found(
         &mut self,
         t: u32,
@@ -158,7 +158,7 @@ impl State {
         }
     }
 
-    /// What was found becomes immutable, or the task is trapped.
+    /// The object that was found becomes immutable, or the task traps.
     pub(crate) fn freeze_found(&mut self, t: u32, line: u32, found: Result<Name, Trap>)
         requires made { t < length self.old.tasks }
         requires next { IfSome (slice_get self.old.tasks t) (λ x. x.top.next + 1 < 2 ^ 32) }
@@ -171,7 +171,7 @@ impl State {
         }
     }
 
-    /// A register names a new mutable object of so many fields, or the task is trapped.
+    /// A register names a new mutable object with these counts of fields, or the task traps.
     #[inline(always)]
     pub(crate) fn make_found(
         &mut self,

@@ -1,6 +1,6 @@
 // The plain data of the machine: names, objects, tasks and the whole state.
 
-use listed::Listed;
+use plain_vec::Listed;
 
 /// Where an object was allocated: its task, and how many objects that task had allocated before. Names are ordered by
 /// task, then by count.
@@ -10,7 +10,7 @@ pub struct Name {
     pub count: u32,
 }
 
-/// A piece of a task: the task, and how many of its forks had joined when it began.
+/// A stretch of a task: the task, and how many of its forks had joined when the stretch began.
 #[derive(Clone, Copy)]
 pub struct Strand {
     pub task: u32,
@@ -50,9 +50,9 @@ pub struct Frame {
     pub refs: [Option<Name>; 16],
 }
 
-/// Where a task stands.
+/// The status of a task.
 #[derive(Clone, Copy)]
-pub enum Status {
+pub enum TaskStatus {
     /// It can take a step.
     Running,
     /// It has forked, and its two children haven't joined it yet.
@@ -68,10 +68,10 @@ pub enum Status {
 pub struct Task {
     /// The task that forked it; None for the root.
     pub parent: Option<u32>,
-    /// How many forks lie above it.
+    /// How many forks are above it.
     pub depth: u32,
-    pub status: Status,
-    /// The frame that runs. It means nothing any more once the task has ended.
+    pub status: TaskStatus,
+    /// The frame that runs. It has no meaning once the task has ended.
     pub top: Frame,
     /// The frames that wait for a return, the oldest first.
     pub below: Listed<Frame>,
@@ -79,7 +79,7 @@ pub struct Task {
     pub joins: u32,
 }
 
-/// Why an instruction couldn't be done.
+/// Why an instruction trapped.
 #[derive(Clone, Copy, PartialEq, Eq)]
 pub enum Trap {
     /// The reference is nil.
@@ -90,9 +90,9 @@ pub enum Trap {
     Frozen,
     /// The divisor is 0.
     Div,
-    /// A count of fields is negative, or both together are above the limit.
+    /// A count of fields is negative, or their sum is above the limit.
     Size,
-    /// The task has as many frames, or lies below as many forks, as it may.
+    /// The task has as many frames, or as many forks above it, as it may.
     Depth,
 }
 
@@ -101,31 +101,31 @@ pub enum Trap {
 pub enum End {
     /// The root returned from its last frame.
     Done,
-    /// An instruction couldn't be done: why, the task and the line of the text.
+    /// An instruction trapped: why, the task and the line of the text.
     Trapped(Trap, u32, u32),
     /// A read was stopped: the reader, and the task that owns what it would have read.
     Entangled(u32, u32),
 }
 
 /// The whole state of a machine.
-pub struct State {
+pub struct MachineState {
     /// The most fields that an object may have.
     pub field_limit: u32,
     /// The tasks by number.
     pub tasks: Listed<Task>,
-    /// For each task its objects, in the order of their allocation.
+    /// For each task its objects, in order of allocation.
     pub store: Listed<Listed<Object>>,
     /// The edges between strands, the oldest first.
     pub edges: Listed<Edge>,
-    /// What was written out, the oldest first.
+    /// What was printed, the oldest first.
     pub outputs: Listed<i64>,
     /// How the run ended, if it has.
     pub end: Option<End>,
 }
 
-impl Drop for State {
+impl Drop for MachineState {
     fn drop(self) {
-        let State {
+        let MachineState {
             field_limit: _,
             tasks: _,
             store: _,

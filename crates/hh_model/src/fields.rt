@@ -1,16 +1,16 @@
-// What instructions do that look up an object or make one.
+// Instructions that look up an object or make one.
 
 ghost use Rattle.std.specs.Prelude.{◌≡◌, ◌<◌, ◌+◌, ◌^◌, length, slice_get, IfSome, OnOk, OnErr, true};
 ghost use Rattle.hh_model.specs.Effect.{effect, row_of};
 ghost use Rattle.hh_model.specs.PathLaw.{PathIsPrecedenceIn};
 ghost use Rattle.hh_model.specs.Step.{follow, is_running, setting};
 
-use crate::data::State;
+use crate::data::MachineState;
 use hh_lang::{Instr, IntReg, RefReg};
 use std::alloc::{AllocError, Global};
 
-impl State {
-    /// A number register gets what a number field holds, or the task is trapped.
+impl MachineState {
+    /// A number register gets what a number field holds, or the task traps.
     #[inline(always)]
     pub(crate) fn read_int(
         &mut self,
@@ -28,7 +28,7 @@ impl State {
         self.set_found(t, line, target, found);
     }
 
-    /// A reference register gets what a reference field holds, or the task is trapped or stopped.
+    /// A reference register gets what a reference field holds, or the task traps or is stopped.
     #[inline(always)]
     pub(crate) fn read_reference(
         &mut self,
@@ -48,7 +48,7 @@ impl State {
         self.read_found(t, line, target, found);
     }
 
-    /// A number field gets what a register holds, or the task is trapped.
+    /// A number field gets what a register holds, or the task traps.
     #[inline(always)]
     pub(crate) fn put_int(
         &mut self,
@@ -66,7 +66,7 @@ impl State {
         self.put_int_found(t, line, found, value);
     }
 
-    /// A reference field gets what a register holds, or the task is trapped.
+    /// A reference field gets what a register holds, or the task traps.
     #[inline(always)]
     pub(crate) fn put_reference(
         &mut self,
@@ -84,7 +84,7 @@ impl State {
         self.put_reference_found(t, line, found, value);
     }
 
-    /// A number register gets how many number fields an object has, or the task is trapped.
+    /// A number register gets the number of an object's number fields, or the task traps.
     pub(crate) fn count_ints(&mut self, t: u32, line: u32, target: IntReg, object: RefReg)
         requires made { t < length self.old.tasks }
         requires next { IfSome (slice_get self.old.tasks t) (λ x. x.top.next + 1 < 2 ^ 32) }
@@ -94,7 +94,7 @@ impl State {
         self.set_found(t, line, target, found);
     }
 
-    /// A number register gets how many reference fields an object has, or the task is trapped.
+    /// A number register gets the number of an object's reference fields, or the task traps.
     pub(crate) fn count_references(&mut self, t: u32, line: u32, target: IntReg, object: RefReg)
         requires made { t < length self.old.tasks }
         requires next { IfSome (slice_get self.old.tasks t) (λ x. x.top.next + 1 < 2 ^ 32) }
@@ -104,7 +104,7 @@ impl State {
         self.set_found(t, line, target, found);
     }
 
-    /// An object becomes immutable, or the task is trapped.
+    /// An object becomes immutable, or the task traps.
     pub(crate) fn freeze_own(&mut self, t: u32, line: u32, object: RefReg)
         requires made { t < length self.old.tasks }
         requires next { IfSome (slice_get self.old.tasks t) (λ x. x.top.next + 1 < 2 ^ 32) }
@@ -114,7 +114,7 @@ impl State {
         self.freeze_found(t, line, found);
     }
 
-    /// A reference field is compared and swapped, or the task is trapped.
+    /// A reference field is compared and swapped, or the task traps.
     pub(crate) fn compare_and_swap(
         &mut self,
         t: u32,
@@ -133,7 +133,7 @@ impl State {
         self.swap_found(t, line, target, found, expected, value);
     }
 
-    /// A register names a new mutable object of as many fields as two numbers ask for, or the task is trapped.
+    /// A register names a new mutable object with the counts of fields that two registers hold, or the task traps.
     pub(crate) fn make_object(
         &mut self,
         alloc: Global,

@@ -1,16 +1,16 @@
-// Forks: each function takes all its memory before its first change.
+// Forks: each function allocates all its memory before its first change.
 
 ghost use Rattle.std.specs.Prelude.{◌≡◌, ◌<◌, ◌+◌, ◌^◌, ◌++◌, ◌∷◌, [], length, slice_get, IfSome, OnOk, OnErr};
 ghost use Rattle.hh_model.specs.Step.{with_task, forked, child, edge, strand};
 
-use crate::data::{Edge, End, Frame, State, Status, Strand, Task, Trap};
+use crate::data::{Edge, End, Frame, MachineState, Strand, Task, TaskStatus, Trap};
 use hh_lang::DEPTH_LIMIT;
-use listed::Listed;
+use plain_vec::Listed;
 use std::alloc::{AllocError, Global};
 
-impl State {
+impl MachineState {
     /// A task forks.
-    #[tactic(auto, using(crate::proofs::Lists::set_front, listed::proofs::Members::got_front))]
+    #[tactic(auto, using(crate::proofs::Lists::set_front, plain_vec::proofs::Members::got_front))]
     pub(crate) fn fork(
         &mut self,
         alloc: Global,
@@ -98,22 +98,22 @@ impl State {
     /// A task waits for its children.
     fn wait(&mut self, t: u32, top: Frame)
         requires { t < length self.old.tasks }
-        ensures { IfSome (slice_get self.old.tasks t) (λ x. self.new ≡ with_task self.old t (record x { status = Status.Waiting; top = top })) }
+        ensures { IfSome (slice_get self.old.tasks t) (λ x. self.new ≡ with_task self.old t (record x { status = TaskStatus.Waiting; top = top })) }
     {
         let task = self.tasks.at_mut(t as usize);
-        task.status = Status::Waiting;
+        task.status = TaskStatus::Waiting;
         task.top = top;
     }
 }
 
-/// A child of so many forks, with one frame.
+/// A child with this many forks above it and one frame.
 fn child(alloc: Global, parent: u32, depth: u32, function: u32, top: Frame) -> Task
     ensures { result ≡ child parent depth function top }
 {
     Task {
         parent: Some(parent),
         depth,
-        status: Status::Running,
+        status: TaskStatus::Running,
         top: top.entry(function),
         below: Listed::new(alloc),
         joins: 0,

@@ -7,11 +7,11 @@ ghost use Rattle.hh_model.specs.Step.{setting, strand_of};
 ghost use Rattle.hh_model.specs.declared.data.Trap.TheVariants.{Nil};
 
 use crate::arithmetic::{field_counts, field_index};
-use crate::data::{Name, State, Trap};
+use crate::data::{MachineState, Name, Trap};
 use hh_lang::{Instr, IntReg, RefReg};
 
-impl State {
-    /// What a number field holds, or why it isn't there.
+impl MachineState {
+    /// What a number field holds, or why there is none.
     #[inline(always)]
     pub(crate) fn int_field(&self, t: u32, object: RefReg, index: IntReg) -> Result<i64, Trap>
         requires { t < length self.now.tasks }
@@ -30,7 +30,7 @@ impl State {
         }
     }
 
-    /// What a reference field holds, or why it isn't there.
+    /// What a reference field holds, or why there is none.
     #[inline(always)]
     pub(crate) fn reference_field(
         &self,
@@ -54,7 +54,7 @@ impl State {
         }
     }
 
-    /// The object and the place of a number field that may be written, or why there is none.
+    /// The object and the position of a number field that may be written, or why there is none.
     #[inline(always)]
     pub(crate) fn int_place(
         &self,
@@ -83,7 +83,7 @@ impl State {
         }
     }
 
-    /// The object and the place of a reference field that may be written, or why there is none.
+    /// The object and the position of a reference field that may be written, or why there is none.
     #[inline(always)]
     pub(crate) fn reference_place(
         &self,
@@ -113,7 +113,7 @@ impl State {
         }
     }
 
-    /// How many number fields an object has, or why it isn't there.
+    /// How many number fields an object has, or why there is no object.
     pub(crate) fn int_count(&self, t: u32, object: RefReg) -> Result<i64, Trap>
         requires { t < length self.now.tasks }
         ensures { (d : ℕ) → IfSome (slice_get self.now.tasks t) (λ x. effect (setting self.now t x) x.top self.now.store (Instr.Cnti d object) ≡ or_trapped result (λ v. Goes (onward (with_int x.top d v)) self.now.store)) }
@@ -128,7 +128,7 @@ impl State {
         }
     }
 
-    /// How many reference fields an object has, or why it isn't there.
+    /// How many reference fields an object has, or why there is no object.
     pub(crate) fn reference_count(&self, t: u32, object: RefReg) -> Result<i64, Trap>
         requires { t < length self.now.tasks }
         ensures { (d : ℕ) → IfSome (slice_get self.now.tasks t) (λ x. effect (setting self.now t x) x.top self.now.store (Instr.Cntr d object) ≡ or_trapped result (λ v. Goes (onward (with_int x.top d v)) self.now.store)) }
@@ -162,7 +162,7 @@ impl State {
             Err(Trap::Frozen)
         }
     }
-    /// How many fields of each kind a new object gets, or why it isn't made.
+    /// How many fields of each kind a new object gets, or why it isn't allocated.
     #[inline(always)]
     pub(crate) fn new_counts(
         &self,

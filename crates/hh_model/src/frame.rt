@@ -36,7 +36,7 @@ impl Frame {
         self.refs[register.index()] = value;
     }
 
-    /// The words that an instruction allocates, where it allocates: two for the header and the name, and one for each
+    /// The words that an instruction allocates, if it allocates: two for the header and the name, and one for each
     /// field.
     pub fn asked(&self, field_limit: u32, instr: Instr) -> Option<usize>
         ensures { result ≡ words_asked field_limit self.now instr }
@@ -69,14 +69,14 @@ impl Frame {
         frame
     }
 
-    /// What it hands back when it returns: its `i0` and `r0`.
+    /// What it returns: its `i0` and `r0`.
     pub fn result(&self) -> (i64, Option<Name>)
         ensures { result ≡ result_of self.now }
     {
         (self.ints[0], self.refs[0])
     }
 
-    /// Takes what another frame handed back into the number register and the reference register of this number.
+    /// Puts what another frame returned into the number register and the reference register of this number.
     pub fn take_result(&mut self, register: usize, handed_back: (i64, Option<Name>))
         requires { register < 16 }
         ensures { self.new ≡ with_ref (with_int self.old register handed_back.0) register handed_back.1 }

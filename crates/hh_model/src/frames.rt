@@ -4,12 +4,12 @@ ghost use Rattle.std.specs.Prelude.{◌≡◌, ◌<◌, ◌+◌, ◌^◌, ◌++�
 ghost use Rattle.hh_model.specs.Effect.{onward, with_int, with_ref};
 ghost use Rattle.hh_model.specs.Step.{with_task, called, entry_frame, last_of, front_of};
 
-use crate::data::{End, Frame, Name, State, Trap};
+use crate::data::{End, Frame, MachineState, Name, Trap};
 use hh_lang::{FRAME_LIMIT, IntReg, RefReg};
 use std::alloc::AllocError;
 
-impl State {
-    /// A frame that has waited becomes a task's top one, with what is handed back to it.
+impl MachineState {
+    /// A frame that has waited becomes a task's top one, with what was returned to it.
     pub(crate) fn come_back(&mut self, t: u32, caller: Frame, handed_back: (i64, Option<Name>))
         requires { t < length self.old.tasks }
         ensures { IfSome (slice_get self.old.tasks t) (λ x. self.new ≡ with_task self.old t (record x { top = with_ref (with_int caller 0 handed_back.0) 0 handed_back.1 })) }
@@ -53,7 +53,7 @@ impl State {
         task.top.advance();
     }
 
-    /// A frame waits below the top one, which goes on in a function.
+    /// The top frame is pushed, and a function's frame takes its place.
     #[tactic(auto, using(crate::proofs::Lists::set_got))]
     fn push_frame(&mut self, t: u32, waiting: Frame, function: u32) -> Result<(), AllocError>
         requires { t < length self.old.tasks }
@@ -84,7 +84,7 @@ impl State {
         self.push_frame(t, caller, function)
     }
 
-    /// Takes off the frame that has waited least, if there is one.
+    /// Pops the frame that was pushed last, if there is one.
     #[tactic(auto, using(crate::proofs::Lists::last_push, crate::proofs::Lists::front_push, crate::proofs::Lists::set_got))]
     pub(crate) fn pop_frame(&mut self, t: u32) -> Option<Frame>
         requires { t < length self.old.tasks }

@@ -1,5 +1,5 @@
 // The machine that never collects: its definitions are in specs/, and this is the plain machine that computes them.
-// What holds of its runs is told by the laws of `path_laws` and `model_laws`.
+// Laws of its runs are in `path_laws` and `model_laws`.
 #![tactic(auto)]
 
 // The machine, its plain data, and what a step reads of them.
@@ -16,12 +16,12 @@ mod fork;
 mod returns;
 mod take;
 
-// What steps are made of: numbers, and what happens to frames and the store.
+// What steps consist of: numbers, and changes of frames and the store.
 mod arithmetic;
 mod frame;
 mod frames;
 mod store;
 
 pub use arithmetic::{calculate, field_counts, field_index, is_same};
-pub use data::{Edge, End, Frame, Name, Object, State, Status, Strand, Task, Trap};
+pub use data::{Edge, End, Frame, MachineState, Name, Object, Strand, Task, TaskStatus, Trap};
 pub use machine::{Machine, StepError};

@@ -4,10 +4,10 @@ ghost use Rattle.std.specs.Prelude.{◌≡◌, ◌<◌, length, option_copied, s
 ghost use Rattle.hh_model.specs.Effect.{object_at};
 ghost use Rattle.hh_model.specs.Step.{asked, can_step, is_on_path, owner_of, parents, joined, result_at, strand_of};
 
-use crate::data::{Name, Object, State, Status, Strand};
+use crate::data::{MachineState, Name, Object, Strand, TaskStatus};
 use hh_lang::Program;
 
-impl State {
+impl MachineState {
     /// Whether the task runs and the machine hasn't ended.
     #[inline(always)]
     pub fn can_step(&self, t: u32) -> bool
@@ -15,7 +15,7 @@ impl State {
     {
         match (&self.end, self.tasks.get(t as usize)) {
             (None, Some(task)) => match task.status {
-                Status::Running => true,
+                TaskStatus::Running => true,
                 _ => false,
             },
             _ => false,
@@ -33,20 +33,20 @@ impl State {
         }
     }
 
-    /// The words that the next step of a task allocates, where it allocates.
+    /// The words that the next step of a task allocates, if it allocates.
     pub fn asked(&self, program: &Program, t: u32) -> Option<usize>
         ensures { result ≡ asked program.now self.now t }
     {
         let task = self.tasks.get(t as usize)?;
         match task.status {
-            Status::Running => {}
+            TaskStatus::Running => {}
             _ => return None,
         }
         let line = program.line(task.top.function, task.top.next)?;
         task.top.asked(self.field_limit, line.instr)
     }
 
-    /// The strand that a task is on.
+    /// The strand of a task.
     pub fn strand(&self, t: u32) -> Strand
         requires { t < length self.now.tasks }
         ensures { IfSome (slice_get self.now.tasks t) (λ x. result ≡ strand_of t x) }
@@ -57,7 +57,7 @@ impl State {
         }
     }
 
-    /// The task that forked a task; None for the root, and where there is no such task.
+    /// The parent of a task; None for the root, and if there is no such task.
     #[inline(always)]
     pub fn parent(&self, t: u32) -> Option<u32>
         ensures { result ≡ parents self.now.tasks t }
@@ -74,27 +74,27 @@ impl State {
     {
         match self.tasks.get(t as usize) {
             Some(task) => match task.status {
-                Status::Joined => true,
+                TaskStatus::Joined => true,
                 _ => false,
             },
             None => false,
         }
     }
 
-    /// What a task ended with, where it has ended and not joined.
+    /// What a task ended with, if it has ended and not joined.
     pub(crate) fn result(&self, t: u32) -> Option<(i64, Option<Name>)>
         ensures { result ≡ result_at (slice_get self.now.tasks t) }
     {
         match self.tasks.get(t as usize) {
             Some(task) => match task.status {
-                Status::Ended(int, reference) => Some((int, reference)),
+                TaskStatus::Ended(int, reference) => Some((int, reference)),
                 _ => None,
             },
             None => None,
         }
     }
 
-    /// The task that owns what a task allocated.
+    /// The owner of what a task allocated.
     pub fn owner(&self, task: u32) -> u32
         ensures { result ≡ owner_of self.now.tasks task }
     {
@@ -111,7 +111,7 @@ impl State {
         at
     }
 
-    /// Whether a task is another one or stands above it.
+    /// Whether a task is another one or an ancestor of it.
     pub fn is_on_path(&self, above: u32, task: u32) -> bool
         ensures { result ≡ is_on_path self.now.tasks above task }
     {

@@ -3,18 +3,18 @@
 ghost use Rattle.std.specs.Prelude.{◌≡◌, ◌<◌, ◌^◌, ◌↔◌, IfOk, OnOk, OnErr, Err, false};
 ghost use Rattle.hh_model.specs.Step.{can_step, start};
 
-use crate::data::{End, Frame, State, Status, Task};
+use crate::data::{End, Frame, MachineState, Task, TaskStatus};
 use hh_lang::{Line, Program};
-use listed::Listed;
+use plain_vec::Listed;
 use std::alloc::{AllocError, Global};
 use std::marker::Model;
 
-/// Why a step wasn't taken; the machine is as before.
+/// Why a step wasn't taken; the machine is unchanged.
 #[derive(Clone, Copy)]
 pub enum StepError {
     /// The task isn't running, or the machine has ended.
     Idle,
-    /// Want of memory.
+    /// Out of memory.
     NoMemory,
 }
 
@@ -22,7 +22,7 @@ pub enum StepError {
 #[derive(Drop)]
 pub struct Machine<'p> {
     program: &'p Program,
-    state: State,
+    state: MachineState,
     steps: u32,
     alloc: Global,
 }
@@ -43,7 +43,7 @@ impl<'p> Machine<'p> {
     ghost use Rattle.hh_model.specs.Step.{can_step, fetched};
     ghost use Rattle.hh_model.specs.Machine.{begun, advanced, IsOfRun};
 
-    /// A machine before its first step, whose objects may have so many fields.
+    /// A machine before its first step, with this limit of fields.
     pub fn start(
         alloc: Global,
         program: &'p Program,
@@ -59,7 +59,7 @@ impl<'p> Machine<'p> {
         })
     }
 
-    // One step of a task that can take one, by what stands in the program at the place where the task stands.
+    // One step of a task that can take one, by the instruction at its place.
     #[tactic(auto, using(crate::proofs::Taken::can_runs, crate::proofs::Taken::can_made, crate::proofs::Taken::next_fits, crate::proofs::Taken::step_taken, crate::proofs::Taken::step_nothing))]
     #[inline(always)]
     fn step_line(&mut self, t: u32, line: Option<Line>) -> Result<(), AllocError>
@@ -79,7 +79,7 @@ impl<'p> Machine<'p> {
         Ok(())
     }
 
-    /// Takes the next steps of a task as long as they only calculate, at most so many, and says how many.
+    /// Takes steps of a task as long as they only calculate, at most `most`, and returns how many.
     pub fn calculate(&mut self, t: u32, most: u32) -> u32
         requires { self.old.steps + most < 2 ^ 32 }
         ensures most { result ≤ most }
@@ -115,14 +115,14 @@ impl<'p> Machine<'p> {
         }
     }
 
-    /// How many steps were taken.
+    /// The number of steps taken.
     pub fn steps(&self) -> u32
         ensures { result ≡ self.now.steps }
     {
         self.steps
     }
 
-    /// What the steps have written out, the oldest first.
+    /// What the steps have printed, the oldest first.
     pub fn outputs(&self) -> &[i64]
         ensures { result.now ≡ self.now.state.outputs }
     {
@@ -137,13 +137,13 @@ impl<'p> Machine<'p> {
     }
 
     /// The whole state.
-    pub fn state(&self) -> &State
+    pub fn state(&self) -> &MachineState
         ensures { result.now ≡ self.now.state }
     {
         &self.state
     }
 
-    /// The state is what a run of as many steps leaves, so each law on runs holds of it.
+    /// The state is that of a run of as many steps, so each law of runs applies to it.
     pub fn reached(&self)
         ensures { IsOfRun self.now }
     {
@@ -152,13 +152,17 @@ impl<'p> Machine<'p> {
 }
 
 /// The state before the first step.
-fn first_state(alloc: Global, program: &Program, field_limit: u32) -> Result<State, AllocError>
+fn first_state(
+    alloc: Global,
+    program: &Program,
+    field_limit: u32,
+) -> Result<MachineState, AllocError>
     ensures { IfOk result (λ m. m ≡ start program.now field_limit) }
 {
     let root = Task {
         parent: None,
         depth: 0,
-        status: Status::Running,
+        status: TaskStatus::Running,
         top: Frame {
             function: program.main(),
             next: 0,
@@ -172,7 +176,7 @@ fn first_state(alloc: Global, program: &Program, field_limit: u32) -> Result<Sta
     tasks.push(root)?;
     let mut store = Listed::new(alloc);
     store.push(Listed::new(alloc))?;
-    Ok(State {
+    Ok(MachineState {
         field_limit,
         tasks,
         store,

@@ -1,15 +1,15 @@
-// Returns of frames, ends of tasks and joins: each function takes all its memory before its first change.
+// Returns of frames, ends of tasks and joins: each function allocates all its memory before its first change.
 
 ghost use Rattle.std.specs.Prelude.{◌≡◌, ◌<◌, ◌+◌, ◌^◌, ℕ, length, slice_get, IfSome, OnOk, OnErr, Some};
 ghost use Rattle.hh_model.specs.declared.data.Task.{Task};
 ghost use Rattle.hh_model.specs.Step.{with_task, ended_by, join_of, ended_task, child_ended, sibling, returned, parents};
 
-use crate::data::{Edge, End, Name, State, Status, Strand};
+use crate::data::{Edge, End, MachineState, Name, Strand, TaskStatus};
 use std::alloc::AllocError;
 
-impl State {
+impl MachineState {
     /// The top frame of a task returns.
-    #[tactic(auto, using(crate::proofs::Lists::set_again, listed::proofs::Members::got_same))]
+    #[tactic(auto, using(crate::proofs::Lists::set_again, plain_vec::proofs::Members::got_same))]
     pub(crate) fn return_frame(&mut self, t: u32) -> Result<(), AllocError>
         requires made { t < length self.old.tasks }
         requires fits { length self.old.tasks < 2 ^ 32 }
@@ -77,7 +77,7 @@ impl State {
         requires { t < length self.old.tasks }
         ensures { IfSome (slice_get self.old.tasks t) (λ x. self.new ≡ with_task self.old t (ended_task x handed_back)) }
     {
-        self.tasks.at_mut(t as usize).status = Status::Ended(handed_back.0, handed_back.1);
+        self.tasks.at_mut(t as usize).status = TaskStatus::Ended(handed_back.0, handed_back.1);
     }
 
     /// Two children that have ended join their parent.
@@ -119,10 +119,10 @@ impl State {
                 target: strand,
             },
         )?;
-        self.tasks.at_mut(left as usize).status = Status::Joined;
-        self.tasks.at_mut(right as usize).status = Status::Joined;
+        self.tasks.at_mut(left as usize).status = TaskStatus::Joined;
+        self.tasks.at_mut(right as usize).status = TaskStatus::Joined;
         let task = self.tasks.at_mut(parent as usize);
-        task.status = Status::Running;
+        task.status = TaskStatus::Running;
         task.top.take_result(0, left_result);
         task.top.take_result(1, right_result);
         task.joins += 1;

@@ -1,15 +1,15 @@
-// Changes of the store: each function takes all its memory before its first change.
+// Changes of the store: each function allocates all its memory before its first change.
 
 ghost use Rattle.std.specs.Prelude.{◌≡◌, ◌<◌, ◌+◌, ◌^◌, ◌++◌, ◌∷◌, [], length, slice_get, slice_set, IfSome, IsSomeAnd, IsSome, OnOk, OnErr, IfOk, replicate, take, pos, None, false, true};
 ghost use Rattle.hh_model.specs.Effect.{effect, int_in, object_at, put_object, ref_in, row_of, made, onward, with_int};
 ghost use Rattle.hh_model.specs.Step.{follow, setting, strand_of};
 
-use crate::data::{Frame, Name, Object, State};
+use crate::data::{Frame, MachineState, Name, Object};
 use hh_lang::{FieldCount, Instr, IntReg, RefReg};
-use listed::Listed;
+use plain_vec::Listed;
 use std::alloc::{AllocError, Global};
 
-impl State {
+impl MachineState {
     /// Writes a reference field of an object.
     #[inline(always)]
     fn set_field(&mut self, name: Name, at: usize, value: Option<Name>)
@@ -154,14 +154,14 @@ impl State {
     }
 }
 
-/// So many nil references.
+/// A list of `count` nil references.
 fn nils(alloc: Global, count: usize) -> Result<Listed<Option<Name>>, AllocError>
     ensures { IfOk result (λ fields. fields ≡ replicate count None) }
 {
     Ok(Listed::from_vec(vec![in alloc; None; count]?))
 }
 
-/// So many zeros.
+/// A list of `count` zeros.
 fn zeros(alloc: Global, count: usize) -> Result<Listed<i64>, AllocError>
     ensures { IfOk result (λ fields. fields ≡ replicate count (pos 0)) }
 {

@@ -3,15 +3,15 @@
 ghost use Rattle.std.specs.Prelude.{◌≡◌, ◌<◌, ◌+◌, ◌^◌, ◌++◌, ◌∷◌, [], length, slice_get, slice_set, IfSome, OnOk, OnErr, ℕ, true, false};
 ghost use Rattle.hh_model.specs.Calculations.{is_calculation};
 ghost use Rattle.hh_model.specs.Effect.{effect, int_in, onward};
-ghost use Rattle.hh_model.specs.Machine.{IsSound};
+ghost use Rattle.hh_model.specs.Machine.{IsSoundState};
 ghost use Rattle.hh_model.specs.Step.{follow, is_running, setting};
 
-use crate::data::{End, State, Trap};
+use crate::data::{End, MachineState, Trap};
 use hh_lang::{Instr, IntReg};
 use std::alloc::{AllocError, Global};
 
-impl State {
-    /// A task does an instruction that only calculates, or the state stays as it is.
+impl MachineState {
+    /// A task executes an instruction that only calculates; otherwise the state is unchanged.
     #[tactic(auto, using(crate::proofs::Lists::set_got))]
     #[inline(always)]
     fn calculate(&mut self, t: u32, instr: &Instr) -> bool
@@ -24,7 +24,7 @@ impl State {
         self.tasks.at_mut(t as usize).top.calculate(*instr)
     }
 
-    /// A task adds what a register holds to the outputs.
+    /// A task appends what a register holds to the outputs.
     fn print(&mut self, t: u32, source: IntReg) -> Result<(), AllocError>
         requires made { t < length self.old.tasks }
         requires next { IfSome (slice_get self.old.tasks t) (λ x. x.top.next + 1 < 2 ^ 32) }
@@ -37,7 +37,7 @@ impl State {
         Ok(())
     }
 
-    /// Does an instruction of a running task.
+    /// Executes an instruction of a running task.
     #[inline(always)]
     pub(crate) fn act(
         &mut self,
@@ -48,7 +48,7 @@ impl State {
     ) -> Result<(), AllocError>
         requires made { t < length self.old.tasks }
         requires running { is_running (slice_get self.old.tasks t) ≡ true }
-        requires sound { IsSound self.old }
+        requires sound { IsSoundState self.old }
         requires next { IfSome (slice_get self.old.tasks t) (λ x. x.top.next + 1 < 2 ^ 32) }
         ensures ok { OnOk result (IfSome (slice_get self.old.tasks t) (λ x. self.new ≡ follow self.old t x line (effect (setting self.old t x) x.top self.old.store instr))) }
         ensures err { OnErr result (self.new ≡ self.old) }
@@ -79,7 +79,7 @@ impl State {
             Instr::Par(left, right) => return self.fork(alloc, t, left, right, line),
             Instr::Ret => return self.return_frame(t),
             Instr::Out(source) => return self.print(t, source),
-            // All that is left of what only calculates is a division by 0.
+            // The only calculation left is a division by 0.
             _ => self.finish(End::Trapped(Trap::Div, t, line)),
         }
         Ok(())

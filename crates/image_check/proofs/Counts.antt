@@ -1,61 +1,49 @@
 -- The number of objects read is the number of object lines.
-use Rattle.std.proofs.Common.{◌≡◌, ◌<◌, ◌≤◌, ◌+◌, ℕ, suc, true, false, List, [], ◌∷◌, length, refl, ap, sym, ◌∙◌, arith, inl, inr, ◌⊎◌}
-use Rattle.std.specs.Prelude.{Option, Some, None, nat_eq}
-use Rattle.std.proofs.lemmas.Bool.{not-false}
-use Rattle.text_lines.specs.Lines.{is_last, lines_of}
-use Rattle.image_check.specs.declared.line.Said.{Said}
-use Rattle.image_check.specs.declared.line.Said.TheVariants.{Nothing, Wrong, Title, OfTask, OfChunk, OfObject, OfRemembered, OfEnd}
-use Rattle.image_check.specs.declared.read.Position.{Position}
-use Rattle.image_check.specs.declared.read.Read.{Read}
-use Rattle.image_check.specs.declared.whole.Whole.{Whole}
-use Rattle.image_check.specs.Line.{said_by}
-use Rattle.image_check.specs.Table.{with_entry}
-use Rattle.image_check.specs.Read.{position, rises, after_line, nothing_read, whole_of}
-use Rattle.image_check.specs.Fault.{has_wrong_place, is_misplaced, fault_from, after_lines, onto_count, object_count}
-use Rattle.image_check.specs.Sound.{ObjectsAreCounted}
+use Rattle.image_check.proofs.Common.{◌≡◌, ◌<◌, ◌≤◌, ◌+◌, ℕ, suc, true, false, List, [], ◌∷◌, length, refl, ap, sym, ◌∙◌, arith, inl, inr, ◌⊎◌, Option, Some, None, nat_eq, not-false, is_last, lines_of, ImageLine, Nothing, Wrong, Title, OfTask, OfChunk, OfObject, OfRemembered, OfEnd, ImagePosition, Read, Whole, said_by, with_entry, rises, after_line, nothing_read, whole_of, has_wrong_place, is_misplaced, fault_from, after_lines, onto_count, object_count, ObjectsAreCounted}
+use Rattle.image_check.specs.Read.{position}
 use Rattle.image_check.proofs.Steps.{clear, faultless, formed}
 
 abbrev Entries : Type 0
 Entries = List (ℕ × ℕ)
 
 -- an object at a is on no later line than one at this position
-abbrev NotBehind : ℕ → Position → Type 0
+abbrev NotBehind : ℕ → ImagePosition → Type 0
 NotBehind a p = (3 < p.kind) ⊎ ((p.kind ≡ 3) × (a ≤ p.first))
 
-abbrev AllBefore : Entries → Position → Type 0
+abbrev AllBefore : Entries → ImagePosition → Type 0
 AllBefore [] p = Unit {0}
 AllBefore (e ∷ es) p = NotBehind e.0 p × AllBefore es p
 
-abbrev Before : Entries → Option Position → Type 0
+abbrev Before : Entries → Option ImagePosition → Type 0
 Before es None = es ≡ []
 Before es (Some p) = AllBefore es p
 
-later : (a : ℕ) (p q : Position) → rises p q ≡ true → NotBehind a p → NotBehind a q
+later : (a : ℕ) (p q : ImagePosition) → rises p q ≡ true → NotBehind a p → NotBehind a q
 later a p q up (inl h) = inl (grind (arith, up, h))
-later a p q up (inr h) = by (first_of_two p.kind q.kind (kinds p q up))
+later a p q up (inr h) = later_by_cases (first_of_two p.kind q.kind (kinds p q up))
   where
-    kinds : (x y : Position) → rises x y ≡ true → x.kind ≤ y.kind
+    kinds : (x y : ImagePosition) → rises x y ≡ true → x.kind ≤ y.kind
     kinds x y e = grind (arith, e)
 
-    firsts : (x y : Position) → rises x y ≡ true → x.kind ≡ y.kind → x.first ≤ y.first
+    firsts : (x y : ImagePosition) → rises x y ≡ true → x.kind ≡ y.kind → x.first ≤ y.first
     firsts x y e f = grind (arith, e, f)
 
     first_of_two : (m n : ℕ) → m ≤ n → (m < n) ⊎ (m ≡ n)
     first_of_two m n le = grind (arith, le)
 
-    by : ((p.kind < q.kind) ⊎ (p.kind ≡ q.kind)) → NotBehind a q
-    by (inl lt) = inl (let k : p.kind ≡ 3 = h.0 in omega (arith, lt, k))
-    by (inr e) = inr (sym e ∙ h.0, (let g : a ≤ p.first = h.1 in let f : p.first ≤ q.first = firsts p q up e in omega (arith, f, g)))
+    later_by_cases : ((p.kind < q.kind) ⊎ (p.kind ≡ q.kind)) → NotBehind a q
+    later_by_cases (inl lt) = inl (let k : p.kind ≡ 3 = h.0 in omega (arith, lt, k))
+    later_by_cases (inr e) = inr (sym e ∙ h.0, (let g : a ≤ p.first = h.1 in let f : p.first ≤ q.first = firsts p q up e in omega (arith, f, g)))
 
-all_later : (es : Entries) (p q : Position) → rises p q ≡ true → AllBefore es p → AllBefore es q
+all_later : (es : Entries) (p q : ImagePosition) → rises p q ≡ true → AllBefore es p → AllBefore es q
 all_later [] p q up h = tt
 all_later (e ∷ es) p q up h = (later e.0 p q up h.0, all_later es p q up h.1)
 
-other : (a b : ℕ) (p : Position) → rises p (position 3 b 0 0) ≡ true → NotBehind a p → nat_eq b a ≡ false
+other : (a b : ℕ) (p : ImagePosition) → rises p (position 3 b 0 0) ≡ true → NotBehind a p → nat_eq b a ≡ false
 other a b p up (inl h) = grind (arith, up, h)
 other a b p up (inr h) = let k : p.kind ≡ 3 = h.0 in let g : a ≤ p.first = h.1 in grind (arith, up, k, g)
 
-one_more : (es : Entries) (p : Position) (b n : ℕ) → rises p (position 3 b 0 0) ≡ true → AllBefore es p → (length (with_entry es b n) ≡ length es + 1) × AllBefore (with_entry es b n) (position 3 b 0 0)
+one_more : (es : Entries) (p : ImagePosition) (b n : ℕ) → rises p (position 3 b 0 0) ≡ true → AllBefore es p → (length (with_entry es b n) ≡ length es + 1) × AllBefore (with_entry es b n) (position 3 b 0 0)
 one_more [] p b n up h = (refl, (inr (refl, omega arith), tt))
 one_more (e ∷ es) p b n up h =
     let no = other e.0 b p up h.0 in
@@ -63,19 +51,19 @@ one_more (e ∷ es) p b n up h =
     let len : length (with_entry es b n) ≡ length es + 1 = rest.0 in
     rw no ((let x : suc (length (with_entry es b n)) ≡ suc (length es) + 1 = omega (arith, len) in x), (later e.0 p (position 3 b 0 0) up h.0, rest.1))
 
-record Counted (r s : Read) (said : Said) : Type 0 where
+record Counted (r s : Read) (said : ImageLine) : Type 0 where
   pub count : length s.objects ≡ onto_count said (length r.objects)
   pub before : Before s.objects s.last
 
-moved : (es : Entries) (last : Option Position) (q : Position) → has_wrong_place last (Some q) ≡ false → Before es last → AllBefore es q
+moved : (es : Entries) (last : Option ImagePosition) (q : ImagePosition) → has_wrong_place last (Some q) ≡ false → Before es last → AllBefore es q
 moved es None q e h = rw h tt
 moved es (Some p) q e h = all_later es p q (not-false (rises p q) e) h
 
-added : (es : Entries) (last : Option Position) (b n : ℕ) → has_wrong_place last (Some (position 3 b 0 0)) ≡ false → Before es last → (length (with_entry es b n) ≡ length es + 1) × AllBefore (with_entry es b n) (position 3 b 0 0)
+added : (es : Entries) (last : Option ImagePosition) (b n : ℕ) → has_wrong_place last (Some (position 3 b 0 0)) ≡ false → Before es last → (length (with_entry es b n) ≡ length es + 1) × AllBefore (with_entry es b n) (position 3 b 0 0)
 added es None b n e h = absurd (cc)
 added es (Some p) b n e h = one_more es p b n (not-false (rises p (position 3 b 0 0)) e) h
 
-counted : (r : Read) (s : Said) → is_misplaced r.last s ≡ false → Before r.objects r.last → Counted r (after_line r s) s
+counted : (r : Read) (s : ImageLine) → is_misplaced r.last s ≡ false → Before r.objects r.last → Counted r (after_line r s) s
 counted r Nothing e h = record { count = refl; before = h }
 counted r Wrong e h = absurd (cc)
 counted r Title e h = record { count = refl; before = moved r.objects r.last (position 0 0 0 0) e h }
@@ -85,7 +73,7 @@ counted r (OfObject o) e h = let g = added r.objects r.last o.address (length o.
 counted r (OfRemembered f) e h = record { count = refl; before = moved r.objects r.last (position 4 f.task f.address f.place) e h }
 counted r (OfEnd n) e h = record { count = refl; before = moved r.objects r.last (position 5 0 0 0) e h }
 
-onto_sum : (s : Said) (m n : ℕ) → onto_count s m + n ≡ m + onto_count s n
+onto_sum : (s : ImageLine) (m n : ℕ) → onto_count s m + n ≡ m + onto_count s n
 onto_sum (OfObject o) m n = omega arith
 onto_sum Nothing m n = refl
 onto_sum Wrong m n = refl

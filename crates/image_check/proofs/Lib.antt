@@ -9,3 +9,4 @@ mod Steps
 mod Ordered
 mod Sounds
 mod Counts
+mod Common

@@ -1,23 +1,6 @@
 -- Ancestors by links are ancestors by numbers.
-use Rattle.std.proofs.Common.{◌≡◌, ◌<◌, ◌≤◌, ◌+◌, ◌-◌, ◌==◌, ℕ, zero, suc, Bool, true, false, cond, List, [], ◌∷◌, ◌++◌, length, get_or, refl, ap, sym, ◌∙◌, arith, subst, length-append}
-use Rattle.std.specs.Prelude.{Option, Some, None, slice_get, nat_eq, is_some, position, MatchOption}
-use Rattle.std.specs.Option.{option_map}
-use Rattle.std.specs.Map.{keys_of}
-use Rattle.indexmap.specs.IndexMap.{insert_entry}
-use Rattle.std.proofs.lemmas.Bool.{eqb-true}
-use Rattle.std.proofs.lemmas.List.Quantifiers.{position-Some}
-use Rattle.std.proofs.lemmas.Option.{same_Some, slice_get-get_or, slice_get-map}
-use Rattle.listed.proofs.Members.{got_front, got_back, got_within}
-use Rattle.listed.proofs.Options.{none_of}
-use Rattle.listed.proofs.Places.{got_some}
-use Rattle.far_links.specs.declared.links.Link.{Link}
-use Rattle.far_links.specs.Lists.{depth_at, parent_in as parent_in_link, up_from, IsUp, new_link}
-use Rattle.far_links.proofs.Lists.{up_same, up_depth, link_more, IsWithin}
-use Rattle.far_links.proofs.Walks.{ancestor_parent, first_link as link_up, link_first}
-use Rattle.image_check.specs.declared.line.Task.{Task}
-use Rattle.image_check.specs.Table.{found, has, with_new}
-use Rattle.image_check.specs.Tasks.{Tasks, parent_in, parent_of, is_above, LinksLead, IsAncestor}
-use Rattle.image_check.specs.Links.{StandsAt, IsParentAt, AreLinksOf}
+use Rattle.image_check.proofs.Common.{◌≡◌, ◌<◌, ◌≤◌, ◌+◌, ◌-◌, ◌==◌, ℕ, zero, suc, Bool, true, false, cond, List, [], ◌∷◌, ◌++◌, length, get_or, refl, ap, sym, ◌∙◌, arith, subst, length-append, Option, Some, None, slice_get, nat_eq, is_some, position, MatchOption, option_map, keys_of, insert_entry, eqb-true, position-Some, same_Some, slice_get-get_or, slice_get-map, got_front, got_back, got_within, none_of, got_some, Link, depth_at, parent_in as parent_in_link, up_from, IsUp, new_link, up_same, up_depth, link_more, IsWithin, ancestor_parent, first_link as link_up, link_first, ImageTask, found, has, with_new, Tasks, parent_of, is_above, LinksLead, IsAncestor, StandsAt, IsParentAt, AreLinksOf}
+use Rattle.image_check.specs.Tasks.{parent_in}
 use Rattle.image_check.proofs.Paths.{Entry, AreOrdered, found_at, lead_up, first_link, met_ancestor, above, task_more, Where, where_is, apart_more, still_stands}
 use Rattle.image_check.proofs.Paths.Where.{front, last}
 
@@ -36,7 +19,7 @@ pub place_answer : (es : Tasks) (n : ℕ) (o : Option ℕ) → o ≡ position (n
 place_answer es n None e f = none_of (found es n) (sym f)
 place_answer es n (Some i) e f = standing es n i (sym e)
 
-none_lacks : (o : Option Task) → o ≡ None → is_some o ≡ true → ⊥
+none_lacks : (o : Option ImageTask) → o ≡ None → is_some o ≡ true → ⊥
 none_lacks None e h = cc
 none_lacks (Some x) e h = cc
 
@@ -46,13 +29,13 @@ parent_answer es p None h m = absurd (none_lacks (found es p) m h)
 parent_answer es p (Some i) h m = m
 
 -- a task that isn't there goes last
-pub goes_last : (es : Tasks) (n : ℕ) (t : Task) → has es n ≡ false → insert_entry nat_eq es n t ≡ es ++ (n, t) ∷ []
+pub goes_last : (es : Tasks) (n : ℕ) (t : ImageTask) → has es n ≡ false → insert_entry nat_eq es n t ≡ es ++ (n, t) ∷ []
 goes_last [] n t new = refl
-goes_last (e ∷ es) n t new = by (nat_eq n e.0) refl new (goes_last es n t)
+goes_last (e ∷ es) n t new = goes_last_by_cases (nat_eq n e.0) refl new (goes_last es n t)
   where
-    by : (b : Bool) → nat_eq n e.0 ≡ b → has (e ∷ es) n ≡ false → (has es n ≡ false → insert_entry nat_eq es n t ≡ es ++ (n, t) ∷ []) → insert_entry nat_eq (e ∷ es) n t ≡ e ∷ (es ++ (n, t) ∷ [])
-    by true is h again = absurd (let g : has (e ∷ es) n ≡ true = rw is refl in cc)
-    by false is h again = rw is (ap (λ (xs : Tasks). e ∷ xs) (again (rw is at h)))
+    goes_last_by_cases : (b : Bool) → nat_eq n e.0 ≡ b → has (e ∷ es) n ≡ false → (has es n ≡ false → insert_entry nat_eq es n t ≡ es ++ (n, t) ∷ []) → insert_entry nat_eq (e ∷ es) n t ≡ e ∷ (es ++ (n, t) ∷ [])
+    goes_last_by_cases true is h again = absurd (let g : has (e ∷ es) n ≡ true = rw is refl in cc)
+    goes_last_by_cases false is h again = rw is (ap (λ (xs : Tasks). e ∷ xs) (again (rw is at h)))
 
 -- THE TASKS OF LINKS
 
@@ -130,11 +113,11 @@ module _ (es : Tasks) (ks : List Link) (L : AreLinksOf es ks) where
   -- THE ANSWER
 
   never_above : (a t : ℕ) → (IsAncestor es a t → ⊥) → false ≡ is_above es a t
-  never_above a t stop = by (is_above es a t) refl
+  never_above a t stop = never_above_by_cases (is_above es a t) refl
     where
-      by : (b : Bool) → is_above es a t ≡ b → false ≡ b
-      by true e = absurd (stop (above es a t e))
-      by false e = refl
+      never_above_by_cases : (b : Bool) → is_above es a t ≡ b → false ≡ b
+      never_above_by_cases true e = absurd (stop (above es a t e))
+      never_above_by_cases false e = refl
 
   not_there : (t i : ℕ) → found es t ≡ None → StandsAt es i t → ⊥
   not_there t i none s = let f : None ≡ Some s.0.1 = sym none ∙ ap (found es) (sym s.2) ∙ found_at es ordered i s.0 s.1 in cc
@@ -168,15 +151,15 @@ module _ (es : Tasks) (ks : List Link) (L : AreLinksOf es ks) where
         ne (up_same ks (depth_at ks i - depth_at ks j) i r j up (subst (λ x. IsUp ks x i j) e w.1)))
 
     pub climbed : (r : ℕ) → depth_at ks j < depth_at ks i → IsUp ks (depth_at ks i - depth_at ks j) i r → (r == j) ≡ is_above es a t
-    climbed r lt up = by (r == j) refl
+    climbed r lt up = climbed_by_cases (r == j) refl
       where
-        by : (b : Bool) → (r == j) ≡ b → b ≡ is_above es a t
-        by true e = met_there r lt up (eqb-true r j e)
-        by false e = passed_by r up (λ f. let g : (r == j) ≡ true = (let h : (j == j) ≡ true = grind arith in ap (λ x. x == j) f ∙ h) in cc)
+        climbed_by_cases : (b : Bool) → (r == j) ≡ b → b ≡ is_above es a t
+        climbed_by_cases true e = met_there r lt up (eqb-true r j e)
+        climbed_by_cases false e = passed_by r up (λ f. let g : (r == j) ≡ true = (let h : (j == j) ≡ true = grind arith in ap (λ x. x == j) f ∙ h) in cc)
 
   -- ONE MORE TASK
 
-  module _ (n : ℕ) (t : Task) (m : Option ℕ) (new : has es n ≡ false) (at : IsParentAt es t.parent m) where
+  module _ (n : ℕ) (t : ImageTask) (m : Option ℕ) (new : has es n ≡ false) (at : IsParentAt es t.parent m) where
     abbrev links : List Link
     links = ks ++ new_link ks m ∷ []
 
@@ -214,7 +197,7 @@ module _ (es : Tasks) (ks : List Link) (L : AreLinksOf es ks) where
     }
 
 -- what is left of the list once a task was added at its end
-pub put_answer : (es : Tasks) (ks : List Link) → AreLinksOf es ks → (n : ℕ) (t : Task) (m : Option ℕ) → has es n ≡ false → IsParentAt es t.parent m
+pub put_answer : (es : Tasks) (ks : List Link) → AreLinksOf es ks → (n : ℕ) (t : ImageTask) (m : Option ℕ) → has es n ≡ false → IsParentAt es t.parent m
     → (es' : Tasks) (before ks' : List Link) (link : Link) → es' ≡ insert_entry nat_eq es n t → link ≡ new_link ks m → before ≡ ks → ks' ≡ before ++ link ∷ []
     → AreLinksOf es' ks' × (es' ≡ with_new es n t)
 put_answer es ks L n t m new at es' before ks' link is_entries is_link is_before is_links =

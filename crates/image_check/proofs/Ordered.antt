@@ -1,18 +1,5 @@
 -- After lines without a fault each task stands once, after its parent.
-use Rattle.std.proofs.Common.{◌≡◌, ◌∙◌, ℕ, Bool, true, false, cond, List, [], ◌∷◌, refl, ap, sym}
-use Rattle.std.specs.Prelude.{Option, Some, None}
-use Rattle.std.proofs.lemmas.Bool.{not-false}
-use Rattle.image_check.specs.declared.line.Task.{Task}
-use Rattle.image_check.specs.declared.line.Said.{Said}
-use Rattle.image_check.specs.declared.line.Said.TheVariants.{Nothing, Wrong, Title, OfTask, OfChunk, OfObject, OfRemembered, OfEnd}
-use Rattle.image_check.specs.declared.read.Read.{Read}
-use Rattle.image_check.specs.declared.whole.Whole.{Whole}
-use Rattle.image_check.specs.declared.cause.Cause.TheVariants.{NoTask}
-use Rattle.image_check.specs.Line.{said_by}
-use Rattle.image_check.specs.Table.{has}
-use Rattle.image_check.specs.Read.{nothing_read, after_line}
-use Rattle.image_check.specs.Fault.{lacks_parent, cause_on, after_lines}
-use Rattle.image_check.specs.Sound.{AreClear, TasksAreRelated}
+use Rattle.image_check.proofs.Common.{◌≡◌, ◌∙◌, ℕ, Bool, true, false, cond, List, [], ◌∷◌, refl, ap, sym, Option, Some, None, not-false, ImageTask, ImageLine, Nothing, Wrong, Title, OfTask, OfChunk, OfObject, OfRemembered, OfEnd, Read, Whole, NoTask, said_by, has, nothing_read, after_line, lacks_parent, cause_on, after_lines, AreClear, TasksAreRelated}
 use Rattle.image_check.proofs.Paths.{AreOrdered, task_more, ordered_more, related}
 use Rattle.image_check.proofs.Steps.{formed, cond_none}
 
@@ -23,11 +10,11 @@ parent_there : (r : Read) (m : Option ℕ) (q : ℕ) → lacks_parent r m ≡ fa
 parent_there r None q e h = absurd cc
 parent_there r (Some p) q e h = let s : p ≡ q = cc in ap (has r.tasks) (sym s) ∙ not-false (has r.tasks p) e
 
-task_by : (r : Read) (t : Task) → AreOrdered r.tasks → lacks_parent r t.parent ≡ false → (b : Bool) → has r.tasks t.number ≡ b → AreOrdered (cond b r.tasks (task_more r.tasks t.number t))
+task_by : (r : Read) (t : ImageTask) → AreOrdered r.tasks → lacks_parent r t.parent ≡ false → (b : Bool) → has r.tasks t.number ≡ b → AreOrdered (cond b r.tasks (task_more r.tasks t.number t))
 task_by r t o e true h = o
 task_by r t o e false h = ordered_more r.tasks t.number t o h (λ q g. parent_there r t.parent q e g)
 
-line_ordered : (w : Whole) (r : Read) (s : Said) → AreOrdered r.tasks → cause_on w r false s ≡ None → AreOrdered (after_line r s).tasks
+line_ordered : (w : Whole) (r : Read) (s : ImageLine) → AreOrdered r.tasks → cause_on w r false s ≡ None → AreOrdered (after_line r s).tasks
 line_ordered w r Nothing o e = o
 line_ordered w r Wrong o e = o
 line_ordered w r Title o e = o

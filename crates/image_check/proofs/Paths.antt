@@ -1,19 +1,10 @@
 -- Ancestors among tasks that each stand after their parents.
-use Rattle.std.proofs.Common.{◌≡◌, ◌<◌, ◌≤◌, ◌+◌, ℕ, zero, suc, Bool, true, false, cond, [], ◌∷◌, ◌++◌, length, refl, ap, sym, ◌∙◌, arith, inl, inr, ◌⊎◌, subst, length-append}
-use Rattle.std.specs.Prelude.{Option, Some, None, ◌==◌, slice_get, nat_eq, is_some}
-use Rattle.std.proofs.lemmas.Bool.{eqb-true, or_cases, or_left, or_right}
-use Rattle.std.proofs.lemmas.Option.{same_Some}
-use Rattle.listed.proofs.Members.{got_front, got_back, got_within}
-use Rattle.listed.proofs.Numbers.{below_next}
-use Rattle.image_check.specs.declared.line.Task.{Task}
-use Rattle.image_check.specs.declared.tasks.Relation.TheVariants.{Own, Above, Below, Apart}
-use Rattle.image_check.specs.Table.{found, has}
-use Rattle.image_check.specs.Tasks.{Tasks, parent_in, parent_of, there_or_on, meets, is_above, LinksLead, IsAncestor, IsRelated}
-use Rattle.image_check.specs.Links.{StandsAt}
+use Rattle.image_check.proofs.Common.{◌≡◌, ◌<◌, ◌≤◌, ◌+◌, ℕ, zero, suc, Bool, true, false, cond, [], ◌∷◌, ◌++◌, length, refl, ap, sym, ◌∙◌, arith, inl, inr, ◌⊎◌, subst, length-append, Option, Some, None, ◌==◌, slice_get, nat_eq, is_some, eqb-true, or_cases, or_left, or_right, same_Some, got_front, got_back, got_within, below_next, ImageTask, Own, Above, Below, Apart, found, has, Tasks, parent_of, there_or_on, meets, is_above, LinksLead, IsAncestor, IsRelated, StandsAt}
+use Rattle.image_check.specs.Tasks.{parent_in}
 use Rattle.image_check.proofs.Entries.{itself}
 
 abbrev pub Entry : Type 0
-Entry = ℕ × Task
+Entry = ℕ × ImageTask
 
 -- no number occurs twice
 abbrev pub AreApart : Tasks → Type 0
@@ -26,39 +17,39 @@ pub record AreOrdered (es : Tasks) : Type 0 where
 
 -- LOOKING UP
 
-pub record IsPlaced (es : Tasks) (t : ℕ) (x : Task) : Type 0 where
+pub record IsPlaced (es : Tasks) (t : ℕ) (x : ImageTask) : Type 0 where
   pub place : ℕ
   pub entry : Entry
   pub got : slice_get es place ≡ Some entry
   pub number : entry.0 ≡ t
   pub task : entry.1 ≡ x
 
-pub placed : (es : Tasks) (t : ℕ) (x : Task) → found es t ≡ Some x → IsPlaced es t x
+pub placed : (es : Tasks) (t : ℕ) (x : ImageTask) → found es t ≡ Some x → IsPlaced es t x
 placed [] t x h = absurd cc
-placed (e ∷ es) t x h = by (nat_eq t e.0) refl h (placed es t x)
+placed (e ∷ es) t x h = placed_by_cases (nat_eq t e.0) refl h (placed es t x)
   where
-    by : (b : Bool) → nat_eq t e.0 ≡ b → (if_found : found (e ∷ es) t ≡ Some x) → (found es t ≡ Some x → IsPlaced es t x) → IsPlaced (e ∷ es) t x
-    by true is g again = record { place = 0; entry = e; got = refl; number = sym (eqb-true t e.0 is); task = same_Some e.1 x (rw is at g) }
-    by false is g again = let p = again (rw is at g) in record { place = suc p.place; entry = p.entry; got = p.got; number = p.number; task = p.task }
+    placed_by_cases : (b : Bool) → nat_eq t e.0 ≡ b → (if_found : found (e ∷ es) t ≡ Some x) → (found es t ≡ Some x → IsPlaced es t x) → IsPlaced (e ∷ es) t x
+    placed_by_cases true is g again = record { place = 0; entry = e; got = refl; number = sym (eqb-true t e.0 is); task = same_Some e.1 x (rw is at g) }
+    placed_by_cases false is g again = let p = again (rw is at g) in record { place = suc p.place; entry = p.entry; got = p.got; number = p.number; task = p.task }
 
-pub there : (es : Tasks) (i : ℕ) (e : Entry) → slice_get es i ≡ Some e → (x : Task) × (found es e.0 ≡ Some x)
-there [] i e h = absurd cc
-there (f ∷ es) zero e h = let s : f ≡ e = same_Some f e h in by (nat_eq e.0 f.0) refl
+pub task_is_found : (es : Tasks) (i : ℕ) (e : Entry) → slice_get es i ≡ Some e → (x : ImageTask) × (found es e.0 ≡ Some x)
+task_is_found [] i e h = absurd cc
+task_is_found (f ∷ es) zero e h = let s : f ≡ e = same_Some f e h in task_is_found_by_cases (nat_eq e.0 f.0) refl
   where
-    by : (b : Bool) → nat_eq e.0 f.0 ≡ b → (x : Task) × (found (f ∷ es) e.0 ≡ Some x)
-    by true is = (f.1, rw is refl)
-    by false is = absurd (let s : f ≡ e = same_Some f e h in let g : nat_eq e.0 f.0 ≡ true = rw s (itself e.0) in cc)
-there (f ∷ es) (suc i) e h = by (nat_eq e.0 f.0) refl (there es i e h)
+    task_is_found_by_cases : (b : Bool) → nat_eq e.0 f.0 ≡ b → (x : ImageTask) × (found (f ∷ es) e.0 ≡ Some x)
+    task_is_found_by_cases true is = (f.1, rw is refl)
+    task_is_found_by_cases false is = absurd (let s : f ≡ e = same_Some f e h in let g : nat_eq e.0 f.0 ≡ true = rw s (itself e.0) in cc)
+task_is_found (f ∷ es) (suc i) e h = task_is_found_by_cases (nat_eq e.0 f.0) refl (task_is_found es i e h)
   where
-    by : (b : Bool) → nat_eq e.0 f.0 ≡ b → ((x : Task) × (found es e.0 ≡ Some x)) → (x : Task) × (found (f ∷ es) e.0 ≡ Some x)
-    by true is r = (f.1, rw is refl)
-    by false is r = (r.0, rw is r.1)
+    task_is_found_by_cases : (b : Bool) → nat_eq e.0 f.0 ≡ b → ((x : ImageTask) × (found es e.0 ≡ Some x)) → (x : ImageTask) × (found (f ∷ es) e.0 ≡ Some x)
+    task_is_found_by_cases true is r = (f.1, rw is refl)
+    task_is_found_by_cases false is r = (r.0, rw is r.1)
 
 module _ (es : Tasks) (o : AreOrdered es) where
   -- the task at a place is the one that a lookup finds
   pub found_at : (i : ℕ) (e : Entry) → slice_get es i ≡ Some e → found es e.0 ≡ Some e.1
   found_at i e h =
-      let x = there es i e h in
+      let x = task_is_found es i e h in
       let p = placed es e.0 x.0 x.1 in
       let same : p.place ≡ i = o.apart p.place i p.entry e p.got h p.number in
       let entry : p.entry ≡ e = same_Some p.entry e (sym p.got ∙ ap (slice_get es) same ∙ h) in
@@ -75,7 +66,7 @@ module _ (es : Tasks) (o : AreOrdered es) where
       let r = lead_up n h.0 a p.0 p.2 h.2 in
       (r.0, (let l : p.0 < i = p.1 in let m : suc n + r.0 ≤ p.0 = r.1 in omega (arith, l, m)), r.2)
 
-  child_stands : (t a : ℕ) (m : Option Task) → found es t ≡ m → parent_in m ≡ Some a → (i : ℕ) × StandsAt es i t
+  child_stands : (t a : ℕ) (m : Option ImageTask) → found es t ≡ m → parent_in m ≡ Some a → (i : ℕ) × StandsAt es i t
   child_stands t a None e h = absurd cc
   child_stands t a (Some x) e h = let p = placed es t x e in (p.place, (p.entry, p.got, p.number))
 
@@ -112,7 +103,7 @@ module _ (es : Tasks) (o : AreOrdered es) where
 
 -- ONE MORE TASK
 
-module _ (es : Tasks) (n : ℕ) (t : Task) where
+module _ (es : Tasks) (n : ℕ) (t : ImageTask) where
   abbrev pub task_more : Tasks
   task_more = es ++ (n, t) ∷ []
 
@@ -135,7 +126,7 @@ module _ (es : Tasks) (n : ℕ) (t : Task) where
   where_is i e got = where_by i e got (let w : i < length task_more = got_within task_more i e got in let s : length task_more ≡ length es + 1 = length-append es ((n, t) ∷ []) in below_next i (length es) (omega (arith, w, s)))
 
   not_new : has es n ≡ false → (i : ℕ) (e : Entry) → slice_get es i ≡ Some e → e.0 ≡ n → ⊥
-  not_new new i e got same = let x = there es i e got in let f : has es n ≡ true = ap (has es) (sym same) ∙ ap is_some x.1 in cc
+  not_new new i e got same = let x = task_is_found es i e got in let f : has es n ≡ true = ap (has es) (sym same) ∙ ap is_some x.1 in cc
 
   apart_by : AreApart es → has es n ≡ false → (i j : ℕ) (e f : Entry) → Where i e → Where j f → e.0 ≡ f.0 → i ≡ j
   apart_by apart new i j e f (front lt g) (front mt h) same = apart i j e f g h same
@@ -151,11 +142,11 @@ module _ (es : Tasks) (n : ℕ) (t : Task) where
 
   behind_by : AreOrdered es → (i : ℕ) (e : Entry) (p : ℕ) → Where i e → e.1.parent ≡ Some p → ((q : ℕ) → t.parent ≡ Some q → has es q ≡ true) → (j : ℕ) × (j < i) × StandsAt task_more j p
   behind_by o i e p (front lt g) h parent = let r = o.behind i e p g h in (r.0, r.1, still_stands r.0 p r.2)
-  behind_by o i e p (last at_end g) h parent = by (found es p) refl
+  behind_by o i e p (last at_end g) h parent = behind_by_cases (found es p) refl
     where
-      by : (m : Option Task) → found es p ≡ m → (j : ℕ) × (j < i) × StandsAt task_more j p
-      by None none = absurd (let f = parent p (ap (λ (x : Entry). x.1.parent) g ∙ h) in let q : has es p ≡ false = ap is_some none in cc)
-      by (Some x) some =
+      behind_by_cases : (m : Option ImageTask) → found es p ≡ m → (j : ℕ) × (j < i) × StandsAt task_more j p
+      behind_by_cases None none = absurd (let f = parent p (ap (λ (x : Entry). x.1.parent) g ∙ h) in let q : has es p ≡ false = ap is_some none in cc)
+      behind_by_cases (Some x) some =
           let r = placed es p x some in
           let w : r.place < length es = got_within es r.place r.entry r.got in
           (r.place, omega (arith, w, at_end), still_stands r.place p (r.entry, r.got, r.number))
@@ -167,11 +158,11 @@ module _ (es : Tasks) (n : ℕ) (t : Task) where
 
 one_more : (n : ℕ) (tasks : Tasks) (a t : ℕ) (m : Option ℕ) → parent_of tasks t ≡ m → ((p : ℕ) → meets n tasks a p ≡ true → IsAncestor tasks a p) → there_or_on a (meets n tasks a) m ≡ true → IsAncestor tasks a t
 one_more n tasks a t None e again h = absurd (cc)
-one_more n tasks a t (Some p) e again h = by (or_cases (p == a) (meets n tasks a p) h)
+one_more n tasks a t (Some p) e again h = one_more_by_cases (or_cases (p == a) (meets n tasks a p) h)
   where
-    by : (((p == a) ≡ true) ⊎ (meets n tasks a p ≡ true)) → IsAncestor tasks a t
-    by (inl g) = (0, e ∙ ap Some (eqb-true p a g))
-    by (inr g) = let up = again p g in (suc up.0, (p, e, up.1))
+    one_more_by_cases : (((p == a) ≡ true) ⊎ (meets n tasks a p ≡ true)) → IsAncestor tasks a t
+    one_more_by_cases (inl g) = (0, e ∙ ap Some (eqb-true p a g))
+    one_more_by_cases (inr g) = let up = again p g in (suc up.0, (p, e, up.1))
 
 met_above : (n : ℕ) (tasks : Tasks) (a t : ℕ) → meets n tasks a t ≡ true → IsAncestor tasks a t
 met_above zero tasks a t h = absurd (cc)

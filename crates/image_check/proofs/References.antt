@@ -1,15 +1,7 @@
 -- The references of an object, one after the other.
-use Rattle.std.proofs.Common.{◌≡◌, ℕ, Bool, false, List, [], sym}
-use Rattle.std.specs.Prelude.{Option, Some, None, ◌||◌, if◌then◌else◌}
-use Rattle.std.specs.List.{list_any}
-use Rattle.std.proofs.Math.Bool.{or-false}
-use Rattle.image_check.specs.declared.read.Read.{Read}
-use Rattle.image_check.specs.declared.whole.Whole.{Whole}
-use Rattle.image_check.specs.declared.cause.Cause.{Cause}
-use Rattle.image_check.specs.declared.cause.Cause.TheVariants.{Ref, Cross, Down}
-use Rattle.image_check.specs.Fault.{is_astray, crosses, forgets}
+use Rattle.image_check.proofs.Common.{◌≡◌, ℕ, Bool, false, List, [], sym, Option, Some, None, ◌||◌, if◌then◌else◌, list_any, or-false, Read, Whole, ImageCause, Ref, Cross, Down, is_astray, crosses, forgets}
 
-abbrev pub by_tests : Bool → Bool → Bool → Option Cause
+abbrev pub by_tests : Bool → Bool → Bool → Option ImageCause
 by_tests astray crossing forgotten =
     if astray then Some Ref
     else if crossing then Some Cross
@@ -17,7 +9,7 @@ by_tests astray crossing forgotten =
     else None
 
 -- the first cause, given whether earlier references crossed or were forgotten, and the references left
-abbrev pub cause_from : Whole → Read → ℕ → ℕ → ℕ → Bool → Bool → List ℕ → Option Cause
+abbrev pub cause_from : Whole → Read → ℕ → ℕ → ℕ → Bool → Bool → List ℕ → Option ImageCause
 cause_from w r t a k crossing forgotten vs = by_tests (list_any (is_astray w r) vs) (crossing || list_any (crosses r t) vs) (forgotten || forgets w r t a k vs)
 
 module _ (w : Whole) (r : Read) (t a k : ℕ) (c f : Bool) where

@@ -1,36 +1,18 @@
 -- A text without a fault is sound.
-use Rattle.std.proofs.Common.{◌≡◌, ◌+◌, ℕ, zero, suc, Bool, true, false, cond, List, [], ◌∷◌, refl, ap, sym, ◌∙◌, arith, inl, inr, ◌⊎◌, subst}
-use Rattle.std.specs.Prelude.{Option, Some, None, ◌==◌, ◌&&◌, ◌||◌, not}
-use Rattle.std.specs.List.{list_any}
-use Rattle.std.proofs.lemmas.Bool.{eqb-true, not-false, or_cases, or_parts, both_ways}
-use Rattle.text_lines.specs.Lines.{is_last, lines_of}
-use Rattle.image_check.specs.declared.line.Birth.{Birth}
-use Rattle.image_check.specs.declared.line.Object.{Object}
-use Rattle.image_check.specs.declared.line.Said.{Said}
-use Rattle.image_check.specs.declared.line.Said.TheVariants.{Nothing, Wrong, Title, OfTask, OfChunk, OfObject, OfRemembered, OfEnd}
-use Rattle.image_check.specs.declared.read.Read.{Read}
-use Rattle.image_check.specs.declared.whole.Whole.{Whole}
-use Rattle.image_check.specs.Line.{said_by}
-use Rattle.image_check.specs.Sets.{is_among, same_birth, same_field}
-use Rattle.image_check.specs.Table.{has}
-use Rattle.image_check.specs.Read.{nothing_read, nothing_had, after_line, with_lines, whole_of}
-use Rattle.image_check.specs.declared.tasks.Relation.TheVariants.{Own, Above, Below, Apart}
-use Rattle.image_check.specs.Tasks.{Tasks, Chunks, is_above, owner_in, owner_at}
-use Rattle.image_check.specs.Fault.{cause_on, fault_from, lines_fault, is_astray, relation_to, is_apart, is_below, crosses, forgets, is_forgotten, owner_runs}
-use Rattle.image_check.specs.Sound.{LineSays, ReferenceIs, IsObjectAt, IsRemembered, IsInRunning, LeadsSomewhere, KeepsToPath, IsSoundObject, all_read, HasSoundObjects, HasDistinctBirths, FaultlessIsSound}
+use Rattle.image_check.proofs.Common.{◌≡◌, ◌+◌, ℕ, zero, suc, Bool, true, false, cond, List, [], ◌∷◌, refl, ap, sym, ◌∙◌, arith, inl, inr, ◌⊎◌, subst, Option, Some, None, ◌==◌, ◌&&◌, ◌||◌, not, list_any, eqb-true, not-false, or_cases, or_parts, both_ways, is_last, lines_of, ImageBirth, ImageObject, ImageLine, Nothing, Wrong, Title, OfTask, OfChunk, OfObject, OfRemembered, OfEnd, Read, Whole, said_by, is_among, same_birth, same_field, has, nothing_read, nothing_had, after_line, with_lines, whole_of, Own, Above, Below, Apart, Tasks, Chunks, is_above, owner_in, owner_at, cause_on, fault_from, lines_fault, is_astray, relation_to, is_apart, is_below, crosses, forgets, is_forgotten, owner_runs, LineSays, ReferenceIs, IsObjectAt, IsRemembered, IsInRunning, LeadsSomewhere, KeepsToPath, IsSoundObject, all_read, HasSoundObjects, HasDistinctBirths, FaultlessIsSound}
 use Rattle.image_check.proofs.Paths.{above}
 use Rattle.image_check.proofs.Steps.{clear, faultless, IsWell, well, met}
 use Rattle.image_check.proofs.Members.{item_kept, item_added, field_from, object_from}
 
 -- BIRTHS
 
-abbrev named : Birth → ℕ × ℕ
+abbrev named : ImageBirth → ℕ × ℕ
 named b = (b.task, b.count)
 
 same_self : (b : ℕ × ℕ) → same_birth b b ≡ true
 same_self b = let x : ℕ = b.0 in let y : ℕ = b.1 in let e : (x == x) ≡ true = grind arith in let f : (y == y) ≡ true = grind arith in rw (e, f) refl
 
-still_born : (r : Read) (s : Said) (b : ℕ × ℕ) → is_among same_birth r.births b ≡ true → is_among same_birth (after_line r s).births b ≡ true
+still_born : (r : Read) (s : ImageLine) (b : ℕ × ℕ) → is_among same_birth r.births b ≡ true → is_among same_birth (after_line r s).births b ≡ true
 still_born r Nothing b e = e
 still_born r Wrong b e = e
 still_born r Title b e = e
@@ -40,17 +22,17 @@ still_born r (OfObject o) b e = item_kept same_birth r.births (named o.birth) b 
 still_born r (OfRemembered f) b e = e
 still_born r (OfEnd n) b e = e
 
-born_again : (w : Whole) (r : Read) (last : Bool) (s : Said) (p : Object) (b : ℕ × ℕ) → is_among same_birth r.births b ≡ true → cause_on w r last s ≡ None → s ≡ OfObject p → named p.birth ≡ b → ⊥
+born_again : (w : Whole) (r : Read) (last : Bool) (s : ImageLine) (p : ImageObject) (b : ℕ × ℕ) → is_among same_birth r.births b ≡ true → cause_on w r last s ≡ None → s ≡ OfObject p → named p.birth ≡ b → ⊥
 born_again w r last s p b among c says e =
     both_ways (is_among same_birth r.births b)
     (ap (λ x. is_among same_birth r.births x) (sym e) ∙ (well w r last p (ap (λ x. cause_on w r last x) (sym says) ∙ c)).fresh) among
 
-born_once : (w : Whole) (r : Read) (n : ℕ) (ls : List (List ℕ)) (b : ℕ × ℕ) → is_among same_birth r.births b ≡ true → fault_from w r n ls ≡ None → (j : ℕ) (p : Object) → LineSays ls j (OfObject p) → named p.birth ≡ b → ⊥
+born_once : (w : Whole) (r : Read) (n : ℕ) (ls : List (List ℕ)) (b : ℕ × ℕ) → is_among same_birth r.births b ≡ true → fault_from w r n ls ≡ None → (j : ℕ) (p : ImageObject) → LineSays ls j (OfObject p) → named p.birth ≡ b → ⊥
 born_once w r n [] b among none j p says e = says
 born_once w r n (l ∷ ls) b among none zero p says e = born_again w r (is_last ls) (said_by l) p b among (clear w r n l ls none).0 says e
 born_once w r n (l ∷ ls) b among none (suc j) p says e = born_once w (after_line r (said_by l)) (n + 1) ls b (still_born r (said_by l) b among) (clear w r n l ls none).1 j p says e
 
-now_born : (r : Read) (s : Said) (o : Object) → s ≡ OfObject o → is_among same_birth (after_line r s).births (named o.birth) ≡ true
+now_born : (r : Read) (s : ImageLine) (o : ImageObject) → s ≡ OfObject o → is_among same_birth (after_line r s).births (named o.birth) ≡ true
 now_born r s o e = ap (λ x. is_among same_birth (after_line r x).births (named o.birth)) e ∙ item_added same_birth r.births (named o.birth) (same_self (named o.birth))
 
 distinct : (w : Whole) (r : Read) (n : ℕ) (ls : List (List ℕ)) → fault_from w r n ls ≡ None → HasDistinctBirths ls
@@ -96,11 +78,11 @@ module _ (ls : List (List ℕ)) (r : Read) where
 
   leads_by : (v : ℕ) → (((v == 0) ≡ true) ⊎ ((has w.objects v || owner_runs r (owner_at r.chunks v)) ≡ true)) → LeadsSomewhere ls r v
   leads_by v (inl e) = inl (eqb-true v 0 e)
-  leads_by v (inr e) = by (or_cases (has w.objects v) (owner_runs r (owner_at r.chunks v)) e)
+  leads_by v (inr e) = leads_by_cases (or_cases (has w.objects v) (owner_runs r (owner_at r.chunks v)) e)
     where
-      by : ((has w.objects v ≡ true) ⊎ (owner_runs r (owner_at r.chunks v) ≡ true)) → LeadsSomewhere ls r v
-      by (inl h) = inr (inl (at_object v (object_from nothing_had ls v h)))
-      by (inr h) = inr (inr (runs_at r v (owner_at r.chunks v) refl h))
+      leads_by_cases : ((has w.objects v ≡ true) ⊎ (owner_runs r (owner_at r.chunks v) ≡ true)) → LeadsSomewhere ls r v
+      leads_by_cases (inl h) = inr (inl (at_object v (object_from nothing_had ls v h)))
+      leads_by_cases (inr h) = inr (inr (runs_at r v (owner_at r.chunks v) refl h))
 
   pub leads_on : (v : ℕ) → is_astray w r v ≡ false → LeadsSomewhere ls r v
   leads_on v e = leads_by v (or_cases (v == 0) (has w.objects v || owner_runs r (owner_at r.chunks v)) (not-false ((v == 0) || (has w.objects v || owner_runs r (owner_at r.chunks v))) e))
@@ -124,7 +106,7 @@ module _ (ls : List (List ℕ)) (r : Read) where
       let g : is_forgotten w r t a k (Some u) ≡ false = ap (λ m. is_forgotten w r t a k m) (sym e) ∙ f in
       keeps_by a k t u (u == t) (is_above r.tasks u t) (is_above r.tasks t u) refl refl refl d g
 
-  pub sound_before : (o : Object) → IsWell w r o → IsSoundObject ls r o
+  pub sound_before : (o : ImageObject) → IsWell w r o → IsSoundObject ls r o
   sound_before o h = record {
     owner = h.chunk.owner;
     owned = ap owner_in h.lies;
@@ -136,7 +118,7 @@ module _ (ls : List (List ℕ)) (r : Read) where
 abbrev with_tables : Tasks → Chunks → Read
 with_tables tasks chunks = record nothing_read { tasks = tasks; chunks = chunks }
 
-same_tables : (ls : List (List ℕ)) (o : Object) (r s : Read) → s.tasks ≡ r.tasks → s.chunks ≡ r.chunks → IsSoundObject ls r o → IsSoundObject ls s o
+same_tables : (ls : List (List ℕ)) (o : ImageObject) (r s : Read) → s.tasks ≡ r.tasks → s.chunks ≡ r.chunks → IsSoundObject ls r o → IsSoundObject ls s o
 same_tables ls o r s e f h = in_s
   where
     in_r : IsSoundObject ls (with_tables r.tasks r.chunks) o

@@ -1,10 +1,10 @@
-pub mod Cause
+pub mod ImageCause
 pub mod Sets
-pub mod Table
+pub mod ImageTable
 pub mod Line
 pub mod Place
 pub mod Read
 pub mod Tasks
 pub mod Links
-pub mod Fault
+pub mod ImageFault
 pub mod Sound

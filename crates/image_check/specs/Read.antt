@@ -1,25 +1,25 @@
 -- What the lines of an image have said so far, and what the whole text says.
 use Rattle.std.specs.Prelude.{ℕ, ◌+◌, ◌==◌, ◌&&◌, ◌||◌, ◌≤◌, Bool, Option, Some, None, List, [], ◌∷◌, length, nat_lt, if◌then◌else◌}
 use Rattle.text_lines.specs.Lines.{lines_of}
-use Rattle.image_check.specs.declared.line.Object.{Object}
-use Rattle.image_check.specs.declared.line.Said.{Said}
-use Rattle.image_check.specs.declared.line.Said.TheVariants.{Nothing, Wrong, Title, OfTask, OfChunk, OfObject, OfRemembered, OfEnd}
-use Rattle.image_check.specs.declared.read.Position.{Position}
-use Rattle.image_check.specs.declared.read.Extent.{Extent}
+use Rattle.image_check.specs.declared.line.ImageObject.{ImageObject}
+use Rattle.image_check.specs.declared.line.ImageLine.{ImageLine}
+use Rattle.image_check.specs.declared.line.ImageLine.TheVariants.{Nothing, Wrong, Title, OfTask, OfChunk, OfObject, OfRemembered, OfEnd}
+use Rattle.image_check.specs.declared.read.ImagePosition.{ImagePosition}
+use Rattle.image_check.specs.declared.read.ImageExtent.{ImageExtent}
 use Rattle.image_check.specs.declared.read.Read.{Read}
 use Rattle.image_check.specs.declared.whole.Whole.{Whole}
 use Rattle.image_check.specs.Place.{chunk_number, offset}
 use Rattle.image_check.specs.Line.{said_by, most_fields}
-use Rattle.image_check.specs.Table.{found, with_entry, with_new}
+use Rattle.image_check.specs.ImageTable.{found, with_entry, with_new}
 use Rattle.image_check.specs.Sets.{with_item, same_birth, same_field}
 
 -- ORDER
 
 -- the position of a line: its kind, then its numbers
-abbrev pub position : ℕ → ℕ → ℕ → ℕ → Position
+abbrev pub position : ℕ → ℕ → ℕ → ℕ → ImagePosition
 position kind first second third = record { kind = kind; first = first; second = second; third = third }
 
-abbrev pub position_of : Said → Option Position
+abbrev pub position_of : ImageLine → Option ImagePosition
 position_of Nothing = None
 position_of Wrong = None
 position_of Title = Some (position 0 0 0 0)
@@ -33,21 +33,21 @@ abbrev pub or_next : ℕ → ℕ → Bool → Bool
 or_next x y next = nat_lt x y || ((x == y) && next)
 
 -- one position comes before another
-abbrev pub rises : Position → Position → Bool
+abbrev pub rises : ImagePosition → ImagePosition → Bool
 rises p q = or_next p.kind q.kind (or_next p.first q.first (or_next p.second q.second (nat_lt p.third q.third)))
 
 -- the title comes first, and each line after the previous one
-abbrev pub comes_next : Option Position → Position → Bool
+abbrev pub comes_next : Option ImagePosition → ImagePosition → Bool
 comes_next None q = q.kind == 0
 comes_next (Some p) q = rises p q
 
 -- PLACES IN CHUNKS
 
 -- where an object ends in its chunk, after a header, a birth, references and numbers
-abbrev pub end_of : Object → ℕ
+abbrev pub end_of : ImageObject → ℕ
 end_of o = offset o.address + 2 + length o.references + o.numbers
 
-abbrev pub extent_of : Object → Extent
+abbrev pub extent_of : ImageObject → ImageExtent
 extent_of o = record { chunk = chunk_number o.address; past = end_of o }
 
 -- WHAT WAS READ
@@ -55,12 +55,12 @@ extent_of o = record { chunk = chunk_number o.address; past = end_of o }
 abbrev pub nothing_read : Read
 nothing_read = record { last = None; tasks = []; chunks = []; objects = []; births = []; latest = None }
 
-abbrev pub last_after : Option Position → Option Position → Option Position
+abbrev pub last_after : Option ImagePosition → Option ImagePosition → Option ImagePosition
 last_after last None = last
 last_after last (Some p) = Some p
 
 -- what a line adds: tasks and chunks by number, and by address the number of references of an object
-abbrev pub after_line : Read → Said → Read
+abbrev pub after_line : Read → ImageLine → Read
 after_line r Nothing = r
 after_line r Wrong = r
 after_line r Title = record r { last = position_of Title }
@@ -87,7 +87,7 @@ most (Some m) n = if nat_lt m n then n else m
 
 -- the number of references of each object by its address (the most, if an address occurs again), and the remembered
 -- fields, wherever they stand
-abbrev pub with_line : Whole → Said → Whole
+abbrev pub with_line : Whole → ImageLine → Whole
 with_line w (OfObject o) = record w { objects = with_entry w.objects o.address (most (found w.objects o.address) (length o.references)) }
 with_line w (OfRemembered f) = record w { fields = with_item same_field w.fields (f.task, f.address, f.place) }
 with_line w _ = w
@@ -100,6 +100,6 @@ abbrev pub whole_of : List ℕ → Whole
 whole_of text = with_lines nothing_had (lines_of text)
 
 -- an object has at most a million fields
-abbrev pub IsSized : Said → Type 0
+abbrev pub IsSized : ImageLine → Type 0
 IsSized (OfObject o) = length o.references + o.numbers ≤ most_fields
 IsSized _ = Unit {0}

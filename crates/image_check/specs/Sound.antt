@@ -1,18 +1,18 @@
 -- What holds of a text without a fault.
 use Rattle.std.specs.Prelude.{◌≡◌, ◌<◌, ◌⊎◌, ℕ, zero, suc, true, false, Some, None, List, [], ◌∷◌}
 use Rattle.text_lines.specs.Lines.{lines_of}
-use Rattle.image_check.specs.declared.line.Object.{Object}
-use Rattle.image_check.specs.declared.line.Said.{Said}
-use Rattle.image_check.specs.declared.line.Said.TheVariants.{OfObject, OfRemembered}
+use Rattle.image_check.specs.declared.line.ImageObject.{ImageObject}
+use Rattle.image_check.specs.declared.line.ImageLine.{ImageLine}
+use Rattle.image_check.specs.declared.line.ImageLine.TheVariants.{OfObject, OfRemembered}
 use Rattle.image_check.specs.declared.read.Read.{Read}
 use Rattle.image_check.specs.Line.{said_by}
 use Rattle.image_check.specs.declared.whole.Whole.{Whole}
 use Rattle.image_check.specs.Read.{nothing_read, after_line}
 use Rattle.image_check.specs.Tasks.{IsAncestor, IsRelated, is_running, owner_at}
-use Rattle.image_check.specs.Fault.{cause_on, image_fault, after_lines, objects_in, object_count}
+use Rattle.image_check.specs.ImageFault.{cause_on, image_fault, after_lines, objects_in, object_count}
 
 -- the line at this place says this
-abbrev pub LineSays : List (List ℕ) → ℕ → Said → Type 0
+abbrev pub LineSays : List (List ℕ) → ℕ → ImageLine → Type 0
 LineSays [] i s = ⊥
 LineSays (l ∷ ls) zero s = said_by l ≡ s
 LineSays (l ∷ ls) (suc i) s = LineSays ls i s
@@ -25,7 +25,7 @@ ReferenceIs (x ∷ xs) (suc k) v = ReferenceIs xs k v
 
 -- some line says an object with this address
 abbrev pub IsObjectAt : List (List ℕ) → ℕ → Type 0
-IsObjectAt lines a = (i : ℕ) × (o : Object) × LineSays lines i (OfObject o) × (o.address ≡ a)
+IsObjectAt lines a = (i : ℕ) × (o : ImageObject) × LineSays lines i (OfObject o) × (o.address ≡ a)
 
 -- some line says that task u remembers field k of the object at a
 abbrev pub IsRemembered : List (List ℕ) → ℕ → ℕ → ℕ → Type 0
@@ -44,7 +44,7 @@ abbrev pub KeepsToPath : List (List ℕ) → Read → ℕ → ℕ → ℕ → �
 KeepsToPath lines r a k t u = (u ≡ t) ⊎ (IsAncestor r.tasks u t ⊎ (IsAncestor r.tasks t u × IsRemembered lines u a k))
 
 -- each object is in a heap, and each of its references is allowed
-pub record IsSoundObject (lines : List (List ℕ)) (r : Read) (o : Object) : Type 0 where
+pub record IsSoundObject (lines : List (List ℕ)) (r : Read) (o : ImageObject) : Type 0 where
   pub owner : ℕ
   pub owned : owner_at r.chunks o.address ≡ Some owner
   pub leads : (k v : ℕ) → ReferenceIs o.references k v → LeadsSomewhere lines r v
@@ -55,11 +55,11 @@ abbrev pub all_read : List (List ℕ) → Read
 all_read lines = after_lines nothing_read lines
 
 abbrev pub HasSoundObjects : List (List ℕ) → Type 0
-HasSoundObjects lines = (i : ℕ) (o : Object) → LineSays lines i (OfObject o) → IsSoundObject lines (all_read lines) o
+HasSoundObjects lines = (i : ℕ) (o : ImageObject) → LineSays lines i (OfObject o) → IsSoundObject lines (all_read lines) o
 
 -- no two objects have the same birth
 abbrev pub HasDistinctBirths : List (List ℕ) → Type 0
-HasDistinctBirths lines = (i j : ℕ) (o p : Object) → i < j → LineSays lines i (OfObject o) → LineSays lines j (OfObject p) → o.birth ≡ p.birth → ⊥
+HasDistinctBirths lines = (i j : ℕ) (o p : ImageObject) → i < j → LineSays lines i (OfObject o) → LineSays lines j (OfObject p) → o.birth ≡ p.birth → ⊥
 
 -- a text without a fault is sound
 abbrev pub FaultlessIsSound : Type 0

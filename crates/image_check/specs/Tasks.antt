@@ -1,23 +1,23 @@
 -- Tasks, and the chunks that they own, in what was read.
 use Rattle.std.specs.Prelude.{◌≡◌, ◌<◌, ◌↔◌, ℕ, zero, suc, ◌==◌, ◌||◌, Bool, true, false, Option, Some, None, List, length, if◌then◌else◌}
-use Rattle.image_check.specs.declared.line.State.{State}
-use Rattle.image_check.specs.declared.line.State.TheVariants.{Running}
-use Rattle.image_check.specs.declared.line.Task.{Task}
-use Rattle.image_check.specs.declared.line.Chunk.{Chunk}
+use Rattle.image_check.specs.declared.line.ImageState.{ImageState}
+use Rattle.image_check.specs.declared.line.ImageState.TheVariants.{Running}
+use Rattle.image_check.specs.declared.line.ImageTask.{ImageTask}
+use Rattle.image_check.specs.declared.line.ImageChunk.{ImageChunk}
 use Rattle.image_check.specs.declared.tasks.Relation.{Relation}
 use Rattle.image_check.specs.declared.tasks.Relation.TheVariants.{Own, Above, Below, Apart}
-use Rattle.image_check.specs.Table.{found, has}
+use Rattle.image_check.specs.ImageTable.{found, has}
 use Rattle.image_check.specs.Place.{chunk_number}
 
 abbrev pub Tasks : Type 0
-Tasks = List (ℕ × Task)
+Tasks = List (ℕ × ImageTask)
 
 abbrev pub Chunks : Type 0
-Chunks = List (ℕ × Chunk)
+Chunks = List (ℕ × ImageChunk)
 
 -- PATHS
 
-abbrev pub parent_in : Option Task → Option ℕ
+abbrev pub parent_in : Option ImageTask → Option ℕ
 parent_in None = None
 parent_in (Some t) = t.parent
 
@@ -68,11 +68,11 @@ pub record IsRelated (tasks : Tasks) (t u : ℕ) : Type 0 where
 
 -- OWNERS
 
-abbrev pub is_running_state : State → Bool
+abbrev pub is_running_state : ImageState → Bool
 is_running_state Running = true
 is_running_state _ = false
 
-abbrev pub runs : Option Task → Bool
+abbrev pub runs : Option ImageTask → Bool
 runs None = false
 runs (Some t) = is_running_state t.state
 
@@ -80,10 +80,10 @@ abbrev pub is_running : Tasks → ℕ → Bool
 is_running tasks t = runs (found tasks t)
 
 -- the chunk of an address; 0 lies in none
-abbrev pub chunk_at : Chunks → ℕ → Option Chunk
+abbrev pub chunk_at : Chunks → ℕ → Option ImageChunk
 chunk_at chunks a = if a == 0 then None else found chunks (chunk_number a)
 
-abbrev pub owner_in : Option Chunk → Option ℕ
+abbrev pub owner_in : Option ImageChunk → Option ℕ
 owner_in None = None
 owner_in (Some c) = Some c.owner
 

@@ -1,11 +1,11 @@
 // Why an image is refused.
 
 ghost use Rattle.std.specs.Prelude.{◌≡◌};
-ghost use Rattle.image_check.specs.Cause.{text_of_cause};
+ghost use Rattle.image_check.specs.ImageCause.{text_of_cause};
 
 /// Why a line is refused, in the order in which the causes are looked for.
 #[derive(Clone, Copy, PartialEq, Eq)]
-pub enum Cause {
+pub enum ImageCause {
     /// More than 16,777,216 bytes; reported at line 0.
     TooLong,
     /// Not a line of an image, or out of order; at the last line, a missing end.
@@ -34,29 +34,29 @@ pub enum Cause {
 
 /// The first line with a fault, counted from 1, and its first cause. A text of too many bytes has line 0.
 #[derive(Clone, Copy)]
-pub struct Fault {
+pub struct ImageFault {
     pub line: u32,
-    pub cause: Cause,
+    pub cause: ImageCause,
 }
 
-impl Cause {
+impl ImageCause {
     /// The cause in lower case without spaces.
     pub fn text(self) -> &'static str
         ensures { result.now ≡ text_of_cause self }
     {
         match self {
-            Cause::TooLong => "toolong",
-            Cause::Line => "line",
-            Cause::Twice => "twice",
-            Cause::NoTask => "notask",
-            Cause::NoChunk => "nochunk",
-            Cause::Place => "place",
-            Cause::Running => "running",
-            Cause::Ref => "ref",
-            Cause::Cross => "cross",
-            Cause::Down => "down",
-            Cause::Field => "field",
-            Cause::Count => "count",
+            ImageCause::TooLong => "toolong",
+            ImageCause::Line => "line",
+            ImageCause::Twice => "twice",
+            ImageCause::NoTask => "notask",
+            ImageCause::NoChunk => "nochunk",
+            ImageCause::Place => "place",
+            ImageCause::Running => "running",
+            ImageCause::Ref => "ref",
+            ImageCause::Cross => "cross",
+            ImageCause::Down => "down",
+            ImageCause::Field => "field",
+            ImageCause::Count => "count",
         }
     }
 }

@@ -4,9 +4,9 @@ ghost use Rattle.std.specs.Prelude.{◌≡◌, ◌≤◌, length, IfOk, IfErr, I
 ghost use Rattle.text_lines.specs.Lines.{lines_of, most_bytes};
 ghost use Rattle.image_check.specs.Line.{said_by};
 ghost use Rattle.image_check.specs.Read.{after_line, nothing_had, nothing_read, whole_of};
-ghost use Rattle.image_check.specs.Fault.{cause_on, fault_from, after_lines, lines_fault, image_fault, objects_in, Answers, Fails};
+ghost use Rattle.image_check.specs.ImageFault.{cause_on, fault_from, after_lines, lines_fault, image_fault, objects_in, Verifies, Fails};
 
-use crate::cause::{Cause, Fault};
+use crate::cause::{ImageCause, ImageFault};
 use crate::faults::first_cause;
 use crate::line::read_line;
 use crate::read::Read;
@@ -15,16 +15,16 @@ use std::alloc::{AllocError, Global};
 use text_lines::{MOST_BYTES, next_line};
 
 /// The most bytes of a text.
-const TOO_LONG: Fault = Fault {
+const TOO_LONG: ImageFault = ImageFault {
     line: 0,
-    cause: Cause::TooLong,
+    cause: ImageCause::TooLong,
 };
 
 /// Why an image isn't verified.
 #[derive(Clone, Copy)]
 pub enum VerifyError {
     /// Its first fault.
-    Refused(Fault),
+    Refused(ImageFault),
     /// Out of memory.
     NoMemory,
 }
@@ -47,7 +47,7 @@ fn check_line(
     read: &mut Read,
     is_last: bool,
     line: &[u8],
-) -> Result<Option<Cause>, AllocError>
+) -> Result<Option<ImageCause>, AllocError>
     ensures cause { IfOk result (λ cause. cause ≡ cause_on whole.now read.old is_last (said_by line.now)) }
     ensures read { IfOk result (λ cause. IfNone cause (read.new ≡ after_line read.old (said_by line.now))) }
 {
@@ -67,7 +67,7 @@ fn check_lines(
     whole: &Whole,
     read: &mut Read,
     text: &[u8],
-) -> Result<Option<Fault>, AllocError>
+) -> Result<Option<ImageFault>, AllocError>
     requires { length text.now ≤ most_bytes }
     ensures fault { IfOk result (λ fault. fault ≡ fault_from whole.now read.old 1 (lines_of text.now)) }
     ensures read { IfOk result (λ fault. IfNone fault (read.new ≡ after_lines read.old (lines_of text.now))) }
@@ -77,7 +77,7 @@ fn check_lines(
     loop {
         let (line, lines) = next_line(rest);
         match check_line(alloc, whole, read, lines.is_none(), line)? {
-            Some(cause) => return Ok(Some(Fault {
+            Some(cause) => return Ok(Some(ImageFault {
                 line: number,
                 cause,
             })),
@@ -107,10 +107,10 @@ fn read_within(alloc: Global, whole: &Whole, text: &[u8]) -> Result<Read, Verify
 
 // The answer for a text with this first fault or this number of objects.
 fn answer_to(
-    fault: Result<Option<Fault>, AllocError>,
+    fault: Result<Option<ImageFault>, AllocError>,
     objects: u64,
-) -> Result<Result<u64, Fault>, AllocError>
-    ensures { MatchResult fault (λ fault. IsOkAnd result (Answers fault objects)) (λ error. IsErr result) }
+) -> Result<Result<u64, ImageFault>, AllocError>
+    ensures { MatchResult fault (λ fault. IsOkAnd result (Verifies fault objects)) (λ error. IsErr result) }
 {
     match fault? {
         Some(fault) => Ok(Err(fault)),
@@ -119,10 +119,14 @@ fn answer_to(
 }
 
 // The number of objects or the first fault, given what the whole text says.
-fn check_within(alloc: Global, whole: &Whole, text: &[u8]) -> Result<Result<u64, Fault>, AllocError>
+fn check_within(
+    alloc: Global,
+    whole: &Whole,
+    text: &[u8],
+) -> Result<Result<u64, ImageFault>, AllocError>
     requires sized { length text.now ≤ most_bytes }
     requires whole { whole.now ≡ whole_of text.now }
-    ensures { IfOk result (Answers (lines_fault text.now) (objects_in text.now)) }
+    ensures { IfOk result (Verifies (lines_fault text.now) (objects_in text.now)) }
 {
     let mut read = Read::new(alloc);
     let fault = check_lines(alloc, whole, &mut read, text);
@@ -134,19 +138,19 @@ fn check_onto(
     alloc: Global,
     whole: &mut Whole,
     text: &[u8],
-) -> Result<Result<u64, Fault>, AllocError>
+) -> Result<Result<u64, ImageFault>, AllocError>
     requires sized { length text.now ≤ most_bytes }
     requires nothing { whole.old ≡ nothing_had }
-    ensures { IfOk result (Answers (lines_fault text.now) (objects_in text.now)) }
+    ensures { IfOk result (Verifies (lines_fault text.now) (objects_in text.now)) }
 {
     whole.add_lines(alloc, text)?;
     check_within(alloc, whole, text)
 }
 
 // The number of objects of a text, or its first fault.
-fn check_text(alloc: Global, text: &[u8]) -> Result<Result<u64, Fault>, AllocError>
+fn check_text(alloc: Global, text: &[u8]) -> Result<Result<u64, ImageFault>, AllocError>
     requires { length text.now ≤ most_bytes }
-    ensures { IfOk result (Answers (lines_fault text.now) (objects_in text.now)) }
+    ensures { IfOk result (Verifies (lines_fault text.now) (objects_in text.now)) }
 {
     let mut whole = Whole::new(alloc);
     check_onto(alloc, &mut whole, text)

@@ -3,29 +3,29 @@
 ghost use Rattle.std.specs.Prelude.{◌≡◌, ◌≤◌, ◌<◌, ◌+◌, ◌&&◌, length, not, Some, IfNone};
 ghost use Rattle.image_check.specs.Read.{IsSized};
 ghost use Rattle.image_check.specs.Tasks.{owner_at};
-ghost use Rattle.image_check.specs.Fault.{is_misplaced, breaks_form, lacks_parent, overlaps, is_crowded, is_astray, relation_to, is_apart, is_below, is_noted, is_no_field, references_cause, object_cause, object_cause_in, remembered_cause, cause_by, cause_on, CanFollow};
+ghost use Rattle.image_check.specs.ImageFault.{is_misplaced, breaks_form, lacks_parent, overlaps, is_crowded, is_astray, relation_to, is_apart, is_below, is_noted, is_no_field, references_cause, object_cause, object_cause_in, remembered_cause, cause_by, cause_on, CanFollow};
 ghost use Rattle.image_check.specs.Line.{most_fields};
 
-use crate::cause::Cause;
-use crate::line::{Chunk, Object, Remembered, Said};
+use crate::cause::ImageCause;
+use crate::line::{ImageChunk, ImageLine, ImageObject, ImageRemembered};
 use crate::owners::{chunk_of_address, owner_of};
-use crate::read::{Extent, Position, Read, extent_in, may_come, position_in};
+use crate::read::{ImageExtent, ImagePosition, Read, extent_in, may_come, position_in};
 use crate::tasks::Relation;
 use crate::whole::Whole;
 use chunk_sizes::CHUNK_WORDS;
 
 // Whether a line has the wrong form or the wrong order.
-fn is_out_of_order(last: Option<Position>, said: &Said) -> bool
+fn is_out_of_order(last: Option<ImagePosition>, said: &ImageLine) -> bool
     ensures { result ≡ is_misplaced last said.now }
 {
     match position_in(said) {
-        None => matches!(said, Said::Wrong),
+        None => matches!(said, ImageLine::Wrong),
         Some(position) => !may_come(last, position),
     }
 }
 
 // Whether the end line is missing, or a line has the wrong form or order.
-fn is_unformed(read: &Read, is_last: bool, said: &Said) -> bool
+fn is_unformed(read: &Read, is_last: bool, said: &ImageLine) -> bool
     ensures { result ≡ breaks_form read.now is_last said.now }
 {
     if is_out_of_order(read.last, said) {
@@ -54,7 +54,7 @@ fn is_parentless(read: &Read, parent: Option<u64>) -> bool
 }
 
 // Whether an object that ends here overlaps the previous one.
-fn is_overlapping(latest: Option<Extent>, object: &Object) -> bool
+fn is_overlapping(latest: Option<ImageExtent>, object: &ImageObject) -> bool
     requires there { 0 < object.now.address }
     ensures { result ≡ overlaps latest object.now }
 {
@@ -66,7 +66,7 @@ fn is_overlapping(latest: Option<Extent>, object: &Object) -> bool
 }
 
 // Whether an object leaves its chunk or overlaps the previous one.
-fn is_ill_placed(read: &Read, chunk: Chunk, object: &Object) -> bool
+fn is_ill_placed(read: &Read, chunk: ImageChunk, object: &ImageObject) -> bool
     requires sized { length object.now.references + object.now.numbers ≤ most_fields }
     requires there { 0 < object.now.address }
     ensures { result ≡ is_crowded read.now chunk object.now }
@@ -122,7 +122,12 @@ fn is_unremembered(
 }
 
 // The first cause of an object's references.
-fn cause_of_references(whole: &Whole, read: &Read, task: u64, object: &Object) -> Option<Cause>
+fn cause_of_references(
+    whole: &Whole,
+    read: &Read,
+    task: u64,
+    object: &ImageObject,
+) -> Option<ImageCause>
     ensures { result ≡ references_cause whole.now read.now task object.now }
 {
     let mut rest = object.references.as_slice();
@@ -132,7 +137,7 @@ fn cause_of_references(whole: &Whole, read: &Read, task: u64, object: &Object) -
     while let [reference, more @ ..] = rest {
         let owner = owner_of(&read.chunks, *reference);
         if is_stray(whole, read, *reference, owner) {
-            return Some(Cause::Ref);
+            return Some(ImageCause::Ref);
         }
         let relation = relation_to(read, task, owner);
         crosses = crosses || is_apart(relation);
@@ -141,47 +146,52 @@ fn cause_of_references(whole: &Whole, read: &Read, task: u64, object: &Object) -
         place += 1;
     }
     if crosses {
-        Some(Cause::Cross)
+        Some(ImageCause::Cross)
     } else if forgets {
-        Some(Cause::Down)
+        Some(ImageCause::Down)
     } else {
         None
     }
 }
 
 // The first cause of an object that lies in a chunk.
-fn cause_in_chunk(whole: &Whole, read: &Read, object: &Object, chunk: Chunk) -> Option<Cause>
+fn cause_in_chunk(
+    whole: &Whole,
+    read: &Read,
+    object: &ImageObject,
+    chunk: ImageChunk,
+) -> Option<ImageCause>
     requires sized { length object.now.references + object.now.numbers ≤ most_fields }
     requires there { 0 < object.now.address }
     ensures { result ≡ object_cause_in whole.now read.now object.now (Some chunk) }
 {
     if is_ill_placed(read, chunk, object) {
-        return Some(Cause::Place);
+        return Some(ImageCause::Place);
     }
     if read.tasks.runs(chunk.owner) {
-        return Some(Cause::Running);
+        return Some(ImageCause::Running);
     }
     cause_of_references(whole, read, chunk.owner, object)
 }
 
-fn cause_of_object(whole: &Whole, read: &Read, object: &Object) -> Option<Cause>
+fn cause_of_object(whole: &Whole, read: &Read, object: &ImageObject) -> Option<ImageCause>
     requires sized { length object.now.references + object.now.numbers ≤ most_fields }
     ensures { result ≡ object_cause whole.now read.now object.now }
 {
     if read.births.has(object.birth.task, object.birth.count) {
-        return Some(Cause::Twice);
+        return Some(ImageCause::Twice);
     }
     if object.address == 0 {
-        return Some(Cause::NoChunk);
+        return Some(ImageCause::NoChunk);
     }
     match chunk_of_address(&read.chunks, object.address) {
-        None => Some(Cause::NoChunk),
+        None => Some(ImageCause::NoChunk),
         Some(chunk) => cause_in_chunk(whole, read, object, chunk),
     }
 }
 
 // Whether an object has a reference at this place, and its owner is a proper ancestor of the task.
-fn is_field_above(whole: &Whole, read: &Read, field: Remembered) -> bool
+fn is_field_above(whole: &Whole, read: &Read, field: ImageRemembered) -> bool
     ensures { result ≡ not (is_no_field whole.now read.now field) }
 {
     let Some(count) = whole.objects.find(field.address) else {
@@ -196,53 +206,58 @@ fn is_field_above(whole: &Whole, read: &Read, field: Remembered) -> bool
     }
 }
 
-fn cause_of_field(whole: &Whole, read: &Read, field: Remembered) -> Option<Cause>
+fn cause_of_field(whole: &Whole, read: &Read, field: ImageRemembered) -> Option<ImageCause>
     ensures { result ≡ remembered_cause whole.now read.now field }
 {
     if !read.tasks.has(field.task) {
-        Some(Cause::NoTask)
+        Some(ImageCause::NoTask)
     } else if is_field_above(whole, read, field) {
         None
     } else {
-        Some(Cause::Field)
+        Some(ImageCause::Field)
     }
 }
 
 // The first cause on a line of the right form.
-fn cause_of(whole: &Whole, read: &Read, said: &Said) -> Option<Cause>
+fn cause_of(whole: &Whole, read: &Read, said: &ImageLine) -> Option<ImageCause>
     requires sized { IsSized said.now }
     ensures { result ≡ cause_by whole.now read.now said.now }
 {
     match said {
-        Said::Nothing | Said::Wrong | Said::Title => None,
-        Said::OfTask(task) => if is_parentless(read, task.parent) {
-            Some(Cause::NoTask)
+        ImageLine::Nothing | ImageLine::Wrong | ImageLine::Title => None,
+        ImageLine::OfTask(task) => if is_parentless(read, task.parent) {
+            Some(ImageCause::NoTask)
         } else {
             None
         },
-        Said::OfChunk(chunk) => if read.tasks.has(chunk.owner) {
+        ImageLine::OfChunk(chunk) => if read.tasks.has(chunk.owner) {
             None
         } else {
-            Some(Cause::NoTask)
+            Some(ImageCause::NoTask)
         },
-        Said::OfObject(object) => cause_of_object(whole, read, object),
-        Said::OfRemembered(field) => cause_of_field(whole, read, *field),
-        Said::OfEnd(count) => if *count == read.objects.len() as u64 {
+        ImageLine::OfObject(object) => cause_of_object(whole, read, object),
+        ImageLine::OfRemembered(field) => cause_of_field(whole, read, *field),
+        ImageLine::OfEnd(count) => if *count == read.objects.len() as u64 {
             None
         } else {
-            Some(Cause::Count)
+            Some(ImageCause::Count)
         },
     }
 }
 
 /// The first cause on a line, given what was read before.
-pub(crate) fn first_cause(whole: &Whole, read: &Read, is_last: bool, said: &Said) -> Option<Cause>
+pub(crate) fn first_cause(
+    whole: &Whole,
+    read: &Read,
+    is_last: bool,
+    said: &ImageLine,
+) -> Option<ImageCause>
     requires sized { IsSized said.now }
     ensures cause { result ≡ cause_on whole.now read.now is_last said.now }
     ensures follows { IfNone result (CanFollow read.now said.now) }
 {
     if is_unformed(read, is_last, said) {
-        return Some(Cause::Line);
+        return Some(ImageCause::Line);
     }
     cause_of(whole, read, said)
 }

@@ -21,12 +21,15 @@ mod tasks;
 mod cause;
 mod faults;
 
-pub use cause::{Cause, Fault};
+pub use cause::{ImageCause, ImageFault};
 pub use check::{VerifyError, read_image, verify};
 pub use laws::{faultless_is_sound, objects_are_counted, tasks_are_related};
-pub use line::{Birth, Chunk, Object, Remembered, Said, State, Task, read_line};
+pub use line::{
+    ImageBirth, ImageChunk, ImageLine, ImageObject, ImageRemembered, ImageState, ImageTask,
+    read_line,
+};
 pub use number::read_short;
 pub use owners::{chunk_of_address, owner_of};
 pub use read::Read;
-pub use table::Table;
+pub use table::ImageTable;
 pub use tasks::{Relation, Tasks};

@@ -3,12 +3,12 @@
 ghost use Rattle.std.specs.Prelude.{◌≡◌};
 ghost use Rattle.image_check.specs.Tasks.{chunk_at, owner_at};
 
-use crate::line::Chunk;
+use crate::line::ImageChunk;
 use crate::read::chunk_of;
-use crate::table::Table;
+use crate::table::ImageTable;
 
 /// The chunk of an address.
-pub fn chunk_of_address(chunks: &Table<Chunk>, address: u64) -> Option<Chunk>
+pub fn chunk_of_address(chunks: &ImageTable<ImageChunk>, address: u64) -> Option<ImageChunk>
     ensures { result ≡ chunk_at chunks.now address }
 {
     if address == 0 {
@@ -21,7 +21,7 @@ pub fn chunk_of_address(chunks: &Table<Chunk>, address: u64) -> Option<Chunk>
 }
 
 /// The task that owns an address.
-pub fn owner_of(chunks: &Table<Chunk>, address: u64) -> Option<u64>
+pub fn owner_of(chunks: &ImageTable<ImageChunk>, address: u64) -> Option<u64>
     ensures { result ≡ owner_at chunks.now address }
 {
     match chunk_of_address(chunks, address) {

@@ -5,16 +5,16 @@ ghost use Rattle.image_check.specs.Place.{chunk_number};
 ghost use Rattle.image_check.specs.Read.{position_of, rises, or_next, comes_next, extent_of, nothing_read, after_line, IsSized};
 ghost use Rattle.image_check.specs.Line.{most_fields};
 
-use crate::line::{Chunk, Object, Said};
+use crate::line::{ImageChunk, ImageLine, ImageObject};
 use crate::sets::Births;
-use crate::table::Table;
+use crate::table::ImageTable;
 use crate::tasks::Tasks;
 use chunk_sizes::CHUNK_WORDS;
 use std::alloc::{AllocError, Global};
 
 /// The position of a line: its kind, then its numbers.
 #[derive(Clone, Copy)]
-pub struct Position {
+pub struct ImagePosition {
     pub kind: u64,
     pub first: u64,
     pub second: u64,
@@ -23,7 +23,7 @@ pub struct Position {
 
 /// Where an object ends in its chunk.
 #[derive(Clone, Copy)]
-pub struct Extent {
+pub struct ImageExtent {
     pub chunk: u64,
     pub past: u64,
 }
@@ -32,30 +32,30 @@ pub struct Extent {
 #[derive(Drop)]
 pub struct Read {
     /// The position of the last line.
-    pub last: Option<Position>,
+    pub last: Option<ImagePosition>,
     pub tasks: Tasks,
-    pub chunks: Table<Chunk>,
+    pub chunks: ImageTable<ImageChunk>,
     /// The number of references of each object, by address.
-    pub objects: Table<u64>,
+    pub objects: ImageTable<u64>,
     pub births: Births,
     /// Where the last object ends.
-    pub latest: Option<Extent>,
+    pub latest: Option<ImageExtent>,
 }
 
 /// The position of a line.
-pub(crate) fn position_in(said: &Said) -> Option<Position>
+pub(crate) fn position_in(said: &ImageLine) -> Option<ImagePosition>
     ensures { result ≡ position_of said.now }
 {
     let (kind, first, second, third) = match said {
-        Said::Nothing | Said::Wrong => return None,
-        Said::Title => (0, 0, 0, 0),
-        Said::OfTask(task) => (1, task.number, 0, 0),
-        Said::OfChunk(chunk) => (2, chunk.number, 0, 0),
-        Said::OfObject(object) => (3, object.address, 0, 0),
-        Said::OfRemembered(field) => (4, field.task, field.address, field.place),
-        Said::OfEnd(_) => (5, 0, 0, 0),
+        ImageLine::Nothing | ImageLine::Wrong => return None,
+        ImageLine::Title => (0, 0, 0, 0),
+        ImageLine::OfTask(task) => (1, task.number, 0, 0),
+        ImageLine::OfChunk(chunk) => (2, chunk.number, 0, 0),
+        ImageLine::OfObject(object) => (3, object.address, 0, 0),
+        ImageLine::OfRemembered(field) => (4, field.task, field.address, field.place),
+        ImageLine::OfEnd(_) => (5, 0, 0, 0),
     };
-    Some(Position {
+    Some(ImagePosition {
         kind,
         first,
         second,
@@ -64,7 +64,7 @@ pub(crate) fn position_in(said: &Said) -> Option<Position>
 }
 
 /// Whether a line may follow the last one; the first must be the title.
-pub(crate) fn may_come(last: Option<Position>, next: Position) -> bool
+pub(crate) fn may_come(last: Option<ImagePosition>, next: ImagePosition) -> bool
     ensures { result ≡ comes_next last next }
 {
     match last {
@@ -79,7 +79,7 @@ fn is_less_or(x: u64, y: u64, next: bool) -> bool
     x < y || (x == y && next)
 }
 
-fn is_behind(last: Position, next: Position) -> bool
+fn is_behind(last: ImagePosition, next: ImagePosition) -> bool
     ensures { result ≡ rises last next }
 {
     let third = last.third < next.third;
@@ -97,13 +97,13 @@ pub(crate) fn chunk_of(address: u64) -> u64
 }
 
 /// An object's chunk, and where the object ends in it.
-pub(crate) fn extent_in(object: &Object) -> Extent
+pub(crate) fn extent_in(object: &ImageObject) -> ImageExtent
     requires sized { length object.now.references + object.now.numbers ≤ most_fields }
     requires there { 0 < object.now.address }
     ensures { result ≡ extent_of object.now }
 {
     let offset = (object.address - 1) % CHUNK_WORDS;
-    Extent {
+    ImageExtent {
         chunk: chunk_of(object.address),
         past: offset + 2 + object.references.len() as u64 + object.numbers,
     }
@@ -112,7 +112,7 @@ pub(crate) fn extent_in(object: &Object) -> Extent
 impl Read {
     ghost use Rattle.std.specs.Prelude.{◌≡◌, ◌<◌, ◌≤◌, ◌+◌, OnOk, length};
     ghost use Rattle.image_check.specs.Read.{nothing_read, after_line, IsSized};
-    ghost use Rattle.image_check.specs.Fault.{CanFollow};
+    ghost use Rattle.image_check.specs.ImageFault.{CanFollow};
 
     /// Before the first line.
     pub(crate) fn new(alloc: Global) -> Read
@@ -121,18 +121,18 @@ impl Read {
         Read {
             last: None,
             tasks: Tasks::new(alloc),
-            chunks: Table::new(alloc),
-            objects: Table::new(alloc),
+            chunks: ImageTable::new(alloc),
+            objects: ImageTable::new(alloc),
             births: Births::new(alloc),
             latest: None,
         }
     }
 
     // Adds an object line.
-    fn add_object(&mut self, object: &Object) -> Result<(), AllocError>
+    fn add_object(&mut self, object: &ImageObject) -> Result<(), AllocError>
         requires sized { length object.now.references + object.now.numbers ≤ most_fields }
         requires there { 0 < object.now.address }
-        ensures { OnOk result (self.new ≡ record (after_line self.old (Said.OfObject object.now)) { last = self.old.last }) }
+        ensures { OnOk result (self.new ≡ record (after_line self.old (ImageLine.OfObject object.now)) { last = self.old.last }) }
     {
         self.objects
             .put(object.address, object.references.len() as u64)?;
@@ -142,17 +142,17 @@ impl Read {
     }
 
     /// Adds a line without a fault.
-    pub(crate) fn add(&mut self, said: &Said) -> Result<(), AllocError>
+    pub(crate) fn add(&mut self, said: &ImageLine) -> Result<(), AllocError>
         requires sized { IsSized said.now }
         requires follows { CanFollow self.old said.now }
         ensures { OnOk result (self.new ≡ after_line self.old said.now) }
     {
         match said {
-            Said::Nothing | Said::Wrong => return Ok(()),
-            Said::OfTask(task) => self.tasks.put(*task)?,
-            Said::OfChunk(chunk) => self.chunks.put(chunk.number, *chunk)?,
-            Said::OfObject(object) => self.add_object(object)?,
-            Said::Title | Said::OfRemembered(_) | Said::OfEnd(_) => {}
+            ImageLine::Nothing | ImageLine::Wrong => return Ok(()),
+            ImageLine::OfTask(task) => self.tasks.put(*task)?,
+            ImageLine::OfChunk(chunk) => self.chunks.put(chunk.number, *chunk)?,
+            ImageLine::OfObject(object) => self.add_object(object)?,
+            ImageLine::Title | ImageLine::OfRemembered(_) | ImageLine::OfEnd(_) => {}
         }
         self.last = position_in(said);
         Ok(())

@@ -1,13 +1,13 @@
 // The tasks that were read.
 
 ghost use Rattle.std.specs.Prelude.{◌≡◌, [], None, OnOk, MatchOption};
-ghost use Rattle.image_check.specs.Table.{has, found, with_new};
+ghost use Rattle.image_check.specs.ImageTable.{has, found, with_new};
 ghost use Rattle.image_check.specs.Tasks.{is_running, is_above, relation_of, HasParent};
 ghost use Rattle.image_check.specs.Links.{StandsAt};
 
-use crate::line::{State, Task};
-use far_links::{FarLinks, Link, climb_to, link_below};
+use crate::line::{ImageState, ImageTask};
 use indexmap::IndexMap;
+use jump_pointers::{FarLinks, Link, climb_to, link_below};
 use std::alloc::{AllocError, Global};
 use std::marker::Model;
 
@@ -27,7 +27,7 @@ pub enum Relation {
 /// Tasks by number, each after its parent.
 #[derive(Drop)]
 pub struct Tasks {
-    table: IndexMap<u64, Task>,
+    table: IndexMap<u64, ImageTask>,
     links: Vec<Link>,
 }
 
@@ -44,7 +44,7 @@ impl Model for Tasks {
 
 impl Tasks {
     ghost use Rattle.std.specs.Prelude.{◌≡◌, [], None, OnOk, MatchOption, length};
-    ghost use Rattle.image_check.specs.Table.{has, found, with_new};
+    ghost use Rattle.image_check.specs.ImageTable.{has, found, with_new};
     ghost use Rattle.image_check.specs.Tasks.{is_running, is_above, parent_of, relation_of, HasParent};
     ghost use Rattle.image_check.specs.Links.{StandsAt, IsParentAt};
 
@@ -70,7 +70,7 @@ impl Tasks {
     {
         match self.table.get(&number) {
             None => false,
-            Some(task) => matches!(task.state, State::Running),
+            Some(task) => matches!(task.state, ImageState::Running),
         }
     }
 
@@ -110,7 +110,7 @@ impl Tasks {
     }
 
     /// Adds a task unless its number is there. Its parent must be there.
-    pub(crate) fn put(&mut self, task: Task) -> Result<(), AllocError>
+    pub(crate) fn put(&mut self, task: ImageTask) -> Result<(), AllocError>
         requires { HasParent self.old task.parent }
         ensures { OnOk result (self.new ≡ with_new self.old task.number task) }
     {

@@ -1,27 +1,8 @@
--- An entry is accepted exactly where it finds what it asks.
-use Rattle.std.proofs.Common.{◌≡◌, ℕ, zero, suc, ◌+◌, ◌<◌, ◌≤◌, ◌==◌, ◌&&◌, not, min, Bool, true, false, cond, Option, Some, None, List, [], ◌∷◌, slice_get, nat_le, nat_lt, ◌⊎◌, inl, inr, refl, ap, sym, ◌∙◌, is_none, is_some, arith, eqb-true, eq-eqb, ne_eqb}
-use Rattle.std.proofs.lemmas.Bool.{false≢true, and_parts, and_from, eqb-false, leb-true, leb-false, le-leb, lt-leb, ltb-true, lt-ltb}
-use Rattle.std.proofs.Math.Bool.{and-false}
-use Rattle.listed.proofs.Options.{none_is, none_of, some_none}
-use Rattle.run_trace.specs.declared.entry.Kind.{Kind}
-use Rattle.run_trace.specs.declared.entry.Kind.TheVariants.{Took, Ran, Chunk, Begin, End as EndOf, PutOff, Mark, More, Sweep, Fuel}
-use Rattle.run_trace.specs.Settings.{SettingsValue}
-use Rattle.hh_lang.specs.Form.{ProgramText}
-use Rattle.hh_model.specs.Step.{is_running, is_waiting}
-use Rattle.run_ledger.specs.declared.data.Heap.{Heap}
-use Rattle.run_ledger.specs.declared.data.Ledger.{Ledger}
-use Rattle.run_ledger.specs.declared.data.Refused.{Refused}
-use Rattle.run_ledger.specs.Heaps.{end_numbers, heap_of, in_use, left_in, take_of, words_in}
-use Rattle.run_ledger.specs.Steps.{is_due, is_in_need, most_steps, standing}
-use Rattle.run_ledger.specs.Entries.{counted, out_from, is_fuel, is_out, is_pool_enough, is_ready, kind_refusal, long_at, on_due, on_running, on_waiting, refused_holding, refused_if, refused_unless}
-use Rattle.listed.specs.Options.{option_is}
-use Rattle.journal_laws.specs.Accepted.{Allows, AcceptedIsAllowed, IsAt, IsOut, IsUnswept}
-use Rattle.run_ledger.proofs.Frames.{held_is, is_held}
-use Rattle.run_ledger.proofs.Holders.{holding_none, worker_of}
-use Rattle.run_ledger.proofs.Steps.{worker_at}
+-- An entry is accepted if and only if its conditions hold.
+use Rattle.journal_laws.proofs.Common.{◌≡◌, ℕ, zero, suc, ◌+◌, ◌<◌, ◌≤◌, ◌==◌, ◌&&◌, not, min, Bool, true, false, cond, Option, Some, None, List, [], ◌∷◌, slice_get, nat_le, nat_lt, ◌⊎◌, inl, inr, refl, ap, sym, ◌∙◌, is_none, is_some, arith, eqb-true, eq-eqb, ne_eqb, false≢true, and_parts, and_from, eqb-false, leb-true, leb-false, le-leb, lt-leb, ltb-true, lt-ltb, and-false, none_is, none_of, some_none, Kind, Took, Ran, Chunk, Begin, End as EndOf, PutOff, Mark, More, Sweep, Fuel, SettingsValue, ProgramText, is_running, is_waiting, Heap, Ledger, Refused, end_numbers, heap_of, in_use, left_in, take_of, words_in, is_due, is_in_need, most_steps, standing, counted, out_from, is_fuel, is_out, is_pool_enough, is_ready, kind_refusal, long_at, on_due, on_running, on_waiting, refused_holding, refused_if, refused_unless, option_is, held_is, is_held, holding_none, worker_of, worker_at, Allows, AcceptedIsAllowed, IsOutAt, WorkerHoldsTask, IsUnswept}
 use Rattle.journal_laws.proofs.Fewer.{long_none}
 
--- nothing is refused and accepted
+-- nothing is both refused and accepted
 pub not_refused : {A : Type 0} (o : Option Refused) (cause : Refused) → o ≡ None → o ≡ Some cause → A
 not_refused o cause none some = absurd cc
 
@@ -43,21 +24,21 @@ unless_of b c rest e h = ap (λ v. refused_unless v c rest) e ∙ h
 
 -- WHERE A WORKER IS
 
-out_in : (l : Ledger) (w t : ℕ) → is_out l w t ≡ true → IsOut l w t
+out_in : (l : Ledger) (w t : ℕ) → is_out l w t ≡ true → WorkerHoldsTask l w t
 out_in l w t h =
     let both = and_parts (is_running (slice_get l.machine.tasks t)) (option_is (heap_of l t).worker w) h in
     record { runs = both.0; out = held_is (heap_of l t).worker w both.1 }
 
-out_of : (l : Ledger) (w t : ℕ) → IsOut l w t → is_out l w t ≡ true
+out_of : (l : Ledger) (w t : ℕ) → WorkerHoldsTask l w t → is_out l w t ≡ true
 out_of l w t O = and_from (is_running (slice_get l.machine.tasks t)) (option_is (heap_of l t).worker w) O.runs (is_held (heap_of l t).worker w O.out)
 
-at_in : (l : Ledger) (w t : ℕ) (rest : Option Refused) → on_running l w t rest ≡ None → IsAt l w t × (rest ≡ None)
+at_in : (l : Ledger) (w t : ℕ) (rest : Option Refused) → on_running l w t rest ≡ None → IsOutAt l w t × (rest ≡ None)
 at_in l w t rest h =
     let a = unless_in (is_out l w t) _ _ h in
     let b = if_in (is_some (heap_of l t).begun) _ _ a.1 in
     (record { out = out_in l w t a.0; idle = b.0 }, b.1)
 
-at_of : (l : Ledger) (w t : ℕ) (rest : Option Refused) → IsAt l w t → rest ≡ None → on_running l w t rest ≡ None
+at_of : (l : Ledger) (w t : ℕ) (rest : Option Refused) → IsOutAt l w t → rest ≡ None → on_running l w t rest ≡ None
 at_of l w t rest A h = unless_of (is_out l w t) _ _ (out_of l w t A.out) (if_of (is_some (heap_of l t).begun) _ _ A.idle h)
 
 waits_in : (l : Ledger) (t : ℕ) (rest : Option Refused) → on_waiting l t rest ≡ None → IsUnswept l t × (rest ≡ None)
@@ -69,21 +50,21 @@ waits_in l t rest h =
 waits_of : (l : Ledger) (t : ℕ) (rest : Option Refused) → IsUnswept l t → rest ≡ None → on_waiting l t rest ≡ None
 waits_of l t rest U h = unless_of (is_waiting (slice_get l.machine.tasks t)) _ _ U.waits (if_of (heap_of l t).swept _ _ U.unswept h)
 
--- whoever holds none isn't found holding one
+-- a worker that holds no task isn't found to hold one
 none_held : (w t : ℕ) (heaps : List Heap) → ((u : ℕ) → worker_at (slice_get heaps u) ≡ Some w → ⊥) → out_from w t heaps ≡ None
 none_held w t [] h = refl
-none_held w t (g ∷ heaps) h = by (option_is g.worker w) refl (none_held w (t + 1) heaps (λ u. h (suc u)))
+none_held w t (g ∷ heaps) h = none_held_by_cases (option_is g.worker w) refl (none_held w (t + 1) heaps (λ u. h (suc u)))
   where
-    by : (v : Bool) → option_is g.worker w ≡ v → out_from w (t + 1) heaps ≡ None → cond v (Some t) (out_from w (t + 1) heaps) ≡ None
-    by true e rest = absurd (h zero (held_is g.worker w e))
-    by false e rest = rest
+    none_held_by_cases : (v : Bool) → option_is g.worker w ≡ v → out_from w (t + 1) heaps ≡ None → cond v (Some t) (out_from w (t + 1) heaps) ≡ None
+    none_held_by_cases true e rest = absurd (h zero (held_is g.worker w e))
+    none_held_by_cases false e rest = rest
 
 free_in : (l : Ledger) (w : ℕ) → refused_holding (out_from w 0 l.heaps) None ≡ None → (u : ℕ) → (heap_of l u).worker ≡ Some w → ⊥
-free_in l w h u e = holding_none w 0 l.heaps (by (out_from w 0 l.heaps) h) u (sym (worker_of l u) ∙ e)
+free_in l w h u e = holding_none w 0 l.heaps (free_in_by_cases (out_from w 0 l.heaps) h) u (sym (worker_of l u) ∙ e)
   where
-    by : (o : Option ℕ) → refused_holding o None ≡ None → o ≡ None
-    by None q = refl
-    by (Some t) q = some_none q
+    free_in_by_cases : (o : Option ℕ) → refused_holding o None ≡ None → o ≡ None
+    free_in_by_cases None q = refl
+    free_in_by_cases (Some t) q = some_none q
 
 free_out : (l : Ledger) (w : ℕ) → ((u : ℕ) → (heap_of l u).worker ≡ Some w → ⊥) → refused_holding (out_from w 0 l.heaps) None ≡ None
 free_out l w h = ap (λ o. refused_holding o None) (none_held w 0 l.heaps (λ u e. h u (worker_of l u ∙ e)))

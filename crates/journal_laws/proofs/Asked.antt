@@ -1,26 +1,12 @@
--- The words that one step asks for are few.
-use Rattle.std.proofs.Common.{◌≡◌, ℕ, ℤ, pos, negsuc, ◌+◌, ◌≤◌, arith, Bool, true, false, cond, Option, Some, None, slice_get, nat_le, refl, subst}
-use Rattle.std.proofs.lemmas.Bool.{leb-true}
-use Rattle.std.proofs.lemmas.Option.{same_Some}
-use Rattle.hh_lang.specs.declared.instr.Instr.{Instr}
-use Rattle.hh_lang.specs.declared.instr.Instr.TheVariants.{Newm, Pack}
-use Rattle.hh_lang.specs.declared.program.Line.{Line}
-use Rattle.hh_lang.specs.Form.{ProgramText}
-use Rattle.hh_model.specs.declared.data.Frame.{Frame}
-use Rattle.hh_model.specs.declared.data.Task.{Task}
-use Rattle.hh_model.specs.Effect.{counts_in, int_in}
-use Rattle.hh_model.specs.Names.{words_asked, words_for}
-use Rattle.hh_model.specs.Step.{asked_by, asked_line, fetched, is_running, asked}
-use Rattle.hh_model.proofs.Next.{packs_are_few}
-use Rattle.hh_model.specs.declared.data.State.{State}
-use Rattle.run_ledger.specs.Space.{ProgramsAskFew}
+-- One step allocates few words.
+use Rattle.journal_laws.proofs.Common.{◌≡◌, ℕ, ℤ, pos, negsuc, ◌+◌, ◌≤◌, arith, Bool, true, false, cond, Option, Some, None, slice_get, nat_le, refl, subst, leb-true, same_Some, Instr, Newm, Pack, Line, ProgramText, Frame, Task, counts_in, int_in, words_asked, words_for, asked_by, asked_line, fetched, is_running, asked, packs_are_few, MachineState, ProgramsAskFew}
 
 pub counts_few : (limit : ℕ) (a b : ℤ) (w : ℕ) → words_for (counts_in limit a b) ≡ Some w → w ≤ limit + 34
-counts_few limit (pos a) (pos b) w e = by (nat_le (a + b) limit) refl e
+counts_few limit (pos a) (pos b) w e = counts_few_by_cases (nat_le (a + b) limit) refl e
   where
-    by : (v : Bool) → nat_le (a + b) limit ≡ v → words_for (cond v (Some (a, b)) None) ≡ Some w → w ≤ limit + 34
-    by true q h = let r : a + b ≤ limit = leb-true (a + b) limit q in let z : 2 + a + b ≡ w = same_Some (2 + a + b) w h in omega (arith, r, z)
-    by false q h = absurd cc
+    counts_few_by_cases : (v : Bool) → nat_le (a + b) limit ≡ v → words_for (cond v (Some (a, b)) None) ≡ Some w → w ≤ limit + 34
+    counts_few_by_cases true q h = let r : a + b ≤ limit = leb-true (a + b) limit q in let z : 2 + a + b ≡ w = same_Some (2 + a + b) w h in omega (arith, r, z)
+    counts_few_by_cases false q h = absurd cc
 counts_few limit (pos a) (negsuc b) w e = absurd cc
 counts_few limit (negsuc a) b w e = absurd cc
 
@@ -29,8 +15,8 @@ instr_few limit f (Newm d a b) w packs e = counts_few limit (int_in f a) (int_in
 instr_few limit f (Pack d r i) w packs e = let z : 2 + r + i ≡ w = same_Some (2 + r + i) w e in let q = packs d r i refl in let a = q.0 in let b = q.1 in omega (arith, z, a, b)
 instr_few limit f _ w packs e = absurd cc
 
--- what a task asks for, its next line asks for
-pub asked_at_line : {P : Type 0} (p : ProgramText) (m : State) (t w : ℕ) → ((x : Task) (line : Line) → fetched p x.top ≡ Some line → words_asked m.field_limit x.top line.instr ≡ Some w → P) → asked p m t ≡ Some w → P
+-- the words that a task allocates are those of its next line
+pub asked_at_line : {P : Type 0} (p : ProgramText) (m : MachineState) (t w : ℕ) → ((x : Task) (line : Line) → fetched p x.top ≡ Some line → words_asked m.field_limit x.top line.instr ≡ Some w → P) → asked p m t ≡ Some w → P
 asked_at_line {P} p m t w tells e = by_task (slice_get m.tasks t) e
   where
     by_line : (x : Task) (o : Option Line) → fetched p x.top ≡ o → asked_line m.field_limit x.top o ≡ Some w → P

@@ -1,22 +1,5 @@
 -- The steps of a journal's accounts are those of its entries.
-use Rattle.std.proofs.Common.{◌≡◌, ℕ, ◌+◌, List, [], ◌∷◌, length, subst, sym, ◌∙◌, nat_lt, arith, length-append, refl}
-use Rattle.std.proofs.lemmas.List.{length-replicate}
-use Rattle.run_trace.specs.declared.entry.Kind.{Kind}
-use Rattle.run_trace.specs.declared.entry.Kind.TheVariants.{Took, Ran, Chunk, Begin, End, PutOff, Mark, More, Sweep, Fuel}
-use Rattle.run_trace.specs.Entry.{EntryValue}
-use Rattle.run_trace.specs.Settings.{SettingsValue, field_limit}
-use Rattle.hh_lang.specs.Form.{ProgramText}
-use Rattle.hh_model.specs.declared.data.State.{State}
-use Rattle.hh_model.specs.Counts.{Counted}
-use Rattle.hh_model.specs.Step.{asked}
-use Rattle.hh_model.proofs.Counts.{runs_are_counted}
-use Rattle.run_ledger.specs.declared.data.Ledger.{Ledger}
-use Rattle.run_ledger.specs.Heaps.{in_use}
-use Rattle.run_ledger.specs.Entries.{after_kind, after, chunk_units}
-use Rattle.run_ledger.specs.Journals.{opening, after_all, ledger_of, tasks_in, tasks_of}
-use Rattle.run_ledger.specs.Space.{JournalsAreCounted}
-use Rattle.run_ledger.proofs.Bounds.{chunk_steps, heap_steps, task_steps_steps}
-use Rattle.run_ledger.proofs.Machine.{machine_is_run}
+use Rattle.journal_laws.proofs.Common.{◌≡◌, ℕ, ◌+◌, List, [], ◌∷◌, length, subst, sym, ◌∙◌, nat_lt, arith, length-append, refl, length-replicate, Kind, Took, Ran, Chunk, Begin, End, PutOff, Mark, More, Sweep, Fuel, EntryValue, SettingsValue, field_limit, ProgramText, MachineState, Counted, asked, runs_are_counted, Ledger, in_use, after_kind, after, chunk_units, opening, after_all, ledger_of, tasks_in, tasks_of, JournalsAreCounted, chunk_steps, heap_steps, task_steps_steps, machine_is_run}
 
 kind_steps : (p : ProgramText) (s : SettingsValue) (l : Ledger) (w : ℕ) (kind : Kind) → (after_kind p s l w kind).steps ≡ l.steps + length (tasks_in kind)
 kind_steps p s l w (Ran t k) = let a = task_steps_steps p k l t in let b = length-replicate k t in omega (arith, a, b)
@@ -45,5 +28,5 @@ journals_are_counted p s journal =
     record {
       steps = steps;
       counts = subst (λ n. Counted n l.machine.tasks l.machine.store) (sym steps)
-          (subst (λ (m : State). Counted (length (tasks_of journal)) m.tasks m.store) (sym (machine_is_run p s journal)) (runs_are_counted p (field_limit s.version) (tasks_of journal)));
+          (subst (λ (m : MachineState). Counted (length (tasks_of journal)) m.tasks m.store) (sym (machine_is_run p s journal)) (runs_are_counted p (field_limit s.version) (tasks_of journal)));
     }

@@ -1,41 +1,9 @@
--- What is held is what was allocated and wasn't dropped.
-use Rattle.std.proofs.Common.{◌≡◌, ℕ, zero, suc, ◌+◌, ◌≤◌, Bool, true, false, cond, Option, Some, None, List, [], ◌∷◌, slice_get, slice_set, nat_lt, Contains, ◌⊎◌, inl, inr, refl, sym, subst, ◌∙◌, arith, is_some, is_none}
-use Rattle.std.proofs.lemmas.Bool.{false≢true, both_ways, cases_eq, and_parts}
-use Rattle.listed.proofs.Members.{In, in_from_contains, contains_from_in, got_same, got_other}
-use Rattle.run_trace.specs.declared.entry.Kind.{Kind}
-use Rattle.run_trace.specs.declared.entry.Kind.TheVariants.{Took, Ran, Chunk, Begin, End as EndOf, PutOff, Mark, More, Sweep, Fuel}
-use Rattle.run_trace.specs.Entry.{EntryValue}
-use Rattle.run_trace.specs.Settings.{SettingsValue, field_limit}
-use Rattle.hh_lang.specs.Form.{ProgramText}
-use Rattle.hh_model.specs.declared.data.Name.{Name}
-use Rattle.hh_model.specs.declared.data.Object.{Object}
-use Rattle.hh_model.specs.declared.data.State.{State}
-use Rattle.hh_model.specs.Effect.{object_at}
-use Rattle.hh_model.specs.Step.{step, start, can_step, asked, owner_of}
-use Rattle.hh_model.specs.Store.{IsStored}
-use Rattle.hh_model.proofs.Carried.{next_name}
-use Rattle.run_ledger.specs.declared.data.Heap.{Heap}
-use Rattle.run_ledger.specs.declared.data.Ledger.{Ledger}
-use Rattle.run_ledger.specs.declared.data.RunEnd.TheVariants.{Pool}
-use Rattle.run_ledger.specs.Reachable.{is_name, holds_name}
-use Rattle.run_ledger.specs.Heaps.{held_in, held, heap_at, heap_of, or_fresh, with_heap, with_heap_at, is_small, in_use, collected, swept_heap}
-use Rattle.run_ledger.specs.Steps.{allocated_by, allocated_in, stepped_to, task_step, task_steps, on_asked}
-use Rattle.run_ledger.specs.Entries.{refusal, kind_refusal, after_kind, after, chunk_units, with_chunk}
-use Rattle.run_ledger.specs.Journals.{opening, after_all, ledger_of, is_legal_from}
-use Rattle.run_ledger.specs.Laws.{Drops, IsDropped, HeldIsUndropped}
-use Rattle.run_ledger.proofs.Members.{same_from_is_name, in_from_holds, holds_from_in}
-use Rattle.run_ledger.proofs.Machine.{stepped_machine}
-use Rattle.run_ledger.proofs.Held.{collected_down, collected_up, swept_down, swept_up}
-use Rattle.run_ledger.proofs.Sound.{Keeps, InHeaps, names_of, SoundLedger, held_keeps, in_held}
-use Rattle.run_ledger.proofs.Steps.{SoundAt, heap_of_task, can_tells, task_step_sound}
-use Rattle.run_ledger.proofs.Grown.{Grown, next_unstored}
-use Rattle.run_ledger.proofs.Weights.{weight, total_set}
-use Rattle.run_ledger.proofs.Stocks.{copies, copies_keeps, keeps_copies, hit, hit_itself, StockedLedger, with_heap_any, allocated_total, G, same_copies, task_step_stocked, kind_stocked, legal_stocked, opening_stocked}
-use Rattle.run_ledger.proofs.Journals.{out_tells, entry_tells, entry_sound, opening_sound}
+-- A name is held if and only if it was allocated and not dropped.
+use Rattle.journal_laws.proofs.Common.{◌≡◌, ℕ, zero, suc, ◌+◌, ◌≤◌, Bool, true, false, cond, Option, Some, None, List, [], ◌∷◌, slice_get, slice_set, nat_lt, Contains, ◌⊎◌, inl, inr, refl, sym, subst, ◌∙◌, arith, is_some, is_none, false≢true, both_ways, cases_eq, and_parts, In, in_from_contains, contains_from_in, got_same, got_other, Kind, Took, Ran, Chunk, Begin, End as EndOf, PutOff, Mark, More, Sweep, Fuel, EntryValue, SettingsValue, field_limit, ProgramText, Name, Object, MachineState, object_at, step, start, can_step, asked, owner_of, IsStored, next_name, Heap, Ledger, Pool, is_name, holds_name, held_in, held, heap_at, heap_of, or_fresh, with_heap, with_heap_at, is_small, in_use, collected, swept_heap, allocated_by, allocated_in, stepped_to, task_step, task_steps, on_asked, refusal, kind_refusal, after_kind, after, chunk_units, with_chunk, opening, after_all, ledger_of, is_legal_from, Drops, IsDropped, HeldIsUndropped, same_from_is_name, in_from_holds, holds_from_in, stepped_machine, collected_down, collected_up, swept_down, swept_up, Keeps, InHeaps, names_of, SoundLedger, held_keeps, in_held, SoundAt, heap_of_task, can_tells, task_step_sound, Grown, next_unstored, weight, total_set, copies, copies_keeps, keeps_copies, hit, hit_itself, StockedLedger, with_heap_any, allocated_total, G, same_copies, task_step_stocked, kind_stocked, legal_stocked, opening_stocked, out_tells, entry_tells, entry_sound, opening_sound}
 use Rattle.journal_laws.proofs.Words.{chunk_even}
 
--- from one state and its heaps to the next: of what was held all but the dropped is still held, and nothing else is but
--- what is new; and all that is new is held
+-- from one state and its heaps to the next: of what was held, all but the dropped is still held; all that is new is
+-- held; and nothing else is
 pub record Flows (D : Name → Type 0) (l l' : Ledger) : Type 0 where
   pub keeps : (n : Name) → Keeps l.heaps n → (D n → ⊥) → Keeps l'.heaps n
   pub only : (n : Name) → Keeps l'.heaps n → (Keeps l.heaps n ⊎ (IsStored l.machine n → ⊥)) × (D n → ⊥)
@@ -84,11 +52,11 @@ module _ (p : ProgramText) (l : Ledger) (t : ℕ) (S : SoundAt t l) (I : Stocked
 
   old_or_new : (o : Option ℕ) (n : Name) → 1 ≤ copies n (allocated_by l t o).heaps → Keeps l.heaps n ⊎ (next_name t l.machine.store ≡ n)
   old_or_new None n h = inl (copies_keeps n l.heaps h)
-  old_or_new (Some w) n h = by (is_name (next_name t l.machine.store) n) refl (subst (λ c. 1 ≤ c) (allocated_total (hit n) l t heap.0 heap.1 w) h)
+  old_or_new (Some w) n h = old_or_new_by_cases (is_name (next_name t l.machine.store) n) refl (subst (λ c. 1 ≤ c) (allocated_total (hit n) l t heap.0 heap.1 w) h)
     where
-      by : (b : Bool) → is_name (next_name t l.machine.store) n ≡ b → 1 ≤ copies n l.heaps + cond b 1 0 → Keeps l.heaps n ⊎ (next_name t l.machine.store ≡ n)
-      by true e le = inr (same_from_is_name (next_name t l.machine.store) n e)
-      by false e le = inl (copies_keeps n l.heaps (omega arith))
+      old_or_new_by_cases : (b : Bool) → is_name (next_name t l.machine.store) n ≡ b → 1 ≤ copies n l.heaps + cond b 1 0 → Keeps l.heaps n ⊎ (next_name t l.machine.store ≡ n)
+      old_or_new_by_cases true e le = inr (same_from_is_name (next_name t l.machine.store) n e)
+      old_or_new_by_cases false e le = inl (copies_keeps n l.heaps (omega arith))
 
   to_k : (n : Name) → 1 ≤ copies n (allocated_in p l t).heaps → Keeps k.heaps n
   to_k n le = copies_keeps n k.heaps (subst (λ c. 1 ≤ c) (sym (same_copies p l t S I can n)) le)
@@ -103,19 +71,19 @@ module _ (p : ProgramText) (l : Ledger) (t : ℕ) (S : SoundAt t l) (I : Stocked
       elim (old_or_new (asked p l.machine t) n (from_k n q)) [ inl old ↦ inl old | inr e ↦ inr (λ s. next_unstored l.machine t (subst (IsStored l.machine) (sym e) s)) ],
       λ d. d,
     );
-    new = λ n s. elim (grown.down n (subst (λ (m : State). IsStored m n) machine_is s)) [
+    new = λ n s. elim (grown.down n (subst (λ (m : MachineState). IsStored m n) machine_is s)) [
       | inl old ↦ inl old
       | inr e ↦ inr (subst (Keeps k.heaps) (sym e.0) (to_k (next_name t l.machine.store) (new_here (asked p l.machine t) e.1)))
     ];
-    up = λ n s. subst (λ (m : State). IsStored m n) (sym machine_is) (grown.up n s);
+    up = λ n s. subst (λ (m : MachineState). IsStored m n) (sym machine_is) (grown.up n s);
   }
 
 task_step_flows : (p : ProgramText) (l : Ledger) (t : ℕ) → SoundAt t l → StockedLedger l → Flows Nothing l (task_step p l t)
-task_step_flows p l t S I = by (can_step l.machine t) refl
+task_step_flows p l t S I = task_step_flows_by_cases (can_step l.machine t) refl
   where
-    by : (v : Bool) → can_step l.machine t ≡ v → Flows Nothing l (cond v (stepped_to (allocated_in p l t) t (step p l.machine t)) (record l { steps = l.steps + 1 }))
-    by false e = record { keeps = λ n k d. k; only = λ n k. (inl k, λ d. d); new = λ n s. inl s; up = λ n s. s }
-    by true e = step_flows p l t S I e
+    task_step_flows_by_cases : (v : Bool) → can_step l.machine t ≡ v → Flows Nothing l (cond v (stepped_to (allocated_in p l t) t (step p l.machine t)) (record l { steps = l.steps + 1 }))
+    task_step_flows_by_cases false e = record { keeps = λ n k d. k; only = λ n k. (inl k, λ d. d); new = λ n s. inl s; up = λ n s. s }
+    task_step_flows_by_cases true e = step_flows p l t S I e
 
 task_steps_flow : (p : ProgramText) (k : ℕ) (l : Ledger) (t : ℕ) → SoundAt t l → StockedLedger l → Flows Nothing l (task_steps p l t k)
 task_steps_flow p zero l t S I = rests l
@@ -125,7 +93,7 @@ task_steps_flow p (suc k) l t S I =
 
 -- OTHER ENTRIES
 
--- a heap's account changes, and its names don't
+-- a heap's account changes, but not its names
 even : (l : Ledger) (t : ℕ) (f : Heap → Heap) → ((h : Heap) (g : Name → ℕ) → weight g (f h) ≡ weight g h) → Flows Nothing l (with_heap l t f)
 even l t f same = with_heap_any (Flows Nothing l) l t f (rests l) (λ h e.
     let eq : (n : Name) → copies n (slice_set l.heaps t (f h)) ≡ copies n l.heaps = λ n. (let a = total_set (weight (hit n)) l.heaps t h (f h) e in let b = same h (hit n) in omega arith) in
@@ -136,7 +104,7 @@ even l t f same = with_heap_any (Flows Nothing l) l t f (rests l) (λ h e.
       up = λ n s. s;
     })
 
--- a heap lets go of what isn't among these names
+-- a heap drops what isn't among these names
 abbrev Lost : Ledger → ℕ → List Name → Name → Type 0
 Lost l t ns n = IsStored l.machine n × (owner_of l.machine.tasks n.task ≡ t) × (Contains ns n → ⊥)
 
@@ -145,11 +113,11 @@ cut_flows : (l : Ledger) (t : ℕ) (h h' : Heap) (ns : List Name) → SoundLedge
     → Flows (Lost l t ns) l (record l { heaps = slice_set l.heaps t h' })
 cut_flows l t h h' ns S I is dn up = record { keeps = keeps; only = only; new = λ n s. inl s; up = λ n s. s }
   where
-    here : (n : Name) → In (held_in h') n → Keeps (slice_set l.heaps t h') n
-    here n i = (t, subst (λ o. In (names_of o) n) (sym (got_same l.heaps t h h' is)) i)
+    cut_flows_here : (n : Name) → In (held_in h') n → Keeps (slice_set l.heaps t h') n
+    cut_flows_here n i = (t, subst (λ o. In (names_of o) n) (sym (got_same l.heaps t h h' is)) i)
 
     keep_by : (n : Name) → Keeps l.heaps n → In (held_in h) n → (b : Bool) → holds_name ns n ≡ b → (Lost l t ns n → ⊥) → (owner_of l.machine.tasks n.task ≡ t) → Keeps (slice_set l.heaps t h') n
-    keep_by n k i true e un o = here n (up n i (in_from_holds ns n e))
+    keep_by n k i true e un o = cut_flows_here n (up n i (in_from_holds ns n e))
     keep_by n k i false e un o = absurd (un (I.stored n k, o, λ c. both_ways (holds_name ns n) e (holds_from_in ns n (in_from_contains ns n c))))
 
     keeps : (n : Name) → Keeps l.heaps n → (Lost l t ns n → ⊥) → Keeps (slice_set l.heaps t h') n
@@ -171,7 +139,7 @@ cut_flows l t h h' ns S I is dn up = record { keeps = keeps; only = only; new = 
           (inl (k.0, i), λ d. ne (sym (S.owners k.0 n i).1 ∙ d.1))
     ]
 
--- where there is no such heap nothing is lost
+-- without such a heap nothing is lost
 none_lost : (l : Ledger) (t : ℕ) (ns : List Name) → SoundLedger l → slice_get l.heaps t ≡ None → Flows (Lost l t ns) l l
 none_lost l t ns S e = record {
   keeps = λ n k un. k;
@@ -188,11 +156,11 @@ none_lost l t ns S e = record {
 cut_any : (l : Ledger) (t : ℕ) (f : Heap → Heap) (names : Heap → List Name) → SoundLedger l → StockedLedger l
     → ((h : Heap) (n : Name) → In (held_in (f h)) n → In (held_in h) n × In (names h) n) → ((h : Heap) (n : Name) → In (held_in h) n → In (names h) n → In (held_in (f h)) n)
     → Flows (Lost l t (names (heap_of l t))) l (with_heap l t f)
-cut_any l t f names S I dn up = by (heap_at l t) refl
+cut_any l t f names S I dn up = cut_any_by_cases (heap_at l t) refl
   where
-    by : (o : Option Heap) → heap_at l t ≡ o → Flows (Lost l t (names (or_fresh o))) l (with_heap_at l t f o)
-    by None e = none_lost l t (names (or_fresh None)) S e
-    by (Some h) e = cut_flows l t h (f h) (names h) S I e (dn h) (up h)
+    cut_any_by_cases : (o : Option Heap) → heap_at l t ≡ o → Flows (Lost l t (names (or_fresh o))) l (with_heap_at l t f o)
+    cut_any_by_cases None e = none_lost l t (names (or_fresh None)) S e
+    cut_any_by_cases (Some h) e = cut_flows l t h (f h) (names h) S I e (dn h) (up h)
 
 chunk_flows : (l : Ledger) (t : ℕ) (next : Option ℕ) (full : Bool) (end : Ledger) → Flows Nothing l end → Flows Nothing l (cond full end (with_heap l t (with_chunk next)))
 chunk_flows l t next true end E = E
@@ -241,17 +209,17 @@ module _ (p : ProgramText) (s : SettingsValue) where
         | inr un ↦ (inr (λ st. un (F.up n st)), λ d. elim d [ inl now ↦ un (F.up n (drop_stored l e.kind n now)) | inr later ↦ more.1 later ])
       ]
 
-  stored_or : (m : State) (n : Name) → IsStored m n ⊎ (IsStored m n → ⊥)
-  stored_or m n = by (object_at m.store n) refl
+  stored_or : (m : MachineState) (n : Name) → IsStored m n ⊎ (IsStored m n → ⊥)
+  stored_or m n = stored_or_by_cases (object_at m.store n) refl
     where
-      by : (o : Option Object) → object_at m.store n ≡ o → IsStored m n ⊎ (IsStored m n → ⊥)
-      by None e = inr (λ st. none_some st.0 (sym e ∙ st.1))
+      stored_or_by_cases : (o : Option Object) → object_at m.store n ≡ o → IsStored m n ⊎ (IsStored m n → ⊥)
+      stored_or_by_cases None e = inr (λ st. none_some st.0 (sym e ∙ st.1))
         where
           none_some : (x : Object) → ◌≡◌ {A = Option Object} None (Some x) → ⊥
           none_some x q = absurd cc
-      by (Some x) e = inl (x, e)
+      stored_or_by_cases (Some x) e = inl (x, e)
 
-  -- what is there at the end and wasn't dropped is held
+  -- what exists at the end and wasn't dropped is held
   undropped_held : (es : List EntryValue) (l : Ledger) → SoundLedger l → StockedLedger l → is_legal_from p s l es ≡ true → (n : Name) → Keeps l.heaps n ⊎ (IsStored l.machine n → ⊥)
       → IsStored (after_all p s l es).machine n → (IsDropped p s l es n → ⊥) → Keeps (after_all p s l es).heaps n
   undropped_held [] l S I h n (inl k) st un = k
@@ -271,11 +239,11 @@ module _ (p : ProgramText) (s : SettingsValue) where
       st (λ d. un (inr d))
 
 none_at_first : (p : ProgramText) (limit : ℕ) (n : Name) → IsStored (start p limit) n → ⊥
-none_at_first p limit n st = by n.task n.count st.0 st.1
+none_at_first p limit n st = none_at_first_by_cases n.task n.count st.0 st.1
   where
-    by : (t c : ℕ) (o : Object) → object_at ([] ∷ []) (record { task = t; count = c }) ≡ Some o → ⊥
-    by zero c o e = absurd cc
-    by (suc t) c o e = absurd cc
+    none_at_first_by_cases : (t c : ℕ) (o : Object) → object_at ([] ∷ []) (record { task = t; count = c }) ≡ Some o → ⊥
+    none_at_first_by_cases zero c o e = absurd cc
+    none_at_first_by_cases (suc t) c o e = absurd cc
 
 pub held_is_undropped : HeldIsUndropped
 held_is_undropped p s journal legal n =

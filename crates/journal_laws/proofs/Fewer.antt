@@ -1,19 +1,5 @@
--- An entry of fewer steps isn't refused where one of more isn't.
-use Rattle.std.proofs.Common.{◌≡◌, ℕ, zero, suc, ◌≤◌, ◌&&◌, ◌||◌, not, min, Bool, true, false, cond, Option, None, nat_le, nat_lt, ap, sym, ◌∙◌, is_some, is_none, arith}
-use Rattle.std.proofs.lemmas.Bool.{le-leb}
-use Rattle.listed.proofs.Options.{none_is}
-use Rattle.run_trace.specs.declared.entry.Kind.TheVariants.{Ran}
-use Rattle.run_trace.specs.Settings.{SettingsValue}
-use Rattle.hh_lang.specs.Form.{ProgramText}
-use Rattle.run_ledger.specs.declared.data.Ledger.{Ledger}
-use Rattle.run_ledger.specs.declared.data.Refused.{Refused}
-use Rattle.run_ledger.specs.declared.data.Refused.TheVariants.{Over, Spent, NoWorker, NotOut, Collecting, Long}
-use Rattle.run_ledger.specs.Heaps.{heap_of}
-use Rattle.run_ledger.specs.Steps.{task_step, is_due, is_in_need, is_private, most_steps, standing}
-use Rattle.run_ledger.specs.Entries.{refused_if, refused_unless, is_out, long_at}
-use Rattle.run_ledger.specs.Cuts.{FewerStepsAreLegal}
-use Rattle.run_ledger.proofs.Bounds.{ran_tells}
-use Rattle.run_ledger.proofs.Journals.{entry_tells, out_tells}
+-- If an entry isn't refused, the same entry with fewer steps isn't either.
+use Rattle.journal_laws.proofs.Common.{◌≡◌, ℕ, zero, suc, ◌≤◌, ◌&&◌, ◌||◌, not, min, Bool, true, false, cond, Option, None, nat_le, nat_lt, ap, sym, ◌∙◌, is_some, is_none, arith, le-leb, none_is, Ran, SettingsValue, ProgramText, Ledger, Refused, Over, Spent, NoWorker, NotOut, Collecting, Long, heap_of, task_step, is_due, is_in_need, is_private, most_steps, standing, refused_if, refused_unless, is_out, long_at, FewerStepsAreLegal, ran_tells, entry_tells, out_tells}
 
 fewer_by : (j k : ℕ) (a b : Bool) (rest rest' : ℕ) → j ≤ k → (j ≤ k → k ≤ rest → j ≤ rest') → suc k ≤ cond a 0 (cond b (suc rest) 1) → suc j ≤ cond a 0 (cond b (suc rest') 1)
 fewer_by j k true b rest rest' le more h = absurd (omega arith)

@@ -1,33 +1,7 @@
--- A fork sets down what was reached within the heap just before it.
-use Rattle.std.proofs.Common.{◌≡◌, ℕ, zero, suc, ◌+◌, ◌<◌, ◌==◌, ◌&&◌, not, Bool, true, Some, None, List, [], ◌∷◌, ◌++◌, length, filter, slice_get, slice_set, inl, inr, refl, ap, ap₂, sym, ◌∙◌}
-use Rattle.std.specs.List.{flat_map}
-use Rattle.std.proofs.lemmas.Bool.{false≢true, both_ways, cond-true}
-use Rattle.std.proofs.Math.Path.{fun_ext}
-use Rattle.listed.proofs.Members.{got_same, got_within}
-use Rattle.hh_lang.specs.declared.instr.Instr.TheVariants.{Par}
-use Rattle.hh_lang.specs.declared.program.Line.{Line}
-use Rattle.hh_lang.specs.Form.{ProgramText}
-use Rattle.hh_model.specs.declared.data.Name.{Name}
-use Rattle.hh_model.specs.declared.data.Object.{Object}
-use Rattle.hh_model.specs.declared.data.Status.TheVariants.{Waiting}
-use Rattle.hh_model.specs.declared.data.Task.{Task}
-use Rattle.hh_model.specs.declared.data.State.{State}
-use Rattle.hh_model.specs.Effect.{onward}
-use Rattle.hh_model.specs.Names.{refs_at, refs_of, registers, words_asked}
-use Rattle.hh_model.specs.Step.{asked, asked_line, can_step, child, ended_task, fetched, is_running, is_waiting, joined_task, owner_of, parent_of, parents, result_of, resumed, step, waits}
-use Rattle.hh_model.specs.Tree.{IsForkJoinState, waiting}
-use Rattle.hh_model.proofs.Closed.{asked_at}
-use Rattle.path_laws.proofs.Leaves.{fork_owner, rows_same}
-use Rattle.hh_model.proofs.Paths.{path_same}
-use Rattle.hh_model.proofs.Runs.{running_tells, grown_at, grown_view_front, three_left, three_right, below}
-use Rattle.hh_model.proofs.Steps.{step_cases}
-use Rattle.run_ledger.specs.Heaps.{frames_of, is_above, within}
-use Rattle.run_ledger.specs.Reachable.{reached, reached_by}
-use Rattle.run_ledger.proofs.Reached.{once_by}
-use Rattle.run_ledger.proofs.Booked.{wait_run}
-use Rattle.run_ledger.proofs.Steps.{can_tells}
+-- A fork records what was reachable within the heap just before it.
+use Rattle.journal_laws.proofs.Common.{◌≡◌, ℕ, zero, suc, ◌+◌, ◌<◌, ◌==◌, ◌&&◌, not, Bool, true, Some, None, List, [], ◌∷◌, ◌++◌, length, filter, slice_get, slice_set, inl, inr, refl, ap, ap₂, sym, ◌∙◌, flat_map, false≢true, both_ways, cond-true, fun_ext, got_same, got_within, Par, Line, ProgramText, Name, Object, Waiting, Task, MachineState, onward, refs_at, refs_of, registers, words_asked, asked, asked_line, can_step, child, ended_task, fetched, is_running, is_waiting, joined_task, owner_of, parent_of, parents, result_of, resumed, step, waits, IsForkJoinState, waiting, asked_at, fork_owner, rows_same, path_same, running_tells, grown_at, grown_view_front, three_left, three_right, below, step_cases, frames_of, is_above, within, reached, reached_by, once_by, wait_run, can_tells}
 
--- WHAT IS REACHED, in stores with the same references
+-- REACHABILITY, in stores with the same references
 
 reached_same : (store store' : List (List Object)) → refs_at store' ≡ refs_at store → (names roots : List Name) (k : ℕ) → reached_by store' names roots k ≡ reached_by store names roots k
 reached_same store store' e names roots zero = refl
@@ -38,14 +12,14 @@ within_by refs store names regs above hs = reached store names (regs ++ flat_map
 
 -- THE MACHINE BEFORE AND AFTER
 
--- what is reached within t's heap goes by the same
-pub record SeesSame (m m' : State) (t : ℕ) : Type 0 where
+-- reachability within t's heap depends on the same
+pub record SeesSame (m m' : MachineState) (t : ℕ) : Type 0 where
   pub registers : registers (frames_of (slice_get m'.tasks t)) ≡ registers (frames_of (slice_get m.tasks t))
   pub above : (n : Name) → is_above m'.tasks (owner_of m'.tasks n.task) t ≡ is_above m.tasks (owner_of m.tasks n.task) t
   pub refs : (n : Name) → refs_at m'.store n ≡ refs_at m.store n
 
-module _ (p : ProgramText) (m : State) (t : ℕ) (K : IsForkJoinState m) (can : can_step m t ≡ true) where
-  abbrev Forked : State → Type 0
+module _ (p : ProgramText) (m : MachineState) (t : ℕ) (K : IsForkJoinState m) (can : can_step m t ≡ true) where
+  abbrev Forked : MachineState → Type 0
   Forked m' = waiting m'.tasks t ≡ true → (asked p m t ≡ None) × SeesSame m m' t
 
   running : (x : Task) → slice_get m.tasks t ≡ Some x → is_running (Some x) ≡ true → waiting m.tasks t ≡ true → ⊥
@@ -54,7 +28,7 @@ module _ (p : ProgramText) (m : State) (t : ℕ) (K : IsForkJoinState m) (can : 
   none_asked : (x : Task) (line : Line) (g h : ℕ) → slice_get m.tasks t ≡ Some x → is_running (Some x) ≡ true → fetched p x.top ≡ Some line → line.instr ≡ Par g h → asked p m t ≡ None
   none_asked x line g h is run at par = asked_at p m t x is run ∙ (ap (asked_line m.field_limit x.top) at ∙ ap (words_asked m.field_limit x.top) par)
 
-  forks : (x : Task) (g h : ℕ) (m' : State) → slice_get m.tasks t ≡ Some x → is_running (Some x) ≡ true
+  forks : (x : Task) (g h : ℕ) (m' : MachineState) → slice_get m.tasks t ≡ Some x → is_running (Some x) ≡ true
       → m'.tasks ≡ slice_set m.tasks t (record x { status = Waiting; top = onward x.top }) ++ child t (x.depth + 1) g x.top ∷ child t (x.depth + 1) h x.top ∷ []
       → m'.store ≡ m.store ++ [] ∷ [] ∷ [] → SeesSame m m' t
   forks x g h m' is run et es =

@@ -1,50 +1,15 @@
--- Survivors and snapshots are what was reached where they were set down.
-use Rattle.std.proofs.Common.{◌≡◌, ℕ, zero, suc, ◌+◌, ◌≤◌, Bool, true, false, cond, Option, Some, None, List, [], ◌∷◌, ◌++◌, length, slice_get, slice_set, sum_by, nat_lt, ◌⊎◌, inl, inr, refl, ap, sym, subst, ◌∙◌, is_none, is_some, append_assoc, append-nil, arith, eqb-true}
-use Rattle.std.proofs.lemmas.Bool.{false≢true, cases_eq, both_ways, and_parts, eqb-false}
-use Rattle.std.proofs.lemmas.List.Sums.{sum_by-cons}
-use Rattle.listed.proofs.Members.{In, in_append_cases, in_from_contains, in_from_kept, contains_from_in, got_front, got_other, got_same, got_within}
-use Rattle.run_trace.specs.declared.entry.Kind.{Kind}
-use Rattle.run_trace.specs.declared.entry.Kind.TheVariants.{Took, Ran, Chunk, Begin, End as EndOf, PutOff, Mark, More, Sweep, Fuel}
-use Rattle.run_trace.specs.Entry.{EntryValue}
-use Rattle.run_trace.specs.Settings.{SettingsValue}
-use Rattle.hh_lang.specs.Form.{ProgramText}
-use Rattle.hh_model.specs.declared.data.Name.{Name}
-use Rattle.hh_model.specs.declared.data.Object.{Object}
-use Rattle.hh_model.specs.declared.data.State.{State}
-use Rattle.hh_model.specs.Step.{asked, can_step, is_running, step}
-use Rattle.hh_model.specs.Tree.{waiting}
-use Rattle.hh_model.proofs.Closed.{waits_is}
-use Rattle.path_laws.proofs.Leaves.{wait_task, waits_alone}
-use Rattle.run_ledger.specs.declared.data.Heap.{Heap}
-use Rattle.run_ledger.specs.declared.data.Ledger.{Ledger}
-use Rattle.run_ledger.specs.declared.data.RunEnd.TheVariants.{Pool}
-use Rattle.run_ledger.specs.Reachable.{reached_by}
-use Rattle.run_ledger.specs.Heaps.{chunk_words, collected, forked_heap, fresh, heap_at, heap_of, held_in, in_use, is_small, or_fresh, roots_of, swept_heap, take_of, with_heap, with_heap_at, within}
-use Rattle.run_ledger.specs.Steps.{allocated_by, allocated_in, at_fork, moved_on, moved_to, on_asked, settled, stepped_to, task_step, task_steps}
-use Rattle.run_ledger.specs.Entries.{after, after_kind, chunk_units, is_out, kind_refusal, refusal, with_chunk}
-use Rattle.run_ledger.specs.Journals.{is_legal_from, ledger_of, opening}
-use Rattle.journal_laws.specs.Frozen.{BeganWith, ForkedWith, HasNone, SnapshotsAreHeld, SnapshotsAreWithin, SurvivorsAreWithin, begins, is_of_steps}
-use Rattle.run_ledger.proofs.Booked.{wait_run}
-use Rattle.run_ledger.proofs.Cuts.{after_cut, cut_legal}
-use Rattle.run_ledger.proofs.Frames.{left_step, heap_view, heap_off}
-use Rattle.run_ledger.proofs.Held.{chunk_up, swept_up}
-use Rattle.run_ledger.proofs.Journals.{collecting_is, entry_sound, entry_tells, none_unless, opening_sound, out_runs, out_tells}
-use Rattle.run_ledger.proofs.Machine.{stepped_machine}
-use Rattle.run_ledger.proofs.Moves.{moves_each}
+-- Survivors and snapshots are what was reachable when they were recorded.
+use Rattle.journal_laws.proofs.Common.{◌≡◌, ℕ, zero, suc, ◌+◌, ◌≤◌, Bool, true, false, cond, Option, Some, None, List, [], ◌∷◌, ◌++◌, length, slice_get, slice_set, sum_by, nat_lt, ◌⊎◌, inl, inr, refl, ap, sym, subst, ◌∙◌, is_none, is_some, append_assoc, append-nil, arith, eqb-true, false≢true, cases_eq, both_ways, and_parts, eqb-false, sum_by-cons, In, in_append_cases, in_from_contains, in_from_kept, contains_from_in, got_front, got_other, got_same, got_within, Kind, Took, Ran, Chunk, Begin, End as EndOf, PutOff, Mark, More, Sweep, Fuel, EntryValue, SettingsValue, ProgramText, Name, Object, MachineState, asked, can_step, is_running, step, waiting, waits_is, wait_task, waits_alone, Heap, Ledger, Pool, reached_by, chunk_words, collected, forked_heap, fresh, heap_at, heap_of, held_in, in_use, is_small, or_fresh, roots_of, swept_heap, take_of, with_heap, with_heap_at, within, allocated_by, allocated_in, at_fork, moved_on, moved_to, on_asked, settled, stepped_to, task_step, task_steps, after, after_kind, chunk_units, is_out, kind_refusal, refusal, with_chunk, is_legal_from, ledger_of, opening, wait_run, after_cut, cut_legal, left_step, heap_view, heap_off, chunk_up, swept_up, collecting_is, entry_sound, entry_tells, none_unless, opening_sound, out_runs, out_tells, stepped_machine, moves_each, SoundLedger, collecting, SoundAt, heap_of_task, step_keeps, step_leaves, steps_keep, task_step_sound, can_tells, task_steps_sound, copies, distinct, hit, legal_stocked, with_heap_any, kept_weight, weight, BeganWith, ForkedWith, HasNone, SnapshotsAreHeld, SnapshotsAreWithin, SurvivorsAreWithin, begins, is_of_steps}
 use Rattle.journal_laws.proofs.OfNames.{flat_fresh, flat_set, held_fresh, held_set, within_same}
-use Rattle.run_ledger.proofs.Sound.{SoundLedger, collecting}
-use Rattle.run_ledger.proofs.Steps.{SoundAt, heap_of_task, step_keeps, step_leaves, steps_keep, task_step_sound, can_tells, task_steps_sound}
-use Rattle.run_ledger.proofs.Stocks.{copies, distinct, hit, legal_stocked, with_heap_any}
-use Rattle.run_ledger.proofs.Weights.{kept_weight, weight}
 
 -- ONE HEAP OF A LEDGER
 
 heap_here : (l : Ledger) (t : ℕ) (f : Heap → Heap) → (heap_of (with_heap l t f) t ≡ f (heap_of l t)) ⊎ (heap_of (with_heap l t f) t ≡ fresh)
-heap_here l t f = by (heap_at l t) refl
+heap_here l t f = heap_here_by_cases (heap_at l t) refl
   where
-    by : (o : Option Heap) → heap_at l t ≡ o → (heap_of (with_heap_at l t f o) t ≡ f (heap_of l t)) ⊎ (heap_of (with_heap_at l t f o) t ≡ fresh)
-    by None e = inr (ap or_fresh e)
-    by (Some h) e = inl (ap or_fresh (got_same l.heaps t h (f h) e) ∙ ap (λ o. f (or_fresh o)) (sym e))
+    heap_here_by_cases : (o : Option Heap) → heap_at l t ≡ o → (heap_of (with_heap_at l t f o) t ≡ f (heap_of l t)) ⊎ (heap_of (with_heap_at l t f o) t ≡ fresh)
+    heap_here_by_cases None e = inr (ap or_fresh e)
+    heap_here_by_cases (Some h) e = inl (ap or_fresh (got_same l.heaps t h (f h) e) ∙ ap (λ o. f (or_fresh o)) (sym e))
 
 no_begun : {A : Type 0} (h : Heap) → h ≡ fresh → is_some h.begun ≡ true → A
 no_begun h e c = absurd (false≢true (ap (λ (g : Heap). is_some g.begun) (sym e) ∙ c))
@@ -112,25 +77,25 @@ module _ (p : ProgramText) (t u : ℕ) (ne : t ≡ u → ⊥) where
         (λ v h none q e. none)
 
     pub idle_then : collecting (slice_get k.heaps t) ≡ false
-    idle_then = by (slice_get k.heaps t) refl
+    idle_then = idle_then_by_cases (slice_get k.heaps t) refl
       where
-        by : (o : Option Heap) → slice_get k.heaps t ≡ o → collecting o ≡ false
-        by None e = refl
-        by (Some h) e = idle_k t h e refl
+        idle_then_by_cases : (o : Option Heap) → slice_get k.heaps t ≡ o → collecting o ≡ false
+        idle_then_by_cases None e = refl
+        idle_then_by_cases (Some h) e = idle_k t h e refl
 
   on_step_by : (l : Ledger) → SoundAt u l → (v : Bool) → is_running (slice_get l.machine.tasks t) ≡ v → GoesOn t l (task_step p l u)
   on_step_by l S true e c =
       let same = ap or_fresh (left_step p l u t S ne e).1 in
       (ap (λ (h : Heap). is_some h.begun) (sym same) ∙ c, ap (λ (h : Heap). h.survivors) same)
-  on_step_by l S false e c' = by (can_step l.machine u) refl c'
+  on_step_by l S false e c' = on_step_by_cases (can_step l.machine u) refl c'
     where
       idle : (v : Bool) → collecting (slice_get l.heaps t) ≡ v → v ≡ false
       idle true c = absurd (both_ways (is_running (slice_get l.machine.tasks t)) e (S.0.running t c))
       idle false c = refl
 
-      by : (v : Bool) → can_step l.machine u ≡ v → GoesOn t l (cond v (stepped_to (allocated_in p l u) u (step p l.machine u)) (record l { steps = l.steps + 1 }))
-      by false can c = (c, refl)
-      by true can c =
+      on_step_by_cases : (v : Bool) → can_step l.machine u ≡ v → GoesOn t l (cond v (stepped_to (allocated_in p l u) u (step p l.machine u)) (record l { steps = l.steps + 1 }))
+      on_step_by_cases false can c = (c, refl)
+      on_step_by_cases true can c =
           absurd (false≢true (sym (idle_then l S can (let q = idle (collecting (slice_get l.heaps t)) refl in q))
           ∙ (sym (collecting_is (slice_get (stepped_to (allocated_in p l u) u (step p l.machine u)).heaps t)) ∙ c)))
 
@@ -158,7 +123,7 @@ on_kind p s l t w Fuel S h off = λ c. (c, refl)
 
 -- THE SNAPSHOT
 
--- a task that waits waited before, with the same snapshot, and what was held of it is
+-- a task that waits waited before, with the same snapshot, and what was held of it still is
 abbrev WaitsOn : ℕ → Ledger → Ledger → Type 0
 WaitsOn t l k =
     waiting k.machine.tasks t ≡ true
@@ -172,10 +137,10 @@ wait_both t l k m A B w =
     (a.0, b.1 ∙ a.1, λ n i j. b.2 n (subst (λ ns. In ns n) (sym a.1) i) (a.2 n i j))
 
 wait_view : (t u : ℕ) (l : Ledger) (f : Heap → Heap) → ((h : Heap) → (f h).snapshot ≡ h.snapshot) → ((h : Heap) (n : Name) → In h.snapshot n → In (held_in h) n → In (held_in (f h)) n) → WaitsOn t l (with_heap l u f)
-wait_view t u l f es up = with_heap_any (WaitsOn t l) l u f (λ w. (w, refl, λ n i j. j)) (λ h e w. (w, same h e, held h e))
+wait_view t u l f es up = with_heap_any (WaitsOn t l) l u f (λ w. (w, refl, λ n i j. j)) (λ h e w. (w, wait_view_same h e, held h e))
   where
-    same : (h : Heap) → slice_get l.heaps u ≡ Some h → (or_fresh (slice_get (slice_set l.heaps u (f h)) t)).snapshot ≡ (heap_of l t).snapshot
-    same h e = elim (cases_eq t u) [
+    wait_view_same : (h : Heap) → slice_get l.heaps u ≡ Some h → (or_fresh (slice_get (slice_set l.heaps u (f h)) t)).snapshot ≡ (heap_of l t).snapshot
+    wait_view_same h e = elim (cases_eq t u) [
       | inl q ↦
           ap (λ v. (or_fresh (slice_get (slice_set l.heaps u (f h)) v)).snapshot) q
           ∙ (ap (λ o. (or_fresh o).snapshot) (got_same l.heaps u h (f h) e) ∙ (es h ∙ (ap (λ o. (or_fresh o).snapshot) (sym e) ∙ ap (λ v. (or_fresh (slice_get l.heaps v)).snapshot) (sym q))))
@@ -198,11 +163,11 @@ wait_off t u l f ne = with_heap_any (WaitsOn t l) l u f (λ w. (w, refl, λ n i 
 
 wait_chunk : (t u : ℕ) (l : Ledger) (next : Option ℕ) (full : Bool) → WaitsOn t l (cond full (record l { end = Some (Pool (in_use l)) }) (with_heap l u (with_chunk next)))
 wait_chunk t u l next true = λ w. (w, refl, λ n i j. j)
-wait_chunk t u l next false = wait_view t u l (with_chunk next) (λ h. same h (on_asked next is_small)) (λ h n i j. held h n (on_asked next is_small) j)
+wait_chunk t u l next false = wait_view t u l (with_chunk next) (λ h. wait_chunk_same h (on_asked next is_small)) (λ h n i j. held h n (on_asked next is_small) j)
   where
-    same : (h : Heap) (v : Bool) → (cond v (record h { chunks = h.chunks ++ [] ∷ []; room = chunk_words }) (record h { reserved = chunk_units next })).snapshot ≡ h.snapshot
-    same h true = refl
-    same h false = refl
+    wait_chunk_same : (h : Heap) (v : Bool) → (cond v (record h { chunks = h.chunks ++ [] ∷ []; room = chunk_words }) (record h { reserved = chunk_units next })).snapshot ≡ h.snapshot
+    wait_chunk_same h true = refl
+    wait_chunk_same h false = refl
 
     held : (h : Heap) (n : Name) (v : Bool) → In (held_in h) n → In (held_in (cond v (record h { chunks = h.chunks ++ [] ∷ []; room = chunk_words }) (record h { reserved = chunk_units next }))) n
     held h n true j = chunk_up h chunk_words n j
@@ -210,14 +175,14 @@ wait_chunk t u l next false = wait_view t u l (with_chunk next) (λ h. same h (o
 
 module _ (p : ProgramText) (t u : ℕ) (ne : t ≡ u → ⊥) where
   wait_step : (l : Ledger) → SoundAt u l → WaitsOn t l (task_step p l u)
-  wait_step l S = by (can_step l.machine u) refl
+  wait_step l S = wait_step_by_cases (can_step l.machine u) refl
     where
-      by : (v : Bool) → can_step l.machine u ≡ v → WaitsOn t l (cond v (stepped_to (allocated_in p l u) u (step p l.machine u)) (record l { steps = l.steps + 1 }))
-      by false can w = (w, refl, λ n i j. j)
-      by true can w =
+      wait_step_by_cases : (v : Bool) → can_step l.machine u ≡ v → WaitsOn t l (cond v (stepped_to (allocated_in p l u) u (step p l.machine u)) (record l { steps = l.steps + 1 }))
+      wait_step_by_cases false can w = (w, refl, λ n i j. j)
+      wait_step_by_cases true can w =
           let machine_is = stepped_machine (allocated_in p l u) u (step p l.machine u) in
           let off = (step_leaves p l u S can).4 t ne (inr w) in (
-            (waits_alone p l.machine u S.0.fork_join).others t ne (ap (λ (m : State). waiting m.tasks t) (sym machine_is) ∙ w),
+            (waits_alone p l.machine u S.0.fork_join).others t ne (ap (λ (m : MachineState). waiting m.tasks t) (sym machine_is) ∙ w),
             ap (λ o. (or_fresh o).snapshot) off,
             λ n i j. subst (λ o. In (held_in (or_fresh o)) n) (sym off) j,
           )
@@ -252,7 +217,7 @@ reached_in store names roots (suc k) n i = (in_from_kept _ names n i).0
 within_in : (l : Ledger) (t : ℕ) (n : Name) → In (within l t) n → In (held_in (heap_of l t)) n
 within_in l t n i = reached_in l.machine.store (held_in (heap_of l t)) (roots_of l t) (length (held_in (heap_of l t))) n i
 
--- where t waits the snapshot is what is reached
+-- while t waits, the snapshot is what is reachable
 abbrev Snapped : ℕ → Ledger → Type 0
 Snapped t l = waiting l.machine.tasks t ≡ true → (heap_of l t).snapshot ≡ within l t
 
@@ -286,7 +251,7 @@ alloc_heap l t h (Some w) is = (_, ap (λ (k : Ledger). slice_get k.heaps t) (ap
 pub forks_at : (p : ProgramText) (l b : Ledger) (t : ℕ) → SoundAt t l → can_step l.machine t ≡ true → waiting (step p l.machine t).tasks t ≡ true
     → stepped_to b t (step p l.machine t) ≡ at_fork (record b { machine = step p l.machine t; steps = b.steps + 1 }) t
 forks_at p l b t S can w =
-    let m' : State = step p l.machine t in
+    let m' : MachineState = step p l.machine t in
     let c : Ledger = record b { machine = m'; steps = b.steps + 1 } in
     let none = (waits_alone p l.machine t S.0.fork_join).own can w in
     let x = wait_task (slice_get m'.tasks t) w in
@@ -294,10 +259,10 @@ forks_at p l b t S can w =
 
 snap_can : (p : ProgramText) (l : Ledger) (t : ℕ) → SoundAt t l → can_step l.machine t ≡ true → Snapped t (stepped_to (allocated_in p l t) t (step p l.machine t))
 snap_can p l t S can w =
-    let m' : State = step p l.machine t in
+    let m' : MachineState = step p l.machine t in
     let b : Ledger = allocated_in p l t in
     let c : Ledger = record b { machine = m'; steps = b.steps + 1 } in
-    let w' : waiting m'.tasks t ≡ true = ap (λ (m : State). waiting m.tasks t) (sym (stepped_machine b t m')) ∙ w in
+    let w' : waiting m'.tasks t ≡ true = ap (λ (m : MachineState). waiting m.tasks t) (sym (stepped_machine b t m')) ∙ w in
     let forks : stepped_to b t m' ≡ at_fork c t = forks_at p l b t S can w' in
     let h = heap_of_task l t S.0 (can_tells l.machine t can).1 in
     let g = alloc_heap l t h.0 (asked p l.machine t) h.1 in
@@ -476,7 +441,7 @@ survivors_are_within p s journal t legal c = (known p s journal legal).began t c
 pub snapshots_are_within : SnapshotsAreWithin
 snapshots_are_within p s journal t legal w = (known p s journal legal).forked t w
 
--- one heap holds a name no more often than all
+-- one heap holds a name no more often than all heaps
 one_copy : (n : Name) (heaps : List Heap) (t : ℕ) → sum_by (hit n) (held_in (or_fresh (slice_get heaps t))) ≤ copies n heaps
 one_copy n [] t = omega arith
 one_copy n (h ∷ heaps) zero = let a = sum_by-cons (weight (hit n)) h heaps in omega (arith, a)

@@ -14,3 +14,4 @@ mod Forked
 pub mod Accepted
 pub mod PaceLaw
 pub mod KeptNames
+mod Common

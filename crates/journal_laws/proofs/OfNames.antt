@@ -1,24 +1,13 @@
--- What is reached within a heap depends on the held names alone.
-use Rattle.std.proofs.Common.{◌≡◌, ℕ, zero, suc, Option, Some, None, List, [], ◌∷◌, ◌++◌, filter, slice_get, slice_set, inl, inr, refl, ap, ap₂, sym, ◌∙◌}
-use Rattle.std.specs.List.{flat_map}
-use Rattle.std.proofs.lemmas.Bool.{cases_eq}
-use Rattle.std.proofs.lemmas.Option.{same_Some}
-use Rattle.listed.proofs.Members.{got_same, got_other}
-use Rattle.hh_model.specs.declared.data.Name.{Name}
-use Rattle.hh_model.specs.Names.{registers, refs_at}
-use Rattle.hh_model.specs.Step.{owner_of}
-use Rattle.run_ledger.specs.declared.data.Heap.{Heap}
-use Rattle.run_ledger.specs.declared.data.Ledger.{Ledger}
-use Rattle.run_ledger.specs.Heaps.{fresh, held, frames_of, held_in, heap_of, is_above, or_fresh, within}
-use Rattle.run_ledger.specs.Reachable.{reached}
+-- What is reachable within a heap depends only on the held names.
+use Rattle.journal_laws.proofs.Common.{◌≡◌, ℕ, zero, suc, Option, Some, None, List, [], ◌∷◌, ◌++◌, filter, slice_get, slice_set, inl, inr, refl, ap, ap₂, sym, ◌∙◌, flat_map, cases_eq, same_Some, got_same, got_other, Name, registers, refs_at, owner_of, Heap, Ledger, fresh, held, frames_of, held_in, heap_of, is_above, or_fresh, within, reached}
 
--- the names of all heaps, where one heap's account is written with the same names
+-- the names of all heaps, after one heap's account is written with the same names
 pub flat_set : (heaps : List Heap) (t : ℕ) (h h' : Heap) → slice_get heaps t ≡ Some h → held_in h' ≡ held_in h → flat_map held_in (slice_set heaps t h') ≡ flat_map held_in heaps
 flat_set [] t h h' is e = refl
 flat_set (g ∷ heaps) zero h h' is e = ap (λ ns. ns ++ flat_map held_in heaps) (e ∙ ap held_in (sym (same_Some g h is)))
 flat_set (g ∷ heaps) (suc t) h h' is e = ap (λ ns. held_in g ++ ns) (flat_set heaps t h h' is e)
 
--- and where fresh ones are added
+-- and after fresh heaps are added
 pub flat_fresh : (heaps : List Heap) → flat_map held_in (heaps ++ fresh ∷ fresh ∷ []) ≡ flat_map held_in heaps
 flat_fresh [] = refl
 flat_fresh (h ∷ heaps) = ap (λ ns. held_in h ++ ns) (flat_fresh heaps)
@@ -38,7 +27,7 @@ held_fresh [] (suc (suc u)) = refl
 held_fresh (h ∷ heaps) zero = refl
 held_fresh (h ∷ heaps) (suc u) = held_fresh heaps u
 
--- what is reached through these names, where those are held
+-- what is reachable through these names, if they are held
 abbrev within_of : Ledger → ℕ → List Name → List Name → List Name
 within_of l u ns hs =
     reached l.machine.store ns

@@ -1,49 +1,16 @@
 -- What the pace asks for is never refused.
-use Rattle.std.proofs.Common.{◌≡◌, ℕ, zero, suc, ◌+◌, ◌<◌, ◌≤◌, ◌==◌, not, Bool, true, false, cond, Option, Some, None, List, [], ◌∷◌, ◌++◌, slice_get, slice_set, nat_lt, nat_le, ◌⊎◌, inl, inr, refl, ap, sym, subst, ◌∙◌, arith, is_some, is_none, eq-eqb, replicate, length}
-use Rattle.std.proofs.lemmas.Bool.{false≢true, both_ways, cases_eq, and_parts, eqb-true, not-true}
-use Rattle.std.proofs.lemmas.Option.{same_Some}
-use Rattle.listed.proofs.Members.{In, got_same, got_other, got_within, in_append_cases}
-use Rattle.listed.proofs.Places.{got_none}
-use Rattle.run_trace.specs.declared.entry.Kind.{Kind}
-use Rattle.run_trace.specs.declared.entry.Kind.TheVariants.{Took, Ran, Chunk, Begin, End as EndOf, PutOff, Mark, More, Sweep, Fuel}
-use Rattle.run_trace.specs.Entry.{EntryValue}
-use Rattle.run_trace.specs.Settings.{SettingsValue}
-use Rattle.hh_lang.specs.Form.{ProgramText}
-use Rattle.hh_model.specs.declared.data.Strand.{Strand}
-use Rattle.hh_model.specs.declared.data.Status.TheVariants.{Waiting}
-use Rattle.hh_model.specs.declared.data.Task.{Task}
-use Rattle.hh_model.specs.declared.data.State.{State}
-use Rattle.hh_model.specs.Effect.{onward}
-use Rattle.hh_model.specs.Step.{waits, is_waiting, child, joined_task, resumed, ended_task, result_of, step, can_step, asked, strand_of}
+use Rattle.journal_laws.proofs.Common.{◌≡◌, ℕ, zero, suc, ◌+◌, ◌<◌, ◌≤◌, ◌==◌, not, Bool, true, false, cond, Option, Some, None, List, [], ◌∷◌, ◌++◌, slice_get, slice_set, nat_lt, nat_le, ◌⊎◌, inl, inr, refl, ap, sym, subst, ◌∙◌, arith, is_some, is_none, eq-eqb, replicate, length, false≢true, both_ways, cases_eq, and_parts, not-true, same_Some, In, got_same, got_other, got_within, in_append_cases, got_none, Kind, Took, Ran, Chunk, Begin, End as EndOf, PutOff, Mark, More, Sweep, Fuel, EntryValue, SettingsValue, ProgramText, Strand, Waiting, Task, MachineState, onward, waits, is_waiting, child, joined_task, resumed, ended_task, result_of, step, can_step, asked, strand_of, step_cases, grown_at, grown_other, three_top, three_left, three_right, three_other, below, Heap, Ledger, Pool, Previous, Other, Forked, WorkerPace, heap_at, heap_of, or_fresh, with_heap, with_heap_at, words_in, left_in, in_use, is_small, chunk_words, collected, swept_heap, sweep_number, allocated_in, stepped_to, task_step, task_steps, on_asked, refusal, kind_refusal, after_kind, after, on_marking, refused_if, refused_unless, with_chunk, chunk_units, opening, after_all, ledger_of, is_legal_from, waits_since, waits_on, is_unmarked, is_to_mark, is_under_way, more_of, owed_to_marks, owed_after, idle, pace_of, pace_opening, fork_of, noted, pace_after, pace_after_all, pace_at_end, CanBeGiven, OwedCanBeGiven, stepped_machine, heap_machine, SoundLedger, SoundAt, step_keeps, step_leaves, steps_keep, can_tells, with_heap_any, out_tells, wait_tells, entry_tells, entry_sound, opening_sound, wait_run}
+use Rattle.std.proofs.lemmas.Bool.{eqb-true}
 use Rattle.hh_model.proofs.ForkJoinStates.{IsForkJoinState}
-use Rattle.hh_model.proofs.Steps.{step_cases}
-use Rattle.hh_model.proofs.Runs.{grown_at, grown_other, three_top, three_left, three_right, three_other, below}
-use Rattle.run_ledger.specs.declared.data.Heap.{Heap}
-use Rattle.run_ledger.specs.declared.data.Ledger.{Ledger}
-use Rattle.run_ledger.specs.declared.data.RunEnd.TheVariants.{Pool}
-use Rattle.run_ledger.specs.declared.data.Previous.{Previous}
-use Rattle.run_ledger.specs.declared.data.Previous.TheVariants.{Other, Ran as RanBefore, Forked}
-use Rattle.run_ledger.specs.declared.data.WorkerPace.{WorkerPace}
+use Rattle.run_ledger.specs.declared.data.Previous.TheVariants.{Ran as RanBefore}
 use Rattle.run_ledger.specs.declared.data.Owed.TheVariants.{Mark as OwesMark, More as OwesMore, Sweep as OwesSweep}
-use Rattle.run_ledger.specs.Heaps.{heap_at, heap_of, or_fresh, with_heap, with_heap_at, words_in, left_in, in_use, is_small, chunk_words, collected, swept_heap, sweep_number}
-use Rattle.run_ledger.specs.Steps.{allocated_in, stepped_to, task_step, task_steps, on_asked}
-use Rattle.run_ledger.specs.Entries.{refusal, kind_refusal, after_kind, after, on_marking, refused_if, refused_unless, with_chunk, chunk_units}
-use Rattle.run_ledger.specs.Journals.{opening, after_all, ledger_of, is_legal_from}
-use Rattle.run_ledger.specs.Pace.{waits_since, waits_on, is_unmarked, is_to_mark, is_under_way, more_of, owed_to_marks, owed_after, idle, pace_of, pace_opening, fork_of, noted, pace_after, pace_after_all, pace_at_end}
-use Rattle.run_ledger.specs.Cuts.{CanBeGiven, OwedCanBeGiven}
-use Rattle.run_ledger.proofs.Machine.{stepped_machine, heap_machine}
-use Rattle.run_ledger.proofs.Sound.{SoundLedger}
-use Rattle.run_ledger.proofs.Steps.{SoundAt, step_keeps, step_leaves, steps_keep, can_tells}
-use Rattle.run_ledger.proofs.Stocks.{with_heap_any}
-use Rattle.run_ledger.proofs.Journals.{out_tells, wait_tells, entry_tells, entry_sound, opening_sound}
-use Rattle.run_ledger.proofs.Booked.{wait_run}
 
 -- TASKS
 
--- each task has joined as often as before or more often
-pub joins_grow : (p : ProgramText) (m : State) (t u : ℕ) (x : Task) → IsForkJoinState m → slice_get m.tasks u ≡ Some x → (y : Task) × (slice_get (step p m t).tasks u ≡ Some y) × (x.joins ≤ y.joins)
+-- the number of a task's joins never falls
+pub joins_grow : (p : ProgramText) (m : MachineState) (t u : ℕ) (x : Task) → IsForkJoinState m → slice_get m.tasks u ≡ Some x → (y : Task) × (slice_get (step p m t).tasks u ≡ Some y) × (x.joins ≤ y.joins)
 joins_grow p m t u x K at =
-    step_cases p m t K (λ m'. (y : Task) × (slice_get m'.tasks u ≡ Some y) × (x.joins ≤ y.joins)) same (λ z e is r why. same)
+    step_cases p m t K (λ m'. (y : Task) × (slice_get m'.tasks u ≡ Some y) × (x.joins ≤ y.joins)) joins_grow_same (λ z e is r why. joins_grow_same)
     (λ z y store outs is r ep ed es ej names fields alters grows. set z y is (omega (arith, ej)))
     (λ z parent e is r pp which result. set z (ended_task z (result_of z.top)) is (omega arith))
     (λ z g h is r next top.
@@ -67,8 +34,8 @@ joins_grow p m t u x K at =
       ]
     ])
   where
-    same : (y : Task) × (slice_get m.tasks u ≡ Some y) × (x.joins ≤ y.joins)
-    same = (x, at, omega arith)
+    joins_grow_same : (y : Task) × (slice_get m.tasks u ≡ Some y) × (x.joins ≤ y.joins)
+    joins_grow_same = (x, at, omega arith)
 
     set : (z y : Task) → slice_get m.tasks t ≡ Some z → z.joins ≤ y.joins → (y' : Task) × (slice_get (slice_set m.tasks t y) u ≡ Some y') × (x.joins ≤ y'.joins)
     set z y is le = elim (cases_eq u t) [
@@ -77,8 +44,8 @@ joins_grow p m t u x K at =
       | inr ne ↦ (x, got_other m.tasks t u y ne ∙ at, omega arith)
     ]
 
--- a task that waits goes on to wait as it is, or has joined once more
-pub waiting_moves : (p : ProgramText) (m : State) (t u : ℕ) (x : Task) → IsForkJoinState m → (u ≡ t → ⊥) → slice_get m.tasks u ≡ Some x → waits x.status ≡ true
+-- a task that waits still waits, unchanged, or has had one more join
+pub waiting_moves : (p : ProgramText) (m : MachineState) (t u : ℕ) (x : Task) → IsForkJoinState m → (u ≡ t → ⊥) → slice_get m.tasks u ≡ Some x → waits x.status ≡ true
     → (slice_get (step p m t).tasks u ≡ Some x) ⊎ ((y : Task) × (slice_get (step p m t).tasks u ≡ Some y) × (x.joins < y.joins))
 waiting_moves p m t u x K ne at w =
     step_cases p m t K (λ m'. (slice_get m'.tasks u ≡ Some x) ⊎ ((y : Task) × (slice_get m'.tasks u ≡ Some y) × (x.joins < y.joins))) (inl at) (λ z e is r why. inl at)
@@ -94,14 +61,14 @@ waiting_moves p m t u x K ne at w =
           (λ e. let q : x ≡ xr = same_Some x xr (sym at ∙ (ap (slice_get m.tasks) e ∙ ir)) in both_ways (waits x.status) (ap (λ (v : Task). waits v.status) q ∙ wr) w) np ∙ at)
     ])
 
--- FORKS THAT WERE MARKED
+-- FORKS WHOSE HEAP WAS MARKED
 
 -- the heap is marked or swept
 abbrev pub Touched : Heap → Type 0
 Touched h = (is_some h.marked ≡ true) ⊎ (h.swept ≡ true)
 
 -- the task has joined since that fork, or waits on it and its heap is marked or swept
-abbrev Past : State → Strand → Type 0
+abbrev Past : MachineState → Strand → Type 0
 Past m fork = (x : Task) × (slice_get m.tasks fork.task ≡ Some x) × (fork.joins < x.joins)
 
 abbrev Going : Ledger → Strand → Type 0
@@ -115,7 +82,7 @@ AllKnown l pace = (v : ℕ) (fork : Strand) → In (pace_of pace v).marks fork �
 
 -- a heap's account changes, and stays touched
 known_heap : (l : Ledger) (t : ℕ) (f : Heap → Heap) → ((h : Heap) → Touched h → Touched (f h)) → (fork : Strand) → Known l fork → Known (with_heap l t f) fork
-known_heap l t f touch fork (inl past) = inl (subst (λ (m : State). Past m fork) (sym (heap_machine l t f)) past)
+known_heap l t f touch fork (inl past) = inl (subst (λ (m : MachineState). Past m fork) (sym (heap_machine l t f)) past)
 known_heap l t f touch fork (inr g) =
     with_heap_any (λ (k : Ledger). Known k fork) l t f (inr g) (λ h e. inr (
       g.0,
@@ -138,14 +105,14 @@ module _ (p : ProgramText) (l : Ledger) (t : ℕ) (S : SoundAt t l) (can : can_s
   past_step : (fork : Strand) (x : Task) → slice_get l.machine.tasks fork.task ≡ Some x → fork.joins < x.joins → Known k fork
   past_step fork x at lt =
       let y = joins_grow p l.machine t fork.task x S.0.fork_join at in
-      inl (subst (λ (m : State). Past m fork) (sym machine_is) (y.0, y.1, let le : x.joins ≤ y.0.joins = y.2 in omega arith))
+      inl (subst (λ (m : MachineState). Past m fork) (sym machine_is) (y.0, y.1, let le : x.joins ≤ y.0.joins = y.2 in omega arith))
 
   going_by : (fork : Strand) → (fork.task ≡ t → ⊥) → (g : Going l fork)
       → (slice_get (step p l.machine t).tasks fork.task ≡ Some g.0) ⊎ ((y : Task) × (slice_get (step p l.machine t).tasks fork.task ≡ Some y) × (g.0.joins < y.joins)) → Known k fork
   going_by fork ne g (inl same) =
-      let at : slice_get k.machine.tasks fork.task ≡ Some g.0 = ap (λ (m : State). slice_get m.tasks fork.task) machine_is ∙ same in
+      let at : slice_get k.machine.tasks fork.task ≡ Some g.0 = ap (λ (m : MachineState). slice_get m.tasks fork.task) machine_is ∙ same in
       inr (g.0, at, g.2, g.3, subst (λ o. Touched (or_fresh o)) (sym ((step_leaves p l t S can).4 fork.task ne (inr (ap is_waiting at ∙ g.3)))) g.4)
-  going_by fork ne g (inr y) = inl (subst (λ (m : State). Past m fork) (sym machine_is) (y.0, y.1, let lt : g.0.joins < y.0.joins = y.2 in let e : g.0.joins ≡ fork.joins = g.2 in omega arith))
+  going_by fork ne g (inr y) = inl (subst (λ (m : MachineState). Past m fork) (sym machine_is) (y.0, y.1, let lt : g.0.joins < y.0.joins = y.2 in let e : g.0.joins ≡ fork.joins = g.2 in omega arith))
 
   known_step : (fork : Strand) → Known l fork → Known k fork
   known_step fork (inl past) = past_step fork past.0 past.1 past.2
@@ -188,18 +155,18 @@ new_known : (l : Ledger) (t : ℕ) → (o : Option Task) → slice_get l.machine
 new_known l t None e w S fork i = absurd (false≢true w)
 new_known l t (Some x) e w S fork i =
     let f : Heap → Heap = λ h. record h { marked = Some 0 } in
-    let at : slice_get (with_heap l t f).machine.tasks t ≡ Some x = ap (λ (m : State). slice_get m.tasks t) (heap_machine l t f) ∙ e in
+    let at : slice_get (with_heap l t f).machine.tasks t ≡ Some x = ap (λ (m : MachineState). slice_get m.tasks t) (heap_machine l t f) ∙ e in
     let same : In (strand_of t x ∷ []) fork = subst (λ o. In (fork_of t o) fork) at i in
-    by (heap_at l t) refl at (elim same [ inl q ↦ q | inr none ↦ absurd none ])
+    new_known_by_cases (heap_at l t) refl at (elim same [ inl q ↦ q | inr none ↦ absurd none ])
   where
-    by : (o : Option Heap) → heap_at l t ≡ o → slice_get (with_heap l t (λ h. record h { marked = Some 0 })).machine.tasks t ≡ Some x → strand_of t x ≡ fork → Known (with_heap l t (λ h. record h { marked = Some 0 })) fork
-    by None e' at q = absurd (got_none l.heaps t (let lt : t < length l.machine.tasks = got_within l.machine.tasks t x e in omega (arith, S.lengths)) e')
-    by (Some h) e' at q =
+    new_known_by_cases : (o : Option Heap) → heap_at l t ≡ o → slice_get (with_heap l t (λ h. record h { marked = Some 0 })).machine.tasks t ≡ Some x → strand_of t x ≡ fork → Known (with_heap l t (λ h. record h { marked = Some 0 })) fork
+    new_known_by_cases None e' at q = absurd (got_none l.heaps t (let lt : t < length l.machine.tasks = got_within l.machine.tasks t x e in omega (arith, S.lengths)) e')
+    new_known_by_cases (Some h) e' at q =
         subst (λ (k : Ledger). Known k fork) (sym (ap (with_heap_at l t (λ h. record h { marked = Some 0 })) e'))
         (subst (λ (g : Strand). Known (record l { heaps = slice_set l.heaps t (record h { marked = Some 0 }) }) g) q
         (inr (x, e, refl, w, inl (ap (λ o. is_some (or_fresh o).marked) (got_same l.heaps t h (record h { marked = Some 0 }) e')))))
 
--- the forks that a worker is noted to have marked
+-- the forks recorded as marked by a worker
 noted_cases : (p : ProgramText) (s : SettingsValue) (l : Ledger) (w : ℕ) (kind : Kind) (x : WorkerPace) → SoundLedger l → is_none (kind_refusal p s l w kind) ≡ true → ((fork : Strand) → In x.marks fork → Known l fork)
     → (fork : Strand) → In (noted (after_kind p s l w kind) x kind).marks fork → Known (after_kind p s l w kind) fork
 noted_cases p s l w (Mark t) x S h K fork i =
@@ -217,7 +184,7 @@ noted_cases p s l w (More t n) x S h K fork i = known_kind p s l w (More t n) S 
 noted_cases p s l w (Sweep t g) x S h K fork i = known_kind p s l w (Sweep t g) S h fork (K fork i)
 noted_cases p s l w Fuel x S h K fork i = known_kind p s l w Fuel S h fork (K fork i)
 
--- what is kept of a worker after an entry
+-- the record of a worker after an entry
 pace_cases : (pace : List WorkerPace) (w v : ℕ) (y : WorkerPace) → (pace_of (slice_set pace w y) v ≡ y) ⊎ (pace_of (slice_set pace w y) v ≡ pace_of pace v)
 pace_cases [] w v y = inr refl
 pace_cases (x ∷ pace) zero zero y = inl refl
@@ -249,7 +216,7 @@ opening_known p s v fork i = absurd (none s.workers v i)
 
 -- WHAT IS OWED
 
--- what waiting on a fork tells
+-- what follows from waiting on a fork
 pub waits_tells : (o : Option Task) (joins : ℕ) → waits_since o joins ≡ true → (x : Task) × (o ≡ Some x) × (waits x.status ≡ true) × (x.joins ≡ joins)
 waits_tells None joins h = absurd (false≢true h)
 waits_tells (Some x) joins h = let q = and_parts (waits x.status) (x.joins == joins) h in (x, refl, q.0, eqb-true x.joins joins q.1)
@@ -311,20 +278,20 @@ module _ (p : ProgramText) (s : SettingsValue) (l : Ledger) (w : ℕ) where
 
   marks_given : (forks : List Strand) → ((fork : Strand) → In forks fork → Known l fork) → CanBeGiven p s l w (owed_to_marks l forks)
   marks_given [] A = tt
-  marks_given (fork ∷ forks) A = by (is_under_way l fork) refl (marks_given forks (λ f i. A f (inr i)))
+  marks_given (fork ∷ forks) A = marks_given_by_cases (is_under_way l fork) refl (marks_given forks (λ f i. A f (inr i)))
     where
-      by : (v : Bool) → is_under_way l fork ≡ v → CanBeGiven p s l w (owed_to_marks l forks) → CanBeGiven p s l w (cond v (more_of l fork.task) (owed_to_marks l forks))
-      by true e rest = more_given fork (A fork (inl refl)) e (left_in (heap_of l fork.task) == 0) refl
-      by false e rest = rest
+      marks_given_by_cases : (v : Bool) → is_under_way l fork ≡ v → CanBeGiven p s l w (owed_to_marks l forks) → CanBeGiven p s l w (cond v (more_of l fork.task) (owed_to_marks l forks))
+      marks_given_by_cases true e rest = more_given fork (A fork (inl refl)) e (left_in (heap_of l fork.task) == 0) refl
+      marks_given_by_cases false e rest = rest
 
   owed_given : (marks : List Strand) (previous : Previous) → ((fork : Strand) → In marks fork → Known l fork) → CanBeGiven p s l w (owed_after s l marks previous)
   owed_given marks Other A = tt
   owed_given marks RanBefore A = marks_given marks A
-  owed_given marks (Forked fork) A = by (is_to_mark s l fork) refl
+  owed_given marks (Forked fork) A = owed_given_by_cases (is_to_mark s l fork) refl
     where
-      by : (v : Bool) → is_to_mark s l fork ≡ v → CanBeGiven p s l w (cond v (OwesMark fork.task) (owed_to_marks l marks))
-      by true e = mark_given fork e
-      by false e = marks_given marks A
+      owed_given_by_cases : (v : Bool) → is_to_mark s l fork ≡ v → CanBeGiven p s l w (cond v (OwesMark fork.task) (owed_to_marks l marks))
+      owed_given_by_cases true e = mark_given fork e
+      owed_given_by_cases false e = marks_given marks A
 
 pub owed_can_be_given : OwedCanBeGiven
 owed_can_be_given p s journal w legal =

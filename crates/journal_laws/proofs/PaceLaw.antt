@@ -1,39 +1,12 @@
--- What the pace keeps of each worker is what the entries say, and paced journals keep the three rules.
-use Rattle.std.proofs.Common.{◌≡◌, ℕ, zero, suc, ◌<◌, ◌≤◌, ◌==◌, ◌&&◌, not, Bool, true, false, cond, Option, Some, None, List, [], ◌∷◌, ◌++◌, length, slice_get, slice_set, replicate, is_none, is_some, nat_lt, nat_le, ◌⊎◌, inl, inr, refl, ap, sym, subst, ◌∙◌, arith, append_assoc, append-nil, eqb-true, eq-eqb}
-use Rattle.std.proofs.lemmas.Bool.{false≢true, both_ways, cases_eq, and_parts, and_from, ltb-true, leb-true, le-leb, not-true}
-use Rattle.std.proofs.lemmas.List.{length-set}
-use Rattle.std.proofs.lemmas.Option.{same_Some}
-use Rattle.listed.proofs.Members.{In, got_other, in_append_right}
-use Rattle.listed.proofs.Options.{none_is}
-use Rattle.run_trace.specs.declared.entry.Kind.{Kind}
-use Rattle.run_trace.specs.declared.entry.Kind.TheVariants.{Took, Ran, Chunk, Begin, End as EndOf, PutOff, Mark, More, Sweep, Fuel}
-use Rattle.run_trace.specs.Entry.{EntryValue}
-use Rattle.run_trace.specs.Settings.{SettingsValue}
-use Rattle.hh_lang.specs.Form.{ProgramText}
-use Rattle.hh_model.specs.declared.data.Strand.{Strand}
-use Rattle.hh_model.specs.declared.data.Task.{Task}
-use Rattle.hh_model.specs.declared.data.State.{State}
-use Rattle.hh_model.specs.Step.{waits, strand_of}
-use Rattle.run_ledger.specs.declared.data.Ledger.{Ledger}
-use Rattle.run_ledger.specs.declared.data.Previous.{Previous}
-use Rattle.run_ledger.specs.declared.data.Previous.TheVariants.{Other, Ran as RanBefore, Forked}
-use Rattle.run_ledger.specs.declared.data.WorkerPace.{WorkerPace}
+-- What the pace records of each worker follows from the entries, and paced journals keep the three rules.
+use Rattle.journal_laws.proofs.Common.{◌≡◌, ℕ, zero, suc, ◌<◌, ◌≤◌, ◌==◌, ◌&&◌, not, Bool, true, false, cond, Option, Some, None, List, [], ◌∷◌, ◌++◌, length, slice_get, slice_set, replicate, is_none, is_some, nat_lt, nat_le, ◌⊎◌, inl, inr, refl, ap, sym, subst, ◌∙◌, arith, append_assoc, append-nil, eqb-true, eq-eqb, false≢true, both_ways, cases_eq, and_parts, and_from, ltb-true, leb-true, le-leb, not-true, length-set, same_Some, In, got_other, in_append_right, none_is, Kind, Took, Ran, Chunk, Begin, End as EndOf, PutOff, Mark, More, Sweep, Fuel, EntryValue, SettingsValue, ProgramText, Strand, Task, MachineState, waits, strand_of, Ledger, Previous, Other, Forked, WorkerPace, NoWorker, Over, Spent, heap_of, left_in, words_in, after, after_kind, is_fuel, kind_refusal, refusal, refused_if, refused_unless, after_all, is_legal, is_legal_from, ledger_of, opening, fork_of, gives, idle, is_mark_of, is_more_of, is_sweep_of, is_to_mark, is_under_way, is_unmarked, marked_at_once, more_of, noted, or_idle, owed, owed_after, owed_to_marks, pace_after, pace_after_all, pace_at_end, pace_of, pace_opening, previous_by, waits_on, waits_since, Paced, cut_legal, none_unless, none_where, heap_machine, GoesOnMarking, IsLastBy, IsNewest, IsPaceOf, IsPrevious, IsToMark, IsUnderWay, KeepsRules, KeepsThePace, NoneBy, PacedKeepsThePace, WaitsOn, fork_by, fork_marked, marked_forks, marked_task}
+use Rattle.run_ledger.specs.declared.data.Previous.TheVariants.{Ran as RanBefore}
 use Rattle.run_ledger.specs.declared.data.Owed.TheVariants.{Mark as OwesMark, More as OwesMore, Sweep as OwesSweep}
-use Rattle.run_ledger.specs.declared.data.Refused.TheVariants.{NoWorker, Over, Spent}
-use Rattle.run_ledger.specs.Heaps.{heap_of, left_in, words_in}
-use Rattle.run_ledger.specs.Entries.{after, after_kind, is_fuel, kind_refusal, refusal, refused_if, refused_unless}
-use Rattle.run_ledger.specs.Journals.{after_all, is_legal, is_legal_from, ledger_of, opening}
-use Rattle.run_ledger.specs.Pace.{fork_of, gives, idle, is_mark_of, is_more_of, is_sweep_of, is_to_mark, is_under_way, is_unmarked, marked_at_once, more_of, noted, or_idle, owed, owed_after, owed_to_marks, pace_after, pace_after_all, pace_at_end, pace_of, pace_opening, previous_by, waits_on, waits_since}
-use Rattle.run_ledger.specs.Cuts.{Paced}
-use Rattle.journal_laws.specs.PaceLaw.{GoesOnMarking, IsLastBy, IsNewest, IsPaceOf, IsPrevious, IsToMark, IsUnderWay, KeepsRules, KeepsThePace, NoneBy, PacedKeepsThePace, WaitsOn, fork_by, fork_marked, marked_forks, marked_task}
-use Rattle.run_ledger.proofs.Cuts.{cut_legal}
-use Rattle.run_ledger.proofs.Journals.{none_unless, none_where}
-use Rattle.run_ledger.proofs.Machine.{heap_machine}
 use Rattle.journal_laws.proofs.Paced.{paced_is_meant}
 
 -- KINDS OF ENTRIES
 
--- what is kept of an entry as the worker's previous one, by the accounts after it
+-- the record of an entry as the worker's previous one, by the accounts after it
 abbrev came : Ledger → Kind → Previous
 came l (Ran t k) = previous_by t (slice_get l.machine.tasks t)
 came l _ = Other
@@ -61,12 +34,12 @@ noted_marks p s l w x (Chunk t) = refl
 noted_marks p s l w x (Begin t) = refl
 noted_marks p s l w x (EndOf t a g n) = refl
 noted_marks p s l w x (PutOff t) = refl
-noted_marks p s l w x (Mark t) = ap (λ (m : State). fork_of t (slice_get m.tasks t) ++ x.marks) (heap_machine l t (λ h. record h { marked = Some 0 }))
+noted_marks p s l w x (Mark t) = ap (λ (m : MachineState). fork_of t (slice_get m.tasks t) ++ x.marks) (heap_machine l t (λ h. record h { marked = Some 0 }))
 noted_marks p s l w x (More t n) = refl
 noted_marks p s l w x (Sweep t g) = refl
 noted_marks p s l w x Fuel = refl
 
--- an entry is one of steps, or nothing is kept of it
+-- an entry is one of steps, or nothing is recorded of it
 abbrev IsOther : Kind → Type 0
 IsOther kind = ((t k : ℕ) → kind ≡ Ran t k → ⊥) × ((l : Ledger) → came l kind ≡ Other)
 
@@ -130,7 +103,7 @@ is_more t kind e = ap (is_more_of t) e ∙ and_from (t == t) (marked_at_once == 
 is_sweep : (t given : ℕ) (kind : Kind) → kind ≡ Sweep t given → is_sweep_of t kind ≡ true
 is_sweep t given kind e = ap (is_sweep_of t) e ∙ eq-eqb t t refl
 
--- WHAT IS KEPT OF A WORKER
+-- THE RECORD OF A WORKER
 
 pub pace_same : (pace : List WorkerPace) (w : ℕ) (y : WorkerPace) → w < length pace → pace_of (slice_set pace w y) w ≡ y
 pace_same [] w y lt = absurd (omega arith)
@@ -153,14 +126,14 @@ if_own : (e w : ℕ) (forks : List Strand) → e ≡ w → cond (e == w) forks [
 if_own e w forks q = ap (λ b. cond b forks []) (eq-eqb e w q)
 
 if_other : (e w : ℕ) (forks : List Strand) → (e ≡ w → ⊥) → cond (e == w) forks [] ≡ []
-if_other e w forks ne = by (e == w) refl
+if_other e w forks ne = if_other_by_cases (e == w) refl
   where
-    by : (v : Bool) → (e == w) ≡ v → cond v forks [] ≡ []
-    by true q = absurd (ne (eqb-true e w q))
-    by false q = refl
+    if_other_by_cases : (v : Bool) → (e == w) ≡ v → cond v forks [] ≡ []
+    if_other_by_cases true q = absurd (ne (eqb-true e w q))
+    if_other_by_cases false q = refl
 
 module _ (p : ProgramText) (s : SettingsValue) where
-  -- a legal entry is by one of the workers
+  -- a legal entry is made by one of the workers
   worker_in : (l : Ledger) (e : EntryValue) → is_none (refusal p s l e) ≡ true → e.worker < s.workers
   worker_in l e h =
       let known = refused_unless (nat_lt e.worker s.workers) NoWorker (kind_refusal p s l e.worker e.kind) in
@@ -231,11 +204,11 @@ module _ (p : ProgramText) (s : SettingsValue) where
     steps_left : (t k : ℕ) → IsLastBy w journal upto (Ran t k) → (o : Option Task) → slice_get (ledger_of p s upto).machine.tasks t ≡ o → IsPrevious p s w journal (previous_by t o)
     steps_left t k L None is =
         (upto, t, k, L, λ fork q W. absurd (let e : None ≡ Some W.0 = sym is ∙ (ap (slice_get (ledger_of p s upto).machine.tasks) (sym q) ∙ W.1) in cc))
-    steps_left t k L (Some x) is = by (waits x.status) refl
+    steps_left t k L (Some x) is = steps_left_by_cases (waits x.status) refl
       where
-        by : (v : Bool) → waits x.status ≡ v → IsPrevious p s w journal (cond v (Forked (strand_of t x)) RanBefore)
-        by true e = (upto, k, L, (x, is, e, refl))
-        by false e = (
+        steps_left_by_cases : (v : Bool) → waits x.status ≡ v → IsPrevious p s w journal (cond v (Forked (strand_of t x)) RanBefore)
+        steps_left_by_cases true e = (upto, k, L, (x, is, e, refl))
+        steps_left_by_cases false e = (
           upto,
           t,
           k,
@@ -303,11 +276,11 @@ task_in _ = 0
 -- TESTS AND WORDS
 
 waits_from : (l : Ledger) (fork : Strand) → waits_on l fork ≡ true → WaitsOn l fork
-waits_from l fork h = by (slice_get l.machine.tasks fork.task) refl h
+waits_from l fork h = waits_from_by_cases (slice_get l.machine.tasks fork.task) refl h
   where
-    by : (o : Option Task) → slice_get l.machine.tasks fork.task ≡ o → waits_since o fork.joins ≡ true → WaitsOn l fork
-    by None e g = absurd (false≢true g)
-    by (Some x) e g = let q = and_parts (waits x.status) (x.joins == fork.joins) g in (x, e, q.0, eqb-true x.joins fork.joins q.1)
+    waits_from_by_cases : (o : Option Task) → slice_get l.machine.tasks fork.task ≡ o → waits_since o fork.joins ≡ true → WaitsOn l fork
+    waits_from_by_cases None e g = absurd (false≢true g)
+    waits_from_by_cases (Some x) e g = let q = and_parts (waits x.status) (x.joins == fork.joins) g in (x, e, q.0, eqb-true x.joins fork.joins q.1)
 
 from_waits : (l : Ledger) (fork : Strand) → WaitsOn l fork → waits_on l fork ≡ true
 from_waits l fork W = ap (λ o. waits_since o fork.joins) W.1 ∙ and_from (waits W.0.status) (W.0.joins == fork.joins) W.2 (eq-eqb W.0.joins fork.joins W.3)
@@ -324,38 +297,38 @@ from_way l fork U = and_from (waits_on l fork) (not (heap_of l fork.task).swept)
 
 module _ (l : Ledger) (kind : Kind) where
   goes_from : (t : ℕ) → gives (more_of l t) kind ≡ true → GoesOnMarking l t kind
-  goes_from t = by (left_in (heap_of l t) == 0) refl
+  goes_from t = goes_from_by_cases (left_in (heap_of l t) == 0) refl
     where
-      by : (v : Bool) → (left_in (heap_of l t) == 0) ≡ v → gives (cond v (OwesSweep t) (OwesMore t)) kind ≡ true → GoesOnMarking l t kind
-      by true e g = record { more = λ some. absurd (some (eqb-true (left_in (heap_of l t)) 0 e)); sweep = λ none. sweep_is t kind g }
-      by false e g = record { more = λ some. more_is t kind g; sweep = λ none. absurd (both_ways (left_in (heap_of l t) == 0) e (eq-eqb (left_in (heap_of l t)) 0 none)) }
+      goes_from_by_cases : (v : Bool) → (left_in (heap_of l t) == 0) ≡ v → gives (cond v (OwesSweep t) (OwesMore t)) kind ≡ true → GoesOnMarking l t kind
+      goes_from_by_cases true e g = record { more = λ some. absurd (some (eqb-true (left_in (heap_of l t)) 0 e)); sweep = λ none. sweep_is t kind g }
+      goes_from_by_cases false e g = record { more = λ some. more_is t kind g; sweep = λ none. absurd (both_ways (left_in (heap_of l t) == 0) e (eq-eqb (left_in (heap_of l t)) 0 none)) }
 
   from_goes : (t : ℕ) → GoesOnMarking l t kind → gives (more_of l t) kind ≡ true
-  from_goes t G = by (left_in (heap_of l t) == 0) refl
+  from_goes t G = from_goes_by_cases (left_in (heap_of l t) == 0) refl
     where
-      by : (v : Bool) → (left_in (heap_of l t) == 0) ≡ v → gives (cond v (OwesSweep t) (OwesMore t)) kind ≡ true
-      by true e = let g = G.sweep (eqb-true (left_in (heap_of l t)) 0 e) in is_sweep t g.0 kind g.1
-      by false e = is_more t kind (G.more (λ none. both_ways (left_in (heap_of l t) == 0) e (eq-eqb (left_in (heap_of l t)) 0 none)))
+      from_goes_by_cases : (v : Bool) → (left_in (heap_of l t) == 0) ≡ v → gives (cond v (OwesSweep t) (OwesMore t)) kind ≡ true
+      from_goes_by_cases true e = let g = G.sweep (eqb-true (left_in (heap_of l t)) 0 e) in is_sweep t g.0 kind g.1
+      from_goes_by_cases false e = is_more t kind (G.more (λ none. both_ways (left_in (heap_of l t) == 0) e (eq-eqb (left_in (heap_of l t)) 0 none)))
 
   newest_from : (newer older : List Strand) (fork : Strand) → ((g : Strand) → In newer g → IsUnderWay l g → ⊥) → IsUnderWay l fork → gives (owed_to_marks l (newer ++ fork ∷ older)) kind ≡ true → gives (more_of l fork.task) kind ≡ true
   newest_from [] older fork none U g = subst (λ v. gives (cond v (more_of l fork.task) (owed_to_marks l older)) kind ≡ true) (from_way l fork U) g
-  newest_from (f ∷ newer) older fork none U g = by (is_under_way l f) refl (newest_from newer older fork (λ h i. none h (inr i)) U) g
+  newest_from (f ∷ newer) older fork none U g = newest_from_by_cases (is_under_way l f) refl (newest_from newer older fork (λ h i. none h (inr i)) U) g
     where
-      by : (v : Bool) → is_under_way l f ≡ v → (gives (owed_to_marks l (newer ++ fork ∷ older)) kind ≡ true → gives (more_of l fork.task) kind ≡ true) → gives (cond v (more_of l f.task) (owed_to_marks l (newer ++ fork ∷ older))) kind ≡ true → gives (more_of l fork.task) kind ≡ true
-      by true e more g' = absurd (none f (inl refl) (way_from l f e))
-      by false e more g' = more g'
+      newest_from_by_cases : (v : Bool) → is_under_way l f ≡ v → (gives (owed_to_marks l (newer ++ fork ∷ older)) kind ≡ true → gives (more_of l fork.task) kind ≡ true) → gives (cond v (more_of l f.task) (owed_to_marks l (newer ++ fork ∷ older))) kind ≡ true → gives (more_of l fork.task) kind ≡ true
+      newest_from_by_cases true e more g' = absurd (none f (inl refl) (way_from l f e))
+      newest_from_by_cases false e more g' = more g'
 
   from_newest : (forks : List Strand) → ((fork : Strand) → IsNewest l forks fork → GoesOnMarking l fork.task kind) → gives (owed_to_marks l forks) kind ≡ true
   from_newest [] G = refl
-  from_newest (f ∷ forks) G = by (is_under_way l f) refl (from_newest forks)
+  from_newest (f ∷ forks) G = from_newest_by_cases (is_under_way l f) refl (from_newest forks)
     where
       none_newer : is_under_way l f ≡ false → (N : List Strand) → ((g : Strand) → In N g → IsUnderWay l g → ⊥) → (g : Strand) → In (f ∷ N) g → IsUnderWay l g → ⊥
       none_newer e N none g (inl same) U = both_ways (is_under_way l f) e (ap (is_under_way l) same ∙ from_way l g U)
       none_newer e N none g (inr i) U = none g i U
 
-      by : (v : Bool) → is_under_way l f ≡ v → (((fork : Strand) → IsNewest l forks fork → GoesOnMarking l fork.task kind) → gives (owed_to_marks l forks) kind ≡ true) → gives (cond v (more_of l f.task) (owed_to_marks l forks)) kind ≡ true
-      by true e more = from_goes f.task (G f (record { newer = []; older = forks; is = refl; none = λ g i U. i; under_way = way_from l f e }))
-      by false e more =
+      from_newest_by_cases : (v : Bool) → is_under_way l f ≡ v → (((fork : Strand) → IsNewest l forks fork → GoesOnMarking l fork.task kind) → gives (owed_to_marks l forks) kind ≡ true) → gives (cond v (more_of l f.task) (owed_to_marks l forks)) kind ≡ true
+      from_newest_by_cases true e more = from_goes f.task (G f (record { newer = []; older = forks; is = refl; none = λ g i U. i; under_way = way_from l f e }))
+      from_newest_by_cases false e more =
           more
           (λ fork N. G fork (record { newer = f ∷ N.newer; older = N.older; is = ap (λ z. f ∷ z) N.is; none = none_newer e N.newer N.none; under_way = N.under_way }))
 
@@ -418,23 +391,23 @@ module _ (p : ProgramText) (s : SettingsValue) (before : List EntryValue) (w : �
           from_mark fork.task fork (record { task = refl; forked = F; waits = waits; unmarked = M.unmarked; unswept = M.unswept; words = M.words })
 
       fork_rules : gives (owed_after s l forks (Forked fork)) kind ≡ true → KeepsRules p s before w upto fork.task kind
-      fork_rules = by (is_to_mark s l fork) refl
+      fork_rules = fork_rules_by_cases (is_to_mark s l fork) refl
         where
-          by : (v : Bool) → is_to_mark s l fork ≡ v → gives (cond v (OwesMark fork.task) (owed_to_marks l forks)) kind ≡ true → KeepsRules p s before w upto fork.task kind
-          by true e g = record { mark = λ h M. mark_is fork.task kind g; more = λ no. absurd (no fork (mark_from fork F e)) }
-          by false e g = record {
+          fork_rules_by_cases : (v : Bool) → is_to_mark s l fork ≡ v → gives (cond v (OwesMark fork.task) (owed_to_marks l forks)) kind ≡ true → KeepsRules p s before w upto fork.task kind
+          fork_rules_by_cases true e g = record { mark = λ h M. mark_is fork.task kind g; more = λ no. absurd (no fork (mark_from fork F e)) }
+          fork_rules_by_cases false e g = record {
             mark = λ h M. absurd (both_ways (is_to_mark s l fork) e (same_mark h M));
             more = λ no h N. goes_from l kind h.task (newest_from l kind N.newer N.older h N.none N.under_way (subst (λ z. gives (owed_to_marks l z) kind ≡ true) N.is g));
           }
 
       rules_fork : KeepsRules p s before w upto fork.task kind → gives (owed_after s l forks (Forked fork)) kind ≡ true
-      rules_fork R = by (is_to_mark s l fork) refl
+      rules_fork R = rules_fork_by_cases (is_to_mark s l fork) refl
         where
-          by : (v : Bool) → is_to_mark s l fork ≡ v → gives (cond v (OwesMark fork.task) (owed_to_marks l forks)) kind ≡ true
-          by true e = is_mark fork.task kind (R.mark fork (mark_from fork F e))
-          by false e = from_newest l kind forks (R.more (λ h M. both_ways (is_to_mark s l fork) e (same_mark h M)))
+          rules_fork_by_cases : (v : Bool) → is_to_mark s l fork ≡ v → gives (cond v (OwesMark fork.task) (owed_to_marks l forks)) kind ≡ true
+          rules_fork_by_cases true e = is_mark fork.task kind (R.mark fork (mark_from fork F e))
+          rules_fork_by_cases false e = from_newest l kind forks (R.more (λ h M. both_ways (is_to_mark s l fork) e (same_mark h M)))
 
-  -- WHAT IS OWED gives the rules, and the rules what is owed
+  -- WHAT IS OWED gives the rules, and the rules give what is owed
   rules_from : (prev : Previous) → IsPrevious p s w before prev → gives (owed_after s l forks prev) kind ≡ true → (upto : List EntryValue) (t k : ℕ) → IsLastBy w before upto (Ran t k) → KeepsRules p s before w upto t kind
   rules_from Other (inl none) g upto t k L = absurd (none L.entry (subst (λ z. In z L.entry) (sym (whole w before upto (Ran t k) L)) (in_append_right L.before (L.entry ∷ L.rest) L.entry (inl refl))) L.its)
   rules_from Other (inr o) g upto t k L = absurd (o.3 t k (one_last w before o.0 upto o.1 (Ran t k) o.2 L).1)
@@ -468,11 +441,11 @@ module _ (p : ProgramText) (s : SettingsValue) (journal : List EntryValue) (lega
       ]
 
   kept : KeepsThePace p s journal → Paced p s journal
-  kept R before e rest is = by (is_fuel e.kind) refl
+  kept R before e rest is = kept_by_cases (is_fuel e.kind) refl
     where
-      by : (v : Bool) → is_fuel e.kind ≡ v → (is_fuel e.kind ≡ true) ⊎ (gives (owed s (ledger_of p s before) (pace_of (pace_at_end p s before) e.worker)) e.kind ≡ true)
-      by true fuel = inl fuel
-      by false unspent =
+      kept_by_cases : (v : Bool) → is_fuel e.kind ≡ v → (is_fuel e.kind ≡ true) ⊎ (gives (owed s (ledger_of p s before) (pace_of (pace_at_end p s before) e.worker)) e.kind ≡ true)
+      kept_by_cases true fuel = inl fuel
+      kept_by_cases false unspent =
           let x = pace_of (pace_at_end p s before) e.worker in
           let K = pace_is p s before e.worker (legal_before before e rest is) in
           inr (subst (λ forks. gives (owed_after s (ledger_of p s before) forks x.previous) e.kind ≡ true) (sym K.marks) (from_rules p s before e.worker e.kind x.previous K.previous (R before e rest is unspent)))

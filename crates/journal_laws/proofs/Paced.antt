@@ -1,15 +1,5 @@
--- The test of paced journals is what is meant by them.
-use Rattle.std.proofs.Common.{◌≡◌, ◌||◌, true, List, [], ◌∷◌, ◌++◌, ◌⊎◌, inl, inr, refl, ap, subst}
-use Rattle.std.proofs.lemmas.Bool.{and_parts, and_from, or_cases, or_left, or_right}
-use Rattle.run_trace.specs.Entry.{EntryValue}
-use Rattle.run_trace.specs.Settings.{SettingsValue}
-use Rattle.hh_lang.specs.Form.{ProgramText}
-use Rattle.run_ledger.specs.declared.data.Ledger.{Ledger}
-use Rattle.run_ledger.specs.declared.data.WorkerPace.{WorkerPace}
-use Rattle.run_ledger.specs.Entries.{after, is_fuel}
-use Rattle.run_ledger.specs.Journals.{opening, after_all, ledger_of}
-use Rattle.run_ledger.specs.Pace.{gives, owed, pace_of, pace_after, pace_after_all, pace_at_end, pace_opening, is_paced_from}
-use Rattle.run_ledger.specs.Cuts.{PacedIsMeant, PaceGoesOn}
+-- The test of paced journals decides the rules.
+use Rattle.journal_laws.proofs.Common.{◌≡◌, ◌||◌, true, List, [], ◌∷◌, ◌++◌, ◌⊎◌, inl, inr, refl, ap, subst, and_parts, and_from, or_cases, or_left, or_right, EntryValue, SettingsValue, ProgramText, Ledger, WorkerPace, after, is_fuel, opening, after_all, ledger_of, gives, owed, pace_of, pace_after, pace_after_all, pace_at_end, pace_opening, is_paced_from, PacedIsMeant, PaceGoesOn}
 
 module _ (p : ProgramText) (s : SettingsValue) where
   abbrev Each : Ledger → List WorkerPace → List EntryValue → Type 0
@@ -17,7 +7,7 @@ module _ (p : ProgramText) (s : SettingsValue) where
       (before : List EntryValue) (e : EntryValue) (rest : List EntryValue) → journal ≡ before ++ e ∷ rest
       → (is_fuel e.kind ≡ true) ⊎ (gives (owed s (after_all p s l before) (pace_of (pace_after_all p s l pace before) e.worker)) e.kind ≡ true)
 
-  -- a journal is paced where both parts of a cut are
+  -- a journal is paced if both parts of a cut are
   pub cut_paced : (first rest : List EntryValue) (l : Ledger) (pace : List WorkerPace) → is_paced_from p s l pace (first ++ rest) ≡ true
       → (is_paced_from p s l pace first ≡ true) × (is_paced_from p s (after_all p s l first) (pace_after_all p s l pace first) rest ≡ true)
   cut_paced [] rest l pace h = (refl, h)

@@ -1,35 +1,6 @@
 -- The words that heaps count since their last leaf collections.
-use Rattle.std.proofs.Common.{◌≡◌, ℕ, zero, suc, ◌+◌, ◌*◌, ◌≤◌, Bool, true, false, cond, Option, Some, None, List, [], ◌∷◌, ◌++◌, slice_get, slice_set, nat_lt, refl, ap, sym, subst, ◌∙◌, arith, is_none}
-use Rattle.std.proofs.lemmas.List.Sums.{sum_by-cons}
-use Rattle.run_trace.specs.declared.entry.Kind.{Kind}
-use Rattle.run_trace.specs.declared.entry.Kind.TheVariants.{Took, Ran, Chunk, Begin, End as EndOf, PutOff, Mark, More, Sweep, Fuel}
-use Rattle.run_trace.specs.Entry.{EntryValue}
-use Rattle.run_trace.specs.Settings.{SettingsValue, field_limit}
-use Rattle.hh_lang.specs.Form.{ProgramText}
-use Rattle.hh_lang.specs.Limits.{most_fields}
-use Rattle.hh_model.specs.declared.data.State.{State}
-use Rattle.hh_model.specs.Step.{step, can_step, asked}
-use Rattle.hh_model.proofs.Carried.{next_name}
-use Rattle.hh_model.proofs.Counts.{step_limit}
-use Rattle.run_ledger.specs.declared.data.Heap.{Heap}
-use Rattle.run_ledger.specs.declared.data.Ledger.{Ledger}
-use Rattle.run_ledger.specs.declared.data.RunEnd.TheVariants.{Pool}
-use Rattle.run_ledger.specs.Heaps.{heap_of, or_fresh, with_heap, with_heap_at, placed, is_small, chunk_words, in_use, collected, swept_heap}
-use Rattle.run_ledger.specs.Steps.{allocated_by, allocated_in, stepped_to, task_step, task_steps, on_asked}
-use Rattle.run_ledger.specs.Entries.{kind_refusal, after_kind, with_chunk, chunk_units}
-use Rattle.run_ledger.specs.Journals.{opening, after_all, ledger_of, is_legal_from}
-use Rattle.run_ledger.specs.Space.{AsksAtMost, CountsFew, SinceIsBounded}
-use Rattle.run_trace.specs.declared.settings.Version.{Version}
-use Rattle.run_trace.specs.declared.settings.Version.TheVariants.{One, Two}
+use Rattle.journal_laws.proofs.Common.{◌≡◌, ℕ, zero, suc, ◌+◌, ◌*◌, ◌≤◌, Bool, true, false, cond, Option, Some, None, List, [], ◌∷◌, ◌++◌, slice_get, slice_set, nat_lt, refl, ap, sym, subst, ◌∙◌, arith, is_none, sum_by-cons, Kind, Took, Ran, Chunk, Begin, End as EndOf, PutOff, Mark, More, Sweep, Fuel, EntryValue, SettingsValue, field_limit, ProgramText, most_fields, MachineState, step, can_step, asked, next_name, step_limit, Heap, Ledger, Pool, heap_of, or_fresh, with_heap, with_heap_at, placed, is_small, chunk_words, in_use, collected, swept_heap, allocated_by, allocated_in, stepped_to, task_step, task_steps, on_asked, kind_refusal, after_kind, with_chunk, chunk_units, opening, after_all, ledger_of, is_legal_from, AsksAtMost, CountsFew, SinceIsBounded, Version, One, Two, stepped_machine, SoundLedger, SoundAt, step_leaves, steps_keep, heap_of_task, can_tells, total, total_set, Additive, moves_total, placed_since, with_heap_any, task_step_steps, journal_keeps, out_tells, opening_sound}
 use Rattle.journal_laws.proofs.Asked.{programs_ask_few}
-use Rattle.run_ledger.proofs.Machine.{stepped_machine}
-use Rattle.run_ledger.proofs.Sound.{SoundLedger}
-use Rattle.run_ledger.proofs.Steps.{SoundAt, step_leaves, steps_keep, heap_of_task, can_tells}
-use Rattle.run_ledger.proofs.Weights.{total, total_set, Additive, moves_total}
-use Rattle.run_ledger.proofs.Held.{placed_since}
-use Rattle.run_ledger.proofs.Stocks.{with_heap_any}
-use Rattle.run_ledger.proofs.Bounds.{task_step_steps}
-use Rattle.run_ledger.proofs.Journals.{journal_keeps, out_tells, opening_sound}
 
 abbrev pub since_in : Heap → ℕ
 since_in h = h.since
@@ -38,7 +9,7 @@ pub since_additive : Additive since_in
 since_additive = record { let_go = λ h. refl; fresh = refl; forked = λ ns h. refl; merged = λ p l r. omega arith }
 
 module _ (p : ProgramText) (limit most : ℕ) (asks : AsksAtMost p limit most) where
-  -- the limit of fields stays, and each step counts at most so many words
+  -- the limit of fields stays, and each step counts at most this many words
   abbrev Bounded : Ledger → Type 0
   Bounded l = (l.machine.field_limit ≡ limit) × (total since_in l.heaps ≤ most * l.steps)
 
@@ -67,7 +38,7 @@ module _ (p : ProgramText) (limit most : ℕ) (asks : AsksAtMost p limit most) w
 
     step_bounded : (task_step p l t).steps ≡ l.steps + 1 → k.steps ≡ l.steps + 1 → Bounded k
     step_bounded same e = (
-      ap (λ (m : State). m.field_limit) (stepped_machine b t (step p l.machine t)) ∙ (step_limit p l.machine t S.0.fork_join ∙ I.0),
+      ap (λ (m : MachineState). m.field_limit) (stepped_machine b t (step p l.machine t)) ∙ (step_limit p l.machine t S.0.fork_join ∙ I.0),
       let a = moves_total since_in since_additive t l.machine.tasks b.heaps k.heaps (step_leaves p l t S can).2 in
           let c = asked_by (asked p l.machine t) refl in
           let d = I.1 in
@@ -78,26 +49,26 @@ module _ (p : ProgramText) (limit most : ℕ) (asks : AsksAtMost p limit most) w
         mul_more a n x h = grind arith
 
   task_step_bounded : (l : Ledger) (t : ℕ) → SoundAt t l → Bounded l → Bounded (task_step p l t)
-  task_step_bounded l t S I = by (can_step l.machine t) refl (task_step_steps p l t)
+  task_step_bounded l t S I = task_step_bounded_by_cases (can_step l.machine t) refl (task_step_steps p l t)
     where
-      by : (v : Bool) → can_step l.machine t ≡ v → (cond v (stepped_to (allocated_in p l t) t (step p l.machine t)) (record l { steps = l.steps + 1 })).steps ≡ l.steps + 1
+      task_step_bounded_by_cases : (v : Bool) → can_step l.machine t ≡ v → (cond v (stepped_to (allocated_in p l t) t (step p l.machine t)) (record l { steps = l.steps + 1 })).steps ≡ l.steps + 1
           → Bounded (cond v (stepped_to (allocated_in p l t) t (step p l.machine t)) (record l { steps = l.steps + 1 }))
-      by false e n = (I.0, more most l.steps (total since_in l.heaps) I.1)
+      task_step_bounded_by_cases false e n = (I.0, more most l.steps (total since_in l.heaps) I.1)
         where
           more : (a n x : ℕ) → x ≤ a * n → x ≤ a * (n + 1)
           more a n x h = grind arith
-      by true e n = step_bounded l t S I e (task_step_steps p l t) n
+      task_step_bounded_by_cases true e n = step_bounded l t S I e (task_step_steps p l t) n
 
   task_steps_bounded : (k : ℕ) (l : Ledger) (t : ℕ) → SoundAt t l → Bounded l → Bounded (task_steps p l t k)
   task_steps_bounded k l t S I = steps_keep Bounded p t (λ m R J. task_step_bounded m t R J) k l S I
 
   chunk_bounded : (l : Ledger) (t : ℕ) (next : Option ℕ) (full : Bool) → Bounded l → Bounded (cond full (record l { end = Some (Pool (in_use l)) }) (with_heap l t (with_chunk next)))
   chunk_bounded l t next true I = I
-  chunk_bounded l t next false I = lighter l t (with_chunk next) (λ h. by h (on_asked next is_small)) I
+  chunk_bounded l t next false I = lighter l t (with_chunk next) (λ h. chunk_bounded_by_cases h (on_asked next is_small)) I
     where
-      by : (h : Heap) (v : Bool) → (cond v (record h { chunks = h.chunks ++ [] ∷ []; room = chunk_words }) (record h { reserved = chunk_units next })).since ≤ h.since
-      by h true = omega arith
-      by h false = omega arith
+      chunk_bounded_by_cases : (h : Heap) (v : Bool) → (cond v (record h { chunks = h.chunks ++ [] ∷ []; room = chunk_words }) (record h { reserved = chunk_units next })).since ≤ h.since
+      chunk_bounded_by_cases h true = omega arith
+      chunk_bounded_by_cases h false = omega arith
 
   kind_bounded : (s : SettingsValue) (l : Ledger) (w : ℕ) (kind : Kind) → SoundLedger l → is_none (kind_refusal p s l w kind) ≡ true → Bounded l → Bounded (after_kind p s l w kind)
   kind_bounded s l w (Took t) S h I = lighter l t _ (λ g. omega arith) I
@@ -114,7 +85,7 @@ module _ (p : ProgramText) (limit most : ℕ) (asks : AsksAtMost p limit most) w
   journal_bounded : (s : SettingsValue) (journal : List EntryValue) (l : Ledger) → SoundLedger l → Bounded l → is_legal_from p s l journal ≡ true → Bounded (after_all p s l journal)
   journal_bounded s = journal_keeps Bounded p s (kind_bounded s)
 
--- one heap counts no more than all
+-- one heap counts no more than all heaps
 one_of : (heaps : List Heap) (t : ℕ) → (or_fresh (slice_get heaps t)).since ≤ total since_in heaps
 one_of [] t = omega arith
 one_of (h ∷ heaps) zero = let a = sum_by-cons since_in h heaps in omega arith
@@ -126,12 +97,12 @@ limit_small Two = omega arith
 
 counts_few : (s : SettingsValue) (l : Ledger) → total since_in l.heaps ≤ (field_limit s.version + 34) * l.steps → CountsFew s l
 counts_few s l le = record {
-  by_steps = by;
-  below = λ t. more (field_limit s.version + 34) (most_fields + 34) l.steps (heap_of l t).since (let z = limit_small s.version in omega arith) (by t);
+  by_steps = counts_few_by_cases;
+  below = λ t. more (field_limit s.version + 34) (most_fields + 34) l.steps (heap_of l t).since (let z = limit_small s.version in omega arith) (counts_few_by_cases t);
 }
   where
-    by : (t : ℕ) → (heap_of l t).since ≤ (field_limit s.version + 34) * l.steps
-    by t = let a = one_of l.heaps t in omega (arith, a, le)
+    counts_few_by_cases : (t : ℕ) → (heap_of l t).since ≤ (field_limit s.version + 34) * l.steps
+    counts_few_by_cases t = let a = one_of l.heaps t in omega (arith, a, le)
 
     more : (a b n x : ℕ) → a ≤ b → x ≤ a * n → x ≤ b * n
     more a b n x h k = grind arith

@@ -1,32 +1,5 @@
 -- No worker holds a task that waits.
-use Rattle.std.proofs.Common.{◌≡◌, ℕ, zero, suc, ◌+◌, Bool, true, false, cond, Option, Some, None, slice_get, slice_set, nat_lt, inl, inr, refl, ap, sym, ◌∙◌, is_none, is_some}
-use Rattle.std.proofs.lemmas.Bool.{false≢true, cases_eq, and_parts}
-use Rattle.listed.proofs.Members.{got_same, got_other}
-use Rattle.run_trace.specs.declared.entry.Kind.{Kind}
-use Rattle.run_trace.specs.declared.entry.Kind.TheVariants.{Took, Ran, Chunk, Begin, End as EndOf, PutOff, Mark, More, Sweep, Fuel}
-use Rattle.run_trace.specs.Settings.{SettingsValue}
-use Rattle.hh_lang.specs.Form.{ProgramText}
-use Rattle.hh_model.specs.declared.data.State.{State}
-use Rattle.hh_model.specs.Step.{step, can_step, asked, is_running}
-use Rattle.hh_model.specs.Tree.{waiting}
-use Rattle.path_laws.specs.Leaves.{WaitsAlone}
-use Rattle.path_laws.proofs.Leaves.{waits_alone}
-use Rattle.run_ledger.specs.declared.data.Heap.{Heap}
-use Rattle.run_ledger.specs.declared.data.Ledger.{Ledger}
-use Rattle.run_ledger.specs.declared.data.RunEnd.TheVariants.{Pool}
-use Rattle.run_ledger.specs.Heaps.{with_heap, in_use, collected, swept_heap}
-use Rattle.run_ledger.specs.Steps.{allocated_in, stepped_to, task_step, task_steps, on_asked}
-use Rattle.run_ledger.specs.Heaps.{is_small}
-use Rattle.run_ledger.specs.Entries.{kind_refusal, after_kind, is_ready, with_chunk, chunk_units}
-use Rattle.run_ledger.specs.Journals.{opening, ledger_of}
-use Rattle.run_ledger.specs.Laws.{WaitersAreFree}
-use Rattle.run_ledger.proofs.Machine.{stepped_machine}
-use Rattle.run_ledger.proofs.Sound.{SoundLedger}
-use Rattle.run_ledger.proofs.Steps.{SoundAt, StepLeaves, step_keeps, step_leaves, steps_keep, worker_at}
-use Rattle.run_ledger.proofs.Booked.{wait_run}
-use Rattle.run_ledger.proofs.Stocks.{with_heap_any}
-use Rattle.run_ledger.proofs.Holders.{chunk_worker_by, worker_of}
-use Rattle.run_ledger.proofs.Journals.{journal_keeps, none_unless, out_tells, opening_sound}
+use Rattle.journal_laws.proofs.Common.{◌≡◌, ℕ, zero, suc, ◌+◌, Bool, true, false, cond, Option, Some, None, slice_get, slice_set, nat_lt, inl, inr, refl, ap, sym, ◌∙◌, is_none, is_some, false≢true, cases_eq, and_parts, got_same, got_other, Kind, Took, Ran, Chunk, Begin, End as EndOf, PutOff, Mark, More, Sweep, Fuel, SettingsValue, ProgramText, MachineState, step, can_step, asked, is_running, waiting, WaitsAlone, waits_alone, Heap, Ledger, Pool, with_heap, in_use, collected, swept_heap, allocated_in, stepped_to, task_step, task_steps, on_asked, is_small, kind_refusal, after_kind, is_ready, with_chunk, chunk_units, opening, ledger_of, WaitersAreFree, stepped_machine, SoundLedger, SoundAt, StepLeaves, step_keeps, step_leaves, steps_keep, worker_at, wait_run, with_heap_any, chunk_worker_by, worker_of, journal_keeps, none_unless, out_tells, opening_sound}
 
 abbrev pub Free : Ledger → Type 0
 Free l = (u : ℕ) → waiting l.machine.tasks u ≡ true → worker_at (slice_get l.heaps u) ≡ None
@@ -45,11 +18,11 @@ module _ (p : ProgramText) (l : Ledger) (t : ℕ) (S : SoundAt t l) (I : Free l)
   machine_is = stepped_machine (allocated_in p l t) t (step p l.machine t)
 
   waits_now : (u : ℕ) → waiting k.machine.tasks u ≡ true → waiting (step p l.machine t).tasks u ≡ true
-  waits_now u w = ap (λ (m : State). waiting m.tasks u) (sym machine_is) ∙ w
+  waits_now u w = ap (λ (m : MachineState). waiting m.tasks u) (sym machine_is) ∙ w
 
   own_free : waiting k.machine.tasks t ≡ true → worker_at (slice_get k.heaps t) ≡ None
   own_free w = elim (leaves.3) [
-    | inl over ↦ absurd (false≢true (sym (ap is_some (ap (λ (m : State). m.end) machine_is ∙ alone.own can (waits_now t w))) ∙ over))
+    | inl over ↦ absurd (false≢true (sym (ap is_some (ap (λ (m : MachineState). m.end) machine_is ∙ alone.own can (waits_now t w))) ∙ over))
     | inr more ↦ elim more [ inl runs ↦ absurd (wait_run k.machine t w runs) | inr none ↦ none ]
   ]
 

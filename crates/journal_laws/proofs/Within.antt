@@ -1,25 +1,12 @@
--- What is reached within a heap is what is reached through all that its task owns.
-use Rattle.std.proofs.Common.{◌≡◌, ℕ, true, Option, Some, None, List, ◌∷◌, slice_get, Contains, filter, ◌⊎◌, inl, inr, refl, sym, subst, ◌∙◌}
-use Rattle.std.specs.List.{flat_map}
-use Rattle.std.proofs.lemmas.Bool.{false≢true}
-use Rattle.listed.proofs.Members.{In, in_append_cases, in_from_kept, flat_in, got_in}
-use Rattle.hh_model.specs.declared.data.Name.{Name}
-use Rattle.hh_model.specs.declared.data.Status.{Status}
-use Rattle.hh_model.specs.declared.data.Status.TheVariants.{Running, Waiting, Ended, Joined}
-use Rattle.hh_model.specs.declared.data.Task.{Task}
-use Rattle.hh_model.specs.Names.{refs_at, registers, names_from, task_names}
-use Rattle.hh_model.specs.Step.{runs, waits, is_running, is_waiting, owner_of}
-use Rattle.run_ledger.specs.declared.data.Ledger.{Ledger}
-use Rattle.run_ledger.specs.Heaps.{held, held_in, heap_of, frames_of, roots_of, within, is_above}
-use Rattle.run_ledger.specs.Laws.{IsAtWork}
-use Rattle.run_ledger.proofs.Sound.{Keeps, InHeaps, SoundLedger, held_keeps}
+-- What is reachable within a heap is what is reachable through all that its task owns.
+use Rattle.journal_laws.proofs.Common.{◌≡◌, ℕ, true, Option, Some, None, List, ◌∷◌, slice_get, Contains, filter, ◌⊎◌, inl, inr, refl, sym, subst, ◌∙◌, flat_map, false≢true, In, in_append_cases, in_from_kept, flat_in, got_in, Name, TaskStatus, Running, Waiting, Ended, Joined, Task, refs_at, registers, names_from, task_names, runs, waits, is_running, is_waiting, owner_of, Ledger, held, held_in, heap_of, frames_of, roots_of, within, is_above, IsAtWork, Keeps, InHeaps, SoundLedger, held_keeps}
 
 module _ (l : Ledger) (S : SoundLedger l) (t : ℕ) where
   abbrev names : List Name
   names = held_in (heap_of l t)
 
-  -- what a task holds that runs or waits is in its registers
-  names_by : (x : Task) (r : Name) (s : Status) → x.status ≡ s → (runs s ≡ true) ⊎ (waits s ≡ true) → In (registers (x.top ∷ x.below)) r → In (task_names x) r
+  -- what a task that runs or waits holds is in its registers
+  names_by : (x : Task) (r : Name) (s : TaskStatus) → x.status ≡ s → (runs s ≡ true) ⊎ (waits s ≡ true) → In (registers (x.top ∷ x.below)) r → In (task_names x) r
   names_by x r Running e work i = subst (λ v. In (names_from v (x.top ∷ x.below)) r) (sym e) i
   names_by x r Waiting e work i = subst (λ v. In (names_from v (x.top ∷ x.below)) r) (sym e) i
   names_by x r (Ended k n) e (inl w) i = absurd (false≢true w)

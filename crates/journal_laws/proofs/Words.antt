@@ -1,33 +1,5 @@
 -- Each word that was allocated is held or was dropped.
-use Rattle.std.proofs.Common.{◌≡◌, ℕ, zero, suc, ◌+◌, ◌-◌, ◌≤◌, Bool, true, false, cond, Option, Some, None, List, [], ◌∷◌, ◌++◌, slice_get, nat_lt, refl, sym, subst, arith, is_none}
-use Rattle.std.proofs.lemmas.Bool.{and_parts}
-use Rattle.listed.proofs.Members.{In}
-use Rattle.run_trace.specs.declared.entry.Kind.{Kind}
-use Rattle.run_trace.specs.declared.entry.Kind.TheVariants.{Took, Ran, Chunk, Begin, End as EndOf, PutOff, Mark, More, Sweep, Fuel}
-use Rattle.run_trace.specs.Entry.{EntryValue}
-use Rattle.run_trace.specs.Settings.{SettingsValue}
-use Rattle.hh_lang.specs.Form.{ProgramText}
-use Rattle.hh_model.specs.declared.data.Name.{Name}
-use Rattle.hh_model.specs.declared.data.State.{State}
-use Rattle.hh_model.specs.Step.{step, can_step, asked}
-use Rattle.run_ledger.specs.declared.data.Heap.{Heap}
-use Rattle.run_ledger.specs.declared.data.Ledger.{Ledger}
-use Rattle.run_ledger.specs.declared.data.RunEnd.TheVariants.{Pool}
-use Rattle.run_ledger.specs.Heaps.{held_in, heap_at, or_fresh, with_heap, with_heap_at, words_at, words_in, in_use, is_small, chunk_words, collected, swept_heap, fresh}
-use Rattle.run_ledger.specs.Steps.{allocated_by, allocated_in, stepped_to, task_step, task_steps, on_asked}
-use Rattle.run_ledger.specs.Entries.{refusal, kind_refusal, after_kind, after, with_chunk, chunk_units}
-use Rattle.run_ledger.specs.Journals.{opening, after_all, ledger_of, is_legal_from}
-use Rattle.run_ledger.specs.Report.{tally, lost, freed_by_end, freed_by_sweep}
-use Rattle.run_ledger.specs.Space.{store_words, WordsAreAccounted}
-use Rattle.run_ledger.proofs.Machine.{stepped_machine}
-use Rattle.run_ledger.proofs.Sound.{SoundLedger, names_of}
-use Rattle.run_ledger.proofs.Steps.{SoundAt, heap_of_task, can_tells, task_step_sound}
-use Rattle.run_ledger.proofs.Grown.{Grown}
-use Rattle.run_ledger.proofs.Weights.{weight, total, total_set, sum_flat, collected_weight, swept_weight, chunk_weight, moves_total, weight_additive}
-use Rattle.run_ledger.proofs.Chunks.{sum_same}
-use Rattle.run_ledger.proofs.Stocks.{StockedLedger, G, L, allocated_total, with_heap_any, task_step_stocked, kind_stocked, opening_stocked}
-use Rattle.run_ledger.proofs.Booked.{total_same}
-use Rattle.run_ledger.proofs.Journals.{out_tells, entry_tells, entry_sound, opening_sound}
+use Rattle.journal_laws.proofs.Common.{◌≡◌, ℕ, zero, suc, ◌+◌, ◌-◌, ◌≤◌, Bool, true, false, cond, Option, Some, None, List, [], ◌∷◌, ◌++◌, slice_get, nat_lt, refl, sym, subst, arith, is_none, and_parts, In, Kind, Took, Ran, Chunk, Begin, End as EndOf, PutOff, Mark, More, Sweep, Fuel, EntryValue, SettingsValue, ProgramText, Name, MachineState, step, can_step, asked, Heap, Ledger, Pool, held_in, heap_at, or_fresh, with_heap, with_heap_at, words_at, words_in, in_use, is_small, chunk_words, collected, swept_heap, fresh, allocated_by, allocated_in, stepped_to, task_step, task_steps, on_asked, refusal, kind_refusal, after_kind, after, with_chunk, chunk_units, opening, after_all, ledger_of, is_legal_from, tally, lost, freed_by_end, freed_by_sweep, store_words, WordsAreAccounted, stepped_machine, SoundLedger, names_of, SoundAt, heap_of_task, can_tells, task_step_sound, Grown, weight, total, total_set, sum_flat, collected_weight, swept_weight, chunk_weight, moves_total, weight_additive, sum_same, StockedLedger, G, L, allocated_total, with_heap_any, task_step_stocked, kind_stocked, opening_stocked, total_same, out_tells, entry_tells, entry_sound, opening_sound}
 
 -- the words that all heaps hold
 abbrev held_words : Ledger → ℕ
@@ -46,7 +18,7 @@ balance_on a b l l' l'' F H =
 -- STEPS
 
 module _ (p : ProgramText) (l : Ledger) (t : ℕ) (S : SoundAt t l) (I : StockedLedger l) (can : can_step l.machine t ≡ true) where
-  abbrev m' : State
+  abbrev m' : MachineState
   m' = step p l.machine t
 
   abbrev b : Ledger
@@ -74,17 +46,17 @@ module _ (p : ProgramText) (l : Ledger) (t : ℕ) (S : SoundAt t l) (I : Stocked
       let a : total (words_in m') k.heaps ≡ total (words_in m') b.heaps = moves_total (weight (words_at m')) (weight_additive (words_at m')) t l.machine.tasks b.heaps k.heaps (L p l t S I can).2 in
       let c = balance_by (asked p l.machine t) refl in
       let d : total (words_in m') k.heaps + store_words l.machine.store ≡ held_words l + store_words m'.store = omega arith in
-      subst (λ (m : State). 0 + total (words_in m) k.heaps + store_words l.machine.store ≡ held_words l + store_words m.store) (sym (stepped_machine b t m')) (omega arith)
+      subst (λ (m : MachineState). 0 + total (words_in m) k.heaps + store_words l.machine.store ≡ held_words l + store_words m.store) (sym (stepped_machine b t m')) (omega arith)
 
 rest_balances : (l : Ledger) → Balances 0 l l
 rest_balances l = omega arith
 
 task_step_balances : (p : ProgramText) (l : Ledger) (t : ℕ) → SoundAt t l → StockedLedger l → Balances 0 l (task_step p l t)
-task_step_balances p l t S I = by (can_step l.machine t) refl
+task_step_balances p l t S I = task_step_balances_by_cases (can_step l.machine t) refl
   where
-    by : (v : Bool) → can_step l.machine t ≡ v → Balances 0 l (cond v (stepped_to (allocated_in p l t) t (step p l.machine t)) (record l { steps = l.steps + 1 }))
-    by false e = omega arith
-    by true e = step_balances p l t S I e
+    task_step_balances_by_cases : (v : Bool) → can_step l.machine t ≡ v → Balances 0 l (cond v (stepped_to (allocated_in p l t) t (step p l.machine t)) (record l { steps = l.steps + 1 }))
+    task_step_balances_by_cases false e = omega arith
+    task_step_balances_by_cases true e = step_balances p l t S I e
 
 task_steps_balance : (p : ProgramText) (k : ℕ) (l : Ledger) (t : ℕ) → SoundAt t l → StockedLedger l → Balances 0 l (task_steps p l t k)
 task_steps_balance p zero l t S I = rest_balances l
@@ -101,11 +73,11 @@ even l t f same = with_heap_any (Balances 0 l) l t f (rest_balances l) (λ h e.
     omega arith)
 
 drops : (l : Ledger) (t : ℕ) (f : Heap → Heap) → ((h : Heap) (g : Name → ℕ) → weight g (f h) ≤ weight g h) → words_in l.machine (f fresh) ≡ 0 → Balances (lost l t f) l (with_heap l t f)
-drops l t f less none = by (heap_at l t) refl
+drops l t f less none = drops_by_cases (heap_at l t) refl
   where
-    by : (o : Option Heap) → heap_at l t ≡ o → Balances (words_in l.machine (or_fresh o) - words_in l.machine (f (or_fresh o))) l (with_heap_at l t f o)
-    by None e = let z : words_in l.machine fresh ≡ 0 = refl in omega arith
-    by (Some h) e = let a = total_set (words_in l.machine) l.heaps t h (f h) e in let b = less h (words_at l.machine) in omega arith
+    drops_by_cases : (o : Option Heap) → heap_at l t ≡ o → Balances (words_in l.machine (or_fresh o) - words_in l.machine (f (or_fresh o))) l (with_heap_at l t f o)
+    drops_by_cases None e = let z : words_in l.machine fresh ≡ 0 = refl in omega arith
+    drops_by_cases (Some h) e = let a = total_set (words_in l.machine) l.heaps t h (f h) e in let b = less h (words_at l.machine) in omega arith
 
 pub chunk_even : (next : Option ℕ) (h : Heap) (g : Name → ℕ) (b : Bool) → weight g (cond b (record h { chunks = h.chunks ++ [] ∷ []; room = chunk_words }) (record h { reserved = chunk_units next })) ≡ weight g h
 chunk_even next h g true = chunk_weight g h chunk_words

@@ -1,17 +1,7 @@
--- What is set down of a heap: its survivors as a leaf collection begins, and its snapshot as its task forks.
+-- What is recorded of a heap: its survivors as a leaf collection begins, and its snapshot as its task forks.
 use Rattle.std.specs.Prelude.{◌≡◌, ◌==◌, ℕ, Bool, true, false, List, [], ◌∷◌, ◌++◌, slice_get, Contains, is_some}
 use Rattle.std.specs.List.{IsDistinct}
-use Rattle.run_trace.specs.declared.entry.Kind.{Kind}
-use Rattle.run_trace.specs.declared.entry.Kind.TheVariants.{Ran, Begin}
-use Rattle.run_trace.specs.Entry.{EntryValue}
-use Rattle.run_trace.specs.Settings.{SettingsValue}
-use Rattle.hh_lang.specs.Form.{ProgramText}
-use Rattle.hh_model.specs.declared.data.Name.{Name}
-use Rattle.hh_model.specs.Step.{is_waiting}
-use Rattle.run_ledger.specs.declared.data.Ledger.{Ledger}
-use Rattle.run_ledger.specs.Reachable.{is_name}
-use Rattle.run_ledger.specs.Heaps.{heap_of, held_in, within}
-use Rattle.run_ledger.specs.Journals.{ledger_of, is_legal}
+use Rattle.journal_laws.specs.Common.{Kind, Ran, Begin, EntryValue, SettingsValue, ProgramText, Name, is_waiting, Ledger, is_name, heap_of, held_in, within, ledger_of, is_legal}
 
 -- an entry begins a leaf collection of t
 abbrev pub begins : ℕ → Kind → Bool
@@ -23,11 +13,11 @@ abbrev pub is_of_steps : ℕ → Kind → Bool
 is_of_steps t (Ran u k) = u == t
 is_of_steps t _ = false
 
--- none of these entries is of the kind that is asked for
+-- none of these entries passes the test
 abbrev pub HasNone : (Kind → Bool) → List EntryValue → Type 0
 HasNone test entries = (e : EntryValue) → Contains entries e → test e.kind ≡ false
 
--- the last entry of a journal that began a leaf collection of t: the survivors are what was reached within its heap
+-- the last entry of a journal that began a leaf collection of t: the survivors are what was reachable within its heap
 -- just before
 pub record BeganWith (p : ProgramText) (s : SettingsValue) (journal : List EntryValue) (t : ℕ) : Type 0 where
   pub before : List EntryValue
@@ -42,7 +32,7 @@ SurvivorsAreWithin =
     (p : ProgramText) (s : SettingsValue) (journal : List EntryValue) (t : ℕ) → is_legal p s journal ≡ true
     → is_some (heap_of (ledger_of p s journal) t).begun ≡ true → BeganWith p s journal t
 
--- the last entry of steps of t, which waits since: the snapshot is what is reached within its heap just after
+-- the last entry of steps of t, which has waited since: the snapshot is what was reachable within its heap just after
 pub record ForkedWith (p : ProgramText) (s : SettingsValue) (journal : List EntryValue) (t : ℕ) : Type 0 where
   pub before : List EntryValue
   pub worker : ℕ

@@ -1,3 +1,4 @@
 pub mod Accepted
 pub mod Frozen
 pub mod PaceLaw
+mod Common

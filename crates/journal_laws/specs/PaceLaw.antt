@@ -1,23 +1,8 @@
--- The pace in words: what is kept of each worker is told by the journal's entries, and a journal is paced where it
--- keeps three rules.
+-- The pace in words: the journal's entries determine the record of each worker, and a journal is paced if it keeps
+-- three rules.
 use Rattle.std.specs.Prelude.{◌≡◌, ◌↔◌, ◌⊎◌, ◌==◌, ◌≤◌, ℕ, true, false, Option, Some, None, List, [], ◌∷◌, ◌++◌, slice_get, if◌then◌else◌}
-use Rattle.listed.specs.Members.{In}
-use Rattle.run_trace.specs.declared.entry.Kind.{Kind}
-use Rattle.run_trace.specs.declared.entry.Kind.TheVariants.{Ran, Mark, More, Sweep}
-use Rattle.run_trace.specs.Entry.{EntryValue}
-use Rattle.run_trace.specs.Settings.{SettingsValue}
-use Rattle.hh_lang.specs.Form.{ProgramText}
-use Rattle.hh_model.specs.declared.data.Strand.{Strand}
-use Rattle.hh_model.specs.declared.data.Task.{Task}
-use Rattle.hh_model.specs.Step.{waits}
-use Rattle.run_ledger.specs.declared.data.Ledger.{Ledger}
-use Rattle.run_ledger.specs.declared.data.Previous.{Previous}
-use Rattle.run_ledger.specs.declared.data.Previous.TheVariants.{Other, Ran as RanBefore, Forked}
-use Rattle.run_ledger.specs.declared.data.WorkerPace.{WorkerPace}
-use Rattle.run_ledger.specs.Heaps.{heap_of, left_in, words_in}
-use Rattle.run_ledger.specs.Entries.{after, is_fuel}
-use Rattle.run_ledger.specs.Journals.{is_legal, ledger_of, opening}
-use Rattle.run_ledger.specs.Pace.{fork_of, is_paced, marked_at_once}
+use Rattle.journal_laws.specs.Common.{In, Kind, Ran, Mark, More, Sweep, EntryValue, SettingsValue, ProgramText, Strand, Task, waits, Ledger, Previous, Other, Forked, WorkerPace, heap_of, left_in, words_in, after, is_fuel, is_legal, ledger_of, opening, fork_of, is_paced, marked_at_once}
+use Rattle.run_ledger.specs.declared.data.Previous.TheVariants.{Ran as RanBefore}
 
 -- A WORKER'S PREVIOUS ENTRY
 
@@ -25,7 +10,7 @@ use Rattle.run_ledger.specs.Pace.{fork_of, is_paced, marked_at_once}
 abbrev pub NoneBy : ℕ → List EntryValue → Type 0
 NoneBy w es = (e : EntryValue) → In es e → e.worker ≡ w → ⊥
 
--- the worker's last entry in the journal says this; up to this entry, and with it, the journal is `upto`
+-- the worker's last entry in the journal is of this kind; up to this entry, inclusive, the journal is `upto`
 pub record IsLastBy (w : ℕ) (journal upto : List EntryValue) (kind : Kind) : Type 0 where
   pub before : List EntryValue
   pub entry : EntryValue
@@ -40,8 +25,8 @@ pub record IsLastBy (w : ℕ) (journal upto : List EntryValue) (kind : Kind) : T
 abbrev pub WaitsOn : Ledger → Strand → Type 0
 WaitsOn l fork = (x : Task) × (slice_get l.machine.tasks fork.task ≡ Some x) × (waits x.status ≡ true) × (x.joins ≡ fork.joins)
 
--- what is kept of a worker's previous entry: none or no steps; steps of a task that waits on no fork after them; or
--- steps of a task that waits on this fork after them
+-- the record of a worker's previous entry: none or no steps; steps of a task that waits on no fork after them; or steps
+-- of a task that waits on this fork after them
 abbrev pub IsPrevious : ProgramText → SettingsValue → ℕ → List EntryValue → Previous → Type 0
 IsPrevious p s w journal Other = NoneBy w journal ⊎ ((upto : List EntryValue) × (kind : Kind) × IsLastBy w journal upto kind × ((t k : ℕ) → kind ≡ Ran t k → ⊥))
 IsPrevious p s w journal RanBefore =
@@ -55,7 +40,7 @@ abbrev pub marked_task : Kind → Option ℕ
 marked_task (Mark t) = Some t
 marked_task _ = None
 
--- the fork on which that task is
+-- the fork on which that task waits
 abbrev pub fork_marked : Ledger → Option ℕ → List Strand
 fork_marked l None = []
 fork_marked l (Some t) = fork_of t (slice_get l.machine.tasks t)
@@ -68,15 +53,15 @@ abbrev pub marked_forks : ProgramText → SettingsValue → ℕ → Ledger → L
 marked_forks p s w l [] = []
 marked_forks p s w l (e ∷ es) = marked_forks p s w (after p s l e) es ++ fork_by w l e
 
--- THE PACE IS OF ENTRIES: what is kept of a worker after a journal
+-- THE PACE FOLLOWS FROM THE ENTRIES: the record of a worker after a journal
 pub record IsPaceOf (p : ProgramText) (s : SettingsValue) (w : ℕ) (journal : List EntryValue) (x : WorkerPace) : Type 0 where
   pub previous : IsPrevious p s w journal x.previous
   pub marks : x.marks ≡ marked_forks p s w (opening p s) journal
 
--- THREE RULES for an entry of a worker whose previous entry, at the end of `upto`, are steps of t
+-- THREE RULES for an entry of a worker whose previous entry, at the end of `upto`, is one of steps of t
 
--- these steps forked t, which still waits on that fork, isn't marked, nor was it marked and swept, and holds at least
--- the inner limit of words
+-- these steps forked t, which still waits on that fork, is neither marked nor has been marked and swept, and holds at
+-- least the inner limit of words
 pub record IsToMark (p : ProgramText) (s : SettingsValue) (l : Ledger) (upto : List EntryValue) (t : ℕ) (fork : Strand) : Type 0 where
   pub task : fork.task ≡ t
   pub forked : WaitsOn (ledger_of p s upto) fork
@@ -90,7 +75,7 @@ pub record IsUnderWay (l : Ledger) (fork : Strand) : Type 0 where
   pub waits : WaitsOn l fork
   pub unswept : (heap_of l fork.task).swept ≡ false
 
--- of these forks, the newest first, this is the first of which that holds
+-- the first of these forks, the newest first, of which that holds
 pub record IsNewest (l : Ledger) (forks : List Strand) (fork : Strand) : Type 0 where
   pub newer : List Strand
   pub older : List Strand
@@ -98,19 +83,20 @@ pub record IsNewest (l : Ledger) (forks : List Strand) (fork : Strand) : Type 0 
   pub none : (g : Strand) → In newer g → IsUnderWay l g → ⊥
   pub under_way : IsUnderWay l fork
 
--- 64 objects more of the heap are marked where something is left to mark, and it is swept where nothing is left
+-- 64 more objects of the heap are marked if something is left to mark; otherwise it is swept
 pub record GoesOnMarking (l : Ledger) (t : ℕ) (kind : Kind) : Type 0 where
   pub more : (left_in (heap_of l t) ≡ 0 → ⊥) → kind ≡ More t marked_at_once
   pub sweep : left_in (heap_of l t) ≡ 0 → (given : ℕ) × (kind ≡ Sweep t given)
 
 pub record KeepsRules (p : ProgramText) (s : SettingsValue) (before : List EntryValue) (w : ℕ) (upto : List EntryValue) (t : ℕ) (kind : Kind) : Type 0 where
-  -- first, where t is to be marked it is
+  -- first, if t is to be marked, it is marked
   pub mark : (fork : Strand) → IsToMark p s (ledger_of p s before) upto t fork → kind ≡ Mark t
-  -- else, the marking that goes on and that the worker began last goes on. Third, where none goes on the entry is free
+  -- second, otherwise, the last marking that the worker began and that goes on is continued. Third, if none goes on,
+  -- the entry is free
   pub more : ((fork : Strand) → IsToMark p s (ledger_of p s before) upto t fork → ⊥) → (fork : Strand)
       → IsNewest (ledger_of p s before) (marked_forks p s w (opening p s) before) fork → GoesOnMarking (ledger_of p s before) fork.task kind
 
--- each entry that isn't `fuel`, and whose worker's previous entry are steps, keeps the rules
+-- each entry that isn't `fuel`, and whose worker's previous entry is one of steps, keeps the rules
 abbrev pub KeepsThePace : ProgramText → SettingsValue → List EntryValue → Type 0
 KeepsThePace p s journal =
     (before : List EntryValue) (e : EntryValue) (rest : List EntryValue) → journal ≡ before ++ e ∷ rest → is_fuel e.kind ≡ false

@@ -1,4 +1,4 @@
-// What holds of every legal journal, and of what its entries and steps change.
+// Laws of every legal journal, and of what its entries and steps change.
 #![tactic(auto)]
 
 mod laws;

@@ -6,7 +6,7 @@ use ledger_heaps::{
     are_owned, collect, fresh, is_countable, place, put_last, sweep, take_of, units_in, within,
     words_at, words_in, words_sum,
 };
-use run_journal::{Heap, Listed, State};
+use run_journal::{Heap, Listed, MachineState};
 use std::alloc::Global;
 
 // A root and its child: each refers to objects of both.
@@ -42,7 +42,7 @@ fn family_heaps(alloc: Global) -> Option<Listed<Heap>> {
 // Whether exactly these are reached within a task's heap, in this order.
 fn reached(
     alloc: Global,
-    machine: &State,
+    machine: &MachineState,
     heaps: &Listed<Heap>,
     task: u32,
     expected: &[Pair],
@@ -107,7 +107,7 @@ fn lone_heap(alloc: Global, survivors: &[u32], snapshot: &[u32]) -> Option<Heap>
 
 // The words of a heap, its units, the chunks that a collection of it takes, and the words of its large objects, if its
 // words are countable.
-fn counts(machine: &State, heap: &Heap) -> Option<(u64, u64, u64, u64)> {
+fn counts(machine: &MachineState, heap: &Heap) -> Option<(u64, u64, u64, u64)> {
     if !is_countable(machine, heap) {
         return None;
     }
@@ -120,7 +120,7 @@ fn counts(machine: &State, heap: &Heap) -> Option<(u64, u64, u64, u64)> {
 }
 
 // The counts of the lone heap.
-fn lone_counts(alloc: Global, machine: &State) -> Option<(u64, u64, u64, u64)> {
+fn lone_counts(alloc: Global, machine: &MachineState) -> Option<(u64, u64, u64, u64)> {
     let heap = lone_heap(alloc, &[], &[])?;
     counts(machine, &heap)
 }
@@ -143,7 +143,7 @@ fn words_and_units(rt: HostRuntime) {
 }
 
 // Collects a heap whose words are countable; returns the units taken and given back, and the words left.
-fn collected(alloc: Global, machine: &State, heap: &mut Heap) -> Option<(u64, u64, u64)> {
+fn collected(alloc: Global, machine: &MachineState, heap: &mut Heap) -> Option<(u64, u64, u64)> {
     if !is_countable(machine, heap) {
         return None;
     }
@@ -163,7 +163,7 @@ fn is_collected(heap: &Heap) -> bool {
 }
 
 // What a collection of the lone heap returns, and whether the heap is then the expected one.
-fn collection(alloc: Global, machine: &State) -> Option<((u64, u64, u64), bool)> {
+fn collection(alloc: Global, machine: &MachineState) -> Option<((u64, u64, u64), bool)> {
     let mut heap = lone_heap(alloc, &[6, 3, 2, 5, 1, 0], &[])?;
     let numbers = collected(alloc, machine, &mut heap)?;
     Some((numbers, is_collected(&heap)))
@@ -190,7 +190,7 @@ fn is_swept(heap: &Heap) -> bool {
 }
 
 // Sweeps a heap whose words are countable; returns the number of units given back.
-fn swept(alloc: Global, machine: &State, heap: &mut Heap) -> Option<u64> {
+fn swept(alloc: Global, machine: &MachineState, heap: &mut Heap) -> Option<u64> {
     if !is_countable(machine, heap) {
         return None;
     }
@@ -203,7 +203,7 @@ fn swept(alloc: Global, machine: &State, heap: &mut Heap) -> Option<u64> {
 }
 
 // What a sweep of the lone heap gives back, and whether the heap is then the expected one.
-fn sweeping(alloc: Global, machine: &State) -> Option<(u64, bool)> {
+fn sweeping(alloc: Global, machine: &MachineState) -> Option<(u64, bool)> {
     let mut heap = lone_heap(alloc, &[], &[2, 0, 6])?;
     let given = swept(alloc, machine, &mut heap)?;
     Some((given, is_swept(&heap)))

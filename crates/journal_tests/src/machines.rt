@@ -1,7 +1,7 @@
 // Machines and accounts of heaps that tests make from tables.
 
 use ledger_heaps::fresh;
-use run_journal::{Frame, Heap, Listed, Name, Object, State, Status, Strand, Task};
+use run_journal::{Frame, Heap, Listed, MachineState, Name, Object, Strand, Task, TaskStatus};
 use std::alloc::Global;
 
 /// A name in a table: the task and the count.
@@ -88,7 +88,7 @@ fn task(alloc: Global, row: Row) -> Task {
     Task {
         parent: row.parent,
         depth: if row.parent.is_some() { 1 } else { 0 },
-        status: Status::Running,
+        status: TaskStatus::Running,
         top: frame(row.register),
         below: Listed::new(alloc),
         joins: 0,
@@ -96,7 +96,7 @@ fn task(alloc: Global, row: Row) -> Task {
 }
 
 // Adds the task of this number with its objects; returns whether that succeeded.
-fn add_task(alloc: Global, machine: &mut State, number: u32, row: Row) -> bool {
+fn add_task(alloc: Global, machine: &mut MachineState, number: u32, row: Row) -> bool {
     match objects(alloc, number, row.objects) {
         Some(objects) => {
             machine.store.push(objects).is_ok() && machine.tasks.push(task(alloc, row)).is_ok()
@@ -106,8 +106,8 @@ fn add_task(alloc: Global, machine: &mut State, number: u32, row: Row) -> bool {
 }
 
 // A machine without tasks.
-fn empty_machine(alloc: Global) -> State {
-    State {
+fn empty_machine(alloc: Global) -> MachineState {
+    MachineState {
         field_limit: 9_998,
         tasks: Listed::new(alloc),
         store: Listed::new(alloc),
@@ -118,7 +118,7 @@ fn empty_machine(alloc: Global) -> State {
 }
 
 /// The machine of these tasks.
-pub(crate) fn machine_of(alloc: Global, rows: &[Row]) -> Option<State> {
+pub(crate) fn machine_of(alloc: Global, rows: &[Row]) -> Option<MachineState> {
     let mut machine = empty_machine(alloc);
     for (number, row) in (0u32..).zip(rows) {
         if !add_task(alloc, &mut machine, number, *row) {

@@ -16,11 +16,11 @@ plain_digit n = grind arith
 
 plain_onto : (k n : ℕ) (acc : List ℕ) → ArePlain acc → ArePlain (digits_onto k 10 false n acc)
 plain_onto zero n acc h = h
-plain_onto (suc k) n acc h = by (n / 10 == 0) refl (plain_onto k (n / 10) (digit_glyph false (n % 10) ∷ acc) (plain_digit n, h))
+plain_onto (suc k) n acc h = plain_onto_by_cases (n / 10 == 0) refl (plain_onto k (n / 10) (digit_glyph false (n % 10) ∷ acc) (plain_digit n, h))
   where
-    by : (b : Bool) → (n / 10 == 0) ≡ b → ArePlain (digits_onto k 10 false (n / 10) (digit_glyph false (n % 10) ∷ acc)) → ArePlain (digits_onto (suc k) 10 false n acc)
-    by true e again = rw e (plain_digit n, h)
-    by false e again = rw e again
+    plain_onto_by_cases : (b : Bool) → (n / 10 == 0) ≡ b → ArePlain (digits_onto k 10 false (n / 10) (digit_glyph false (n % 10) ∷ acc)) → ArePlain (digits_onto (suc k) 10 false n acc)
+    plain_onto_by_cases true e again = rw e (plain_digit n, h)
+    plain_onto_by_cases false e again = rw e again
 
 number_balances : (n : ℕ) → IsBalanced (decimal n)
 number_balances n = balanced.plain_balance (decimal n) (unfold digits in plain_onto 64 n [] tt)

@@ -1,6 +1,6 @@
 // A leaf heap: fields of its objects, small and large ones.
 
-use alloc_path::LeafHeap;
+use leaf_heap::LeafHeap;
 use memory_scenes::{Put, Seen, at, freeze, heap_of, holds, is_mutable, number, set_number};
 use object_layout::Addr;
 use std::alloc::Global;

@@ -1,6 +1,6 @@
 // Pieces that are kept of chunks.
 
-use chunk_pieces::{Layer, Pieces, piece_of};
+use frozen_views::{Layer, Pieces, piece_of};
 use object_layout::Chunk;
 use std::alloc::Global;
 use std::sync::Arc;
@@ -36,7 +36,7 @@ fn states(alloc: Global) -> Option<[Option<(bool, bool, usize, usize)>; 4]> {
 }
 
 #[test]
-fn chunk_pieces_are_shared(rt: HostRuntime) {
+fn frozen_views_are_shared(rt: HostRuntime) {
     assert!(rt;
         states(rt.alloc())
             == Some([

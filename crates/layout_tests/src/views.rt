@@ -1,7 +1,7 @@
-// What tasks see of the heaps above them.
+// What tasks see of the heaps of their ancestors.
 
-use alloc_path::{LeafHeap, View};
 use heap_tree::Tree;
+use leaf_heap::{LeafHeap, View};
 use memory_scenes::{
     Put, Spot, at, at_spot, forked, freeze, heap_of, mark_and_sweep, one_frame, place_kind,
     set_number,

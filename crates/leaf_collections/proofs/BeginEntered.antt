@@ -1,26 +1,6 @@
--- A leaf collection begins, as the call has it.
-use Rattle.std.proofs.Common.{◌≡◌, ℕ, ◌+◌, ◌^◌, ◌<◌, ◌≤◌, ◌++◌, arith, Some, None, List, [], ◌∷◌, length, map, All, ap, sym, subst, ◌∙◌}
-use Rattle.std.specs.Prelude.{vec_len}
-use Rattle.shared_value.specs.below.listed.{RoomyValue}
-use Rattle.shared_value.proofs.below.listed.{all_from, map_in}
-use Rattle.shared_value.specs.below.run_trace.{Begin, EntryValue}
-use Rattle.shared_value.specs.below.object_layout.{Addr, IsBorn, cell_of, small_words, ChunkValue, number_of, IsSound}
-use Rattle.shared_value.specs.below.chunk_pool.{PoolValue, TakesAll, units_in_use}
-use Rattle.shared_value.specs.below.alloc_path.{AreApart, IsFresh, counted, with_places}
-use Rattle.shared_value.specs.below.leaf_copy_gc.{ToChunks, AreNew, AreReserved, as_reference}
-use Rattle.shared_value.proofs.below.leaf_copy_gc.{born_live}
-use Rattle.shared_value.specs.below.core_relation.{In}
-use Rattle.shared_value.specs.below.task_machine.{Private, Begun}
-use Rattle.shared_value.specs.SharedValue.{SharedValue}
-use Rattle.shared_value.specs.Stands.{IsSharedValue}
-use Rattle.shared_value.specs.Fits.{Fits, OthersFit}
-use Rattle.shared_value.specs.Due.{take_by}
-use Rattle.shared_value.specs.Entered.{refused}
-use Rattle.shared_value.specs.LeafBegin.{HasBegun}
-use Rattle.shared_value.specs.Roots.{roots_of}
-use Rattle.shared_value.proofs.CellsRead.{seen_object}
-use Rattle.shared_value.proofs.EntryMade.{entry_on}
-use Rattle.shared_value.proofs.RootsByAccounts.{root_here}
+-- A leaf collection begins, as the call makes it.
+use Rattle.leaf_collections.proofs.Common.{◌≡◌, ℕ, ◌+◌, ◌^◌, ◌<◌, ◌≤◌, ◌++◌, arith, Some, None, List, [], ◌∷◌, length, map, All, ap, sym, subst, ◌∙◌, vec_len, ReservedVecValue, all_from, map_in, Begin, EntryValue, Addr, IsBorn, cell_of, small_words, ChunkValue, number_of, IsSoundReference, PoolValue, TakesAll, units_in_use, HaveDistinctNumbers, IsFresh, counted, with_places, ToChunks, AreNew, as_reference, born_live, In, Private, Begun, SharedValue, IsSharedValue, Fits, OthersFit, take_by, refused, HasBegun, roots_of, seen_object, entry_on, root_here}
+use Rattle.core_invariant.specs.below.copying_gc.{AreReserved}
 use Rattle.leaf_collections.proofs.CollectionPutOff.{without_fresh}
 use Rattle.leaf_collections.proofs.WhyNoCollection.{begin_idle, begin_within}
 use Rattle.leaf_collections.proofs.CollectionBegins.{begin_others, begin_world}
@@ -34,7 +14,7 @@ module _ (w : SharedValue) (k : ℕ) (p : Private) (I : IsSharedValue w) (F : Fi
   pub begins_idle : p.begun ≡ None
   begins_idle = begin_idle w k p I F0 free
 
-  -- how many chunks it takes, as the code counts them
+  -- how many chunks it takes, as the code computes it
   pub begin_count : (n : ℕ) → n ≡ take_by (counted (small_words p.heap.chunks)) → n ≡ take_by (small_words p.heap.chunks)
   begin_count n q =
       let h : units_in_use w.pool + take_by (small_words p.heap.chunks) ≤ w.settings.chunks = begin_within w k p I F0 free in
@@ -56,7 +36,7 @@ module _ (w : SharedValue) (k : ℕ) (p : Private) (I : IsSharedValue w) (F : Fi
       omega (arith, c, h, lt, limit)
 
   module _ (pool : PoolValue) (news was : List ChunkValue) (task count : ℕ) (et : task ≡ p.task) (ec : count ≡ take_by (small_words p.heap.chunks)) (ew : was ≡ []) (taken : TakesAll w.pool pool task count was news)
-      (roots : List Addr) (er : roots ≡ roots_of w p) (numbers : List ℕ) (en : numbers ≡ map number_of news) (j : RoomyValue EntryValue) where
+      (roots : List Addr) (er : roots ≡ roots_of w p) (numbers : List ℕ) (en : numbers ≡ map number_of news) (j : ReservedVecValue EntryValue) where
     T : TakesAll w.pool pool p.task (take_by (small_words p.heap.chunks)) [] news
     T =
         subst (λ n. TakesAll w.pool pool n (take_by (small_words p.heap.chunks)) [] news) et
@@ -85,7 +65,7 @@ module _ (w : SharedValue) (k : ℕ) (p : Private) (I : IsSharedValue w) (F : Fi
         (begin_part w k p I F0 free pool news a b T j)))
 
     -- the roots are objects of the heap
-    sound_root : (a : Addr) → In roots a → IsSound p.heap.chunks (Some a)
+    sound_root : (a : Addr) → In roots a → IsSoundReference p.heap.chunks (Some a)
     sound_root a i = λ lt.
         let q = root_here w k p I F0 (entry_on w (record { worker = k; kind = Begin p.task }) free) a (subst (λ rs. In rs a) er i) in
         let y = seen_object p.heap.chunks q.0 F.form.shaped.apart q.1 in
@@ -94,8 +74,8 @@ module _ (w : SharedValue) (k : ℕ) (p : Private) (I : IsSharedValue w) (F : Fi
     pub begins_with : (new : Private) (to : ToChunks) → to.chunks.items ≡ news → new ≡ record p { heap = with_places p.heap new.heap.slots new.heap.spare; begun = Some begun_so } → AreReserved new.heap (vec_len to.chunks) to → HasBegun p new roots to
     begins_with new to items part reserved = record {
       part = part ∙ ap (λ ns. record p { heap = with_places p.heap new.heap.slots new.heap.spare; begun = Some (record { roots = roots; news = ns }) }) (en ∙ ap (map number_of) (sym items));
-      sound = all_from (IsSound p.heap.chunks) (map as_reference roots) (λ r i. let x = map_in as_reference roots r i in subst (IsSound p.heap.chunks) x.2 (sound_root x.0 x.1));
-      apart = subst AreApart (sym (items ∙ news_are)) T.numbers.numbered.apart;
+      sound = all_from (IsSoundReference p.heap.chunks) (map as_reference roots) (λ r i. let x = map_in as_reference roots r i in subst (IsSoundReference p.heap.chunks) x.2 (sound_root x.0 x.1));
+      apart = subst HaveDistinctNumbers (sym (items ∙ news_are)) T.numbers.numbered.apart;
       fresh = subst (All (λ (z : ChunkValue). IsFresh p.heap.chunks z.number)) (sym (items ∙ news_are))
           (all_from (λ (z : ChunkValue). IsFresh p.heap.chunks z.number) T.numbers.chunks (new_fresh w k p I F0 free pool news 0 0 T j));
       empty = subst AreNew (sym (items ∙ news_are)) (new_of T.numbers.chunks T.numbers.blank);

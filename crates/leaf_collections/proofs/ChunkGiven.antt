@@ -1,43 +1,7 @@
 -- A part gets a chunk.
-use Rattle.std.proofs.Common.{◌≡◌, ◌⊎◌, ℕ, ◌+◌, ◌*◌, ◌/◌, ◌<◌, ◌≤◌, true, false, ◌&&◌, not, Bool, cond, Option, Some, None, [], ◌∷◌, ◌++◌, length, map, slice_get, option_map, is_none, is_some, nat_lt, ◌==◌, inl, inr, refl, ap, ap₂, sym, subst, ◌∙◌, arith, lt-ltb, le-ltb, eq-eqb, ne_eqb}
-use Rattle.std.proofs.lemmas.Bool.{cases_eq, cases_lt, cond-false, cond-true, false≢true, leb-false}
-use Rattle.std.proofs.lemmas.Option.{same_Some}
-use Rattle.std.proofs.lemmas.List.{append-nil}
-use Rattle.shared_value.specs.below.listed.{RoomyValue}
-use Rattle.shared_value.proofs.below.listed.{in_map}
-use Rattle.shared_value.specs.below.hh_model.{State, row_of, asked, is_joined, is_waiting}
-use Rattle.shared_value.specs.below.run_trace.{Chunk as ChunkOf, EntryValue}
-use Rattle.shared_value.specs.below.run_ledger.{Heap, Ledger, Refused, Collecting, Due, NotNeeded, RunEnd, Pool as PoolOf, chunk_words, heap_of, in_use, is_small, lacks_room, let_go, or_fresh, units, with_heap, after, chunk_units, kind_refusal, refused_if, refused_unless, with_chunk, is_due, is_in_need, on_asked}
-use Rattle.shared_value.proofs.below.run_ledger.{entry_tells, legal_booked, heap_machine}
-use Rattle.shared_value.specs.below.object_layout.{place_in, ChunkValue, Located}
-use Rattle.shared_value.specs.below.chunk_pool.{Slot, PoolValue, Takes as PoolTakes, units_in_use}
-use Rattle.shared_value.specs.below.alloc_path.{LeafHeapValue, IsFresh, added, with_places}
-use Rattle.shared_value.specs.below.ledger_step_laws.{rested}
-use Rattle.shared_value.proofs.below.ledger_step_laws.{heap_then, with_at, with_off, rested_view}
-use Rattle.shared_value.specs.below.core_relation.{Chunk, Belongings, In, Memory, object_name, objects, objects_in, AreLaidOut, reserved_chunks, reserved_units, HasNames, BelongingsStand, large_chunks, SameObjects, AsksUnits, BegunBy, with_belongings}
-use Rattle.shared_value.proofs.below.core_relation.{at_belongings}
-use Rattle.shared_value.specs.below.task_machine.{Private, AreReserved, IsCounted, IsShaped}
-use Rattle.shared_value.proofs.below.task_machine.{chunks_added, shape_added}
-use Rattle.shared_value.specs.Objects.{chunk_of, chunks_of}
-use Rattle.shared_value.specs.SharedValue.{SharedValue, accounts, tree_counts_of, value_of}
-use Rattle.shared_value.specs.Measured.{AreMeasured, IsMeasured, KeepsUnits}
-use Rattle.shared_value.specs.Stands.{HeapForm, IsSharedValue}
-use Rattle.shared_value.specs.Fits.{Fits, OthersFit, belongings_of_part}
-use Rattle.shared_value.specs.Next.{part_asks}
-use Rattle.shared_value.specs.Causes.{need_cause}
-use Rattle.shared_value.specs.Entered.{refused}
-use Rattle.shared_value.proofs.NextStepAsks.{asks_is, counted_is}
-use Rattle.shared_value.proofs.CollectionUnderWay.{account_idle, none_begun}
-use Rattle.shared_value.proofs.HeapCounts.{small_names}
-use Rattle.shared_value.proofs.EntryMade.{entry_on, tasks_apart}
-use Rattle.shared_value.proofs.NothingMoves.{MovesNothing, notes_unchanged, quiet_others, quiet_own, quiet_world, same_value}
-use Rattle.shared_value.proofs.HeapForms.{reserved_none}
-use Rattle.shared_value.proofs.PartFitsMachine as link
-use Rattle.shared_value.proofs.UnitsMeasured.{all_kept, measured_both, measured_new, part_kept, taken_keeps}
-use Rattle.shared_value.proofs.BeforeTheEnd.{fits_now, part_idle, stands_now, used_now}
-use Rattle.shared_value.proofs.StepsEntered.{belongings_stand}
-use Rattle.shared_value.proofs.HeapForms.{places_form}
-use Rattle.shared_value.proofs.HeapLaidOut.{some_units}
+use Rattle.leaf_collections.proofs.Common.{◌≡◌, ◌⊎◌, ℕ, ◌+◌, ◌*◌, ◌/◌, ◌<◌, ◌≤◌, true, false, ◌&&◌, not, Bool, cond, Option, Some, None, [], ◌∷◌, ◌++◌, length, map, slice_get, option_map, is_none, is_some, nat_lt, ◌==◌, inl, inr, refl, ap, ap₂, sym, subst, ◌∙◌, arith, lt-ltb, le-ltb, eq-eqb, ne_eqb, cases_eq, cases_lt, cond-false, cond-true, false≢true, leb-false, same_Some, append-nil, ReservedVecValue, in_map, MachineState, row_of, asked, is_joined, is_waiting, EntryValue, Heap, Ledger, Refused, Collecting, Due, NotNeeded, RunEnd, Pool as PoolOf, chunk_words, heap_of, in_use, is_small, lacks_room, let_go, or_fresh, units, with_heap, after, chunk_units, kind_refusal, refused_if, refused_unless, with_chunk, is_due, is_in_need, on_asked, entry_tells, legal_booked, heap_machine, place_in, ChunkValue, Located, Slot, PoolValue, Reserves as PoolTakes, units_in_use, LeafHeapValue, IsFresh, added, with_places, rested, heap_then, with_at, with_off, rested_view, Chunk, Belongings, In, Memory, object_name, objects, objects_in, AreLaidOut, reserved_chunks, reserved_units, HasNames, BelongingsStand, large_chunks, SameObjects, AsksUnits, BegunBy, with_belongings, at_belongings, Private, AreReserved, HeapMatchesAccount, IsShaped, chunks_added, shape_added, chunk_of, chunks_of, SharedValue, accounts, tree_counts_of, value_of, AreMeasured, IsMeasured, KeepsUnits, HeapForm, IsSharedValue, Fits, OthersFit, belongings_of_part, part_asks, need_cause, refused, asks_is, counted_is, account_idle, none_begun, small_names, entry_on, tasks_apart, MovesNothing, notes_unchanged, quiet_others, quiet_own, quiet_world, same_value, reserved_none, all_kept, measured_both, measured_new, part_kept, taken_keeps, fits_now, part_idle, stands_now, used_now, belongings_stand, places_form, some_units}
+use Rattle.core_invariant.specs.below.run_trace.{Chunk as ChunkOf}
+use Rattle.core_invariant.proofs.PartFitsMachine as link
 use Rattle.leaf_collections.proofs.AccountChanges as change
 use Rattle.leaf_collections.proofs.MoreChunksRead.{units_some, chunk_begun, chunk_held, chunk_large, chunk_since, chunk_with, grown_counted, in_more, large_more, none_in, objects_more}
 use Rattle.leaf_collections.proofs.MoreChunksLaid.{form_more, laid_more}
@@ -51,22 +15,22 @@ needed false false x y h = absurd (false≢true h)
 -- the reserved chunk after it
 units_more : (number words : ℕ) (z : Heap) → (is_small words ≡ false → z.reserved ≡ 0)
     → reserved_units z.reserved ++ map (λ (c : Chunk). c.units) (reserved_chunks (chunk_of (chunk_with number (chunk_units (Some words))) ∷ [])) ≡ reserved_units (with_chunk (Some words) z).reserved
-units_more number words z none = by (is_small words) refl
+units_more number words z none = units_more_by_cases (is_small words) refl
   where
     big_spare : (n : ℕ) → 2 ≤ n → map (λ (c : Chunk). c.units) (reserved_chunks (chunk_of (chunk_with number n) ∷ [])) ≡ n ∷ []
     big_spare n two =
         ap (λ b. map (λ (c : Chunk). c.units) (cond (not b && true) (chunk_of (chunk_with number n) ∷ []) [])) (ne_eqb (1024 * n) 1024 (λ e. omega (arith, e, two))) ∙ ap (λ m. m ∷ []) (let q : (1024 * n) / 1024 ≡ n = omega arith in q)
 
-    by : (b : Bool) → is_small words ≡ b → reserved_units z.reserved ++ map (λ (c : Chunk). c.units) (reserved_chunks (chunk_of (chunk_with number (cond b 1 (units words))) ∷ []))
+    units_more_by_cases : (b : Bool) → is_small words ≡ b → reserved_units z.reserved ++ map (λ (c : Chunk). c.units) (reserved_chunks (chunk_of (chunk_with number (cond b 1 (units words))) ∷ []))
         ≡ reserved_units (cond b (record z { chunks = z.chunks ++ [] ∷ []; room = chunk_words }) (record z { reserved = chunk_units (Some words) })).reserved
-    by true s = append-nil (reserved_units z.reserved)
-    by false s =
+    units_more_by_cases true s = append-nil (reserved_units z.reserved)
+    units_more_by_cases false s =
         let big_words : chunk_words < words = leb-false words chunk_words s in
         let two : 2 ≤ units words = omega (arith, big_words) in
         ap (λ n. reserved_units n ++ map (λ (c : Chunk). c.units) (reserved_chunks (chunk_of (chunk_with number (units words)) ∷ []))) (none s)
         ∙ (big_spare (units words) two ∙ (some_units (units words) (omega (arith, two)) ∙ ap reserved_units (sym (cond-false (is_small words) 1 (units words) s))))
 
--- the worker that the entry speaks of holds a part without fresh steps
+-- the worker of the entry holds a part without fresh steps
 module _ (w : SharedValue) (k : ℕ) (p : Private) (I : IsSharedValue w) (F : Fits w k (record p { fresh = 0 })) (on : (accounts w).end ≡ None) (free : refused w (record { worker = k; kind = ChunkOf p.task }) ≡ None)
     (words : ℕ) (asks : part_asks w.program p ≡ Some words) where
   abbrev P : Private
@@ -96,7 +60,7 @@ module _ (w : SharedValue) (k : ℕ) (p : Private) (I : IsSharedValue w) (F : Fi
   abbrev given_by : Option ℕ → Ledger
   given_by o = cond (nat_lt w.settings.chunks (in_use l + chunk_units o)) (record l { end = Some (PoolOf (in_use l)) }) (with_heap l t (with_chunk o))
 
-  -- ---- WHERE TOO FEW ARE FREE
+  -- ---- IF TOO FEW ARE FREE
   pub full_then : w.pool.limit < units_in_use w.pool + chunk_units (Some words) → after w.program w.settings l e ≡ record l { end = Some (PoolOf (units_in_use w.pool)) }
   full_then full =
       ap given_by asked_is
@@ -104,14 +68,14 @@ module _ (w : SharedValue) (k : ℕ) (p : Private) (I : IsSharedValue w) (F : Fi
       ∙ cond-true (nat_lt w.settings.chunks (units_in_use w.pool + chunk_units (Some words))) (record l { end = Some (PoolOf (units_in_use w.pool)) }) L
       (lt-ltb w.settings.chunks (units_in_use w.pool + chunk_units (Some words)) (let q : w.pool.limit ≡ w.settings.chunks = I.limit in omega (arith, full, q))))
 
-  -- ---- WHERE IT IS GIVEN
-  abbrev there : (z : Heap) × (slice_get l.heaps t ≡ Some z)
-  there = change.there w k p I F on more (chunk_held words)
+  -- ---- IF IT IS GIVEN
+  abbrev heap_is_in_ledger : (z : Heap) × (slice_get l.heaps t ≡ Some z)
+  heap_is_in_ledger = change.heap_is_in_ledger w k p I F on more (chunk_held words)
 
-  heap_then_is : slice_get L.heaps t ≡ Some (more there.0)
+  heap_then_is : slice_get L.heaps t ≡ Some (more heap_is_in_ledger.0)
   heap_then_is = change.heap_then_is w k p I F on more (chunk_held words)
 
-  -- the part is amid no leaf collection
+  -- the part is in no leaf collection
   abbrev by_need : Option Refused
   by_need = refused_if (is_due w.settings w.program l t) (Due (heap_of l t).since) (refused_unless (is_in_need w.program l t) (NotNeeded (heap_of l t).room) None)
 
@@ -121,7 +85,7 @@ module _ (w : SharedValue) (k : ℕ) (p : Private) (I : IsSharedValue w) (F : Fi
   idle : is_waiting (slice_get l.machine.tasks t) ≡ false
   idle = part_idle w k P F on
 
-  -- it is needed, so that no chunk is reserved where a large one comes
+  -- it is needed, so no chunk is reserved when a large one comes
   need : is_in_need w.program l t ≡ true
   need =
       needed (is_due w.settings w.program l t) (is_in_need w.program l t) (Due (heap_of l t).since) (NotNeeded (heap_of l t).room)
@@ -130,17 +94,17 @@ module _ (w : SharedValue) (k : ℕ) (p : Private) (I : IsSharedValue w) (F : Fi
   lacks : lacks_room (heap_of l t) words ≡ true
   lacks = ap (λ o. on_asked o (lacks_room (heap_of l t))) (sym asked_is) ∙ need
 
-  reserved_zero : is_small words ≡ false → there.0.reserved ≡ 0
-  reserved_zero big = elim (cases_lt 0 there.0.reserved) [
+  reserved_zero : is_small words ≡ false → heap_is_in_ledger.0.reserved ≡ 0
+  reserved_zero big = elim (cases_lt 0 heap_is_in_ledger.0.reserved) [
     | inl lt ↦
-        let q = ((legal_booked w.program w.settings w.journal.items I.legal).each t there.0 there.1).reserved lt in
+        let q = ((legal_booked w.program w.settings w.journal.items I.legal).each t heap_is_in_ledger.0 heap_is_in_ledger.1).reserved lt in
         let same : q.0 ≡ words = same_Some q.0 words (sym q.1 ∙ asked_is) in
-        let fits : (heap_of l t).reserved ≡ units words = ap (λ o. (or_fresh o).reserved) there.1 ∙ (q.3 ∙ ap units same) in
+        let fits : (heap_of l t).reserved ≡ units words = ap (λ o. (or_fresh o).reserved) heap_is_in_ledger.1 ∙ (q.3 ∙ ap units same) in
         absurd (false≢true (sym (ap not (eq-eqb (heap_of l t).reserved (units words) fits)) ∙ (sym (cond-false (is_small words) (nat_lt (heap_of l t).room words) (not ((heap_of l t).reserved == units words)) big) ∙ lacks)))
     | inr le ↦ omega (arith, le)
   ]
 
-  module _ (pool : PoolValue) (number u slots spare : ℕ) (within : units_in_use w.pool + u ≤ w.pool.limit) (sized : u ≡ chunk_units (Some words)) (T : PoolTakes w.pool pool number (record { owner = p.task; units = u })) (j : RoomyValue EntryValue) where
+  module _ (pool : PoolValue) (number u slots spare : ℕ) (within : units_in_use w.pool + u ≤ w.pool.limit) (sized : u ≡ chunk_units (Some words)) (T : PoolTakes w.pool pool number (record { owner = p.task; units = u })) (j : ReservedVecValue EntryValue) where
     abbrev K : ChunkValue
     K = chunk_with number u
 
@@ -227,8 +191,8 @@ module _ (w : SharedValue) (k : ℕ) (p : Private) (I : IsSharedValue w) (F : Fi
     abbrev after_ : Memory
     after_ = with_belongings v' t (belongings_of_part Q)
 
-    here : before.belongings t ≡ belongings_of_part P
-    here = at_belongings v t (belongings_of_part P)
+    own_belongings : before.belongings t ≡ belongings_of_part P
+    own_belongings = at_belongings v t (belongings_of_part P)
 
     here' : after_.belongings t ≡ belongings_of_part Q
     here' = at_belongings v' t (belongings_of_part Q)
@@ -236,18 +200,18 @@ module _ (w : SharedValue) (k : ℕ) (p : Private) (I : IsSharedValue w) (F : Fi
     H : BelongingsStand before (rested l t) t
     H = belongings_stand w k P I F on
 
-    counted_then : IsCounted g (more there.0)
-    counted_then = grown_counted p.heap there.0 F.form.shaped (subst (IsCounted p.heap) (ap or_fresh there.1) (counted_is w k P I F on)) number slots spare words u sized
+    counted_then : HeapMatchesAccount g (more heap_is_in_ledger.0)
+    counted_then = grown_counted p.heap heap_is_in_ledger.0 F.form.shaped (subst (HeapMatchesAccount p.heap) (ap or_fresh heap_is_in_ledger.1) (counted_is w k P I F on)) number slots spare words u sized
 
-    -- its number is of no chunk of the heap
+    -- its number belongs to no chunk of the heap
     pub fresh : IsFresh p.heap.chunks number
-    fresh = by (place_in p.heap.chunks number) refl
+    fresh = fresh_by_cases (place_in p.heap.chunks number) refl
       where
-        by : (o : Option ℕ) → place_in p.heap.chunks number ≡ o → IsFresh p.heap.chunks number
-        by None q = q
-        by (Some i) q =
+        fresh_by_cases : (o : Option ℕ) → place_in p.heap.chunks number ≡ o → IsFresh p.heap.chunks number
+        fresh_by_cases None q = q
+        fresh_by_cases (Some i) q =
             let c = link.placed_in p.heap.chunks number i q in
-            let a : v.owner number ≡ Some t = ap v.owner (sym c.2) ∙ H.owned (chunk_of c.0) (subst (λ (z : Belongings). In z.chunks (chunk_of c.0)) (sym here) (in_map chunk_of p.heap.chunks c.0 c.1)) in
+            let a : v.owner number ≡ Some t = ap v.owner (sym c.2) ∙ H.owned (chunk_of c.0) (subst (λ (z : Belongings). In z.chunks (chunk_of c.0)) (sym own_belongings) (in_map chunk_of p.heap.chunks c.0 c.1)) in
             let b = owner_free in
             absurd cc
 
@@ -268,14 +232,14 @@ module _ (w : SharedValue) (k : ℕ) (p : Private) (I : IsSharedValue w) (F : Fi
     objects_then : objects_in (belongings_of_part Q).chunks ≡ objects_in (belongings_of_part P).chunks
     objects_then = ap (λ ks. objects_in (chunks_of ks)) chunks_are ∙ objects_more K refl p.heap.chunks
 
-    account_then : heap_of (rested L t) t ≡ let_go (more there.0)
+    account_then : heap_of (rested L t) t ≡ let_go (more heap_is_in_ledger.0)
     account_then = ap or_fresh (with_at L t let_go ∙ ap (heap_then let_go) heap_then_is)
 
-    account_before : heap_of (rested l t) t ≡ let_go there.0
-    account_before = ap or_fresh (with_at l t let_go ∙ ap (heap_then let_go) there.1)
+    account_before : heap_of (rested l t) t ≡ let_go heap_is_in_ledger.0
+    account_before = ap or_fresh (with_at l t let_go ∙ ap (heap_then let_go) heap_is_in_ledger.1)
 
-    counted_rested : IsCounted g (heap_of (rested L t) t)
-    counted_rested = subst (IsCounted g) (sym account_then) (record { chunks = counted_then.chunks; large = counted_then.large; last = counted_then.last; last_large = counted_then.last_large; room = counted_then.room; since = counted_then.since; reserved = counted_then.reserved })
+    counted_rested : HeapMatchesAccount g (heap_of (rested L t) t)
+    counted_rested = subst (HeapMatchesAccount g) (sym account_then) (record { chunks = counted_then.chunks; large = counted_then.large; last = counted_then.last; last_large = counted_then.last_large; room = counted_then.room; since = counted_then.since; reserved = counted_then.reserved })
 
     names_then : HasNames (belongings_of_part Q).chunks (heap_of (rested L t) t)
     names_then = record {
@@ -283,20 +247,20 @@ module _ (w : SharedValue) (k : ℕ) (p : Private) (I : IsSharedValue w) (F : Fi
       large =
           ap (λ ks. map object_name (objects_in (large_chunks (chunks_of ks)))) chunks_are
           ∙ (large_more K refl p.heap.chunks
-          ∙ (ap (λ (z : Belongings). map object_name (objects_in (large_chunks z.chunks))) (sym here)
-          ∙ (H.names.large ∙ (ap (λ (z : Heap). z.large) account_before ∙ (sym (chunk_large words there.0) ∙ ap (λ (z : Heap). z.large) (sym account_then))))));
+          ∙ (ap (λ (z : Belongings). map object_name (objects_in (large_chunks z.chunks))) (sym own_belongings)
+          ∙ (H.names.large ∙ (ap (λ (z : Heap). z.large) account_before ∙ (sym (chunk_large words heap_is_in_ledger.0) ∙ ap (λ (z : Heap). z.large) (sym account_then))))));
     }
 
-    -- each of its chunks is one of before or the new one
+    -- each of its chunks is an old one or the new one
     chunk_cases : (c : Chunk) → In (after_.belongings t).chunks c → In (before.belongings t).chunks c ⊎ (chunk_of K ≡ c)
     chunk_cases c i =
         elim (in_more p.heap.chunks K c (subst (λ ks. In (chunks_of ks) c) chunks_are (subst (λ (z : Belongings). In z.chunks c) here' i))) [
-          | inl j ↦ inl (subst (λ (z : Belongings). In z.chunks c) (sym here) j)
+          | inl j ↦ inl (subst (λ (z : Belongings). In z.chunks c) (sym own_belongings) j)
           | inr q ↦ inr q
         ]
 
     was : (o : Located) → In (objects after_ t) o → In (objects before t) o
-    was o i = subst (λ (z : Belongings). In (objects_in z.chunks) o) (sym here) (subst (λ os. In os o) objects_then (subst (λ (z : Belongings). In (objects_in z.chunks) o) here' i))
+    was o i = subst (λ (z : Belongings). In (objects_in z.chunks) o) (sym own_belongings) (subst (λ os. In os o) objects_then (subst (λ (z : Belongings). In (objects_in z.chunks) o) here' i))
 
     abbrev spares : ℕ
     spares = (heap_of (rested l t) t).reserved
@@ -307,18 +271,18 @@ module _ (w : SharedValue) (k : ℕ) (p : Private) (I : IsSharedValue w) (F : Fi
     spare_more : reserved_units spares ++ map (λ (c : Chunk). c.units) (reserved_chunks (chunk_of K ∷ [])) ≡ reserved_units spares_then
     spare_more =
         ap₂ (λ n c. reserved_units n ++ map (λ (c : Chunk). c.units) (reserved_chunks (chunk_of (chunk_with number c) ∷ []))) (ap (λ (z : Heap). z.reserved) account_before) sized
-        ∙ (units_more number words there.0 reserved_zero ∙ ap (λ (z : Heap). reserved_units z.reserved) (sym account_then))
+        ∙ (units_more number words heap_is_in_ledger.0 reserved_zero ∙ ap (λ (z : Heap). reserved_units z.reserved) (sym account_then))
 
     laid_then : AreLaidOut (after_.belongings t).chunks spares_then
     laid_then =
         subst (λ (z : Belongings). AreLaidOut z.chunks spares_then) (sym here')
         (subst (λ ks. AreLaidOut (chunks_of ks) spares_then) (sym chunks_are)
-        (laid_more K refl p.heap.chunks fresh spares spares_then (subst (λ (z : Belongings). AreLaidOut z.chunks spares) here H.laid) spare_more))
+        (laid_more K refl p.heap.chunks fresh spares spares_then (subst (λ (z : Belongings). AreLaidOut z.chunks spares) own_belongings H.laid) spare_more))
 
     none_reserved : 2 ≤ u → p.heap.reserved ≡ None
     none_reserved two =
         reserved_none p.heap F.form p.heap.reserved refl
-        (subst (AreReserved p.heap.chunks p.heap.reserved) (ap (λ o. (or_fresh o).reserved) there.1 ∙ reserved_zero (big (is_small words) refl sized)) (counted_is w k P I F on).reserved)
+        (subst (AreReserved p.heap.chunks p.heap.reserved) (ap (λ o. (or_fresh o).reserved) heap_is_in_ledger.1 ∙ reserved_zero (big (is_small words) refl sized)) (counted_is w k P I F on).reserved)
       where
         big : (b : Bool) → is_small words ≡ b → u ≡ cond b 1 (units words) → is_small words ≡ false
         big true s q = absurd (omega (arith, two, q))
@@ -334,8 +298,8 @@ module _ (w : SharedValue) (k : ℕ) (p : Private) (I : IsSharedValue w) (F : Fi
     belongings_then = record {
       names = subst (λ (z : Belongings). HasNames z.chunks (heap_of (rested L t) t)) (sym here') names_then;
       room = ap (λ (z : Belongings). z.room) here' ∙ counted_rested.room;
-      since = ap (λ (z : Belongings). z.since) here' ∙ (added_since ∙ (ap (λ (z : Belongings). z.since) (sym here) ∙ (H.since ∙ (ap (λ (z : Heap). z.since) account_before ∙ (sym (chunk_since words there.0) ∙ ap (λ (z : Heap). z.since) (sym account_then))))));
-      count = λ live. ap (λ (z : Belongings). z.count) here' ∙ (ap (λ (z : Belongings). z.count) (sym here) ∙ (H.count (ap (λ (m : State). is_joined (slice_get m.tasks t)) rested_same ∙ live) ∙ ap (λ (m : State). length (row_of (slice_get m.store t))) rested_same));
+      since = ap (λ (z : Belongings). z.since) here' ∙ (added_since ∙ (ap (λ (z : Belongings). z.since) (sym own_belongings) ∙ (H.since ∙ (ap (λ (z : Heap). z.since) account_before ∙ (sym (chunk_since words heap_is_in_ledger.0) ∙ ap (λ (z : Heap). z.since) (sym account_then))))));
+      count = λ live. ap (λ (z : Belongings). z.count) here' ∙ (ap (λ (z : Belongings). z.count) (sym own_belongings) ∙ (H.count (ap (λ (m : MachineState). is_joined (slice_get m.tasks t)) rested_same ∙ live) ∙ ap (λ (m : MachineState). length (row_of (slice_get m.store t))) rested_same));
       owned = λ c i. elim (chunk_cases c i) [
         | inl q ↦ owner_kept c.number t (H.owned c q)
         | inr q ↦ ap (λ (z : Chunk). v'.owner z.number) (sym q) ∙ owner_new
@@ -350,17 +314,17 @@ module _ (w : SharedValue) (k : ℕ) (p : Private) (I : IsSharedValue w) (F : Fi
     }
       where
         added_since : g.since ≡ p.heap.since
-        added_since = by (K.size == 1024)
+        added_since = added_since_by_cases (K.size == 1024)
           where
-            by : (b : Bool) → (with_places (cond b (record p.heap { chunks = p.heap.chunks ++ K ∷ []; current = Some (length p.heap.chunks) }) (record p.heap { chunks = p.heap.chunks ++ K ∷ []; reserved = Some (length p.heap.chunks) })) slots spare).since ≡ p.heap.since
-            by true = refl
-            by false = refl
+            added_since_by_cases : (b : Bool) → (with_places (cond b (record p.heap { chunks = p.heap.chunks ++ K ∷ []; current = Some (length p.heap.chunks) }) (record p.heap { chunks = p.heap.chunks ++ K ∷ []; reserved = Some (length p.heap.chunks) })) slots spare).since ≡ p.heap.since
+            added_since_by_cases true = refl
+            added_since_by_cases false = refl
 
     part_same : SameObjects before after_ (rested l t) (rested L t)
     part_same = change.part_same w k p I F on more (chunk_held words) pool owner_kept (belongings_of_part Q) belongings_then refl objects_then owner_taken (λ q. refl)
 
     none_then : (heap_of (rested L t) t).begun ≡ None
-    none_then = ap (λ (z : Heap). z.begun) account_then ∙ (chunk_begun words there.0 ∙ (ap (λ o. (or_fresh o).begun) (sym there.1) ∙ account_idle w k P F on idle_part))
+    none_then = ap (λ (z : Heap). z.begun) account_then ∙ (chunk_begun words heap_is_in_ledger.0 ∙ (ap (λ o. (or_fresh o).begun) (sym heap_is_in_ledger.1) ∙ account_idle w k P F on idle_part))
 
     pub chunk_part : Fits w' k Q
     chunk_part =
@@ -372,9 +336,9 @@ module _ (w : SharedValue) (k : ℕ) (p : Private) (I : IsSharedValue w) (F : Fi
     pub chunk_others : OthersFit w w' k
     chunk_others o q ne G = quiet_others I free moves o q (tasks_apart w k o P q F G ne) G
 
--- ---- WHERE TOO FEW ARE FREE
+-- ---- IF TOO FEW ARE FREE
 module _ (w : SharedValue) (k : ℕ) (p : Private) (I : IsSharedValue w) (F : Fits w k (record p { fresh = 0 })) (on : (accounts w).end ≡ None) (free : refused w (record { worker = k; kind = ChunkOf p.task }) ≡ None)
-    (words : ℕ) (asks : part_asks w.program p ≡ Some words) (full : w.pool.limit < units_in_use w.pool + chunk_units (Some words)) (j : RoomyValue EntryValue) where
+    (words : ℕ) (asks : part_asks w.program p ≡ Some words) (full : w.pool.limit < units_in_use w.pool + chunk_units (Some words)) (j : ReservedVecValue EntryValue) where
   abbrev full_entry : EntryValue
   full_entry = record { worker = k; kind = ChunkOf p.task }
 
@@ -435,7 +399,7 @@ module _ (w : SharedValue) (k : ℕ) (p : Private) (I : IsSharedValue w) (F : Fi
       ap (λ (z : Heap). z.begun) (heaps_rested p.task)
       ∙ (rested_view (λ (z : Heap). z.begun) (λ z. refl) (accounts w) p.task ∙ account_idle w k (record p { fresh = 0 }) F on full_idle)
 
-  -- the part, whose heap may have places for other numbers of chunks
+  -- the part, whose heap may have other spare capacities
   pub full_part : (a b : ℕ) → Fits ended k (record p { fresh = 0; heap = with_places p.heap a b })
   full_part a b =
       quiet_own I free moves_full k p (with_places p.heap a b) p.begun F (places_form p.heap a b F.form) F.measured
@@ -443,26 +407,26 @@ module _ (w : SharedValue) (k : ℕ) (p : Private) (I : IsSharedValue w) (F : Fi
       (same_value full_belongings (rested (accounts w) p.task) (rested full_ledger p.task) (heap_machine full_ledger p.task let_go ∙ sym (heap_machine (accounts w) p.task let_go)) heaps_rested (fits_now w k (record p { fresh = 0 }) F on).stands.belongings))
       (subst (λ (z : Ledger). BegunBy full_belongings (rested z p.task) p.task p.begun) (sym ends_so) (subst (λ o. BegunBy full_belongings (rested full_ledger p.task) p.task o) (sym full_idle) none_full))
 
--- ---- AS THE CALL HAS IT
+-- ---- AS THE CALL MAKES IT
 
 words_by : (p : Private) (o : Option ℕ) → is_none (need_cause p o) ≡ true → (words : ℕ) × (o ≡ Some words)
 words_by p None h = absurd (false≢true h)
 words_by p (Some words) h = (words, refl)
 
--- where no chunk is refused to a part that is amid no collection, it needs one
+-- if no chunk is refused to a part that is in no collection, it needs one
 cause_none : (o : Bool) (c : Refused) (rest : Option Refused) → is_none (refused_if o c rest) ≡ true → is_none rest ≡ true
 cause_none true c rest h = absurd (false≢true h)
 cause_none false c rest h = h
 
--- places for other numbers of chunks don't matter
+-- other spare capacities don't matter
 places_added : (h : LeafHeapValue) (K : ChunkValue) (a b c d : ℕ) → with_places (added (with_places h a b) K) c d ≡ with_places (added h K) c d
-places_added h K a b c d = by (K.size == 1024)
+places_added h K a b c d = places_added_by_cases (K.size == 1024)
   where
-    by : (v : Bool)
+    places_added_by_cases : (v : Bool)
         → with_places (cond v (record (with_places h a b) { chunks = h.chunks ++ K ∷ []; current = Some (length h.chunks) }) (record (with_places h a b) { chunks = h.chunks ++ K ∷ []; reserved = Some (length h.chunks) })) c d
         ≡ with_places (cond v (record h { chunks = h.chunks ++ K ∷ []; current = Some (length h.chunks) }) (record h { chunks = h.chunks ++ K ∷ []; reserved = Some (length h.chunks) })) c d
-    by true = refl
-    by false = refl
+    places_added_by_cases true = refl
+    places_added_by_cases false = refl
 
 pub places_fit : (w : SharedValue) (k : ℕ) (p : Private) (a b : ℕ) → Fits w k p → Fits w k (record p { heap = with_places p.heap a b })
 places_fit w k p a b F = record { out = F.out; fits = F.fits; form = places_form p.heap a b F.form; measured = F.measured; leaf_limit = F.leaf_limit; field_limit = F.field_limit }
@@ -484,7 +448,7 @@ module _ (w : SharedValue) (k : ℕ) (p : Private) (I : IsSharedValue w) (F : Fi
   needs = words_by p (part_asks w.program p) (cause_none (is_some p.begun) Collecting (need_cause p (part_asks w.program p)) (ap is_none (sym (chunk_is w k p I F0 runs_on)) ∙ not_refused))
 
   -- too few are free
-  module _ (units : ℕ) (sized : units ≡ chunk_units (part_asks w.program p)) (full : w.pool.limit < units_in_use w.pool + units) (j : RoomyValue EntryValue) where
+  module _ (units : ℕ) (sized : units ≡ chunk_units (part_asks w.program p)) (full : w.pool.limit < units_in_use w.pool + units) (j : ReservedVecValue EntryValue) where
     full_so : w.pool.limit < units_in_use w.pool + chunk_units (Some needs.0)
     full_so = subst (λ n. w.pool.limit < units_in_use w.pool + n) (sized ∙ ap chunk_units needs.1) full
 
@@ -501,7 +465,7 @@ module _ (w : SharedValue) (k : ℕ) (p : Private) (I : IsSharedValue w) (F : Fi
     pool_others = full_others w k p I F0 runs_on free needs.0 needs.1 full_so j
 
   -- it is given
-  module _ (pool : PoolValue) (K : ChunkValue) (number units : ℕ) (K_is : K ≡ chunk_with number units) (sized : units ≡ chunk_units (part_asks w.program p)) (within : units_in_use w.pool + units ≤ w.pool.limit) (T : PoolTakes w.pool pool number (record { owner = p.task; units = units })) (j : RoomyValue EntryValue) where
+  module _ (pool : PoolValue) (K : ChunkValue) (number units : ℕ) (K_is : K ≡ chunk_with number units) (sized : units ≡ chunk_units (part_asks w.program p)) (within : units_in_use w.pool + units ≤ w.pool.limit) (T : PoolTakes w.pool pool number (record { owner = p.task; units = units })) (j : ReservedVecValue EntryValue) where
     abbrev given : SharedValue
     given = record w { pool = pool; journal = record { items = w.journal.items ++ record { worker = k; kind = ChunkOf p.task } ∷ []; room = j.room } }
 

@@ -1,31 +1,5 @@
 -- A leaf collection of a part begins: the shared value and the parts of others.
-use Rattle.std.proofs.Common.{◌≡◌, ℕ, ◌+◌, true, false, Some, None, List, [], ◌∷◌, ◌++◌, map, slice_get, option_map, is_some, ◌⊎◌, inl, inr, refl, ap, sym, ◌∙◌}
-use Rattle.std.proofs.lemmas.Bool.{cases_Bool}
-use Rattle.std.proofs.lemmas.Option.{same_Some}
-use Rattle.shared_value.specs.below.listed.{RoomyValue}
-use Rattle.shared_value.proofs.below.listed.{read_in}
-use Rattle.shared_value.specs.below.hh_model.{is_waiting}
-use Rattle.shared_value.specs.below.run_trace.{Begin, EntryValue}
-use Rattle.shared_value.specs.below.run_ledger.{Heap, Ledger, take_of, with_heap, within}
-use Rattle.shared_value.specs.below.object_layout.{has_chunk, small_words, ChunkValue, number_of}
-use Rattle.shared_value.specs.below.chunk_pool.{PoolValue, TakesAll, slot_in, units_in_use}
-use Rattle.shared_value.proofs.below.chunk_pool.{taken_are_owned}
-use Rattle.shared_value.specs.below.alloc_path.{LeafHeapValue, with_places}
-use Rattle.shared_value.specs.below.core_relation.{In, Memory}
-use Rattle.shared_value.specs.below.task_machine.{Begun, Private}
-use Rattle.shared_value.specs.SharedValue.{SharedValue, accounts, value_of}
-use Rattle.shared_value.specs.Measured.{KeepsUnits}
-use Rattle.shared_value.specs.Stands.{IsSharedValue}
-use Rattle.shared_value.specs.Fits.{Fits, OthersFit}
-use Rattle.shared_value.specs.Due.{take_by}
-use Rattle.shared_value.specs.Entered.{refused}
-use Rattle.shared_value.specs.Roots.{roots_of}
-use Rattle.shared_value.proofs.EntryMade.{entry_on, tasks_apart}
-use Rattle.shared_value.proofs.FreeChunks.{take_is}
-use Rattle.shared_value.proofs.NothingMoves.{MovesNothing, quiet_others, quiet_world}
-use Rattle.shared_value.proofs.UnitsMeasured.{all_taken_keep}
-use Rattle.shared_value.proofs.BeforeTheEnd.{part_idle}
-use Rattle.shared_value.proofs.RootsHeld.{chunk_in}
+use Rattle.leaf_collections.proofs.Common.{◌≡◌, ℕ, ◌+◌, true, false, Some, None, List, [], ◌∷◌, ◌++◌, map, slice_get, option_map, is_some, ◌⊎◌, inl, inr, refl, ap, sym, ◌∙◌, cases_Bool, same_Some, ReservedVecValue, read_in, is_waiting, Begin, EntryValue, Heap, Ledger, take_of, with_heap, within, has_chunk, small_words, ChunkValue, number_of, PoolValue, TakesAll, slot_in, units_in_use, taken_are_owned, LeafHeapValue, with_places, In, Memory, Begun, Private, SharedValue, accounts, value_of, KeepsUnits, IsSharedValue, Fits, OthersFit, take_by, refused, roots_of, entry_on, tasks_apart, take_is, MovesNothing, quiet_others, quiet_world, all_taken_keep, part_idle, chunk_in}
 use Rattle.leaf_collections.proofs.AccountChanges as change
 
 module _ (w : SharedValue) (k : ℕ) (p : Private) (I : IsSharedValue w) (F : Fits w k (record p { fresh = 0 })) (free : refused w (record { worker = k; kind = Begin p.task }) ≡ None) where
@@ -56,7 +30,7 @@ module _ (w : SharedValue) (k : ℕ) (p : Private) (I : IsSharedValue w) (F : Fi
   idle : is_waiting (slice_get l.machine.tasks t) ≡ false
   idle = part_idle w k P F on
 
-  module _ (pool : PoolValue) (news : List ChunkValue) (slots spare : ℕ) (T : TakesAll w.pool pool p.task (take_by (small_words p.heap.chunks)) [] news) (j : RoomyValue EntryValue) where
+  module _ (pool : PoolValue) (news : List ChunkValue) (slots spare : ℕ) (T : TakesAll w.pool pool p.task (take_by (small_words p.heap.chunks)) [] news) (j : ReservedVecValue EntryValue) where
     abbrev ks : List ChunkValue
     ks = T.numbers.chunks
 

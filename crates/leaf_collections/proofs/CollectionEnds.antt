@@ -1,51 +1,13 @@
--- The end of a part's leaf collection: what is entered stands, and parts fit.
-use Rattle.std.proofs.Common.{◌≡◌, ℕ, ◌+◌, ◌-◌, ◌<◌, ◌&&◌, arith, true, false, not, Option, Some, None, is_some, List, [], ◌∷◌, ◌++◌, fold, length, slice_get, option_map, inl, inr, refl, ap, ap₂, sym, subst, ◌∙◌}
-use Rattle.std.proofs.lemmas.Bool.{cases_eq}
-use Rattle.std.proofs.lemmas.Option.{same_Some}
-use Rattle.shared_value.specs.below.listed.{RoomyValue}
-use Rattle.shared_value.proofs.below.listed.{got_within, each_from, got_some, in_map, map_in, read_in, none_some}
-use Rattle.shared_value.specs.below.hh_model.{Object, object_at, is_running, is_waiting, State}
-use Rattle.shared_value.proofs.below.hh_model.{runs_tell}
-use Rattle.shared_value.specs.below.run_trace.{EntryValue, End}
-use Rattle.shared_value.specs.below.run_ledger.{Heap, Ledger, collected, heap_of, or_fresh, with_heap, with_heap_at, is_legal, SoundLedger}
-use Rattle.shared_value.proofs.below.run_ledger.{tasks_are_out_once, legal_sound, machine_goes_on, heap_machine, legal_then}
-use Rattle.journal_laws.proofs.Waiters.{waiters_are_free}
-use Rattle.shared_value.specs.below.object_layout.{Addr, Born, marked_object, cell_of, ChunkValue, Located}
-use Rattle.shared_value.specs.below.chunk_pool.{Slot, PoolValue, slot_at, owner_of, units_in_use}
-use Rattle.shared_value.specs.below.alloc_path.{IsFresh}
-use Rattle.shared_value.specs.below.remembered_set.{Source, AreFields, redirected, StandOnce}
-use Rattle.shared_value.specs.below.leaf_copy_gc.{Moved, new_address}
-use Rattle.shared_value.specs.below.inner_mark_gc.{AreGiven, units_in_slots}
-use Rattle.shared_value.specs.below.ledger_step_laws.{Rests, own}
-use Rattle.shared_value.proofs.below.ledger_step_laws.{heap_then, with_at, with_off, legal_knows}
-use Rattle.shared_value.specs.below.core_relation.{CopyFits, EndsAt, CountsGo, OthersNotes, IsSource, Place, Chunk, Belongings, In, Lies, Memory, objects_in, rewritten_belongings, sources, Part, part_for, StandsFor, StandsForAll, as_node, by_end, WorkerFits}
-use Rattle.shared_value.proofs.below.core_entry_laws.{ends_stand_for, ends_fit_then, ends_leave, aside_is}
-use Rattle.shared_value.specs.below.task_machine.{Private}
-use Rattle.shared_value.specs.below.task_homes.{Rest, refs_of_rest, Resting, refs_for, refs_in, with_ref_in}
-use Rattle.shared_value.specs.Objects.{chunk_of, chunks_of}
-use Rattle.shared_value.specs.SharedValue.{SharedValue, accounts, belongings_in, rest_at, tree_counts_of, value_of}
-use Rattle.shared_value.specs.Measured.{KeepsUnits, RestsAreMeasured}
-use Rattle.shared_value.specs.Stands.{IsSharedValue}
-use Rattle.shared_value.specs.Fits.{Fits, OthersFit, belongings_of_part, part_of}
-use Rattle.shared_value.specs.Roots.{heaps_of, sources_of}
-use Rattle.shared_value.specs.Entered.{Enters, refused}
-use Rattle.shared_value.proofs.CellsRead.{fresh_off, seen_object}
-use Rattle.shared_value.proofs.EntryMade.{accounts_are, entered_world, entry_on, fits_then, free_at_rest, free_rests, part_fits, worker_when_out}
-use Rattle.shared_value.proofs.FreeChunks.{refs_long}
-use Rattle.shared_value.proofs.HeldTasks.{fits_held, stands_for_held}
-use Rattle.shared_value.proofs.FieldsNoted.{are_once, fresh_by, noted_sources, owned_before}
-use Rattle.shared_value.proofs.FieldsLed.{AreFormed, Led, SourceThere, belongings_chunks, lead_all}
-use Rattle.shared_value.proofs.UnitsMeasured.{given_keeps, measured_given, measured_kept, part_kept}
-use Rattle.shared_value.proofs.BeforeTheEnd.{stands_now}
-use Rattle.leaf_collections.specs.LeafEnd.{FitsCopied, end_entry, ended}
+-- The end of a part's leaf collection: the new value stands, and parts fit.
+use Rattle.leaf_collections.proofs.Common.{◌≡◌, ℕ, ◌+◌, ◌-◌, ◌<◌, ◌&&◌, arith, true, false, not, Option, Some, None, is_some, List, [], ◌∷◌, ◌++◌, fold, length, slice_get, option_map, inl, inr, refl, ap, ap₂, sym, subst, ◌∙◌, cases_eq, same_Some, ReservedVecValue, got_within, each_from, got_some, in_map, map_in, read_in, none_some, Object, object_at, is_running, is_waiting, MachineState, runs_tell, EntryValue, End, Heap, Ledger, collected, heap_of, or_fresh, with_heap, with_heap_at, is_legal, SoundLedger, tasks_are_out_once, legal_sound, machine_goes_on, heap_machine, legal_then, waiters_are_free, Addr, Born, marked_object, cell_of, ChunkValue, Located, Slot, PoolValue, slot_at, owner_of, units_in_use, IsFresh, RefField, AreFields, redirected, StandOnce, Moved, new_address, AreGiven, units_in_slots, Rests, own, heap_then, with_at, with_off, legal_knows, CopyFits, EndsAt, CountsGo, OthersNotes, IsSource, Place, Chunk, Belongings, In, Lies, Memory, objects_in, rewritten_belongings, sources, Part, part_for, StandsFor, StandsForAll, as_node, by_end, WorkerFits, ends_stand_for, ends_fit_then, ends_leave, aside_is, Private, ParkedTask, refs_of_rest, Resting, refs_for, refs_in, with_ref_in, chunk_of, chunks_of, SharedValue, accounts, belongings_in, rest_at, tree_counts_of, value_of, KeepsUnits, RestsAreMeasured, IsSharedValue, Fits, OthersFit, belongings_of_part, part_of, heaps_of, sources_of, Enters, refused, fresh_off, seen_object, accounts_are, entered_world, entry_on, fits_then, free_at_rest, free_rests, part_fits, worker_when_out, refs_long, fits_held, stands_for_held, are_once, fresh_by, noted_sources, owned_before, AreFormed, Led, SourceThere, belongings_chunks, lead_all, given_keeps, measured_given, measured_kept, part_kept, stands_now, FitsCopied, end_entry, ended}
 
--- a heap that a worker holds is there
+-- a heap that a worker holds exists
 held_there : (hs : List Heap) (t k : ℕ) → (or_fresh (slice_get hs t)).worker ≡ Some k → t < length hs
-held_there hs t k = by (slice_get hs t) refl
+held_there hs t k = held_there_by_cases (slice_get hs t) refl
   where
-    by : (o : Option Heap) → slice_get hs t ≡ o → (or_fresh o).worker ≡ Some k → t < length hs
-    by None e h = absurd cc
-    by (Some x) e h = got_within hs t x e
+    held_there_by_cases : (o : Option Heap) → slice_get hs t ≡ o → (or_fresh o).worker ≡ Some k → t < length hs
+    held_there_by_cases None e h = absurd cc
+    held_there_by_cases (Some x) e h = got_within hs t x e
 
 module _ (w : SharedValue) (k : ℕ) (p : Private) (moved : Moved) (I : IsSharedValue w) (F : FitsCopied w k p moved) (free : refused w (end_entry k p moved) ≡ None) where
   abbrev e : EntryValue
@@ -60,7 +22,7 @@ module _ (w : SharedValue) (k : ℕ) (p : Private) (moved : Moved) (I : IsShared
   abbrev v : Memory
   v = value_of w
 
-  abbrev ss : List Source
+  abbrev ss : List RefField
   ss = sources_of (slice_get w.sets p.task)
 
   on : l.end ≡ None
@@ -75,9 +37,9 @@ module _ (w : SharedValue) (k : ℕ) (p : Private) (moved : Moved) (I : IsShared
   S : StandsFor v (tree_counts_of w) l
   S = stands_now w I on
 
-  -- its task has been made
-  pub has_home : p.task < length w.rests
-  has_home =
+  -- its task exists
+  pub has_slot : p.task < length w.rests
+  has_slot =
       let T : SoundLedger l = legal_sound w.program w.settings w.journal.items I.legal in
       let held : t < length l.heaps = held_there l.heaps t k F.out in
       let many : length l.heaps ≡ length l.machine.tasks = T.lengths in
@@ -91,22 +53,22 @@ module _ (w : SharedValue) (k : ℕ) (p : Private) (moved : Moved) (I : IsShared
   Good u = Rests l u
 
   -- a source's object
-  record At (s : Source) : Type 0 where
+  record At (s : RefField) : Type 0 where
     place : SourceThere (heaps_of w) s Good
     field : s.field < length (refs_in (heaps_of w) s.object)
 
-  at : (s : Source) → In ss s → At s
-  at s i =
+  source_object : (s : RefField) → In ss s → At s
+  source_object s i =
       let Q : IsSource v l t s = S.belongings.sources t s (subst (λ xs. In xs s) (sym sources_are) i) in
       let lies : Lies (v.belongings (own l Q.name)).chunks Q.name s.object = Q.place.here Q.rests in
       let c = S.belongings.contents (own l Q.name) lies.0 Q.rests lies.1 in
       let same : Q.object ≡ c.0 = same_Some Q.object c.0 (sym Q.is ∙ (ap (object_at l.machine.store) (sym lies.2.name) ∙ c.1)) in
       let long : length lies.0.refs ≡ length Q.object.refs = refs_long (Place v l) lies.0.refs c.0.refs c.2.refs ∙ ap (λ (z : Object). length z.refs) (sym same) in
-      by Q lies.0 lies.2.at long (rest_at w.rests (own l Q.name)) refl lies.1
+      source_object_by_cases Q lies.0 lies.2.at long (rest_at w.rests (own l Q.name)) refl lies.1
     where
-      by : (Q : IsSource v l t s) (o : Located) → o.at ≡ s.object → length o.refs ≡ length Q.object.refs → (r : Option Rest) → rest_at w.rests (own l Q.name) ≡ r → In (objects_in (belongings_in r).chunks) o → At s
-      by Q o e long None q j = absurd j
-      by Q o e long (Some r) q j =
+      source_object_by_cases : (Q : IsSource v l t s) (o : Located) → o.at ≡ s.object → length o.refs ≡ length Q.object.refs → (r : Option ParkedTask) → rest_at w.rests (own l Q.name) ≡ r → In (objects_in (belongings_in r).chunks) o → At s
+      source_object_by_cases Q o e long None q j = absurd j
+      source_object_by_cases Q o e long (Some r) q j =
           let y = seen_object r.heap.chunks o (I.heaps (own l Q.name) r q).shaped.apart (subst (λ cs. In (objects_in cs) o) (belongings_chunks r) j) in
           let born : (cell_of r.heap.chunks s.object).mark ≡ Born o.birth = ap (λ z. (cell_of r.heap.chunks z).mark) (sym e) ∙ y.mark in
           let refs : refs_in (heaps_of w) s.object ≡ o.refs =
@@ -121,7 +83,7 @@ module _ (w : SharedValue) (k : ℕ) (p : Private) (moved : Moved) (I : IsShared
           }
 
   pub are_fields : AreFields refs_in (heaps_of w) ss
-  are_fields = each_from (λ s. s.field < length (refs_in (heaps_of w) s.object)) ss (λ s i. (at s i).field)
+  are_fields = each_from (λ s. s.field < length (refs_in (heaps_of w) s.object)) ss (λ s i. (source_object s i).field)
 
   formed : AreFormed (heaps_of w) Good
   formed = record {
@@ -130,20 +92,20 @@ module _ (w : SharedValue) (k : ℕ) (p : Private) (moved : Moved) (I : IsShared
     owned = λ u r good q c i. (S.belongings.belongings u good).owned (chunk_of c) (subst (λ (h : Belongings). In h.chunks (chunk_of c)) (sym (ap belongings_in q)) (subst (λ cs. In cs (chunk_of c)) (sym (belongings_chunks r)) (in_map chunk_of r.heap.chunks c i)));
   }
 
-  -- the chunks given back are in use
+  -- the released chunks are in use
   pub back_in_use : (c : ChunkValue) → In moved.back.items c → is_some (slot_at w.pool c.number) ≡ true
-  back_in_use c i = by (slot_at w.pool c.number) (read_in (λ (c : ChunkValue). owner_of w.pool c.number ≡ Some p.task) moved.back.items c i F.back.owned)
+  back_in_use c i = back_in_use_by_cases (slot_at w.pool c.number) (read_in (λ (c : ChunkValue). owner_of w.pool c.number ≡ Some p.task) moved.back.items c i F.back.owned)
     where
-      by : (o : Option Slot) → option_map (λ (h : Slot). h.owner) o ≡ Some p.task → is_some o ≡ true
-      by None q = absurd cc
-      by (Some h) q = refl
+      back_in_use_by_cases : (o : Option Slot) → option_map (λ (h : Slot). h.owner) o ≡ Some p.task → is_some o ≡ true
+      back_in_use_by_cases None q = absurd cc
+      back_in_use_by_cases (Some h) q = refl
 
   module _ (pool : PoolValue) (G : AreGiven w.pool pool moved.back.items) (once : StandOnce (sources_of (slice_get w.sets p.task))) (room : ℕ) where
     abbrev H' : Resting
     H' = fold (redirected refs_in with_ref_in moved.moved.items) (heaps_of w) (sources_of (slice_get w.sets p.task))
 
     led : Led moved.moved.items (heaps_of w) Good ss H'
-    led = lead_all moved.moved.items ss (heaps_of w) Good (are_once ss once) (λ s i. (at s i).place) formed
+    led = lead_all moved.moved.items ss (heaps_of w) Good (are_once ss once) (λ s i. (source_object s i).place) formed
 
     abbrev pub w' : SharedValue
     w' = record w { pool = pool; rests = H'.rests; journal = record { items = w.journal.items ++ e ∷ []; room = room } }
@@ -160,16 +122,16 @@ module _ (w : SharedValue) (k : ℕ) (p : Private) (moved : Moved) (I : IsShared
     abbrev L : Ledger
     L = with_heap l t (collected l.machine)
 
-    -- with what it would be where tasks are held
+    -- with its contents if tasks were not held
     abbrev v'' : Memory
     v'' = record v' { belongings = λ u. rewritten_belongings f (sources v t) (v.belongings u) }
 
     held_then : (heap_of L t).worker ≡ Some k
-    held_then = ap (λ o. (or_fresh o).worker) (with_at l t (collected l.machine)) ∙ (by (slice_get l.heaps t) ∙ F.out)
+    held_then = ap (λ o. (or_fresh o).worker) (with_at l t (collected l.machine)) ∙ (held_then_by_cases (slice_get l.heaps t) ∙ F.out)
       where
-        by : (o : Option Heap) → (or_fresh (heap_then (collected l.machine) o)).worker ≡ (or_fresh o).worker
-        by None = refl
-        by (Some z) = refl
+        held_then_by_cases : (o : Option Heap) → (or_fresh (heap_then (collected l.machine) o)).worker ≡ (or_fresh o).worker
+        held_then_by_cases None = refl
+        held_then_by_cases (Some z) = refl
 
     rests_before : (u : ℕ) → Rests L u → Rests l u
     rests_before u r = elim (cases_eq u t) [
@@ -177,10 +139,10 @@ module _ (w : SharedValue) (k : ℕ) (p : Private) (moved : Moved) (I : IsShared
       | inr ne ↦ ap (λ o. (or_fresh o).worker) (sym (with_off l t u (collected l.machine) ne)) ∙ r
     ]
 
-    same : (u : ℕ) → Rests L u → v'.belongings u ≡ v''.belongings u
-    same u r = led.belongings u (rests_before u r) ∙ ap (λ xs. rewritten_belongings f xs (v.belongings u)) (sym sources_are)
+    same_belongings : (u : ℕ) → Rests L u → v'.belongings u ≡ v''.belongings u
+    same_belongings u r = led.belongings u (rests_before u r) ∙ ap (λ xs. rewritten_belongings f xs (v.belongings u)) (sym sources_are)
 
-    -- WHO OWNS CHUNKS
+    -- OWNERS OF CHUNKS
     back_mine : (c : ChunkValue) → In moved.back.items c → owner_of w.pool c.number ≡ Some t
     back_mine c i = read_in (λ (c : ChunkValue). owner_of w.pool c.number ≡ Some p.task) moved.back.items c i F.back.owned
 
@@ -233,17 +195,17 @@ module _ (w : SharedValue) (k : ℕ) (p : Private) (moved : Moved) (I : IsShared
     accounts' = accounts_are I free enters
 
     on' : L.end ≡ None
-    on' = by (slice_get l.heaps t) ∙ on
+    on' = on_by_cases (slice_get l.heaps t) ∙ on
       where
-        by : (o : Option Heap) → (with_heap_at l t (collected l.machine) o).end ≡ l.end
-        by None = refl
-        by (Some h) = refl
+        on_by_cases : (o : Option Heap) → (with_heap_at l t (collected l.machine) o).end ≡ l.end
+        on_by_cases None = refl
+        on_by_cases (Some h) = refl
 
     machine' : L.machine ≡ l.machine
     machine' = heap_machine l t (collected l.machine)
 
     going' : L.machine.end ≡ None
-    going' = ap (λ (m : State). m.end) machine' ∙ going
+    going' = ap (λ (m : MachineState). m.end) machine' ∙ going
 
     sound' : SoundLedger L
     sound' = subst SoundLedger accounts' (legal_knows w.program w.settings (w.journal.items ++ e ∷ []) legal').sound
@@ -255,7 +217,7 @@ module _ (w : SharedValue) (k : ℕ) (p : Private) (moved : Moved) (I : IsShared
     stands_now_so = subst (λ o. StandsFor v'' (tree_counts_of w') (by_end L o)) on' stands_so
 
     stands_then : StandsForAll v' (tree_counts_of w') L
-    stands_then = subst (λ o. StandsFor v' (tree_counts_of w') (by_end L o)) (sym on') (stands_for_held v'' (λ u. v'.belongings u) L same waiters (tree_counts_of w') stands_now_so)
+    stands_then = subst (λ o. StandsFor v' (tree_counts_of w') (by_end L o)) (sym on') (stands_for_held v'' (λ u. v'.belongings u) L same_belongings waiters (tree_counts_of w') stands_now_so)
 
     -- THE UNITS
     own_apart : (c : ChunkValue) → In p.heap.chunks c → IsFresh moved.back.items c.number
@@ -272,7 +234,7 @@ module _ (w : SharedValue) (k : ℕ) (p : Private) (moved : Moved) (I : IsShared
 
     -- PARTS
     held_value : (q : Part) → WorkerFits w.program w.settings q v'' L → WorkerFits w.program w.settings q v' L
-    held_value q fits = fits_held v'' (λ u. v'.belongings u) L same w.program w.settings q sound' going' fits
+    held_value q fits = fits_held v'' (λ u. v'.belongings u) L same_belongings w.program w.settings q sound' going' fits
 
     pub end_fits : Fits w' k (ended p)
     end_fits =
@@ -291,12 +253,12 @@ module _ (w : SharedValue) (k : ℕ) (p : Private) (moved : Moved) (I : IsShared
         (ends_leave w.program w.settings w.journal.items I.legal v v'' k t moved.taken moved.given moved.left F.belongings (belongings_of_part (ended p)) f free C ends (part_of w.settings q)
         (λ same'. apart u q ne Q (sym same')) Q.fits))
 
-  -- AS THE CALL HAS IT
+  -- AS THE CALL MAKES IT
   module _ (X : Resting) (is : X ≡ fold (redirected refs_in with_ref_in moved.moved.items) (heaps_of w) (sources_of (slice_get w.sets p.task))) (once : StandOnce (sources_of (slice_get w.sets p.task))) where
     pub pool_same : X.pool ≡ w.pool
-    pool_same = ap (λ (h : Resting). h.pool) is ∙ (lead_all moved.moved.items ss (heaps_of w) Good (are_once ss once) (λ s i. (at s i).place) formed).pool
+    pool_same = ap (λ (h : Resting). h.pool) is ∙ (lead_all moved.moved.items ss (heaps_of w) Good (are_once ss once) (λ s i. (source_object s i).place) formed).pool
 
-    module _ (pool : PoolValue) (G : AreGiven X.pool pool moved.back.items) (j : RoomyValue EntryValue) (made : j ≡ record { items = w.journal.items ++ e ∷ []; room = w.journal.room - 1 }) where
+    module _ (pool : PoolValue) (G : AreGiven X.pool pool moved.back.items) (j : ReservedVecValue EntryValue) (made : j ≡ record { items = w.journal.items ++ e ∷ []; room = w.journal.room - 1 }) where
       given : AreGiven w.pool pool moved.back.items
       given = subst (λ z. AreGiven z pool moved.back.items) pool_same G
 

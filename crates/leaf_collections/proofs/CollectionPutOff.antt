@@ -1,32 +1,11 @@
 -- A leaf collection of a part is put off.
-use Rattle.std.proofs.Common.{◌≡◌, ℕ, arith, false, None, [], ◌∷◌, ◌++◌, is_none, is_some, inl, refl, ap, sym, subst, ◌∙◌}
-use Rattle.shared_value.specs.below.listed.{RoomyValue}
-use Rattle.shared_value.specs.below.run_trace.{PutOff, EntryValue}
-use Rattle.shared_value.specs.below.run_ledger.{Heap, Ledger, PoolEnough, heap_of, in_use, with_heap, is_pool_enough, on_due, refused_if}
-use Rattle.shared_value.proofs.below.run_ledger.{entry_tells}
-use Rattle.shared_value.specs.below.chunk_pool.{units_in_use}
-use Rattle.shared_value.specs.below.alloc_path.{LeafHeapValue}
-use Rattle.shared_value.specs.below.ledger_step_laws.{rested}
-use Rattle.shared_value.proofs.below.ledger_step_laws.{rested_view}
-use Rattle.shared_value.specs.below.core_relation.{with_belongings, Memory, BegunBy}
-use Rattle.shared_value.specs.below.task_machine.{Private}
-use Rattle.shared_value.specs.SharedValue.{SharedValue, accounts, value_of}
-use Rattle.shared_value.specs.Stands.{HeapForm, IsSharedValue}
-use Rattle.shared_value.specs.Fits.{Fits, OthersFit, belongings_of_part}
-use Rattle.shared_value.specs.Causes.{first_cause, or_else}
-use Rattle.shared_value.specs.Due.{due_cause}
-use Rattle.shared_value.specs.Entered.{refused}
-use Rattle.shared_value.specs.Next.{part_asks}
-use Rattle.shared_value.proofs.CollectionUnderWay.{account_idle, none_begun}
-use Rattle.shared_value.proofs.EntryMade.{entry_on, tasks_apart}
-use Rattle.shared_value.proofs.NothingMoves.{MovesNothing, notes_unchanged, quiet_others, quiet_own, quiet_world}
-use Rattle.shared_value.proofs.UnitsMeasured.{all_kept}
+use Rattle.leaf_collections.proofs.Common.{◌≡◌, ℕ, arith, false, None, [], ◌∷◌, ◌++◌, is_none, is_some, inl, refl, ap, sym, subst, ◌∙◌, ReservedVecValue, PutOff, EntryValue, Heap, Ledger, PoolEnough, heap_of, in_use, with_heap, is_pool_enough, on_due, refused_if, entry_tells, units_in_use, LeafHeapValue, rested, rested_view, with_belongings, Memory, BegunBy, Private, SharedValue, accounts, value_of, HeapForm, IsSharedValue, Fits, OthersFit, belongings_of_part, first_cause, or_else, due_cause, refused, part_asks, account_idle, none_begun, entry_on, tasks_apart, MovesNothing, notes_unchanged, quiet_others, quiet_own, quiet_world, all_kept}
 use Rattle.leaf_collections.proofs.AccountChanges as change
 use Rattle.leaf_collections.proofs.WhyNotDue.{due_answer}
 
 -- WHY IT IS REFUSED
 
--- where nothing comes before what it says
+-- if no cause precedes those of its kind
 pub put_off_answer : (w : SharedValue) (k : ℕ) (p : Private) → IsSharedValue w → Fits w k (record p { fresh = 0 }) → is_some (first_cause w.end w.steps w.settings k false) ≡ false
     → refused w (record { worker = k; kind = PutOff p.task }) ≡ or_else (due_cause p (part_asks w.program p)) (refused_if (is_pool_enough w.settings (accounts w) p.task) (PoolEnough (units_in_use w.pool)) None)
 put_off_answer w k p I F h = due_answer w k p I F (PutOff p.task) (λ n. refused_if (is_pool_enough w.settings (accounts w) p.task) (PoolEnough n) None) refl h
@@ -52,7 +31,7 @@ reset_form h F = record {
 abbrev counted_anew : Heap → Heap
 counted_anew z = record z { since = 0 }
 
-module _ (w : SharedValue) (k : ℕ) (p : Private) (I : IsSharedValue w) (F : Fits w k (record p { fresh = 0 })) (free : refused w (record { worker = k; kind = PutOff p.task }) ≡ None) (j : RoomyValue EntryValue) where
+module _ (w : SharedValue) (k : ℕ) (p : Private) (I : IsSharedValue w) (F : Fits w k (record p { fresh = 0 })) (free : refused w (record { worker = k; kind = PutOff p.task }) ≡ None) (j : ReservedVecValue EntryValue) where
   abbrev P : Private
   P = record p { fresh = 0 }
 
@@ -100,7 +79,7 @@ module _ (w : SharedValue) (k : ℕ) (p : Private) (I : IsSharedValue w) (F : Fi
   pub put_off_others : OthersFit w w' k
   put_off_others o q ne G = quiet_others I free moves o q (tasks_apart w k o P q F G ne) G
 
-  -- THE PART, which is amid no leaf collection
+  -- THE PART, which is in no leaf collection
   idle_part : p.begun ≡ None
   idle_part =
       none_begun w k P F on (on_due w.settings w.program l t (refused_if (is_pool_enough w.settings l t) (PoolEnough (in_use l)) None)) (entry_tells w.program w.settings l e (ap is_none free)).2
@@ -116,12 +95,12 @@ module _ (w : SharedValue) (k : ℕ) (p : Private) (I : IsSharedValue w) (F : Fi
       (change.kept_same w k p I F on counted_anew (λ z. refl) w.pool (λ c u q. q) 0 p.begun (λ z. refl) (λ z. refl) refl (λ c u q. inl q) (λ q. refl))
       (subst (λ o. BegunBy (with_belongings v t (belongings_of_part Q)) (rested L t) t o) (sym idle_part) none_then)
 
--- AS THE CALL HAS IT
+-- AS THE CALL MAKES IT
 module _ (w : SharedValue) (k : ℕ) (p : Private) (F : Fits w k p) (none : p.fresh ≡ 0) where
   pub without_fresh : Fits w k (record p { fresh = 0 })
   without_fresh = subst (λ n. Fits w k (record p { fresh = n })) none F
 
-  module _ (I : IsSharedValue w) (free : refused w (record { worker = k; kind = PutOff p.task }) ≡ None) (j : RoomyValue EntryValue) where
+  module _ (I : IsSharedValue w) (free : refused w (record { worker = k; kind = PutOff p.task }) ≡ None) (j : ReservedVecValue EntryValue) where
     abbrev entered_so : SharedValue
     entered_so = w' w k p I without_fresh free j
 

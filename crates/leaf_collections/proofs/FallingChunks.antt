@@ -1,13 +1,8 @@
--- Chunks that were taken together stay so in another order.
-use Rattle.std.proofs.Common.{◌≡◌, ℕ, ◌+◌, false, cond, ◌==◌, eqb, inl, inr, Option, Some, None, List, [], ◌∷◌, length, map, refl, sym, ap, subst, ◌∙◌}
-use Rattle.std.specs.List.{AllByRecursion, IsDistinct, list_any}
-use Rattle.std.specs.List.Sorted.{IsPermutation}
-use Rattle.std.proofs.lemmas.Bool.{cases_eq, eq-eqb, ne_eqb, or_from}
-use Rattle.std.proofs.lemmas.List.Sorted.{All-permutation, IsPermutation-map, length_permutation, list_any-IsPermutation}
-use Rattle.std.proofs.lemmas.Map.Keys.{IsDistinct-IsPermutation}
-use Rattle.shared_value.specs.below.object_layout.{ChunkValue, number_of, has_chunk, AreApart}
-use Rattle.shared_value.proofs.below.object_layout.{found_any, fresh_none}
-use Rattle.shared_value.specs.below.chunk_pool.{Slot, PoolValue, IsBlank, NumbersBehind, TakesAll, slot_in, one_unit, units_in}
+-- Chunks that were taken together are so in any order.
+use Rattle.leaf_collections.proofs.Common.{◌≡◌, ℕ, ◌+◌, false, cond, ◌==◌, eqb, inl, inr, Option, Some, None, List, [], ◌∷◌, length, map, refl, sym, ap, subst, ◌∙◌, AllByRecursion, list_any, IsPermutation, cases_eq, or_from, All-permutation, IsPermutation-map, length_permutation, list_any-IsPermutation, IsDistinct-IsPermutation, ChunkValue, number_of, has_chunk, found_any, fresh_none, Slot, PoolValue, IsBlank, NumbersBehind, TakesAll, slot_in, one_unit, units_in}
+use Rattle.std.specs.List.{IsDistinct}
+use Rattle.std.proofs.lemmas.Bool.{eq-eqb, ne_eqb}
+use Rattle.core_invariant.specs.below.object_layout.{HaveDistinctNumbers}
 use Rattle.leaf_collections.proofs.NewChunks.{distinct_numbers}
 
 -- THE SAME NUMBERS
@@ -22,12 +17,12 @@ none_named : (n : ℕ) (ks : List ChunkValue) → AllByRecursion (λ y. (n == y)
 none_named n [] a = refl
 none_named n (k ∷ ks) a = or_from (eqb k.number n) (list_any (λ x. eqb x.number n) ks) (flips k.number n ∙ a.0) (none_named n ks a.1)
 
-apart_by_numbers : (ks : List ChunkValue) → IsDistinct (λ j k. j == k) (map number_of ks) → AreApart ks
+apart_by_numbers : (ks : List ChunkValue) → IsDistinct (λ j k. j == k) (map number_of ks) → HaveDistinctNumbers ks
 unfolding IsDistinct
 apart_by_numbers [] d = tt
 apart_by_numbers (k ∷ ks) d = ((fresh_none ks k.number).1 (found_any ks k.number ∙ none_named k.number ks d.0), apart_by_numbers ks d.1)
 
-still_apart : (ks ls : List ChunkValue) → IsPermutation ks ls → AreApart ks → AreApart ls
+still_apart : (ks ls : List ChunkValue) → IsPermutation ks ls → HaveDistinctNumbers ks → HaveDistinctNumbers ls
 still_apart ks ls p a = apart_by_numbers ls (IsDistinct-IsPermutation (λ j k. j == k) flips (map number_of ks) (map number_of ls) (IsPermutation-map number_of ks ls p) (distinct_numbers ks a))
 
 -- THE POOL
@@ -53,7 +48,7 @@ module _ (old new : List (Option Slot)) (owner count : ℕ) (is js : List ChunkV
     };
   }
 
--- chunks that were taken into an empty list, put in another order
+-- chunks that were taken into an empty list, in another order
 pub taken_still : (old new : PoolValue) (owner count : ℕ) (was is js : List ChunkValue) → was ≡ [] → TakesAll old new owner count was is → IsPermutation is js → TakesAll old new owner count [] js
 taken_still old new owner count was is js none t p =
     let u : TakesAll old new owner count [] is = subst (λ (xs : List ChunkValue). TakesAll old new owner count xs is) none t in

@@ -14,3 +14,4 @@ pub mod ChunkGiven
 pub mod CollectionEnds
 pub mod WhyNoEnd
 pub mod below
+mod Common

@@ -1,18 +1,6 @@
--- How a heap with an empty chunk more is laid out, and what is known of it.
-use Rattle.std.proofs.Common.{◌≡◌, ◌⊎◌, ℕ, ◌*◌, ◌/◌, ◌<◌, ◌≤◌, ◌==◌, ◌&&◌, ◌++◌, not, arith, Bool, true, false, cond, Option, Some, None, List, [], ◌∷◌, length, length-append, inl, inr, refl, ap, sym, subst, ◌∙◌, ne_eqb}
-use Rattle.std.specs.List.{AllByRecursion, IsDistinct}
-use Rattle.std.proofs.lemmas.Bool.{cases_lt, cond-true, cond-false, eqb-true}
-use Rattle.shared_value.specs.below.listed.{is_empty}
-use Rattle.shared_value.proofs.below.listed.{map_in}
-use Rattle.shared_value.specs.below.object_layout.{chunk_at, ChunkValue, words_in}
-use Rattle.shared_value.specs.below.alloc_path.{AreTidy, AreWithin, LeafHeapValue, IsFresh, IsTidy, added, with_places}
-use Rattle.shared_value.proofs.below.alloc_path.{at_push, at_last}
-use Rattle.shared_value.specs.below.core_relation.{AreLaidOut, reserved_chunks, reserved_units, Chunk, In}
-use Rattle.shared_value.proofs.below.core_relation.{numbers, units_of}
-use Rattle.shared_value.specs.below.task_machine.{IsLastLarge, IsLastSmall, IsShaped}
-use Rattle.shared_value.specs.Objects.{AreNear, chunk_of, chunks_of}
-use Rattle.shared_value.specs.Stands.{HeapForm}
-use Rattle.shared_value.proofs.CellsRead.{fresh_off}
+-- The layout of a heap with one more, empty chunk, and what is known of it.
+use Rattle.leaf_collections.proofs.Common.{◌≡◌, ◌⊎◌, ℕ, ◌*◌, ◌/◌, ◌<◌, ◌≤◌, ◌==◌, ◌&&◌, ◌++◌, not, arith, Bool, true, false, cond, Option, Some, None, List, [], ◌∷◌, length, length-append, inl, inr, refl, ap, sym, subst, ◌∙◌, ne_eqb, AllByRecursion, cases_lt, cond-true, cond-false, eqb-true, is_empty, map_in, chunk_at, ChunkValue, words_in, AreTidy, AreWithin, LeafHeapValue, IsFresh, IsTidy, added, with_places, at_push, at_last, AreLaidOut, reserved_chunks, reserved_units, Chunk, In, numbers, units_of, IsLastLarge, IsLastSmall, IsShaped, AreNear, chunk_of, chunks_of, HeapForm, fresh_off}
+use Rattle.std.specs.List.{IsDistinct}
 use Rattle.leaf_collections.proofs.MoreChunksRead.{all_more, chunk_with, in_more, none_in, objects_more}
 
 distinct_more : (ns : List ℕ) (n : ℕ) → IsDistinct (λ a b. a == b) ns → ((x : ℕ) → In ns x → x ≡ n → ⊥) → IsDistinct (λ a b. a == b) (ns ++ n ∷ [])
@@ -30,19 +18,19 @@ numbers_more (x ∷ xs) k = ap (λ ns. x.number ∷ ns) (numbers_more xs k)
 
 reserved_more : (ks : List ChunkValue) (k : ChunkValue) → units_of (reserved_chunks (chunks_of (ks ++ k ∷ []))) ≡ units_of (reserved_chunks (chunks_of ks)) ++ units_of (reserved_chunks (chunk_of k ∷ []))
 reserved_more [] k = refl
-reserved_more (x ∷ xs) k = by ((chunk_of x).large && is_empty (chunk_of x).objects) (reserved_more xs k)
+reserved_more (x ∷ xs) k = reserved_more_by_cases ((chunk_of x).large && is_empty (chunk_of x).objects) (reserved_more xs k)
   where
-    by : (b : Bool) → units_of (reserved_chunks (chunks_of (xs ++ k ∷ []))) ≡ units_of (reserved_chunks (chunks_of xs)) ++ units_of (reserved_chunks (chunk_of k ∷ []))
+    reserved_more_by_cases : (b : Bool) → units_of (reserved_chunks (chunks_of (xs ++ k ∷ []))) ≡ units_of (reserved_chunks (chunks_of xs)) ++ units_of (reserved_chunks (chunk_of k ∷ []))
         → units_of (cond b (chunk_of x ∷ reserved_chunks (chunks_of (xs ++ k ∷ []))) (reserved_chunks (chunks_of (xs ++ k ∷ [])))) ≡ units_of (cond b (chunk_of x ∷ reserved_chunks (chunks_of xs)) (reserved_chunks (chunks_of xs))) ++ units_of (reserved_chunks (chunk_of k ∷ []))
-    by true e = ap (λ ns. (chunk_of x).units ∷ ns) e
-    by false e = e
+    reserved_more_by_cases true e = ap (λ ns. (chunk_of x).units ∷ ns) e
+    reserved_more_by_cases false e = e
 
 pub small_units : (k : ChunkValue) → (chunk_of k).large ≡ false → (chunk_of k).units ≡ 1
-small_units k e = by (k.size == 1024) refl e
+small_units k e = small_units_by_cases (k.size == 1024) refl e
   where
-    by : (b : Bool) → (k.size == 1024) ≡ b → not b ≡ false → k.size / 1024 ≡ 1
-    by true q h = ap (λ n. n / 1024) (eqb-true k.size 1024 q)
-    by false q h = absurd cc
+    small_units_by_cases : (b : Bool) → (k.size == 1024) ≡ b → not b ≡ false → k.size / 1024 ≡ 1
+    small_units_by_cases true q h = ap (λ n. n / 1024) (eqb-true k.size 1024 q)
+    small_units_by_cases false q h = absurd cc
 
 module _ (k : ChunkValue) (empty : k.cells ≡ []) (ks : List ChunkValue) (fresh : IsFresh ks k.number) where
   off : (x : ℕ) → In (numbers (chunks_of ks)) x → x ≡ k.number → ⊥
@@ -88,14 +76,14 @@ module _ (h : LeafHeapValue) (F : HeapForm h) (number u slots spare : ℕ) (some
   abbrev g : LeafHeapValue
   g = with_places (added h K) slots spare
 
-  -- a large one comes where none was reserved
+  -- a large one comes if none was reserved
   module _ (none : 2 ≤ u → h.reserved ≡ None) (shaped : IsShaped g) (chunks : g.chunks ≡ h.chunks ++ K ∷ []) (last : IsLastSmall g.chunks g.current) (last_large : IsLastLarge g.chunks g.reserved) where
     since_same : g.since ≡ h.since
-    since_same = by (K.size == 1024)
+    since_same = since_same_by_cases (K.size == 1024)
       where
-        by : (b : Bool) → (with_places (cond b (record h { chunks = h.chunks ++ K ∷ []; current = Some (length h.chunks) }) (record h { chunks = h.chunks ++ K ∷ []; reserved = Some (length h.chunks) })) slots spare).since ≡ h.since
-        by true = refl
-        by false = refl
+        since_same_by_cases : (b : Bool) → (with_places (cond b (record h { chunks = h.chunks ++ K ∷ []; current = Some (length h.chunks) }) (record h { chunks = h.chunks ++ K ∷ []; reserved = Some (length h.chunks) })) slots spare).since ≡ h.since
+        since_same_by_cases true = refl
+        since_same_by_cases false = refl
 
     reserved_small : u ≡ 1 → g.reserved ≡ h.reserved
     reserved_small e =

@@ -1,19 +1,9 @@
--- A heap with an empty chunk more: the objects that are read, and its account.
-use Rattle.std.proofs.Common.{◌≡◌, ◌⊎◌, ℕ, zero, suc, ◌-◌, ◌*◌, ◌<◌, ◌≤◌, ◌==◌, arith, Bool, true, false, cond, Option, Some, None, List, [], ◌∷◌, ◌++◌, length, map, All, inl, inr, ne_eqb, refl, ap, sym, subst, ◌∙◌}
-use Rattle.std.proofs.lemmas.Bool.{cases_lt, cond-false, leb-false}
-use Rattle.std.proofs.lemmas.List.{length_push}
-use Rattle.shared_value.specs.below.hh_model.{Name}
-use Rattle.shared_value.specs.below.run_ledger.{Heap, chunk_words, is_small, units, chunk_units, with_chunk}
-use Rattle.shared_value.specs.below.object_layout.{chunk_at, ChunkValue, words_in, Located, objects_from}
-use Rattle.shared_value.specs.below.alloc_path.{LeafHeapValue, IsCurrent, IsReserved, added, room_at, with_places}
-use Rattle.shared_value.proofs.below.alloc_path.{at_push, at_last}
-use Rattle.shared_value.specs.below.core_relation.{Chunk, In, object_name, objects_in, large_chunks}
-use Rattle.shared_value.specs.below.task_machine.{AreReserved, IsCounted, IsLastLarge, IsLastSmall, large_names, names_in, small_lists, IsShaped}
-use Rattle.shared_value.specs.Objects.{chunk_of, chunks_of}
+-- A heap with one more, empty chunk: the objects that are read, and its account.
+use Rattle.leaf_collections.proofs.Common.{◌≡◌, ◌⊎◌, ℕ, zero, suc, ◌-◌, ◌*◌, ◌<◌, ◌≤◌, ◌==◌, arith, Bool, true, false, cond, Option, Some, None, List, [], ◌∷◌, ◌++◌, length, map, All, inl, inr, ne_eqb, refl, ap, sym, subst, ◌∙◌, cases_lt, cond-false, leb-false, length_push, Name, Heap, chunk_words, is_small, units, chunk_units, with_chunk, chunk_at, ChunkValue, words_in, Located, objects_from, LeafHeapValue, IsCurrent, IsReserved, added, room_at, with_places, at_push, at_last, Chunk, In, object_name, objects_in, large_chunks, AreReserved, HeapMatchesAccount, IsLastLarge, IsLastSmall, large_names, names_in, small_lists, IsShaped, chunk_of, chunks_of}
 
 -- ---- LISTS OF CHUNKS
 
--- each chunk is one of before or the new one
+-- each chunk is an old one or the new one
 pub in_more : (ks : List ChunkValue) (k : ChunkValue) (c : Chunk) → In (chunks_of (ks ++ k ∷ [])) c → In (chunks_of ks) c ⊎ (chunk_of k ≡ c)
 in_more [] k c (inl e) = inr e
 in_more [] k c (inr i) = absurd i
@@ -24,7 +14,7 @@ module _ (k : ChunkValue) (empty : k.cells ≡ []) where
   pub none_in : (chunk_of k).objects ≡ []
   none_in = ap (objects_from k.number 0) empty
 
-  -- no object more
+  -- no further object
   pub objects_more : (ks : List ChunkValue) → objects_in (chunks_of (ks ++ k ∷ [])) ≡ objects_in (chunks_of ks)
   objects_more [] = ap (λ (os : List Located). os ++ []) none_in
   objects_more (x ∷ xs) = ap (λ (os : List Located). (chunk_of x).objects ++ os) (objects_more xs)
@@ -35,17 +25,17 @@ module _ (k : ChunkValue) (empty : k.cells ≡ []) where
   large_by false x ks js e = e
 
   large_objects : (ks : List ChunkValue) → objects_in (large_chunks (chunks_of (ks ++ k ∷ []))) ≡ objects_in (large_chunks (chunks_of ks))
-  large_objects [] = by (chunk_of k).large
+  large_objects [] = large_objects_by_cases (chunk_of k).large
     where
-      by : (b : Bool) → objects_in (cond b (chunk_of k ∷ []) []) ≡ []
-      by true = ap (λ (os : List Located). os ++ []) none_in
-      by false = refl
+      large_objects_by_cases : (b : Bool) → objects_in (cond b (chunk_of k ∷ []) []) ≡ []
+      large_objects_by_cases true = ap (λ (os : List Located). os ++ []) none_in
+      large_objects_by_cases false = refl
   large_objects (x ∷ xs) = large_by (chunk_of x).large (chunk_of x) (large_chunks (chunks_of (xs ++ k ∷ []))) (large_chunks (chunks_of xs)) (large_objects xs)
 
   pub large_more : (ks : List ChunkValue) → map object_name (objects_in (large_chunks (chunks_of (ks ++ k ∷ [])))) ≡ map object_name (objects_in (large_chunks (chunks_of ks)))
   large_more ks = ap (map object_name) (large_objects ks)
 
-  -- one list of names more, or none
+  -- one more list of names, or none
   small_by : (b : Bool) (ns : List Name) (xs ys : List (List Name)) → xs ≡ ys ++ [] ∷ [] → cond b (ns ∷ xs) xs ≡ cond b (ns ∷ ys) ys ++ [] ∷ []
   small_by true ns xs ys e = ap (λ zs. ns ∷ zs) e
   small_by false ns xs ys e = e
@@ -65,11 +55,11 @@ module _ (k : ChunkValue) (empty : k.cells ≡ []) where
   large_names_by b ns xs ys e = ap (λ zs. cond b zs (ns ++ zs)) e
 
   pub large_same : (ks : List ChunkValue) → large_names (ks ++ k ∷ []) ≡ large_names ks
-  large_same [] = by (k.size == 1024)
+  large_same [] = large_same_by_cases (k.size == 1024)
     where
-      by : (b : Bool) → cond b [] (names_in k.cells ++ []) ≡ []
-      by true = refl
-      by false = ap (λ cs. names_in cs ++ []) empty
+      large_same_by_cases : (b : Bool) → cond b [] (names_in k.cells ++ []) ≡ []
+      large_same_by_cases true = refl
+      large_same_by_cases false = ap (λ cs. names_in cs ++ []) empty
   large_same (x ∷ xs) = large_names_by (x.size == 1024) (names_in x.cells) (large_names (xs ++ k ∷ [])) (large_names xs) (large_same xs)
 
 -- ---- THE ACCOUNT
@@ -113,8 +103,8 @@ small_one number = record { number = number; size = 1024; cells = [] }
 abbrev pub chunk_with : ℕ → ℕ → ChunkValue
 chunk_with number u = record { number = number; size = 1024 * u; cells = [] }
 
-module _ (h : LeafHeapValue) (l : Heap) (S : IsShaped h) (C : IsCounted h l) (number slots spare : ℕ) where
-  small_counted : IsCounted (with_places (added h (small_one number)) slots spare) (record l { chunks = l.chunks ++ [] ∷ []; room = 1024 })
+module _ (h : LeafHeapValue) (l : Heap) (S : IsShaped h) (C : HeapMatchesAccount h l) (number slots spare : ℕ) where
+  small_counted : HeapMatchesAccount (with_places (added h (small_one number)) slots spare) (record l { chunks = l.chunks ++ [] ∷ []; room = 1024 })
   small_counted = record {
     chunks = small_more (small_one number) refl h.chunks refl ∙ ap (λ xs. xs ++ [] ∷ []) C.chunks;
     large = large_same (small_one number) refl h.chunks ∙ C.large;
@@ -138,8 +128,8 @@ module _ (h : LeafHeapValue) (l : Heap) (S : IsShaped h) (C : IsCounted h l) (nu
     larger_is : added h k ≡ larger
     larger_is = cond-false (k.size == 1024) (record h { chunks = h.chunks ++ k ∷ []; current = Some (length h.chunks) }) larger big
 
-    large_counted : IsCounted (with_places (added h k) slots spare) (record l { reserved = u })
-    large_counted = subst (λ (z : LeafHeapValue). IsCounted (with_places z slots spare) (record l { reserved = u })) (sym larger_is) (record {
+    large_counted : HeapMatchesAccount (with_places (added h k) slots spare) (record l { reserved = u })
+    large_counted = subst (λ (z : LeafHeapValue). HeapMatchesAccount (with_places z slots spare) (record l { reserved = u })) (sym larger_is) (record {
       chunks = small_same k refl h.chunks big ∙ C.chunks;
       large = large_same k refl h.chunks ∙ C.large;
       last = last_same h.chunks k h.current (λ e. omega (arith, e, large)) C.last;
@@ -149,50 +139,50 @@ module _ (h : LeafHeapValue) (l : Heap) (S : IsShaped h) (C : IsCounted h l) (nu
       reserved = ap (λ (z : ChunkValue). z.size) (at_last h.chunks k);
     })
 
-  -- for the object that the next step needs it for
-  pub grown_counted : (words u : ℕ) → u ≡ chunk_units (Some words) → IsCounted (with_places (added h (chunk_with number u)) slots spare) (with_chunk (Some words) l)
-  grown_counted words u e = by (is_small words) refl e
+  -- for the object for which the next step needs it
+  pub grown_counted : (words u : ℕ) → u ≡ chunk_units (Some words) → HeapMatchesAccount (with_places (added h (chunk_with number u)) slots spare) (with_chunk (Some words) l)
+  grown_counted words u e = grown_counted_by_cases (is_small words) refl e
     where
-      by : (b : Bool) → is_small words ≡ b → u ≡ cond b 1 (units words) → IsCounted (with_places (added h (chunk_with number u)) slots spare) (cond b (record l { chunks = l.chunks ++ [] ∷ []; room = chunk_words }) (record l { reserved = chunk_units (Some words) }))
-      by true s q = subst (λ n. IsCounted (with_places (added h (chunk_with number n)) slots spare) (record l { chunks = l.chunks ++ [] ∷ []; room = chunk_words })) (sym q) small_counted
-      by false s q =
+      grown_counted_by_cases : (b : Bool) → is_small words ≡ b → u ≡ cond b 1 (units words) → HeapMatchesAccount (with_places (added h (chunk_with number u)) slots spare) (cond b (record l { chunks = l.chunks ++ [] ∷ []; room = chunk_words }) (record l { reserved = chunk_units (Some words) }))
+      grown_counted_by_cases true s q = subst (λ n. HeapMatchesAccount (with_places (added h (chunk_with number n)) slots spare) (record l { chunks = l.chunks ++ [] ∷ []; room = chunk_words })) (sym q) small_counted
+      grown_counted_by_cases false s q =
           let big_words : chunk_words < words = leb-false words chunk_words s in
           let two : 2 ≤ u = omega (arith, big_words, q) in
           let is : chunk_units (Some words) ≡ u = cond-false (is_small words) 1 (units words) s ∙ sym q in
-          subst (λ n. IsCounted (with_places (added h (chunk_with number u)) slots spare) (record l { reserved = n })) (sym is) (large_counted u two)
+          subst (λ n. HeapMatchesAccount (with_places (added h (chunk_with number u)) slots spare) (record l { reserved = n })) (sym is) (large_counted u two)
 
--- what of an account a chunk leaves
+-- what a chunk keeps of an account
 pub chunk_begun : (words : ℕ) (h : Heap) → (with_chunk (Some words) h).begun ≡ h.begun
-chunk_begun words h = by (is_small words)
+chunk_begun words h = chunk_begun_by_cases (is_small words)
   where
-    by : (b : Bool) → (cond b (record h { chunks = h.chunks ++ [] ∷ []; room = chunk_words }) (record h { reserved = chunk_units (Some words) })).begun ≡ h.begun
-    by true = refl
-    by false = refl
+    chunk_begun_by_cases : (b : Bool) → (cond b (record h { chunks = h.chunks ++ [] ∷ []; room = chunk_words }) (record h { reserved = chunk_units (Some words) })).begun ≡ h.begun
+    chunk_begun_by_cases true = refl
+    chunk_begun_by_cases false = refl
 
 pub chunk_since : (words : ℕ) (h : Heap) → (with_chunk (Some words) h).since ≡ h.since
-chunk_since words h = by (is_small words)
+chunk_since words h = chunk_since_by_cases (is_small words)
   where
-    by : (b : Bool) → (cond b (record h { chunks = h.chunks ++ [] ∷ []; room = chunk_words }) (record h { reserved = chunk_units (Some words) })).since ≡ h.since
-    by true = refl
-    by false = refl
+    chunk_since_by_cases : (b : Bool) → (cond b (record h { chunks = h.chunks ++ [] ∷ []; room = chunk_words }) (record h { reserved = chunk_units (Some words) })).since ≡ h.since
+    chunk_since_by_cases true = refl
+    chunk_since_by_cases false = refl
 
 pub chunk_large : (words : ℕ) (h : Heap) → (with_chunk (Some words) h).large ≡ h.large
-chunk_large words h = by (is_small words)
+chunk_large words h = chunk_large_by_cases (is_small words)
   where
-    by : (b : Bool) → (cond b (record h { chunks = h.chunks ++ [] ∷ []; room = chunk_words }) (record h { reserved = chunk_units (Some words) })).large ≡ h.large
-    by true = refl
-    by false = refl
+    chunk_large_by_cases : (b : Bool) → (cond b (record h { chunks = h.chunks ++ [] ∷ []; room = chunk_words }) (record h { reserved = chunk_units (Some words) })).large ≡ h.large
+    chunk_large_by_cases true = refl
+    chunk_large_by_cases false = refl
 
 pub chunk_held : (words : ℕ) (h : Heap) → (with_chunk (Some words) h).worker ≡ h.worker
-chunk_held words h = by (is_small words)
+chunk_held words h = chunk_held_by_cases (is_small words)
   where
-    by : (b : Bool) → (cond b (record h { chunks = h.chunks ++ [] ∷ []; room = chunk_words }) (record h { reserved = chunk_units (Some words) })).worker ≡ h.worker
-    by true = refl
-    by false = refl
+    chunk_held_by_cases : (b : Bool) → (cond b (record h { chunks = h.chunks ++ [] ∷ []; room = chunk_words }) (record h { reserved = chunk_units (Some words) })).worker ≡ h.worker
+    chunk_held_by_cases true = refl
+    chunk_held_by_cases false = refl
 
 pub units_some : (words : ℕ) → 1 ≤ chunk_units (Some words)
-units_some words = by (is_small words) refl
+units_some words = units_some_by_cases (is_small words) refl
   where
-    by : (b : Bool) → is_small words ≡ b → 1 ≤ cond b 1 (units words)
-    by true s = omega arith
-    by false s = let q : chunk_words < words = leb-false words chunk_words s in omega (arith, q)
+    units_some_by_cases : (b : Bool) → is_small words ≡ b → 1 ≤ cond b 1 (units words)
+    units_some_by_cases true s = omega arith
+    units_some_by_cases false s = let q : chunk_words < words = leb-false words chunk_words s in omega (arith, q)

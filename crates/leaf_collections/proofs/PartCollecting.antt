@@ -1,40 +1,6 @@
--- The part once its leaf collection has begun.
-use Rattle.std.proofs.Common.{◌≡◌, ℕ, true, false, Option, Some, None, List, [], length, map, slice_get, is_some, ◌⊎◌, refl, ap, ap₂, sym, subst, ◌∙◌}
-use Rattle.std.proofs.lemmas.List.{length-map}
-use Rattle.shared_value.specs.below.listed.{RoomyValue}
-use Rattle.shared_value.proofs.below.listed.{in_map, map_in}
-use Rattle.shared_value.specs.below.hh_model.{State, is_waiting}
-use Rattle.shared_value.specs.below.run_trace.{Begin, EntryValue}
-use Rattle.shared_value.specs.below.run_ledger.{Heap, Ledger, heap_of, let_go, take_of, with_heap, within}
-use Rattle.shared_value.proofs.below.run_ledger.{heap_machine}
-use Rattle.shared_value.specs.below.object_layout.{place_in, small_words, ChunkValue, number_of}
-use Rattle.shared_value.proofs.below.object_layout.{has_own}
-use Rattle.shared_value.specs.below.chunk_pool.{PoolValue, TakesAll}
-use Rattle.shared_value.specs.below.alloc_path.{LeafHeapValue, IsFresh, with_places}
-use Rattle.shared_value.specs.below.ledger_step_laws.{rested}
-use Rattle.shared_value.proofs.below.ledger_step_laws.{within_rested, legal_knows, rested_sound, rested_view, rested_worker, waits_rest}
-use Rattle.shared_value.specs.below.core_relation.{SameObjects, with_belongings, BelongingsStand, Chunk, Belongings, In, Memory, BegunStands, Begins}
-use Rattle.shared_value.proofs.below.core_entry_laws.{begins}
-use Rattle.shared_value.proofs.below.core_relation.{at_belongings}
-use Rattle.shared_value.specs.below.task_machine.{Begun, Private}
-use Rattle.shared_value.specs.Objects.{chunk_of}
-use Rattle.shared_value.specs.SharedValue.{SharedValue, accounts, value_of}
-use Rattle.shared_value.specs.Measured.{IsMeasured}
-use Rattle.shared_value.specs.Stands.{IsSharedValue}
-use Rattle.shared_value.specs.Fits.{Fits, belongings_of_part}
-use Rattle.shared_value.specs.Due.{take_by}
-use Rattle.shared_value.specs.Entered.{refused}
-use Rattle.shared_value.specs.Roots.{roots_of}
-use Rattle.shared_value.proofs.CollectionUnderWay.{account_idle}
-use Rattle.shared_value.proofs.HeapForms.{places_form}
-use Rattle.shared_value.proofs.EntryMade.{entry_on}
-use Rattle.shared_value.proofs.FreeChunks.{take_is}
-use Rattle.shared_value.proofs.NothingMoves.{quiet_own}
-use Rattle.shared_value.proofs.PartFitsMachine as link
-use Rattle.shared_value.proofs.UnitsMeasured.{all_taken_units, measured_kept}
-use Rattle.shared_value.proofs.BeforeTheEnd.{fits_now}
-use Rattle.shared_value.proofs.StepsEntered.{belongings_stand, status}
-use Rattle.shared_value.proofs.RootsByAccounts.{are_roots}
+-- The part after its leaf collection has begun.
+use Rattle.leaf_collections.proofs.Common.{◌≡◌, ℕ, true, false, Option, Some, None, List, [], length, map, slice_get, is_some, ◌⊎◌, refl, ap, ap₂, sym, subst, ◌∙◌, length-map, ReservedVecValue, in_map, map_in, MachineState, is_waiting, Begin, EntryValue, Heap, Ledger, heap_of, let_go, take_of, with_heap, within, heap_machine, place_in, small_words, ChunkValue, number_of, has_own, PoolValue, TakesAll, LeafHeapValue, IsFresh, with_places, rested, within_rested, legal_knows, rested_sound, rested_view, rested_worker, waits_rest, SameObjects, with_belongings, BelongingsStand, Chunk, Belongings, In, Memory, BegunStands, LeafCollectionBegins, begins, at_belongings, Begun, Private, chunk_of, SharedValue, accounts, value_of, IsMeasured, IsSharedValue, Fits, belongings_of_part, take_by, refused, roots_of, account_idle, places_form, entry_on, take_is, quiet_own, all_taken_units, measured_kept, fits_now, belongings_stand, status, are_roots}
+use Rattle.core_invariant.proofs.PartFitsMachine as link
 use Rattle.leaf_collections.proofs.AccountChanges as change
 use Rattle.leaf_collections.proofs.WhyNoCollection.{begin_idle}
 use Rattle.leaf_collections.proofs.CollectionBegins as first
@@ -65,7 +31,7 @@ module _ (w : SharedValue) (k : ℕ) (p : Private) (I : IsSharedValue w) (F : Fi
   abbrev on : l.end ≡ None
   on = entry_on w e free
 
-  module _ (pool : PoolValue) (news : List ChunkValue) (slots spare : ℕ) (T : TakesAll w.pool pool p.task (take_by (small_words p.heap.chunks)) [] news) (j : RoomyValue EntryValue) where
+  module _ (pool : PoolValue) (news : List ChunkValue) (slots spare : ℕ) (T : TakesAll w.pool pool p.task (take_by (small_words p.heap.chunks)) [] news) (j : ReservedVecValue EntryValue) where
     abbrev ks : List ChunkValue
     ks = T.numbers.chunks
 
@@ -100,8 +66,8 @@ module _ (w : SharedValue) (k : ℕ) (p : Private) (I : IsSharedValue w) (F : Fi
     abbrev after_ : Memory
     after_ = with_belongings v' t (belongings_of_part Q)
 
-    abbrev here : before.belongings t ≡ belongings_of_part P
-    here = at_belongings v t (belongings_of_part P)
+    abbrev own_belongings : before.belongings t ≡ belongings_of_part P
+    own_belongings = at_belongings v t (belongings_of_part P)
 
     abbrev here' : after_.belongings t ≡ belongings_of_part Q
     here' = at_belongings v' t (belongings_of_part Q)
@@ -110,7 +76,7 @@ module _ (w : SharedValue) (k : ℕ) (p : Private) (I : IsSharedValue w) (F : Fi
     H = belongings_stand w k P I F on
 
     since_same : p.heap.since ≡ (heap_of (rested l t) t).since
-    since_same = ap (λ (z : Belongings). z.since) (sym here) ∙ H.since
+    since_same = ap (λ (z : Belongings). z.since) (sym own_belongings) ∙ H.since
 
     idle_before : (heap_of (rested l t) t).begun ≡ None
     idle_before = rested_view (λ (z : Heap). z.begun) (λ z. refl) l t ∙ account_idle w k P F on (begin_idle w k p I F free)
@@ -141,9 +107,9 @@ module _ (w : SharedValue) (k : ℕ) (p : Private) (I : IsSharedValue w) (F : Fi
         let b : v.owner n ≡ None = ap v.owner (sym x.2) ∙ were_free x.0 x.1 in
         absurd cc
 
-    begins_so : Begins before after_ (rested l t) (rested L t) t b
+    begins_so : LeafCollectionBegins before after_ (rested l t) (rested L t) t b
     begins_so = record {
-      belongings = here' ∙ ap (λ (z : Belongings). record z { begun = Some b }) (sym here);
+      belongings = here' ∙ ap (λ (z : Belongings). record z { begun = Some b }) (sym own_belongings);
       heap = account_same ∙ ap₂ (λ n ns. record (heap_of (rested l t) t) { begun = Some n; survivors = ns }) take_rested (sym (within_rested l t t));
       once = distinct_numbers ks T.numbers.numbered.apart;
       owned = λ n i. let x = new_is n i in ap v'.owner (sym x.2) ∙ first.owner_new w k p I F free pool news slots spare T j x.0.number (has_own ks x.0 x.0.number x.1 refl);
@@ -153,7 +119,7 @@ module _ (w : SharedValue) (k : ℕ) (p : Private) (I : IsSharedValue w) (F : Fi
     begun_stands : BegunStands after_ (rested L t) t b
     begun_stands =
         begins before after_ (rested l t) (rested L t) t F.fits.task b (rested_sound l t (legal_knows w.program w.settings w.journal.items I.legal).sound) (fits_now w k P F on).stands
-        (ap (λ (m : State). slice_get m.tasks t) (heap_machine l t let_go) ∙ F.fits.is) (status w k P I F on) (rested_worker l t) (waits_rest l t (idle_rest w I on)) (are_roots w k p I F on) begins_so
+        (ap (λ (m : MachineState). slice_get m.tasks t) (heap_machine l t let_go) ∙ F.fits.is) (status w k P I F on) (rested_worker l t) (waits_rest l t (idle_rest w I on)) (are_roots w k p I F on) begins_so
 
     measured_then : IsMeasured pool Q
     measured_then = (measured_kept w.pool pool t p.heap.chunks (first.units_stay w k p I F free pool news slots spare T j t) F.measured.0, all_taken_units w.pool pool p.task (take_by (small_words p.heap.chunks)) [] news T)
@@ -163,10 +129,10 @@ module _ (w : SharedValue) (k : ℕ) (p : Private) (I : IsSharedValue w) (F : Fi
 
     -- no new chunk's number is one of the heap's
     pub new_fresh : (c : ChunkValue) → In ks c → IsFresh p.heap.chunks c.number
-    new_fresh c i = by (place_in p.heap.chunks c.number) refl
+    new_fresh c i = new_fresh_by_cases (place_in p.heap.chunks c.number) refl
       where
-        by : (o : Option ℕ) → place_in p.heap.chunks c.number ≡ o → IsFresh p.heap.chunks c.number
-        by None q = q
-        by (Some n) q =
+        new_fresh_by_cases : (o : Option ℕ) → place_in p.heap.chunks c.number ≡ o → IsFresh p.heap.chunks c.number
+        new_fresh_by_cases None q = q
+        new_fresh_by_cases (Some n) q =
             let x = link.placed_in p.heap.chunks c.number n q in
-            absurd (new_apart c.number (chunk_of x.0) (in_map number_of ks c i) (subst (λ (z : Belongings). In z.chunks (chunk_of x.0)) (sym here) (in_map chunk_of p.heap.chunks x.0 x.1)) x.2)
+            absurd (new_apart c.number (chunk_of x.0) (in_map number_of ks c i) (subst (λ (z : Belongings). In z.chunks (chunk_of x.0)) (sym own_belongings) (in_map chunk_of p.heap.chunks x.0 x.1)) x.2)

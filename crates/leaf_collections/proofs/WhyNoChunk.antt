@@ -1,22 +1,6 @@
 -- Why no chunk is given to a part.
-use Rattle.std.proofs.Common.{◌≡◌, ℕ, true, false, Option, Some, None, is_none, is_some, nat_le, refl, ap, ap₂, sym, ◌∙◌}
-use Rattle.shared_value.proofs.below.listed.{none_of}
-use Rattle.shared_value.specs.below.hh_model.{asked}
-use Rattle.shared_value.specs.below.run_trace.{Chunk, EntryValue}
-use Rattle.shared_value.specs.below.run_ledger.{Heap, Ledger, Refused, Collecting, Due, NotNeeded, heap_of, lacks_room, is_due, is_in_need, on_asked, is_fuel, kind_refusal, on_running, refused_if, refused_unless}
-use Rattle.shared_value.specs.below.alloc_path.{place_for, room_of}
-use Rattle.shared_value.specs.below.task_machine.{Private}
-use Rattle.shared_value.proofs.below.task_machine.{lacks_same}
-use Rattle.shared_value.specs.SharedValue.{SharedValue, accounts}
-use Rattle.shared_value.specs.Stands.{IsSharedValue}
-use Rattle.shared_value.specs.Fits.{Fits}
-use Rattle.shared_value.specs.Next.{next_line, part_asks}
-use Rattle.shared_value.specs.Causes.{chunk_cause, first_cause, need_cause, or_else}
-use Rattle.shared_value.specs.Entered.{refused}
-use Rattle.shared_value.proofs.NextStepAsks.{asks_is, asks_two, counted_is, room_is, since_is}
-use Rattle.shared_value.proofs.CollectionUnderWay.{at_part}
-use Rattle.shared_value.proofs.CausesTold.{on_is, refused_is}
-use Rattle.shared_value.proofs.FirstCauses.{found_first}
+use Rattle.leaf_collections.proofs.Common.{◌≡◌, ℕ, true, false, Option, Some, None, is_none, is_some, nat_le, refl, ap, ap₂, sym, ◌∙◌, none_of, asked, EntryValue, Heap, Ledger, Refused, Collecting, Due, NotNeeded, heap_of, lacks_room, is_due, is_in_need, on_asked, is_fuel, kind_refusal, on_running, refused_if, refused_unless, place_for, room_of, Private, lacks_same, SharedValue, accounts, IsSharedValue, Fits, next_line, part_asks, chunk_cause, first_cause, need_cause, or_else, refused, asks_is, asks_two, counted_is, room_is, since_is, at_part, on_is, refused_is, found_first}
+use Rattle.core_invariant.specs.below.run_trace.{Chunk}
 
 unless_none : {A : Type 0} (o : Option A) (c : Refused) → refused_unless (is_none o) c None ≡ refused_if (is_some o) c None
 unless_none None c = refl
@@ -35,7 +19,7 @@ module _ (w : SharedValue) (k : ℕ) (p : Private) (I : IsSharedValue w) (F : Fi
   abbrev h : Heap
   h = heap_of l t
 
-  -- the worker is at the task, and where that isn't amid a leaf collection
+  -- the worker holds the task, and it is in no leaf collection
   pub at_work : p.begun ≡ None → (rest : Option Refused) → on_running l k t rest ≡ rest
   at_work none rest = at_part w k P F on rest ∙ ap (λ o. refused_if (is_some o) Collecting rest) none
 
@@ -61,13 +45,13 @@ module _ (w : SharedValue) (k : ℕ) (p : Private) (I : IsSharedValue w) (F : Fi
       at_part w k P F on (refused_if (is_due w.settings w.program l t) (Due h.since) (refused_unless (is_in_need w.program l t) (NotNeeded h.room) None))
       ∙ ap (refused_if (is_some p.begun) Collecting) (by_asks (asked w.program l.machine t) refl ∙ ap (need_cause p) asks)
 
--- where nothing comes before it
+-- if no cause precedes it
 pub chunk_answer : (w : SharedValue) (k : ℕ) (p : Private) → IsSharedValue w → Fits w k (record p { fresh = 0 }) → is_some (first_cause w.end w.steps w.settings k false) ≡ false
     → refused w (record { worker = k; kind = Chunk p.task }) ≡ chunk_cause p (part_asks w.program p)
 chunk_answer w k p I F h =
     refused_is w I (record { worker = k; kind = Chunk p.task })
     ∙ (ap (λ o. or_else o (kind_refusal w.program w.settings (accounts w) k (Chunk p.task))) (none_of (first_cause w.end w.steps w.settings k false) h) ∙ chunk_is w k p I F (on_is w I k false h))
 
--- or something does
+-- or one does
 pub first_answer : (w : SharedValue) → IsSharedValue w → (e : EntryValue) → is_some (first_cause w.end w.steps w.settings e.worker (is_fuel e.kind)) ≡ true → refused w e ≡ first_cause w.end w.steps w.settings e.worker (is_fuel e.kind)
 first_answer w I e h = refused_is w I e ∙ sym (found_first (first_cause w.end w.steps w.settings e.worker (is_fuel e.kind)) (kind_refusal w.program w.settings (accounts w) e.worker e.kind) h)

@@ -1,33 +1,15 @@
--- Why a leaf collection of a part doesn't begin, and what is known where it may.
-use Rattle.std.proofs.Common.{◌≡◌, ℕ, ◌+◌, ◌≤◌, arith, Bool, true, false, Option, None, is_none, is_some, refl, ap, sym, ◌∙◌}
-use Rattle.std.proofs.lemmas.Bool.{false≢true, leb-true}
-use Rattle.shared_value.specs.below.run_trace.{Begin, EntryValue}
-use Rattle.shared_value.specs.below.run_ledger.{Ledger, Refused, PoolShort, heap_of, in_use, take_of, is_pool_enough, on_due, refused_if, refused_unless}
-use Rattle.shared_value.proofs.below.run_ledger.{entry_tells}
-use Rattle.shared_value.specs.below.object_layout.{small_words}
-use Rattle.shared_value.specs.below.chunk_pool.{units_in_use}
-use Rattle.shared_value.specs.below.task_machine.{Private}
-use Rattle.shared_value.specs.SharedValue.{SharedValue, accounts}
-use Rattle.shared_value.specs.Stands.{IsSharedValue}
-use Rattle.shared_value.specs.Fits.{Fits}
-use Rattle.shared_value.specs.Causes.{first_cause, or_else}
-use Rattle.shared_value.specs.Due.{due_cause, take_by}
-use Rattle.shared_value.specs.Entered.{refused}
-use Rattle.shared_value.specs.Next.{part_asks}
-use Rattle.shared_value.proofs.CollectionUnderWay.{none_begun}
-use Rattle.shared_value.proofs.EntryMade.{entry_on}
-use Rattle.shared_value.proofs.FreeChunks.{take_is}
-use Rattle.shared_value.proofs.BeforeTheEnd.{used_now}
+-- Why a leaf collection of a part doesn't begin, and what is known if it may.
+use Rattle.leaf_collections.proofs.Common.{◌≡◌, ℕ, ◌+◌, ◌≤◌, arith, Bool, true, false, Option, None, is_none, is_some, refl, ap, sym, ◌∙◌, false≢true, leb-true, Begin, EntryValue, Ledger, Refused, PoolShort, heap_of, in_use, take_of, is_pool_enough, on_due, refused_if, refused_unless, entry_tells, small_words, units_in_use, Private, SharedValue, accounts, IsSharedValue, Fits, first_cause, or_else, due_cause, take_by, refused, part_asks, none_begun, entry_on, take_is, used_now}
 use Rattle.leaf_collections.proofs.WhyNotDue.{due_answer, due_is}
 
 -- WHY IT IS REFUSED
 
--- where nothing comes before what it says
+-- if no cause precedes those of its kind
 pub begin_answer : (w : SharedValue) (k : ℕ) (p : Private) → IsSharedValue w → Fits w k (record p { fresh = 0 }) → is_some (first_cause w.end w.steps w.settings k false) ≡ false
     → refused w (record { worker = k; kind = Begin p.task }) ≡ or_else (due_cause p (part_asks w.program p)) (refused_unless (is_pool_enough w.settings (accounts w) p.task) (PoolShort (units_in_use w.pool)) None)
 begin_answer w k p I F h = due_answer w k p I F (Begin p.task) (λ n. refused_unless (is_pool_enough w.settings (accounts w) p.task) (PoolShort n) None) refl h
 
--- WHERE NOTHING REFUSES IT
+-- IF NOTHING REFUSES IT
 
 module _ (w : SharedValue) (k : ℕ) (p : Private) (I : IsSharedValue w) (F : Fits w k (record p { fresh = 0 })) (free : refused w (record { worker = k; kind = Begin p.task }) ≡ None) where
   abbrev P : Private
@@ -45,7 +27,7 @@ module _ (w : SharedValue) (k : ℕ) (p : Private) (I : IsSharedValue w) (F : Fi
   abbrev on : l.end ≡ None
   on = entry_on w e free
 
-  -- the part is amid no leaf collection, and the free chunks are enough
+  -- the part is in no leaf collection, and enough chunks are free
   abbrev by_pool : Option Refused
   by_pool = refused_unless (is_pool_enough w.settings l t) (PoolShort (in_use l)) None
 

@@ -1,19 +1,6 @@
--- Why the end of a part's leaf collection is refused: for what comes before it alone.
-use Rattle.std.proofs.Common.{◌≡◌, ℕ, ◌==◌, ◌&&◌, Bool, true, false, Option, Some, None, is_some, slice_get, refl, ap, ap₂, sym, ◌∙◌, eq-eqb}
-use Rattle.std.proofs.lemmas.Bool.{false≢true}
-use Rattle.shared_value.specs.below.hh_model.{is_running}
-use Rattle.shared_value.specs.below.run_trace.{End}
-use Rattle.shared_value.specs.below.run_ledger.{Ledger, Refused, Count, NotCollecting, NotOut, counted, ends_as, is_out, kind_refusal, refused_unless, end_numbers, heap_of}
-use Rattle.shared_value.specs.below.listed.{option_is}
-use Rattle.shared_value.proofs.below.run_ledger.{tasks_are_out_once}
-use Rattle.shared_value.specs.below.leaf_copy_gc.{Moved}
-use Rattle.shared_value.specs.below.task_machine.{Private}
-use Rattle.shared_value.specs.SharedValue.{SharedValue, accounts}
-use Rattle.shared_value.specs.Stands.{IsSharedValue}
-use Rattle.shared_value.specs.Causes.{first_cause, or_else}
-use Rattle.shared_value.specs.Entered.{refused}
-use Rattle.shared_value.proofs.CausesTold.{on_is, refused_is}
-use Rattle.leaf_collections.specs.LeafEnd.{FitsCopied, end_entry}
+-- Why the end of a part's leaf collection is refused: only for causes that precede those of its kind.
+use Rattle.leaf_collections.proofs.Common.{◌≡◌, ℕ, ◌==◌, ◌&&◌, Bool, true, false, Option, Some, None, is_some, slice_get, refl, ap, ap₂, sym, ◌∙◌, eq-eqb, false≢true, is_running, End, Ledger, Refused, Count, NotCollecting, NotOut, ends_as, is_out, kind_refusal, refused_unless, end_numbers, heap_of, option_is, tasks_are_out_once, Moved, Private, SharedValue, accounts, IsSharedValue, first_cause, or_else, refused, on_is, refused_is, FitsCopied, end_entry}
+use Rattle.core_invariant.specs.below.run_ledger.{counted}
 use Rattle.leaf_collections.proofs.WhyNoChunk.{first_answer}
 
 -- WHY IT IS REFUSED
@@ -27,7 +14,7 @@ said_so n m q =
     ∙ (unless_true (m == m) (Count m m) (counted q q None) (eq-eqb m m refl) ∙ unless_true (q == q) (Count q q) None (eq-eqb q q refl))
 
 pub end_answer : (w : SharedValue) (k : ℕ) (p : Private) (moved : Moved) → IsSharedValue w → FitsCopied w k p moved → refused w (end_entry k p moved) ≡ first_cause w.end w.steps w.settings k false
-end_answer w k p moved I F = by (is_some (first_cause w.end w.steps w.settings k false)) refl
+end_answer w k p moved I F = end_answer_by_cases (is_some (first_cause w.end w.steps w.settings k false)) refl
   where
     l : Ledger
     l = accounts w
@@ -36,9 +23,9 @@ end_answer w k p moved I F = by (is_some (first_cause w.end w.steps w.settings k
     behind None rest e = e
     behind (Some c) rest e = refl
 
-    by : (b : Bool) → is_some (first_cause w.end w.steps w.settings k false) ≡ b → refused w (end_entry k p moved) ≡ first_cause w.end w.steps w.settings k false
-    by true h = first_answer w I (end_entry k p moved) h
-    by false h =
+    end_answer_by_cases : (b : Bool) → is_some (first_cause w.end w.steps w.settings k false) ≡ b → refused w (end_entry k p moved) ≡ first_cause w.end w.steps w.settings k false
+    end_answer_by_cases true h = first_answer w I (end_entry k p moved) h
+    end_answer_by_cases false h =
         let on : (accounts w).end ≡ None = on_is w I k false h in
         let runs' : is_running (slice_get (accounts w).machine.tasks p.task) ≡ true = (tasks_are_out_once w.program w.settings w.journal.items I.legal).runs on p.task k F.out in
         let held' : option_is (heap_of (accounts w) p.task).worker k ≡ true = ap (λ o. option_is o k) F.out ∙ eq-eqb k k refl in
@@ -50,6 +37,6 @@ end_answer w k p moved I F = by (is_some (first_cause w.end w.steps w.settings k
         ∙ (unless_true (is_some (heap_of (accounts w) p.task).begun) NotCollecting (ends_as (moved.taken, moved.given, moved.left) (end_numbers (accounts w).machine (heap_of (accounts w) p.task))) begun
         ∙ (ap (λ z. ends_as (moved.taken, moved.given, moved.left) z) (sym F.numbers) ∙ said_so moved.taken moved.given moved.left)))
 
--- where nothing comes before it, nothing refuses it
+-- if no cause precedes it, nothing refuses it
 pub end_free : (w : SharedValue) (k : ℕ) (p : Private) (moved : Moved) → IsSharedValue w → first_cause w.end w.steps w.settings k false ≡ None → FitsCopied w k p moved → refused w (end_entry k p moved) ≡ None
 end_free w k p moved I free F = end_answer w k p moved I F ∙ free

@@ -1,21 +1,5 @@
 -- Why a leaf collection of a part neither begins nor is put off.
-use Rattle.std.proofs.Common.{◌≡◌, ℕ, true, false, Bool, Option, None, is_some, nat_le, refl, ap, ap₂, sym, ◌∙◌}
-use Rattle.shared_value.proofs.below.listed.{none_of}
-use Rattle.shared_value.specs.below.run_trace.{Kind}
-use Rattle.shared_value.specs.below.run_ledger.{Ledger, Refused, Collecting, NotDue, heap_of, in_use, is_due, on_asked, is_fuel, kind_refusal, on_due, on_running, refused_if, refused_unless}
-use Rattle.shared_value.specs.below.chunk_pool.{units_in_use}
-use Rattle.shared_value.specs.below.task_machine.{Private, is_part_due}
-use Rattle.shared_value.specs.SharedValue.{SharedValue, accounts}
-use Rattle.shared_value.specs.Stands.{IsSharedValue}
-use Rattle.shared_value.specs.Fits.{Fits}
-use Rattle.shared_value.specs.Next.{part_asks}
-use Rattle.shared_value.specs.Causes.{first_cause, or_else}
-use Rattle.shared_value.specs.Due.{due_cause}
-use Rattle.shared_value.specs.Entered.{refused}
-use Rattle.shared_value.proofs.NextStepAsks.{asks_is, since_is}
-use Rattle.shared_value.proofs.CollectionUnderWay.{at_part}
-use Rattle.shared_value.proofs.BeforeTheEnd.{used_now}
-use Rattle.shared_value.proofs.CausesTold.{on_is, refused_is}
+use Rattle.leaf_collections.proofs.Common.{◌≡◌, ℕ, true, false, Bool, Option, None, is_some, nat_le, refl, ap, ap₂, sym, ◌∙◌, none_of, Kind, Ledger, Refused, Collecting, NotDue, heap_of, in_use, is_due, on_asked, is_fuel, kind_refusal, on_due, on_running, refused_if, refused_unless, units_in_use, Private, is_part_due, SharedValue, accounts, IsSharedValue, Fits, part_asks, first_cause, or_else, due_cause, refused, asks_is, since_is, at_part, used_now, on_is, refused_is}
 
 in_turn : (a b : Bool) (x y : Refused) (rest : Option Refused) → refused_if a x (refused_unless b y rest) ≡ or_else (refused_if a x (refused_unless b y None)) rest
 in_turn true b x y rest = refl
@@ -43,8 +27,8 @@ module _ (w : SharedValue) (k : ℕ) (p : Private) (I : IsSharedValue w) (F : Fi
       ∙ (ap₂ (λ b n. refused_if (is_some p.begun) Collecting (refused_unless b (NotDue n) rest)) due_same (sym (since_is w k P I F on))
       ∙ in_turn (is_some p.begun) (is_part_due p (part_asks w.program p)) Collecting (NotDue p.heap.since) rest)
 
--- of an entry of a kind that needs one due, where nothing comes before what it says; the rest is told of the units in
--- use
+-- an entry of a kind that needs a due collection, if no cause precedes those of its kind; the rest depends on the units
+-- in use
 pub due_answer : (w : SharedValue) (k : ℕ) (p : Private) → IsSharedValue w → Fits w k (record p { fresh = 0 }) → (kind : Kind) (rest : ℕ → Option Refused)
     → kind_refusal w.program w.settings (accounts w) k kind ≡ on_running (accounts w) k p.task (on_due w.settings w.program (accounts w) p.task (rest (in_use (accounts w)))) → is_some (first_cause w.end w.steps w.settings k (is_fuel kind)) ≡ false
     → refused w (record { worker = k; kind = kind }) ≡ or_else (due_cause p (part_asks w.program p)) (rest (units_in_use w.pool))

@@ -1,18 +1,18 @@
--- What crates above name of the crates below.
-pub mod alloc_path
+-- Re-exports from lower crates for the crates above.
+pub mod leaf_heap
 pub mod chunk_pool
-pub mod core_entry_laws
-pub mod core_relation
+pub mod refinement_laws
+pub mod refinement
 pub mod heap_tree
 pub mod hh_lang
-pub mod inner_mark_gc
-pub mod leaf_copy_gc
+pub mod mark_sweep_gc
+pub mod copying_gc
 pub mod ledger_step_laws
-pub mod listed
+pub mod plain_vec
 pub mod object_layout
-pub mod out_of_line
+pub mod boxed
 pub mod run_ledger
 pub mod run_trace
-pub mod shared_value
+pub mod core_invariant
 pub mod task_machine
 pub mod write_barrier

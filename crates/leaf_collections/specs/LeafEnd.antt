@@ -1,22 +1,22 @@
--- A part whose heap was copied: it fits for the end of its leaf collection alone.
+-- A part whose heap was copied: it fits only for the end of its leaf collection.
 use Rattle.std.specs.Prelude.{◌≡◌, ℕ, All, Some, None, List}
-use Rattle.shared_value.specs.below.run_trace.{EntryValue, field_limit, End}
-use Rattle.shared_value.specs.below.run_ledger.{end_numbers, heap_of}
-use Rattle.shared_value.specs.below.object_layout.{ChunkValue}
-use Rattle.shared_value.specs.below.chunk_pool.{owner_of}
-use Rattle.shared_value.specs.below.alloc_path.{AreApart, IsFresh}
-use Rattle.shared_value.specs.below.remembered_set.{AreInOrder, ArePlaces}
-use Rattle.shared_value.specs.below.leaf_copy_gc.{Moved, new_address}
-use Rattle.shared_value.specs.below.inner_mark_gc.{units_in_slots}
-use Rattle.shared_value.specs.below.ledger_step_laws.{aside}
-use Rattle.shared_value.specs.below.core_relation.{CopyFits, Belongings}
-use Rattle.shared_value.specs.below.task_machine.{Private}
-use Rattle.shared_value.specs.Fits.{belongings_of_part}
-use Rattle.shared_value.specs.Measured.{AreMeasured}
-use Rattle.shared_value.specs.Stands.{HeapForm}
-use Rattle.shared_value.specs.SharedValue.{SharedValue, accounts, value_of}
+use Rattle.core_invariant.specs.below.run_trace.{EntryValue, field_limit, End}
+use Rattle.core_invariant.specs.below.run_ledger.{end_numbers, heap_of}
+use Rattle.core_invariant.specs.below.object_layout.{ChunkValue}
+use Rattle.core_invariant.specs.below.chunk_pool.{owner_of}
+use Rattle.core_invariant.specs.below.leaf_heap.{HaveDistinctNumbers, IsFresh}
+use Rattle.core_invariant.specs.below.remembered_set.{AreInOrder, ArePlaces}
+use Rattle.core_invariant.specs.below.copying_gc.{Moved, new_address}
+use Rattle.core_invariant.specs.below.mark_sweep_gc.{units_in_slots}
+use Rattle.core_invariant.specs.below.ledger_step_laws.{aside}
+use Rattle.core_invariant.specs.below.refinement.{CopyFits, Belongings}
+use Rattle.core_invariant.specs.below.task_machine.{Private}
+use Rattle.core_invariant.specs.Fits.{belongings_of_part}
+use Rattle.core_invariant.specs.Measured.{AreMeasured}
+use Rattle.core_invariant.specs.Stands.{HeapForm}
+use Rattle.core_invariant.specs.SharedValue.{SharedValue, accounts, value_of}
 
--- the part amid no collection
+-- the part in no collection
 abbrev pub ended : Private → Private
 ended p = record p { begun = None }
 
@@ -24,14 +24,14 @@ ended p = record p { begun = None }
 abbrev pub end_entry : ℕ → Private → Moved → EntryValue
 end_entry worker p moved = record { worker = worker; kind = End p.task moved.taken moved.given moved.left }
 
--- the chunks that are given back: they are the task's, none is in the heap, and they have so many units
+-- the chunks that are released: they are the task's, none is in the heap, and they have this many units
 pub record AreBack (w : SharedValue) (p : Private) (ks : List ChunkValue) (given : ℕ) : Type 0 where
-  pub apart : AreApart ks
+  pub apart : HaveDistinctNumbers ks
   pub owned : All (λ k. owner_of w.pool k.number ≡ Some p.task) ks
   pub gone : All (λ k. IsFresh p.heap.chunks k.number) ks
   pub units : units_in_slots w.pool ks ≡ given
 
--- the part as it was copied, with what the copying came to
+-- the copied part, with the result of copying
 pub record FitsCopied (w : SharedValue) (worker : ℕ) (p : Private) (moved : Moved) : Type 0 where
   -- its belongings before
   pub belongings : Belongings

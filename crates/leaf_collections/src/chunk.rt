@@ -1,12 +1,12 @@
 // How large a chunk a part gets, and why it gets none.
 
 ghost use Rattle.std.specs.Prelude.{◌≡◌, ◌<◌, ◌^◌, IfSome};
-ghost use Rattle.shared_value.specs.below.run_ledger.{chunk_units};
-ghost use Rattle.shared_value.specs.Causes.{chunk_cause};
+ghost use Rattle.core_invariant.specs.below.run_ledger.{chunk_units};
+ghost use Rattle.core_invariant.specs.Causes.{chunk_cause};
 
-use shared_value::{CHUNK_WORDS, Private, Refused, units};
+use core_invariant::{CHUNK_WORDS, Private, Refused, units};
 
-/// How many units a chunk has for an object of so many words.
+/// How many units a chunk for an object of `words` words has.
 pub fn units_for(words: Option<u32>) -> u32
     requires { IfSome words (λ n. n < 2 ^ 22) }
     ensures units { result ≡ chunk_units words }

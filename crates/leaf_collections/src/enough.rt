@@ -1,11 +1,11 @@
 // When a leaf collection of a part is due, and how many chunks it takes.
 
 ghost use Rattle.std.specs.Prelude.{◌≡◌, ◌≤◌, ◌^◌};
-ghost use Rattle.shared_value.specs.Due.{due_cause, take_by};
+ghost use Rattle.core_invariant.specs.Due.{due_cause, take_by};
 
-use shared_value::{CHUNK_WORDS, Private, Refused};
+use core_invariant::{CHUNK_WORDS, Private, Refused};
 
-/// How many chunks a leaf collection takes for small objects of so many words.
+/// How many chunks a leaf collection takes for small objects of `words` words.
 pub fn chunks_for(words: u64) -> u64
     ensures take { result ≡ take_by words }
     ensures few { result ≤ 2 ^ 56 }

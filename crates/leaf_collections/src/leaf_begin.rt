@@ -2,27 +2,27 @@
 
 ghost use Rattle.std.specs.Prelude.{◌≡◌, ◌+◌, ◌<◌, ◌≤◌, ◌^◌, ◌↔◌, [], ◌++◌, Err, IfOk, None, OnErr, OnOk, Some, length, map, vec_len};
 ghost use Rattle.std.specs.List.Sorted.{IsPermutation};
-ghost use Rattle.shared_value.specs.below.object_layout.{number_of};
-ghost use Rattle.shared_value.specs.below.chunk_pool.{units_in_use, TakesAll};
-ghost use Rattle.shared_value.specs.below.alloc_path.{with_places};
-ghost use Rattle.shared_value.specs.below.leaf_copy_gc.{AreReserved};
+ghost use Rattle.core_invariant.specs.below.object_layout.{number_of};
+ghost use Rattle.core_invariant.specs.below.chunk_pool.{units_in_use, TakesAll};
+ghost use Rattle.core_invariant.specs.below.leaf_heap.{with_places};
+ghost use Rattle.core_invariant.specs.below.copying_gc.{AreReserved};
 ghost use Rattle.leaf_collections.specs.LeafBegin.{AreFalling};
 
-use shared_value::{
-    Addr, Begun, Chunk, LeafHeap, Listed, NotTaken, Pool, Private, Roomy, ToChunks,
+use core_invariant::{
+    Addr, Begun, Chunk, LeafHeap, Listed, NotTaken, Pool, Private, ReservedVec, ToChunks,
 };
 use std::alloc::{AllocError, Global};
 
-// What a collection needs beside its chunks: a copy of its roots, a list for the numbers of the chunks, and what is
+// What a collection needs beside its chunks: a copy of its roots, a list for the numbers of the chunks, and the lists
 // reserved for copying.
 #[derive(Drop)]
 struct Prepared {
     roots: Listed<Addr>,
-    numbers: Roomy<u32>,
+    numbers: ReservedVec<u32>,
     to: ToChunks,
 }
 
-// Takes all memory that a collection into so many chunks needs.
+// Allocates all that a collection into `count` chunks needs.
 fn prepare(
     alloc: Global,
     roots: &[Addr],
@@ -37,13 +37,13 @@ fn prepare(
     ensures reserved { IfOk result (λ q. AreReserved heap.new count q.to) }
 {
     let roots = Listed::from_vec(roots.to_vec(alloc)?);
-    let mut numbers = Roomy::new(alloc);
+    let mut numbers = ReservedVec::new(alloc);
     numbers.reserve(count as usize)?;
     let to = ToChunks::reserve(alloc, heap, count)?;
     Ok(Prepared { roots, numbers, to })
 }
 
-// Puts chunks in order of their numbers, the greatest first.
+// Sorts chunks by their numbers, the greatest first.
 fn put_falling(chunks: &mut Vec<Chunk>)
     ensures permutation { IsPermutation chunks.old.items chunks.new.items }
     ensures falling { AreFalling chunks.new.items }
@@ -52,7 +52,7 @@ fn put_falling(chunks: &mut Vec<Chunk>)
     chunks.reverse();
 }
 
-// Takes so many chunks for a task into an empty list, the one with the greatest number first.
+// Takes `count` chunks for a task into an empty list, the one with the greatest number first.
 fn take_falling(
     pool: &mut Pool,
     task: u32,
@@ -71,8 +71,8 @@ fn take_falling(
     Ok(())
 }
 
-// Puts down the numbers of chunks.
-fn note_numbers(numbers: &mut Roomy<u32>, chunks: &[Chunk])
+// Records the numbers of chunks.
+fn note_numbers(numbers: &mut ReservedVec<u32>, chunks: &[Chunk])
     requires { length chunks.now ≤ numbers.old.room }
     ensures { numbers.new.items ≡ numbers.old.items ++ map number_of chunks.now }
 {
@@ -81,12 +81,12 @@ fn note_numbers(numbers: &mut Roomy<u32>, chunks: &[Chunk])
     }
 }
 
-/// Takes so many chunks for a collection of a part, and all memory that it needs, and lets the part begin it from these
-/// roots. For want of memory nothing changes but the places of the part's heap.
+/// Takes `count` chunks for a collection of a part, allocates all that it needs, and begins it with these roots. If an
+/// allocation fails, only the spare capacity of the part's heap changes.
 ///
-/// The numbers of the chunks fall. The collection fills the last chunk first, so the numbers of those that it fills
-/// rise, and it moves what it moves to rising addresses. What stays until the next collection then comes in order in
-/// that one's relocation list, which is made in order of birth.
+/// The numbers of the chunks fall. The collection fills the last chunk first, so the numbers of the chunks that it
+/// fills rise, and objects are moved to rising addresses. What stays until the next collection is then already sorted
+/// in its relocation list, which is made in order of birth.
 pub fn begin_with(
     alloc: Global,
     pool: &mut Pool,

@@ -1,30 +1,30 @@
-// What the end of a leaf collection does to the heaps of other tasks and to the pool.
+// How the end of a leaf collection changes the heaps of other tasks and the pool.
 
 ghost use Rattle.std.specs.Prelude.{◌≡◌, ◌<◌, All, IsSome, fold, length, slice_get};
-ghost use Rattle.shared_value.specs.below.chunk_pool.{slot_at};
-ghost use Rattle.shared_value.specs.below.alloc_path.{AreApart};
-ghost use Rattle.shared_value.specs.below.remembered_set.{redirected, AreFields, AreInOrder, ArePlaces, StandOnce};
-ghost use Rattle.shared_value.specs.below.inner_mark_gc.{AreGiven};
-ghost use Rattle.shared_value.specs.below.task_homes.{refs_in, resting, with_ref_in, with_resting};
-ghost use Rattle.shared_value.specs.Roots.{sources_of};
+ghost use Rattle.core_invariant.specs.below.chunk_pool.{slot_at};
+ghost use Rattle.core_invariant.specs.below.leaf_heap.{HaveDistinctNumbers};
+ghost use Rattle.core_invariant.specs.below.remembered_set.{redirected, AreFields, AreInOrder, ArePlaces, StandOnce};
+ghost use Rattle.core_invariant.specs.below.mark_sweep_gc.{AreGiven};
+ghost use Rattle.core_invariant.specs.below.task_slots.{refs_in, resting, with_ref_in, with_resting};
+ghost use Rattle.core_invariant.specs.Roots.{sources_of};
 
-use shared_value::{Addr, Chunk, Heaps, Pool};
+use core_invariant::{Addr, Chunk, Heaps, Pool};
 
-/// Leads the remembered fields of a heap that still hold old addresses to the new ones.
+/// Updates the remembered fields of a heap that still hold old addresses.
 pub fn lead(heaps: &mut Heaps, task: u32, moved: &[(Addr, Addr)])
-    requires made { task < length heaps.old.homes.rests }
-    requires fields { AreFields refs_in (resting heaps.old) (sources_of (slice_get heaps.old.homes.sets task)) }
+    requires made { task < length heaps.old.task_slots.rests }
+    requires fields { AreFields refs_in (resting heaps.old) (sources_of (slice_get heaps.old.task_slots.sets task)) }
     requires order { AreInOrder moved.now }
     requires places { ArePlaces moved.now }
-    ensures led { heaps.new ≡ with_resting heaps.old (fold (redirected refs_in with_ref_in moved.now) (resting heaps.old) (sources_of (slice_get heaps.old.homes.sets task))) }
-    ensures once { StandOnce (sources_of (slice_get heaps.old.homes.sets task)) }
+    ensures led { heaps.new ≡ with_resting heaps.old (fold (redirected refs_in with_ref_in moved.now) (resting heaps.old) (sources_of (slice_get heaps.old.task_slots.sets task))) }
+    ensures once { StandOnce (sources_of (slice_get heaps.old.task_slots.sets task)) }
 {
     heaps.rewrite(task, moved);
 }
 
-/// Gives chunks back.
+/// Releases chunks.
 pub fn give_all(pool: &mut Pool, chunks: Vec<Chunk>)
-    requires apart { AreApart chunks.items }
+    requires apart { HaveDistinctNumbers chunks.items }
     requires in_use { All (λ k. IsSome (slot_at pool.old k.number)) chunks.items }
     ensures { AreGiven pool.old pool.new chunks.items }
 {

@@ -1,26 +1,10 @@
--- The tasks above a task, and what their heaps' objects refer to.
-use Rattle.std.proofs.Common.{◌≡◌, ℕ, zero, suc, ◌==◌, Bool, true, false, cond, not, Option, Some, None, List, [], ◌∷◌, slice_get, filter, ◌⊎◌, inl, inr, refl, ap, sym, subst, ◌∙◌, eqb, eqb-true, eq-eqb}
-use Rattle.std.specs.List.{flat_map}
-use Rattle.std.proofs.lemmas.Bool.{and_parts, and_from, or_cases, or_right, false≢true, not-true}
-use Rattle.listed.proofs.Members.{In, contains_from_in, in_flat, flat_in, in_kept, in_from_kept, got_in}
-use Rattle.listed.proofs.Options.{same_truth}
-use Rattle.hh_model.specs.declared.data.Name.{Name}
-use Rattle.hh_model.specs.declared.data.State.{State}
-use Rattle.hh_model.specs.Names.{refs_at}
-use Rattle.hh_model.specs.Step.{owner_of, is_on_path, parents, path_by, through}
-use Rattle.hh_model.proofs.Climbs.{path_here}
-use Rattle.run_ledger.specs.declared.data.Heap.{Heap}
-use Rattle.run_ledger.specs.Reachable.{holds_name}
-use Rattle.run_ledger.specs.Heaps.{held, is_above}
-use Rattle.run_ledger.proofs.Members.{in_from_holds, holds_from_in}
-use Rattle.run_ledger.proofs.Sound.{in_held, held_keeps, names_of}
-use Rattle.ledger_heaps.specs.Accounts.{accounts, AreOwned}
-use Rattle.ledger_heaps.specs.Search.{ancestors, ancestors_by, refs_in}
+-- The ancestors of a task, and what their heaps' objects refer to.
+use Rattle.ledger_heaps.proofs.Common.{◌≡◌, ℕ, zero, suc, ◌==◌, Bool, true, false, cond, not, Option, Some, None, List, [], ◌∷◌, slice_get, filter, ◌⊎◌, inl, inr, refl, ap, sym, subst, ◌∙◌, eqb, eqb-true, eq-eqb, flat_map, and_parts, and_from, or_cases, or_right, false≢true, not-true, In, contains_from_in, in_flat, flat_in, in_kept, in_from_kept, got_in, same_truth, Name, MachineState, refs_at, owner_of, is_on_path, parents, path_by, through, path_here, Heap, holds_name, held, is_above, in_from_holds, holds_from_in, in_held, held_keeps, names_of, accounts, AreOwned, ancestors, ancestors_by, refs_in}
 
 pub one_up : (par : ℕ → Option ℕ) (k at p : ℕ) → par at ≡ Some p → ancestors_by par (suc k) at ≡ p ∷ ancestors_by par k p
 one_up par k at p e = ap (λ (o : Option ℕ). through o [] (λ q. q ∷ ancestors_by par k q)) e
 
--- tests that hold of the same names are the same
+-- tests that hold for the same names are equal
 pub same_holds : (ns ms : List Name) → ((n : Name) → In ns n → In ms n) → ((n : Name) → In ms n → In ns n) → (n : Name) → holds_name ns n ≡ holds_name ms n
 same_holds ns ms f g n =
     same_truth (holds_name ns n) (holds_name ms n) (λ h. holds_from_in ms n (f n (in_from_holds ns n h))) (λ h. holds_from_in ns n (g n (in_from_holds ms n h)))
@@ -50,9 +34,9 @@ path_from_above : (par : ℕ → Option ℕ) (k a at : ℕ) → In (ancestors_by
 path_from_above par zero a at i = absurd i
 path_from_above par (suc k) a at i = or_right (eqb a at) (through (par at) false (path_by par k a)) (down_from par k a (path_from_above par k a) (par at) i)
 
--- WHAT THE HEAPS ABOVE REFER TO
+-- WHAT THE ANCESTORS' HEAPS REFER TO
 
-module _ (m : State) (heaps : List Heap) (t : ℕ) (owned : AreOwned m.tasks heaps) where
+module _ (m : MachineState) (heaps : List Heap) (t : ℕ) (owned : AreOwned m.tasks heaps) where
   abbrev refs : Name → List Name
   refs n = refs_at m.store n
 

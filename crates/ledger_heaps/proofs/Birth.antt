@@ -1,19 +1,5 @@
 -- A sorted list is the list in order of birth.
-use Rattle.std.proofs.Common.{◌≡◌, ℕ, suc, ◌+◌, ◌<◌, Bool, true, false, cond, List, [], ◌∷◌, length, get_or, nat_lt, nat_eq, inl, inr, refl, ap, sym, subst, ◌∙◌, arith, sum_by}
-use Rattle.std.specs.declared.cmp.Ordering.TheVariants.{Less, Equal, Greater}
-use Rattle.std.specs.Ordering.{nat_cmp, ordering_then, is_lt}
-use Rattle.std.specs.List.Sorted.{IsPermutation, IsSortedWithin}
-use Rattle.std.proofs.lemmas.Bool.{false≢true}
-use Rattle.std.proofs.lemmas.List.Sums.{sum_by-cons}
-use Rattle.std.proofs.lemmas.List.Sorted.{sum_by-IsPermutation}
-use Rattle.listed.proofs.Members.{In}
-use Rattle.hh_model.specs.declared.data.Name.{Name}
-use Rattle.run_ledger.specs.Reachable.{is_name}
-use Rattle.run_ledger.specs.Heaps.{name_le, insert_name, by_birth}
-use Rattle.run_ledger.proofs.Held.{insert_cases}
-use Rattle.run_ledger.proofs.Members.{is_name_itself, same_from_is_name}
-use Rattle.run_ledger.proofs.Weights.{birth_weight}
-use Rattle.run_ledger.proofs.Collections.{Born, born_from, born_is, born_on, born_both}
+use Rattle.ledger_heaps.proofs.Common.{◌≡◌, ℕ, suc, ◌+◌, ◌<◌, Bool, true, false, cond, List, [], ◌∷◌, length, get_or, nat_lt, nat_eq, inl, inr, refl, ap, sym, subst, ◌∙◌, arith, sum_by, Less, Equal, Greater, nat_cmp, ordering_then, is_lt, IsPermutation, IsSortedWithin, false≢true, sum_by-cons, sum_by-IsPermutation, In, Name, is_name, name_le, insert_name, by_birth, insert_cases, is_name_itself, same_from_is_name, birth_weight, Born, born_from, born_is, born_on, born_both}
 
 -- THE ORDER
 

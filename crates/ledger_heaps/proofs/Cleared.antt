@@ -1,13 +1,7 @@
 -- Lists without a name, and whether the last list is one.
-use Rattle.std.proofs.Common.{◌≡◌, Bool, true, false, not, List, [], ◌∷◌, ◌++◌, filter, refl, ap, sym, ◌∙◌, ℕ, ◌<◌, ◌+◌, length, drop, map, get_or, cond, append_assoc, append-nil}
-use Rattle.std.proofs.lemmas.List.{drop_more}
-use Rattle.listed.specs.Members.{is_empty}
-use Rattle.hh_model.specs.declared.data.Name.{Name}
-use Rattle.run_ledger.specs.declared.data.Heap.{Heap}
-use Rattle.run_ledger.specs.Reachable.{holds_name}
-use Rattle.run_ledger.specs.Heaps.{in_snapshot, is_last_empty, without_empty}
+use Rattle.ledger_heaps.proofs.Common.{◌≡◌, Bool, true, false, not, List, [], ◌∷◌, ◌++◌, filter, refl, ap, sym, ◌∙◌, ℕ, ◌<◌, ◌+◌, length, drop, map, get_or, cond, append_assoc, append-nil, drop_more, is_empty, Name, Heap, holds_name, in_snapshot, is_last_empty, without_empty}
 
--- whether the last of some lists has no name, or what it was before where there are none
+-- whether the last list has no name; if there are no lists, the previous value
 abbrev pub ends_empty : Bool → List (List Name) → Bool
 ends_empty b [] = b
 ends_empty b (ns ∷ rest) = ends_empty (is_empty ns) rest
@@ -20,7 +14,7 @@ pub ends_last : (lists : List (List Name)) → ends_empty false lists ≡ is_las
 ends_last [] = refl
 ends_last (ns ∷ rest) = ends_is ns rest
 
--- tests that agree keep the same
+-- equal tests keep the same
 pub same_kept : (p q : Name → Bool) (ns : List Name) → ((n : Name) → p n ≡ q n) → filter p ns ≡ filter q ns
 same_kept p q ns h = ap (λ (f : Name → Bool). filter f ns) (λ i n. h n i)
 
@@ -36,6 +30,6 @@ filled_by : (done : List (List Name)) (ns : List Name) (rest : List (List Name))
 filled_by done ns rest true = append_assoc done (ns ∷ []) rest
 filled_by done ns rest false = ap (λ ls. ls ++ rest) (append-nil done)
 
--- one list more is done
+-- one more list is done
 pub filled_more : (done : List (List Name)) (ns : List Name) (rest : List (List Name)) → (done ++ without_empty (ns ∷ [])) ++ without_empty rest ≡ done ++ without_empty (ns ∷ rest)
 filled_more done ns rest = filled_by done ns (without_empty rest) (not (is_empty ns))

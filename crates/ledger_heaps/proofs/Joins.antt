@@ -1,13 +1,5 @@
 -- The heaps of a join, written in place.
-use Rattle.std.proofs.Common.{◌≡◌, ℕ, ◌+◌, ◌<◌, List, Option, Some, slice_get, slice_set, ap, sym, ◌∙◌, arith}
-use Rattle.std.proofs.lemmas.List.{set-set, set_comm}
-use Rattle.listed.proofs.Members.{got_other}
-use Rattle.hh_model.proofs.Lists.{set_got}
-use Rattle.run_ledger.specs.declared.data.Heap.{Heap}
-use Rattle.run_ledger.specs.declared.data.Ledger.{Ledger}
-use Rattle.run_ledger.specs.Heaps.{emptied, heap_of, merged, or_fresh, with_heap_at}
-use Rattle.run_ledger.specs.Steps.{join_heaps}
-use Rattle.ledger_heaps.specs.Accounts.{since_at}
+use Rattle.ledger_heaps.proofs.Common.{◌≡◌, ℕ, ◌+◌, ◌<◌, List, Option, Some, slice_get, slice_set, ap, sym, ◌∙◌, arith, set-set, set_comm, got_other, set_got, Heap, Ledger, emptied, heap_of, merged, or_fresh, with_heap_at, join_heaps, since_at}
 
 module _ (heaps : List Heap) (p a : ℕ) (order : p < a) (hole gap own left right : Heap)
     (at_left : slice_get heaps a ≡ Some left)
@@ -26,7 +18,7 @@ module _ (heaps : List Heap) (p a : ℕ) (order : p < a) (hole gap own left righ
       let z = ap (λ (o : Option Heap). (or_fresh o).since) right_at in
       omega arith
 
-  -- what was put in for a while is gone
+  -- temporary values are gone
   written : (m l r : Heap)
       → slice_set (slice_set (slice_set (slice_set (slice_set heaps a hole) (a + 1) gap) p m) a l) (a + 1) r ≡ slice_set (slice_set (slice_set heaps p m) a l) (a + 1) r
   written m l r =

@@ -8,3 +8,4 @@ mod Sought
 pub mod Kept
 mod Cleared
 mod Birth
+mod Common

@@ -1,8 +1,5 @@
 -- The last list, written in place.
-use Rattle.std.proofs.Common.{◌≡◌, ℕ, ◌+◌, zero, suc, List, [], ◌∷◌, ◌++◌, Some, length, slice_get, slice_set, ap, sym, ◌∙◌, arith}
-use Rattle.std.proofs.lemmas.Option.{same_Some}
-use Rattle.hh_model.specs.declared.data.Name.{Name}
-use Rattle.run_ledger.specs.Heaps.{put_last}
+use Rattle.ledger_heaps.proofs.Common.{◌≡◌, ℕ, ◌+◌, zero, suc, List, [], ◌∷◌, ◌++◌, Some, length, slice_get, slice_set, ap, sym, ◌∙◌, arith, same_Some, Name, put_last}
 
 put_last_by : (xs : List (List Name)) (k : ℕ) (ns : List Name) (n : Name) → length xs ≡ suc k → slice_get xs k ≡ Some ns → slice_set xs k (ns ++ n ∷ []) ≡ put_last xs n
 put_last_by [] k ns n e is = absurd (omega arith)

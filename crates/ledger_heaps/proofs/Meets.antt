@@ -1,16 +1,5 @@
--- Names met one after the other.
-use Rattle.std.proofs.Common.{◌≡◌, ℕ, ◌+◌, ◌<◌, Bool, true, false, ◌&&◌, ◌||◌, not, Option, Some, None, List, [], ◌∷◌, ◌++◌, length, take, get_or, refl, ap, sym, ◌∙◌, append-nil, append_assoc, cond, subst, arith}
-use Rattle.std.proofs.lemmas.List.{take_more}
-use Rattle.std.proofs.lemmas.List.Concat.{flat_map-append}
-use Rattle.hh_model.proofs.Tree.{or_and_false}
-use Rattle.run_ledger.proofs.Members.{same_from_is_name}
-use Rattle.std.specs.List.{flat_map}
-use Rattle.std.proofs.Math.Bool.{and-true, or_assoc}
-use Rattle.hh_model.specs.declared.data.Name.{Name}
-use Rattle.hh_model.specs.declared.data.Frame.{Frame}
-use Rattle.hh_model.specs.Names.{named, registers}
-use Rattle.run_ledger.specs.Reachable.{holds_name, is_name}
-use Rattle.ledger_heaps.specs.Search.{Meets}
+-- Names met one after another.
+use Rattle.ledger_heaps.proofs.Common.{◌≡◌, ℕ, ◌+◌, ◌<◌, Bool, true, false, ◌&&◌, ◌||◌, not, Option, Some, None, List, [], ◌∷◌, ◌++◌, length, take, get_or, refl, ap, sym, ◌∙◌, append-nil, append_assoc, cond, subst, arith, take_more, flat_map-append, or_and_false, same_from_is_name, flat_map, and-true, or_assoc, Name, Frame, named, registers, holds_name, is_name, Meets}
 
 pub holds_append : (ns ms : List Name) (n : Name) → holds_name (ns ++ ms) n ≡ holds_name ns n || holds_name ms n
 holds_append [] ms n = refl

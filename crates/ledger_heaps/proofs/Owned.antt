@@ -1,14 +1,5 @@
 -- The test of the owners of names.
-use Rattle.std.proofs.Common.{◌≡◌, ℕ, ◌+◌, ◌<◌, ◌==◌, Bool, true, false, ◌≤◌, List, [], ◌∷◌, Option, Some, length, slice_get, inl, inr, refl, ap, sym, ◌∙◌, subst, eqb-true, eq-eqb, arith}
-use Rattle.std.specs.List.{list_all}
-use Rattle.std.proofs.lemmas.Bool.{and_parts, and_from, false≢true, cases_lt, cases_eq}
-use Rattle.listed.proofs.Members.{In, in_from_contains, contains_from_in, got_past}
-use Rattle.hh_model.specs.declared.data.Name.{Name}
-use Rattle.hh_model.specs.declared.data.Task.{Task}
-use Rattle.hh_model.specs.Step.{owner_of}
-use Rattle.run_ledger.specs.declared.data.Heap.{Heap}
-use Rattle.run_ledger.specs.Heaps.{held_in, or_fresh}
-use Rattle.ledger_heaps.specs.Accounts.{AreOwned}
+use Rattle.ledger_heaps.proofs.Common.{◌≡◌, ℕ, ◌+◌, ◌<◌, ◌==◌, Bool, true, false, ◌≤◌, List, [], ◌∷◌, Option, Some, length, slice_get, inl, inr, refl, ap, sym, ◌∙◌, subst, eqb-true, eq-eqb, arith, list_all, and_parts, and_from, false≢true, cases_lt, cases_eq, In, in_from_contains, contains_from_in, got_past, Name, Task, owner_of, Heap, held_in, or_fresh, AreOwned}
 
 abbrev pub owns : List Task → ℕ → List Name → Bool
 owns tasks u names = list_all (λ n. owner_of tasks n.task == u) names

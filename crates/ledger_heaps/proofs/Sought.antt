@@ -1,20 +1,8 @@
--- A search that meets the roots, then follows the references of each name that it met, meets just what is reached.
-use Rattle.std.proofs.Common.{◌≡◌, ℕ, Bool, true, false, ◌&&◌, ◌||◌, not, List, [], ◌∷◌, ◌++◌, filter, length, inl, inr, refl, ap, sym, subst, ◌∙◌, zero, suc, cond, arith}
-use Rattle.std.specs.List.{list_any}
-use Rattle.std.proofs.lemmas.Bool.{false≢true, or_cases, or_left, or_right, not-true, and_from, and_parts, cases_Bool}
-use Rattle.std.proofs.Math.Bool.{and-false, and-true}
-use Rattle.listed.proofs.Members.{In, in_from_contains, contains_from_in, in_kept, in_from_kept}
-use Rattle.hh_model.specs.declared.data.Name.{Name}
-use Rattle.hh_model.specs.declared.data.Object.{Object}
-use Rattle.hh_model.specs.Names.{refs_at}
-use Rattle.walk_laws.proofs.Reached.{reached_within}
-use Rattle.run_ledger.specs.Reachable.{holds_name, is_name, reached, reached_by, StartsWithin, LeadsWithin}
-use Rattle.run_ledger.proofs.Members.{in_from_holds, holds_from_in, is_name_itself, same_from_is_name}
-use Rattle.run_ledger.proofs.Reached.{reached_root, reached_more, reached_is_walks}
-use Rattle.ledger_heaps.specs.Search.{Meets}
+-- A search that meets the roots, then follows the references of each name that it met, meets exactly what is reachable.
+use Rattle.ledger_heaps.proofs.Common.{◌≡◌, ℕ, Bool, true, false, ◌&&◌, ◌||◌, not, List, [], ◌∷◌, ◌++◌, filter, length, inl, inr, refl, ap, sym, subst, ◌∙◌, zero, suc, cond, arith, list_any, false≢true, or_cases, or_left, or_right, not-true, and_from, and_parts, cases_Bool, and-false, and-true, In, in_from_contains, contains_from_in, in_kept, in_from_kept, Name, Object, refs_at, reached_within, holds_name, is_name, reached, reached_by, StartsWithin, LeadsWithin, in_from_holds, holds_from_in, is_name_itself, same_from_is_name, reached_root, reached_more, reached_is_walks, Meets}
 use Rattle.ledger_heaps.proofs.Meets.{holds_append}
 
--- of these names and roots: u tells which names weren't met yet, and those of w wait
+-- for these names and roots: u says which names weren't met yet, and those of w wait
 pub record Sought (store : List (List Object)) (names roots : List Name) (u : Name → Bool) (w : List Name) : Type 0 where
   pub inside : (n : Name) → u n ≡ true → holds_name names n ≡ true
   pub start : (n : Name) → u n ≡ true → holds_name roots n ≡ false
@@ -52,7 +40,7 @@ module _ (store : List (List Object)) (names roots : List Name) where
     front_waits : (n : Name) → holds_name front n ≡ true → holds_name (front ++ name ∷ []) n ≡ true
     front_waits n h = holds_append front (name ∷ []) n ∙ or_left (holds_name front n) (is_name n name || false) h
 
-    -- what was met is met still
+    -- what was met is still met
     stays : (n : Name) → u n ≡ false → v n ≡ false
     stays n h = met.unmet n ∙ ap (λ b. b && not (holds_name (refs_at store name) n)) h
 
@@ -62,7 +50,7 @@ module _ (store : List (List Object)) (names roots : List Name) where
     gone : (n : Name) → holds_name (refs_at store name) n ≡ true → v n ≡ false
     gone n h = met.unmet n ∙ (ap (λ b. u n && not b) h ∙ and-false (u n))
 
-    -- what is met newly
+    -- what is newly met
     newly : (n : Name) → u n ≡ true → v n ≡ false → holds_name (refs_at store name) n ≡ true
     newly n h k = by_test (u n) (holds_name (refs_at store name) n) h (sym (met.unmet n) ∙ k)
       where
@@ -153,7 +141,7 @@ module _ (store : List (List Object)) (names roots : List Name) where
     pub sought_end : (n : Name) → u n ≡ (holds_name names n && not (holds_name (reached store names roots) n))
     sought_end n = end_by n (u n) (holds_name names n) (holds_name (reached store names roots) n) refl refl refl
 
--- WHAT WAS MET IS THE ANSWER
+-- WHAT WAS MET IS THE RESULT
 
 same_on : (p q : Name → Bool) (ns : List Name) → ((n : Name) → In ns n → p n ≡ q n) → filter p ns ≡ filter q ns
 same_on p q [] h = refl
@@ -193,7 +181,7 @@ met_is_reached store names roots u all =
     by_test true false e = refl
     by_test false b e = absurd (false≢true e)
 
--- where no name is held, none is reached
+-- if no name is held, none is reachable
 pub nothing_reached : (store : List (List Object)) (names roots : List Name) → ((n : Name) → holds_name names n ≡ false) → [] ≡ reached store names roots
 nothing_reached store [] roots h = refl
 nothing_reached store (n ∷ names) roots h = absurd (false≢true (sym (h n) ∙ or_left (is_name n n) (holds_name names n) (is_name_itself n)))

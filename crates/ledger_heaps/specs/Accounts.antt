@@ -1,15 +1,15 @@
--- The accounts that a machine and the heaps of its tasks make.
+-- The accounts of a machine and the heaps of its tasks.
 use Rattle.std.specs.Prelude.{◌≡◌, ℕ, None, List, slice_get, Contains}
 use Rattle.hh_model.specs.declared.data.Name.{Name}
 use Rattle.hh_model.specs.declared.data.Task.{Task}
-use Rattle.hh_model.specs.declared.data.State.{State}
+use Rattle.hh_model.specs.declared.data.MachineState.{MachineState}
 use Rattle.hh_model.specs.Step.{owner_of}
 use Rattle.run_ledger.specs.declared.data.Heap.{Heap}
 use Rattle.run_ledger.specs.declared.data.Ledger.{Ledger}
 use Rattle.run_ledger.specs.Heaps.{held_in, or_fresh}
 
--- of a ledger the machine and the heaps: what is reached within a heap asks nothing else
-abbrev pub accounts : State → List Heap → Ledger
+-- a ledger's machine and heaps: reachability within a heap depends on nothing else
+abbrev pub accounts : MachineState → List Heap → Ledger
 accounts m heaps = record { machine = m; heaps = heaps; steps = 0; end = None }
 
 -- each name that a heap holds is owned by the heap's task

@@ -1,5 +1,5 @@
--- A search through the names of a heap: those that weren't met yet, and those that were met and wait for their
--- references to be followed.
+-- A search through the names of a heap: those that weren't met yet, and those that were met and whose references are
+-- still to be followed.
 use Rattle.std.specs.Prelude.{◌≡◌, ℕ, zero, suc, ◌==◌, ◌&&◌, ◌||◌, not, Bool, Option, List, [], ◌∷◌, if◌then◌else◌, slice_get}
 use Rattle.std.specs.List.{flat_map}
 use Rattle.hh_model.specs.declared.data.Name.{Name}
@@ -11,20 +11,20 @@ use Rattle.run_ledger.specs.declared.data.Heap.{Heap}
 use Rattle.run_ledger.specs.Heaps.{held_in, or_fresh}
 use Rattle.run_ledger.specs.Reachable.{holds_name}
 
--- these names are met: none of them is unmet any more, and those that were wait too
+-- these names are met: none of them is unmet any more, and those that were unmet wait too
 pub record Meets (names : List Name) (was is : Name → Bool) (front back : List Name) : Type 0 where
   pub unmet : (n : Name) → is n ≡ (was n && not (holds_name names n))
   pub waiting : (n : Name) → holds_name back n ≡ (holds_name front n || (was n && holds_name names n))
 
--- the tasks to which so many steps from children to parents lead, the nearest first
+-- the tasks that at most n steps from children to parents reach, the nearest first
 abbrev pub ancestors_by : (ℕ → Option ℕ) → ℕ → ℕ → List ℕ
 ancestors_by par zero t = []
 ancestors_by par (suc more) t = through (par t) [] (λ p. p ∷ ancestors_by par more p)
 
--- the tasks above a task: a parent's number is below its child's, so the task's number is steps enough
+-- the ancestors of a task: a parent's number is smaller than its child's, so the task's number of steps is enough
 abbrev pub ancestors : List Task → ℕ → List ℕ
 ancestors tasks t = ancestors_by (parents tasks) t t
 
--- what the held objects of a task's heap refer to; nothing for one task that is left out
+-- what the held objects of a task's heap refer to; nothing for one task that is excluded
 abbrev pub refs_in : List (List Object) → List Heap → ℕ → ℕ → List Name
 refs_in store heaps but t = if t == but then [] else flat_map (refs_at store) (held_in (or_fresh (slice_get heaps t)))

@@ -1,4 +1,4 @@
-// What a leaf collection leaves of a heap.
+// The heap after a leaf collection.
 
 ghost use Rattle.std.specs.Prelude.{◌≡◌, ◌+◌, ◌-◌, ◌<◌, ◌^◌, [], IfOk, OnOk, length};
 ghost use Rattle.run_ledger.specs.Heaps.{begun_in, by_birth, collected, end_numbers, lay, laid_onto, room_behind, units_sum, words_in, small_survivors, large_survivors};
@@ -11,8 +11,8 @@ ghost use Rattle.ledger_heaps.specs.Parts.{with_collected};
 use crate::names::{among, small_among, table_of};
 use crate::placed::{push_list, put_last};
 use crate::sizes::{CHUNK_WORDS, units_sum, words_at, words_sum};
-use hh_model::{Name, State};
-use listed::Listed;
+use hh_model::{MachineState, Name};
+use plain_vec::Listed;
 use run_ledger::Heap;
 use std::alloc::{AllocError, Global};
 use std::collections::HashSet;
@@ -28,14 +28,14 @@ pub struct Collected {
     pub room: u32,
     /// The new chunks.
     pub taken: u64,
-    /// The chunks given back, in units.
+    /// The chunks released, in units.
     pub given: u64,
     /// The words held.
     pub left: u64,
 }
 
 impl Collected {
-    /// Puts what is left into the heap's account: its leaf collection has ended.
+    /// Puts the result into the heap's account: its leaf collection has ended.
     pub fn put_into(self, heap: &mut Heap)
         ensures { heap.new ≡ with_collected heap.old self }
     {
@@ -48,8 +48,8 @@ impl Collected {
 }
 
 #[tactic(auto, using(crate::proofs::Kept::left_words, crate::proofs::Kept::small_bound, crate::proofs::Kept::large_bound))]
-/// What the leaf collection that has begun leaves of a heap.
-pub fn collect(alloc: Global, machine: &State, heap: &Heap) -> Result<Collected, AllocError>
+/// What the current leaf collection leaves of a heap.
+pub fn collect(alloc: Global, machine: &MachineState, heap: &Heap) -> Result<Collected, AllocError>
     requires { words_in machine.now heap.now < 2 ^ 62 }
     ensures heap { IfOk result (λ parts. with_collected heap.now parts ≡ collected machine.now heap.now) }
     ensures numbers { IfOk result (λ parts. (parts.taken, parts.given, parts.left) ≡ end_numbers machine.now heap.now) }
@@ -104,9 +104,9 @@ fn in_order_of_birth(names: Listed<Name>) -> Listed<Name>
 }
 
 #[tactic(auto, using(crate::proofs::Kept::survivors_units, crate::proofs::Kept::large_units))]
-// The chunks given back, in units: the old ones, the new ones that weren't used, and those of the large objects that
-// were dropped.
-fn given_back(machine: &State, heap: &Heap, large: &Listed<Name>, taken: u64) -> u64
+// The chunks released, in units: the old ones, the new ones that weren't used, and those of the large objects that were
+// dropped.
+fn given_back(machine: &MachineState, heap: &Heap, large: &Listed<Name>, taken: u64) -> u64
     requires words { words_in machine.now heap.now < 2 ^ 62 }
     requires large { large.now ≡ large_survivors heap.now }
     ensures { result ≡ length heap.now.chunks + (begun_in heap.now - taken) + (units_sum machine.now heap.now.large - units_sum machine.now large.now) }
@@ -124,7 +124,7 @@ struct Laid {
 
 #[tactic(auto, using(crate::proofs::Laid::room_first, crate::proofs::Laid::room_last))]
 // Names laid into chunks one after the other.
-fn lay_all(alloc: Global, machine: &State, names: &[Name]) -> Result<Laid, AllocError>
+fn lay_all(alloc: Global, machine: &MachineState, names: &[Name]) -> Result<Laid, AllocError>
     ensures chunks { IfOk result (λ laid. laid.chunks ≡ laid_onto machine.now [] names.now) }
     ensures room { IfOk result (λ laid. laid.room ≡ room_behind machine.now laid.chunks) }
 {
@@ -141,11 +141,11 @@ fn lay_all(alloc: Global, machine: &State, names: &[Name]) -> Result<Laid, Alloc
 }
 
 #[tactic(auto, using(crate::proofs::Laid::lay_first, crate::proofs::Laid::lay_new, crate::proofs::Laid::lay_last, crate::proofs::Laid::last_new, run_ledger::proofs::Chunks::put_last_words))]
-// Lays a name into the last list, where that leaves at most a chunk's words in it, else into a new one. The words of
-// the last list are kept along.
+// Lays a name into the last list, if that leaves at most a chunk's words in it, otherwise into a new one. The words of
+// the last list are updated.
 fn lay(
     alloc: Global,
-    machine: &State,
+    machine: &MachineState,
     chunks: &mut Listed<Listed<Name>>,
     last: u64,
     name: Name,

@@ -7,13 +7,13 @@ ghost use Rattle.run_ledger.specs.Steps.{join_heaps};
 ghost use Rattle.ledger_heaps.specs.Accounts.{since_at};
 
 use hh_model::Name;
-use listed::Listed;
+use plain_vec::Listed;
 use run_ledger::Heap;
 use std::alloc::{AllocError, Global};
 use std::mem;
 
 /// The children of a task join it: its heap gets all that theirs hold, the left child's names first, then the right
-/// one's, then its own; theirs hold nothing any more. Want of memory changes nothing.
+/// one's, then its own; theirs become empty. If an allocation fails, nothing changes.
 pub fn merge(
     alloc: Global,
     parent: &mut Heap,
@@ -63,7 +63,7 @@ pub fn fresh(alloc: Global) -> Heap
     }
 }
 
-/// The same among the heaps of all tasks: `left` is the left child, and the right one is the next task.
+/// Like `merge`, among the heaps of all tasks: `left` is the left child, and the right one is the next task.
 pub fn join(
     alloc: Global,
     heaps: &mut Listed<Heap>,
@@ -90,7 +90,7 @@ pub fn join(
     Ok(())
 }
 
-// Makes room in the left child's lists for the names of the other two heaps.
+// Reserves capacity in the left child's lists for the names of the other two heaps.
 fn make_room(
     chunks: &mut Vec<Listed<Name>>,
     large: &mut Vec<Name>,
@@ -106,14 +106,14 @@ fn make_room(
     large.reserve(both(right.large.len(), parent.large.len())?)
 }
 
-// So many places more than memory has are want of memory.
+// The sum of two lengths; an overflow counts as out of memory.
 fn both(first: usize, second: usize) -> Result<usize, AllocError>
     ensures { IfOk result (λ count. count ≡ first + second) }
 {
     first.checked_add(second).ok_or(AllocError)
 }
 
-// Puts the items of the first two in front of the last one's, in which there is room for all.
+// Puts the items of the first two in front of the last one's, which has capacity for all.
 fn gather<T: Drop>(alloc: Global, front: Vec<T>, middle: &mut Listed<T>, back: &mut Listed<T>)
     requires { vec_len front + length middle.old + length back.old ≤ vec_capacity front }
     ensures all { back.new ≡ front.items ++ middle.old ++ back.old }
@@ -127,7 +127,7 @@ fn gather<T: Drop>(alloc: Global, front: Vec<T>, middle: &mut Listed<T>, back: &
     *back = Listed::from_vec(all);
 }
 
-// The account of a child that has joined, whose names were taken.
+// The account of a child that has joined, without its names.
 fn retire(heap: &mut Heap)
     requires chunks { heap.old.chunks ≡ [] }
     requires large { heap.old.large ≡ [] }

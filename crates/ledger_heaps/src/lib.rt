@@ -1,5 +1,5 @@
-// The accounts of heaps, computed over plain data: sizes, allocations, joins, what is reached within a heap, and what a
-// leaf collection and a sweep leave.
+// The accounts of heaps, computed over plain data: sizes, allocations, joins, what is reachable within a heap, and what
+// a leaf collection and a sweep leave.
 #![tactic(auto)]
 
 // What changes a heap's account.
@@ -8,7 +8,7 @@ mod joined;
 mod placed;
 mod sweeping;
 
-// What is reached within a heap.
+// What is reachable within a heap.
 mod names;
 mod reachable;
 mod search;

@@ -7,7 +7,7 @@ ghost use Rattle.run_ledger.specs.Heaps.{held_in, small_in};
 ghost use Rattle.run_ledger.specs.Reachable.{holds_name, is_name};
 
 use hh_model::Name;
-use listed::Listed;
+use plain_vec::Listed;
 use run_ledger::Heap;
 use std::alloc::{AllocError, Global};
 use std::collections::HashSet;
@@ -33,7 +33,7 @@ pub(crate) fn table_of_heap(alloc: Global, heap: &Heap) -> Result<HashSet<Name>,
     Ok(table)
 }
 
-// Puts names into a table.
+// Adds names to a table.
 fn note_all(table: &mut HashSet<Name>, names: &[Name]) -> Result<(), AllocError>
     ensures { OnOk result ((n : Name) → contains is_name table.new n ≡ contains is_name table.old n || holds_name names.now n) }
 {
@@ -71,7 +71,7 @@ pub(crate) fn small_among(
     Ok(found)
 }
 
-// Adds those of some names that are in a table.
+// Appends those of some names that are in a table.
 fn keep_into(
     found: &mut Listed<Name>,
     names: &[Name],

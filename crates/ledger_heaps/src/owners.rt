@@ -1,4 +1,4 @@
-// Whose names the heaps hold.
+// Who owns the names that heaps hold.
 
 ghost use Rattle.std.specs.Prelude.{◌≡◌, ◌↔◌, ◌==◌, IsTrue};
 ghost use Rattle.std.specs.List.{list_all};
@@ -6,12 +6,12 @@ ghost use Rattle.hh_model.specs.Step.{owner_of};
 ghost use Rattle.run_ledger.specs.Heaps.{held_in};
 ghost use Rattle.ledger_heaps.specs.Accounts.{AreOwned};
 
-use hh_model::{Name, State};
-use listed::Listed;
+use hh_model::{MachineState, Name};
+use plain_vec::Listed;
 use run_ledger::Heap;
 
-/// Whether each name that a heap holds is owned by the heap's task, as `within` asks.
-pub fn are_owned(machine: &State, heaps: &Listed<Heap>) -> bool
+/// Whether each name that a heap holds is owned by the heap's task, as `within` requires.
+pub fn are_owned(machine: &MachineState, heaps: &Listed<Heap>) -> bool
     ensures { IsTrue result ↔ AreOwned machine.now.tasks heaps.now }
 {
     for (task, heap) in heaps.as_slice().iter().enumerate() {
@@ -22,7 +22,7 @@ pub fn are_owned(machine: &State, heaps: &Listed<Heap>) -> bool
     true
 }
 
-fn owns_heap(machine: &State, task: usize, heap: &Heap) -> bool
+fn owns_heap(machine: &MachineState, task: usize, heap: &Heap) -> bool
     ensures { result ≡ list_all (λ n. owner_of machine.now.tasks n.task == task) (held_in heap.now) }
 {
     for names in heap.chunks.as_slice() {
@@ -33,7 +33,7 @@ fn owns_heap(machine: &State, task: usize, heap: &Heap) -> bool
     owns_names(machine, task, heap.large.as_slice())
 }
 
-fn owns_names(machine: &State, task: usize, names: &[Name]) -> bool
+fn owns_names(machine: &MachineState, task: usize, names: &[Name]) -> bool
     ensures { result ≡ list_all (λ n. owner_of machine.now.tasks n.task == task) names.now }
 {
     names

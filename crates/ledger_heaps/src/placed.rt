@@ -5,11 +5,11 @@ ghost use Rattle.run_ledger.specs.Heaps.{placed, put_last};
 
 use crate::sizes::CHUNK_WORDS;
 use hh_model::Name;
-use listed::Listed;
+use plain_vec::Listed;
 use run_ledger::Heap;
 use std::alloc::{AllocError, Global};
 
-/// An allocation of so many words: a small object's name takes room in the last chunk, a large one's the reserved
+/// An allocation of `words` words: a small object's name takes room in the last chunk, a large one's the reserved
 /// chunk.
 pub fn place(alloc: Global, heap: &mut Heap, name: Name, words: usize) -> Result<(), AllocError>
     requires { heap.old.since + words < 2 ^ 64 }
@@ -28,7 +28,7 @@ pub fn place(alloc: Global, heap: &mut Heap, name: Name, words: usize) -> Result
 }
 
 #[tactic(auto, using(hh_model::proofs::Lists::set_got, crate::proofs::Lists::put_last_at))]
-/// Adds a name at the end of the last list; for want of a list, in a list of its own.
+/// Adds a name at the end of the last list, or in a list of its own if there is none.
 pub fn put_last(
     alloc: Global,
     chunks: &mut Listed<Listed<Name>>,

@@ -1,4 +1,4 @@
-// What is reached within a heap.
+// What is reachable within a heap.
 
 ghost use Rattle.std.specs.Prelude.{◌≡◌, ◌++◌, ◌&&◌, not, [], IfOk, OnOk, filter, slice_get};
 ghost use Rattle.std.specs.List.{flat_map};
@@ -13,17 +13,17 @@ ghost use Rattle.ledger_heaps.specs.Search.{ancestors, refs_in, Meets};
 
 use crate::names::table_of_heap;
 use crate::search::Search;
-use hh_model::{Name, State};
-use listed::Listed;
+use hh_model::{MachineState, Name};
+use plain_vec::Listed;
 use run_ledger::Heap;
 use std::alloc::{AllocError, Global};
 use std::collections::HashSet;
 
-/// Of the names held in a task's heap, those that are reached from its roots through that heap, in the heap's order.
+/// Of the names held in a task's heap, those that are reachable from its roots through that heap, in the heap's order.
 /// The names of each heap are owned by its task.
 pub fn within(
     alloc: Global,
-    machine: &State,
+    machine: &MachineState,
     heaps: &Listed<Heap>,
     t: u32,
 ) -> Result<Listed<Name>, AllocError>
@@ -45,11 +45,11 @@ pub fn within(
     Ok(names)
 }
 
-// Meets all that is reached within the task's heap.
+// Meets all that is reachable within the task's heap.
 fn explore(
     alloc: Global,
     search: &mut Search,
-    machine: &State,
+    machine: &MachineState,
     heaps: &Listed<Heap>,
     t: u32,
 ) -> Result<(), AllocError>
@@ -69,7 +69,7 @@ fn explore(
 fn meet_roots(
     alloc: Global,
     search: &mut Search,
-    machine: &State,
+    machine: &MachineState,
     heaps: &Listed<Heap>,
     t: u32,
 ) -> Result<(), AllocError>
@@ -81,7 +81,7 @@ fn meet_roots(
 }
 
 // Meets what the registers of a task's frames hold.
-fn meet_registers(search: &mut Search, machine: &State, t: u32) -> Result<(), AllocError>
+fn meet_registers(search: &mut Search, machine: &MachineState, t: u32) -> Result<(), AllocError>
     ensures { OnOk result (Meets (registers (frames_of (slice_get machine.now.tasks t))) (contains is_name search.old.unmet) (contains is_name search.new.unmet) search.old.waiting search.new.waiting) }
 {
     let Some(task) = machine.tasks.get(t as usize) else {
@@ -95,7 +95,7 @@ fn meet_registers(search: &mut Search, machine: &State, t: u32) -> Result<(), Al
 fn meet_above(
     alloc: Global,
     search: &mut Search,
-    machine: &State,
+    machine: &MachineState,
     heaps: &Listed<Heap>,
     t: u32,
 ) -> Result<(), AllocError>
@@ -107,8 +107,8 @@ fn meet_above(
     Ok(())
 }
 
-// The tasks above a task, the nearest first.
-fn ancestors(alloc: Global, machine: &State, t: u32) -> Result<Listed<u32>, AllocError>
+// The ancestors of a task, the nearest first.
+fn ancestors(alloc: Global, machine: &MachineState, t: u32) -> Result<Listed<u32>, AllocError>
     ensures { IfOk result (λ above. above ≡ ancestors machine.now.tasks t) }
 {
     let mut above = Listed::new(alloc);
@@ -123,10 +123,10 @@ fn ancestors(alloc: Global, machine: &State, t: u32) -> Result<Listed<u32>, Allo
     Ok(above)
 }
 
-// Meets what the objects of these tasks' heaps refer to, but for one task's.
+// Meets what the objects of these tasks' heaps refer to, except one task's.
 fn follow_heaps(
     search: &mut Search,
-    machine: &State,
+    machine: &MachineState,
     heaps: &Listed<Heap>,
     tasks: &[u32],
     but: u32,
@@ -139,10 +139,10 @@ fn follow_heaps(
     Ok(())
 }
 
-// Meets what the objects of a task's heap refer to, unless it is that one task.
+// Meets what the objects of a task's heap refer to, unless it is that task.
 fn follow_heap(
     search: &mut Search,
-    machine: &State,
+    machine: &MachineState,
     heaps: &Listed<Heap>,
     task: u32,
     but: u32,

@@ -8,13 +8,13 @@ ghost use Rattle.run_ledger.specs.Reachable.{is_name};
 ghost use Rattle.run_ledger.specs.Heaps.{held_in};
 ghost use Rattle.ledger_heaps.specs.Search.{Meets};
 
-use hh_model::{Frame, Name, State};
-use listed::Listed;
+use hh_model::{Frame, MachineState, Name};
+use plain_vec::Listed;
 use run_ledger::Heap;
 use std::alloc::AllocError;
 use std::collections::HashSet;
 
-/// How far a search has come.
+/// The state of a search.
 #[derive(Drop)]
 pub(crate) struct Search {
     /// The names of the heap that weren't met yet.
@@ -59,7 +59,7 @@ impl Search {
     }
 
     /// Meets what the object of a name refers to.
-    pub(crate) fn follow(&mut self, machine: &State, name: Name) -> Result<(), AllocError>
+    pub(crate) fn follow(&mut self, machine: &MachineState, name: Name) -> Result<(), AllocError>
         ensures met { OnOk result (Meets (refs_at machine.now.store name) (contains is_name self.old.unmet) (contains is_name self.new.unmet) self.old.waiting self.new.waiting) }
         ensures left { OnOk result (hash_set_len self.new.unmet + length self.new.waiting ≡ hash_set_len self.old.unmet + length self.old.waiting) }
     {
@@ -70,7 +70,7 @@ impl Search {
     }
 
     // Meets what the objects of some names refer to.
-    fn follow_all(&mut self, machine: &State, names: &[Name]) -> Result<(), AllocError>
+    fn follow_all(&mut self, machine: &MachineState, names: &[Name]) -> Result<(), AllocError>
         ensures met { OnOk result (Meets (flat_map (refs_at machine.now.store) names.now) (contains is_name self.old.unmet) (contains is_name self.new.unmet) self.old.waiting self.new.waiting) }
         ensures left { OnOk result (hash_set_len self.new.unmet + length self.new.waiting ≡ hash_set_len self.old.unmet + length self.old.waiting) }
     {
@@ -81,7 +81,11 @@ impl Search {
     }
 
     /// Meets what the objects of a heap refer to.
-    pub(crate) fn follow_heap(&mut self, machine: &State, heap: &Heap) -> Result<(), AllocError>
+    pub(crate) fn follow_heap(
+        &mut self,
+        machine: &MachineState,
+        heap: &Heap,
+    ) -> Result<(), AllocError>
         ensures met { OnOk result (Meets (flat_map (refs_at machine.now.store) (held_in heap.now)) (contains is_name self.old.unmet) (contains is_name self.new.unmet) self.old.waiting self.new.waiting) }
         ensures left { OnOk result (hash_set_len self.new.unmet + length self.new.waiting ≡ hash_set_len self.old.unmet + length self.old.waiting) }
     {

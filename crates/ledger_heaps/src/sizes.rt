@@ -4,14 +4,14 @@ ghost use Rattle.std.specs.Prelude.{◌≡◌, ◌↔◌, ◌+◌, ◌<◌, ◌�
 ghost use Rattle.run_ledger.specs.Heaps.{words_at, words_sum, units_sum, words_in, units_in, take_of, small_in};
 
 use chunk_sizes::units;
-use hh_model::{Name, State};
+use hh_model::{MachineState, Name};
 use run_ledger::Heap;
 
 /// The words of a chunk that is one unit.
 pub const CHUNK_WORDS: usize = chunk_sizes::CHUNK_WORDS as usize;
 
-/// The words of a name's object, 0 where there is none.
-pub fn words_at(machine: &State, name: Name) -> usize
+/// The words of a name's object, 0 if there is none.
+pub fn words_at(machine: &MachineState, name: Name) -> usize
     ensures value { result ≡ words_at machine.now name }
     ensures bound { result < 2 ^ 62 }
 {
@@ -22,7 +22,7 @@ pub fn words_at(machine: &State, name: Name) -> usize
 }
 
 /// The words of some names' objects together.
-pub fn words_sum(machine: &State, names: &[Name]) -> u64
+pub fn words_sum(machine: &MachineState, names: &[Name]) -> u64
     requires { words_sum machine.now names.now < 2 ^ 62 }
     ensures { result ≡ words_sum machine.now names.now }
 {
@@ -33,7 +33,7 @@ pub fn words_sum(machine: &State, names: &[Name]) -> u64
 }
 
 // The units of some large objects' chunks together.
-pub(crate) fn units_sum(machine: &State, names: &[Name]) -> u64
+pub(crate) fn units_sum(machine: &MachineState, names: &[Name]) -> u64
     requires { units_sum machine.now names.now < 2 ^ 62 }
     ensures { result ≡ units_sum machine.now names.now }
 {
@@ -43,8 +43,8 @@ pub(crate) fn units_sum(machine: &State, names: &[Name]) -> u64
         .sum()
 }
 
-/// Whether the words of a heap can be counted, as the calls here ask.
-pub fn is_countable(machine: &State, heap: &Heap) -> bool
+/// Whether the words of a heap fit in their type, as the calls here require.
+pub fn is_countable(machine: &MachineState, heap: &Heap) -> bool
     ensures { IsTrue result ↔ (words_in machine.now heap.now < 2 ^ 62) }
 {
     let mut words = 0;
@@ -54,8 +54,8 @@ pub fn is_countable(machine: &State, heap: &Heap) -> bool
     capped_sum(machine, words, heap.large.as_slice()) < 1 << 62
 }
 
-// So many words and those of some names' objects, or the cap where there are more.
-fn capped_sum(machine: &State, words: u64, names: &[Name]) -> u64
+// These words and those of some names' objects, saturating at the cap.
+fn capped_sum(machine: &MachineState, words: u64, names: &[Name]) -> u64
     requires { words ≤ 2 ^ 62 }
     ensures { result ≡ min (words + words_sum machine.now names.now) (2 ^ 62) }
 {
@@ -67,14 +67,14 @@ fn capped_sum(machine: &State, words: u64, names: &[Name]) -> u64
 }
 
 /// The words of all that a heap holds.
-pub fn words_in(machine: &State, heap: &Heap) -> u64
+pub fn words_in(machine: &MachineState, heap: &Heap) -> u64
     requires { words_in machine.now heap.now < 2 ^ 62 }
     ensures { result ≡ words_in machine.now heap.now }
 {
     small_words(machine, heap) + words_sum(machine, heap.large.as_slice())
 }
 
-fn small_words(machine: &State, heap: &Heap) -> u64
+fn small_words(machine: &MachineState, heap: &Heap) -> u64
     requires { words_sum machine.now (small_in heap.now) < 2 ^ 62 }
     ensures { result ≡ words_sum machine.now (small_in heap.now) }
 {
@@ -86,8 +86,8 @@ fn small_words(machine: &State, heap: &Heap) -> u64
 }
 
 #[tactic(auto, using(crate::proofs::Kept::large_units))]
-/// The chunks in use for a heap, in units.
-pub fn units_in(machine: &State, heap: &Heap) -> u64
+/// The chunks that a heap uses, in units.
+pub fn units_in(machine: &MachineState, heap: &Heap) -> u64
     requires { words_in machine.now heap.now < 2 ^ 62 }
     ensures { result ≡ units_in machine.now heap.now }
 {
@@ -98,7 +98,7 @@ pub fn units_in(machine: &State, heap: &Heap) -> u64
 }
 
 /// How many chunks a leaf collection of a heap takes.
-pub fn take_of(machine: &State, heap: &Heap) -> u64
+pub fn take_of(machine: &MachineState, heap: &Heap) -> u64
     requires { words_in machine.now heap.now < 2 ^ 62 }
     ensures { result ≡ take_of machine.now heap.now }
 {

@@ -1,17 +1,17 @@
-// What a sweep leaves of a heap.
+// The heap after a sweep.
 
 ghost use Rattle.std.specs.Prelude.{◌≡◌, ◌<◌, ◌^◌, IfOk, OnOk, map, not, [], ◌∷◌, ◌++◌};
 ghost use Rattle.std.specs.HashSet.{contains};
 ghost use Rattle.hh_model.specs.declared.data.Name.{Name};
 ghost use Rattle.run_ledger.specs.Reachable.{holds_name, is_name};
-ghost use Rattle.listed.specs.Members.{is_empty};
+ghost use Rattle.plain_vec.specs.Members.{is_empty};
 ghost use Rattle.run_ledger.specs.Heaps.{in_snapshot, is_last_empty, sweep_number, swept_heap, without_empty, words_in};
 ghost use Rattle.ledger_heaps.specs.Parts.{with_swept};
 
 use crate::names::{among, table_of};
 use crate::sizes::units_sum;
-use hh_model::{Name, State};
-use listed::Listed;
+use hh_model::{MachineState, Name};
+use plain_vec::Listed;
 use run_ledger::Heap;
 use std::alloc::{AllocError, Global};
 use std::collections::HashSet;
@@ -25,12 +25,12 @@ pub struct Swept {
     pub large: Listed<Name>,
     /// The words left in the last chunk.
     pub room: u32,
-    /// The chunks given back, in units.
+    /// The chunks released, in units.
     pub given: u64,
 }
 
 impl Swept {
-    /// Puts what is left into the heap's account: it is swept.
+    /// Puts the result into the heap's account: it is swept.
     pub fn put_into(self, heap: &mut Heap)
         ensures { heap.new ≡ with_swept heap.old self }
     {
@@ -44,7 +44,7 @@ impl Swept {
 
 #[tactic(auto, using(crate::proofs::Kept::snapshot_units, crate::proofs::Kept::large_units, crate::proofs::Kept::fewer_chunks))]
 /// What a sweep leaves of a heap whose snapshot is marked.
-pub fn sweep(alloc: Global, machine: &State, heap: &Heap) -> Result<Swept, AllocError>
+pub fn sweep(alloc: Global, machine: &MachineState, heap: &Heap) -> Result<Swept, AllocError>
     requires { words_in machine.now heap.now < 2 ^ 62 }
     ensures heap { IfOk result (λ parts. with_swept heap.now parts ≡ swept_heap heap.now) }
     ensures number { IfOk result (λ parts. parts.given ≡ sweep_number machine.now heap.now) }
@@ -102,7 +102,7 @@ fn clear(alloc: Global, heap: &Heap, snapshot: &HashSet<Name>) -> Result<Cleared
     })
 }
 
-// Adds a list that has a name; answers whether it has one.
+// Adds a list that has a name; returns whether it has one.
 fn push_filled(chunks: &mut Listed<Listed<Name>>, names: Listed<Name>) -> Result<bool, AllocError>
     ensures chunks { OnOk result (chunks.new ≡ chunks.old ++ without_empty (names ∷ [])) }
     ensures filled { IfOk result (λ filled. filled ≡ not (is_empty names)) }

@@ -1,32 +1,6 @@
--- Private steps of a task change nothing but what it owns, and depend on nothing but the machine and the account of its
--- heap.
-use Rattle.std.proofs.Common.{is_some, ◌≡◌, ℕ, zero, suc, ◌+◌, Bool, true, false, cond, Option, Some, None, List, [], ◌∷◌, ◌++◌, length, slice_get, slice_set, inl, inr, refl, ap, ap₂, sym, subst, ◌∙◌, nat_le}
-use Rattle.std.proofs.lemmas.Bool.{false≢true, cases_eq, cond-true, cond-false}
-use Rattle.listed.proofs.Members.{got_same, got_other, same_view, view_step}
-use Rattle.listed.proofs.Places.{none_set}
-use Rattle.hh_lang.specs.Form.{ProgramText}
-use Rattle.run_trace.specs.Settings.{SettingsValue}
-use Rattle.hh_model.specs.declared.data.Name.{Name}
-use Rattle.hh_model.specs.declared.data.Object.{Object}
-use Rattle.hh_model.specs.declared.data.Status.TheVariants.{Running}
-use Rattle.hh_model.specs.declared.data.Task.{Task}
-use Rattle.hh_model.specs.declared.data.State.{State}
-use Rattle.hh_model.specs.Effect.{object_at, put_object, row_of}
-use Rattle.hh_model.specs.Step.{step, can_step, is_running, is_waiting, is_joined, is_over, waits, path_in, owner_of, owner_in, parents, joined, parent_of, asked}
-use Rattle.hh_model.proofs.Steps.{runs_is}
-use Rattle.hh_model.proofs.Taken.{can_runs}
-use Rattle.hh_model.proofs.Climbs.{owner_here}
-use Rattle.run_ledger.specs.declared.data.Heap.{Heap}
-use Rattle.run_ledger.specs.declared.data.Ledger.{Ledger}
-use Rattle.run_ledger.specs.Heaps.{or_fresh, with_heap, with_heap_at, placed, let_go, lacks_room}
-use Rattle.run_ledger.specs.Steps.{allocated_by, allocated_in, moved_on, moved_to, settled, stepped_to, task_step, task_steps, on_asked, is_private, is_due, is_in_need}
-use Rattle.run_ledger.proofs.Machine.{task_step_machine, heap_machine}
-use Rattle.run_ledger.specs.Sound.{SoundLedger}
-use Rattle.run_ledger.proofs.Steps.{SoundAt, task_step_sound}
-use Rattle.ledger_step_laws.specs.Accounts.{own, rested, ArePrivate, StepsAlone}
+-- Private steps of a task change only what it owns, and depend only on the machine and the account of its heap.
+use Rattle.ledger_step_laws.proofs.Common.{is_some, ◌≡◌, ℕ, zero, suc, ◌+◌, Bool, true, false, cond, Option, Some, None, List, [], ◌∷◌, ◌++◌, length, slice_get, slice_set, inl, inr, refl, ap, ap₂, sym, subst, ◌∙◌, nat_le, false≢true, cases_eq, cond-true, cond-false, got_same, got_other, same_view, view_step, none_set, ProgramText, SettingsValue, Name, Object, Running, Task, MachineState, object_at, put_object, row_of, step, can_step, is_running, is_waiting, is_joined, is_over, waits, path_in, owner_of, owner_in, parents, joined, parent_of, asked, runs_is, can_runs, owner_here, Heap, Ledger, or_fresh, with_heap, with_heap_at, placed, let_go, lacks_room, allocated_by, allocated_in, moved_on, moved_to, settled, stepped_to, task_step, task_steps, on_asked, is_private, is_due, is_in_need, task_step_machine, heap_machine, SoundLedger, SoundAt, task_step_sound, can_going, put_rows, own, rested, ArePrivate, StepsAlone}
 use Rattle.ledger_step_laws.proofs.Private.{GoesOn, StoreBy, private_on}
-use Rattle.path_laws.proofs.Leaves.{can_going}
-use Rattle.path_laws.proofs.Objects.{put_rows}
 use Rattle.ledger_step_laws.proofs.Alone.{alone_along, machine_alone}
 
 -- ROWS AND OBJECTS
@@ -53,24 +27,24 @@ heap_then f None = None
 heap_then f (Some h) = Some (f h)
 
 pub with_at : (l : Ledger) (t : ℕ) (f : Heap → Heap) → slice_get (with_heap l t f).heaps t ≡ heap_then f (slice_get l.heaps t)
-with_at l t f = by (slice_get l.heaps t) refl
+with_at l t f = with_at_by_cases (slice_get l.heaps t) refl
   where
-    by : (o : Option Heap) → slice_get l.heaps t ≡ o → slice_get (with_heap_at l t f o).heaps t ≡ heap_then f o
-    by None e = e
-    by (Some h) e = got_same l.heaps t h (f h) e
+    with_at_by_cases : (o : Option Heap) → slice_get l.heaps t ≡ o → slice_get (with_heap_at l t f o).heaps t ≡ heap_then f o
+    with_at_by_cases None e = e
+    with_at_by_cases (Some h) e = got_same l.heaps t h (f h) e
 
 pub with_off : (l : Ledger) (t u : ℕ) (f : Heap → Heap) → (u ≡ t → ⊥) → slice_get (with_heap l t f).heaps u ≡ slice_get l.heaps u
-with_off l t u f ne = by (slice_get l.heaps t)
+with_off l t u f ne = with_off_by_cases (slice_get l.heaps t)
   where
-    by : (o : Option Heap) → slice_get (with_heap_at l t f o).heaps u ≡ slice_get l.heaps u
-    by None = refl
-    by (Some h) = got_other l.heaps t u (f h) ne
+    with_off_by_cases : (o : Option Heap) → slice_get (with_heap_at l t f o).heaps u ≡ slice_get l.heaps u
+    with_off_by_cases None = refl
+    with_off_by_cases (Some h) = got_other l.heaps t u (f h) ne
 
 alloc_off : (l : Ledger) (t u : ℕ) (o : Option ℕ) → (u ≡ t → ⊥) → slice_get (allocated_by l t o).heaps u ≡ slice_get l.heaps u
 alloc_off l t u None ne = refl
 alloc_off l t u (Some w) ne = with_off l t u _ ne
 
--- two accounts with the same machine, and the same of t's heap
+-- two accounts with the same machine, and the same account of t's heap
 pub record SameOf (t : ℕ) (l l' : Ledger) : Type 0 where
   pub machine : l'.machine ≡ l.machine
   pub heap : slice_get l'.heaps t ≡ slice_get l.heaps t
@@ -78,7 +52,7 @@ pub record SameOf (t : ℕ) (l l' : Ledger) : Type 0 where
 alloc_same : (l l' : Ledger) (t : ℕ) → SameOf t l l' → (o : Option ℕ) → slice_get (allocated_by l' t o).heaps t ≡ slice_get (allocated_by l t o).heaps t
 alloc_same l l' t E None = E.heap
 alloc_same l l' t E (Some w) =
-    with_at l' t _ ∙ (ap₂ (λ (m : State) h. heap_then (λ z. placed z (record { task = t; count = length (row_of (slice_get m.store t)) }) w) h) E.machine E.heap ∙ sym (with_at l t _))
+    with_at l' t _ ∙ (ap₂ (λ (m : MachineState) h. heap_then (λ z. placed z (record { task = t; count = length (row_of (slice_get m.store t)) }) w) h) E.machine E.heap ∙ sym (with_at l t _))
 
 -- ONE STEP
 
@@ -94,17 +68,17 @@ module _ (p : ProgramText) (l : Ledger) (t : ℕ) (private : is_private p l.mach
   step_is can x is =
       let G = private_on p l.machine t x can is private in
       let run : x.status ≡ Running = runs_is x.status (ap is_running (sym is) ∙ can_runs l.machine t can) in
-      let end : (step p l.machine t).end ≡ None = ap (λ (m : State). m.end) G.is ∙ can_going l.machine t can in
-      let at : slice_get (step p l.machine t).tasks t ≡ Some G.task = ap (λ (m : State). slice_get m.tasks t) G.is ∙ got_same l.machine.tasks t x G.task is in
+      let end : (step p l.machine t).end ≡ None = ap (λ (m : MachineState). m.end) G.is ∙ can_going l.machine t can in
+      let at : slice_get (step p l.machine t).tasks t ≡ Some G.task = ap (λ (m : MachineState). slice_get m.tasks t) G.is ∙ got_same l.machine.tasks t x G.task is in
       cond-true (can_step l.machine t) (stepped_to b t (step p l.machine t)) (record l { steps = l.steps + 1 }) can
       ∙ (ap (settled then_ t) end ∙ (ap (moved_to then_ t) at ∙ ap (moved_on then_ t G.task.parent) (G.status ∙ run)))
 
   task_there : can_step l.machine t ≡ true → (x : Task) × (slice_get l.machine.tasks t ≡ Some x)
-  task_there can = by (slice_get l.machine.tasks t) refl (can_runs l.machine t can)
+  task_there can = task_there_by_cases (slice_get l.machine.tasks t) refl (can_runs l.machine t can)
     where
-      by : (o : Option Task) → slice_get l.machine.tasks t ≡ o → is_running o ≡ true → (x : Task) × (slice_get l.machine.tasks t ≡ Some x)
-      by None e h = absurd (false≢true h)
-      by (Some x) e h = (x, e)
+      task_there_by_cases : (o : Option Task) → slice_get l.machine.tasks t ≡ o → is_running o ≡ true → (x : Task) × (slice_get l.machine.tasks t ≡ Some x)
+      task_there_by_cases None e h = absurd (false≢true h)
+      task_there_by_cases (Some x) e h = (x, e)
 
   stays_same : can_step l.machine t ≡ false → task_step p l t ≡ record l { steps = l.steps + 1 }
   stays_same h = cond-false (can_step l.machine t) (stepped_to b t (step p l.machine t)) (record l { steps = l.steps + 1 }) h
@@ -116,7 +90,7 @@ module _ (p : ProgramText) (l : Ledger) (t : ℕ) (private : is_private p l.mach
     abbrev G : GoesOn l.machine t x (step p l.machine t)
     G = private_on p l.machine t x can is private
 
-    abbrev m' : State
+    abbrev m' : MachineState
     m' = record l.machine { tasks = slice_set l.machine.tasks t G.task; store = G.store }
 
     par_same : parents m'.tasks ≡ parents l.machine.tasks
@@ -163,45 +137,45 @@ module _ (p : ProgramText) (l : Ledger) (t : ℕ) (private : is_private p l.mach
     step_alone : StepsAlone l (task_step p l t) t
     step_alone =
         subst (λ (k : Ledger). StepsAlone l k t) (sym (step_is can x is))
-        (subst (λ (m : State). StepsAlone l (record b { machine = m; steps = b.steps + 1 }) t) (sym G.is) alone_then)
+        (subst (λ (m : MachineState). StepsAlone l (record b { machine = m; steps = b.steps + 1 }) t) (sym G.is) alone_then)
 
   pub private_alone : SoundLedger l → StepsAlone l (task_step p l t) t
-  private_alone S = by (can_step l.machine t) refl
+  private_alone S = private_alone_by_cases (can_step l.machine t) refl
     where
-      by : (c : Bool) → can_step l.machine t ≡ c → StepsAlone l (task_step p l t) t
-      by false e = subst (λ (k : Ledger). StepsAlone l k t) (sym (stays_same e)) (nothing (l.steps + 1))
-      by true e = let x = task_there e in step_alone S e x.0 x.1
+      private_alone_by_cases : (c : Bool) → can_step l.machine t ≡ c → StepsAlone l (task_step p l t) t
+      private_alone_by_cases false e = subst (λ (k : Ledger). StepsAlone l k t) (sym (stays_same e)) (nothing (l.steps + 1))
+      private_alone_by_cases true e = let x = task_there e in step_alone S e x.0 x.1
 
-  -- what becomes of the account of its heap
+  -- how the account of its heap changes
   pub heap_after : slice_get (task_step p l t).heaps t ≡ cond (can_step l.machine t) (slice_get (allocated_by l t (asked p l.machine t)).heaps t) (slice_get l.heaps t)
-  heap_after = by (can_step l.machine t) refl
+  heap_after = heap_after_by_cases (can_step l.machine t) refl
     where
-      by : (c : Bool) → can_step l.machine t ≡ c → slice_get (task_step p l t).heaps t ≡ cond c (slice_get (allocated_by l t (asked p l.machine t)).heaps t) (slice_get l.heaps t)
-      by false e = ap (λ (k : Ledger). slice_get k.heaps t) (stays_same e)
-      by true e = let x = task_there e in ap (λ (k : Ledger). slice_get k.heaps t) (step_is e x.0 x.1)
+      heap_after_by_cases : (c : Bool) → can_step l.machine t ≡ c → slice_get (task_step p l t).heaps t ≡ cond c (slice_get (allocated_by l t (asked p l.machine t)).heaps t) (slice_get l.heaps t)
+      heap_after_by_cases false e = ap (λ (k : Ledger). slice_get k.heaps t) (stays_same e)
+      heap_after_by_cases true e = let x = task_there e in ap (λ (k : Ledger). slice_get k.heaps t) (step_is e x.0 x.1)
 
 module _ (p : ProgramText) (l : Ledger) (t : ℕ) (private : is_private p l.machine t ≡ true) where
-  -- what it leaves of the machine, and of the accounts of other heaps
+  -- what it leaves unchanged of the machine, and of the accounts of other heaps
   pub private_limit : (task_step p l t).machine.field_limit ≡ l.machine.field_limit
-  private_limit = by (can_step l.machine t) refl
+  private_limit = private_limit_by_cases (can_step l.machine t) refl
     where
-      by : (c : Bool) → can_step l.machine t ≡ c → (task_step p l t).machine.field_limit ≡ l.machine.field_limit
-      by false e = ap (λ (k : Ledger). k.machine.field_limit) (stays_same p l t private e)
-      by true e = let x = task_there p l t private e in ap (λ (m : State). m.field_limit) (task_step_machine p l t ∙ (private_on p l.machine t x.0 e x.1 private).is)
+      private_limit_by_cases : (c : Bool) → can_step l.machine t ≡ c → (task_step p l t).machine.field_limit ≡ l.machine.field_limit
+      private_limit_by_cases false e = ap (λ (k : Ledger). k.machine.field_limit) (stays_same p l t private e)
+      private_limit_by_cases true e = let x = task_there p l t private e in ap (λ (m : MachineState). m.field_limit) (task_step_machine p l t ∙ (private_on p l.machine t x.0 e x.1 private).is)
 
   pub private_end : (task_step p l t).machine.end ≡ l.machine.end
-  private_end = by (can_step l.machine t) refl
+  private_end = private_end_by_cases (can_step l.machine t) refl
     where
-      by : (c : Bool) → can_step l.machine t ≡ c → (task_step p l t).machine.end ≡ l.machine.end
-      by false e = ap (λ (k : Ledger). k.machine.end) (stays_same p l t private e)
-      by true e = let x = task_there p l t private e in ap (λ (m : State). m.end) (task_step_machine p l t ∙ (private_on p l.machine t x.0 e x.1 private).is)
+      private_end_by_cases : (c : Bool) → can_step l.machine t ≡ c → (task_step p l t).machine.end ≡ l.machine.end
+      private_end_by_cases false e = ap (λ (k : Ledger). k.machine.end) (stays_same p l t private e)
+      private_end_by_cases true e = let x = task_there p l t private e in ap (λ (m : MachineState). m.end) (task_step_machine p l t ∙ (private_on p l.machine t x.0 e x.1 private).is)
 
   pub private_off : (u : ℕ) → (u ≡ t → ⊥) → slice_get (task_step p l t).heaps u ≡ slice_get l.heaps u
-  private_off u ne = by (can_step l.machine t) refl
+  private_off u ne = private_off_by_cases (can_step l.machine t) refl
     where
-      by : (c : Bool) → can_step l.machine t ≡ c → slice_get (task_step p l t).heaps u ≡ slice_get l.heaps u
-      by false e = ap (λ (k : Ledger). slice_get k.heaps u) (stays_same p l t private e)
-      by true e = let x = task_there p l t private e in ap (λ (k : Ledger). slice_get k.heaps u) (step_is p l t private e x.0 x.1) ∙ alloc_off l t u (asked p l.machine t) ne
+      private_off_by_cases : (c : Bool) → can_step l.machine t ≡ c → slice_get (task_step p l t).heaps u ≡ slice_get l.heaps u
+      private_off_by_cases false e = ap (λ (k : Ledger). slice_get k.heaps u) (stays_same p l t private e)
+      private_off_by_cases true e = let x = task_there p l t private e in ap (λ (k : Ledger). slice_get k.heaps u) (step_is p l t private e x.0 x.1) ∙ alloc_off l t u (asked p l.machine t) ne
 
 module _ (p : ProgramText) (s : SettingsValue) (t : ℕ) where
   -- it depends on nothing else
@@ -210,24 +184,24 @@ module _ (p : ProgramText) (s : SettingsValue) (t : ℕ) where
     machine = task_step_machine p l' t ∙ (ap (λ m. step p m t) E.machine ∙ sym (task_step_machine p l t));
     heap =
         heap_after p l' t private'
-        ∙ (ap (λ (m : State). cond (can_step m t) (slice_get (allocated_by l' t (asked p m t)).heaps t) (slice_get l'.heaps t)) E.machine
+        ∙ (ap (λ (m : MachineState). cond (can_step m t) (slice_get (allocated_by l' t (asked p m t)).heaps t) (slice_get l'.heaps t)) E.machine
         ∙ (ap₂ (cond (can_step l.machine t)) (alloc_same l l' t E (asked p l.machine t)) E.heap ∙ sym (heap_after p l t private)));
   }
 
   due_same : (l l' : Ledger) → SameOf t l l' → is_due s p l' t ≡ is_due s p l t
-  due_same l l' E = ap₂ (λ (m : State) (h : Option Heap). on_asked (asked p m t) (λ w. nat_le s.leaf (or_fresh h).since)) E.machine E.heap
+  due_same l l' E = ap₂ (λ (m : MachineState) (h : Option Heap). on_asked (asked p m t) (λ w. nat_le s.leaf (or_fresh h).since)) E.machine E.heap
 
   need_same : (l l' : Ledger) → SameOf t l l' → is_in_need p l' t ≡ is_in_need p l t
-  need_same l l' E = ap₂ (λ (m : State) (h : Option Heap). on_asked (asked p m t) (lacks_room (or_fresh h))) E.machine E.heap
+  need_same l l' E = ap₂ (λ (m : MachineState) (h : Option Heap). on_asked (asked p m t) (lacks_room (or_fresh h))) E.machine E.heap
 
-  -- SO MANY STEPS
+  -- SEVERAL STEPS
 
   pub steps_alone_all : (k : ℕ) (l : Ledger) → SoundAt t l → ArePrivate p s l t k → StepsAlone l (task_steps p l t k) t
   steps_alone_all zero l S h = machine_alone l l t refl (λ u ne. refl)
   steps_alone_all (suc k) l S h =
       alone_along t l (task_step p l t) (task_steps p (task_step p l t) t k) (private_alone p l t h.2 S.0) (steps_alone_all k (task_step p l t) (task_step_sound p l t S) h.3)
 
-  -- the same steps are private by either account, and come to the same
+  -- the same steps are private by either account, and have the same result
   pub steps_same : (k : ℕ) (l l' : Ledger) → SameOf t l l' → ArePrivate p s l t k → ArePrivate p s l' t k × SameOf t (task_steps p l t k) (task_steps p l' t k)
   steps_same zero l l' E h = (tt, E)
   steps_same (suc k) l l' E h =

@@ -1,28 +1,22 @@
--- What changes alone: where the machine stays, and from one change to the next.
-use Rattle.std.proofs.Common.{is_some, ◌≡◌, ℕ, length, slice_get, ap, sym, ◌∙◌}
-use Rattle.hh_model.specs.declared.data.State.{State}
-use Rattle.hh_model.specs.Effect.{object_at, row_of}
-use Rattle.hh_model.specs.Step.{is_waiting, is_joined, is_on_path, owner_of}
-use Rattle.run_ledger.specs.declared.data.Ledger.{Ledger}
-use Rattle.run_ledger.specs.Heaps.{heap_of}
-use Rattle.ledger_step_laws.specs.Accounts.{SameTree, StepsAlone}
+-- Changes by one task alone: if the machine is unchanged, and in sequence.
+use Rattle.ledger_step_laws.proofs.Common.{is_some, ◌≡◌, ℕ, length, slice_get, ap, sym, ◌∙◌, MachineState, object_at, row_of, is_waiting, is_joined, is_on_path, owner_of, Ledger, heap_of, SameTree, StepsAlone}
 
 machine_tree : (l l' : Ledger) → l'.machine ≡ l.machine → SameTree l l'
 machine_tree l l' e = record {
-  made = λ u. ap (λ (m : State). is_some (slice_get m.tasks u)) e;
-  owners = λ a. ap (λ (m : State). owner_of m.tasks a) e;
-  paths = λ a u. ap (λ (m : State). is_on_path m.tasks a u) e;
-  waits = λ u. ap (λ (m : State). is_waiting (slice_get m.tasks u)) e;
-  joins = λ u. ap (λ (m : State). is_joined (slice_get m.tasks u)) e;
+  made = λ u. ap (λ (m : MachineState). is_some (slice_get m.tasks u)) e;
+  owners = λ a. ap (λ (m : MachineState). owner_of m.tasks a) e;
+  paths = λ a u. ap (λ (m : MachineState). is_on_path m.tasks a u) e;
+  waits = λ u. ap (λ (m : MachineState). is_waiting (slice_get m.tasks u)) e;
+  joins = λ u. ap (λ (m : MachineState). is_joined (slice_get m.tasks u)) e;
 }
 
 pub machine_alone : (l l' : Ledger) (t : ℕ) → l'.machine ≡ l.machine → ((u : ℕ) → (u ≡ t → ⊥) → heap_of l' u ≡ heap_of l u) → StepsAlone l l' t
 machine_alone l l' t e heaps = record {
   tree = machine_tree l l' e;
-  tasks = λ u ne. ap (λ (m : State). slice_get m.tasks u) e;
+  tasks = λ u ne. ap (λ (m : MachineState). slice_get m.tasks u) e;
   heaps = heaps;
-  rows = λ u ne. ap (λ (m : State). length (row_of (slice_get m.store u))) e;
-  store = λ n ne. ap (λ (m : State). object_at m.store n) e;
+  rows = λ u ne. ap (λ (m : MachineState). length (row_of (slice_get m.store u))) e;
+  store = λ n ne. ap (λ (m : MachineState). object_at m.store n) e;
 }
 
 tree_along : (l k m : Ledger) → SameTree l k → SameTree k m → SameTree l m
@@ -43,7 +37,7 @@ tree_back l k A = record {
   joins = λ u. sym (A.joins u);
 }
 
--- from k to k', each past the steps of another task
+-- from k to k', each after the steps of another task
 pub tree_beside : (l l' k k' : Ledger) → SameTree l l' → SameTree l k → SameTree l' k' → SameTree k k'
 tree_beside l l' k k' B A A' = tree_along k l k' (tree_back l k A) (tree_along l l' k' B A')
 

@@ -1,21 +1,5 @@
 -- Any number of private steps.
-use Rattle.std.proofs.Common.{◌≡◌, ℕ, zero, suc, true, false, Option, Some, slice_get, ◌⊎◌, inl, inr, ap, ap₂, sym, subst, ◌∙◌, arith, nat_le, refl}
-use Rattle.hh_lang.specs.Form.{ProgramText}
-use Rattle.run_trace.specs.Settings.{SettingsValue}
-use Rattle.hh_model.specs.declared.data.Task.{Task}
-use Rattle.hh_model.specs.declared.data.State.{State}
-use Rattle.hh_model.specs.Store.{IsStored}
-use Rattle.hh_model.specs.Step.{can_step, goes_on, is_running}
-use Rattle.hh_model.specs.Closed.{Closed}
-use Rattle.path_laws.proofs.Stored.{stored_step}
-use Rattle.run_ledger.specs.declared.data.Heap.{Heap}
-use Rattle.run_ledger.specs.declared.data.Ledger.{Ledger}
-use Rattle.run_ledger.specs.Heaps.{or_fresh, lacks_room}
-use Rattle.run_ledger.specs.Steps.{task_step, task_steps, on_asked, is_private}
-use Rattle.run_ledger.proofs.Machine.{task_step_machine}
-use Rattle.run_ledger.specs.Sound.{collecting}
-use Rattle.run_ledger.proofs.Steps.{SoundAt, task_step_sound}
-use Rattle.ledger_step_laws.specs.Accounts.{ArePrivate, AlikeFor, Knows}
+use Rattle.ledger_step_laws.proofs.Common.{◌≡◌, ℕ, zero, suc, true, false, Option, Some, slice_get, ◌⊎◌, inl, inr, ap, ap₂, sym, subst, ◌∙◌, arith, nat_le, refl, ProgramText, SettingsValue, Task, MachineState, IsStored, can_step, goes_on, is_running, Closed, stored_step, Heap, Ledger, or_fresh, lacks_room, task_step, task_steps, on_asked, is_private, task_step_machine, collecting, SoundAt, task_step_sound, ArePrivate, AlikeFor, Knows}
 use Rattle.ledger_step_laws.proofs.Ahead.{private_limit, private_end, private_off}
 use Rattle.ledger_step_laws.proofs.Commute.{private', alike_step, goes_running, goes_can, goes_rows, alike_self, asked_same}
 
@@ -28,7 +12,7 @@ module _ (p : ProgramText) (s : SettingsValue) (u : ℕ) where
       let e = task_step_machine p l u in (
         record {
           sound = S.0;
-          stored = subst (λ (m : State). Closed m.tasks m.store (IsStored m)) (sym e) (stored_step p l.machine u K.sound.fork_join K.rows K.stored);
+          stored = subst (λ (m : MachineState). Closed m.tasks m.store (IsStored m)) (sym e) (stored_step p l.machine u K.sound.fork_join K.rows K.stored);
           rows = goes_rows l l u x K K (alike_self u l) is run p can h;
         },
         S.1,

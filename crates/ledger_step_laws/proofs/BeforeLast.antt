@@ -1,23 +1,10 @@
 -- What holds before the last step of an accepted entry of steps.
-use Rattle.std.proofs.Common.{◌≡◌, ℕ, false, Some, None, slice_get, inr, ap, ◌∙◌}
-use Rattle.hh_lang.specs.Form.{ProgramText}
-use Rattle.run_trace.specs.Settings.{SettingsValue}
-use Rattle.hh_model.specs.declared.data.State.{State}
-use Rattle.hh_model.specs.Step.{is_waiting}
-use Rattle.hh_model.proofs.Runs.{running_tells}
-use Rattle.path_laws.proofs.Leaves.{can_going}
-use Rattle.run_ledger.specs.declared.data.Ledger.{Ledger}
-use Rattle.run_ledger.specs.Heaps.{let_go}
-use Rattle.run_ledger.specs.Steps.{task_steps}
-use Rattle.run_ledger.specs.Sound.{SoundLedger}
-use Rattle.run_ledger.proofs.Machine.{heap_machine}
-use Rattle.ledger_step_laws.specs.Accounts.{StepsAlone, Knows, rested}
-use Rattle.ledger_step_laws.specs.Last.{Splits, Runs}
+use Rattle.ledger_step_laws.proofs.Common.{◌≡◌, ℕ, false, Some, None, slice_get, inr, ap, ◌∙◌, ProgramText, SettingsValue, MachineState, is_waiting, running_tells, can_going, Ledger, let_go, task_steps, SoundLedger, heap_machine, StepsAlone, Knows, rested, Splits, RunsPrivateSteps}
 use Rattle.ledger_step_laws.proofs.Ahead.{steps_alone_all}
 use Rattle.ledger_step_laws.proofs.Along.{steps_end, steps_know}
 use Rattle.ledger_step_laws.proofs.Rested.{rested_sound}
 
-module _ (p : ProgramText) (s : SettingsValue) (l l' : Ledger) (t w k : ℕ) (E : Runs p s l l' t w k) where
+module _ (p : ProgramText) (s : SettingsValue) (l l' : Ledger) (t w k : ℕ) (E : RunsPrivateSteps p s l l' t w k) where
   abbrev m : Ledger
   m = task_steps p l t k
 
@@ -37,10 +24,10 @@ module _ (p : ProgramText) (s : SettingsValue) (l l' : Ledger) (t w k : ℕ) (E 
   pub alone : StepsAlone l m t
   alone = steps_alone_all p s t k l (E.knows.sound, E.collects) S.private
 
-  -- with the task let go of
+  -- with the task released
   pub rested_stays_sound : SoundLedger (rested m t)
   rested_stays_sound = rested_sound m t known.sound
 
   pub idle_rested : is_waiting (slice_get (rested m t).machine.tasks t) ≡ false
   idle_rested =
-      ap (λ (z : State). is_waiting (slice_get z.tasks t)) (heap_machine m t let_go) ∙ (ap is_waiting S.at.task ∙ ap (λ st. is_waiting (Some (record S.task { status = st }))) S.at.runs)
+      ap (λ (z : MachineState). is_waiting (slice_get z.tasks t)) (heap_machine m t let_go) ∙ (ap is_waiting S.at.task ∙ ap (λ st. is_waiting (Some (record S.task { status = st }))) S.at.runs)

@@ -1,35 +1,5 @@
 -- The changes of the accounts are those of the ledger's definitions.
-use Rattle.std.proofs.Common.{◌≡◌, ℕ, ℤ, zero, suc, ◌+◌, ◌<◌, ◌≤◌, ◌==◌, ◌||◌, arith, true, false, Option, Some, None, List, [], ◌∷◌, ◌++◌, length, length-append, slice_get, slice_set, map, filter, unwrap_or, Bool, not, ◌&&◌, ◌⊎◌, inl, inr, refl, ap, ap₂, sym, subst, ◌∙◌}
-use Rattle.std.proofs.Math.Bool.{or-false}
-use Rattle.std.proofs.lemmas.Bool.{cases_eq, cases_lt, eqb-true, or_cases}
-use Rattle.std.proofs.Math.Path.{fun_ext}
-use Rattle.listed.proofs.Members.{got_front, got_back, got_past, got_within}
-use Rattle.listed.proofs.Places.{got_none}
-use Rattle.hh_model.specs.declared.data.Name.{Name}
-use Rattle.hh_model.specs.declared.data.Object.{Object}
-use Rattle.hh_model.specs.declared.data.Edge.{Edge}
-use Rattle.hh_model.specs.declared.data.Status.TheVariants.{Running, Waiting}
-use Rattle.hh_model.specs.declared.data.Task.{Task}
-use Rattle.hh_model.specs.declared.data.State.{State}
-use Rattle.hh_model.specs.Effect.{object_at, row_of, onward}
-use Rattle.hh_model.specs.Step.{is_joined, is_over, waits, is_left, is_on_path, path_in, path_by, through, owner_of, owner_in, parents, joined, parent_of, child, joined_task, resumed, join_of}
-use Rattle.hh_model.proofs.Paths.{AreLow, path_child, path_same, owner_same, owner_joins}
-use Rattle.hh_model.proofs.Runs.{grown_at, grown_left, grown_right, grown_other, grown_past, grown_view, grown_view_front, three_top, three_left, three_right, three_other, three_view, drest, parr}
-use Rattle.hh_model.proofs.Climbs.{owner_here}
-use Rattle.run_ledger.specs.declared.data.Heap.{Heap}
-use Rattle.run_ledger.specs.declared.data.Ledger.{Ledger}
-use Rattle.run_ledger.specs.Heaps.{heap_of, or_fresh, with_heap, with_heap_at, let_go, held, held_in, roots_of, frames_of, is_above, fresh, within, swept_heap, collected, forked_heap, merged, emptied}
-use Rattle.std.specs.List.{flat_map}
-use Rattle.std.proofs.lemmas.Option.{same_Some}
-use Rattle.hh_model.specs.Names.{refs_at, refs_of, registers}
-use Rattle.run_ledger.specs.Reachable.{once_more, reached_by, reached}
-use Rattle.run_ledger.specs.Steps.{at_fork, join_heaps}
-use Rattle.ledger_step_laws.specs.Accounts.{rested, ChangesHeap, Takes, SameTasks}
-use Rattle.run_ledger.specs.Sound.{SoundLedger}
-use Rattle.run_ledger.proofs.Reached.{once_by}
-use Rattle.run_ledger.proofs.Machine.{heap_machine}
-use Rattle.run_ledger.proofs.Frames.{heap_view}
-use Rattle.ledger_step_laws.specs.Kinds.{ForksTask, JoinsTasks}
+use Rattle.ledger_step_laws.proofs.Common.{◌≡◌, ℕ, ℤ, zero, suc, ◌+◌, ◌<◌, ◌≤◌, ◌==◌, ◌||◌, arith, true, false, Option, Some, None, List, [], ◌∷◌, ◌++◌, length, length-append, slice_get, slice_set, map, filter, unwrap_or, Bool, not, ◌&&◌, ◌⊎◌, inl, inr, refl, ap, ap₂, sym, subst, ◌∙◌, or-false, cases_eq, cases_lt, eqb-true, or_cases, fun_ext, got_front, got_back, got_past, got_within, got_none, Name, Object, Edge, Running, Waiting, Task, MachineState, object_at, row_of, onward, is_joined, is_over, waits, is_left, is_on_path, path_in, path_by, through, owner_of, owner_in, parents, joined, parent_of, child, joined_task, resumed, join_of, AreLow, path_child, path_same, owner_same, owner_joins, grown_at, grown_left, grown_right, grown_other, grown_past, grown_view, grown_view_front, three_top, three_left, three_right, three_other, three_view, drest, parr, owner_here, Heap, Ledger, heap_of, or_fresh, with_heap, with_heap_at, let_go, held, held_in, roots_of, frames_of, is_above, fresh, within, swept_heap, collected, forked_heap, merged, emptied, flat_map, same_Some, refs_at, refs_of, registers, once_more, reached_by, reached, at_fork, join_heaps, SoundLedger, once_by, heap_machine, heap_view, rested, ChangesHeap, WorkerTakes, SameTasks, ForksTask, JoinsTasks}
 use Rattle.ledger_step_laws.proofs.Ahead.{with_at, with_off, heap_then}
 
 -- ONE HEAP
@@ -63,14 +33,14 @@ same_tasks l t f w s =
       ];
     }
 
-pub took_takes : (l : Ledger) (t w : ℕ) (h : Heap) → slice_get l.heaps t ≡ Some h → Takes l (with_heap l t (λ h. record h { worker = Some w })) t w
+pub took_takes : (l : Ledger) (t w : ℕ) (h : Heap) → slice_get l.heaps t ≡ Some h → WorkerTakes l (with_heap l t (λ h. record h { worker = Some w })) t w
 took_takes l t w h is = record {
   machine = heap_machine l t _;
   worker = ap (λ o. (or_fresh o).worker) (with_at l t (λ h. record h { worker = Some w }) ∙ ap (heap_then (λ h. record h { worker = Some w })) is);
   heaps = λ u ne. ap or_fresh (with_off l t u _ ne);
 }
 
--- WHAT IS REACHED
+-- REACHABILITY
 
 once_same : (store store' : List (List Object)) → ((k : Name) → refs_at store' k ≡ refs_at store k) → (names found : List Name) → once_more store' names found ≡ once_more store names found
 once_same store store' e names found = ap (λ (f : Name → List Name). once_by f names found) (fun_ext e)
@@ -84,9 +54,9 @@ within_by l l' t refs held roots =
     reached_same l.machine.store l'.machine.store refs (held_in (heap_of l' t)) (roots_of l' t) (length (held_in (heap_of l' t)))
     ∙ ap₂ (λ names roots. reached l.machine.store names roots) held roots
 
--- let go of or not
+-- released or not
 pub within_rested : (l : Ledger) (t u : ℕ) → within (rested l t) u ≡ within l u
-within_rested l t u = by (rested l t) (heap_machine l t let_go) (heaps (slice_get l.heaps t) refl)
+within_rested l t u = within_rested_by_cases (rested l t) (heap_machine l t let_go) (heaps (slice_get l.heaps t) refl)
   where
     held_set : (hs : List Heap) (k : ℕ) (h : Heap) → slice_get hs k ≡ Some h → map held_in (slice_set hs k (let_go h)) ≡ map held_in hs
     held_set [] k h e = refl
@@ -101,15 +71,15 @@ within_rested l t u = by (rested l t) (heap_machine l t let_go) (heaps (slice_ge
     flat [] = refl
     flat (z ∷ zs) = ap (λ ns. held_in z ++ ns) (flat zs)
 
-    at : (hs : List Heap) (k : ℕ) → held_in (or_fresh (slice_get hs k)) ≡ unwrap_or (slice_get (map held_in hs) k) []
-    at [] k = refl
-    at (z ∷ zs) zero = refl
-    at (z ∷ zs) (suc k) = at zs k
+    within_rested_at : (hs : List Heap) (k : ℕ) → held_in (or_fresh (slice_get hs k)) ≡ unwrap_or (slice_get (map held_in hs) k) []
+    within_rested_at [] k = refl
+    within_rested_at (z ∷ zs) zero = refl
+    within_rested_at (z ∷ zs) (suc k) = within_rested_at zs k
 
-    by : (k : Ledger) → k.machine ≡ l.machine → map held_in k.heaps ≡ map held_in l.heaps → within k u ≡ within l u
-    by k m hs =
-        within_by l k u (λ n. ap (λ (z : State). refs_at z.store n) m) (at k.heaps u ∙ (ap (λ ns. unwrap_or (slice_get ns u) []) hs ∙ sym (at l.heaps u)))
-        (ap₂ (λ (z : State) ns. registers (frames_of (slice_get z.tasks u)) ++ flat_map (refs_at z.store) (filter (λ n. is_above z.tasks (owner_of z.tasks n.task) u) ns)) m (flat k.heaps ∙ (ap (flat_map (λ ns. ns)) hs ∙ sym (flat l.heaps))))
+    within_rested_by_cases : (k : Ledger) → k.machine ≡ l.machine → map held_in k.heaps ≡ map held_in l.heaps → within k u ≡ within l u
+    within_rested_by_cases k m hs =
+        within_by l k u (λ n. ap (λ (z : MachineState). refs_at z.store n) m) (within_rested_at k.heaps u ∙ (ap (λ ns. unwrap_or (slice_get ns u) []) hs ∙ sym (within_rested_at l.heaps u)))
+        (ap₂ (λ (z : MachineState) ns. registers (frames_of (slice_get z.tasks u)) ++ flat_map (refs_at z.store) (filter (λ n. is_above z.tasks (owner_of z.tasks n.task) u) ns)) m (flat k.heaps ∙ (ap (flat_map (λ ns. ns)) hs ∙ sym (flat l.heaps))))
 
 -- A FORK
 
@@ -120,7 +90,7 @@ row_two [] (suc (suc u)) = refl
 row_two (r ∷ rows) zero = refl
 row_two (r ∷ rows) (suc u) = row_two rows u
 
--- who has no parent has none above
+-- a task without a parent has no ancestors
 path_none : (par : ℕ → Option ℕ) (z u : ℕ) → par u ≡ None → path_in par z u ≡ (z == u)
 path_none par z zero e = refl
 path_none par z (suc u) e = ap (λ o. (z == suc u) || through o false (path_by par u z)) e ∙ or-false (z == suc u)
@@ -192,14 +162,14 @@ module _ (l : Ledger) (t : ℕ) (x : Task) (g h n : ℕ) (edges : List Edge) (is
       | inr ge ↦ grown_past tasks t x y cl cr is u (omega arith) ∙ sym (past u ge)
     ]
 
-    -- who stands above a child
+    -- the ancestors of a child
     above_child : (z c : ℕ) → parents all c ≡ Some t → is_on_path all z c ≡ true → (z ≡ c) ⊎ (is_on_path tasks z t ≡ true)
     above_child z c is_child h = elim (or_cases (z == c) (is_on_path all z t) (sym (path_child (parents all) low' z c t is_child) ∙ h)) [
       | inl q ↦ inl (eqb-true z c q)
       | inr q ↦ inr (sym (path_all z t (λ r. omega (arith, lt, r)) (λ r. omega (arith, lt, r))) ∙ q)
     ]
 
-    -- what is reached within the heap is the same
+    -- what is reachable within the heap is the same
     pub fork_names : within after t ≡ within l t
     fork_names = within_by l after t refs refl roots
       where
@@ -223,40 +193,40 @@ module _ (l : Ledger) (t : ℕ) (x : Task) (g h n : ℕ) (edges : List Edge) (is
     pub fork_is : ForksTask l l' t a (a + 1) g h x
     fork_is = record {
       task = is;
-      waits = ap (λ (m : State). slice_get m.tasks t) e ∙ grown_at tasks t x y cl cr is;
-      left = ap (λ (m : State). slice_get m.tasks a) e ∙ grown_left tasks t x y cl cr is;
-      right = ap (λ (m : State). slice_get m.tasks (a + 1)) e ∙ grown_right tasks t x y cl cr is;
-      tasks = λ u nt na nb. ap (λ (m : State). slice_get m.tasks u) e ∙ task_all u nt na nb;
-      owners = λ k. ap (λ (m : State). owner_of m.tasks k) e ∙ own_all k;
-      paths = λ z u na nb. ap (λ (m : State). is_on_path m.tasks z u) e ∙ path_all z u na nb;
-      store = λ k. ap (λ (m : State). object_at m.store k) e ∙ ap (λ r. slice_get r k.count) (row_two l.machine.store k.task);
-      rows = λ u. ap (λ (m : State). length (row_of (slice_get m.store u))) e ∙ ap length (row_two l.machine.store u);
+      waits = ap (λ (m : MachineState). slice_get m.tasks t) e ∙ grown_at tasks t x y cl cr is;
+      left = ap (λ (m : MachineState). slice_get m.tasks a) e ∙ grown_left tasks t x y cl cr is;
+      right = ap (λ (m : MachineState). slice_get m.tasks (a + 1)) e ∙ grown_right tasks t x y cl cr is;
+      tasks = λ u nt na nb. ap (λ (m : MachineState). slice_get m.tasks u) e ∙ task_all u nt na nb;
+      owners = λ k. ap (λ (m : MachineState). owner_of m.tasks k) e ∙ own_all k;
+      paths = λ z u na nb. ap (λ (m : MachineState). is_on_path m.tasks z u) e ∙ path_all z u na nb;
+      store = λ k. ap (λ (m : MachineState). object_at m.store k) e ∙ ap (λ r. slice_get r k.count) (row_two l.machine.store k.task);
+      rows = λ u. ap (λ (m : MachineState). length (row_of (slice_get m.store u))) e ∙ ap length (row_two l.machine.store u);
       unmade_left = past a (omega arith);
       unmade_right = past (a + 1) (omega arith);
       new_left = ap (λ r. length (row_of r)) (got_past l.machine.store a (omega (arith, stored)));
       new_right = ap (λ r. length (row_of r)) (got_past l.machine.store (a + 1) (omega (arith, stored)));
       lone_left = λ z p. eqb-true z a (sym (path_none (parents tasks) z a (ap parent_of (past a (omega arith)))) ∙ p);
       lone_right = λ z p. eqb-true z (a + 1) (sym (path_none (parents tasks) z (a + 1) (ap parent_of (past (a + 1) (omega arith)))) ∙ p);
-      above_left = λ z h. above_child z a (ap parent_of (grown_left tasks t x y cl cr is)) (ap (λ (m : State). is_on_path m.tasks z a) (sym e) ∙ h);
-      above_right = λ z h. above_child z (a + 1) (ap parent_of (grown_right tasks t x y cl cr is)) (ap (λ (m : State). is_on_path m.tasks z (a + 1)) (sym e) ∙ h);
+      above_left = λ z h. above_child z a (ap parent_of (grown_left tasks t x y cl cr is)) (ap (λ (m : MachineState). is_on_path m.tasks z a) (sym e) ∙ h);
+      above_right = λ z h. above_child z (a + 1) (ap parent_of (grown_right tasks t x y cl cr is)) (ap (λ (m : MachineState). is_on_path m.tasks z (a + 1)) (sym e) ∙ h);
       left_apart = λ q. omega (arith, lt, q);
       right_apart = λ q. omega (arith, lt, q);
       two = λ q. omega (arith, q);
       names = within after t;
       heap =
           ap or_fresh (with_at (record after { heaps = after.heaps ++ fresh ∷ fresh ∷ [] }) t (forked_heap (within after t)))
-          ∙ (ap (λ o. or_fresh (heap_then (forked_heap (within after t)) o)) (got_front l.heaps (fresh ∷ fresh ∷ []) t (omega (arith, heaps_long, lt))) ∙ there);
+          ∙ (ap (λ o. or_fresh (heap_then (forked_heap (within after t)) o)) (got_front l.heaps (fresh ∷ fresh ∷ []) t (omega (arith, heaps_long, lt))) ∙ fork_is_there);
       heap_left = ap or_fresh (with_off (record after { heaps = after.heaps ++ fresh ∷ fresh ∷ [] }) t a (forked_heap (within after t)) (λ q. omega (arith, lt, q)) ∙ (ap (slice_get (l.heaps ++ fresh ∷ fresh ∷ [])) (let q : a ≡ length l.heaps + 0 = omega (arith, heaps_long) in q) ∙ got_back l.heaps (fresh ∷ fresh ∷ []) 0));
       heap_right = ap or_fresh (with_off (record after { heaps = after.heaps ++ fresh ∷ fresh ∷ [] }) t (a + 1) (forked_heap (within after t)) (λ q. omega (arith, lt, q)) ∙ (ap (slice_get (l.heaps ++ fresh ∷ fresh ∷ [])) (let q : a + 1 ≡ length l.heaps + 1 = omega (arith, heaps_long) in q) ∙ got_back l.heaps (fresh ∷ fresh ∷ []) 1));
       heaps = λ u nt na nb. ap or_fresh (with_off (record after { heaps = after.heaps ++ fresh ∷ fresh ∷ [] }) t u (forked_heap (within after t)) nt ∙ fresh_off l.heaps u (λ q. na (q ∙ heaps_long)) (λ q. nb (q ∙ ap (λ k. k + 1) heaps_long)));
     }
       where
-        there : or_fresh (heap_then (forked_heap (within after t)) (slice_get l.heaps t)) ≡ forked_heap (within after t) (heap_of l t)
-        there = by (slice_get l.heaps t) (got_none l.heaps t (omega (arith, heaps_long, lt)))
+        fork_is_there : or_fresh (heap_then (forked_heap (within after t)) (slice_get l.heaps t)) ≡ forked_heap (within after t) (heap_of l t)
+        fork_is_there = fork_is_there_by_cases (slice_get l.heaps t) (got_none l.heaps t (omega (arith, heaps_long, lt)))
           where
-            by : (o : Option Heap) → (o ≡ None → ⊥) → or_fresh (heap_then (forked_heap (within after t)) o) ≡ forked_heap (within after t) (or_fresh o)
-            by None no_heap = absurd (no_heap refl)
-            by (Some z) no_heap = refl
+            fork_is_there_by_cases : (o : Option Heap) → (o ≡ None → ⊥) → or_fresh (heap_then (forked_heap (within after t)) o) ≡ forked_heap (within after t) (or_fresh o)
+            fork_is_there_by_cases None no_heap = absurd (no_heap refl)
+            fork_is_there_by_cases (Some z) no_heap = refl
 
     pub fork_is_names : fork_is.names ≡ within after t
     unfolding fork_is
@@ -310,21 +280,21 @@ module _ (l : Ledger) (p c n : ℕ) (xp xl xr : Task) (rl rr : ℤ × Option Nam
 
   pub join_is : JoinsTasks l k p c d xp rl rr
   join_is = record {
-    owners = λ a. subst (λ (m : State). ((owner_of m.tasks a ≡ p) × ((owner_of old a ≡ c) ⊎ (owner_of old a ≡ d))) ⊎ ((owner_of m.tasks a ≡ owner_of old a) × ((owner_of old a ≡ c → ⊥) × (owner_of old a ≡ d → ⊥)))) (sym machine_then) (
+    owners = λ a. subst (λ (m : MachineState). ((owner_of m.tasks a ≡ p) × ((owner_of old a ≡ c) ⊎ (owner_of old a ≡ d))) ⊎ ((owner_of m.tasks a ≡ owner_of old a) × ((owner_of old a ≡ c → ⊥) × (owner_of old a ≡ d → ⊥)))) (sym machine_then) (
         subst (λ par. ((owner_in par (joined new) a ≡ p) × ((owner_of old a ≡ c) ⊎ (owner_of old a ≡ d))) ⊎ ((owner_in par (joined new) a ≡ owner_of old a) × ((owner_of old a ≡ c → ⊥) × (owner_of old a ≡ d → ⊥)))) (sym par_same)
         (owner_joins (parents old) S.fork_join.tree.low (joined old) (joined new) c d p (ap parent_of il ∙ pl) (parr old l.machine.edges c p xl xr xp rl rr il ir ip pl left dl dr wl wr S.fork_join.tree) (ap is_joined il ∙ dl) (ap is_joined ir ∙ dr)
         (ap is_joined (three_top old c p xl xr xp (joined_task xl) (joined_task xr) (resumed xp rl rr) il ir ip lt_p))
         (ap is_joined (three_left old c p xl xr xp (joined_task xl) (joined_task xr) (resumed xp rl rr) il ir ip lt_p))
         (ap is_joined (three_right old c p xl xr xp (joined_task xl) (joined_task xr) (resumed xp rl rr) il ir ip lt_p))
         (drest old l.machine.edges c p xl xr xp rl rr il ir ip pl left dl dr wl wr S.fork_join.tree) a));
-    paths = λ a u. ap (λ (m : State). is_on_path m.tasks a u) machine_then ∙ ap (λ par. path_in par a u) par_same;
-    store = λ m. ap (λ (z : State). object_at z.store m) machine_then;
-    rows = λ u. ap (λ (m : State). length (row_of (slice_get m.store u))) machine_then;
+    paths = λ a u. ap (λ (m : MachineState). is_on_path m.tasks a u) machine_then ∙ ap (λ par. path_in par a u) par_same;
+    store = λ m. ap (λ (z : MachineState). object_at z.store m) machine_then;
+    rows = λ u. ap (λ (m : MachineState). length (row_of (slice_get m.store u))) machine_then;
     parent = ip;
-    resumed = ap (λ (m : State). slice_get m.tasks p) machine_then ∙ three_top old c p xl xr xp (joined_task xl) (joined_task xr) (resumed xp rl rr) il ir ip lt_p;
-    left = ap (λ (m : State). is_joined (slice_get m.tasks c)) machine_then ∙ ap is_joined (three_left old c p xl xr xp (joined_task xl) (joined_task xr) (resumed xp rl rr) il ir ip lt_p);
-    right = ap (λ (m : State). is_joined (slice_get m.tasks d)) machine_then ∙ ap is_joined (three_right old c p xl xr xp (joined_task xl) (joined_task xr) (resumed xp rl rr) il ir ip lt_p);
-    tasks = λ u np nc nd. ap (λ (m : State). slice_get m.tasks u) machine_then ∙ three_other old c p xl xr xp (joined_task xl) (joined_task xr) (resumed xp rl rr) il ir ip lt_p u nc nd np;
+    resumed = ap (λ (m : MachineState). slice_get m.tasks p) machine_then ∙ three_top old c p xl xr xp (joined_task xl) (joined_task xr) (resumed xp rl rr) il ir ip lt_p;
+    left = ap (λ (m : MachineState). is_joined (slice_get m.tasks c)) machine_then ∙ ap is_joined (three_left old c p xl xr xp (joined_task xl) (joined_task xr) (resumed xp rl rr) il ir ip lt_p);
+    right = ap (λ (m : MachineState). is_joined (slice_get m.tasks d)) machine_then ∙ ap is_joined (three_right old c p xl xr xp (joined_task xl) (joined_task xr) (resumed xp rl rr) il ir ip lt_p);
+    tasks = λ u np nc nd. ap (λ (m : MachineState). slice_get m.tasks u) machine_then ∙ three_other old c p xl xr xp (joined_task xl) (joined_task xr) (resumed xp rl rr) il ir ip lt_p u nc nd np;
     heap =
         ap or_fresh (with_off k2 d p emptied (λ q. omega (arith, lt_p, q)) ∙ (with_off k1 c p emptied (λ q. omega (arith, lt_p, q)) ∙ with_at joined_then p (λ h. merged h (heap_of joined_then c) (heap_of joined_then d))))
         ∙ then_some (λ h. merged h (heap_of l c) (heap_of l d)) p (got_within old p xp ip);

@@ -1,26 +1,5 @@
--- A last step is of one kind alone: the task that it leaves, the end, and the instruction tell which.
-use Rattle.std.proofs.Common.{◌≡◌, ℕ, ℤ, Bool, true, false, cond, Option, Some, None, slice_get, slice_set, length, inl, inr, refl, ap, ap₂, sym, ◌∙◌}
-use Rattle.std.specs.Option.{option_flatten}
-use Rattle.listed.proofs.Members.{got_same}
-use Rattle.hh_lang.specs.declared.instr.Instr.{Instr}
-use Rattle.hh_lang.specs.declared.instr.Instr.TheVariants.{Set, Mov, Movr, Nil as NilOf, Calc, Same, Jmp, Jz, Newm, Pack, Getr, Geti, Putr, Puti, Cntr, Cnti, Freeze, Cas, Call, Par, Ret, Out}
-use Rattle.hh_lang.specs.declared.program.Line.{Line}
-use Rattle.hh_lang.specs.Form.{ProgramText}
-use Rattle.hh_model.specs.declared.data.Name.{Name}
-use Rattle.hh_model.specs.declared.data.Object.{Object}
-use Rattle.hh_model.specs.declared.data.Frame.{Frame}
-use Rattle.hh_model.specs.declared.data.Status.{Status}
-use Rattle.hh_model.specs.declared.data.Status.TheVariants.{Running, Waiting, Ended, Joined}
-use Rattle.hh_model.specs.declared.data.Task.{Task}
-use Rattle.hh_model.specs.declared.data.End.{End}
-use Rattle.hh_model.specs.declared.data.State.{State}
-use Rattle.hh_model.specs.Effect.{object_at, place_in, int_in, ref_in, same_name, onward}
-use Rattle.hh_model.specs.Step.{is_joined, is_over}
-use Rattle.run_ledger.specs.declared.data.Ledger.{Ledger}
-use Rattle.run_ledger.specs.Heaps.{let_go}
-use Rattle.run_ledger.specs.Steps.{is_private, touched}
-use Rattle.run_ledger.proofs.Machine.{heap_machine}
-use Rattle.ledger_step_laws.specs.Last.{LastKind, Private, Reading, Writing, Printing, Forking, Ending, Joining, Finishing, Halting, IsOfKind, IsApart, IsAt, JustReads, Wrote}
+-- A last step is of one kind only: the task that it leaves, the end, and the instruction determine it.
+use Rattle.ledger_step_laws.proofs.Common.{◌≡◌, ℕ, ℤ, Bool, true, false, cond, Option, Some, None, slice_get, slice_set, length, inl, inr, refl, ap, ap₂, sym, ◌∙◌, option_flatten, got_same, Instr, Set, Mov, Movr, Nil as NilOf, Calc, Same, Jmp, Jz, Newm, Pack, Getr, Geti, Putr, Puti, Cntr, Cnti, Freeze, Cas, Call, Par, Ret, Out, Line, ProgramText, Name, Object, Frame, TaskStatus, Running, Waiting, Ended, Joined, Task, End, MachineState, object_at, place_in, int_in, ref_in, same_name, onward, is_joined, is_over, Ledger, let_go, is_private, touched, heap_machine, LastKind, Private, Reading, Writing, Printing, Forking, Ending, Joining, Finishing, Halting, IsOfKind, IsApart, TaskIsAt, JustReads, Wrote}
 
 -- WHAT A COMPARE AND SWAP FINDS
 
@@ -53,7 +32,7 @@ abbrev by_parent : Option ℕ → LastKind
 by_parent None = Finishing
 by_parent (Some p) = Ending
 
-abbrev by_status : Status → Option ℕ → LastKind → LastKind
+abbrev by_status : TaskStatus → Option ℕ → LastKind → LastKind
 by_status Running p kind = kind
 by_status Waiting p kind = Forking
 by_status (Ended k r) p kind = by_parent p
@@ -63,30 +42,30 @@ abbrev by_task : Option Task → Option ℕ → LastKind → LastKind
 by_task None p kind = kind
 by_task (Some y) p kind = by_status y.status p kind
 
-module _ (p : ProgramText) (l l' : Ledger) (t : ℕ) (x : Task) (line : Line) (I : IsAt p l t x line) (on : l.machine.end ≡ None) where
+module _ (p : ProgramText) (l l' : Ledger) (t : ℕ) (x : Task) (line : Line) (I : TaskIsAt p l t x line) (on : l.machine.end ≡ None) where
   abbrev told : LastKind
   told = cond (is_private p l.machine t) Private (by_task (slice_get l'.machine.tasks t) x.parent (by_end l'.machine.end (by_line l x line.instr)))
 
-  -- it isn't private, and the task that it leaves and the end tell it
+  -- it isn't private; the task that it leaves and the end determine it
   by_all : is_private p l.machine t ≡ false → (o : Option Task) → slice_get l'.machine.tasks t ≡ o → (e : Option End) → l'.machine.end ≡ e → told ≡ by_task o x.parent (by_end e (by_line l x line.instr))
   by_all apart o is e end = ap (λ b. cond b Private (by_task (slice_get l'.machine.tasks t) x.parent (by_end l'.machine.end (by_line l x line.instr)))) apart ∙ ap₂ (λ y z. by_task y x.parent (by_end z (by_line l x line.instr))) is end
 
-  -- the task runs on, and the line tells it
+  -- the task runs on; the line determines it
   by_on : is_private p l.machine t ≡ false → (y : Task) → y.status ≡ x.status → slice_get l'.machine.tasks t ≡ Some y → l'.machine.end ≡ None → told ≡ by_line l x line.instr
   by_on apart y same is end = by_all apart (Some y) is None end ∙ ap (λ s. by_status s x.parent (by_line l x line.instr)) (same ∙ I.runs)
 
   by_joined : is_private p l.machine t ≡ false → is_joined (slice_get l'.machine.tasks t) ≡ true → told ≡ Joining
-  by_joined apart h = by_all apart (slice_get l'.machine.tasks t) refl l'.machine.end refl ∙ by (slice_get l'.machine.tasks t) h
+  by_joined apart h = by_all apart (slice_get l'.machine.tasks t) refl l'.machine.end refl ∙ by_joined_by_cases (slice_get l'.machine.tasks t) h
     where
-      by_over : (s : Status) → is_over s ≡ true → by_status s x.parent (by_end l'.machine.end (by_line l x line.instr)) ≡ Joining
+      by_over : (s : TaskStatus) → is_over s ≡ true → by_status s x.parent (by_end l'.machine.end (by_line l x line.instr)) ≡ Joining
       by_over Running h = absurd cc
       by_over Waiting h = absurd cc
       by_over (Ended k r) h = absurd cc
       by_over Joined h = refl
 
-      by : (o : Option Task) → is_joined o ≡ true → by_task o x.parent (by_end l'.machine.end (by_line l x line.instr)) ≡ Joining
-      by None h = absurd cc
-      by (Some y) h = by_over y.status h
+      by_joined_by_cases : (o : Option Task) → is_joined o ≡ true → by_task o x.parent (by_end l'.machine.end (by_line l x line.instr)) ≡ Joining
+      by_joined_by_cases None h = absurd cc
+      by_joined_by_cases (Some y) h = by_over y.status h
 
   swap_is : (b : Bool) (n : Name) (y : Object) (o k e : ℕ) (i : ℕ) → ref_in x.top o ≡ Some n → object_at l.machine.store n ≡ Some y → place_in (length y.refs) (int_in x.top k) ≡ Some i → same_name (option_flatten (slice_get y.refs i)) (ref_in x.top e) ≡ b
       → matched (object_of l (ref_in x.top o)) (int_in x.top k) (ref_in x.top e) ≡ b
@@ -141,28 +120,28 @@ module _ (p : ProgramText) (l l' : Ledger) (t : ℕ) (x : Task) (line : Line) (I
   writes_by Ret n y y' f r is W = absurd W
   writes_by (Out a) n y y' f r is W = absurd W
 
-  -- the machine after it, where it is known
-  set_task : (y : Task) (m' : State) → l'.machine ≡ m' → m'.tasks ≡ slice_set l.machine.tasks t y → slice_get l'.machine.tasks t ≡ Some y
-  set_task y m' e ts = ap (λ (m : State). slice_get m.tasks t) e ∙ (ap (λ xs. slice_get xs t) ts ∙ got_same l.machine.tasks t x y I.task)
+  -- the machine after it, if that is known
+  set_task : (y : Task) (m' : MachineState) → l'.machine ≡ m' → m'.tasks ≡ slice_set l.machine.tasks t y → slice_get l'.machine.tasks t ≡ Some y
+  set_task y m' e ts = ap (λ (m : MachineState). slice_get m.tasks t) e ∙ (ap (λ xs. slice_get xs t) ts ∙ got_same l.machine.tasks t x y I.task)
 
   kind_is : (kind : LastKind) → IsOfKind p l l' t x line kind → IsApart p l t kind → told ≡ kind
   kind_is Private K a = ap (λ b. cond b Private (by_task (slice_get l'.machine.tasks t) x.parent (by_end l'.machine.end (by_line l x line.instr)))) K
   kind_is Reading K a =
       let e = ap (λ (z : Ledger). z.machine) K.goes in
-      by_on a (record x { top = K.frame }) refl (set_task (record x { top = K.frame }) _ e refl) (ap (λ (m : State). m.end) e ∙ on) ∙ reads_by line.instr K.name K.object K.frame K.touches K.is K.reads
+      by_on a (record x { top = K.frame }) refl (set_task (record x { top = K.frame }) _ e refl) (ap (λ (m : MachineState). m.end) e ∙ on) ∙ reads_by line.instr K.name K.object K.frame K.touches K.is K.reads
   kind_is Writing K a =
       let e = ap (λ (z : Ledger). z.machine) K.goes in
-      let was : object_at l.machine.store K.name ≡ Some K.object = ap (λ (m : State). object_at m.store K.name) (sym (heap_machine l t let_go)) ∙ K.writes.was in
-      by_on a (record x { top = K.frame }) refl (set_task (record x { top = K.frame }) _ e refl) (ap (λ (m : State). m.end) e ∙ on) ∙ writes_by line.instr K.name K.object K.written K.frame K.touches was K.wrote
+      let was : object_at l.machine.store K.name ≡ Some K.object = ap (λ (m : MachineState). object_at m.store K.name) (sym (heap_machine l t let_go)) ∙ K.writes.was in
+      by_on a (record x { top = K.frame }) refl (set_task (record x { top = K.frame }) _ e refl) (ap (λ (m : MachineState). m.end) e ∙ on) ∙ writes_by line.instr K.name K.object K.written K.frame K.touches was K.wrote
   kind_is Printing K a =
       let e = ap (λ (z : Ledger). z.machine) K.goes in
-      by_on a (record x { top = onward x.top }) refl (set_task (record x { top = onward x.top }) _ e refl) (ap (λ (m : State). m.end) e ∙ on) ∙ ap (by_line l x) K.by
+      by_on a (record x { top = onward x.top }) refl (set_task (record x { top = onward x.top }) _ e refl) (ap (λ (m : MachineState). m.end) e ∙ on) ∙ ap (by_line l x) K.by
   kind_is Forking K a = by_all a _ K.forks.waits l'.machine.end refl
   kind_is Ending K a = by_all a _ K.ends.ended l'.machine.end refl ∙ ap by_parent K.is
   kind_is Joining K a = by_joined a (elim K.results [
     | inl r ↦ ap (λ u. is_joined (slice_get l'.machine.tasks u)) r.0 ∙ K.joins.left
     | inr r ↦ ap (λ u. is_joined (slice_get l'.machine.tasks u)) r.0 ∙ K.joins.right
   ])
-  kind_is Finishing K a = by_all a _ (ap (λ (m : State). slice_get m.tasks t) (sym (heap_machine l' t let_go)) ∙ K.ends.ended) l'.machine.end refl ∙ ap by_parent K.root
+  kind_is Finishing K a = by_all a _ (ap (λ (m : MachineState). slice_get m.tasks t) (sym (heap_machine l' t let_go)) ∙ K.ends.ended) l'.machine.end refl ∙ ap by_parent K.root
   kind_is Halting K a =
-      by_all a (Some x) (ap (λ (m : State). slice_get m.tasks t) K.machine ∙ I.task) (Some K.end) (ap (λ (m : State). m.end) K.machine) ∙ ap (λ s. by_status s x.parent Halting) I.runs
+      by_all a (Some x) (ap (λ (m : MachineState). slice_get m.tasks t) K.machine ∙ I.task) (Some K.end) (ap (λ (m : MachineState). m.end) K.machine) ∙ ap (λ s. by_status s x.parent Halting) I.runs

@@ -1,29 +1,18 @@
--- A chunk is reserved for none but a task whose next step asks for words.
-use Rattle.std.proofs.Common.{◌≡◌, ℕ, zero, suc, ◌<◌, ◌≤◌, ◌||◌, cond, arith, Option, Some, None, slice_get, ◌⊎◌, inl, inr, refl, ap₂, sym, ◌∙◌}
-use Rattle.std.proofs.lemmas.Bool.{cases_lt}
-use Rattle.std.proofs.lemmas.Option.{none-some}
-use Rattle.hh_lang.specs.Form.{ProgramText}
-use Rattle.run_trace.specs.Settings.{SettingsValue}
-use Rattle.run_ledger.specs.declared.data.Heap.{Heap}
-use Rattle.run_ledger.specs.declared.data.Ledger.{Ledger}
-use Rattle.run_ledger.specs.Heaps.{or_fresh}
-use Rattle.run_ledger.specs.Steps.{standing, task_step}
-use Rattle.run_ledger.proofs.Booked.{BookedLedger}
-use Rattle.ledger_step_laws.specs.Accounts.{ArePrivate}
-use Rattle.ledger_step_laws.specs.Last.{OnlyAskersReserve}
+-- A chunk is reserved only for a task whose next step allocates.
+use Rattle.ledger_step_laws.proofs.Common.{◌≡◌, ℕ, zero, suc, ◌<◌, ◌≤◌, ◌||◌, cond, arith, Option, Some, None, slice_get, ◌⊎◌, inl, inr, refl, ap₂, sym, ◌∙◌, cases_lt, none-some, ProgramText, SettingsValue, Heap, Ledger, or_fresh, standing, task_step, BookedLedger, ArePrivate, OnlyAskersReserve}
 
 pub booked_askers : (p : ProgramText) (s : SettingsValue) (l : Ledger) → BookedLedger p s l → OnlyAskersReserve p l
-booked_askers p s l B u none = by (slice_get l.heaps u) refl
+booked_askers p s l B u none = booked_askers_by_cases (slice_get l.heaps u) refl
   where
     zero_is : (h : Heap) → slice_get l.heaps u ≡ Some h → (0 < h.reserved) ⊎ (h.reserved ≤ 0) → h.reserved ≡ 0
     zero_is h e (inl lt) = let q = (B.each u h e).reserved lt in absurd (none-some _ (sym none ∙ q.1))
     zero_is h e (inr le) = omega arith
 
-    by : (o : Option Heap) → slice_get l.heaps u ≡ o → (or_fresh o).reserved ≡ 0
-    by None e = refl
-    by (Some h) e = zero_is h e (cases_lt 0 h.reserved)
+    booked_askers_by_cases : (o : Option Heap) → slice_get l.heaps u ≡ o → (or_fresh o).reserved ≡ 0
+    booked_askers_by_cases None e = refl
+    booked_askers_by_cases (Some h) e = zero_is h e (cases_lt 0 h.reserved)
 
--- private steps that are neither due nor in need can stand in one entry
+-- private steps that are neither due nor in need fit in one entry
 pub private_stand : (p : ProgramText) (s : SettingsValue) (t k : ℕ) (l : Ledger) → ArePrivate p s l t k → k ≤ standing s p l t k
 private_stand p s t zero l h = omega arith
 private_stand p s t (suc k) l h =

@@ -1,19 +1,6 @@
--- A task is let go of.
-use Rattle.std.proofs.Common.{◌≡◌, ℕ, Some, length, slice_get, ◌⊎◌, inl, inr, refl, ap, sym, subst, ◌∙◌, Option, None}
-use Rattle.std.proofs.lemmas.Bool.{cases_eq}
-use Rattle.hh_model.specs.declared.data.Name.{Name}
-use Rattle.run_ledger.specs.declared.data.Heap.{Heap}
-use Rattle.run_ledger.specs.declared.data.Ledger.{Ledger}
-use Rattle.run_ledger.specs.Heaps.{heap_of, or_fresh, let_go, with_heap_at}
-use Rattle.run_ledger.specs.Sound.{SoundLedger}
-use Rattle.run_ledger.proofs.Sound.{renewed}
-use Rattle.ledger_step_laws.specs.Accounts.{ChangesHeap, Rests, rested, Knows}
-use Rattle.hh_model.specs.declared.data.State.{State}
+-- A task is released.
+use Rattle.ledger_step_laws.proofs.Common.{◌≡◌, ℕ, Some, length, slice_get, ◌⊎◌, inl, inr, refl, ap, sym, subst, ◌∙◌, Option, None, cases_eq, Name, Heap, Ledger, heap_of, or_fresh, let_go, with_heap_at, SoundLedger, renewed, MachineState, IsStored, Closed, heap_machine, heap_view, ChangesHeap, Rests, rested, Knows}
 use Rattle.ledger_step_laws.proofs.Ahead.{heap_then, with_at, with_off}
-use Rattle.hh_model.specs.Store.{IsStored}
-use Rattle.hh_model.specs.Closed.{Closed}
-use Rattle.run_ledger.proofs.Machine.{heap_machine}
-use Rattle.run_ledger.proofs.Frames.{heap_view}
 
 pub name_cases : (m n : Name) → (m ≡ n) ⊎ (m ≡ n → ⊥)
 name_cases m n = elim (cases_eq m.task n.task) [
@@ -25,11 +12,11 @@ name_cases m n = elim (cases_eq m.task n.task) [
 ]
 
 pub rested_worker : (l : Ledger) (t : ℕ) → Rests (rested l t) t
-rested_worker l t = ap (λ o. (or_fresh o).worker) (with_at l t let_go) ∙ by (slice_get l.heaps t)
+rested_worker l t = ap (λ o. (or_fresh o).worker) (with_at l t let_go) ∙ rested_worker_by_cases (slice_get l.heaps t)
   where
-    by : (o : Option Heap) → (or_fresh (heap_then let_go o)).worker ≡ None
-    by None = refl
-    by (Some h) = refl
+    rested_worker_by_cases : (o : Option Heap) → (or_fresh (heap_then let_go o)).worker ≡ None
+    rested_worker_by_cases None = refl
+    rested_worker_by_cases (Some h) = refl
 
 pub rested_view : {A : Type 0} (view : Heap → A) → ((h : Heap) → view (let_go h) ≡ view h) → (l : Ledger) (t : ℕ) → view (heap_of (rested l t) t) ≡ view (heap_of l t)
 rested_view view same l t = heap_view view l t let_go same t
@@ -44,15 +31,15 @@ rested_changes l l' t C = record {
 }
 
 pub rested_sound : (l : Ledger) (t : ℕ) → SoundLedger l → SoundLedger (rested l t)
-rested_sound l t S = by (slice_get l.heaps t) refl
+rested_sound l t S = rested_sound_by_cases (slice_get l.heaps t) refl
   where
-    by : (o : Option Heap) → slice_get l.heaps t ≡ o → SoundLedger (with_heap_at l t let_go o)
-    by None e = S
-    by (Some h) e = renewed l.machine.tasks l.machine.edges l.machine.store l.heaps S t h (let_go h) e (λ n i. i) (λ n i. i) refl refl refl
+    rested_sound_by_cases : (o : Option Heap) → slice_get l.heaps t ≡ o → SoundLedger (with_heap_at l t let_go o)
+    rested_sound_by_cases None e = S
+    rested_sound_by_cases (Some h) e = renewed l.machine.tasks l.machine.edges l.machine.store l.heaps S t h (let_go h) e (λ n i. i) (λ n i. i) refl refl refl
 
 pub rested_knows : (l : Ledger) (t : ℕ) → Knows l → Knows (rested l t)
 rested_knows l t K = record {
   sound = rested_sound l t K.sound;
-  stored = subst (λ (m : State). Closed m.tasks m.store (IsStored m)) (sym (heap_machine l t let_go)) K.stored;
-  rows = subst (λ (m : State). length m.store ≡ length m.tasks) (sym (heap_machine l t let_go)) K.rows;
+  stored = subst (λ (m : MachineState). Closed m.tasks m.store (IsStored m)) (sym (heap_machine l t let_go)) K.stored;
+  rows = subst (λ (m : MachineState). length m.store ≡ length m.tasks) (sym (heap_machine l t let_go)) K.rows;
 }

@@ -1,12 +1,7 @@
--- What a collection leaves of a heap depends on no more of the machine than the words of what its task owns.
-use Rattle.std.proofs.Common.{◌≡◌, ℕ, ◌+◌, ◌-◌, Bool, true, false, cond, nat_le, None, List, [], ◌∷◌, ◌++◌, inl, inr, refl, ap, ap₂, sym, subst, ◌∙◌}
-use Rattle.std.specs.List.{flat_map, fold}
-use Rattle.listed.proofs.Members.{In}
-use Rattle.hh_model.specs.declared.data.Name.{Name}
-use Rattle.hh_model.specs.declared.data.State.{State}
-use Rattle.run_ledger.specs.Heaps.{words_at, words_sum, chunk_words, room_behind}
+-- The heap after a collection depends on no more of the machine than the words of what its task owns.
+use Rattle.ledger_step_laws.proofs.Common.{◌≡◌, ℕ, ◌+◌, ◌-◌, Bool, true, false, cond, nat_le, None, List, [], ◌∷◌, ◌++◌, inl, inr, refl, ap, ap₂, sym, subst, ◌∙◌, flat_map, fold, In, Name, MachineState, words_at, words_sum, chunk_words, room_behind}
 
-module _ (m m' : State) where
+module _ (m m' : MachineState) where
   abbrev Same : List Name → Type 0
   Same ns = (n : Name) → In ns n → words_at m' n ≡ words_at m n
 

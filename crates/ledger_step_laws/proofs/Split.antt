@@ -1,68 +1,32 @@
--- An accepted entry of steps is private steps and one more of a known kind.
-use Rattle.std.proofs.Common.{◌≡◌, ℕ, zero, suc, ◌+◌, ◌-◌, ◌≤◌, ◌||◌, min, nat_le, arith, Bool, true, false, cond, Option, Some, None, List, ◌++◌, length, slice_get, replicate, inl, inr, refl, ap, sym, subst, ◌∙◌, is_none}
-use Rattle.std.proofs.lemmas.Bool.{false≢true, both_ways, and_parts, cond-true, leb-true}
-use Rattle.std.proofs.Math.Nat.{min-le_right}
-use Rattle.hh_lang.specs.declared.program.Line.{Line}
-use Rattle.hh_lang.specs.Form.{ProgramText, IsProgram}
-use Rattle.run_trace.specs.declared.entry.Kind.TheVariants.{Ran}
-use Rattle.run_trace.specs.Entry.{EntryValue}
-use Rattle.run_trace.specs.Settings.{SettingsValue, field_limit}
-use Rattle.hh_model.specs.declared.data.Name.{Name}
-use Rattle.hh_model.specs.declared.data.Task.{Task}
-use Rattle.hh_model.specs.declared.data.State.{State}
-use Rattle.hh_model.specs.Effect.{row_of}
-use Rattle.hh_model.specs.Step.{step, can_step, goes_on, is_running, fetched, run, run_from, asked}
-use Rattle.hh_model.proofs.Next.{always_next}
-use Rattle.hh_model.proofs.Steps.{runs_is, step_cases}
-use Rattle.run_ledger.specs.declared.data.Heap.{Heap}
-use Rattle.run_ledger.specs.declared.data.Ledger.{Ledger}
-use Rattle.run_ledger.specs.Heaps.{heap_of, let_go, or_fresh, placed}
-use Rattle.run_ledger.specs.Steps.{task_step, task_steps, standing, is_due, is_in_need, is_private, most_steps, stepped_to, allocated_in, allocated_by}
-use Rattle.run_ledger.specs.Entries.{refusal, kind_refusal, after, is_out, long_at}
-use Rattle.listed.specs.Options.{option_is}
-use Rattle.run_ledger.specs.Journals.{ledger_of, is_legal, tasks_of}
-use Rattle.run_ledger.proofs.Going.{machine_goes_on}
-use Rattle.run_ledger.proofs.Booked.{task_steps_booked}
-use Rattle.run_ledger.proofs.Journals.{none_unless, out_tells, entry_tells, entry_sound, accepted_on}
-use Rattle.run_ledger.proofs.Space.{legal_booked}
-use Rattle.run_ledger.proofs.Stocks.{legal_stocked}
-use Rattle.run_ledger.proofs.Holders.{tasks_are_out_once, placed_worker}
-use Rattle.run_ledger.proofs.Machine.{machine_is_run, kind_machine, task_step_machine, heap_machine}
-use Rattle.run_ledger.proofs.Steps.{step_leaves, steps_last, task_steps_sound}
-use Rattle.run_ledger.specs.Sound.{collecting}
-use Rattle.run_ledger.proofs.Frames.{held_is}
-use Rattle.ledger_step_laws.specs.Accounts.{ArePrivate, rested, StepsAlone, Knows, Leaves}
-use Rattle.ledger_step_laws.specs.Last.{GoesOn, IsApart, IdleRest, OnlyAskersReserve, IsAt, IsOfKind, LastKind, Splits, Runs}
+-- An accepted entry of steps consists of private steps and one more of a known kind.
+use Rattle.ledger_step_laws.proofs.Common.{◌≡◌, ℕ, zero, suc, ◌+◌, ◌-◌, ◌≤◌, ◌||◌, min, nat_le, arith, Bool, true, false, cond, Option, Some, None, List, ◌++◌, length, slice_get, replicate, inl, inr, refl, ap, sym, subst, ◌∙◌, is_none, false≢true, both_ways, and_parts, cond-true, leb-true, min-le_right, Line, ProgramText, IsProgram, Ran, EntryValue, SettingsValue, field_limit, Name, Task, MachineState, row_of, step, can_step, goes_on, is_running, fetched, run, run_from, asked, always_next, runs_is, step_cases, Heap, Ledger, heap_of, let_go, or_fresh, placed, task_step, task_steps, standing, is_due, is_in_need, is_private, most_steps, stepped_to, allocated_in, allocated_by, refusal, kind_refusal, after, is_out, long_at, option_is, ledger_of, is_legal, tasks_of, machine_goes_on, task_steps_booked, none_unless, out_tells, entry_tells, entry_sound, accepted_on, legal_booked, legal_stocked, tasks_are_out_once, placed_worker, machine_is_run, kind_machine, task_step_machine, heap_machine, step_leaves, steps_last, task_steps_sound, collecting, held_is, run_root, run_on, can_going, ArePrivate, rested, StepsAlone, Knows, Leaves, GoesOn, IsApart, IdleRest, OnlyAskersReserve, TaskIsAt, IsOfKind, LastKind, Splits, RunsPrivateSteps}
 use Rattle.ledger_step_laws.proofs.Ahead.{heap_after, with_at, with_off, heap_then, steps_alone_all}
 use Rattle.ledger_step_laws.proofs.Along.{step_knows, steps_know}
 use Rattle.ledger_step_laws.proofs.Commute.{alike_self, goes_running, goes_can}
-use Rattle.hh_model.proofs.Root.{run_root}
-use Rattle.hh_model.proofs.Counts.{run_on}
 use Rattle.ledger_step_laws.proofs.Known.{legal_knows, run_knows}
-use Rattle.ledger_step_laws.proofs.Last.{last_step}
+use Rattle.ledger_step_laws.proofs.LastStepCases.{last_step}
 use Rattle.ledger_step_laws.proofs.Reserved.{booked_askers, private_stand}
-use Rattle.path_laws.proofs.Leaves.{can_going}
 
--- THE STEPS THAT CAN STAND IN ONE ENTRY
+-- THE STEPS THAT FIT IN ONE ENTRY
 
 module _ (p : ProgramText) (s : SettingsValue) (t : ℕ) where
   abbrev Stand : Ledger → ℕ → Type 0
   Stand l k = ArePrivate p s l t k × (is_due s p (task_steps p l t k) t ≡ false) × (is_in_need p (task_steps p l t k) t ≡ false)
 
   off : (l : Ledger) (k : ℕ) → suc k ≤ standing s p l t (suc k) → (is_due s p l t ≡ false) × (is_in_need p l t ≡ false) × (suc k ≤ cond (is_private p l.machine t) (suc (standing s p (task_step p l t) t k)) 1)
-  off l k h = by (is_due s p l t) (is_in_need p l t) h
+  off l k h = off_by_cases (is_due s p l t) (is_in_need p l t) h
     where
-      by : (d n : Bool) → suc k ≤ cond (d || n) 0 (cond (is_private p l.machine t) (suc (standing s p (task_step p l t) t k)) 1) → (d ≡ false) × (n ≡ false) × (suc k ≤ cond (is_private p l.machine t) (suc (standing s p (task_step p l t) t k)) 1)
-      by true n h = absurd (omega (arith, h))
-      by false true h = absurd (omega (arith, h))
-      by false false h = (refl, refl, h)
+      off_by_cases : (d n : Bool) → suc k ≤ cond (d || n) 0 (cond (is_private p l.machine t) (suc (standing s p (task_step p l t) t k)) 1) → (d ≡ false) × (n ≡ false) × (suc k ≤ cond (is_private p l.machine t) (suc (standing s p (task_step p l t) t k)) 1)
+      off_by_cases true n h = absurd (omega (arith, h))
+      off_by_cases false true h = absurd (omega (arith, h))
+      off_by_cases false false h = (refl, refl, h)
 
   more : (l : Ledger) (k : ℕ) → suc (suc k) ≤ cond (is_private p l.machine t) (suc (standing s p (task_step p l t) t (suc k))) 1 → (is_private p l.machine t ≡ true) × (suc k ≤ standing s p (task_step p l t) t (suc k))
-  more l k h = by (is_private p l.machine t) h
+  more l k h = more_by_cases (is_private p l.machine t) h
     where
-      by : (v : Bool) → suc (suc k) ≤ cond v (suc (standing s p (task_step p l t) t (suc k))) 1 → (v ≡ true) × (suc k ≤ standing s p (task_step p l t) t (suc k))
-      by false h = absurd (omega (arith, h))
-      by true h = (refl, omega (arith, h))
+      more_by_cases : (v : Bool) → suc (suc k) ≤ cond v (suc (standing s p (task_step p l t) t (suc k))) 1 → (v ≡ true) × (suc k ≤ standing s p (task_step p l t) t (suc k))
+      more_by_cases false h = absurd (omega (arith, h))
+      more_by_cases true h = (refl, omega (arith, h))
 
   stands : (k : ℕ) (l : Ledger) → suc k ≤ standing s p l t (suc k) → Stand l k
   stands zero l h = let r = off l zero h in (tt, r.0, r.1)
@@ -72,14 +36,14 @@ module _ (p : ProgramText) (s : SettingsValue) (t : ℕ) where
       let d = stands k (task_step p l t) n.1 in
       ((r.0, r.1, n.0, d.0), d.1, d.2)
 
-  -- a private step leaves who holds the task
+  -- a private step keeps the task's worker
   pub worker_step : (l : Ledger) → is_private p l.machine t ≡ true → (heap_of (task_step p l t) t).worker ≡ (heap_of l t).worker
-  worker_step l h = ap (λ o. (or_fresh o).worker) (heap_after p l t h) ∙ by (can_step l.machine t) (asked p l.machine t)
+  worker_step l h = ap (λ o. (or_fresh o).worker) (heap_after p l t h) ∙ worker_step_by_cases (can_step l.machine t) (asked p l.machine t)
     where
-      by : (b : Bool) (o : Option ℕ) → (or_fresh (cond b (slice_get (allocated_by l t o).heaps t) (slice_get l.heaps t))).worker ≡ (heap_of l t).worker
-      by false o = refl
-      by true None = refl
-      by true (Some w) =
+      worker_step_by_cases : (b : Bool) (o : Option ℕ) → (or_fresh (cond b (slice_get (allocated_by l t o).heaps t) (slice_get l.heaps t))).worker ≡ (heap_of l t).worker
+      worker_step_by_cases false o = refl
+      worker_step_by_cases true None = refl
+      worker_step_by_cases true (Some w) =
           let n : Name = record { task = t; count = length (row_of (slice_get l.machine.store t)) } in
           ap (λ o. (or_fresh o).worker) (with_at l t (λ z. placed z n w)) ∙ heap (slice_get l.heaps t) n w
         where
@@ -100,24 +64,24 @@ module _ (p : ProgramText) (s : SettingsValue) (t : ℕ) where
       let g = goes_running l l t x K K (alike_self t l) is run p can h.2 in
       steps_go k (task_step p l t) g.0 a.0 a.1 g.1 g.2 (goes_can l l t x K K (alike_self t l) is run p can h.2) h.3
 
--- who doesn't run is held by nobody, where t has stepped alone too
+-- no worker holds a task that doesn't run, also after t has stepped alone
 pub idle_alone : (l k : Ledger) (t : ℕ) (y : Task) → IdleRest l → StepsAlone l k t → slice_get k.machine.tasks t ≡ Some y → is_running (Some y) ≡ true → IdleRest k
 idle_alone l k t y H A is run u h =
     let ne : u ≡ t → ⊥ = λ e. both_ways (is_running (slice_get k.machine.tasks u)) h (ap (λ j. is_running (slice_get k.machine.tasks j)) e ∙ (ap is_running is ∙ run)) in
     ap (λ (z : Heap). z.worker) (A.heaps u ne) ∙ H u (ap is_running (sym (A.tasks u ne)) ∙ h)
 
--- where the accounts of a legal journal haven't ended, neither has the machine
+-- if the accounts of a legal journal haven't ended, neither has the machine
 pub legal_alive : (p : ProgramText) (s : SettingsValue) (journal : List EntryValue) → is_legal p s journal ≡ true → (ledger_of p s journal).end ≡ None → (ledger_of p s journal).machine.end ≡ None
 legal_alive p s journal legal = machine_goes_on p s journal
 
 -- THE LAW
 
 pub legal_idle : (p : ProgramText) (s : SettingsValue) (journal : List EntryValue) → is_legal p s journal ≡ true → (ledger_of p s journal).end ≡ None → IdleRest (ledger_of p s journal)
-legal_idle p s journal legal on u h = by (heap_of (ledger_of p s journal) u).worker refl
+legal_idle p s journal legal on u h = legal_idle_by_cases (heap_of (ledger_of p s journal) u).worker refl
   where
-    by : (o : Option ℕ) → (heap_of (ledger_of p s journal) u).worker ≡ o → o ≡ None
-    by None e = refl
-    by (Some w) e = absurd (both_ways (is_running (slice_get (ledger_of p s journal).machine.tasks u)) h ((tasks_are_out_once p s journal legal).runs on u w e))
+    legal_idle_by_cases : (o : Option ℕ) → (heap_of (ledger_of p s journal) u).worker ≡ o → o ≡ None
+    legal_idle_by_cases None e = refl
+    legal_idle_by_cases (Some w) e = absurd (both_ways (is_running (slice_get (ledger_of p s journal).machine.tasks u)) h ((tasks_are_out_once p s journal legal).runs on u w e))
 
 module _ (p : ProgramText) (s : SettingsValue) (journal : List EntryValue) (w t k : ℕ) (I : IsProgram p) (legal : is_legal p s journal ≡ true) (accepted : refusal p s (ledger_of p s journal) (record { worker = w; kind = Ran t (suc k) }) ≡ None) where
   abbrev l : Ledger
@@ -153,11 +117,11 @@ module _ (p : ProgramText) (s : SettingsValue) (journal : List EntryValue) (w t 
   K = legal_knows p s journal legal
 
   task_there : (x : Task) × (slice_get l.machine.tasks t ≡ Some x) × (is_running (Some x) ≡ true)
-  task_there = by (slice_get l.machine.tasks t) refl out.0
+  task_there = task_there_by_cases (slice_get l.machine.tasks t) refl out.0
     where
-      by : (o : Option Task) → slice_get l.machine.tasks t ≡ o → is_running o ≡ true → (x : Task) × (slice_get l.machine.tasks t ≡ Some x) × (is_running (Some x) ≡ true)
-      by None e h = absurd (false≢true h)
-      by (Some x) e h = (x, e, h)
+      task_there_by_cases : (o : Option Task) → slice_get l.machine.tasks t ≡ o → is_running o ≡ true → (x : Task) × (slice_get l.machine.tasks t ≡ Some x) × (is_running (Some x) ≡ true)
+      task_there_by_cases None e h = absurd (false≢true h)
+      task_there_by_cases (Some x) e h = (x, e, h)
 
   can : can_step l.machine t ≡ true
   can = ap (λ o. goes_on o (is_running (slice_get l.machine.tasks t))) (legal_alive p s journal legal on) ∙ out.0
@@ -181,13 +145,13 @@ module _ (p : ProgramText) (s : SettingsValue) (journal : List EntryValue) (w t 
       ∙ (ap (λ m. run_from p m (replicate k t)) (machine_is_run p s journal) ∙ sym (run_on p (tasks_of journal) (replicate k t) _))
 
   next : (line : Line) × (fetched p goes.0.top ≡ Some line)
-  next = always_next p (field_limit s.version) (tasks_of journal ++ replicate k t) t goes.0 goes.0.top I (ap (λ (m : State). slice_get m.tasks t) (sym machine_run) ∙ goes.1) (0, omega arith, refl)
+  next = always_next p (field_limit s.version) (tasks_of journal ++ replicate k t) t goes.0 goes.0.top I (ap (λ (m : MachineState). slice_get m.tasks t) (sym machine_run) ∙ goes.1) (0, omega arith, refl)
 
-  at : IsAt p lj t goes.0 next.0
-  at = record { task = goes.1; runs = runs_is goes.0.status goes.2; next = next.1 }
+  task_is_at : TaskIsAt p lj t goes.0 next.0
+  task_is_at = record { task = goes.1; runs = runs_is goes.0.status goes.2; next = next.1 }
 
   known : (kind : LastKind) × IsOfKind p lj (after p s l (record { worker = w; kind = Ran t (suc k) })) t goes.0 next.0 kind × (GoesOn kind → (after p s l (record { worker = w; kind = Ran t (suc k) })).machine.end ≡ None) × IsApart p lj t kind
-  known = subst (λ (z : Ledger). (kind : LastKind) × IsOfKind p lj z t goes.0 next.0 kind × (GoesOn kind → z.machine.end ≡ None) × IsApart p lj t kind) (sym (steps_last p l t k)) (last_step p lj t goes.0 next.0 knows idle spare goes.3 at)
+  known = subst (λ (z : Ledger). (kind : LastKind) × IsOfKind p lj z t goes.0 next.0 kind × (GoesOn kind → z.machine.end ≡ None) × IsApart p lj t kind) (sym (steps_last p l t k)) (last_step p lj t goes.0 next.0 knows idle spare goes.3 task_is_at)
 
   pub split : Splits p s l (after p s l (record { worker = w; kind = Ran t (suc k) })) t k
   split = record {
@@ -196,7 +160,7 @@ module _ (p : ProgramText) (s : SettingsValue) (journal : List EntryValue) (w t 
     need = stand.2;
     task = goes.0;
     line = next.0;
-    at = at;
+    at = task_is_at;
     after = steps_last p l t k;
     kind = known.0;
     last = known.1;
@@ -204,7 +168,7 @@ module _ (p : ProgramText) (s : SettingsValue) (journal : List EntryValue) (w t 
     on = known.2;
   }
 
-  -- what the last step leaves to another task that runs
+  -- what the last step leaves unchanged of another running task
   still : collecting (slice_get lj.heaps t) ≡ false
   still = (task_steps_sound p k l t (K.sound, out.1)).1
 
@@ -214,14 +178,14 @@ module _ (p : ProgramText) (s : SettingsValue) (journal : List EntryValue) (w t 
       let stepped : task_step p lj t ≡ stepped_to (allocated_in p lj t) t (step p lj.machine t) = cond-true (can_step lj.machine t) _ (record lj { steps = lj.steps + 1 }) goes.3 in
       let A : StepsAlone l lj t = steps_alone_all p s t k l (K.sound, out.1) stand.0 in
       record {
-        limit = ap (λ (z : Ledger). z.machine.field_limit) e ∙ (ap (λ (m : State). m.field_limit) (task_step_machine p lj t) ∙ (limit lj.machine ∙ ap (λ (m : State). m.field_limit) (sym (heap_machine lj t let_go))));
-        end = end ∙ (sym (can_going lj.machine t goes.3) ∙ ap (λ (m : State). m.end) (sym (heap_machine lj t let_go)));
+        limit = ap (λ (z : Ledger). z.machine.field_limit) e ∙ (ap (λ (m : MachineState). m.field_limit) (task_step_machine p lj t) ∙ (limit lj.machine ∙ ap (λ (m : MachineState). m.field_limit) (sym (heap_machine lj t let_go))));
+        end = end ∙ (sym (can_going lj.machine t goes.3) ∙ ap (λ (m : MachineState). m.end) (sym (heap_machine lj t let_go)));
         heap =
             ap (λ (z : Ledger). slice_get z.heaps u) (e ∙ stepped)
             ∙ ((step_leaves p lj t (knows.sound, still) goes.3).4 u ne (inl (ap is_running (A.tasks u ne) ∙ runs_u)) ∙ sym (with_off lj t u let_go ne));
       }
     where
-      limit : (m : State) → (step p lj.machine t).field_limit ≡ lj.machine.field_limit
+      limit : (m : MachineState) → (step p lj.machine t).field_limit ≡ lj.machine.field_limit
       limit m = step_cases p lj.machine t knows.sound.fork_join (λ m. m.field_limit ≡ lj.machine.field_limit) refl (λ x e i r h. refl) (λ x y store outs i r a b c d e f g h. refl) (λ x o e i r a b c. refl) (λ x g h i r a b. refl)
           (λ o c xp xl xr rl rr a b d e f g h i j k' n q. refl)
 
@@ -229,7 +193,7 @@ module _ (p : ProgramText) (s : SettingsValue) (journal : List EntryValue) (w t 
       × ((u : ℕ) → (u ≡ t → ⊥) → is_running (slice_get l.machine.tasks u) ≡ true → (after p s l (record { worker = w; kind = Ran t (suc k) })).machine.end ≡ None → Leaves u (rested lj t) (after p s l (record { worker = w; kind = Ran t (suc k) })))
   split_leaves = (steps_worker p s t k l stand.0 ∙ holds, goes.3, knows, idle, leaves)
 
-  pub entry_runs : Runs p s l (after p s l (record { worker = w; kind = Ran t (suc k) })) t w k
+  pub entry_runs : RunsPrivateSteps p s l (after p s l (record { worker = w; kind = Ran t (suc k) })) t w k
   entry_runs = record {
     knows = K;
     knows_then = run_knows p (field_limit s.version) (tasks_of journal ++ replicate (suc k) t) (after p s l (record { worker = w; kind = Ran t (suc k) }))
@@ -243,6 +207,6 @@ module _ (p : ProgramText) (s : SettingsValue) (journal : List EntryValue) (w t 
     splits = split;
     out = steps_worker p s t k l stand.0 ∙ holds;
     idle = idle;
-    root = subst (λ (m : State). (u : ℕ) (x : Task) → slice_get m.tasks u ≡ Some x → x.parent ≡ None → u ≡ 0) (sym machine_run) (run_root p (field_limit s.version) (tasks_of journal ++ replicate k t));
+    root = subst (λ (m : MachineState). (u : ℕ) (x : Task) → slice_get m.tasks u ≡ Some x → x.parent ≡ None → u ≡ 0) (sym machine_run) (run_root p (field_limit s.version) (tasks_of journal ++ replicate k t));
     leaves = leaves;
   }

@@ -1,40 +1,21 @@
 -- A write of another task's object is a store of a reference or of a number.
-use Rattle.std.proofs.Common.{◌≡◌, ℕ, pos, true, Some, None, slice_get, length, inl, inr, ap, sym, subst, ◌∙◌}
-use Rattle.std.specs.Option.{option_flatten}
-use Rattle.std.proofs.lemmas.Bool.{cases_eq}
-use Rattle.listed.proofs.Members.{got_same}
-use Rattle.hh_lang.specs.declared.instr.Instr.TheVariants.{Putr, Puti, Cas}
-use Rattle.hh_lang.specs.declared.program.Line.{Line}
-use Rattle.hh_lang.specs.Form.{ProgramText}
-use Rattle.hh_model.specs.declared.data.Task.{Task}
-use Rattle.hh_model.specs.declared.data.State.{State}
-use Rattle.hh_model.specs.Effect.{place_in, int_in, ref_in, same_name}
-use Rattle.hh_model.specs.Step.{is_waiting, runs, waits}
-use Rattle.path_laws.proofs.Leaves.{waiting_stops}
-use Rattle.hh_model.proofs.Changes.{place_within}
-use Rattle.run_ledger.specs.declared.data.Ledger.{Ledger}
-use Rattle.run_ledger.specs.Heaps.{heap_of, or_fresh, let_go}
-use Rattle.run_ledger.specs.Steps.{touched}
-use Rattle.run_ledger.proofs.Machine.{heap_machine}
-use Rattle.ledger_step_laws.specs.Accounts.{Rests, rested, WritesOne}
-use Rattle.ledger_step_laws.specs.Kinds.{StoresOne, StoresNumber}
-use Rattle.ledger_step_laws.specs.Last.{IdleRest, IsAt, Wrote, WritesOther}
+use Rattle.ledger_step_laws.proofs.Common.{◌≡◌, ℕ, pos, true, Some, None, slice_get, length, inl, inr, ap, sym, subst, ◌∙◌, option_flatten, cases_eq, got_same, Putr, Puti, Cas, Line, ProgramText, Task, MachineState, place_in, int_in, ref_in, same_name, is_waiting, runs, waits, waiting_stops, place_within, Ledger, heap_of, or_fresh, let_go, touched, heap_machine, Rests, rested, WritesOne, StoresOne, StoresNumber, IdleRest, TaskIsAt, Wrote, WritesOther}
 use Rattle.ledger_step_laws.proofs.Ahead.{with_off}
 use Rattle.ledger_step_laws.proofs.Rested.{rested_worker}
 
--- who waits rests, also where t is let go of
+-- a waiting task rests, also after t is released
 pub waits_rest : (l : Ledger) (t : ℕ) → IdleRest l → (u : ℕ) → is_waiting (slice_get (rested l t).machine.tasks u) ≡ true → Rests (rested l t) u
 waits_rest l t idle u h = elim (cases_eq u t) [
   | inl e ↦ ap (λ k. (heap_of (rested l t) k).worker) e ∙ rested_worker l t
-  | inr ne ↦ ap (λ o. (or_fresh o).worker) (with_off l t u let_go ne) ∙ idle u (waiting_stops (slice_get l.machine.tasks u) (ap (λ (m : State). is_waiting (slice_get m.tasks u)) (sym (heap_machine l t let_go)) ∙ h))
+  | inr ne ↦ ap (λ o. (or_fresh o).worker) (with_off l t u let_go ne) ∙ idle u (waiting_stops (slice_get l.machine.tasks u) (ap (λ (m : MachineState). is_waiting (slice_get m.tasks u)) (sym (heap_machine l t let_go)) ∙ h))
 ]
 
-module _ (p : ProgramText) (l l' : Ledger) (t : ℕ) (x : Task) (line : Line) (idle : IdleRest l) (I : IsAt p l t x line) (W : WritesOther l l' t x line) where
+module _ (p : ProgramText) (l l' : Ledger) (t : ℕ) (x : Task) (line : Line) (idle : IdleRest l) (I : TaskIsAt p l t x line) (W : WritesOther l l' t x line) where
   at_rested : slice_get (rested l t).machine.tasks t ≡ Some x
-  at_rested = ap (λ (m : State). slice_get m.tasks t) (heap_machine l t let_go) ∙ I.task
+  at_rested = ap (λ (m : MachineState). slice_get m.tasks t) (heap_machine l t let_go) ∙ I.task
 
   goes : slice_get (rested l' t).machine.tasks t ≡ Some (record x { top = W.frame })
-  goes = ap (λ (m : State). slice_get m.tasks t) (heap_machine l' t let_go) ∙ (ap (λ (k : Ledger). slice_get k.machine.tasks t) W.goes ∙ got_same l.machine.tasks t x (record x { top = W.frame }) I.task)
+  goes = ap (λ (m : MachineState). slice_get m.tasks t) (heap_machine l' t let_go) ∙ (ap (λ (k : Ledger). slice_get k.machine.tasks t) W.goes ∙ got_same l.machine.tasks t x (record x { top = W.frame }) I.task)
 
   pub is_store : (o k v : ℕ) → line.instr ≡ Putr o k v → (i : ℕ) × (place_in (length W.object.refs) (int_in x.top k) ≡ Some i) × StoresOne (rested l t) (rested l' t) t x W.name W.object o v i None
   is_store o k v e =

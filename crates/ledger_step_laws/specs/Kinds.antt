@@ -1,14 +1,6 @@
 -- What a fork, a join, the end of a task and a store change of the accounts.
 use Rattle.std.specs.Prelude.{◌≡◌, ◌⊎◌, ℕ, ℤ, ◌+◌, ◌<◌, true, false, Option, Some, None, List, slice_get, slice_set, length}
-use Rattle.hh_model.specs.declared.data.Name.{Name}
-use Rattle.hh_model.specs.declared.data.Frame.{Frame}
-use Rattle.hh_model.specs.declared.data.Object.{Object}
-use Rattle.hh_model.specs.declared.data.Status.TheVariants.{Running, Waiting, Ended}
-use Rattle.hh_model.specs.declared.data.Task.{Task}
-use Rattle.hh_model.specs.Effect.{object_at, row_of, onward, ref_in, int_in, with_int}
-use Rattle.hh_model.specs.Step.{owner_of, is_on_path, is_waiting, is_joined, parents, resumed, child, result_of}
-use Rattle.run_ledger.specs.declared.data.Ledger.{Ledger}
-use Rattle.run_ledger.specs.Heaps.{heap_of, merged, emptied, forked_heap, fresh}
+use Rattle.ledger_step_laws.specs.Common.{Name, Frame, Object, Running, Waiting, Ended, Task, object_at, row_of, onward, ref_in, int_in, with_int, owner_of, is_on_path, is_waiting, is_joined, parents, resumed, child, result_of, Ledger, heap_of, merged, emptied, forked_heap, fresh}
 use Rattle.ledger_step_laws.specs.Accounts.{Rests, StepsAlone, WritesOne}
 
 -- of the accounts
@@ -29,7 +21,7 @@ pub record ForksTask (l l' : Ledger) (t a b g h : ℕ) (x : Task) : Type 0 where
   pub new_right : length (row_of (slice_get l.machine.store b)) ≡ 0
   pub lone_left : (z : ℕ) → is_on_path l.machine.tasks z a ≡ true → z ≡ a
   pub lone_right : (z : ℕ) → is_on_path l.machine.tasks z b ≡ true → z ≡ b
-  -- above a child stand itself and who stood above the parent
+  -- the ancestors of a child are itself and those of the parent
   pub above_left : (z : ℕ) → is_on_path l'.machine.tasks z a ≡ true → (z ≡ a) ⊎ (is_on_path l.machine.tasks z t ≡ true)
   pub above_right : (z : ℕ) → is_on_path l'.machine.tasks z b ≡ true → (z ≡ b) ⊎ (is_on_path l.machine.tasks z t ≡ true)
   pub left_apart : a ≡ t → ⊥
@@ -58,7 +50,7 @@ pub record JoinsTasks (l l' : Ledger) (p c d : ℕ) (x : Task) (rl rr : ℤ × O
   pub heaps : (u : ℕ) → (u ≡ p → ⊥) → (u ≡ c → ⊥) → (u ≡ d → ⊥) → heap_of l' u ≡ heap_of l u
 
 -- of the task p and its children before the join
-pub record CanJoin (l : Ledger) (p c d : ℕ) (x : Task) : Type 0 where
+pub record TasksCanJoin (l : Ledger) (p c d : ℕ) (x : Task) : Type 0 where
   pub left : parents l.machine.tasks c ≡ Some p
   pub right : parents l.machine.tasks d ≡ Some p
   pub two : c ≡ d → ⊥
@@ -84,7 +76,7 @@ pub record EndsTask (l l' : Ledger) (t : ℕ) (x : Task) : Type 0 where
   pub row : length (row_of (slice_get l'.machine.store t)) ≡ length (row_of (slice_get l.machine.store t))
   pub store : (n : Name) → object_at l'.machine.store n ≡ object_at l.machine.store n
 
--- the frame that goes on, with a number in one of its registers where the step sets one
+-- the frame that goes on, with a number in one of its registers if the step sets one
 abbrev pub onward_with : Option (ℕ × ℤ) → Frame → Frame
 onward_with None f = onward f
 onward_with (Some c) f = onward (with_int f c.0 c.1)

@@ -1,13 +1,7 @@
 -- The laws of steps.
-use Rattle.run_ledger.specs.Steps.{task_steps}
+use Rattle.ledger_step_laws.specs.Common.{task_steps, ProgramText, SettingsValue, Task, is_running, can_step, Ledger, collecting}
 use Rattle.std.specs.Prelude.{◌≡◌, ◌⊎◌, ℕ, suc, ℤ, pos, true, false, Option, Some, None, List, slice_get, ◌+◌, ◌<◌, ◌++◌, ◌∷◌, [], slice_set, length}
 use Rattle.std.specs.Option.{option_flatten}
-use Rattle.hh_lang.specs.Form.{ProgramText}
-use Rattle.run_trace.specs.Settings.{SettingsValue}
-use Rattle.hh_model.specs.declared.data.Task.{Task}
-use Rattle.hh_model.specs.Step.{is_running, can_step}
-use Rattle.run_ledger.specs.declared.data.Ledger.{Ledger}
-use Rattle.run_ledger.specs.Sound.{collecting}
 use Rattle.ledger_step_laws.specs.Accounts.{ArePrivate, AlikeFor, Knows}
 
 abbrev pub PrivateStepsAreAlike : Type 0

@@ -1,12 +1,5 @@
 -- In a log without a faulty line each block is born once at most, and released once.
-use Rattle.std.proofs.Common.{◌≡◌, ℕ, true, List, Option, Some, None, arith}
-use Rattle.std.proofs.lemmas.Option.{same_Some}
-use Rattle.std.proofs.lemmas.Bool.Decides.{nat_tests}
-use Rattle.log_tasks.proofs.Accepted.{born_once, released_once}
-use Rattle.log_strands.specs.below.log_lines.{Act, Access, Yield, Store, Birth, Release, Work, Spawn, Join, Finish}
-use Rattle.log_strands.specs.below.log_form.{events_of, log_fault, bears, releases}
-use Rattle.log_births.specs.Blocks.{born, released}
-use Rattle.log_births.specs.Found.{IsDoneOnce}
+use Rattle.log_births.proofs.Common.{◌≡◌, ℕ, true, List, Option, Some, None, arith, same_Some, nat_tests, born_once, released_once, Act, Access, Yield, Store, Birth, Release, Work, Spawn, Join, Finish, events_of, log_fault, bears, releases, born, released, IsDoneOnce}
 
 no_block : {A : Type 0} (b : ℕ) → ◌≡◌ {A = Option ℕ} None (Some b) → A
 no_block b e = absurd (cc)

@@ -1,16 +1,5 @@
 -- What is found at an act is added to what was found before.
-use Rattle.std.proofs.Common.{◌≡◌, ◌<◌, ◌≤◌, ◌+◌, ◌++◌, ◌∷◌, ◌∙◌, ◌⊎◌, inl, inr, ℕ, List, [], length, get_or, map, refl, sym, ap, subst, Option, Some, None, append-nil, arith}
-use Rattle.std.specs.Prelude.{option_to_list}
-use Rattle.std.specs.List.Sorted.{IsStrictlyIncreasing}
-use Rattle.std.proofs.lemmas.Bool.{cases_lt}
-use Rattle.std.proofs.lemmas.List.{map-append, length-append, get_or_append_left, get_or_push}
-use Rattle.std.proofs.lemmas.Option.{get_or_from_slice_get}
-use Rattle.listed.specs.Members.{In}
-use Rattle.listed.proofs.Members.{got_in, in_append_left, in_append_right, in_append_cases}
-use Rattle.listed.proofs.Places.{got_some, map_got}
-use Rattle.listed.proofs.Numbers.{below_next}
-use Rattle.log_births.specs.declared.findings.Finding.{Finding}
-use Rattle.log_births.specs.Found.{AreJustBelow}
+use Rattle.log_births.proofs.Common.{◌≡◌, ◌<◌, ◌≤◌, ◌+◌, ◌++◌, ◌∷◌, ◌∙◌, ◌⊎◌, inl, inr, ℕ, List, [], length, get_or, map, refl, sym, ap, subst, Option, Some, None, append-nil, arith, option_to_list, IsStrictlyIncreasing, cases_lt, map-append, length-append, get_or_append_left, get_or_push, get_or_from_slice_get, In, got_in, in_append_left, in_append_right, in_append_cases, got_some, map_got, below_next, Finding, AreJustBelow}
 
 -- ASCENDING NUMBERS
 

@@ -1,43 +1,24 @@
 -- What a check answers at an act is what is so there.
-use Rattle.std.proofs.Common.{◌≡◌, ◌↔◌, ◌+◌, ◌∙◌, ℕ, List, length, refl, sym, ap, subst, Option, Some, None, slice_get}
-use Rattle.std.proofs.lemmas.Option.{same_Some, slice_get_within}
-use Rattle.fork_graph.specs.declared.graph.Turn.{Turn}
-use Rattle.fork_graph.specs.declared.graph.Strand.{Strand}
-use Rattle.fork_graph.specs.Graph.{tasks_in}
-use Rattle.ancestor_laws.specs.Serial.{IsSerial}
-use Rattle.log_walk.specs.Value.{WalkValue}
-use Rattle.log_tasks.specs.declared.tasks.LogTasks.{LogTasks}
-use Rattle.log_tasks.specs.Numbers.{log_strand}
-use Rattle.log_strands.specs.Places.{StandsAt, StandsNowhere}
-use Rattle.log_strands.specs.below.log_lines.{Act}
-use Rattle.log_strands.specs.below.log_form.{Event, event}
-use Rattle.log_births.specs.declared.lines.LineAt.{LineAt}
-use Rattle.log_births.specs.declared.lines.BlockLines.{BlockLines}
-use Rattle.log_births.specs.declared.lines.Lifetimes.{Lifetimes}
-use Rattle.log_births.specs.declared.findings.Finding.{Finding}
-use Rattle.log_births.specs.Findings.{DoesToBlock}
-use Rattle.log_births.specs.Lines.{line_told, DoesToBlockAt, IsLineOf, Know}
-use Rattle.log_births.specs.Checks.{IsFound, IsAdded}
-use Rattle.log_births.specs.Found.{IsDoneOnce, IsScene, AreJustBelow}
+use Rattle.log_births.proofs.Common.{◌≡◌, ◌↔◌, ◌+◌, ◌∙◌, ℕ, List, length, refl, sym, ap, subst, Option, Some, None, slice_get, same_Some, slice_get_within, GraphTurn, GraphStrand, tasks_in, IsSerialOrder, WalkValue, LogTasks, log_strand, StandsAt, StandsNowhere, Act, Event, event, LineAt, BlockLines, Lifetimes, Finding, DoesToBlock, line_told, DoesToBlockAt, IsLineOf, Know, IsFound, IsAdded, IsDoneOnce, IsScene, AreJustBelow}
 use Rattle.log_births.proofs.Standing.{walk_is_serial, one_strand, done_at, at_done}
 use Rattle.log_births.proofs.Adding.{same_finding, answer_found}
 
 module _ (tasks : LogTasks) (events : List Event) (walk : WalkValue) (known : Lifetimes) (scene : IsScene tasks events walk known) where
-  pub serial : IsSerial (tasks_in tasks.turns) walk.order
-  serial = subst (λ (rows : List (List Turn)). IsSerial (tasks_in rows) walk.order) scene.turns (walk_is_serial walk scene.walked)
+  pub serial : IsSerialOrder (tasks_in tasks.turns) walk.order
+  serial = subst (λ (rows : List (List GraphTurn)). IsSerialOrder (tasks_in rows) walk.order) scene.turns (walk_is_serial walk scene.walked)
 
   same_event : (n : ℕ) (e f : Event) → slice_get events n ≡ Some e → slice_get events n ≡ Some f → e ≡ f
   same_event n e f g h = same_Some e f (sym g ∙ h)
 
   -- the act that is known of a block is the only one
   module _ (does : Act → Option ℕ) (table : BlockLines) (know : Know does tasks walk.order events (length events) table) (once : IsDoneOnce does events) where
-    pub record IsTold (b m : ℕ) (u : Strand) : Type 0 where
+    pub record IsTold (b m : ℕ) (u : GraphStrand) : Type 0 where
       pub line : LineAt
       pub told : line_told table b ≡ Some line
       pub number : line.line ≡ m
       pub at : slice_get walk.order line.place ≡ Some u
 
-    told_by : (b m : ℕ) (u : Strand) → DoesToBlock does events tasks b m u → (o : Option LineAt) → line_told table b ≡ o → IsLineOf does tasks walk.order events (length events) b o → IsTold b m u
+    told_by : (b m : ℕ) (u : GraphStrand) → DoesToBlock does events tasks b m u → (o : Option LineAt) → line_told table b ≡ o → IsLineOf does tasks walk.order events (length events) b o → IsTold b m u
     told_by b m u d None e h =
         let done = done_at does tasks walk.order events serial b m u d in
         absurd (h m done.0 (slice_get_within events m (event (log_strand tasks.numbers u) d.act) d.at) done.2)
@@ -45,28 +26,28 @@ module _ (tasks : LogTasks) (events : List Event) (walk : WalkValue) (known : Li
         let number : line.line ≡ m = once b line.line m h.event (event (log_strand tasks.numbers u) d.act) h.at d.at h.block d.block in
         let same : h.event ≡ event (log_strand tasks.numbers u) d.act = same_event m h.event (event (log_strand tasks.numbers u) d.act) (subst (λ (k : ℕ). slice_get events k ≡ Some h.event) number h.at) d.at in
         let strand : h.stands.strand ≡ u = one_strand tasks scene.ascending scene.size h.stands.strand u h.stands.known d.known (h.stands.is ∙ ap (λ (x : Event). x.strand) same) in
-        record { line = line; told = e; number = number; at = h.stands.at ∙ ap (λ (v : Strand). Some v) strand }
+        record { line = line; told = e; number = number; at = h.stands.at ∙ ap (λ (v : GraphStrand). Some v) strand }
 
-    pub is_told : (b m : ℕ) (u : Strand) → DoesToBlock does events tasks b m u → IsTold b m u
+    pub is_told : (b m : ℕ) (u : GraphStrand) → DoesToBlock does events tasks b m u → IsTold b m u
     is_told b m u d = told_by b m u d (line_told table b) refl (know b)
 
     pub told_does : (b : ℕ) (line : LineAt) → line_told table b ≡ Some line → DoesToBlockAt does tasks walk.order events b line.line line.place
     told_does b line e = subst (λ (o : Option LineAt). IsLineOf does tasks walk.order events (length events) b o) e (know b)
 
   -- an act of a strand of the log
-  module _ (n : ℕ) (s : Strand) (a : Act) (at : slice_get events n ≡ Some (event s a)) (sees : Act → Option ℕ) where
+  module _ (n : ℕ) (s : GraphStrand) (a : Act) (at : slice_get events n ≡ Some (event s a)) (sees : Act → Option ℕ) where
     -- which has no place
-    pub not_seen : StandsNowhere tasks walk.order s → (b : ℕ) (v : Strand) → DoesToBlock sees events tasks b n v → ⊥
+    pub not_seen : StandsNowhere tasks walk.order s → (b : ℕ) (v : GraphStrand) → DoesToBlock sees events tasks b n v → ⊥
     not_seen nowhere b v d =
         let same : event (log_strand tasks.numbers v) d.act ≡ event s a = same_event n (event (log_strand tasks.numbers v) d.act) (event s a) d.at at in
         let all = serial.all v d.attached in
         nowhere all.0 (record { strand = v; at = all.1; known = d.known; is = ap (λ (x : Event). x.strand) same })
 
     module _ (place : ℕ) (stands : StandsAt tasks walk.order s place) where
-      seen_block : (b : ℕ) (v : Strand) → DoesToBlock sees events tasks b n v → sees a ≡ Some b
+      seen_block : (b : ℕ) (v : GraphStrand) → DoesToBlock sees events tasks b n v → sees a ≡ Some b
       seen_block b v d = ap (λ (x : Event). sees x.act) (same_event n (event s a) (event (log_strand tasks.numbers v) d.act) at d.at) ∙ d.block
 
-      seen_strand : (b : ℕ) (v : Strand) → DoesToBlock sees events tasks b n v → stands.strand ≡ v
+      seen_strand : (b : ℕ) (v : GraphStrand) → DoesToBlock sees events tasks b n v → stands.strand ≡ v
       seen_strand b v d =
           one_strand tasks scene.ascending scene.size stands.strand v stands.known d.known
           (stands.is ∙ ap (λ (x : Event). x.strand) (same_event n (event s a) (event (log_strand tasks.numbers v) d.act) at d.at))
@@ -75,11 +56,11 @@ module _ (tasks : LogTasks) (events : List Event) (walk : WalkValue) (known : Li
       see b e = at_done sees tasks walk.order events serial b n place (record { event = event s a; at = at; block = e; stands = stands })
 
       module _ (does : Act → Option ℕ) (table : BlockLines) (know : Know does tasks walk.order events (length events) table) (once : IsDoneOnce does events)
-          (Bad : ℕ → ℕ → Type 0) (IsBad : Strand → Strand → Type 0) (same : (p q : ℕ) (u v : Strand) → slice_get walk.order p ≡ Some u → slice_get walk.order q ≡ Some v → Bad p q ↔ IsBad u v) where
+          (Bad : ℕ → ℕ → Type 0) (IsBad : GraphStrand → GraphStrand → Type 0) (same : (p q : ℕ) (u v : GraphStrand) → slice_get walk.order p ≡ Some u → slice_get walk.order q ≡ Some v → Bad p q ↔ IsBad u v) where
         -- what is so of a finding
         pub record IsSo (f : Finding) : Type 0 where
-          pub first : Strand
-          pub second : Strand
+          pub first : GraphStrand
+          pub second : GraphStrand
           pub done : DoesToBlock does events tasks f.block f.other first
           pub seen : DoesToBlock sees events tasks f.block f.line second
           pub bad : IsBad first second
@@ -103,19 +84,19 @@ module _ (tasks : LogTasks) (events : List Event) (walk : WalkValue) (known : Li
         complete : (answer : Option Finding) → IsFound Bad (line_told table) (sees a) (record { place = place; line = n }) answer → (f : Finding) → f.line ≡ n → IsSo f → answer ≡ Some f
         complete answer h f line so = by_answer answer h
           where
-            here : DoesToBlock sees events tasks f.block n so.second
-            here = subst (λ (k : ℕ). DoesToBlock sees events tasks f.block k so.second) line so.seen
+            complete_here : DoesToBlock sees events tasks f.block n so.second
+            complete_here = subst (λ (k : ℕ). DoesToBlock sees events tasks f.block k so.second) line so.seen
 
             told : IsTold does table know once f.block f.other so.first
             told = is_told does table know once f.block f.other so.first so.done
 
             is_bad : Bad told.line.place place
-            is_bad = (same told.line.place place so.first so.second told.at (stands.at ∙ ap (λ (v : Strand). Some v) (seen_strand f.block so.second here))).1 so.bad
+            is_bad = (same told.line.place place so.first so.second told.at (stands.at ∙ ap (λ (v : GraphStrand). Some v) (seen_strand f.block so.second complete_here))).1 so.bad
 
             by_answer : (o : Option Finding) → IsFound Bad (line_told table) (sees a) (record { place = place; line = n }) o → o ≡ Some f
-            by_answer None none = absurd (none f.block told.line (seen_block f.block so.second here) told.told is_bad)
+            by_answer None none = absurd (none f.block told.line (seen_block f.block so.second complete_here) told.told is_bad)
             by_answer (Some g) one =
-                let block : g.block ≡ f.block = same_Some g.block f.block (sym one.1 ∙ seen_block f.block so.second here) in
+                let block : g.block ≡ f.block = same_Some g.block f.block (sym one.1 ∙ seen_block f.block so.second complete_here) in
                 let other : one.0 ≡ told.line = same_Some one.0 told.line (sym one.2 ∙ ap (line_told table) block ∙ told.told) in
                 ap (λ (x : Finding). Some x) (same_finding g f block (one.3 ∙ sym line) (one.4 ∙ ap (λ (x : LineAt). x.line) other ∙ told.number))
 

@@ -8,3 +8,4 @@ mod Whole
 mod Going
 mod Making
 mod Telling
+mod Common

@@ -1,20 +1,5 @@
 -- What is known of a block after an act more.
-use Rattle.std.proofs.Common.{◌≡◌, ◌<◌, ◌+◌, ◌∙◌, ◌⊎◌, inl, inr, ℕ, Bool, true, false, List, refl, sym, ap, subst, Option, Some, None, slice_get, arith}
-use Rattle.std.specs.Prelude.{if◌then◌else◌}
-use Rattle.std.proofs.lemmas.Option.{same_Some}
-use Rattle.std.proofs.lemmas.Bool.Decides.{nat_tests}
-use Rattle.listed.specs.Options.{option_is}
-use Rattle.listed.proofs.Numbers.{below_next}
-use Rattle.fork_graph.specs.declared.graph.Strand.{Strand}
-use Rattle.log_tasks.specs.declared.tasks.LogTasks.{LogTasks}
-use Rattle.log_strands.specs.Places.{StandsAt, IsPlaceOf}
-use Rattle.log_strands.specs.below.log_lines.{Act}
-use Rattle.log_strands.specs.below.log_form.{Event, event}
-use Rattle.log_births.specs.declared.lines.LineAt.{LineAt}
-use Rattle.log_births.specs.declared.lines.BlockLines.{BlockLines}
-use Rattle.log_births.specs.declared.lines.Lifetimes.{Lifetimes}
-use Rattle.log_births.specs.Blocks.{born, released}
-use Rattle.log_births.specs.Lines.{line_told, noted, DoesToBlockAt, IsLineOf, Know, KnowAll}
+use Rattle.log_births.proofs.Common.{◌≡◌, ◌<◌, ◌+◌, ◌∙◌, ◌⊎◌, inl, inr, ℕ, Bool, true, false, List, refl, sym, ap, subst, Option, Some, None, slice_get, arith, if◌then◌else◌, same_Some, nat_tests, option_is, below_next, GraphStrand, LogTasks, StandsAt, IsPlaceOf, Act, Event, event, LineAt, BlockLines, Lifetimes, born, released, line_told, noted, DoesToBlockAt, IsLineOf, Know, KnowAll}
 
 option_true : (o : Option ℕ) (b : ℕ) → option_is o b ≡ true → o ≡ Some b
 option_true None b e = absurd (let z : false ≡ true = e in cc)
@@ -24,7 +9,7 @@ option_false : (o : Option ℕ) (b : ℕ) → option_is o b ≡ false → o ≡ 
 option_false None b e s = (let z : None ≡ Some b = s in cc)
 option_false (Some c) b e s = let same : c ≡ b = same_Some c b s in let z : false ≡ true = sym e ∙ (let t : option_is (Some c) b ≡ true = grind (arith, nat_tests, same) in t) in cc
 
-module _ (does : Act → Option ℕ) (tasks : LogTasks) (order : List Strand) (events : List Event) (n : ℕ) (s : Strand) (a : Act) (b : ℕ) (at : slice_get events n ≡ Some (event s a)) where
+module _ (does : Act → Option ℕ) (tasks : LogTasks) (order : List GraphStrand) (events : List Event) (n : ℕ) (s : GraphStrand) (a : Act) (b : ℕ) (at : slice_get events n ≡ Some (event s a)) where
   same_event : (m : ℕ) (e : Event) → m ≡ n → slice_get events m ≡ Some e → e ≡ event s a
   same_event m e is got = same_Some e (event s a) (sym got ∙ ap (slice_get events) is ∙ at)
 
@@ -49,12 +34,12 @@ module _ (does : Act → Option ℕ) (tasks : LogTasks) (order : List Strand) (e
   noted_is None nowhere old h = none_more (λ x p is block there. nowhere p (subst (λ (y : Event). StandsAt tasks order y.strand p) is there)) old h
   noted_is (Some place) stands old h = noted_by place stands (option_is (does a) b) refl old h
 
-pub know_more : (does : Act → Option ℕ) (tasks : LogTasks) (order : List Strand) (events : List Event) (n : ℕ) (s : Strand) (a : Act) (place : Option ℕ) (old new : BlockLines) → slice_get events n ≡ Some (event s a)
+pub know_more : (does : Act → Option ℕ) (tasks : LogTasks) (order : List GraphStrand) (events : List Event) (n : ℕ) (s : GraphStrand) (a : Act) (place : Option ℕ) (old new : BlockLines) → slice_get events n ≡ Some (event s a)
     → IsPlaceOf tasks order s place → ((b : ℕ) → line_told new b ≡ noted (does a) place n b (line_told old b)) → Know does tasks order events n old → Know does tasks order events (n + 1) new
 know_more does tasks order events n s a place old new at stands told know b =
     subst (λ (o : Option LineAt). IsLineOf does tasks order events (n + 1) b o) (sym (told b)) (noted_is does tasks order events n s a b at place stands (line_told old b) (know b))
 
-pub all_more : (tasks : LogTasks) (order : List Strand) (events : List Event) (n : ℕ) (s : Strand) (a : Act) (place : Option ℕ) (old new : Lifetimes) → slice_get events n ≡ Some (event s a) → IsPlaceOf tasks order s place
+pub all_more : (tasks : LogTasks) (order : List GraphStrand) (events : List Event) (n : ℕ) (s : GraphStrand) (a : Act) (place : Option ℕ) (old new : Lifetimes) → slice_get events n ≡ Some (event s a) → IsPlaceOf tasks order s place
     → ((b : ℕ) → line_told new.births b ≡ noted (born a) place n b (line_told old.births b)) → ((b : ℕ) → line_told new.releases b ≡ noted (released a) place n b (line_told old.releases b))
     → KnowAll tasks order events n old → KnowAll tasks order events (n + 1) new
 all_more tasks order events n s a place old new at stands births releases all = record {
@@ -62,12 +47,12 @@ all_more tasks order events n s a place old new at stands births releases all = 
   releases = know_more released tasks order events n s a place old.releases new.releases at stands releases all.releases;
 }
 
-none_below : (does : Act → Option ℕ) (tasks : LogTasks) (order : List Strand) (events : List Event) (b : ℕ) (o : Option LineAt) → o ≡ None → IsLineOf does tasks order events 0 b o
+none_below : (does : Act → Option ℕ) (tasks : LogTasks) (order : List GraphStrand) (events : List Event) (b : ℕ) (o : Option LineAt) → o ≡ None → IsLineOf does tasks order events 0 b o
 none_below does tasks order events b None e = λ m place lt there. omega (arith, lt)
 none_below does tasks order events b (Some line) e = absurd (let z : Some line ≡ None = e in cc)
 
 -- at first nothing is known
-pub nothing_known : (tasks : LogTasks) (order : List Strand) (events : List Event) (known : Lifetimes) → ((b : ℕ) → line_told known.births b ≡ None) → ((b : ℕ) → line_told known.releases b ≡ None) → KnowAll tasks order events 0 known
+pub nothing_known : (tasks : LogTasks) (order : List GraphStrand) (events : List Event) (known : Lifetimes) → ((b : ℕ) → line_told known.births b ≡ None) → ((b : ℕ) → line_told known.releases b ≡ None) → KnowAll tasks order events 0 known
 nothing_known tasks order events known births releases = record {
   births = λ b. none_below born tasks order events b (line_told known.births b) (births b);
   releases = λ b. none_below released tasks order events b (line_told known.releases b) (releases b);

@@ -1,17 +1,7 @@
 -- The acts of a piece are those of the log from one on.
-use Rattle.std.proofs.Common.{◌≡◌, ◌<◌, ◌+◌, ◌++◌, ◌∷◌, ◌∙◌, ℕ, List, [], length, get_or, take, drop, slice_range, sym, ap, subst, Some, slice_get, append_assoc, arith}
-use Rattle.std.proofs.lemmas.List.{take-append-drop, drop_more, length_push, length-map, length-append}
-use Rattle.std.proofs.lemmas.Grind.{flat_map-append}
-use Rattle.listed.proofs.Places.{got_middle}
-use Rattle.fork_graph.specs.declared.graph.Strand.{Strand}
-use Rattle.log_pieces.specs.declared.piece.Piece.{Piece}
-use Rattle.log_pieces.specs.Pieces.{on_strand, text_at, acts_in, acts_of_piece, events_in, events_of_pieces}
-use Rattle.log_tasks.proofs.Lines.{pieces_more}
-use Rattle.log_strands.specs.below.log_lines.{Act}
-use Rattle.log_strands.specs.below.log_form.{Event, event}
-use Rattle.log_births.specs.Lines.{IsPart}
+use Rattle.log_births.proofs.Common.{◌≡◌, ◌<◌, ◌+◌, ◌++◌, ◌∷◌, ◌∙◌, ℕ, List, [], length, get_or, take, drop, slice_range, sym, ap, subst, Some, slice_get, append_assoc, arith, take-append-drop, drop_more, length_push, length-map, length-append, flat_map-append, got_middle, GraphStrand, LogPiece, on_strand, text_at, acts_in, acts_of_piece, events_in, events_of_pieces, pieces_more, Act, Event, event, IsPart}
 
-module _ (events : List Event) (first : ℕ) (s : Strand) (a : Act) (acts : List Act) where
+module _ (events : List Event) (first : ℕ) (s : GraphStrand) (a : Act) (acts : List Act) where
   -- the first act
   pub part_first : IsPart events first s (a ∷ acts) → slice_get events first ≡ Some (event s a)
   part_first part =
@@ -28,12 +18,12 @@ module _ (events : List Event) (first : ℕ) (s : Strand) (a : Act) (acts : List
   }
 
 -- those of a piece
-pub part_of : (texts : List (List ℕ)) (pieces : List Piece) (i : ℕ) (d : Piece) (text : List ℕ) (first : ℕ) → i < length pieces
+pub part_of : (texts : List (List ℕ)) (pieces : List LogPiece) (i : ℕ) (d : LogPiece) (text : List ℕ) (first : ℕ) → i < length pieces
     → text ≡ slice_range (text_at texts (get_or pieces i d).file) (get_or pieces i d).begin (get_or pieces i d).end → first ≡ length (events_of_pieces texts (take i pieces))
     → IsPart (events_of_pieces texts pieces) first (get_or pieces i d).strand (acts_in text)
 part_of texts pieces i d text first lt is count =
     let p = get_or pieces i d in
-    let all : pieces ≡ take i pieces ++ (p ∷ drop (i + 1) pieces) = sym (ap (λ (ps : List Piece). take i pieces ++ ps) (sym (drop_more pieces i d lt)) ∙ take-append-drop i pieces) in
+    let all : pieces ≡ take i pieces ++ (p ∷ drop (i + 1) pieces) = sym (ap (λ (ps : List LogPiece). take i pieces ++ ps) (sym (drop_more pieces i d lt)) ∙ take-append-drop i pieces) in
     record {
       before = events_of_pieces texts (take i pieces);
       after = events_of_pieces texts (drop (i + 1) pieces);
@@ -45,7 +35,7 @@ part_of texts pieces i d text first lt is count =
     }
 
 -- how many acts there are before the next piece
-pub count_more : (texts : List (List ℕ)) (pieces : List Piece) (i : ℕ) (d : Piece) (text : List ℕ) (first line : ℕ) → i < length pieces
+pub count_more : (texts : List (List ℕ)) (pieces : List LogPiece) (i : ℕ) (d : LogPiece) (text : List ℕ) (first line : ℕ) → i < length pieces
     → text ≡ slice_range (text_at texts (get_or pieces i d).file) (get_or pieces i d).begin (get_or pieces i d).end → first ≡ length (events_of_pieces texts (take i pieces)) → line ≡ first + length (acts_in text)
     → line ≡ length (events_of_pieces texts (take (i + 1) pieces))
 count_more texts pieces i d text first line lt is count more =

@@ -1,7 +1,5 @@
 -- Entangled uses tell of entangled reads.
-use Rattle.fork_graph.specs.Graph.{tasks_in}
-use Rattle.ancestor_laws.proofs.Walks.{both}
-use Rattle.log_births.specs.Laws.{UsesTellReads}
+use Rattle.log_births.proofs.Common.{tasks_in, both, UsesTellReads}
 
 pub uses_tell_reads : UsesTellReads
 uses_tell_reads events tasks found entangled n read yields before = record {

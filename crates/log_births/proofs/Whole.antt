@@ -1,30 +1,5 @@
 -- All that is found.
-use Rattle.std.proofs.Common.{◌≡◌, ◌≢◌, ◌↔◌, ◌<◌, ◌+◌, ◌∙◌, ℕ, List, [], length, sym, ap, subst, Option, Some, None, slice_get, arith}
-use Rattle.std.specs.Prelude.{IfSome}
-use Rattle.std.proofs.lemmas.List.{length-map}
-use Rattle.std.proofs.lemmas.Option.{same_Some, slice_get_within, get_or_from_slice_get}
-use Rattle.listed.proofs.Places.{got_some}
-use Rattle.fork_graph.specs.declared.graph.Turn.{Turn}
-use Rattle.fork_graph.specs.declared.graph.Strand.{Strand}
-use Rattle.fork_graph.specs.declared.fault.Extent.{Extent}
-use Rattle.fork_graph.specs.Graph.{tasks_in, strand, Precedes}
-use Rattle.log_walk.specs.Tables.{strand_at}
-use Rattle.log_walk.specs.Value.{WalkValue, IsWalked}
-use Rattle.log_pieces.specs.declared.piece.Piece.{Piece}
-use Rattle.log_tasks.specs.declared.tasks.LogTasks.{LogTasks}
-use Rattle.log_tasks.specs.Log.{IsLog}
-use Rattle.log_strands.specs.Places.{IsPlaceOf, ArePlaces}
-use Rattle.log_strands.specs.below.log_lines.{Act}
-use Rattle.log_strands.specs.below.log_form.{Event, event, events_of, log_fault}
-use Rattle.log_births.specs.declared.lines.LineAt.{LineAt}
-use Rattle.log_births.specs.declared.lines.Lifetimes.{Lifetimes}
-use Rattle.log_births.specs.declared.findings.Finding.{Finding}
-use Rattle.log_births.specs.declared.findings.Findings.{Findings}
-use Rattle.log_births.specs.Blocks.{born, released, yielded, used}
-use Rattle.log_births.specs.Findings.{DoesToBlock, IsEntangled, IsEntangledRead, IsEntangledUse, IsStaleUse, AreJust, AreFindings}
-use Rattle.log_births.specs.Lines.{line_told, IsLineOf, KnowAll}
-use Rattle.log_births.specs.Checks.{AreBothWithin, PrecedesAt, IsEarly, IsLate, AreAdded}
-use Rattle.log_births.specs.Found.{IsScene, AreJustBelow, AreFoundBelow}
+use Rattle.log_births.proofs.Common.{◌≡◌, ◌≢◌, ◌↔◌, ◌<◌, ◌+◌, ◌∙◌, ℕ, List, [], length, sym, ap, subst, Option, Some, None, slice_get, arith, IfSome, length-map, same_Some, slice_get_within, get_or_from_slice_get, got_some, GraphTurn, GraphStrand, Extent, tasks_in, strand, Precedes, strand_at, WalkValue, IsWalked, LogPiece, LogTasks, IsLog, IsPlaceOf, ArePiecePlaces, Act, Event, event, events_of, log_fault, LineAt, Lifetimes, Finding, Findings, born, released, yielded, used, DoesToBlock, IsEntangled, IsEntangledRead, IsEntangledUse, IsStaleUse, AreJust, AreFindings, line_told, IsLineOf, KnowAll, AreBothWithin, PrecedesAt, IsEarly, IsLate, AreAdded, IsScene, AreJustBelow, AreFoundBelow}
 use Rattle.log_births.proofs.Accepted.{one_birth, one_release}
 use Rattle.log_births.proofs.Adding.{none_found}
 use Rattle.log_births.proofs.Answering.{serial, not_seen, added, IsSo}
@@ -32,29 +7,29 @@ use Rattle.log_births.proofs.Answering.{serial, not_seen, added, IsSo}
 -- ONE ACT MORE
 
 module _ (tasks : LogTasks) (events : List Event) (walk : WalkValue) (known : Lifetimes) (scene : IsScene tasks events walk known) where
-  module _ (p q : ℕ) (u v : Strand) (at_p : slice_get walk.order p ≡ Some u) (at_q : slice_get walk.order q ≡ Some v) where
+  module _ (p q : ℕ) (u v : GraphStrand) (at_p : slice_get walk.order p ≡ Some u) (at_q : slice_get walk.order q ≡ Some v) where
     at_strands : PrecedesAt walk p q ≡ Precedes (tasks_in tasks.turns) u v
     at_strands =
-        ap (λ (rows : List (List Turn)). Precedes (tasks_in rows) (strand_at walk.order p) (strand_at walk.order q)) scene.turns
-        ∙ ap (λ (x : Strand). Precedes (tasks_in tasks.turns) x (strand_at walk.order q)) (get_or_from_slice_get walk.order p u (strand 0 0) at_p)
-        ∙ ap (λ (x : Strand). Precedes (tasks_in tasks.turns) u x) (get_or_from_slice_get walk.order q v (strand 0 0) at_q)
+        ap (λ (rows : List (List GraphTurn)). Precedes (tasks_in rows) (strand_at walk.order p) (strand_at walk.order q)) scene.turns
+        ∙ ap (λ (x : GraphStrand). Precedes (tasks_in tasks.turns) x (strand_at walk.order q)) (get_or_from_slice_get walk.order p u (strand 0 0) at_p)
+        ∙ ap (λ (x : GraphStrand). Precedes (tasks_in tasks.turns) u x) (get_or_from_slice_get walk.order q v (strand 0 0) at_q)
 
-    there : PrecedesAt walk p q → Precedes (tasks_in tasks.turns) u v
-    there h = subst (λ (X : Type 0). X) at_strands h
+    precedes_by_position : PrecedesAt walk p q → Precedes (tasks_in tasks.turns) u v
+    precedes_by_position h = subst (λ (X : Type 0). X) at_strands h
 
     back : Precedes (tasks_in tasks.turns) u v → PrecedesAt walk p q
     back h = subst (λ (X : Type 0). X) (sym at_strands) h
 
     early : IsEarly walk p q ↔ (Precedes (tasks_in tasks.turns) u v → ⊥)
-    early = (λ h e. h (back e), λ h e. h (there e))
+    early = (λ h e. h (back e), λ h e. h (precedes_by_position e))
 
     late : IsLate walk p q ↔ ((u ≢ v) × Precedes (tasks_in tasks.turns) u v)
     late = (
-      λ h. ((λ e. h.0 ((serial tasks events walk known scene).once p q v (at_p ∙ ap (λ (x : Strand). Some x) e) at_q)), there h.1),
+      λ h. ((λ e. h.0 ((serial tasks events walk known scene).once p q v (at_p ∙ ap (λ (x : GraphStrand). Some x) e) at_q)), precedes_by_position h.1),
       λ h. ((λ e. h.0 (same_Some u v (sym at_p ∙ ap (slice_get walk.order) e ∙ at_q))), back h.1),
     )
 
-  module _ (n : ℕ) (s : Strand) (a : Act) (at : slice_get events n ≡ Some (event s a)) where
+  module _ (n : ℕ) (s : GraphStrand) (a : Act) (at : slice_get events n ≡ Some (event s a)) where
     found_by : (place : Option ℕ) → IsPlaceOf tasks walk.order s place → (before after : Findings) → AreAdded walk known a place n before after
         → AreFoundBelow events tasks n before → AreFoundBelow events tasks (n + 1) after
     found_by None nowhere before after h found = subst (AreFoundBelow events tasks (n + 1)) (sym h) (record {
@@ -106,12 +81,12 @@ are_within tasks walk events n known all = record {
   releases = λ b at e. within_by released tasks walk events n b (line_told known.releases b) (all.releases b) at e;
 }
 
-place_by : (tasks : LogTasks) (order : List Strand) (s : Strand) (place : Option ℕ) → IsPlaceOf tasks order s place → IfSome place (λ p. p < length order)
+place_by : (tasks : LogTasks) (order : List GraphStrand) (s : GraphStrand) (place : Option ℕ) → IsPlaceOf tasks order s place → IfSome place (λ p. p < length order)
 place_by tasks order s None h = tt
 place_by tasks order s (Some p) h = slice_get_within order p h.strand h.at
 
 -- the places of pieces are within the order
-pub places_within : (tasks : LogTasks) (order : List Strand) (pieces : List Piece) (places : List (Option ℕ)) → ArePlaces tasks order pieces places → (k p : ℕ) → slice_get places k ≡ Some (Some p) → p < length order
+pub places_within : (tasks : LogTasks) (order : List GraphStrand) (pieces : List LogPiece) (places : List (Option ℕ)) → ArePiecePlaces tasks order pieces places → (k p : ℕ) → slice_get places k ≡ Some (Some p) → p < length order
 places_within tasks order pieces places are k p e =
     let lt = slice_get_within places k (Some p) e in
     let piece = got_some pieces k (let count = are.count in omega (arith, lt, count)) in

@@ -1,9 +1,6 @@
 -- What is found at one act.
 use Rattle.std.specs.Prelude.{◌≡◌, ◌≢◌, ◌<◌, ◌++◌, ℕ, Option, Some, None, List, length, option_to_list}
-use Rattle.fork_graph.specs.Graph.{tasks_in, Precedes}
-use Rattle.log_walk.specs.Tables.{strand_at}
-use Rattle.log_walk.specs.Value.{WalkValue}
-use Rattle.log_strands.specs.below.log_lines.{Act}
+use Rattle.log_births.specs.Common.{tasks_in, Precedes, strand_at, WalkValue, Act}
 use Rattle.log_births.specs.declared.findings.Finding.{Finding}
 use Rattle.log_births.specs.declared.findings.Findings.{Findings}
 use Rattle.log_births.specs.declared.lines.LineAt.{LineAt}

@@ -1,14 +1,7 @@
 -- Reads and uses of blocks that come too early or too late.
 use Rattle.std.specs.Prelude.{◌≡◌, ◌≢◌, ◌↔◌, ℕ, true, Option, Some, List, map, slice_get}
 use Rattle.std.specs.List.Sorted.{IsStrictlyIncreasing}
-use Rattle.listed.specs.Members.{In}
-use Rattle.fork_graph.specs.declared.graph.Strand.{Strand}
-use Rattle.fork_graph.specs.Graph.{tasks_in, Precedes, IsAttached}
-use Rattle.log_tasks.specs.declared.tasks.LogTasks.{LogTasks}
-use Rattle.log_tasks.specs.Numbers.{log_strand}
-use Rattle.log_strands.specs.Places.{is_known}
-use Rattle.log_strands.specs.below.log_lines.{Act}
-use Rattle.log_strands.specs.below.log_form.{Event, event}
+use Rattle.log_births.specs.Common.{In, GraphStrand, tasks_in, Precedes, IsAttached, LogTasks, log_strand, is_known, Act, Event, event}
 use Rattle.log_births.specs.declared.findings.Finding.{Finding}
 use Rattle.log_births.specs.declared.findings.Findings.{Findings}
 use Rattle.log_births.specs.Blocks.{born, released, yielded, used}
@@ -16,7 +9,7 @@ use Rattle.log_births.specs.Blocks.{born, released, yielded, used}
 -- LINES
 
 -- act n of the log, counted from 0 over all its files, is on strand u of the graph, and does this to block b
-pub record DoesToBlock (does : Act → Option ℕ) (events : List Event) (tasks : LogTasks) (b n : ℕ) (u : Strand) : Type 0 where
+pub record DoesToBlock (does : Act → Option ℕ) (events : List Event) (tasks : LogTasks) (b n : ℕ) (u : GraphStrand) : Type 0 where
   pub act : Act
   pub at : slice_get events n ≡ Some (event (log_strand tasks.numbers u) act)
   pub block : does act ≡ Some b
@@ -27,8 +20,8 @@ pub record DoesToBlock (does : Act → Option ℕ) (events : List Event) (tasks 
 
 -- act `line` sees the block, whose birth, act `other`, doesn't happen before it
 pub record IsEntangled (sees : Act → Option ℕ) (events : List Event) (tasks : LogTasks) (f : Finding) : Type 0 where
-  pub birth : Strand
-  pub strand : Strand
+  pub birth : GraphStrand
+  pub strand : GraphStrand
   pub born_there : DoesToBlock born events tasks f.block f.other birth
   pub seen_here : DoesToBlock sees events tasks f.block f.line strand
   pub not_before : Precedes (tasks_in tasks.turns) birth strand → ⊥
@@ -43,8 +36,8 @@ IsEntangledUse = IsEntangled used
 
 -- act `line` accesses the block, whose release, act `other`, happens before it on another strand
 pub record IsStaleUse (events : List Event) (tasks : LogTasks) (f : Finding) : Type 0 where
-  pub release : Strand
-  pub strand : Strand
+  pub release : GraphStrand
+  pub strand : GraphStrand
   pub released_there : DoesToBlock released events tasks f.block f.other release
   pub used_here : DoesToBlock used events tasks f.block f.line strand
   pub before : Precedes (tasks_in tasks.turns) release strand

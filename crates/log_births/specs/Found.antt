@@ -1,11 +1,7 @@
 -- What is found among the first acts of a log.
 use Rattle.std.specs.Prelude.{◌≡◌, ◌≤◌, ◌<◌, ◌^◌, ◌↔◌, ℕ, Option, Some, List, length, map, slice_get}
 use Rattle.std.specs.List.Sorted.{IsStrictlyIncreasing}
-use Rattle.listed.specs.Members.{In}
-use Rattle.log_walk.specs.Value.{WalkValue, IsWalked}
-use Rattle.log_tasks.specs.declared.tasks.LogTasks.{LogTasks}
-use Rattle.log_strands.specs.below.log_lines.{Act}
-use Rattle.log_strands.specs.below.log_form.{Event}
+use Rattle.log_births.specs.Common.{In, WalkValue, IsWalked, LogTasks, Act, Event}
 use Rattle.log_births.specs.declared.find.FindError.{FindError}
 use Rattle.log_births.specs.declared.find.FindError.TheVariants.{TooLong, NoMemory}
 use Rattle.log_births.specs.declared.findings.Finding.{Finding}

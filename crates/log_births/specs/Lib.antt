@@ -4,3 +4,4 @@ pub mod Lines
 pub mod Checks
 pub mod Found
 pub mod Laws
+mod Common

@@ -8,9 +8,9 @@ ghost use Rattle.log_births.specs.Checks.{AreWithin, AreBothWithin, IsEarly, IsL
 use crate::acts::{used, yielded};
 use crate::findings::{Finding, Findings};
 use crate::lines::{BlockLines, Lifetimes, LineAt};
-use listed::Listed;
 use log_strands::Act;
 use log_walk::SerialWalk;
+use plain_vec::Listed;
 use std::alloc::AllocError;
 
 // What is found where an act sees a block: that the block's birth doesn't happen before it.

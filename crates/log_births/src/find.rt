@@ -1,12 +1,12 @@
 // Finds all acts that see a block too early, or use it too late.
 
 ghost use Rattle.std.specs.Prelude.{◌≡◌, ◌<◌, ◌+◌, ◌^◌, [], ℕ, List, Some, None, IfOk, IfErr, IfSome, OnOk, length, slice_get};
-ghost use Rattle.fork_graph.specs.declared.graph.Strand.{Strand};
+ghost use Rattle.fork_graph.specs.declared.graph.GraphStrand.{GraphStrand};
 ghost use Rattle.fork_graph.specs.declared.fault.Extent.{Extent};
 ghost use Rattle.log_pieces.specs.Pieces.{acts_in, events_of_pieces};
 ghost use Rattle.log_tasks.specs.declared.tasks.LogTasks.{LogTasks};
 ghost use Rattle.log_tasks.specs.Log.{IsLog};
-ghost use Rattle.log_strands.specs.Places.{IsPlaceOf, ArePlaces};
+ghost use Rattle.log_strands.specs.Places.{IsPlaceOf, ArePiecePlaces};
 ghost use Rattle.log_strands.specs.below.log_form.{Event, events_of, log_fault};
 ghost use Rattle.log_births.specs.Lines.{IsPart};
 ghost use Rattle.log_births.specs.Checks.{AreBothWithin};
@@ -15,11 +15,11 @@ ghost use Rattle.log_births.specs.Found.{IsScene, AreFoundBelow, IsTooLong};
 
 use crate::findings::Findings;
 use crate::lines::{Lifetimes, lifetimes_of};
-use listed::Listed;
-use log_pieces::Piece;
+use log_pieces::LogPiece;
 use log_strands::{count_acts, next_act, piece_places};
 use log_tasks::{LogTasks, piece_text};
 use log_walk::SerialWalk;
+use plain_vec::Listed;
 use std::alloc::{AllocError, Global};
 
 /// Why the findings of a log aren't known.
@@ -67,7 +67,7 @@ impl Findings {
         requires place { IfSome place (λ p. p < length walk.now.order) }
         requires within { AreBothWithin walk.now lines.now }
         ensures line { IfOk result (λ line. line ≡ first + length (acts_in text.now)) }
-        ensures found { IfOk result (λ line. (tasks : LogTasks) (events : List Event) (s : Strand) → IsScene tasks events walk.now lines.now → IsPlaceOf tasks walk.now.order s place
+        ensures found { IfOk result (λ line. (tasks : LogTasks) (events : List Event) (s : GraphStrand) → IsScene tasks events walk.now lines.now → IsPlaceOf tasks walk.now.order s place
             → IsPart events first s (acts_in text.now) → AreFoundBelow events tasks first self.old → AreFoundBelow events tasks line self.new) }
     {
         let mut line = first;
@@ -86,14 +86,14 @@ impl Findings {
         walk: &SerialWalk,
         lines: &Lifetimes,
         texts: &[Listed<u8>],
-        pieces: &[Piece],
+        pieces: &[LogPiece],
         places: &[Option<usize>],
     ) -> Result<(), AllocError>
         requires places { length places.now ≡ length pieces.now }
         requires few { length (events_of_pieces texts.now pieces.now) < 2 ^ 32 }
         requires there { (k p : ℕ) → slice_get places.now k ≡ Some (Some p) → p < length walk.now.order }
         requires within { AreBothWithin walk.now lines.now }
-        ensures { OnOk result ((tasks : LogTasks) → IsScene tasks (events_of_pieces texts.now pieces.now) walk.now lines.now → ArePlaces tasks walk.now.order pieces.now places.now
+        ensures { OnOk result ((tasks : LogTasks) → IsScene tasks (events_of_pieces texts.now pieces.now) walk.now lines.now → ArePiecePlaces tasks walk.now.order pieces.now places.now
             → AreFoundBelow (events_of_pieces texts.now pieces.now) tasks 0 self.old → AreFoundBelow (events_of_pieces texts.now pieces.now) tasks (length (events_of_pieces texts.now pieces.now)) self.new) }
     {
         let mut line = 0;
@@ -110,7 +110,7 @@ impl Findings {
 pub fn find_uses(
     alloc: Global,
     texts: &[Listed<u8>],
-    pieces: &[Piece],
+    pieces: &[LogPiece],
     tasks: &LogTasks,
     walk: &SerialWalk,
 ) -> Result<Findings, FindError>

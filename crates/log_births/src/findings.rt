@@ -1,6 +1,6 @@
 // What is found of the blocks of a log.
 
-use listed::Listed;
+use plain_vec::Listed;
 
 /// An act that sees a block too early, or uses it too late.
 #[derive(Clone, Copy, PartialEq, Eq)]

@@ -1,19 +1,19 @@
 // The births and releases of a log's blocks.
 
 ghost use Rattle.std.specs.Prelude.{◌≡◌, ◌<◌, ◌+◌, ◌^◌, ℕ, List, Option, IfOk, OnOk, length};
-ghost use Rattle.fork_graph.specs.declared.graph.Strand.{Strand};
+ghost use Rattle.fork_graph.specs.declared.graph.GraphStrand.{GraphStrand};
 ghost use Rattle.log_pieces.specs.Pieces.{acts_in, events_of_pieces};
 ghost use Rattle.log_tasks.specs.declared.tasks.LogTasks.{LogTasks};
-ghost use Rattle.log_strands.specs.Places.{IsPlaceOf, ArePlaces};
+ghost use Rattle.log_strands.specs.Places.{IsPlaceOf, ArePiecePlaces};
 ghost use Rattle.log_strands.specs.below.log_form.{Event};
 ghost use Rattle.log_births.specs.Blocks.{born, released};
 ghost use Rattle.log_births.specs.Lines.{line_told, noted, IsPart, KnowAll};
 
 use crate::acts::{born, released};
-use listed::Listed;
-use log_pieces::Piece;
+use log_pieces::LogPiece;
 use log_strands::{Act, next_act};
 use log_tasks::piece_text;
+use plain_vec::Listed;
 use std::alloc::{AllocError, Global};
 use std::collections::HashMap;
 
@@ -83,7 +83,7 @@ impl Lifetimes {
     ) -> Result<u32, AllocError>
         requires { first + length (acts_in text.now) < 2 ^ 32 }
         ensures line { IfOk result (λ line. line ≡ first + length (acts_in text.now)) }
-        ensures lines { IfOk result (λ line. (tasks : LogTasks) (order : List Strand) (events : List Event) (s : Strand) → IsPlaceOf tasks order s place → IsPart events first s (acts_in text.now)
+        ensures lines { IfOk result (λ line. (tasks : LogTasks) (order : List GraphStrand) (events : List Event) (s : GraphStrand) → IsPlaceOf tasks order s place → IsPart events first s (acts_in text.now)
             → KnowAll tasks order events first self.old → KnowAll tasks order events line self.new) }
     {
         let mut line = first;
@@ -101,12 +101,12 @@ impl Lifetimes {
 pub(crate) fn lifetimes_of(
     alloc: Global,
     texts: &[Listed<u8>],
-    pieces: &[Piece],
+    pieces: &[LogPiece],
     places: &[Option<usize>],
 ) -> Result<Lifetimes, AllocError>
     requires places { length places.now ≡ length pieces.now }
     requires few { length (events_of_pieces texts.now pieces.now) < 2 ^ 32 }
-    ensures { IfOk result (λ lines. (tasks : LogTasks) (order : List Strand) → ArePlaces tasks order pieces.now places.now
+    ensures { IfOk result (λ lines. (tasks : LogTasks) (order : List GraphStrand) → ArePiecePlaces tasks order pieces.now places.now
         → KnowAll tasks order (events_of_pieces texts.now pieces.now) (length (events_of_pieces texts.now pieces.now)) lines) }
 {
     let mut lines = Lifetimes {

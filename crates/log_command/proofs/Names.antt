@@ -1,26 +1,5 @@
 -- Names of files, and the texts that are read of them.
-use Rattle.std.proofs.Common.{◌≡◌, ◌<◌, ◌≤◌, ◌+◌, ◌==◌, ℕ, zero, suc, Bool, true, false, List, [], ◌∷◌, ◌++◌, length, take, get_or, map, arith, refl, ap, sym, ◌∙◌, ◌⊎◌, inl, inr, subst, Some, length-append}
-use Rattle.std.specs.Prelude.{◌≢◌}
-use Rattle.std.specs.List.{list_all}
-use Rattle.std.proofs.Math.Nat.{eq-or-lt_of_le}
-use Rattle.std.proofs.Math.ListN.{get_or-append}
-use Rattle.std.proofs.Math.Seq.{get_or-append_seam}
-use Rattle.std.proofs.lemmas.Bool.Decides.{nat_tests}
-use Rattle.std.proofs.lemmas.List.{map-append, get_or-map}
-use Rattle.std.proofs.lemmas.List.Folds.{list_all-map}
-use Rattle.whole_call.specs.Input.{ReadsUpTo, SourceState, IsInputOf, HasTaken, HasRead}
-use Rattle.whole_call.proofs.Calls.{some_input}
-use Rattle.log_form.specs.Text.{text_of, texts_of}
-use Rattle.log_command.specs.Words.{is_name, are_names}
-use Rattle.log_command.specs.Files.{most_file_bytes, reads_file, AreFirstInputs, HasTakenFirst, HasReadFirst}
-
-pub no_names : {W : Type 0} (f : W → List ℕ) (words : List W) → (length words == 0) ≡ true → false ≡ are_names (map f words)
-no_names f [] e = refl
-no_names f (w ∷ ws) e = absurd (let z : length (w ∷ ws) ≡ 0 = grind (arith, nat_tests, e) in omega (arith, z))
-
-pub some_names : {W : Type 0} (f : W → List ℕ) (words : List W) → (length words == 0) ≡ false → list_all (λ w. is_name (f w)) words ≡ are_names (map f words)
-some_names f [] e = absurd cc
-some_names f (w ∷ ws) e = sym (list_all-map is_name f (w ∷ ws))
+use Rattle.log_command.proofs.Common.{◌≡◌, ◌<◌, ◌≤◌, ◌+◌, ℕ, zero, suc, List, [], ◌∷◌, ◌++◌, length, take, get_or, map, arith, refl, ap, sym, ◌∙◌, ◌⊎◌, inl, inr, subst, Some, length-append, ◌≢◌, eq-or-lt_of_le, get_or-append, get_or-append_seam, map-append, get_or-map, ReadsUpTo, SourceState, IsInputOf, HasTaken, HasRead, some_input, text_of, texts_of, most_file_bytes, reads_file, AreFirstInputs, HasTakenFirst, HasReadFirst}
 
 pub not_empty : {W : Type 0} (f : W → List ℕ) (words : List W) (i : ℕ) → i < length words → map f words ≢ []
 not_empty f [] i lt e = omega (arith, lt)

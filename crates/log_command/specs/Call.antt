@@ -1,6 +1,6 @@
 -- A whole call.
 use Rattle.std.specs.Prelude.{◌≡◌, ℕ, List, []}
-use Rattle.whole_call.specs.declared.status.Status.{Status}
+use Rattle.whole_call.specs.declared.status.CallStatus.{CallStatus}
 use Rattle.whole_call.specs.declared.status.AnswerStatus.TheVariants.{Done, Words}
 use Rattle.whole_call.specs.declared.reply.Reply.{Reply}
 use Rattle.whole_call.specs.Input.{SourceState}
@@ -13,12 +13,12 @@ use Rattle.log_command.specs.Words.{Asked, Nothing, Usage, Check, files_for, usa
 use Rattle.log_command.specs.Files.{AreInputsOf, HasTakenFiles}
 
 -- what is written of the inputs
-abbrev pub Shows : Asked → List (List ℕ) → Reply → Type 0
-Shows Nothing inputs = Says Words words_line
-Shows Usage inputs = Says Done usage
-Shows (Check detail names) inputs = ShowsLog names (texts_of inputs) detail
+abbrev pub ShowsInputs : Asked → List (List ℕ) → Reply → Type 0
+ShowsInputs Nothing inputs = Says Words words_line
+ShowsInputs Usage inputs = Says Done usage
+ShowsInputs (Check view names) inputs = ShowsLog names (texts_of inputs) view
 
 -- a whole call that asks for this, of a source and the streams; `WriteFails` says that writing failed
-abbrev pub Answers : Asked → Status → SourceState → SourceState → Streams → Streams → Type 0 → Type 0
-Answers a status source left before after WriteFails =
-    IsCallWith (AreInputsOf (files_for a) source) (λ inputs. Ends (Shows a inputs) status before after) (files_for a ≡ []) (HasTakenFiles (files_for a) source left) WriteFails status source left
+abbrev pub AnswersLog : Asked → CallStatus → SourceState → SourceState → Streams → Streams → Type 0 → Type 0
+AnswersLog a status source left before after WriteFails =
+    IsCallWith (AreInputsOf (files_for a) source) (λ inputs. Ends (ShowsInputs a inputs) status before after) (files_for a ≡ []) (HasTakenFiles (files_for a) source left) WriteFails status source left

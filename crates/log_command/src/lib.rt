@@ -4,6 +4,5 @@
 mod call;
 mod read;
 mod texts;
-mod words;
 
 pub use call::check;

@@ -2,14 +2,14 @@
 
 ghost use Rattle.std.specs.Prelude.{◌≡◌, ◌≢◌, ◌≤◌, ℕ, List, [], Some, IfOk, IfErr, OnErr, map, string_bytes};
 ghost use Rattle.std.specs.List.{position_or_len};
-ghost use Rattle.outside_io.specs.Fault.{HasRisen};
+ghost use Rattle.io_traits.specs.Fault.{HasRisen};
 ghost use Rattle.log_form.specs.Text.{is_zero, text_of};
 ghost use Rattle.whole_call.specs.Input.{HasRead, ReadsUpTo};
 ghost use Rattle.log_command.specs.Files.{most_file_bytes, HasReadFiles};
 
-use all_bytes::{ReadError, read_file};
-use listed::Listed;
-use outside_io::Source;
+use io_traits::Source;
+use plain_vec::Listed;
+use read_write_all::{ReadError, read_file};
 use std::alloc::Global;
 
 /// At most one byte more of a file is read.

@@ -10,18 +10,18 @@ use Rattle.log_weights.specs.declared.cost.Cost.{Cost}
 use Rattle.log_weights.specs.Weights.{weight_of, weights_of}
 use Rattle.log_weights.specs.below.ancestor_laws.{IsSpan, serial_order}
 use Rattle.log_left.specs.Left.{HasLeftOut}
-use Rattle.log_left.specs.below.fork_graph.{Strand, tasks_in}
+use Rattle.log_left.specs.below.fork_graph.{GraphStrand, tasks_in}
 use Rattle.log_left.specs.below.log_form.{events_of}
 use Rattle.log_left.specs.below.log_tasks.{LogTasks}
 use Rattle.log_report.specs.declared.told.ToldRace.{ToldRace}
-use Rattle.log_report.specs.declared.told.Report.{Report}
+use Rattle.log_report.specs.declared.told.LogReport.{LogReport}
 use Rattle.log_report.specs.Told.{place_of}
 use Rattle.log_told.specs.declared.telling.ToldFindings.{ToldFindings}
 use Rattle.log_told.specs.Told.{told_findings}
 use Rattle.log_told.specs.below.race_scan.{FoundRace}
 
 -- the strands of a log's graph in their serial order
-abbrev pub order_of : LogTasks → List Strand
+abbrev pub order_of : LogTasks → List GraphStrand
 order_of tasks = serial_order (tasks_in tasks.turns) (length tasks.turns)
 
 abbrev pub walk_of : LogTasks → WalkValue
@@ -51,7 +51,7 @@ IsLeftOutIf false texts tasks left = left ≡ None
 IsLeftOutIf true texts tasks left = (n : ℕ) × (left ≡ Some n) × HasLeftOut (events_of texts) tasks (order_of tasks) n
 
 -- the report of a log with these texts and tasks, which was cut off or wasn't
-pub record IsReportOf (texts : List (List ℕ)) (tasks : LogTasks) (cut : Bool) (report : Report) : Type 0 where
+pub record IsReportOf (texts : List (List ℕ)) (tasks : LogTasks) (cut : Bool) (report : LogReport) : Type 0 where
   pub told : ToldFindings
   pub found : IsFound texts tasks told
   pub races : IsToldInOrder told.races report.races

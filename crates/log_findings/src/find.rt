@@ -9,14 +9,14 @@ ghost use Rattle.log_findings.specs.Errors.{IsTooLarge};
 ghost use Rattle.log_findings.specs.Reported.{walk_of, order_of, IsFound, HasCost, IsLeftOutIf, IsReportOf, IsToldInOrder};
 
 use crate::error::ReportError;
-use listed::Listed;
 use log_births::find_uses;
-use log_left::{LogTasks, Piece, left_out};
+use log_left::{LogPiece, LogTasks, left_out};
 use log_races::log_races;
-use log_report::{Report, in_order};
+use log_report::{LogReport, in_order};
 use log_told::{ToldFindings, tell};
 use log_walk::SerialWalk;
 use log_weights::{Cost, work_and_span};
+use plain_vec::Listed;
 use std::alloc::{AllocError, Global};
 
 /// Locations may have so many stretches.
@@ -26,7 +26,7 @@ const MOST_STRETCHES: usize = usize::MAX;
 fn found(
     alloc: Global,
     texts: &[Listed<u8>],
-    pieces: &[Piece],
+    pieces: &[LogPiece],
     tasks: &LogTasks,
     walk: &SerialWalk,
 ) -> Result<ToldFindings, ReportError>
@@ -46,7 +46,7 @@ fn found(
 fn left_out_if(
     alloc: Global,
     texts: &[Listed<u8>],
-    pieces: &[Piece],
+    pieces: &[LogPiece],
     tasks: &LogTasks,
     walk: &SerialWalk,
     is_cut: bool,
@@ -62,7 +62,7 @@ fn left_out_if(
 }
 
 // The report.
-fn report_of(told: ToldFindings, cost: Cost, left_out: Option<usize>) -> Report
+fn report_of(told: ToldFindings, cost: Cost, left_out: Option<usize>) -> LogReport
     ensures races { IsToldInOrder told.races result.races }
     ensures rest { result ≡ record { races = result.races; entangled_reads = told.entangled_reads; entangled_uses = told.entangled_uses; stale_uses = told.stale_uses; work = cost.work; span = cost.span; left_out = left_out } }
 {
@@ -72,7 +72,7 @@ fn report_of(told: ToldFindings, cost: Cost, left_out: Option<usize>) -> Report
         entangled_uses,
         stale_uses,
     } = told;
-    Report {
+    LogReport {
         races: in_order(races),
         entangled_reads,
         entangled_uses,
@@ -87,11 +87,11 @@ fn report_of(told: ToldFindings, cost: Cost, left_out: Option<usize>) -> Report
 fn report_walk(
     alloc: Global,
     texts: &[Listed<u8>],
-    pieces: &[Piece],
+    pieces: &[LogPiece],
     tasks: &LogTasks,
     walk: &SerialWalk,
     is_cut: bool,
-) -> Result<Report, ReportError>
+) -> Result<LogReport, ReportError>
     requires pieces { events_of_pieces texts.now pieces.now ≡ events_of texts.now }
     requires whole { log_fault texts.now ≡ None }
     requires tasks { (extent : Extent) × IsLog (events_of texts.now) extent tasks.now }
@@ -109,10 +109,10 @@ fn report_walk(
 pub fn report_log(
     alloc: Global,
     texts: &[Listed<u8>],
-    pieces: &[Piece],
+    pieces: &[LogPiece],
     tasks: &LogTasks,
     is_cut: bool,
-) -> Result<Report, ReportError>
+) -> Result<LogReport, ReportError>
     requires pieces { events_of_pieces texts.now pieces.now ≡ events_of texts.now }
     requires whole { log_fault texts.now ≡ None }
     requires tasks { (extent : Extent) × IsLog (events_of texts.now) extent tasks.now }

@@ -1,47 +1,47 @@
 -- What the strands of a log do: one event for each line that is an act, in the order of the lines.
 use Rattle.std.specs.Prelude.{ℕ, ◌+◌, ◌==◌, ◌&&◌, ◌||◌, Bool, true, false, not, Option, Some, None, Result, Ok, Err, List, [], ◌∷◌, ◌++◌, map, filter}
 use Rattle.std.specs.List.{list_any}
-use Rattle.log_lines.specs.declared.cause.Cause.{Cause}
+use Rattle.log_lines.specs.declared.cause.LogCause.{LogCause}
 use Rattle.log_lines.specs.declared.line.Act.{Act}
 use Rattle.log_lines.specs.declared.line.Act.TheVariants as acts
-use Rattle.log_lines.specs.declared.line.Line.{Line}
-use Rattle.log_lines.specs.declared.line.Line.TheVariants as lines
+use Rattle.log_lines.specs.declared.line.LogLine.{LogLine}
+use Rattle.log_lines.specs.declared.line.LogLine.TheVariants as lines
 use Rattle.log_lines.specs.Grammar.{line_of}
-use Rattle.fork_graph.specs.declared.graph.Strand.{Strand}
+use Rattle.fork_graph.specs.declared.graph.GraphStrand.{GraphStrand}
 use Rattle.fork_graph.specs.Graph.{strand}
 use Rattle.log_form.specs.Text.{lines_in}
 
 -- a strand does something
 pub record Event : Type 0 where
-  pub strand : Strand
+  pub strand : GraphStrand
   pub act : Act
 
-abbrev pub event : Strand → Act → Event
+abbrev pub event : GraphStrand → Act → Event
 event u act = record { strand = u; act = act }
 
 -- where the next line of a file stands: on which strand, if one is open; whether the file's end came; and all that
 -- happened before, also in the files before
 pub record Spot : Type 0 where
-  pub here : Option Strand
+  pub here : Option GraphStrand
   pub closed : Bool
   pub events : List Event
 
 -- behind a spawn or a join the task's next strand is open, and behind its end none
-abbrev pub next_strand : Strand → Strand
+abbrev pub next_strand : GraphStrand → GraphStrand
 next_strand u = strand u.task (u.index + 1)
 
-abbrev pub strand_behind : Strand → Act → Option Strand
+abbrev pub strand_behind : GraphStrand → Act → Option GraphStrand
 strand_behind u (acts.Spawn c) = Some (next_strand u)
 strand_behind u (acts.Join c) = Some (next_strand u)
 strand_behind u acts.Finish = None
 strand_behind u _ = Some u
 
-abbrev pub spot_behind_act : Spot → Option Strand → Act → Spot
+abbrev pub spot_behind_act : Spot → Option GraphStrand → Act → Spot
 spot_behind_act spot None act = spot
 spot_behind_act spot (Some u) act = record { here = strand_behind u act; closed = spot.closed; events = spot.events ++ event u act ∷ [] }
 
 -- behind a line
-abbrev pub spot_behind : Spot → Line → Spot
+abbrev pub spot_behind : Spot → LogLine → Spot
 spot_behind spot lines.Version = spot
 spot_behind spot (lines.Strand t i) = record { here = Some (strand t i); closed = spot.closed; events = spot.events }
 spot_behind spot (lines.Act act) = spot_behind_act spot spot.here act
@@ -49,7 +49,7 @@ spot_behind spot (lines.Name site) = spot
 spot_behind spot lines.Comment = spot
 spot_behind spot lines.End = record { here = spot.here; closed = true; events = spot.events }
 
-abbrev pub spot_behind_said : Spot → Result Line Cause → Spot
+abbrev pub spot_behind_said : Spot → Result LogLine LogCause → Spot
 spot_behind_said spot (Ok line) = spot_behind spot line
 spot_behind_said spot (Err cause) = spot
 
@@ -83,11 +83,11 @@ is_cut texts = is_cut_behind [] texts
 
 -- OF ONE STRAND
 
-abbrev pub is_on : Strand → Event → Bool
+abbrev pub is_on : GraphStrand → Event → Bool
 is_on u e = (e.strand.task == u.task) && (e.strand.index == u.index)
 
 -- what a strand does, in its order
-abbrev pub acts_on : List Event → Strand → List Act
+abbrev pub acts_on : List Event → GraphStrand → List Act
 acts_on events u = map (λ e. e.act) (filter (is_on u) events)
 
 -- the act ends its strand
@@ -97,5 +97,5 @@ is_last (acts.Join c) = true
 is_last acts.Finish = true
 is_last _ = false
 
-abbrev pub has_ended : List Event → Strand → Bool
+abbrev pub has_ended : List Event → GraphStrand → Bool
 has_ended events u = list_any (λ e. is_on u e && is_last e.act) events

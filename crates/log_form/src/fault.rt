@@ -1,12 +1,12 @@
 // Why a log is refused.
 
-use log_lines::Cause;
+use log_lines::LogCause;
 
 /// Why a line of a log is refused.
 #[derive(Clone, Copy, PartialEq, Eq)]
-pub enum Fault {
+pub enum LogFault {
     /// It is no line.
-    NoLine(Cause),
+    NoLine(LogCause),
     /// A file doesn't begin with its version, or a version stands elsewhere.
     NoVersion,
     /// It stands behind the end of its file.
@@ -25,14 +25,14 @@ pub enum Fault {
 
 /// A line of a log: the number of its file, from 0, and that of the line, from 1.
 #[derive(Clone, Copy, PartialEq, Eq)]
-pub struct Position {
+pub struct LogPosition {
     pub file: usize,
     pub line: usize,
 }
 
 /// A fault, and the line at which it stands.
 #[derive(Clone, Copy, PartialEq, Eq)]
-pub struct Found {
-    pub at: Position,
-    pub fault: Fault,
+pub struct LocatedFault {
+    pub at: LogPosition,
+    pub fault: LogFault,
 }

@@ -3,4 +3,4 @@
 
 mod fault;
 
-pub use fault::{Fault, Found, Position};
+pub use fault::{LocatedFault, LogFault, LogPosition};

@@ -1,12 +1,5 @@
 -- Each finding is counted in exactly one group.
-use Rattle.std.proofs.Common.{◌≡◌, ℕ, zero, suc, ◌+◌, ◌<◌, Bool, true, false, cond, List, [], ◌∷◌, ◌++◌, filter, inl, inr, arith, refl, ap, sym, subst, ◌∙◌, true≢false}
-use Rattle.std.specs.Prelude.{Option, Some, not, sum_by, slice_get}
-use Rattle.std.proofs.lemmas.List.Sums.{sum_by-cons}
-use Rattle.listed.proofs.Members.{In, in_kept, in_from_kept, got_in}
-use Rattle.log_groups.specs.declared.item.Item.{Item}
-use Rattle.log_groups.specs.declared.item.Group.{Group}
-use Rattle.log_groups.specs.Groups.{same_key, alike, total_of, groups_of}
-use Rattle.log_groups.specs.Laws.{IsFirst, IsGrouping, GroupsAreExact}
+use Rattle.log_groups.proofs.Common.{◌≡◌, ℕ, zero, suc, ◌+◌, ◌<◌, Bool, true, false, cond, List, [], ◌∷◌, ◌++◌, filter, inl, inr, arith, refl, ap, sym, subst, ◌∙◌, true≢false, Option, Some, not, sum_by, slice_get, sum_by-cons, In, in_kept, in_from_kept, got_in, Item, Group, same_key, alike, total_of, groups_of, IsFirst, IsItemGrouping, GroupsAreExact}
 use Rattle.log_groups.proofs.Gathering.{key_is, key_itself, same_left, elsewhere}
 
 unless : (b : Bool) → not b ≡ true → b ≡ false
@@ -14,11 +7,11 @@ unless true e = absurd (true≢false (sym e))
 unless false e = refl
 
 other_way : (x y : Item) → alike x y ≡ false → alike y x ≡ false
-other_way x y e = by (alike y x) refl
+other_way x y e = other_way_by_cases (alike y x) refl
   where
-    by : (b : Bool) → alike y x ≡ b → alike y x ≡ false
-    by false f = f
-    by true f = absurd (true≢false (sym (ap (λ k. same_key x.key k) (key_is y.key x.key f) ∙ key_itself x.key) ∙ e))
+    other_way_by_cases : (b : Bool) → alike y x ≡ b → alike y x ≡ false
+    other_way_by_cases false f = f
+    other_way_by_cases true f = absurd (true≢false (sym (ap (λ k. same_key x.key k) (key_is y.key x.key f) ∙ key_itself x.key) ∙ e))
 
 -- EACH FINDING HAS A GROUP
 
@@ -30,11 +23,11 @@ every_in [] y i = absurd i
 every_in (x ∷ xs) y (inl e) = (head_group x xs, inl refl, ap (λ (z : Item). alike x z) (sym e) ∙ key_itself x.key)
 every_in (x ∷ xs) y (inr i) =
     let h = every_in xs y i in
-    by h.0 h.1 h.2 (alike x h.0.first) refl
+    every_in_by_cases h.0 h.1 h.2 (alike x h.0.first) refl
   where
-    by : (g : Group) → In (groups_of xs) g → alike g.first y ≡ true → (b : Bool) → alike x g.first ≡ b → (h : Group) × In (groups_of (x ∷ xs)) h × (alike h.first y ≡ true)
-    by g j same true e = (head_group x xs, inl refl, same_left x g.first y e ∙ same)
-    by g j same false e = (g, inr (in_kept (elsewhere x) (groups_of xs) g j (ap not e)), same)
+    every_in_by_cases : (g : Group) → In (groups_of xs) g → alike g.first y ≡ true → (b : Bool) → alike x g.first ≡ b → (h : Group) × In (groups_of (x ∷ xs)) h × (alike h.first y ≡ true)
+    every_in_by_cases g j same true e = (head_group x xs, inl refl, same_left x g.first y e ∙ same)
+    every_in_by_cases g j same false e = (g, inr (in_kept (elsewhere x) (groups_of xs) g j (ap not e)), same)
 
 -- EACH GROUP COUNTS THE FINDINGS OF ITS KEY
 
@@ -59,12 +52,12 @@ first_later x y xs e is = record {
   before = x ∷ is.before;
   after = is.after;
   stands = ap (λ (zs : List Item). x ∷ zs) is.stands;
-  none = λ z i. by z i;
+  none = λ z i. first_later_by_cases z i;
 }
   where
-    by : (z : Item) → In (x ∷ is.before) z → alike y z ≡ false
-    by z (inl d) = ap (λ (w : Item). alike y w) (sym d) ∙ e
-    by z (inr i) = is.none z i
+    first_later_by_cases : (z : Item) → In (x ∷ is.before) z → alike y z ≡ false
+    first_later_by_cases z (inl d) = ap (λ (w : Item). alike y w) (sym d) ∙ e
+    first_later_by_cases z (inr i) = is.none z i
 
 each_in : (xs : List Item) (g : Group) → In (groups_of xs) g → Counts xs g
 each_in [] g i = absurd i
@@ -84,11 +77,11 @@ Apart (g ∷ gs) = ((h : Group) → In gs h → alike g.first h.first ≡ false)
 
 kept_apart : (p : Group → Bool) (gs : List Group) → Apart gs → Apart (filter p gs)
 kept_apart p [] a = tt
-kept_apart p (g ∷ gs) a = by (p g) (kept_apart p gs a.1)
+kept_apart p (g ∷ gs) a = kept_apart_by_cases (p g) (kept_apart p gs a.1)
   where
-    by : (b : Bool) → Apart (filter p gs) → Apart (cond b (g ∷ filter p gs) (filter p gs))
-    by true more = (λ h i. a.0 h (in_from_kept p gs h i).0, more)
-    by false more = more
+    kept_apart_by_cases : (b : Bool) → Apart (filter p gs) → Apart (cond b (g ∷ filter p gs) (filter p gs))
+    kept_apart_by_cases true more = (λ h i. a.0 h (in_from_kept p gs h i).0, more)
+    kept_apart_by_cases false more = more
 
 all_apart : (xs : List Item) → Apart (groups_of xs)
 all_apart [] = tt

@@ -1,19 +1,6 @@
 -- Gathering findings one by one makes their groups.
-use Rattle.std.proofs.Common.{◌≡◌, ℕ, zero, suc, ◌+◌, ◌*◌, ◌<◌, ◌≤◌, ◌^◌, ◌==◌, ◌&&◌, ◌||◌, nat_lt, Bool, true, false, cond, List, [], ◌∷◌, ◌++◌, length, map, filter, fold, append-nil, append_assoc, inl, inr, arith, refl, ap, sym, ◌∙◌, true≢false, eqb-true, eq-eqb}
-use Rattle.std.specs.Prelude.{Option, Some, None, not, sum_by, position, slice_get, slice_set, slice_index_or}
-use Rattle.std.specs.List.{position_or_len, list_any}
-use Rattle.std.proofs.lemmas.Bool.{and_parts}
-use Rattle.std.proofs.lemmas.Option.{slice_get-get_or, slice_get_cases}
+use Rattle.log_groups.proofs.Common.{◌≡◌, ℕ, zero, suc, ◌+◌, ◌*◌, ◌<◌, ◌≤◌, ◌^◌, ◌==◌, ◌&&◌, ◌||◌, nat_lt, Bool, true, false, cond, List, [], ◌∷◌, ◌++◌, length, map, filter, fold, append-nil, append_assoc, inl, inr, arith, refl, ap, sym, ◌∙◌, true≢false, eqb-true, eq-eqb, Option, Some, None, not, sum_by, position, slice_get, slice_set, slice_index_or, position_or_len, list_any, and_parts, slice_get-get_or, slice_get_cases, sum_by_push, filter-append, insert_key, In, in_from_kept, got_in, GroupKey, Item, Group, same_key, alike, total_of, group_of, groups_of, with_item, keys_of, AreBelow}
 use borrow.Author.Tests.{ltb-true}
-use Rattle.std.proofs.lemmas.List.Sums.{sum_by_push}
-use Rattle.std.proofs.lemmas.List.Elements.{filter-append}
-use Rattle.indexmap.specs.IndexSet.{insert_key}
-use Rattle.listed.proofs.Members.{In, in_from_kept, got_in}
-use Rattle.log_groups.specs.declared.item.GroupKey.{GroupKey}
-use Rattle.log_groups.specs.declared.item.Item.{Item}
-use Rattle.log_groups.specs.declared.item.Group.{Group}
-use Rattle.log_groups.specs.Groups.{same_key, alike, total_of, group_of, groups_of}
-use Rattle.log_groups.specs.Gathered.{with_item, keys_of, AreBelow}
 
 -- SAME KEYS
 
@@ -52,39 +39,39 @@ module _ (x r : Item) where
   -- a finding of the key of x changes nothing elsewhere
   skipped : alike x r ≡ true → (gs : List Group) → filter (elsewhere x) (with_item gs r) ≡ filter (elsewhere x) gs
   skipped same [] = ap (λ b. cond (not b) (group_of r ∷ []) []) same
-  skipped same (g ∷ gs) = by (alike r g.first) refl (skipped same gs)
+  skipped same (g ∷ gs) = skipped_by_cases (alike r g.first) refl (skipped same gs)
     where
-      by : (b : Bool) → alike r g.first ≡ b → filter (elsewhere x) (with_item gs r) ≡ filter (elsewhere x) gs
+      skipped_by_cases : (b : Bool) → alike r g.first ≡ b → filter (elsewhere x) (with_item gs r) ≡ filter (elsewhere x) gs
           → filter (elsewhere x) (cond b (one_more r.size g ∷ gs) (g ∷ with_item gs r)) ≡ filter (elsewhere x) (g ∷ gs)
-      by true e more =
+      skipped_by_cases true e more =
           let here : alike x g.first ≡ true = same_left x r g.first same ∙ e in
           ap (λ b. cond (not b) (one_more r.size g ∷ filter (elsewhere x) gs) (filter (elsewhere x) gs)) here
           ∙ sym (ap (λ b. cond (not b) (g ∷ filter (elsewhere x) gs) (filter (elsewhere x) gs)) here)
-      by false e more = ap (λ hs. cond (elsewhere x g) (g ∷ hs) hs) more
+      skipped_by_cases false e more = ap (λ hs. cond (elsewhere x g) (g ∷ hs) hs) more
 
   -- one of another key is added elsewhere
   passed : alike x r ≡ false → (gs : List Group) → filter (elsewhere x) (with_item gs r) ≡ with_item (filter (elsewhere x) gs) r
   passed other [] = ap (λ b. cond (not b) (group_of r ∷ []) []) other
-  passed other (g ∷ gs) = by (alike r g.first) (alike x g.first) refl refl (passed other gs)
+  passed other (g ∷ gs) = passed_by_cases (alike r g.first) (alike x g.first) refl refl (passed other gs)
     where
-      by : (b c : Bool) → alike r g.first ≡ b → alike x g.first ≡ c → filter (elsewhere x) (with_item gs r) ≡ with_item (filter (elsewhere x) gs) r
+      passed_by_cases : (b c : Bool) → alike r g.first ≡ b → alike x g.first ≡ c → filter (elsewhere x) (with_item gs r) ≡ with_item (filter (elsewhere x) gs) r
           → filter (elsewhere x) (cond b (one_more r.size g ∷ gs) (g ∷ with_item gs r)) ≡ with_item (cond (not c) (g ∷ filter (elsewhere x) gs) (filter (elsewhere x) gs)) r
-      by true true e f more = absurd (true≢false (sym (same_right x r g.first e ∙ f) ∙ other))
-      by true false e f more =
+      passed_by_cases true true e f more = absurd (true≢false (sym (same_right x r g.first e ∙ f) ∙ other))
+      passed_by_cases true false e f more =
           ap (λ c. cond (not c) (one_more r.size g ∷ filter (elsewhere x) gs) (filter (elsewhere x) gs)) f
           ∙ sym (ap (λ b. cond b (one_more r.size g ∷ filter (elsewhere x) gs) (g ∷ with_item (filter (elsewhere x) gs) r)) e)
-      by false true e f more = ap (λ c. cond (not c) (g ∷ filter (elsewhere x) (with_item gs r)) (filter (elsewhere x) (with_item gs r))) f ∙ more
-      by false false e f more =
+      passed_by_cases false true e f more = ap (λ c. cond (not c) (g ∷ filter (elsewhere x) (with_item gs r)) (filter (elsewhere x) (with_item gs r))) f ∙ more
+      passed_by_cases false false e f more =
           ap (λ c. cond (not c) (g ∷ filter (elsewhere x) (with_item gs r)) (filter (elsewhere x) (with_item gs r))) f
           ∙ ap (λ hs. g ∷ hs) more
           ∙ sym (ap (λ b. cond b (one_more r.size g ∷ filter (elsewhere x) gs) (g ∷ with_item (filter (elsewhere x) gs) r)) e)
 
 total_more : (x : Item) (rs : List Item) (r : Item) (b : Bool) → alike x r ≡ b → total_of x (rs ++ r ∷ []) ≡ total_of x rs + cond b r.size 0
-total_more x rs r b e = ap (sum_by (λ (y : Item). y.size)) (filter-append (alike x) rs (r ∷ [])) ∙ by b e
+total_more x rs r b e = ap (sum_by (λ (y : Item). y.size)) (filter-append (alike x) rs (r ∷ [])) ∙ total_more_by_cases b e
   where
-    by : (b : Bool) → alike x r ≡ b → sum_by (λ (y : Item). y.size) (filter (alike x) rs ++ cond (alike x r) (r ∷ []) []) ≡ total_of x rs + cond b r.size 0
-    by true e = ap (λ c. sum_by (λ (y : Item). y.size) (filter (alike x) rs ++ cond c (r ∷ []) [])) e ∙ sum_by_push (λ (y : Item). y.size) (filter (alike x) rs) r
-    by false e =
+    total_more_by_cases : (b : Bool) → alike x r ≡ b → sum_by (λ (y : Item). y.size) (filter (alike x) rs ++ cond (alike x r) (r ∷ []) []) ≡ total_of x rs + cond b r.size 0
+    total_more_by_cases true e = ap (λ c. sum_by (λ (y : Item). y.size) (filter (alike x) rs ++ cond c (r ∷ []) [])) e ∙ sum_by_push (λ (y : Item). y.size) (filter (alike x) rs) r
+    total_more_by_cases false e =
         let n : total_of x rs ≡ total_of x rs + 0 = omega arith in
         ap (λ c. sum_by (λ (y : Item). y.size) (filter (alike x) rs ++ cond c (r ∷ []) [])) e ∙ ap (sum_by (λ (y : Item). y.size)) (append-nil (filter (alike x) rs)) ∙ n
 
@@ -132,17 +119,17 @@ no_place false n e = refl
 
 counted : (gs : List Group) (r : Item) (k : ℕ) (g : Group) → position_or_len (q_of r) (keys_of gs) ≡ k → slice_get gs k ≡ Some g → slice_set gs k (one_more r.size g) ≡ with_item gs r
 counted [] r k g e f = absurd cc
-counted (h ∷ gs) r k g e f = by (alike r h.first) k e f (λ i d at. counted gs r i g d at)
+counted (h ∷ gs) r k g e f = counted_by_cases (alike r h.first) k e f (λ i d at. counted gs r i g d at)
   where
     first : {x y : Group} → ◌≡◌ {A = Option Group} (Some x) (Some y) → y ≡ x
     first d = cc
 
-    by : (b : Bool) (j : ℕ) → cond (not b) (1 + position_or_len (q_of r) (keys_of gs)) 0 ≡ j → slice_get (h ∷ gs) j ≡ Some g
+    counted_by_cases : (b : Bool) (j : ℕ) → cond (not b) (1 + position_or_len (q_of r) (keys_of gs)) 0 ≡ j → slice_get (h ∷ gs) j ≡ Some g
         → ((i : ℕ) → position_or_len (q_of r) (keys_of gs) ≡ i → slice_get gs i ≡ Some g → slice_set gs i (one_more r.size g) ≡ with_item gs r) → slice_set (h ∷ gs) j (one_more r.size g) ≡ cond b (one_more r.size h ∷ gs) (h ∷ with_item gs r)
-    by true zero d at later = ap (λ y. one_more r.size y ∷ gs) (first at)
-    by true (suc j) d at later = absurd (omega (arith, d))
-    by false zero d at later = absurd (omega (arith, d))
-    by false (suc j) d at later = ap (λ hs. h ∷ hs) (later j (omega (arith, d)) at)
+    counted_by_cases true zero d at later = ap (λ y. one_more r.size y ∷ gs) (first at)
+    counted_by_cases true (suc j) d at later = absurd (omega (arith, d))
+    counted_by_cases false zero d at later = absurd (omega (arith, d))
+    counted_by_cases false (suc j) d at later = ap (λ hs. h ∷ hs) (later j (omega (arith, d)) at)
 
 pub counted_at : (gs : List Group) (r : Item) (k : ℕ) (g : Group) → position (q_of r) (keys_of gs) ≡ Some k → slice_get gs k ≡ Some g → slice_set gs k (one_more r.size g) ≡ with_item gs r
 counted_at gs r k g e f = counted gs r k g (at_place (nat_lt (position_or_len (q_of r) (keys_of gs)) (length (keys_of gs))) (position_or_len (q_of r) (keys_of gs)) k e).1 f
@@ -152,12 +139,12 @@ less_more a b = grind arith
 
 put : (gs : List Group) (r : Item) → nat_lt (position_or_len (q_of r) (keys_of gs)) (length (keys_of gs)) ≡ false → gs ++ group_of r ∷ [] ≡ with_item gs r
 put [] r e = refl
-put (h ∷ gs) r e = by (alike r h.first) e (put gs r)
+put (h ∷ gs) r e = put_by_cases (alike r h.first) e (put gs r)
   where
-    by : (b : Bool) → nat_lt (cond (not b) (1 + position_or_len (q_of r) (keys_of gs)) 0) (suc (length (keys_of gs))) ≡ false
+    put_by_cases : (b : Bool) → nat_lt (cond (not b) (1 + position_or_len (q_of r) (keys_of gs)) 0) (suc (length (keys_of gs))) ≡ false
         → (nat_lt (position_or_len (q_of r) (keys_of gs)) (length (keys_of gs)) ≡ false → gs ++ group_of r ∷ [] ≡ with_item gs r) → h ∷ (gs ++ group_of r ∷ []) ≡ cond b (one_more r.size h ∷ gs) (h ∷ with_item gs r)
-    by true d later = absurd (true≢false (sym (let z : nat_lt 0 (suc (length (keys_of gs))) ≡ true = grind arith in z) ∙ d))
-    by false d later = ap (λ hs. h ∷ hs) (later (sym (less_more (position_or_len (q_of r) (keys_of gs)) (length (keys_of gs))) ∙ d))
+    put_by_cases true d later = absurd (true≢false (sym (let z : nat_lt 0 (suc (length (keys_of gs))) ≡ true = grind arith in z) ∙ d))
+    put_by_cases false d later = ap (λ hs. h ∷ hs) (later (sym (less_more (position_or_len (q_of r) (keys_of gs)) (length (keys_of gs))) ∙ d))
 
 pub put_last : (gs : List Group) (r : Item) → position (q_of r) (keys_of gs) ≡ None → gs ++ group_of r ∷ [] ≡ with_item gs r
 put_last gs r e = put gs r (no_place (nat_lt (position_or_len (q_of r) (keys_of gs)) (length (keys_of gs))) (position_or_len (q_of r) (keys_of gs)) e)
@@ -178,11 +165,11 @@ keys_length (g ∷ gs) = ap (λ n. suc n) (keys_length gs)
 
 any_below : (p : GroupKey → Bool) (xs : List GroupKey) → nat_lt (position_or_len p xs) (length xs) ≡ list_any p xs
 any_below p [] = refl
-any_below p (x ∷ xs) = by (p x) (any_below p xs)
+any_below p (x ∷ xs) = any_below_by_cases (p x) (any_below p xs)
   where
-    by : (b : Bool) → nat_lt (position_or_len p xs) (length xs) ≡ list_any p xs → nat_lt (cond (not b) (1 + position_or_len p xs) 0) (suc (length xs)) ≡ (b || list_any p xs)
-    by true e = let z : nat_lt 0 (suc (length xs)) ≡ true = grind arith in z
-    by false e = less_more (position_or_len p xs) (length xs) ∙ e
+    any_below_by_cases : (b : Bool) → nat_lt (position_or_len p xs) (length xs) ≡ list_any p xs → nat_lt (cond (not b) (1 + position_or_len p xs) 0) (suc (length xs)) ≡ (b || list_any p xs)
+    any_below_by_cases true e = let z : nat_lt 0 (suc (length xs)) ≡ true = grind arith in z
+    any_below_by_cases false e = less_more (position_or_len p xs) (length xs) ∙ e
 
 -- the set of keys with that of a new group
 pub pushed_keys : (gs : List Group) (r : Item) (keys : List GroupKey) (key : GroupKey) → position (q_of r) (keys_of gs) ≡ None → keys ≡ keys_of gs → key ≡ r.key → insert_key same_key keys key ≡ keys_of (gs ++ group_of r ∷ [])
@@ -199,11 +186,11 @@ below_more (g ∷ gs) n m le b = ((let h : g.total ≤ n * 2 ^ 64 = b.0 in let k
 
 pub below_with : (gs : List Group) (x : Item) (n : ℕ) → x.size < 2 ^ 64 → AreBelow n gs → AreBelow (n + 1) (with_item gs x)
 below_with [] x n lt b = ((let k : x.size ≤ (n + 1) * 2 ^ 64 = omega (arith, lt) in k), tt)
-below_with (g ∷ gs) x n lt b = by (alike x g.first) (below_with gs x n lt b.1)
+below_with (g ∷ gs) x n lt b = below_with_by_cases (alike x g.first) (below_with gs x n lt b.1)
   where
-    by : (c : Bool) → AreBelow (n + 1) (with_item gs x) → AreBelow (n + 1) (cond c (one_more x.size g ∷ gs) (g ∷ with_item gs x))
-    by true later = ((let h : g.total ≤ n * 2 ^ 64 = b.0 in let k : g.total + x.size ≤ (n + 1) * 2 ^ 64 = omega (arith, h, lt) in k), below_more gs n (n + 1) (omega arith) b.1)
-    by false later = ((let h : g.total ≤ n * 2 ^ 64 = b.0 in let k : g.total ≤ (n + 1) * 2 ^ 64 = omega (arith, h) in k), later)
+    below_with_by_cases : (c : Bool) → AreBelow (n + 1) (with_item gs x) → AreBelow (n + 1) (cond c (one_more x.size g ∷ gs) (g ∷ with_item gs x))
+    below_with_by_cases true later = ((let h : g.total ≤ n * 2 ^ 64 = b.0 in let k : g.total + x.size ≤ (n + 1) * 2 ^ 64 = omega (arith, h, lt) in k), below_more gs n (n + 1) (omega arith) b.1)
+    below_with_by_cases false later = ((let h : g.total ≤ n * 2 ^ 64 = b.0 in let k : g.total ≤ (n + 1) * 2 ^ 64 = omega (arith, h) in k), later)
 
 pub below_at : (gs : List Group) (n k : ℕ) (g : Group) → AreBelow n gs → slice_get gs k ≡ Some g → g.total ≤ n * 2 ^ 64
 below_at [] n k g b e = absurd cc

@@ -1,6 +1,6 @@
 -- What groups say of findings.
 use Rattle.std.specs.Prelude.{◌≡◌, ℕ, ◌<◌, ◌++◌, ◌∷◌, true, false, List, Some, slice_get, Contains}
-use Rattle.listed.specs.Members.{In}
+use Rattle.plain_vec.specs.Members.{In}
 use Rattle.log_groups.specs.declared.item.Item.{Item}
 use Rattle.log_groups.specs.declared.item.Group.{Group}
 use Rattle.log_groups.specs.Groups.{alike, groups_of, total_of}
@@ -12,7 +12,7 @@ pub record IsFirst (items : List Item) (x : Item) : Type 0 where
   pub stands : items ≡ before ++ x ∷ after
   pub none : (y : Item) → In before y → alike x y ≡ false
 
-pub record IsGrouping (items : List Item) (groups : List Group) : Type 0 where
+pub record IsItemGrouping (items : List Item) (groups : List Group) : Type 0 where
   -- each finding is of the key of a group
   pub every : (x : Item) → In items x → (g : Group) × In groups g × (alike g.first x ≡ true)
   -- a group's first is the first finding of its key, and its total is that of all of the key
@@ -21,4 +21,4 @@ pub record IsGrouping (items : List Item) (groups : List Group) : Type 0 where
   pub apart : (j k : ℕ) (g h : Group) → j < k → slice_get groups j ≡ Some g → slice_get groups k ≡ Some h → alike g.first h.first ≡ false
 
 abbrev pub GroupsAreExact : Type 0
-GroupsAreExact = (items : List Item) → IsGrouping items (groups_of items)
+GroupsAreExact = (items : List Item) → IsItemGrouping items (groups_of items)

@@ -5,7 +5,7 @@ ghost use Rattle.log_groups.specs.Groups.{groups_of};
 
 use crate::item::{Group, GroupKey, Item, group_of, size_of};
 use indexmap::IndexSet;
-use listed::Listed;
+use plain_vec::Listed;
 use std::alloc::{AllocError, Global};
 use std::marker::Model;
 

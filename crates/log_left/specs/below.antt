@@ -1,4 +1,4 @@
--- What crates above name of the crates below.
+-- Re-exports from lower crates for the crates above.
 pub mod fork_graph
 pub mod log_form
 pub mod log_pieces

@@ -6,22 +6,22 @@ ghost use Rattle.log_form.specs.Events.{events_of};
 ghost use Rattle.log_pieces.specs.Pieces.{acts_of_piece, events_of_pieces};
 ghost use Rattle.log_left.specs.Left.{code_of, is_left, code_if, left_codes, HasLeftOut};
 
-use fork_graph::Strand;
-use listed::Listed;
-use log_pieces::Piece;
+use fork_graph::GraphStrand;
+use log_pieces::LogPiece;
 use log_strands::{next_act, piece_places};
 use log_tasks::{LogTasks, piece_text};
+use plain_vec::Listed;
 use std::alloc::{AllocError, Global};
 
 // The number of a strand among those of all tasks.
-fn code_of(strand: Strand) -> u64
+fn code_of(strand: GraphStrand) -> u64
     ensures { result ≡ code_of strand }
 {
     (strand.task as u64) * (1 << 32) + strand.index as u64
 }
 
 // Whether a piece says what a strand does that has no place.
-fn is_left(texts: &[Listed<u8>], piece: Piece, place: Option<usize>) -> bool
+fn is_left(texts: &[Listed<u8>], piece: LogPiece, place: Option<usize>) -> bool
     ensures { result ≡ is_left (acts_of_piece texts.now piece) place }
 {
     match place {
@@ -31,7 +31,7 @@ fn is_left(texts: &[Listed<u8>], piece: Piece, place: Option<usize>) -> bool
 }
 
 // Adds the number of a piece's strand, if it is left out.
-fn add_left(codes: &mut Vec<u64>, strand: Strand, is_left: bool) -> Result<(), AllocError>
+fn add_left(codes: &mut Vec<u64>, strand: GraphStrand, is_left: bool) -> Result<(), AllocError>
     ensures { OnOk result (codes.new.items ≡ codes.old.items ++ code_if is_left strand) }
 {
     if is_left {
@@ -44,7 +44,7 @@ fn add_left(codes: &mut Vec<u64>, strand: Strand, is_left: bool) -> Result<(), A
 fn left_codes(
     alloc: Global,
     texts: &[Listed<u8>],
-    pieces: &[Piece],
+    pieces: &[LogPiece],
     places: &[Option<usize>],
 ) -> Result<Vec<u64>, AllocError>
     requires { length places.now ≡ length pieces.now }
@@ -75,9 +75,9 @@ fn ascending(numbers: Vec<u64>) -> Vec<u64>
 pub fn left_out(
     alloc: Global,
     texts: &[Listed<u8>],
-    pieces: &[Piece],
+    pieces: &[LogPiece],
     tasks: &LogTasks,
-    order: &[Strand],
+    order: &[GraphStrand],
 ) -> Result<usize, AllocError>
     requires { events_of_pieces texts.now pieces.now ≡ events_of texts.now }
     ensures { IfOk result (HasLeftOut (events_of texts.now) tasks.now order.now) }

@@ -5,5 +5,5 @@ mod left;
 
 pub use fork_graph::Extent;
 pub use left::left_out;
-pub use log_pieces::Piece;
+pub use log_pieces::LogPiece;
 pub use log_tasks::LogTasks;

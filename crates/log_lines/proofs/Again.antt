@@ -1,31 +1,8 @@
 -- A line that is written is read again.
-use Rattle.std.proofs.Common.{◌≡◌, ◌<◌, ◌≤◌, ◌+◌, ◌*◌, ◌^◌, ◌==◌, ℕ, zero, suc, Bool, true, false, not, List, [], ◌∷◌, ◌++◌, length, get_or, cond, arith, refl, ap, sym, ◌∙◌, Option, Some, None, Result, Ok, Err, nat_lt, nat_le, inl, inr}
-use Rattle.std.specs.Prelude.{◌&&◌, codes}
-use Rattle.std.specs.Char.{digit_value, is_ascii_digit}
-use Rattle.std.specs.Fmt.{decimal}
-use Rattle.std.specs.List.{All, AllByRecursion, slice_split}
-use Rattle.std.specs.Str.{all_ascii_digits}
-use Rattle.std.specs.Str.Parse.{AllDigits, digits_value}
-use Rattle.std.proofs.lemmas.Bool.{cases_lt}
-use Rattle.std.proofs.lemmas.Bool.Decides.{nat_tests}
-use Rattle.std.proofs.lemmas.Fmt.{decimal_is_IsNumeral, decimal_digit, decimal_nonempty, length-decimal-le, first_decimal}
-use Rattle.std.proofs.Math.Nat.{mul_comm, le-mul_of_pos_right}
-use Rattle.std.proofs.lemmas.List.Elements.{All-from_recursion}
-use Rattle.std.proofs.lemmas.List.Splits.{slice_split_at, slice_split_none}
-use Rattle.log_lines.specs.declared.cause.Cause.{Cause}
-use Rattle.log_lines.specs.declared.line.Place.{Place}
-use Rattle.log_lines.specs.declared.line.AccessKind.{AccessKind}
+use Rattle.log_lines.proofs.Common.{◌≡◌, ◌<◌, ◌≤◌, ◌+◌, ◌*◌, ◌^◌, ◌==◌, ℕ, zero, suc, Bool, true, false, not, List, [], ◌∷◌, ◌++◌, length, get_or, cond, arith, refl, ap, sym, ◌∙◌, Option, Some, None, Result, Ok, Err, nat_lt, nat_le, inl, inr, ◌&&◌, codes, digit_value, is_ascii_digit, decimal, All, AllByRecursion, slice_split, all_ascii_digits, AllDigits, digits_value, cases_lt, nat_tests, decimal_is_IsNumeral, decimal_digit, decimal_nonempty, length-decimal-le, first_decimal, mul_comm, le-mul_of_pos_right, All-from_recursion, slice_split_at, slice_split_none, LogCause, LogPlace, AccessKind, Access, Reference, Act, LogLine, is_space, words_of, has_length, has_leading_zero, digits_number, number_of, is_site, site_at, IsNumber, IsPlace, IsSite, IsAccess, IsReference, IsAct, IsLine, access_limit, location_limit, place_end, is_small, place_at, act_of_access, reference_of, line_of_words, line_of, spaced, site_words, place_words, reference_words, access_word, act_words, line_words, line_bytes}
 use Rattle.log_lines.specs.declared.line.AccessKind.TheVariants as kinds
-use Rattle.log_lines.specs.declared.line.Access.{Access}
-use Rattle.log_lines.specs.declared.line.Reference.{Reference}
-use Rattle.log_lines.specs.declared.line.Act.{Act}
 use Rattle.log_lines.specs.declared.line.Act.TheVariants as acts
-use Rattle.log_lines.specs.declared.line.Line.{Line}
-use Rattle.log_lines.specs.declared.line.Line.TheVariants as lines
-use Rattle.log_lines.specs.Words.{is_space, words_of, has_length, has_leading_zero, digits_number, number_of, is_site, site_at}
-use Rattle.log_lines.specs.Limits.{IsNumber, IsPlace, IsSite, IsAccess, IsReference, IsAct, IsLine, access_limit, location_limit, place_end}
-use Rattle.log_lines.specs.Grammar.{is_small, place_at, act_of_access, reference_of, line_of_words, line_of}
-use Rattle.log_lines.specs.Writing.{spaced, site_words, place_words, reference_words, access_word, act_words, line_words, line_bytes}
+use Rattle.log_lines.specs.declared.line.LogLine.TheVariants as lines
 
 -- NUMBERS
 
@@ -115,7 +92,7 @@ short m n h few = let a : m ≤ m * n = le-mul_of_pos_right m h in omega (arith,
 short_too : (m n : ℕ) → 1 ≤ m → m * n ≤ access_limit → IsNumber n
 short_too m n h few = let a : n ≤ n * m = le-mul_of_pos_right n h in let e = mul_comm m n in omega (arith, a, e, few)
 
-small_again : (p : Place) → IsPlace p → is_small p ≡ true
+small_again : (p : LogPlace) → IsPlace p → is_small p ≡ true
 small_again p h =
     let l = h.length in let r = h.runs in let f = h.few in let w = h.within in
     let a : nat_le 1 p.length ≡ true = grind (arith, nat_tests, l) in
@@ -124,10 +101,10 @@ small_again p h =
     let d : nat_le (place_end p) location_limit ≡ true = grind (arith, nat_tests, w) in
     rw (a, b, c, d) refl
 
-apart_again : (p : Place) → IsPlace p → nat_le p.length p.apart ≡ true
+apart_again : (p : LogPlace) → IsPlace p → nat_le p.length p.apart ≡ true
 apart_again p h = let d = h.distinct in grind (arith, nat_tests, d)
 
-place_again : (p : Place) (ws : List (List ℕ)) → IsPlace p → place_at (place_words p ws) ≡ Ok (p, ws)
+place_again : (p : LogPlace) (ws : List (List ℕ)) → IsPlace p → place_at (place_words p ws) ≡ Ok (p, ws)
 place_again p ws h =
     let l : IsNumber p.length = short p.length p.runs h.runs h.few in
     let r : IsNumber p.runs = short_too p.length p.runs h.length h.few in
@@ -141,7 +118,7 @@ clear_site : (site : Option ℕ) → IsSite site → AreClear (site_words site)
 clear_site None h = tt
 clear_site (Some n) h = ((refl, clear n h), tt)
 
-clear_place : (p : Place) (ws : List (List ℕ)) → IsPlace p → AreClear ws → AreClear (place_words p ws)
+clear_place : (p : LogPlace) (ws : List (List ℕ)) → IsPlace p → AreClear ws → AreClear (place_words p ws)
 clear_place p ws h g =
     (clear p.block h.block, (clear p.offset h.offset, (clear p.length (short p.length p.runs h.runs h.few), (clear p.runs (short_too p.length p.runs h.length h.few), (clear p.apart h.apart, g)))))
 
@@ -198,7 +175,7 @@ strand_number s h = omega (arith, h)
 one : IsNumber 1
 one = omega arith
 
-pub line_again : (l : Line) → IsLine l → line_of (line_bytes l) ≡ Ok l
+pub line_again : (l : LogLine) → IsLine l → line_of (line_bytes l) ≡ Ok l
 line_again lines.Version h = as_words 104 (codes "hlog") (decimal 1 ∷ []) refl (refl, (refl, (refl, (refl, (refl, tt))))) (clear 1 one, tt) ∙ rw (number_again 1 one) refl
 line_again (lines.Strand t s) h =
     as_words 115 [] (decimal t ∷ decimal s ∷ []) refl (refl, tt) (clear t (task_number t h.0), (clear s (strand_number s h.1), tt))

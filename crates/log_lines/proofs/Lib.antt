@@ -2,3 +2,4 @@ pub mod Pieces
 pub mod Digits
 pub mod Within
 pub mod Again
+mod Common

@@ -1,13 +1,5 @@
 -- The first word of a line and the words behind it.
-use Rattle.std.proofs.Common.{◌≡◌, ◌<◌, ◌≤◌, ◌+◌, ◌-◌, ◌==◌, ℕ, zero, suc, Bool, true, false, List, [], ◌∷◌, length, take, not, drop, drop-cons, get_or, arith, refl, ap, sym, ◌∙◌, cond}
-use Rattle.std.proofs.Common.{◌⊎◌, inl, inr}
-use Rattle.std.proofs.lemmas.Bool.{cases_lt}
-use Rattle.std.proofs.lemmas.List.{take_all, drop_all, length-drop}
-use Rattle.std.specs.List.{slice_split, onto_first, position_or_len}
-use Rattle.std.proofs.lemmas.List.Splits.{slice_split_first}
-use Rattle.text_lines.proofs.Runs.{split_last}
-use Rattle.log_lines.specs.Words.{is_space, words_of, is_left}
-use Rattle.log_lines.specs.Rest.{operands}
+use Rattle.log_lines.proofs.Common.{◌≡◌, ◌<◌, ◌≤◌, ◌+◌, ◌-◌, ◌==◌, ℕ, zero, suc, Bool, true, false, List, [], ◌∷◌, length, take, not, drop, drop-cons, get_or, arith, refl, ap, sym, ◌∙◌, cond, ◌⊎◌, inl, inr, cases_lt, take_all, drop_all, length-drop, slice_split, onto_first, position_or_len, slice_split_first, split_last, is_space, words_of, is_left, operands}
 
 operands_behind : (text : List ℕ) (end : ℕ) → end < length text → operands (drop end text) ≡ words_of (drop (end + 1) text)
 operands_behind text end lt = rw (drop-cons text end 0 lt) (ap (λ k. words_of (drop k text)) (let e : suc end ≡ end + 1 = omega arith in e))

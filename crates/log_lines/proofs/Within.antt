@@ -1,46 +1,28 @@
 -- What is read is within the limits.
-use Rattle.std.proofs.Common.{◌≡◌, ◌<◌, ◌≤◌, ◌+◌, ◌*◌, ◌^◌, ◌==◌, ℕ, zero, suc, Bool, true, false, List, [], ◌∷◌, length, drop, not, cond, arith, refl, ap, sym, ◌∙◌, inl, inr, Option, Some, None, Result, Ok, Err, IfOk, IfSome, nat_lt, nat_le}
-use Rattle.std.specs.Prelude.{◌&&◌}
-use Rattle.std.specs.Char.{digit_value, is_ascii_digit}
-use Rattle.std.specs.Str.{all_ascii_digits}
-use Rattle.std.specs.Str.Parse.{AllDigits, digits_value}
-use Rattle.std.proofs.lemmas.Bool.{and_parts, cases_Bool}
-use Rattle.std.proofs.lemmas.Bool.Decides.{nat_tests}
-use Rattle.std.proofs.lemmas.Int.Digits.{digits_value-lt}
-use Rattle.log_lines.specs.declared.cause.Cause.{Cause}
-use Rattle.log_lines.specs.declared.cause.Cause.TheVariants as causes
-use Rattle.log_lines.specs.declared.line.Place.{Place}
-use Rattle.log_lines.specs.declared.line.AccessKind.{AccessKind}
-use Rattle.log_lines.specs.declared.line.Reference.{Reference}
-use Rattle.log_lines.specs.declared.line.Act.{Act}
+use Rattle.log_lines.proofs.Common.{◌≡◌, ◌<◌, ◌≤◌, ◌+◌, ◌*◌, ◌^◌, ◌==◌, ℕ, zero, suc, Bool, true, false, List, [], ◌∷◌, length, drop, not, cond, arith, refl, ap, sym, ◌∙◌, inl, inr, Option, Some, None, Result, Ok, Err, IfOk, IfSome, nat_lt, nat_le, ◌&&◌, digit_value, is_ascii_digit, all_ascii_digits, AllDigits, digits_value, and_parts, cases_Bool, nat_tests, digits_value-lt, LogCause, LogPlace, AccessKind, Reference, Act, LogLine, LogVerb, ActVerb, ◌>>=◌, words_of, has_length, has_leading_zero, digits_number, number_of, or_bad, number_at, is_left, nothing_left, is_site, site_at, goes_on, IsNumber, IsPlace, IsSite, IsAccess, IsReference, IsAct, IsLine, task_limit, strand_limit, access_limit, location_limit, place_end, is_small, checked_place, place_of_runs, place_of_run, place_of_length, place_at, act_of_access, reference_of, act_of_birth, number_alone, below, task_alone, line_of_strand, name_behind, line_of_name, line_of_version, verb_of, act_by, line_by, line_behind, line_of_words, line_of}
+use Rattle.log_lines.specs.declared.cause.LogCause.TheVariants as causes
 use Rattle.log_lines.specs.declared.line.Act.TheVariants as acts
-use Rattle.log_lines.specs.declared.line.Line.{Line}
-use Rattle.log_lines.specs.declared.line.Line.TheVariants as lines
-use Rattle.log_lines.specs.declared.verb.Verb.{Verb}
-use Rattle.log_lines.specs.declared.verb.Verb.TheVariants as verbs
-use Rattle.log_lines.specs.declared.verb.ActVerb.{ActVerb}
+use Rattle.log_lines.specs.declared.line.LogLine.TheVariants as lines
+use Rattle.log_lines.specs.declared.verb.LogVerb.TheVariants as verbs
 use Rattle.log_lines.specs.declared.verb.ActVerb.TheVariants as act_verbs
-use Rattle.log_lines.specs.Words.{◌>>=◌, words_of, has_length, has_leading_zero, digits_number, number_of, or_bad, number_at, is_left, nothing_left, is_site, site_at, goes_on}
-use Rattle.log_lines.specs.Limits.{IsNumber, IsPlace, IsSite, IsAccess, IsReference, IsAct, IsLine, task_limit, strand_limit, access_limit, location_limit, place_end}
-use Rattle.log_lines.specs.Grammar.{is_small, checked_place, place_of_runs, place_of_run, place_of_length, place_at, act_of_access, reference_of, act_of_birth, number_alone, below, task_alone, line_of_strand, name_behind, line_of_name, line_of_version, verb_of, act_by, line_by, line_behind, line_of_words, line_of}
 use Rattle.log_lines.proofs.Digits.{longer_is_more}
 
 -- STEPS
 
-pub bind_ok : {A B : Type 0} (P : A → Type 0) (Q : B → Type 0) (r : Result A Cause) (f : A → Result B Cause) → IfOk r P → ((x : A) → P x → IfOk (f x) Q) → IfOk (r >>= f) Q
+pub bind_ok : {A B : Type 0} (P : A → Type 0) (Q : B → Type 0) (r : Result A LogCause) (f : A → Result B LogCause) → IfOk r P → ((x : A) → P x → IfOk (f x) Q) → IfOk (r >>= f) Q
 bind_ok P Q (Ok x) f h g = g x h
 bind_ok P Q (Err e) f h g = tt
 
-any_ok : {A : Type 0} (r : Result A Cause) → IfOk r (λ x. Unit {0})
+any_ok : {A : Type 0} (r : Result A LogCause) → IfOk r (λ x. Unit {0})
 any_ok (Ok x) = tt
 any_ok (Err e) = tt
 
-if_ok : {A : Type 0} (P : A → Type 0) (b : Bool) (r s : Result A Cause) → IfOk r P → IfOk s P → IfOk (cond b r s) P
+if_ok : {A : Type 0} (P : A → Type 0) (b : Bool) (r s : Result A LogCause) → IfOk r P → IfOk s P → IfOk (cond b r s) P
 if_ok P true r s h g = h
 if_ok P false r s h g = g
 
 -- where a test passed
-guard_ok : {A : Type 0} (P : A → Type 0) (b : Bool) (x : A) (e : Cause) → (b ≡ true → P x) → IfOk (cond b (Ok x) (Err e)) P
+guard_ok : {A : Type 0} (P : A → Type 0) (b : Bool) (x : A) (e : LogCause) → (b ≡ true → P x) → IfOk (cond b (Ok x) (Err e)) P
 guard_ok P true x e h = h refl
 guard_ok P false x e h = tt
 
@@ -88,18 +70,18 @@ site_below (w ∷ ws) =
     (λ site h. bind_ok (λ x. Unit {0}) IsSite (nothing_left ws) (λ none. Ok (Some site)) (any_ok (nothing_left ws)) (λ none g. h)))
     tt
 
--- PLACES
+-- POSITIONS
 
-abbrev IsFirstPlace : Place × List (List ℕ) → Type 0
+abbrev IsFirstPlace : LogPlace × List (List ℕ) → Type 0
 IsFirstPlace x = IsPlace x.0
 
-record Small (p : Place) : Type 0 where
+record Small (p : LogPlace) : Type 0 where
   pub length : 1 ≤ p.length
   pub runs : 1 ≤ p.runs
   pub few : p.length * p.runs ≤ access_limit
   pub within : place_end p ≤ location_limit
 
-small_place : (p : Place) → is_small p ≡ true → Small p
+small_place : (p : LogPlace) → is_small p ≡ true → Small p
 small_place p e =
     let a = and_parts (nat_le 1 p.length && nat_le 1 p.runs && nat_le (p.length * p.runs) access_limit) (nat_le (place_end p) location_limit) e in
     let b = and_parts (nat_le 1 p.length && nat_le 1 p.runs) (nat_le (p.length * p.runs) access_limit) a.0 in
@@ -107,16 +89,16 @@ small_place p e =
     let c0 = c.0 in let c1 = c.1 in let b1 = b.1 in let a1 = a.1 in
     record { length = grind (arith, nat_tests, c0); runs = grind (arith, nat_tests, c1); few = grind (arith, nat_tests, b1); within = grind (arith, nat_tests, a1) }
 
-place_passes : (p : Place) → IsNumber p.block → IsNumber p.offset → IsNumber p.apart → is_small p ≡ true → nat_le p.length p.apart ≡ true → IsPlace p
+place_passes : (p : LogPlace) → IsNumber p.block → IsNumber p.offset → IsNumber p.apart → is_small p ≡ true → nat_le p.length p.apart ≡ true → IsPlace p
 place_passes p b o a e f =
     let s = small_place p e in
     record { block = b; offset = o; length = s.length; runs = s.runs; apart = a; few = s.few; within = s.within; distinct = grind (arith, nat_tests, f) }
 
-place_by : (p : Place) → IsNumber p.block → IsNumber p.offset → IsNumber p.apart → (b : Bool) → is_small p ≡ b → IfOk (cond b (cond (nat_le p.length p.apart) (Ok p) (Err causes.RunsOverlap)) (Err causes.OverLimit)) IsPlace
+place_by : (p : LogPlace) → IsNumber p.block → IsNumber p.offset → IsNumber p.apart → (b : Bool) → is_small p ≡ b → IfOk (cond b (cond (nat_le p.length p.apart) (Ok p) (Err causes.RunsOverlap)) (Err causes.OverLimit)) IsPlace
 place_by p b o a true e = guard_ok IsPlace (nat_le p.length p.apart) p causes.RunsOverlap (place_passes p b o a e)
 place_by p b o a false e = tt
 
-checked_below : (p : Place) → IsNumber p.block → IsNumber p.offset → IsNumber p.apart → IfOk (checked_place p) IsPlace
+checked_below : (p : LogPlace) → IsNumber p.block → IsNumber p.offset → IsNumber p.apart → IfOk (checked_place p) IsPlace
 checked_below p b o a = place_by p b o a (is_small p) refl
 
 runs_below : (block offset length : ℕ) (ws : List (List ℕ)) → IsNumber block → IsNumber offset → IfOk (place_of_runs block offset length ws) IsFirstPlace
@@ -205,14 +187,14 @@ version_below ws =
     bind_ok IsNumber IsLine (number_alone ws) _ (alone_below ws)
     (λ n h. guard_ok IsLine (n == 1) lines.Version causes.UnknownVersion (λ e. tt))
 
-verb_below : (verb : Verb) (ws : List (List ℕ)) → IfOk (line_by verb ws) IsLine
+verb_below : (verb : LogVerb) (ws : List (List ℕ)) → IfOk (line_by verb ws) IsLine
 verb_below (verbs.Act verb) ws = bind_ok IsAct IsLine (act_by verb ws) _ (act_below verb ws) (λ a h. h)
 verb_below verbs.Strand ws = strand_below ws
 verb_below verbs.Name ws = name_below ws
 verb_below verbs.End ws = bind_ok (λ x. Unit {0}) IsLine (nothing_left ws) _ (any_ok (nothing_left ws)) (λ none g. tt)
 verb_below verbs.Version ws = version_below ws
 
-behind_below : (verb : Option Verb) (ws : List (List ℕ)) → IfOk (line_behind verb ws) IsLine
+behind_below : (verb : Option LogVerb) (ws : List (List ℕ)) → IfOk (line_behind verb ws) IsLine
 behind_below None ws = tt
 behind_below (Some verb) ws = verb_below verb ws
 

@@ -1,12 +1,12 @@
 -- The limits of the numbers of a line.
 use Rattle.std.specs.Prelude.{ℕ, ◌+◌, ◌-◌, ◌*◌, ◌^◌, ◌<◌, ◌≤◌, Option, Some, None}
-use Rattle.log_lines.specs.declared.line.Place.{Place}
+use Rattle.log_lines.specs.declared.line.LogPlace.{LogPlace}
 use Rattle.log_lines.specs.declared.line.Access.{Access}
 use Rattle.log_lines.specs.declared.line.Reference.{Reference}
 use Rattle.log_lines.specs.declared.line.Act.{Act}
 use Rattle.log_lines.specs.declared.line.Act.TheVariants as acts
-use Rattle.log_lines.specs.declared.line.Line.{Line}
-use Rattle.log_lines.specs.declared.line.Line.TheVariants as lines
+use Rattle.log_lines.specs.declared.line.LogLine.{LogLine}
+use Rattle.log_lines.specs.declared.line.LogLine.TheVariants as lines
 
 -- each number of a log is below this
 abbrev pub IsNumber : ℕ → Type 0
@@ -28,10 +28,10 @@ abbrev pub location_limit : ℕ
 location_limit = 2 ^ 60
 
 -- the location behind the last one of a place
-abbrev pub place_end : Place → ℕ
+abbrev pub place_end : LogPlace → ℕ
 place_end p = p.offset + (p.runs - 1) * p.apart + p.length
 
-pub record IsPlace (p : Place) : Type 0 where
+pub record IsPlace (p : LogPlace) : Type 0 where
   pub block : IsNumber p.block
   pub offset : IsNumber p.offset
   pub length : 1 ≤ p.length
@@ -66,7 +66,7 @@ IsAct (acts.Spawn task) = task < task_limit
 IsAct (acts.Join task) = task < task_limit
 IsAct acts.Finish = Unit {0}
 
-abbrev pub IsLine : Line → Type 0
+abbrev pub IsLine : LogLine → Type 0
 IsLine lines.Version = Unit {0}
 IsLine (lines.Strand task strand) = (task < task_limit) × (strand < strand_limit)
 IsLine (lines.Act a) = IsAct a

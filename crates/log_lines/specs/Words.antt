@@ -3,12 +3,12 @@ use Rattle.std.specs.Prelude.{◌≡◌, ℕ, ◌==◌, ◌&&◌, ◌||◌, Bool
 use Rattle.std.specs.List.{slice_split}
 use Rattle.std.specs.Str.{all_ascii_digits}
 use Rattle.std.specs.Str.Parse.{digits_value}
-use Rattle.log_lines.specs.declared.cause.Cause.{Cause}
-use Rattle.log_lines.specs.declared.cause.Cause.TheVariants.{BadNumber, WrongCount}
+use Rattle.log_lines.specs.declared.cause.LogCause.{LogCause}
+use Rattle.log_lines.specs.declared.cause.LogCause.TheVariants.{BadNumber, WrongCount}
 
 -- one step after another; a cause ends them
 infixl 10 ◌>>=◌
-abbrev pub ◌>>=◌ : {A B : Type 0} → Result A Cause → (A → Result B Cause) → Result B Cause
+abbrev pub ◌>>=◌ : {A B : Type 0} → Result A LogCause → (A → Result B LogCause) → Result B LogCause
 (Ok x) >>= f = f x
 (Err e) >>= f = Err e
 
@@ -35,12 +35,12 @@ digits_number ds = if all_ascii_digits ds then Some (digits_value 10 ds) else No
 abbrev pub number_of : List ℕ → Option ℕ
 number_of w = if has_length w && not (has_leading_zero w) then digits_number w else None
 
-abbrev pub or_bad : Option ℕ → Result ℕ Cause
+abbrev pub or_bad : Option ℕ → Result ℕ LogCause
 or_bad (Some n) = Ok n
 or_bad None = Err BadNumber
 
 -- the next word's number, and the words behind it
-abbrev pub number_at : List (List ℕ) → Result (ℕ × List (List ℕ)) Cause
+abbrev pub number_at : List (List ℕ) → Result (ℕ × List (List ℕ)) LogCause
 number_at [] = Err WrongCount
 number_at (w ∷ ws) = or_bad (number_of w) >>= λ n. Ok (n, ws)
 
@@ -49,7 +49,7 @@ abbrev pub is_left : List (List ℕ) → Bool
 is_left [] = false
 is_left (w ∷ ws) = true
 
-abbrev pub nothing_left : List (List ℕ) → Result (Unit {0}) Cause
+abbrev pub nothing_left : List (List ℕ) → Result (Unit {0}) LogCause
 nothing_left ws = if is_left ws then Err WrongCount else Ok tt
 
 -- a site is written with an at sign before its number
@@ -58,7 +58,7 @@ is_site [] = false
 is_site (c ∷ cs) = c == 64
 
 -- a site, where there is one, is the last word
-abbrev pub site_at : List (List ℕ) → Result (Option ℕ) Cause
+abbrev pub site_at : List (List ℕ) → Result (Option ℕ) LogCause
 site_at [] = Ok None
 site_at (w ∷ ws) =
     if is_site w then (or_bad (number_of (drop 1 w)) >>= λ site. nothing_left ws >>= λ _. Ok (Some site))

@@ -2,14 +2,14 @@
 use Rattle.std.specs.Prelude.{ℕ, Option, Some, None, List, [], ◌∷◌, ◌++◌, codes}
 use Rattle.std.specs.List.{join_with_byte}
 use Rattle.std.specs.Fmt.{decimal}
-use Rattle.log_lines.specs.declared.line.Place.{Place}
+use Rattle.log_lines.specs.declared.line.LogPlace.{LogPlace}
 use Rattle.log_lines.specs.declared.line.AccessKind.{AccessKind}
 use Rattle.log_lines.specs.declared.line.AccessKind.TheVariants as kinds
 use Rattle.log_lines.specs.declared.line.Reference.{Reference}
 use Rattle.log_lines.specs.declared.line.Act.{Act}
 use Rattle.log_lines.specs.declared.line.Act.TheVariants as acts
-use Rattle.log_lines.specs.declared.line.Line.{Line}
-use Rattle.log_lines.specs.declared.line.Line.TheVariants as lines
+use Rattle.log_lines.specs.declared.line.LogLine.{LogLine}
+use Rattle.log_lines.specs.declared.line.LogLine.TheVariants as lines
 
 -- words with a space between them
 abbrev pub spaced : List (List ℕ) → List ℕ
@@ -20,7 +20,7 @@ site_words None = []
 site_words (Some n) = (64 ∷ decimal n) ∷ []
 
 -- with the words that follow
-abbrev pub place_words : Place → List (List ℕ) → List (List ℕ)
+abbrev pub place_words : LogPlace → List (List ℕ) → List (List ℕ)
 place_words p ws = decimal p.block ∷ decimal p.offset ∷ decimal p.length ∷ decimal p.runs ∷ decimal p.apart ∷ ws
 
 abbrev pub reference_words : Reference → List (List ℕ)
@@ -44,7 +44,7 @@ act_words (acts.Join task) = codes "-" ∷ decimal task ∷ []
 act_words acts.Finish = codes "." ∷ []
 
 -- a site is written with an empty name
-abbrev pub line_words : Line → List (List ℕ)
+abbrev pub line_words : LogLine → List (List ℕ)
 line_words lines.Version = codes "hhlog" ∷ decimal 1 ∷ []
 line_words (lines.Strand task strand) = codes "s" ∷ decimal task ∷ decimal strand ∷ []
 line_words (lines.Act act) = act_words act
@@ -53,5 +53,5 @@ line_words lines.Comment = codes "#" ∷ []
 line_words lines.End = codes "end" ∷ []
 
 -- without its line feed
-abbrev pub line_bytes : Line → List ℕ
+abbrev pub line_bytes : LogLine → List ℕ
 line_bytes l = spaced (line_words l)

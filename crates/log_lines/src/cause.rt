@@ -2,7 +2,7 @@
 
 /// Why a text is no line of a log. Where there are several reasons, the first one from the left is told.
 #[derive(Clone, Copy, PartialEq, Eq)]
-pub enum Cause {
+pub enum LogCause {
     /// It begins with no word that a line begins with.
     BadWord,
     /// A word that should be a number isn't one: decimal digits without a leading zero, at most 18 of them.

@@ -10,7 +10,7 @@ mod read;
 mod verb;
 mod words;
 
-pub use cause::Cause;
+pub use cause::LogCause;
 pub use laws::{lines_are_read_again, lines_are_within_limits};
-pub use line::{Access, AccessKind, Act, Line, Place, Reference};
+pub use line::{Access, AccessKind, Act, LogLine, LogPlace, Reference};
 pub use read::read_line;

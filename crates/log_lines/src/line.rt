@@ -3,7 +3,7 @@
 /// Locations of a block: `runs` runs of `length` locations each, of which one begins every `apart` locations, the first
 /// at `offset`.
 #[derive(Clone, Copy, PartialEq, Eq)]
-pub struct Place {
+pub struct LogPlace {
     pub block: u64,
     pub offset: u64,
     pub length: u64,
@@ -28,7 +28,7 @@ pub enum AccessKind {
 #[derive(Clone, Copy, PartialEq, Eq)]
 pub struct Access {
     pub kind: AccessKind,
-    pub place: Place,
+    pub place: LogPlace,
     pub site: Option<u64>,
 }
 
@@ -67,7 +67,7 @@ pub enum Act {
 
 /// What a line of a log says.
 #[derive(Clone, Copy, PartialEq, Eq)]
-pub enum Line {
+pub enum LogLine {
     /// The file is a log of the known version.
     Version,
     /// What follows is on a strand of a task: that behind so many spawns and joins of it.

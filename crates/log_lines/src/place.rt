@@ -3,10 +3,10 @@
 ghost use Rattle.std.specs.Prelude.{◌≡◌, ◌<◌, ◌^◌, IfOk};
 ghost use Rattle.log_lines.specs.Grammar.{is_small, checked_place, place_of_runs, place_of_run, place_of_length, place_at};
 ghost use Rattle.log_lines.specs.Limits.{IsNumber, IsPlace};
-ghost use Rattle.log_lines.specs.Rest.{operands, Reads};
+ghost use Rattle.log_lines.specs.Rest.{operands, ReadsAs};
 
-use crate::cause::Cause;
-use crate::line::Place;
+use crate::cause::LogCause;
+use crate::line::LogPlace;
 use crate::words::{goes_on, number_at};
 
 const ACCESS_LIMIT: u64 = 1 << 28;
@@ -14,7 +14,7 @@ const ACCESS_LIMIT: u64 = 1 << 28;
 const LOCATION_LIMIT: u64 = 1 << 60;
 
 // Whether a place is within the limits.
-fn is_small(place: Place) -> bool
+fn is_small(place: LogPlace) -> bool
     requires { IsNumber place.offset }
     ensures { result ≡ is_small place }
 {
@@ -33,27 +33,32 @@ fn is_small(place: Place) -> bool
 }
 
 // The place itself, where it is within the limits and its runs don't overlap.
-fn checked_place(place: Place) -> Result<Place, Cause>
+fn checked_place(place: LogPlace) -> Result<LogPlace, LogCause>
     requires { IsNumber place.offset }
     ensures { result ≡ checked_place place }
 {
     if !is_small(place) {
-        Err(Cause::OverLimit)
+        Err(LogCause::OverLimit)
     } else if place.length <= place.apart {
         Ok(place)
     } else {
-        Err(Cause::RunsOverlap)
+        Err(LogCause::RunsOverlap)
     }
 }
 
 // A place of several runs: their number and how far apart they are are read.
-fn place_of_runs(block: u64, offset: u64, length: u64, rest: &[u8]) -> Result<(Place, &[u8]), Cause>
+fn place_of_runs(
+    block: u64,
+    offset: u64,
+    length: u64,
+    rest: &[u8],
+) -> Result<(LogPlace, &[u8]), LogCause>
     requires { IsNumber offset }
-    ensures { Reads (λ x. (x.0, operands x.1.now)) result (place_of_runs block offset length (operands rest.now)) }
+    ensures { ReadsAs (λ x. (x.0, operands x.1.now)) result (place_of_runs block offset length (operands rest.now)) }
 {
     let (runs, rest) = number_at(rest)?;
     let (apart, rest) = number_at(rest)?;
-    let place = checked_place(Place {
+    let place = checked_place(LogPlace {
         block,
         offset,
         length,
@@ -64,11 +69,16 @@ fn place_of_runs(block: u64, offset: u64, length: u64, rest: &[u8]) -> Result<(P
 }
 
 // A place of one run.
-fn place_of_run(block: u64, offset: u64, length: u64, rest: &[u8]) -> Result<(Place, &[u8]), Cause>
+fn place_of_run(
+    block: u64,
+    offset: u64,
+    length: u64,
+    rest: &[u8],
+) -> Result<(LogPlace, &[u8]), LogCause>
     requires { IsNumber offset }
-    ensures { Reads (λ x. (x.0, operands x.1.now)) result (place_of_run block offset length (operands rest.now)) }
+    ensures { ReadsAs (λ x. (x.0, operands x.1.now)) result (place_of_run block offset length (operands rest.now)) }
 {
-    let place = checked_place(Place {
+    let place = checked_place(LogPlace {
         block,
         offset,
         length,
@@ -79,9 +89,9 @@ fn place_of_run(block: u64, offset: u64, length: u64, rest: &[u8]) -> Result<(Pl
 }
 
 // A place whose length is read.
-fn place_of_length(block: u64, offset: u64, rest: &[u8]) -> Result<(Place, &[u8]), Cause>
+fn place_of_length(block: u64, offset: u64, rest: &[u8]) -> Result<(LogPlace, &[u8]), LogCause>
     requires { IsNumber offset }
-    ensures { Reads (λ x. (x.0, operands x.1.now)) result (place_of_length block offset (operands rest.now)) }
+    ensures { ReadsAs (λ x. (x.0, operands x.1.now)) result (place_of_length block offset (operands rest.now)) }
 {
     let (length, rest) = number_at(rest)?;
     if goes_on(rest) {
@@ -92,8 +102,8 @@ fn place_of_length(block: u64, offset: u64, rest: &[u8]) -> Result<(Place, &[u8]
 }
 
 /// The place that the next words write, and the rest.
-pub(crate) fn place_at(rest: &[u8]) -> Result<(Place, &[u8]), Cause>
-    ensures { Reads (λ x. (x.0, operands x.1.now)) result (place_at (operands rest.now)) }
+pub(crate) fn place_at(rest: &[u8]) -> Result<(LogPlace, &[u8]), LogCause>
+    ensures { ReadsAs (λ x. (x.0, operands x.1.now)) result (place_at (operands rest.now)) }
 {
     let (block, rest) = number_at(rest)?;
     let (offset, rest) = number_at(rest)?;

@@ -5,10 +5,10 @@ ghost use Rattle.log_lines.specs.Grammar.{act_of_access, reference_of, act_of_bi
 ghost use Rattle.log_lines.specs.Limits.{IsLine};
 ghost use Rattle.log_lines.specs.Rest.{operands};
 
-use crate::cause::Cause;
-use crate::line::{Access, AccessKind, Act, Line, Reference};
+use crate::cause::LogCause;
+use crate::line::{Access, AccessKind, Act, LogLine, Reference};
 use crate::place::place_at;
-use crate::verb::{ActVerb, Verb, verb_of};
+use crate::verb::{ActVerb, LogVerb, verb_of};
 use crate::words::{first_word, is_left, nothing_left, number_at, site_at};
 
 const TASK_LIMIT: u64 = 1 << 32;
@@ -16,7 +16,7 @@ const TASK_LIMIT: u64 = 1 << 32;
 const STRAND_LIMIT: u64 = 1 << 31;
 
 // An access of a kind.
-fn act_of_access(kind: AccessKind, rest: &[u8]) -> Result<Act, Cause>
+fn act_of_access(kind: AccessKind, rest: &[u8]) -> Result<Act, LogCause>
     ensures { result ≡ act_of_access kind (operands rest.now) }
 {
     let (place, rest) = place_at(rest)?;
@@ -25,7 +25,7 @@ fn act_of_access(kind: AccessKind, rest: &[u8]) -> Result<Act, Cause>
 }
 
 // A location and the reference in it.
-fn reference_of(rest: &[u8]) -> Result<Reference, Cause>
+fn reference_of(rest: &[u8]) -> Result<Reference, LogCause>
     ensures { result ≡ reference_of (operands rest.now) }
 {
     let (block, rest) = number_at(rest)?;
@@ -41,7 +41,7 @@ fn reference_of(rest: &[u8]) -> Result<Reference, Cause>
 }
 
 // The birth of a block.
-fn act_of_birth(rest: &[u8]) -> Result<Act, Cause>
+fn act_of_birth(rest: &[u8]) -> Result<Act, LogCause>
     ensures { result ≡ act_of_birth (operands rest.now) }
 {
     let (block, rest) = number_at(rest)?;
@@ -51,7 +51,7 @@ fn act_of_birth(rest: &[u8]) -> Result<Act, Cause>
 }
 
 // The only number.
-fn number_alone(rest: &[u8]) -> Result<u64, Cause>
+fn number_alone(rest: &[u8]) -> Result<u64, LogCause>
     ensures { result ≡ number_alone (operands rest.now) }
 {
     let (number, rest) = number_at(rest)?;
@@ -60,60 +60,60 @@ fn number_alone(rest: &[u8]) -> Result<u64, Cause>
 }
 
 // A number below a limit of 32 bits.
-fn below(limit: u64, number: u64) -> Result<u32, Cause>
+fn below(limit: u64, number: u64) -> Result<u32, LogCause>
     requires { limit ≤ 2 ^ 32 }
     ensures { result ≡ below limit number }
 {
     if number < limit {
         Ok(number as u32)
     } else {
-        Err(Cause::OverLimit)
+        Err(LogCause::OverLimit)
     }
 }
 
 // A task alone.
-fn task_alone(rest: &[u8]) -> Result<u32, Cause>
+fn task_alone(rest: &[u8]) -> Result<u32, LogCause>
     ensures { result ≡ task_alone (operands rest.now) }
 {
     below(TASK_LIMIT, number_alone(rest)?)
 }
 
 // Which strand of which task follows.
-fn line_of_strand(rest: &[u8]) -> Result<Line, Cause>
+fn line_of_strand(rest: &[u8]) -> Result<LogLine, LogCause>
     ensures { result ≡ line_of_strand (operands rest.now) }
 {
     let (task, rest) = number_at(rest)?;
     let strand = number_alone(rest)?;
     let task = below(TASK_LIMIT, task)?;
     let strand = below(STRAND_LIMIT, strand)?;
-    Ok(Line::Strand { task, strand })
+    Ok(LogLine::Strand { task, strand })
 }
 
 // A site and its name.
-fn line_of_name(rest: &[u8]) -> Result<Line, Cause>
+fn line_of_name(rest: &[u8]) -> Result<LogLine, LogCause>
     ensures { result ≡ line_of_name (operands rest.now) }
 {
     let (site, rest) = number_at(rest)?;
     if is_left(rest) {
-        Ok(Line::Name(site))
+        Ok(LogLine::Name(site))
     } else {
-        Err(Cause::WrongCount)
+        Err(LogCause::WrongCount)
     }
 }
 
 // The version of the format.
-fn line_of_version(rest: &[u8]) -> Result<Line, Cause>
+fn line_of_version(rest: &[u8]) -> Result<LogLine, LogCause>
     ensures { result ≡ line_of_version (operands rest.now) }
 {
     if number_alone(rest)? == 1 {
-        Ok(Line::Version)
+        Ok(LogLine::Version)
     } else {
-        Err(Cause::UnknownVersion)
+        Err(LogCause::UnknownVersion)
     }
 }
 
 // What a strand does, by the first word and the rest.
-fn act_by(verb: ActVerb, rest: &[u8]) -> Result<Act, Cause>
+fn act_by(verb: ActVerb, rest: &[u8]) -> Result<Act, LogCause>
     ensures { result ≡ act_by verb (operands rest.now) }
 {
     match verb {
@@ -133,37 +133,37 @@ fn act_by(verb: ActVerb, rest: &[u8]) -> Result<Act, Cause>
 }
 
 // What a line says, by its first word and the rest.
-fn line_by(verb: Verb, rest: &[u8]) -> Result<Line, Cause>
+fn line_by(verb: LogVerb, rest: &[u8]) -> Result<LogLine, LogCause>
     ensures { result ≡ line_by verb (operands rest.now) }
 {
     match verb {
-        Verb::Act(verb) => Ok(Line::Act(act_by(verb, rest)?)),
-        Verb::Strand => line_of_strand(rest),
-        Verb::Name => line_of_name(rest),
-        Verb::Version => line_of_version(rest),
-        Verb::End => {
+        LogVerb::Act(verb) => Ok(LogLine::Act(act_by(verb, rest)?)),
+        LogVerb::Strand => line_of_strand(rest),
+        LogVerb::Name => line_of_name(rest),
+        LogVerb::Version => line_of_version(rest),
+        LogVerb::End => {
             nothing_left(rest)?;
-            Ok(Line::End)
+            Ok(LogLine::End)
         }
     }
 }
 
 // What a line says, whatever its numbers.
-fn line_of(line: &[u8]) -> Result<Line, Cause>
+fn line_of(line: &[u8]) -> Result<LogLine, LogCause>
     ensures { result ≡ line_of line.now }
 {
     if line.is_empty() || line[0] == b'#' {
-        return Ok(Line::Comment);
+        return Ok(LogLine::Comment);
     }
     let (word, rest) = first_word(line);
     match verb_of(word) {
-        None => Err(Cause::BadWord),
+        None => Err(LogCause::BadWord),
         Some(verb) => line_by(verb, rest),
     }
 }
 
 /// What a line says, or why it says nothing; its line feed isn't part of it.
-pub fn read_line(line: &[u8]) -> Result<Line, Cause>
+pub fn read_line(line: &[u8]) -> Result<LogLine, LogCause>
     ensures says { result ≡ line_of line.now }
     ensures within { IfOk result IsLine }
 {

@@ -21,7 +21,7 @@ pub(crate) enum ActVerb {
 
 /// What the first word of a line announces.
 #[derive(Clone, Copy)]
-pub(crate) enum Verb {
+pub(crate) enum LogVerb {
     Version,
     Strand,
     Act(ActVerb),
@@ -30,43 +30,43 @@ pub(crate) enum Verb {
 }
 
 // What a letter announces.
-fn letter_verb(letter: u8) -> Option<Verb>
+fn letter_verb(letter: u8) -> Option<LogVerb>
     ensures { result ≡ letter_verb letter }
 {
     match letter {
-        b'r' => Some(Verb::Act(ActVerb::Access(AccessKind::Read))),
-        b'w' => Some(Verb::Act(ActVerb::Access(AccessKind::Write))),
-        b'R' => Some(Verb::Act(ActVerb::Access(AccessKind::AtomicRead))),
-        b'W' => Some(Verb::Act(ActVerb::Access(AccessKind::AtomicWrite))),
-        b'g' => Some(Verb::Act(ActVerb::Yield)),
-        b'p' => Some(Verb::Act(ActVerb::Store)),
-        b'a' => Some(Verb::Act(ActVerb::Birth)),
-        b'f' => Some(Verb::Act(ActVerb::Release)),
-        b'k' => Some(Verb::Act(ActVerb::Work)),
-        b's' => Some(Verb::Strand),
-        b'+' => Some(Verb::Act(ActVerb::Spawn)),
-        b'-' => Some(Verb::Act(ActVerb::Join)),
-        b'.' => Some(Verb::Act(ActVerb::Finish)),
-        b'@' => Some(Verb::Name),
+        b'r' => Some(LogVerb::Act(ActVerb::Access(AccessKind::Read))),
+        b'w' => Some(LogVerb::Act(ActVerb::Access(AccessKind::Write))),
+        b'R' => Some(LogVerb::Act(ActVerb::Access(AccessKind::AtomicRead))),
+        b'W' => Some(LogVerb::Act(ActVerb::Access(AccessKind::AtomicWrite))),
+        b'g' => Some(LogVerb::Act(ActVerb::Yield)),
+        b'p' => Some(LogVerb::Act(ActVerb::Store)),
+        b'a' => Some(LogVerb::Act(ActVerb::Birth)),
+        b'f' => Some(LogVerb::Act(ActVerb::Release)),
+        b'k' => Some(LogVerb::Act(ActVerb::Work)),
+        b's' => Some(LogVerb::Strand),
+        b'+' => Some(LogVerb::Act(ActVerb::Spawn)),
+        b'-' => Some(LogVerb::Act(ActVerb::Join)),
+        b'.' => Some(LogVerb::Act(ActVerb::Finish)),
+        b'@' => Some(LogVerb::Name),
         _ => None,
     }
 }
 
 // What a word of several letters announces.
-fn long_verb(word: &[u8]) -> Option<Verb>
+fn long_verb(word: &[u8]) -> Option<LogVerb>
     ensures { result ≡ long_verb word.now }
 {
     if word == b"end".as_slice() {
-        Some(Verb::End)
+        Some(LogVerb::End)
     } else if word == b"hhlog".as_slice() {
-        Some(Verb::Version)
+        Some(LogVerb::Version)
     } else {
         None
     }
 }
 
 /// What the first word of a line announces.
-pub(crate) fn verb_of(word: &[u8]) -> Option<Verb>
+pub(crate) fn verb_of(word: &[u8]) -> Option<LogVerb>
     ensures { result ≡ verb_of word.now }
 {
     if word.len() == 1 {

@@ -4,9 +4,9 @@ ghost use Rattle.std.specs.Prelude.{◌≡◌, ◌≤◌, ◌<◌, ◌+◌, ◌^
 ghost use Rattle.std.specs.List.{position_or_len};
 ghost use Rattle.log_lines.specs.Words.{is_space, words_of, number_of, or_bad, number_at, is_left, nothing_left, site_at, goes_on, is_site};
 ghost use Rattle.log_lines.specs.Limits.{IsNumber, IsSite};
-ghost use Rattle.log_lines.specs.Rest.{operands, Reads};
+ghost use Rattle.log_lines.specs.Rest.{operands, ReadsAs};
 
-use crate::cause::Cause;
+use crate::cause::LogCause;
 use crate::number::read_number;
 
 // Where the first word ends: at its space, or with the text.
@@ -41,20 +41,20 @@ fn next_word(rest: &[u8]) -> Option<(&[u8], &[u8])>
 }
 
 // The number of a word.
-fn number(word: &[u8]) -> Result<u64, Cause>
+fn number(word: &[u8]) -> Result<u64, LogCause>
     ensures number { result ≡ or_bad (number_of word.now) }
     ensures below { IfOk result IsNumber }
 {
-    read_number(word).ok_or(Cause::BadNumber)
+    read_number(word).ok_or(LogCause::BadNumber)
 }
 
 /// The next word's number, and the rest.
-pub(crate) fn number_at(rest: &[u8]) -> Result<(u64, &[u8]), Cause>
-    ensures read { Reads (λ x. (x.0, operands x.1.now)) result (number_at (operands rest.now)) }
+pub(crate) fn number_at(rest: &[u8]) -> Result<(u64, &[u8]), LogCause>
+    ensures read { ReadsAs (λ x. (x.0, operands x.1.now)) result (number_at (operands rest.now)) }
     ensures below { IfOk result (λ x. IsNumber x.0) }
 {
     let Some((word, rest)) = next_word(rest) else {
-        return Err(Cause::WrongCount);
+        return Err(LogCause::WrongCount);
     };
     let number = number(word)?;
     Ok((number, rest))
@@ -68,11 +68,11 @@ pub(crate) fn is_left(rest: &[u8]) -> bool
 }
 
 /// No word may be left.
-pub(crate) fn nothing_left(rest: &[u8]) -> Result<(), Cause>
+pub(crate) fn nothing_left(rest: &[u8]) -> Result<(), LogCause>
     ensures { result ≡ nothing_left (operands rest.now) }
 {
     if is_left(rest) {
-        Err(Cause::WrongCount)
+        Err(LogCause::WrongCount)
     } else {
         Ok(())
     }
@@ -86,7 +86,7 @@ fn is_site(word: &[u8]) -> bool
 }
 
 /// The site, where there is one; no other word is left.
-pub(crate) fn site_at(rest: &[u8]) -> Result<Option<u64>, Cause>
+pub(crate) fn site_at(rest: &[u8]) -> Result<Option<u64>, LogCause>
     ensures read { result ≡ site_at (operands rest.now) }
     ensures below { IfOk result IsSite }
 {
@@ -94,7 +94,7 @@ pub(crate) fn site_at(rest: &[u8]) -> Result<Option<u64>, Cause>
         return Ok(None);
     };
     if !is_site(word) {
-        return Err(Cause::WrongCount);
+        return Err(LogCause::WrongCount);
     }
     let site = number(&word[1..])?;
     nothing_left(rest)?;

@@ -1,15 +1,5 @@
 -- What is known when one thing more has happened.
-use Rattle.std.proofs.Common.{◌≡◌, ◌==◌, ℕ, Bool, true, false, List, [], ◌∷◌, ◌++◌, cond, not, refl, ap, sym, ◌∙◌, nat_eq}
-use Rattle.std.specs.Prelude.{◌||◌, ◌&&◌}
-use Rattle.std.specs.List.{list_any}
-use Rattle.std.specs.HashSet.{contains}
-use Rattle.log_lines.specs.declared.line.Act.{Act}
-use Rattle.fork_graph.specs.declared.graph.Strand.{Strand}
-use Rattle.fork_graph.specs.Graph.{strand}
-use Rattle.log_form.specs.Events.{Event, event, is_on, is_last, has_ended}
-use Rattle.log_form.specs.Faults.{spawns, bears, releases, is_born, is_released}
-use Rattle.log_pieces.specs.declared.claims.Claims.{Claims}
-use Rattle.log_pieces.specs.Claims.{Knows, is_pair, is_that}
+use Rattle.log_pieces.proofs.Common.{◌≡◌, ◌==◌, ℕ, Bool, true, false, List, [], ◌∷◌, ◌++◌, cond, not, refl, ap, sym, ◌∙◌, nat_eq, ◌||◌, ◌&&◌, list_any, contains, Act, GraphStrand, strand, Event, event, is_on, is_last, has_ended, spawns, bears, releases, is_born, is_released, Claims, ClaimsHold, is_pair, is_that}
 
 or_false : (b : Bool) → b ≡ (b || false)
 or_false true = refl
@@ -41,13 +31,13 @@ any_more p [] x = or_only (p x)
 any_more p (y ∷ ys) x = ap (λ b. p y || b) (any_more p ys x) ∙ or_assoc (p y) (list_any p ys) (p x)
 
 -- the sets of names as they are when an act more has happened
-pub record Grows (old new : Claims) (u : Strand) (act : Act) : Type 0 where
+pub record Grows (old new : Claims) (u : GraphStrand) (act : Act) : Type 0 where
   pub ended : (t i : ℕ) → contains is_pair new.ended (t, i) ≡ (contains is_pair old.ended (t, i) || (is_that u t i && is_last act))
   pub spawned : (c : ℕ) → contains nat_eq new.spawned c ≡ (contains nat_eq old.spawned c || spawns c act)
   pub born : (b : ℕ) → contains nat_eq new.born b ≡ (contains nat_eq old.born b || bears b act)
   pub released : (b : ℕ) → contains nat_eq new.released b ≡ (contains nat_eq old.released b || releases b act)
 
-pub known_after : (old new : Claims) (u : Strand) (act : Act) → Grows old new u act → (events : List Event) → Knows old events → Knows new (events ++ event u act ∷ [])
+pub known_after : (old new : Claims) (u : GraphStrand) (act : Act) → Grows old new u act → (events : List Event) → ClaimsHold old events → ClaimsHold new (events ++ event u act ∷ [])
 known_after old new u act g events k = record {
   ended = λ t i. g.ended t i ∙ ap (λ b. b || (is_that u t i && is_last act)) (k.ended t i) ∙ sym (any_more (λ e. is_on (strand t i) e && is_last e.act) events (event u act));
   spawned = λ c. g.spawned c ∙ ap (λ b. b || spawns c act) (k.spawned c) ∙ sym (any_more (λ e. spawns c e.act) events (event u act));

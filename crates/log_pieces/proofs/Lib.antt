@@ -4,3 +4,4 @@ pub mod Steps
 pub mod Along
 pub mod OverFiles
 pub mod Lines
+mod Common

@@ -1,11 +1,5 @@
 -- The acts of a text, line by line.
-use Rattle.std.proofs.Common.{◌≡◌, ◌++◌, ◌∷◌, ◌∙◌, ℕ, List, [], sym, ap, subst, Option, Some, None, append-nil}
-use Rattle.std.specs.Prelude.{MatchOption}
-use Rattle.std.specs.List.{flat_map}
-use Rattle.text_lines.specs.Lines.{lines_of}
-use Rattle.log_lines.specs.declared.line.Act.{Act}
-use Rattle.log_lines.specs.Grammar.{line_of}
-use Rattle.log_pieces.specs.Pieces.{act_said, acts_in}
+use Rattle.log_pieces.proofs.Common.{◌≡◌, ◌++◌, ◌∷◌, ◌∙◌, ℕ, List, [], sym, ap, subst, Option, Some, None, append-nil, MatchOption, flat_map, lines_of, Act, line_of, act_said, acts_in}
 
 pub line_more : (left line rest : List ℕ) → lines_of left ≡ line ∷ lines_of rest → acts_in left ≡ act_said (line_of line) ++ acts_in rest
 line_more left line rest e = ap (λ (ls : List (List ℕ)). flat_map (λ l. act_said (line_of l)) ls) e

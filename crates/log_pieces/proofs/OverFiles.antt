@@ -1,26 +1,13 @@
 -- How far the walk has come along the files.
-use Rattle.std.proofs.Common.{◌≡◌, ◌<◌, ◌≤◌, ◌+◌, ◌||◌, ℕ, Bool, true, false, not, List, [], ◌∷◌, ◌++◌, length, drop, drop-cons, get_or, map, refl, ap, sym, subst, ◌∙◌, append-nil, slice_range, arith, Option, Some, None, Result, Ok, Err, IfOk, suc}
-use Rattle.std.proofs.lemmas.List.{drop_all}
-use Rattle.log_lines.specs.declared.cause.Cause.{Cause}
-use Rattle.log_lines.specs.declared.cause.Cause.TheVariants as causes
-use Rattle.log_lines.specs.declared.line.Line.{Line}
-use Rattle.log_lines.specs.declared.line.Line.TheVariants as lines
-use Rattle.log_lines.specs.Grammar.{line_of}
-use Rattle.log_form.specs.declared.fault.Fault.{Fault}
-use Rattle.log_form.specs.declared.fault.Fault.TheVariants as faults
-use Rattle.log_form.specs.declared.fault.Found.{Found}
-use Rattle.log_form.specs.Text.{lines_in}
-use Rattle.log_form.specs.Events.{Event, Spot, spot_behind_said, spot_behind_all, file_begin, file_end, events_behind, events_of, is_cut_behind, is_cut}
-use Rattle.log_form.specs.Faults.{first_fault, fault_from, fault_of_lines, found_at, or_later, fault_behind, log_fault}
-use Rattle.log_pieces.specs.declared.walk.Walk.{Walk}
-use Rattle.log_pieces.specs.Claims.{Knows}
-use Rattle.log_pieces.specs.Walk.{Follows, cut_of}
-use Rattle.log_pieces.specs.Pieces.{text_at, events_of_pieces, Cuts, IsLineAt}
+use Rattle.log_pieces.proofs.Common.{◌≡◌, ◌<◌, ◌≤◌, ◌+◌, ◌||◌, ℕ, Bool, true, false, not, List, [], ◌∷◌, ◌++◌, length, drop, drop-cons, get_or, map, refl, ap, sym, subst, ◌∙◌, append-nil, slice_range, arith, Option, Some, None, Result, Ok, Err, IfOk, suc, drop_all, LogCause, LogLine, line_of, LogFault, LocatedFault, lines_in, Event, Spot, spot_behind_said, spot_behind_all, file_begin, file_end, events_behind, events_of, is_cut_behind, is_cut, first_fault, fault_from, fault_of_lines, found_at, or_later, fault_behind, log_fault, LineWalk, ClaimsHold, IsAtSpot, cut_of, text_at, events_of_pieces, Cuts, IsLineAt}
+use Rattle.log_lines.specs.declared.cause.LogCause.TheVariants as causes
+use Rattle.log_lines.specs.declared.line.LogLine.TheVariants as lines
+use Rattle.log_form.specs.declared.fault.LogFault.TheVariants as faults
 use Rattle.log_pieces.proofs.Whole.{lines_from}
 
 -- A FILE
 
-first_is : (said : Result Line Cause) → first_fault said ≡ None → said ≡ Ok lines.Version
+first_is : (said : Result LogLine LogCause) → first_fault said ≡ None → said ≡ Ok lines.Version
 first_is (Ok lines.Version) e = refl
 first_is (Ok (lines.Strand t i)) e = absurd cc
 first_is (Ok (lines.Act act)) e = absurd cc
@@ -43,7 +30,7 @@ module _ (text : List ℕ) (end : ℕ) (is : IsLineAt text 0 end) where
   line : List ℕ
   line = slice_range text 0 end
 
-  pub first_bad : (file : ℕ) (before : List Event) (fault : Fault) → Some fault ≡ first_fault (line_of (slice_range text 0 end))
+  pub first_bad : (file : ℕ) (before : List Event) (fault : LogFault) → Some fault ≡ first_fault (line_of (slice_range text 0 end))
       → Some (record { at = record { file = file; line = 1 }; fault = fault }) ≡ fault_of_lines file before (lines_in text)
   first_bad file before fault e =
       ap (λ f. found_at file 1 f (fault_from file (file_begin before) 2 (lines_in (drop (end + 1) text)))) e
@@ -61,31 +48,31 @@ module _ (text : List ℕ) (end : ℕ) (is : IsLineAt text 0 end) where
       ap (λ said. spot_behind_all (spot_behind_said (file_begin before) said) (lines_in (drop (end + 1) text))) (sym (first_is (line_of (slice_range text 0 end)) (sym e)))
       ∙ sym (ap (spot_behind_all (file_begin before)) (lines_from text 0 end is))
 
-pub begun : (walk : Walk) (before : List Event) → walk.here ≡ None → walk.closed ≡ false → Knows walk.claims before → Follows walk (file_begin before)
+pub begun : (walk : LineWalk) (before : List Event) → walk.here ≡ None → walk.closed ≡ false → ClaimsHold walk.claims before → IsAtSpot walk (file_begin before)
 begun walk before h c k = record { here = rw h refl; ended = rw h tt; closed = c; knows = k }
 
-pub nothing_open : (texts : List (List ℕ)) (text : List ℕ) (walk : Walk) (at : ℕ) (before : List Event) → walk.here ≡ None → events_of_pieces texts walk.pieces ≡ before → Cuts texts text (cut_of walk) at before
+pub nothing_open : (texts : List (List ℕ)) (text : List ℕ) (walk : LineWalk) (at : ℕ) (before : List Event) → walk.here ≡ None → events_of_pieces texts walk.pieces ≡ before → Cuts texts text (cut_of walk) at before
 nothing_open texts text walk at before h e = record { all = rw h (append-nil (events_of_pieces texts walk.pieces) ∙ e); begun = rw h tt }
 
 -- behind the version line
-module _ (walk : Walk) (text : List ℕ) (end : ℕ) (is : IsLineAt text 0 end) (e : None ≡ first_fault (line_of (slice_range text 0 end))) where
-  abbrev again : Walk
+module _ (walk : LineWalk) (text : List ℕ) (end : ℕ) (is : IsLineAt text 0 end) (e : None ≡ first_fault (line_of (slice_range text 0 end))) where
+  abbrev again : LineWalk
   again = record { claims = walk.claims; pieces = walk.pieces; file = walk.file; closed = false; here = None }
 
-  pub then_found : {E : Type 0} (r : Result (Option Found) E) → IfOk r (λ found. (spot : Spot) → Follows again spot → found ≡ fault_from walk.file spot 2 (lines_in (drop (end + 1) text)))
-      → IfOk r (λ found. (before : List Event) → Knows walk.claims before → found ≡ fault_of_lines walk.file before (lines_in text))
+  pub then_found : {E : Type 0} (r : Result (Option LocatedFault) E) → IfOk r (λ found. (spot : Spot) → IsAtSpot again spot → found ≡ fault_from walk.file spot 2 (lines_in (drop (end + 1) text)))
+      → IfOk r (λ found. (before : List Event) → ClaimsHold walk.claims before → found ≡ fault_of_lines walk.file before (lines_in text))
   then_found (Ok found) h = λ before k. h (file_begin before) (begun again before refl refl k) ∙ first_good text end is walk.file before e
   then_found (Err x) h = tt
 
-  pub then_after : {E : Type 0} (r : Result (Option Found) E) (new : Walk) → IfOk r (λ found. found ≡ None → (spot : Spot) → Follows again spot → Follows new (spot_behind_all spot (lines_in (drop (end + 1) text))))
-      → IfOk r (λ found. found ≡ None → (before : List Event) → Knows walk.claims before → Follows new (file_end before text))
-  then_after (Ok found) new h = λ n before k. subst (Follows new) (same_end text end is before e) (h n (file_begin before) (begun again before refl refl k))
+  pub then_after : {E : Type 0} (r : Result (Option LocatedFault) E) (new : LineWalk) → IfOk r (λ found. found ≡ None → (spot : Spot) → IsAtSpot again spot → IsAtSpot new (spot_behind_all spot (lines_in (drop (end + 1) text))))
+      → IfOk r (λ found. found ≡ None → (before : List Event) → ClaimsHold walk.claims before → IsAtSpot new (file_end before text))
+  then_after (Ok found) new h = λ n before k. subst (IsAtSpot new) (same_end text end is before e) (h n (file_begin before) (begun again before refl refl k))
   then_after (Err x) new h = tt
 
-  pub then_pieces : {E : Type 0} (r : Result (Option Found) E) (new : Walk)
-      → IfOk r (λ found. found ≡ None → (spot : Spot) → Follows again spot → (texts : List (List ℕ)) → text_at texts walk.file ≡ text → Cuts texts text (cut_of again) (end + 1) spot.events
+  pub then_pieces : {E : Type 0} (r : Result (Option LocatedFault) E) (new : LineWalk)
+      → IfOk r (λ found. found ≡ None → (spot : Spot) → IsAtSpot again spot → (texts : List (List ℕ)) → text_at texts walk.file ≡ text → Cuts texts text (cut_of again) (end + 1) spot.events
       → events_of_pieces texts new.pieces ≡ (spot_behind_all spot (lines_in (drop (end + 1) text))).events)
-      → IfOk r (λ found. found ≡ None → (before : List Event) → Knows walk.claims before → (texts : List (List ℕ)) → text_at texts walk.file ≡ text
+      → IfOk r (λ found. found ≡ None → (before : List Event) → ClaimsHold walk.claims before → (texts : List (List ℕ)) → text_at texts walk.file ≡ text
       → events_of_pieces texts walk.pieces ≡ before → events_of_pieces texts new.pieces ≡ (file_end before text).events)
   then_pieces (Ok found) new h = λ n before k texts t p.
       h n (file_begin before) (begun again before refl refl k) texts t (nothing_open texts text again (end + 1) before refl p) ∙ ap (λ s. s.events) (same_end text end is before e)
@@ -94,31 +81,31 @@ module _ (walk : Walk) (text : List ℕ) (end : ℕ) (is : IsLineAt text 0 end) 
 -- ALL FILES
 
 -- behind some of the files, what has happened is known, and the rest has what all had
-pub record Has (walk : Walk) (cut : Bool) (texts : List (List ℕ)) (file : ℕ) : Type 0 where
+pub record Has (walk : LineWalk) (cut : Bool) (texts : List (List ℕ)) (file : ℕ) : Type 0 where
   pub before : List Event
-  pub knows : Knows walk.claims before
+  pub knows : ClaimsHold walk.claims before
   pub faults : fault_behind file before (drop file texts) ≡ log_fault texts
   pub ends : events_behind before (drop file texts) ≡ events_of texts
   pub cuts : (cut || is_cut_behind before (drop file texts)) ≡ is_cut texts
   pub pieces : events_of_pieces texts walk.pieces ≡ before
 
-pub has_none : (walk : Walk) (texts : List (List ℕ)) → Knows walk.claims [] → walk.pieces ≡ [] → Has walk false texts 0
+pub has_none : (walk : LineWalk) (texts : List (List ℕ)) → ClaimsHold walk.claims [] → walk.pieces ≡ [] → Has walk false texts 0
 has_none walk texts k e = record { before = []; knows = k; faults = refl; ends = refl; cuts = refl; pieces = ap (events_of_pieces texts) e }
 
 or_assoc : (a b c : Bool) → (a || (b || c)) ≡ ((a || b) || c)
 or_assoc true b c = refl
 or_assoc false b c = refl
 
-module _ (walk : Walk) (cut : Bool) (texts : List (List ℕ)) (file : ℕ) (text : List ℕ) (h : Has walk cut texts file) (lt : file < length texts) (t : text_at texts file ≡ text) where
+module _ (walk : LineWalk) (cut : Bool) (texts : List (List ℕ)) (file : ℕ) (text : List ℕ) (h : Has walk cut texts file) (lt : file < length texts) (t : text_at texts file ≡ text) where
   rest_is : drop file texts ≡ text ∷ drop (file + 1) texts
   rest_is = drop-cons texts file [] lt ∙ ap (λ x. x ∷ drop (suc file) texts) t ∙ ap (λ k. text ∷ drop k texts) (let s : suc file ≡ file + 1 = omega arith in s)
 
-  pub file_fault : (found : Found) → Some found ≡ fault_of_lines file h.before (lines_in text) → log_fault texts ≡ Some found
+  pub file_fault : (found : LocatedFault) → Some found ≡ fault_of_lines file h.before (lines_in text) → log_fault texts ≡ Some found
   file_fault found e =
       sym h.faults ∙ ap (fault_behind file h.before) rest_is
       ∙ ap (λ f. or_later f (fault_behind (file + 1) (file_end h.before text).events (drop (file + 1) texts))) (sym e)
 
-  pub has_more : (new : Walk) → None ≡ fault_of_lines file h.before (lines_in text) → Follows new (file_end h.before text) → events_of_pieces texts new.pieces ≡ (file_end h.before text).events
+  pub has_more : (new : LineWalk) → None ≡ fault_of_lines file h.before (lines_in text) → IsAtSpot new (file_end h.before text) → events_of_pieces texts new.pieces ≡ (file_end h.before text).events
       → Has new (cut || not new.closed) texts (file + 1)
   has_more new e f p = record {
     before = (file_end h.before text).events;
@@ -139,7 +126,7 @@ or_none true = refl
 or_none false = refl
 
 -- no file is left
-module _ (walk : Walk) (cut : Bool) (texts : List (List ℕ)) (file : ℕ) (h : Has walk cut texts file) (le : length texts ≤ file) where
+module _ (walk : LineWalk) (cut : Bool) (texts : List (List ℕ)) (file : ℕ) (h : Has walk cut texts file) (le : length texts ≤ file) where
   pub no_fault : log_fault texts ≡ None
   no_fault = sym h.faults ∙ ap (fault_behind file h.before) (drop_all file texts le)
 

@@ -1,29 +1,17 @@
 -- The acts of texts that are whole lines.
-use Rattle.std.proofs.Common.{◌≡◌, ◌<◌, ◌≤◌, ◌+◌, ◌-◌, ◌==◌, ℕ, zero, suc, Bool, true, false, List, [], ◌∷◌, ◌++◌, length, take, drop, drop-cons, get_or, cond, arith, refl, ap, sym, ◌∙◌, append_assoc, append-nil, eqb-true, slice_range, Option, Some, None}
-use Rattle.std.specs.List.{slice_split, onto_first, flat_map, position_or_len, All}
-use Rattle.std.proofs.lemmas.Grind.{flat_map-append}
-use Rattle.std.proofs.lemmas.List.{length-drop, take_all, drop-drop, length-take, take-append-drop, get_or-take}
-use Rattle.std.proofs.lemmas.List.Sums.{passes_at_first, fails_before_first}
-use Rattle.std.proofs.lemmas.List.Splits.{slice_split_none}
-use Rattle.std.proofs.Math.Seq.{take-add, take-append-add}
-use Rattle.text_lines.proofs.Runs.{split_last}
-use Rattle.text_lines.specs.Lines.{lines_of}
-use Rattle.log_lines.specs.declared.line.Act.{Act}
-use Rattle.log_lines.specs.Grammar.{line_of}
-use Rattle.log_form.specs.Text.{lines_in, all_but_last}
-use Rattle.log_pieces.specs.Pieces.{act_said, acts_in, IsLineAt, IsWhole}
+use Rattle.log_pieces.proofs.Common.{◌≡◌, ◌<◌, ◌≤◌, ◌+◌, ◌-◌, ◌==◌, ℕ, zero, suc, Bool, true, false, List, [], ◌∷◌, ◌++◌, length, take, drop, drop-cons, get_or, cond, arith, refl, ap, sym, ◌∙◌, append_assoc, append-nil, eqb-true, slice_range, Option, Some, None, slice_split, onto_first, flat_map, position_or_len, All, flat_map-append, length-drop, take_all, drop-drop, length-take, take-append-drop, get_or-take, passes_at_first, fails_before_first, slice_split_none, take-add, take-append-add, split_last, lines_of, Act, line_of, lines_in, all_but_last, act_said, acts_in, IsLineAt, BeginsLine}
 
 -- SPLITTING
 
 -- each text has a line
 some_part : {X : Type 0} (p : X → Bool) (xs : List X) → (first : List X) × (rest : List (List X)) × (slice_split p xs ≡ first ∷ rest)
 some_part p [] = ([], [], refl)
-some_part {X} p (x ∷ xs) = by (p x) (slice_split p xs)
+some_part {X} p (x ∷ xs) = some_part_by_cases (p x) (slice_split p xs)
   where
-    by : (b : Bool) (parts : List (List X)) → (first : List X) × (rest : List (List X)) × (cond b ([] ∷ parts) (onto_first x parts) ≡ first ∷ rest)
-    by true parts = ([], parts, refl)
-    by false [] = (x ∷ [], [], refl)
-    by false (q ∷ qs) = (x ∷ q, qs, refl)
+    some_part_by_cases : (b : Bool) (parts : List (List X)) → (first : List X) × (rest : List (List X)) × (cond b ([] ∷ parts) (onto_first x parts) ≡ first ∷ rest)
+    some_part_by_cases true parts = ([], parts, refl)
+    some_part_by_cases false [] = (x ∷ [], [], refl)
+    some_part_by_cases false (q ∷ qs) = (x ∷ q, qs, refl)
 
 onto_append : {X : Type 0} (x : X) (parts more : List (List X)) → ((first : List X) × (rest : List (List X)) × (parts ≡ first ∷ rest)) → onto_first x (parts ++ more) ≡ onto_first x parts ++ more
 onto_append x parts more (first, rest, e) = rw e refl
@@ -46,16 +34,16 @@ acts_append xs ys = ap (flat_map (λ line. act_said (line_of line))) (lines_appe
 
 -- WHOLE LINES
 
-pub none_whole : IsWhole []
+pub none_whole : BeginsLine []
 none_whole ys = refl
 
 acts_alone : (line : List ℕ) → acts_in (line ++ 10 ∷ []) ≡ acts_in line
 acts_alone line = acts_append line [] ∙ append-nil (acts_in line)
 
-pub whole_acts : (xs line : List ℕ) → IsWhole xs → acts_in (xs ++ (line ++ 10 ∷ [])) ≡ acts_in xs ++ acts_in line
+pub whole_acts : (xs line : List ℕ) → BeginsLine xs → acts_in (xs ++ (line ++ 10 ∷ [])) ≡ acts_in xs ++ acts_in line
 whole_acts xs line h = h (line ++ 10 ∷ []) ∙ ap (λ a. acts_in xs ++ a) (acts_alone line)
 
-pub whole_more : (xs line : List ℕ) → IsWhole xs → IsWhole (xs ++ (line ++ 10 ∷ []))
+pub whole_more : (xs line : List ℕ) → BeginsLine xs → BeginsLine (xs ++ (line ++ 10 ∷ []))
 whole_more xs line h ys =
     ap acts_in (append_assoc xs (line ++ 10 ∷ []) ys ∙ ap (λ zs. xs ++ zs) (append_assoc line (10 ∷ []) ys))
     ∙ h (line ++ 10 ∷ ys)

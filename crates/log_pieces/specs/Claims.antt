@@ -2,27 +2,23 @@
 use Rattle.std.specs.Prelude.{◌≡◌, ℕ, ◌==◌, ◌&&◌, ◌<◌, Bool, Option, List, nat_eq, IfSome}
 use Rattle.std.specs.List.{list_any}
 use Rattle.std.specs.HashSet.{contains}
-use Rattle.log_lines.specs.Limits.{strand_limit}
-use Rattle.fork_graph.specs.declared.graph.Strand.{Strand}
-use Rattle.fork_graph.specs.Graph.{strand}
-use Rattle.log_form.specs.Events.{Event, has_ended}
-use Rattle.log_form.specs.Faults.{spawns, is_born, is_released}
+use Rattle.log_pieces.specs.Common.{strand_limit, GraphStrand, strand, Event, has_ended, spawns, is_born, is_released}
 use Rattle.log_pieces.specs.declared.claims.Claims.{Claims}
 
 abbrev pub is_pair : ℕ × ℕ → ℕ × ℕ → Bool
 is_pair p q = (p.0 == q.0) && (p.1 == q.1)
 
 -- the strand has this number of this task
-abbrev pub is_that : Strand → ℕ → ℕ → Bool
+abbrev pub is_that : GraphStrand → ℕ → ℕ → Bool
 is_that u t i = (u.task == t) && (u.index == i)
 
 -- the sets have the names of what has happened
-pub record Knows (claims : Claims) (events : List Event) : Type 0 where
+pub record ClaimsHold (claims : Claims) (events : List Event) : Type 0 where
   pub ended : (t i : ℕ) → contains is_pair claims.ended (t, i) ≡ has_ended events (strand t i)
   pub spawned : (c : ℕ) → contains nat_eq claims.spawned c ≡ list_any (λ e. spawns c e.act) events
   pub born : (b : ℕ) → contains nat_eq claims.born b ≡ is_born events b
   pub released : (b : ℕ) → contains nat_eq claims.released b ≡ is_released events b
 
 -- the strand, if there is one, has a number within the limit
-abbrev pub IsWithin : Option Strand → Type 0
+abbrev pub IsWithin : Option GraphStrand → Type 0
 IsWithin strand = IfSome strand (λ u. u.index < strand_limit)

@@ -1,4 +1,5 @@
 pub mod Claims
-pub mod Walk
+pub mod LineWalk
 pub mod Pieces
 pub mod Log
+mod Common

@@ -1,10 +1,10 @@
 -- Why a log wasn't read.
 use Rattle.std.specs.Prelude.{◌≡◌, Option, Some}
-use Rattle.log_form.specs.declared.fault.Found.{Found}
+use Rattle.log_form.specs.declared.fault.LocatedFault.{LocatedFault}
 use Rattle.log_pieces.specs.declared.log.LogError.{LogError}
 use Rattle.log_pieces.specs.declared.log.LogError.TheVariants.{Refused, NoMemory}
 
 -- a log that was refused has that fault first
-abbrev pub IsRefused : Option Found → LogError → Type 0
+abbrev pub IsRefused : Option LocatedFault → LogError → Type 0
 IsRefused fault (Refused found) = fault ≡ Some found
 IsRefused fault NoMemory = Unit {0}

@@ -1,19 +1,12 @@
 -- What pieces of texts say.
 use Rattle.std.specs.Prelude.{◌≡◌, ◌≤◌, ◌<◌, ◌+◌, ℕ, Bool, Option, Some, None, Result, Ok, Err, List, [], ◌∷◌, ◌++◌, map, drop, length, slice_range, slice_index_or}
 use Rattle.std.specs.List.{flat_map}
-use Rattle.text_lines.specs.Lines.{lines_of}
-use Rattle.log_lines.specs.declared.cause.Cause.{Cause}
-use Rattle.log_lines.specs.declared.line.Act.{Act}
-use Rattle.log_lines.specs.declared.line.Line.{Line}
-use Rattle.log_lines.specs.declared.line.Line.TheVariants as lines
-use Rattle.log_lines.specs.Grammar.{line_of}
-use Rattle.fork_graph.specs.declared.graph.Strand.{Strand}
-use Rattle.log_form.specs.declared.fault.Found.{Found}
-use Rattle.log_form.specs.Events.{Event, event}
-use Rattle.log_pieces.specs.declared.piece.Piece.{Piece}
-use Rattle.log_pieces.specs.Walk.{Cut}
+use Rattle.log_pieces.specs.Common.{lines_of, LogCause, Act, LogLine, line_of, GraphStrand, LocatedFault, Event, event}
+use Rattle.log_lines.specs.declared.line.LogLine.TheVariants as lines
+use Rattle.log_pieces.specs.declared.piece.LogPiece.{LogPiece}
+use Rattle.log_pieces.specs.LineWalk.{Cut}
 
-abbrev pub act_said : Result Line Cause → List Act
+abbrev pub act_said : Result LogLine LogCause → List Act
 act_said (Ok lines.Version) = []
 act_said (Ok (lines.Strand t i)) = []
 act_said (Ok (lines.Act act)) = act ∷ []
@@ -29,21 +22,21 @@ acts_in text = flat_map (λ line. act_said (line_of line)) (lines_of text)
 abbrev pub text_at : List (List ℕ) → ℕ → List ℕ
 text_at texts file = slice_index_or texts file []
 
-abbrev pub acts_of_piece : List (List ℕ) → Piece → List Act
+abbrev pub acts_of_piece : List (List ℕ) → LogPiece → List Act
 acts_of_piece texts p = acts_in (slice_range (text_at texts p.file) p.begin p.end)
 
-abbrev pub on_strand : Strand → List Act → List Event
+abbrev pub on_strand : GraphStrand → List Act → List Event
 on_strand u acts = map (event u) acts
 
 -- what happens in a piece
-abbrev pub events_in : List (List ℕ) → Piece → List Event
+abbrev pub events_in : List (List ℕ) → LogPiece → List Event
 events_in texts p = on_strand p.strand (acts_of_piece texts p)
 
-abbrev pub events_of_pieces : List (List ℕ) → List Piece → List Event
+abbrev pub events_of_pieces : List (List ℕ) → List LogPiece → List Event
 events_of_pieces texts pieces = flat_map (events_in texts) pieces
 
 -- what happens on the open strand up to a place
-abbrev pub events_open : List ℕ → Option (Strand × ℕ) → ℕ → List Event
+abbrev pub events_open : List ℕ → Option (GraphStrand × ℕ) → ℕ → List Event
 events_open text None at = []
 events_open text (Some (u, begin)) at = on_strand u (acts_in (slice_range text begin at))
 
@@ -55,12 +48,12 @@ pub record IsLineAt (text : List ℕ) (at end : ℕ) : Type 0 where
   pub alone : lines_of (slice_range text at end) ≡ slice_range text at end ∷ []
 
 -- what follows begins a line
-abbrev pub IsWhole : List ℕ → Type 0
-IsWhole xs = (ys : List ℕ) → acts_in (xs ++ ys) ≡ acts_in xs ++ acts_in ys
+abbrev pub BeginsLine : List ℕ → Type 0
+BeginsLine xs = (ys : List ℕ) → acts_in (xs ++ ys) ≡ acts_in xs ++ acts_in ys
 
-abbrev pub IsBegun : List ℕ → Option (Strand × ℕ) → ℕ → Type 0
+abbrev pub IsBegun : List ℕ → Option (GraphStrand × ℕ) → ℕ → Type 0
 IsBegun text None at = Unit {0}
-IsBegun text (Some (u, begin)) at = (begin ≤ at) × IsWhole (slice_range text begin at)
+IsBegun text (Some (u, begin)) at = (begin ≤ at) × BeginsLine (slice_range text begin at)
 
 -- up to a place of a text, the pieces and the open one have all that has happened
 pub record Cuts (texts : List (List ℕ)) (text : List ℕ) (cut : Cut) (at : ℕ) (events : List Event) : Type 0 where
@@ -68,6 +61,6 @@ pub record Cuts (texts : List (List ℕ)) (text : List ℕ) (cut : Cut) (at : �
   pub begun : IsBegun text cut.place at
 
 -- what a walk answers: the first fault, or, where there is none, whether the log was cut off
-abbrev pub Tells : Result Bool Found → Option Found → Bool → Type 0
+abbrev pub Tells : Result Bool LocatedFault → Option LocatedFault → Bool → Type 0
 Tells (Ok cut) fault is_cut = (fault ≡ None) × (cut ≡ is_cut)
 Tells (Err found) fault is_cut = fault ≡ Some found

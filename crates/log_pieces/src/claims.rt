@@ -5,11 +5,11 @@ ghost use Rattle.std.specs.HashSet.{contains};
 ghost use Rattle.log_lines.specs.Limits.{strand_limit};
 ghost use Rattle.log_form.specs.Events.{Event, event, has_ended, strand_behind};
 ghost use Rattle.log_form.specs.Faults.{claim_fault, turn_fault};
-ghost use Rattle.log_pieces.specs.Claims.{Knows, IsWithin, is_pair, is_that};
+ghost use Rattle.log_pieces.specs.Claims.{ClaimsHold, IsWithin, is_pair, is_that};
 
-use fork_graph::Strand;
-use log_form::Fault;
-use log_lines::{Act, Cause};
+use fork_graph::GraphStrand;
+use log_form::LogFault;
+use log_lines::{Act, LogCause};
 use std::alloc::{AllocError, Global};
 use std::collections::HashSet;
 
@@ -30,21 +30,21 @@ pub(crate) struct Claims {
 const STRAND_LIMIT: u32 = 1 << 31;
 
 // Why a task has no next strand.
-fn turn_fault(strand: Strand) -> Option<Fault>
+fn turn_fault(strand: GraphStrand) -> Option<LogFault>
     requires { strand.index < strand_limit }
     ensures { result ≡ turn_fault strand }
 {
     if strand.index + 1 < STRAND_LIMIT {
         None
     } else {
-        Some(Fault::NoLine(Cause::OverLimit))
+        Some(LogFault::NoLine(LogCause::OverLimit))
     }
 }
 
 impl Claims {
     /// Nothing was said.
     pub(crate) fn new(alloc: Global) -> Claims
-        ensures { Knows result [] }
+        ensures { ClaimsHold result [] }
     {
         Claims {
             ended: HashSet::new(alloc),
@@ -55,14 +55,14 @@ impl Claims {
     }
 
     /// Whether a strand has ended.
-    pub(crate) fn has_ended(&self, strand: Strand) -> bool
-        ensures { (events : List Event) → Knows self.now events → result ≡ has_ended events strand }
+    pub(crate) fn has_ended(&self, strand: GraphStrand) -> bool
+        ensures { (events : List Event) → ClaimsHold self.now events → result ≡ has_ended events strand }
     {
         self.ended.contains(&(strand.task, strand.index))
     }
 
     // A strand ends.
-    fn end(&mut self, strand: Strand) -> Result<(), AllocError>
+    fn end(&mut self, strand: GraphStrand) -> Result<(), AllocError>
         ensures ended { OnOk result ((t i : ℕ) → contains is_pair self.new.ended (t, i) ≡ (contains is_pair self.old.ended (t, i) || is_that strand t i)) }
         ensures rest { self.new ≡ record self.old { ended = self.new.ended } }
     {
@@ -101,34 +101,34 @@ impl Claims {
     }
 
     // A strand spawns a task.
-    fn take_spawn(&mut self, strand: Strand, task: u32) -> Result<Option<Fault>, AllocError>
+    fn take_spawn(&mut self, strand: GraphStrand, task: u32) -> Result<Option<LogFault>, AllocError>
         requires { strand.index < strand_limit }
         ensures within { IfOk result (λ fault. fault ≡ None → strand.index + 1 < strand_limit) }
-        ensures fault { IfOk result (λ fault. (events : List Event) → Knows self.old events → fault ≡ claim_fault events strand (Act.Spawn task)) }
-        ensures after { IfOk result (λ fault. fault ≡ None → (events : List Event) → Knows self.old events → Knows self.new (events ++ event strand (Act.Spawn task) ∷ [])) }
+        ensures fault { IfOk result (λ fault. (events : List Event) → ClaimsHold self.old events → fault ≡ claim_fault events strand (Act.Spawn task)) }
+        ensures after { IfOk result (λ fault. fault ≡ None → (events : List Event) → ClaimsHold self.old events → ClaimsHold self.new (events ++ event strand (Act.Spawn task) ∷ [])) }
     {
         if !self.spawn(task)? {
-            return Ok(Some(Fault::SpawnedTwice));
+            return Ok(Some(LogFault::SpawnedTwice));
         }
         self.end(strand)?;
         Ok(turn_fault(strand))
     }
 
     // A strand joins a task.
-    fn take_join(&mut self, strand: Strand, task: u32) -> Result<Option<Fault>, AllocError>
+    fn take_join(&mut self, strand: GraphStrand, task: u32) -> Result<Option<LogFault>, AllocError>
         requires { strand.index < strand_limit }
         ensures within { IfOk result (λ fault. fault ≡ None → strand.index + 1 < strand_limit) }
-        ensures fault { IfOk result (λ fault. (events : List Event) → Knows self.old events → fault ≡ claim_fault events strand (Act.Join task)) }
-        ensures after { IfOk result (λ fault. fault ≡ None → (events : List Event) → Knows self.old events → Knows self.new (events ++ event strand (Act.Join task) ∷ [])) }
+        ensures fault { IfOk result (λ fault. (events : List Event) → ClaimsHold self.old events → fault ≡ claim_fault events strand (Act.Join task)) }
+        ensures after { IfOk result (λ fault. fault ≡ None → (events : List Event) → ClaimsHold self.old events → ClaimsHold self.new (events ++ event strand (Act.Join task) ∷ [])) }
     {
         self.end(strand)?;
         Ok(turn_fault(strand))
     }
 
     // A strand ends its task.
-    fn take_finish(&mut self, strand: Strand) -> Result<Option<Fault>, AllocError>
-        ensures fault { IfOk result (λ fault. (events : List Event) → Knows self.old events → fault ≡ claim_fault events strand Act.Finish) }
-        ensures after { IfOk result (λ fault. fault ≡ None → (events : List Event) → Knows self.old events → Knows self.new (events ++ event strand Act.Finish ∷ [])) }
+    fn take_finish(&mut self, strand: GraphStrand) -> Result<Option<LogFault>, AllocError>
+        ensures fault { IfOk result (λ fault. (events : List Event) → ClaimsHold self.old events → fault ≡ claim_fault events strand Act.Finish) }
+        ensures after { IfOk result (λ fault. fault ≡ None → (events : List Event) → ClaimsHold self.old events → ClaimsHold self.new (events ++ event strand Act.Finish ∷ [])) }
     {
         self.end(strand)?;
         Ok(None)
@@ -137,38 +137,46 @@ impl Claims {
     // On a strand a block is born.
     fn take_birth(
         &mut self,
-        strand: Strand,
+        strand: GraphStrand,
         block: u64,
         length: u64,
-    ) -> Result<Option<Fault>, AllocError>
-        ensures fault { IfOk result (λ fault. (events : List Event) → Knows self.old events → fault ≡ claim_fault events strand (Act.Birth block length)) }
-        ensures after { IfOk result (λ fault. fault ≡ None → (events : List Event) → Knows self.old events → Knows self.new (events ++ event strand (Act.Birth block length) ∷ [])) }
+    ) -> Result<Option<LogFault>, AllocError>
+        ensures fault { IfOk result (λ fault. (events : List Event) → ClaimsHold self.old events → fault ≡ claim_fault events strand (Act.Birth block length)) }
+        ensures after { IfOk result (λ fault. fault ≡ None → (events : List Event) → ClaimsHold self.old events → ClaimsHold self.new (events ++ event strand (Act.Birth block length) ∷ [])) }
     {
         if self.bear(block)? {
             Ok(None)
         } else {
-            Ok(Some(Fault::BornTwice))
+            Ok(Some(LogFault::BornTwice))
         }
     }
 
     // On a strand a block is released.
-    fn take_release(&mut self, strand: Strand, block: u64) -> Result<Option<Fault>, AllocError>
-        ensures fault { IfOk result (λ fault. (events : List Event) → Knows self.old events → fault ≡ claim_fault events strand (Act.Release block)) }
-        ensures after { IfOk result (λ fault. fault ≡ None → (events : List Event) → Knows self.old events → Knows self.new (events ++ event strand (Act.Release block) ∷ [])) }
+    fn take_release(
+        &mut self,
+        strand: GraphStrand,
+        block: u64,
+    ) -> Result<Option<LogFault>, AllocError>
+        ensures fault { IfOk result (λ fault. (events : List Event) → ClaimsHold self.old events → fault ≡ claim_fault events strand (Act.Release block)) }
+        ensures after { IfOk result (λ fault. fault ≡ None → (events : List Event) → ClaimsHold self.old events → ClaimsHold self.new (events ++ event strand (Act.Release block) ∷ [])) }
     {
         if self.release(block)? {
             Ok(None)
         } else {
-            Ok(Some(Fault::ReleasedTwice))
+            Ok(Some(LogFault::ReleasedTwice))
         }
     }
 
     /// A strand that hasn't ended does something; why it may not.
-    pub(crate) fn take(&mut self, strand: Strand, act: Act) -> Result<Option<Fault>, AllocError>
+    pub(crate) fn take(
+        &mut self,
+        strand: GraphStrand,
+        act: Act,
+    ) -> Result<Option<LogFault>, AllocError>
         requires { strand.index < strand_limit }
         ensures within { IfOk result (λ fault. fault ≡ None → IsWithin (strand_behind strand act)) }
-        ensures fault { IfOk result (λ fault. (events : List Event) → Knows self.old events → fault ≡ claim_fault events strand act) }
-        ensures after { IfOk result (λ fault. fault ≡ None → (events : List Event) → Knows self.old events → Knows self.new (events ++ event strand act ∷ [])) }
+        ensures fault { IfOk result (λ fault. (events : List Event) → ClaimsHold self.old events → fault ≡ claim_fault events strand act) }
+        ensures after { IfOk result (λ fault. fault ≡ None → (events : List Event) → ClaimsHold self.old events → ClaimsHold self.new (events ++ event strand act ∷ [])) }
     {
         match act {
             Act::Spawn(task) => self.take_spawn(strand, task),

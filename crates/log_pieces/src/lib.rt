@@ -10,5 +10,5 @@ mod text;
 mod walk;
 
 pub use log::{CutLog, LogError, cut_log};
-pub use piece::Piece;
+pub use piece::LogPiece;
 pub use text::{act_in, piece_text};

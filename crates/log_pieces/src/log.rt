@@ -6,17 +6,17 @@ ghost use Rattle.log_form.specs.Faults.{log_fault};
 ghost use Rattle.log_pieces.specs.Pieces.{events_of_pieces};
 ghost use Rattle.log_pieces.specs.Log.{IsRefused};
 
-use crate::piece::Piece;
-use crate::walk::Walk;
-use listed::Listed;
-use log_form::Found;
+use crate::piece::LogPiece;
+use crate::walk::LineWalk;
+use log_form::LocatedFault;
+use plain_vec::Listed;
 use std::alloc::{AllocError, Global};
 
 /// A log that has no faulty line.
 #[derive(Drop)]
 pub struct CutLog {
     /// Pieces of its files, in their order, that have all that happens.
-    pub pieces: Listed<Piece>,
+    pub pieces: Listed<LogPiece>,
     /// Whether the end of a file is missing.
     pub is_cut: bool,
 }
@@ -25,7 +25,7 @@ pub struct CutLog {
 #[derive(Clone, Copy)]
 pub enum LogError {
     /// This line is its first faulty one.
-    Refused(Found),
+    Refused(LocatedFault),
     /// Out of memory.
     NoMemory,
 }
@@ -48,7 +48,7 @@ pub fn cut_log(alloc: Global, texts: &[Listed<u8>]) -> Result<CutLog, LogError>
     ensures pieces { IfOk result (λ log. events_of_pieces texts.now log.pieces ≡ events_of texts.now) }
     ensures refused { IfErr result (IsRefused (log_fault texts.now)) }
 {
-    let mut walk = Walk::new(alloc);
+    let mut walk = LineWalk::new(alloc);
     match walk.take_files(texts)? {
         Ok(is_cut) => Ok(CutLog {
             pieces: walk.into_pieces(),

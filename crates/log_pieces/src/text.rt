@@ -4,22 +4,22 @@ ghost use Rattle.std.specs.Prelude.{◌≡◌, option_to_list, slice_range};
 ghost use Rattle.log_lines.specs.Grammar.{line_of};
 ghost use Rattle.log_pieces.specs.Pieces.{act_said, text_at};
 
-use crate::piece::Piece;
-use listed::Listed;
-use log_lines::{Act, Line, read_line};
+use crate::piece::LogPiece;
+use log_lines::{Act, LogLine, read_line};
+use plain_vec::Listed;
 
 /// The act that a line says, if it says one.
 pub fn act_in(line: &[u8]) -> Option<Act>
     ensures { option_to_list result ≡ act_said (line_of line.now) }
 {
     match read_line(line) {
-        Ok(Line::Act(act)) => Some(act),
+        Ok(LogLine::Act(act)) => Some(act),
         _ => None,
     }
 }
 
 /// The text of a piece.
-pub fn piece_text(texts: &[Listed<u8>], piece: Piece) -> &[u8]
+pub fn piece_text(texts: &[Listed<u8>], piece: LogPiece) -> &[u8]
     ensures { result.now ≡ slice_range (text_at texts.now piece.file) piece.begin piece.end }
 {
     match texts.get(piece.file) {

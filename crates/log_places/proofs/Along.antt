@@ -1,16 +1,5 @@
 -- What pages have once the runs of a region are marked.
-use Rattle.std.proofs.Common.{◌≡◌, ℕ, ◌+◌, ◌-◌, ◌*◌, ◌/◌, ◌%◌, ◌<◌, ◌≤◌, ◌==◌, Bool, true, false, List, [], ◌∷◌, ◌++◌, min, ◌⊎◌, inl, inr, refl, ap, sym, subst, ◌∙◌, arith}
-use Rattle.std.proofs.lemmas.Bool.{cases_lt, eqb-true, eq-eqb, false≢true}
-use Rattle.listed.specs.Members.{In}
-use Rattle.listed.proofs.Members.{in_append_left, in_append_right, in_append_cases}
-use Rattle.listed.proofs.Numbers.{below_next}
-use Rattle.log_places.specs.declared.stretch.Stretch.{Stretch}
-use Rattle.log_places.specs.declared.page.PageKey.{PageKey}
-use Rattle.log_places.specs.declared.region.Region.{Region}
-use Rattle.log_places.specs.Stretches.{marked, AreCut, AreWith, Has}
-use Rattle.log_places.specs.Places.{at, found, page_key, run_start, same_page, Covers, IsRunCut, IsRegionCut, PlacesValue}
-use Rattle.log_places.specs.Runs.{first_on, end_on, IsRunMarked}
-use Rattle.log_places.specs.Counting.{IsAccessed, IsEdge, HasEdge, AreCutAlong, AreMarked, AreDifferent}
+use Rattle.log_places.proofs.Common.{◌≡◌, ℕ, ◌+◌, ◌-◌, ◌*◌, ◌/◌, ◌<◌, ◌≤◌, ◌==◌, Bool, true, false, List, [], ◌∷◌, ◌++◌, min, ◌⊎◌, inl, inr, refl, ap, sym, subst, ◌∙◌, arith, cases_lt, eqb-true, eq-eqb, false≢true, In, in_append_left, in_append_right, in_append_cases, below_next, Stretch, PageKey, Region, marked, at, found, page_key, run_start, same_page, Covers, IsRegionCut, PlacesValue, first_on, end_on, IsRunMarked, IsAccessed, IsEdge, HasEdge, AreCutAlong, AreMarked, AreDifferent}
 use Rattle.log_places.proofs.Finding.{same_keys}
 use Rattle.log_places.proofs.Bordering.{has_too, edge_too, marked_along, cut_by}
 

@@ -1,11 +1,5 @@
 -- Where marked stretches begin and end, and what a page has once some of its locations are marked.
-use Rattle.std.proofs.Common.{◌≡◌, ℕ, ◌+◌, ◌-◌, ◌<◌, ◌≤◌, List, [], ◌∷◌, ◌++◌, min, max, ◌⊎◌, inl, inr, refl, ap, sym, subst, ◌∙◌, arith}
-use Rattle.std.proofs.lemmas.Bool.{cases_lt}
-use Rattle.listed.specs.Members.{In}
-use Rattle.listed.proofs.Members.{in_append_cases}
-use Rattle.log_places.specs.declared.stretch.Stretch.{Stretch}
-use Rattle.log_places.specs.Stretches.{marked, piece, pieces, rest_from, Ascending, AreWith, Has}
-use Rattle.log_places.specs.Counting.{AreCutAlong}
+use Rattle.log_places.proofs.Common.{◌≡◌, ℕ, ◌-◌, ◌<◌, ◌≤◌, List, [], ◌∷◌, min, max, ◌⊎◌, inl, inr, refl, sym, subst, ◌∙◌, arith, cases_lt, In, in_append_cases, Stretch, marked, pieces, rest_from, AreWith, Has, AreCutAlong}
 use Rattle.log_places.proofs.Marking.{Is, IsPieceOf, is_piece, is_piece_of, ascending_in, refined, kept, covered, marked_cut, marked_ascends}
 use Rattle.log_places.proofs.Marking.IsPieceOf.{Gap, Before, Inside, Behind}
 

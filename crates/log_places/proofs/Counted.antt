@@ -1,21 +1,6 @@
 -- How many stretches marked regions have.
-use Rattle.std.proofs.Common.{◌≡◌, ◌↔◌, ℕ, ◌+◌, ◌*◌, ◌/◌, ◌%◌, ◌<◌, ◌≤◌, ◌==◌, Bool, true, false, cond, List, [], ◌∷◌, ◌++◌, map, length, ◌⊎◌, inl, inr, refl, ap, sym, subst, ◌∙◌, arith}
-use Rattle.std.specs.List.{sum_by, list_any}
-use Rattle.std.proofs.lemmas.Bool.{cases_lt, false≢true}
-use Rattle.std.proofs.lemmas.List.{length-append, length-map}
-use Rattle.std.proofs.lemmas.List.Sums.{sum_by-cons}
-use Rattle.indexmap.specs.IndexSet.{insert_key}
-use Rattle.listed.specs.Members.{In}
-use Rattle.listed.proofs.Members.{in_append_left, in_append_right, in_append_cases, in_from_any, any_from_in}
-use Rattle.listed.proofs.Places.{in_map, map_in}
-use Rattle.log_places.specs.declared.stretch.Stretch.{Stretch}
-use Rattle.log_places.specs.declared.page.PageKey.{PageKey}
-use Rattle.log_places.specs.declared.region.Region.{Region}
-use Rattle.log_places.specs.Stretches.{Ascending, AreWith, Has}
-use Rattle.log_places.specs.Places.{at, found, page_key, same_page, PlacesValue}
-use Rattle.log_places.specs.Numbers.{stretch_count}
-use Rattle.log_places.specs.Counting.{IsAccessed, IsEdge, BeginsStretch, AreDifferent, HaveStretches, AreCutAlong, AreMarked}
-use Rattle.log_places.proofs.Marking.{ascending_in, ascending_from}
+use Rattle.log_places.proofs.Common.{◌≡◌, ℕ, ◌+◌, ◌*◌, ◌/◌, ◌%◌, ◌<◌, ◌≤◌, Bool, true, false, cond, List, [], ◌∷◌, ◌++◌, map, length, inl, inr, refl, ap, sym, subst, ◌∙◌, arith, sum_by, list_any, cases_lt, false≢true, length-append, length-map, sum_by-cons, insert_key, In, in_append_left, in_append_right, in_append_cases, any_from_in, in_map, map_in, Stretch, PageKey, Region, Ascending, at, found, page_key, same_page, PlacesValue, stretch_count, IsAccessed, IsEdge, BeginsStretch, AreDifferent, HaveStretches, AreMarked}
+use Rattle.log_places.proofs.Marking.{ascending_in}
 use Rattle.log_places.proofs.Finding.{same_keys, same_itself}
 
 -- LISTS WITHOUT REPEATS

@@ -1,13 +1,5 @@
 -- What marking a region cuts, and what that means for accesses.
-use Rattle.std.proofs.Common.{◌≡◌, ℕ, ◌+◌, ◌-◌, ◌*◌, ◌/◌, ◌%◌, ◌<◌, ◌≤◌, Bool, true, false, min, Result, Ok, Err, OnOk, OnErr, List, inl, inr, refl, sym, subst, arith}
-use Rattle.std.proofs.lemmas.Bool.{cases_lt}
-use Rattle.listed.specs.Members.{In}
-use Rattle.log_places.specs.declared.stretch.Stretch.{Stretch}
-use Rattle.log_places.specs.declared.page.PageKey.{PageKey}
-use Rattle.log_places.specs.declared.region.Region.{Region}
-use Rattle.log_places.specs.Stretches.{marked, Ascending, AreCut, Has}
-use Rattle.log_places.specs.Places.{at, page_key, run_start, same_page, IsRunCut, KeepsCuts, PlacesValue}
-use Rattle.log_places.specs.Laws.{MarkedAreThere, StretchesAreWhole}
+use Rattle.log_places.proofs.Common.{◌≡◌, ℕ, ◌+◌, ◌-◌, ◌*◌, ◌/◌, ◌%◌, ◌<◌, ◌≤◌, Bool, true, false, min, Result, Ok, Err, OnOk, OnErr, List, inl, inr, refl, sym, subst, arith, cases_lt, In, Stretch, PageKey, Region, marked, Ascending, AreCut, Has, at, page_key, run_start, same_page, IsRunCut, KeepsCuts, PlacesValue, MarkedAreThere, StretchesAreWhole}
 use Rattle.log_places.proofs.Marking.{marked_cut, still_cut}
 use Rattle.log_places.proofs.Finding.{same_keys}
 

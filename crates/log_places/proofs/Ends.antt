@@ -1,11 +1,5 @@
 -- The ends of stretches.
-use Rattle.std.proofs.Common.{slice_get, Option, Some, None, IfNone, Result, Ok, Err, OnOk, ◌≡◌, ℕ, zero, suc, ◌+◌, ◌-◌, ◌<◌, ◌≤◌, ◌==◌, ◌&&◌, true, cond, nat_le, List, [], ◌∷◌, ◌++◌, length, get_or, take, drop, inl, inr, refl, ap, sym, subst, ◌∙◌, arith}
-use Rattle.std.proofs.lemmas.List.{take-append-drop, length-drop, take_all}
-use Rattle.std.proofs.lemmas.Bool.{le-leb, cases_lt}
-use Rattle.std.proofs.lemmas.Option.{get_or_from_slice_get, slice_get_within}
-use Rattle.listed.specs.Members.{In}
-use Rattle.log_places.specs.declared.stretch.Stretch.{Stretch}
-use Rattle.log_places.specs.Stretches.{marked, tiles, Ascending, Has}
+use Rattle.log_places.proofs.Common.{slice_get, Option, Some, None, IfNone, Result, Ok, Err, OnOk, ◌≡◌, ℕ, zero, suc, ◌+◌, ◌-◌, ◌<◌, ◌≤◌, ◌==◌, ◌&&◌, true, cond, nat_le, List, [], ◌∷◌, ◌++◌, length, get_or, take, drop, inl, inr, refl, ap, sym, subst, ◌∙◌, arith, take-append-drop, length-drop, take_all, le-leb, cases_lt, get_or_from_slice_get, slice_get_within, In, Stretch, marked, tiles, Ascending, Has}
 use Rattle.log_places.proofs.Marking.{ascending_in}
 use Rattle.log_places.proofs.Tiling.{marked_front, same_marked}
 

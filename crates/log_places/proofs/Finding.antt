@@ -1,12 +1,5 @@
 -- The stretches of a page among those of all.
-use Rattle.std.proofs.Common.{◌≡◌, ℕ, zero, suc, ◌+◌, ◌<◌, ◌==◌, ◌||◌, not, Bool, true, false, cond, List, [], ◌∷◌, ◌++◌, length, set, get_or, Result, Ok, Err, OnOk, OnErr, refl, ap, sym, subst, ◌∙◌, arith}
-use Rattle.std.specs.List.{list_any, position_or_len, prefix_len}
-use Rattle.std.proofs.lemmas.Bool.{eqb-true, eq-eqb, and_parts, and_from, false≢true}
-use Rattle.indexmap.specs.IndexSet.{insert_key}
-use Rattle.log_places.specs.declared.stretch.Stretch.{Stretch}
-use Rattle.log_places.specs.declared.page.PageKey.{PageKey}
-use Rattle.log_places.specs.Stretches.{marked, Ascending}
-use Rattle.log_places.specs.Places.{at, found, same_page, IsFirst, PlacesValue}
+use Rattle.log_places.proofs.Common.{◌≡◌, ℕ, zero, suc, ◌+◌, ◌<◌, ◌==◌, ◌||◌, not, Bool, true, false, cond, List, [], ◌∷◌, ◌++◌, length, set, get_or, Result, Ok, Err, OnOk, OnErr, refl, ap, sym, subst, ◌∙◌, arith, list_any, position_or_len, prefix_len, eqb-true, eq-eqb, and_parts, and_from, false≢true, insert_key, Stretch, PageKey, marked, Ascending, at, found, same_page, IsFirst, PlacesValue}
 use Rattle.log_places.proofs.Marking.{marked_ascends}
 
 pub same_keys : (k x : PageKey) → same_page k x ≡ true → k ≡ x

@@ -7,3 +7,6 @@ pub mod Cutting
 pub mod Along
 pub mod Counted
 pub mod Numbering
+pub mod Linking
+pub mod Blocks
+mod Common

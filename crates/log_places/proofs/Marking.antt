@@ -1,11 +1,6 @@
 -- What marking does to stretches.
-use Rattle.std.proofs.Common.{◌≡◌, ℕ, ◌<◌, ◌≤◌, Bool, true, false, cond, List, [], ◌∷◌, ◌++◌, min, max, ◌⊎◌, inl, inr, refl, ap, sym, subst, ◌∙◌, arith, nat_lt}
-use Rattle.std.proofs.lemmas.Bool.{ltb-true, cases_lt, lt-ltb, le-ltb}
-use Rattle.std.proofs.lemmas.List.{append-nil, append_assoc}
-use Rattle.listed.specs.Members.{In}
-use Rattle.listed.proofs.Members.{in_append_left, in_append_right, in_append_cases}
-use Rattle.log_places.specs.declared.stretch.Stretch.{Stretch}
-use Rattle.log_places.specs.Stretches.{marked, piece, pieces, rest_from, Ascending, AreCut, AreWith, Has}
+use Rattle.log_places.proofs.Common.{◌≡◌, ℕ, ◌<◌, ◌≤◌, Bool, true, false, cond, List, [], ◌∷◌, ◌++◌, min, max, ◌⊎◌, inl, inr, refl, ap, sym, subst, ◌∙◌, arith, nat_lt, ltb-true, cases_lt, lt-ltb, le-ltb, append_assoc, In, in_append_left, in_append_right, in_append_cases, Stretch, marked, piece, pieces, rest_from, Ascending, AreCut, AreWith, Has}
+use Rattle.std.proofs.lemmas.List.{append-nil}
 
 -- ---- pieces
 

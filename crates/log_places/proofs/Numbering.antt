@@ -1,18 +1,5 @@
 -- Numbers of stretches.
-use Rattle.std.proofs.Common.{◌≡◌, ℕ, zero, suc, ◌+◌, ◌-◌, ◌*◌, ◌/◌, ◌%◌, min, ◌<◌, ◌≤◌, Bool, true, false, cond, not, nat_lt, Option, Some, None, IfSome, IfNone, List, [], ◌∷◌, length, get_or, slice_get, refl, ap, sym, subst, ◌∙◌, arith}
-use Rattle.std.specs.List.{position, sum_by}
-use Rattle.std.proofs.lemmas.Bool.{ltb-true, ltb-false, false≢true}
-use Rattle.std.proofs.lemmas.List.Sums.{sum_by-cons}
-use Rattle.std.proofs.lemmas.Option.{slice_get_within, same_Some, slice_get-get_or}
-use Rattle.listed.specs.Members.{In}
-use Rattle.listed.proofs.Members.{got_in}
-use Rattle.log_places.specs.declared.stretch.Stretch.{Stretch}
-use Rattle.log_places.specs.declared.page.PageKey.{PageKey}
-use Rattle.log_places.specs.declared.numbers.Slot.{Slot}
-use Rattle.log_places.specs.Stretches.{Ascending, Has}
-use Rattle.log_places.specs.Places.{at, found, page_key, same_page, IsFirst, IsIn, IsRunCut, PlacesValue}
-use Rattle.log_places.specs.Numbers.{firsts_from, stretch_count, stretches_before, IsNumber, IsSlot, IsSlotAt}
-use Rattle.log_places.specs.Laws.{NumbersAreDistinct, SlotsAreOne}
+use Rattle.log_places.proofs.Common.{◌≡◌, ℕ, zero, suc, ◌+◌, ◌-◌, ◌*◌, ◌/◌, ◌%◌, min, ◌<◌, ◌≤◌, Bool, true, false, cond, not, nat_lt, Option, Some, None, IfSome, IfNone, List, [], ◌∷◌, length, get_or, slice_get, refl, ap, sym, subst, ◌∙◌, arith, position, sum_by, ltb-true, ltb-false, false≢true, sum_by-cons, slice_get_within, same_Some, slice_get-get_or, In, got_in, Stretch, PageKey, LocationSlot, Ascending, Has, at, found, page_key, same_page, IsFirst, IsIn, IsRunCut, PlacesValue, firsts_from, stretch_count, stretches_before, IsNumber, IsSlot, IsSlotAt, NumbersAreDistinct, SlotsAreOne}
 use Rattle.log_places.proofs.Finding.{behind_first, place, places, same_keys}
 
 -- ---- the place of a page
@@ -73,7 +60,7 @@ first_is n (p ∷ ps) (suc i) d lt =
     let h : get_or (firsts_from (n + length p) ps) i d ≡ n + length p + stretches_before ps i = first_is (n + length p) ps i d (omega arith) in
     omega arith
 
-below_all : (ps : List (List Stretch)) (i : ℕ) (p : List Stretch) → slice_get ps i ≡ Some p → stretches_before ps i + length p ≤ sum_by length ps
+pub below_all : (ps : List (List Stretch)) (i : ℕ) (p : List Stretch) → slice_get ps i ≡ Some p → stretches_before ps i + length p ≤ sum_by length ps
 below_all [] i p got = absurd cc
 below_all (q ∷ ps) zero p got =
     let e : length q ≡ length p = ap length (same_Some q p got) in
@@ -92,7 +79,7 @@ module _ (v : PlacesValue) (xs : List PageKey) (ps : List (List Stretch)) (fs : 
   in_pages : i < length ps
   in_pages = let b : length ps ≡ length v.pages = ap (λ w. length w.pages) view in omega arith
 
-  number_is : first ≡ stretches_before ps i
+  pub number_is : first ≡ stretches_before ps i
   number_is = is_first ∙ (ap (λ l. get_or l i first) are ∙ first_is 0 ps i first in_pages) ∙ (let h : 0 + stretches_before ps i ≡ stretches_before ps i = omega arith in h)
 
   pub item_got : slice_get ps i ≡ Some ss
@@ -130,7 +117,7 @@ found_got (x ∷ xs) [] k i p f got = absurd cc
 found_got (x ∷ xs) (q ∷ ps) k zero p f got = ap (λ b. cond b q (found xs ps k)) f ∙ same_Some q p got
 found_got (x ∷ xs) (q ∷ ps) k (suc i) p f got = ap (λ b. cond b q (found xs ps k)) f.0 ∙ found_got xs ps k i p f.1 got
 
-pub slot_of : (v : PlacesValue) (block location i : ℕ) (slot : Slot) → IsFirst v.keys (page_key block (location / 4096)) i
+pub slot_of : (v : PlacesValue) (block location i : ℕ) (slot : LocationSlot) → IsFirst v.keys (page_key block (location / 4096)) i
     → IsSlotAt v.pages i (location / 4096 * 4096) (location % 4096) slot → IsSlot v block location slot
 slot_of v block location i slot first s =
     let here : at v (page_key block (location / 4096)) ≡ s.stretches = found_got v.keys v.pages (page_key block (location / 4096)) i s.stretches first s.there in
@@ -225,7 +212,7 @@ first_once (x ∷ xs) k zero (suc j) f g = absurd (false≢true (sym g.0 ∙ f))
 first_once (x ∷ xs) k (suc i) zero f g = absurd (false≢true (sym f.0 ∙ g))
 first_once (x ∷ xs) k (suc i) (suc j) f g = ap suc (first_once xs k i j f.1 g.1)
 
-module _ (v : PlacesValue) (block location : ℕ) (s t : Slot) (a : IsSlot v block location s) (b : IsSlot v block location t) where
+module _ (v : PlacesValue) (block location : ℕ) (s t : LocationSlot) (a : IsSlot v block location s) (b : IsSlot v block location t) where
   same_page_place : a.number.page ≡ b.number.page
   same_page_place = first_once v.keys (page_key block (location / 4096)) a.number.page b.number.page a.number.of_page b.number.of_page
 
@@ -262,7 +249,7 @@ module _ (v : PlacesValue) (block location : ℕ) (s t : Slot) (a : IsSlot v blo
       ap (λ n. record { number = n; start = s.start; end = s.end }) same_number
       ∙ (ap (λ n. record { number = t.number; start = n; end = s.end }) same_start ∙ ap (λ n. record { number = t.number; start = t.start; end = n }) same_end)
 
-slot_within : (v : PlacesValue) (block location : ℕ) (s : Slot) → IsSlot v block location s → (s.start ≤ location) × (location < s.end)
+slot_within : (v : PlacesValue) (block location : ℕ) (s : LocationSlot) → IsSlot v block location s → (s.start ≤ location) × (location < s.end)
 slot_within v block location s a =
     let from : a.stretch.start ≤ location % 4096 = a.among.has.0 in
     let below : location % 4096 < a.stretch.end = a.among.has.1 in
@@ -271,7 +258,7 @@ slot_within v block location s a =
     (omega arith, omega arith)
 
 -- the slot of a location of a run that is cut is within it
-module _ (v : PlacesValue) (block start end location : ℕ) (s : Slot) (cut : IsRunCut v block start end) (from : start ≤ location) (below : location < end) (a : IsSlot v block location s) where
+module _ (v : PlacesValue) (block start end location : ℕ) (s : LocationSlot) (cut : IsRunCut v block start end) (from : start ≤ location) (below : location < end) (a : IsSlot v block location s) where
   in_part : (x : ℕ) → Has a.stretch x → (start - location / 4096 * 4096 ≤ x) × (x < min 4096 (end - location / 4096 * 4096))
   in_part x has = (cut (location / 4096)).whole a.stretch a.among.among (location % 4096) x a.among.has has (omega arith) (omega arith)
 
@@ -306,14 +293,14 @@ module _ (v : PlacesValue) (block start end location : ℕ) (s : Slot) (cut : Is
         end = a.end ∙ ap (λ p. p * 4096 + a.stretch.end) page;
       }
 
-slot_counted : (v : PlacesValue) (block location : ℕ) (s : Slot) → IsSlot v block location s → s.number < stretch_count v
+slot_counted : (v : PlacesValue) (block location : ℕ) (s : LocationSlot) → IsSlot v block location s → s.number < stretch_count v
 slot_counted v block location s a =
     let all : stretches_before v.pages a.number.page + length a.number.stretches ≤ sum_by length v.pages = below_all v.pages a.number.page a.number.stretches a.number.there in
     let lt : a.number.place < length a.number.stretches = slice_get_within a.number.stretches a.number.place a.stretch a.number.at in
     let is : s.number ≡ stretches_before v.pages a.number.page + a.number.place = a.number.is in
     omega arith
 
-same_slot : (v : PlacesValue) (block other x y : ℕ) (s t : Slot) → IsSlot v block x s → IsSlot v other y t → s.number ≡ t.number → (block ≡ other) × (s ≡ t)
+same_slot : (v : PlacesValue) (block other x y : ℕ) (s t : LocationSlot) → IsSlot v block x s → IsSlot v other y t → s.number ≡ t.number → (block ≡ other) × (s ≡ t)
 same_slot v block other x y s t a b e =
     let d = numbers_are_distinct v (page_key block (x / 4096)) (page_key other (y / 4096)) a.stretch b.stretch s.number a.number
     (subst (λ (n : ℕ). IsNumber v (page_key other (y / 4096)) b.stretch n) (sym e) b.number) in

@@ -1,9 +1,5 @@
 -- Where marking changes nothing.
-use Rattle.std.proofs.Common.{◌≡◌, ℕ, ◌<◌, ◌≤◌, ◌==◌, ◌&&◌, Bool, true, false, cond, List, [], ◌∷◌, ◌++◌, min, max, refl, ap, sym, subst, arith, nat_le, inl, inr}
-use Rattle.std.proofs.lemmas.Bool.{leb-true, eqb-true, and_parts}
-use Rattle.listed.specs.Members.{In}
-use Rattle.log_places.specs.declared.stretch.Stretch.{Stretch}
-use Rattle.log_places.specs.Stretches.{marked, pieces, rest_from, tiles, Ascending}
+use Rattle.log_places.proofs.Common.{◌≡◌, ℕ, ◌<◌, ◌≤◌, ◌==◌, ◌&&◌, Bool, true, false, cond, List, [], ◌∷◌, ◌++◌, min, max, refl, ap, sym, subst, arith, nat_le, inl, inr, leb-true, eqb-true, and_parts, In, Stretch, marked, pieces, rest_from, tiles, Ascending}
 use Rattle.log_places.proofs.Marking.{no_piece, whole_piece, ascending_from}
 
 -- pieces of which one is the stretch

@@ -1,6 +1,6 @@
 -- Into how many stretches regions cut their locations.
 use Rattle.std.specs.Prelude.{◌≡◌, ◌⊎◌, ◌↔◌, ◌+◌, ◌-◌, ◌*◌, ◌%◌, ◌<◌, ◌≤◌, ℕ, List, [], ◌∷◌, length}
-use Rattle.listed.specs.Members.{In}
+use Rattle.plain_vec.specs.Members.{In}
 use Rattle.log_places.specs.declared.stretch.Stretch.{Stretch}
 use Rattle.log_places.specs.declared.page.PageKey.{PageKey}
 use Rattle.log_places.specs.declared.region.Region.{Region}

@@ -3,7 +3,7 @@ use Rattle.std.specs.Prelude.{◌≡◌, ◌/◌, ◌≤◌, ◌<◌, ℕ}
 use Rattle.log_places.specs.declared.stretch.Stretch.{Stretch}
 use Rattle.log_places.specs.declared.region.Region.{Region}
 use Rattle.log_places.specs.declared.page.PageKey.{PageKey}
-use Rattle.log_places.specs.declared.numbers.Slot.{Slot}
+use Rattle.log_places.specs.declared.numbers.LocationSlot.{LocationSlot}
 use Rattle.log_places.specs.Numbers.{stretch_count, IsNumber, IsSlot}
 use Rattle.log_places.specs.Places.{Covers, IsIn, IsRegionCut, IsRunCut, PlacesValue}
 
@@ -25,10 +25,10 @@ NumbersAreDistinct =
 
 -- slots are apart: a location has one, and no two have one number
 pub record SlotsAreOne : Type 0 where
-  pub within : (v : PlacesValue) (block x : ℕ) (s : Slot) → IsSlot v block x s → (s.start ≤ x) × (x < s.end)
-  pub counted : (v : PlacesValue) (block x : ℕ) (s : Slot) → IsSlot v block x s → s.number < stretch_count v
-  pub one : (v : PlacesValue) (block x : ℕ) (s t : Slot) → IsSlot v block x s → IsSlot v block x t → s ≡ t
-  pub same : (v : PlacesValue) (block other x y : ℕ) (s t : Slot) → IsSlot v block x s → IsSlot v other y t → s.number ≡ t.number → (block ≡ other) × (s ≡ t)
+  pub within : (v : PlacesValue) (block x : ℕ) (s : LocationSlot) → IsSlot v block x s → (s.start ≤ x) × (x < s.end)
+  pub counted : (v : PlacesValue) (block x : ℕ) (s : LocationSlot) → IsSlot v block x s → s.number < stretch_count v
+  pub one : (v : PlacesValue) (block x : ℕ) (s t : LocationSlot) → IsSlot v block x s → IsSlot v block x t → s ≡ t
+  pub same : (v : PlacesValue) (block other x y : ℕ) (s t : LocationSlot) → IsSlot v block x s → IsSlot v other y t → s.number ≡ t.number → (block ≡ other) × (s ≡ t)
   -- where a run is marked, the slot of one of its locations is within the run, and is that of each location of its stretch
-  pub cut : (v : PlacesValue) (block start end x : ℕ) (s : Slot) → IsRunCut v block start end → start ≤ x → x < end → IsSlot v block x s
+  pub cut : (v : PlacesValue) (block start end x : ℕ) (s : LocationSlot) → IsRunCut v block start end → start ≤ x → x < end → IsSlot v block x s
       → (start ≤ s.start) × (s.end ≤ end) × ((y : ℕ) → s.start ≤ y → y < s.end → IsSlot v block y s)

@@ -2,7 +2,7 @@
 use Rattle.std.specs.Prelude.{◌≡◌, ◌+◌, ◌*◌, ◌/◌, ℕ, zero, suc, Some, List, [], ◌∷◌, length, slice_get, sum_by}
 use Rattle.log_places.specs.declared.stretch.Stretch.{Stretch}
 use Rattle.log_places.specs.declared.page.PageKey.{PageKey}
-use Rattle.log_places.specs.declared.numbers.Slot.{Slot}
+use Rattle.log_places.specs.declared.numbers.LocationSlot.{LocationSlot}
 use Rattle.log_places.specs.Stretches.{Ascending, Has}
 use Rattle.log_places.specs.Places.{at, page_key, IsFirst, IsIn, PlacesValue}
 
@@ -32,7 +32,7 @@ pub record IsNumber (v : PlacesValue) (key : PageKey) (s : Stretch) (number : �
   pub is : number ≡ stretches_before v.pages page + place
 
 -- the slot of a location: the number of its stretch, and where in the block the stretch begins and ends
-pub record IsSlot (v : PlacesValue) (block location : ℕ) (slot : Slot) : Type 0 where
+pub record IsSlot (v : PlacesValue) (block location : ℕ) (slot : LocationSlot) : Type 0 where
   pub stretch : Stretch
   pub among : IsIn v block location stretch
   pub ordered : Ascending 0 (at v (page_key block (location / 4096)))
@@ -41,7 +41,7 @@ pub record IsSlot (v : PlacesValue) (block location : ℕ) (slot : Slot) : Type 
   pub end : slot.end ≡ location / 4096 * 4096 + stretch.end
 
 -- the slot of a location of the page that stands at a place, where the page begins at `base`
-pub record IsSlotAt (pages : List (List Stretch)) (page base location : ℕ) (slot : Slot) : Type 0 where
+pub record IsSlotAt (pages : List (List Stretch)) (page base location : ℕ) (slot : LocationSlot) : Type 0 where
   pub stretches : List Stretch
   pub place : ℕ
   pub stretch : Stretch

@@ -1,6 +1,6 @@
 -- The stretches of all pages, of 4,096 locations each.
 use Rattle.std.specs.Prelude.{◌≡◌, ◌+◌, ◌-◌, ◌*◌, ◌/◌, ◌%◌, ◌^◌, ◌<◌, ◌≤◌, ◌==◌, ◌&&◌, ℕ, min, zero, suc, Bool, true, false, List, [], ◌∷◌, if◌then◌else◌}
-use Rattle.listed.specs.Members.{In}
+use Rattle.plain_vec.specs.Members.{In}
 use Rattle.log_places.specs.declared.stretch.Stretch.{Stretch}
 use Rattle.log_places.specs.declared.page.PageKey.{PageKey}
 use Rattle.log_places.specs.declared.region.Region.{Region}

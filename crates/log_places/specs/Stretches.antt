@@ -1,6 +1,6 @@
 -- Stretches of the locations of a page, and what marking a run does to them.
 use Rattle.std.specs.Prelude.{◌<◌, ◌≤◌, ◌==◌, ◌&&◌, ℕ, Bool, true, List, [], ◌∷◌, ◌++◌, min, max, nat_lt, nat_le, if◌then◌else◌}
-use Rattle.listed.specs.Members.{In}
+use Rattle.plain_vec.specs.Members.{In}
 use Rattle.log_places.specs.declared.stretch.Stretch.{Stretch}
 
 -- none is empty, and each begins no earlier than the one before it ends

@@ -2,6 +2,7 @@
 #![tactic(auto)]
 
 mod laws;
+mod links;
 mod numbers;
 mod page;
 mod places;
@@ -9,7 +10,7 @@ mod region;
 mod stretch;
 
 pub use laws::{marked_are_there, numbers_are_distinct, slots_are_one, stretches_are_whole};
-pub use numbers::{NumberError, Numbers, Slot};
+pub use numbers::{LocationSlot, NumberError, Numbers};
 pub use page::PageKey;
 pub use places::Places;
 pub use region::Region;

@@ -2,16 +2,18 @@
 
 ghost use Rattle.std.specs.Prelude.{◌≡◌, ◌+◌, ◌^◌, ◌<◌, ◌≤◌, ◌++◌, ◌∷◌, [], length, sum_by, IfOk, OnOk, Err};
 ghost use Rattle.log_places.specs.Numbers.{firsts_from};
+ghost use Rattle.log_places.specs.Blocks.{slots_of_page};
 
+use crate::links::{PageLinks, key_at, links_of};
 use crate::page::{PAGE_SIZE, Page, PageKey};
-use crate::stretch::stretch_with;
+use crate::stretch::{Stretch, stretch_with};
 use indexmap::IndexSet;
 use std::alloc::{AllocError, Global};
 use std::marker::Model;
 
 /// The stretch of a location: the number of its cell, and where in the block it begins and ends.
 #[derive(Clone, Copy)]
-pub struct Slot {
+pub struct LocationSlot {
     pub number: usize,
     pub start: u64,
     /// The first location behind it.
@@ -86,6 +88,39 @@ fn firsts_of(
     Ok((firsts, next))
 }
 
+// Adds a slot.
+fn push_slot(slots: &mut Vec<LocationSlot>, slot: LocationSlot) -> Result<(), AllocError>
+    ensures { OnOk result (slots.new.items ≡ slots.old.items ++ slot ∷ []) }
+{
+    slots.push(slot)?;
+    Ok(())
+}
+
+// Adds the slots of a page's stretches, where the page begins at `base` and the first stretch has a number.
+fn add_slots(
+    stretches: &[Stretch],
+    base: u64,
+    first: usize,
+    count: usize,
+    slots: &mut Vec<LocationSlot>,
+) -> Result<(), AllocError>
+    requires near { base ≤ 2 ^ 60 }
+    requires counted { first + length stretches.now ≤ count }
+    ensures { OnOk result (slots.new.items ≡ slots.old.items ++ slots_of_page base first stretches.now) }
+{
+    let mut number = first;
+    for stretch in stretches {
+        let slot = LocationSlot {
+            number,
+            start: behind(base, stretch.start),
+            end: behind(base, stretch.end),
+        };
+        push_slot(slots, slot)?;
+        number += 1;
+    }
+    Ok(())
+}
+
 /// The stretches of all locations that are accessed, each with a number.
 #[derive(Drop)]
 pub struct Numbers {
@@ -93,28 +128,32 @@ pub struct Numbers {
     pages: Vec<Page>,
     firsts: Vec<usize>,
     count: usize,
+    links: PageLinks,
 }
 
 impl Model for Numbers {
     ghost use Rattle.std.specs.Prelude.{◌≡◌, length, sum_by};
     ghost use Rattle.log_places.specs.Places.{PlacesValue};
     ghost use Rattle.log_places.specs.Numbers.{firsts_from};
+    ghost use Rattle.log_places.specs.Blocks.{ArePageLinks, AreNear};
 
     ghost Value = { PlacesValue };
 
     ghost view = { λ n. record { keys = n.known.keys; pages = n.pages.items } };
 
     ghost invariant = { λ n. (length n.known.keys ≡ length n.pages.items) × (n.firsts.items ≡ firsts_from 0 n.pages.items)
-        × (n.count ≡ sum_by length n.pages.items) };
+        × (n.count ≡ sum_by length n.pages.items) × ArePageLinks n.known.keys n.links × AreNear n.known.keys };
 }
 
 impl Numbers {
-    ghost use Rattle.std.specs.Prelude.{◌≡◌, ◌<◌, ◌≤◌, ◌^◌, [], length, slice_get, List, Some, IfOk, OnOk, IfSome, IfNone, Err};
-    ghost use Rattle.listed.specs.Members.{In};
+    ghost use Rattle.std.specs.Prelude.{◌≡◌, ◌<◌, ◌≤◌, ◌^◌, ◌+◌, [], length, drop, slice_get, List, Some, IfOk, OnOk, IfSome, IfNone, Err};
+    ghost use Rattle.plain_vec.specs.Members.{In};
+    ghost use Rattle.log_places.specs.declared.page.PageKey.{PageKey};
     ghost use Rattle.log_places.specs.declared.stretch.Stretch.{Stretch};
     ghost use Rattle.log_places.specs.Stretches.{Has};
     ghost use Rattle.log_places.specs.Places.{at, IsFirst, IsIn};
     ghost use Rattle.log_places.specs.Numbers.{stretch_count, IsSlot, IsSlotAt};
+    ghost use Rattle.log_places.specs.Blocks.{next_page, slots_of_block, AddsPage, AreNear};
 
     // Numbers the stretches of pages.
     pub(crate) fn new(
@@ -123,18 +162,21 @@ impl Numbers {
         pages: Vec<Page>,
         limit: usize,
     ) -> Result<Numbers, NumberError>
-        requires { length known.keys ≡ length pages.items }
+        requires size { length known.keys ≡ length pages.items }
+        requires near { AreNear known.keys }
         ensures value { IfOk result (λ n. n ≡ record { keys = known.keys; pages = pages.items }) }
         ensures within { OnOk result (stretch_count (record { keys = known.keys; pages = pages.items }) ≤ limit) }
         ensures over { result ≡ Err NumberError.OverLimit
             → limit < stretch_count (record { keys = known.keys; pages = pages.items }) }
     {
         let (firsts, count) = firsts_of(alloc, &pages, limit)?;
+        let links = links_of(alloc, &known)?;
         Ok(Numbers {
             known,
             pages,
             firsts,
             count,
+            links,
         })
     }
 
@@ -146,7 +188,7 @@ impl Numbers {
     }
 
     /// The slot of a location, if the location is accessed.
-    pub fn find(&self, block: u64, location: u64) -> Option<Slot>
+    pub fn find(&self, block: u64, location: u64) -> Option<LocationSlot>
         requires { location < 2 ^ 60 }
         ensures slot { IfSome result (λ slot. IsSlot self.now block location slot) }
         ensures none { IfNone result ((s : Stretch) → IsIn self.now block location s → ⊥) }
@@ -166,7 +208,7 @@ impl Numbers {
     }
 
     // The slot of a location of the page at a place, which begins at `base`.
-    fn slot(&self, i: usize, base: u64, location: u16) -> Option<Slot>
+    fn slot(&self, i: usize, base: u64, location: u16) -> Option<LocationSlot>
         requires there { i < length self.now.pages }
         requires within { base ≤ 2 ^ 60 }
         ensures some { IfSome result (λ slot. IsSlotAt self.now.pages i base location slot) }
@@ -175,10 +217,62 @@ impl Numbers {
         let stretches = self.pages[i].stretches();
         let (place, stretch) = stretch_with(stretches, location)?;
         let number = sum_below(self.firsts[i], place, self.count);
-        Some(Slot {
+        Some(LocationSlot {
             number,
             start: behind(base, stretch.start),
             end: behind(base, stretch.end),
         })
+    }
+
+    /// The slots of all stretches of a block, in the place of what was there. It takes a step for each of them, and one
+    /// for each page of the block.
+    pub fn slots_of_block(
+        &self,
+        block: u64,
+        slots: &mut Vec<LocationSlot>,
+    ) -> Result<(), AllocError>
+        ensures { OnOk result (slots.new.items ≡ slots_of_block self.now block) }
+    {
+        slots.clear();
+        let mut at = self.first_page(block);
+        while let Some(i) = at {
+            self.add_page(i, slots)?;
+            at = self.next_page(i);
+        }
+        Ok(())
+    }
+
+    // The place of a block's first page.
+    fn first_page(&self, block: u64) -> Option<usize>
+        ensures place { result ≡ next_page block 0 self.now.keys }
+        ensures size { length self.now.keys ≡ length self.now.pages }
+        ensures there { IfSome result (λ i. i < length self.now.pages) }
+    {
+        self.links.heads.get(&block).copied()
+    }
+
+    // The place of the next page of the block that has the page at a place.
+    fn next_page(&self, i: usize) -> Option<usize>
+        requires { i < length self.now.pages }
+        ensures place { (k : PageKey) → slice_get self.now.keys i ≡ Some k → result ≡ next_page k.block (i + 1) (drop (i + 1) self.now.keys) }
+        ensures there { IfSome result (λ j. j < length self.now.pages) }
+    {
+        *self.links.nexts.at(i)
+    }
+
+    // Adds the slots of the page at a place.
+    fn add_page(&self, i: usize, slots: &mut Vec<LocationSlot>) -> Result<(), AllocError>
+        requires { i < length self.now.pages }
+        ensures { OnOk result (AddsPage self.now i slots.old.items slots.new.items) }
+    {
+        let key = key_at(&self.known, i);
+        let stretches = self.pages[i].stretches();
+        add_slots(
+            stretches,
+            key.page * PAGE_SIZE,
+            self.firsts[i],
+            self.count,
+            slots,
+        )
     }
 }

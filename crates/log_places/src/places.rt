@@ -20,12 +20,13 @@ pub struct Places {
 impl Model for Places {
     ghost use Rattle.std.specs.Prelude.{◌≡◌, length};
     ghost use Rattle.log_places.specs.Places.{PlacesValue};
+    ghost use Rattle.log_places.specs.Blocks.{AreNear};
 
     ghost Value = { PlacesValue };
 
     ghost view = { λ p. record { keys = p.known.keys; pages = p.pages.items } };
 
-    ghost invariant = { λ p. length p.known.keys ≡ length p.pages.items };
+    ghost invariant = { λ p. (length p.known.keys ≡ length p.pages.items) × AreNear p.known.keys };
 }
 
 impl Places {
@@ -53,6 +54,7 @@ impl Places {
 
     // The number of a page, which is made if it isn't there.
     fn page(&mut self, key: PageKey) -> Result<usize, AllocError>
+        requires { key.page * 4096 ≤ 2 ^ 60 }
         ensures ok { IfOk result (λ i. IsFirst self.new.keys key i) }
         ensures kept { (k : PageKey) → at self.new k ≡ at self.old k }
         ensures different { OnOk result (AreDifferent self.old.keys → AreDifferent self.new.keys) }
@@ -67,7 +69,8 @@ impl Places {
 
     // Marks locations of a page.
     fn mark_page(&mut self, key: PageKey, start: u16, end: u16) -> Result<(), AllocError>
-        requires { start < end }
+        requires near { key.page * 4096 ≤ 2 ^ 60 }
+        requires some { start < end }
         ensures ok { OnOk result (at self.new key ≡ marked start end (at self.old key)) }
         ensures err { OnErr result (at self.new key ≡ at self.old key) }
         ensures others { (k : PageKey) → same_page k key ≡ false → at self.new k ≡ at self.old k }

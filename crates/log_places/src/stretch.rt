@@ -2,7 +2,7 @@
 
 ghost use Rattle.std.specs.Prelude.{◌≡◌, ◌≤◌, ◌<◌, ◌++◌, ℕ, length, take, slice_get, slice_index_or, vec_len, Some, IfSome, IfNone, OnOk, OnErr};
 ghost use Rattle.log_places.specs.Stretches.{marked, piece, pieces, rest_from, tiles, Ascending, Has};
-ghost use Rattle.listed.specs.Members.{In};
+ghost use Rattle.plain_vec.specs.Members.{In};
 
 use std::alloc::AllocError;
 

@@ -1,2 +1,3 @@
 pub mod Serial
 pub mod Parts
+mod Common

@@ -1,15 +1,5 @@
 -- Small facts of the races of a log.
-use Rattle.std.proofs.Common.{◌≡◌, ◌<◌, ◌+◌, ◌++◌, ◌∷◌, ◌∙◌, ℕ, zero, suc, Option, None, List, [], length, take, get_or, slice_get, refl, sym, ap, arith}
-use Rattle.std.proofs.lemmas.List.{take_more, length-take}
-use Rattle.listed.proofs.Options.{some_none}
-use Rattle.fork_graph.specs.declared.graph.Strand.{Strand}
-use Rattle.log_form.specs.Events.{Event}
-use Rattle.log_tasks.specs.declared.tasks.LogTasks.{LogTasks}
-use Rattle.log_touches.specs.Strands.{regions_of_events}
-use Rattle.log_touches.specs.Limits.{of_numbers}
-use Rattle.log_touches.specs.below.log_places.{AreOver, NumberError, OverLimit, NoMemory}
-use Rattle.log_races.specs.Touches.{told_strand, touches_told, touches_at, touches_from}
-use Rattle.log_races.specs.Limits.{IsTooLargeFor}
+use Rattle.log_races.proofs.Common.{◌≡◌, ◌<◌, ◌+◌, ◌++◌, ◌∷◌, ◌∙◌, ℕ, zero, suc, Option, None, List, [], length, take, get_or, slice_get, refl, sym, ap, arith, take_more, length-take, some_none, GraphStrand, Event, LogTasks, regions_of_events, of_numbers, AreOver, NumberError, OverLimit, NoMemory, told_strand, touches_told, touches_at, touches_from, IsTooLargeFor}
 use Rattle.log_races.proofs.Serial.{strand_more}
 
 pub none_there : (xs : List ℕ) (k : ℕ) → slice_get xs k ≡ None → 0 ≡ get_or xs k 0
@@ -22,7 +12,7 @@ over_for events limit OverLimit f = f refl
 over_for events limit NoMemory f = tt
 
 -- the accesses of the strands up to one, and its own
-pub told_more : (events : List Event) (log : LogTasks) (order : List Strand) (serial : ℕ) (d : Strand) (told : Option Strand) → serial < length order → told ≡ told_strand log (get_or order serial d)
+pub told_more : (events : List Event) (log : LogTasks) (order : List GraphStrand) (serial : ℕ) (d : GraphStrand) (told : Option GraphStrand) → serial < length order → told ≡ told_strand log (get_or order serial d)
     → touches_from events log 0 (take serial order) ++ touches_told events told serial ≡ touches_from events log 0 (take (serial + 1) order)
 told_more events log order serial d told lt is =
     let n : serial ≡ 0 + length (take serial order) = (let l = length-take serial order in omega (arith, l, lt)) in

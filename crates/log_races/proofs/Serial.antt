@@ -1,42 +1,24 @@
 -- The accesses of a log come in the serial order of their strands.
-use Rattle.std.proofs.Common.{◌≡◌, ◌<◌, ◌≤◌, ◌+◌, ◌++◌, ◌∷◌, ◌∙◌, ℕ, suc, Option, Some, None, List, [], All, AllPairs, length, take, get_or, inl, inr, refl, sym, ap, subst, arith}
-use Rattle.std.specs.Prelude.{filter, option_map, option_to_list}
-use Rattle.std.proofs.lemmas.List.{append_assoc, append-nil}
-use Rattle.std.proofs.lemmas.List.Kept.{AllPairs-cons}
-use Rattle.listed.proofs.Members.{In, flat_in, in_append_cases}
-use Rattle.listed.proofs.Places.{all_from, in_read}
-use Rattle.fork_graph.specs.declared.graph.Strand.{Strand}
-use Rattle.log_form.specs.Events.{Event, is_on}
-use Rattle.log_tasks.specs.declared.tasks.LogTasks.{LogTasks}
-use Rattle.log_touches.specs.declared.access.ActAccess.{ActAccess}
-use Rattle.log_touches.specs.Accesses.{access_of, touch_by, touches_of_act}
-use Rattle.log_touches.specs.Strands.{numbered_from, touches_behind}
-use Rattle.log_touches.specs.below.race_scan.{Touch}
-use Rattle.log_races.specs.Touches.{told_strand, touches_told, touches_at, touches_from, touches_of}
+use Rattle.log_races.proofs.Common.{◌≡◌, ◌<◌, ◌≤◌, ◌+◌, ◌++◌, ◌∷◌, ◌∙◌, ℕ, suc, Option, Some, None, List, [], AllPairs, length, inl, inr, refl, sym, ap, arith, filter, append_assoc, append-nil, AllPairs-cons, In, flat_in, in_append_cases, all_from, GraphStrand, Event, is_on, LogTasks, touches_of_act, numbered_from, regions_of_events, touches_behind, Touch, act_strand, told_strand, touches_told, touches_at, touches_from}
 
 abbrev strand_of : Touch → ℕ
 strand_of t = t.access.strand
 
 -- OF ONE STRAND
 
-one_strand : (s n : ℕ) (o : Option ActAccess) (t : Touch) → In (option_to_list (option_map (touch_by s n) o)) t → strand_of t ≡ s
-one_strand s n None t i = absurd i
-one_strand s n (Some a) t (inl e) = ap strand_of (sym e)
-one_strand s n (Some a) t (inr none) = absurd none
+behind_strand : (all events : List Event) (u : GraphStrand) (s n : ℕ) (t : Touch) → In (touches_behind (regions_of_events all) u s n events) t → strand_of t ≡ s
+behind_strand all events u s n t i =
+    let m = flat_in (λ (p : ℕ × Event). touches_of_act (regions_of_events all) s p.0 p.1.act) (filter (λ (p : ℕ × Event). is_on u p.1) (numbered_from n events)) t i in
+    act_strand (regions_of_events all) s m.1.0 m.1.1.act t m.3
 
-behind_strand : (events : List Event) (u : Strand) (s n : ℕ) (t : Touch) → In (touches_behind u s n events) t → strand_of t ≡ s
-behind_strand events u s n t i =
-    let m = flat_in (λ (p : ℕ × Event). touches_of_act s p.0 p.1.act) (filter (λ (p : ℕ × Event). is_on u p.1) (numbered_from n events)) t i in
-    one_strand s m.1.0 (access_of m.1.1.act) t m.3
-
-told_strands : (events : List Event) (o : Option Strand) (s : ℕ) (t : Touch) → In (touches_told events o s) t → strand_of t ≡ s
+told_strands : (events : List Event) (o : Option GraphStrand) (s : ℕ) (t : Touch) → In (touches_told events o s) t → strand_of t ≡ s
 told_strands events None s t i = absurd i
-told_strands events (Some u) s t i = behind_strand events u s 0 t i
+told_strands events (Some u) s t i = behind_strand events events u s 0 t i
 
 -- OF ALL
 
 module _ (events : List Event) (log : LogTasks) where
-  pub within : (s : ℕ) (us : List Strand) (t : Touch) → In (touches_from events log s us) t → (s ≤ strand_of t) × (strand_of t < s + length us)
+  pub within : (s : ℕ) (us : List GraphStrand) (t : Touch) → In (touches_from events log s us) t → (s ≤ strand_of t) × (strand_of t < s + length us)
   within s [] t i = absurd i
   within s (u ∷ us) t i =
       elim (in_append_cases (touches_at events log u s) (touches_from events log (s + 1) us) t i) [
@@ -57,14 +39,14 @@ module _ (events : List Event) (log : LogTasks) where
       ]))
       (put_before s xs ys (λ t i. same t (inr i)) later sorted)
 
-  pub sorted : (s : ℕ) (us : List Strand) → AllPairs (λ (t u : Touch). strand_of t ≤ strand_of u) (touches_from events log s us)
+  pub sorted : (s : ℕ) (us : List GraphStrand) → AllPairs (λ (t u : Touch). strand_of t ≤ strand_of u) (touches_from events log s us)
   sorted s [] = λ i j d less there. absurd (omega arith)
   sorted s (u ∷ us) =
       put_before s (touches_at events log u s) (touches_from events log (s + 1) us) (told_strands events (told_strand log u) s)
       (λ t i. let a : s + 1 ≤ strand_of t = (within (s + 1) us t i).0 in omega arith) (sorted (s + 1) us)
 
   -- one strand more
-  pub strand_more : (s : ℕ) (us : List Strand) (u : Strand) → touches_from events log s (us ++ u ∷ []) ≡ touches_from events log s us ++ touches_at events log u (s + length us)
+  pub strand_more : (s : ℕ) (us : List GraphStrand) (u : GraphStrand) → touches_from events log s (us ++ u ∷ []) ≡ touches_from events log s us ++ touches_at events log u (s + length us)
   strand_more s [] u =
       append-nil (touches_at events log u s) ∙ ap (touches_at events log u) (let e : s ≡ s + 0 = omega arith in e)
   strand_more s (v ∷ us) u =

@@ -1,6 +1,6 @@
 -- Why the races of a log aren't known.
 use Rattle.std.specs.Prelude.{◌⊎◌, ◌<◌, ℕ, List, length}
-use Rattle.fork_graph.specs.declared.graph.Strand.{Strand}
+use Rattle.fork_graph.specs.declared.graph.GraphStrand.{GraphStrand}
 use Rattle.log_form.specs.Events.{Event}
 use Rattle.log_touches.specs.declared.numbers.RacesError.{RacesError}
 use Rattle.log_touches.specs.declared.numbers.RacesError.TheVariants.{TooManyStretches, TooLong, NoMemory}
@@ -15,7 +15,7 @@ IsTooLargeFor events limit TooLong = most_acts < length events
 IsTooLargeFor events limit NoMemory = Unit {0}
 
 -- or its strands are too many, which stand in their serial order
-abbrev pub IsTooLarge : List Event → List Strand → ℕ → RacesError → Type 0
+abbrev pub IsTooLarge : List Event → List GraphStrand → ℕ → RacesError → Type 0
 IsTooLarge events order limit TooManyStretches = AreOver (regions_of_events events) limit
 IsTooLarge events order limit TooLong = (most_acts < length order) ⊎ (most_acts < length events)
 IsTooLarge events order limit NoMemory = Unit {0}

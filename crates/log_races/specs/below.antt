@@ -1,4 +1,4 @@
--- What crates above name of the crates below.
+-- Re-exports from lower crates for the crates above.
 pub mod log_places
 pub mod log_touches
 pub mod log_verdict

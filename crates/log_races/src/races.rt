@@ -12,11 +12,11 @@ ghost use Rattle.log_races.specs.Touches.{touches_of};
 ghost use Rattle.log_races.specs.Limits.{IsTooLarge, IsTooLargeFor};
 
 use crate::strands::scan_walk;
-use listed::Listed;
-use log_pieces::Piece;
+use log_pieces::LogPiece;
 use log_tasks::LogTasks;
 use log_touches::{Numbers, RaceScan, RacesError, StrandPieces, mark_pieces};
 use log_walk::SerialWalk;
+use plain_vec::Listed;
 use std::alloc::Global;
 
 /// There are at most so many strands.
@@ -26,7 +26,7 @@ const MOST_STRANDS: usize = 1 << 32;
 fn numbers_of(
     alloc: Global,
     texts: &[Listed<u8>],
-    pieces: &[Piece],
+    pieces: &[LogPiece],
     limit: usize,
 ) -> Result<(Numbers, Listed<u64>), RacesError>
     ensures marked { IfOk result (λ r. AreMarked (regions_of_events (events_of_pieces texts.now pieces.now)) r.0) }
@@ -47,7 +47,7 @@ fn numbers_of(
 pub fn log_races(
     alloc: Global,
     texts: &[Listed<u8>],
-    pieces: &[Piece],
+    pieces: &[LogPiece],
     tasks: &LogTasks,
     walk: &SerialWalk,
     limit: usize,

@@ -1,27 +1,17 @@
 -- Each event stands at a line.
-use Rattle.std.proofs.Common.{◌≡◌, ◌∙◌, ℕ, ◌+◌, List, [], ◌∷◌, ◌++◌, map, refl, ap, sym, append-nil, append_assoc, Option, Some, None, Result, Ok, Err}
-use Rattle.std.proofs.lemmas.List.{map-append}
-use Rattle.log_lines.specs.declared.cause.Cause.{Cause}
-use Rattle.log_lines.specs.declared.line.Act.{Act}
-use Rattle.log_lines.specs.declared.line.Line.{Line}
-use Rattle.log_lines.specs.declared.line.Line.TheVariants as lines
-use Rattle.log_lines.specs.Grammar.{line_of}
-use Rattle.fork_graph.specs.declared.graph.Strand.{Strand}
-use Rattle.log_form.specs.declared.fault.Position.{Position}
-use Rattle.log_form.specs.Text.{lines_in}
-use Rattle.log_form.specs.Events.{Event, Spot, spot_behind_act, spot_behind_said, spot_behind_all, file_begin, file_end, events_behind}
-use Rattle.log_refusals.specs.Placed.{Placed, position, placed_act, placed_said, placed_lines, placed_files, here_behind_act, here_behind, EventsHaveLines}
+use Rattle.log_refusals.proofs.Common.{◌≡◌, ◌∙◌, ℕ, ◌+◌, List, [], ◌∷◌, ◌++◌, map, refl, ap, sym, append-nil, append_assoc, Option, Some, None, Result, Ok, Err, map-append, LogCause, Act, LogLine, line_of, GraphStrand, LogPosition, lines_in, Event, Spot, spot_behind_act, spot_behind_said, spot_behind_all, file_begin, file_end, events_behind, Placed, position, placed_act, placed_said, placed_lines, placed_files, here_behind_act, here_behind, EventsHaveLines}
+use Rattle.log_lines.specs.declared.line.LogLine.TheVariants as lines
 
 abbrev events : List Placed → List Event
 events ps = map (λ p. p.event) ps
 
 -- A LINE
 
-act_here : (spot : Spot) (here : Option Strand) (act : Act) → spot.here ≡ here → (spot_behind_act spot here act).here ≡ here_behind_act here act
+act_here : (spot : Spot) (here : Option GraphStrand) (act : Act) → spot.here ≡ here → (spot_behind_act spot here act).here ≡ here_behind_act here act
 act_here spot None act e = e
 act_here spot (Some u) act e = refl
 
-said_here : (spot : Spot) (said : Result Line Cause) → (spot_behind_said spot said).here ≡ here_behind spot.here said
+said_here : (spot : Spot) (said : Result LogLine LogCause) → (spot_behind_said spot said).here ≡ here_behind spot.here said
 said_here spot (Ok lines.Version) = refl
 said_here spot (Ok (lines.Strand t i)) = refl
 said_here spot (Ok (lines.Act act)) = act_here spot spot.here act refl
@@ -30,11 +20,11 @@ said_here spot (Ok lines.Comment) = refl
 said_here spot (Ok lines.End) = refl
 said_here spot (Err cause) = refl
 
-act_events : (at : Position) (spot : Spot) (here : Option Strand) (act : Act) → (spot_behind_act spot here act).events ≡ spot.events ++ events (placed_act at here act)
+act_events : (at : LogPosition) (spot : Spot) (here : Option GraphStrand) (act : Act) → (spot_behind_act spot here act).events ≡ spot.events ++ events (placed_act at here act)
 act_events at spot None act = sym (append-nil spot.events)
 act_events at spot (Some u) act = refl
 
-said_events : (at : Position) (spot : Spot) (said : Result Line Cause) → (spot_behind_said spot said).events ≡ spot.events ++ events (placed_said at spot.here said)
+said_events : (at : LogPosition) (spot : Spot) (said : Result LogLine LogCause) → (spot_behind_said spot said).events ≡ spot.events ++ events (placed_said at spot.here said)
 said_events at spot (Ok lines.Version) = sym (append-nil spot.events)
 said_events at spot (Ok (lines.Strand t i)) = sym (append-nil spot.events)
 said_events at spot (Ok (lines.Act act)) = act_events at spot spot.here act
@@ -53,7 +43,7 @@ lines_events file [] spot line = sym (append-nil spot.events)
 lines_events file (l ∷ ls) spot line =
     let said = line_of l in
     lines_events file ls (spot_behind_said spot said) (line + 1)
-    ∙ ap (λ (here : Option Strand). (spot_behind_said spot said).events ++ events (placed_lines file here (line + 1) ls)) (said_here spot said)
+    ∙ ap (λ (here : Option GraphStrand). (spot_behind_said spot said).events ++ events (placed_lines file here (line + 1) ls)) (said_here spot said)
     ∙ ap (λ (before : List Event). before ++ events (placed_lines file (here_behind spot.here said) (line + 1) ls)) (said_events (position file line) spot said)
     ∙ join spot.events (placed_said (position file line) spot.here said) (placed_lines file (here_behind spot.here said) (line + 1) ls)
 

@@ -1,15 +1,5 @@
 -- A search along the lines of files.
-use Rattle.std.proofs.Common.{◌≡◌, ◌∙◌, ◌<◌, ◌+◌, ℕ, suc, List, [], ◌∷◌, ◌++◌, length, drop, drop-cons, add-one, get_or, refl, ap, sym, subst, Option, Some, None, fold, arith, false}
-use Rattle.std.specs.Prelude.{MatchOption}
-use Rattle.std.proofs.lemmas.List.{drop_all}
-use Rattle.std.proofs.lemmas.List.Sums.{fold-append}
-use Rattle.text_lines.specs.Lines.{is_last, lines_of}
-use Rattle.text_lines.proofs.Last.{some_line}
-use Rattle.log_lines.specs.Grammar.{line_of}
-use Rattle.fork_graph.specs.declared.graph.Strand.{Strand}
-use Rattle.log_form.specs.declared.fault.Position.{Position}
-use Rattle.log_form.specs.Text.{all_but_last, lines_in}
-use Rattle.log_refusals.specs.Placed.{Placed, position, placed_said, placed_lines, placed_files, here_behind, later_of}
+use Rattle.log_refusals.proofs.Common.{◌≡◌, ◌∙◌, ◌<◌, ◌+◌, ℕ, suc, List, [], ◌∷◌, ◌++◌, length, drop, drop-cons, add-one, get_or, refl, ap, sym, subst, Option, Some, None, fold, arith, false, MatchOption, drop_all, fold-append, is_last, lines_of, some_line, line_of, GraphStrand, LogPosition, all_but_last, lines_in, Placed, position, placed_said, placed_lines, placed_files, here_behind, later_of}
 
 -- LINES OF A TEXT
 
@@ -32,42 +22,42 @@ at_none now o left line e h = subst (λ p. MatchOption p (lines_of left ≡ line
 
 -- A SEARCH
 
-module _ (u : Strand) (file : ℕ) where
+module _ (u : GraphStrand) (file : ℕ) where
   -- what is found at the end, from a line on
-  abbrev pub found_from : Option Strand → ℕ → List ℕ → Option Position → Option Position
+  abbrev pub found_from : Option GraphStrand → ℕ → List ℕ → Option LogPosition → Option LogPosition
   found_from here n text found = fold (later_of u) found (placed_lines file here n (lines_in text))
 
   -- behind a line more
-  pub found_next : (here : Option Strand) (n : ℕ) (left line rest : List ℕ) (found next : Option Position) (behind : Option Strand) → lines_of left ≡ line ∷ lines_of rest
+  pub found_next : (here : Option GraphStrand) (n : ℕ) (left line rest : List ℕ) (found next : Option LogPosition) (behind : Option GraphStrand) → lines_of left ≡ line ∷ lines_of rest
       → next ≡ fold (later_of u) found (placed_said (position file n) here (line_of line)) → behind ≡ here_behind here (line_of line)
       → found_from behind (n + 1) rest next ≡ found_from here n left found
   found_next here n left line rest found next behind e f b =
-      ap (λ (x : Option Position). found_from behind (n + 1) rest x) f
-      ∙ ap (λ (h : Option Strand). found_from h (n + 1) rest (fold (later_of u) found (placed_said (position file n) here (line_of line)))) b
+      ap (λ (x : Option LogPosition). found_from behind (n + 1) rest x) f
+      ∙ ap (λ (h : Option GraphStrand). found_from h (n + 1) rest (fold (later_of u) found (placed_said (position file n) here (line_of line)))) b
       ∙ sym (fold-append (later_of u) found (placed_said (position file n) here (line_of line)) (placed_lines file (here_behind here (line_of line)) (n + 1) (lines_in rest)))
       ∙ ap (λ (ls : List (List ℕ)). fold (later_of u) found (placed_lines file here n ls)) (sym (line_more left line rest e))
 
   -- at the last line, which has no line feed
-  pub found_last : (here : Option Strand) (n : ℕ) (left line : List ℕ) (found : Option Position) → lines_of left ≡ line ∷ [] → found ≡ found_from here n left found
+  pub found_last : (here : Option GraphStrand) (n : ℕ) (left line : List ℕ) (found : Option LogPosition) → lines_of left ≡ line ∷ [] → found ≡ found_from here n left found
   found_last here n left line found e = ap (λ (ls : List (List ℕ)). fold (later_of u) found (placed_lines file here n ls)) (sym (line_last left line e))
 
 -- FILES
 
-module _ (u : Strand) where
+module _ (u : GraphStrand) where
   -- what is found at the end, from a file on
-  abbrev pub found_in : List (List ℕ) → ℕ → Option Position → Option Position
+  abbrev pub found_in : List (List ℕ) → ℕ → Option LogPosition → Option LogPosition
   found_in texts file found = fold (later_of u) found (placed_files file (drop file texts))
 
   files_more : (texts : List (List ℕ)) (file : ℕ) (text : List ℕ) → file < length texts → text ≡ get_or texts file text
       → placed_files file (drop file texts) ≡ placed_lines file None 1 (lines_in text) ++ placed_files (file + 1) (drop (file + 1) texts)
   files_more texts file text lt e = ap (placed_files file) (drop-cons texts file text lt ∙ ap (λ (t : List ℕ). t ∷ drop (suc file) texts) (sym e)) ∙ rw add-one refl
 
-  pub file_next : (texts : List (List ℕ)) (file : ℕ) (item text : List ℕ) (found next : Option Position) → file < length texts → item ≡ get_or texts file item → text ≡ item
+  pub file_next : (texts : List (List ℕ)) (file : ℕ) (item text : List ℕ) (found next : Option LogPosition) → file < length texts → item ≡ get_or texts file item → text ≡ item
       → next ≡ found_from u file None 1 text found → found_in texts (file + 1) next ≡ found_in texts file found
   file_next texts file item text found next lt e t f =
-      ap (λ (x : Option Position). found_in texts (file + 1) x) (f ∙ ap (λ (s : List ℕ). found_from u file None 1 s found) t)
+      ap (λ (x : Option LogPosition). found_in texts (file + 1) x) (f ∙ ap (λ (s : List ℕ). found_from u file None 1 s found) t)
       ∙ sym (fold-append (later_of u) found (placed_lines file None 1 (lines_in item)) (placed_files (file + 1) (drop (file + 1) texts)))
       ∙ ap (fold (later_of u) found) (sym (files_more texts file item lt e))
 
-  pub files_last : (texts : List (List ℕ)) (file : ℕ) (found : Option Position) → length texts ≡ file → found ≡ found_in texts file found
+  pub files_last : (texts : List (List ℕ)) (file : ℕ) (found : Option LogPosition) → length texts ≡ file → found ≡ found_in texts file found
   files_last texts file found e = ap (λ (ts : List (List ℕ)). fold (later_of u) found (placed_files file ts)) (sym (drop_all file texts (omega arith)))

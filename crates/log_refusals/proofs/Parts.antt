@@ -1,10 +1,7 @@
 -- The texts of refusals are made of their parts.
-use Rattle.std.proofs.Common.{◌≡◌, ◌++◌, ◌∷◌, ℕ, List, [], codes, append_assoc, append-nil, Option, Some, None, slice_index_or}
-use Rattle.std.specs.Fmt.{decimal}
-use Rattle.log_form.specs.declared.fault.Position.{Position}
-use Rattle.log_refusals.specs.Texts.{place_text}
+use Rattle.log_refusals.proofs.Common.{◌≡◌, ◌++◌, ◌∷◌, ℕ, List, [], codes, append_assoc, append-nil, Option, Some, None, slice_index_or, decimal, LogPosition, place_text}
 
-pub place_is : (names : List (List ℕ)) (at : Position) (name : List ℕ) → name ≡ slice_index_or names at.file [] → codes " " ++ (name ++ (codes " line " ++ decimal at.line)) ≡ place_text names (Some at)
+pub place_is : (names : List (List ℕ)) (at : LogPosition) (name : List ℕ) → name ≡ slice_index_or names at.file [] → codes " " ++ (name ++ (codes " line " ++ decimal at.line)) ≡ place_text names (Some at)
 place_is names at name e = rw e (simp append_assoc)
 
 pub line_is : (place same cause text : List ℕ) → place ≡ same → cause ≡ text

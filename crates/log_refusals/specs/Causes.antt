@@ -1,13 +1,13 @@
 -- Causes in words.
 use Rattle.std.specs.Prelude.{ℕ, List, codes}
-use Rattle.log_lines.specs.declared.cause.Cause.{Cause}
-use Rattle.log_lines.specs.declared.cause.Cause.TheVariants as causes
-use Rattle.log_form.specs.declared.fault.Fault.{Fault}
-use Rattle.log_form.specs.declared.fault.Fault.TheVariants as faults
+use Rattle.log_lines.specs.declared.cause.LogCause.{LogCause}
+use Rattle.log_lines.specs.declared.cause.LogCause.TheVariants as causes
+use Rattle.log_form.specs.declared.fault.LogFault.{LogFault}
+use Rattle.log_form.specs.declared.fault.LogFault.TheVariants as faults
 use Rattle.log_tasks.specs.declared.fault.TaskCause.{TaskCause}
 use Rattle.log_tasks.specs.declared.fault.TaskCause.TheVariants as tasks
 
-abbrev pub text_of_cause : Cause → List ℕ
+abbrev pub text_of_cause : LogCause → List ℕ
 text_of_cause causes.BadWord = codes "bad word"
 text_of_cause causes.BadNumber = codes "bad number"
 text_of_cause causes.WrongCount = codes "wrong count of words"
@@ -15,7 +15,7 @@ text_of_cause causes.OverLimit = codes "over a limit"
 text_of_cause causes.RunsOverlap = codes "runs overlap"
 text_of_cause causes.UnknownVersion = codes "unknown version"
 
-abbrev pub text_of_fault : Fault → List ℕ
+abbrev pub text_of_fault : LogFault → List ℕ
 text_of_fault (faults.NoLine cause) = text_of_cause cause
 text_of_fault faults.NoVersion = codes "no version"
 text_of_fault faults.AfterEnd = codes "after the end"

@@ -1,13 +1,13 @@
 -- How far a search for the lines of a strand has come.
 use Rattle.std.specs.Prelude.{◌≤◌, ℕ, ◌==◌, ◌&&◌, Bool, Option, IfSome}
-use Rattle.fork_graph.specs.declared.graph.Strand.{Strand}
+use Rattle.fork_graph.specs.declared.graph.GraphStrand.{GraphStrand}
 use Rattle.fork_graph.specs.Graph.{strand}
 use Rattle.log_refusals.specs.declared.search.Open.{Open}
 
-abbrev pub strand_of : Open → Strand
+abbrev pub strand_of : Open → GraphStrand
 strand_of o = strand o.task o.index
 
-abbrev pub is_here : Strand → Strand → Bool
+abbrev pub is_here : GraphStrand → GraphStrand → Bool
 is_here u v = (v.task == u.task) && (v.index == u.index)
 
 -- the open strand's number is at most this

@@ -3,37 +3,37 @@
 ghost use Rattle.std.specs.Prelude.{◌≡◌};
 ghost use Rattle.log_refusals.specs.Causes.{text_of_cause, text_of_fault, text_of_task_cause};
 
-use log_form::Fault;
-use log_lines::Cause;
+use log_form::LogFault;
+use log_lines::LogCause;
 use log_tasks::TaskCause;
 
 // Why a text is no line.
-fn text_of_cause(cause: Cause) -> &'static str
+fn text_of_cause(cause: LogCause) -> &'static str
     ensures { result.now ≡ text_of_cause cause }
 {
     match cause {
-        Cause::BadWord => "bad word",
-        Cause::BadNumber => "bad number",
-        Cause::WrongCount => "wrong count of words",
-        Cause::OverLimit => "over a limit",
-        Cause::RunsOverlap => "runs overlap",
-        Cause::UnknownVersion => "unknown version",
+        LogCause::BadWord => "bad word",
+        LogCause::BadNumber => "bad number",
+        LogCause::WrongCount => "wrong count of words",
+        LogCause::OverLimit => "over a limit",
+        LogCause::RunsOverlap => "runs overlap",
+        LogCause::UnknownVersion => "unknown version",
     }
 }
 
 /// Why a line is refused.
-pub(crate) fn text_of_fault(fault: Fault) -> &'static str
+pub(crate) fn text_of_fault(fault: LogFault) -> &'static str
     ensures { result.now ≡ text_of_fault fault }
 {
     match fault {
-        Fault::NoLine(cause) => text_of_cause(cause),
-        Fault::NoVersion => "no version",
-        Fault::AfterEnd => "after the end",
-        Fault::NoStrand => "no strand is open",
-        Fault::StrandEnded => "strand has ended",
-        Fault::SpawnedTwice => "task spawned twice",
-        Fault::BornTwice => "block born twice",
-        Fault::ReleasedTwice => "block released twice",
+        LogFault::NoLine(cause) => text_of_cause(cause),
+        LogFault::NoVersion => "no version",
+        LogFault::AfterEnd => "after the end",
+        LogFault::NoStrand => "no strand is open",
+        LogFault::StrandEnded => "strand has ended",
+        LogFault::SpawnedTwice => "task spawned twice",
+        LogFault::BornTwice => "block born twice",
+        LogFault::ReleasedTwice => "block released twice",
     }
 }
 

@@ -7,10 +7,10 @@ ghost use Rattle.log_form.specs.Events.{strand_behind};
 ghost use Rattle.log_refusals.specs.Placed.{placed_act, placed_said, placed_lines, here_behind_act, here_behind, later_of, last_line};
 ghost use Rattle.log_refusals.specs.Search.{strand_of, is_here, IsUpTo};
 
-use fork_graph::Strand;
-use listed::Listed;
-use log_form::Position;
-use log_lines::{Act, Line, read_line};
+use fork_graph::GraphStrand;
+use log_form::LogPosition;
+use log_lines::{Act, LogLine, read_line};
+use plain_vec::Listed;
 use text_lines::next_line;
 
 /// The strand on which a line stands.
@@ -23,10 +23,10 @@ pub(crate) struct Open {
 /// How far a search for the lines of a strand has come.
 #[derive(Clone, Copy)]
 pub(crate) struct Search {
-    pub(crate) strand: Strand,
+    pub(crate) strand: GraphStrand,
     pub(crate) here: Option<Open>,
     /// The last line at which the strand acts.
-    pub(crate) found: Option<Position>,
+    pub(crate) found: Option<LogPosition>,
 }
 
 // The strand that is open behind an act of the one that is open.
@@ -51,7 +51,7 @@ fn strand_behind(here: Open, act: Act) -> Option<Open>
 }
 
 // Whether this is the strand.
-fn is_here(strand: Strand, here: Open) -> bool
+fn is_here(strand: GraphStrand, here: Open) -> bool
     ensures { result ≡ is_here strand (strand_of here) }
 {
     here.task == strand.task && here.index == strand.index as u64
@@ -59,7 +59,7 @@ fn is_here(strand: Strand, here: Open) -> bool
 
 impl Search {
     // The open strand acts.
-    fn take_act(&mut self, at: Position, here: Open, act: Act)
+    fn take_act(&mut self, at: LogPosition, here: Open, act: Act)
         requires { here.index < 2 ^ 63 + 2 ^ 62 }
         ensures here { option_map strand_of self.new.here ≡ strand_behind (strand_of here) act }
         ensures next { IfSome self.new.here (λ h. h.index ≤ here.index + 1) }
@@ -73,7 +73,7 @@ impl Search {
     }
 
     // The open strand acts, if one is open.
-    fn take_open(&mut self, at: Position, act: Act)
+    fn take_open(&mut self, at: LogPosition, act: Act)
         requires { IsUpTo (2 ^ 63 + 2 ^ 61) self.old.here }
         ensures here { option_map strand_of self.new.here ≡ here_behind_act (option_map strand_of self.old.here) act }
         ensures next { (n : ℕ) → IsUpTo n self.old.here → IsUpTo (n + 1) self.new.here }
@@ -97,7 +97,7 @@ impl Search {
     }
 
     // A line.
-    fn take_line(&mut self, at: Position, line: &[u8])
+    fn take_line(&mut self, at: LogPosition, line: &[u8])
         requires { IsUpTo (2 ^ 63 + 2 ^ 61) self.old.here }
         ensures here { option_map strand_of self.new.here ≡ here_behind (option_map strand_of self.old.here) (line_of line.now) }
         ensures next { (n : ℕ) → 2 ^ 31 ≤ n → IsUpTo n self.old.here → IsUpTo (n + 1) self.new.here }
@@ -105,12 +105,12 @@ impl Search {
         ensures strand { self.new.strand ≡ self.old.strand }
     {
         match read_line(line) {
-            Ok(Line::Strand { task, strand }) => self.open(task, strand),
-            Ok(Line::Act(act)) => self.take_open(at, act),
-            Ok(Line::Version) => {}
-            Ok(Line::Name(_)) => {}
-            Ok(Line::Comment) => {}
-            Ok(Line::End) => {}
+            Ok(LogLine::Strand { task, strand }) => self.open(task, strand),
+            Ok(LogLine::Act(act)) => self.take_open(at, act),
+            Ok(LogLine::Version) => {}
+            Ok(LogLine::Name(_)) => {}
+            Ok(LogLine::Comment) => {}
+            Ok(LogLine::End) => {}
             Err(_) => {}
         }
     }
@@ -128,7 +128,7 @@ impl Search {
             match rest {
                 None => return,
                 Some(rest) => {
-                    self.take_line(Position { file, line }, first);
+                    self.take_line(LogPosition { file, line }, first);
                     left = rest;
                     line += 1;
                 }
@@ -138,7 +138,7 @@ impl Search {
 }
 
 /// The last line, in the order of files, that says what a strand does.
-pub fn last_line(texts: &[Listed<u8>], strand: Strand) -> Option<Position>
+pub fn last_line(texts: &[Listed<u8>], strand: GraphStrand) -> Option<LogPosition>
     ensures { result ≡ last_line texts.now strand }
 {
     let mut search = Search {

@@ -6,9 +6,9 @@ ghost use Rattle.log_refusals.specs.Texts.{place_text, line_refusal, task_refusa
 
 use crate::causes::{text_of_fault, text_of_task_cause};
 use crate::search::last_line;
-use listed::Listed;
-use log_form::{Found, Position};
+use log_form::{LocatedFault, LogPosition};
 use log_tasks::TaskFault;
+use plain_vec::Listed;
 use std::alloc::{AllocError, Global};
 use whole_call::{AnswerStatus, Reply};
 
@@ -23,7 +23,7 @@ fn name_of(names: &[String], file: usize) -> &str
 }
 
 // Where a line stands.
-fn line_text(alloc: Global, names: &[String], at: Position) -> Result<String, AllocError>
+fn line_text(alloc: Global, names: &[String], at: LogPosition) -> Result<String, AllocError>
     ensures { IfOk result (λ text. string_bytes text ≡ place_text (map string_bytes names.now) (Some at)) }
 {
     let name = name_of(names, at.file);
@@ -31,7 +31,11 @@ fn line_text(alloc: Global, names: &[String], at: Position) -> Result<String, Al
 }
 
 // Where a line stands, if there is one.
-fn place_text(alloc: Global, names: &[String], at: Option<Position>) -> Result<String, AllocError>
+fn place_text(
+    alloc: Global,
+    names: &[String],
+    at: Option<LogPosition>,
+) -> Result<String, AllocError>
     ensures { IfOk result (λ text. string_bytes text ≡ place_text (map string_bytes names.now) at) }
 {
     match at {
@@ -41,7 +45,11 @@ fn place_text(alloc: Global, names: &[String], at: Option<Position>) -> Result<S
 }
 
 // The text that refuses a log for a line.
-fn line_refusal_text(alloc: Global, names: &[String], found: Found) -> Result<String, AllocError>
+fn line_refusal_text(
+    alloc: Global,
+    names: &[String],
+    found: LocatedFault,
+) -> Result<String, AllocError>
     ensures { IfOk result (λ text. string_bytes text ≡ line_refusal (map string_bytes names.now) found) }
 {
     let place = line_text(alloc, names, found.at)?;
@@ -67,7 +75,11 @@ fn task_refusal_text(
 }
 
 /// The refusal of a log for a line.
-pub fn line_refusal(alloc: Global, names: &[String], found: Found) -> Result<Reply, AllocError>
+pub fn line_refusal(
+    alloc: Global,
+    names: &[String],
+    found: LocatedFault,
+) -> Result<Reply, AllocError>
     ensures { IfOk result (Says AnswerStatus.Trace (line_refusal (map string_bytes names.now) found)) }
 {
     let text = line_refusal_text(alloc, names, found)?;

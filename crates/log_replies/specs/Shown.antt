@@ -6,18 +6,23 @@ use Rattle.log_tasks.specs.Faults.{IsFirstTaskFault}
 use Rattle.log_tasks.specs.Log.{IsLog}
 use Rattle.log_refusals.specs.Texts.{line_refusal, task_refusal}
 use Rattle.log_sites.specs.Names.{site_name}
-use Rattle.log_report.specs.declared.told.Report.{Report}
-use Rattle.log_report.specs.declared.report.Detail.{Detail}
-use Rattle.log_report.specs.Report.{report_text}
+use Rattle.log_report.specs.declared.told.LogReport.{LogReport}
+use Rattle.log_report.specs.Labels.{Names}
+use Rattle.log_report.specs.LogReport.{report_text}
+use Rattle.log_json.specs.Values.{report_json}
+use Rattle.log_request.specs.declared.view.ReportForm.{ReportForm}
+use Rattle.log_request.specs.declared.view.ReportForm.TheVariants.{Lines, Json}
+use Rattle.log_request.specs.declared.view.LogView.{LogView}
 use Rattle.log_findings.specs.declared.error.ReportError.{ReportError}
 use Rattle.log_findings.specs.declared.error.ReportError.TheVariants.{TooLong, TooManyStretches, TooMuchWork, NoMemory}
 use Rattle.log_findings.specs.Errors.{IsTooLarge}
 use Rattle.log_findings.specs.Reported.{IsReportOf}
 use Rattle.log_findings.specs.below.fork_graph.{Cut, Extent, Whole}
-use Rattle.log_findings.specs.below.log_form.{Found, events_of, is_cut, log_fault}
+use Rattle.log_findings.specs.below.log_form.{LocatedFault, events_of, is_cut, log_fault}
 use Rattle.whole_call.specs.declared.status.AnswerStatus.TheVariants.{Trace}
 use Rattle.whole_call.specs.declared.reply.Reply.{Reply}
 use Rattle.whole_call.specs.Output.{Says}
+use Rattle.log_replies.specs.Blocks.{of_blocks}
 use Rattle.log_replies.specs.Status.{status_of}
 
 -- how much of its run a log has, by whether it was cut off
@@ -39,6 +44,20 @@ size_text NoMemory = codes "out of memory"
 abbrev pub size_line : ReportError → List ℕ
 size_line cause = codes "end: log refused: " ++ size_text cause ++ codes "\n"
 
+-- REPORTS
+
+abbrev pub text_as : ReportForm → LogView → Names → LogReport → List ℕ
+text_as Lines view names r = report_text names view.detail r
+text_as Json view names r = report_json names view.detail r
+
+-- a report as lines or as a JSON object
+abbrev pub view_text : Names → LogView → LogReport → List ℕ
+view_text names view r = text_as view.form view names r
+
+-- the report with the findings of some blocks alone, and the status of that
+abbrev pub SaysReport : List (List ℕ) → LogView → LogReport → Reply → Type 0
+SaysReport texts view r = Says (status_of (of_blocks view.blocks r)) (view_text (site_name texts) view (of_blocks view.blocks r))
+
 -- A LOG, whose files have these names and texts
 
 -- it is refused for its first fault of a task
@@ -57,20 +76,20 @@ pub record RefusesSize (texts : List (List ℕ)) (reply : Reply) : Type 0 where
   pub says : Says Trace (size_line cause) reply
 
 -- no task is at fault, and it is reported
-pub record Reports (texts : List (List ℕ)) (detail : Detail) (reply : Reply) : Type 0 where
+pub record Reports (texts : List (List ℕ)) (view : LogView) (reply : Reply) : Type 0 where
   pub tasks : LogTasks
   pub are : IsLog (events_of texts) (log_extent texts) tasks
-  pub report : Report
+  pub report : LogReport
   pub reported : IsReportOf texts tasks (is_cut texts) report
-  pub says : Says (status_of report) (report_text (site_name texts) detail report) reply
+  pub says : SaysReport texts view report reply
 
 -- what is written of a log without a faulty line
-abbrev pub ShowsTasks : List (List ℕ) → List (List ℕ) → Detail → Reply → Type 0
-ShowsTasks names texts detail reply = RefusesTask names texts reply ⊎ (RefusesSize texts reply ⊎ Reports texts detail reply)
+abbrev pub ShowsTasks : List (List ℕ) → List (List ℕ) → LogView → Reply → Type 0
+ShowsTasks names texts view reply = RefusesTask names texts reply ⊎ (RefusesSize texts reply ⊎ Reports texts view reply)
 
-abbrev pub ShowsFault : List (List ℕ) → List (List ℕ) → Detail → Option Found → Reply → Type 0
-ShowsFault names texts detail None = ShowsTasks names texts detail
-ShowsFault names texts detail (Some found) = Says Trace (line_refusal names found)
+abbrev pub ShowsFault : List (List ℕ) → List (List ℕ) → LogView → Option LocatedFault → Reply → Type 0
+ShowsFault names texts view None = ShowsTasks names texts view
+ShowsFault names texts view (Some found) = Says Trace (line_refusal names found)
 
-abbrev pub ShowsLog : List (List ℕ) → List (List ℕ) → Detail → Reply → Type 0
-ShowsLog names texts detail = ShowsFault names texts detail (log_fault texts)
+abbrev pub ShowsLog : List (List ℕ) → List (List ℕ) → LogView → Reply → Type 0
+ShowsLog names texts view = ShowsFault names texts view (log_fault texts)

@@ -2,18 +2,22 @@
 
 ghost use Rattle.std.specs.Prelude.{◌≡◌, IfOk};
 ghost use Rattle.whole_call.specs.Output.{Says};
-ghost use Rattle.log_sites.specs.Names.{site_name};
-ghost use Rattle.log_report.specs.Report.{report_text};
+ghost use Rattle.log_sites.specs.Names.{name_of, site_name};
+ghost use Rattle.log_replies.specs.Blocks.{of_blocks};
+ghost use Rattle.log_replies.specs.Shown.{view_text};
 ghost use Rattle.log_replies.specs.Status.{is_quiet, status_if_cut, status_of};
 
-use listed::Listed;
-use log_report::{Detail, Report, report_text};
-use log_sites::site_names;
+use crate::blocks::of_blocks;
+use log_json::report_json;
+use log_report::{LogReport, report_text};
+use log_request::{LogView, ReportForm};
+use log_sites::{SiteNames, site_names};
+use plain_vec::Listed;
 use std::alloc::{AllocError, Global};
 use whole_call::{AnswerStatus, Reply};
 
 // Whether nothing was found.
-fn is_quiet(report: &Report) -> bool
+fn is_quiet(report: &LogReport) -> bool
     ensures { result ≡ is_quiet report.now }
 {
     report.races.len() == 0
@@ -32,7 +36,7 @@ fn status_if_cut(left_out: Option<usize>) -> AnswerStatus
 }
 
 // The status of a report.
-fn status_of(report: &Report) -> AnswerStatus
+fn status_of(report: &LogReport) -> AnswerStatus
     ensures { result ≡ status_of report.now }
 {
     if is_quiet(report) {
@@ -42,16 +46,32 @@ fn status_of(report: &Report) -> AnswerStatus
     }
 }
 
-/// The report of a log, whose files have these texts.
+// The text of a report.
+fn view_text(
+    alloc: Global,
+    names: &SiteNames,
+    view: &LogView,
+    report: &LogReport,
+) -> Result<Vec<u8>, AllocError>
+    ensures { IfOk result (λ text. text.items ≡ view_text (name_of names.now) view.now report.now) }
+{
+    match view.form {
+        ReportForm::Lines => report_text(alloc, names, view.detail, report),
+        ReportForm::Json => report_json(alloc, names, view.detail, report),
+    }
+}
+
+/// What is shown of the report of a log, whose files have these texts.
 pub(crate) fn show_report(
     alloc: Global,
     texts: &[Listed<u8>],
-    detail: Detail,
-    report: &Report,
+    view: &LogView,
+    report: LogReport,
 ) -> Result<Reply, AllocError>
-    ensures { IfOk result (Says (status_of report.now) (report_text (site_name texts.now) detail report.now)) }
+    ensures { IfOk result (Says (status_of (of_blocks view.now.blocks report)) (view_text (site_name texts.now) view.now (of_blocks view.now.blocks report))) }
 {
+    let report = of_blocks(report, view.blocks.as_slice());
     let names = site_names(alloc, texts)?;
-    let text = report_text(alloc, &names, detail, report)?;
-    Ok(Reply::of_bytes(status_of(report), text))
+    let text = view_text(alloc, &names, view, &report)?;
+    Ok(Reply::of_bytes(status_of(&report), text))
 }

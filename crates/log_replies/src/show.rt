@@ -8,12 +8,12 @@ ghost use Rattle.log_replies.specs.Shown.{extent_of, log_extent, RefusesSize, Re
 
 use crate::report::show_report;
 use crate::size::size_refusal;
-use listed::Listed;
 use log_findings::{Extent, ReportError, report_log};
-use log_pieces::{CutLog, LogError, Piece, cut_log};
+use log_pieces::{CutLog, LogError, LogPiece, cut_log};
 use log_refusals::{line_refusal, task_refusal};
-use log_report::Detail;
+use log_request::LogView;
 use log_tasks::{LogTasks, TasksError, log_tasks};
+use plain_vec::Listed;
 use std::alloc::{AllocError, Global};
 use whole_call::Reply;
 
@@ -28,19 +28,19 @@ fn extent_of(is_cut: bool) -> Extent
 fn show_tasks(
     alloc: Global,
     texts: &[Listed<u8>],
-    pieces: &[Piece],
+    pieces: &[LogPiece],
     tasks: &LogTasks,
     cut: bool,
-    detail: Detail,
+    view: &LogView,
 ) -> Result<Reply, AllocError>
     requires whole { log_fault texts.now ≡ None }
     requires pieces { events_of_pieces texts.now pieces.now ≡ events_of texts.now }
     requires extent { cut ≡ is_cut texts.now }
     requires tasks { IsLog (events_of texts.now) (log_extent texts.now) tasks.now }
-    ensures { IfOk result (λ reply. RefusesSize texts.now reply ⊎ Reports texts.now detail reply) }
+    ensures { IfOk result (λ reply. RefusesSize texts.now reply ⊎ Reports texts.now view.now reply) }
 {
     match report_log(alloc, texts, pieces, tasks, cut) {
-        Ok(report) => show_report(alloc, texts, detail, &report),
+        Ok(report) => show_report(alloc, texts, view, report),
         Err(ReportError::NoMemory) => Err(AllocError),
         Err(cause) => size_refusal(alloc, cause),
     }
@@ -51,17 +51,17 @@ fn show_pieces(
     alloc: Global,
     names: &[String],
     texts: &[Listed<u8>],
-    pieces: &[Piece],
+    pieces: &[LogPiece],
     cut: bool,
-    detail: Detail,
+    view: &LogView,
 ) -> Result<Reply, AllocError>
     requires whole { log_fault texts.now ≡ None }
     requires pieces { events_of_pieces texts.now pieces.now ≡ events_of texts.now }
     requires extent { cut ≡ is_cut texts.now }
-    ensures { IfOk result (ShowsTasks (map string_bytes names.now) texts.now detail) }
+    ensures { IfOk result (ShowsTasks (map string_bytes names.now) texts.now view.now) }
 {
     match log_tasks(alloc, texts, pieces, extent_of(cut)) {
-        Ok(tasks) => show_tasks(alloc, texts, pieces, &tasks, cut, detail),
+        Ok(tasks) => show_tasks(alloc, texts, pieces, &tasks, cut, view),
         Err(TasksError::Refused(fault)) => task_refusal(alloc, names, texts, fault),
         Err(TasksError::NoMemory) => Err(AllocError),
     }
@@ -72,13 +72,13 @@ pub fn show_log(
     alloc: Global,
     names: &[String],
     texts: &[Listed<u8>],
-    detail: Detail,
+    view: &LogView,
 ) -> Result<Reply, AllocError>
-    ensures { IfOk result (ShowsLog (map string_bytes names.now) texts.now detail) }
+    ensures { IfOk result (ShowsLog (map string_bytes names.now) texts.now view.now) }
 {
     match cut_log(alloc, texts) {
         Ok(CutLog { pieces, is_cut }) => {
-            show_pieces(alloc, names, texts, pieces.as_slice(), is_cut, detail)
+            show_pieces(alloc, names, texts, pieces.as_slice(), is_cut, view)
         }
         Err(LogError::Refused(found)) => line_refusal(alloc, names, found),
         Err(LogError::NoMemory) => Err(AllocError),

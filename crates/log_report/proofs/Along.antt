@@ -1,15 +1,5 @@
 -- Along lists of races, uses and locations.
-use Rattle.std.proofs.Common.{◌≡◌, ◌∙◌, ◌<◌, ◌≤◌, ◌+◌, ◌-◌, ◌*◌, ◌^◌, ℕ, zero, suc, Bool, true, false, cond, List, [], ◌∷◌, ◌++◌, length, take, drop, drop-cons, add-one, get_or, refl, ap, sym, arith, append_assoc, append-nil}
-use Rattle.std.specs.Prelude.{sum_by}
-use Rattle.std.proofs.lemmas.List.{drop_all}
-use Rattle.std.proofs.lemmas.List.Sums.{sum_by_more}
-use Rattle.log_groups.specs.declared.item.Item.{Item}
-use Rattle.log_report.specs.declared.told.ToldRace.{ToldRace}
-use Rattle.log_report.specs.declared.told.ToldUse.{ToldUse}
-use Rattle.log_report.specs.Labels.{Names}
-use Rattle.log_report.specs.Races.{follows, run_end, race_item, race_items}
-use Rattle.log_report.specs.Locations.{location_line, lines_from}
-use Rattle.log_report.specs.Uses.{use_item, use_items}
+use Rattle.log_report.proofs.Common.{◌≡◌, ◌∙◌, ◌<◌, ◌≤◌, ◌+◌, ◌-◌, ◌*◌, ◌^◌, ℕ, zero, suc, Bool, true, false, cond, List, [], ◌∷◌, ◌++◌, length, take, drop, drop-cons, add-one, get_or, refl, ap, sym, arith, append_assoc, append-nil, sum_by, drop_all, sum_by_more, Item, ToldRace, ToldUse, Names, follows, run_end, race_item, race_items, location_line, lines_from, use_item, use_items}
 
 -- A RUN
 

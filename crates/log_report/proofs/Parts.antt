@@ -1,6 +1,5 @@
 -- Texts are made of their parts.
-use Rattle.std.proofs.Common.{◌≡◌, ◌++◌, ◌∷◌, ℕ, List, [], codes, append_assoc}
-use Rattle.std.specs.Fmt.{decimal}
+use Rattle.log_report.proofs.Common.{◌≡◌, ◌++◌, ◌∷◌, ℕ, List, [], codes, append_assoc, decimal}
 
 pub cost_is : (work span : ℕ) (quotient same : List ℕ) → quotient ≡ same
     → codes "work " ++ (decimal work ++ (codes " span " ++ (decimal span ++ (codes " parallelism " ++ (quotient ++ 10 ∷ []))))) ≡ codes "work " ++ decimal work ++ codes " span " ++ decimal span ++ codes " parallelism " ++ same ++ codes "\n"

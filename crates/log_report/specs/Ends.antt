@@ -1,7 +1,7 @@
 -- The last two lines of a report.
 use Rattle.std.specs.Prelude.{ℕ, ◌+◌, ◌*◌, ◌/◌, ◌%◌, ◌==◌, Option, Some, None, List, [], ◌++◌, codes, length, if◌then◌else◌}
 use Rattle.std.specs.Fmt.{decimal}
-use Rattle.log_report.specs.declared.told.Report.{Report}
+use Rattle.log_report.specs.declared.told.LogReport.{LogReport}
 use Rattle.log_report.specs.Told.{racing_locations}
 
 -- the hundredths of the quotient of work and span, rounded to the nearest, halves up; 1 where there is no work
@@ -23,6 +23,6 @@ left_text (Some n) = codes " cut " ++ decimal n
 abbrev pub counts_text : ℕ → ℕ → ℕ → ℕ → List ℕ
 counts_text races reads uses stale = codes "end: races " ++ decimal races ++ codes " reads " ++ decimal reads ++ codes " uses " ++ decimal uses ++ codes " stale " ++ decimal stale
 
-abbrev pub end_line : Report → List ℕ
+abbrev pub end_line : LogReport → List ℕ
 end_line r =
     counts_text (racing_locations r.races) (length r.entangled_reads) (length r.entangled_uses) (length r.stale_uses) ++ left_text r.left_out ++ codes "\n"

@@ -1,7 +1,7 @@
 -- What is written of a line.
 use Rattle.std.specs.Prelude.{ℕ, ◌+◌, Option, Some, None, List, [], ◌∷◌, ◌++◌, codes}
 use Rattle.std.specs.Fmt.{decimal}
-use Rattle.log_form.specs.declared.fault.Position.{Position}
+use Rattle.log_form.specs.declared.fault.LogPosition.{LogPosition}
 use Rattle.log_report.specs.declared.told.LineKind.{LineKind}
 use Rattle.log_report.specs.declared.told.LineKind.TheVariants.{Read, Write, AtomicRead, AtomicWrite, Release}
 use Rattle.log_report.specs.declared.told.Told.{Told}
@@ -27,7 +27,7 @@ site_text names None = []
 site_text names (Some site) = name_or_number (names site) site
 
 -- the number of the file, from 1, and that of the line in it
-abbrev pub line_text : Position → List ℕ
+abbrev pub line_text : LogPosition → List ℕ
 line_text at = codes " line " ++ decimal (at.file + 1) ++ codes ":" ++ decimal at.line
 
 abbrev pub label_text : Names → Told → List ℕ

@@ -4,4 +4,4 @@ pub mod Races
 pub mod Locations
 pub mod Uses
 pub mod Ends
-pub mod Report
+pub mod LogReport

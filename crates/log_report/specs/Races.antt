@@ -2,7 +2,7 @@
 use Rattle.std.specs.Prelude.{ℕ, ◌+◌, ◌-◌, ◌==◌, ◌&&◌, Bool, Option, Some, None, List, [], ◌∷◌, ◌++◌, codes, drop, slice_get, if◌then◌else◌}
 use Rattle.std.specs.List.{flat_map}
 use Rattle.std.specs.Fmt.{decimal}
-use Rattle.log_form.specs.declared.fault.Position.{Position}
+use Rattle.log_form.specs.declared.fault.LogPosition.{LogPosition}
 use Rattle.log_groups.specs.declared.item.GroupKey.{GroupKey}
 use Rattle.log_groups.specs.declared.item.Item.{Item}
 use Rattle.log_groups.specs.declared.item.Group.{Group}
@@ -13,7 +13,7 @@ use Rattle.log_report.specs.Labels.{Names, label_text}
 
 -- HOW MANY RACE ALIKE FROM A LOCATION ON
 
-abbrev pub same_line : Position → Position → Bool
+abbrev pub same_line : LogPosition → LogPosition → Bool
 same_line p q = (p.file == q.file) && (p.line == q.line)
 
 -- the second race is of the locations behind the first one's, and of the same two lines

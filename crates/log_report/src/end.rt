@@ -4,11 +4,11 @@ ghost use Rattle.std.specs.Prelude.{◌≡◌, ◌≤◌, ◌^◌, IfOk, sum_by,
 ghost use Rattle.log_report.specs.Told.{locations_of, racing_locations};
 ghost use Rattle.log_report.specs.Ends.{left_text, counts_text, end_line};
 
-use crate::told::{Report, ToldRace};
+use crate::told::{LogReport, ToldRace};
 use std::alloc::{AllocError, Global};
 
-// How many locations race.
-fn racing_locations(races: &[ToldRace]) -> u128
+/// How many locations race.
+pub fn racing_locations(races: &[ToldRace]) -> u128
     ensures { result ≡ racing_locations races.now }
 {
     let mut count = 0;
@@ -41,7 +41,7 @@ fn counts_text(
 }
 
 /// The end line of a report.
-pub(crate) fn end_line(alloc: Global, report: &Report) -> Result<String, AllocError>
+pub(crate) fn end_line(alloc: Global, report: &LogReport) -> Result<String, AllocError>
     ensures { IfOk result (λ text. string_bytes text ≡ end_line report.now) }
 {
     let counts = counts_text(

@@ -6,12 +6,12 @@ ghost use Rattle.log_sites.specs.Names.{name_of};
 ghost use Rattle.log_report.specs.Labels.{kind_word, site_text, line_text, label_text};
 
 use crate::told::{LineKind, Told};
-use log_form::Position;
+use log_form::LogPosition;
 use log_sites::SiteNames;
 use std::alloc::{AllocError, Global};
 
-// The word of a kind.
-fn kind_word(kind: LineKind) -> &'static str
+/// The word of a kind.
+pub fn kind_word(kind: LineKind) -> &'static str
     ensures { result.now ≡ kind_word kind }
 {
     match kind {
@@ -77,14 +77,14 @@ fn add_site(
 }
 
 // Where a line stands.
-fn line_text(alloc: Global, at: Position) -> Result<String, AllocError>
+fn line_text(alloc: Global, at: LogPosition) -> Result<String, AllocError>
     ensures { IfOk result (λ text. string_bytes text ≡ line_text at) }
 {
     format!(in alloc; " line {}:{}", at.file as u128 + 1, at.line)
 }
 
 /// Adds where a line stands.
-pub(crate) fn add_line(alloc: Global, text: &mut Vec<u8>, at: Position) -> Result<(), AllocError>
+pub(crate) fn add_line(alloc: Global, text: &mut Vec<u8>, at: LogPosition) -> Result<(), AllocError>
     ensures { OnOk result (text.new.items ≡ text.old.items ++ line_text at) }
 {
     let line = line_text(alloc, at)?;

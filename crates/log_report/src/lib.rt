@@ -11,6 +11,11 @@ mod report;
 mod told;
 mod uses;
 
+pub use cost::parallelism_text;
+pub use end::racing_locations;
+pub use label::kind_word;
 pub use order::in_order;
+pub use races::{race_groups, run_length};
 pub use report::{Detail, report_text};
-pub use told::{LineKind, Report, Told, ToldRace, ToldUse};
+pub use told::{LineKind, LogReport, Told, ToldRace, ToldUse};
+pub use uses::{UseFault, since_of, use_groups};

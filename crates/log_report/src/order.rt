@@ -5,7 +5,7 @@ ghost use Rattle.std.specs.List.Sorted.{IsPermutation, IsNonDecreasingBy};
 ghost use Rattle.log_report.specs.Told.{place_of};
 
 use crate::told::ToldRace;
-use listed::Listed;
+use plain_vec::Listed;
 
 // The place of a race's first location among those of all blocks.
 fn place_of(race: &ToldRace) -> u128

@@ -8,13 +8,13 @@ ghost use Rattle.log_report.specs.Races.{same_line, follows, run_end, run_length
 
 use crate::label::{add, add_label};
 use crate::told::{ToldRace, label_kind, label_site};
-use listed::Listed;
-use log_form::Position;
+use log_form::LogPosition;
 use log_groups::{Group, GroupKey, Item, group_items};
 use log_sites::SiteNames;
+use plain_vec::Listed;
 use std::alloc::{AllocError, Global};
 
-fn same_line(one: Position, other: Position) -> bool
+fn same_line(one: LogPosition, other: LogPosition) -> bool
     ensures { result ≡ same_line one other }
 {
     one.file == other.file && one.line == other.line
@@ -126,8 +126,8 @@ fn add_race(
     add(text, tail.as_str())
 }
 
-// How many locations race as the first one of a race does, from that one on.
-fn run_length(races: &[ToldRace], race: ToldRace, place: usize) -> u64
+/// How many locations race as the first one of a race does, from that one on.
+pub fn run_length(races: &[ToldRace], race: ToldRace, place: usize) -> u64
     requires { place < length races.now }
     ensures { result ≡ run_length races.now race place }
 {
@@ -154,6 +154,14 @@ fn add_group(
     }
 }
 
+/// The groups of races of one block, and of the same kinds and sites.
+pub fn race_groups(alloc: Global, races: &[ToldRace]) -> Result<Listed<Group>, AllocError>
+    ensures { IfOk result (λ groups. groups ≡ groups_of (race_items 0 races.now)) }
+{
+    let items = race_items(alloc, races)?;
+    group_items(alloc, items.as_slice())
+}
+
 /// Adds a line for each block and pair of kinds and sites.
 pub(crate) fn add_race_lines(
     alloc: Global,
@@ -163,8 +171,7 @@ pub(crate) fn add_race_lines(
 ) -> Result<(), AllocError>
     ensures { OnOk result (text.new.items ≡ text.old.items ++ race_lines (name_of names.now) races.now) }
 {
-    let items = race_items(alloc, races)?;
-    let groups = group_items(alloc, items.as_slice())?;
+    let groups = race_groups(alloc, races)?;
     add_groups(alloc, text, names, races, groups.as_slice())
 }
 

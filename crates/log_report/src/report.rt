@@ -2,14 +2,14 @@
 
 ghost use Rattle.std.specs.Prelude.{◌≡◌, ◌++◌, IfOk, OnOk};
 ghost use Rattle.log_sites.specs.Names.{name_of};
-ghost use Rattle.log_report.specs.Report.{races_text, uses_text, ends_text, report_text};
+ghost use Rattle.log_report.specs.LogReport.{races_text, uses_text, ends_text, report_text};
 
 use crate::cost::cost_line;
 use crate::end::end_line;
 use crate::label::add;
 use crate::locations::add_all_lines;
 use crate::races::add_race_lines;
-use crate::told::{Report, ToldRace};
+use crate::told::{LogReport, ToldRace};
 use crate::uses::{UseFault, add_use_lines};
 use log_sites::SiteNames;
 use std::alloc::{AllocError, Global};
@@ -44,7 +44,7 @@ fn add_uses(
     alloc: Global,
     text: &mut Vec<u8>,
     names: &SiteNames,
-    report: &Report,
+    report: &LogReport,
 ) -> Result<(), AllocError>
     ensures { OnOk result (text.new.items ≡ text.old.items ++ uses_text (name_of names.now) report.now) }
 {
@@ -57,7 +57,7 @@ fn add_uses(
 }
 
 // Adds the last two lines.
-fn add_ends(alloc: Global, text: &mut Vec<u8>, report: &Report) -> Result<(), AllocError>
+fn add_ends(alloc: Global, text: &mut Vec<u8>, report: &LogReport) -> Result<(), AllocError>
     ensures { OnOk result (text.new.items ≡ text.old.items ++ ends_text report.now) }
 {
     let cost = cost_line(alloc, report.work, report.span)?;
@@ -71,7 +71,7 @@ pub fn report_text(
     alloc: Global,
     names: &SiteNames,
     detail: Detail,
-    report: &Report,
+    report: &LogReport,
 ) -> Result<Vec<u8>, AllocError>
     ensures { IfOk result (λ text. text.items ≡ report_text (name_of names.now) detail report.now) }
 {

@@ -3,8 +3,8 @@
 ghost use Rattle.std.specs.Prelude.{◌≡◌};
 ghost use Rattle.log_report.specs.Told.{kind_number, label_kind, label_site};
 
-use listed::Listed;
-use log_form::Position;
+use log_form::LogPosition;
+use plain_vec::Listed;
 
 /// What a line does to locations.
 #[derive(Clone, Copy)]
@@ -23,7 +23,7 @@ pub struct Told {
     pub kind: LineKind,
     pub site: Option<u64>,
     /// The number of its file, from 0, and that of the line in it, from 1.
-    pub at: Position,
+    pub at: LogPosition,
 }
 
 /// The race of all locations of a block from `start` up to `end`. The first line comes earlier in serial order.
@@ -41,12 +41,12 @@ pub struct ToldRace {
 pub struct ToldUse {
     pub block: u64,
     pub line: Told,
-    pub other: Position,
+    pub other: LogPosition,
 }
 
 /// What is reported of a log.
 #[derive(Drop)]
-pub struct Report {
+pub struct LogReport {
     /// The races of stretches of locations.
     pub races: Listed<ToldRace>,
     pub entangled_reads: Listed<ToldUse>,

@@ -8,9 +8,9 @@ ghost use Rattle.log_report.specs.Uses.{use_key, use_item, use_items, what_of, s
 
 use crate::label::{add, add_label, add_line};
 use crate::told::{ToldUse, label_kind, label_site};
-use listed::Listed;
 use log_groups::{Group, GroupKey, Item, group_items};
 use log_sites::SiteNames;
+use plain_vec::Listed;
 use std::alloc::{AllocError, Global};
 
 /// What is wrong with uses of a block.
@@ -34,8 +34,8 @@ fn what_of(fault: UseFault) -> &'static str
     }
 }
 
-// What the other line does to the block.
-fn since_of(fault: UseFault) -> &'static str
+/// What the other line does to the block.
+pub fn since_of(fault: UseFault) -> &'static str
     ensures { result.now ≡ since_of fault }
 {
     match fault {
@@ -153,6 +153,14 @@ fn add_use_groups(
     Ok(())
 }
 
+/// The groups of uses of one block, and of the same kind and site.
+pub fn use_groups(alloc: Global, uses: &[ToldUse]) -> Result<Listed<Group>, AllocError>
+    ensures { IfOk result (λ groups. groups ≡ groups_of (use_items 0 uses.now)) }
+{
+    let items = use_items(alloc, uses)?;
+    group_items(alloc, items.as_slice())
+}
+
 /// Adds a line for each block, kind and site.
 pub(crate) fn add_use_lines(
     alloc: Global,
@@ -163,7 +171,6 @@ pub(crate) fn add_use_lines(
 ) -> Result<(), AllocError>
     ensures { OnOk result (text.new.items ≡ text.old.items ++ use_lines (name_of names.now) fault uses.now) }
 {
-    let items = use_items(alloc, uses)?;
-    let groups = group_items(alloc, items.as_slice())?;
+    let groups = use_groups(alloc, uses)?;
     add_use_groups(alloc, text, names, fault, uses, groups.as_slice())
 }

@@ -1,13 +1,5 @@
 -- The names that are known, line by line.
-use Rattle.std.proofs.Common.{◌≡◌, ◌∙◌, ◌<◌, ◌+◌, ◌==◌, ℕ, suc, Bool, true, false, cond, List, [], ◌∷◌, ◌++◌, length, drop, drop-cons, add-one, get_or, refl, ap, sym, subst, Option, Some, None, arith, nat_eq}
-use Rattle.std.specs.Prelude.{MatchOption, is_some}
-use Rattle.std.specs.List.{flat_map}
-use Rattle.std.proofs.lemmas.Bool.Decides.{nat_tests}
-use Rattle.std.proofs.lemmas.List.{drop_all}
-use Rattle.text_lines.specs.Lines.{is_last, lines_of}
-use Rattle.text_lines.proofs.Last.{some_line}
-use Rattle.log_form.specs.Text.{all_but_last, lines_in}
-use Rattle.log_sites.specs.Names.{or_name, name_in, first_name, given}
+use Rattle.log_sites.proofs.Common.{◌≡◌, ◌∙◌, ◌<◌, ◌+◌, ◌==◌, ℕ, suc, Bool, true, false, cond, List, [], ◌∷◌, ◌++◌, length, drop, drop-cons, add-one, get_or, refl, ap, sym, subst, Option, Some, None, arith, nat_eq, MatchOption, is_some, flat_map, nat_tests, drop_all, is_last, lines_of, some_line, all_but_last, lines_in, or_name, name_in, first_name, given}
 
 or_assoc : (a b c : Option (List ℕ)) → or_name (or_name a b) c ≡ or_name a (or_name b c)
 or_assoc None b c = refl
@@ -74,23 +66,23 @@ same_number a b e = grind (arith, nat_tests, e)
 module _ (F : ℕ → Option (List ℕ)) (site : ℕ) (name : List ℕ) where
   -- a site that has a name keeps it
   pub name_kept : is_some (F site) ≡ true → (s : ℕ) → F s ≡ or_name (F s) (given site name s)
-  name_kept some s = by (site == s) refl
+  name_kept some s = name_kept_by_cases (site == s) refl
     where
       kept : (o : Option (List ℕ)) (later : Option (List ℕ)) → is_some o ≡ true → o ≡ or_name o later
       kept (Some n) later e = refl
       kept None later e = absurd (let z : false ≡ true = e in cc)
 
-      by : (b : Bool) → (site == s) ≡ b → F s ≡ or_name (F s) (cond b (Some name) None)
-      by true e = kept (F s) (Some name) (ap (λ t. is_some (F t)) (sym (same_number site s e)) ∙ some)
-      by false e = or_none (F s)
+      name_kept_by_cases : (b : Bool) → (site == s) ≡ b → F s ≡ or_name (F s) (cond b (Some name) None)
+      name_kept_by_cases true e = kept (F s) (Some name) (ap (λ t. is_some (F t)) (sym (same_number site s e)) ∙ some)
+      name_kept_by_cases false e = or_none (F s)
 
   pub name_put : is_some (F site) ≡ false → (s : ℕ) → cond (site == s) (Some name) (F s) ≡ or_name (F s) (given site name s)
-  name_put none s = by (site == s) refl
+  name_put none s = name_put_by_cases (site == s) refl
     where
       put : (o : Option (List ℕ)) → is_some o ≡ false → Some name ≡ or_name o (Some name)
       put None e = refl
       put (Some n) e = absurd (let z : true ≡ false = e in cc)
 
-      by : (b : Bool) → (site == s) ≡ b → cond b (Some name) (F s) ≡ or_name (F s) (cond b (Some name) None)
-      by true e = put (F s) (ap (λ t. is_some (F t)) (sym (same_number site s e)) ∙ none)
-      by false e = or_none (F s)
+      name_put_by_cases : (b : Bool) → (site == s) ≡ b → cond b (Some name) (F s) ≡ or_name (F s) (cond b (Some name) None)
+      name_put_by_cases true e = put (F s) (ap (λ t. is_some (F t)) (sym (same_number site s e)) ∙ none)
+      name_put_by_cases false e = or_none (F s)

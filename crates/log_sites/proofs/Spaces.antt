@@ -1,7 +1,5 @@
 -- What stands behind the first space.
-use Rattle.std.proofs.Common.{◌≡◌, ◌∙◌, ◌<◌, ◌+◌, ◌==◌, ℕ, suc, Bool, true, false, cond, List, [], ◌∷◌, length, drop, drop-cons, add-one, get_or, refl, ap, sym, arith}
-use Rattle.std.proofs.lemmas.List.{drop_all}
-use Rattle.log_sites.specs.Names.{behind_space}
+use Rattle.log_sites.proofs.Common.{◌≡◌, ◌∙◌, ◌<◌, ◌+◌, ◌==◌, ℕ, suc, Bool, true, false, cond, List, [], ◌∷◌, length, drop, drop-cons, add-one, get_or, refl, ap, sym, arith, drop_all, behind_space}
 
 module _ (text : List ℕ) (i : ℕ) (lt : i < length text) where
   next : (b : Bool) → (get_or text i 0 == 32) ≡ b → behind_space (drop i text) ≡ cond b (drop (i + 1) text) (behind_space (drop (i + 1) text))

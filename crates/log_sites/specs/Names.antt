@@ -2,9 +2,9 @@
 use Rattle.std.specs.Prelude.{ℕ, ◌==◌, Bool, Option, Some, None, Result, Ok, Err, List, [], ◌∷◌, nat_eq, if◌then◌else◌}
 use Rattle.std.specs.List.{flat_map}
 use Rattle.std.specs.HashMap.{get}
-use Rattle.log_lines.specs.declared.cause.Cause.{Cause}
-use Rattle.log_lines.specs.declared.line.Line.{Line}
-use Rattle.log_lines.specs.declared.line.Line.TheVariants as lines
+use Rattle.log_lines.specs.declared.cause.LogCause.{LogCause}
+use Rattle.log_lines.specs.declared.line.LogLine.{LogLine}
+use Rattle.log_lines.specs.declared.line.LogLine.TheVariants as lines
 use Rattle.log_lines.specs.Grammar.{line_of}
 use Rattle.log_form.specs.Text.{lines_in}
 use Rattle.log_sites.specs.declared.names.SiteNames.{SiteNames}
@@ -19,7 +19,7 @@ abbrev pub name_text : List ℕ → List ℕ
 name_text line = behind_space (behind_space line)
 
 -- the site that a line names
-abbrev pub site_of_said : Result Line Cause → Option ℕ
+abbrev pub site_of_said : Result LogLine LogCause → Option ℕ
 site_of_said (Ok (lines.Name site)) = Some site
 site_of_said (Ok lines.Version) = None
 site_of_said (Ok (lines.Strand t i)) = None

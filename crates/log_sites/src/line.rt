@@ -4,7 +4,7 @@ ghost use Rattle.std.specs.Prelude.{◌≡◌, Some, option_map};
 ghost use Rattle.log_lines.specs.Grammar.{line_of};
 ghost use Rattle.log_sites.specs.Names.{behind_space, name_text, site_of_said, site_in};
 
-use log_lines::{Cause, Line, read_line};
+use log_lines::{LogCause, LogLine, read_line};
 
 // What stands behind the first space of a text.
 fn behind_space(text: &[u8]) -> &[u8]
@@ -25,16 +25,16 @@ pub(crate) fn name_text(line: &[u8]) -> &[u8]
     behind_space(behind_space(line))
 }
 
-fn site_of_said(said: Result<Line, Cause>) -> Option<u64>
+fn site_of_said(said: Result<LogLine, LogCause>) -> Option<u64>
     ensures { result ≡ site_of_said said }
 {
     match said {
-        Ok(Line::Name(site)) => Some(site),
-        Ok(Line::Version) => None,
-        Ok(Line::Strand { .. }) => None,
-        Ok(Line::Act(_)) => None,
-        Ok(Line::Comment) => None,
-        Ok(Line::End) => None,
+        Ok(LogLine::Name(site)) => Some(site),
+        Ok(LogLine::Version) => None,
+        Ok(LogLine::Strand { .. }) => None,
+        Ok(LogLine::Act(_)) => None,
+        Ok(LogLine::Comment) => None,
+        Ok(LogLine::End) => None,
         Err(_) => None,
     }
 }

@@ -1,39 +1,23 @@
 -- The places of strands, one more of which is noted.
-use Rattle.std.proofs.Common.{◌≡◌, ◌<◌, ◌≤◌, ◌+◌, ◌==◌, ◌++◌, ◌∷◌, ◌∙◌, ◌⊎◌, inl, inr, ℕ, zero, suc, Bool, true, false, List, [], length, get_or, take, refl, sym, ap, subst, Option, Some, None, slice_get, arith}
-use Rattle.std.specs.Prelude.{if◌then◌else◌}
-use Rattle.std.proofs.lemmas.List.{take_more, take_all, length-take-le}
-use Rattle.std.proofs.lemmas.Bool.Decides.{nat_tests}
-use Rattle.std.proofs.lemmas.Option.{get_or_from_slice_get}
-use Rattle.listed.proofs.Members.{got_front, got_within}
-use Rattle.listed.proofs.Places.{got_last, got_more}
-use Rattle.fork_graph.specs.declared.graph.Strand.{Strand}
-use Rattle.fork_graph.specs.Graph.{strand}
-use Rattle.log_pieces.specs.Claims.{is_that}
-use Rattle.log_pieces.specs.declared.piece.Piece.{Piece}
-use Rattle.log_tasks.specs.declared.tasks.LogTasks.{LogTasks}
-use Rattle.log_tasks.specs.Numbers.{log_strand}
-use Rattle.log_tasks.proofs.Puts.{and_left, and_right, number_same}
-use Rattle.log_strands.specs.declared.places.PlaceTable.{PlaceTable}
-use Rattle.log_strands.specs.Places.{is_known, StandsAt, IsPlaceOf}
-use Rattle.log_strands.specs.Table.{Knows, place_told, noted_if}
+use Rattle.log_strands.proofs.Common.{◌≡◌, ◌<◌, ◌≤◌, ◌+◌, ◌==◌, ◌++◌, ◌∷◌, ◌∙◌, ◌⊎◌, inl, inr, ℕ, zero, suc, Bool, true, false, List, [], length, get_or, take, refl, sym, ap, subst, Option, Some, None, slice_get, arith, if◌then◌else◌, take_more, take_all, length-take-le, nat_tests, get_or_from_slice_get, got_front, got_within, got_last, got_more, GraphStrand, strand, is_that, LogPiece, LogTasks, log_strand, and_left, and_right, number_same, PlaceTable, is_known, StandsAt, IsPlaceOf, Knows, place_told, noted_if}
 
 -- THE SAME STRAND
 
-pub that_is : (u v : Strand) → is_that u v.task v.index ≡ true → u ≡ v
+pub that_is : (u v : GraphStrand) → is_that u v.task v.index ≡ true → u ≡ v
 that_is u v e =
     let task : u.task ≡ v.task = number_same u.task v.task (and_left (u.task == v.task) (u.index == v.index) e) in
     let index : u.index ≡ v.index = number_same u.index v.index (and_right (u.task == v.task) (u.index == v.index) e) in
     ap (λ (t : ℕ). strand t u.index) task ∙ ap (strand v.task) index
 
-same_is_that : (u : Strand) → is_that u u.task u.index ≡ true
+same_is_that : (u : GraphStrand) → is_that u u.task u.index ≡ true
 same_is_that u = grind (arith, nat_tests)
 
-pub not_that : (u v : Strand) → is_that u v.task v.index ≡ false → u ≡ v → ⊥
-not_that u v e same = (let z : true ≡ false = sym (same_is_that u) ∙ ap (λ (w : Strand). is_that u w.task w.index) same ∙ e in cc)
+pub not_that : (u v : GraphStrand) → is_that u v.task v.index ≡ false → u ≡ v → ⊥
+not_that u v e same = (let z : true ≡ false = sym (same_is_that u) ∙ ap (λ (w : GraphStrand). is_that u w.task w.index) same ∙ e in cc)
 
 -- AN ORDER WITH ONE STRAND MORE
 
-module _ (log : LogTasks) (xs : List Strand) (u s : Strand) where
+module _ (log : LogTasks) (xs : List GraphStrand) (u s : GraphStrand) where
   stands_still : (p : ℕ) → StandsAt log xs s p → StandsAt log (xs ++ u ∷ []) s p
   stands_still p h = record { strand = h.strand; at = got_front xs (u ∷ []) p (got_within xs p h.strand h.at) ∙ h.at; known = h.known; is = h.is }
 
@@ -41,11 +25,11 @@ module _ (log : LogTasks) (xs : List Strand) (u s : Strand) where
   still_place None h back = λ p there. h p (back p there)
   still_place (Some p) h back = stands_still p h
 
-  stood_before : (p : ℕ) (v : Strand) → ((u ≡ v) → ⊥) → is_known log v ≡ true → log_strand log.numbers v ≡ s → (slice_get xs p ≡ Some v) ⊎ ((p ≡ length xs) × (u ≡ v)) → StandsAt log xs s p
+  stood_before : (p : ℕ) (v : GraphStrand) → ((u ≡ v) → ⊥) → is_known log v ≡ true → log_strand log.numbers v ≡ s → (slice_get xs p ≡ Some v) ⊎ ((p ≡ length xs) × (u ≡ v)) → StandsAt log xs s p
   stood_before p v other known is (inl at) = record { strand = v; at = at; known = known; is = is }
   stood_before p v other known is (inr new) = absurd (other new.1)
 
-  back_by : (other : (v : Strand) → is_known log v ≡ true → log_strand log.numbers v ≡ s → u ≡ v → ⊥) (p : ℕ) → StandsAt log (xs ++ u ∷ []) s p → StandsAt log xs s p
+  back_by : (other : (v : GraphStrand) → is_known log v ≡ true → log_strand log.numbers v ≡ s → u ≡ v → ⊥) (p : ℕ) → StandsAt log (xs ++ u ∷ []) s p → StandsAt log xs s p
   back_by other p h = stood_before p h.strand (other h.strand h.known h.is) h.known h.is (got_more xs u h.strand p h.at)
 
   noted_by : (known that : Bool) → is_known log u ≡ known → is_that (log_strand log.numbers u) s.task s.index ≡ that → (old : Option ℕ) → IsPlaceOf log xs s old
@@ -54,46 +38,46 @@ module _ (log : LogTasks) (xs : List Strand) (u s : Strand) where
   noted_by true false k t old h = still_place old h (back_by (λ v known is same. not_that (log_strand log.numbers u) s t (ap (log_strand log.numbers) same ∙ is)))
   noted_by false that k t old h = still_place old h (back_by (λ v known is same. (let z : true ≡ false = sym known ∙ ap (is_known log) (sym same) ∙ k in cc)))
 
-as_noted : (known : Bool) (table : PlaceTable) (s : Strand) (place t i : ℕ) → noted_if known table s place t i ≡ (if known then (if is_that s t i then Some place else place_told table t i) else place_told table t i)
+as_noted : (known : Bool) (table : PlaceTable) (s : GraphStrand) (place t i : ℕ) → noted_if known table s place t i ≡ (if known then (if is_that s t i then Some place else place_told table t i) else place_told table t i)
 as_noted true table s place t i = refl
 as_noted false table s place t i = refl
 
 -- the strand at the next place was taken
-pub place_more : (log : LogTasks) (order : List Strand) (n : ℕ) (d : Strand) (old new : PlaceTable) → n < length order
+pub place_more : (log : LogTasks) (order : List GraphStrand) (n : ℕ) (d : GraphStrand) (old new : PlaceTable) → n < length order
     → ((t i : ℕ) → IsPlaceOf log (take n order) (strand t i) (place_told old t i))
     → ((t i : ℕ) → place_told new t i ≡ noted_if (is_known log (get_or order n d)) old (log_strand log.numbers (get_or order n d)) n t i)
     → (t i : ℕ) → IsPlaceOf log (take (n + 1) order) (strand t i) (place_told new t i)
 place_more log order n d old new lt h e t i =
     let u = get_or order n d in
     let size : length (take n order) ≡ n = length-take-le n order (omega (arith, lt)) in
-    subst (λ (xs : List Strand). IsPlaceOf log xs (strand t i) (place_told new t i)) (sym (take_more order n d lt))
+    subst (λ (xs : List GraphStrand). IsPlaceOf log xs (strand t i) (place_told new t i)) (sym (take_more order n d lt))
     (subst (λ (o : Option ℕ). IsPlaceOf log (take n order ++ u ∷ []) (strand t i) o)
     (sym (e t i ∙ as_noted (is_known log u) old (log_strand log.numbers u) n t i ∙ ap (λ (k : ℕ). if is_known log u then (if is_that (log_strand log.numbers u) t i then Some k else place_told old t i) else place_told old t i) (sym size)))
     (noted_by log (take n order) u (strand t i) (is_known log u) (is_that (log_strand log.numbers u) t i) refl refl (place_told old t i) (h t i)))
 
 -- and so were all
-pub all_places : (log : LogTasks) (order : List Strand) (n : ℕ) (table : PlaceTable) → length order ≤ n → ((t i : ℕ) → IsPlaceOf log (take n order) (strand t i) (place_told table t i))
+pub all_places : (log : LogTasks) (order : List GraphStrand) (n : ℕ) (table : PlaceTable) → length order ≤ n → ((t i : ℕ) → IsPlaceOf log (take n order) (strand t i) (place_told table t i))
     → (t i : ℕ) → IsPlaceOf log order (strand t i) (place_told table t i)
-all_places log order n table le h t i = subst (λ (xs : List Strand). IsPlaceOf log xs (strand t i) (place_told table t i)) (take_all n order le) (h t i)
+all_places log order n table le h t i = subst (λ (xs : List GraphStrand). IsPlaceOf log xs (strand t i) (place_told table t i)) (take_all n order le) (h t i)
 
 -- PIECES
 
-abbrev pub AreFirst : LogTasks → List Strand → List Piece → List (Option ℕ) → Type 0
-AreFirst log order pieces places = (k : ℕ) (p : Piece) (place : Option ℕ) → slice_get pieces k ≡ Some p → slice_get places k ≡ Some place → IsPlaceOf log order p.strand place
+abbrev pub AreFirst : LogTasks → List GraphStrand → List LogPiece → List (Option ℕ) → Type 0
+AreFirst log order pieces places = (k : ℕ) (p : LogPiece) (place : Option ℕ) → slice_get pieces k ≡ Some p → slice_get places k ≡ Some place → IsPlaceOf log order p.strand place
 
 -- the place of the next piece's strand was added
-pub first_more : (log : LogTasks) (order : List Strand) (table : PlaceTable) (pieces : List Piece) (places new : List (Option ℕ)) (n : ℕ) (d : Piece) (place : Option ℕ) → Knows table log order
+pub first_more : (log : LogTasks) (order : List GraphStrand) (table : PlaceTable) (pieces : List LogPiece) (places new : List (Option ℕ)) (n : ℕ) (d : LogPiece) (place : Option ℕ) → Knows table log order
     → place ≡ place_told table (get_or pieces n d).strand.task (get_or pieces n d).strand.index → length places ≡ n → new ≡ places ++ place ∷ [] → AreFirst log order pieces places → AreFirst log order pieces new
 first_more log order table pieces places new n d place knows is count pushed each k p other gp gn = by_place (got_more places place other k (sym (ap (λ (xs : List (Option ℕ)). slice_get xs k) pushed) ∙ gn))
   where
-    here : IsPlaceOf log order (get_or pieces n d).strand place
-    here = subst (λ (o : Option ℕ). IsPlaceOf log order (get_or pieces n d).strand o) (sym is) (knows (get_or pieces n d).strand.task (get_or pieces n d).strand.index)
+    first_more_here : IsPlaceOf log order (get_or pieces n d).strand place
+    first_more_here = subst (λ (o : Option ℕ). IsPlaceOf log order (get_or pieces n d).strand o) (sym is) (knows (get_or pieces n d).strand.task (get_or pieces n d).strand.index)
 
     by_place : (slice_get places k ≡ Some other) ⊎ ((k ≡ length places) × (place ≡ other)) → IsPlaceOf log order p.strand other
     by_place (inl old) = each k p other gp old
     by_place (inr last) =
         let same : get_or pieces n d ≡ p = get_or_from_slice_get pieces n p d (sym (ap (slice_get pieces) (last.0 ∙ count)) ∙ gp) in
-        subst (λ (o : Option ℕ). IsPlaceOf log order p.strand o) last.1 (subst (λ (q : Piece). IsPlaceOf log order q.strand place) same here)
+        subst (λ (o : Option ℕ). IsPlaceOf log order p.strand o) last.1 (subst (λ (q : LogPiece). IsPlaceOf log order q.strand place) same first_more_here)
 
 -- NUMBERS
 

@@ -1,3 +1,3 @@
--- What crates above name of the crates below.
+-- Re-exports from lower crates for the crates above.
 pub mod log_lines
 pub mod log_form

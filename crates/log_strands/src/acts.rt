@@ -3,10 +3,10 @@
 ghost use Rattle.std.specs.Prelude.{◌≡◌, ◌<◌, ◌≤◌, ◌+◌, ◌^◌, ◌∷◌, [], length, IfSome, MatchOption};
 ghost use Rattle.log_pieces.specs.Pieces.{acts_in, events_of_pieces};
 
-use listed::Listed;
 use log_lines::Act;
-use log_pieces::Piece;
+use log_pieces::LogPiece;
 use log_tasks::{act_in, piece_text};
+use plain_vec::Listed;
 use text_lines::next_line;
 
 /// The first act that a text says, and what follows its line.
@@ -51,7 +51,7 @@ fn count_on(before: u32, text: &[u8]) -> Option<u32>
 }
 
 /// How many acts pieces say, if there are fewer than 2^32.
-pub fn count_acts(texts: &[Listed<u8>], pieces: &[Piece]) -> Option<u32>
+pub fn count_acts(texts: &[Listed<u8>], pieces: &[LogPiece]) -> Option<u32>
     ensures { MatchOption result (2 ^ 32 ≤ length (events_of_pieces texts.now pieces.now)) (λ count. count ≡ length (events_of_pieces texts.now pieces.now)) }
 {
     let mut count = 0;

@@ -2,18 +2,18 @@
 
 ghost use Rattle.std.specs.Prelude.{◌≡◌, ℕ, IfOk, OnOk};
 ghost use Rattle.log_tasks.specs.Numbers.{log_strand};
-ghost use Rattle.log_strands.specs.Places.{is_known, ArePlaces};
+ghost use Rattle.log_strands.specs.Places.{is_known, ArePiecePlaces};
 ghost use Rattle.log_strands.specs.Table.{Knows, place_told, noted, noted_if};
 
-use fork_graph::Strand;
-use listed::Listed;
-use log_pieces::Piece;
+use fork_graph::GraphStrand;
+use log_pieces::LogPiece;
 use log_tasks::LogTasks;
+use plain_vec::Listed;
 use std::alloc::{AllocError, Global};
 use std::collections::HashMap;
 
 /// Whether the log tells how the strand's task came to it.
-pub fn is_known(log: &LogTasks, strand: Strand) -> bool
+pub fn is_known(log: &LogTasks, strand: GraphStrand) -> bool
     ensures { result ≡ is_known log.now strand }
 {
     match log.known.get(strand.task as usize) {
@@ -23,15 +23,15 @@ pub fn is_known(log: &LogTasks, strand: Strand) -> bool
 }
 
 /// The strand as the log has it.
-pub fn strand_in_log(log: &LogTasks, strand: Strand) -> Strand
+pub fn strand_in_log(log: &LogTasks, strand: GraphStrand) -> GraphStrand
     ensures { result ≡ log_strand log.now.numbers strand }
 {
     match log.numbers.get(strand.task as usize) {
-        Some(number) => Strand {
+        Some(number) => GraphStrand {
             task: *number,
             index: strand.index,
         },
-        None => Strand {
+        None => GraphStrand {
             task: 0,
             index: strand.index,
         },
@@ -46,7 +46,7 @@ pub(crate) struct PlaceTable {
 
 impl PlaceTable {
     // A strand of the log stands at a place.
-    fn note(&mut self, strand: Strand, place: usize) -> Result<(), AllocError>
+    fn note(&mut self, strand: GraphStrand, place: usize) -> Result<(), AllocError>
         ensures { OnOk result ((t i : ℕ) → place_told self.new t i ≡ noted self.old strand place t i) }
     {
         self.places.insert((strand.task, strand.index), place)?;
@@ -54,7 +54,7 @@ impl PlaceTable {
     }
 
     // The strand of the graph at a place is noted, if it is known.
-    fn take(&mut self, log: &LogTasks, strand: Strand, place: usize) -> Result<(), AllocError>
+    fn take(&mut self, log: &LogTasks, strand: GraphStrand, place: usize) -> Result<(), AllocError>
         ensures { OnOk result ((t i : ℕ) → place_told self.new t i ≡ noted_if (is_known log.now strand) self.old (log_strand log.now.numbers strand) place t i) }
     {
         if !is_known(log, strand) {
@@ -64,7 +64,7 @@ impl PlaceTable {
     }
 
     // The place of a strand of the log.
-    fn place(&self, strand: Strand) -> Option<usize>
+    fn place(&self, strand: GraphStrand) -> Option<usize>
         ensures { result ≡ place_told self.now strand.task strand.index }
     {
         self.places.get(&(strand.task, strand.index)).copied()
@@ -72,7 +72,7 @@ impl PlaceTable {
 }
 
 // The places of all strands of an order.
-fn table_of(alloc: Global, log: &LogTasks, order: &[Strand]) -> Result<PlaceTable, AllocError>
+fn table_of(alloc: Global, log: &LogTasks, order: &[GraphStrand]) -> Result<PlaceTable, AllocError>
     ensures { IfOk result (λ table. Knows table log.now order.now) }
 {
     let mut table = PlaceTable {
@@ -89,10 +89,10 @@ fn table_of(alloc: Global, log: &LogTasks, order: &[Strand]) -> Result<PlaceTabl
 pub fn piece_places(
     alloc: Global,
     log: &LogTasks,
-    order: &[Strand],
-    pieces: &[Piece],
+    order: &[GraphStrand],
+    pieces: &[LogPiece],
 ) -> Result<Listed<Option<usize>>, AllocError>
-    ensures { IfOk result (ArePlaces log.now order.now pieces.now) }
+    ensures { IfOk result (ArePiecePlaces log.now order.now pieces.now) }
 {
     let table = table_of(alloc, log, order)?;
     let mut places = Listed::new(alloc);

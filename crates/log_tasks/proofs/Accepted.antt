@@ -1,44 +1,28 @@
 -- What every act of a log without a faulty line keeps holds of all that happens in it.
-use Rattle.std.proofs.Common.{◌≡◌, ◌+◌, ◌++◌, ◌∷◌, ◌⊎◌, inl, inr, ℕ, Bool, true, false, List, [], length, refl, sym, ap, subst, ◌∙◌, Option, Some, None, Result, Ok, Err, slice_get, arith}
-use Rattle.std.specs.List.{list_any}
-use Rattle.std.proofs.lemmas.Bool.Decides.{nat_tests}
-use Rattle.std.proofs.lemmas.Option.{same_Some}
-use Rattle.listed.specs.Members.{In}
-use Rattle.listed.proofs.Members.{got_in, any_from_in}
-use Rattle.listed.proofs.Places.{got_more}
-use Rattle.log_lines.specs.declared.cause.Cause.{Cause}
-use Rattle.log_lines.specs.declared.line.Act.{Act}
+use Rattle.log_tasks.proofs.Common.{◌≡◌, ◌+◌, ◌++◌, ◌∷◌, ◌⊎◌, inl, inr, ℕ, Bool, true, false, List, [], length, refl, sym, ap, subst, ◌∙◌, Option, Some, None, Result, Ok, Err, slice_get, arith, list_any, nat_tests, same_Some, In, got_in, any_from_in, got_more, LogCause, Act, LogLine, line_of, GraphStrand, LogFault, LocatedFault, lines_in, Event, event, Spot, has_ended, spot_behind_act, spot_behind_said, spot_behind_all, file_begin, file_end, events_behind, events_of, bears, releases, is_born, is_released, where_true, claim_fault, act_fault, said_fault, line_fault, first_fault, found_at, fault_from, fault_of_lines, or_later, fault_behind, log_fault}
 use Rattle.log_lines.specs.declared.line.Act.TheVariants as acts
-use Rattle.log_lines.specs.declared.line.Line.{Line}
-use Rattle.log_lines.specs.declared.line.Line.TheVariants as lines
-use Rattle.log_lines.specs.Grammar.{line_of}
-use Rattle.fork_graph.specs.declared.graph.Strand.{Strand}
-use Rattle.log_form.specs.declared.fault.Fault.{Fault}
-use Rattle.log_form.specs.declared.fault.Fault.TheVariants as faults
-use Rattle.log_form.specs.declared.fault.Found.{Found}
-use Rattle.log_form.specs.Text.{lines_in}
-use Rattle.log_form.specs.Events.{Event, event, Spot, has_ended, spot_behind_act, spot_behind_said, spot_behind_all, file_begin, file_end, events_behind, events_of}
-use Rattle.log_form.specs.Faults.{bears, releases, is_born, is_released, where_true, claim_fault, act_fault, said_fault, line_fault, first_fault, found_at, fault_from, fault_of_lines, or_later, fault_behind, log_fault}
+use Rattle.log_lines.specs.declared.line.LogLine.TheVariants as lines
+use Rattle.log_form.specs.declared.fault.LogFault.TheVariants as faults
 
 -- FAULTS THAT AREN'T THERE
 
 pub no_some : {A : Type 0} (x : A) → Some x ≡ None → ⊥
 no_some x e = cc
 
-pub not_true : (b : Bool) (f : Fault) (o : Option Fault) → where_true b f o ≡ None → (b ≡ false) × (o ≡ None)
+pub not_true : (b : Bool) (f : LogFault) (o : Option LogFault) → where_true b f o ≡ None → (b ≡ false) × (o ≡ None)
 not_true true f o e = absurd (no_some f e)
 not_true false f o e = (refl, e)
 
-not_found : (file line : ℕ) (f : Option Fault) (later : Option Found) → found_at file line f later ≡ None → (f ≡ None) × (later ≡ None)
+not_found : (file line : ℕ) (f : Option LogFault) (later : Option LocatedFault) → found_at file line f later ≡ None → (f ≡ None) × (later ≡ None)
 not_found file line None later e = (refl, e)
 not_found file line (Some f) later e = absurd (no_some _ e)
 
-not_sooner : (a b : Option Found) → or_later a b ≡ None → (a ≡ None) × (b ≡ None)
+not_sooner : (a b : Option LocatedFault) → or_later a b ≡ None → (a ≡ None) × (b ≡ None)
 not_sooner None b e = (refl, e)
 not_sooner (Some x) b e = absurd (no_some x e)
 
 -- the first line is passed over
-first_passed : (spot : Spot) (said : Result Line Cause) → first_fault said ≡ None → spot_behind_said spot said ≡ spot
+first_passed : (spot : Spot) (said : Result LogLine LogCause) → first_fault said ≡ None → spot_behind_said spot said ≡ spot
 first_passed spot (Err cause) e = refl
 first_passed spot (Ok lines.Version) e = refl
 first_passed spot (Ok (lines.Act act)) e = absurd (no_some _ e)
@@ -49,13 +33,13 @@ first_passed spot (Ok lines.End) e = absurd (no_some _ e)
 
 -- WHAT IS KEPT
 
-module _ (Q : List Event → Type 0) (step : (before : List Event) (u : Strand) (act : Act) → claim_fault before u act ≡ None → Q before → Q (before ++ event u act ∷ [])) where
-  kept_act : (spot : Spot) (here : Option Strand) (act : Act) → act_fault spot.events here act ≡ None → Q spot.events → Q (spot_behind_act spot here act).events
+module _ (Q : List Event → Type 0) (step : (before : List Event) (u : GraphStrand) (act : Act) → claim_fault before u act ≡ None → Q before → Q (before ++ event u act ∷ [])) where
+  kept_act : (spot : Spot) (here : Option GraphStrand) (act : Act) → act_fault spot.events here act ≡ None → Q spot.events → Q (spot_behind_act spot here act).events
   kept_act spot None act e q = absurd (no_some _ e)
   kept_act spot (Some u) act e q = step spot.events u act (not_true (has_ended spot.events u) faults.StrandEnded (claim_fault spot.events u act) e).1 q
 
   -- a line
-  kept_said : (spot : Spot) (said : Result Line Cause) → said_fault spot said ≡ None → Q spot.events → Q (spot_behind_said spot said).events
+  kept_said : (spot : Spot) (said : Result LogLine LogCause) → said_fault spot said ≡ None → Q spot.events → Q (spot_behind_said spot said).events
   kept_said spot (Err cause) e q = q
   kept_said spot (Ok lines.Version) e q = q
   kept_said spot (Ok (lines.Act act)) e q = kept_act spot spot.here act e q
@@ -106,7 +90,7 @@ module _ (test : Act → Bool) (before : List Event) (x : Event) (fresh : test x
       by_places (inr a) (inl b) = absurd (not_again n f b tf (ap (λ (y : Event). test y.act) a.1 ∙ te))
       by_places (inr a) (inr b) = a.0 ∙ sym b.0
 
-born_fresh : (b : ℕ) (before : List Event) (u : Strand) (act : Act) → claim_fault before u act ≡ None → bears b act ≡ true → is_born before b ≡ false
+born_fresh : (b : ℕ) (before : List Event) (u : GraphStrand) (act : Act) → claim_fault before u act ≡ None → bears b act ≡ true → is_born before b ≡ false
 born_fresh b before u (acts.Birth d l) e s =
     let same : d ≡ b = grind (arith, nat_tests, s) in
     subst (λ (n : ℕ). is_born before n ≡ false) same (not_true (is_born before d) faults.BornTwice None e).0
@@ -119,7 +103,7 @@ born_fresh b before u (acts.Spawn d) e s = absurd (cc)
 born_fresh b before u (acts.Join d) e s = absurd (cc)
 born_fresh b before u acts.Finish e s = absurd (cc)
 
-released_fresh : (b : ℕ) (before : List Event) (u : Strand) (act : Act) → claim_fault before u act ≡ None → releases b act ≡ true → is_released before b ≡ false
+released_fresh : (b : ℕ) (before : List Event) (u : GraphStrand) (act : Act) → claim_fault before u act ≡ None → releases b act ≡ true → is_released before b ≡ false
 released_fresh b before u (acts.Release d) e s =
     let same : d ≡ b = grind (arith, nat_tests, s) in
     subst (λ (n : ℕ). is_released before n ≡ false) same (not_true (is_released before d) faults.ReleasedTwice None e).0

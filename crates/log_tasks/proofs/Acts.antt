@@ -1,21 +1,6 @@
 -- What events tell of strands and tasks, one part after another.
-use Rattle.std.proofs.Common.{◌≡◌, ◌==◌, ◌++◌, ◌∷◌, ◌∙◌, ℕ, Bool, true, false, List, [], map, refl, sym, ap, Option, Some, None, arith}
-use Rattle.std.specs.Prelude.{◌||◌, ◌&&◌, max, filter, if◌then◌else◌}
-use Rattle.std.specs.List.{list_any}
-use Rattle.std.proofs.lemmas.List.{map-append}
-use Rattle.std.proofs.lemmas.List.Elements.{filter-append}
-use Rattle.std.proofs.lemmas.List.Folds.{list_any-append}
-use Rattle.log_lines.specs.declared.line.Act.{Act}
-use Rattle.fork_graph.specs.declared.graph.Strand.{Strand}
-use Rattle.fork_graph.specs.Graph.{strand}
-use Rattle.log_form.specs.Events.{Event, event, is_on, acts_on}
-use Rattle.log_form.specs.Faults.{spawns}
-use Rattle.log_pieces.specs.Claims.{is_that}
-use Rattle.log_pieces.specs.Pieces.{on_strand}
-use Rattle.log_tasks.specs.declared.ending.StrandEnd.{StrandEnd}
-use Rattle.log_tasks.specs.Ends.{end_by, or_later, first_end, end_of}
-use Rattle.log_tasks.specs.Numbers.{tells, is_task}
-use Rattle.log_tasks.specs.Told.{is_told, greater, index_of, index_if, top_of}
+use Rattle.log_tasks.proofs.Common.{◌≡◌, ◌==◌, ◌++◌, ◌∷◌, ◌∙◌, ℕ, Bool, true, false, List, [], map, refl, sym, ap, Option, Some, None, arith, ◌||◌, ◌&&◌, max, filter, if◌then◌else◌, list_any, map-append, filter-append, list_any-append, Act, GraphStrand, strand, Event, event, is_on, acts_on, spawns, is_that, on_strand, StrandEnd, end_by, first_end, end_of, tells, is_task, is_told, greater, index_of, index_if, top_of}
+use Rattle.log_tasks.specs.Ends.{or_later}
 
 -- ENDS
 
@@ -37,20 +22,20 @@ acts_if : Bool → List Act → List Act
 acts_if true acts = acts
 acts_if false acts = []
 
-pub acts_append : (events others : List Event) (u : Strand) → acts_on (events ++ others) u ≡ acts_on events u ++ acts_on others u
+pub acts_append : (events others : List Event) (u : GraphStrand) → acts_on (events ++ others) u ≡ acts_on events u ++ acts_on others u
 acts_append events others u =
     ap (map (λ (e : Event). e.act)) (filter-append (is_on u) events others)
     ∙ map-append (λ (e : Event). e.act) (filter (is_on u) events) (filter (is_on u) others)
 
-pub acts_there : (u v : Strand) (acts : List Act) → is_that u v.task v.index ≡ true → acts_on (on_strand u acts) v ≡ acts
+pub acts_there : (u v : GraphStrand) (acts : List Act) → is_that u v.task v.index ≡ true → acts_on (on_strand u acts) v ≡ acts
 acts_there u v [] e = refl
 acts_there u v (a ∷ rest) e = rw e (ap (λ (bs : List Act). a ∷ bs) (acts_there u v rest e))
 
-pub acts_elsewhere : (u v : Strand) (acts : List Act) → is_that u v.task v.index ≡ false → acts_on (on_strand u acts) v ≡ []
+pub acts_elsewhere : (u v : GraphStrand) (acts : List Act) → is_that u v.task v.index ≡ false → acts_on (on_strand u acts) v ≡ []
 acts_elsewhere u v [] e = refl
 acts_elsewhere u v (a ∷ rest) e = rw e (acts_elsewhere u v rest e)
 
-end_by_test : (events : List Event) (u : Strand) (acts : List Act) (t i : ℕ) (b : Bool) → is_that u t i ≡ b
+end_by_test : (events : List Event) (u : GraphStrand) (acts : List Act) (t i : ℕ) (b : Bool) → is_that u t i ≡ b
     → end_of (events ++ on_strand u acts) (strand t i) ≡ (if b then or_later (end_of events (strand t i)) (first_end acts) else end_of events (strand t i))
 end_by_test events u acts t i true e =
     ap first_end (acts_append events (on_strand u acts) (strand t i) ∙ ap (λ (more : List Act). acts_on events (strand t i) ++ more) (acts_there u (strand t i) acts e))
@@ -61,7 +46,7 @@ end_by_test events u acts t i false e =
     ∙ later_none (end_of events (strand t i))
 
 -- how a strand ends when one has acted further
-pub end_more : (events : List Event) (u : Strand) (acts : List Act) (t i : ℕ)
+pub end_more : (events : List Event) (u : GraphStrand) (acts : List Act) (t i : ℕ)
     → end_of (events ++ on_strand u acts) (strand t i) ≡ (if is_that u t i then or_later (end_of events (strand t i)) (first_end acts) else end_of events (strand t i))
 end_more events u acts t i = end_by_test events u acts t i (is_that u t i) refl
 
@@ -85,12 +70,12 @@ pub top_append : (xs ys : List Event) (t : ℕ) → top_of (xs ++ ys) t ≡ grea
 top_append [] ys t = refl
 top_append (x ∷ xs) ys t = ap (greater (index_of x.strand t)) (top_append xs ys t) ∙ sym (greater_assoc (index_of x.strand t) (top_of xs t) (top_of ys t))
 
-top_strand : (u : Strand) (acts : List Act) (t : ℕ) → top_of (on_strand u acts) t ≡ index_if (is_told acts) u t
+top_strand : (u : GraphStrand) (acts : List Act) (t : ℕ) → top_of (on_strand u acts) t ≡ index_if (is_told acts) u t
 top_strand u [] t = refl
 top_strand u (a ∷ []) t = greater_none (index_of u t)
 top_strand u (a ∷ b ∷ rest) t = ap (greater (index_of u t)) (top_strand u (b ∷ rest) t) ∙ greater_same (index_of u t)
 
-pub top_more : (events : List Event) (u : Strand) (acts : List Act) (t : ℕ) → top_of (events ++ on_strand u acts) t ≡ greater (top_of events t) (index_if (is_told acts) u t)
+pub top_more : (events : List Event) (u : GraphStrand) (acts : List Act) (t : ℕ) → top_of (events ++ on_strand u acts) t ≡ greater (top_of events t) (index_if (is_told acts) u t)
 top_more events u acts t = top_append events (on_strand u acts) t ∙ ap (greater (top_of events t)) (top_strand u acts t)
 
 -- TASKS
@@ -104,13 +89,13 @@ or_step true s rest told = refl
 or_step false s rest true = sym (or_assoc false s rest)
 or_step false s rest false = refl
 
-tells_strand : (u : Strand) (acts : List Act) (t : ℕ) → list_any (tells t) (on_strand u acts) ≡ ((is_told acts && (u.task == t)) || list_any (spawns t) acts)
+tells_strand : (u : GraphStrand) (acts : List Act) (t : ℕ) → list_any (tells t) (on_strand u acts) ≡ ((is_told acts && (u.task == t)) || list_any (spawns t) acts)
 tells_strand u [] t = refl
 tells_strand u (a ∷ rest) t =
     ap (λ (b : Bool). ((u.task == t) || spawns t a) || b) (tells_strand u rest t)
     ∙ or_step (u.task == t) (spawns t a) (list_any (spawns t) rest) (is_told rest)
 
-pub task_more : (events : List Event) (u : Strand) (acts : List Act) (t : ℕ) → is_task (events ++ on_strand u acts) t ≡ ((is_task events t || (is_told acts && (u.task == t))) || list_any (spawns t) acts)
+pub task_more : (events : List Event) (u : GraphStrand) (acts : List Act) (t : ℕ) → is_task (events ++ on_strand u acts) t ≡ ((is_task events t || (is_told acts && (u.task == t))) || list_any (spawns t) acts)
 task_more events u acts t =
     ap (λ (b : Bool). (t == 0) || b) (list_any-append (tells t) events (on_strand u acts) ∙ ap (λ (b : Bool). list_any (tells t) events || b) (tells_strand u acts t))
     ∙ or_assoc (t == 0) (list_any (tells t) events) ((is_told acts && (u.task == t)) || list_any (spawns t) acts)

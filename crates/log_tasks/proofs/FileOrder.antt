@@ -1,27 +1,7 @@
 -- What the order of files is to a log's graph: nothing.
-use Rattle.std.proofs.Common.{◌≡◌, ◌<◌, ◌≤◌, ◌==◌, ◌++◌, ◌∷◌, ◌∙◌, ◌⊎◌, inl, inr, ℕ, zero, suc, Bool, true, false, List, [], length, get_or, refl, sym, ap, ap₂, subst, Option, Some, None, Result, Ok, Err, arith, append_assoc, append-nil, nat_cmp, Less}
-use Rattle.std.specs.Prelude.{IsTrue, ◌||◌, ◌&&◌, slice_get}
-use Rattle.std.specs.List.{list_any, AllByRecursion}
-use Rattle.std.specs.List.Sorted.{IsStrictlyIncreasing, IsStrictlySortedBy}
-use Rattle.std.proofs.lemmas.Bool.Decides.{nat_tests}
-use Rattle.std.proofs.lemmas.Map.Keys.{sorted_from_strictly_increasing}
-use Rattle.listed.specs.Members.{In}
-use Rattle.listed.proofs.Members.{any_from_in, in_from_any}
-use Rattle.listed.proofs.Places.{each_in}
-use Rattle.log_lines.specs.declared.cause.Cause.{Cause}
-use Rattle.log_lines.specs.declared.line.Act.{Act}
-use Rattle.log_lines.specs.declared.line.Line.{Line}
-use Rattle.log_lines.specs.declared.line.Line.TheVariants as lines
-use Rattle.log_lines.specs.Grammar.{line_of}
-use Rattle.fork_graph.specs.declared.graph.Turn.{Turn}
-use Rattle.fork_graph.specs.declared.graph.Strand.{Strand}
-use Rattle.fork_graph.specs.Graph.{tasks_in, strand}
-use Rattle.log_form.specs.Text.{lines_in}
-use Rattle.log_form.specs.Events.{Event, event, Spot, is_on, acts_on, spot_behind_act, spot_behind_said, spot_behind_all, file_begin, file_end, events_behind, events_of}
-use Rattle.log_tasks.specs.Ends.{first_end, end_of}
-use Rattle.log_tasks.specs.Numbers.{tells, is_task, AreNumbers, log_strand}
-use Rattle.log_tasks.specs.Rows.{turn_at, AreRows}
-use Rattle.log_tasks.specs.Laws.{DoTheSame, FileOrderIsNothing, AreApart, FilesMayChangePlaces}
+use Rattle.log_tasks.proofs.Common.{◌≡◌, ◌<◌, ◌≤◌, ◌==◌, ◌++◌, ◌∷◌, ◌∙◌, ◌⊎◌, inl, inr, ℕ, zero, suc, Bool, true, false, List, [], length, get_or, refl, sym, ap, ap₂, subst, Option, Some, None, Result, Ok, Err, arith, append_assoc, append-nil, nat_cmp, Less, IsTrue, ◌||◌, ◌&&◌, slice_get, list_any, AllByRecursion, IsStrictlyIncreasing, nat_tests, sorted_from_strictly_increasing, In, any_from_in, in_from_any, each_in, LogCause, Act, LogLine, line_of, GraphTurn, GraphStrand, tasks_in, strand, lines_in, Event, event, Spot, is_on, acts_on, spot_behind_act, spot_behind_said, spot_behind_all, file_begin, file_end, events_behind, events_of, first_end, end_of, tells, is_task, AreNumbers, log_strand, turn_at, AreRows, DoTheSame, FileOrderIsNothing, ShareNoStrand, FilesMayChangePlaces}
+use Rattle.std.specs.List.Sorted.{IsStrictlySortedBy}
+use Rattle.log_lines.specs.declared.line.LogLine.TheVariants as lines
 use Rattle.log_tasks.proofs.Acts.{acts_append}
 use Rattle.log_tasks.proofs.Log.{true_is}
 use Rattle.log_tasks.proofs.Spawning.{in_events, same_number}
@@ -32,12 +12,12 @@ use Rattle.log_tasks.proofs.Spawning.{in_events, same_number}
 shifted : List Event → Spot → Spot
 shifted before spot = record { here = spot.here; closed = spot.closed; events = before ++ spot.events }
 
-shift_act : (before : List Event) (spot : Spot) (here : Option Strand) (act : Act) → spot_behind_act (shifted before spot) here act ≡ shifted before (spot_behind_act spot here act)
+shift_act : (before : List Event) (spot : Spot) (here : Option GraphStrand) (act : Act) → spot_behind_act (shifted before spot) here act ≡ shifted before (spot_behind_act spot here act)
 unfolding shifted
 shift_act before spot None act = refl
 shift_act before spot (Some u) act = rw (append_assoc before spot.events (event u act ∷ [])) refl
 
-shift_said : (before : List Event) (spot : Spot) (said : Result Line Cause) → spot_behind_said (shifted before spot) said ≡ shifted before (spot_behind_said spot said)
+shift_said : (before : List Event) (spot : Spot) (said : Result LogLine LogCause) → spot_behind_said (shifted before spot) said ≡ shifted before (spot_behind_said spot said)
 unfolding shifted
 shift_said before spot (Err cause) = refl
 shift_said before spot (Ok lines.Version) = refl
@@ -75,10 +55,10 @@ events_both : (xs ys : List (List ℕ)) → events_of (xs ++ ys) ≡ events_of x
 events_both xs ys = behind_both [] xs ys ∙ shift_files (events_of xs) ys
 
 -- what a strand does in files, one after another
-acts_both : (xs ys : List (List ℕ)) (u : Strand) → acts_on (events_of (xs ++ ys)) u ≡ acts_on (events_of xs) u ++ acts_on (events_of ys) u
+acts_both : (xs ys : List (List ℕ)) (u : GraphStrand) → acts_on (events_of (xs ++ ys)) u ≡ acts_on (events_of xs) u ++ acts_on (events_of ys) u
 acts_both xs ys u = ap (λ (es : List Event). acts_on es u) (events_both xs ys) ∙ acts_append (events_of xs) (events_of ys) u
 
-acts_three : (one other : List ℕ) (after : List (List ℕ)) (u : Strand) → acts_on (events_of (one ∷ (other ∷ after))) u ≡ acts_on (events_of (one ∷ [])) u ++ (acts_on (events_of (other ∷ [])) u ++ acts_on (events_of after) u)
+acts_three : (one other : List ℕ) (after : List (List ℕ)) (u : GraphStrand) → acts_on (events_of (one ∷ (other ∷ after))) u ≡ acts_on (events_of (one ∷ [])) u ++ (acts_on (events_of (other ∷ [])) u ++ acts_on (events_of after) u)
 acts_three one other after u =
     acts_both (one ∷ []) (other ∷ after) u ∙ ap (λ (more : List Act). acts_on (events_of (one ∷ [])) u ++ more) (acts_both (other ∷ []) after u)
 
@@ -162,19 +142,19 @@ same_members (x ∷ xs) (y ∷ ys) sx sy f g = ap₂ (λ (n : ℕ) (ns : List �
 
 -- THE SAME ROWS
 
-row_same : (F : ℕ → Option Turn) (one other : List Turn) → ((i : ℕ) → i ≤ length one → slice_get one i ≡ F i) → ((i : ℕ) → i ≤ length other → slice_get other i ≡ F i) → one ≡ other
+row_same : (F : ℕ → Option GraphTurn) (one other : List GraphTurn) → ((i : ℕ) → i ≤ length one → slice_get one i ≡ F i) → ((i : ℕ) → i ≤ length other → slice_get other i ≡ F i) → one ≡ other
 row_same F [] [] p q = refl
 row_same F [] (y ∷ ys) p q = absurd (let e : None ≡ Some y = p 0 (omega arith) ∙ sym (q 0 (omega arith)) in cc)
 row_same F (x ∷ xs) [] p q = absurd (let e : None ≡ Some x = q 0 (omega arith) ∙ sym (p 0 (omega arith)) in cc)
 row_same F (x ∷ xs) (y ∷ ys) p q =
-    ap₂ (λ (t : Turn) (ts : List Turn). t ∷ ts) (let e : Some x ≡ Some y = p 0 (omega arith) ∙ sym (q 0 (omega arith)) in cc)
+    ap₂ (λ (t : GraphTurn) (ts : List GraphTurn). t ∷ ts) (let e : Some x ≡ Some y = p 0 (omega arith) ∙ sym (q 0 (omega arith)) in cc)
     (row_same (λ i. F (suc i)) xs ys (λ i le. p (suc i) (omega (arith, le))) (λ i le. q (suc i) (omega (arith, le))))
 
-rows_same : (one other : List (List Turn)) → length one ≡ length other → ((t : ℕ) → t < length one → tasks_in one t ≡ tasks_in other t) → one ≡ other
+rows_same : (one other : List (List GraphTurn)) → length one ≡ length other → ((t : ℕ) → t < length one → tasks_in one t ≡ tasks_in other t) → one ≡ other
 rows_same [] [] e f = refl
 rows_same [] (y ∷ ys) e f = absurd (omega (arith, e))
 rows_same (x ∷ xs) [] e f = absurd (omega (arith, e))
-rows_same (x ∷ xs) (y ∷ ys) e f = ap₂ (λ (r : List Turn) (rs : List (List Turn)). r ∷ rs) (f 0 (omega arith)) (rows_same xs ys (omega (arith, e)) (λ t lt. f (suc t) (omega (arith, lt))))
+rows_same (x ∷ xs) (y ∷ ys) e f = ap₂ (λ (r : List GraphTurn) (rs : List (List GraphTurn)). r ∷ rs) (f 0 (omega arith)) (rows_same xs ys (omega (arith, e)) (λ t lt. f (suc t) (omega (arith, lt))))
 
 pub file_order_is_nothing : FileOrderIsNothing
 file_order_is_nothing events others numbers numbers' rows rows' same named are named' are' = (one, rest)

@@ -1,28 +1,15 @@
 -- What is known after a piece more.
-use Rattle.std.proofs.Common.{◌≡◌, ◌==◌, ◌++◌, ◌∙◌, ℕ, Bool, List, refl, sym, ap, Option, Result, Ok, Err}
-use Rattle.std.specs.Prelude.{◌||◌, ◌&&◌, OnOk, if◌then◌else◌}
-use Rattle.std.specs.declared.alloc.AllocError.{AllocError}
-use Rattle.std.specs.List.{list_any}
-use Rattle.log_lines.specs.declared.line.Act.{Act}
-use Rattle.fork_graph.specs.declared.graph.Strand.{Strand}
-use Rattle.fork_graph.specs.Graph.{strand}
-use Rattle.log_form.specs.Events.{Event}
-use Rattle.log_form.specs.Faults.{spawns}
-use Rattle.log_pieces.specs.Claims.{is_that}
-use Rattle.log_pieces.specs.Pieces.{on_strand}
-use Rattle.log_tasks.specs.declared.ending.StrandEnd.{StrandEnd}
-use Rattle.log_tasks.specs.declared.told.Told.{Told}
-use Rattle.log_tasks.specs.Ends.{first_end, or_later, end_of}
-use Rattle.log_tasks.specs.Told.{Knows, is_told, greater, index_if, end_told, top_told, task_told, end_after}
+use Rattle.log_tasks.proofs.Common.{◌≡◌, ◌==◌, ◌++◌, ◌∙◌, ℕ, Bool, List, refl, sym, ap, Option, Result, Ok, Err, ◌||◌, ◌&&◌, OnOk, if◌then◌else◌, AllocError, list_any, Act, GraphStrand, strand, Event, spawns, is_that, on_strand, StrandEnd, Told, first_end, end_of, KnowsEvents, is_told, greater, index_if, end_told, top_told, task_told, end_after}
+use Rattle.log_tasks.specs.Ends.{or_later}
 use Rattle.log_tasks.proofs.Acts.{end_more, top_more, task_more}
 
 -- a strand acted further
-pub record Grew (old new : Told) (u : Strand) (acts : List Act) : Type 0 where
+pub record Grew (old new : Told) (u : GraphStrand) (acts : List Act) : Type 0 where
   pub ends : (t i : ℕ) → end_told new t i ≡ end_after old u (first_end acts) t i
   pub tops : (t : ℕ) → top_told new t ≡ greater (top_told old t) (index_if (is_told acts) u t)
   pub tasks : (t : ℕ) → task_told new t ≡ ((task_told old t || (is_told acts && (u.task == t))) || list_any (spawns t) acts)
 
-pub known_more : (old new : Told) (u : Strand) (acts : List Act) (events : List Event) → Grew old new u acts → Knows old events → Knows new (events ++ on_strand u acts)
+pub known_more : (old new : Told) (u : GraphStrand) (acts : List Act) (events : List Event) → Grew old new u acts → KnowsEvents old events → KnowsEvents new (events ++ on_strand u acts)
 known_more old new u acts events g k = record {
   ends = λ t i.
       g.ends t i
@@ -39,10 +26,10 @@ same_tops : (one other : Told) → one.tops ≡ other.tops → (t : ℕ) → top
 same_tops one other e t = rw e refl
 
 -- a piece was noted, and its lines were taken
-pub piece_taken : (r : Result (Unit {0}) AllocError) (old mid new : Told) (u : Strand) (acts : List Act)
+pub piece_taken : (r : Result (Unit {0}) AllocError) (old mid new : Told) (u : GraphStrand) (acts : List Act)
     → ((t : ℕ) → top_told mid t ≡ greater (top_told old t) (index_if (is_told acts) u t)) → ((t : ℕ) → task_told mid t ≡ (task_told old t || (is_told acts && (u.task == t)))) → mid.ends ≡ old.ends
     → OnOk r ((t i : ℕ) → end_told new t i ≡ end_after mid u (first_end acts) t i) → OnOk r ((t : ℕ) → task_told new t ≡ (task_told mid t || list_any (spawns t) acts)) → new.tops ≡ mid.tops
-    → OnOk r ((events : List Event) → Knows old events → Knows new (events ++ on_strand u acts))
+    → OnOk r ((events : List Event) → KnowsEvents old events → KnowsEvents new (events ++ on_strand u acts))
 piece_taken (Ok x) old mid new u acts tops tasks ends new_ends new_tasks new_tops = λ events k.
     known_more old new u acts events
     (record {

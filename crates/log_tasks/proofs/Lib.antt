@@ -13,3 +13,4 @@ pub mod FirstFault
 pub mod Nested
 pub mod Log
 pub mod FileOrder
+mod Common

@@ -1,23 +1,6 @@
 -- What is known after a line more of a piece.
-use Rattle.std.proofs.Common.{◌≡◌, ◌++◌, ◌∷◌, ◌∙◌, ℕ, Bool, true, false, List, [], refl, sym, ap, subst, Option, Some, None, append-nil, take, length, get_or, ◌<◌, ◌+◌}
-use Rattle.std.specs.Prelude.{◌||◌, MatchOption}
-use Rattle.std.specs.List.{list_any, flat_map}
-use Rattle.std.proofs.lemmas.Grind.{flat_map-append}
-use Rattle.std.proofs.lemmas.List.{take_more}
-use Rattle.std.proofs.lemmas.List.Folds.{list_any-append}
-use Rattle.text_lines.specs.Lines.{lines_of}
-use Rattle.log_lines.specs.declared.line.Act.{Act}
-use Rattle.log_lines.specs.Grammar.{line_of}
-use Rattle.fork_graph.specs.declared.graph.Strand.{Strand}
-use Rattle.log_form.specs.Events.{Event}
-use Rattle.log_form.specs.Faults.{spawns}
-use Rattle.log_pieces.specs.declared.piece.Piece.{Piece}
-use Rattle.log_pieces.specs.Pieces.{act_said, acts_in, events_in, events_of_pieces}
-use Rattle.log_pieces.proofs.Lines.{line_more, line_last}
-use Rattle.log_tasks.specs.declared.ending.StrandEnd.{StrandEnd}
-use Rattle.log_tasks.specs.declared.told.Told.{Told}
-use Rattle.log_tasks.specs.Ends.{end_by, first_end, or_later}
-use Rattle.log_tasks.specs.Told.{is_told, end_told, task_told, end_after}
+use Rattle.log_tasks.proofs.Common.{◌≡◌, ◌++◌, ◌∷◌, ◌∙◌, ℕ, Bool, true, false, List, [], refl, sym, ap, subst, Option, Some, None, append-nil, take, length, get_or, ◌<◌, ◌+◌, ◌||◌, MatchOption, list_any, flat_map, flat_map-append, take_more, list_any-append, lines_of, Act, line_of, GraphStrand, Event, spawns, LogPiece, act_said, acts_in, events_in, events_of_pieces, line_more, line_last, StrandEnd, Told, end_by, first_end, is_told, end_told, task_told, end_after}
+use Rattle.log_tasks.specs.Ends.{or_later}
 use Rattle.log_tasks.proofs.Acts.{first_end_append, or_assoc, later_none}
 use Rattle.log_tasks.proofs.Puts.{after_twice, after_none, or_false}
 
@@ -45,7 +28,7 @@ last_told left line e f = ap is_told (line_last left line e) ∙ f
 
 -- NO ACT
 
-pub none_ends : (told : Told) (u : Strand) (said : List Act) → [] ≡ said → (t i : ℕ) → end_told told t i ≡ end_after told u (first_end said) t i
+pub none_ends : (told : Told) (u : GraphStrand) (said : List Act) → [] ≡ said → (t i : ℕ) → end_told told t i ≡ end_after told u (first_end said) t i
 none_ends told u said e t i = after_none told u t i ∙ ap (λ (as_said : List Act). end_after told u (first_end as_said) t i) e
 
 pub none_tasks : (told : Told) (said : List Act) → [] ≡ said → (t : ℕ) → task_told told t ≡ (task_told told t || list_any (spawns t) said)
@@ -53,7 +36,7 @@ none_tasks told said e t = or_false (task_told told t) ∙ ap (λ (as_said : Lis
 
 -- ONE ACT
 
-pub one_ends : (old new : Told) (u : Strand) (act : Act) (said : List Act) → act ∷ [] ≡ said → ((t i : ℕ) → end_told new t i ≡ end_after old u (end_by act) t i) → (t i : ℕ) → end_told new t i ≡ end_after old u (first_end said) t i
+pub one_ends : (old new : Told) (u : GraphStrand) (act : Act) (said : List Act) → act ∷ [] ≡ said → ((t i : ℕ) → end_told new t i ≡ end_after old u (end_by act) t i) → (t i : ℕ) → end_told new t i ≡ end_after old u (first_end said) t i
 one_ends old new u act said e g t i = g t i ∙ ap (λ (o : Option StrandEnd). end_after old u o t i) (sym (later_none (end_by act)) ∙ ap first_end e)
 
 pub one_tasks : (old new : Told) (act : Act) (said : List Act) → act ∷ [] ≡ said → ((t : ℕ) → task_told new t ≡ (task_told old t || spawns t act)) → (t : ℕ) → task_told new t ≡ (task_told old t || list_any (spawns t) said)
@@ -61,7 +44,7 @@ one_tasks old new act said e g t = g t ∙ ap (λ (b : Bool). task_told old t ||
 
 -- ENDS AND TASKS
 
-module _ (old mid : Told) (u : Strand) (left line rest : List ℕ) (e : lines_of left ≡ line ∷ lines_of rest) where
+module _ (old mid : Told) (u : GraphStrand) (left line rest : List ℕ) (e : lines_of left ≡ line ∷ lines_of rest) where
   pub ends_next : ((t i : ℕ) → end_told mid t i ≡ end_after old u (first_end (act_said (line_of line))) t i) → (t i : ℕ) → end_after mid u (first_end (acts_in rest)) t i ≡ end_after old u (first_end (acts_in left)) t i
   ends_next g t i =
       after_twice old mid u (first_end (act_said (line_of line))) (first_end (acts_in rest)) t i (g t i)
@@ -75,7 +58,7 @@ module _ (old mid : Told) (u : Strand) (left line rest : List ℕ) (e : lines_of
 
 -- PIECES
 
-pub pieces_more : (texts : List (List ℕ)) (pieces : List Piece) (i : ℕ) (d : Piece) → i < length pieces → events_of_pieces texts (take (i + 1) pieces) ≡ events_of_pieces texts (take i pieces) ++ events_in texts (get_or pieces i d)
+pub pieces_more : (texts : List (List ℕ)) (pieces : List LogPiece) (i : ℕ) (d : LogPiece) → i < length pieces → events_of_pieces texts (take (i + 1) pieces) ≡ events_of_pieces texts (take i pieces) ++ events_in texts (get_or pieces i d)
 pieces_more texts pieces i d lt =
     ap (events_of_pieces texts) (take_more pieces i d lt)
     ∙ flat_map-append (events_in texts) (take i pieces) (get_or pieces i d ∷ [])

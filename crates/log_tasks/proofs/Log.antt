@@ -1,28 +1,6 @@
 -- The tasks of a log, or why there are none.
-use Rattle.std.proofs.Common.{◌≡◌, ◌<◌, ◌≤◌, ◌==◌, ◌^◌, ◌∙◌, ℕ, Bool, true, List, length, get_or, map, refl, sym, ap, subst, Option, Some, None, arith, nat_cmp}
-use Rattle.std.specs.Prelude.{IsTrue, ◌↔◌, MatchOption}
-use Rattle.std.specs.BTreeMap.{is_at}
-use Rattle.std.specs.BTreeSet.{contains, keys}
-use Rattle.std.specs.List.{list_any}
-use Rattle.std.specs.List.Sorted.{IsStrictlyIncreasing}
-use Rattle.std.proofs.lemmas.Bool.Decides.{nat_tests}
-use Rattle.listed.specs.Members.{In}
-use Rattle.listed.proofs.Members.{any_from_in, in_from_any}
-use Rattle.fork_graph.specs.declared.graph.Turn.{Turn}
-use Rattle.fork_graph.specs.declared.fault.Extent.{Extent}
-use Rattle.fork_graph.specs.Graph.{AreSmall}
-use Rattle.fork_graph.specs.Faults.{IsSound}
-use Rattle.log_form.specs.Events.{Event, events_of}
-use Rattle.log_form.specs.Faults.{log_fault}
-use Rattle.log_tasks.specs.declared.fault.TaskFault.{TaskFault}
-use Rattle.log_tasks.specs.declared.tasks.LogTasks.{LogTasks}
-use Rattle.log_tasks.specs.declared.told.Told.{Told}
-use Rattle.log_tasks.specs.Numbers.{is_task, AreNumbers}
-use Rattle.log_tasks.specs.Rows.{graph_of, AreRows, AreNestedTasks}
-use Rattle.log_tasks.specs.Told.{Knows, task_told, HasSmallTurns, AreToldRows}
-use Rattle.log_tasks.specs.Spawning.{SpawnsWell}
-use Rattle.log_tasks.specs.Faults.{HasNoneBelow, IsFirstOf, IsFirstTaskFault, in_log}
-use Rattle.log_tasks.specs.Log.{IsLog}
+use Rattle.log_tasks.proofs.Common.{◌≡◌, ◌<◌, ◌≤◌, ◌==◌, ◌^◌, ◌∙◌, ℕ, Bool, true, List, length, get_or, map, refl, sym, ap, subst, Option, Some, None, arith, nat_cmp, IsTrue, ◌↔◌, MatchOption, is_at, keys, list_any, IsStrictlyIncreasing, nat_tests, In, any_from_in, in_from_any, GraphTurn, Extent, AreSmall, IsSoundRun, Event, events_of, log_fault, TaskFault, LogTasks, Told, is_task, AreNumbers, graph_of, AreRows, AreNestedTasks, KnowsEvents, task_told, HasSmallTurns, AreToldRows, SpawnsWell, HasNoneBelow, IsFirstOf, IsFirstTaskFault, in_log, IsLog}
+use Rattle.std.specs.BTreeSet.{contains}
 use Rattle.log_tasks.proofs.Ascending.{place_below, in_at}
 use Rattle.log_tasks.proofs.Puts.{at_is_same, number_same}
 use Rattle.log_tasks.proofs.Sane.{sane_log}
@@ -33,7 +11,7 @@ pub true_is : (b : Bool) → IsTrue b → b ≡ true
 true_is b t = t
 
 -- the numbers that are known are those of all tasks
-pub numbers_are : (told : Told) (events : List Event) (numbers : List ℕ) → Knows told events → numbers ≡ keys told.tasks → IsStrictlyIncreasing numbers → AreNumbers events numbers
+pub numbers_are : (told : Told) (events : List Event) (numbers : List ℕ) → KnowsEvents told events → numbers ≡ keys told.tasks → IsStrictlyIncreasing numbers → AreNumbers events numbers
 numbers_are told events numbers k e up = record {
   ascending = up;
   are = λ t. (into t, out t);
@@ -50,12 +28,12 @@ numbers_are told events numbers k e up = record {
         let same : t ≡ r.0 = number_same t r.0 (sym (at_is_same t r.0) ∙ r.2) in
         subst (λ (ns : List ℕ). In ns t) (sym e) (subst (λ (n : ℕ). In (keys told.tasks) n) (sym same) r.1)
 
-module _ (told : Told) (events : List Event) (extent : Extent) (numbers : List ℕ) (rows : List (List Turn)) (knows : Knows told events) (named : AreNumbers events numbers) (are : AreToldRows told numbers rows) where
+module _ (told : Told) (events : List Event) (extent : Extent) (numbers : List ℕ) (rows : List (List GraphTurn)) (knows : KnowsEvents told events) (named : AreNumbers events numbers) (are : AreToldRows told numbers rows) where
   some_rows : 0 < length rows
   some_rows = let r = in_at numbers 0 ((named.are 0).1 refl) in let lt = r.1 in let count = are.count in omega (arith, lt, count)
 
   -- a log without a fault
-  pub is_log : length rows ≤ 2 ^ 32 → IsSound rows extent → HasNoneBelow events extent numbers rows (length rows) → (log : LogTasks) → log.numbers ≡ numbers → log.turns ≡ graph_of extent rows → log.known ≡ map length rows → IsLog events extent log
+  pub is_log : length rows ≤ 2 ^ 32 → IsSoundRun rows extent → HasNoneBelow events extent numbers rows (length rows) → (log : LogTasks) → log.numbers ≡ numbers → log.turns ≡ graph_of extent rows → log.known ≡ map length rows → IsLog events extent log
   is_log few sound none log n t k = record {
     rows = rows;
     numbers_are = subst (λ (ns : List ℕ). AreNumbers events ns) (sym n) named;
@@ -80,9 +58,9 @@ module _ (told : Told) (events : List Event) (extent : Extent) (numbers : List �
 
 -- A LOG'S PIECES
 
-module _ (told : Told) (texts : List (List ℕ)) (es : List Event) (is : es ≡ events_of texts) (whole : log_fault texts ≡ None) (knows : Knows told es) (numbers slice : List ℕ) (same : slice ≡ numbers) (ks : numbers ≡ keys told.tasks) (up : IsStrictlyIncreasing numbers) where
-  known_log : Knows told (events_of texts)
-  known_log = subst (λ (e : List Event). Knows told e) is knows
+module _ (told : Told) (texts : List (List ℕ)) (es : List Event) (is : es ≡ events_of texts) (whole : log_fault texts ≡ None) (knows : KnowsEvents told es) (numbers slice : List ℕ) (same : slice ≡ numbers) (ks : numbers ≡ keys told.tasks) (up : IsStrictlyIncreasing numbers) where
+  known_log : KnowsEvents told (events_of texts)
+  known_log = subst (λ (e : List Event). KnowsEvents told e) is knows
 
   named_log : AreNumbers (events_of texts) numbers
   named_log = numbers_are told (events_of texts) numbers known_log ks up
@@ -94,7 +72,7 @@ module _ (told : Told) (texts : List (List ℕ)) (es : List Event) (is : es ≡ 
   pub small_log : HasSmallTurns told
   small_log = small_turns told (events_of texts) known_log (sane_log texts whole)
 
-  module _ (rows : List (List Turn)) (of_slice : AreToldRows told slice rows) where
+  module _ (rows : List (List GraphTurn)) (of_slice : AreToldRows told slice rows) where
     told_rows : AreToldRows told numbers rows
     told_rows = subst (λ (ns : List ℕ). AreToldRows told ns rows) same of_slice
 
@@ -105,18 +83,18 @@ module _ (told : Told) (texts : List (List ℕ)) (es : List Event) (is : es ≡ 
     pub rows_well : SpawnsWell rows
     rows_well = spawns_well (events_of texts) numbers rows (sane_log texts whole) named_log (rows_are told (events_of texts) numbers rows known_log told_rows)
 
-    module _ (extent : Extent) (found : Option TaskFault) (finds : (events : List Event) → Knows told events → MatchOption found (IsSound rows extent × HasNoneBelow events extent numbers rows (length rows)) (IsFirstOf events extent numbers rows)) where
-      found_log : MatchOption found (IsSound rows extent × HasNoneBelow (events_of texts) extent numbers rows (length rows)) (IsFirstOf (events_of texts) extent numbers rows)
+    module _ (extent : Extent) (found : Option TaskFault) (finds : (events : List Event) → KnowsEvents told events → MatchOption found (IsSoundRun rows extent × HasNoneBelow events extent numbers rows (length rows)) (IsFirstOf events extent numbers rows)) where
+      found_log : MatchOption found (IsSoundRun rows extent × HasNoneBelow (events_of texts) extent numbers rows (length rows)) (IsFirstOf (events_of texts) extent numbers rows)
       found_log = finds (events_of texts) known_log
 
       -- no task has a fault
       pub log_made : found ≡ None → AreSmall rows → (log : LogTasks) → log.numbers ≡ numbers → log.turns ≡ graph_of extent rows → log.known ≡ map length rows → IsLog (events_of texts) extent log
       log_made none small log n t k =
-          let h : IsSound rows extent × HasNoneBelow (events_of texts) extent numbers rows (length rows) = subst (λ (o : Option TaskFault). MatchOption o (IsSound rows extent × HasNoneBelow (events_of texts) extent numbers rows (length rows)) (IsFirstOf (events_of texts) extent numbers rows)) none found_log in
+          let h : IsSoundRun rows extent × HasNoneBelow (events_of texts) extent numbers rows (length rows) = subst (λ (o : Option TaskFault). MatchOption o (IsSoundRun rows extent × HasNoneBelow (events_of texts) extent numbers rows (length rows)) (IsFirstOf (events_of texts) extent numbers rows)) none found_log in
           is_log told (events_of texts) extent numbers rows known_log named_log told_rows small.tasks h.0 h.1 log n t k
 
       first_log : (at : TaskFault) → found ≡ Some at → IsFirstOf (events_of texts) extent numbers rows at
-      first_log at some = subst (λ (o : Option TaskFault). MatchOption o (IsSound rows extent × HasNoneBelow (events_of texts) extent numbers rows (length rows)) (IsFirstOf (events_of texts) extent numbers rows)) some found_log
+      first_log at some = subst (λ (o : Option TaskFault). MatchOption o (IsSoundRun rows extent × HasNoneBelow (events_of texts) extent numbers rows (length rows)) (IsFirstOf (events_of texts) extent numbers rows)) some found_log
 
       -- the fault is of a task that is there
       pub fault_there : (at : TaskFault) → found ≡ Some at → at.strand.task < length numbers

@@ -1,29 +1,14 @@
 -- The graph of a log is a nested run.
-use Rattle.std.proofs.Common.{◌≡◌, ◌<◌, ◌≤◌, ◌+◌, ◌^◌, ◌∷◌, ◌∙◌, ℕ, zero, suc, not, List, [], length, get_or, map, reverse, refl, sym, ap, subst, arith, length-append}
-use Rattle.std.specs.Prelude.{slice_get}
-use Rattle.std.proofs.Math.Path.{fun_ext}
-use Rattle.std.proofs.lemmas.List.{length-map, length-reverse}
-use Rattle.std.proofs.lemmas.List.Filters.{length-filter_both}
-use Rattle.log_lines.specs.Limits.{strand_limit}
-use Rattle.fork_graph.specs.declared.graph.Turn.{Turn}
-use Rattle.fork_graph.specs.declared.graph.Turn.TheVariants.{Spawn, Join}
-use Rattle.fork_graph.specs.declared.fault.Extent.{Extent}
-use Rattle.fork_graph.specs.declared.fault.Extent.TheVariants.{Whole, Cut}
-use Rattle.fork_graph.specs.Graph.{AreSmall, tasks_in, Does}
-use Rattle.fork_graph.specs.Nested.{IsNested}
-use Rattle.fork_graph.specs.Cut.{spawned_by, joins, unjoined, completed, with_joins}
-use Rattle.fork_graph.specs.Faults.{IsSound}
-use Rattle.fork_graph.proofs.Cut.{completed_spawn, completed_are_nested}
-use Rattle.log_tasks.specs.Rows.{graph_of, AreNestedTasks}
+use Rattle.log_tasks.proofs.Common.{◌≡◌, ◌<◌, ◌≤◌, ◌+◌, ◌^◌, ◌∷◌, ◌∙◌, ℕ, zero, suc, not, List, [], length, get_or, map, reverse, refl, sym, ap, subst, arith, length-append, slice_get, fun_ext, length-map, length-reverse, length-filter_both, strand_limit, GraphTurn, Spawn, Join, Extent, Whole, Cut, AreSmall, tasks_in, Does, IsNested, spawned_by, joins, unjoined, completed, with_joins, IsSoundRun, completed_spawn, completed_are_nested, graph_of, AreNestedTasks}
 
 -- LENGTHS
 
-few_spawned : (turns : List Turn) → length (spawned_by turns) ≤ length turns
+few_spawned : (turns : List GraphTurn) → length (spawned_by turns) ≤ length turns
 few_spawned [] = omega arith
 few_spawned (Spawn c ∷ rest) = let le = few_spawned rest in omega (arith, le)
 few_spawned (Join c ∷ rest) = let le = few_spawned rest in omega (arith, le)
 
-few_completed : (turns : List Turn) → length (completed turns) ≤ length turns + length turns
+few_completed : (turns : List GraphTurn) → length (completed turns) ≤ length turns + length turns
 few_completed turns =
     let kept = length-filter_both (λ c. not (joins turns c)) (λ c. not (not (joins turns c))) (λ c. refl) (reverse (spawned_by turns)) in
     let few = few_spawned turns in
@@ -31,12 +16,12 @@ few_completed turns =
 
 -- A ROW OF THE GRAPH
 
-row_of : (rows : List (List Turn)) (t : ℕ) → tasks_in (map completed rows) t ≡ with_joins (tasks_in rows) t
+row_of : (rows : List (List GraphTurn)) (t : ℕ) → tasks_in (map completed rows) t ≡ with_joins (tasks_in rows) t
 row_of [] t = refl
 row_of (r ∷ rs) zero = refl
 row_of (r ∷ rs) (suc t) = row_of rs t
 
-module _ (rows : List (List Turn)) (some : 0 < length rows) (few : length rows ≤ 2 ^ 32) (short : (t : ℕ) → length (tasks_in rows t) < strand_limit) where
+module _ (rows : List (List GraphTurn)) (some : 0 < length rows) (few : length rows ≤ 2 ^ 32) (short : (t : ℕ) → length (tasks_in rows t) < strand_limit) where
   small_whole : AreSmall rows
   small_whole = record { tasks = few; turns = λ t. (let s = short t in omega (arith, s)) }
 
@@ -46,7 +31,7 @@ module _ (rows : List (List Turn)) (some : 0 < length rows) (few : length rows �
     turns = λ t. (let s = short t in let c = few_completed (tasks_in rows t) in let e = ap length (row_of rows t) in omega (arith, s, c, e));
   }
 
-  pub graph_nested : (extent : Extent) → IsSound rows extent → AreNestedTasks (graph_of extent rows)
+  pub graph_nested : (extent : Extent) → IsSoundRun rows extent → AreNestedTasks (graph_of extent rows)
   graph_nested Whole sound = record { small = small_whole; some = some; nested = sound.nested; below = sound.below }
   graph_nested Cut sound = record {
     small = small_cut;
@@ -57,6 +42,6 @@ module _ (rows : List (List Turn)) (some : 0 < length rows) (few : length rows �
     where
       below : (t i c : ℕ) → Does (tasks_in (map completed rows)) t i (Spawn c) → c < length (map completed rows)
       below t i c d =
-          let told : Does (with_joins (tasks_in rows)) t i (Spawn c) = ap (λ (r : List Turn). slice_get r i) (sym (row_of rows t)) ∙ d in
+          let told : Does (with_joins (tasks_in rows)) t i (Spawn c) = ap (λ (r : List GraphTurn). slice_get r i) (sym (row_of rows t)) ∙ d in
           let lt = sound.below t i c (completed_spawn (tasks_in rows t) i c told) in
           omega (arith, lt, length-map rows completed)

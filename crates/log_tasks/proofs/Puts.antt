@@ -1,14 +1,6 @@
 -- What is known when a strand ends, a number is noted, or a task is there.
-use Rattle.std.proofs.Common.{◌≡◌, ◌==◌, ◌<◌, ◌≤◌, ◌∙◌, ℕ, Bool, true, false, cond, refl, sym, ap, subst, Option, Some, None, arith, nat_eq, nat_lt, Ordering, Less, Equal, Greater, nat_cmp, is_eq}
-use Rattle.std.specs.Prelude.{◌||◌, ◌&&◌, max, is_some, if◌then◌else◌}
-use Rattle.std.specs.BTreeMap.{is_at}
-use Rattle.std.proofs.lemmas.Bool.Decides.{nat_tests}
-use Rattle.fork_graph.specs.declared.graph.Strand.{Strand}
-use Rattle.log_pieces.specs.Claims.{is_that}
-use Rattle.log_tasks.specs.declared.ending.StrandEnd.{StrandEnd}
-use Rattle.log_tasks.specs.declared.told.Told.{Told}
+use Rattle.log_tasks.proofs.Common.{◌≡◌, ◌==◌, ◌<◌, ◌≤◌, ◌∙◌, ℕ, Bool, true, false, cond, refl, sym, ap, subst, Option, Some, None, arith, nat_eq, nat_lt, Ordering, Less, Equal, Greater, nat_cmp, is_eq, ◌||◌, ◌&&◌, max, is_some, if◌then◌else◌, is_at, nat_tests, GraphStrand, is_that, StrandEnd, Told, greater, is_below, number_if, index_of, end_told, end_after}
 use Rattle.log_tasks.specs.Ends.{or_later}
-use Rattle.log_tasks.specs.Told.{greater, is_below, number_if, index_of, end_told, end_after}
 use Rattle.log_tasks.proofs.Acts.{later_none}
 
 pub number_same : (a b : ℕ) → (a == b) ≡ true → a ≡ b
@@ -26,14 +18,14 @@ and_right false b e = absurd (cc)
 -- ENDS
 
 -- of strand u, and of others
-module _ (F : ℕ → ℕ → Option StrandEnd) (u : Strand) where
+module _ (F : ℕ → ℕ → Option StrandEnd) (u : GraphStrand) where
   at_that : (t i : ℕ) → is_that u t i ≡ true → F t i ≡ F u.task u.index
   at_that t i e =
       let task : u.task ≡ t = number_same u.task t (and_left (u.task == t) (u.index == i) e) in
       let index : u.index ≡ i = number_same u.index i (and_right (u.task == t) (u.index == i) e) in
       cc
 
-module _ (told : Told) (u : Strand) (later : Option StrandEnd) where
+module _ (told : Told) (u : GraphStrand) (later : Option StrandEnd) where
   kept_by_test : (t i : ℕ) (b : Bool) → is_that u t i ≡ b → is_some (end_told told u.task u.index) ≡ true → end_told told t i ≡ (if b then or_later (end_told told t i) later else end_told told t i)
   kept_by_test t i true e some = is_kept (end_told told t i) (ap is_some (at_that (end_told told) u t i e) ∙ some)
     where
@@ -63,7 +55,7 @@ after_none_by true o = sym (later_none o)
 after_none_by false o = refl
 
 -- nothing ends
-pub after_none : (told : Told) (u : Strand) (t i : ℕ) → end_told told t i ≡ end_after told u None t i
+pub after_none : (told : Told) (u : GraphStrand) (t i : ℕ) → end_told told t i ≡ end_after told u None t i
 after_none told u t i = after_none_by (is_that u t i) (end_told told t i)
 
 after_twice_by : (b : Bool) (o first later : Option StrandEnd) → (if b then or_later (if b then or_later o first else o) later else (if b then or_later o first else o)) ≡ (if b then or_later o (or_later first later) else o)
@@ -72,13 +64,13 @@ after_twice_by true (Some e) first later = refl
 after_twice_by false o first later = refl
 
 -- one end after another
-pub after_twice : (old mid : Told) (u : Strand) (first later : Option StrandEnd) (t i : ℕ) → end_told mid t i ≡ end_after old u first t i → end_after mid u later t i ≡ end_after old u (or_later first later) t i
+pub after_twice : (old mid : Told) (u : GraphStrand) (first later : Option StrandEnd) (t i : ℕ) → end_told mid t i ≡ end_after old u first t i → end_after mid u later t i ≡ end_after old u (or_later first later) t i
 after_twice old mid u first later t i e =
     ap (λ (o : Option StrandEnd). if is_that u t i then or_later o later else o) e ∙ after_twice_by (is_that u t i) (end_told old t i) first later
 
 -- NUMBERS
 
-module _ (F : ℕ → Option ℕ) (u : Strand) where
+module _ (F : ℕ → Option ℕ) (u : GraphStrand) where
   top_kept_by : (t : ℕ) (b : Bool) → (u.task == t) ≡ b → is_below (F u.task) u.index ≡ false → F t ≡ greater (F t) (number_if b u.index)
   top_kept_by t true e above = let here : u.task ≡ t = number_same u.task t e in is_kept (F t) (ap (λ (n : ℕ). is_below (F n) u.index) (sym here) ∙ above)
     where

@@ -1,32 +1,18 @@
 -- What holds of the events of a log without a faulty line.
-use Rattle.std.proofs.Common.{◌≡◌, ◌<◌, ◌+◌, ◌==◌, ◌++◌, ◌∷◌, ◌∙◌, ℕ, Bool, true, false, List, [], refl, sym, ap, subst, Option, Some, None, Result, Ok, Err, arith, append_assoc, append-nil}
-use Rattle.std.specs.Prelude.{nat_lt, if◌then◌else◌}
-use Rattle.std.proofs.lemmas.Bool.Decides.{nat_tests}
-use Rattle.log_lines.specs.declared.cause.Cause.{Cause}
-use Rattle.log_lines.specs.declared.cause.Cause.TheVariants as causes
-use Rattle.log_lines.specs.declared.line.Act.{Act}
+use Rattle.log_tasks.proofs.Common.{◌≡◌, ◌<◌, ◌+◌, ◌==◌, ◌++◌, ◌∷◌, ◌∙◌, ℕ, Bool, true, false, List, [], refl, sym, ap, subst, Option, Some, None, Result, Ok, Err, arith, append_assoc, append-nil, nat_lt, if◌then◌else◌, nat_tests, LogCause, Act, LogLine, line_of, strand_limit, GraphStrand, LogFault, LocatedFault, lines_in, Event, event, Spot, has_ended, spot_behind_act, spot_behind_said, spot_behind_all, file_begin, file_end, events_behind, events_of, spawns, is_spawned, where_true, turn_fault, claim_fault, act_fault, said_fault, line_fault, first_fault, found_at, fault_from, fault_of_lines, or_later, fault_behind, log_fault, TurnsWithin, AreWithin, SpawnsOnce, AreSane}
+use Rattle.log_lines.specs.declared.cause.LogCause.TheVariants as causes
 use Rattle.log_lines.specs.declared.line.Act.TheVariants as acts
-use Rattle.log_lines.specs.declared.line.Line.{Line}
-use Rattle.log_lines.specs.declared.line.Line.TheVariants as lines
-use Rattle.log_lines.specs.Grammar.{line_of}
-use Rattle.log_lines.specs.Limits.{strand_limit}
-use Rattle.fork_graph.specs.declared.graph.Strand.{Strand}
-use Rattle.log_form.specs.declared.fault.Fault.{Fault}
-use Rattle.log_form.specs.declared.fault.Fault.TheVariants as faults
-use Rattle.log_form.specs.declared.fault.Found.{Found}
-use Rattle.log_form.specs.Text.{lines_in}
-use Rattle.log_form.specs.Events.{Event, event, Spot, has_ended, spot_behind_act, spot_behind_said, spot_behind_all, file_begin, file_end, events_behind, events_of}
-use Rattle.log_form.specs.Faults.{spawns, is_spawned, where_true, turn_fault, claim_fault, act_fault, said_fault, line_fault, first_fault, found_at, fault_from, fault_of_lines, or_later, fault_behind, log_fault}
-use Rattle.log_tasks.specs.Sane.{TurnsWithin, AreWithin, SpawnsOnce, AreSane}
+use Rattle.log_lines.specs.declared.line.LogLine.TheVariants as lines
+use Rattle.log_form.specs.declared.fault.LogFault.TheVariants as faults
 use Rattle.log_tasks.proofs.Accepted.{no_some, not_true, kept_log}
 
 -- NUMBERS
 
-small_by : (u : Strand) (b : Bool) → nat_lt (u.index + 1) strand_limit ≡ b → (if b then None else Some (faults.NoLine causes.OverLimit)) ≡ None → u.index + 1 < strand_limit
+small_by : (u : GraphStrand) (b : Bool) → nat_lt (u.index + 1) strand_limit ≡ b → (if b then None else Some (faults.NoLine causes.OverLimit)) ≡ None → u.index + 1 < strand_limit
 small_by u true t e = grind (arith, nat_tests, t)
 small_by u false t e = absurd (no_some _ e)
 
-next_small : (u : Strand) → turn_fault u ≡ None → u.index + 1 < strand_limit
+next_small : (u : GraphStrand) → turn_fault u ≡ None → u.index + 1 < strand_limit
 next_small u e = small_by u (nat_lt (u.index + 1) strand_limit) refl e
 
 -- ONE EVENT MORE
@@ -41,7 +27,7 @@ once_more before (x ∷ xs) e h new =
     (h.0, once_more (before ++ x ∷ []) xs e h.1 (subst (λ (es : List Event). (c : ℕ) → spawns c e.act ≡ true → is_spawned es c ≡ false) (sym (append_assoc before (x ∷ []) xs)) new))
 
 -- only a spawn spawns, and one that may be
-new_child : (before : List Event) (u : Strand) (act : Act) (c : ℕ) → claim_fault before u act ≡ None → spawns c act ≡ true → is_spawned before c ≡ false
+new_child : (before : List Event) (u : GraphStrand) (act : Act) (c : ℕ) → claim_fault before u act ≡ None → spawns c act ≡ true → is_spawned before c ≡ false
 new_child before u (acts.Spawn d) c e s =
     let same : d ≡ c = grind (arith, nat_tests, s) in
     subst (λ (n : ℕ). is_spawned before n ≡ false) same (not_true (is_spawned before d) faults.SpawnedTwice (turn_fault u) e).0
@@ -55,7 +41,7 @@ new_child before u (acts.Join d) c e s = absurd (cc)
 new_child before u acts.Finish c e s = absurd (cc)
 
 -- a turn is within the limit
-turns_within : (before : List Event) (u : Strand) (act : Act) → claim_fault before u act ≡ None → TurnsWithin (event u act)
+turns_within : (before : List Event) (u : GraphStrand) (act : Act) → claim_fault before u act ≡ None → TurnsWithin (event u act)
 turns_within before u (acts.Spawn d) e turn h = next_small u (not_true (is_spawned before d) faults.SpawnedTwice (turn_fault u) e).1
 turns_within before u (acts.Join d) e turn h = next_small u e
 turns_within before u (acts.Access a) e turn h = absurd (cc)

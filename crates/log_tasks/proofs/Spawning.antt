@@ -1,30 +1,12 @@
 -- The spawns of a log without a faulty line are in order.
-use Rattle.std.proofs.Common.{◌≡◌, ◌<◌, ◌==◌, ◌++◌, ◌+◌, ◌∷◌, ◌∙◌, ◌⊎◌, inl, inr, ℕ, Bool, true, false, List, [], refl, sym, ap, ap₂, subst, Option, Some, None, arith}
-use Rattle.std.specs.Prelude.{◌||◌}
-use Rattle.std.specs.List.{list_any}
-use Rattle.std.proofs.lemmas.Bool.Decides.{nat_tests}
-use Rattle.std.proofs.lemmas.List.Folds.{list_any-append}
-use Rattle.listed.specs.Members.{In}
-use Rattle.listed.proofs.Members.{any_from_in}
-use Rattle.log_lines.specs.declared.line.Act.{Act}
+use Rattle.log_tasks.proofs.Common.{◌≡◌, ◌<◌, ◌==◌, ◌++◌, ◌+◌, ◌∷◌, ◌∙◌, ◌⊎◌, inl, inr, ℕ, Bool, true, false, List, [], refl, sym, ap, ap₂, subst, Option, Some, None, arith, ◌||◌, list_any, nat_tests, list_any-append, In, any_from_in, Act, strand_limit, GraphTurn, Spawn, GraphStrand, strand, Event, event, is_on, acts_on, spawns, is_spawned, StrandEnd, Turns, end_by, first_end, end_of, tells, is_task, TurnsWithin, AreWithin, SpawnsOnce}
 use Rattle.log_lines.specs.declared.line.Act.TheVariants as acts
-use Rattle.log_lines.specs.Limits.{strand_limit}
-use Rattle.fork_graph.specs.declared.graph.Turn.{Turn}
-use Rattle.fork_graph.specs.declared.graph.Turn.TheVariants.{Spawn}
-use Rattle.fork_graph.specs.declared.graph.Strand.{Strand}
-use Rattle.fork_graph.specs.Graph.{strand}
-use Rattle.log_form.specs.Events.{Event, event, is_on, acts_on}
-use Rattle.log_form.specs.Faults.{spawns, is_spawned}
-use Rattle.log_tasks.specs.declared.ending.StrandEnd.{StrandEnd}
-use Rattle.log_tasks.specs.declared.ending.StrandEnd.TheVariants.{Turns}
-use Rattle.log_tasks.specs.Ends.{end_by, or_later, first_end, end_of}
-use Rattle.log_tasks.specs.Numbers.{tells, is_task}
-use Rattle.log_tasks.specs.Sane.{TurnsWithin, AreWithin, SpawnsOnce}
+use Rattle.log_tasks.specs.Ends.{or_later}
 use Rattle.log_tasks.proofs.Puts.{number_same, and_left, and_right}
 
 -- STRANDS THAT END
 
-pub on_same : (u : Strand) (e : Event) → is_on u e ≡ true → e.strand ≡ u
+pub on_same : (u : GraphStrand) (e : Event) → is_on u e ≡ true → e.strand ≡ u
 on_same u e t =
     let task : e.strand.task ≡ u.task = number_same e.strand.task u.task (and_left (e.strand.task == u.task) (e.strand.index == u.index) t) in
     let index : e.strand.index ≡ u.index = number_same e.strand.index u.index (and_right (e.strand.task == u.task) (e.strand.index == u.index) t) in
@@ -44,19 +26,19 @@ spawned_in (acts.Release b ∷ rest) c e = inr (spawned_in rest c e)
 spawned_in (acts.Work n ∷ rest) c e = inr (spawned_in rest c e)
 
 -- an act of a strand is an event
-pub in_events : (events : List Event) (u : Strand) (a : Act) → In (acts_on events u) a → In events (event u a)
+pub in_events : (events : List Event) (u : GraphStrand) (a : Act) → In (acts_on events u) a → In events (event u a)
 in_events [] u a h = absurd h
 in_events (e ∷ rest) u a h = by_test (is_on u e) refl (in_events rest u a)
   where
-    here : is_on u e ≡ true → (In (acts_on rest u) a → In rest (event u a)) → (e.act ≡ a) ⊎ In (acts_on rest u) a → In (e ∷ rest) (event u a)
-    here t more (inl same) = inl (ap₂ event (on_same u e t) same)
-    here t more (inr later) = inr (more later)
+    in_events_here : is_on u e ≡ true → (In (acts_on rest u) a → In rest (event u a)) → (e.act ≡ a) ⊎ In (acts_on rest u) a → In (e ∷ rest) (event u a)
+    in_events_here t more (inl same) = inl (ap₂ event (on_same u e t) same)
+    in_events_here t more (inr later) = inr (more later)
 
     by_test : (b : Bool) → is_on u e ≡ b → (In (acts_on rest u) a → In rest (event u a)) → In (e ∷ rest) (event u a)
-    by_test true t more = here t more (rw t at h)
+    by_test true t more = in_events_here t more (rw t at h)
     by_test false t more = let later : In (acts_on rest u) a = rw t at h in inr (more later)
 
-spawn_event : (events : List Event) (u : Strand) (c : ℕ) → end_of events u ≡ Some (Turns (Spawn c)) → In events (event u (acts.Spawn c))
+spawn_event : (events : List Event) (u : GraphStrand) (c : ℕ) → end_of events u ≡ Some (Turns (Spawn c)) → In events (event u (acts.Spawn c))
 spawn_event events u c e = in_events events u (acts.Spawn c) (spawned_in (acts_on events u) c e)
 
 -- WITHIN THE LIMIT
@@ -66,7 +48,7 @@ in_within [] x w h = absurd h
 in_within (e ∷ rest) x w (inl same) = subst TurnsWithin same w.0
 in_within (e ∷ rest) x w (inr later) = in_within rest x w.1 later
 
-turn_act : (done : List Act) (turn : Turn) → first_end done ≡ Some (Turns turn) → (a : Act) × In done a × (end_by a ≡ Some (Turns turn))
+turn_act : (done : List Act) (turn : GraphTurn) → first_end done ≡ Some (Turns turn) → (a : Act) × In done a × (end_by a ≡ Some (Turns turn))
 turn_act [] turn e = absurd (cc)
 turn_act (a ∷ rest) turn e = by_end (end_by a) refl (turn_act rest turn)
   where
@@ -75,7 +57,7 @@ turn_act (a ∷ rest) turn e = by_end (end_by a) refl (turn_act rest turn)
     by_end (Some x) n more = (a, inl refl, n ∙ sym (ap (λ (o : Option StrandEnd). or_later o (first_end rest)) n) ∙ e)
 
 -- a strand that ends in a turn has a number within the limit
-pub end_within : (events : List Event) (u : Strand) (turn : Turn) → AreWithin events → end_of events u ≡ Some (Turns turn) → u.index + 1 < strand_limit
+pub end_within : (events : List Event) (u : GraphStrand) (turn : GraphTurn) → AreWithin events → end_of events u ≡ Some (Turns turn) → u.index + 1 < strand_limit
 end_within events u turn w e =
     let r = turn_act (acts_on events u) turn e in
     in_within events (event u r.0) w (in_events events u r.0 r.1) turn r.2
@@ -112,19 +94,19 @@ unspawned_at before e c h =
     let later = or_right (c == 0) (list_any (λ (x : Event). spawns c x.act) before || (spawns c e.act || false)) all in
     or_left (spawns c e.act) false (or_right (list_any (λ (x : Event). spawns c x.act) before) (spawns c e.act || false) later)
 
-new_at : (before events : List Event) (u : Strand) (c : ℕ) → SpawnsOnce before events → In events (event u (acts.Spawn c)) → is_spawned before c ≡ false
+new_at : (before events : List Event) (u : GraphStrand) (c : ℕ) → SpawnsOnce before events → In events (event u (acts.Spawn c)) → is_spawned before c ≡ false
 new_at before [] u c o h = absurd h
 new_at before (e ∷ rest) u c o (inl same) = o.0 c (subst (λ (x : Event). spawns c x.act ≡ true) (sym same) (same_number c))
 new_at before (e ∷ rest) u c o (inr later) = unspawned_before before e c (new_at (before ++ e ∷ []) rest u c o.1 later)
 
 -- no task is spawned here and later again
-spawned_apart : (before rest : List Event) (e : Event) (u v : Strand) (c : ℕ) → e ≡ event u (acts.Spawn c) → SpawnsOnce (before ++ e ∷ []) rest → In rest (event v (acts.Spawn c)) → ⊥
+spawned_apart : (before rest : List Event) (e : Event) (u v : GraphStrand) (c : ℕ) → e ≡ event u (acts.Spawn c) → SpawnsOnce (before ++ e ∷ []) rest → In rest (event v (acts.Spawn c)) → ⊥
 spawned_apart before rest e u v c same o later =
     let no : spawns c e.act ≡ false = unspawned_at before e c (new_at (before ++ e ∷ []) rest v c o later) in
     let yes : spawns c e.act ≡ true = subst (λ (x : Event). spawns c x.act ≡ true) (sym same) (same_number c) in
     let z : true ≡ false = sym yes ∙ no in cc
 
-one_spawner : (before events : List Event) (u v : Strand) (c : ℕ) → SpawnsOnce before events → In events (event u (acts.Spawn c)) → In events (event v (acts.Spawn c)) → u ≡ v
+one_spawner : (before events : List Event) (u v : GraphStrand) (c : ℕ) → SpawnsOnce before events → In events (event u (acts.Spawn c)) → In events (event v (acts.Spawn c)) → u ≡ v
 one_spawner before [] u v c o h k = absurd h
 one_spawner before (e ∷ rest) u v c o (inl same) (inl other) = let both : event u (acts.Spawn c) ≡ event v (acts.Spawn c) = sym same ∙ other in ap (λ (x : Event). x.strand) both
 one_spawner before (e ∷ rest) u v c o (inl same) (inr later) = absurd (spawned_apart before rest e u v c same o.1 later)
@@ -132,11 +114,11 @@ one_spawner before (e ∷ rest) u v c o (inr later) (inl same) = absurd (spawned
 one_spawner before (e ∷ rest) u v c o (inr first) (inr second) = one_spawner (before ++ e ∷ []) rest u v c o.1 first second
 
 -- a task is spawned by one strand
-pub spawned_once : (events : List Event) (u v : Strand) (c : ℕ) → SpawnsOnce [] events → end_of events u ≡ Some (Turns (Spawn c)) → end_of events v ≡ Some (Turns (Spawn c)) → u ≡ v
+pub spawned_once : (events : List Event) (u v : GraphStrand) (c : ℕ) → SpawnsOnce [] events → end_of events u ≡ Some (Turns (Spawn c)) → end_of events v ≡ Some (Turns (Spawn c)) → u ≡ v
 spawned_once events u v c o e f = one_spawner [] events u v c o (spawn_event events u c e) (spawn_event events v c f)
 
 -- the root isn't
-pub not_root : (events : List Event) (u : Strand) (c : ℕ) → SpawnsOnce [] events → end_of events u ≡ Some (Turns (Spawn c)) → c ≡ 0 → ⊥
+pub not_root : (events : List Event) (u : GraphStrand) (c : ℕ) → SpawnsOnce [] events → end_of events u ≡ Some (Turns (Spawn c)) → c ≡ 0 → ⊥
 not_root events u c o e z =
     let no : (c == 0) ≡ false = or_left (c == 0) false (new_at [] events u c o (spawn_event events u c e)) in
     let yes : (c == 0) ≡ true = grind (arith, nat_tests, z) in
@@ -150,7 +132,7 @@ or_true : (a b : Bool) → b ≡ true → (a || b) ≡ true
 or_true true b e = refl
 or_true false b e = e
 
-pub spawned_is_task : (events : List Event) (u : Strand) (c : ℕ) → end_of events u ≡ Some (Turns (Spawn c)) → is_task events c ≡ true
+pub spawned_is_task : (events : List Event) (u : GraphStrand) (c : ℕ) → end_of events u ≡ Some (Turns (Spawn c)) → is_task events c ≡ true
 spawned_is_task events u c e =
     or_true (c == 0) (list_any (tells c) events)
     (spawned_told events (event u (acts.Spawn c)) c (spawn_event events u c e) (or_true (u.task == c) (c == c) (same_number c)))

@@ -1,25 +1,5 @@
 -- What is wrong with a task after its last turn, by what is known and by what happens.
-use Rattle.std.proofs.Common.{◌≡◌, ◌≢◌, ◌<◌, ◌≤◌, ◌==◌, ◌∷◌, ◌∙◌, ◌⊎◌, inl, inr, ℕ, Bool, true, false, List, [], length, get_or, refl, sym, ap, ap₂, subst, Option, Some, None, arith}
-use Rattle.std.specs.Prelude.{◌&&◌, max, nat_lt}
-use Rattle.std.proofs.lemmas.Bool.Decides.{nat_tests}
-use Rattle.std.proofs.lemmas.Bool.{cases_lt}
-use Rattle.log_lines.specs.declared.line.Act.{Act}
-use Rattle.fork_graph.specs.declared.graph.Turn.{Turn}
-use Rattle.fork_graph.specs.declared.graph.Strand.{Strand}
-use Rattle.fork_graph.specs.declared.fault.Extent.{Extent}
-use Rattle.fork_graph.specs.declared.fault.Extent.TheVariants.{Whole}
-use Rattle.fork_graph.specs.Graph.{tasks_in, strand, last_of}
-use Rattle.log_form.specs.Events.{Event, is_on, acts_on}
-use Rattle.log_tasks.specs.declared.ending.StrandEnd.{StrandEnd}
-use Rattle.log_tasks.specs.declared.fault.TaskCause.{TaskCause}
-use Rattle.log_tasks.specs.declared.fault.TaskCause.TheVariants.{HasNoEnd, GoesOnAfterEnd}
-use Rattle.log_tasks.specs.declared.fault.TaskFault.{TaskFault}
-use Rattle.log_tasks.specs.declared.told.Told.{Told}
-use Rattle.log_tasks.specs.Ends.{end_of, DoesSomething}
-use Rattle.log_tasks.specs.Numbers.{log_strand}
-use Rattle.log_tasks.specs.Told.{Knows, greater, number_if, index_of, top_of, end_told, top_told}
-use Rattle.log_tasks.specs.Faults.{HasCause}
-use Rattle.log_tasks.specs.EndCauses.{goes_past, end_cause_by, end_cause, end_cause_of}
+use Rattle.log_tasks.proofs.Common.{◌≡◌, ◌≢◌, ◌<◌, ◌≤◌, ◌==◌, ◌∷◌, ◌∙◌, ◌⊎◌, inl, inr, ℕ, Bool, true, false, List, [], length, get_or, refl, sym, ap, ap₂, subst, Option, Some, None, arith, ◌&&◌, max, nat_lt, nat_tests, cases_lt, Act, GraphTurn, GraphStrand, Extent, Whole, tasks_in, strand, last_of, Event, is_on, acts_on, StrandEnd, TaskCause, HasNoEnd, GoesOnAfterEnd, TaskFault, Told, end_of, DoesSomething, log_strand, KnowsEvents, greater, number_if, index_of, top_of, end_told, top_told, HasCause, goes_past, end_cause_by, end_cause, end_cause_of}
 use Rattle.log_tasks.proofs.Puts.{number_same}
 use Rattle.log_tasks.proofs.Spawning.{on_same}
 
@@ -30,26 +10,26 @@ record IsTop (events : List Event) (n : ℕ) (top : Option ℕ) : Type 0 where
   above : (i : ℕ) → DoesSomething events (strand n i) → (j : ℕ) × (top ≡ Some j) × (i ≤ j)
   there : (j : ℕ) → top ≡ Some j → DoesSomething events (strand n j)
 
-acts_of_other : (e : Event) (rest : List Event) (u : Strand) → is_on u e ≡ false → acts_on (e ∷ rest) u ≡ acts_on rest u
+acts_of_other : (e : Event) (rest : List Event) (u : GraphStrand) → is_on u e ≡ false → acts_on (e ∷ rest) u ≡ acts_on rest u
 acts_of_other e rest u t = rw t refl
 
-acts_of_that : (e : Event) (rest : List Event) (u : Strand) → is_on u e ≡ true → acts_on (e ∷ rest) u ≡ e.act ∷ acts_on rest u
+acts_of_that : (e : Event) (rest : List Event) (u : GraphStrand) → is_on u e ≡ true → acts_on (e ∷ rest) u ≡ e.act ∷ acts_on rest u
 acts_of_that e rest u t = rw t refl
 
 not_nothing : (a : Act) (more : List Act) → a ∷ more ≢ []
 not_nothing a more e = cc
 
-does_here : (e : Event) (rest : List Event) (u : Strand) → is_on u e ≡ true → DoesSomething (e ∷ rest) u
+does_here : (e : Event) (rest : List Event) (u : GraphStrand) → is_on u e ≡ true → DoesSomething (e ∷ rest) u
 does_here e rest u t z = not_nothing e.act (acts_on rest u) (sym (acts_of_that e rest u t) ∙ z)
 
-does_later : (e : Event) (rest : List Event) (u : Strand) → DoesSomething rest u → DoesSomething (e ∷ rest) u
+does_later : (e : Event) (rest : List Event) (u : GraphStrand) → DoesSomething rest u → DoesSomething (e ∷ rest) u
 does_later e rest u h = by_test (is_on u e) refl
   where
     by_test : (b : Bool) → is_on u e ≡ b → DoesSomething (e ∷ rest) u
     by_test true t = does_here e rest u t
     by_test false t = λ z. h (sym (acts_of_other e rest u t) ∙ z)
 
-does_cases : (e : Event) (rest : List Event) (u : Strand) → DoesSomething (e ∷ rest) u → (e.strand ≡ u) ⊎ DoesSomething rest u
+does_cases : (e : Event) (rest : List Event) (u : GraphStrand) → DoesSomething (e ∷ rest) u → (e.strand ≡ u) ⊎ DoesSomething rest u
 does_cases e rest u h = by_test (is_on u e) refl
   where
     by_test : (b : Bool) → is_on u e ≡ b → (e.strand ≡ u) ⊎ DoesSomething rest u
@@ -78,8 +58,8 @@ greater_right (Some k) (Some l) i r = (max k l, refl, let same : l ≡ r.0 = (le
 same_number : (n : ℕ) → (n == n) ≡ true
 same_number n = grind (arith, nat_tests)
 
-index_here : (u : Strand) (n i : ℕ) → u ≡ strand n i → index_of u n ≡ Some i
-index_here u n i e = ap (λ (v : Strand). index_of v n) e ∙ ap (λ (b : Bool). number_if b i) (same_number n)
+index_here : (u : GraphStrand) (n i : ℕ) → u ≡ strand n i → index_of u n ≡ Some i
+index_here u n i e = ap (λ (v : GraphStrand). index_of v n) e ∙ ap (λ (b : Bool). number_if b i) (same_number n)
 
 index_from : (b : Bool) (i j : ℕ) → number_if b i ≡ Some j → (b ≡ true) × (i ≡ j)
 index_from true i j e = (refl, cc)
@@ -136,7 +116,7 @@ past_at : (last : ℕ) (top : Option ℕ) (j : ℕ) → top ≡ Some j → last 
 past_at last None j e lt = absurd (cc)
 past_at last (Some i) j e lt = let same : i ≡ j = cc in let less : last < i = omega (arith, lt, same) in grind (arith, nat_tests, less)
 
-module _ (told : Told) (events : List Event) (knows : Knows told events) (extent : Extent) (numbers : List ℕ) (rows : List (List Turn)) (t : ℕ) where
+module _ (told : Told) (events : List Event) (knows : KnowsEvents told events) (extent : Extent) (numbers : List ℕ) (rows : List (List GraphTurn)) (t : ℕ) where
   -- what is known of the task's last strand is so
   pub cause_has : extent ≡ Whole → (cause : TaskCause) → end_cause_of told numbers rows t ≡ Some cause → HasCause events extent numbers rows (last_of (tasks_in rows) t) cause
   cause_has whole cause e = by_case (cause_is (end_told told (get_or numbers t 0) (length (tasks_in rows t))) (goes_past (length (tasks_in rows t)) (top_told told (get_or numbers t 0))) cause e)
@@ -152,17 +132,17 @@ module _ (told : Told) (events : List Event) (knows : Knows told events) (extent
           ((whole, refl), (r.0, r.2, (top_is events (get_or numbers t 0)).there r.0 (sym (knows.tops (get_or numbers t 0)) ∙ r.1)))
 
   -- an end that is missing is known
-  pub no_end : (u : Strand) → u.task ≡ t → HasCause events extent numbers rows u HasNoEnd → end_told told (get_or numbers t 0) (length (tasks_in rows t)) ≡ None
+  pub no_end : (u : GraphStrand) → u.task ≡ t → HasCause events extent numbers rows u HasNoEnd → end_told told (get_or numbers t 0) (length (tasks_in rows t)) ≡ None
   no_end u at h =
       knows.ends (get_or numbers t 0) (length (tasks_in rows t))
-      ∙ ap (λ (v : Strand). end_of events (log_strand numbers v)) (sym (h.0.1 ∙ ap (last_of (tasks_in rows)) at))
+      ∙ ap (λ (v : GraphStrand). end_of events (log_strand numbers v)) (sym (h.0.1 ∙ ap (last_of (tasks_in rows)) at))
       ∙ h.1
 
   -- and so is a strand past the end
-  pub past_end : (u : Strand) → u.task ≡ t → HasCause events extent numbers rows u GoesOnAfterEnd → goes_past (length (tasks_in rows t)) (top_told told (get_or numbers t 0)) ≡ true
+  pub past_end : (u : GraphStrand) → u.task ≡ t → HasCause events extent numbers rows u GoesOnAfterEnd → goes_past (length (tasks_in rows t)) (top_told told (get_or numbers t 0)) ≡ true
   past_end u at h =
       let last : u ≡ last_of (tasks_in rows) t = h.0.1 ∙ ap (last_of (tasks_in rows)) at in
-      let index : u.index ≡ length (tasks_in rows t) = ap (λ (v : Strand). v.index) last in
+      let index : u.index ≡ length (tasks_in rows t) = ap (λ (v : GraphStrand). v.index) last in
       let does : DoesSomething events (strand (get_or numbers t 0) h.1.0) = subst (λ (k : ℕ). DoesSomething events (strand (get_or numbers k 0) h.1.0)) at h.1.2 in
       let r = (top_is events (get_or numbers t 0)).above h.1.0 does in
       let lt = h.1.1 in
@@ -170,16 +150,16 @@ module _ (told : Told) (events : List Event) (knows : Knows told events) (extent
       past_at (length (tasks_in rows t)) (top_told told (get_or numbers t 0)) r.0 (knows.tops (get_or numbers t 0) ∙ r.1) (omega (arith, lt, le, index))
 
   -- where nothing is known to be wrong, nothing is
-  pub no_cause_no_end : end_cause_of told numbers rows t ≡ None → (u : Strand) → u.task ≡ t → HasCause events extent numbers rows u HasNoEnd → ⊥
+  pub no_cause_no_end : end_cause_of told numbers rows t ≡ None → (u : GraphStrand) → u.task ≡ t → HasCause events extent numbers rows u HasNoEnd → ⊥
   no_cause_no_end e u at h = (no_cause (end_told told (get_or numbers t 0) (length (tasks_in rows t))) (goes_past (length (tasks_in rows t)) (top_told told (get_or numbers t 0))) e).0 (no_end u at h)
 
-  pub no_cause_past : end_cause_of told numbers rows t ≡ None → (u : Strand) → u.task ≡ t → HasCause events extent numbers rows u GoesOnAfterEnd → ⊥
+  pub no_cause_past : end_cause_of told numbers rows t ≡ None → (u : GraphStrand) → u.task ≡ t → HasCause events extent numbers rows u GoesOnAfterEnd → ⊥
   no_cause_past e u at h =
       let no : goes_past (length (tasks_in rows t)) (top_told told (get_or numbers t 0)) ≡ false = (no_cause (end_told told (get_or numbers t 0) (length (tasks_in rows t))) (goes_past (length (tasks_in rows t)) (top_told told (get_or numbers t 0))) e).1 in
       let z : true ≡ false = sym (past_end u at h) ∙ no in cc
 
   -- a task that goes on after its end has one
-  pub goes_on_has_end : end_cause_of told numbers rows t ≡ Some GoesOnAfterEnd → (u : Strand) → u.task ≡ t → HasCause events extent numbers rows u HasNoEnd → ⊥
+  pub goes_on_has_end : end_cause_of told numbers rows t ≡ Some GoesOnAfterEnd → (u : GraphStrand) → u.task ≡ t → HasCause events extent numbers rows u HasNoEnd → ⊥
   goes_on_has_end e u at h = by_case (cause_is (end_told told (get_or numbers t 0) (length (tasks_in rows t))) (goes_past (length (tasks_in rows t)) (top_told told (get_or numbers t 0))) GoesOnAfterEnd e)
     where
       by_case : ((GoesOnAfterEnd ≡ HasNoEnd) × (end_told told (get_or numbers t 0) (length (tasks_in rows t)) ≡ None)) ⊎ ((GoesOnAfterEnd ≡ GoesOnAfterEnd) × (end_told told (get_or numbers t 0) (length (tasks_in rows t)) ≢ None) × (goes_past (length (tasks_in rows t)) (top_told told (get_or numbers t 0)) ≡ true)) → ⊥

@@ -1,37 +1,13 @@
 -- The turns of tasks, by what is known.
-use Rattle.std.proofs.Common.{◌≡◌, ◌<◌, ◌≤◌, ◌+◌, ◌^◌, ◌++◌, ◌∷◌, ◌∙◌, ◌⊎◌, inl, inr, ℕ, zero, suc, List, [], length, get_or, refl, sym, ap, subst, Option, Some, None, arith, length-append, true}
-use Rattle.std.specs.Prelude.{◌≢◌, slice_get, IsTrue}
-use Rattle.std.specs.List.Sorted.{IsStrictlyIncreasing}
-use Rattle.std.proofs.Math.Nat.{eq-or-lt_of_le}
-use Rattle.std.proofs.lemmas.Bool.{cases_lt}
-use Rattle.std.proofs.Math.ListN.{get_or-append}
-use Rattle.std.proofs.Math.Seq.{get_or-append_seam}
-use Rattle.listed.proofs.Numbers.{below_next}
-use Rattle.listed.proofs.Members.{got_within, got_past, got_front}
-use Rattle.listed.proofs.Places.{got_last}
-use Rattle.log_lines.specs.Limits.{strand_limit}
-use Rattle.fork_graph.specs.declared.graph.Turn.{Turn}
-use Rattle.fork_graph.specs.declared.graph.Turn.TheVariants.{Spawn, Join}
-use Rattle.fork_graph.specs.declared.graph.Strand.{Strand}
-use Rattle.fork_graph.specs.Graph.{AreSmall, tasks_in, strand, Does}
-use Rattle.log_form.specs.Events.{Event}
-use Rattle.log_tasks.specs.declared.ending.StrandEnd.{StrandEnd}
-use Rattle.log_tasks.specs.declared.ending.StrandEnd.TheVariants.{Turns, Finishes}
-use Rattle.log_tasks.specs.declared.told.Told.{Told}
-use Rattle.log_tasks.specs.Ends.{end_of}
-use Rattle.log_tasks.specs.Numbers.{AreNumbers, log_strand, task_of}
-use Rattle.log_tasks.specs.Rows.{turn_at, AreRows}
-use Rattle.log_tasks.specs.Told.{Knows, end_told, turn_told, HasSmallTurns, IsToldRow, AreFirstRows, AreToldRows}
-use Rattle.log_tasks.specs.Sane.{AreSane}
-use Rattle.log_tasks.specs.Spawning.{SpawnsWell}
+use Rattle.log_tasks.proofs.Common.{◌≡◌, ◌<◌, ◌≤◌, ◌+◌, ◌^◌, ◌++◌, ◌∷◌, ◌∙◌, ◌⊎◌, inl, inr, ℕ, zero, suc, List, [], length, get_or, refl, sym, ap, subst, Option, Some, None, arith, length-append, true, ◌≢◌, slice_get, IsTrue, IsStrictlyIncreasing, eq-or-lt_of_le, cases_lt, get_or-append, get_or-append_seam, below_next, got_within, got_past, got_front, got_last, strand_limit, GraphTurn, Spawn, Join, GraphStrand, AreSmall, tasks_in, strand, Does, Event, StrandEnd, Turns, Finishes, Told, end_of, AreNumbers, log_strand, task_of, turn_at, AreRows, KnowsEvents, end_told, turn_told, HasSmallTurns, IsToldRow, AreFirstRows, AreToldRows, AreSane, SpawnsWell}
 use Rattle.log_tasks.proofs.Ascending.{place_below, one_place, task_there}
 use Rattle.log_tasks.proofs.Spawning.{spawned_once, not_root, spawned_is_task, end_within}
 
 -- A ROW
 
-module _ (F : ℕ → Option Turn) (row : List Turn) (n : ℕ) (count : length row ≡ n) (so_far : (i : ℕ) → i < n → slice_get row i ≡ F i) where
+module _ (F : ℕ → Option GraphTurn) (row : List GraphTurn) (n : ℕ) (count : length row ≡ n) (so_far : (i : ℕ) → i < n → slice_get row i ≡ F i) where
   -- with a turn more
-  pub row_more : (turn : Turn) → F n ≡ Some turn → (i : ℕ) → i < n + 1 → slice_get (row ++ turn ∷ []) i ≡ F i
+  pub row_more : (turn : GraphTurn) → F n ≡ Some turn → (i : ℕ) → i < n + 1 → slice_get (row ++ turn ∷ []) i ≡ F i
   row_more turn e i lt = by_place (below_next i n lt)
     where
       by_place : (i < n) ⊎ (i ≡ n) → slice_get (row ++ turn ∷ []) i ≡ F i
@@ -48,7 +24,7 @@ module _ (F : ℕ → Option Turn) (row : List Turn) (n : ℕ) (count : length r
       by_place (inr below) = so_far i (omega (arith, below, count))
 
 -- no strand past the limit ends in a turn
-no_turn : (numbers : List ℕ) (o : Option StrandEnd) → ((turn : Turn) → o ≡ Some (Turns turn) → ⊥) → turn_at numbers o ≡ None
+no_turn : (numbers : List ℕ) (o : Option StrandEnd) → ((turn : GraphTurn) → o ≡ Some (Turns turn) → ⊥) → turn_at numbers o ≡ None
 no_turn numbers None h = refl
 no_turn numbers (Some Finishes) h = refl
 no_turn numbers (Some (Turns turn)) h = absurd (h turn refl)
@@ -61,7 +37,7 @@ limit_ends told numbers n i small le = no_turn numbers (end_told told n i) (λ t
 pub no_rows : (told : Told) (numbers : List ℕ) → AreFirstRows told numbers 0 []
 no_rows told numbers = record { count = refl; each = λ t lt. absurd (omega (arith, lt)); short = λ t. omega arith }
 
-module _ (told : Told) (numbers : List ℕ) (n : ℕ) (rows : List (List Turn)) (row : List Turn) (are : AreFirstRows told numbers n rows) where
+module _ (told : Told) (numbers : List ℕ) (n : ℕ) (rows : List (List GraphTurn)) (row : List GraphTurn) (are : AreFirstRows told numbers n rows) where
   at_front : (t : ℕ) → t < n → tasks_in (rows ++ row ∷ []) t ≡ tasks_in rows t
   at_front t lt = let count = are.count in let here : t < length rows = omega (arith, lt, count) in get_or-append rows (row ∷ []) [] t here
 
@@ -71,7 +47,7 @@ module _ (told : Told) (numbers : List ℕ) (n : ℕ) (rows : List (List Turn)) 
   at_past : (t : ℕ) → n < t → tasks_in (rows ++ row ∷ []) t ≡ []
   at_past t lt = let count = are.count in past_end (rows ++ row ∷ []) t (omega (arith, lt, count, length-append rows (row ∷ [])))
     where
-      past_end : (xs : List (List Turn)) (k : ℕ) → length xs ≤ k → get_or xs k [] ≡ []
+      past_end : (xs : List (List GraphTurn)) (k : ℕ) → length xs ≤ k → get_or xs k [] ≡ []
       past_end [] k le = refl
       past_end (x ∷ xs) zero le = absurd (omega (arith, le))
       past_end (x ∷ xs) (suc k) le = past_end xs k (omega (arith, le))
@@ -85,8 +61,8 @@ module _ (told : Told) (numbers : List ℕ) (n : ℕ) (rows : List (List Turn)) 
   }
     where
       each_by : (t : ℕ) → (t < n) ⊎ (t ≡ n) → IsToldRow told numbers (get_or numbers t 0) (tasks_in (rows ++ row ∷ []) t)
-      each_by t (inl below) = subst (λ (r : List Turn). IsToldRow told numbers (get_or numbers t 0) r) (sym (at_front t below)) (are.each t below)
-      each_by t (inr at) = subst (λ (k : ℕ). IsToldRow told numbers (get_or numbers k 0) (tasks_in (rows ++ row ∷ []) k)) (sym at) (subst (λ (r : List Turn). IsToldRow told numbers (get_or numbers n 0) r) (sym at_last) is)
+      each_by t (inl below) = subst (λ (r : List GraphTurn). IsToldRow told numbers (get_or numbers t 0) r) (sym (at_front t below)) (are.each t below)
+      each_by t (inr at) = subst (λ (k : ℕ). IsToldRow told numbers (get_or numbers k 0) (tasks_in (rows ++ row ∷ []) k)) (sym at) (subst (λ (r : List GraphTurn). IsToldRow told numbers (get_or numbers n 0) r) (sym at_last) is)
 
       order : (t : ℕ) → (t < n) ⊎ ((t ≡ n) ⊎ (n < t))
       order t = order_by t (cases_lt t n)
@@ -100,12 +76,12 @@ module _ (told : Told) (numbers : List ℕ) (n : ℕ) (rows : List (List Turn)) 
               flipped (inr lt) = inr lt
 
       short_by : (t : ℕ) → (t < n) ⊎ ((t ≡ n) ⊎ (n < t)) → length (tasks_in (rows ++ row ∷ []) t) < strand_limit
-      short_by t (inl below) = subst (λ (r : List Turn). length r < strand_limit) (sym (at_front t below)) (are.short t)
-      short_by t (inr (inl at)) = subst (λ (r : List Turn). length r < strand_limit) (sym (ap (tasks_in (rows ++ row ∷ [])) at ∙ at_last)) le
-      short_by t (inr (inr past)) = subst (λ (r : List Turn). length r < strand_limit) (sym (at_past t past)) (omega arith)
+      short_by t (inl below) = subst (λ (r : List GraphTurn). length r < strand_limit) (sym (at_front t below)) (are.short t)
+      short_by t (inr (inl at)) = subst (λ (r : List GraphTurn). length r < strand_limit) (sym (ap (tasks_in (rows ++ row ∷ [])) at ∙ at_last)) le
+      short_by t (inr (inr past)) = subst (λ (r : List GraphTurn). length r < strand_limit) (sym (at_past t past)) (omega arith)
 
 -- tasks and strands have numbers of 32 bits
-pub rows_small : (told : Told) (numbers : List ℕ) (rows : List (List Turn)) → IsStrictlyIncreasing numbers → ((k : ℕ) → get_or numbers k 0 < 2 ^ 32) → AreToldRows told numbers rows → AreSmall rows
+pub rows_small : (told : Told) (numbers : List ℕ) (rows : List (List GraphTurn)) → IsStrictlyIncreasing numbers → ((k : ℕ) → get_or numbers k 0 < 2 ^ 32) → AreToldRows told numbers rows → AreSmall rows
 rows_small told numbers rows up below are = record {
   tasks = (let count = are.count in let l : length numbers ≤ 2 ^ 32 = few (length numbers) refl in omega (arith, count, l));
   turns = λ t. (let s = are.short t in omega (arith, s));
@@ -118,13 +94,13 @@ rows_small told numbers rows up below are = record {
 -- THE LOG'S ROWS
 
 -- what is known of all events is so
-pub rows_are : (told : Told) (events : List Event) (numbers : List ℕ) (rows : List (List Turn)) → Knows told events → AreToldRows told numbers rows → AreRows events numbers rows
+pub rows_are : (told : Told) (events : List Event) (numbers : List ℕ) (rows : List (List GraphTurn)) → KnowsEvents told events → AreToldRows told numbers rows → AreRows events numbers rows
 rows_are told events numbers rows k are = record {
   count = are.count;
   each = λ t lt i le. are.each t lt i le ∙ ap (turn_at numbers) (k.ends (get_or numbers t 0) i);
 }
 
-pub small_turns : (told : Told) (events : List Event) → Knows told events → AreSane events → HasSmallTurns told
+pub small_turns : (told : Told) (events : List Event) → KnowsEvents told events → AreSane events → HasSmallTurns told
 small_turns told events k s t i turn e = end_within events (strand t i) turn s.within (sym (k.ends t i) ∙ e)
 
 -- SPAWNS
@@ -135,12 +111,12 @@ spawn_turn numbers (Some Finishes) c e = absurd (cc)
 spawn_turn numbers (Some (Turns (Spawn n))) c e = (n, refl, cc)
 spawn_turn numbers (Some (Turns (Join n))) c e = absurd (cc)
 
-there_task : (rows : List (List Turn)) (t i : ℕ) (turn : Turn) → slice_get (get_or rows t []) i ≡ Some turn → t < length rows
+there_task : (rows : List (List GraphTurn)) (t i : ℕ) (turn : GraphTurn) → slice_get (get_or rows t []) i ≡ Some turn → t < length rows
 there_task [] t i turn e = absurd (cc)
 there_task (r ∷ rs) zero i turn e = omega arith
 there_task (r ∷ rs) (suc t) i turn e = let lt = there_task rs t i turn e in omega (arith, lt)
 
-module _ (events : List Event) (numbers : List ℕ) (rows : List (List Turn)) (sane : AreSane events) (named : AreNumbers events numbers) (are : AreRows events numbers rows) where
+module _ (events : List Event) (numbers : List ℕ) (rows : List (List GraphTurn)) (sane : AreSane events) (named : AreNumbers events numbers) (are : AreRows events numbers rows) where
   -- the log's spawn at a turn
   spawn_at : (t i c : ℕ) → Does (tasks_in rows) t i (Spawn c) → (n : ℕ) × (end_of events (log_strand numbers (strand t i)) ≡ Some (Turns (Spawn n))) × (task_of numbers n ≡ c)
   spawn_at t i c d =
@@ -149,7 +125,7 @@ module _ (events : List Event) (numbers : List ℕ) (rows : List (List Turn)) (s
       let count = are.count in
       spawn_turn numbers (end_of events (log_strand numbers (strand t i))) c (sym (are.each t (omega (arith, there, count)) i (omega (arith, within))) ∙ d)
 
-  named_there : (n : ℕ) (u : Strand) → end_of events u ≡ Some (Turns (Spawn n)) → (task_of numbers n < length numbers) × (get_or numbers (task_of numbers n) 0 ≡ n)
+  named_there : (n : ℕ) (u : GraphStrand) → end_of events u ≡ Some (Turns (Spawn n)) → (task_of numbers n < length numbers) × (get_or numbers (task_of numbers n) 0 ≡ n)
   named_there n u e = task_there numbers named.ascending n ((named.are n).1 (spawned_is_task events u n e))
 
   root_first : get_or numbers 0 0 ≡ 0
@@ -162,7 +138,7 @@ module _ (events : List Event) (numbers : List ℕ) (rows : List (List Turn)) (s
           subst (λ (k : ℕ). get_or numbers k 0 ≡ 0) z e
 
   same_strand : (t i s j n : ℕ) → t < length numbers → s < length numbers → log_strand numbers (strand t i) ≡ log_strand numbers (strand s j) → (t ≡ s) × (i ≡ j)
-  same_strand t i s j n lt lt' e = (one_place numbers named.ascending t s lt lt' (ap (λ (u : Strand). u.task) e), ap (λ (u : Strand). u.index) e)
+  same_strand t i s j n lt lt' e = (one_place numbers named.ascending t s lt lt' (ap (λ (u : GraphStrand). u.task) e), ap (λ (u : GraphStrand). u.index) e)
 
   -- spawns are in order
   pub spawns_well : SpawnsWell rows

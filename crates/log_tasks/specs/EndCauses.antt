@@ -1,10 +1,7 @@
 -- What is wrong with a task after its last turn, by what is known.
 use Rattle.std.specs.Prelude.{◌≡◌, ◌<◌, ◌&&◌, ◌||◌, ◌==◌, ℕ, Bool, true, false, Option, Some, None, List, length, get_or, nat_lt, nat_le, if◌then◌else◌}
-use Rattle.fork_graph.specs.declared.graph.Turn.{Turn}
-use Rattle.fork_graph.specs.declared.fault.Cause.{Cause}
-use Rattle.fork_graph.specs.declared.fault.Cause.TheVariants as graph
-use Rattle.fork_graph.specs.declared.fault.Fault.{Fault}
-use Rattle.fork_graph.specs.Graph.{tasks_in, last_of}
+use Rattle.log_tasks.specs.Common.{GraphTurn, StrandCause, StrandFault, tasks_in, last_of}
+use Rattle.fork_graph.specs.declared.fault.StrandCause.TheVariants as graph
 use Rattle.log_tasks.specs.declared.ending.StrandEnd.{StrandEnd}
 use Rattle.log_tasks.specs.declared.fault.TaskCause.{TaskCause}
 use Rattle.log_tasks.specs.declared.fault.TaskCause.TheVariants.{JoinsNoOpenChild, HasNoEnd, LeavesUnjoined, IsUnreached, GoesOnAfterEnd}
@@ -27,7 +24,7 @@ end_cause_by (Some e) false = None
 abbrev pub end_cause : Told → ℕ → ℕ → Option TaskCause
 end_cause told n last = end_cause_by (end_told told n last) (goes_past last (top_told told n))
 
-module _ (told : Told) (numbers : List ℕ) (rows : List (List Turn)) where
+module _ (told : Told) (numbers : List ℕ) (rows : List (List GraphTurn)) where
   abbrev pub end_cause_of : ℕ → Option TaskCause
   end_cause_of t = end_cause told (get_or numbers t 0) (length (tasks_in rows t))
 
@@ -42,13 +39,13 @@ module _ (told : Told) (numbers : List ℕ) (rows : List (List Turn)) where
 
 -- ONE OF TWO
 
-abbrev pub task_cause : Cause → TaskCause
+abbrev pub task_cause : StrandCause → TaskCause
 task_cause graph.SpawnsNoNewTask = JoinsNoOpenChild
 task_cause graph.JoinsNoOpenChild = JoinsNoOpenChild
 task_cause graph.LeavesUnjoined = LeavesUnjoined
 task_cause graph.IsUnreached = IsUnreached
 
-abbrev pub of_graph : Fault → TaskFault
+abbrev pub of_graph : StrandFault → TaskFault
 of_graph fault = record { strand = fault.strand; cause = task_cause fault.cause }
 
 abbrev pub is_sooner : TaskFault → TaskFault → Bool

@@ -1,10 +1,7 @@
 -- What the strands of a log do, and what ends them.
 use Rattle.std.specs.Prelude.{◌≡◌, ◌≢◌, ℕ, Option, Some, None, List, [], ◌∷◌}
-use Rattle.log_lines.specs.declared.line.Act.{Act}
+use Rattle.log_tasks.specs.Common.{Act, Spawn, Join, GraphStrand, Event, acts_on}
 use Rattle.log_lines.specs.declared.line.Act.TheVariants as acts
-use Rattle.fork_graph.specs.declared.graph.Turn.TheVariants.{Spawn, Join}
-use Rattle.fork_graph.specs.declared.graph.Strand.{Strand}
-use Rattle.log_form.specs.Events.{Event, acts_on}
 use Rattle.log_tasks.specs.declared.ending.StrandEnd.{StrandEnd}
 use Rattle.log_tasks.specs.declared.ending.StrandEnd.TheVariants.{Turns, Finishes}
 
@@ -30,9 +27,9 @@ first_end [] = None
 first_end (a ∷ rest) = or_later (end_by a) (first_end rest)
 
 -- how a strand ends, if its end is there
-abbrev pub end_of : List Event → Strand → Option StrandEnd
+abbrev pub end_of : List Event → GraphStrand → Option StrandEnd
 end_of events u = first_end (acts_on events u)
 
 -- the strand does something
-abbrev pub DoesSomething : List Event → Strand → Type 0
+abbrev pub DoesSomething : List Event → GraphStrand → Type 0
 DoesSomething events u = acts_on events u ≢ []

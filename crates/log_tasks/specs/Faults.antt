@@ -1,13 +1,7 @@
 -- What is wrong with the tasks of a log.
 use Rattle.std.specs.Prelude.{◌≡◌, ◌≢◌, ◌<◌, ℕ, None, List, length}
-use Rattle.fork_graph.specs.declared.graph.Turn.{Turn}
-use Rattle.fork_graph.specs.declared.graph.Strand.{Strand}
-use Rattle.fork_graph.specs.declared.fault.Extent.{Extent}
-use Rattle.fork_graph.specs.declared.fault.Extent.TheVariants.{Whole}
-use Rattle.fork_graph.specs.declared.fault.Cause.TheVariants as graph
-use Rattle.fork_graph.specs.Graph.{tasks_in, strand, last_of}
-use Rattle.fork_graph.specs.Faults.{IsFault}
-use Rattle.log_form.specs.Events.{Event}
+use Rattle.log_tasks.specs.Common.{GraphTurn, GraphStrand, Extent, Whole, tasks_in, strand, last_of, IsFault, Event}
+use Rattle.fork_graph.specs.declared.fault.StrandCause.TheVariants as graph
 use Rattle.log_tasks.specs.declared.fault.TaskCause.{TaskCause}
 use Rattle.log_tasks.specs.declared.fault.TaskCause.TheVariants.{JoinsNoOpenChild, HasNoEnd, LeavesUnjoined, IsUnreached, GoesOnAfterEnd}
 use Rattle.log_tasks.specs.declared.fault.TaskFault.{TaskFault}
@@ -15,13 +9,13 @@ use Rattle.log_tasks.specs.Ends.{end_of, DoesSomething}
 use Rattle.log_tasks.specs.Numbers.{AreNumbers, log_strand}
 use Rattle.log_tasks.specs.Rows.{AreRows}
 
-module _ (events : List Event) (extent : Extent) (numbers : List ℕ) (rows : List (List Turn)) where
+module _ (events : List Event) (extent : Extent) (numbers : List ℕ) (rows : List (List GraphTurn)) where
   -- in a whole log, at a task's last strand
-  abbrev pub IsWholeAtEnd : Strand → Type 0
+  abbrev pub IsWholeAtEnd : GraphStrand → Type 0
   IsWholeAtEnd u = (extent ≡ Whole) × (u ≡ last_of (tasks_in rows) u.task)
 
   -- a strand has this fault; tasks are numbered without gaps
-  abbrev pub HasCause : Strand → TaskCause → Type 0
+  abbrev pub HasCause : GraphStrand → TaskCause → Type 0
   HasCause u JoinsNoOpenChild = IsFault (tasks_in rows) (length rows) extent u graph.JoinsNoOpenChild
   HasCause u HasNoEnd = IsWholeAtEnd u × (end_of events (log_strand numbers u) ≡ None)
   HasCause u LeavesUnjoined = IsFault (tasks_in rows) (length rows) extent u graph.LeavesUnjoined
@@ -30,7 +24,7 @@ module _ (events : List Event) (extent : Extent) (numbers : List ℕ) (rows : Li
 
   -- no task below one has a fault
   abbrev pub HasNoneBelow : ℕ → Type 0
-  HasNoneBelow t = (u : Strand) (cause : TaskCause) → u.task < t → HasCause u cause → ⊥
+  HasNoneBelow t = (u : GraphStrand) (cause : TaskCause) → u.task < t → HasCause u cause → ⊥
 
 -- the order in which a task's faults are told
 abbrev pub rank_of : TaskCause → ℕ
@@ -41,12 +35,12 @@ rank_of IsUnreached = 3
 rank_of GoesOnAfterEnd = 4
 
 -- of the lowest task that has a fault it's the first one, by the order of causes, and at its earliest strand
-pub record IsFirstOf (events : List Event) (extent : Extent) (numbers : List ℕ) (rows : List (List Turn)) (fault : TaskFault) : Type 0 where
+pub record IsFirstOf (events : List Event) (extent : Extent) (numbers : List ℕ) (rows : List (List GraphTurn)) (fault : TaskFault) : Type 0 where
   pub there : fault.strand.task < length rows
   pub has : HasCause events extent numbers rows fault.strand fault.cause
   pub none_below : HasNoneBelow events extent numbers rows fault.strand.task
-  pub none_before : (u : Strand) (cause : TaskCause) → u.task ≡ fault.strand.task → rank_of cause < rank_of fault.cause → HasCause events extent numbers rows u cause → ⊥
-  pub none_earlier : (u : Strand) → u.task ≡ fault.strand.task → u.index < fault.strand.index → HasCause events extent numbers rows u fault.cause → ⊥
+  pub none_before : (u : GraphStrand) (cause : TaskCause) → u.task ≡ fault.strand.task → rank_of cause < rank_of fault.cause → HasCause events extent numbers rows u cause → ⊥
+  pub none_earlier : (u : GraphStrand) → u.task ≡ fault.strand.task → u.index < fault.strand.index → HasCause events extent numbers rows u fault.cause → ⊥
 
 -- the fault, by the log's numbers
 abbrev pub in_log : List ℕ → TaskFault → TaskFault
@@ -55,7 +49,7 @@ in_log numbers fault = record { strand = log_strand numbers fault.strand; cause 
 -- a log's first fault of a task
 pub record IsFirstTaskFault (events : List Event) (extent : Extent) (fault : TaskFault) : Type 0 where
   pub numbers : List ℕ
-  pub rows : List (List Turn)
+  pub rows : List (List GraphTurn)
   pub numbers_are : AreNumbers events numbers
   pub rows_are : AreRows events numbers rows
   pub found : TaskFault

@@ -1,28 +1,26 @@
 -- What holds of all logs.
 use Rattle.std.specs.Prelude.{◌≡◌, ◌⊎◌, ℕ, List, [], ◌∷◌, ◌++◌}
-use Rattle.fork_graph.specs.declared.graph.Turn.{Turn}
-use Rattle.fork_graph.specs.declared.graph.Strand.{Strand}
-use Rattle.log_form.specs.Events.{Event, acts_on, events_of}
+use Rattle.log_tasks.specs.Common.{GraphTurn, GraphStrand, Event, acts_on, events_of}
 use Rattle.log_tasks.specs.Numbers.{AreNumbers}
 use Rattle.log_tasks.specs.Rows.{AreRows}
 
 -- each strand does the same in both logs
 abbrev pub DoTheSame : List Event → List Event → Type 0
-DoTheSame events others = (u : Strand) → acts_on events u ≡ acts_on others u
+DoTheSame events others = (u : GraphStrand) → acts_on events u ≡ acts_on others u
 
 -- logs whose strands do the same have one graph
 abbrev pub FileOrderIsNothing : Type 0
 FileOrderIsNothing =
-    (events others : List Event) (numbers numbers' : List ℕ) (rows rows' : List (List Turn))
+    (events others : List Event) (numbers numbers' : List ℕ) (rows rows' : List (List GraphTurn))
     → DoTheSame events others → AreNumbers events numbers → AreRows events numbers rows → AreNumbers others numbers' → AreRows others numbers' rows'
     → (numbers ≡ numbers') × (rows ≡ rows')
 
 -- no strand does something in both files
-abbrev pub AreApart : List ℕ → List ℕ → Type 0
-AreApart one other = (u : Strand) → (acts_on (events_of (one ∷ [])) u ≡ []) ⊎ (acts_on (events_of (other ∷ [])) u ≡ [])
+abbrev pub ShareNoStrand : List ℕ → List ℕ → Type 0
+ShareNoStrand one other = (u : GraphStrand) → (acts_on (events_of (one ∷ [])) u ≡ []) ⊎ (acts_on (events_of (other ∷ [])) u ≡ [])
 
 -- two files that have no strand in common may change places
 abbrev pub FilesMayChangePlaces : Type 0
 FilesMayChangePlaces =
-    (before after : List (List ℕ)) (one other : List ℕ) → AreApart one other
+    (before after : List (List ℕ)) (one other : List ℕ) → ShareNoStrand one other
     → DoTheSame (events_of (before ++ one ∷ (other ∷ after))) (events_of (before ++ other ∷ (one ∷ after)))

@@ -9,3 +9,4 @@ pub mod Faults
 pub mod EndCauses
 pub mod Log
 pub mod Laws
+mod Common

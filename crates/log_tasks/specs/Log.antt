@@ -1,8 +1,6 @@
 -- The tasks of a log, or why there are none.
 use Rattle.std.specs.Prelude.{◌≡◌, ℕ, List, length, map}
-use Rattle.fork_graph.specs.declared.graph.Turn.{Turn}
-use Rattle.fork_graph.specs.declared.fault.Extent.{Extent}
-use Rattle.log_form.specs.Events.{Event}
+use Rattle.log_tasks.specs.Common.{GraphTurn, Extent, Event}
 use Rattle.log_tasks.specs.declared.tasks.LogTasks.{LogTasks}
 use Rattle.log_tasks.specs.declared.tasks.TasksError.{TasksError}
 use Rattle.log_tasks.specs.declared.tasks.TasksError.TheVariants.{Refused, NoMemory}
@@ -13,7 +11,7 @@ use Rattle.log_tasks.specs.Faults.{HasNoneBelow, IsFirstTaskFault}
 -- the tasks are those of the log, no task of which has a fault; they make a nested run
 pub record IsLog (events : List Event) (extent : Extent) (log : LogTasks) : Type 0 where
   -- the turns that the log tells
-  pub rows : List (List Turn)
+  pub rows : List (List GraphTurn)
   pub numbers_are : AreNumbers events log.numbers
   pub rows_are : AreRows events log.numbers rows
   pub sound : HasNoneBelow events extent log.numbers rows (length rows)

@@ -2,13 +2,7 @@
 use Rattle.std.specs.Prelude.{◌==◌, ◌||◌, ℕ, Bool, List, length, get_or, nat_lt, ◌↔◌, IsTrue, if◌then◌else◌}
 use Rattle.std.specs.List.{position_or_len, list_any}
 use Rattle.std.specs.List.Sorted.{IsStrictlyIncreasing}
-use Rattle.listed.specs.Members.{In}
-use Rattle.fork_graph.specs.declared.graph.Turn.{Turn}
-use Rattle.fork_graph.specs.declared.graph.Turn.TheVariants.{Spawn, Join}
-use Rattle.fork_graph.specs.declared.graph.Strand.{Strand}
-use Rattle.fork_graph.specs.Graph.{strand}
-use Rattle.log_form.specs.Events.{Event}
-use Rattle.log_form.specs.Faults.{spawns}
+use Rattle.log_tasks.specs.Common.{In, GraphTurn, Spawn, Join, GraphStrand, strand, Event, spawns}
 
 -- the event is one of the task's, or spawns it
 abbrev pub tells : ℕ → Event → Bool
@@ -28,7 +22,7 @@ abbrev pub number_of : List ℕ → ℕ → ℕ
 number_of numbers t = get_or numbers t 0
 
 -- the strand as the log has it
-abbrev pub log_strand : List ℕ → Strand → Strand
+abbrev pub log_strand : List ℕ → GraphStrand → GraphStrand
 log_strand numbers u = strand (number_of numbers u.task) u.index
 
 abbrev pub place_or_root : List ℕ → ℕ → ℕ
@@ -38,6 +32,6 @@ place_or_root numbers place = if nat_lt place (length numbers) then place else 0
 abbrev pub task_of : List ℕ → ℕ → ℕ
 task_of numbers n = place_or_root numbers (position_or_len (λ m. m == n) numbers)
 
-abbrev pub renumbered : List ℕ → Turn → Turn
+abbrev pub renumbered : List ℕ → GraphTurn → GraphTurn
 renumbered numbers (Spawn n) = Spawn (task_of numbers n)
 renumbered numbers (Join n) = Join (task_of numbers n)

@@ -1,15 +1,12 @@
 -- What holds of the events of a log without a faulty line.
 use Rattle.std.specs.Prelude.{◌≡◌, ◌<◌, ◌+◌, ℕ, true, false, Some, List, [], ◌∷◌, ◌++◌}
-use Rattle.log_lines.specs.Limits.{strand_limit}
-use Rattle.fork_graph.specs.declared.graph.Turn.{Turn}
-use Rattle.log_form.specs.Events.{Event}
-use Rattle.log_form.specs.Faults.{spawns, is_spawned}
+use Rattle.log_tasks.specs.Common.{strand_limit, GraphTurn, Event, spawns, is_spawned}
 use Rattle.log_tasks.specs.declared.ending.StrandEnd.TheVariants.{Turns}
 use Rattle.log_tasks.specs.Ends.{end_by}
 
 -- behind a turn the next strand's number is within the limit
 abbrev pub TurnsWithin : Event → Type 0
-TurnsWithin e = (turn : Turn) → end_by e.act ≡ Some (Turns turn) → e.strand.index + 1 < strand_limit
+TurnsWithin e = (turn : GraphTurn) → end_by e.act ≡ Some (Turns turn) → e.strand.index + 1 < strand_limit
 
 abbrev pub AreWithin : List Event → Type 0
 AreWithin [] = Unit {0}

@@ -3,13 +3,7 @@ use Rattle.std.specs.Prelude.{◌≡◌, ◌<◌, ◌≤◌, ◌+◌, ◌==◌, 
 use Rattle.std.specs.Ordering.{nat_cmp}
 use Rattle.std.specs.HashMap.{get}
 use Rattle.std.specs.BTreeSet.{contains}
-use Rattle.log_lines.specs.declared.line.Act.{Act}
-use Rattle.log_lines.specs.Limits.{strand_limit}
-use Rattle.fork_graph.specs.declared.graph.Turn.{Turn}
-use Rattle.fork_graph.specs.declared.graph.Strand.{Strand}
-use Rattle.fork_graph.specs.Graph.{strand, tasks_in}
-use Rattle.log_form.specs.Events.{Event}
-use Rattle.log_pieces.specs.Claims.{is_pair, is_that}
+use Rattle.log_tasks.specs.Common.{Act, strand_limit, GraphTurn, GraphStrand, strand, tasks_in, Event, is_pair, is_that}
 use Rattle.log_tasks.specs.declared.ending.StrandEnd.{StrandEnd}
 use Rattle.log_tasks.specs.declared.ending.StrandEnd.TheVariants.{Turns}
 use Rattle.log_tasks.specs.declared.told.Told.{Told}
@@ -38,11 +32,11 @@ abbrev pub number_if : Bool → ℕ → Option ℕ
 number_if true i = Some i
 number_if false i = None
 
-abbrev pub index_of : Strand → ℕ → Option ℕ
+abbrev pub index_of : GraphStrand → ℕ → Option ℕ
 index_of u t = number_if (u.task == t) u.index
 
 -- the same of a strand that does something
-abbrev pub index_if : Bool → Strand → ℕ → Option ℕ
+abbrev pub index_if : Bool → GraphStrand → ℕ → Option ℕ
 index_if true u t = index_of u t
 index_if false u t = None
 
@@ -63,11 +57,11 @@ abbrev pub task_told : Told → ℕ → Bool
 task_told told t = contains nat_cmp told.tasks t
 
 -- how the strand (t, i) ends, if u does so unless it did before
-abbrev pub end_after : Told → Strand → Option StrandEnd → ℕ → ℕ → Option StrandEnd
+abbrev pub end_after : Told → GraphStrand → Option StrandEnd → ℕ → ℕ → Option StrandEnd
 end_after told u later t i = if is_that u t i then or_later (end_told told t i) later else end_told told t i
 
 -- all that happened is known
-pub record Knows (told : Told) (events : List Event) : Type 0 where
+pub record KnowsEvents (told : Told) (events : List Event) : Type 0 where
   pub ends : (t i : ℕ) → end_told told t i ≡ end_of events (strand t i)
   pub tops : (t : ℕ) → top_told told t ≡ top_of events t
   pub tasks : (t : ℕ) → task_told told t ≡ is_task events t
@@ -76,20 +70,20 @@ pub record Knows (told : Told) (events : List Event) : Type 0 where
 
 -- behind each turn the next strand's number is within the limit
 abbrev pub HasSmallTurns : Told → Type 0
-HasSmallTurns told = (t i : ℕ) (turn : Turn) → end_told told t i ≡ Some (Turns turn) → i + 1 < strand_limit
+HasSmallTurns told = (t i : ℕ) (turn : GraphTurn) → end_told told t i ≡ Some (Turns turn) → i + 1 < strand_limit
 
 -- the turns of the log's task n, by what is known
-abbrev pub turn_told : Told → List ℕ → ℕ → ℕ → Option Turn
+abbrev pub turn_told : Told → List ℕ → ℕ → ℕ → Option GraphTurn
 turn_told told numbers n i = turn_at numbers (end_told told n i)
 
-abbrev pub IsToldRow : Told → List ℕ → ℕ → List Turn → Type 0
+abbrev pub IsToldRow : Told → List ℕ → ℕ → List GraphTurn → Type 0
 IsToldRow told numbers n row = (i : ℕ) → i ≤ length row → slice_get row i ≡ turn_told told numbers n i
 
 -- of the first n tasks
-pub record AreFirstRows (told : Told) (numbers : List ℕ) (n : ℕ) (rows : List (List Turn)) : Type 0 where
+pub record AreFirstRows (told : Told) (numbers : List ℕ) (n : ℕ) (rows : List (List GraphTurn)) : Type 0 where
   pub count : length rows ≡ n
   pub each : (t : ℕ) → t < n → IsToldRow told numbers (get_or numbers t 0) (tasks_in rows t)
   pub short : (t : ℕ) → length (tasks_in rows t) < strand_limit
 
-abbrev pub AreToldRows : Told → List ℕ → List (List Turn) → Type 0
+abbrev pub AreToldRows : Told → List ℕ → List (List GraphTurn) → Type 0
 AreToldRows told numbers rows = AreFirstRows told numbers (length numbers) rows

@@ -2,16 +2,16 @@
 
 ghost use Rattle.std.specs.Prelude.{◌≡◌, List, IfOk, MatchOption, length, option_map};
 ghost use Rattle.fork_graph.specs.Graph.{AreSmall};
-ghost use Rattle.fork_graph.specs.Faults.{IsSound};
+ghost use Rattle.fork_graph.specs.Faults.{IsSoundRun};
 ghost use Rattle.log_form.specs.Events.{Event};
-ghost use Rattle.log_tasks.specs.Told.{Knows};
+ghost use Rattle.log_tasks.specs.Told.{KnowsEvents};
 ghost use Rattle.log_tasks.specs.Faults.{rank_of, HasNoneBelow, IsFirstOf};
 ghost use Rattle.log_tasks.specs.EndCauses.{end_cause, NoneEndsBelow, IsFirstEndFault, task_cause, of_graph, is_sooner, sooner, sooner_of};
 ghost use Rattle.log_tasks.specs.Spawning.{SpawnsWell};
 
 use crate::told::Told;
-use fork_graph::{Cause, Extent, Fault, Strand, Turn, first_fault};
-use listed::Listed;
+use fork_graph::{Extent, GraphStrand, GraphTurn, StrandCause, StrandFault, first_fault};
+use plain_vec::Listed;
 use std::alloc::{AllocError, Global};
 
 /// What is wrong with a task; of a task's causes the one that comes first here is reported.
@@ -33,7 +33,7 @@ pub enum TaskCause {
 #[derive(Clone, Copy)]
 pub struct TaskFault {
     /// The strand that is at fault: that which ends in the join, or else its task's last one.
-    pub strand: Strand,
+    pub strand: GraphStrand,
     pub cause: TaskCause,
 }
 
@@ -54,7 +54,7 @@ fn end_cause(told: &Told, task: u32, last: u32) -> Option<TaskCause>
 fn first_end_fault(
     told: &Told,
     numbers: &Listed<u32>,
-    rows: &Listed<Listed<Turn>>,
+    rows: &Listed<Listed<GraphTurn>>,
 ) -> Option<TaskFault>
     requires small { AreSmall rows.now }
     requires count { length rows.now ≡ length numbers.now }
@@ -64,7 +64,7 @@ fn first_end_fault(
         let last = rows.at(task).len() as u32;
         if let Some(cause) = end_cause(told, *numbers.at(task), last) {
             return Some(TaskFault {
-                strand: Strand {
+                strand: GraphStrand {
                     task: task as u32,
                     index: last,
                 },
@@ -75,19 +75,19 @@ fn first_end_fault(
     None
 }
 
-fn task_cause(cause: Cause) -> TaskCause
+fn task_cause(cause: StrandCause) -> TaskCause
     ensures { result ≡ task_cause cause }
 {
     match cause {
-        Cause::SpawnsNoNewTask => TaskCause::JoinsNoOpenChild,
-        Cause::JoinsNoOpenChild => TaskCause::JoinsNoOpenChild,
-        Cause::LeavesUnjoined => TaskCause::LeavesUnjoined,
-        Cause::IsUnreached => TaskCause::IsUnreached,
+        StrandCause::SpawnsNoNewTask => TaskCause::JoinsNoOpenChild,
+        StrandCause::JoinsNoOpenChild => TaskCause::JoinsNoOpenChild,
+        StrandCause::LeavesUnjoined => TaskCause::LeavesUnjoined,
+        StrandCause::IsUnreached => TaskCause::IsUnreached,
     }
 }
 
 // A fault of the graph as one of a task.
-fn of_graph(fault: Fault) -> TaskFault
+fn of_graph(fault: StrandFault) -> TaskFault
     ensures { result ≡ of_graph fault }
 {
     TaskFault {
@@ -96,7 +96,7 @@ fn of_graph(fault: Fault) -> TaskFault
     }
 }
 
-fn fault_of_graph(found: Option<Fault>) -> Option<TaskFault>
+fn fault_of_graph(found: Option<StrandFault>) -> Option<TaskFault>
     ensures { result ≡ option_map of_graph found }
 {
     match found {
@@ -147,14 +147,14 @@ pub(crate) fn first_task_fault(
     alloc: Global,
     told: &Told,
     numbers: &Listed<u32>,
-    rows: &Listed<Listed<Turn>>,
+    rows: &Listed<Listed<GraphTurn>>,
     extent: Extent,
 ) -> Result<Option<TaskFault>, AllocError>
     requires small { AreSmall rows.now }
     requires count { length rows.now ≡ length numbers.now }
     requires spawns { SpawnsWell rows.now }
-    ensures { IfOk result (λ found. (events : List Event) → Knows told.now events
-        → MatchOption found (IsSound rows.now extent × HasNoneBelow events extent numbers.now rows.now (length rows.now)) (IsFirstOf events extent numbers.now rows.now)) }
+    ensures { IfOk result (λ found. (events : List Event) → KnowsEvents told.now events
+        → MatchOption found (IsSoundRun rows.now extent × HasNoneBelow events extent numbers.now rows.now (length rows.now)) (IsFirstOf events extent numbers.now rows.now)) }
 {
     let found = first_fault(alloc, rows, extent)?;
     let graph = fault_of_graph(found);

@@ -6,18 +6,18 @@ ghost use Rattle.fork_graph.specs.Cut.{completed, joins};
 ghost use Rattle.log_tasks.specs.Joining.{left_by, joins_of, joins_for};
 ghost use Rattle.log_tasks.specs.Rows.{graph_of};
 
-use fork_graph::{Extent, Turn};
-use listed::Listed;
+use fork_graph::{Extent, GraphTurn};
+use plain_vec::Listed;
 use std::alloc::{AllocError, Global};
 use std::collections::HashSet;
 
 // A turn joins its child, if it is a join.
-fn note_join(joined: &mut HashSet<u32>, turn: Turn) -> Result<(), AllocError>
+fn note_join(joined: &mut HashSet<u32>, turn: GraphTurn) -> Result<(), AllocError>
     ensures { OnOk result ((c : ℕ) → contains nat_eq joined.new c ≡ (contains nat_eq joined.old c || joins (turn ∷ []) c)) }
 {
     match turn {
-        Turn::Spawn(_) => Ok(()),
-        Turn::Join(child) => {
+        GraphTurn::Spawn(_) => Ok(()),
+        GraphTurn::Join(child) => {
             joined.insert(child)?;
             Ok(())
         }
@@ -25,7 +25,7 @@ fn note_join(joined: &mut HashSet<u32>, turn: Turn) -> Result<(), AllocError>
 }
 
 // The children that turns join.
-fn joined_by(alloc: Global, turns: &[Turn]) -> Result<HashSet<u32>, AllocError>
+fn joined_by(alloc: Global, turns: &[GraphTurn]) -> Result<HashSet<u32>, AllocError>
     ensures { IfOk result (λ joined. (c : ℕ) → contains nat_eq joined c ≡ joins turns.now c) }
 {
     let mut joined = HashSet::new(alloc);
@@ -36,27 +36,30 @@ fn joined_by(alloc: Global, turns: &[Turn]) -> Result<HashSet<u32>, AllocError>
 }
 
 // The child that a turn spawns, unless it is joined.
-fn left_by(joined: &HashSet<u32>, turn: Turn) -> Option<u32>
+fn left_by(joined: &HashSet<u32>, turn: GraphTurn) -> Option<u32>
     ensures { result ≡ left_by (contains nat_eq joined.now) turn }
 {
     match turn {
-        Turn::Spawn(child) if !joined.contains(&child) => Some(child),
+        GraphTurn::Spawn(child) if !joined.contains(&child) => Some(child),
         _ => None,
     }
 }
 
 // A join of a child, if there is one, comes after turns.
-fn add_join(turns: &mut Listed<Turn>, child: Option<u32>) -> Result<(), AllocError>
+fn add_join(turns: &mut Listed<GraphTurn>, child: Option<u32>) -> Result<(), AllocError>
     ensures { OnOk result (turns.new ≡ turns.old ++ joins_of child) }
 {
     match child {
-        Some(child) => turns.push(Turn::Join(child)),
+        Some(child) => turns.push(GraphTurn::Join(child)),
         None => Ok(()),
     }
 }
 
 // Turns, and then joins of all children that aren't joined, last spawned first.
-fn with_joins(joined: &HashSet<u32>, row: Listed<Turn>) -> Result<Listed<Turn>, AllocError>
+fn with_joins(
+    joined: &HashSet<u32>,
+    row: Listed<GraphTurn>,
+) -> Result<Listed<GraphTurn>, AllocError>
     ensures { IfOk result (λ turns. turns ≡ row ++ joins_for (contains nat_eq joined.now) row) }
 {
     let count = row.len();
@@ -69,7 +72,7 @@ fn with_joins(joined: &HashSet<u32>, row: Listed<Turn>) -> Result<Listed<Turn>, 
 }
 
 // Turns, and then joins of all that they leave unjoined.
-fn completed(alloc: Global, row: Listed<Turn>) -> Result<Listed<Turn>, AllocError>
+fn completed(alloc: Global, row: Listed<GraphTurn>) -> Result<Listed<GraphTurn>, AllocError>
     ensures { IfOk result (λ turns. turns ≡ completed row) }
 {
     let joined = joined_by(alloc, row.as_slice())?;
@@ -79,8 +82,8 @@ fn completed(alloc: Global, row: Listed<Turn>) -> Result<Listed<Turn>, AllocErro
 // All rows completed.
 fn all_completed(
     alloc: Global,
-    rows: Listed<Listed<Turn>>,
-) -> Result<Listed<Listed<Turn>>, AllocError>
+    rows: Listed<Listed<GraphTurn>>,
+) -> Result<Listed<Listed<GraphTurn>>, AllocError>
     ensures { IfOk result (λ turns. turns ≡ map completed rows) }
 {
     let mut turns = Listed::new(alloc);
@@ -93,9 +96,9 @@ fn all_completed(
 /// The turns of the graph.
 pub(crate) fn graph_of(
     alloc: Global,
-    rows: Listed<Listed<Turn>>,
+    rows: Listed<Listed<GraphTurn>>,
     extent: Extent,
-) -> Result<Listed<Listed<Turn>>, AllocError>
+) -> Result<Listed<Listed<GraphTurn>>, AllocError>
     ensures { IfOk result (λ turns. turns ≡ graph_of extent rows) }
 {
     match extent {
@@ -107,7 +110,7 @@ pub(crate) fn graph_of(
 /// How many turns each row has.
 pub(crate) fn lengths(
     alloc: Global,
-    rows: &Listed<Listed<Turn>>,
+    rows: &Listed<Listed<GraphTurn>>,
 ) -> Result<Listed<usize>, AllocError>
     ensures { IfOk result (λ known. known ≡ map length rows.now) }
 {

@@ -4,8 +4,8 @@ ghost use Rattle.std.specs.Prelude.{◌≡◌, IfOk};
 ghost use Rattle.std.specs.List.Sorted.{IsStrictlyIncreasing};
 ghost use Rattle.log_tasks.specs.Numbers.{task_of, renumbered};
 
-use fork_graph::Turn;
-use listed::Listed;
+use fork_graph::GraphTurn;
+use plain_vec::Listed;
 use std::alloc::{AllocError, Global};
 use std::collections::BTreeSet;
 
@@ -34,12 +34,12 @@ fn task_of(numbers: &[u32], number: u32) -> u32
 }
 
 /// A turn of tasks that are numbered without gaps.
-pub(crate) fn renumbered(numbers: &[u32], turn: Turn) -> Turn
+pub(crate) fn renumbered(numbers: &[u32], turn: GraphTurn) -> GraphTurn
     requires { IsStrictlyIncreasing numbers.now }
     ensures { result ≡ renumbered numbers.now turn }
 {
     match turn {
-        Turn::Spawn(number) => Turn::Spawn(task_of(numbers, number)),
-        Turn::Join(number) => Turn::Join(task_of(numbers, number)),
+        GraphTurn::Spawn(number) => GraphTurn::Spawn(task_of(numbers, number)),
+        GraphTurn::Join(number) => GraphTurn::Join(task_of(numbers, number)),
     }
 }

@@ -9,15 +9,15 @@ ghost use Rattle.log_tasks.specs.Told.{turn_told, HasSmallTurns, IsToldRow, AreT
 use crate::ending::StrandEnd;
 use crate::numbers::renumbered;
 use crate::told::Told;
-use fork_graph::Turn;
-use listed::Listed;
+use fork_graph::GraphTurn;
+use plain_vec::Listed;
 use std::alloc::{AllocError, Global};
 
 /// No strand has a greater number.
 const LAST_STRAND: u32 = (1 << 31) - 1;
 
 // The turn that ends a strand of the log, of tasks numbered without gaps.
-fn turn_at(told: &Told, numbers: &[u32], task: u32, index: u32) -> Option<Turn>
+fn turn_at(told: &Told, numbers: &[u32], task: u32, index: u32) -> Option<GraphTurn>
     requires { IsStrictlyIncreasing numbers.now }
     ensures { result ≡ turn_told told.now numbers.now task index }
 {
@@ -33,7 +33,7 @@ fn row_of(
     told: &Told,
     numbers: &[u32],
     task: u32,
-) -> Result<Listed<Turn>, AllocError>
+) -> Result<Listed<GraphTurn>, AllocError>
     requires numbers { IsStrictlyIncreasing numbers.now }
     requires small { HasSmallTurns told.now }
     ensures row { IfOk result (IsToldRow told.now numbers.now task) }
@@ -54,7 +54,7 @@ pub(crate) fn rows_of(
     alloc: Global,
     told: &Told,
     numbers: &[u32],
-) -> Result<Listed<Listed<Turn>>, AllocError>
+) -> Result<Listed<Listed<GraphTurn>>, AllocError>
     requires numbers { IsStrictlyIncreasing numbers.now }
     requires small { HasSmallTurns told.now }
     ensures rows { IfOk result (AreToldRows told.now numbers.now) }

@@ -4,7 +4,7 @@ ghost use Rattle.std.specs.Prelude.{◌≡◌, ◌<◌, IfOk, IfErr, None, lengt
 ghost use Rattle.log_form.specs.Events.{events_of};
 ghost use Rattle.log_form.specs.Faults.{log_fault};
 ghost use Rattle.log_pieces.specs.Pieces.{events_of_pieces};
-ghost use Rattle.log_tasks.specs.Told.{Knows};
+ghost use Rattle.log_tasks.specs.Told.{KnowsEvents};
 ghost use Rattle.log_tasks.specs.Faults.{in_log};
 ghost use Rattle.log_tasks.specs.Log.{IsLog, IsRefused};
 
@@ -13,9 +13,9 @@ use crate::graph::{graph_of, lengths};
 use crate::numbers::numbers_of;
 use crate::rows::rows_of;
 use crate::told::Told;
-use fork_graph::{Extent, Strand, Turn};
-use listed::Listed;
-use log_pieces::Piece;
+use fork_graph::{Extent, GraphStrand, GraphTurn};
+use log_pieces::LogPiece;
+use plain_vec::Listed;
 use std::alloc::{AllocError, Global};
 
 /// The tasks of a log, numbered from 0 on without gaps; the root is task 0.
@@ -24,7 +24,7 @@ pub struct LogTasks {
     /// The number that the log gives to each task, in ascending order.
     pub numbers: Listed<u32>,
     /// The turns of each task. In a cut log they end with joins of what the task left unjoined, last spawned first.
-    pub turns: Listed<Listed<Turn>>,
+    pub turns: Listed<Listed<GraphTurn>>,
     /// How many turns the log tells of each task; its strands past these do nothing.
     pub known: Listed<usize>,
 }
@@ -50,8 +50,8 @@ impl From<AllocError> for TasksError {
 }
 
 // What the pieces tell.
-fn told_of(alloc: Global, texts: &[Listed<u8>], pieces: &[Piece]) -> Result<Told, AllocError>
-    ensures { IfOk result (λ told. Knows told (events_of_pieces texts.now pieces.now)) }
+fn told_of(alloc: Global, texts: &[Listed<u8>], pieces: &[LogPiece]) -> Result<Told, AllocError>
+    ensures { IfOk result (λ told. KnowsEvents told (events_of_pieces texts.now pieces.now)) }
 {
     let mut told = Told::new(alloc)?;
     told.take_pieces(texts, pieces)?;
@@ -64,7 +64,7 @@ fn in_log(numbers: &Listed<u32>, fault: TaskFault) -> TaskFault
     ensures { result ≡ in_log numbers.now fault }
 {
     TaskFault {
-        strand: Strand {
+        strand: GraphStrand {
             task: *numbers.at(fault.strand.task as usize),
             index: fault.strand.index,
         },
@@ -76,7 +76,7 @@ fn in_log(numbers: &Listed<u32>, fault: TaskFault) -> TaskFault
 pub fn log_tasks(
     alloc: Global,
     texts: &[Listed<u8>],
-    pieces: &[Piece],
+    pieces: &[LogPiece],
     extent: Extent,
 ) -> Result<LogTasks, TasksError>
     requires whole { log_fault texts.now ≡ None }

@@ -7,13 +7,13 @@ ghost use Rattle.log_form.specs.Events.{Event};
 ghost use Rattle.log_form.specs.Faults.{spawns};
 ghost use Rattle.log_pieces.specs.Pieces.{act_said, acts_in, on_strand, events_of_pieces};
 ghost use Rattle.log_tasks.specs.Ends.{end_by, first_end};
-ghost use Rattle.log_tasks.specs.Told.{Knows, is_told, greater, is_below, index_of, index_if, end_told, top_told, task_told, end_after};
+ghost use Rattle.log_tasks.specs.Told.{KnowsEvents, is_told, greater, is_below, index_of, index_if, end_told, top_told, task_told, end_after};
 
 use crate::ending::StrandEnd;
-use fork_graph::{Strand, Turn};
-use listed::Listed;
-use log_lines::{Act, Line, read_line};
-use log_pieces::{Piece, act_in, piece_text};
+use fork_graph::{GraphStrand, GraphTurn};
+use log_lines::{Act, LogLine, read_line};
+use log_pieces::{LogPiece, act_in, piece_text};
+use plain_vec::Listed;
 use std::alloc::{AllocError, Global};
 use std::collections::{BTreeSet, HashMap};
 use text_lines::next_line;
@@ -33,7 +33,7 @@ pub(crate) struct Told {
 fn is_act(line: &[u8]) -> bool
     ensures { result ≡ is_told (act_said (line_of line.now)) }
 {
-    matches!(read_line(line), Ok(Line::Act(_)))
+    matches!(read_line(line), Ok(LogLine::Act(_)))
 }
 
 // Whether a text says an act.
@@ -56,7 +56,7 @@ fn is_told(text: &[u8]) -> bool
 impl Told {
     /// Nothing is told; the root is there.
     pub(crate) fn new(alloc: Global) -> Result<Told, AllocError>
-        ensures { IfOk result (λ told. Knows told []) }
+        ensures { IfOk result (λ told. KnowsEvents told []) }
     {
         let mut tasks = BTreeSet::new(alloc);
         tasks.insert(0)?;
@@ -68,7 +68,7 @@ impl Told {
     }
 
     // A strand ends, unless it did before.
-    fn end(&mut self, strand: Strand, end: StrandEnd) -> Result<(), AllocError>
+    fn end(&mut self, strand: GraphStrand, end: StrandEnd) -> Result<(), AllocError>
         ensures ends { OnOk result ((t i : ℕ) → end_told self.new t i ≡ end_after self.old strand (Some end) t i) }
         ensures rest { self.new ≡ record self.old { ends = self.new.ends } }
     {
@@ -81,24 +81,24 @@ impl Told {
     }
 
     // A strand spawns a task.
-    fn spawn(&mut self, strand: Strand, child: u32) -> Result<(), AllocError>
-        ensures ends { OnOk result ((t i : ℕ) → end_told self.new t i ≡ end_after self.old strand (Some (StrandEnd.Turns (Turn.Spawn child))) t i) }
+    fn spawn(&mut self, strand: GraphStrand, child: u32) -> Result<(), AllocError>
+        ensures ends { OnOk result ((t i : ℕ) → end_told self.new t i ≡ end_after self.old strand (Some (StrandEnd.Turns (GraphTurn.Spawn child))) t i) }
         ensures tasks { OnOk result ((t : ℕ) → task_told self.new t ≡ (task_told self.old t || (child == t))) }
         ensures tops { self.new.tops ≡ self.old.tops }
     {
         self.tasks.insert(child)?;
-        self.end(strand, StrandEnd::Turns(Turn::Spawn(child)))
+        self.end(strand, StrandEnd::Turns(GraphTurn::Spawn(child)))
     }
 
     // A strand acts.
-    fn take_act(&mut self, strand: Strand, act: Act) -> Result<(), AllocError>
+    fn take_act(&mut self, strand: GraphStrand, act: Act) -> Result<(), AllocError>
         ensures ends { OnOk result ((t i : ℕ) → end_told self.new t i ≡ end_after self.old strand (end_by act) t i) }
         ensures tasks { OnOk result ((t : ℕ) → task_told self.new t ≡ (task_told self.old t || spawns t act)) }
         ensures tops { self.new.tops ≡ self.old.tops }
     {
         match act {
             Act::Spawn(child) => self.spawn(strand, child),
-            Act::Join(child) => self.end(strand, StrandEnd::Turns(Turn::Join(child))),
+            Act::Join(child) => self.end(strand, StrandEnd::Turns(GraphTurn::Join(child))),
             Act::Finish => self.end(strand, StrandEnd::Finishes),
             Act::Access(_)
             | Act::Yield(_)
@@ -110,7 +110,7 @@ impl Told {
     }
 
     // A line of a piece.
-    fn take_line(&mut self, strand: Strand, line: &[u8]) -> Result<(), AllocError>
+    fn take_line(&mut self, strand: GraphStrand, line: &[u8]) -> Result<(), AllocError>
         ensures ends { OnOk result ((t i : ℕ) → end_told self.new t i ≡ end_after self.old strand (first_end (act_said (line_of line.now))) t i) }
         ensures tasks { OnOk result ((t : ℕ) → task_told self.new t ≡ (task_told self.old t || list_any (spawns t) (act_said (line_of line.now)))) }
         ensures tops { self.new.tops ≡ self.old.tops }
@@ -122,7 +122,7 @@ impl Told {
     }
 
     // The lines of a piece.
-    fn take_lines(&mut self, strand: Strand, text: &[u8]) -> Result<(), AllocError>
+    fn take_lines(&mut self, strand: GraphStrand, text: &[u8]) -> Result<(), AllocError>
         ensures ends { OnOk result ((t i : ℕ) → end_told self.new t i ≡ end_after self.old strand (first_end (acts_in text.now)) t i) }
         ensures tasks { OnOk result ((t : ℕ) → task_told self.new t ≡ (task_told self.old t || list_any (spawns t) (acts_in text.now))) }
         ensures tops { self.new.tops ≡ self.old.tops }
@@ -139,7 +139,7 @@ impl Told {
     }
 
     // Whether a strand has a greater number than all of its task's so far.
-    fn is_top(&self, strand: Strand) -> bool
+    fn is_top(&self, strand: GraphStrand) -> bool
         ensures { result ≡ is_below (top_told self.now strand.task) strand.index }
     {
         match self.tops.get(&strand.task) {
@@ -149,7 +149,7 @@ impl Told {
     }
 
     // A strand's number is noted.
-    fn raise(&mut self, strand: Strand) -> Result<(), AllocError>
+    fn raise(&mut self, strand: GraphStrand) -> Result<(), AllocError>
         ensures tops { OnOk result ((t : ℕ) → top_told self.new t ≡ greater (top_told self.old t) (index_of strand t)) }
         ensures rest { self.new ≡ record self.old { tops = self.new.tops } }
     {
@@ -161,7 +161,7 @@ impl Told {
     }
 
     // A strand does something.
-    fn note(&mut self, strand: Strand) -> Result<(), AllocError>
+    fn note(&mut self, strand: GraphStrand) -> Result<(), AllocError>
         ensures tops { OnOk result ((t : ℕ) → top_told self.new t ≡ greater (top_told self.old t) (index_of strand t)) }
         ensures tasks { OnOk result ((t : ℕ) → task_told self.new t ≡ (task_told self.old t || (strand.task == t))) }
         ensures ends { self.new.ends ≡ self.old.ends }
@@ -171,7 +171,7 @@ impl Told {
     }
 
     // A strand has a piece with this text.
-    fn note_piece(&mut self, strand: Strand, text: &[u8]) -> Result<(), AllocError>
+    fn note_piece(&mut self, strand: GraphStrand, text: &[u8]) -> Result<(), AllocError>
         ensures tops { OnOk result ((t : ℕ) → top_told self.new t ≡ greater (top_told self.old t) (index_if (is_told (acts_in text.now)) strand t)) }
         ensures tasks { OnOk result ((t : ℕ) → task_told self.new t ≡ (task_told self.old t || (is_told (acts_in text.now) && (strand.task == t)))) }
         ensures ends { self.new.ends ≡ self.old.ends }
@@ -183,8 +183,8 @@ impl Told {
     }
 
     // A piece of a strand, by its text.
-    fn take_piece(&mut self, strand: Strand, text: &[u8]) -> Result<(), AllocError>
-        ensures { OnOk result ((events : List Event) → Knows self.old events → Knows self.new (events ++ on_strand strand (acts_in text.now))) }
+    fn take_piece(&mut self, strand: GraphStrand, text: &[u8]) -> Result<(), AllocError>
+        ensures { OnOk result ((events : List Event) → KnowsEvents self.old events → KnowsEvents self.new (events ++ on_strand strand (acts_in text.now))) }
     {
         self.note_piece(strand, text)?;
         self.take_lines(strand, text)
@@ -194,10 +194,10 @@ impl Told {
     pub(crate) fn take_pieces(
         &mut self,
         texts: &[Listed<u8>],
-        pieces: &[Piece],
+        pieces: &[LogPiece],
     ) -> Result<(), AllocError>
-        requires { Knows self.old [] }
-        ensures { OnOk result (Knows self.new (events_of_pieces texts.now pieces.now)) }
+        requires { KnowsEvents self.old [] }
+        ensures { OnOk result (KnowsEvents self.new (events_of_pieces texts.now pieces.now)) }
     {
         for piece in pieces {
             let text = piece_text(texts, *piece);

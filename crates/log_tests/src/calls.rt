@@ -1,10 +1,10 @@
 // Calls of the program, and what they write.
 
+use io_traits::{MemSink, MemSource};
 use log_command::check;
-use outside_io::{MemSink, MemSource};
 use std::alloc::{AllocError, Global};
 
-const USAGE: &str = "usage: hhlog check [--all] FILE..\n";
+const USAGE: &str = "usage: hhlog check FILE.. [--all] [--json] [--blocks N ..]\n";
 
 const WORDS: &str = "end: words refused\n";
 
@@ -12,9 +12,16 @@ const SOUND: &[u8] = b"hhlog 1\ns 0 0\n.\nend\n";
 
 const QUIET: &str = "work 0 span 0 parallelism 1.00\nend: races 0 reads 0 uses 0 stale 0\n";
 
+const QUIET_JSON: &str =
+    "{\"races\":[],\"entangled_reads\":[],\"entangled_uses\":[],\"stale_uses\":[],\"work\":0,\"span\":0,\"parallelism\":\"1.00\",\"end\":{\"races\":0,\"reads\":0,\"uses\":0,\"stale\":0}}\n";
+
 // A root and its child write one location.
 const RACING: &[u8] =
     b"hhlog 1\ns 0 0\n+ 1\nw 1 0\n- 1\n.\ns 1 0\nw 1 0 2 @3\nw 1 5 2\n.\n@ 3 x\nend\n";
+
+// A root releases a block while its child reads it, and reads it once more.
+const RELEASED: &[u8] =
+    b"hhlog 1\ns 0 0\na 4 8\n+ 1\nf 4\n- 1\nr 4 2\n.\ns 1 0\nr 4 0 4 @3\n.\nend\n";
 
 // What is written where nothing fails.
 const REPLIES: &[(&str, &[u8], u8, &str, &str)] = &[
@@ -22,12 +29,28 @@ const REPLIES: &[(&str, &[u8], u8, &str, &str)] = &[
     ("", b"", 2, "", WORDS),
     ("check", b"", 2, "", WORDS),
     ("check --all", b"", 2, "", WORDS),
-    ("check a --all", b"", 2, "", WORDS),
-    ("check --all --all a", b"", 2, "", WORDS),
+    ("check --all a --alls", b"", 2, "", WORDS),
+    ("check a --all b", b"", 2, "", WORDS),
+    ("check --all a --all", b"", 2, "", WORDS),
+    ("check a --json --json", b"", 2, "", WORDS),
+    ("check a --blocks 1 --blocks 2", b"", 2, "", WORDS),
+    ("check --blocks a", b"", 2, "", WORDS),
+    ("check a --blocks", b"", 2, "", WORDS),
+    ("check a --blocks --all", b"", 2, "", WORDS),
+    ("check a --blocks 1 b", b"", 2, "", WORDS),
+    ("check a --blocks 01", b"", 2, "", WORDS),
+    ("check a --blocks 1000000000000000000", b"", 2, "", WORDS),
     ("verify a", b"", 2, "", WORDS),
     ("--help a", b"", 2, "", WORDS),
     ("check a", SOUND, 0, QUIET, ""),
     ("check --all a", SOUND, 0, QUIET, ""),
+    (
+        "check --all a --json --blocks 1 2",
+        SOUND,
+        0,
+        QUIET_JSON,
+        "",
+    ),
     (
         "check a",
         b"hhlog 1\ns 0 0\n.\nend\n\x00\x00\nx",
@@ -47,6 +70,49 @@ const REPLIES: &[(&str, &[u8], u8, &str, &str)] = &[
         RACING,
         12,
         "race 1 0: write x line 1:8, write line 1:4\nwork 0 span 0 parallelism 1.00\nend: races 1 reads 0 uses 0 stale 0\n",
+        "",
+    ),
+    (
+        "check a --all",
+        RACING,
+        12,
+        "race 1 0: write x line 1:8, write line 1:4\nwork 0 span 0 parallelism 1.00\nend: races 1 reads 0 uses 0 stale 0\n",
+        "",
+    ),
+    (
+        "check a --blocks 7 1 --all",
+        RACING,
+        12,
+        "race 1 0: write x line 1:8, write line 1:4\nwork 0 span 0 parallelism 1.00\nend: races 1 reads 0 uses 0 stale 0\n",
+        "",
+    ),
+    ("check a --blocks 2", RACING, 0, QUIET, ""),
+    (
+        "check a --json",
+        RACING,
+        12,
+        "{\"races\":[{\"block\":1,\"offset\":0,\"count\":1,\"first\":{\"kind\":\"write\",\"site\":\"x\",\"file\":1,\"line\":8},\"second\":{\"kind\":\"write\",\"file\":1,\"line\":4},\"locations\":1}],\"entangled_reads\":[],\"entangled_uses\":[],\"stale_uses\":[],\"work\":0,\"span\":0,\"parallelism\":\"1.00\",\"end\":{\"races\":1,\"reads\":0,\"uses\":0,\"stale\":0}}\n",
+        "",
+    ),
+    (
+        "check a --json",
+        b"hhlog 1\ns 0 0\n.\n",
+        14,
+        "{\"races\":[],\"entangled_reads\":[],\"entangled_uses\":[],\"stale_uses\":[],\"work\":0,\"span\":0,\"parallelism\":\"1.00\",\"end\":{\"races\":0,\"reads\":0,\"uses\":0,\"stale\":0,\"cut\":0}}\n",
+        "",
+    ),
+    (
+        "check a --json",
+        b"hhlog 1\nr 1\n",
+        11,
+        "",
+        "end: log refused a line 2: wrong count of words\n",
+    ),
+    (
+        "check a",
+        RELEASED,
+        12,
+        "race 4 0 4: read @3 line 1:10, release line 1:5; locations 4\nstale use 4: read line 1:7, released line 1:5; lines 1\nwork 0 span 0 parallelism 1.00\nend: races 4 reads 0 uses 0 stale 1\n",
         "",
     ),
     (

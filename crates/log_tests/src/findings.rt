@@ -1,15 +1,15 @@
 // Work and span of logs, and reads and uses of blocks that come too early or too late.
 
 ghost use Rattle.std.specs.Prelude.{◌≡◌};
-ghost use Rattle.log_tests.specs.Read.{IsRead};
+ghost use Rattle.log_tests.specs.Read.{IsLogRead};
 
 use fork_graph::Extent;
-use listed::Listed;
 use log_births::{Finding, Findings, find_uses};
-use log_pieces::{CutLog, Piece, cut_log};
+use log_pieces::{CutLog, LogPiece, cut_log};
 use log_tasks::{LogTasks, log_tasks};
 use log_walk::SerialWalk;
 use log_weights::{CostError, work_and_span};
+use plain_vec::Listed;
 use std::alloc::Global;
 
 // The block, the number of the act, and that of the birth or the release.
@@ -123,11 +123,11 @@ fn are_findings(found: &Findings, case: &Case) -> bool {
 fn is_right(
     alloc: Global,
     texts: &[Listed<u8>],
-    pieces: &[Piece],
+    pieces: &[LogPiece],
     tasks: &LogTasks,
     case: &Case,
 ) -> bool
-    requires { IsRead texts.now pieces.now tasks.now }
+    requires { IsLogRead texts.now pieces.now tasks.now }
 {
     match SerialWalk::new(alloc, &tasks.turns) {
         Err(_) => false,
@@ -141,12 +141,12 @@ fn is_right(
 fn has_cost(
     alloc: Global,
     texts: &[Listed<u8>],
-    pieces: &[Piece],
+    pieces: &[LogPiece],
     tasks: &LogTasks,
     walk: &SerialWalk,
     cost: Option<(u64, u64)>,
 ) -> bool
-    requires read { IsRead texts.now pieces.now tasks.now }
+    requires read { IsLogRead texts.now pieces.now tasks.now }
     requires walk { walk.now.tasks ≡ tasks.now.turns }
 {
     match (work_and_span(alloc, texts, pieces, tasks, walk), cost) {
@@ -159,12 +159,12 @@ fn has_cost(
 fn has_findings(
     alloc: Global,
     texts: &[Listed<u8>],
-    pieces: &[Piece],
+    pieces: &[LogPiece],
     tasks: &LogTasks,
     walk: &SerialWalk,
     case: &Case,
 ) -> bool
-    requires read { IsRead texts.now pieces.now tasks.now }
+    requires read { IsLogRead texts.now pieces.now tasks.now }
     requires walk { walk.now.tasks ≡ tasks.now.turns }
 {
     match find_uses(alloc, texts, pieces, tasks, walk) {

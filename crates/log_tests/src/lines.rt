@@ -1,6 +1,6 @@
 // Lines of logs.
 
-use log_lines::{Access, AccessKind, Act, Cause, Line, Place, Reference, read_line};
+use log_lines::{Access, AccessKind, Act, LogCause, LogLine, LogPlace, Reference, read_line};
 
 // A place: its block, its offset, the length of its runs, their number, and how far apart they are.
 type Numbers = (u64, u64, u64, u64, u64);
@@ -39,87 +39,87 @@ const ACCESSES: &[(&[u8], AccessKind, Numbers, Option<u64>)] = &[
 ];
 
 // Other lines, and what they say.
-const LINES: &[(&[u8], Line)] = &[
-    (b"", Line::Comment),
-    (b"#", Line::Comment),
-    (b"#r 5 7 x \xff", Line::Comment),
-    (b"hhlog 1", Line::Version),
-    (b"end", Line::End),
+const LINES: &[(&[u8], LogLine)] = &[
+    (b"", LogLine::Comment),
+    (b"#", LogLine::Comment),
+    (b"#r 5 7 x \xff", LogLine::Comment),
+    (b"hhlog 1", LogLine::Version),
+    (b"end", LogLine::End),
     (
         b"a 5 0",
-        Line::Act(Act::Birth {
+        LogLine::Act(Act::Birth {
             block: 5,
             length: 0,
         }),
     ),
-    (b"f 5", Line::Act(Act::Release(5))),
+    (b"f 5", LogLine::Act(Act::Release(5))),
     (
         b"k 999999999999999999",
-        Line::Act(Act::Work(999999999999999999)),
+        LogLine::Act(Act::Work(999999999999999999)),
     ),
     (
         b"s 4294967295 2147483647",
-        Line::Strand {
+        LogLine::Strand {
             task: 4294967295,
             strand: 2147483647,
         },
     ),
-    (b"+ 4294967295", Line::Act(Act::Spawn(4294967295))),
-    (b"- 0", Line::Act(Act::Join(0))),
-    (b".", Line::Act(Act::Finish)),
-    (b"@ 3 sort.c:12  (inner) ", Line::Name(3)),
-    (b"@ 3 ", Line::Name(3)),
+    (b"+ 4294967295", LogLine::Act(Act::Spawn(4294967295))),
+    (b"- 0", LogLine::Act(Act::Join(0))),
+    (b".", LogLine::Act(Act::Finish)),
+    (b"@ 3 sort.c:12  (inner) ", LogLine::Name(3)),
+    (b"@ 3 ", LogLine::Name(3)),
 ];
 
 // What is no line, and why.
-const BAD: &[(&[u8], Cause)] = &[
-    (b" ", Cause::BadWord),
-    (b"x", Cause::BadWord),
-    (b"rr 5 7", Cause::BadWord),
-    (b" r 5 7", Cause::BadWord),
-    (b"end.", Cause::BadWord),
-    (b"\x00", Cause::BadWord),
-    (b"r", Cause::WrongCount),
-    (b"r 5", Cause::WrongCount),
-    (b"r 5 7 1 1", Cause::WrongCount),
-    (b"r 5 7 1 1 1 1", Cause::WrongCount),
-    (b"r 5 7 @1 1", Cause::WrongCount),
-    (b"r 5 7 @1 @1", Cause::WrongCount),
-    (b"g 5 7", Cause::WrongCount),
-    (b"f 5 6", Cause::WrongCount),
-    (b". 1", Cause::WrongCount),
-    (b"end 1", Cause::WrongCount),
-    (b"@ 3", Cause::WrongCount),
-    (b"hhlog", Cause::WrongCount),
-    (b"r 5 ", Cause::BadNumber),
-    (b"r  5 7", Cause::BadNumber),
-    (b"r 5 7\r", Cause::BadNumber),
-    (b"r 05 7", Cause::BadNumber),
-    (b"r 00 7", Cause::BadNumber),
-    (b"r -5 7", Cause::BadNumber),
-    (b"r 5 1000000000000000000", Cause::BadNumber),
-    (b"r 5 7 @", Cause::BadNumber),
-    (b"r 5 7 @x", Cause::BadNumber),
-    (b"r x", Cause::BadNumber),
-    (b"k 1e3", Cause::BadNumber),
-    (b"r 5 7 0", Cause::OverLimit),
-    (b"r 5 7 1 0 1", Cause::OverLimit),
-    (b"r 5 7 268435457", Cause::OverLimit),
-    (b"r 5 7 16384 16385 16384", Cause::OverLimit),
+const BAD: &[(&[u8], LogCause)] = &[
+    (b" ", LogCause::BadWord),
+    (b"x", LogCause::BadWord),
+    (b"rr 5 7", LogCause::BadWord),
+    (b" r 5 7", LogCause::BadWord),
+    (b"end.", LogCause::BadWord),
+    (b"\x00", LogCause::BadWord),
+    (b"r", LogCause::WrongCount),
+    (b"r 5", LogCause::WrongCount),
+    (b"r 5 7 1 1", LogCause::WrongCount),
+    (b"r 5 7 1 1 1 1", LogCause::WrongCount),
+    (b"r 5 7 @1 1", LogCause::WrongCount),
+    (b"r 5 7 @1 @1", LogCause::WrongCount),
+    (b"g 5 7", LogCause::WrongCount),
+    (b"f 5 6", LogCause::WrongCount),
+    (b". 1", LogCause::WrongCount),
+    (b"end 1", LogCause::WrongCount),
+    (b"@ 3", LogCause::WrongCount),
+    (b"hhlog", LogCause::WrongCount),
+    (b"r 5 ", LogCause::BadNumber),
+    (b"r  5 7", LogCause::BadNumber),
+    (b"r 5 7\r", LogCause::BadNumber),
+    (b"r 05 7", LogCause::BadNumber),
+    (b"r 00 7", LogCause::BadNumber),
+    (b"r -5 7", LogCause::BadNumber),
+    (b"r 5 1000000000000000000", LogCause::BadNumber),
+    (b"r 5 7 @", LogCause::BadNumber),
+    (b"r 5 7 @x", LogCause::BadNumber),
+    (b"r x", LogCause::BadNumber),
+    (b"k 1e3", LogCause::BadNumber),
+    (b"r 5 7 0", LogCause::OverLimit),
+    (b"r 5 7 1 0 1", LogCause::OverLimit),
+    (b"r 5 7 268435457", LogCause::OverLimit),
+    (b"r 5 7 16384 16385 16384", LogCause::OverLimit),
     (
         b"r 5 999999999999999999 1 2 999999999999999999",
-        Cause::OverLimit,
+        LogCause::OverLimit,
     ),
     (
         b"r 5 7 999999999999999999 999999999999999999 1",
-        Cause::OverLimit,
+        LogCause::OverLimit,
     ),
-    (b"+ 4294967296", Cause::OverLimit),
-    (b"s 4294967296 0", Cause::OverLimit),
-    (b"s 0 2147483648", Cause::OverLimit),
-    (b"r 5 7 4 2 3", Cause::RunsOverlap),
-    (b"r 5 7 1 1 0", Cause::RunsOverlap),
-    (b"hhlog 2", Cause::UnknownVersion),
+    (b"+ 4294967296", LogCause::OverLimit),
+    (b"s 4294967296 0", LogCause::OverLimit),
+    (b"s 0 2147483648", LogCause::OverLimit),
+    (b"r 5 7 4 2 3", LogCause::RunsOverlap),
+    (b"r 5 7 1 1 0", LogCause::RunsOverlap),
+    (b"hhlog 2", LogCause::UnknownVersion),
 ];
 
 // The access of a line of the table.
@@ -127,15 +127,15 @@ fn access_of(
     kind: AccessKind,
     (block, offset, length, runs, apart): Numbers,
     site: Option<u64>,
-) -> Line {
-    let place = Place {
+) -> LogLine {
+    let place = LogPlace {
         block,
         offset,
         length,
         runs,
         apart,
     };
-    Line::Act(Act::Access(Access { kind, place, site }))
+    LogLine::Act(Act::Access(Access { kind, place, site }))
 }
 
 #[test]
@@ -153,8 +153,8 @@ fn references_are_read(rt: HostRuntime) {
         target: 0,
         site: Some(3),
     };
-    assert!(rt; read_line(b"g 5 7 0 @3") == Ok(Line::Act(Act::Yield(reference))));
-    assert!(rt; read_line(b"p 5 7 0 @3") == Ok(Line::Act(Act::Store(reference))));
+    assert!(rt; read_line(b"g 5 7 0 @3") == Ok(LogLine::Act(Act::Yield(reference))));
+    assert!(rt; read_line(b"p 5 7 0 @3") == Ok(LogLine::Act(Act::Store(reference))));
 }
 
 #[test]

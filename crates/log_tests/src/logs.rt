@@ -1,9 +1,9 @@
 // Whole logs, of one file and of several.
 
-use listed::Listed;
-use log_form::{Fault, Found, Position};
-use log_lines::Cause;
+use log_form::{LocatedFault, LogFault, LogPosition};
+use log_lines::LogCause;
 use log_pieces::{LogError, cut_log};
+use plain_vec::Listed;
 use std::alloc::{AllocError, Global};
 
 // What a log's files have.
@@ -12,7 +12,7 @@ enum Outcome {
     Whole,
     CutOff,
     // The number of the file, that of the line, and its fault.
-    Faulty(usize, usize, Fault),
+    Faulty(usize, usize, LogFault),
 }
 
 // The texts of files, and what they are.
@@ -40,93 +40,93 @@ const LOGS: &[(&[&[u8]], Outcome)] = &[
     ),
     (
         &[b"hhlog 1\na 1 8\nend\n"],
-        Outcome::Faulty(0, 2, Fault::NoStrand),
+        Outcome::Faulty(0, 2, LogFault::NoStrand),
     ),
     (&[b"hhlog 1\ns 0 0\nr 1 0"], Outcome::CutOff),
     (&[b"hhlog 1\n"], Outcome::CutOff),
     (&[b"hhlog 1\nend\n", b"hhlog 1\ns 0 0\n"], Outcome::CutOff),
-    (&[b""], Outcome::Faulty(0, 1, Fault::NoVersion)),
-    (&[b"hhlog 1"], Outcome::Faulty(0, 1, Fault::NoVersion)),
-    (&[b"\n"], Outcome::Faulty(0, 1, Fault::NoVersion)),
-    (&[b"end\n"], Outcome::Faulty(0, 1, Fault::NoVersion)),
-    (&[b"nonsense\n"], Outcome::Faulty(0, 1, Fault::NoVersion)),
+    (&[b""], Outcome::Faulty(0, 1, LogFault::NoVersion)),
+    (&[b"hhlog 1"], Outcome::Faulty(0, 1, LogFault::NoVersion)),
+    (&[b"\n"], Outcome::Faulty(0, 1, LogFault::NoVersion)),
+    (&[b"end\n"], Outcome::Faulty(0, 1, LogFault::NoVersion)),
+    (&[b"nonsense\n"], Outcome::Faulty(0, 1, LogFault::NoVersion)),
     (
         &[b"hhlog 2\n"],
-        Outcome::Faulty(0, 1, Fault::NoLine(Cause::UnknownVersion)),
+        Outcome::Faulty(0, 1, LogFault::NoLine(LogCause::UnknownVersion)),
     ),
     (
         &[b"hhlog 1\nhhlog 1\n"],
-        Outcome::Faulty(0, 2, Fault::NoVersion),
+        Outcome::Faulty(0, 2, LogFault::NoVersion),
     ),
     (
         &[b"hhlog 1\nend\n\n"],
-        Outcome::Faulty(0, 3, Fault::AfterEnd),
+        Outcome::Faulty(0, 3, LogFault::AfterEnd),
     ),
     (
         &[b"hhlog 1\nend\nx\n"],
-        Outcome::Faulty(0, 3, Fault::AfterEnd),
+        Outcome::Faulty(0, 3, LogFault::AfterEnd),
     ),
     (
         &[b"hhlog 1\nend\nend\n"],
-        Outcome::Faulty(0, 3, Fault::AfterEnd),
+        Outcome::Faulty(0, 3, LogFault::AfterEnd),
     ),
     (
         &[b"hhlog 1\n\nx\n"],
-        Outcome::Faulty(0, 3, Fault::NoLine(Cause::BadWord)),
+        Outcome::Faulty(0, 3, LogFault::NoLine(LogCause::BadWord)),
     ),
     (
         &[b"hhlog 1\ns 0 0\nr 1\n"],
-        Outcome::Faulty(0, 3, Fault::NoLine(Cause::WrongCount)),
+        Outcome::Faulty(0, 3, LogFault::NoLine(LogCause::WrongCount)),
     ),
     (
         &[b"hhlog 1\ns 0 0\n.\nk 1\n"],
-        Outcome::Faulty(0, 4, Fault::NoStrand),
+        Outcome::Faulty(0, 4, LogFault::NoStrand),
     ),
     // a strand that is open in one file is open in no other
     (
         &[b"hhlog 1\ns 0 0\nend\n", b"hhlog 1\nk 1\n"],
-        Outcome::Faulty(1, 2, Fault::NoStrand),
+        Outcome::Faulty(1, 2, LogFault::NoStrand),
     ),
     (
         &[b"hhlog 1\ns 0 0\n.\ns 0 0\nk 1\n"],
-        Outcome::Faulty(0, 5, Fault::StrandEnded),
+        Outcome::Faulty(0, 5, LogFault::StrandEnded),
     ),
     (
         &[b"hhlog 1\ns 0 1\n.\ns 0 0\n+ 1\nk 1\n"],
-        Outcome::Faulty(0, 6, Fault::StrandEnded),
+        Outcome::Faulty(0, 6, LogFault::StrandEnded),
     ),
     (
         &[b"hhlog 1\ns 0 0\n+ 1\nend\n", b"hhlog 1\ns 0 0\n.\n"],
-        Outcome::Faulty(1, 3, Fault::StrandEnded),
+        Outcome::Faulty(1, 3, LogFault::StrandEnded),
     ),
     (
         &[b"hhlog 1\ns 0 0\n+ 0\n"],
-        Outcome::Faulty(0, 3, Fault::SpawnedTwice),
+        Outcome::Faulty(0, 3, LogFault::SpawnedTwice),
     ),
     (
         &[b"hhlog 1\ns 0 0\n+ 1\n+ 2\n+ 1\n"],
-        Outcome::Faulty(0, 5, Fault::SpawnedTwice),
+        Outcome::Faulty(0, 5, LogFault::SpawnedTwice),
     ),
     (
         &[b"hhlog 1\ns 0 0\na 1 2\na 1 2\n"],
-        Outcome::Faulty(0, 4, Fault::BornTwice),
+        Outcome::Faulty(0, 4, LogFault::BornTwice),
     ),
     (
         &[b"hhlog 1\ns 0 0\na 1 2\nf 1\na 1 2\n"],
-        Outcome::Faulty(0, 5, Fault::BornTwice),
+        Outcome::Faulty(0, 5, LogFault::BornTwice),
     ),
     (
         &[b"hhlog 1\ns 0 0\nf 1\nf 1\n"],
-        Outcome::Faulty(0, 4, Fault::ReleasedTwice),
+        Outcome::Faulty(0, 4, LogFault::ReleasedTwice),
     ),
     (
         &[b"hhlog 1\ns 0 2147483647\nr 1 0\n- 1\n"],
-        Outcome::Faulty(0, 4, Fault::NoLine(Cause::OverLimit)),
+        Outcome::Faulty(0, 4, LogFault::NoLine(LogCause::OverLimit)),
     ),
     // a file that is given twice
     (
         &[b"hhlog 1\ns 0 0\n.\nend\n", b"hhlog 1\ns 0 0\n.\nend\n"],
-        Outcome::Faulty(1, 3, Fault::StrandEnded),
+        Outcome::Faulty(1, 3, LogFault::StrandEnded),
     ),
 ];
 
@@ -148,8 +148,8 @@ fn outcome_of(alloc: Global, texts: &[&[u8]]) -> Option<Outcome> {
             Ok(_) => Some(Outcome::Whole),
             Err(
                 LogError::Refused(
-                    Found {
-                        at: Position { file, line },
+                    LocatedFault {
+                        at: LogPosition { file, line },
                         fault,
                     },
                 ),

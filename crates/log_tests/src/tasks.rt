@@ -1,21 +1,21 @@
 // The tasks of whole and of cut logs.
 
-use fork_graph::{Extent, Turn};
-use listed::Listed;
+use fork_graph::{Extent, GraphTurn};
 use log_pieces::{CutLog, cut_log};
 use log_tasks::{LogTasks, TaskCause, TasksError, log_tasks};
+use plain_vec::Listed;
 use std::alloc::{AllocError, Global};
 
 // What a log's tasks are.
 #[derive(Clone, Copy)]
 enum Outcome {
     // The tasks' numbers in the log, the turns of each, and how many of these the log tells.
-    Tasks(&'static [u32], &'static [&'static [Turn]], &'static [usize]),
+    Tasks(&'static [u32], &'static [&'static [GraphTurn]], &'static [usize]),
     // The task and the strand at fault, and the cause.
     Refused(u32, u32, TaskCause),
 }
 
-use Turn::{Join, Spawn};
+use GraphTurn::{Join, Spawn};
 
 // Texts of a file that is whole or cut off, and what its tasks are.
 const LOGS: &[(&[u8], Outcome)] = &[
@@ -103,7 +103,7 @@ const LOGS: &[(&[u8], Outcome)] = &[
     ),
 ];
 
-fn same_turn(one: Turn, other: Turn) -> bool {
+fn same_turn(one: GraphTurn, other: GraphTurn) -> bool {
     match (one, other) {
         (Spawn(a), Spawn(b)) => a == b,
         (Join(a), Join(b)) => a == b,
@@ -111,14 +111,14 @@ fn same_turn(one: Turn, other: Turn) -> bool {
     }
 }
 
-fn same_turns(turns: &[Turn], expected: &[Turn]) -> bool {
+fn same_turns(turns: &[GraphTurn], expected: &[GraphTurn]) -> bool {
     if turns.len() != expected.len() {
         return false;
     }
     turns.iter().zip(expected).all(|(a, b)| same_turn(*a, *b))
 }
 
-fn same_rows(rows: &Listed<Listed<Turn>>, expected: &[&[Turn]]) -> bool {
+fn same_rows(rows: &Listed<Listed<GraphTurn>>, expected: &[&[GraphTurn]]) -> bool {
     if rows.len() != expected.len() {
         return false;
     }

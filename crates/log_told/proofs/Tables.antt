@@ -1,22 +1,5 @@
 -- Lines by their numbers.
-use Rattle.std.proofs.Common.{◌≡◌, ◌∙◌, ◌<◌, ◌≤◌, ◌+◌, ◌⊎◌, inl, inr, ℕ, List, [], ◌∷◌, ◌++◌, length, map, take, get_or, refl, ap, sym, subst, arith, Option, Some, None, Result, Ok, Err, nat_cmp, option_map}
-use Rattle.std.specs.Prelude.{Contains, All, slice_get}
-use Rattle.std.specs.List.{flat_map}
-use Rattle.std.specs.List.Sorted.{IsStrictlyIncreasing, IsBinarySearchResult}
-use Rattle.std.proofs.lemmas.List.Sorted.{searched}
-use Rattle.std.proofs.lemmas.Option.{slice_get-get_or, slice_get-map}
-use Rattle.std.proofs.lemmas.Bool.{cases_lt}
-use Rattle.std.proofs.lemmas.List.{take_more, map-append}
-use Rattle.listed.proofs.Members.{In, in_from_contains, contains_from_in, in_append_left, in_append_right, in_flat, got_in}
-use Rattle.log_tasks.proofs.Ascending.{in_at, found_place, not_found}
-use Rattle.act_lines.specs.declared.line.ActLine.{ActLine}
-use Rattle.act_lines.specs.ActLines.{act_line}
-use Rattle.race_scan.specs.declared.cells.FoundRace.{FoundRace}
-use Rattle.log_births.specs.declared.findings.Finding.{Finding}
-use Rattle.log_births.specs.declared.findings.Findings.{Findings}
-use Rattle.log_told.specs.declared.table.LineTable.{LineTable}
-use Rattle.log_told.specs.Told.{lines_of_race, lines_of_finding, all_lines}
-use Rattle.log_told.specs.Table.{IsTable, IsToldRace, IsToldUse}
+use Rattle.log_told.proofs.Common.{◌≡◌, ◌∙◌, ◌<◌, ◌≤◌, ◌+◌, ◌⊎◌, inl, inr, ℕ, List, [], ◌∷◌, ◌++◌, length, map, take, get_or, refl, ap, sym, subst, arith, Option, Some, None, Result, Ok, Err, nat_cmp, option_map, Contains, All, slice_get, flat_map, IsStrictlyIncreasing, IsBinarySearchResult, searched, slice_get-get_or, slice_get-map, cases_lt, take_more, map-append, In, in_from_contains, contains_from_in, in_append_left, in_append_right, in_flat, got_in, in_at, found_place, not_found, ActLine, act_line, FoundRace, Finding, Findings, LineTable, lines_of_race, lines_of_finding, all_lines, IsTable, IsToldRace, IsToldUse}
 
 -- A NUMBER'S LINE
 

@@ -4,7 +4,7 @@ ghost use Rattle.std.specs.Prelude.{◌≡◌};
 ghost use Rattle.log_told.specs.Told.{kind_of_access, kind_of, told_line};
 
 use act_lines::{ActLine, site_of};
-use log_form::Position;
+use log_form::LogPosition;
 use log_lines::{AccessKind, Act};
 use log_report::{LineKind, Told};
 
@@ -49,7 +49,7 @@ pub(crate) fn told_line(line: Option<ActLine>) -> Told
         None => Told {
             kind: LineKind::Read,
             site: None,
-            at: Position { file: 0, line: 0 },
+            at: LogPosition { file: 0, line: 0 },
         },
     }
 }

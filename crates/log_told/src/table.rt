@@ -8,9 +8,9 @@ ghost use Rattle.log_told.specs.Table.{IsTable, IsToldRace, IsToldUse};
 use crate::line::told_line;
 use crate::lines::ascending;
 use act_lines::{ActLine, lines_of_acts};
-use listed::Listed;
 use log_births::Finding;
 use log_report::{Told, ToldRace, ToldUse};
+use plain_vec::Listed;
 use race_scan::FoundRace;
 use std::alloc::{AllocError, Global};
 

@@ -5,9 +5,9 @@ ghost use Rattle.log_told.specs.Told.{told_findings};
 
 use crate::lines::all_lines;
 use crate::table::LineTable;
-use listed::Listed;
 use log_births::Findings;
 use log_report::{ToldRace, ToldUse};
+use plain_vec::Listed;
 use race_scan::FoundRace;
 use std::alloc::{AllocError, Global};
 

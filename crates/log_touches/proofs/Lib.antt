@@ -3,3 +3,4 @@ pub mod Texts
 pub mod Linking
 pub mod Parts
 pub mod below
+mod Common

@@ -3,29 +3,30 @@ use Rattle.std.specs.Prelude.{ℕ, ◌+◌, Option, Some, None, List, [], ◌∷
 use Rattle.std.specs.List.{flat_map}
 use Rattle.log_lines.specs.declared.line.AccessKind.{AccessKind as LineKind}
 use Rattle.log_lines.specs.declared.line.AccessKind.TheVariants as lines
-use Rattle.log_lines.specs.declared.line.Place.{Place}
+use Rattle.log_lines.specs.declared.line.LogPlace.{LogPlace}
 use Rattle.log_lines.specs.declared.line.Reference.{Reference}
 use Rattle.log_lines.specs.declared.line.Act.{Act}
 use Rattle.log_lines.specs.declared.line.Act.TheVariants as acts
 use Rattle.log_places.specs.declared.region.Region.{Region}
-use Rattle.race_scan.specs.below.race_cells.{AccessKind, PlainRead, PlainWrite, AtomicRead, AtomicWrite}
+use Rattle.race_scan.specs.below.race_cells.{CellAccessKind, PlainRead, PlainWrite, AtomicRead, AtomicWrite}
 use Rattle.race_scan.specs.declared.touch.Touch.{Touch}
+use Rattle.race_scan.specs.Touches.{touches_of_release}
 use Rattle.log_touches.specs.declared.access.ActAccess.{ActAccess}
 
 -- the same kinds, as lines name them and as the scan of a location does
-abbrev pub kind_of : LineKind → AccessKind
+abbrev pub kind_of : LineKind → CellAccessKind
 kind_of lines.Read = PlainRead
 kind_of lines.Write = PlainWrite
 kind_of lines.AtomicRead = AtomicRead
 kind_of lines.AtomicWrite = AtomicWrite
 
-abbrev pub region_of : Place → Region
+abbrev pub region_of : LogPlace → Region
 region_of p = record { block = p.block; offset = p.offset; length = p.length; runs = p.runs; apart = p.apart }
 
 abbrev pub location_of : Reference → Region
 location_of r = record { block = r.block; offset = r.offset; length = 1; runs = 1; apart = 1 }
 
-abbrev pub act_access : Region → AccessKind → Option ActAccess
+abbrev pub act_access : Region → CellAccessKind → Option ActAccess
 act_access region kind = Some (record { region = region; kind = kind })
 
 -- a read that yields a reference is a plain read of its location, and a write of one a plain write
@@ -44,13 +45,18 @@ access_of acts.Finish = None
 abbrev pub touch_by : ℕ → ℕ → ActAccess → Touch
 touch_by s n a = record { region = a.region; access = record { strand = s; kind = a.kind; line = n } }
 
-abbrev pub touches_of_act : ℕ → ℕ → Act → List Touch
-touches_of_act s n act = option_to_list (option_map (touch_by s n) (access_of act))
+abbrev pub touches_of_access : ℕ → ℕ → Act → List Touch
+touches_of_access s n act = option_to_list (option_map (touch_by s n) (access_of act))
+
+-- in a log whose acts access these regions: a release is a plain write of each location of its block that is accessed
+abbrev pub touches_of_act : List Region → ℕ → ℕ → Act → List Touch
+touches_of_act regions s n (acts.Release block) = touches_of_release regions block s n
+touches_of_act regions s n act = touches_of_access s n act
 
 -- of acts whose first one has number n
-abbrev pub touches_from : ℕ → ℕ → List Act → List Touch
-touches_from s n [] = []
-touches_from s n (a ∷ more) = touches_of_act s n a ++ touches_from s (n + 1) more
+abbrev pub touches_from : List Region → ℕ → ℕ → List Act → List Touch
+touches_from regions s n [] = []
+touches_from regions s n (a ∷ more) = touches_of_act regions s n a ++ touches_from regions s (n + 1) more
 
 -- the locations that acts access
 abbrev pub regions_of_act : Act → List Region

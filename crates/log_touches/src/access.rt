@@ -5,31 +5,31 @@ ghost use Rattle.log_lines.specs.Limits.{IsAct, IsPlace, IsReference};
 ghost use Rattle.log_places.specs.Places.{IsRegion};
 ghost use Rattle.log_touches.specs.Accesses.{kind_of, region_of, location_of, access_of, touch_by};
 
-use log_lines::{Act, Place, Reference};
+use log_lines::{Act, LogPlace, Reference};
 use log_places::Region;
-use race_scan::{Access, AccessKind, Touch};
+use race_scan::{CellAccess, CellAccessKind, Touch};
 
 /// Which locations an act accesses, and how.
 #[derive(Clone, Copy)]
 pub struct ActAccess {
     pub region: Region,
-    pub kind: AccessKind,
+    pub kind: CellAccessKind,
 }
 
 // The kind of an access, as the scan of a location has it.
-fn kind_of(kind: log_lines::AccessKind) -> AccessKind
+fn kind_of(kind: log_lines::AccessKind) -> CellAccessKind
     ensures { result ≡ kind_of kind }
 {
     match kind {
-        log_lines::AccessKind::Read => AccessKind::PlainRead,
-        log_lines::AccessKind::Write => AccessKind::PlainWrite,
-        log_lines::AccessKind::AtomicRead => AccessKind::AtomicRead,
-        log_lines::AccessKind::AtomicWrite => AccessKind::AtomicWrite,
+        log_lines::AccessKind::Read => CellAccessKind::PlainRead,
+        log_lines::AccessKind::Write => CellAccessKind::PlainWrite,
+        log_lines::AccessKind::AtomicRead => CellAccessKind::AtomicRead,
+        log_lines::AccessKind::AtomicWrite => CellAccessKind::AtomicWrite,
     }
 }
 
 // The locations of a place.
-fn region_of(place: Place) -> Region
+fn region_of(place: LogPlace) -> Region
     requires { IsPlace place }
     ensures value { result ≡ region_of place }
     ensures region { IsRegion result }
@@ -71,11 +71,11 @@ pub(crate) fn access_of(act: Act) -> Option<ActAccess>
         }),
         Act::Yield(reference) => Some(ActAccess {
             region: location_of(reference),
-            kind: AccessKind::PlainRead,
+            kind: CellAccessKind::PlainRead,
         }),
         Act::Store(reference) => Some(ActAccess {
             region: location_of(reference),
-            kind: AccessKind::PlainWrite,
+            kind: CellAccessKind::PlainWrite,
         }),
         Act::Birth { .. }
         | Act::Release(_)
@@ -92,7 +92,7 @@ pub(crate) fn touch_by(strand: u32, line: u32, access: ActAccess) -> Touch
 {
     Touch {
         region: access.region,
-        access: Access {
+        access: CellAccess {
             strand,
             kind: access.kind,
             line,

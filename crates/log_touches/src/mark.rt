@@ -13,10 +13,10 @@ ghost use Rattle.log_touches.specs.Limits.{most_acts, AreTooMany};
 
 use crate::access::access_of;
 use crate::numbers::RacesError;
-use listed::Listed;
 use log_lines::Act;
-use log_pieces::{Piece, act_in, piece_text};
+use log_pieces::{LogPiece, act_in, piece_text};
 use log_places::Places;
+use plain_vec::Listed;
 use std::alloc::{AllocError, Global};
 use text_lines::next_line;
 
@@ -76,7 +76,7 @@ fn mark_text(places: &mut Places, text: &[u8], first: u64) -> Result<u64, RacesE
 pub fn mark_pieces(
     alloc: Global,
     texts: &[Listed<u8>],
-    pieces: &[Piece],
+    pieces: &[LogPiece],
 ) -> Result<(Places, Listed<u64>), RacesError>
     ensures marked { IfOk result (λ r. AreMarked (regions_of_events (events_of_pieces texts.now pieces.now)) r.0) }
     ensures firsts { IfOk result (λ r. r.1 ≡ firsts_from texts.now 0 pieces.now) }

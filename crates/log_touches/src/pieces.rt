@@ -4,11 +4,11 @@ ghost use Rattle.std.specs.Prelude.{◌≡◌, ◌+◌, ◌<◌, ℕ, IfOk, OnOk
 ghost use Rattle.std.specs.HashMap.{get};
 ghost use Rattle.log_pieces.specs.Claims.{is_pair, is_that};
 ghost use Rattle.log_pieces.specs.Pieces.{acts_in, acts_of_piece};
-ghost use Rattle.log_touches.specs.Chains.{firsts_from, next_on, AreLinks};
+ghost use Rattle.log_touches.specs.Chains.{firsts_from, next_on, ArePieceLinks};
 
-use fork_graph::Strand;
-use listed::Listed;
-use log_pieces::{Piece, piece_text};
+use fork_graph::GraphStrand;
+use log_pieces::{LogPiece, piece_text};
+use plain_vec::Listed;
 use std::alloc::{AllocError, Global};
 use std::collections::HashMap;
 use std::marker::Model;
@@ -24,7 +24,7 @@ pub(crate) struct Links {
 #[derive(Drop)]
 pub struct StrandPieces<'l> {
     texts: &'l [Listed<u8>],
-    pieces: &'l [Piece],
+    pieces: &'l [LogPiece],
     /// The number of each piece's first act.
     firsts: Listed<u64>,
     links: Links,
@@ -32,17 +32,17 @@ pub struct StrandPieces<'l> {
 
 impl<'l> Model for StrandPieces<'l> {
     ghost use Rattle.std.specs.Prelude.{◌≡◌};
-    ghost use Rattle.log_touches.specs.Chains.{PiecesValue, firsts_from, AreLinks};
+    ghost use Rattle.log_touches.specs.Chains.{LogPiecesValue, firsts_from, ArePieceLinks};
 
-    ghost Value = { PiecesValue };
+    ghost Value = { LogPiecesValue };
 
     ghost view = { λ p. record { texts = p.texts.now; pieces = p.pieces.now } };
 
-    ghost invariant = { λ p. (p.firsts ≡ firsts_from p.texts.now 0 p.pieces.now) × AreLinks p.pieces.now p.links };
+    ghost invariant = { λ p. (p.firsts ≡ firsts_from p.texts.now 0 p.pieces.now) × ArePieceLinks p.pieces.now p.links };
 }
 
 // The piece at a place.
-fn piece_at(pieces: &[Piece], place: usize) -> Piece
+fn piece_at(pieces: &[LogPiece], place: usize) -> LogPiece
     requires { place < length pieces.now }
     ensures { slice_get pieces.now place ≡ Some result }
 {
@@ -52,7 +52,7 @@ fn piece_at(pieces: &[Piece], place: usize) -> Piece
 // A piece of a strand comes before all others; the place of the one that was first.
 fn put_first(
     heads: &mut HashMap<(u32, u32), usize>,
-    strand: Strand,
+    strand: GraphStrand,
     place: usize,
 ) -> Result<Option<usize>, AllocError>
     ensures old { IfOk result (λ old. old ≡ get is_pair heads.old (strand.task, strand.index)) }
@@ -69,8 +69,8 @@ fn no_heads(alloc: Global) -> HashMap<(u32, u32), usize>
 }
 
 // The links between pieces of one strand.
-fn links_of(alloc: Global, pieces: &[Piece]) -> Result<Links, AllocError>
-    ensures { IfOk result (AreLinks pieces.now) }
+fn links_of(alloc: Global, pieces: &[LogPiece]) -> Result<Links, AllocError>
+    ensures { IfOk result (ArePieceLinks pieces.now) }
 {
     let mut heads = no_heads(alloc);
     let mut nexts = Listed::from_vec(vec![in alloc; None; pieces.len()]?);
@@ -86,7 +86,7 @@ fn links_of(alloc: Global, pieces: &[Piece]) -> Result<Links, AllocError>
 
 impl<'l> StrandPieces<'l> {
     ghost use Rattle.std.specs.Prelude.{◌≡◌, ◌+◌, ◌<◌, IfOk, IfSome, length, drop, slice_get, Some};
-    ghost use Rattle.log_pieces.specs.declared.piece.Piece.{Piece};
+    ghost use Rattle.log_pieces.specs.declared.piece.LogPiece.{LogPiece};
     ghost use Rattle.log_pieces.specs.Pieces.{acts_in, acts_of_piece};
     ghost use Rattle.log_touches.specs.Chains.{firsts_from, next_on, NumbersPiece};
 
@@ -94,7 +94,7 @@ impl<'l> StrandPieces<'l> {
     pub fn new(
         alloc: Global,
         texts: &'l [Listed<u8>],
-        pieces: &'l [Piece],
+        pieces: &'l [LogPiece],
         firsts: Listed<u64>,
     ) -> Result<StrandPieces<'l>, AllocError>
         requires { firsts ≡ firsts_from texts.now 0 pieces.now }
@@ -110,7 +110,7 @@ impl<'l> StrandPieces<'l> {
     }
 
     /// The place of a strand's first piece.
-    pub(crate) fn first_on(&self, strand: Strand) -> Option<usize>
+    pub(crate) fn first_on(&self, strand: GraphStrand) -> Option<usize>
         ensures place { result ≡ next_on strand 0 self.now.pieces }
         ensures there { IfSome result (λ i. i < length self.now.pieces) }
     {
@@ -120,7 +120,7 @@ impl<'l> StrandPieces<'l> {
     /// The place of the next piece of the strand that has the piece at a place.
     pub(crate) fn next_after(&self, place: usize) -> Option<usize>
         requires { place < length self.now.pieces }
-        ensures place { (p : Piece) → slice_get self.now.pieces place ≡ Some p → result ≡ next_on p.strand (place + 1) (drop (place + 1) self.now.pieces) }
+        ensures place { (p : LogPiece) → slice_get self.now.pieces place ≡ Some p → result ≡ next_on p.strand (place + 1) (drop (place + 1) self.now.pieces) }
         ensures there { IfSome result (λ i. i < length self.now.pieces) }
     {
         *self.links.nexts.at(place)
@@ -129,7 +129,7 @@ impl<'l> StrandPieces<'l> {
     /// The text of the piece at a place, and the number of its first act.
     pub(crate) fn piece(&self, place: usize) -> (&[u8], u64)
         requires { place < length self.now.pieces }
-        ensures acts { (p : Piece) → slice_get self.now.pieces place ≡ Some p → acts_in result.0.now ≡ acts_of_piece self.now.texts p }
+        ensures acts { (p : LogPiece) → slice_get self.now.pieces place ≡ Some p → acts_in result.0.now ≡ acts_of_piece self.now.texts p }
         ensures number { NumbersPiece self.now place result.1 }
     {
         let piece = piece_at(self.pieces, place);

@@ -2,19 +2,19 @@
 use Rattle.std.proofs.Common.{◌≡◌, ◌==◌, ℕ, ◌+◌, ◌<◌, ◌≤◌, Bool, true, false, Option, Some, None, List, [], ◌∷◌, ◌++◌, All, filter, map, length, inl, inr, refl, ap, sym, subst, ◌∙◌, arith, eq-eqb, if◌then◌else◌}
 use Rattle.std.proofs.lemmas.Bool.{ne_eqb, eqb-true, false≢true}
 use Rattle.std.proofs.lemmas.Option.{same_Some}
-use Rattle.listed.proofs.Members.{In, in_kept, in_from_kept, in_append_left, in_append_right}
-use Rattle.listed.proofs.Options.{none_some}
-use Rattle.listed.proofs.Places.{in_map, map_in, read_in}
+use Rattle.plain_vec.proofs.Members.{In, in_kept, in_from_kept, in_append_left, in_append_right}
+use Rattle.plain_vec.proofs.Options.{none_some}
+use Rattle.plain_vec.proofs.Places.{in_map, map_in, read_in}
 use Rattle.fork_graph.specs.Graph.{tasks_in, Precedes}
 use Rattle.log_walk.specs.Tables.{strand_at}
 use Rattle.log_walk.specs.Value.{WalkValue, IsWalked}
-use Rattle.log_places.specs.declared.numbers.Slot.{Slot}
+use Rattle.log_places.specs.declared.numbers.LocationSlot.{LocationSlot}
 use Rattle.log_places.specs.declared.region.Region.{Region}
 use Rattle.log_places.specs.Places.{Covers, PlacesValue}
 use Rattle.log_places.specs.Numbers.{IsSlot}
 use Rattle.log_places.proofs.Numbering.{slots_are_one}
-use Rattle.race_cells.specs.declared.access.Access.{Access}
-use Rattle.race_cells.specs.declared.access.Race.{Race}
+use Rattle.race_cells.specs.declared.access.CellAccess.{CellAccess}
+use Rattle.race_cells.specs.declared.access.CellRace.{CellRace}
 use Rattle.race_cells.specs.Laws.{IsExact, IsFirstRace, Races, RaceFree}
 use Rattle.run_order.specs.Order.{run_order}
 use Rattle.run_order.proofs.Orders.{walks_have_an_order}
@@ -26,7 +26,7 @@ use Rattle.race_scan.specs.Scan.{AreOnce, HasScanned}
 use Rattle.race_scan.specs.Laws.{AreRacesOf, HasLocation}
 use Rattle.race_scan.proofs.Covering.{run_covers, run_of}
 use Rattle.race_scan.proofs.Exact.{scans_are_exact}
-use Rattle.log_verdict.specs.Verdict.{AreInSerialOrder, RaceAt, IsFoundRace, AreVerdicts}
+use Rattle.log_verdict.specs.Verdict.{AreInSerialOrder, LogRaceAt, IsFoundRace, AreVerdicts}
 
 -- RACES BY THEIR STRETCHES
 
@@ -38,12 +38,12 @@ race_in (g ∷ gs) f once (inl is) =
 race_in (g ∷ gs) f once (inr i) =
     ap (λ b. if b then Some g.race else race_of gs f.slot.number) (ne_eqb g.slot.number f.slot.number (once.0 f i)) ∙ race_in gs f once.1 i
 
-in_race_by : (g : FoundRace) (gs : List FoundRace) (n : ℕ) (r : Race) → (race_of gs n ≡ Some r → (f : FoundRace) × In gs f × (f.slot.number ≡ n) × (f.race ≡ r))
+in_race_by : (g : FoundRace) (gs : List FoundRace) (n : ℕ) (r : CellRace) → (race_of gs n ≡ Some r → (f : FoundRace) × In gs f × (f.slot.number ≡ n) × (f.race ≡ r))
     → (b : Bool) → (g.slot.number == n) ≡ b → (if b then Some g.race else race_of gs n) ≡ Some r → (f : FoundRace) × In (g ∷ gs) f × (f.slot.number ≡ n) × (f.race ≡ r)
 in_race_by g gs n r more true e h = (g, inl refl, eqb-true g.slot.number n e, same_Some g.race r h)
 in_race_by g gs n r more false e h = let m = more h in (m.0, inr m.1, m.2, m.3)
 
-in_race : (fs : List FoundRace) (n : ℕ) (r : Race) → race_of fs n ≡ Some r → (f : FoundRace) × In fs f × (f.slot.number ≡ n) × (f.race ≡ r)
+in_race : (fs : List FoundRace) (n : ℕ) (r : CellRace) → race_of fs n ≡ Some r → (f : FoundRace) × In fs f × (f.slot.number ≡ n) × (f.race ≡ r)
 in_race [] n r h = none_some h
 in_race (g ∷ gs) n r h = in_race_by g gs n r (in_race gs n r) (g.slot.number == n) refl h
 
@@ -65,13 +65,13 @@ from_covers r block x h =
     record { of_block = m.0; run = m.1.run; there = m.1.there; from = m.1.from; below = m.1.below }
 
 -- an access of a location is one of all
-pub record IsAmong (touches : List Touch) (block x : ℕ) (a : Access) : Type 0 where
+pub record IsAmong (touches : List Touch) (block x : ℕ) (a : CellAccess) : Type 0 where
   pub touch : Touch
   pub among : In touches touch
   pub covering : covers touch.region block x ≡ true
   pub is : touch.access ≡ a
 
-among_from : (touches : List Touch) (block x : ℕ) (a : Access) → In (accesses_at touches block x) a → IsAmong touches block x a
+among_from : (touches : List Touch) (block x : ℕ) (a : CellAccess) → In (accesses_at touches block x) a → IsAmong touches block x a
 among_from touches block x a i =
     let m = map_in (λ (t : Touch). t.access) (filter (λ (t : Touch). covers t.region block x) touches) a i in
     let k = in_from_kept (λ (t : Touch). covers t.region block x) touches m.0 m.1 in
@@ -138,8 +138,8 @@ module _ (walk : WalkValue) (w : IsWalked walk) (v : PlacesValue) (touches : Lis
 
   -- WHAT RACES IS FOUND
 
-  found : (block x : ℕ) (slot : Slot) → IsSlot v block x slot → (r : Option Race) → race_of races slot.number ≡ r → IsExact (run_order walk) (accesses_at touches block x) r
-      → (t u : Touch) → RaceAt walk touches block x t u → (f : FoundRace) × In races f × HasLocation f block x
+  found : (block x : ℕ) (slot : LocationSlot) → IsSlot v block x slot → (r : Option CellRace) → race_of races slot.number ≡ r → IsExact (run_order walk) (accesses_at touches block x) r
+      → (t u : Touch) → LogRaceAt walk touches block x t u → (f : FoundRace) × In races f × HasLocation f block x
   found block x slot is None e free t u race =
       absurd (free t.access u.access
       (from_among touches block x t race.first (covers_from t.region block x race.covers_first))
@@ -155,9 +155,9 @@ module _ (walk : WalkValue) (w : IsWalked walk) (v : PlacesValue) (touches : Lis
       let s = are.there f m.1 in
       let one = slots_are_one.same v f.block block f.slot.start x f.slot slot (s.each f.slot.start (same_upto f.slot.start) s.some) is m.2 in
       let around = slots_are_one.within v block x slot is in
-      (f, m.1, (one.0, subst (λ (y : Slot). y.start ≤ x) (sym one.1) around.0, subst (λ (y : Slot). x < y.end) (sym one.1) around.1))
+      (f, m.1, (one.0, subst (λ (y : LocationSlot). y.start ≤ x) (sym one.1) around.0, subst (λ (y : LocationSlot). x < y.end) (sym one.1) around.1))
 
-  complete : (block x : ℕ) → (t u : Touch) → RaceAt walk touches block x t u → (f : FoundRace) × In races f × HasLocation f block x
+  complete : (block x : ℕ) → (t u : Touch) → LogRaceAt walk touches block x t u → (f : FoundRace) × In races f × HasLocation f block x
   complete block x t u race =
       let c = covers_from t.region block x race.covers_first in
       let b : t.region.block ≡ block = race.covers_first.of_block in
@@ -169,7 +169,7 @@ module _ (walk : WalkValue) (w : IsWalked walk) (v : PlacesValue) (touches : Lis
   once f g block x i j a b =
       let sf = subst (λ y. IsSlot v y x f.slot) a.0 ((are.there f i).each x a.1 a.2) in
       let sg = subst (λ y. IsSlot v y x g.slot) b.0 ((are.there g j).each x b.1 b.2) in
-      one_found races f g are.once i j (ap (λ (s : Slot). s.number) (slots_are_one.one v block x f.slot g.slot sf sg))
+      one_found races f g are.once i j (ap (λ (s : LocationSlot). s.number) (slots_are_one.one v block x f.slot g.slot sf sg))
 
   pub are_verdicts : AreVerdicts walk touches races
   are_verdicts = record {
@@ -188,3 +188,9 @@ verdicts_of walk w v touches scan order seen =
     (scans_are_exact (run_order walk) o.1 o.2 v touches
     (record { known = subst (λ n. All (λ (t : Touch). t.access.strand < n) touches) (sym o.0.strands) order.known; serial = order.serial })
     scan seen)
+
+-- in the order of a walk each of its strands is known
+pub own_before : (walk : WalkValue) → IsWalked walk → (u : ℕ) → u < length walk.order → (run_order walk).before u u ≡ true
+own_before walk w u lt =
+    let o = walks_have_an_order walk w in
+    o.1.same u (subst (λ n. u < n) (sym o.0.strands) lt)

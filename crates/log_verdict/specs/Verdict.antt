@@ -1,19 +1,19 @@
 -- The determinacy races of a run.
 use Rattle.std.specs.Prelude.{◌≡◌, ◌<◌, ◌≤◌, ℕ, true, List, length, All, AllPairs}
-use Rattle.listed.specs.Members.{In}
-use Rattle.fork_graph.specs.declared.graph.Strand.{Strand}
+use Rattle.plain_vec.specs.Members.{In}
+use Rattle.fork_graph.specs.declared.graph.GraphStrand.{GraphStrand}
 use Rattle.fork_graph.specs.Graph.{tasks_in, Precedes}
 use Rattle.log_walk.specs.Tables.{strand_at}
 use Rattle.log_walk.specs.Value.{WalkValue}
 use Rattle.log_places.specs.Places.{Covers}
-use Rattle.race_cells.specs.declared.access.Access.{Access}
-use Rattle.race_cells.specs.Access.{clash}
+use Rattle.race_cells.specs.declared.access.CellAccess.{CellAccess}
+use Rattle.race_cells.specs.CellAccess.{clash}
 use Rattle.race_scan.specs.declared.touch.Touch.{Touch}
 use Rattle.race_scan.specs.declared.cells.FoundRace.{FoundRace}
 use Rattle.race_scan.specs.Laws.{HasLocation}
 
 -- the strand that made an access
-abbrev pub strand_of : WalkValue → Access → Strand
+abbrev pub strand_of : WalkValue → CellAccess → GraphStrand
 strand_of walk a = strand_at walk.order a.strand
 
 -- accesses name strands of the walk, and come in their serial order
@@ -23,7 +23,7 @@ pub record AreInSerialOrder (walk : WalkValue) (touches : List Touch) : Type 0 w
 
 -- two accesses race at a location: both are of it, one of them writes and not both are atomic, and no walk along the
 -- edges of the graph leads from the strand of one to that of the other
-pub record RaceAt (walk : WalkValue) (touches : List Touch) (block location : ℕ) (t u : Touch) : Type 0 where
+pub record LogRaceAt (walk : WalkValue) (touches : List Touch) (block location : ℕ) (t u : Touch) : Type 0 where
   pub first : In touches t
   pub second : In touches u
   pub covers_first : Covers t.region block location
@@ -34,7 +34,7 @@ pub record RaceAt (walk : WalkValue) (touches : List Touch) (block location : �
 
 -- two accesses race at the location
 abbrev pub IsRacing : WalkValue → List Touch → ℕ → ℕ → Type 0
-IsRacing walk touches block location = (t : Touch) × (u : Touch) × RaceAt walk touches block location t u
+IsRacing walk touches block location = (t : Touch) × (u : Touch) × LogRaceAt walk touches block location t u
 
 -- the two accesses of a found race
 pub record IsFoundRace (walk : WalkValue) (touches : List Touch) (found : FoundRace) (location : ℕ) : Type 0 where
@@ -42,7 +42,7 @@ pub record IsFoundRace (walk : WalkValue) (touches : List Touch) (found : FoundR
   pub second : Touch
   pub first_is : first.access ≡ found.race.first
   pub second_is : second.access ≡ found.race.second
-  pub race : RaceAt walk touches found.block location first second
+  pub race : LogRaceAt walk touches found.block location first second
 
 -- the races that are found: just the locations of which two accesses race are told, each once, with two that race
 pub record AreVerdicts (walk : WalkValue) (touches : List Touch) (races : List FoundRace) : Type 0 where

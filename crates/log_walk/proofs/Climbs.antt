@@ -1,34 +1,14 @@
 -- Climbs from a strand by the strands that spawned its task, its parent, and so on.
-use Rattle.std.proofs.Common.{◌≡◌, ◌↔◌, ℕ, zero, suc, ◌+◌, ◌-◌, ◌^◌, ◌<◌, ◌≤◌, Option, Some, None, List, length, slice_get, ◌⊎◌, inl, inr, refl, ap, sym, subst, ◌∙◌, arith, add-one}
-use Rattle.std.proofs.lemmas.Option.{same_Some, slice_get_within, slice_get-get_or, get_or_from_slice_get}
-use Rattle.listed.proofs.Options.{none_some}
-use Rattle.listed.proofs.Places.{got_some}
-use Rattle.walk_laws.specs.Reached.{IsWalk}
-use Rattle.far_links.specs.Walk.{ancestor}
-use Rattle.far_links.specs.Lists.{up_from, depth_at, far_at}
-use Rattle.far_links.proofs.Walks.{first_link}
-use Rattle.fork_graph.specs.declared.graph.Turn.{Turn}
-use Rattle.fork_graph.specs.declared.graph.Turn.TheVariants.{Spawn, Join}
-use Rattle.fork_graph.specs.declared.graph.Strand.{Strand}
-use Rattle.fork_graph.specs.Graph.{tasks_in, strand, first_of, last_of, Does, Precedes, IsParent, IsAncestor}
-use Rattle.ancestor_laws.specs.Serial.{AreLevels, IsSerial}
-use Rattle.ancestor_laws.specs.Blocks.{AreBlocks, TellsPrecedence}
-use Rattle.ancestor_laws.proofs.Trees.{IsLine, itself, same_ancestor, below, through, child_above, parent_line, one_line}
-use Rattle.ancestor_laws.proofs.Walks.{IsRooted, attached_rooted, rooted_attached}
-use Rattle.ancestor_laws.proofs.Serial.{serial_order_extends, levels_are_few}
-use Rattle.ancestor_laws.proofs.Blocks.{are_blocks, tells_precedence}
-use Rattle.log_walk.specs.declared.tables.Tables.{Tables}
-use Rattle.log_walk.specs.Tables.{strand_at, task_at, place_before, AreTables, IsNextUp, IsTop}
-use Rattle.log_walk.specs.Meetings.{IsDepthAt, IsExitAt}
+use Rattle.log_walk.proofs.Common.{◌≡◌, ◌↔◌, ℕ, zero, suc, ◌+◌, ◌-◌, ◌^◌, ◌<◌, ◌≤◌, Option, Some, None, List, length, slice_get, ◌⊎◌, inl, inr, refl, ap, sym, subst, ◌∙◌, arith, add-one, same_Some, slice_get_within, slice_get-get_or, get_or_from_slice_get, none_some, got_some, IsWalk, ancestor, up_from, depth_at, far_at, first_link, GraphTurn, Spawn, Join, GraphStrand, tasks_in, strand, first_of, last_of, Does, Precedes, IsParent, IsAncestor, AreLevels, IsSerialOrder, AreBlocks, TellsPrecedence, IsLine, itself, same_ancestor, below, through, child_above, parent_line, one_line, IsRooted, attached_rooted, rooted_attached, serial_order_extends, levels_are_few, are_blocks, tells_precedence, Tables, strand_at, task_at, place_before, AreTables, IsNextUp, IsTop, IsDepthAt, IsExitAt}
 use Rattle.log_walk.proofs.Lines.{line_short}
 use Rattle.log_walk.proofs.Marks.{first_mark, last_mark, joined_mark}
 
-module _ (rows : List (List Turn)) (tables : Tables) (w : AreTables rows tables) where
+module _ (rows : List (List GraphTurn)) (tables : Tables) (w : AreTables rows tables) where
   levels : AreLevels (tasks_in rows) (length rows)
   levels = levels_are_few (tasks_in rows) (length rows) w.nested.fork_join w.some w.below
 
-  serial : IsSerial (tasks_in rows) tables.order
-  serial = subst (IsSerial (tasks_in rows)) (sym w.order) (serial_order_extends (tasks_in rows) (length rows) w.nested levels)
+  serial : IsSerialOrder (tasks_in rows) tables.order
+  serial = subst (IsSerialOrder (tasks_in rows)) (sym w.order) (serial_order_extends (tasks_in rows) (length rows) w.nested levels)
 
   blocks : AreBlocks (tasks_in rows) tables.order
   blocks = subst (AreBlocks (tasks_in rows)) (sym w.order) (are_blocks (tasks_in rows) (length rows) w.nested levels)
@@ -52,7 +32,7 @@ module _ (rows : List (List Turn)) (tables : Tables) (w : AreTables rows tables)
   pub task_below : (i : ℕ) → i < length tables.order → task_at tables.order i < length rows
   task_below i lt = task_there (task_at tables.order i) (rooted_at i lt).rooted
 
-  place_there : (u : Strand) → IsRooted (tasks_in rows) u → (i : ℕ) × (slice_get tables.order i ≡ Some u)
+  place_there : (u : GraphStrand) → IsRooted (tasks_in rows) u → (i : ℕ) × (slice_get tables.order i ≡ Some u)
   place_there u r = serial.all u (rooted_attached (tasks_in rows) u r)
 
   first_there : (t : ℕ) → IsAncestor (tasks_in rows) 0 t → (i : ℕ) × (slice_get tables.order i ≡ Some (first_of t))
@@ -122,7 +102,7 @@ module _ (rows : List (List Turn)) (tables : Tables) (w : AreTables rows tables)
           let hp : slice_get tables.order p ≡ Some (strand q k) = subst (λ x. slice_get tables.order x ≡ Some (strand q k)) at ha in
           let lt' : p < length tables.order = slice_get_within tables.order p (strand q k) hp in
           let is : strand q k ≡ strand_at tables.order p = same_Some (strand q k) (strand_at tables.order p) (sym hp ∙ at_place p lt') in
-          (lt', (k, subst (λ x. Does (tasks_in rows) x k (Spawn (task_at tables.order i))) (ap (λ (x : Strand). x.task) is) sp))
+          (lt', (k, subst (λ x. Does (tasks_in rows) x k (Spawn (task_at tables.order i))) (ap (λ (x : GraphStrand). x.task) is) sp))
 
   -- where it has none, its task is the root
   pub link_root : (i : ℕ) → i < length tables.order → up_from tables.links.items i ≡ None → task_at tables.order i ≡ 0
@@ -308,17 +288,17 @@ module _ (rows : List (List Turn)) (tables : Tables) (w : AreTables rows tables)
 
   -- THE TABLES
 
-  pub strand_is_at : (i : ℕ) (u : Strand) → slice_get tables.order i ≡ Some u → strand_at tables.order i ≡ u
+  pub strand_is_at : (i : ℕ) (u : GraphStrand) → slice_get tables.order i ≡ Some u → strand_at tables.order i ≡ u
   strand_is_at i u h = get_or_from_slice_get tables.order i u (strand 0 0) h
 
-  pub noted_task : (i : ℕ) (u : Strand) → slice_get tables.order i ≡ Some u → u.task < length rows
-  noted_task i u h = subst (λ (x : Strand). x.task < length rows) (strand_is_at i u h) (task_below i (slice_get_within tables.order i u h))
+  pub noted_task : (i : ℕ) (u : GraphStrand) → slice_get tables.order i ≡ Some u → u.task < length rows
+  noted_task i u h = subst (λ (x : GraphStrand). x.task < length rows) (strand_is_at i u h) (task_below i (slice_get_within tables.order i u h))
 
-  pub above_tells : (i j f l : ℕ) (u : Strand) → i < length tables.order → j < length tables.order → slice_get tables.order i ≡ Some u
+  pub above_tells : (i j f l : ℕ) (u : GraphStrand) → i < length tables.order → j < length tables.order → slice_get tables.order i ≡ Some u
       → slice_get tables.firsts u.task ≡ Some f → slice_get tables.lasts u.task ≡ Some l
       → (((f ≤ j) × (j ≤ l)) ↔ IsAncestor (tasks_in rows) (task_at tables.order i) (task_at tables.order j))
   above_tells i j f l u lt lt' h hf hl =
       let is = strand_is_at i u h in
       let both = above_by i j f l lt lt'
-      (ap (λ (x : Strand). slice_get tables.firsts x.task) is ∙ hf) (ap (λ (x : Strand). slice_get tables.lasts x.task) is ∙ hl) in
+      (ap (λ (x : GraphStrand). slice_get tables.firsts x.task) is ∙ hf) (ap (λ (x : GraphStrand). slice_get tables.lasts x.task) is ∙ hl) in
       (both.1, both.0)

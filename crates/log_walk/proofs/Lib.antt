@@ -4,3 +4,4 @@ pub mod Marks
 pub mod SpawnLinks
 pub mod Climbs
 pub mod Made
+mod Common

@@ -1,14 +1,7 @@
 -- Lines of spawns from the root.
-use Rattle.std.proofs.Common.{◌≡◌, ℕ, zero, suc, ◌+◌, ◌-◌, ◌<◌, ◌≤◌, List, length, inl, inr, subst, arith}
-use Rattle.std.proofs.lemmas.Bool.{cases_lt}
-use Rattle.fork_graph.specs.declared.graph.Turn.{Turn}
-use Rattle.fork_graph.specs.Graph.{tasks_in}
-use Rattle.fork_graph.specs.Nested.{IsForkJoin}
-use Rattle.fork_graph.specs.Faults.{SpawnsBelow}
-use Rattle.ancestor_laws.proofs.Trees.{IsLine}
-use Rattle.ancestor_laws.proofs.Serial.{levels_are_few}
+use Rattle.log_walk.proofs.Common.{◌≡◌, ℕ, zero, suc, ◌+◌, ◌-◌, ◌<◌, ◌≤◌, List, length, inl, inr, subst, arith, cases_lt, GraphTurn, tasks_in, IsForkJoin, SpawnsBelow, IsLine, levels_are_few}
 
-module _ (rows : List (List Turn)) (fj : IsForkJoin (tasks_in rows)) (some : 0 < length rows) (below : SpawnsBelow (tasks_in rows) (length rows)) where
+module _ (rows : List (List GraphTurn)) (fj : IsForkJoin (tasks_in rows)) (some : 0 < length rows) (below : SpawnsBelow (tasks_in rows) (length rows)) where
   first_part : (d k t : ℕ) → IsLine (tasks_in rows) 0 (d + k) t → (s : ℕ) × IsLine (tasks_in rows) 0 k s
   first_part zero k t line = (t, subst (λ m. IsLine (tasks_in rows) 0 m t) (let e : 0 + k ≡ k = omega arith in e) line)
   first_part (suc d) k t line =

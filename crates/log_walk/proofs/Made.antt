@@ -1,28 +1,14 @@
 -- The tables of a run, as they are made.
-use Rattle.std.proofs.Common.{◌≡◌, ℕ, zero, suc, ◌<◌, List, length, slice_get, Some, ap, sym, subst, ◌∙◌, arith}
-use Rattle.std.proofs.lemmas.Option.{slice_get_within}
-use Rattle.walk_laws.specs.Reached.{IsWalk}
-use Rattle.fork_graph.specs.declared.graph.Turn.{Turn}
-use Rattle.fork_graph.specs.declared.graph.Strand.{Strand}
-use Rattle.fork_graph.specs.Graph.{tasks_in, first_of, IsParent}
-use Rattle.fork_graph.specs.Nested.{IsNested}
-use Rattle.fork_graph.specs.Faults.{SpawnsBelow}
-use Rattle.ancestor_laws.specs.Serial.{serial_order, IsSerial}
-use Rattle.ancestor_laws.proofs.Walks.{IsRooted, along, attached_rooted, rooted_attached}
-use Rattle.ancestor_laws.proofs.Serial.{serial_order_extends, levels_are_few}
-use Rattle.log_walk.specs.declared.places.Mark.{Mark}
-use Rattle.log_walk.specs.declared.places.Mark.TheVariants.{First}
-use Rattle.log_walk.specs.Places.{AreMarkedOnce, ArePlaces}
-use Rattle.log_walk.specs.Tables.{AreFirsts}
+use Rattle.log_walk.proofs.Common.{◌≡◌, ℕ, zero, suc, ◌<◌, List, length, slice_get, Some, ap, sym, subst, ◌∙◌, arith, slice_get_within, IsWalk, GraphTurn, GraphStrand, tasks_in, first_of, IsParent, IsNested, SpawnsBelow, serial_order, IsSerialOrder, IsRooted, along, attached_rooted, rooted_attached, serial_order_extends, levels_are_few, Mark, First, AreMarkedOnce, AreMarkPlaces, AreFirsts}
 use Rattle.log_walk.proofs.Marks.{same_mark, first_mark}
 
-module _ (rows : List (List Turn)) (order : List Strand) (some : 0 < length rows) (nested : IsNested (tasks_in rows)) (below : SpawnsBelow (tasks_in rows) (length rows))
+module _ (rows : List (List GraphTurn)) (order : List GraphStrand) (some : 0 < length rows) (nested : IsNested (tasks_in rows)) (below : SpawnsBelow (tasks_in rows) (length rows))
     (is : order ≡ serial_order (tasks_in rows) (length rows)) where
-  serial : IsSerial (tasks_in rows) order
-  serial = subst (IsSerial (tasks_in rows)) (sym is)
+  serial : IsSerialOrder (tasks_in rows) order
+  serial = subst (IsSerialOrder (tasks_in rows)) (sym is)
       (serial_order_extends (tasks_in rows) (length rows) nested (levels_are_few (tasks_in rows) (length rows) nested.fork_join some below))
 
-  rooted_at : (i : ℕ) (u : Strand) → slice_get order i ≡ Some u → IsRooted (tasks_in rows) u
+  rooted_at : (i : ℕ) (u : GraphStrand) → slice_get order i ≡ Some u → IsRooted (tasks_in rows) u
   rooted_at i u h = attached_rooted (tasks_in rows) nested.fork_join u (serial.attached i u h)
 
   pub marked_once : (mark : Mark) → AreMarkedOnce (tasks_in rows) order mark
@@ -34,7 +20,7 @@ module _ (rows : List (List Turn)) (order : List Strand) (some : 0 < length rows
   there_by zero t e = subst (λ x. x < length rows) (sym e) some
   there_by (suc k) t up = below up.0 up.2.0 t up.2.1
 
-  pub are_firsts : (firsts : List ℕ) → ArePlaces (tasks_in rows) (length rows) order First (length order) firsts → AreFirsts order firsts
+  pub are_firsts : (firsts : List ℕ) → AreMarkPlaces (tasks_in rows) (length rows) order First (length order) firsts → AreFirsts order firsts
   are_firsts firsts f i u h =
       let r = rooted_at i u h in
       let t = u.task in

@@ -1,30 +1,15 @@
 -- The places of each task's strands in an order.
-use Rattle.std.proofs.Common.{◌≡◌, ◌==◌, ℕ, ◌+◌, ◌-◌, ◌<◌, ◌≤◌, Bool, true, false, Option, Some, None, List, length, replicate, slice_get, slice_set, inl, inr, refl, ap, sym, subst, ◌∙◌, arith, if◌then◌else◌}
-use Rattle.std.proofs.lemmas.Bool.{cases_lt, eqb-true, eqb-false, ne_eqb}
-use Rattle.std.proofs.lemmas.List.{length-set, length-replicate}
-use Rattle.std.proofs.lemmas.Option.{same_Some, slice_get_past}
-use Rattle.listed.proofs.Members.{got_other}
-use Rattle.listed.proofs.Places.{got_set, got_none}
-use Rattle.listed.proofs.Options.{none_some}
-use Rattle.fork_graph.specs.declared.graph.Turn.{Turn}
-use Rattle.fork_graph.specs.declared.graph.Turn.TheVariants.{Spawn, Join}
-use Rattle.fork_graph.specs.declared.graph.Strand.{Strand}
-use Rattle.fork_graph.specs.Graph.{Tasks, strand, first_of, last_of, Stands, Does}
-use Rattle.fork_graph.specs.Nested.{IsForkJoin}
-use Rattle.ancestor_laws.proofs.Walks.{strand_is}
-use Rattle.log_walk.specs.declared.places.Mark.{Mark}
-use Rattle.log_walk.specs.declared.places.Mark.TheVariants.{First, Last, Joined}
-use Rattle.log_walk.specs.Places.{joined_by, ended_by, mark_of, noted, AreMarkedOnce, ArePlaces}
+use Rattle.log_walk.proofs.Common.{◌≡◌, ◌==◌, ℕ, ◌+◌, ◌-◌, ◌<◌, ◌≤◌, Bool, true, false, Option, Some, None, List, length, replicate, slice_get, slice_set, inl, inr, refl, ap, sym, subst, ◌∙◌, arith, if◌then◌else◌, cases_lt, eqb-true, eqb-false, ne_eqb, length-set, length-replicate, same_Some, slice_get_past, got_other, got_set, got_none, none_some, GraphTurn, Spawn, Join, GraphStrand, Tasks, strand, first_of, last_of, Stands, Does, IsForkJoin, strand_is, Mark, First, Last, Joined, joined_by, ended_by, mark_of, noted, AreMarkedOnce, AreMarkPlaces}
 
 -- A TABLE OF PLACES
 
-pub places_start : (tasks : Tasks) (n : ℕ) (order : List Strand) (mark : Mark) → ArePlaces tasks n order mark 0 (replicate n 0)
+pub places_start : (tasks : Tasks) (n : ℕ) (order : List GraphStrand) (mark : Mark) → AreMarkPlaces tasks n order mark 0 (replicate n 0)
 places_start tasks n order mark = record { size = length-replicate n 0; at = λ i t u lt h m less. absurd (omega arith) }
 
-module _ (tasks : Tasks) (n : ℕ) (order : List Strand) (mark : Mark) (once : AreMarkedOnce tasks order mark)
-    (i : ℕ) (u : Strand) (here : slice_get order i ≡ Some u) where
-  noted_at : (o : Option ℕ) → mark_of tasks mark u ≡ o → (places : List ℕ) → ArePlaces tasks n order mark i places
-      → (k t : ℕ) (v : Strand) → k < i + 1 → slice_get order k ≡ Some v → mark_of tasks mark v ≡ Some t → t < n → slice_get (noted places i o) t ≡ Some k
+module _ (tasks : Tasks) (n : ℕ) (order : List GraphStrand) (mark : Mark) (once : AreMarkedOnce tasks order mark)
+    (i : ℕ) (u : GraphStrand) (here : slice_get order i ≡ Some u) where
+  noted_at : (o : Option ℕ) → mark_of tasks mark u ≡ o → (places : List ℕ) → AreMarkPlaces tasks n order mark i places
+      → (k t : ℕ) (v : GraphStrand) → k < i + 1 → slice_get order k ≡ Some v → mark_of tasks mark v ≡ Some t → t < n → slice_get (noted places i o) t ≡ Some k
   noted_at None e places f k t v lt h m less =
       elim (cases_lt k i) [
         | inl before ↦ f.at k t v before h m less
@@ -51,7 +36,7 @@ module _ (tasks : Tasks) (n : ℕ) (order : List Strand) (mark : Mark) (once : A
   noted_size None places = refl
   noted_size (Some t) places = length-set places t i
 
-  pub place_noted : (places : List ℕ) → ArePlaces tasks n order mark i places → ArePlaces tasks n order mark (i + 1) (noted places i (mark_of tasks mark u))
+  pub place_noted : (places : List ℕ) → AreMarkPlaces tasks n order mark i places → AreMarkPlaces tasks n order mark (i + 1) (noted places i (mark_of tasks mark u))
   place_noted places f = record {
     size = noted_size (mark_of tasks mark u) places ∙ f.size;
     at = noted_at (mark_of tasks mark u) refl places f;
@@ -67,22 +52,22 @@ if_none : {A : Type 0} (b : Bool) (o : Option A) (y : A) → (if b then None els
 if_none true o y e = none_some e
 if_none false o y e = (refl, e)
 
-ended : (t s : ℕ) (o : Option Turn) → ended_by t o ≡ Some s → (o ≡ None) × (t ≡ s)
+ended : (t s : ℕ) (o : Option GraphTurn) → ended_by t o ≡ Some s → (o ≡ None) × (t ≡ s)
 ended t s None e = (refl, same_Some t s e)
 ended t s (Some turn) e = none_some e
 
-joined : (c : ℕ) (o : Option Turn) → joined_by o ≡ Some c → o ≡ Some (Join c)
+joined : (c : ℕ) (o : Option GraphTurn) → joined_by o ≡ Some c → o ≡ Some (Join c)
 joined c None e = none_some e
 joined c (Some (Spawn d)) e = none_some e
 joined c (Some (Join d)) e = ap (λ x. Some (Join x)) (same_Some d c e)
 
 module _ (tasks : Tasks) where
-  is_first : (u : Strand) (t : ℕ) → mark_of tasks First u ≡ Some t → u ≡ first_of t
+  is_first : (u : GraphStrand) (t : ℕ) → mark_of tasks First u ≡ Some t → u ≡ first_of t
   is_first u t m =
       let p = if_some (u.index == 0) u.task t m in
       strand_is u t 0 p.1 (eqb-true u.index 0 p.0)
 
-  is_last : (u : Strand) (t : ℕ) → Stands tasks u → mark_of tasks Last u ≡ Some t → u ≡ last_of tasks t
+  is_last : (u : GraphStrand) (t : ℕ) → Stands tasks u → mark_of tasks Last u ≡ Some t → u ≡ last_of tasks t
   is_last u t st m =
       let p = ended u.task t (slice_get (tasks u.task) u.index) m in
       let past : length (tasks u.task) ≤ u.index =
@@ -90,7 +75,7 @@ module _ (tasks : Tasks) where
       let end : u.index ≡ length (tasks u.task) = omega arith in
       strand_is u t (length (tasks t)) p.1 (end ∙ ap (λ x. length (tasks x)) p.1)
 
-  pub is_joined : (u : Strand) (c : ℕ) → mark_of tasks Joined u ≡ Some c → (j : ℕ) × (u.index ≡ j + 1) × Does tasks u.task j (Join c)
+  pub is_joined : (u : GraphStrand) (c : ℕ) → mark_of tasks Joined u ≡ Some c → (j : ℕ) × (u.index ≡ j + 1) × Does tasks u.task j (Join c)
   is_joined u c m =
       let p = if_none (u.index == 0) (joined_by (slice_get (tasks u.task) (u.index - 1))) c m in
       let some : u.index ≡ 0 → ⊥ = eqb-false u.index 0 p.0 in
@@ -102,7 +87,7 @@ module _ (tasks : Tasks) where
   pub last_mark : (t : ℕ) → mark_of tasks Last (last_of tasks t) ≡ Some t
   last_mark t = ap (ended_by t) (slice_get_past (tasks t) (length (tasks t)) (omega arith))
 
-  joined_mark_by : (b : Bool) (o o' : Option Turn) (c : ℕ) → b ≡ false → o ≡ o' → o' ≡ Some (Join c) → (if b then None else joined_by o) ≡ Some c
+  joined_mark_by : (b : Bool) (o o' : Option GraphTurn) (c : ℕ) → b ≡ false → o ≡ o' → o' ≡ Some (Join c) → (if b then None else joined_by o) ≡ Some c
   joined_mark_by true o o' c e same h = absurd cc
   joined_mark_by false o o' c e same h = ap joined_by (same ∙ h)
 
@@ -112,7 +97,7 @@ module _ (tasks : Tasks) where
       (ne_eqb (j + 1) 0 (λ e. omega arith)) (ap (slice_get (tasks q)) (let e : j + 1 - 1 ≡ j = omega arith in e)) h
 
   module _ (fj : IsForkJoin tasks) where
-    pub same_joined : (u v : Strand) (c : ℕ) → mark_of tasks Joined u ≡ Some c → mark_of tasks Joined v ≡ Some c → u ≡ v
+    pub same_joined : (u v : GraphStrand) (c : ℕ) → mark_of tasks Joined u ≡ Some c → mark_of tasks Joined v ≡ Some c → u ≡ v
     same_joined u v c m m' =
         let a = is_joined u c m in
         let b = is_joined v c m' in
@@ -124,7 +109,7 @@ module _ (tasks : Tasks) where
         let k : v.index ≡ b.0 + 1 = b.1 in
         strand_is u v.task v.index task (omega arith)
 
-    pub same_mark : (mark : Mark) (u v : Strand) (t : ℕ) → Stands tasks u → Stands tasks v → mark_of tasks mark u ≡ Some t → mark_of tasks mark v ≡ Some t → u ≡ v
+    pub same_mark : (mark : Mark) (u v : GraphStrand) (t : ℕ) → Stands tasks u → Stands tasks v → mark_of tasks mark u ≡ Some t → mark_of tasks mark v ≡ Some t → u ≡ v
     same_mark First u v t su sv m m' = is_first u t m ∙ sym (is_first v t m')
     same_mark Last u v t su sv m m' = is_last u t su m ∙ sym (is_last v t sv m')
     same_mark Joined u v t su sv m m' = same_joined u v t m m'

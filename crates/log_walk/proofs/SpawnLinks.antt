@@ -1,15 +1,5 @@
 -- Links from each strand to the one that spawned its task.
-use Rattle.std.proofs.Common.{◌≡◌, ℕ, zero, suc, ◌+◌, ◌<◌, ◌≤◌, Option, Some, None, List, [], ◌∷◌, ◌++◌, length, slice_get, inl, inr, refl, ap, sym, subst, ◌∙◌, arith}
-use Rattle.std.proofs.lemmas.Bool.{cases_lt}
-use Rattle.std.proofs.lemmas.List.{length-append}
-use Rattle.std.proofs.lemmas.Option.{same_Some}
-use Rattle.listed.proofs.Members.{got_front}
-use Rattle.listed.proofs.Places.{got_last}
-use Rattle.far_links.specs.declared.links.Link.{Link}
-use Rattle.far_links.specs.Lists.{parent_in, new_link, AreLinks}
-use Rattle.far_links.proofs.Lists.{IsWithin, link_more}
-use Rattle.fork_graph.specs.declared.graph.Strand.{Strand}
-use Rattle.log_walk.specs.Tables.{place_before, AreSpawnLinks}
+use Rattle.log_walk.proofs.Common.{◌≡◌, ℕ, zero, suc, ◌+◌, ◌<◌, ◌≤◌, Option, Some, None, List, [], ◌∷◌, ◌++◌, length, slice_get, inl, inr, refl, ap, sym, subst, ◌∙◌, arith, cases_lt, length-append, same_Some, got_front, got_last, Link, parent_in, new_link, AreLinks, IsWithin, link_more, GraphStrand, place_before, AreSpawnLinks}
 
 new_parent : (ks : List Link) (m : Option ℕ) → (new_link ks m).parent ≡ m
 new_parent ks None = refl
@@ -20,7 +10,7 @@ within ks all zero le = tt
 within ks all (suc k) le = omega arith
 
 -- one more
-pub link_pushed : (order : List Strand) (firsts : List ℕ) (i first : ℕ) (u : Strand) (ks : List Link) → slice_get order i ≡ Some u → slice_get firsts u.task ≡ Some first → first ≤ i
+pub link_pushed : (order : List GraphStrand) (firsts : List ℕ) (i first : ℕ) (u : GraphStrand) (ks : List Link) → slice_get order i ≡ Some u → slice_get firsts u.task ≡ Some first → first ≤ i
     → AreSpawnLinks order firsts i ks → AreSpawnLinks order firsts (i + 1) (ks ++ new_link ks (place_before first) ∷ [])
 link_pushed order firsts i first u ks here has le f =
     let link : Link = new_link ks (place_before first) in
@@ -34,7 +24,7 @@ link_pushed order firsts i first u ks here has le f =
         | inr ge ↦
             let same : k ≡ length ks = omega arith in
             let is : u ≡ v = same_Some u v (sym here ∙ subst (λ x. slice_get order x ≡ Some v) (same ∙ size) h) in
-            let firsts_same : first ≡ first' = same_Some first first' (sym has ∙ (ap (λ (x : Strand). slice_get firsts x.task) is ∙ has')) in
+            let firsts_same : first ≡ first' = same_Some first first' (sym has ∙ (ap (λ (x : GraphStrand). slice_get firsts x.task) is ∙ has')) in
             ap (λ x. parent_in (slice_get (ks ++ link ∷ []) x)) same ∙ (ap parent_in (got_last ks link) ∙ (new_parent ks (place_before first) ∙ ap place_before firsts_same))
       ];
     }

@@ -3,3 +3,4 @@ pub mod Places
 pub mod Tables
 pub mod Value
 pub mod Meetings
+mod Common

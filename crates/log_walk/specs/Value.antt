@@ -1,16 +1,11 @@
 -- A walked run as a value.
 use Rattle.std.specs.Prelude.{◌≡◌, ◌<◌, List, length}
-use Rattle.fork_graph.specs.declared.graph.Turn.{Turn}
-use Rattle.fork_graph.specs.declared.graph.Strand.{Strand}
-use Rattle.fork_graph.specs.Graph.{AreSmall, tasks_in}
-use Rattle.fork_graph.specs.Nested.{IsNested}
-use Rattle.fork_graph.specs.Faults.{SpawnsBelow}
-use Rattle.ancestor_laws.specs.Serial.{serial_order}
+use Rattle.log_walk.specs.Common.{GraphTurn, GraphStrand, AreSmall, tasks_in, IsNested, SpawnsBelow, serial_order}
 
 -- the turns of each task, and the strands in their serial order
 pub record WalkValue : Type 0 where
-  pub tasks : List (List Turn)
-  pub order : List Strand
+  pub tasks : List (List GraphTurn)
+  pub order : List GraphStrand
 
 -- the tasks make a nested run, and its strands stand in their serial order
 pub record IsWalked (walk : WalkValue) : Type 0 where

@@ -1,16 +1,13 @@
 -- A walk over the strands of a run, with a stack of those at which its tasks go on.
 use Rattle.std.specs.Prelude.{◌+◌, Option, Some, None, List, [], ◌∷◌, ◌++◌, slice_get}
-use Rattle.fork_graph.specs.declared.graph.Turn.{Turn}
-use Rattle.fork_graph.specs.declared.graph.Turn.TheVariants.{Spawn, Join}
-use Rattle.fork_graph.specs.declared.graph.Strand.{Strand}
-use Rattle.fork_graph.specs.Graph.{Tasks, strand, first_of}
+use Rattle.log_walk.specs.Common.{GraphTurn, Spawn, Join, GraphStrand, Tasks, strand, first_of}
 use Rattle.log_walk.specs.declared.order.Walk.{Walk}
 
 -- where the run goes on after a strand with this turn; the last of them comes first
-abbrev pub following : Strand → Option Turn → List Strand
+abbrev pub following : GraphStrand → Option GraphTurn → List GraphStrand
 following u None = []
 following u (Some (Join c)) = strand u.task (u.index + 1) ∷ []
 following u (Some (Spawn c)) = strand u.task (u.index + 1) ∷ (first_of c ∷ [])
 
-abbrev pub visited : Tasks → Walk → Strand → Walk
+abbrev pub visited : Tasks → Walk → GraphStrand → Walk
 visited tasks walk u = record { order = walk.order ++ u ∷ []; stack = walk.stack ++ following u (slice_get (tasks u.task) u.index) }

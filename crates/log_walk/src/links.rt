@@ -3,16 +3,16 @@
 ghost use Rattle.std.specs.Prelude.{◌≡◌, IfOk, length};
 ghost use Rattle.log_walk.specs.Tables.{place_before, AreFirsts, AreSpawnLinks};
 
-use far_links::{Link, link_below};
-use fork_graph::Strand;
-use listed::Listed;
+use fork_graph::GraphStrand;
+use jump_pointers::{Link, link_below};
+use plain_vec::Listed;
 use std::alloc::{AllocError, Global};
 
 /// For each place in the order the links to the places of the strands that spawned its task, its parent, and so on up
 /// to the root.
 pub(crate) fn spawn_links(
     alloc: Global,
-    order: &Listed<Strand>,
+    order: &Listed<GraphStrand>,
     firsts: &Listed<usize>,
 ) -> Result<Vec<Link>, AllocError>
     requires { AreFirsts order.now firsts.now }

@@ -7,17 +7,17 @@ ghost use Rattle.fork_graph.specs.Faults.{SpawnsBelow};
 ghost use Rattle.ancestor_laws.specs.Serial.{serial_order};
 ghost use Rattle.log_walk.specs.Walking.{visited};
 
-use fork_graph::{Strand, Turn};
-use listed::Listed;
+use fork_graph::{GraphStrand, GraphTurn};
+use plain_vec::Listed;
 use std::alloc::{AllocError, Global};
 
 /// A walk under way.
 #[derive(Drop)]
 pub(crate) struct Walk {
     /// The strands visited so far.
-    pub(crate) order: Listed<Strand>,
+    pub(crate) order: Listed<GraphStrand>,
     /// The next strand of each task that isn't through, the innermost task's last.
-    pub(crate) stack: Listed<Strand>,
+    pub(crate) stack: Listed<GraphStrand>,
 }
 
 impl Walk {
@@ -26,7 +26,7 @@ impl Walk {
         ensures { IfOk result (λ walk. walk ≡ record { order = []; stack = first_of 0 ∷ [] }) }
     {
         let mut stack = Listed::new(alloc);
-        stack.push(Strand { task: 0, index: 0 })?;
+        stack.push(GraphStrand { task: 0, index: 0 })?;
         Ok(Walk {
             order: Listed::new(alloc),
             stack,
@@ -34,16 +34,20 @@ impl Walk {
     }
 
     // Visits a strand that was taken from the stack.
-    fn visit(&mut self, tasks: &Listed<Listed<Turn>>, strand: Strand) -> Result<(), AllocError>
+    fn visit(
+        &mut self,
+        tasks: &Listed<Listed<GraphTurn>>,
+        strand: GraphStrand,
+    ) -> Result<(), AllocError>
         requires { AreSmall tasks.now }
         ensures { OnOk result (self.new ≡ visited (tasks_in tasks.now) self.old strand) }
     {
         self.order.push(strand)?;
         match turn_after(tasks, strand) {
             None => Ok(()),
-            Some(Turn::Join(_)) => self.stack.push(next_of(tasks, strand)),
-            Some(Turn::Spawn(child)) => {
-                let first = Strand {
+            Some(GraphTurn::Join(_)) => self.stack.push(next_of(tasks, strand)),
+            Some(GraphTurn::Spawn(child)) => {
+                let first = GraphStrand {
                     task: child,
                     index: 0,
                 };
@@ -54,7 +58,10 @@ impl Walk {
 }
 
 /// The turn that ends a strand, if it isn't its task's last.
-pub(crate) fn turn_after(tasks: &Listed<Listed<Turn>>, strand: Strand) -> Option<Turn>
+pub(crate) fn turn_after(
+    tasks: &Listed<Listed<GraphTurn>>,
+    strand: GraphStrand,
+) -> Option<GraphTurn>
     ensures { result ≡ slice_get (tasks_in tasks.now strand.task) strand.index }
 {
     match tasks.get(strand.task as usize) {
@@ -64,12 +71,12 @@ pub(crate) fn turn_after(tasks: &Listed<Listed<Turn>>, strand: Strand) -> Option
 }
 
 // The task's strand past its turn.
-fn next_of(tasks: &Listed<Listed<Turn>>, strand: Strand) -> Strand
+fn next_of(tasks: &Listed<Listed<GraphTurn>>, strand: GraphStrand) -> GraphStrand
     requires small { AreSmall tasks.now }
     requires there { strand.index < length (tasks_in tasks.now strand.task) }
     ensures { result ≡ record { task = strand.task; index = strand.index + 1 } }
 {
-    Strand {
+    GraphStrand {
         task: strand.task,
         index: strand.index + 1,
     }
@@ -78,8 +85,8 @@ fn next_of(tasks: &Listed<Listed<Turn>>, strand: Strand) -> Strand
 /// The strands that walks lead to from the root's first one, in their serial order.
 pub fn serial_order(
     alloc: Global,
-    tasks: &Listed<Listed<Turn>>,
-) -> Result<Listed<Strand>, AllocError>
+    tasks: &Listed<Listed<GraphTurn>>,
+) -> Result<Listed<GraphStrand>, AllocError>
     requires small { AreSmall tasks.now }
     requires some { 0 < length tasks.now }
     requires nested { IsNested (tasks_in tasks.now) }

@@ -2,11 +2,11 @@
 
 ghost use Rattle.std.specs.Prelude.{◌≡◌, IfOk, length};
 ghost use Rattle.fork_graph.specs.Graph.{tasks_in};
-ghost use Rattle.log_walk.specs.Places.{joined_before, mark_of, noted, AreMarkedOnce, ArePlaces};
+ghost use Rattle.log_walk.specs.Places.{joined_before, mark_of, noted, AreMarkedOnce, AreMarkPlaces};
 
 use crate::order::turn_after;
-use fork_graph::{Strand, Turn};
-use listed::Listed;
+use fork_graph::{GraphStrand, GraphTurn};
+use plain_vec::Listed;
 use std::alloc::{AllocError, Global};
 
 /// What a strand is to a task.
@@ -23,12 +23,12 @@ pub(crate) enum Mark {
 /// For each task the place in the order of the strand that has the mark for it.
 pub(crate) fn places_of(
     alloc: Global,
-    tasks: &Listed<Listed<Turn>>,
-    order: &Listed<Strand>,
+    tasks: &Listed<Listed<GraphTurn>>,
+    order: &Listed<GraphStrand>,
     mark: Mark,
 ) -> Result<Listed<usize>, AllocError>
     requires { AreMarkedOnce (tasks_in tasks.now) order.now mark }
-    ensures { IfOk result (ArePlaces (tasks_in tasks.now) (length tasks.now) order.now mark (length order.now)) }
+    ensures { IfOk result (AreMarkPlaces (tasks_in tasks.now) (length tasks.now) order.now mark (length order.now)) }
 {
     let mut places = Listed::from_vec(vec![in alloc; 0; tasks.len()]?);
     for place in 0..order.len() {
@@ -40,8 +40,8 @@ pub(crate) fn places_of(
 
 // Notes the place of a strand for the task for which it has the mark.
 fn note(
-    tasks: &Listed<Listed<Turn>>,
-    strand: Strand,
+    tasks: &Listed<Listed<GraphTurn>>,
+    strand: GraphStrand,
     mark: Mark,
     place: usize,
     places: &mut Listed<usize>,
@@ -57,7 +57,7 @@ fn note(
 }
 
 // The task for which the strand has the mark.
-fn marked(tasks: &Listed<Listed<Turn>>, strand: Strand, mark: Mark) -> Option<u32>
+fn marked(tasks: &Listed<Listed<GraphTurn>>, strand: GraphStrand, mark: Mark) -> Option<u32>
     ensures { result ≡ mark_of (tasks_in tasks.now) mark strand }
 {
     match mark {
@@ -72,18 +72,18 @@ fn marked(tasks: &Listed<Listed<Turn>>, strand: Strand, mark: Mark) -> Option<u3
 }
 
 // The child that the turn before a strand joined.
-fn joined_before(tasks: &Listed<Listed<Turn>>, strand: Strand) -> Option<u32>
+fn joined_before(tasks: &Listed<Listed<GraphTurn>>, strand: GraphStrand) -> Option<u32>
     ensures { result ≡ joined_before (tasks_in tasks.now) strand }
 {
     if strand.index == 0 {
         return None;
     }
-    let before = Strand {
+    let before = GraphStrand {
         task: strand.task,
         index: strand.index - 1,
     };
     match turn_after(tasks, before) {
-        Some(Turn::Join(child)) => Some(child),
+        Some(GraphTurn::Join(child)) => Some(child),
         _ => None,
     }
 }

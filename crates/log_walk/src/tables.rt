@@ -2,19 +2,19 @@
 
 ghost use Rattle.std.specs.Prelude.{◌≡◌, ◌<◌, ◌≤◌, ◌↔◌, IsTrue, IfNone, IfSome, length};
 ghost use Rattle.fork_graph.specs.Graph.{tasks_in, IsAncestor, Precedes};
-ghost use Rattle.far_links.specs.Lists.{depth_at, up_from};
+ghost use Rattle.jump_pointers.specs.Lists.{depth_at, up_from};
 ghost use Rattle.log_walk.specs.Tables.{strand_at, task_at, AreTables, IsNextUp, IsTop};
 ghost use Rattle.log_walk.specs.Meetings.{IsDepthAt, IsExitAt};
 
-use far_links::{FarLinks, Link};
-use fork_graph::{Strand, Turn};
-use listed::Listed;
+use fork_graph::{GraphStrand, GraphTurn};
+use jump_pointers::{FarLinks, Link};
+use plain_vec::Listed;
 
 /// A run's strands in their serial order, with their links; and by task the places of its first strand, of its last,
 /// and of the one that follows its join.
 #[derive(Drop)]
 pub(crate) struct Tables {
-    pub(crate) order: Listed<Strand>,
+    pub(crate) order: Listed<GraphStrand>,
     pub(crate) links: Vec<Link>,
     pub(crate) firsts: Listed<usize>,
     pub(crate) lasts: Listed<usize>,
@@ -22,7 +22,7 @@ pub(crate) struct Tables {
 }
 
 // Whether the task at one place is that at another or an ancestor of it.
-fn is_above(_tasks: &Listed<Listed<Turn>>, tables: &Tables, upper: usize, lower: usize) -> bool
+fn is_above(_tasks: &Listed<Listed<GraphTurn>>, tables: &Tables, upper: usize, lower: usize) -> bool
     requires tables { AreTables _tasks.now tables.now }
     requires upper { upper < length tables.now.order }
     requires lower { lower < length tables.now.order }
@@ -41,7 +41,12 @@ fn is_between(first: usize, place: usize, last: usize) -> bool
 }
 
 // The next place on the way up from one whose task isn't above the target's, unless the next task is above it.
-fn next_up(tasks: &Listed<Listed<Turn>>, tables: &Tables, at: usize, target: usize) -> Option<usize>
+fn next_up(
+    tasks: &Listed<Listed<GraphTurn>>,
+    tables: &Tables,
+    at: usize,
+    target: usize,
+) -> Option<usize>
     requires tables { AreTables tasks.now tables.now }
     requires at { at < length tables.now.order }
     requires target { target < length tables.now.order }
@@ -60,7 +65,7 @@ fn next_up(tasks: &Listed<Listed<Turn>>, tables: &Tables, at: usize, target: usi
 }
 
 // The last place on the way up whose task isn't above the target's.
-fn climb(tasks: &Listed<Listed<Turn>>, tables: &Tables, place: usize, target: usize) -> usize
+fn climb(tasks: &Listed<Listed<GraphTurn>>, tables: &Tables, place: usize, target: usize) -> usize
     requires tables { AreTables tasks.now tables.now }
     requires place { place < length tables.now.order }
     requires target { target < length tables.now.order }
@@ -79,7 +84,7 @@ fn climb(tasks: &Listed<Listed<Turn>>, tables: &Tables, place: usize, target: us
 
 /// Where the way of the strand at one place comes into the lowest common ancestor of its task and that of another one.
 pub(crate) fn exit(
-    tasks: &Listed<Listed<Turn>>,
+    tasks: &Listed<Listed<GraphTurn>>,
     tables: &Tables,
     first: usize,
     second: usize,
@@ -100,7 +105,7 @@ pub(crate) fn exit(
 
 /// Whether the strand at one place precedes that at another.
 pub(crate) fn precedes(
-    tasks: &Listed<Listed<Turn>>,
+    tasks: &Listed<Listed<GraphTurn>>,
     tables: &Tables,
     first: usize,
     second: usize,
@@ -114,7 +119,7 @@ pub(crate) fn precedes(
 }
 
 /// How many spawns lead from the root to the task of the strand at a place.
-pub(crate) fn depth(_tasks: &Listed<Listed<Turn>>, tables: &Tables, place: usize) -> u32
+pub(crate) fn depth(_tasks: &Listed<Listed<GraphTurn>>, tables: &Tables, place: usize) -> u32
     requires tables { AreTables _tasks.now tables.now }
     requires place { place < length tables.now.order }
     ensures { IsDepthAt (tasks_in _tasks.now) tables.now.order place result }

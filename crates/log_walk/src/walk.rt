@@ -13,8 +13,8 @@ use crate::links::spawn_links;
 use crate::order::serial_order;
 use crate::places::{Mark, places_of};
 use crate::tables::{Tables, depth, exit, precedes};
-use fork_graph::{Strand, Turn};
-use listed::Listed;
+use fork_graph::{GraphStrand, GraphTurn};
+use plain_vec::Listed;
 use std::alloc::{AllocError, Global};
 use std::marker::Model;
 
@@ -22,7 +22,7 @@ use std::marker::Model;
 /// root's first one; what isn't reached has no place in the order.
 #[derive(Drop)]
 pub struct SerialWalk<'t> {
-    tasks: &'t Listed<Listed<Turn>>,
+    tasks: &'t Listed<Listed<GraphTurn>>,
     tables: Tables,
 }
 
@@ -39,7 +39,10 @@ impl<'t> Model for SerialWalk<'t> {
 
 impl<'t> SerialWalk<'t> {
     /// Walks over a run. It takes time and memory by the number of its strands.
-    pub fn new(alloc: Global, tasks: &'t Listed<Listed<Turn>>) -> Result<SerialWalk<'t>, AllocError>
+    pub fn new(
+        alloc: Global,
+        tasks: &'t Listed<Listed<GraphTurn>>,
+    ) -> Result<SerialWalk<'t>, AllocError>
         requires small { AreSmall tasks.now }
         requires some { 0 < length tasks.now }
         requires nested { IsNested (tasks_in tasks.now) }
@@ -51,7 +54,7 @@ impl<'t> SerialWalk<'t> {
     }
 
     /// The strands in their serial order. A strand's place in it is its serial number.
-    pub fn order(&self) -> &[Strand]
+    pub fn order(&self) -> &[GraphStrand]
         ensures order { result.now ≡ self.now.order }
         ensures walked { IsWalked self.now }
     {
@@ -90,7 +93,7 @@ impl<'t> SerialWalk<'t> {
 }
 
 // Makes the tables of a run.
-fn tables_of(alloc: Global, tasks: &Listed<Listed<Turn>>) -> Result<Tables, AllocError>
+fn tables_of(alloc: Global, tasks: &Listed<Listed<GraphTurn>>) -> Result<Tables, AllocError>
     requires small { AreSmall tasks.now }
     requires some { 0 < length tasks.now }
     requires nested { IsNested (tasks_in tasks.now) }

@@ -1,9 +1,5 @@
 -- Sums that may not fit in 64 bits.
-use Rattle.std.proofs.Common.{◌≡◌, ◌<◌, ◌≤◌, ◌+◌, ◌^◌, ◌∙◌, ◌⊎◌, inl, inr, ℕ, Bool, true, false, sym, ap, Option, Some, None, nat_lt, arith}
-use Rattle.std.specs.Prelude.{if◌then◌else◌}
-use Rattle.std.proofs.lemmas.Bool.{cases_lt}
-use Rattle.std.proofs.lemmas.Bool.Decides.{nat_tests}
-use Rattle.log_weights.specs.Sums.{fitting, plus}
+use Rattle.log_weights.proofs.Common.{◌≡◌, ◌<◌, ◌≤◌, ◌+◌, ◌^◌, ◌∙◌, ◌⊎◌, inl, inr, ℕ, Bool, true, false, sym, ap, Option, Some, None, nat_lt, arith, if◌then◌else◌, cases_lt, nat_tests, fitting, plus}
 
 pub fits : (n : ℕ) → n < 2 ^ 64 → fitting n ≡ Some n
 fits n lt = ap (λ (b : Bool). if b then Some n else None) (let t : nat_lt n (2 ^ 64) ≡ true = grind (arith, nat_tests, lt) in t)

@@ -1,3 +1,4 @@
 mod Fitting
 mod Works
 mod Weighing
+mod Common

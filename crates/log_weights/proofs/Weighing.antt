@@ -1,25 +1,8 @@
 -- The weights of strands, one after another, and those of a walk.
-use Rattle.std.proofs.Common.{◌≡◌, ◌≤◌, ◌<◌, ◌+◌, ◌^◌, ◌++◌, ◌∷◌, ◌∙◌, ℕ, List, [], length, get_or, take, sym, ap, subst, Some, None, slice_get, arith}
-use Rattle.std.specs.Prelude.{sum}
-use Rattle.std.proofs.lemmas.List.{take_more, map-append}
-use Rattle.std.proofs.lemmas.List.Sums.{sum-map, get_or-le-sum_by}
-use Rattle.listed.proofs.Places.{got_map}
-use Rattle.fork_graph.specs.declared.graph.Turn.{Turn}
-use Rattle.fork_graph.specs.declared.graph.Strand.{Strand}
-use Rattle.fork_graph.specs.Graph.{tasks_in}
-use Rattle.fork_graph.specs.Nested.{IsNested}
-use Rattle.fork_graph.specs.Faults.{SpawnsBelow}
-use Rattle.ancestor_laws.specs.Serial.{serial_order}
-use Rattle.ancestor_laws.specs.Span.{IsSpan}
-use Rattle.log_walk.specs.Value.{WalkValue, IsWalked}
-use Rattle.run_span.specs.Reaches.{AreWeights, IsSpanOf}
-use Rattle.log_tasks.specs.declared.tasks.LogTasks.{LogTasks}
-use Rattle.log_strands.specs.below.log_form.{Event}
-use Rattle.log_weights.specs.Weights.{weight_of, weights_of}
-use Rattle.log_weights.specs.Sums.{fitting}
+use Rattle.log_weights.proofs.Common.{◌≡◌, ◌≤◌, ◌<◌, ◌+◌, ◌^◌, ◌++◌, ◌∷◌, ◌∙◌, ℕ, List, [], length, get_or, take, sym, ap, subst, Some, None, slice_get, arith, sum, take_more, map-append, sum-map, get_or-le-sum_by, got_map, GraphTurn, GraphStrand, tasks_in, IsNested, SpawnsBelow, serial_order, IsSpan, WalkValue, IsWalked, AreWeights, IsSpanOf, LogTasks, Event, weight_of, weights_of, fitting}
 use Rattle.log_weights.proofs.Fitting.{too_much, fit_is}
 
-module _ (events : List Event) (tasks : LogTasks) (order : List Strand) (i : ℕ) (d : Strand) (lt : i < length order) where
+module _ (events : List Event) (tasks : LogTasks) (order : List GraphStrand) (i : ℕ) (d : GraphStrand) (lt : i < length order) where
   -- the next strand's weight was added
   pub weights_more : (weights new : List ℕ) (weight : ℕ) → new ≡ weights ++ weight ∷ [] → weights ≡ weights_of events tasks (take i order) → Some weight ≡ fitting (weight_of events tasks (get_or order i d))
       → new ≡ weights_of events tasks (take (i + 1) order)
@@ -36,23 +19,23 @@ module _ (events : List Event) (tasks : LogTasks) (order : List Strand) (i : ℕ
       let part = get_or-le-sum_by (weight_of events tasks) order i d lt in
       subst (λ (n : ℕ). 2 ^ 64 ≤ n) (sym (sum-map (weight_of events tasks) order)) (omega (arith, least, part))
 
-pub are_weights : (events : List Event) (tasks : LogTasks) (order : List Strand) (weights : List ℕ) → weights ≡ weights_of events tasks order → AreWeights order weights (weight_of events tasks)
+pub are_weights : (events : List Event) (tasks : LogTasks) (order : List GraphStrand) (weights : List ℕ) → weights ≡ weights_of events tasks order → AreWeights order weights (weight_of events tasks)
 are_weights events tasks order weights is i u e = ap (λ (ws : List ℕ). slice_get ws i) is ∙ got_map (weight_of events tasks) order i u e
 
 -- the walk is that of the tasks
-module _ (events : List Event) (tasks : LogTasks) (walk : WalkValue) (walked : IsWalked walk) (turns : walk.tasks ≡ tasks.turns) (order : List Strand) (same : order ≡ walk.order) where
+module _ (events : List Event) (tasks : LogTasks) (walk : WalkValue) (walked : IsWalked walk) (turns : walk.tasks ≡ tasks.turns) (order : List GraphStrand) (same : order ≡ walk.order) where
   pub some : 0 < length tasks.turns
-  some = subst (λ (rows : List (List Turn)). 0 < length rows) turns walked.some
+  some = subst (λ (rows : List (List GraphTurn)). 0 < length rows) turns walked.some
 
   pub nested : IsNested (tasks_in tasks.turns)
-  nested = subst (λ (rows : List (List Turn)). IsNested (tasks_in rows)) turns walked.nested
+  nested = subst (λ (rows : List (List GraphTurn)). IsNested (tasks_in rows)) turns walked.nested
 
   pub below : SpawnsBelow (tasks_in tasks.turns) (length tasks.turns)
-  below = subst (λ (rows : List (List Turn)). SpawnsBelow (tasks_in rows) (length rows)) turns walked.below
+  below = subst (λ (rows : List (List GraphTurn)). SpawnsBelow (tasks_in rows) (length rows)) turns walked.below
 
   pub ordered : order ≡ serial_order (tasks_in tasks.turns) (length tasks.turns)
-  ordered = same ∙ walked.order ∙ ap (λ (rows : List (List Turn)). serial_order (tasks_in rows) (length rows)) turns
+  ordered = same ∙ walked.order ∙ ap (λ (rows : List (List GraphTurn)). serial_order (tasks_in rows) (length rows)) turns
 
   pub span_is : (weights : List ℕ) (span : ℕ) → weights ≡ weights_of events tasks order → IsSpanOf (tasks_in tasks.turns) order weights span → IsSpan (tasks_in walk.tasks) (weight_of events tasks) span
   span_is weights span are is =
-      subst (λ (rows : List (List Turn)). IsSpan (tasks_in rows) (weight_of events tasks) span) (sym turns) (is (weight_of events tasks) (are_weights events tasks order weights are))
+      subst (λ (rows : List (List GraphTurn)). IsSpan (tasks_in rows) (weight_of events tasks) span) (sym turns) (is (weight_of events tasks) (are_weights events tasks order weights are))

@@ -1,25 +1,9 @@
 -- What is known of strands' work after a piece more.
-use Rattle.std.proofs.Common.{◌≡◌, ◌<◌, ◌+◌, ◌++◌, ◌∙◌, ℕ, Bool, true, false, List, refl, sym, ap, subst, Option, Some, append-nil, length, get_or, take, slice_range}
-use Rattle.std.specs.Prelude.{if◌then◌else◌}
-use Rattle.std.proofs.lemmas.List.Sums.{sum_by-append}
-use Rattle.fork_graph.specs.declared.graph.Strand.{Strand}
-use Rattle.fork_graph.specs.Graph.{strand}
-use Rattle.log_pieces.specs.Claims.{is_that}
-use Rattle.log_pieces.specs.declared.piece.Piece.{Piece}
-use Rattle.log_pieces.specs.Pieces.{on_strand, text_at, acts_in, acts_of_piece, events_of_pieces}
-use Rattle.log_tasks.proofs.Lines.{pieces_more}
-use Rattle.log_strands.proofs.Noted.{that_is}
-use Rattle.log_tasks.proofs.Acts.{acts_append, acts_there, acts_elsewhere}
-use Rattle.log_strands.specs.below.log_lines.{Act}
-use Rattle.log_strands.specs.below.log_form.{Event, acts_on}
-use Rattle.log_weights.specs.declared.units.StrandWork.{StrandWork}
-use Rattle.log_weights.specs.Weights.{units_of, work_of}
-use Rattle.log_weights.specs.Sums.{fitting, plus}
-use Rattle.log_weights.specs.Known.{Knows, work_known, or_none}
+use Rattle.log_weights.proofs.Common.{◌≡◌, ◌<◌, ◌+◌, ◌++◌, ◌∙◌, ℕ, Bool, true, false, List, refl, sym, ap, subst, Option, Some, append-nil, length, get_or, take, slice_range, if◌then◌else◌, sum_by-append, GraphStrand, strand, is_that, LogPiece, on_strand, text_at, acts_in, acts_of_piece, events_of_pieces, pieces_more, that_is, acts_append, acts_there, acts_elsewhere, Act, Event, acts_on, StrandWork, units_of, work_of, fitting, plus, Knows, work_known, or_none}
 use Rattle.log_weights.proofs.Fitting.{plus_fitting}
 
-module _ (old new : StrandWork) (u : Strand) (acts : List Act) (events : List Event) (knows : Knows old events) where
-  with_more : (v : Strand) → plus (fitting (work_of (acts_on events v))) (fitting (work_of acts)) ≡ fitting (work_of (acts_on events v ++ acts))
+module _ (old new : StrandWork) (u : GraphStrand) (acts : List Act) (events : List Event) (knows : Knows old events) where
+  with_more : (v : GraphStrand) → plus (fitting (work_of (acts_on events v))) (fitting (work_of acts)) ≡ fitting (work_of (acts_on events v ++ acts))
   with_more v = plus_fitting (work_of (acts_on events v)) (work_of acts) ∙ ap fitting (sym (sum_by-append units_of (acts_on events v) acts))
 
   of_one : (t i : ℕ) (b : Bool) → is_that u t i ≡ b
@@ -39,7 +23,7 @@ module _ (old new : StrandWork) (u : Strand) (acts : List Act) (events : List Ev
   knows_more added t i = added t i ∙ of_one t i (is_that u t i) refl
 
 -- the next piece was added
-pub pieces_knows : (texts : List (List ℕ)) (pieces : List Piece) (i : ℕ) (d : Piece) (text : List ℕ) (old new : StrandWork) (work : Option ℕ) → i < length pieces
+pub pieces_knows : (texts : List (List ℕ)) (pieces : List LogPiece) (i : ℕ) (d : LogPiece) (text : List ℕ) (old new : StrandWork) (work : Option ℕ) → i < length pieces
     → text ≡ slice_range (text_at texts (get_or pieces i d).file) (get_or pieces i d).begin (get_or pieces i d).end → work ≡ fitting (work_of (acts_in text)) → Knows old (events_of_pieces texts (take i pieces))
     → ((t j : ℕ) → work_known new t j ≡ (if is_that (get_or pieces i d).strand t j then plus (work_known old t j) work else work_known old t j))
     → Knows new (events_of_pieces texts (take (i + 1) pieces))
@@ -51,9 +35,9 @@ pieces_knows texts pieces i d text old new work lt is weighs knows added =
     (λ t j. added t j ∙ ap (λ (o : Option ℕ). if is_that u t j then plus (work_known old t j) o else work_known old t j) known))
 
 -- a strand's work was put
-module _ (u : Strand) (F : ℕ → ℕ → Option (Option ℕ)) (work units : Option ℕ) (is : work ≡ plus (or_none (F u.task u.index)) units) where
+module _ (u : GraphStrand) (F : ℕ → ℕ → Option (Option ℕ)) (work units : Option ℕ) (is : work ≡ plus (or_none (F u.task u.index)) units) where
   put_by : (t i : ℕ) (b : Bool) → is_that u t i ≡ b → or_none (if b then Some work else F t i) ≡ (if b then plus (or_none (F t i)) units else or_none (F t i))
-  put_by t i true e = is ∙ ap (λ (v : Strand). plus (or_none (F v.task v.index)) units) (that_is u (strand t i) e)
+  put_by t i true e = is ∙ ap (λ (v : GraphStrand). plus (or_none (F v.task v.index)) units) (that_is u (strand t i) e)
   put_by t i false e = refl
 
   pub work_put : (t i : ℕ) → or_none (if is_that u t i then Some work else F t i) ≡ (if is_that u t i then plus (or_none (F t i)) units else or_none (F t i))

@@ -1,6 +1,6 @@
 -- The weights of a log's strands: the units of work that their `k` lines tell.
 use Rattle.std.specs.Prelude.{◌≤◌, ◌^◌, ℕ, List, map, sum, sum_by}
-use Rattle.fork_graph.specs.declared.graph.Strand.{Strand}
+use Rattle.fork_graph.specs.declared.graph.GraphStrand.{GraphStrand}
 use Rattle.log_tasks.specs.declared.tasks.LogTasks.{LogTasks}
 use Rattle.log_tasks.specs.Rows.{acts_in_graph}
 use Rattle.log_strands.specs.below.log_lines.{Act, Access, Yield, Store, Birth, Release, Work, Spawn, Join, Finish}
@@ -24,11 +24,11 @@ abbrev pub work_of : List Act → ℕ
 work_of acts = sum_by units_of acts
 
 -- the weight of a strand of the graph
-abbrev pub weight_of : List Event → LogTasks → Strand → ℕ
+abbrev pub weight_of : List Event → LogTasks → GraphStrand → ℕ
 weight_of events tasks u = work_of (acts_in_graph events tasks u)
 
 -- the weights of the strands of an order
-abbrev pub weights_of : List Event → LogTasks → List Strand → List ℕ
+abbrev pub weights_of : List Event → LogTasks → List GraphStrand → List ℕ
 weights_of events tasks order = map (weight_of events tasks) order
 
 -- the sum of weights doesn't fit in 64 bits

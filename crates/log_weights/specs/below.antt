@@ -1,2 +1,2 @@
--- What crates above name of the crates below.
+-- Re-exports from lower crates for the crates above.
 pub mod ancestor_laws

@@ -8,10 +8,10 @@ ghost use Rattle.log_strands.specs.below.log_form.{events_of};
 ghost use Rattle.log_weights.specs.Weights.{weight_of, weights_of, IsTooMuch};
 
 use crate::weights::log_weights;
-use listed::Listed;
-use log_pieces::Piece;
+use log_pieces::LogPiece;
 use log_tasks::LogTasks;
 use log_walk::SerialWalk;
+use plain_vec::Listed;
 use run_span::{span_of, total_work};
 use std::alloc::{AllocError, Global};
 
@@ -46,7 +46,7 @@ impl From<AllocError> for CostError {
 pub fn work_and_span(
     alloc: Global,
     texts: &[Listed<u8>],
-    pieces: &[Piece],
+    pieces: &[LogPiece],
     tasks: &LogTasks,
     walk: &SerialWalk,
 ) -> Result<Cost, CostError>

@@ -9,11 +9,11 @@ ghost use Rattle.log_weights.specs.Sums.{fitting, plus};
 ghost use Rattle.log_weights.specs.Known.{Knows, work_known};
 
 use crate::sums::{plus, text_work};
-use fork_graph::Strand;
-use listed::Listed;
-use log_pieces::Piece;
+use fork_graph::GraphStrand;
+use log_pieces::LogPiece;
 use log_strands::{is_known, strand_in_log};
 use log_tasks::{LogTasks, piece_text};
+use plain_vec::Listed;
 use std::alloc::{AllocError, Global};
 use std::collections::HashMap;
 
@@ -25,7 +25,7 @@ pub(crate) struct StrandWork {
 
 impl StrandWork {
     // The work of a strand of the log.
-    fn of(&self, strand: Strand) -> Option<u64>
+    fn of(&self, strand: GraphStrand) -> Option<u64>
         ensures { result ≡ work_known self.now strand.task strand.index }
     {
         match self.units.get(&(strand.task, strand.index)) {
@@ -35,7 +35,7 @@ impl StrandWork {
     }
 
     // A strand works further.
-    fn add(&mut self, strand: Strand, units: Option<u64>) -> Result<(), AllocError>
+    fn add(&mut self, strand: GraphStrand, units: Option<u64>) -> Result<(), AllocError>
         ensures { OnOk result ((t i : ℕ) → work_known self.new t i ≡ (if is_that strand t i then plus (work_known self.old t i) units else work_known self.old t i)) }
     {
         let work = plus(self.of(strand), units);
@@ -44,7 +44,7 @@ impl StrandWork {
     }
 
     // The work of pieces is added.
-    fn take_pieces(&mut self, texts: &[Listed<u8>], pieces: &[Piece]) -> Result<(), AllocError>
+    fn take_pieces(&mut self, texts: &[Listed<u8>], pieces: &[LogPiece]) -> Result<(), AllocError>
         requires { Knows self.old [] }
         ensures { OnOk result (Knows self.new (events_of_pieces texts.now pieces.now)) }
     {
@@ -56,7 +56,7 @@ impl StrandWork {
     }
 
     /// The weight of a strand of the graph, if it fits.
-    pub(crate) fn weight(&self, tasks: &LogTasks, strand: Strand) -> Option<u64>
+    pub(crate) fn weight(&self, tasks: &LogTasks, strand: GraphStrand) -> Option<u64>
         ensures { (events : List Event) → Knows self.now events → result ≡ fitting (weight_of events tasks.now strand) }
     {
         if is_known(tasks, strand) {
@@ -71,7 +71,7 @@ impl StrandWork {
 pub(crate) fn work_of(
     alloc: Global,
     texts: &[Listed<u8>],
-    pieces: &[Piece],
+    pieces: &[LogPiece],
 ) -> Result<StrandWork, AllocError>
     ensures { IfOk result (λ work. Knows work (events_of_pieces texts.now pieces.now)) }
 {

@@ -8,10 +8,10 @@ ghost use Rattle.log_weights.specs.Known.{Knows};
 
 use crate::cost::CostError;
 use crate::units::{StrandWork, work_of};
-use fork_graph::Strand;
-use listed::Listed;
-use log_pieces::Piece;
+use fork_graph::GraphStrand;
+use log_pieces::LogPiece;
 use log_tasks::LogTasks;
+use plain_vec::Listed;
 use run_span::total_work;
 use std::alloc::Global;
 
@@ -20,7 +20,7 @@ fn weights_by(
     alloc: Global,
     work: &StrandWork,
     tasks: &LogTasks,
-    order: &[Strand],
+    order: &[GraphStrand],
 ) -> Result<Listed<u64>, CostError>
     ensures weights { IfOk result (λ weights. (events : List Event) → Knows work.now events → weights ≡ weights_of events tasks.now order.now) }
     ensures too_much { IfErr result (λ e. (events : List Event) → Knows work.now events → IsTooMuch (weights_of events tasks.now order.now) e) }
@@ -39,9 +39,9 @@ fn weights_by(
 pub fn log_weights(
     alloc: Global,
     texts: &[Listed<u8>],
-    pieces: &[Piece],
+    pieces: &[LogPiece],
     tasks: &LogTasks,
-    order: &[Strand],
+    order: &[GraphStrand],
 ) -> Result<Listed<u64>, CostError>
     requires { events_of_pieces texts.now pieces.now ≡ events_of texts.now }
     ensures weights { IfOk result (λ weights. weights ≡ weights_of (events_of texts.now) tasks.now order.now) }

@@ -1,25 +1,7 @@
 -- A frame that calls another, until that one returns.
-use Rattle.std.proofs.Common.{◌≡◌, ℕ, ℤ, zero, suc, ◌+◌, ◌-◌, ◌≤◌, Bool, true, false, cond, Option, Some, None, List, [], ◌∷◌, ◌++◌, length, slice_get, nat_lt, ◌⊎◌, inl, inr, refl, ap, sym, subst, ◌∙◌, arith, length-append, append_assoc}
-use Rattle.std.proofs.lemmas.Bool.{cases_eq, cases_lt}
-use Rattle.std.proofs.lemmas.Option.{same_Some}
-use Rattle.listed.proofs.Members.{got_same}
-use Rattle.hh_lang.specs.declared.instr.Instr.TheVariants.{Call, Ret}
-use Rattle.hh_lang.specs.declared.program.Line.{Line}
-use Rattle.hh_lang.specs.Form.{ProgramText}
-use Rattle.hh_model.specs.declared.data.Name.{Name}
-use Rattle.hh_model.specs.declared.data.Frame.{Frame}
-use Rattle.hh_model.specs.declared.data.Task.{Task}
-use Rattle.hh_model.specs.declared.data.Trap.TheVariants.{Depth}
-use Rattle.hh_model.specs.declared.data.End.TheVariants.{Trapped}
-use Rattle.hh_model.specs.declared.data.State.{State}
-use Rattle.hh_model.specs.Effect.{effect, onward, int_in, ref_in, with_int, with_ref}
-use Rattle.hh_model.specs.Step.{is_running, result_in, setting, follow, fetched, last_of, front_of, back_in, entry_frame, ended_by, with_task, frame_limit}
-use Rattle.model_laws.specs.Winner.{IsTurn}
-use Rattle.hh_model.proofs.Lists.{last_push, front_push}
-use Rattle.hh_model.proofs.Taken.{step_taken}
-use Rattle.loop_nest_laws.specs.Frames.{Activation, StandsAt, Takes, ReturnsBy, called_frame}
+use Rattle.loop_nest_laws.proofs.Common.{◌≡◌, ℕ, ℤ, zero, suc, ◌+◌, ◌-◌, ◌≤◌, Bool, true, false, cond, Option, Some, None, List, [], ◌∷◌, ◌++◌, length, slice_get, nat_lt, ◌⊎◌, inl, inr, refl, ap, sym, subst, ◌∙◌, arith, length-append, append_assoc, cases_eq, cases_lt, same_Some, got_same, Call, Ret, Line, ProgramText, Name, Frame, Task, Depth, Trapped, MachineState, effect, onward, int_in, ref_in, with_int, with_ref, is_running, result_in, setting, follow, fetched, last_of, front_of, back_in, entry_frame, ended_by, with_task, frame_limit, IsTurn, last_push, front_push, step_taken, Activation, StandsAt, Takes, ReturnsBy, called_frame}
 use Rattle.loop_nest_laws.proofs.Moves.{Gives, kept, now, stays, goes, calls, gives, forks, ends, resumes, joins}
-use Rattle.loop_nest_laws.proofs.Turns.{at, at_next, move_at, MoveAt, turn_of, ended_stands, ended_over, OnTop, next_turn, takes_of, not_last, fetches}
+use Rattle.loop_nest_laws.proofs.Turns.{machine_at, at_next, move_at, MoveAt, turn_of, ended_stands, ended_over, OnTop, next_turn, takes_of, not_last, fetches}
 
 front_append : (xs ys : List Frame) (z : Frame) → front_of (xs ++ z ∷ ys) ≡ xs ++ front_of (z ∷ ys)
 front_append [] ys z = refl
@@ -37,7 +19,7 @@ module _ (p : ProgramText) (limit : ℕ) (ts : List ℕ) (t : ℕ) (bs : List Fr
   -- the frame q waits for a return
   pub record Above (i : ℕ) : Type 0 where
     pub x : Task
-    pub is : slice_get (at p limit ts i).tasks t ≡ Some x
+    pub is : slice_get (machine_at p limit ts i).tasks t ≡ Some x
     pub unended : result_in x.status ≡ None
     pub more : List Frame
     pub below : x.below ≡ bs ++ q ∷ more
@@ -46,7 +28,7 @@ module _ (p : ProgramText) (limit : ℕ) (ts : List ℕ) (t : ℕ) (bs : List Fr
   -- the step after the first i returns to it
   pub record Back (i : ℕ) : Type 0 where
     pub x : Task
-    pub is : slice_get (at p limit ts i).tasks t ≡ Some x
+    pub is : slice_get (machine_at p limit ts i).tasks t ≡ Some x
     pub line : Line
     pub turn : IsTurn p limit ts i t
     pub at_line : fetched p x.top ≡ Some line
@@ -54,13 +36,13 @@ module _ (p : ProgramText) (limit : ℕ) (ts : List ℕ) (t : ℕ) (bs : List Fr
     pub run : is_running (Some x) ≡ true
     pub below : x.below ≡ bs ++ q ∷ []
     pub depth : x.depth ≡ d
-    pub later : slice_get (at p limit ts (suc i)).tasks t ≡ Some (record x { top = back_in q x.top; below = bs })
+    pub later : slice_get (machine_at p limit ts (suc i)).tasks t ≡ Some (record x { top = back_in q x.top; below = bs })
 
   module _ (i : ℕ) (s : Above i) where
     not_none : last_of s.x.below ≡ None → ⊥
     not_none e = last_none bs s.more q (ap last_of (sym s.below) ∙ e)
 
-    given : (u : ℕ) → slice_get ts i ≡ Some u → Gives p (at p limit ts i) u t s.x → (f : Frame) → last_of s.x.below ≡ Some f → (y : Task) → slice_get (at p limit ts (suc i)).tasks t ≡ Some y
+    given : (u : ℕ) → slice_get ts i ≡ Some u → Gives p (machine_at p limit ts i) u t s.x → (f : Frame) → last_of s.x.below ≡ Some f → (y : Task) → slice_get (machine_at p limit ts (suc i)).tasks t ≡ Some y
         → y ≡ record s.x { top = back_in f s.x.top; below = front_of s.x.below } → (more : List Frame) → s.x.below ≡ bs ++ q ∷ more → Above (suc i) ⊎ Back i
     given u e g f last y iy same [] below =
         let is_q : f ≡ q = same_Some f q (sym last ∙ (ap last_of below ∙ last_push bs q)) in
@@ -86,11 +68,11 @@ module _ (p : ProgramText) (limit : ℕ) (ts : List ℕ) (t : ℕ) (bs : List Fr
           depth = ap (λ (z : Task). z.depth) same ∙ s.depth;
         })
 
-    by : (y : Task) → slice_get (at p limit ts (suc i)).tasks t ≡ Some y → MoveAt p limit ts i t s.x y → Above (suc i) ⊎ Back i
-    by y iy (inl same) = inl (record { x = s.x; is = iy ∙ ap Some same; unended = s.unended; more = s.more; below = s.below; depth = s.depth })
-    by y iy (inr (u, e, stays same)) = inl (record { x = s.x; is = iy ∙ ap Some same; unended = s.unended; more = s.more; below = s.below; depth = s.depth })
-    by y iy (inr (u, e, goes o f same)) = inl (record { x = record s.x { top = f }; is = iy ∙ ap Some same; unended = s.unended; more = s.more; below = s.below; depth = s.depth })
-    by y iy (inr (u, e, calls o g same)) =
+    above_by_move : (y : Task) → slice_get (machine_at p limit ts (suc i)).tasks t ≡ Some y → MoveAt p limit ts i t s.x y → Above (suc i) ⊎ Back i
+    above_by_move y iy (inl same) = inl (record { x = s.x; is = iy ∙ ap Some same; unended = s.unended; more = s.more; below = s.below; depth = s.depth })
+    above_by_move y iy (inr (u, e, stays same)) = inl (record { x = s.x; is = iy ∙ ap Some same; unended = s.unended; more = s.more; below = s.below; depth = s.depth })
+    above_by_move y iy (inr (u, e, goes o f same)) = inl (record { x = record s.x { top = f }; is = iy ∙ ap Some same; unended = s.unended; more = s.more; below = s.below; depth = s.depth })
+    above_by_move y iy (inr (u, e, calls o g same)) =
         inl (record {
           x = record s.x { top = entry_frame g s.x.top; below = s.x.below ++ onward s.x.top ∷ [] };
           is = iy ∙ ap Some same;
@@ -99,15 +81,15 @@ module _ (p : ProgramText) (limit : ℕ) (ts : List ℕ) (t : ℕ) (bs : List Fr
           below = ap (λ fs. fs ++ onward s.x.top ∷ []) s.below ∙ append_assoc bs (q ∷ s.more) (onward s.x.top ∷ []);
           depth = s.depth;
         })
-    by y iy (inr (u, e, gives g f last same)) = given u e g f last y iy same s.more s.below
-    by y iy (inr (u, e, forks o same)) = inl (record { x = y; is = iy; unended = ap (λ (z : Task). result_in z.status) same; more = s.more; below = ap (λ (z : Task). z.below) same ∙ s.below; depth = ap (λ (z : Task). z.depth) same ∙ s.depth })
-    by y iy (inr (u, e, ends g none same)) = absurd (not_none none)
-    by y iy (inr (u, e, resumes rl rr j same)) = inl (record { x = y; is = iy; unended = ap (λ (z : Task). result_in z.status) same; more = s.more; below = ap (λ (z : Task). z.below) same ∙ s.below; depth = ap (λ (z : Task). z.depth) same ∙ s.depth })
-    by y iy (inr (u, e, joins parent xp rl rr r pp ip (kept h) same)) = let two : None ≡ Some r = sym s.unended ∙ h in absurd cc
-    by y iy (inr (u, e, joins parent xp rl rr r pp ip (now g none h) same)) = absurd (not_none none)
+    above_by_move y iy (inr (u, e, gives g f last same)) = given u e g f last y iy same s.more s.below
+    above_by_move y iy (inr (u, e, forks o same)) = inl (record { x = y; is = iy; unended = ap (λ (z : Task). result_in z.status) same; more = s.more; below = ap (λ (z : Task). z.below) same ∙ s.below; depth = ap (λ (z : Task). z.depth) same ∙ s.depth })
+    above_by_move y iy (inr (u, e, ends g none same)) = absurd (not_none none)
+    above_by_move y iy (inr (u, e, resumes rl rr j same)) = inl (record { x = y; is = iy; unended = ap (λ (z : Task). result_in z.status) same; more = s.more; below = ap (λ (z : Task). z.below) same ∙ s.below; depth = ap (λ (z : Task). z.depth) same ∙ s.depth })
+    above_by_move y iy (inr (u, e, joins parent xp rl rr r pp ip (kept h) same)) = let two : None ≡ Some r = sym s.unended ∙ h in absurd cc
+    above_by_move y iy (inr (u, e, joins parent xp rl rr r pp ip (now g none h) same)) = absurd (not_none none)
 
     pub above_step : Above (suc i) ⊎ Back i
-    above_step = let moved = move_at p limit ts i t s.x s.is in by moved.0 moved.1 moved.2
+    above_step = let moved = move_at p limit ts i t s.x s.is in above_by_move moved.0 moved.1 moved.2
 
 module _ (p : ProgramText) (limit : ℕ) (ts : List ℕ) (a : Activation) (bs : List Frame) (d m : ℕ) (w : Takes p limit ts a m) (is_ret : w.line.instr ≡ Ret) (high : length bs ≡ a.height) where
   module _ (q : Frame) where
@@ -191,22 +173,22 @@ module _ (p : ProgramText) (limit : ℕ) (ts : List ℕ) (a : Activation) (bs : 
       further : suc k ≤ m
       further = not_last p limit ts a bs d m w k f line on fetch is_ret not_ret to
 
-      taken : at p limit ts (suc k) ≡ cond (nat_lt (length on.x.below + 1) frame_limit) (with_task (at p limit ts k) a.task y) (ended_by (at p limit ts k) (Trapped Depth a.task line.number))
+      taken : machine_at p limit ts (suc k) ≡ cond (nat_lt (length on.x.below + 1) frame_limit) (with_task (machine_at p limit ts k) a.task y) (ended_by (machine_at p limit ts k) (Trapped Depth a.task line.number))
       taken =
           at_next p limit ts k a.task turn.task
-          ∙ (step_taken p (at p limit ts k) a.task on.x line turn.can on.is (ap (fetched p) on.top ∙ fetch)
-          ∙ ap (λ instr. follow (at p limit ts k) a.task on.x line.number (effect (setting (at p limit ts k) a.task on.x) on.x.top (at p limit ts k).store instr)) is_call)
+          ∙ (step_taken p (machine_at p limit ts k) a.task on.x line turn.can on.is (ap (fetched p) on.top ∙ fetch)
+          ∙ ap (λ instr. follow (machine_at p limit ts k) a.task on.x line.number (effect (setting (machine_at p limit ts k) a.task on.x) on.x.top (machine_at p limit ts k).store instr)) is_call)
 
-      by_limit : (c : Bool) → nat_lt (length on.x.below + 1) frame_limit ≡ c → slice_get (at p limit ts (suc k)).tasks a.task ≡ Some y
+      by_limit : (c : Bool) → nat_lt (length on.x.below + 1) frame_limit ≡ c → slice_get (machine_at p limit ts (suc k)).tasks a.task ≡ Some y
       by_limit true c =
-          ap (λ (q : State). slice_get q.tasks a.task) (taken ∙ ap (λ z. cond z (with_task (at p limit ts k) a.task y) (ended_by (at p limit ts k) (Trapped Depth a.task line.number))) c)
-          ∙ got_same (at p limit ts k).tasks a.task on.x y on.is
+          ap (λ (q : MachineState). slice_get q.tasks a.task) (taken ∙ ap (λ z. cond z (with_task (machine_at p limit ts k) a.task y) (ended_by (machine_at p limit ts k) (Trapped Depth a.task line.number))) c)
+          ∙ got_same (machine_at p limit ts k).tasks a.task on.x y on.is
       by_limit false c =
           absurd (ended_over p limit ts (m - suc k) (suc k) a.task (Trapped Depth a.task line.number)
-          (ap (λ (q : State). q.end) (taken ∙ ap (λ z. cond z (with_task (at p limit ts k) a.task y) (ended_by (at p limit ts k) (Trapped Depth a.task line.number))) c))
+          (ap (λ (q : MachineState). q.end) (taken ∙ ap (λ z. cond z (with_task (machine_at p limit ts k) a.task y) (ended_by (machine_at p limit ts k) (Trapped Depth a.task line.number))) c))
           (subst (λ z. IsTurn p limit ts z a.task) (let h : m ≡ m - suc k + suc k = omega (arith, further) in h) w.turn))
 
-      begun : slice_get (at p limit ts (suc k)).tasks a.task ≡ Some y
+      begun : slice_get (machine_at p limit ts (suc k)).tasks a.task ≡ Some y
       begun = by_limit (nat_lt (length on.x.below + 1) frame_limit) refl
 
       below_y : y.below ≡ bs ++ onward f ∷ []
@@ -250,7 +232,7 @@ module _ (p : ProgramText) (limit : ℕ) (ts : List ℕ) (a : Activation) (bs : 
               begun = let h : a.since ≤ k = on.stands.begun in omega arith;
               high = λ j from to. elim (cases_lt k j) [
                 | inl lt ↦ elim (cases_eq j (suc returns.e)) [
-                  | inl e ↦ (record back.x { top = back_in (onward f) back.x.top; below = bs }, ap (λ z. slice_get (at p limit ts z).tasks a.task) e ∙ back.later, omega (arith, high))
+                  | inl e ↦ (record back.x { top = back_in (onward f) back.x.top; below = bs }, ap (λ z. slice_get (machine_at p limit ts z).tasks a.task) e ∙ back.later, omega (arith, high))
                   | inr ne ↦
                       let s = returns.above j (omega arith) (omega arith) in
                       let h : length s.x.below ≡ length bs + length (onward f ∷ s.more) = ap length s.below ∙ length-append bs (onward f ∷ s.more) in

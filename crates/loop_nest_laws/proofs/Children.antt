@@ -1,25 +1,7 @@
 -- A frame that forks, until both children have joined.
-use Rattle.std.proofs.Common.{◌≡◌, ℕ, ℤ, zero, suc, ◌+◌, ◌-◌, ◌<◌, ◌≤◌, Bool, true, false, cond, Option, Some, None, List, [], ◌∷◌, ◌++◌, length, slice_get, slice_set, nat_lt, ◌⊎◌, inl, inr, refl, ap, sym, subst, ◌∙◌, arith}
-use Rattle.std.proofs.lemmas.Bool.{cases_eq, cases_lt, cond-true, false≢true}
-use Rattle.std.proofs.lemmas.Option.{same_Some}
-use Rattle.hh_lang.specs.declared.instr.Instr.TheVariants.{Par, Ret}
-use Rattle.hh_lang.specs.declared.program.Line.{Line}
-use Rattle.hh_lang.specs.Form.{ProgramText}
-use Rattle.hh_model.specs.declared.data.Name.{Name}
-use Rattle.hh_model.specs.declared.data.Frame.{Frame}
-use Rattle.hh_model.specs.declared.data.Status.TheVariants.{Waiting}
-use Rattle.hh_model.specs.declared.data.Task.{Task}
-use Rattle.hh_model.specs.declared.data.Trap.TheVariants.{Depth}
-use Rattle.hh_model.specs.declared.data.End.TheVariants.{Trapped}
-use Rattle.hh_model.specs.declared.data.State.{State}
-use Rattle.hh_model.specs.Effect.{effect, onward, with_int, with_ref}
-use Rattle.hh_model.specs.Step.{is_running, is_joined, is_over, is_left, sibling, parents, parent_of, result_in, result_of, setting, follow, fetched, last_of, entry_frame, ended_by, child, resumed, joined, depth_limit, strand_of, strand, edge}
-use Rattle.model_laws.specs.Winner.{IsTurn}
-use Rattle.hh_model.proofs.Runs.{grown_at, grown_left, grown_right}
-use Rattle.hh_model.proofs.Taken.{step_taken}
-use Rattle.loop_nest_laws.specs.Frames.{Activation, StandsAt, Takes, ReturnsBy, left_frame, right_frame}
+use Rattle.loop_nest_laws.proofs.Common.{◌≡◌, ℕ, ℤ, zero, suc, ◌+◌, ◌-◌, ◌<◌, ◌≤◌, Bool, true, false, cond, Option, Some, None, List, [], ◌∷◌, ◌++◌, length, slice_get, slice_set, nat_lt, ◌⊎◌, inl, inr, refl, ap, sym, subst, ◌∙◌, arith, cases_eq, cases_lt, cond-true, false≢true, same_Some, Par, Ret, Line, ProgramText, Name, Frame, Waiting, Task, Depth, Trapped, MachineState, effect, onward, with_int, with_ref, is_running, is_joined, is_over, is_left, sibling, parents, parent_of, result_in, result_of, setting, follow, fetched, last_of, entry_frame, ended_by, child, resumed, joined, depth_limit, strand_of, strand, edge, IsTurn, grown_at, grown_left, grown_right, step_taken, Activation, StandsAt, Takes, ReturnsBy, left_frame, right_frame}
 use Rattle.loop_nest_laws.proofs.Moves.{Gives, Hands, kept, now, JoinsIn, stays, goes, calls, gives, forks, ends, resumes, joins}
-use Rattle.loop_nest_laws.proofs.Turns.{at, at_next, fork_join_at, move_at, MoveAt, turn_of, turn_runs, ended_over, hands_tells, OnTop, next_turn, takes_of, not_last, fetches}
+use Rattle.loop_nest_laws.proofs.Turns.{machine_at, at_next, fork_join_at, move_at, MoveAt, turn_of, turn_runs, ended_over, hands_tells, OnTop, next_turn, takes_of, not_last, fetches}
 
 last_empty : (xs : List Frame) → last_of xs ≡ None → length xs ≡ 0
 last_empty [] e = refl
@@ -69,7 +51,7 @@ module _ (p : ProgramText) (limit : ℕ) (ts : List ℕ) (a : Activation) (bs : 
       xw = record x { status = Waiting; top = onward x.top }
 
       abbrev l : ℕ
-      l = length (at p limit ts k).tasks
+      l = length (machine_at p limit ts k).tasks
 
       abbrev cl : Task
       cl = child a.task (x.depth + 1) g x.top
@@ -77,48 +59,48 @@ module _ (p : ProgramText) (limit : ℕ) (ts : List ℕ) (a : Activation) (bs : 
       abbrev cr : Task
       cr = child a.task (x.depth + 1) h x.top
 
-      abbrev m0 : State
-      m0 = at p limit ts k
+      abbrev m0 : MachineState
+      m0 = machine_at p limit ts k
 
-      abbrev grown_state : State
+      abbrev grown_state : MachineState
       grown_state = record m0 {
         tasks = slice_set m0.tasks a.task xw ++ cl ∷ cr ∷ [];
         store = m0.store ++ [] ∷ [] ∷ [];
         edges = m0.edges ++ edge (strand_of a.task x) (strand l 0) ∷ edge (strand_of a.task x) (strand (l + 1) 0) ∷ [];
       }
 
-      abbrev trapped : State
+      abbrev trapped : MachineState
       trapped = ended_by m0 (Trapped Depth a.task line.number)
 
       further : suc k ≤ m
       further = not_last p limit ts a bs d m w k f line on fetch is_ret not_ret to
 
-      taken : at p limit ts (suc k) ≡ cond (nat_lt x.depth depth_limit) grown_state trapped
+      taken : machine_at p limit ts (suc k) ≡ cond (nat_lt x.depth depth_limit) grown_state trapped
       taken =
           at_next p limit ts k a.task turn.task
           ∙ (step_taken p m0 a.task x line turn.can on.is (ap (fetched p) on.top ∙ fetch)
           ∙ ap (λ instr. follow m0 a.task x line.number (effect (setting m0 a.task x) x.top m0.store instr)) is_fork)
 
-      by_limit : (c : Bool) → nat_lt x.depth depth_limit ≡ c → at p limit ts (suc k) ≡ grown_state
+      by_limit : (c : Bool) → nat_lt x.depth depth_limit ≡ c → machine_at p limit ts (suc k) ≡ grown_state
       by_limit true c = taken ∙ ap (λ z. cond z grown_state trapped) c
       by_limit false c =
           absurd (ended_over p limit ts (m - suc k) (suc k) a.task (Trapped Depth a.task line.number)
-          (ap (λ (q : State). q.end) (taken ∙ ap (λ z. cond z grown_state trapped) c))
+          (ap (λ (q : MachineState). q.end) (taken ∙ ap (λ z. cond z grown_state trapped) c))
           (subst (λ z. IsTurn p limit ts z a.task) (let e : m ≡ m - suc k + suc k = omega (arith, further) in e) w.turn))
 
-      grown_is : at p limit ts (suc k) ≡ grown_state
+      grown_is : machine_at p limit ts (suc k) ≡ grown_state
       grown_is = by_limit (nat_lt x.depth depth_limit) refl
 
-      now_at : (t : ℕ) (y : Task) → slice_get grown_state.tasks t ≡ Some y → slice_get (at p limit ts (suc k)).tasks t ≡ Some y
-      now_at t y e = ap (λ (q : State). slice_get q.tasks t) grown_is ∙ e
+      now_at : (t : ℕ) (y : Task) → slice_get grown_state.tasks t ≡ Some y → slice_get (machine_at p limit ts (suc k)).tasks t ≡ Some y
+      now_at t y e = ap (λ (q : MachineState). slice_get q.tasks t) grown_is ∙ e
 
       -- WAITING
 
       abbrev Kid : ℕ → ℕ → Type 0
-      Kid c j = (y : Task) × (slice_get (at p limit ts j).tasks c ≡ Some y) × (y.parent ≡ Some a.task) × (is_over y.status ≡ false)
+      Kid c j = (y : Task) × (slice_get (machine_at p limit ts j).tasks c ≡ Some y) × (y.parent ≡ Some a.task) × (is_over y.status ≡ false)
 
       record Waits (j : ℕ) : Type 0 where
-        waiter : slice_get (at p limit ts j).tasks a.task ≡ Some xw
+        waiter : slice_get (machine_at p limit ts j).tasks a.task ≡ Some xw
         left : Kid l j
         right : Kid (l + 1) j
 
@@ -127,9 +109,9 @@ module _ (p : ProgramText) (limit : ℕ) (ts : List ℕ) (a : Activation) (bs : 
         is_turn : slice_get ts j ≡ Some u
         rl : ℤ × Option Name
         rr : ℤ × Option Name
-        joined : JoinsIn p (at p limit ts j) u a.task xw rl rr
+        joined : JoinsIn p (machine_at p limit ts j) u a.task xw rl rr
         same : joined.left ≡ l
-        later : slice_get (at p limit ts (suc j)).tasks a.task ≡ Some (resumed xw rl rr)
+        later : slice_get (machine_at p limit ts (suc j)).tasks a.task ≡ Some (resumed xw rl rr)
 
       at_first : Waits (suc k)
       at_first = record {
@@ -140,40 +122,40 @@ module _ (p : ProgramText) (limit : ℕ) (ts : List ℕ) (a : Activation) (bs : 
 
       module _ (j : ℕ) (s : Waits j) where
         -- a child stays a child while its parent isn't resumed
-        kid_step : (c : ℕ) → Kid c j → slice_get (at p limit ts (suc j)).tasks a.task ≡ Some xw → Kid c (suc j)
-        kid_step c kid waiter = let moved = move_at p limit ts j c kid.0 kid.1 in by moved.0 moved.1 moved.2
+        kid_step : (c : ℕ) → Kid c j → slice_get (machine_at p limit ts (suc j)).tasks a.task ≡ Some xw → Kid c (suc j)
+        kid_step c kid waiter = let moved = move_at p limit ts j c kid.0 kid.1 in kid_step_by_cases moved.0 moved.1 moved.2
           where
-            not_joined : (parent : ℕ) (xp : Task) (rl rr : ℤ × Option Name) → kid.0.parent ≡ Some parent → slice_get (at p limit ts (suc j)).tasks parent ≡ Some (resumed xp rl rr) → ⊥
+            not_joined : (parent : ℕ) (xp : Task) (rl rr : ℤ × Option Name) → kid.0.parent ≡ Some parent → slice_get (machine_at p limit ts (suc j)).tasks parent ≡ Some (resumed xp rl rr) → ⊥
             not_joined parent xp rl rr pp ip =
                 let same : parent ≡ a.task = same_Some parent a.task (sym pp ∙ kid.2) in
-                let task : resumed xp rl rr ≡ xw = same_Some (resumed xp rl rr) xw (sym ip ∙ (ap (slice_get (at p limit ts (suc j)).tasks) same ∙ waiter)) in
+                let task : resumed xp rl rr ≡ xw = same_Some (resumed xp rl rr) xw (sym ip ∙ (ap (slice_get (machine_at p limit ts (suc j)).tasks) same ∙ waiter)) in
                 let status : true ≡ false = ap (λ (y : Task). is_running (Some y)) task in
                 false≢true (sym status)
 
-            same_kid : (y : Task) → slice_get (at p limit ts (suc j)).tasks c ≡ Some y → y.parent ≡ kid.0.parent → is_over y.status ≡ false → Kid c (suc j)
+            same_kid : (y : Task) → slice_get (machine_at p limit ts (suc j)).tasks c ≡ Some y → y.parent ≡ kid.0.parent → is_over y.status ≡ false → Kid c (suc j)
             same_kid y iy parent over = (y, iy, parent ∙ kid.2, over)
 
-            by : (y : Task) → slice_get (at p limit ts (suc j)).tasks c ≡ Some y → MoveAt p limit ts j c kid.0 y → Kid c (suc j)
-            by y iy (inl same) = same_kid y iy (ap (λ (z : Task). z.parent) same) (ap (λ (z : Task). is_over z.status) same ∙ kid.3)
-            by y iy (inr (u, e, stays same)) = same_kid y iy (ap (λ (z : Task). z.parent) same) (ap (λ (z : Task). is_over z.status) same ∙ kid.3)
-            by y iy (inr (u, e, goes o f same)) = same_kid y iy (ap (λ (z : Task). z.parent) same) (ap (λ (z : Task). is_over z.status) same ∙ kid.3)
-            by y iy (inr (u, e, calls o g same)) = same_kid y iy (ap (λ (z : Task). z.parent) same) (ap (λ (z : Task). is_over z.status) same ∙ kid.3)
-            by y iy (inr (u, e, gives o f last same)) = same_kid y iy (ap (λ (z : Task). z.parent) same) (ap (λ (z : Task). is_over z.status) same ∙ kid.3)
-            by y iy (inr (u, e, forks o same)) = same_kid y iy (ap (λ (z : Task). z.parent) same) (ap (λ (z : Task). is_over z.status) same)
-            by y iy (inr (u, e, ends o empty same)) = same_kid y iy (ap (λ (z : Task). z.parent) same) (ap (λ (z : Task). is_over z.status) same)
-            by y iy (inr (u, e, resumes rl rr q same)) = same_kid y iy (ap (λ (z : Task). z.parent) same) (ap (λ (z : Task). is_over z.status) same)
-            by y iy (inr (u, e, joins parent xp rl rr r pp ip hands same)) = absurd (not_joined parent xp rl rr pp ip)
+            kid_step_by_cases : (y : Task) → slice_get (machine_at p limit ts (suc j)).tasks c ≡ Some y → MoveAt p limit ts j c kid.0 y → Kid c (suc j)
+            kid_step_by_cases y iy (inl same) = same_kid y iy (ap (λ (z : Task). z.parent) same) (ap (λ (z : Task). is_over z.status) same ∙ kid.3)
+            kid_step_by_cases y iy (inr (u, e, stays same)) = same_kid y iy (ap (λ (z : Task). z.parent) same) (ap (λ (z : Task). is_over z.status) same ∙ kid.3)
+            kid_step_by_cases y iy (inr (u, e, goes o f same)) = same_kid y iy (ap (λ (z : Task). z.parent) same) (ap (λ (z : Task). is_over z.status) same ∙ kid.3)
+            kid_step_by_cases y iy (inr (u, e, calls o g same)) = same_kid y iy (ap (λ (z : Task). z.parent) same) (ap (λ (z : Task). is_over z.status) same ∙ kid.3)
+            kid_step_by_cases y iy (inr (u, e, gives o f last same)) = same_kid y iy (ap (λ (z : Task). z.parent) same) (ap (λ (z : Task). is_over z.status) same ∙ kid.3)
+            kid_step_by_cases y iy (inr (u, e, forks o same)) = same_kid y iy (ap (λ (z : Task). z.parent) same) (ap (λ (z : Task). is_over z.status) same)
+            kid_step_by_cases y iy (inr (u, e, ends o empty same)) = same_kid y iy (ap (λ (z : Task). z.parent) same) (ap (λ (z : Task). is_over z.status) same)
+            kid_step_by_cases y iy (inr (u, e, resumes rl rr q same)) = same_kid y iy (ap (λ (z : Task). z.parent) same) (ap (λ (z : Task). is_over z.status) same)
+            kid_step_by_cases y iy (inr (u, e, joins parent xp rl rr r pp ip hands same)) = absurd (not_joined parent xp rl rr pp ip)
 
-        still : slice_get (at p limit ts (suc j)).tasks a.task ≡ Some xw → Waits (suc j)
+        still : slice_get (machine_at p limit ts (suc j)).tasks a.task ≡ Some xw → Waits (suc j)
         still waiter = record { waiter = waiter; left = kid_step l s.left waiter; right = kid_step (l + 1) s.right waiter }
 
         -- the children that join are these
-        same_left : (u : ℕ) (rl rr : ℤ × Option Name) (q : JoinsIn p (at p limit ts j) u a.task xw rl rr) → q.left ≡ l
+        same_left : (u : ℕ) (rl rr : ℤ × Option Name) (q : JoinsIn p (machine_at p limit ts j) u a.task xw rl rr) → q.left ≡ l
         same_left u rl rr q =
             let tree = (fork_join_at p limit ts j).tree in
-            let tasks = (at p limit ts j).tasks in
+            let tasks = (machine_at p limit ts j).tasks in
             let par : parents tasks q.left ≡ Some a.task = ap parent_of q.il ∙ q.pl in
-            let jd : joined tasks q.left ≡ false = ap is_joined q.il ∙ hands_tells p (at p limit ts j) u q.left q.xl rl q.gl in
+            let jd : joined tasks q.left ≡ false = ap is_joined q.il ∙ hands_tells p (machine_at p limit ts j) u q.left q.xl rl q.gl in
             let sib : sibling q.left ≡ q.left + 1 = cond-true (is_left q.left) (q.left + 1) (q.left - 1) q.side in
             let one = tree.brothers q.left l a.task par (ap parent_of s.left.1 ∙ s.left.2) jd (ap is_joined s.left.1 ∙ s.left.3) in
             let two = tree.brothers q.left (l + 1) a.task par (ap parent_of s.right.1 ∙ s.right.2) jd (ap is_joined s.right.1 ∙ s.right.3) in
@@ -182,20 +164,20 @@ module _ (p : ProgramText) (limit : ℕ) (ts : List ℕ) (a : Activation) (bs : 
               | inr e ↦ elim two [ inl e2 ↦ absurd (omega arith) | inr e2 ↦ omega arith ]
             ]
 
-        by : (y : Task) → slice_get (at p limit ts (suc j)).tasks a.task ≡ Some y → MoveAt p limit ts j a.task xw y → Waits (suc j) ⊎ Resumes j
-        by y iy (inl same) = inl (still (iy ∙ ap Some same))
-        by y iy (inr (u, e, stays same)) = inl (still (iy ∙ ap Some same))
-        by y iy (inr (u, e, goes o f same)) = absurd (false≢true o.run)
-        by y iy (inr (u, e, calls o g same)) = absurd (false≢true o.run)
-        by y iy (inr (u, e, gives o f last same)) = absurd (false≢true o.own.run)
-        by y iy (inr (u, e, forks o same)) = absurd (false≢true o.run)
-        by y iy (inr (u, e, ends o empty same)) = absurd (false≢true o.own.run)
-        by y iy (inr (u, e, resumes rl rr q same)) = inr (record { u = u; is_turn = e; rl = rl; rr = rr; joined = q; same = same_left u rl rr q; later = iy ∙ ap Some same })
-        by y iy (inr (u, e, joins parent xp rl rr r pp ip (kept hands) same)) = absurd cc
-        by y iy (inr (u, e, joins parent xp rl rr r pp ip (now o empty hands) same)) = absurd (false≢true o.own.run)
+        waits_by_move : (y : Task) → slice_get (machine_at p limit ts (suc j)).tasks a.task ≡ Some y → MoveAt p limit ts j a.task xw y → Waits (suc j) ⊎ Resumes j
+        waits_by_move y iy (inl same) = inl (still (iy ∙ ap Some same))
+        waits_by_move y iy (inr (u, e, stays same)) = inl (still (iy ∙ ap Some same))
+        waits_by_move y iy (inr (u, e, goes o f same)) = absurd (false≢true o.run)
+        waits_by_move y iy (inr (u, e, calls o g same)) = absurd (false≢true o.run)
+        waits_by_move y iy (inr (u, e, gives o f last same)) = absurd (false≢true o.own.run)
+        waits_by_move y iy (inr (u, e, forks o same)) = absurd (false≢true o.run)
+        waits_by_move y iy (inr (u, e, ends o empty same)) = absurd (false≢true o.own.run)
+        waits_by_move y iy (inr (u, e, resumes rl rr q same)) = inr (record { u = u; is_turn = e; rl = rl; rr = rr; joined = q; same = same_left u rl rr q; later = iy ∙ ap Some same })
+        waits_by_move y iy (inr (u, e, joins parent xp rl rr r pp ip (kept hands) same)) = absurd cc
+        waits_by_move y iy (inr (u, e, joins parent xp rl rr r pp ip (now o empty hands) same)) = absurd (false≢true o.own.run)
 
         wait_step : Waits (suc j) ⊎ Resumes j
-        wait_step = let moved = move_at p limit ts j a.task xw s.waiter in by moved.0 moved.1 moved.2
+        wait_step = let moved = move_at p limit ts j a.task xw s.waiter in waits_by_move moved.0 moved.1 moved.2
 
       record UntilJoin (j : ℕ) : Type 0 where
         e : ℕ
@@ -232,7 +214,7 @@ module _ (p : ProgramText) (limit : ℕ) (ts : List ℕ) (a : Activation) (bs : 
 
       -- A CHILD
 
-      module _ (c : ℕ) (kid_at : (j : ℕ) → Waits j → Kid c j) (c0 : Task) (is0 : slice_get (at p limit ts (suc k)).tasks c ≡ Some c0) (run0 : result_in c0.status ≡ None) where
+      module _ (c : ℕ) (kid_at : (j : ℕ) → Waits j → Kid c j) (c0 : Task) (is0 : slice_get (machine_at p limit ts (suc k)).tasks c ≡ Some c0) (run0 : result_in c0.status ≡ None) where
         abbrev b : Activation
         b = record { task = c; since = suc k; height = 0 }
 
@@ -249,9 +231,9 @@ module _ (p : ProgramText) (limit : ℕ) (ts : List ℕ) (a : Activation) (bs : 
           back : ReturnsBy p limit ts b when r.0 r.1
 
         abbrev KidAt : ℕ → Type 0
-        KidAt j = (y : Task) × (slice_get (at p limit ts j).tasks c ≡ Some y) × ((result_in y.status ≡ None) ⊎ ((r : ℤ × Option Name) × Ended j r × (result_in y.status ≡ Some r)))
+        KidAt j = (y : Task) × (slice_get (machine_at p limit ts j).tasks c ≡ Some y) × ((result_in y.status ≡ None) ⊎ ((r : ℤ × Option Name) × Ended j r × (result_in y.status ≡ Some r)))
 
-        gives_back : (j u : ℕ) (y : Task) → suc k ≤ j → j ≤ until.e → slice_get ts j ≡ Some u → slice_get (at p limit ts j).tasks c ≡ Some y → Gives p (at p limit ts j) u c y → last_of y.below ≡ None
+        gives_back : (j u : ℕ) (y : Task) → suc k ≤ j → j ≤ until.e → slice_get ts j ≡ Some u → slice_get (machine_at p limit ts j).tasks c ≡ Some y → Gives p (machine_at p limit ts j) u c y → last_of y.below ≡ None
             → ReturnsBy p limit ts b j (result_of y.top).0 (result_of y.top).1
         gives_back j u y le to e iy o empty = record {
           takes = record {
@@ -270,10 +252,10 @@ module _ (p : ProgramText) (limit : ℕ) (ts : List ℕ) (a : Activation) (bs : 
         later_ended j r q = record { when = q.when; behind = q.behind; before = let lt : q.when < j = q.before in omega arith; back = q.back }
 
         module _ (j : ℕ) (lo : suc k ≤ j) (hi : suc j ≤ until.e) (s : KidAt j) where
-          same_status : (y : Task) → slice_get (at p limit ts (suc j)).tasks c ≡ Some y → result_in y.status ≡ result_in s.0.status → KidAt (suc j)
+          same_status : (y : Task) → slice_get (machine_at p limit ts (suc j)).tasks c ≡ Some y → result_in y.status ≡ result_in s.0.status → KidAt (suc j)
           same_status y iy e = (y, iy, elim (s.2) [ inl h ↦ inl (e ∙ h) | inr h ↦ inr (h.0, later_ended j h.0 h.1, e ∙ h.2) ])
 
-          by_kid : (y : Task) → slice_get (at p limit ts (suc j)).tasks c ≡ Some y → MoveAt p limit ts j c s.0 y → KidAt (suc j)
+          by_kid : (y : Task) → slice_get (machine_at p limit ts (suc j)).tasks c ≡ Some y → MoveAt p limit ts j c s.0 y → KidAt (suc j)
           by_kid y iy (inl same) = same_status y iy (ap (λ (z : Task). result_in z.status) same)
           by_kid y iy (inr (u, e, stays same)) = same_status y iy (ap (λ (z : Task). result_in z.status) same)
           by_kid y iy (inr (u, e, goes o f same)) = same_status y iy (ap (λ (z : Task). result_in z.status) same)
@@ -308,7 +290,7 @@ module _ (p : ProgramText) (limit : ℕ) (ts : List ℕ) (a : Activation) (bs : 
             let from : suc k ≤ until.e = until.begins in
             subst KidAt (let e : suc k + (until.e - suc k) ≡ until.e = omega arith in e) (kid_later (until.e - suc k) (omega arith))
 
-        kid_returned : (u : ℕ) (y : Task) (r : ℤ × Option Name) → slice_get ts until.e ≡ Some u → slice_get (at p limit ts until.e).tasks c ≡ Some y → Hands p (at p limit ts until.e) u c y r
+        kid_returned : (u : ℕ) (y : Task) (r : ℤ × Option Name) → slice_get ts until.e ≡ Some u → slice_get (machine_at p limit ts until.e).tasks c ≡ Some y → Hands p (machine_at p limit ts until.e) u c y r
             → (when : ℕ) × ReturnsBy p limit ts b when r.0 r.1
         kid_returned u y r e iy (now o empty same) = (until.e, subst (λ (z : ℤ × Option Name). ReturnsBy p limit ts b until.e z.0 z.1) (sym same) (gives_back until.e u y until.begins (omega arith) e iy o empty))
         kid_returned u y r e iy (kept has) =
@@ -323,23 +305,23 @@ module _ (p : ProgramText) (limit : ℕ) (ts : List ℕ) (a : Activation) (bs : 
       abbrev r0 : Resumes until.e
       r0 = until.resumes
 
-      left_at : slice_get (at p limit ts until.e).tasks l ≡ Some r0.joined.xl
-      left_at = ap (slice_get (at p limit ts until.e).tasks) (sym r0.same) ∙ r0.joined.il
+      left_at : slice_get (machine_at p limit ts until.e).tasks l ≡ Some r0.joined.xl
+      left_at = ap (slice_get (machine_at p limit ts until.e).tasks) (sym r0.same) ∙ r0.joined.il
 
-      right_at : slice_get (at p limit ts until.e).tasks (l + 1) ≡ Some r0.joined.xr
-      right_at = ap (λ z. slice_get (at p limit ts until.e).tasks (z + 1)) (sym r0.same) ∙ r0.joined.ir
+      right_at : slice_get (machine_at p limit ts until.e).tasks (l + 1) ≡ Some r0.joined.xr
+      right_at = ap (λ z. slice_get (machine_at p limit ts until.e).tasks (z + 1)) (sym r0.same) ∙ r0.joined.ir
 
       left_returned : (when : ℕ) × ReturnsBy p limit ts (left_frame p limit ts k) when r0.rl.0 r0.rl.1
       left_returned =
           kid_returned l (λ j s. s.left) cl (now_at l cl (grown_left m0.tasks a.task x xw cl cr on.is)) refl r0.u r0.joined.xl r0.rl r0.is_turn left_at
-          (subst (λ z. Hands p (at p limit ts until.e) r0.u z r0.joined.xl r0.rl) r0.same r0.joined.gl)
+          (subst (λ z. Hands p (machine_at p limit ts until.e) r0.u z r0.joined.xl r0.rl) r0.same r0.joined.gl)
 
       right_returned : (when : ℕ) × ReturnsBy p limit ts (right_frame p limit ts k) when r0.rr.0 r0.rr.1
       right_returned =
           kid_returned (l + 1) (λ j s. s.right) cr (now_at (l + 1) cr (grown_right m0.tasks a.task x xw cl cr on.is)) refl r0.u r0.joined.xr r0.rr r0.is_turn right_at
-          (subst (λ z. Hands p (at p limit ts until.e) r0.u (z + 1) r0.joined.xr r0.rr) r0.same r0.joined.gr)
+          (subst (λ z. Hands p (machine_at p limit ts until.e) r0.u (z + 1) r0.joined.xr r0.rr) r0.same r0.joined.gr)
 
-      first_on : (c : ℕ) (q : ℕ) → slice_get (at p limit ts (suc k)).tasks c ≡ Some (child a.task (x.depth + 1) q x.top) → OnTop p limit ts (record { task = c; since = suc k; height = 0 }) [] (d + 1) (suc k) (entry_frame q f)
+      first_on : (c : ℕ) (q : ℕ) → slice_get (machine_at p limit ts (suc k)).tasks c ≡ Some (child a.task (x.depth + 1) q x.top) → OnTop p limit ts (record { task = c; since = suc k; height = 0 }) [] (d + 1) (suc k) (entry_frame q f)
       first_on c q is = record {
         x = child a.task (x.depth + 1) q x.top;
         is = is;
@@ -349,7 +331,7 @@ module _ (p : ProgramText) (limit : ℕ) (ts : List ℕ) (a : Activation) (bs : 
         depth = ap (λ z. z + 1) on.depth;
         stands = record {
           begun = omega arith;
-          high = λ j lo hi. (child a.task (x.depth + 1) q x.top, ap (λ z. slice_get (at p limit ts z).tasks c) (let e : j ≡ suc k = omega arith in e) ∙ is, omega arith);
+          high = λ j lo hi. (child a.task (x.depth + 1) q x.top, ap (λ z. slice_get (machine_at p limit ts z).tasks c) (let e : j ≡ suc k = omega arith in e) ∙ is, omega arith);
         };
         high = refl;
       }
@@ -385,7 +367,7 @@ module _ (p : ProgramText) (limit : ℕ) (ts : List ℕ) (a : Activation) (bs : 
               begun = let h : a.since ≤ k = on.stands.begun in let h2 : suc k ≤ until.e = until.begins in omega arith;
               high = λ j lo hi. elim (cases_lt k j) [
                 | inl lt ↦ elim (cases_eq j (suc until.e)) [
-                  | inl e ↦ (resumed xw r0.rl r0.rr, ap (λ z. slice_get (at p limit ts z).tasks a.task) e ∙ r0.later, omega arith)
+                  | inl e ↦ (resumed xw r0.rl r0.rr, ap (λ z. slice_get (machine_at p limit ts z).tasks a.task) e ∙ r0.later, omega arith)
                   | inr ne ↦ let s = until.waits j (omega arith) (omega arith) in (xw, s.waiter, omega arith)
                 ]
                 | inr ge ↦ on.stands.high j lo ge

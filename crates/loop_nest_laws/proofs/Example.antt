@@ -1,16 +1,5 @@
 -- A loop over two numbers that has returned: the law isn't vacuous.
-use Rattle.std.proofs.Common.{◌≡◌, ℕ, pos, ◌≤◌, Option, Some, None, List, [], ◌∷◌, ◌++◌, length, slice_get, refl, ap, sym, subst, arith, replicate}
-use Rattle.std.proofs.lemmas.Option.{same_Some}
-use Rattle.hh_lang.specs.declared.instr.Operator.TheVariants.{Add}
-use Rattle.hh_lang.specs.declared.instr.Instr.TheVariants.{Set, Calc, Call, Ret}
-use Rattle.hh_lang.specs.Form.{ProgramText}
-use Rattle.hh_model.specs.declared.data.Task.{Task}
-use Rattle.hh_model.specs.Effect.{int_in}
-use Rattle.hh_model.specs.Step.{root}
-use Rattle.model_laws.specs.Winner.{after}
-use Rattle.hh_lang.specs.Loop.{Loop, IsLoop, whole_code, left_code, right_code}
-use Rattle.hh_lang.proofs.Examples.{fun}
-use Rattle.loop_nest_laws.specs.LoopLaw.{IsInRange, SomeLoopReturns, IsLoopStep, HasReturned, CallsEachNumber}
+use Rattle.loop_nest_laws.proofs.Common.{◌≡◌, ℕ, pos, ◌≤◌, Option, Some, None, List, [], ◌∷◌, ◌++◌, length, slice_get, refl, ap, sym, subst, arith, replicate, same_Some, Add, Set, Calc, Call, Ret, ProgramText, Task, int_in, root, after, Loop, IsLoop, whole_code, left_code, right_code, fun, IsInRange, SomeLoopReturns, IsLoopStep, HasReturned, CallsEachNumber}
 use Rattle.loop_nest_laws.proofs.Law.{loops_call_each_number}
 
 loop : Loop

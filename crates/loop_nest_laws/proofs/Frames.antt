@@ -1,19 +1,6 @@
 -- How the frames of a loop run.
-use Rattle.std.proofs.Common.{◌≡◌, ℕ, ℤ, pos, suc, ◌+◌, ◌≤◌, Bool, true, false, cond, Option, Some, None, List, [], ◌∷◌, ◌++◌, length, slice_get, ◌⊎◌, inl, inr, refl, ap, sym, subst, ◌∙◌, arith, length-set}
-use Rattle.std.specs.Prelude.{int_lt}
-use Rattle.std.specs.Int.{int_wrapping_add, w64}
-use Rattle.hh_lang.specs.declared.instr.Operator.TheVariants.{Add, Lt, Eq}
-use Rattle.hh_lang.specs.declared.instr.Instr.{Instr}
-use Rattle.hh_lang.specs.declared.instr.Instr.TheVariants.{Set, Nil, Calc, Jz, Call, Par, Ret}
-use Rattle.hh_lang.specs.Form.{ProgramText}
-use Rattle.hh_model.specs.declared.data.Name.{Name}
-use Rattle.hh_model.specs.declared.data.Object.{Object}
-use Rattle.hh_model.specs.declared.data.Frame.{Frame}
-use Rattle.hh_model.specs.Effect.{Goes, Setting, effect, int_in, with_int, with_ref, onward, flag, int_eq}
-use Rattle.hh_model.specs.Step.{result_of, entry_frame}
-use Rattle.hh_lang.specs.Loop.{Loop, IsLoop, whole_code, instrs_of}
-use Rattle.loop_nest_laws.specs.Frames.{Activation, Takes, ReturnsBy, called_frame}
-use Rattle.loop_nest_laws.proofs.Turns.{OnTop, Reaches, here, then, goes_to, IsPlain}
+use Rattle.loop_nest_laws.proofs.Common.{◌≡◌, ℕ, ℤ, pos, suc, ◌+◌, ◌≤◌, Bool, true, false, cond, Option, Some, None, List, [], ◌∷◌, ◌++◌, length, slice_get, ◌⊎◌, inl, inr, refl, ap, sym, subst, ◌∙◌, arith, length-set, int_lt, int_wrapping_add, w64, Add, Lt, Eq, Instr, Set, Nil, Calc, Jz, Call, Par, Ret, ProgramText, Name, Object, Frame, Goes, StepContext, effect, int_in, with_int, with_ref, onward, flag, int_eq, result_of, entry_frame, Loop, IsLoop, whole_code, instrs_of, Activation, Takes, ReturnsBy, called_frame}
+use Rattle.loop_nest_laws.proofs.Turns.{OnTop, Reaches, top_reaches, then, goes_to, IsPlain}
 use Rattle.loop_nest_laws.proofs.Calls.{calls_and_goes_on, handed}
 use Rattle.loop_nest_laws.proofs.Children.{ForksAndGoesOn, forks_and_goes_on, rejoined}
 use Rattle.loop_nest_laws.proofs.Ends.{comes_to_last}
@@ -35,7 +22,7 @@ module _ (p : ProgramText) (limit : ℕ) (ts : List ℕ) (a : Activation) (bs : 
   module _ (q : ℕ) (code : List Instr) (is : instrs_of p q ≡ code) where
     -- one more instruction
     pub next_at : (i k : ℕ) (instr : Instr) (X Y : Frame → Type 0) (F : Frame → Frame) (n : ℕ) → slice_get code k ≡ Some instr → IsPlain instr → (instr ≡ Ret → ⊥)
-        → ((f : Frame) → X f → (s : Setting) (store : List (List Object)) → effect s f store instr ≡ Goes (F f) store)
+        → ((f : Frame) → X f → (s : StepContext) (store : List (List Object)) → effect s f store instr ≡ Goes (F f) store)
         → ((f : Frame) → f.next ≡ k → ((F f).function ≡ f.function) × ((F f).next ≡ n))
         → ((f : Frame) → X f → Y (F f)) → At i q k X → At i q n Y
     next_at i k instr X Y F n at plain other does place gives s =
@@ -61,7 +48,7 @@ module _ (p : ProgramText) (limit : ℕ) (ts : List ℕ) (a : Activation) (bs : 
         (s.f, s.has, last.top, λ j v from. elim (s.reach.plain j v from) [ inl plain ↦ plain | inr le ↦ last.plain j v le ])
 
   pub begin_at : (i q k : ℕ) (X : Frame → Type 0) (f : Frame) → i ≤ m → OnTop p limit ts a bs d i f → f.function ≡ q → f.next ≡ k → X f → At i q k X
-  begin_at i q k X f le on fun next has = record { f = f; function = fun; next = next; has = has; reach = here p limit ts a bs d m w i f le on }
+  begin_at i q k X f le on fun next has = record { f = f; function = fun; next = next; has = has; reach = top_reaches p limit ts a bs d m w i f le on }
 
   module _ (loop : Loop) (L : IsLoop p loop) (g : Frame) where
     abbrev code : List Instr
@@ -71,7 +58,7 @@ module _ (p : ProgramText) (limit : ℕ) (ts : List ℕ) (a : Activation) (bs : 
     Has first last f = Holds g f first last
 
     -- a jump
-    jumps : (b : Bool) (f : Frame) (to : ℕ) (s : Setting) (store : List (List Object)) → int_in f 14 ≡ flag b → effect s f store (Jz 14 to) ≡ Goes (cond b (onward f) (record f { next = to })) store
+    jumps : (b : Bool) (f : Frame) (to : ℕ) (s : StepContext) (store : List (List Object)) → int_in f 14 ≡ flag b → effect s f store (Jz 14 to) ≡ Goes (cond b (onward f) (record f { next = to })) store
     jumps true f to s store e = ap (λ z. Goes (cond (int_eq z (pos 0)) (record f { next = to }) (onward f)) store) e
     jumps false f to s store e = ap (λ z. Goes (cond (int_eq z (pos 0)) (record f { next = to }) (onward f)) store) e
 

@@ -1,12 +1,5 @@
 -- The numbers of a loop and their halves.
-use Rattle.std.proofs.Common.{◌≡◌, ℕ, ℤ, pos, negsuc, suc, ◌+◌, ◌/◌, ◌%◌, ◌^◌, ◌≤◌, Bool, true, false, List, [], ◌∷◌, ◌++◌, refl, ap, sym, ◌∙◌, arith}
-use Rattle.std.specs.Prelude.{◌+ℤ◌, ◌-ℤ◌, FitsSigned, int_lt}
-use Rattle.std.specs.Int.{int_wrapping_add, int_wrapping_sub, int_wrapping_div, int_wrap, cast_signed, cast_unsigned, w64}
-use Rattle.std.proofs.lemmas.Int.{ints, wrapping_add_is, wrapping_sub_is, int_wrap_fits, to_z_pos, of_z-to_z}
-use Rattle.std.proofs.Math.Nat.{mod-add-mod, add-mod-mod}
-use Rattle.std.proofs.lemmas.Bool.{eq-eqb, ne_eqb}
-use Rattle.hh_model.specs.Effect.{int_eq}
-use Rattle.loop_nest_laws.specs.LoopLaw.{wrapping_sum}
+use Rattle.loop_nest_laws.proofs.Common.{◌≡◌, ℕ, ℤ, pos, negsuc, suc, ◌+◌, ◌/◌, ◌%◌, ◌^◌, ◌≤◌, Bool, true, false, List, [], ◌∷◌, ◌++◌, refl, ap, sym, ◌∙◌, arith, ◌+ℤ◌, ◌-ℤ◌, FitsSigned, int_lt, int_wrapping_add, int_wrapping_sub, int_wrapping_div, int_wrap, cast_signed, cast_unsigned, w64, ints, wrapping_add_is, wrapping_sub_is, int_wrap_fits, to_z_pos, of_z-to_z, mod-add-mod, add-mod-mod, eq-eqb, ne_eqb, int_eq, wrapping_sum}
 
 module _ (a : ℤ) where
   pub shift_shift : (i j : ℕ) → (a +ℤ pos i) +ℤ pos j ≡ a +ℤ pos (i + j)
@@ -16,18 +9,18 @@ module _ (a : ℤ) where
   shift_none = omega (arith, ints)
 
   pub shift_less : (n : ℕ) → int_lt a (a +ℤ pos (suc n)) ≡ true
-  shift_less n = by (int_lt a (a +ℤ pos (suc n))) refl
+  shift_less n = shift_less_by_cases (int_lt a (a +ℤ pos (suc n))) refl
     where
-      by : (b : Bool) → int_lt a (a +ℤ pos (suc n)) ≡ b → int_lt a (a +ℤ pos (suc n)) ≡ true
-      by true e = e
-      by false e = absurd (omega (arith, ints))
+      shift_less_by_cases : (b : Bool) → int_lt a (a +ℤ pos (suc n)) ≡ b → int_lt a (a +ℤ pos (suc n)) ≡ true
+      shift_less_by_cases true e = e
+      shift_less_by_cases false e = absurd (omega (arith, ints))
 
   pub shift_same : int_lt a (a +ℤ pos 0) ≡ false
-  shift_same = by (int_lt a (a +ℤ pos 0)) refl
+  shift_same = shift_same_by_cases (int_lt a (a +ℤ pos 0)) refl
     where
-      by : (b : Bool) → int_lt a (a +ℤ pos 0) ≡ b → int_lt a (a +ℤ pos 0) ≡ false
-      by true e = absurd (omega (arith, ints))
-      by false e = e
+      shift_same_by_cases : (b : Bool) → int_lt a (a +ℤ pos 0) ≡ b → int_lt a (a +ℤ pos 0) ≡ false
+      shift_same_by_cases true e = absurd (omega (arith, ints))
+      shift_same_by_cases false e = e
 
   pub fits_between : (i n : ℕ) → i ≤ n → FitsSigned w64 a → FitsSigned w64 (a +ℤ pos n) → FitsSigned w64 (a +ℤ pos i)
   fits_between i n le f g = omega (arith, ints)

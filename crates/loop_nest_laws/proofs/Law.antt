@@ -1,26 +1,5 @@
 -- The law: a loop calls each number.
-use Rattle.std.proofs.Common.{◌≡◌, ℕ, ℤ, pos, negsuc, zero, suc, ◌+◌, ◌-◌, ◌^◌, ◌<◌, ◌≤◌, Bool, true, false, cond, Option, Some, None, List, [], ◌∷◌, ◌++◌, length, take, slice_get, nat_lt, inl, inr, refl, ap, sym, subst, ◌∙◌, arith, length-append}
-use Rattle.std.specs.Prelude.{◌+ℤ◌, ◌-ℤ◌, FitsSigned, int_lt}
-use Rattle.std.specs.Int.{w64}
-use Rattle.std.proofs.lemmas.Int.{ints}
-use Rattle.std.proofs.lemmas.Bool.{cases_eq}
-use Rattle.std.proofs.lemmas.Option.{same_Some}
-use Rattle.listed.proofs.Members.{contains_from_in, got_same}
-use Rattle.hh_lang.specs.Form.{ProgramText}
-use Rattle.hh_model.specs.declared.data.Name.{Name}
-use Rattle.hh_model.specs.declared.data.Frame.{Frame}
-use Rattle.hh_model.specs.declared.data.Task.{Task}
-use Rattle.hh_model.specs.declared.data.Trap.TheVariants.{Depth}
-use Rattle.hh_model.specs.declared.data.End.TheVariants.{Trapped}
-use Rattle.hh_model.specs.declared.data.State.{State}
-use Rattle.hh_model.specs.Effect.{effect, onward, int_in, with_int, with_ref}
-use Rattle.hh_model.specs.Step.{entry_frame, ended_by, with_task, frame_limit, follow, setting, result_of, result_in, back_in}
-use Rattle.model_laws.specs.Winner.{after}
-use Rattle.hh_model.proofs.Taken.{step_taken}
-use Rattle.hh_model.proofs.Sizes.{wide}
-use Rattle.hh_lang.specs.Loop.{Loop, IsLoop}
-use Rattle.loop_nest_laws.specs.Frames.{Activation, StandsAt, ReturnsBy}
-use Rattle.loop_nest_laws.specs.LoopLaw.{IsLoopStep, loop_frame, IsInRange, HasReturned, GoesOn, CallsEachNumber, LoopsCallEachNumber, numbers_between, count_of, wrapping_sum}
+use Rattle.loop_nest_laws.proofs.Common.{◌≡◌, ℕ, ℤ, pos, negsuc, zero, suc, ◌+◌, ◌-◌, ◌^◌, ◌<◌, ◌≤◌, Bool, true, false, cond, Option, Some, None, List, [], ◌∷◌, ◌++◌, length, take, slice_get, nat_lt, inl, inr, refl, ap, sym, subst, ◌∙◌, arith, length-append, ◌+ℤ◌, ◌-ℤ◌, FitsSigned, int_lt, w64, ints, cases_eq, same_Some, contains_from_in, got_same, ProgramText, Name, Frame, Task, Depth, Trapped, MachineState, effect, onward, int_in, with_int, with_ref, entry_frame, ended_by, with_task, frame_limit, follow, setting, result_of, result_in, back_in, after, step_taken, wide, Loop, IsLoop, Activation, StandsAt, ReturnsBy, IsLoopStep, loop_frame, IsInRange, HasReturned, GoesOn, CallsEachNumber, LoopsCallEachNumber, numbers_between, count_of, wrapping_sum}
 use Rattle.loop_nest_laws.proofs.Turns.{ended_stands, OnTop, at_next, turn_runs}
 use Rattle.loop_nest_laws.proofs.Calls.{Above, Back, above_step}
 use Rattle.loop_nest_laws.proofs.Nests.{Told, told_none, one_split}
@@ -41,7 +20,7 @@ module _ (p : ProgramText) (limit : ℕ) (ts : List ℕ) (loop : Loop) (i now : 
   abbrev y : Task
   y = record x { top = entry_frame loop.whole x.top; below = bs }
 
-  abbrev m0 : State
+  abbrev m0 : MachineState
   m0 = after p limit ts i
 
   abbrev first : ℤ
@@ -60,10 +39,10 @@ module _ (p : ProgramText) (limit : ℕ) (ts : List ℕ) (loop : Loop) (i now : 
 
   by_limit : (c : Bool) → nat_lt (length x.below + 1) frame_limit ≡ c → slice_get (after p limit ts (suc i)).tasks s.t ≡ Some y
   by_limit true c =
-      ap (λ (q : State). slice_get q.tasks s.t) (taken ∙ ap (λ z. cond z (with_task m0 s.t y) (ended_by m0 (Trapped Depth s.t s.line.number))) c)
+      ap (λ (q : MachineState). slice_get q.tasks s.t) (taken ∙ ap (λ z. cond z (with_task m0 s.t y) (ended_by m0 (Trapped Depth s.t s.line.number))) c)
       ∙ got_same m0.tasks s.t x y s.next.task
   by_limit false c =
-      let stays : slice_get (after p limit ts (suc i)).tasks s.t ≡ Some x = ap (λ (q : State). slice_get q.tasks s.t) (taken ∙ ap (λ z. cond z (with_task m0 s.t y) (ended_by m0 (Trapped Depth s.t s.line.number))) c) ∙ s.next.task in
+      let stays : slice_get (after p limit ts (suc i)).tasks s.t ≡ Some x = ap (λ (q : MachineState). slice_get q.tasks s.t) (taken ∙ ap (λ z. cond z (with_task m0 s.t y) (ended_by m0 (Trapped Depth s.t s.line.number))) c) ∙ s.next.task in
       let there = returned.began.high (suc i) (omega arith) (omega arith) in
       let same : there.0 ≡ x = same_Some there.0 x (sym there.1 ∙ stays) in
       let le : length x.below + 1 ≤ length there.0.below = there.2 in

@@ -1,18 +1,5 @@
 -- A loop calls each number: by induction on the number of numbers.
-use Rattle.std.proofs.Common.{◌≡◌, ℕ, ℤ, pos, zero, suc, ◌+◌, ◌-◌, ◌/◌, ◌<◌, ◌≤◌, true, Option, Some, None, List, [], length, slice_get, refl, ap, sym, subst, ◌∙◌, arith}
-use Rattle.std.specs.Prelude.{◌+ℤ◌, FitsSigned, int_lt}
-use Rattle.std.specs.Int.{int_wrapping_add, int_wrapping_div, w64}
-use Rattle.std.proofs.lemmas.Option.{same_Some}
-use Rattle.hh_lang.specs.Form.{ProgramText}
-use Rattle.hh_model.specs.declared.data.Name.{Name}
-use Rattle.hh_model.specs.declared.data.Frame.{Frame}
-use Rattle.hh_model.specs.declared.data.Task.{Task}
-use Rattle.hh_model.specs.Effect.{int_in, int_eq}
-use Rattle.hh_model.specs.Step.{result_of, entry_frame}
-use Rattle.model_laws.specs.Winner.{after}
-use Rattle.hh_lang.specs.Loop.{Loop, IsLoop}
-use Rattle.loop_nest_laws.specs.Frames.{Activation, ReturnsBy, called_frame, left_frame, right_frame}
-use Rattle.loop_nest_laws.specs.LoopLaw.{Finds}
+use Rattle.loop_nest_laws.proofs.Common.{◌≡◌, ℕ, ℤ, pos, zero, suc, ◌+◌, ◌-◌, ◌/◌, ◌<◌, ◌≤◌, true, Option, Some, None, List, [], length, slice_get, refl, ap, sym, subst, ◌∙◌, arith, ◌+ℤ◌, FitsSigned, int_lt, int_wrapping_add, int_wrapping_div, w64, same_Some, ProgramText, Name, Frame, Task, int_in, int_eq, result_of, entry_frame, after, Loop, IsLoop, Activation, ReturnsBy, called_frame, left_frame, right_frame, BodyFinds}
 use Rattle.loop_nest_laws.proofs.Turns.{OnTop}
 use Rattle.loop_nest_laws.proofs.Nests.{middle, SplitsAt, Told, told_none, told_one, told_half, told_two}
 use Rattle.loop_nest_laws.proofs.Halves.{shift_shift, shift_less, shift_same, fits_between, shift_add, shift_sub, half_is, fits_less, int_eq_same, int_eq_other, shift_other}
@@ -88,7 +75,7 @@ module _ (p : ProgramText) (limit : ℕ) (ts : List ℕ) (loop : Loop) (L : IsLo
           is = run.inner.is;
           function = ap (λ (z : Frame). z.function) run.inner.top;
           place = ap (λ (z : Frame). z.next) run.inner.top;
-          finds = subst (λ z. Finds g z first) (sym run.inner.top) (record { i0 = run.has.0.i0; i1 = run.has.0.i1 ∙ same; i13 = run.has.1; i14 = run.has.2; ints = run.has.0.ints; refs = run.has.0.refs });
+          finds = subst (λ z. BodyFinds g z first) (sym run.inner.top) (record { i0 = run.has.0.i0; i1 = run.has.0.i1 ∙ same; i13 = run.has.1; i14 = run.has.2; ints = run.has.0.ints; refs = run.has.0.refs });
           end = run.e;
           ref = run.ref;
           back = run.back;

@@ -1,21 +1,5 @@
 -- The nest of a frame, composed of the nests that it begins.
-use Rattle.std.proofs.Common.{◌≡◌, ℕ, ℤ, pos, zero, suc, ◌+◌, ◌-◌, ◌^◌, ◌<◌, ◌≤◌, Some, List, [], ◌∷◌, ◌++◌, length, slice_get, ◌⊎◌, inl, inr, refl, ap, sym, subst, ◌∙◌, arith, length-append}
-use Rattle.std.specs.Prelude.{◌+ℤ◌}
-use Rattle.std.specs.Int.{int_wrapping_add, int_wrapping_sub, int_wrapping_div, w64}
-use Rattle.std.proofs.lemmas.Bool.{cases_lt}
-use Rattle.std.proofs.lemmas.Option.{same_Some}
-use Rattle.listed.proofs.Members.{In, in_append_left, in_append_right, got_front, got_back}
-use Rattle.hh_lang.specs.declared.instr.Instr.{Instr}
-use Rattle.hh_lang.specs.declared.instr.Instr.TheVariants.{Call, Par}
-use Rattle.hh_lang.specs.Form.{ProgramText}
-use Rattle.hh_model.specs.declared.data.Frame.{Frame}
-use Rattle.hh_model.specs.declared.data.Task.{Task}
-use Rattle.hh_model.specs.Effect.{int_in}
-use Rattle.model_laws.specs.Winner.{after}
-use Rattle.hh_lang.specs.Loop.{Loop}
-use Rattle.loop_nest_laws.specs.Frames.{Activation, Takes, called_frame, left_frame, right_frame}
-use Rattle.loop_nest_laws.specs.Nest.{Starts, Begins, ComesBy, InNest, CallsBody, ForksIn}
-use Rattle.loop_nest_laws.specs.LoopLaw.{IsCallFor, wrapping_sum}
+use Rattle.loop_nest_laws.proofs.Common.{◌≡◌, ℕ, ℤ, pos, zero, suc, ◌+◌, ◌-◌, ◌^◌, ◌<◌, ◌≤◌, Some, List, [], ◌∷◌, ◌++◌, length, slice_get, ◌⊎◌, inl, inr, refl, ap, sym, subst, ◌∙◌, arith, length-append, ◌+ℤ◌, int_wrapping_add, int_wrapping_sub, int_wrapping_div, w64, cases_lt, same_Some, In, in_append_left, in_append_right, got_front, got_back, Instr, Call, Par, ProgramText, Frame, Task, int_in, after, Loop, Activation, Takes, called_frame, left_frame, right_frame, Starts, Begins, ComesBy, InNest, CallsBody, ForksIn, IsCallFor, wrapping_sum}
 use Rattle.loop_nest_laws.proofs.Turns.{IsPlain}
 use Rattle.loop_nest_laws.proofs.Halves.{shift_shift, shift_none, sum_append}
 

@@ -1,18 +1,5 @@
 -- Registers that an instruction writes, and the others.
-use Rattle.std.proofs.Common.{◌≡◌, ℕ, ℤ, pos, ◌<◌, Option, Some, None, List, [], ◌∷◌, length, slice_get, slice_set, inl, inr, refl, ap, ◌∙◌, arith, length-set}
-use Rattle.std.specs.Option.{option_flatten}
-use Rattle.std.specs.Prelude.{unwrap_or}
-use Rattle.listed.proofs.Members.{got_other}
-use Rattle.listed.proofs.Places.{got_set, map_got}
-use Rattle.hh_lang.specs.declared.instr.Instr.{Instr}
-use Rattle.hh_lang.specs.declared.program.Line.{Line}
-use Rattle.hh_lang.specs.Form.{ProgramText, code_of}
-use Rattle.hh_model.specs.declared.data.Name.{Name}
-use Rattle.hh_model.specs.declared.data.Frame.{Frame}
-use Rattle.hh_model.specs.Effect.{int_in, ref_in, with_int, with_ref}
-use Rattle.hh_model.specs.Step.{fetched}
-use Rattle.hh_lang.specs.Loop.{instrs_of}
-use Rattle.loop_nest_laws.specs.LoopLaw.{IsUsed}
+use Rattle.loop_nest_laws.proofs.Common.{◌≡◌, ℕ, ℤ, pos, ◌<◌, Option, Some, None, List, [], ◌∷◌, length, slice_get, slice_set, inl, inr, refl, ap, ◌∙◌, arith, length-set, option_flatten, unwrap_or, got_other, got_set, map_got, Instr, Line, ProgramText, code_of, Name, Frame, int_in, ref_in, with_int, with_ref, fetched, instrs_of, IsUsed}
 
 pub int_set : (f : Frame) (d : ℕ) (v : ℤ) → d < length f.ints → int_in (with_int f d v) d ≡ v
 int_set f d v lt = ap (λ o. unwrap_or o (pos 0)) (got_set f.ints d v lt)
@@ -21,11 +8,11 @@ pub int_other : (f : Frame) (d e : ℕ) (v : ℤ) → (e ≡ d → ⊥) → int_
 int_other f d e v ne = ap (λ o. unwrap_or o (pos 0)) (got_other f.ints d e v ne)
 
 pub nil_set : (f : Frame) → ref_in (with_ref f 0 None) 0 ≡ None
-nil_set f = by f.refs
+nil_set f = nil_set_by_cases f.refs
   where
-    by : (rs : List (Option Name)) → option_flatten (slice_get (slice_set rs 0 None) 0) ≡ None
-    by [] = refl
-    by (r ∷ rs) = refl
+    nil_set_by_cases : (rs : List (Option Name)) → option_flatten (slice_get (slice_set rs 0 None) 0) ≡ None
+    nil_set_by_cases [] = refl
+    nil_set_by_cases (r ∷ rs) = refl
 
 -- the instruction at a place of a function
 pub code_at : (p : ProgramText) (q : ℕ) (code : List Instr) → instrs_of p q ≡ code → (f : Frame) (k : ℕ) (instr : Instr) → f.function ≡ q → f.next ≡ k → slice_get code k ≡ Some instr

@@ -1,17 +1,6 @@
 -- How the frames of a loop's halves run.
-use Rattle.std.proofs.Common.{◌≡◌, ℕ, ℤ, pos, suc, ◌+◌, ◌≤◌, cond, Option, Some, None, List, [], ◌∷◌, ◌++◌, length, slice_get, ◌⊎◌, inl, inr, refl, ap, subst, ◌∙◌, arith}
-use Rattle.std.specs.Int.{int_wrapping_add, int_wrapping_sub, int_wrapping_div, w64}
-use Rattle.hh_lang.specs.declared.instr.Operator.TheVariants.{Add, Sub, Div}
-use Rattle.hh_lang.specs.declared.instr.Instr.{Instr}
-use Rattle.hh_lang.specs.declared.instr.Instr.TheVariants.{Set, Calc, Call, Ret}
-use Rattle.hh_lang.specs.Form.{ProgramText}
-use Rattle.hh_model.specs.declared.data.Name.{Name}
-use Rattle.hh_model.specs.declared.data.Frame.{Frame}
-use Rattle.hh_model.specs.declared.data.Trap.TheVariants.{Div as DivTrap}
-use Rattle.hh_model.specs.Effect.{Goes, int_in, ref_in, with_int, with_ref, onward, int_eq, or_trap}
-use Rattle.hh_model.specs.Step.{entry_frame, result_of}
-use Rattle.hh_lang.specs.Loop.{Loop, IsLoop, left_code, right_code, instrs_of}
-use Rattle.loop_nest_laws.specs.Frames.{Activation, Takes, ReturnsBy, called_frame}
+use Rattle.loop_nest_laws.proofs.Common.{◌≡◌, ℕ, ℤ, pos, suc, ◌+◌, ◌≤◌, cond, Option, Some, None, List, [], ◌∷◌, ◌++◌, length, slice_get, ◌⊎◌, inl, inr, refl, ap, subst, ◌∙◌, arith, int_wrapping_add, int_wrapping_sub, int_wrapping_div, w64, Add, Sub, Instr, Set, Calc, Call, Ret, ProgramText, Name, Frame, Div as DivTrap, Goes, int_in, ref_in, with_int, with_ref, onward, int_eq, or_trap, entry_frame, result_of, Loop, IsLoop, left_code, right_code, instrs_of, Activation, Takes, ReturnsBy, called_frame}
+use Rattle.hh_lang.specs.declared.instr.Operator.TheVariants.{Div}
 use Rattle.loop_nest_laws.proofs.Turns.{OnTop, IsPlain}
 use Rattle.loop_nest_laws.proofs.Calls.{calls_and_goes_on, handed}
 use Rattle.loop_nest_laws.proofs.Nests.{middle}

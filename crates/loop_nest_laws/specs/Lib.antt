@@ -1,3 +1,4 @@
 pub mod Frames
 pub mod Nest
 pub mod LoopLaw
+mod Common

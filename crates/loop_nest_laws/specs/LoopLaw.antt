@@ -1,17 +1,7 @@
 -- The law of the parallel loop: its nest calls the body once for each number.
 use Rattle.std.specs.Prelude.{◌≡◌, ℕ, true, suc, ℤ, pos, negsuc, ◌+ℤ◌, ◌-ℤ◌, ◌+◌, ◌-◌, ◌^◌, ◌<◌, ◌≤◌, ◌⊎◌, Option, Some, None, List, [], ◌∷◌, length, slice_get, Contains, FitsSigned}
 use Rattle.std.specs.Int.{int_wrapping_add, w64}
-use Rattle.hh_lang.specs.declared.instr.Instr.TheVariants.{Call}
-use Rattle.hh_lang.specs.declared.program.Line.{Line}
-use Rattle.hh_lang.specs.Form.{ProgramText}
-use Rattle.hh_model.specs.declared.data.Name.{Name}
-use Rattle.hh_model.specs.declared.data.Frame.{Frame}
-use Rattle.hh_model.specs.declared.data.Task.{Task}
-use Rattle.hh_model.specs.Effect.{int_in, with_int, with_ref, onward}
-use Rattle.hh_model.specs.Step.{is_running}
-use Rattle.hh_model.specs.Store.{IsNext}
-use Rattle.model_laws.specs.Winner.{after, IsTurn}
-use Rattle.hh_lang.specs.Loop.{Loop, IsLoop}
+use Rattle.loop_nest_laws.specs.Common.{Call, Line, ProgramText, Name, Frame, Task, int_in, with_int, with_ref, onward, is_running, IsNext, after, IsTurn, Loop, IsLoop}
 use Rattle.loop_nest_laws.specs.Frames.{Activation, StandsAt, called_frame, ReturnsBy}
 use Rattle.loop_nest_laws.specs.Nest.{InNest, CallsBody, ForksIn}
 
@@ -42,7 +32,7 @@ IsUsed k = ((k ≡ 0) ⊎ (k ≡ 1)) ⊎ ((k ≡ 13) ⊎ (k ≡ 14))
 
 -- the registers that the body gets for a number, if the loop's frame has these: i0 is the number, i1 is one more, i13
 -- and i14 are 1, and all else is as at the loop
-pub record Finds (at_loop found : Frame) (number : ℤ) : Type 0 where
+pub record BodyFinds (at_loop found : Frame) (number : ℤ) : Type 0 where
   pub i0 : int_in found 0 ≡ number
   pub i1 : int_in found 1 ≡ number +ℤ pos 1
   pub i13 : int_in found 13 ≡ pos 1
@@ -79,7 +69,7 @@ module _ (p : ProgramText) (limit : ℕ) (ts : List ℕ) (loop : Loop) where
     pub is : slice_get (after p limit ts (suc i)).tasks call.frame.task ≡ Some begun
     pub function : begun.top.function ≡ loop.body
     pub place : begun.top.next ≡ 0
-    pub finds : Finds at_loop begun.top number
+    pub finds : BodyFinds at_loop begun.top number
     -- it returns
     pub end : ℕ
     pub ref : Option Name

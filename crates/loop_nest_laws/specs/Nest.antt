@@ -1,9 +1,6 @@
 -- The nest of a parallel loop: the frames that run it.
 use Rattle.std.specs.Prelude.{◌≡◌, ℕ, zero, suc, ◌⊎◌, List}
-use Rattle.hh_lang.specs.declared.instr.Instr.{Instr}
-use Rattle.hh_lang.specs.declared.instr.Instr.TheVariants.{Call, Par}
-use Rattle.hh_lang.specs.Form.{ProgramText}
-use Rattle.hh_lang.specs.Loop.{Loop}
+use Rattle.loop_nest_laws.specs.Common.{Instr, Call, Par, ProgramText, Loop}
 use Rattle.loop_nest_laws.specs.Frames.{Activation, Takes, left_frame, right_frame, called_frame}
 
 module _ (p : ProgramText) (limit : ℕ) (ts : List ℕ) (loop : Loop) where

@@ -1,19 +1,5 @@
 -- Between the functions of a made text: the names above, and the number of instructions.
-use Rattle.std.proofs.Common.{◌≡◌, ◌≤◌, ◌<◌, ◌+◌, ◌*◌, ◌++◌, ℕ, zero, suc, Bool, true, false, List, [], ◌∷◌, length, arith, refl, ap, ◌∙◌, append_assoc, nat_lt, ◌||◌}
-use Rattle.std.specs.Prelude.{Some, codes}
-use Rattle.std.specs.List.{list_all}
-use Rattle.std.specs.Str.{bytes_eq}
-use Rattle.std.proofs.lemmas.Bool.{lt-ltb}
-use Rattle.text_lines.specs.Lines.{lines_of}
-use Rattle.run_trace.specs.Line.{spaced}
-use Rattle.run_trace.proofs.Words.{words_spaced}
-use Rattle.program_make.specs.Draws.{value_after}
-use Rattle.program_reader.specs.Names.{NotedName, noted_name_of, is_noted, is_name, noted}
-use Rattle.program_reader.specs.Sense.{only_name}
-use Rattle.program_reader.specs.Head.{operands_of}
-use Rattle.program_reader.specs.Around.{begun_above, is_inside, noted_if, no_names, operands_of_line, orders_above, outline_above, outline_line, outline_of, outline_onto}
-use Rattle.program_reader.specs.Laws.{turned}
-use Rattle.program_reader.proofs.Passing.{begins_none, new_entry, none_begin}
+use Rattle.made_program_laws.proofs.Common.{◌≡◌, ◌≤◌, ◌<◌, ◌+◌, ◌*◌, ◌++◌, ℕ, zero, suc, Bool, true, false, List, [], ◌∷◌, length, arith, refl, ap, ◌∙◌, append_assoc, nat_lt, ◌||◌, Some, codes, list_all, bytes_eq, lt-ltb, lines_of, spaced, words_spaced, value_after, NotedName, noted_name_of, is_noted, is_name, noted, only_name, operands_of, begun_above, is_inside, noted_if, no_names, operands_of_line, orders_above, outline_above, outline_line, outline_of, outline_onto, turned, begins_none, new_entry, none_begin}
 use Rattle.made_program_laws.proofs.Names.{among_more, is_a_name, name_of, not_main, noted_more}
 use Rattle.made_program_laws.proofs.Rows.{Lines, begin_words, body_rows, function_rows, main_rows, proper_begin, rows_of}
 

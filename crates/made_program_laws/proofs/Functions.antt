@@ -1,32 +1,8 @@
 -- The lines of each function of a made text, and of main, have no fault.
-use Rattle.std.proofs.Common.{◌≡◌, ◌≤◌, ◌<◌, ◌+◌, ◌*◌, ◌++◌, ℕ, zero, suc, Bool, true, false, List, [], ◌∷◌, length, arith, refl, ap, ◌∙◌, append_assoc, nat_lt, ◌&&◌}
-use Rattle.std.specs.Prelude.{Option, Some, codes, nat_le, pos, ℤ}
-use Rattle.std.specs.Fmt.{decimal}
-use Rattle.std.specs.Str.{is_utf8}
-use Rattle.std.specs.List.{AllByRecursion, list_all}
-use Rattle.std.proofs.lemmas.List.Elements.{All-from_recursion}
-use Rattle.std.proofs.lemmas.Str.{is_utf8-from_IsUtf8, IsUtf8-from_ascii}
-use Rattle.std.proofs.lemmas.Str.Ascii.{IsAscii-from_all}
-use Rattle.std.proofs.lemmas.Bool.{and_parts, ltb-true, and_from}
-use Rattle.text_lines.specs.Lines.{is_last}
-use Rattle.hh_lang.specs.Number.{signed_number}
+use Rattle.made_program_laws.proofs.Common.{◌≡◌, ◌≤◌, ◌<◌, ◌+◌, ◌*◌, ◌++◌, ℕ, zero, suc, Bool, true, false, List, [], ◌∷◌, length, arith, refl, ap, ◌∙◌, append_assoc, nat_lt, ◌&&◌, Option, Some, codes, nat_le, pos, ℤ, decimal, is_utf8, AllByRecursion, list_all, All-from_recursion, is_utf8-from_IsUtf8, IsUtf8-from_ascii, IsAscii-from_all, and_parts, ltb-true, and_from, is_last, signed_number, spaced, AreProper, words_spaced, spaced_utf8, amount, garbage, rounds, value_after, side, NotedName, noted_name_of, is_name, is_noted, place_of, int_register, fork, plain, sense_of, two, operands_of, head_of_line, operands_of_line, orders_above, outline_of, fault_from, spot_of, turned, Within, begin_free, end_free, has_place, is_instr, is_order, is_read, label_passes, not_last, orders_pass, passes, amount_small, garbage_small, rounds_small, side_small}
 use Rattle.hh_lang.specs.declared.instr.Instr.TheVariants as does
-use Rattle.run_trace.specs.Line.{spaced}
-use Rattle.run_trace.proofs.Words.{AreProper, words_spaced}
-use Rattle.run_trace.proofs.Said.{spaced_utf8}
-use Rattle.program_make.specs.Draws.{amount, garbage, rounds, value_after}
-use Rattle.program_make.specs.Text.{side}
-use Rattle.program_reader.specs.Names.{NotedName, noted_name_of, is_name, is_noted, place_of}
-use Rattle.program_reader.specs.Operands.{int_register}
-use Rattle.program_reader.specs.Sense.{fork, plain, sense_of, two}
-use Rattle.program_reader.specs.Head.{operands_of}
-use Rattle.program_reader.specs.Around.{head_of_line, operands_of_line, orders_above, outline_of}
-use Rattle.program_reader.specs.Fault.{fault_from, spot_of}
-use Rattle.program_reader.specs.Laws.{turned}
 use Rattle.made_program_laws.proofs.Names.{is_a_name, name_of, number_again}
 use Rattle.made_program_laws.proofs.Rows.{Lines, after_rows, before_rows, begin_words, body_rows, cell_rows, children_rows, first_rows, function_by, function_rows, i3, i4, i5, i7, loop_rows, par_words, proper_begin, proper_par, proper_set, result_rows, rows_of, set_words, sum_rows}
-use Rattle.program_reader.proofs.Passing.{Within, begin_free, end_free, has_place, is_instr, is_order, is_read, label_passes, not_last, orders_pass, passes}
-use Rattle.program_make.proofs.Lengths.{amount_small, garbage_small, rounds_small, side_small}
 use Rattle.made_program_laws.proofs.Between.{Between, Named, above_of, begun_name_is, between}
 
 -- LINES WITH NUMBERS

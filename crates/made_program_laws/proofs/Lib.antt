@@ -4,3 +4,4 @@ mod Between
 mod Functions
 pub mod Made
 pub mod below
+mod Common

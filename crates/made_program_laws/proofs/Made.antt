@@ -1,21 +1,7 @@
 -- Made texts are programs.
-use Rattle.std.proofs.Common.{◌≡◌, ◌≤◌, ◌+◌, ◌++◌, ℕ, true, false, List, [], ◌∷◌, length, arith, refl, ap, sym, ◌∙◌}
-use Rattle.std.specs.Prelude.{Some, None, codes, nat_le}
-use Rattle.std.specs.List.{list_all}
-use Rattle.std.specs.Str.{is_utf8}
-use Rattle.std.proofs.lemmas.Fmt.{decimal_digit}
-use Rattle.text_lines.specs.Lines.{lines_of}
-use Rattle.program_make.specs.Text.{made_text, main_text}
-use Rattle.program_reader.specs.Names.{NotedName, is_noted, place_of}
-use Rattle.program_reader.specs.Sense.{call}
-use Rattle.program_reader.specs.Around.{orders_above, outline_of}
-use Rattle.program_reader.specs.Fault.{fault_from, first_fault, spot_of}
-use Rattle.program_reader.specs.Laws.{turned}
-use Rattle.program_reader.specs.Program.{program_of, unless_refused}
-use Rattle.made_program_laws.specs.Laws.{MadeArePrograms}
+use Rattle.made_program_laws.proofs.Common.{◌≡◌, ◌≤◌, ◌+◌, ◌++◌, ℕ, true, false, List, [], ◌∷◌, length, arith, refl, ap, sym, ◌∙◌, Some, None, codes, nat_le, list_all, is_utf8, decimal_digit, lines_of, made_text, main_text, NotedName, is_noted, place_of, call, orders_above, outline_of, fault_from, first_fault, spot_of, turned, program_of, unless_refused, begin_free, blank_free, end_free, has_place, is_instr, is_read, orders_pass, passes, MadeArePrograms}
 use Rattle.made_program_laws.proofs.Names.{name_of}
 use Rattle.made_program_laws.proofs.Rows.{Lines, functions_have, main_lines, main_order_rows, main_rows, rows_of}
-use Rattle.program_reader.proofs.Passing.{begin_free, blank_free, end_free, has_place, is_instr, is_read, orders_pass, passes}
 use Rattle.made_program_laws.proofs.Between.{Between, Named, above_of, between, named_all}
 use Rattle.made_program_laws.proofs.Functions.{all_read, ascii_utf8, both_read, functions_pass, one_read}
 

@@ -1,18 +1,5 @@
 -- The numbers and the names of functions in made texts, as the reader reads them.
-use Rattle.std.proofs.Common.{◌≡◌, ◌≤◌, ◌<◌, ◌^◌, ℕ, suc, Bool, true, false, List, [], ◌∷◌, ◌++◌, length, arith, refl, ap, sym, ◌∙◌, ◌||◌, nat_lt, nat_le, true≢false}
-use Rattle.std.specs.Prelude.{Some, codes, pos}
-use Rattle.std.specs.Char.{digit_value}
-use Rattle.std.specs.Fmt.{decimal}
-use Rattle.std.specs.List.{list_any, list_all}
-use Rattle.std.specs.Str.{bytes_eq}
-use Rattle.std.specs.Str.Parse.{IsNumeral, AllDigits, digits_value}
-use Rattle.std.proofs.lemmas.Fmt.{decimal_is_IsNumeral, decimal_injective, length-decimal-le}
-use Rattle.std.proofs.lemmas.Slice.Eq.{bytes_eq-Decides}
-use Rattle.std.proofs.Math.Bool.{or-false, or-true, or_assoc}
-use Rattle.hh_lang.specs.Number.{fits_i64, signed_number}
-use Rattle.hh_lang.proofs.Tests.{numeral_passes, positive, unsigned}
-use Rattle.run_trace.proofs.Words.{IsProper, decimal_is_proper}
-use Rattle.program_reader.specs.Names.{NotedName, noted_name_of, is_name, is_name_byte, is_noted}
+use Rattle.made_program_laws.proofs.Common.{◌≡◌, ◌≤◌, ◌<◌, ◌^◌, ℕ, suc, Bool, true, false, List, [], ◌∷◌, ◌++◌, length, arith, refl, ap, sym, ◌∙◌, ◌||◌, nat_lt, nat_le, true≢false, Some, codes, pos, digit_value, decimal, list_any, list_all, bytes_eq, IsNumeral, AllDigits, digits_value, decimal_is_IsNumeral, decimal_injective, length-decimal-le, bytes_eq-Decides, or-false, or-true, or_assoc, fits_i64, signed_number, numeral_passes, positive, unsigned, IsProper, decimal_is_proper, NotedName, noted_name_of, is_name, is_name_byte, is_noted}
 
 -- the name of a function, by its number
 abbrev pub name_of : ℕ → List ℕ

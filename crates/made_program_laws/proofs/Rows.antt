@@ -1,15 +1,6 @@
 -- The lines of made texts.
-use Rattle.std.proofs.Common.{◌≡◌, ◌≤◌, ◌<◌, ◌+◌, ◌*◌, ◌++◌, ℕ, zero, suc, Bool, true, false, cond, List, [], ◌∷◌, arith, refl, ap, sym, ◌∙◌, append_assoc, nat_lt}
-use Rattle.std.specs.Prelude.{codes}
-use Rattle.std.specs.Fmt.{decimal}
-use Rattle.std.proofs.lemmas.Bool.{ltb-true}
-use Rattle.text_lines.specs.Lines.{lines_of}
-use Rattle.run_trace.specs.Line.{spaced}
-use Rattle.run_trace.proofs.Words.{AreProper, IsProper, line_first}
+use Rattle.made_program_laws.proofs.Common.{◌≡◌, ◌≤◌, ◌<◌, ◌+◌, ◌*◌, ◌++◌, ℕ, zero, suc, Bool, true, false, cond, List, [], ◌∷◌, arith, refl, ap, sym, ◌∙◌, append_assoc, nat_lt, codes, decimal, ltb-true, lines_of, spaced, AreProper, IsProper, line_first, amount, garbage, rounds, value_after, children_lines, first_functions, first_lines, function_text, last_lines, main_text, numbered, par_line, side, amount_small, garbage_small, rounds_small, side_small}
 pub use Rattle.program_reader.proofs.Passing.{Lines}
-use Rattle.program_make.specs.Draws.{amount, garbage, rounds, value_after}
-use Rattle.program_make.specs.Text.{children_lines, first_functions, first_lines, function_text, last_lines, main_text, numbered, par_line, side}
-use Rattle.program_make.proofs.Lengths.{amount_small, garbage_small, rounds_small, side_small}
 use Rattle.made_program_laws.proofs.Names.{name_of, proper_name, proper_number}
 
 -- THE LINES

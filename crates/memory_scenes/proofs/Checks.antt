@@ -1,17 +1,5 @@
 -- Checks cell by cell and chunk by chunk imply the whole.
-use Rattle.std.proofs.Common.{◌≡◌, ℕ, suc, ◌+◌, ◌<◌, ◌≤◌, List, [], ◌∷◌, ◌++◌, length, refl, sym, subst, arith, inl, inr, eqb, Option, slice_index_or}
-use Rattle.std.specs.Prelude.{All}
-use Rattle.std.proofs.lemmas.Bool.{cases_Bool}
-use Rattle.std.proofs.lemmas.List.Elements.{All-nil, All-cons, All-head, All-tail, All-append}
-use Rattle.object_layout.specs.declared.word.Addr.{Addr}
-use Rattle.object_layout.specs.Cell.{Cell, no_cell}
-use Rattle.object_layout.specs.ChunkValue.{ChunkValue}
-use Rattle.object_layout.specs.Chunks.{cell_of}
-use Rattle.task_frames.specs.declared.frames.Frame.{Frame}
-use Rattle.task_frames.specs.FramesValue.{FramesValue, depth_of, frames_of, references_of}
-use Rattle.leaf_copy_gc.specs.Survivors.{frame_references, IsClosed}
-use Rattle.memory_scenes.specs.Fit.{IsFit}
-use Rattle.alloc_path.proofs.Settled.{at_offset}
+use Rattle.memory_scenes.proofs.Common.{◌≡◌, ℕ, suc, ◌+◌, ◌<◌, ◌≤◌, List, [], ◌∷◌, ◌++◌, length, refl, sym, subst, arith, inl, inr, eqb, Option, slice_index_or, All, cases_Bool, All-nil, All-cons, All-head, All-tail, All-append, Addr, Cell, no_cell, ChunkValue, cell_of, CallFrame, FramesValue, depth_of, frames_of, references_of, frame_references, IsClosed, at_offset, IsFit}
 
 -- ---- cells
 
@@ -34,11 +22,11 @@ closed_from h f a born = each_of (IsFit h) h (λ b. absurd b) (λ k d lt. f k d 
 
 -- ---- frames
 
-count_last : (fs : List Frame) (t : Frame) → length (fs ++ t ∷ []) ≡ length fs + 1
+count_last : (fs : List CallFrame) (t : CallFrame) → length (fs ++ t ∷ []) ≡ length fs + 1
 count_last [] t = refl
 count_last (f ∷ fs) t = let ih = count_last fs t in omega arith
 
-held_each : (P : Option Addr → Type 0) (fs : List Frame) → ((k : ℕ) → k < length fs → All P (references_of fs k)) → All P (frame_references fs)
+held_each : (P : Option Addr → Type 0) (fs : List CallFrame) → ((k : ℕ) → k < length fs → All P (references_of fs k)) → All P (frame_references fs)
 held_each P [] f = All-nil P
 held_each P (x ∷ fs) f = All-append P x.refs (frame_references fs) (f 0 (omega arith)) (held_each P fs (λ k lt. f (suc k) (omega arith)))
 

@@ -2,8 +2,8 @@
 use Rattle.std.specs.Prelude.{List, All}
 use Rattle.object_layout.specs.Cell.{Cell, IsBorn}
 use Rattle.object_layout.specs.ChunkValue.{ChunkValue}
-use Rattle.leaf_copy_gc.specs.Survivors.{IsSound}
+use Rattle.copying_gc.specs.Survivors.{IsSoundReference}
 
 -- the references of an object lead to objects of the heap
 abbrev pub IsFit : List ChunkValue → Cell → Type 0
-IsFit h c = IsBorn c.mark → All (IsSound h) c.refs
+IsFit h c = IsBorn c.mark → All (IsSoundReference h) c.refs

@@ -3,18 +3,18 @@
 ghost use Rattle.std.specs.Prelude.{◌≡◌, All, IfSome, IsTrue};
 ghost use Rattle.object_layout.specs.Cell.{IsBorn};
 ghost use Rattle.object_layout.specs.Place.{cell_at, IsCellAt};
-ghost use Rattle.leaf_copy_gc.specs.Survivors.{IsClosed, IsSound};
-ghost use Rattle.leaf_copy_gc.specs.Laid.{small_in, small_words};
+ghost use Rattle.copying_gc.specs.Survivors.{IsClosed, IsSoundReference};
+ghost use Rattle.copying_gc.specs.Laid.{small_in, small_words};
 ghost use Rattle.memory_scenes.specs.Fit.{IsFit};
 
 use crate::soundness::is_sound;
-use alloc_path::LeafHeap;
+use leaf_heap::LeafHeap;
 use object_layout::{CHUNK_WORDS, Chunk, header_at, is_born_at, next_at, ref_at};
 
 // Whether each reference of the object there leads to an object.
 fn leads_to_objects(heap: &LeafHeap, chunk: &Chunk, at: u32) -> bool
     requires { IsBorn (cell_at chunk.now.cells at).mark }
-    ensures { IsTrue result → All (IsSound heap.now.chunks) (cell_at chunk.now.cells at).refs }
+    ensures { IsTrue result → All (IsSoundReference heap.now.chunks) (cell_at chunk.now.cells at).refs }
 {
     let header = header_at(chunk, at);
     for field in 0..header.nrefs {

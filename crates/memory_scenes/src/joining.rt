@@ -1,16 +1,16 @@
 // Forks and joins that were checked.
 
 ghost use Rattle.std.specs.Prelude.{◌++◌, IsTrue};
-ghost use Rattle.alloc_path.specs.LeafHeapValue.{merged};
-ghost use Rattle.object_layout.specs.Chunks.{AreApart};
-ghost use Rattle.fork_join.specs.Joined.{AreInUse, HasRoom, HaveEnded};
+ghost use Rattle.leaf_heap.specs.LeafHeapValue.{merged};
+ghost use Rattle.object_layout.specs.Chunks.{HaveDistinctNumbers};
+ghost use Rattle.fork_join.specs.Joined.{AreInUse, HasCapacityForBoth, HaveEnded};
 
 use crate::soundness::is_fresh;
-use alloc_path::{LeafHeap, View};
 use chunk_pool::Pool;
 use fork_join::{Child, EndedChild, Side, finish, fork, join, make_room};
-use heap_tree::{State, Tree};
+use heap_tree::{TaskState, Tree};
 use hh_lang::DEPTH_LIMIT;
+use leaf_heap::{LeafHeap, View};
 use object_layout::Chunk;
 use std::alloc::Global;
 use task_frames::Frames;
@@ -19,13 +19,13 @@ use task_frames::Frames;
 fn have_ended(tree: &Tree, parent: u32, left: u32, right: u32) -> bool
     ensures { IsTrue result → HaveEnded tree.now parent left right }
 {
-    if tree.state(parent) != Some(State::Waiting) {
+    if tree.state(parent) != Some(TaskState::Waiting) {
         return false;
     }
-    if tree.state(left) != Some(State::Ended) {
+    if tree.state(left) != Some(TaskState::Ended) {
         return false;
     }
-    if tree.state(right) != Some(State::Ended) {
+    if tree.state(right) != Some(TaskState::Ended) {
         return false;
     }
     if tree.parent(left) != Some(parent) {
@@ -45,10 +45,10 @@ fn are_in_use(pool: &Pool, chunks: &[Chunk]) -> bool
 }
 
 // Whether none of these chunks has the number of another of them, or of one after them.
-#[tactic(auto, using(inner_mark_gc::proofs::Giving::fresh_both))]
+#[tactic(auto, using(mark_sweep_gc::proofs::Giving::fresh_both))]
 fn are_apart(chunks: &[Chunk], behind: &[Chunk]) -> bool
-    requires { AreApart behind.now }
-    ensures { IsTrue result → AreApart (chunks.now ++ behind.now) }
+    requires { HaveDistinctNumbers behind.now }
+    ensures { IsTrue result → HaveDistinctNumbers (chunks.now ++ behind.now) }
 {
     match chunks.split_first() {
         None => true,
@@ -61,10 +61,10 @@ fn are_apart(chunks: &[Chunk], behind: &[Chunk]) -> bool
 }
 
 // The same for two lists, concatenated.
-#[tactic(auto, using(inner_mark_gc::proofs::Giving::fresh_both))]
+#[tactic(auto, using(mark_sweep_gc::proofs::Giving::fresh_both))]
 fn are_all_apart(left: &[Chunk], right: &[Chunk], behind: &[Chunk]) -> bool
-    requires { AreApart behind.now }
-    ensures { IsTrue result → AreApart (left.now ++ (right.now ++ behind.now)) }
+    requires { HaveDistinctNumbers behind.now }
+    ensures { IsTrue result → HaveDistinctNumbers (left.now ++ (right.now ++ behind.now)) }
 {
     match left.split_first() {
         None => are_apart(right, behind),
@@ -89,8 +89,8 @@ pub fn forked(
     if t >= tree.made() || tree.made() >= 100000 || tree.depth(t) >= DEPTH_LIMIT {
         return None;
     }
-    tree.set_state(t, State::Out);
-    if tree.state(t) != Some(State::Out) {
+    tree.set_state(t, TaskState::Out);
+    if tree.state(t) != Some(TaskState::Out) {
         return None;
     }
     fork(alloc, tree, t, heap, above, top, 5, 6).ok()
@@ -106,8 +106,8 @@ pub fn ended(tree: &mut Tree, t: u32) -> Option<Option<u32>> {
     if t == 0 || t >= tree.made() {
         return None;
     }
-    tree.set_state(t, State::Out);
-    if tree.state(t) != Some(State::Out) {
+    tree.set_state(t, TaskState::Out);
+    if tree.state(t) != Some(TaskState::Out) {
         return None;
     }
     Some(finish(tree, t))
@@ -115,11 +115,11 @@ pub fn ended(tree: &mut Tree, t: u32) -> Option<Option<u32>> {
 
 // Reserves capacity for a join; returns whether two children may be joined with their parent.
 fn prepare(tree: &Tree, pool: &Pool, parent: &mut Side, left: &Side, right: &Side) -> bool
-    ensures room { IsTrue result → HasRoom parent.new left.now right.now }
+    ensures room { IsTrue result → HasCapacityForBoth parent.new left.now right.now }
     ensures ended { IsTrue result → HaveEnded tree.now parent.new.task left.now.task right.now.task }
     ensures left_in_use { IsTrue result → AreInUse pool.now left.now.heap.chunks }
     ensures right_in_use { IsTrue result → AreInUse pool.now right.now.heap.chunks }
-    ensures apart { IsTrue result → AreApart (merged parent.new.heap left.now.heap right.now.heap).chunks }
+    ensures apart { IsTrue result → HaveDistinctNumbers (merged parent.new.heap left.now.heap right.now.heap).chunks }
 {
     let Ok(()) = make_room(parent, left, right) else {
         return false;

@@ -8,11 +8,11 @@ mod scenes;
 mod soundness;
 mod sweeping;
 
-pub use alloc_path::LeafHeap;
 pub use cells::{is_fit_heap, small_in_all};
 pub use chunk_pool::Pool;
 pub use hh_lang::DEPTH_LIMIT;
 pub use joining::{ended, forked, has_forked, joined};
+pub use leaf_heap::LeafHeap;
 pub use object_layout::{Addr, CHUNK_WORDS, Chunk};
 pub use pools::{add_taken, is_full, owner, relabel, take, take_and_give};
 pub use scenes::{

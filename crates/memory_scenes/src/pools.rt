@@ -1,8 +1,8 @@
 // Pools for tests. Each call checks its preconditions.
 
 use crate::soundness::is_fresh;
-use alloc_path::LeafHeap;
 use chunk_pool::{NotTaken, Pool};
+use leaf_heap::LeafHeap;
 
 /// Takes a chunk of n units for this owner, and drops it: its number stays in use.
 pub fn take(pool: &mut Pool, owner: u32, units: u32) -> Option<u32> {

@@ -6,7 +6,7 @@ ghost use Rattle.object_layout.specs.Chunks.{cell_of};
 ghost use Rattle.object_layout.specs.Graph.{HasObjectAt};
 
 use crate::soundness::{is_fresh, is_live};
-use alloc_path::{LeafHeap, New};
+use leaf_heap::{LeafHeap, New};
 use object_layout::{Addr, Birth, CHUNK_WORDS, Chunk, Header};
 use std::alloc::Global;
 use task_frames::Frames;

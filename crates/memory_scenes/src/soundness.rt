@@ -4,10 +4,10 @@ ghost use Rattle.std.specs.Prelude.{IsTrue, map, All};
 ghost use Rattle.object_layout.specs.Cell.{IsBorn};
 ghost use Rattle.object_layout.specs.Place.{cell_at, IsCellAt};
 ghost use Rattle.task_frames.specs.FramesValue.{frames_of};
-ghost use Rattle.alloc_path.specs.LeafHeapValue.{IsFresh};
-ghost use Rattle.leaf_copy_gc.specs.Survivors.{as_reference, frame_references, outside, HasObjectAt, IsSound};
+ghost use Rattle.leaf_heap.specs.LeafHeapValue.{IsFresh};
+ghost use Rattle.copying_gc.specs.Survivors.{as_reference, frame_references, outside, HasObjectAt, IsSoundReference};
 
-use alloc_path::LeafHeap;
+use leaf_heap::LeafHeap;
 use object_layout::{Addr, CHUNK_WORDS, Chunk, is_born_at, next_at};
 use task_frames::Frames;
 
@@ -51,7 +51,7 @@ pub fn is_live(chunks: &[Chunk], object: Addr) -> bool
 
 /// Whether a reference into the heap leads to an object there.
 pub fn is_sound(heap: &LeafHeap, reference: Option<Addr>) -> bool
-    ensures { IsTrue result → IsSound heap.now.chunks reference }
+    ensures { IsTrue result → IsSoundReference heap.now.chunks reference }
 {
     match reference {
         None => true,
@@ -61,7 +61,7 @@ pub fn is_sound(heap: &LeafHeap, reference: Option<Addr>) -> bool
 
 // The same for each of these.
 fn are_sound(heap: &LeafHeap, references: &[Option<Addr>]) -> bool
-    ensures { IsTrue result → All (IsSound heap.now.chunks) references.now }
+    ensures { IsTrue result → All (IsSoundReference heap.now.chunks) references.now }
 {
     for &reference in references {
         if !is_sound(heap, reference) {
@@ -73,7 +73,7 @@ fn are_sound(heap: &LeafHeap, references: &[Option<Addr>]) -> bool
 
 // The same for each root.
 fn roots_are_sound(heap: &LeafHeap, roots: &[Addr]) -> bool
-    ensures { IsTrue result → All (IsSound heap.now.chunks) (map as_reference roots.now) }
+    ensures { IsTrue result → All (IsSoundReference heap.now.chunks) (map as_reference roots.now) }
 {
     for &root in roots {
         if !is_sound(heap, Some(root)) {
@@ -85,7 +85,7 @@ fn roots_are_sound(heap: &LeafHeap, roots: &[Addr]) -> bool
 
 // The same for each reference that a frame holds.
 fn frames_are_sound(heap: &LeafHeap, frames: &Frames) -> bool
-    ensures { IsTrue result → All (IsSound heap.now.chunks) (frame_references (frames_of frames.now)) }
+    ensures { IsTrue result → All (IsSoundReference heap.now.chunks) (frame_references (frames_of frames.now)) }
 {
     for frame in 0..frames.depth() {
         if !are_sound(heap, &frames.references_in(frame)) {
@@ -97,7 +97,7 @@ fn frames_are_sound(heap: &LeafHeap, frames: &Frames) -> bool
 
 /// Whether all references from outside into the heap lead to objects there.
 pub fn outside_is_sound(heap: &LeafHeap, frames: &Frames, roots: &[Addr]) -> bool
-    ensures { IsTrue result → All (IsSound heap.now.chunks) (outside frames.now roots.now) }
+    ensures { IsTrue result → All (IsSoundReference heap.now.chunks) (outside frames.now roots.now) }
 {
     if !frames_are_sound(heap, frames) {
         return false;

@@ -2,14 +2,14 @@
 
 ghost use Rattle.std.specs.Prelude.{All, IfSome, IsSome, IsTrue};
 ghost use Rattle.chunk_pool.specs.PoolValue.{slot_at};
-ghost use Rattle.inner_mark_gc.specs.Snapshot.{IsClosed, HasObjectAt};
-ghost use Rattle.inner_mark_gc.specs.MarkingValue.{HasRoom, IsDone, IsOf};
+ghost use Rattle.mark_sweep_gc.specs.Snapshot.{IsClosed, HasObjectAt};
+ghost use Rattle.mark_sweep_gc.specs.MarkingValue.{HasCapacityForAll, IsDone, IsOf};
 
 use crate::cells::is_fit_heap;
 use crate::soundness::is_live;
-use alloc_path::LeafHeap;
 use chunk_pool::Pool;
-use inner_mark_gc::{Marking, MarkingRoom};
+use leaf_heap::LeafHeap;
+use mark_sweep_gc::{Marking, MarkingRoom};
 use object_layout::{Addr, CHUNK_WORDS, Chunk};
 use std::alloc::Global;
 
@@ -67,7 +67,7 @@ fn mark_all(marking: &mut Marking, heap: &LeafHeap, kept: &[Addr], step: u32) ->
     ensures { IsOf heap.now.chunks kept.now marking.new }
 {
     for calls in 0..100u32 {
-        if marking.some(heap, kept, step) < step {
+        if marking.mark_objects(heap, kept, step) < step {
             return calls;
         }
     }
@@ -93,7 +93,7 @@ fn marked(mut marking: Marking, heap: &LeafHeap, kept: &[Addr], step: u32) -> Op
 // Sweeps a heap; returns the number of units given back, if it is the predicted one, and of those then in use.
 fn sweep(heap: &mut LeafHeap, pool: &mut Pool, marking: Marking) -> Option<(u32, u32)>
     requires done { IsDone marking }
-    requires room { HasRoom heap.old.chunks marking }
+    requires room { HasCapacityForAll heap.old.chunks marking }
     requires in_use { All (λ k. IsSome (slot_at pool.old k.number)) heap.old.chunks }
 {
     let would_give = marking.would_give(heap);

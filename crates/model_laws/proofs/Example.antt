@@ -1,19 +1,5 @@
 -- A run with two compare and swaps on one field: the law of one winner isn't vacuous.
-use Rattle.std.proofs.Common.{◌≡◌, ℕ, zero, suc, pos, ◌≤◌, Bool, true, false, Option, Some, None, List, [], ◌∷◌, slice_get, refl, ap, sym, ◌∙◌, arith}
-use Rattle.std.proofs.lemmas.Bool.{false≢true}
-use Rattle.hh_lang.specs.declared.instr.Instr.{Instr}
-use Rattle.hh_lang.specs.declared.instr.Instr.TheVariants.{Set, Newm, Pack, Cas, Par, Putr, Ret}
-use Rattle.hh_lang.specs.declared.program.Line.{Line}
-use Rattle.hh_lang.specs.Form.{ProgramText}
-use Rattle.hh_lang.proofs.Examples.{fun}
-use Rattle.hh_model.specs.declared.data.Name.{Name}
-use Rattle.hh_model.specs.declared.data.Object.{Object}
-use Rattle.hh_model.specs.declared.data.State.{State}
-use Rattle.hh_model.specs.declared.data.Task.{Task}
-use Rattle.hh_model.specs.Effect.{object_at, ref_in}
-use Rattle.hh_model.specs.Step.{fetched, root, strand}
-use Rattle.hh_model.specs.Store.{IsNext}
-use Rattle.model_laws.specs.Winner.{Field, IsCas, IsPutr, IsTurn, IsUntried, OnlyFromNil, SomeCasWins, Yields, after}
+use Rattle.model_laws.proofs.Common.{◌≡◌, ℕ, zero, suc, pos, ◌≤◌, Bool, true, false, Option, Some, None, List, [], ◌∷◌, slice_get, refl, ap, sym, ◌∙◌, arith, false≢true, Instr, Set, Newm, Pack, Cas, Par, Putr, Ret, Line, ProgramText, fun, Name, Object, MachineState, Task, object_at, ref_in, fetched, root, strand, IsNext, FieldPlace, IsCas, IsPutr, IsTurn, IsUntried, OnlyFromNil, SomeCasWins, Yields, after}
 
 -- the root makes an object of one reference field, and forks; each child makes an object, and tries to set the field
 -- to it
@@ -23,7 +9,7 @@ p = record { functions = fun (Set 0 (pos 1) ∷ Newm 0 0 1 ∷ Par 1 1 ∷ Ret �
 ts : List ℕ
 ts = 0 ∷ 0 ∷ 0 ∷ 1 ∷ 1 ∷ 2 ∷ 2 ∷ []
 
-field : Field
+field : FieldPlace
 field = record { object = record { task = 0; count = 0 }; index = 0 }
 
 -- WHAT A STEP DOES: its task and its line
@@ -36,7 +22,7 @@ abbrev of_task : ProgramText → Option Task → Option (Task × Line)
 of_task q None = None
 of_task q (Some x) = with_line x (fetched q x.top)
 
-abbrev of_turn : ProgramText → State → Option ℕ → Option (Task × Line)
+abbrev of_turn : ProgramText → MachineState → Option ℕ → Option (Task × Line)
 of_turn q m None = None
 of_turn q m (Some t) = of_task q (slice_get m.tasks t)
 

@@ -2,3 +2,4 @@ pub mod Stopped
 pub mod Winner
 mod TurnLaws
 mod Example
+mod Common

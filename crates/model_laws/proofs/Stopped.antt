@@ -1,32 +1,8 @@
 -- Which reads are stopped.
-use Rattle.std.proofs.Common.{◌≡◌, ℕ, Bool, true, false, cond, Option, Some, None, List, length, slice_get, slice_set, ◌⊎◌, inl, inr, refl, ap, ap₂, sym, ◌∙◌, is_some}
-use Rattle.std.specs.Option.{option_flatten}
-use Rattle.std.proofs.lemmas.Bool.{both_ways}
-use Rattle.std.proofs.lemmas.Option.{same_Some}
-use Rattle.hh_lang.specs.declared.instr.Instr.{Instr}
-use Rattle.hh_lang.specs.declared.instr.Instr.TheVariants.{Getr}
-use Rattle.hh_lang.specs.Form.{ProgramText}
-use Rattle.hh_model.specs.declared.data.Name.{Name}
-use Rattle.hh_model.specs.declared.data.Object.{Object}
-use Rattle.hh_model.specs.declared.data.Frame.{Frame}
-use Rattle.hh_model.specs.declared.data.Task.{Task}
-use Rattle.hh_model.specs.declared.data.Trap.TheVariants.{Nil, Range}
-use Rattle.hh_model.specs.declared.data.End.{End}
-use Rattle.hh_model.specs.declared.data.End.TheVariants.{Done, Trapped, Entangled}
-use Rattle.hh_model.specs.declared.data.State.{State}
-use Rattle.hh_model.specs.Effect.{Effect, Goes, Stops, Setting, effect, int_in, object_at, onward, or_trap, place_in, read_effect, ref_in, with_object, with_ref}
-use Rattle.hh_model.specs.Precedence.{Precedes, precedes}
-use Rattle.hh_model.specs.Step.{can_step, ended_by, ended_task, follow, goes_on, is_running, joined, owner_of, parents, result_of, run, setting, start, step, strand_of}
-use Rattle.hh_model.specs.Tree.{IsForkJoinState, waiting, joins_in}
-use Rattle.path_laws.specs.ReadLaws.{IsDecided, IsRead, IsStopped, ReadsAreDecided, ReadsNext, StopsRead}
-use Rattle.hh_model.proofs.ForkJoinStates.{run_is_fork_join_state, start_is_fork_join_state}
-use Rattle.hh_model.proofs.Steps.{Halts}
-use Rattle.hh_model.proofs.Taken.{step_taken}
-use Rattle.hh_model.proofs.Tree.{owner_not_joined}
-use Rattle.listed.proofs.Options.{none_some}
+use Rattle.model_laws.proofs.Common.{◌≡◌, ℕ, Bool, true, false, cond, Option, Some, None, List, length, slice_get, slice_set, ◌⊎◌, inl, inr, refl, ap, ap₂, sym, ◌∙◌, is_some, option_flatten, both_ways, same_Some, Instr, Getr, ProgramText, Name, Object, Frame, Task, Nil, Range, End, Done, Trapped, Entangled, MachineState, Effect, Goes, Stops, StepContext, effect, int_in, object_at, onward, or_trap, place_in, read_effect, ref_in, with_object, with_ref, Precedes, precedes, can_step, ended_by, ended_task, follow, goes_on, is_running, joined, owner_of, parents, result_of, run, setting, start, step, strand_of, IsForkJoinState, waiting, joins_in, IsDecided, IsRead, IsStopped, ReadsAreDecided, ReadsNext, StopsRead, run_is_fork_join_state, start_is_fork_join_state, Halts, step_taken, owner_not_joined, none_some}
 
 -- what a read of a reference field does
-read_is : (s : Setting) (f : Frame) (store : List (List Object)) (instr : Instr) (d o k : ℕ) (source n : Name) (x : Object) (at : ℕ) → instr ≡ Getr d o k → ref_in f o ≡ Some source → object_at store source ≡ Some x
+read_is : (s : StepContext) (f : Frame) (store : List (List Object)) (instr : Instr) (d o k : ℕ) (source n : Name) (x : Object) (at : ℕ) → instr ≡ Getr d o k → ref_in f o ≡ Some source → object_at store source ≡ Some x
     → place_in (length x.refs) (int_in f k) ≡ Some at → slice_get x.refs at ≡ Some (Some n) → effect s f store instr ≡ read_effect s f store d (Some n)
 read_is s f store instr d o k source n x at getr named is place field =
     ap (effect s f store) getr
@@ -35,23 +11,23 @@ read_is s f store instr d o k source n x at getr named is place field =
     ∙ (ap (λ w. or_trap Range w (λ i. read_effect s f store d (option_flatten (slice_get x.refs i)))) place
     ∙ ap (λ w. read_effect s f store d (option_flatten w)) field)))
 
-module _ (p : ProgramText) (m : State) (K : IsForkJoinState m) (going : m.end ≡ None) (t : ℕ) (x : Task) (d : ℕ) (n : Name) (o : Object) (R : ReadsNext p m t x d n o) where
+module _ (p : ProgramText) (m : MachineState) (K : IsForkJoinState m) (going : m.end ≡ None) (t : ℕ) (x : Task) (d : ℕ) (n : Name) (o : Object) (R : ReadsNext p m t x d n o) where
   can : can_step m t ≡ true
   can = ap₂ (λ e y. goes_on e (is_running y)) going R.next.task ∙ R.running
 
-  abbrev by : Bool → Effect
-  by b = cond b (Goes (onward (with_ref x.top d (Some n))) m.store) (Stops n)
+  abbrev read_by_test : Bool → Effect
+  read_by_test b = cond b (Goes (onward (with_ref x.top d (Some n))) m.store) (Stops n)
 
-  reads : effect (setting m t x) x.top m.store R.line.instr ≡ by (precedes m.edges o.strand (strand_of t x))
+  reads : effect (setting m t x) x.top m.store R.line.instr ≡ read_by_test (precedes m.edges o.strand (strand_of t x))
   reads =
       read_is (setting m t x) x.top m.store R.line.instr d R.register R.index R.source n R.read R.at R.instr R.named R.is R.place R.field
-      ∙ ap (λ w. or_trap Nil w (λ q. by (precedes m.edges q.strand (strand_of t x)))) R.object
+      ∙ ap (λ w. or_trap Nil w (λ q. read_by_test (precedes m.edges q.strand (strand_of t x)))) R.object
 
-  takes : (b : Bool) → precedes m.edges o.strand (strand_of t x) ≡ b → step p m t ≡ follow m t x R.line.number (by b)
-  takes b e = step_taken p m t x R.line can R.next.task R.next.fetched ∙ ap (follow m t x R.line.number) (reads ∙ ap by e)
+  takes : (b : Bool) → precedes m.edges o.strand (strand_of t x) ≡ b → step p m t ≡ follow m t x R.line.number (read_by_test b)
+  takes b e = step_taken p m t x R.line can R.next.task R.next.fetched ∙ ap (follow m t x R.line.number) (reads ∙ ap read_by_test e)
 
   not_both : IsRead p m t x d n → IsStopped p m t n → ⊥
-  not_both read stopped = absurd (none_ends (sym going ∙ ap (λ (k : State). k.end) (sym read ∙ stopped)))
+  not_both read stopped = absurd (none_ends (sym going ∙ ap (λ (k : MachineState). k.end) (sym read ∙ stopped)))
     where
       none_ends : None ≡ Some (Entangled t (owner_of m.tasks n.task)) → ⊥
       none_ends e = cc
@@ -85,12 +61,12 @@ reads_are_decided p limit ts t x d n o going R = decided p (run p limit ts) (run
 
 -- STOPS
 
-module _ (p : ProgramText) (m : State) (t : ℕ) (K : IsForkJoinState m) (going : m.end ≡ None) where
-  abbrev Stopped : State → Type 0
+module _ (p : ProgramText) (m : MachineState) (t : ℕ) (K : IsForkJoinState m) (going : m.end ≡ None) where
+  abbrev Stopped : MachineState → Type 0
   Stopped m' = (reader owner : ℕ) → m'.end ≡ Some (Entangled reader owner) → (reader ≡ t) × StopsRead p m t owner
 
-  same : (m' : State) → m'.end ≡ m.end → Stopped m'
-  same m' e reader owner h = none_some (sym going ∙ (sym e ∙ h))
+  stopped_unchanged : (m' : MachineState) → m'.end ≡ m.end → Stopped m'
+  stopped_unchanged m' e reader owner h = none_some (sym going ∙ (sym e ∙ h))
 
   halts : (x : Task) (e : End) → slice_get m.tasks t ≡ Some x → is_running (Some x) ≡ true → Halts p m t x e → Stopped (ended_by m e)
   halts x e is run' (inl trap) reader owner h = absurd (trapped trap.2 (same_Some e (Entangled reader owner) h))
@@ -135,4 +111,4 @@ module _ (p : ProgramText) (m : State) (t : ℕ) (K : IsForkJoinState m) (going 
     where
       done : Some Done ≡ Some (Entangled reader owner) → ⊥
       done a = cc
-  ends x parent e is run' pp (inr child) reader owner h = same (record m { tasks = slice_set m.tasks t (ended_task x (result_of x.top)); end = e }) child.1 reader owner h
+  ends x parent e is run' pp (inr child) reader owner h = stopped_unchanged (record m { tasks = slice_set m.tasks t (ended_task x (result_of x.top)); end = e }) child.1 reader owner h

@@ -1,38 +1,15 @@
 -- Of the tasks that try to set a nil field by compare and swap, the first succeeds.
-use Rattle.std.proofs.Common.{◌≡◌, ℕ, ℤ, zero, suc, pos, negsuc, ◌+◌, ◌-◌, ◌<◌, ◌≤◌, Bool, true, false, cond, Option, Some, None, List, [], ◌∷◌, length, take, slice_get, slice_set, nat_lt, ◌⊎◌, inl, inr, refl, ap, sym, subst, ◌∙◌, arith, add-one}
-use Rattle.std.specs.Option.{option_flatten}
-use Rattle.std.proofs.lemmas.Bool.{cases_eq, cases_lt, both_ways, lt-ltb, ltb-true}
-use Rattle.std.proofs.lemmas.Option.{same_Some}
-use Rattle.listed.proofs.Members.{In, got_same, got_other, got_in, got_within}
-use Rattle.listed.proofs.Places.{got_some}
-use Rattle.hh_lang.specs.declared.instr.Instr.{Instr}
-use Rattle.hh_lang.specs.declared.instr.Instr.TheVariants.{Putr, Puti, Freeze, Cas}
-use Rattle.hh_lang.specs.declared.program.Line.{Line}
-use Rattle.hh_lang.specs.Form.{ProgramText}
-use Rattle.hh_model.specs.declared.data.Name.{Name}
-use Rattle.hh_model.specs.declared.data.Object.{Object}
-use Rattle.hh_model.specs.declared.data.Frame.{Frame}
-use Rattle.hh_model.specs.declared.data.Task.{Task}
-use Rattle.hh_model.specs.declared.data.State.{State}
-use Rattle.hh_model.specs.Effect.{Goes, Setting, effect, object_at, put_object, int_in, ref_in, with_int, onward, same_name, place_in}
-use Rattle.hh_model.specs.Step.{step, run_from, start, setting, can_step, follow}
-use Rattle.hh_model.specs.Store.{IsWriteTo, IsNext, StaysAs}
-use Rattle.model_laws.specs.Winner.{Field, FieldHolds, MayWrite, after, IsCas, expects, brings, Yields, OnlyFromNil, IsUntried, OneWinner}
-use Rattle.hh_model.proofs.Stores.{put_cases, made_cases}
-use Rattle.hh_model.proofs.Changes.{WritesField}
-use Rattle.hh_model.proofs.ForkJoinStates.{IsForkJoinState, start_is_fork_join_state, run_is_fork_join_state, empty_rows, no_objects}
-use Rattle.path_laws.proofs.Objects.{made_stays, put_here, put_other, rows_stay, same_stays, stays_on, object_later}
-use Rattle.hh_model.proofs.Steps.{Alters, step_cases}
-use Rattle.hh_model.proofs.Taken.{step_taken, step_idle}
+use Rattle.model_laws.proofs.Common.{◌≡◌, ℕ, ℤ, zero, suc, pos, negsuc, ◌+◌, ◌-◌, ◌<◌, ◌≤◌, Bool, true, false, cond, Option, Some, None, List, [], ◌∷◌, length, take, slice_get, slice_set, nat_lt, ◌⊎◌, inl, inr, refl, ap, sym, subst, ◌∙◌, arith, add-one, option_flatten, cases_eq, cases_lt, both_ways, lt-ltb, ltb-true, same_Some, In, got_same, got_other, got_in, got_within, got_some, Instr, Putr, Puti, Freeze, Cas, Line, ProgramText, Name, Object, Frame, Task, MachineState, Goes, StepContext, effect, object_at, put_object, int_in, ref_in, with_int, onward, same_name, place_in, step, run_from, start, setting, can_step, follow, IsWriteTo, IsNext, StaysAs, put_cases, made_cases, WritesField, start_is_fork_join_state, run_is_fork_join_state, empty_rows, no_objects, made_stays, put_here, put_other, rows_stay, same_stays, stays_on, object_later, Alters, step_cases, step_taken, step_idle, FieldPlace, FieldHolds, MayWrite, after, IsCas, expects, brings, Yields, OnlyFromNil, IsUntried, OneWinner}
+use Rattle.hh_model.proofs.ForkJoinStates.{IsForkJoinState}
 
 -- RUNS STEP BY STEP
 
-pub run_next : (p : ProgramText) (m : State) (ts : List ℕ) (i t : ℕ) → slice_get ts i ≡ Some t → run_from p m (take (suc i) ts) ≡ step p (run_from p m (take i ts)) t
+pub run_next : (p : ProgramText) (m : MachineState) (ts : List ℕ) (i t : ℕ) → slice_get ts i ≡ Some t → run_from p m (take (suc i) ts) ≡ step p (run_from p m (take i ts)) t
 run_next p m [] i t e = absurd cc
 run_next p m (u ∷ ts) zero t e = let h : u ≡ t = cc in ap (step p m) h
 run_next p m (u ∷ ts) (suc i) t e = run_next p (step p m u) ts i t e
 
-pub run_past : (p : ProgramText) (m : State) (ts : List ℕ) (i : ℕ) → slice_get ts i ≡ None → run_from p m (take (suc i) ts) ≡ run_from p m (take i ts)
+pub run_past : (p : ProgramText) (m : MachineState) (ts : List ℕ) (i : ℕ) → slice_get ts i ≡ None → run_from p m (take (suc i) ts) ≡ run_from p m (take i ts)
 run_past p m [] zero e = refl
 run_past p m [] (suc i) e = refl
 run_past p m (u ∷ ts) zero e = absurd cc
@@ -41,7 +18,7 @@ run_past p m (u ∷ ts) (suc i) e = run_past p (step p m u) ts i e
 -- A CAS
 
 -- what a cas does to a field that holds r
-pub cas_effect : (s : Setting) (f : Frame) (store : List (List Object)) (d o k e v at : ℕ) (n : Name) (x : Object) (r : Option Name) (b : Bool)
+pub cas_effect : (s : StepContext) (f : Frame) (store : List (List Object)) (d o k e v at : ℕ) (n : Name) (x : Object) (r : Option Name) (b : Bool)
     → ref_in f o ≡ Some n → object_at store n ≡ Some x → int_in f k ≡ pos at → at < length x.refs → x.mutable ≡ true → slice_get x.refs at ≡ Some r → same_name r (ref_in f e) ≡ b
     → effect s f store (Cas d o k e v) ≡ cond b (Goes (onward (with_int f d (pos 1))) (put_object store n (record x { refs = slice_set x.refs at (ref_in f v) }))) (Goes (onward (with_int f d (pos 0))) store)
 cas_effect s f store d o k e v at n x r b name is index within mutable value match =
@@ -59,7 +36,7 @@ index_of count (pos k) at e = in_range (nat_lt k count) refl e
     in_range false lt h = absurd cc
 index_of count (negsuc k) at e = absurd cc
 
-module _ (p : ProgramText) (m : State) (t : ℕ) (K : IsForkJoinState m) (field : Field) (o : Object) (r : Option Name) where
+module _ (p : ProgramText) (m : MachineState) (t : ℕ) (K : IsForkJoinState m) (field : FieldPlace) (o : Object) (r : Option Name) where
   -- the next instruction of the task is a putr on the field
   pub record PutrNext : Type 0 where
     pub task : Task
@@ -166,7 +143,7 @@ module _ (p : ProgramText) (m : State) (t : ℕ) (K : IsForkJoinState m) (field 
         (λ parent l xp xl xr rl rr ip il ir pl left dl dr wl wr nl nr side. same_becomes)
 
 -- an object that a step made has nil fields, if it is mutable
-module _ (p : ProgramText) (m : State) (t : ℕ) (K : IsForkJoinState m) (n : Name) (none : object_at m.store n ≡ None) where
+module _ (p : ProgramText) (m : MachineState) (t : ℕ) (K : IsForkJoinState m) (n : Name) (none : object_at m.store n ≡ None) where
   abbrev NilNew : List (List Object) → Type 0
   NilNew store = (o : Object) (r : Option Name) → object_at store n ≡ Some o → o.mutable ≡ true → In o.refs r → r ≡ None
 
@@ -204,9 +181,9 @@ module _ (p : ProgramText) (m : State) (t : ℕ) (K : IsForkJoinState m) (n : Na
 
 -- A CAS IN A RUN
 
-module _ (p : ProgramText) (m : State) (t : ℕ) (x : Task) (line : Line) (d o k e v : ℕ) (field : Field) (r : Option Name)
+module _ (p : ProgramText) (m : MachineState) (t : ℕ) (x : Task) (line : Line) (d o k e v : ℕ) (field : FieldPlace) (r : Option Name)
     (can : can_step m t ≡ true) (next : IsNext p m t x line) (instr : line.instr ≡ Cas d o k e v) (w : MayWrite m x.top o k field) (value : slice_get w.object.refs field.index ≡ Some r) where
-  abbrev On : ℤ → List (List Object) → State
+  abbrev On : ℤ → List (List Object) → MachineState
   On y store = record m { tasks = slice_set m.tasks t (record x { top = onward (with_int x.top d y) }); store = store }
 
   abbrev Put : List (List Object)
@@ -219,14 +196,14 @@ module _ (p : ProgramText) (m : State) (t : ℕ) (x : Task) (line : Line) (d o k
       ∙ cas_effect (setting m t x) x.top m.store d o k e v field.index field.object w.object r b w.name w.is w.index w.within w.mutable value match)
 
   goes_on_with : (y : ℤ) (store : List (List Object)) → step p m t ≡ On y store → slice_get (step p m t).tasks t ≡ Some (record x { top = onward (with_int x.top d y) })
-  goes_on_with y store is = ap (λ (q : State). slice_get q.tasks t) is ∙ got_same m.tasks t x (record x { top = onward (with_int x.top d y) }) next.task
+  goes_on_with y store is = ap (λ (q : MachineState). slice_get q.tasks t) is ∙ got_same m.tasks t x (record x { top = onward (with_int x.top d y) }) next.task
 
   pub cas_wins : same_name r (ref_in x.top e) ≡ true → slice_get (step p m t).tasks t ≡ Some (record x { top = onward (with_int x.top d (pos 1)) })
   cas_wins match = goes_on_with (pos 1) Put (swaps true match)
 
   pub cas_sets : same_name r (ref_in x.top e) ≡ true → FieldHolds (step p m t) field (ref_in x.top v)
   cas_sets match =
-      subst (λ (q : State). FieldHolds q field (ref_in x.top v)) (sym (swaps true match)) (record {
+      subst (λ (q : MachineState). FieldHolds q field (ref_in x.top v)) (sym (swaps true match)) (record {
         object = record w.object { refs = slice_set w.object.refs field.index (ref_in x.top v) };
         is = put_here m.store field.object w.object (record w.object { refs = slice_set w.object.refs field.index (ref_in x.top v) }) w.is;
         value = got_same w.object.refs field.index r (ref_in x.top v) value;
@@ -258,15 +235,15 @@ one_value store n o o' k r r' is is' value value' =
     let same : o ≡ o' = same_Some o o' (sym is ∙ is') in
     same_Some r r' (sym value ∙ (ap (λ (w : Object). slice_get w.refs k) same ∙ value'))
 
-module _ (p : ProgramText) (limit : ℕ) (ts : List ℕ) (field : Field) (only : OnlyFromNil p limit ts field) where
-  abbrev At : ℕ → State
+module _ (p : ProgramText) (limit : ℕ) (ts : List ℕ) (field : FieldPlace) (only : OnlyFromNil p limit ts field) where
+  abbrev At : ℕ → MachineState
   At i = after p limit ts i
 
   fork_join : (i : ℕ) → IsForkJoinState (At i)
   fork_join i = run_is_fork_join_state p (start p limit) (take i ts) (start_is_fork_join_state p limit)
 
   -- the next moment comes by one step, or by none
-  module _ (i : ℕ) (C : State → Type 0) (idle : C (At i)) (taken : (t : ℕ) → slice_get ts i ≡ Some t → can_step (At i) t ≡ true → C (step p (At i) t)) where
+  module _ (i : ℕ) (C : MachineState → Type 0) (idle : C (At i)) (taken : (t : ℕ) → slice_get ts i ≡ Some t → can_step (At i) t ≡ true → C (step p (At i) t)) where
     moment_by : (t : ℕ) → slice_get ts i ≡ Some t → (b : Bool) → can_step (At i) t ≡ b → C (step p (At i) t)
     moment_by t e true can = taken t e can
     moment_by t e false can = subst C (sym (step_idle p (At i) t can)) idle
@@ -324,7 +301,7 @@ module _ (p : ProgramText) (limit : ℕ) (ts : List ℕ) (field : Field) (only :
       })
 
   -- a mutable object's field is nil before the first cas
-  abbrev NilIn : State → Type 0
+  abbrev NilIn : MachineState → Type 0
   NilIn m = (o : Object) (r : Option Name) → object_at m.store field.object ≡ Some o → o.mutable ≡ true → slice_get o.refs field.index ≡ Some r → r ≡ None
 
   nil_step : (i t : ℕ) → slice_get ts i ≡ Some t → can_step (At i) t ≡ true → (IsCas p limit ts field i → ⊥) → NilIn (At i)
@@ -401,7 +378,7 @@ module _ (p : ProgramText) (limit : ℕ) (ts : List ℕ) (field : Field) (only :
 
     wins : Yields p limit ts field i c (pos 1)
     wins =
-        ap (λ (q : State). slice_get q.tasks c.t) (next_is i c)
+        ap (λ (q : MachineState). slice_get q.tasks c.t) (next_is i c)
         ∙ cas_wins p (At i) c.t c.task c.line c.target c.object c.index c.expected c.value field found.0 c.turn.can c.next c.instr c.writes found.1 finds
 
     sets : FieldHolds (At (suc i)) field (brings p limit ts field i c)
@@ -422,7 +399,7 @@ module _ (p : ProgramText) (limit : ℕ) (ts : List ℕ) (field : Field) (only :
     loses j d lt =
         let h = keeps j lt in
         let same : h.object ≡ d.writes.object = same_Some h.object d.writes.object (sym h.is ∙ d.writes.is) in
-        ap (λ (q : State). slice_get q.tasks d.t) (next_is j d)
+        ap (λ (q : MachineState). slice_get q.tasks d.t) (next_is j d)
         ∙ cas_loses p (At j) d.t d.task d.line d.target d.object d.index d.expected d.value field (brings p limit ts field i c) d.turn.can d.next d.instr d.writes
         (ap (λ (w : Object). slice_get w.refs field.index) (sym same) ∙ h.value) (misses j d)
 

@@ -1,12 +1,12 @@
 -- Runs step by step.
 use Rattle.std.specs.Prelude.{◌≡◌, ℕ, ◌+◌, true, Some, None, List, take, slice_get}
 use Rattle.hh_lang.specs.Form.{ProgramText}
-use Rattle.hh_model.specs.declared.data.State.{State}
+use Rattle.hh_model.specs.declared.data.MachineState.{MachineState}
 use Rattle.hh_model.specs.Step.{can_step, run, step}
 
 module _ (p : ProgramText) (limit : ℕ) (ts : List ℕ) where
   -- the machine after the first n steps of the list
-  abbrev pub after : ℕ → State
+  abbrev pub after : ℕ → MachineState
   after i = run p limit (take i ts)
 
   -- the task that takes the step after the first i, if it can take one

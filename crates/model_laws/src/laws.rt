@@ -5,7 +5,7 @@ ghost use Rattle.hh_model.specs.PathLaw.{PathIsPrecedence};
 ghost use Rattle.path_laws.specs.ReadLaws.{ReadsAreDecided};
 ghost use Rattle.model_laws.specs.Winner.{OneWinner, SomeCasWins};
 
-/// The owner of an object is on a running task's path if and only if the object's strand precedes the task's.
+/// The owner of an object is on a running task's path if and only if the object's strand happens before the task's.
 pub fn path_is_precedence()
     ensures { PathIsPrecedence }
 {}
@@ -21,8 +21,8 @@ pub fn some_cas_wins()
     ensures { SomeCasWins }
 {}
 
-/// A read succeeds if and only if the strand of its target precedes the reader's, and is stopped otherwise; a stop
-/// changes nothing but the end.
+/// A read succeeds if and only if the strand of its target happens before the reader's, and is stopped otherwise; a
+/// stop changes nothing but the end.
 pub fn reads_are_decided()
     ensures { ReadsAreDecided }
 {}

@@ -1,7 +1,7 @@
 // Small programs as texts: `/` separates lines.
 
 use hh_lang::Program;
-use listed::Listed;
+use plain_vec::Listed;
 use program_reader::read_program;
 use std::alloc::Global;
 use text_lines::MOST_BYTES;

@@ -1,4 +1,4 @@
--- What is so of every machine that has taken few steps.
+-- What holds of every machine that has taken few steps.
 use Rattle.std.proofs.Common.{◌≡◌, ℕ, ◌<◌, ◌^◌, List, Some, length, slice_get, ap, arith}
 use Rattle.hh_model.specs.declared.data.Object.{Object}
 use Rattle.hh_model.specs.Effect.{row_of}

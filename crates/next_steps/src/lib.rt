@@ -1,4 +1,4 @@
-// What a task's next step asks for, how its object is numbered, and whether it is the task's own matter.
+// What a task's next step allocates, the number of its object, and whether the step is the task's own.
 #![tactic(auto)]
 
 mod ahead;

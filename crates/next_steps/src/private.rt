@@ -1,11 +1,11 @@
-// Whether a task's next instruction is the task's own matter.
+// Whether a task's next instruction is the task's own.
 
 ghost use Rattle.std.specs.Prelude.{◌≡◌};
 ghost use Rattle.run_ledger.specs.Steps.{is_frozen_above, is_open, is_read, owns, touched, works_alone};
 ghost use Rattle.next_steps.specs.Own.{is_own_line};
 
 use hh_lang::{Instr, Line};
-use hh_model::{Frame, Name, State, Task};
+use hh_model::{Frame, MachineState, Name, Task};
 
 // The object that an instruction reads or writes.
 fn touched(frame: &Frame, instr: Instr) -> Option<Name>
@@ -36,7 +36,7 @@ fn is_open(task: &Task, instr: Instr) -> bool
 }
 
 // Whether the task owns the object, or there is none.
-fn owns(machine: &State, task: u32, name: Option<Name>) -> bool
+fn owns(machine: &MachineState, task: u32, name: Option<Name>) -> bool
     ensures { result ≡ owns machine.now.tasks task name }
 {
     match name {
@@ -45,7 +45,7 @@ fn owns(machine: &State, task: u32, name: Option<Name>) -> bool
     }
 }
 
-// Whether an instruction reads a field of its object, or how many there are, and writes nothing.
+// Whether an instruction reads a field of its object, or the number of fields, and writes nothing.
 fn is_read(instr: Instr) -> bool
     ensures { result ≡ is_read instr }
 {
@@ -55,8 +55,8 @@ fn is_read(instr: Instr) -> bool
     )
 }
 
-// Whether the task or one above it owns the object, and it is immutable.
-fn is_frozen_above(machine: &State, task: u32, name: Option<Name>) -> bool
+// Whether the task or an ancestor owns the object, and it is immutable.
+fn is_frozen_above(machine: &MachineState, task: u32, name: Option<Name>) -> bool
     ensures { result ≡ is_frozen_above machine.now task name }
 {
     let Some(name) = name else {
@@ -70,15 +70,15 @@ fn is_frozen_above(machine: &State, task: u32, name: Option<Name>) -> bool
 }
 
 // Whether an instruction works on the task's own object or on none, or reads an immutable object of an ancestor.
-fn works_alone(machine: &State, t: u32, frame: &Frame, line: &Line) -> bool
+fn works_alone(machine: &MachineState, t: u32, frame: &Frame, line: &Line) -> bool
     ensures { result ≡ works_alone machine.now t frame.now line.now.instr }
 {
     owns(machine, t, touched(frame, line.instr))
         || (is_read(line.instr) && is_frozen_above(machine, t, touched(frame, line.instr)))
 }
 
-/// Whether a task's next instruction is the task's own matter.
-pub(crate) fn is_own_line(machine: &State, t: u32, task: &Task, line: Option<Line>) -> bool
+/// Whether a task's next instruction is the task's own.
+pub(crate) fn is_own_line(machine: &MachineState, t: u32, task: &Task, line: Option<Line>) -> bool
     ensures { result ≡ is_own_line machine.now t task.now line }
 {
     match line {

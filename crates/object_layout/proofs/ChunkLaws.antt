@@ -1,20 +1,12 @@
--- Laws of objects by their addresses: where a chunk is found, and what is at an address after a put
--- or a push.
-use Rattle.std.proofs.Common.{◌≡◌, ℕ, zero, suc, ◌<◌, ◌≤◌, true, false, List, [], ◌∷◌, ◌++◌, length, length-set, get_or, set, refl, sym, ap, subst, ◌∙◌, arith, ⊎_elim, inl, inr, ◌⊎◌, eqb, one-add}
-use Rattle.std.specs.Prelude.{◌≢◌, Option, Some, None, slice_set}
-use Rattle.std.proofs.lemmas.Bool.{cases_Bool, cases_eq, cases_lt, eqb-true, le-ltb, lt-ltb}
-use Rattle.std.proofs.lemmas.List.{get_or-set_same}
-use Rattle.object_layout.specs.declared.word.Addr.{Addr}
-use Rattle.object_layout.specs.Cell.{Cell, Mark, Born, Moved, Hole, IsBorn, IsObject, as_object, no_cell, with_ref, size_of}
-use Rattle.object_layout.specs.ChunkValue.{ChunkValue}
-use Rattle.object_layout.specs.Place.{cell_at, put_cell}
+-- Laws of objects by their addresses: where a chunk is found, and what is at an address after a put or a push.
+use Rattle.std.proofs.Common.{length-set}
+use Rattle.object_layout.proofs.Common.{◌≡◌, ℕ, zero, suc, ◌<◌, ◌≤◌, true, false, List, [], ◌∷◌, ◌++◌, length, get_or, set, refl, sym, ap, subst, ◌∙◌, arith, ⊎_elim, inl, inr, ◌⊎◌, eqb, one-add, ◌≢◌, Option, Some, None, slice_set, cases_Bool, cases_eq, cases_lt, eqb-true, le-ltb, lt-ltb, get_or-set_same, Addr, Cell, Mark, Born, Moved, Hole, IsBorn, IsObject, as_object, no_cell, with_ref, size_of, ChunkValue, cell_at, put_cell, cell_of, chunk_at, next_address, object_of, place_in, place_of, push_object, put_object, with_cell}
 use Rattle.object_layout.proofs.PlaceLemmas as place
-use Rattle.object_layout.specs.Chunks.{cell_of, chunk_at, next_address, object_of, place_in, place_of, push_object, put_object, with_cell}
 use Rattle.object_layout.proofs.PlaceLemmas.{object_of_born}
 
 -- ---- where a chunk is found
 
--- at which place a chunk is found
+-- the position at which a chunk is found
 pub place_found : (ks : List ChunkValue) (n i : ℕ) → place_in ks n ≡ Some i → (i ≡ place_of ks n) × (i < length ks)
 place_found ks n i e =
     ⊎_elim
@@ -32,7 +24,7 @@ none_there ks q e =
     (λ (l : length ks ≤ place_of ks q). l)
     (cases_lt (place_of ks q) (length ks))
 
--- the cell at an address lies in the chunk that is found
+-- the cell at an address is in the chunk that is found
 pub cell_of-found : (ks : List ChunkValue) (a : Addr) (d : ChunkValue) → place_of ks a.chunk < length ks →
     cell_of ks a ≡ cell_at (get_or ks (place_of ks a.chunk) d).cells a.offset
 cell_of-found [] a d l = absurd (omega arith)
@@ -59,7 +51,7 @@ put_object-found (k ∷ ks) a c d l =
     (λ (e : eqb k.number a.chunk ≡ false). let m = rw e at l in rw (e, one-add) (ap (λ (xs : List ChunkValue). k ∷ xs) (put_object-found ks a c d (omega arith))))
     (cases_Bool (eqb k.number a.chunk))
 
--- an object lies in a chunk of the list
+-- an object is in a chunk of the list
 pub chunk_of_object : (ks : List ChunkValue) (a : Addr) → IsObject (cell_of ks a).mark → place_of ks a.chunk < length ks
 chunk_of_object ks a o =
     ⊎_elim
@@ -67,7 +59,7 @@ chunk_of_object ks a o =
     (λ (l : length ks ≤ place_of ks a.chunk). absurd (rw (cell_of-none ks a l) at o))
     (cases_lt (place_of ks a.chunk) (length ks))
 
--- what bears its birth name is an object
+-- what has a birth name is an object
 pub born_object : (ks : List ChunkValue) (a : Addr) → IsBorn (cell_of ks a).mark → IsObject (cell_of ks a).mark
 born_object ks a h = object_of_born (cell_of ks a).mark h
 
@@ -80,7 +72,7 @@ marked_is Hole c e o = absurd (rw (← e) at o)
 pub object_is : (ks : List ChunkValue) (a : Addr) → IsObject (cell_of ks a).mark → object_of ks a ≡ cell_of ks a
 object_is ks a o = marked_is (cell_of ks a).mark (cell_of ks a) refl o
 
--- no object lies at an address, or one does
+-- there is no object at an address, or there is one
 marked_cases : (m : Mark) (c : Cell) → m ≡ c.mark → IsObject c.mark ⊎ (as_object c ≡ no_cell)
 marked_cases (Born b) c e = inl (rw (← e) tt)
 marked_cases (Moved to) c e = inl (rw (← e) tt)
@@ -111,7 +103,7 @@ same_addr x y e f =
     let two : record { chunk = y.chunk; offset = x.offset } ≡ y = ap (λ (n : ℕ). let r : Addr = record { chunk = y.chunk; offset = n } in r) f in
     one ∙ two
 
--- two addresses are one, or not
+-- two addresses are equal or not
 pub addr_cases : (a b : Addr) → (a ≡ b) ⊎ (a ≢ b)
 addr_cases a b = elim (cases_eq a.chunk b.chunk) [
   | inl e ↦ elim (cases_eq a.offset b.offset) [
@@ -121,7 +113,7 @@ addr_cases a b = elim (cases_eq a.chunk b.chunk) [
   | inr n ↦ inr (λ h. n (ap (λ (x : Addr). x.chunk) h))
 ]
 
--- other addresses stay, where the cell put there is as large as the old one
+-- other addresses are unchanged if the cell put there is as large as the old one
 pub cell_of-put_other : (ks : List ChunkValue) (a b : Addr) (c : Cell) → size_of c ≡ size_of (cell_of ks a) → b ≢ a →
     cell_of (put_object ks a c) b ≡ cell_of ks b
 cell_of-put_other [] a b c s ne = refl
@@ -141,7 +133,7 @@ cell_of-put_other (k ∷ ks) a b c s ne =
     (cases_Bool (eqb k.number b.chunk))))
     (cases_Bool (eqb k.number a.chunk))
 
--- what is put where an object lies is read
+-- what is put at an object's address is read there
 pub cell_of-put_same : (ks : List ChunkValue) (a : Addr) (c : Cell) → IsObject (cell_of ks a).mark → cell_of (put_object ks a c) a ≡ c
 cell_of-put_same [] a c o = absurd o
 cell_of-put_same (k ∷ ks) a c o =
@@ -150,7 +142,7 @@ cell_of-put_same (k ∷ ks) a c o =
     (λ (e : eqb k.number a.chunk ≡ false). let p = rw e at o in rw (e, e) (cell_of-put_same ks a c p))
     (cases_Bool (eqb k.number a.chunk))
 
--- what was put is there, or no object or hole is
+-- what was put is there, or there is neither an object nor a hole
 cell_put : (cs : List Cell) (at : ℕ) (c : Cell) → (cell_at (put_cell cs at c) at ≡ c) ⊎ ((cell_at (put_cell cs at c) at ≡ cell_at cs at) × (cell_at cs at ≡ no_cell))
 cell_put cs at c =
     elim (place.cell_or_none cs at) [
@@ -166,7 +158,7 @@ put_cases (k ∷ ks) a c =
     (λ (e : eqb k.number a.chunk ≡ false). rw (e, e) (put_cases ks a c))
     (cases_Bool (eqb k.number a.chunk))
 
--- marks stay, where the cell put there bears the same one and is as large
+-- marks are unchanged if the cell put there has the same mark and size
 pub mark_put : (h : List ChunkValue) (x : Addr) (c : Cell) → c.mark ≡ (cell_of h x).mark → size_of c ≡ size_of (cell_of h x) → (a : Addr) → (cell_of (put_object h x c) a).mark ≡ (cell_of h a).mark
 mark_put h x c m s a =
     elim (addr_cases x a) [
@@ -196,7 +188,7 @@ pub refs-put_other : (ks : List ChunkValue) (a b : Addr) (k : ℕ) (r : Option A
 refs-put_other ks a b k r ne =
     ap (λ (c : Cell). c.refs) (object_of-put_other ks a b (with_ref (cell_of ks a) k r) (place.size_of-with_ref (cell_of ks a) k r) ne)
 
--- no chunk is moved by a put
+-- a put moves no chunk
 pub place_of-put : (ks : List ChunkValue) (a : Addr) (c : Cell) (n : ℕ) → place_of (put_object ks a c) n ≡ place_of ks n
 place_of-put [] a c n = refl
 place_of-put (k ∷ ks) a c n =

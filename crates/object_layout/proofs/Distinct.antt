@@ -1,14 +1,9 @@
--- Lists in which no address stands twice.
-use Rattle.std.proofs.Common.{◌≡◌, ℕ, zero, suc, ◌==◌, true, false, List, [], ◌∷◌, ◌++◌, take, Contains, inl, inr, refl, ap, sym, subst}
-use Rattle.std.specs.List.{AllByRecursion, IsDistinct}
-use Rattle.std.proofs.lemmas.Bool.{and_from, and_parts, both_ways, eq-eqb, eqb-true, false_from_ne_true}
-use Rattle.listed.proofs.Members.{In, contains_from_in, in_append_cases, in_from_contains}
-use Rattle.listed.proofs.Places.{in_take}
-use Rattle.object_layout.specs.declared.word.Addr.{Addr}
-use Rattle.object_layout.specs.Chunks.{same_address}
+-- Lists of distinct addresses.
+use Rattle.object_layout.proofs.Common.{◌≡◌, ℕ, zero, suc, ◌==◌, true, false, List, [], ◌∷◌, ◌++◌, take, Contains, inl, inr, refl, ap, sym, subst, AllByRecursion, and_from, and_parts, both_ways, eq-eqb, eqb-true, false_from_ne_true, In, contains_from_in, in_append_cases, in_from_contains, in_take, Addr, same_address}
+use Rattle.std.specs.List.{IsDistinct}
 use Rattle.object_layout.proofs.ChunkLaws.{same_addr}
 
--- told by what stands in the list
+-- by the members of the list
 abbrev pub Once : List Addr → Type 0
 Once [] = Unit {0}
 Once (x ∷ xs) = (Contains xs x → ⊥) × Once xs
@@ -54,7 +49,7 @@ once_push (x ∷ xs) a o n = (
   once_push xs a o.1 (λ i. n (inr i)),
 )
 
--- the first so many of them
+-- the first n of them
 once_take : (n : ℕ) (xs : List Addr) → Once xs → Once (take n xs)
 once_take zero xs o = tt
 once_take (suc n) [] o = tt

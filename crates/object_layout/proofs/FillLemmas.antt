@@ -1,16 +1,10 @@
 -- Fields that are written one after another into an object.
-use Rattle.std.proofs.Common.{◌≡◌, ℕ, ℤ, zero, suc, ◌+◌, ◌<◌, ◌≤◌, Option, List, [], ◌∷◌, ◌++◌, length, take, drop, get_or, slice_set, refl, ap, sym, subst, ◌∙◌, arith, length-append, length-drop}
-use Rattle.std.proofs.lemmas.List.{length-take-le}
-use Rattle.object_layout.specs.declared.word.Addr.{Addr}
-use Rattle.object_layout.specs.Cell.{Cell, IsObject, with_int, with_ints, with_ref, with_refs}
-use Rattle.object_layout.specs.Chunks.{with_cell}
-use Rattle.object_layout.specs.ChunkValue.{ChunkValue}
-use Rattle.object_layout.specs.Place.{IsObjectAt, cell_at, object_at, words_in}
+use Rattle.object_layout.proofs.Common.{◌≡◌, ℕ, ℤ, zero, suc, ◌+◌, ◌<◌, ◌≤◌, Option, List, [], ◌∷◌, ◌++◌, length, take, drop, get_or, slice_set, refl, ap, sym, subst, ◌∙◌, arith, length-append, length-drop, length-take-le, Addr, Cell, IsObject, with_int, with_ints, with_ref, with_refs, with_cell, ChunkValue, IsObjectAt, cell_at, object_at, words_in}
 use Rattle.object_layout.proofs.PlaceLemmas as place
 
 -- ---- lists
 
--- one field more
+-- one more field
 set_seam : {A : Type 0} (xs ys : List A) (k : ℕ) (v : A) → v ≡ get_or xs k v → k < length xs → k < length ys → slice_set (take k xs ++ drop k ys) k v ≡ take (suc k) xs ++ drop (suc k) ys
 set_seam [] ys k v e l lt = absurd (omega arith)
 set_seam (x ∷ xs) [] k v e l lt = absurd (omega arith)
@@ -30,7 +24,7 @@ take_all (x ∷ xs) (y ∷ ys) (suc k) e f = ap (λ zs. x ∷ zs) (take_all xs y
 
 -- ---- an object's fields
 
--- the first fields are these, and the others are as they were
+-- the first fields are these, and the others are unchanged
 abbrev pub refs_filled : ChunkValue → ℕ → List (Option Addr) → ℕ → ChunkValue
 refs_filled c a refs k = with_cell c a (with_refs (cell_at c.cells a) (take k refs ++ drop k (cell_at c.cells a).refs))
 

@@ -1,16 +1,7 @@
--- Words that hold objects: what is read from them, and what a write leaves.
-use Rattle.std.proofs.Common.{◌≡◌, ℕ, zero, suc, ◌+◌, ◌-◌, ◌<◌, ◌≤◌, ◌^◌, List, [], ◌∷◌, ◌++◌, length, take, drop, get_or, set, refl, sym, ap, ◌∙◌, arith, rules, length-set, subst}
-use Rattle.std.specs.Prelude.{replicate, map, None, pos, false, FitsSigned}
-use Rattle.std.specs.Int.{w64, cast_unsigned}
-use Rattle.std.proofs.lemmas.List.{append-nil, drop-take, drop_at, get_or-take, length-replicate, length-take-le, replicate-append-replicate, take-take, take_at}
-use Rattle.std.proofs.lemmas.List.Elements.{All-push, All-replicate, All-nil}
-use Rattle.std.proofs.lemmas.List.Concat.{flat_map-append}
-use Rattle.object_layout.specs.declared.word.Birth.{Birth}
-use Rattle.object_layout.specs.declared.word.Header.{Header}
-use Rattle.object_layout.specs.Cell.{Cell, IsCell, size_of, new_cell, IsRef}
-use Rattle.object_layout.specs.Layout.{words_of_cell, header_word, word_of_birth, word_of_ref}
-use Rattle.object_layout.specs.Place.{words_in, IsCellAt, cell_at, put_cell}
-use Rattle.object_layout.specs.ChunkValue.{ChunkValue, HoldsCells, cells_in}
+-- Words that hold objects: what is read from them, and what a write leaves unchanged.
+use Rattle.std.proofs.Common.{length-set}
+use Rattle.object_layout.proofs.Common.{◌≡◌, ℕ, zero, suc, ◌+◌, ◌-◌, ◌<◌, ◌≤◌, ◌^◌, List, [], ◌∷◌, ◌++◌, length, take, drop, get_or, set, refl, sym, ap, ◌∙◌, arith, rules, subst, replicate, map, None, pos, false, FitsSigned, w64, cast_unsigned, append-nil, drop-take, drop_at, get_or-take, length-replicate, length-take-le, replicate-append-replicate, take-take, take_at, All-push, All-replicate, All-nil, flat_map-append, Birth, Header, Cell, IsCell, size_of, new_cell, IsRef, header_word, word_of_birth, word_of_ref, words_in, IsCellAt, cell_at, put_cell, ChunkValue, HoldsCells, cells_in}
+use Rattle.object_layout.specs.Layout.{words_of_cell}
 use Rattle.object_layout.proofs.WordLemmas.{length-words_of_cell, cells_of_words-words_of_cells}
 use Rattle.object_layout.proofs.PlaceLemmas.{length-words_of_cells, cell_ends, get_or-words_of_cells, around, set_middle, All-cell_at, All-put_cell}
 
@@ -101,7 +92,7 @@ module _ (ws : List ℕ) (used : ℕ) (cs : List Cell) (h : HoldsCells ws used c
           sized = rw (length-set, length-set) h.sized;
         }
 
-  -- one object more, where its words are written past the others
+  -- one more object, if its words are written after the others
   pub held_push : (vs : List ℕ) (c : Cell) → IsCell c → take (used + size_of c) vs ≡ take used ws ++ words_of_cell c → used + size_of c ≤ length vs → length vs < 2 ^ 32 →
       HoldsCells vs (used + size_of c) (cs ++ c ∷ [])
   held_push vs c ok e room sized = record {
@@ -111,7 +102,7 @@ module _ (ws : List ℕ) (used : ℕ) (cs : List Cell) (h : HoldsCells ws used c
     sized = sized;
   }
 
--- the words of an object as it is made
+-- the words of a new object
 map-replicate : {A B : Type 0} (f : A → B) (n : ℕ) (x : A) → map f (replicate n x) ≡ replicate n (f x)
 map-replicate f zero x = refl
 map-replicate f (suc n) x = ap (λ ys. f x ∷ ys) (map-replicate f n x)
@@ -205,7 +196,7 @@ IsCell-new h b refs ints task count = record {
     zero_fits : FitsSigned w64 (pos 0)
     zero_fits = search rules
 
--- the words of an object, as a part of all
+-- the words of an object, as a part of all words
 pub held_part : (ws : List ℕ) (used : ℕ) (cs : List Cell) (h : HoldsCells ws used cs) (at : ℕ) (o : IsCellAt cs at) →
     take (size_of (cell_at cs at)) (drop at ws) ≡ words_of_cell (cell_at cs at)
 held_part ws used cs h at o =

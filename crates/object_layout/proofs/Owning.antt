@@ -1,14 +1,5 @@
--- A chunk is found by its number exactly where the list has it.
-use Rattle.std.proofs.Common.{◌≡◌, ℕ, suc, ◌+◌, Bool, true, false, cond, ◌||◌, List, [], ◌∷◌, ◌++◌, length, refl, sym, ap, ap₂, ◌∙◌, inl, inr, eqb, arith, Some, None}
-use Rattle.std.specs.Prelude.{is_some, nat_lt, ◌↔◌}
-use Rattle.std.specs.List.{list_any}
-use Rattle.std.proofs.lemmas.Bool.{cases_Bool, eq-eqb, false≢true, lt-ltb, ne_eqb, or_from, or_parts}
-use Rattle.std.proofs.lemmas.List.Folds.{list_any-append}
-use Rattle.std.proofs.Math.Bool.{or-false, or-true}
-use Rattle.listed.proofs.Options.{none_of}
-use Rattle.object_layout.specs.ChunkValue.{ChunkValue}
-use Rattle.object_layout.specs.Laws.{ApartTogether}
-use Rattle.object_layout.specs.Chunks.{has_chunk, place_in, place_of, AreApart, IsFresh}
+-- A chunk is found by its number if and only if the list has it.
+use Rattle.object_layout.proofs.Common.{◌≡◌, ℕ, suc, ◌+◌, Bool, true, false, cond, ◌||◌, List, [], ◌∷◌, ◌++◌, length, refl, sym, ap, ap₂, ◌∙◌, inl, inr, eqb, arith, Some, None, is_some, nat_lt, ◌↔◌, list_any, cases_Bool, eq-eqb, false≢true, lt-ltb, ne_eqb, or_from, or_parts, list_any-append, or-false, or-true, none_of, ChunkValue, ApartTogether, has_chunk, place_in, place_of, HaveDistinctNumbers, IsFresh}
 
 -- the list's length stands for none
 has_by_place : (ks : List ChunkValue) (n : ℕ) → nat_lt (place_of ks n) (length ks) ≡ list_any (λ k. eqb k.number n) ks
@@ -32,7 +23,7 @@ found_any ks n = some_by (nat_lt (place_of ks n) (length ks)) (place_of ks n) �
 pub fresh_none : (ks : List ChunkValue) (n : ℕ) → IsFresh ks n ↔ (has_chunk ks n ≡ false)
 fresh_none ks n = ((λ e. ap is_some e), (λ e. none_of (place_in ks n) e))
 
--- a list followed by another has the chunks of both
+-- a concatenation has the chunks of both lists
 pub has_append : (ks ls : List ChunkValue) (n : ℕ) → has_chunk (ks ++ ls) n ≡ (has_chunk ks n || has_chunk ls n)
 has_append ks ls n =
     found_any (ks ++ ls) n
@@ -55,8 +46,8 @@ apart_together (k ∷ ks) ls A B off = (
   apart_together ks ls A.1 B (λ n e. off n (any_rest k ks n e)),
 )
 
--- chunks stay apart where a fresh one is put behind them
-pub apart_more : (ks : List ChunkValue) (k : ChunkValue) → AreApart ks → has_chunk ks k.number ≡ false → AreApart (ks ++ k ∷ [])
+-- chunks stay distinct if a fresh one is added
+pub apart_more : (ks : List ChunkValue) (k : ChunkValue) → HaveDistinctNumbers ks → has_chunk ks k.number ≡ false → HaveDistinctNumbers (ks ++ k ∷ [])
 apart_more [] k A f = ((fresh_none [] k.number).1 refl, tt)
 apart_more (x ∷ xs) k A f =
     let both : (eqb x.number k.number || list_any (λ y. eqb y.number k.number) xs) ≡ false = sym (found_any (x ∷ xs) k.number) ∙ f in

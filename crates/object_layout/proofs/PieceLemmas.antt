@@ -1,14 +1,5 @@
--- The immutable objects of a chunk: in order, and each where a cell begins.
-use Rattle.std.proofs.Common.{◌≡◌, ◌≢◌, ℕ, zero, suc, ◌+◌, ◌-◌, ◌<◌, ◌≤◌, Bool, true, false, List, [], ◌∷◌, length, get_or, refl, sym, ap, ◌∙◌, arith, Option, Some, None, eqb, inl, inr}
-use Rattle.std.specs.Prelude.{map, is_some, Result, Ok, Err, is_ok}
-use Rattle.std.specs.Ordering.{nat_cmp}
-use Rattle.std.proofs.lemmas.Bool.{cases_Bool, cases_lt, eq-eqb, eqb-true, ne_eqb}
-use Rattle.std.proofs.lemmas.List.Sorted.{searched}
-use Rattle.std.specs.List.Sorted.{IsBinarySearchResult}
-use Rattle.std.proofs.lemmas.Option.{same_Some}
-use Rattle.object_layout.specs.Cell.{Born, Cell, Hole, IsObject, Mark, Moved, size_of}
-use Rattle.object_layout.specs.Place.{IsObjectAt, cell_at, object_at}
-use Rattle.object_layout.specs.Piece.{frozen_at, frozen_from, is_frozen, lasts, or_no_cell, starts_from, starts_in}
+-- The immutable objects of a chunk: in order, each at the beginning of a cell.
+use Rattle.object_layout.proofs.Common.{◌≡◌, ◌≢◌, ℕ, zero, suc, ◌+◌, ◌-◌, ◌<◌, ◌≤◌, Bool, true, false, List, [], ◌∷◌, length, get_or, refl, sym, ap, ◌∙◌, arith, Option, Some, None, eqb, inl, inr, map, is_some, Result, Ok, Err, is_ok, nat_cmp, cases_Bool, cases_lt, eq-eqb, eqb-true, ne_eqb, searched, IsBinarySearchResult, same_Some, Born, Cell, Hole, IsObject, Mark, Moved, size_of, IsObjectAt, cell_at, object_at, frozen_at, frozen_from, is_frozen, lasts, or_no_cell, starts_from, starts_in}
 use Rattle.object_layout.proofs.PlaceLemmas as place
 
 -- none begins before the first cell
@@ -24,7 +15,7 @@ least (c ∷ cs) at i l =
       | inr e ↦ rw e (omega (arith, least cs (at + size_of c) i (rw e at l)))
     ]
 
--- they begin one behind the other
+-- they begin one after the other
 rising_first : (at : ℕ) (rest : List ℕ) → ((j : ℕ) → j < length rest → at ≤ get_or rest j 0) → ((i j : ℕ) → i ≤ j → j < length rest → get_or rest i 0 ≤ get_or rest j 0) →
     (i j : ℕ) → i ≤ j → j < length (at ∷ rest) → get_or (at ∷ rest) i 0 ≤ get_or (at ∷ rest) j 0
 rising_first at rest later up zero zero le l = omega arith
@@ -49,7 +40,7 @@ starts_rise cs i j le l = rising cs 0 i j le l
 abbrev starts : List (ℕ × Cell) → List ℕ
 starts os = map (λ (o : ℕ × Cell). o.0) os
 
--- where one begins, it is found
+-- an object that begins at an offset is found
 pub found_there : (os : List (ℕ × Cell)) (i offset : ℕ) → i < length (starts os) → get_or (starts os) i 0 ≡ offset → is_some (frozen_at os offset) ≡ true
 found_there [] i offset l e = absurd (omega arith)
 found_there (o ∷ os) zero offset l e = rw (eq-eqb o.0 offset e) refl
@@ -59,7 +50,7 @@ found_there (o ∷ os) (suc i) offset l e =
       | inr b ↦ rw b (found_there os i offset (omega arith) e)
     ]
 
--- where none begins, none is
+-- if none begins at an offset, none is found
 pub found_nowhere : (os : List (ℕ × Cell)) (offset : ℕ) → ((i : ℕ) → i < length (starts os) → get_or (starts os) i 0 ≢ offset) → is_some (frozen_at os offset) ≡ false
 found_nowhere [] offset none = refl
 found_nowhere (o ∷ os) offset none = rw (ne_eqb o.0 offset (none 0 (omega arith))) (found_nowhere os offset (λ i l. none (suc i) (omega arith)))
@@ -99,7 +90,7 @@ lies_there (k ∷ cs) at offset c e =
       | inr b ↦ past k cs at offset c (lies_there cs (at + size_of k) offset c (rw b at e))
     ]
 
--- an object that is found, as a reading of the chunk has it
+-- an object that is found, as it is read from the chunk
 pub record IsFound (cs : List Cell) (offset : ℕ) (o : Option Cell) : Type 0 where
   pub there : IsObjectAt cs offset
   pub is : o ≡ Some (object_at cs offset)

@@ -1,17 +1,9 @@
--- Objects by their offsets: laws of the list of objects, and where their words lie.
-use Rattle.object_layout.specs.declared.word.Addr.{Addr}
-use Rattle.std.proofs.Common.{◌≡◌, ℕ, zero, suc, ◌+◌, ◌-◌, ◌<◌, ◌≤◌, List, [], ◌∷◌, ◌++◌, length, map, get_or, set, refl, sym, ap, ◌∙◌, arith, length-append, ⊎_elim, inl, inr, ◌⊎◌, length-set}
-use Rattle.std.specs.Prelude.{All, ◌≢◌, nat_le, if◌then◌else◌, Option, ℤ, slice_set}
-use Rattle.std.proofs.lemmas.List.{append_assoc, get_or-append_right, get_or_append_left, set-append_left, set-append_right}
-use Rattle.std.proofs.lemmas.List.Elements.{All-head, All-tail, All-cons}
-use Rattle.std.proofs.lemmas.Bool.{le-leb, lt-leb, cases_lt, cond_both}
-use Rattle.object_layout.specs.Cell.{Cell, Mark, Born, Moved, Hole, IsBorn, IsObject, as_object, marked_object, no_cell, size_of, with_int, with_ref}
-use Rattle.object_layout.specs.Layout.{words_of_cell, words_of_cells}
-use Rattle.object_layout.specs.Place.{words_in, IsCellAt, IsObjectAt, cell_at, cells_from, object_at, put_cell}
+-- Objects by their offsets: laws of the list of objects, and where their words are.
+use Rattle.std.proofs.Common.{length-set}
+use Rattle.object_layout.proofs.Common.{◌≡◌, ℕ, zero, suc, ◌+◌, ◌-◌, ◌<◌, ◌≤◌, List, [], ◌∷◌, ◌++◌, length, map, get_or, set, refl, sym, ap, ◌∙◌, arith, length-append, ⊎_elim, inl, inr, ◌⊎◌, All, ◌≢◌, nat_le, if◌then◌else◌, Option, ℤ, slice_set, append_assoc, get_or-append_right, get_or_append_left, set-append_left, set-append_right, All-head, All-tail, All-cons, le-leb, lt-leb, cases_lt, cond_both, Addr, Cell, Mark, Born, Moved, Hole, IsBorn, IsObject, as_object, marked_object, no_cell, size_of, with_int, with_ref, words_of_cell, words_of_cells, words_in, IsCellAt, IsObjectAt, cell_at, cells_from, object_at, put_cell, Birth}
 use Rattle.object_layout.proofs.WordLemmas.{length-words_of_cell}
-use Rattle.object_layout.specs.declared.word.Birth.{Birth}
 
--- ---- where the words of an object lie
+-- ---- where the words of an object are
 
 pub length-words_of_cells : (cs : List Cell) → length (words_of_cells cs) ≡ words_in cs
 length-words_of_cells [] = refl
@@ -46,7 +38,7 @@ get_or-words_of_cells (c ∷ cs) (suc n) k d h l =
     let e : suc n + k - size_of c ≡ (suc n - size_of c) + k = omega arith in
     past ∙ rw e (get_or-words_of_cells cs (suc n - size_of c) k d h.1 m))
 
--- the words round those of the object at an offset
+-- the words around those of the object at an offset
 pub record AroundAt (cs : List Cell) (at : ℕ) (before after : List ℕ) : Type 0 where
   pub starts : length before ≡ at
   pub holds : words_of_cells cs ≡ before ++ (words_of_cell (cell_at cs at) ++ after)
@@ -101,7 +93,7 @@ cell_at-put_same [] at d h = absurd h
 cell_at-put_same (c ∷ cs) zero d h = refl
 cell_at-put_same (c ∷ cs) (suc n) d h = rw (le-leb (size_of c) (suc n) h.0) (cell_at-put_same cs (suc n - size_of c) d h.1)
 
--- where the new object has the old one's size, objects lie where they lay
+-- if the new object has the old one's size, objects stay where they are
 pub IsCellAt-put : (cs : List Cell) (at p : ℕ) (d : Cell) → size_of d ≡ size_of (cell_at cs at) → IsCellAt cs p → IsCellAt (put_cell cs at d) p
 IsCellAt-put [] at p d s h = absurd h
 IsCellAt-put (c ∷ cs) zero zero d s h = tt
@@ -115,7 +107,7 @@ IsCellAt-put (c ∷ cs) (suc n) (suc m) d s h =
     rw t (h.0, IsCellAt-put cs (suc n - size_of c) (suc m - size_of c) d (rw t at s) h.1))
     (cases_lt (suc n) (size_of c))
 
--- other places stay
+-- other offsets are unchanged
 pub cell_at-put_other : (cs : List Cell) (at p : ℕ) (d : Cell) → size_of d ≡ size_of (cell_at cs at) → p ≢ at →
     cell_at (put_cell cs at d) p ≡ cell_at cs p
 cell_at-put_other [] at p d s ne = refl
@@ -136,7 +128,7 @@ cell_at-put_other (c ∷ cs) (suc n) (suc m) d s ne =
     (cases_lt (suc m) (size_of c))))
     (cases_lt (suc n) (size_of c))
 
--- where no object begins, nothing is put
+-- if no object begins at an offset, nothing is put
 pub put_nowhere : (cs : List Cell) (at : ℕ) (d : Cell) → (IsCellAt cs at → ⊥) → put_cell cs at d ≡ cs
 put_nowhere [] at d h = refl
 put_nowhere (c ∷ cs) zero d h = absurd (h tt)
@@ -161,7 +153,7 @@ cell_or_none (c ∷ cs) (suc n) =
     (cell_or_none cs (suc n - size_of c))))
     (cases_lt (suc n) (size_of c))
 
--- what is told of each cell stays where one is put in the place of another of which the same is told
+-- a function of each cell is unchanged if the cell that is replaced has the same value
 pub map-put_cell : {B : Type 0} (told : Cell → B) (cs : List Cell) (at : ℕ) (d : Cell) → told d ≡ told (cell_at cs at) → map told (put_cell cs at d) ≡ map told cs
 map-put_cell told [] at d s = refl
 map-put_cell told (c ∷ cs) zero d s = ap (λ z. z ∷ map told cs) s
@@ -173,7 +165,7 @@ map-put_cell told (c ∷ cs) (suc n) d s =
           rw t (ap (λ zs. told c ∷ zs) (map-put_cell told cs (suc n - size_of c) d (rw t at s)))
     ]
 
--- and so does a total of them, where each adds a weight of its own
+-- and so is a total of weights
 pub total-put_cell : (weight : Cell → ℕ) (total : List Cell → ℕ) → ((c : Cell) (cs : List Cell) → total (c ∷ cs) ≡ weight c + total cs) → (cs : List Cell) (at : ℕ) (d : Cell) → weight d ≡ weight (cell_at cs at) → total (put_cell cs at d) ≡ total cs
 total-put_cell weight total adds [] at d s = refl
 total-put_cell weight total adds (c ∷ cs) zero d s = adds d cs ∙ (ap (λ n. n + total cs) s ∙ sym (adds c cs))
@@ -188,7 +180,7 @@ total-put_cell weight total adds (c ∷ cs) (suc n) d s =
 pub words_in-put : (cs : List Cell) (at : ℕ) (d : Cell) → size_of d ≡ size_of (cell_at cs at) → words_in (put_cell cs at d) ≡ words_in cs
 words_in-put = total-put_cell size_of words_in (λ c cs. refl)
 
--- ---- one object more
+-- ---- one more object
 
 pub words_in-push : (cs : List Cell) (d : Cell) → words_in (cs ++ d ∷ []) ≡ words_in cs + size_of d
 words_in-push [] d = omega arith
@@ -217,7 +209,7 @@ pub cell_at-last : (cs : List Cell) (d : Cell) → cell_at (cs ++ d ∷ []) (wor
 cell_at-last [] d = refl
 cell_at-last (c ∷ cs) d = cell_at-past c (cs ++ d ∷ []) (words_in cs) _ refl ∙ cell_at-last cs d
 
--- where the new cell doesn't begin nothing has changed
+-- except where the new cell begins, nothing has changed
 pub cell_at-push_other : (cs : List Cell) (d : Cell) (p : ℕ) → p ≢ words_in cs → cell_at (cs ++ d ∷ []) p ≡ cell_at cs p
 cell_at-push_other [] d zero ne = absurd (ne refl)
 cell_at-push_other [] d (suc n) ne =
@@ -290,7 +282,7 @@ put_cell-put_cell (c ∷ cs) (suc n) d e =
     rw (le-leb (size_of c) (suc n) within) (ap (λ (xs : List Cell). c ∷ xs) (put_cell-put_cell cs (suc n - size_of c) d e)))
     (cases_lt (suc n) (size_of c))
 
--- to put the object that is there changes nothing
+-- putting the object that is there changes nothing
 pub put_cell-itself : (cs : List Cell) (at : ℕ) → put_cell cs at (cell_at cs at) ≡ cs
 put_cell-itself [] at = refl
 put_cell-itself (c ∷ cs) zero = refl
@@ -303,7 +295,7 @@ put_cell-itself (c ∷ cs) (suc n) =
 
 -- ---- objects
 
--- where an object lies, a cell begins, and the object is that cell
+-- where an object is, a cell begins, and the object is that cell
 pub cell_of_object : (cs : List Cell) (at : ℕ) → IsObjectAt cs at → IsCellAt cs at
 cell_of_object cs at h =
     ⊎_elim (λ (o : IsCellAt cs at). o)
@@ -321,7 +313,7 @@ object_of_born (Born b) h = tt
 object_of_born (Moved to) h = absurd h
 object_of_born Hole h = absurd h
 
--- what bears its birth name is an object
+-- what has a birth name is an object
 pub object_when_born : (cs : List Cell) (at : ℕ) → IsBorn (cell_at cs at).mark → IsObjectAt cs at
 object_when_born cs at h = object_of_born (cell_at cs at).mark h
 
@@ -338,7 +330,7 @@ marked_cases (Born b) c = inl tt
 marked_cases (Moved to) c = inl tt
 marked_cases Hole c = inr refl
 
--- an object lies at an offset, or none does
+-- there is an object at an offset, or none
 pub object_or_none : (cs : List Cell) (at : ℕ) → IsObjectAt cs at ⊎ (object_at cs at ≡ no_cell)
 object_or_none cs at = marked_cases (cell_at cs at).mark (cell_at cs at)
 
@@ -358,7 +350,7 @@ object_with_int cs at k l =
 pub IsObjectAt-put_same : (cs : List Cell) (at : ℕ) (d : Cell) → IsCellAt cs at → IsObject d.mark → IsObjectAt (put_cell cs at d) at
 IsObjectAt-put_same cs at d o h = rw (cell_at-put_same cs at d o) h
 
--- ---- what calls make of the object at an offset
+-- ---- how calls change the object at an offset
 
 pub size_of-with_ref : (c : Cell) (k : ℕ) (r : Option Addr) → size_of (with_ref c k r) ≡ size_of c
 size_of-with_ref c k r = simp length-set
@@ -372,7 +364,7 @@ marked_refs (Born b) c k r = refl
 marked_refs (Moved to) c k r = refl
 marked_refs Hole c k r = refl
 
--- one reference written: that of the object, where one lies
+-- one reference written: that of the object, if there is one
 pub refs-put_same : (cs : List Cell) (at k : ℕ) (r : Option Addr) →
     (object_at (put_cell cs at (with_ref (cell_at cs at) k r)) at).refs ≡ slice_set (object_at cs at).refs k r
 refs-put_same cs at k r =

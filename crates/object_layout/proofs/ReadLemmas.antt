@@ -1,17 +1,6 @@
--- What the words of an object tell.
-use Rattle.std.proofs.Common.{◌≡◌, ℕ, suc, ◌+◌, ◌-◌, ◌<◌, ◌≤◌, ◌^◌, Bool, true, false, length, get_or, eqb, refl, sym, ap, ◌∙◌, arith, Some, None, Option}
-use Rattle.std.specs.Prelude.{map, pos, slice_get, slice_index, FitsSigned, IsTrue, ◌↔◌, not, ◌≢◌}
-use Rattle.std.specs.Int.{w64, cast_unsigned, cast_signed}
-use Rattle.std.proofs.lemmas.List.{get_or_append_left, get_or-map, length-map, get_or-append_right}
-use Rattle.std.proofs.lemmas.List.Elements.{All-get_or}
-use Rattle.std.proofs.lemmas.Bool.{eq-eqb, ne_eqb}
-use Rattle.std.proofs.lemmas.Int.{to_z-of_z}
-use Rattle.std.proofs.lemmas.Option.{slice_get-get_or}
-use Rattle.object_layout.specs.declared.word.Addr.{Addr}
-use Rattle.object_layout.specs.declared.word.Header.{Header}
-use Rattle.object_layout.specs.Cell.{Cell, Mark, Born, Moved, Hole, IsCell, IsMark, IsPlace, IsRef, IsBorn, IsObject, moved_to, header_of}
-use Rattle.object_layout.specs.Layout.{words_of_cell, word_of_ref, word_of_mark, header_word, is_gone, nrefs_of, nints_of, mutable_of, gone_of, ref_of_word, birth_of_word}
-use Rattle.object_layout.specs.Piece.{lasts}
+-- What the words of an object mean.
+use Rattle.object_layout.proofs.Common.{◌≡◌, ℕ, suc, ◌+◌, ◌-◌, ◌<◌, ◌≤◌, ◌^◌, Bool, true, false, length, get_or, eqb, refl, sym, ap, ◌∙◌, arith, Some, None, Option, map, pos, slice_get, slice_index, FitsSigned, IsTrue, ◌↔◌, not, ◌≢◌, w64, cast_unsigned, cast_signed, get_or_append_left, get_or-map, length-map, get_or-append_right, All-get_or, eq-eqb, ne_eqb, to_z-of_z, slice_get-get_or, Addr, Header, Cell, Mark, Born, Moved, Hole, IsCell, IsMark, IsPlace, IsRef, IsBorn, IsObject, moved_to, header_of, word_of_ref, word_of_mark, header_word, is_gone, nrefs_of, nints_of, mutable_of, gone_of, ref_of_word, birth_of_word, lasts}
+use Rattle.object_layout.specs.Layout.{words_of_cell}
 use Rattle.object_layout.proofs.WordLemmas.{nrefs_of-header_word, nints_of-header_word, mutable_of-header_word, gone_of-header_word, ref_of_word-word_of_ref, word_of_ref-lt, birth_of_word-word_of_birth}
 
 pub header_is : (c : Cell) → get_or (words_of_cell c) 0 0 ≡ header_word (length c.refs) (length c.ints) c.mutable (is_gone c.mark)

@@ -1,14 +1,6 @@
 -- What is written as words is read from them.
-use Rattle.std.proofs.Common.{◌≡◌, ℕ, ◌+◌, ◌*◌, ◌/◌, ◌%◌, ◌^◌, ◌<◌, ◌≤◌, Bool, true, false, List, [], ◌∷◌, ◌++◌, Option, Some, None, length, map, take, drop, refl, ap, arith, add-one, one-add, length-append}
-use Rattle.std.specs.Prelude.{All, FitsSigned}
-use Rattle.std.specs.Int.{w64, cast_signed, cast_unsigned}
-use Rattle.std.proofs.lemmas.List.{append_assoc, take_at, drop_at, length-map}
-use Rattle.std.proofs.lemmas.List.Elements.{All-head, All-tail}
-use Rattle.std.proofs.lemmas.Int.{to_z-of_z}
-use Rattle.object_layout.specs.declared.word.Addr.{Addr}
-use Rattle.object_layout.specs.declared.word.Birth.{Birth}
-use Rattle.object_layout.specs.Cell.{Cell, Mark, Born, Moved, Hole, IsRef, IsMark, IsCell, size_of}
-use Rattle.object_layout.specs.Layout.{ref_of_word, birth_of_word, mark_of_word, mark_of_ref, nrefs_of, nints_of, mutable_of, gone_of, cell_of_words, cells_of_words, word_of_ref, word_of_birth, word_of_mark, is_gone, header_word, words_of_cell, words_of_cells}
+use Rattle.object_layout.proofs.Common.{◌≡◌, ℕ, ◌+◌, ◌*◌, ◌/◌, ◌%◌, ◌^◌, ◌<◌, ◌≤◌, Bool, true, false, List, [], ◌∷◌, ◌++◌, Option, Some, None, length, map, take, drop, refl, ap, arith, add-one, one-add, length-append, All, FitsSigned, w64, cast_signed, cast_unsigned, append_assoc, take_at, drop_at, length-map, All-head, All-tail, to_z-of_z, Addr, Birth, Cell, Mark, Born, Moved, Hole, IsRef, IsMark, IsCell, size_of, ref_of_word, birth_of_word, mark_of_word, mark_of_ref, nrefs_of, nints_of, mutable_of, gone_of, word_of_ref, word_of_birth, word_of_mark, is_gone, header_word, words_of_cells}
+use Rattle.object_layout.specs.Layout.{cell_of_words, cells_of_words, words_of_cell}
 
 -- ---- single words
 

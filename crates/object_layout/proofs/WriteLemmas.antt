@@ -1,13 +1,7 @@
--- What a write makes of the words of an object.
-use Rattle.std.proofs.Common.{◌≡◌, ℕ, suc, ◌+◌, ◌-◌, ◌*◌, ◌<◌, ◌≤◌, ◌^◌, Bool, true, false, length, set, refl, ◌∙◌, arith, Option, length-set}
-use Rattle.std.specs.Prelude.{map, ℤ, FitsSigned, bit_and, bit_or}
-use Rattle.std.specs.Int.{w64, cast_unsigned}
-use Rattle.std.proofs.lemmas.List.{map-set, set-append_left, set-append_right, length-map}
-use Rattle.std.proofs.lemmas.List.Elements.{All-set}
-use Rattle.std.proofs.lemmas.Nat.{and_block, and_mask, or_block, or_comm}
-use Rattle.object_layout.specs.declared.word.Addr.{Addr}
-use Rattle.object_layout.specs.Cell.{Cell, IsCell, IsRef, IsMark, Mark, with_ref, with_int, with_mark, frozen}
-use Rattle.object_layout.specs.Layout.{words_of_cell, word_of_ref, header_word, bit_of, is_gone, word_of_mark}
+-- How a write changes the words of an object.
+use Rattle.std.proofs.Common.{length-set}
+use Rattle.object_layout.proofs.Common.{◌≡◌, ℕ, suc, ◌+◌, ◌-◌, ◌*◌, ◌<◌, ◌≤◌, ◌^◌, Bool, true, false, length, set, refl, ◌∙◌, arith, Option, map, ℤ, FitsSigned, bit_and, bit_or, w64, cast_unsigned, map-set, set-append_left, set-append_right, length-map, All-set, and_block, and_mask, or_block, or_comm, Addr, Cell, IsCell, IsRef, IsMark, Mark, with_ref, with_int, with_mark, frozen, word_of_ref, header_word, bit_of, is_gone, word_of_mark}
+use Rattle.object_layout.specs.Layout.{words_of_cell}
 
 pub words_of_cell-with_ref : (c : Cell) (k : ℕ) (r : Option Addr) → k < length c.refs → words_of_cell (with_ref c k r) ≡ set (words_of_cell c) (2 + k) (word_of_ref r)
 unfolding words_of_cell

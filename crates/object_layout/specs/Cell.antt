@@ -6,15 +6,15 @@ use Rattle.object_layout.specs.declared.word.Addr.{Addr}
 use Rattle.object_layout.specs.declared.word.Birth.{Birth}
 use Rattle.object_layout.specs.declared.word.Header.{Header}
 
--- An object bears its birth name until it is moved to another address. A hole is no object: it is
--- what is left of one that was swept.
+-- An object has its birth name until it is moved to another address. A hole is no object: it is the space of an object
+-- that was swept.
 pub data Mark : Type 0 where
   Born : Birth → Mark
   Moved : Addr → Mark
   Hole : Mark
 
--- the mark, whether it is mutable, its references and its numbers; of a hole these are what the
--- swept object left, and no call reads them
+-- the mark, whether it is mutable, its references and its numbers; in a hole these are what the swept object left, and
+-- no call reads them
 pub record Cell : Type 0 where
   pub mark : Mark
   pub mutable : Bool
@@ -29,7 +29,7 @@ header_of c = record { nrefs = length c.refs; nints = length c.ints; mutable = c
 abbrev pub size_of : Cell → ℕ
 size_of c = 2 + (length c.refs + length c.ints)
 
--- an object as it is made: fields nil and 0
+-- a new object: fields nil and 0
 abbrev pub new_cell : Header → Birth → Cell
 new_cell h b = record {
   mark = Born b;
@@ -38,7 +38,7 @@ new_cell h b = record {
   ints = replicate h.nints (pos 0);
 }
 
--- an object as it is made with these fields
+-- a new object with these fields
 abbrev pub filled_cell : Header → Birth → List (Option Addr) → List ℤ → Cell
 filled_cell h b refs ints = record { mark = Born b; mutable = h.mutable; refs = refs; ints = ints }
 
@@ -51,7 +51,7 @@ abbrev pub IsPlace : Option Addr → Type 0
 IsPlace None = Unit {0}
 IsPlace (Some a) = a.offset < chunk_words
 
--- ---- what a mark tells
+-- ---- what a mark means
 
 -- there is an object
 abbrev pub IsObject : Mark → Type 0
@@ -59,7 +59,7 @@ IsObject (Born b) = Unit {0}
 IsObject (Moved to) = Unit {0}
 IsObject Hole = ⊥
 
--- there is an object that bears its birth name
+-- there is an object with its birth name
 abbrev pub IsBorn : Mark → Type 0
 IsBorn (Born b) = Unit {0}
 IsBorn (Moved to) = ⊥
@@ -71,17 +71,17 @@ moved_to (Born b) = None
 moved_to (Moved to) = Some to
 moved_to Hole = None
 
--- a cell with this mark, as far as it is an object
+-- a cell with this mark, if it is an object
 abbrev pub marked_object : Mark → Cell → Cell
 marked_object (Born b) c = c
 marked_object (Moved to) c = c
 marked_object Hole c = no_cell
 
--- a cell, as far as it is an object: no reading finds anything in a hole
+-- a cell, if it is an object: nothing is read from a hole
 abbrev pub as_object : Cell → Cell
 as_object c = marked_object c.mark c
 
--- ---- what calls make of an object
+-- ---- how calls change an object
 
 -- one reference written
 abbrev pub with_ref : Cell → ℕ → Option Addr → Cell

@@ -12,7 +12,7 @@ pub record ChunkValue : Type 0 where
 abbrev pub number_of : ChunkValue → ℕ
 number_of k = k.number
 
--- words of which the first `used` hold these objects, exactly
+-- words of which the first `used` hold exactly these objects
 pub record HoldsCells (words : List ℕ) (used : ℕ) (cells : List Cell) : Type 0 where
   pub within : used ≤ length words
   pub laid : take used words ≡ words_of_cells cells

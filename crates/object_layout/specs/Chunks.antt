@@ -5,11 +5,11 @@ use Rattle.object_layout.specs.Cell.{Born, Cell, Hole, Mark, Moved, as_object, n
 use Rattle.object_layout.specs.ChunkValue.{ChunkValue}
 use Rattle.object_layout.specs.Place.{cell_at, put_cell, words_in}
 
--- whether two addresses are one
+-- whether two addresses are equal
 abbrev pub same_address : Addr → Addr → Bool
 same_address a b = a.chunk == b.chunk && a.offset == b.offset
 
--- no chunk: what stands past the end of a list
+-- no chunk: what is past the end of a list
 abbrev pub no_chunk : ChunkValue
 no_chunk = record { number = 0; size = 0; cells = [] }
 
@@ -17,12 +17,12 @@ no_chunk = record { number = 0; size = 0; cells = [] }
 abbrev pub chunk_at : List ChunkValue → ℕ → ChunkValue
 chunk_at ks i = slice_index_or ks i no_chunk
 
--- at which place the chunk of this number stands; the list's length where none has it
+-- the position of the chunk of this number; the list's length if no chunk has it
 abbrev pub place_of : List ChunkValue → ℕ → ℕ
 place_of [] number = 0
 place_of (k ∷ ks) number = if k.number == number then 0 else 1 + place_of ks number
 
--- the same; None where none has it
+-- the same; None if no chunk has it
 abbrev pub place_in : List ChunkValue → ℕ → Option ℕ
 place_in ks number = if nat_lt (place_of ks number) (length ks) then Some (place_of ks number) else None
 
@@ -34,17 +34,17 @@ has_chunk ks number = is_some (place_in ks number)
 abbrev pub IsFresh : List ChunkValue → ℕ → Type 0
 IsFresh ks number = place_in ks number ≡ None
 
--- no two of these chunks have one number
-abbrev pub AreApart : List ChunkValue → Type 0
-AreApart [] = Unit {0}
-AreApart (k ∷ ks) = IsFresh ks k.number × AreApart ks
+-- no two of these chunks have the same number
+abbrev pub HaveDistinctNumbers : List ChunkValue → Type 0
+HaveDistinctNumbers [] = Unit {0}
+HaveDistinctNumbers (k ∷ ks) = IsFresh ks k.number × HaveDistinctNumbers ks
 
--- what begins at an address: an object or a hole; no object where none does
+-- what begins at an address: an object or a hole; no object if neither does
 abbrev pub cell_of : List ChunkValue → Addr → Cell
 cell_of [] a = no_cell
 cell_of (k ∷ ks) a = if k.number == a.chunk then cell_at k.cells a.offset else cell_of ks a
 
--- the object at an address; no object in a hole too
+-- the object at an address; no object in a hole
 abbrev pub object_of : List ChunkValue → Addr → Cell
 object_of ks a = as_object (cell_of ks a)
 
@@ -57,11 +57,11 @@ abbrev pub put_object : List ChunkValue → Addr → Cell → List ChunkValue
 put_object [] a d = []
 put_object (k ∷ ks) a d = if k.number == a.chunk then with_cell k a.offset d ∷ ks else k ∷ put_object ks a d
 
--- the chunks with one object more behind those of the chunk at a place
+-- the chunks with one more object in the chunk at a position, after its others
 abbrev pub push_object : List ChunkValue → ℕ → Cell → List ChunkValue
 push_object ks i c = slice_set ks i (record (chunk_at ks i) { cells = (chunk_at ks i).cells ++ c ∷ [] })
 
--- where that object lies
+-- the address of that object
 abbrev pub next_address : ChunkValue → Addr
 next_address k = record { chunk = k.number; offset = words_in k.cells }
 
@@ -80,7 +80,7 @@ abbrev pub held_words : List ChunkValue → ℕ
 held_words [] = 0
 held_words (k ∷ ks) = object_words_in k.cells + held_words ks
 
--- the same, where an object of n words counts for so many
+-- the same, if an object of n words counts f n
 abbrev pub sum_in : (ℕ → ℕ) → List Cell → ℕ
 sum_in size [] = 0
 sum_in size (c ∷ cs) = held_size c.mark (size (size_of c)) + sum_in size cs
@@ -96,7 +96,7 @@ one_each n = 1
 abbrev pub object_count : List ChunkValue → ℕ
 object_count ks = sum_of one_each ks
 
--- the words of a small object, which has at most 1,024; none of a large one
+-- the words of a small object, which has at most 1,024; 0 for a large one
 abbrev pub small_part : ℕ → ℕ
 small_part n = if nat_le n chunk_words then n else 0
 

@@ -1,4 +1,4 @@
--- How objects lie in words.
+-- The layout of objects in words.
 use Rattle.std.specs.Prelude.{ℕ, zero, suc, ◌+◌, ◌*◌, ◌/◌, ◌%◌, ◌^◌, Bool, true, false, List, [], ◌∷◌, ◌++◌, Option, Some, None, length, map, take, drop, slice_index, ◌==◌}
 use Rattle.std.specs.Int.{w64}
 use Rattle.std.specs.Int.{cast_signed, cast_unsigned}
@@ -17,12 +17,12 @@ ref_of_word (suc n) = Some (record { chunk = n / chunk_words; offset = n % chunk
 abbrev pub birth_of_word : ℕ → Birth
 birth_of_word w = record { task = w / 2 ^ 32; count = w % 2 ^ 32 }
 
--- word 1, where bit 41 of the header is set: the new address, or 0 in a hole
+-- word 1, if bit 41 of the header is set: the new address, or 0 in a hole
 abbrev pub mark_of_ref : Option Addr → Mark
 mark_of_ref None = Hole
 mark_of_ref (Some to) = Moved to
 
--- word 1, where bit 41 of the header is set or not
+-- word 1, by whether bit 41 of the header is set
 abbrev pub mark_of_word : Bool → ℕ → Mark
 mark_of_word false w = Born (birth_of_word w)
 mark_of_word true w = mark_of_ref (ref_of_word w)
@@ -49,7 +49,7 @@ cell_of_words h ws = record {
   ints = map (cast_signed w64) (take (nints_of h) (drop (1 + nrefs_of h) ws));
 }
 
--- the objects of these words one after another, the first of them behind so many words
+-- the objects of these words one after another, the first of them after n words
 unfoldable pub cells_of_words : ℕ → List ℕ → List Cell
 cells_of_words skipped [] = []
 cells_of_words zero (h ∷ ws) = cell_of_words h ws ∷ cells_of_words (1 + (nrefs_of h + nints_of h)) ws

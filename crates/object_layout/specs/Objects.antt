@@ -1,4 +1,4 @@
--- The objects of chunks as they are read at their addresses: in order, holes and what was moved left out.
+-- The objects of chunks as they are read at their addresses: in order, without holes and moved objects.
 use Rattle.std.specs.Prelude.{ℕ, ℤ, ◌+◌, Bool, true, false, List, [], ◌∷◌, Option, map, if◌then◌else◌}
 use Rattle.std.specs.List.{flat_map}
 use Rattle.object_layout.specs.declared.word.Addr.{Addr}
@@ -7,7 +7,7 @@ use Rattle.object_layout.specs.Cell.{Born, Cell, Hole, Mark, Moved, size_of, wit
 use Rattle.object_layout.specs.Chunks.{same_address}
 use Rattle.object_layout.specs.ChunkValue.{ChunkValue}
 
--- an object: where it lies, its birth name, whether it is mutable, its references and its numbers
+-- an object: its address, its birth name, whether it is mutable, its references and its numbers
 pub record Located : Type 0 where
   pub at : Addr
   pub birth : Birth
@@ -15,11 +15,11 @@ pub record Located : Type 0 where
   pub refs : List (Option Addr)
   pub ints : List ℤ
 
--- a cell that bears a birth name, at an offset of the chunk of this number
+-- a cell with a birth name, at an offset of the chunk of this number
 abbrev pub located : ℕ → ℕ → Birth → Cell → Located
 located number at b c = record { at = record { chunk = number; offset = at }; birth = b; mutable = c.mutable; refs = c.refs; ints = c.ints }
 
--- a cell stands before the others, if it bears its birth name
+-- a cell in front of the others, if it has its birth name
 abbrev pub located_by : ℕ → ℕ → Cell → Mark → List Located → List Located
 located_by number at c (Born b) os = located number at b c ∷ os
 located_by number at c (Moved to) os = os
@@ -37,16 +37,16 @@ objects_of k = objects_from k.number 0 k.cells
 abbrev pub objects_in : List ChunkValue → List Located
 objects_in ks = flat_map objects_of ks
 
--- ---- what changes make of them
+-- ---- how changes affect them
 
--- the object at an address with the fields of a cell; any other as it is
+-- the object at an address with the fields of a cell; any other unchanged
 abbrev pub with_fields : Cell → Located → Located
 with_fields d o = record o { mutable = d.mutable; refs = d.refs; ints = d.ints }
 
 abbrev pub changed_at : Addr → Cell → Located → Located
 changed_at a d o = if same_address o.at a then with_fields d o else o
 
--- each reference of a cell, of a chunk's cells and of an object led elsewhere
+-- each reference of a cell, of a chunk's cells and of an object updated
 abbrev pub led_cell : (Option Addr → Option Addr) → Cell → Cell
 led_cell f c = record c { refs = map f c.refs }
 
@@ -56,12 +56,12 @@ led_chunk f k = record k { cells = map (led_cell f) k.cells }
 abbrev pub led_object : (Option Addr → Option Addr) → Located → Located
 led_object f o = record o { refs = map f o.refs }
 
--- a cell that is kept stays; any other is a hole of its words
+-- a cell that is kept stays; any other becomes a hole of its words
 abbrev pub swept_cell : Bool → Cell → Cell
 swept_cell true c = c
 swept_cell false c = with_mark c Hole
 
--- cells of a chunk, the first of them at an offset, with just those kept whose addresses are
+-- cells of a chunk, the first of them at an offset, of which exactly those are kept whose addresses are
 abbrev pub sifted_cells : (Addr → Bool) → ℕ → ℕ → List Cell → List Cell
 sifted_cells keep number at [] = []
 sifted_cells keep number at (c ∷ cs) = swept_cell (keep (record { chunk = number; offset = at })) c ∷ sifted_cells keep number (at + size_of c) cs

@@ -1,19 +1,19 @@
--- The immutable objects of a chunk, each with where it begins.
+-- The immutable objects of a chunk, each with its offset.
 use Rattle.std.specs.Prelude.{ℕ, ◌+◌, ◌==◌, Bool, false, not, List, [], ◌∷◌, Option, Some, None, if◌then◌else◌, map}
 use Rattle.object_layout.specs.Cell.{Born, Cell, Hole, Mark, Moved, no_cell, size_of}
 use Rattle.object_layout.specs.ChunkValue.{ChunkValue}
 
--- what bears its birth name is immutable unless it may be written
+-- an object with its birth name is immutable unless it may be written
 abbrev pub lasts : Mark → Bool → Bool
 lasts (Born b) mutable = not mutable
 lasts (Moved to) mutable = false
 lasts Hole mutable = false
 
--- an immutable object that bears its birth name
+-- an immutable object with its birth name
 abbrev pub is_frozen : Cell → Bool
 is_frozen c = lasts c.mark c.mutable
 
--- the immutable objects of these cells, the first of which begins at an offset, each with its own
+-- the immutable objects of these cells, the first of which begins at an offset, each with its own offset
 abbrev pub frozen_from : ℕ → List Cell → List (ℕ × Cell)
 frozen_from at [] = []
 frozen_from at (c ∷ cs) = if is_frozen c then (at, c) ∷ frozen_from (at + size_of c) cs else frozen_from (at + size_of c) cs
@@ -26,7 +26,7 @@ pub record PieceValue : Type 0 where
 abbrev pub frozen_of : ChunkValue → PieceValue
 frozen_of k = record { number = k.number; objects = frozen_from 0 k.cells }
 
--- where the immutable objects of these cells begin, the first cell at an offset
+-- the offsets of the immutable objects of these cells, the first cell at an offset
 abbrev pub starts_from : ℕ → List Cell → List ℕ
 starts_from at cs = map (λ o. o.0) (frozen_from at cs)
 

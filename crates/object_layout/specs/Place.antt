@@ -1,4 +1,4 @@
--- Objects, and holes, by the offset at which they lie.
+-- Objects, and holes, by their offsets.
 use Rattle.std.specs.Prelude.{ℕ, zero, suc, ◌+◌, ◌-◌, ◌≤◌, List, [], ◌∷◌, nat_le, if◌then◌else◌}
 use Rattle.object_layout.specs.Cell.{Cell, IsObject, as_object, no_cell, size_of}
 
@@ -13,21 +13,21 @@ IsCellAt [] at = ⊥
 IsCellAt (c ∷ cs) zero = Unit {0}
 IsCellAt (c ∷ cs) (suc n) = (size_of c ≤ suc n) × IsCellAt cs (suc n - size_of c)
 
--- the object, or the hole, that begins at this offset; no object where none does
+-- the object, or the hole, that begins at this offset; no object if neither does
 abbrev pub cell_at : List Cell → ℕ → Cell
 cell_at [] at = no_cell
 cell_at (c ∷ cs) zero = c
 cell_at (c ∷ cs) (suc n) = if nat_le (size_of c) (suc n) then cell_at cs (suc n - size_of c) else no_cell
 
--- an object lies at this offset
+-- an object is at this offset
 abbrev pub IsObjectAt : List Cell → ℕ → Type 0
 IsObjectAt cs at = IsObject (cell_at cs at).mark
 
--- the object at this offset; no object where none lies, in a hole too
+-- the object at this offset; no object if there is none, or a hole
 abbrev pub object_at : List Cell → ℕ → Cell
 object_at cs at = as_object (cell_at cs at)
 
--- the cells with another one in place of that at this offset, if one begins there
+-- the cells with another one in place of the one at this offset, if one begins there
 abbrev pub put_cell : List Cell → ℕ → Cell → List Cell
 put_cell [] at d = []
 put_cell (c ∷ cs) zero d = d ∷ cs

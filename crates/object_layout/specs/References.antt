@@ -1,4 +1,4 @@
--- References, compared.
+-- Comparison of references.
 use Rattle.std.specs.Prelude.{Bool, true, false, Option, Some, None}
 use Rattle.object_layout.specs.declared.word.Addr.{Addr}
 use Rattle.object_layout.specs.Chunks.{same_address}

@@ -15,11 +15,11 @@ use chunk_sizes::CHUNK_WORDS;
 use std::alloc::{AllocError, Global};
 use std::marker::Model;
 
-/// A numbered chunk of words. Objects lie in it one after another, from its first word on; where
-/// one was swept, a hole of its words is left.
+/// A numbered chunk of words. Objects follow one another from its first word on; a swept object leaves a hole of its
+/// words.
 ///
-/// A chunk of one unit has 1,024 words. A large object has a chunk of its own, of as many units as
-/// it needs, and lies at offset 0 there.
+/// A chunk of one unit has 1,024 words. A large object has a chunk of its own, of as many units as it needs, and is at
+/// offset 0 there.
 pub struct Chunk {
     number: u32,
     words: Vec<u64>,
@@ -48,7 +48,7 @@ impl Model for Chunk {
 }
 
 impl Chunk {
-    /// An empty chunk of so many units of 1,024 words.
+    /// An empty chunk of `units` units of 1,024 words.
     pub fn new(alloc: Global, number: u32, units: u32) -> Result<Chunk, AllocError>
         requires { units < 2 ^ 22 }
         ensures { IfOk result (λ c. c ≡ record { number = number; size = chunk_words * units; cells = [] }) }
@@ -61,14 +61,14 @@ impl Chunk {
         })
     }
 
-    /// Its number, by which addresses name it.
+    /// Its number, which addresses contain.
     pub fn number(&self) -> u32
         ensures { result ≡ self.now.number }
     {
         self.number
     }
 
-    /// How many words it has in all.
+    /// The number of words.
     pub fn size(&self) -> u32
         ensures { result ≡ self.now.size }
     {
@@ -85,14 +85,14 @@ impl Chunk {
         self.used
     }
 
-    /// Gives it another number.
+    /// Changes its number.
     pub fn renumber(&mut self, number: u32)
         ensures { self.new ≡ record self.old { number = number } }
     {
         self.number = number;
     }
 
-    /// A chunk of just the words that its objects and holes take, with copies of them.
+    /// A copy of the chunk with only the words that its objects and holes take.
     pub(crate) fn copy(&self, alloc: Global) -> Result<Chunk, AllocError>
         ensures { IfOk result (λ c. c ≡ record self.now { size = words_in self.now.cells }) }
     {
@@ -104,7 +104,7 @@ impl Chunk {
         })
     }
 
-    /// Forgets its objects and holes.
+    /// Drops its objects and holes.
     pub fn clear(&mut self)
         ensures { self.new ≡ record self.old { cells = [] } }
     {
@@ -112,7 +112,7 @@ impl Chunk {
     }
 }
 
-// Lays two words and so many zeros from a place on.
+// Writes two words and then zeros, from a position on.
 fn lay(words: &mut [u64], at: usize, first: u64, second: u64, zeros: usize)
     requires { at + (2 + zeros) ≤ length words.old }
     ensures { take (at + (2 + zeros)) words.new ≡ take at words.old ++ first ∷ (second ∷ replicate zeros 0) }
@@ -124,7 +124,7 @@ fn lay(words: &mut [u64], at: usize, first: u64, second: u64, zeros: usize)
     }
 }
 
-/// Writes an object behind the others, with its references nil and its numbers 0.
+/// Writes an object after the others, with its references nil and its numbers 0.
 pub fn write_new(chunk: &mut Chunk, at: u32, header: Header, birth: Birth)
     requires behind { at ≡ words_in chunk.old.cells }
     requires refs { header.nrefs < 2 ^ 20 }
@@ -178,7 +178,7 @@ fn fill_ints(chunk: &mut Chunk, at: u32, ints: &[i64])
     }
 }
 
-/// Writes an object with these fields behind the others.
+/// Writes an object with these fields after the others.
 pub fn write_filled(
     chunk: &mut Chunk,
     at: u32,
@@ -213,7 +213,7 @@ fn word_at(chunk: &Chunk, at: u32, k: usize) -> u64
     chunk.words[at as usize + k]
 }
 
-// Copies so many words of one list to a place of another.
+// Copies words of one list to a position of another.
 fn copy_words(from: &[u64], at: usize, to: &mut [u64], behind: usize, count: usize)
     requires from { at + count ≤ length from.now }
     requires to { behind + count ≤ length to.old }
@@ -222,7 +222,7 @@ fn copy_words(from: &[u64], at: usize, to: &mut [u64], behind: usize, count: usi
     to[behind..behind + count].copy_from_slice(&from[at..at + count]);
 }
 
-/// Writes a copy of an object of another chunk behind the others, and says where.
+/// Writes a copy of an object of another chunk after the others, and returns its offset.
 pub fn copy_behind(from: &Chunk, at: u32, to: &mut Chunk) -> u32
     requires object { IsObjectAt from.now.cells at }
     requires room { words_in to.old.cells + size_of (object_at from.now.cells at) ≤ to.old.size }
@@ -254,7 +254,7 @@ pub fn next_at(chunk: &Chunk, at: u32) -> u32
     at + (2 + (header.nrefs + header.nints))
 }
 
-/// Whether what begins there is an object, and no hole.
+/// Whether an object begins there, rather than a hole.
 pub fn is_object_at(chunk: &Chunk, at: u32) -> bool
     requires { IsCellAt chunk.now.cells at }
     ensures { IsTrue result ↔ IsObjectAt chunk.now.cells at }
@@ -262,7 +262,7 @@ pub fn is_object_at(chunk: &Chunk, at: u32) -> bool
     !is_gone_word(word_at(chunk, at, 0)) || word_at(chunk, at, 1) != 0
 }
 
-/// Whether what begins there is an object that bears its birth name: neither a hole nor moved.
+/// Whether an object with its birth name begins there: neither a hole nor moved.
 pub fn is_born_at(chunk: &Chunk, at: u32) -> bool
     requires { IsCellAt chunk.now.cells at }
     ensures { IsTrue result ↔ IsBorn (cell_at chunk.now.cells at).mark }
@@ -270,7 +270,7 @@ pub fn is_born_at(chunk: &Chunk, at: u32) -> bool
     !is_gone_word(word_at(chunk, at, 0))
 }
 
-/// Whether what begins there is an immutable object that bears its birth name.
+/// Whether an immutable object with its birth name begins there.
 pub(crate) fn is_frozen_at(chunk: &Chunk, at: u32) -> bool
     requires { IsCellAt chunk.now.cells at }
     ensures { result ≡ is_frozen (cell_at chunk.now.cells at) }
@@ -289,7 +289,7 @@ pub fn header_at(chunk: &Chunk, at: u32) -> Header
     header_from_word(word_at(chunk, at, 0))
 }
 
-/// The birth name of an object that bears it: one that was not moved.
+/// The birth name of an object that wasn't moved.
 pub fn birth_at(chunk: &Chunk, at: u32) -> Birth
     requires { IsBorn (cell_at chunk.now.cells at).mark }
     ensures { (cell_at chunk.now.cells at).mark ≡ Born result }
@@ -297,7 +297,7 @@ pub fn birth_at(chunk: &Chunk, at: u32) -> Birth
     birth_from_word(word_at(chunk, at, 1))
 }
 
-/// Names an object, which bears this birth name from then on.
+/// Gives an object its birth name.
 pub fn set_birth(chunk: &mut Chunk, at: u32, birth: Birth)
     requires { IsObjectAt chunk.old.cells at }
     ensures { chunk.new ≡ record chunk.old { cells = put_cell chunk.old.cells at (with_mark (cell_at chunk.old.cells at) (Born birth)) } }
@@ -343,7 +343,7 @@ pub fn set_int(chunk: &mut Chunk, at: u32, field: u32, value: i64)
     set_int_behind(chunk, at, nrefs, field, value);
 }
 
-/// The same, where it is known how many references stand before the numbers.
+/// Like `set_int`, if the caller knows how many references precede the numbers.
 pub fn set_int_behind(chunk: &mut Chunk, at: u32, nrefs: u32, field: u32, value: i64)
     requires refs { nrefs ≡ length (object_at chunk.old.cells at).refs }
     requires field { field < length (object_at chunk.old.cells at).ints }
@@ -360,7 +360,7 @@ pub fn freeze(chunk: &mut Chunk, at: u32)
     chunk.words[at as usize] &= !MUTABLE;
 }
 
-/// Leaves the address that the object was moved to, in place of its birth name.
+/// Records the address that the object was moved to, in place of its birth name.
 pub fn forward(chunk: &mut Chunk, at: u32, to: Addr)
     requires object { IsObjectAt chunk.old.cells at }
     requires place { IsPlace (Some to) }
@@ -370,7 +370,7 @@ pub fn forward(chunk: &mut Chunk, at: u32, to: Addr)
     chunk.words[at as usize + 1] = ref_to_word(Some(to));
 }
 
-/// The address that the object was moved to; None where it was not moved.
+/// The address that the object was moved to; None if it wasn't moved.
 pub fn forwarded_at(chunk: &Chunk, at: u32) -> Option<Addr>
     requires { IsObjectAt chunk.now.cells at }
     ensures value { result ≡ moved_to (cell_at chunk.now.cells at).mark }

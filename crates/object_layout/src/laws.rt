@@ -2,27 +2,27 @@
 
 ghost use Rattle.object_layout.specs.ObjectLaws.{AppendedIsLast, LedAreRead, ObjectsLieThere, PutChangesOne, SiftedAreFiltered};
 
-/// The objects that are read are just those that lie at addresses.
+/// The objects that are read are exactly those at the chunks' addresses.
 pub fn objects_lie_there()
     ensures { ObjectsLieThere }
 {}
 
-/// An object appended stands behind the others of its chunk.
+/// An object appended comes after the others of its chunk.
 pub fn appended_is_last()
     ensures { AppendedIsLast }
 {}
 
-/// Where a cell is put in place of one of its mark and size, just the object there has other fields.
+/// If a cell is replaced by one of the same mark and size, only the fields of the object there change.
 pub fn put_changes_one()
     ensures { PutChangesOne }
 {}
 
-/// Just the objects whose addresses are kept are left by a sweep.
+/// A sweep leaves exactly the objects whose addresses are kept.
 pub fn sifted_are_filtered()
     ensures { SiftedAreFiltered }
 {}
 
-/// Led references are read so.
+/// Updated references are read as updated.
 pub fn led_are_read()
     ensures { LedAreRead }
 {}

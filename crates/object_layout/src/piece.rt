@@ -11,8 +11,8 @@ use std::marker::Model;
 
 /// The immutable objects of a chunk as they were at one time.
 ///
-/// It has a copy of the chunk's words, and in order where its immutable objects begin. Where there is
-/// none it has no words.
+/// It has a copy of the chunk's words, and the offsets of its immutable objects in order. Without immutable objects it
+/// has no words.
 #[derive(Drop)]
 pub struct Piece {
     chunk: Chunk,
@@ -58,7 +58,7 @@ impl Piece {
         self.starts.as_slice().binary_search(&offset).is_ok()
     }
 
-    /// The kind of the immutable object at an offset; None where none begins there.
+    /// The kind of the immutable object at an offset; None if none begins there.
     pub fn header(&self, offset: u32) -> Option<Header>
         ensures { result ≡ option_map header_of (frozen_at self.now.objects offset) }
     {
@@ -87,7 +87,7 @@ impl Piece {
     }
 }
 
-// Where the immutable objects of a chunk begin.
+// The offsets of the immutable objects of a chunk.
 fn starts_of(alloc: Global, chunk: &Chunk) -> Result<Vec<u32>, AllocError>
     ensures { IfOk result (λ starts. starts.items ≡ starts_in chunk.now.cells) }
 {

@@ -1,11 +1,11 @@
-// References, compared.
+// Comparison of references.
 
 ghost use Rattle.std.specs.Prelude.{◌≡◌};
 ghost use Rattle.object_layout.specs.References.{same_reference};
 
 use crate::word::Addr;
 
-/// Whether both references are nil, or lead to the same address.
+/// Whether both references are nil, or the same address.
 pub fn is_same_reference(left: Option<Addr>, right: Option<Addr>) -> bool
     ensures { result ≡ same_reference left right }
 {

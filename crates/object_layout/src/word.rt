@@ -6,7 +6,7 @@ ghost use Rattle.object_layout.specs.Layout.{word_of_ref, ref_of_word, word_of_b
 
 use chunk_sizes::CHUNK_WORDS;
 
-/// Where an object lies: a chunk's number, and the word of that chunk at which the object begins.
+/// Where an object is: a chunk's number, and the word of that chunk at which the object begins.
 #[derive(Clone, Copy, PartialEq, Eq, PartialOrd, Ord, Hash)]
 pub struct Addr {
     pub chunk: u32,
@@ -89,7 +89,7 @@ pub fn header_to_word(header: Header) -> u64
     header.nrefs as u64 + ((header.nints as u64) << 20) + flag
 }
 
-/// The kind that a header word tells.
+/// The kind in a header word.
 pub fn header_from_word(word: u64) -> Header
     ensures { result ≡ record { nrefs = nrefs_of word; nints = nints_of word; mutable = mutable_of word } }
 {
@@ -100,7 +100,7 @@ pub fn header_from_word(word: u64) -> Header
     }
 }
 
-/// Whether a header word says that its object was moved, or is a hole.
+/// Whether a header word marks its object as moved, or as a hole.
 pub fn is_gone_word(word: u64) -> bool
     ensures { result ≡ gone_of word }
 {

@@ -14,14 +14,14 @@ use Rattle.run_trace.specs.Line.{kind_name}
 use Rattle.run_names.specs.Names.{function_name}
 use Rattle.run_deltas.specs.declared.data.Deed.{Deed}
 use Rattle.run_deltas.specs.declared.data.Deed.TheVariants.{Allocates, Reads, Counts, Writes, Swaps, Freezes, Prints}
-use Rattle.run_deltas.specs.declared.data.Act.{Act}
-use Rattle.run_deltas.specs.declared.data.Birth.{Birth}
+use Rattle.run_deltas.specs.declared.data.StepAct.{StepAct}
+use Rattle.run_deltas.specs.declared.data.NewObject.{NewObject}
 use Rattle.run_deltas.specs.declared.data.Change.{Change}
 use Rattle.run_deltas.specs.declared.data.Change.TheVariants.{New, Set as IsSet, Froze, Print}
 use Rattle.run_deltas.specs.declared.data.Standing.{Standing}
 use Rattle.run_deltas.specs.declared.data.Standing.TheVariants.{Ready, Out as IsOut, Waits, HasEnded, HasJoined}
 use Rattle.run_deltas.specs.declared.data.TaskNow.{TaskNow}
-use Rattle.run_deltas.specs.declared.data.Child.{Child}
+use Rattle.run_deltas.specs.declared.data.NewTask.{NewTask}
 use Rattle.run_deltas.specs.declared.data.Delta.{Delta}
 use Rattle.page_data.specs.Values.{name, reference, number, value, more, member}
 
@@ -84,14 +84,14 @@ deed (Some (Freezes n)) = more (name n)
 deed (Some (Prints k)) = []
 
 -- the last step: its line, its instruction's word, and what it does
-abbrev pub last : Option Act → List ℕ
+abbrev pub last : Option StepAct → List ℕ
 last None = []
 last (Some a) = codes ",\"at\":[" ++ decimal a.line ++ more (word (instr_word a.instr)) ++ deed a.deed ++ 93 ∷ []
 
 -- TASKS
 
 -- a task that was made: its number, its parent's, and the function that it begins in
-unfoldable pub child : ProgramText → Child → List ℕ
+unfoldable pub child : ProgramText → NewTask → List ℕ
 child p c = 91 ∷ (decimal c.task ++ more_number c.parent ++ more (word (function_name p c.function)) ++ 93 ∷ [])
 
 abbrev pub standing_word : Standing → List ℕ
@@ -101,14 +101,14 @@ standing_word Waits = codes "waiting"
 standing_word HasEnded = codes "ended"
 standing_word HasJoined = codes "joined"
 
--- where a task stands: its number, a word and a line
+-- where a task stands: its number, a word and a line; and what it holds
 unfoldable pub task_now : TaskNow → List ℕ
-task_now t = 91 ∷ (decimal t.task ++ more (word (standing_word t.standing)) ++ more_number t.line ++ 93 ∷ [])
+task_now t = 91 ∷ (decimal t.task ++ more (word (standing_word t.standing)) ++ more_number t.line ++ flat_map (λ n. more (name n)) t.holds ++ 93 ∷ [])
 
 -- OBJECTS
 
 -- what the fields hold of a new object that is immutable; a mutable one holds nil and 0 everywhere
-abbrev pub fields : Birth → List ℕ
+abbrev pub fields : NewObject → List ℕ
 fields b = if b.mutable then [] else flat_map (λ r. more (reference r)) b.refs ++ flat_map (λ k. more (number k)) b.ints
 
 -- what a step changes: a word, and then what is new

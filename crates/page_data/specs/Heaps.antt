@@ -2,7 +2,7 @@
 use Rattle.std.specs.Prelude.{ℕ, List, [], ◌∷◌, ◌++◌, codes}
 use Rattle.std.specs.Fmt.{decimal}
 use Rattle.hh_model.specs.declared.data.Name.{Name}
-use Rattle.run_deltas.specs.News.{News, Nothing, Given, Taken, Laid, Snapped, Marked}
+use Rattle.run_deltas.specs.News.{News, Nothing, Given, Taken, Laid, Snapped, Marked, Swept}
 use Rattle.page_data.specs.Values.{name, more, between}
 use Rattle.page_data.specs.Deltas.{more_number}
 
@@ -24,6 +24,7 @@ news_text (Taken t chunks keeps) = about (codes ",\"take\":[") t (more_number ch
 news_text (Laid t chunks large) = about (codes ",\"heap\":[") t (more (chunks_list chunks) ++ more (names_list large))
 news_text (Snapped t names) = about (codes ",\"snap\":[") t (more (names_list names))
 news_text (Marked t marked) = about (codes ",\"mark\":[") t (more_number marked)
+news_text (Swept t chunks large) = about (codes ",\"heap\":[") t (more (chunks_list chunks) ++ more (names_list large))
 
 -- what an entry tells of heaps, and its end
 unfoldable pub closing : News → List ℕ

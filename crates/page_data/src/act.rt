@@ -8,7 +8,7 @@ ghost use Rattle.page_data.specs.Deltas.{word, more_number, operator_word, instr
 use crate::values::{add_name, add_reference, add_value};
 use hh_lang::{Instr, Operator};
 use hh_model::Name;
-use run_deltas::{Act, Deed, Value};
+use run_deltas::{Deed, StepAct, Value};
 use std::alloc::{AllocError, Global};
 
 /// Adds a number without a sign.
@@ -150,7 +150,7 @@ fn instr_word(instr: Instr) -> &'static str
 }
 
 // Adds a step as the last one.
-fn add_act(alloc: Global, text: &mut Vec<u8>, act: Act) -> Result<(), AllocError>
+fn add_act(alloc: Global, text: &mut Vec<u8>, act: StepAct) -> Result<(), AllocError>
     ensures { OnOk result (text.new.items ≡ text.old.items ++ last (Some act)) }
 {
     text.extend_from_slice(b",\"at\":[")?;
@@ -165,7 +165,7 @@ fn add_act(alloc: Global, text: &mut Vec<u8>, act: Act) -> Result<(), AllocError
 pub(crate) fn add_last(
     alloc: Global,
     text: &mut Vec<u8>,
-    act: Option<Act>,
+    act: Option<StepAct>,
 ) -> Result<(), AllocError>
     ensures { OnOk result (text.new.items ≡ text.old.items ++ last act) }
 {

@@ -7,10 +7,11 @@ ghost use Rattle.page_data.specs.Values.{name, reference, number, value, more, m
 ghost use Rattle.page_data.specs.Deltas.{more_number, word, flag, child, standing_word, task_now, fields, change, kind_numbers, head, members, opening};
 
 use crate::act::{add_count, add_last, more_flag, more_number, more_word};
+use crate::heap::more_names;
 use crate::values::{add_name, add_number, add_reference, add_value};
 use hh_lang::Program;
 use hh_model::Name;
-use run_deltas::{Birth, Change, Child, Delta, Standing, TaskNow, Write};
+use run_deltas::{Change, Delta, NewObject, NewTask, Standing, TaskNow, Write};
 use run_names::{function_name, kind_name};
 use run_trace::{Entry, Kind};
 use std::alloc::{AllocError, Global};
@@ -36,7 +37,7 @@ fn add_child(
     alloc: Global,
     text: &mut Vec<u8>,
     program: &Program,
-    of: Child,
+    of: NewTask,
 ) -> Result<(), AllocError>
     ensures { OnOk result (text.new.items ≡ text.old.items ++ child program.now of) }
 {
@@ -61,14 +62,15 @@ fn standing_word(standing: Standing) -> &'static str
 }
 
 #[tactic(auto, unfolding(crate::specs::Deltas::task_now))]
-// Adds where a task stands.
-fn add_task(alloc: Global, text: &mut Vec<u8>, of: TaskNow) -> Result<(), AllocError>
-    ensures { OnOk result (text.new.items ≡ text.old.items ++ task_now of) }
+// Adds where a task stands, and what it holds.
+fn add_task(alloc: Global, text: &mut Vec<u8>, of: &TaskNow) -> Result<(), AllocError>
+    ensures { OnOk result (text.new.items ≡ text.old.items ++ task_now of.now) }
 {
     text.push(b'[')?;
     add_count(alloc, text, of.task as u64)?;
     more_word(text, standing_word(of.standing).as_bytes())?;
     more_number(alloc, text, of.line as u64)?;
+    more_names(alloc, text, of.holds.as_slice())?;
     text.push(b']')?;
     Ok(())
 }
@@ -100,7 +102,7 @@ fn more_numbers(alloc: Global, text: &mut Vec<u8>, ints: &[i64]) -> Result<(), A
 }
 
 // Adds what the fields of a new object hold.
-fn add_fields(alloc: Global, text: &mut Vec<u8>, of: &Birth) -> Result<(), AllocError>
+fn add_fields(alloc: Global, text: &mut Vec<u8>, of: &NewObject) -> Result<(), AllocError>
     ensures { OnOk result (text.new.items ≡ text.old.items ++ fields of.now) }
 {
     if of.mutable {
@@ -111,7 +113,7 @@ fn add_fields(alloc: Global, text: &mut Vec<u8>, of: &Birth) -> Result<(), Alloc
 }
 
 // Adds a new object.
-fn add_birth(alloc: Global, text: &mut Vec<u8>, of: &Birth) -> Result<(), AllocError>
+fn add_birth(alloc: Global, text: &mut Vec<u8>, of: &NewObject) -> Result<(), AllocError>
     ensures { OnOk result (text.new.items ≡ text.old.items ++ (name of.now.name ++ more (flag of.now.mutable) ++ more_number (length of.now.refs) ++ more_number (length of.now.ints) ++ fields of.now)) }
 {
     add_name(alloc, text, of.name)?;
@@ -131,7 +133,7 @@ fn add_write(alloc: Global, text: &mut Vec<u8>, of: Write) -> Result<(), AllocEr
     add_value(alloc, text, of.value)
 }
 
-fn add_new(alloc: Global, text: &mut Vec<u8>, of: &Birth) -> Result<(), AllocError>
+fn add_new(alloc: Global, text: &mut Vec<u8>, of: &NewObject) -> Result<(), AllocError>
     ensures { OnOk result (text.new.items ≡ text.old.items ++ change (Change.New of.now)) }
 {
     text.extend_from_slice(b"[\"new\",")?;
@@ -184,7 +186,7 @@ fn more_children(
     alloc: Global,
     text: &mut Vec<u8>,
     program: &Program,
-    rest: &[Child],
+    rest: &[NewTask],
 ) -> Result<(), AllocError>
     ensures { OnOk result (text.new.items ≡ text.old.items ++ flat_map (λ x. more (child program.now x)) rest.now) }
 {
@@ -200,8 +202,8 @@ fn add_listed_children(
     alloc: Global,
     text: &mut Vec<u8>,
     program: &Program,
-    first: Child,
-    rest: &[Child],
+    first: NewTask,
+    rest: &[NewTask],
 ) -> Result<(), AllocError>
     ensures { OnOk result (text.new.items ≡ text.old.items ++ member (codes ",\"made\":[") (child program.now) (first ∷ rest.now)) }
 {
@@ -216,7 +218,7 @@ fn add_children(
     alloc: Global,
     text: &mut Vec<u8>,
     program: &Program,
-    all: &[Child],
+    all: &[NewTask],
 ) -> Result<(), AllocError>
     ensures { OnOk result (text.new.items ≡ text.old.items ++ member (codes ",\"made\":[") (child program.now) all.now) }
 {
@@ -232,7 +234,7 @@ fn more_tasks(alloc: Global, text: &mut Vec<u8>, rest: &[TaskNow]) -> Result<(),
 {
     for of in rest {
         text.push(b',')?;
-        add_task(alloc, text, *of)?;
+        add_task(alloc, text, of)?;
     }
     Ok(())
 }
@@ -241,10 +243,10 @@ fn more_tasks(alloc: Global, text: &mut Vec<u8>, rest: &[TaskNow]) -> Result<(),
 fn add_listed_tasks(
     alloc: Global,
     text: &mut Vec<u8>,
-    first: TaskNow,
+    first: &TaskNow,
     rest: &[TaskNow],
 ) -> Result<(), AllocError>
-    ensures { OnOk result (text.new.items ≡ text.old.items ++ member (codes ",\"task\":[") task_now (first ∷ rest.now)) }
+    ensures { OnOk result (text.new.items ≡ text.old.items ++ member (codes ",\"task\":[") task_now (first.now ∷ rest.now)) }
 {
     add_bytes(text, b",\"task\":[")?;
     add_task(alloc, text, first)?;
@@ -262,7 +264,7 @@ pub(crate) fn add_tasks(
 {
     match all {
         [] => Ok(()),
-        [first, rest @ ..] => add_listed_tasks(alloc, text, *first, rest),
+        [first, rest @ ..] => add_listed_tasks(alloc, text, first, rest),
     }
 }
 

@@ -12,13 +12,13 @@ ghost use Rattle.page_data.specs.Heaps.{names_list, chunks_list, about, news_tex
 use crate::act::{add_count, more_number};
 use crate::values::add_name;
 use hh_model::Name;
-use listed::Listed;
+use plain_vec::Listed;
 use run_ledger::Heap;
 use run_trace::Kind;
 use std::alloc::{AllocError, Global};
 
-// Adds further names.
-fn more_names(alloc: Global, text: &mut Vec<u8>, rest: &[Name]) -> Result<(), AllocError>
+/// Adds further names.
+pub(crate) fn more_names(alloc: Global, text: &mut Vec<u8>, rest: &[Name]) -> Result<(), AllocError>
     ensures { OnOk result (text.new.items ≡ text.old.items ++ flat_map (λ n. more (name n)) rest.now) }
 {
     for of in rest {

@@ -10,7 +10,7 @@ ghost use Rattle.page_data.specs.Run.{named, limits_text, settings_text, start_t
 use crate::act::{add_count, more_number, more_word};
 use crate::delta::{add_bytes, add_tasks};
 use hh_lang::Program;
-use hh_model::{End, State, Trap};
+use hh_model::{End, MachineState, Trap};
 use run_deltas::start_tasks;
 use run_ledger::RunEnd;
 use run_trace::Settings;
@@ -69,7 +69,7 @@ fn add_start(
     alloc: Global,
     text: &mut Vec<u8>,
     program: &Program,
-    state: &State,
+    state: &MachineState,
 ) -> Result<(), AllocError>
     ensures { (limit : ℕ) → state.now ≡ start program.now limit → OnOk result (text.new.items ≡ text.old.items ++ start_text program.now limit) }
 {
@@ -86,7 +86,7 @@ pub fn add_settings_and_start(
     text: &mut Vec<u8>,
     program: &Program,
     settings: Settings,
-    state: &State,
+    state: &MachineState,
 ) -> Result<(), AllocError>
     requires { state.now ≡ start program.now (field_limit settings.version) }
     ensures { OnOk result (text.new.items ≡ text.old.items ++ settings_and_start program.now settings) }

@@ -9,7 +9,7 @@ pub const BEFORE_1: &str = r##"<!doctype html>
 <html lang="en">
 <head>
 <meta charset="utf-8">
-<meta http-equiv="Content-Security-Policy" content="default-src 'none'; script-src 'sha256-ilw2n55ysMzMeDTokRqt4HocSOG33JGRBpDYkWXV4ZE='; style-src 'unsafe-inline'">
+<meta http-equiv="Content-Security-Policy" content="default-src 'none'; script-src 'sha256-IQvT1Mr+bUMhCDbEFEik7+34+8De58qyaQ6nXSCB87w='; style-src 'unsafe-inline'">
 <meta name="viewport" content="width=device-width, initial-scale=1">
 <title>A run of hheap</title>
 <style>
@@ -92,10 +92,11 @@ main { display: grid; grid-template-columns: minmax(230px, 25%) minmax(0, 1fr) 2
 #arrows .up { stroke: var(--up); color: var(--up); }
 #arrows .down { stroke: var(--down); color: var(--down); stroke-width: 2.6; }
 #arrows .cross { stroke: var(--cross); color: var(--cross); stroke-width: 2.4; stroke-dasharray: 7 5; }
+#arrows .root { stroke: var(--soft); color: var(--soft); stroke-width: 1; stroke-dasharray: 2 3; opacity: .55; }
 #arrows .fresh { stroke-width: 3; }
 #arrows text { stroke-dasharray: none !important; font: 600 11px system-ui, sans-serif; fill: currentColor; stroke: var(--panel) !important; stroke-width: 4px !important; paint-order: stroke; }
-/* of many references within heaps only those are drawn that the entry or the reader is at */
-#arrows.few > .inside:not(.near, .hot, .fresh) { display: none; }
+/* of many references within heaps, and of many roots, only those are drawn that the entry or the reader is at */
+#arrows.few > .inside:not(.near, .hot, .fresh), #arrows.crowd > .root:not(.near, .hot) { display: none; }
 #arrows marker[id] path { stroke: none; fill: currentColor; }
 #arrows.hot > path { opacity: .12; }
 #arrows.hot > path.hot { opacity: 1; }
@@ -113,12 +114,12 @@ main { display: grid; grid-template-columns: minmax(230px, 25%) minmax(0, 1fr) 2
 .task.find { outline: .25em solid var(--up); }
 .pill { background: var(--panel); font-size: .8em; border-radius: 1em; padding: .05em .7em; border: 1px solid var(--soft); color: var(--soft); white-space: nowrap; }
 .pill.out { border-color: var(--w); background: var(--w); color: #fff; font-weight: 650; }
-.pill.over { border-color: var(--cross); background: var(--cross); color: var(--on-strong); font-weight: 650; }
-.tiny { font-size: .8em; color: var(--soft); }
 "##;
 
 pub const BEFORE_2: &str =
-    r##".heap, .kids { display: flex; flex-wrap: wrap; gap: .7em; align-items: flex-start; margin-top: .55em; }
+    r##".pill.over { border-color: var(--cross); background: var(--cross); color: var(--on-strong); font-weight: 650; }
+.tiny { font-size: .8em; color: var(--soft); }
+.heap, .kids { display: flex; flex-wrap: wrap; gap: .7em; align-items: flex-start; margin-top: .55em; }
 .kids { gap: 1.3em .9em; margin-top: 1.3em; }
 .kids > .task { flex: 0 1 auto; }
 .chunk { border: 1px solid var(--faint); border-radius: .45em; background: var(--raised); padding: .35em .55em .5em; min-width: 9em; }
@@ -126,6 +127,8 @@ pub const BEFORE_2: &str =
 /* headings stand above the arrows */
 .head > *, .cap > *, .sum { position: relative; z-index: 3; }
 .head > .tiny, .head > b, .cap > * { background: color-mix(in oklab, var(--panel), transparent 15%); border-radius: .3em; }
+.roots { display: flex; flex-wrap: wrap; gap: .2em .3em; align-items: center; margin-top: .3em; }
+.hold { position: relative; z-index: 3; padding: 0 .4em; border: 1px dotted var(--soft); border-radius: .4em; background: var(--panel); color: var(--soft); font: .78em var(--mono); }
 .task.fold { border-style: dotted; border-color: var(--soft); }
 .objs { display: flex; flex-wrap: wrap; gap: 1.25em 1.1em; margin-top: .75em; }
 .obj { position: relative; z-index: 1; display: flex; flex-direction: column; align-items: stretch; padding: 0; border: 1.3px solid var(--soft); border-radius: .5em; background: var(--panel); font: .92em var(--mono); text-align: left; }
@@ -158,7 +161,7 @@ pub const BEFORE_2: &str =
 .legend svg { width: 26px; height: 8px; vertical-align: middle; }
 .legend path { fill: none; stroke-width: 1.6; }
 .legend .inside { stroke: var(--inside); } .legend .up { stroke: var(--up); } .legend .down { stroke: var(--down); stroke-width: 2.6; }
-.legend .cross { stroke: var(--cross); stroke-dasharray: 5 3; }
+.legend .cross { stroke: var(--cross); stroke-dasharray: 5 3; } .legend .root { stroke: var(--soft); stroke-width: 1; stroke-dasharray: 2 3; }
 .legend .sw { display: inline-block; width: 11px; height: 11px; border-radius: 3px; border: 1.3px solid; vertical-align: -1px; }
 .sw.new { border-color: var(--new); background: var(--new-bg); } .sw.set { border-color: var(--set); background: var(--set-bg); }
 .sw.imm { border: 3px double var(--soft); border-radius: 0; background: var(--imm); }
@@ -215,15 +218,16 @@ pub const BEFORE_2: &str =
 .names b { color: var(--w); }
 #lanes { overflow: auto; position: relative; scrollbar-width: thin; }
 #track { position: relative; }
-.lane { position: absolute; left: 0; right: 0; height: 1px; background: var(--faint); }
+"##;
+
+pub const BEFORE_3: &str =
+    r##".lane { position: absolute; left: 0; right: 0; height: 1px; background: var(--faint); }
 .ent { position: absolute; height: 18px; border-radius: 4px; font: 600 10px/18px system-ui, sans-serif; text-align: center; cursor: pointer; overflow: hidden; background: var(--k-ran); }
 #veil { position: absolute; inset: 0; background: var(--panel); opacity: .58; pointer-events: none; }
 .k-took { background: var(--k-took); }
 .k-chunk, .k-putoff { background: var(--k-chunk); }
 .k-begin, .k-end { background: var(--k-leaf); }
-"##;
-
-pub const BEFORE_3: &str = r##".k-mark, .k-some, .k-sweep { background: var(--k-inner); }
+.k-mark, .k-some, .k-sweep { background: var(--k-inner); }
 .k-fuel, .ent.over { background: var(--k-over); }
 .ent.now { outline: 2px solid var(--ink); outline-offset: 0; opacity: 1; z-index: 1; }
 .ent.touch { box-shadow: inset 0 -3px var(--up); }
@@ -282,9 +286,9 @@ kbd { font: 12px var(--mono); border: 1px solid var(--faint); border-bottom-widt
   <div class="names" id="names"></div><div id="lanes" role="listbox" tabindex="0" aria-label="Journal: a lane for each worker"><div id="track" role="presentation"></div></div>
 </footer>
 <dialog id="help" aria-labelledby="helph"><h1 id="helph">A run, entry by entry</h1>
-  <p>The journal of a run is the list of its entries, each an atomic step of the core made by one worker. The page shows what stands after an entry: each task's heap is a box in its parent's, with its chunks and the objects in them. While a collection goes on, what it will drop is pale.</p>
+  <p>The journal of a run is the list of its entries, each an atomic step of the core made by one worker. The page shows what stands after an entry: each task's heap is a box in its parent's, with its chunks and the objects in them. Below a task's name stand the objects that its registers hold, its roots; what no root leads to is pale, and so is what a collection that goes on will drop.</p>
   <table><tr><td><kbd>&larr;</kbd> <kbd>&rarr;</kbd><td>an entry back, on<tr><td><kbd>Shift</kbd> with them<td>the entry before, after, of the same worker<tr><td><kbd>PgUp</kbd> <kbd>PgDn</kbd> <kbd>Home</kbd> <kbd>End</kbd><td>ten entries; the start, the end<tr><td><kbd>n</kbd> <kbd>p</kbd><td>next, previous fork, join, collection, output or end<tr><td><kbd>Space</kbd><td>play, pause<tr><td><kbd>/</kbd><td>find an object by its birth name; <kbd>Esc</kbd> lets it go<tr><td><kbd>]</kbd> <kbd>[</kbd><td>next, previous entry that touches the object looked at<tr><td><kbd>+</kbd> <kbd>&minus;</kbd> <kbd>f</kbd><td>zoom the heaps, fit<tr><td><kbd>o</kbd><td>object by object, or heap by heap<tr><td><kbd>t</kbd> <kbd>?</kbd><td>dark or light; this help</table>
-  <p>A link to an entry ends with <code>#e=17</code>, and with <code>&amp;o=1.0</code> it looks at an object. An object's name (B,N) says that it is the N-th allocation of task B. A double underline marks a remembered field. Of many references within heaps only those are drawn that the entry touches; point at an object to see all of its own.</p>
+  <p>A link to an entry ends with <code>#e=17</code>, and with <code>&amp;o=1.0</code> it looks at an object. An object's name (B,N) says that it is the N-th allocation of task B. A double underline marks a remembered field. Of many references within heaps, and of many roots, only those have arrows that the entry touches; point at an object to see all of its own.</p>
   <form method="dialog"><button>Close</button></form></dialog>
 <script type="application/json" id="run">"##;
 
@@ -294,7 +298,7 @@ pub const AFTER_1: &str = r##"</script>
 const RUN = JSON.parse(document.getElementById('run').textContent);
 const [START, ...ENTRIES] = RUN.entries, N = ENTRIES.length;
 const LINES = RUN.program.slice(0, -1);  // the data ends its lines with an empty one
-const OBJECTS_DRAWN = 160, TASKS_DRAWN = 200, ARROWS_DRAWN = 75, FOLDS_FROM = 5;
+const OBJECTS_DRAWN = 160, TASKS_DRAWN = 200, ARROWS_DRAWN = 75, ROOTS_DRAWN = 16, FOLDS_FROM = 5;
 
 /* ------------------------------------------------------------ texts and elements */
 
@@ -334,7 +338,7 @@ const heapOf = n => owner(bornIn(n));
 const kindOf = (a, b) => a === b ? 'inside' : above(b, a) ? 'up' : above(a, b) ? 'down' : 'cross';
 
 for (const d of ENTRIES) {              // what the steps did, by kind
-  for (const [what, ...parts] of d.did || []) (d[what] ||= []).push(what === 'new' || what === 'set' ? parts : parts[0]);
+  for (const [what, ...parts] of d.did || []) (d[what] = d[what] || []).push(what === 'new' || what === 'set' ? parts : parts[0]);
 }
 
 function putInto(log) {                 // puts a value into a map, or takes it away, and notes what stood there
@@ -371,9 +375,9 @@ function place(put, o) {                // a new object lies in the last chunk, 
   if (words(o) > UNIT) putHeap(put, t, { large: [...h.large, o.n], reserved: 0 });
   else putHeap(put, t, { chunks: [...h.chunks.slice(0, -1), [...h.chunks[h.chunks.length - 1] || [], o.n]] });
 }
-function lay(put, [t, chunks, large]) { // what lay in the heap and is in none of these was dropped
+function lay(put, [t, chunks, large], swept) {  // what lay in the heap and is in none of these was dropped
   const kept = new Set([...chunks.flat(), ...large]), gone = namesIn(heapAt(t)).filter(n => !kept.has(n));
-  putHeap(put, t, { chunks, large, begun: 0, keeps: null, snap: null, marked: 0 });
+  putHeap(put, t, { chunks, large, begun: 0, keeps: null, ...swept ? { snap: null, marked: 0 } : {} });
   for (const n of gone) {
     more(put, 'words', -words(S.objs.get(n)));
     put(S.objs, n, undefined);
@@ -391,7 +395,7 @@ function merge(put, joined) {           // the left child's chunks come first, t
 function applyNews(put, d) {            // what the entry tells of the heap of its task
   if (d.give) give(put, d.give);
   if (d.take) putHeap(put, d.take[0], { begun: d.take[1], keeps: d.take[2] });
-  if (d.heap) lay(put, d.heap);
+  if (d.heap) lay(put, d.heap, d.e[1] === 'sweep');
   if (d.snap) putHeap(put, d.snap[0], { snap: d.snap[1], marked: 0 });
   if (d.mark) putHeap(put, d.mark[0], { marked: d.mark[1] });
 }
@@ -413,11 +417,11 @@ function lift(put, joined) {            // what a joined heap remembered its par
 function apply(d) {
   const log = [], put = putInto(log);
   for (const change of d.did || []) applyChange(put, change);
-  for (const [t, parent, fn] of d.made || []) put(S.tasks, t, { t, parent, fn, state: 'ready', line: 0, w: null });
+  for (const [t, parent, fn] of d.made || []) put(S.tasks, t, { t, parent, fn, state: 'ready', line: 0, holds: [], w: null });
   if (d.made) putHeap(put, d.made[0][1], { snap: null, marked: 0 });
-  for (const [t, state, line] of d.task || []) {
+  for (const [t, state, line, ...holds] of d.task || []) {
     const x = S.tasks.get(t) || { t: 0, parent: null, fn: 'main' };
-    put(S.tasks, t, { ...x, state, line, w: state !== 'out' ? null : x.state === 'out' ? x.w : d.e[0] });
+    put(S.tasks, t, { ...x, state, line, holds, w: state !== 'out' ? null : x.state === 'out' ? x.w : d.e[0] });
   }
   const joined = (d.task || []).filter(x => x[1] === 'joined').map(x => x[0]);
   merge(put, joined);
@@ -439,21 +443,21 @@ function seek(i) {
 /* ------------------------------------------------------------ once over the run: curves, histories, outputs */
 
 const curve = { chunks: [0], words: [0] };
-const history = new Map();              // of each object the entries that touch it
+const histories = new Map();            // of each object the entries that touch it
 const outputs = [];
-const stones = [0];                     // the entries that `n` and `p` lead to
-const ofWorker = new Map();             // the entries of each worker
 "##;
 
 pub const AFTER_2: &str =
-    r##"const first = new Map();                // where each task is taken first
+    r##"const stones = [0];                     // the entries that `n` and `p` lead to
+const ofWorker = new Map();             // the entries of each worker
+const first = new Map();                // where each task is taken first
 let tasksMade = 1;
 
 const joins = d => (d.task || []).some(x => x[1] === 'joined');
 const isStone = (d, i) => d.made || d.print || joins(d) || i === N || /^(begin|end|mark|sweep)$/.test(d.e[1]);
 function note(n, i, what) {
-  const past = history.get(n), last = past && past[past.length - 1];
-  if (!last || last[0] !== i || last[1] !== what) group(history, n, [i, what]);
+  const past = histories.get(n), last = past && past[past.length - 1];
+  if (!last || last[0] !== i || last[1] !== what) group(histories, n, [i, what]);
 }
 function noteHistory(d, i) {
   for (const [n] of d.new || []) note(n, i, 'allocated');
@@ -495,12 +499,12 @@ const END = {
 };
 const isOver = i => i === N && RUN.end[0] !== 'done';
 const isStopped = () => isOver(pos) && RUN.end[0] === 'entangled';
-const stop = says => node('span', { class: 'stop' }, says);
+const halt = says => node('span', { class: 'stop' }, says);
 
 const SAY = {                           // by an entry's kind, of its delta, its task and its numbers
   took: (d, t) => first.get(t) < pos ? `takes task ${t} again, whose children have joined.` : `takes task ${t}, which begins in <code>${esc(S.tasks.get(t).fn)}</code>.`,
   ran: (d, t, steps) => step(d, t, steps) + sayChanges(d),
-  chunk: (d, t) => pos === N && RUN.end[0] === 'pool' ? `task ${t} needs a chunk for its next object, and too few are free. ${stop('The run ends for want of chunks.')}`
+  chunk: (d, t) => pos === N && RUN.end[0] === 'pool' ? `task ${t} needs a chunk for its next object, and too few are free. ${halt('The run ends for want of chunks.')}`
     : `task ${t} gets a chunk${d.give && d.give[1] > 1 ? ` of ${count(d.give[1])} units` : ''}, since its next object has no place in what it has.`,
   begin: (d, t) => `a leaf collection of task ${t}'s heap begins, with ${many(d.take[1], 'chunk')} to copy into. It keeps ${count(d.take[2].length)} of ${many(namesIn(heapAt(t)).length, 'object')}.`,
   end: (d, t, kept, given, left) => `the collection of task ${t}'s heap ends: ${many(kept, 'new chunk')} kept, ${given ? many(given, 'chunk') : 'none'} given back. The heap has ${many(left, 'word')}.`,
@@ -512,7 +516,7 @@ const SAY = {                           // by an entry's kind, of its delta, its
 function say(i) {                       // the state is that after entry i
   if (i === 0) return 'Before the first entry: task 0 is ready to run <code>main</code>.';
   const d = ENTRIES[i - 1], [w, kind, ...numbers] = d.e;
-  if (kind === 'fuel') return stop(END.fuel(RUN.end));
+  if (kind === 'fuel') return halt(END.fuel(RUN.end));
   return `Worker ${w}${/^(took|mark|some|sweep)$/.test(kind) ? ' ' : ': '}${SAY[kind](d, ...numbers)}`;
 }
 
@@ -535,8 +539,8 @@ const DID = {                           // by the instruction of the last step, 
 function step(d, t, steps) {
   const [line, op, ...parts] = d.at, code = `<code>${instruction(line)}</code> on line ${line}`, over = isOver(pos);
   const T = steps > 1 ? `task ${t} takes ${steps} steps. The last ` : `task ${t} `;
-  if (over && RUN.end[0] === 'trap') return `${T}is at ${code}, and ${stop(`traps (${RUN.end[1]}). The run is over.`)}`;
-  if (isStopped()) return `${T}reads ${fieldOf(t, parts[0], parts[1])}, which holds ${link(parts[2])} of task ${RUN.end[2]} beside it. ${stop('The read is stopped as entangled, and the run is over.')}`;
+  if (over && RUN.end[0] === 'trap') return `${T}is at ${code}, and ${halt(`traps (${RUN.end[1]}). The run is over.`)}`;
+  if (isStopped()) return `${T}reads ${fieldOf(t, parts[0], parts[1])}, which holds ${link(parts[2])} of task ${RUN.end[2]} beside it. ${halt('The read is stopped as entangled, and the run is over.')}`;
   if (op === 'out') return `${T}writes the number <b>${(d.print || []).at(-1)}</b>.`;
   if (op === 'par') return `${T}forks, and task ${t} waits for ${d.made.map(([x, , f]) => `task ${x} (<code>${esc(f)}</code>)`).join(' and ')}.`;
   if (op === 'ret') return returned(d, t, steps, line);
@@ -560,11 +564,11 @@ const CHANGE = {
 function sayChanges(d) {                // what all steps changed, if there are more than the last tells of
   const all = d.did || [];
   if (d.e[3] === 1 || all.length < 2 && /^(newm|pack|putr|puti|cas|freeze|out)$/.test(d.at[1]) || !all.length) return '';
-  const told = all.slice(0, 6).map(([what, ...x]) => CHANGE[what](x)), more = all.length - told.length;
 "##;
 
 pub const AFTER_3: &str =
-    r##"  return ` <span class="tiny">In these steps: ${told.join('; ')}${more ? `; and ${many(more, 'change')} more` : ''}.</span>`;
+    r##"  const told = all.slice(0, 6).map(([what, ...x]) => CHANGE[what](x)), more = all.length - told.length;
+  return ` <span class="tiny">In these steps: ${told.join('; ')}${more ? `; and ${many(more, 'change')} more` : ''}.</span>`;
 }
 
 /* ------------------------------------------------------------ drawing: program, tasks, outputs, the object looked at */
@@ -658,10 +662,10 @@ function fieldRows(o, own) {
   if (all > out.length) out.push(row('', `and ${count(all - out.length)} more`));
   return out;
 }
-function holders(n) {                   // the fields that hold an object
-  const out = [];
+function holders(n) {                   // the tasks and the fields that hold an object
+  const out = [...S.tasks.values()].filter(x => x.holds.includes(n)).slice(0, 6).map(x => `task ${x.t}`);
   for (const p of S.objs.values()) for (let k = 0; k < p.R && out.length < 12; k++) if (p.f[k] === n) out.push(`${link(p.n)}.${k}`);
-  return out.join(' ') || 'no object';
+  return out.join(', ') || 'no task and no object';
 }
 function about(o) {
   const own = heapOf(o.n), notes = [...S.noted.values()].filter(x => x[1] === o.n).map(x => `field ${x[2]} for task ${x[0]}`);
@@ -674,7 +678,7 @@ function pastOf(past) {
   return node('ol', { 'aria-label': 'Entries that touch it' }, near.map(line));
 }
 function drawLook() {
-  const box = $('look'), o = seen && S.objs.get(seen), past = seen && history.get(seen);
+  const box = $('look'), o = seen && S.objs.get(seen), past = seen && histories.get(seen);
   box.hidden = !seen;
   if (!seen) return;
   const head = `<h2><span>Object ${nm(seen)}</span><button class="name" data-o="" aria-label="Let it go">\u2715</button></h2>`;
@@ -696,14 +700,15 @@ function touched(d) {                   // what the entry did: of objects class 
   if (d.at && d.at[3] !== undefined) field(d.at[2], d.at[3], /^get/.test(d.at[1]) ? 'read' : 'wrote');
   return { how, fields };
 }
-const sums = new WeakMap();             // of each account of a heap: how many objects it holds, and their words
+"##;
+
+pub const AFTER_4: &str =
+    r##"const sums = new WeakMap();             // of each account of a heap: how many objects it holds, and their words
 function sumOf(h) {
   if (!sums.has(h)) {
     const names = namesIn(h);
     sums.set(h, [names.length, names.reduce((sum, n) => sum + words(S.objs.get(n)), 0)]);
-"##;
-
-pub const AFTER_4: &str = r##"  }
+  }
   return sums.get(h);
 }
 const sumIn = tasks => tasks.map(x => sumOf(heapAt(x.t))).reduce(([a, b], [c, d]) => [a + c, b + d], [0, 0]);
@@ -715,6 +720,15 @@ function fading() {                     // what a collection that goes on will d
     if (kept) for (const n of namesIn(h)) if (!stays.has(n)) fades.add(n);
   }
   return fades;
+}
+function reached() {                    // what the roots of all tasks lead to
+  const met = new Set([...S.tasks.values()].flatMap(x => x.holds)), todo = [...met];
+  const meet = v => { if (v && !met.has(v)) { met.add(v); todo.push(v); } };
+  while (todo.length) {
+    const o = S.objs.get(todo.pop());
+    if (o) o.f.slice(0, o.R).forEach(meet);
+  }
+  return met;
 }
 function actingTasks(d) {
   const act = new Set((d.task || []).map(x => x[0]));
@@ -760,7 +774,7 @@ function lookOver() {
   const main = (d.e || [])[2], looked = seen && S.objs.has(seen) ? heapOf(seen) : -1, near = t => t === main || t === looked;
   for (const x of shown) if (x.parent !== null) group(kids, x.parent, x);
   return {
-    d, act, live, shown, kids, ...touched(d), rest: atRest(live, shown), folded: foldedTasks(shown, kids, near), whole: heapsAsWhole(shown, near), fades: fading(),
+    d, act, live, shown, kids, ...touched(d), rest: atRest(live, shown), folded: foldedTasks(shown, kids, near), whole: heapsAsWhole(shown, near), fades: fading(), reached: reached(),
     noted: new Set([...S.noted.values()].map(x => `${x[1]} ${x[2]}`)), stopped: isStopped() ? d.at[4] : null, used: new Set(),
   };
 }
@@ -788,11 +802,12 @@ function fieldsOf(o, own) {             // of many the first few, and those that
 function spoken(o, tag) {               // an object, for those who hear the page
   const says = [];
   for (let k = 0; k < Math.min(o.R + o.I, 10); k++) says.push(k >= o.R ? `number ${o.f[k] || 0}` : o.f[k] ? `reference ${k} to ${nm(o.f[k])}` : `reference ${k} nil`);
-  return `object ${nm(o.n)}, ${o.m ? 'mutable' : 'immutable'}${tag && ', ' + tag}: ${says.join(', ') || 'no fields'}`;
+  const pale = view.reached.has(o.n) ? '' : ', no root leads to it';
+  return `object ${nm(o.n)}, ${o.m ? 'mutable' : 'immutable'}${tag && ', ' + tag}${pale}: ${says.join(', ') || 'no fields'}`;
 }
 function card(o, own) {
   const [how, tag] = view.how.get(o.n) || ['', ''], tagged = tag && view.how.size <= 30;
-  const looks = cls('obj', !o.m && 'imm', how, o.n === seen && 'sel', o.n === view.stopped && 'stopped', view.fades.has(o.n) && 'fades');
+  const looks = cls('obj', !o.m && 'imm', how, o.n === seen && 'sel', o.n === view.stopped && 'stopped', (view.fades.has(o.n) || !view.reached.has(o.n)) && 'fades');
   return node('button', { class: looks, 'data-o': o.n, 'aria-label': spoken(o, tag) },
     tagged && node('em', { class: cls('tag', how) }, tag), node('span', { class: 'nm' }, nm(o.n), node('span', {}, o.m ? '' : 'imm')), fieldsOf(o, own));
 }
@@ -823,6 +838,15 @@ function head(x) {
   return node('div', { class: 'head' }, node('b', {}, `task ${x.t}`), node('span', { class: cls('pill', s.cls) }, s.says),
     node('span', { class: 'tiny' }, esc(x.fn), x.line && `, line ${x.line}`));
 }
+function roots(x) {                     // what a task holds, as cells from which arrows lead to the objects
+"##;
+
+pub const AFTER_5: &str =
+    r##"  const shown = x.holds.slice(0, ROOTS_DRAWN), rest = x.holds.length - shown.length;
+  const cell = n => node('button', { class: 'hold', 'data-o': n, 'aria-label': `root ${nm(n)}` }, n.replace('.', ','));
+  return x.holds.length && node('div', { class: 'roots', role: 'group', 'aria-label': `Task ${x.t} holds ${many(x.holds.length, 'object')}` },
+    node('span', { class: 'tiny' }, 'holds'), shown.map(cell), rest && node('span', { class: 'tiny' }, `and ${count(rest)} more`));
+}
 const boxes = new Map();                // the boxes that stand on the stage, by task; what is the same in them stays
 function boxOf(t) {
   if (!boxes.has(t)) {
@@ -838,14 +862,12 @@ function boxOf(t) {
 function fill(el, inner) {              // the same children in the same order stay
   if (inner.length !== el.children.length || inner.some((x, i) => x !== el.children[i])) el.replaceChildren(...inner);
 }
-function setBox(t, look, style, says, own, kids) {
+function setBox(t, [look, style, says], own, kids) {
   const { el, own: top, kids: below, looks } = boxOf(t), now = `${look}|${style}|${says}`;
   if (now !== looks) {
     el.className = look;
     el.style.cssText = style;
-"##;
-
-pub const AFTER_5: &str = r##"    el.setAttribute('aria-label', says);
+    el.setAttribute('aria-label', says);
     boxes.get(t).looks = now;
   }
   write(top, own);
@@ -857,7 +879,7 @@ pub const AFTER_5: &str = r##"    el.setAttribute('aria-label', says);
 function box(x, deep) {
   if (view.folded.has(x.t)) return fold(x, deep);
   const look = cls('task', x.state, deep > 6 && 'tight', view.act.has(x.t) && 'act'), kids = (view.kids.get(x.t) || []).map(y => box(y, deep + 1));
-  return setBox(x.t, look, `--deep:${Math.min(deep, 6)};${tint(x)}`, `Task ${x.t}, ${stateOf(x).says}`, head(x) + heap(x) + restOf(x.t), kids);
+  return setBox(x.t, [look, `--deep:${Math.min(deep, 6)};${tint(x)}`, `Task ${x.t}, ${stateOf(x).says}`], head(x) + (roots(x) || '') + heap(x) + restOf(x.t), kids);
 }
 function chainFrom(x) {                 // the folded tasks below one another, those beside them, and what is drawn below
   const chain = [], beside = [];
@@ -877,7 +899,7 @@ function fold(x, deep) {
   const also = beside.length ? `; beside them ${many(beside.length, 'task')}` : '';
   const own = node('div', { class: 'head' }, node('b', {}, '\u22ee'), node('span', { class: 'tiny' }, says, also))
     + node('div', { class: 'heap' }, node('span', { class: 'sum', 'data-heap': x.t }, sum(sumIn([...chain, ...beside]))));
-  return setBox(x.t, 'task fold', `--deep:${Math.min(deep, 6)}`, says, own, below.map(y => box(y, deep + 1)));
+  return setBox(x.t, ['task fold', `--deep:${Math.min(deep, 6)}`, says], own, below.map(y => box(y, deep + 1)));
 }
 function captionOf() {
   const { live, shown, whole, folded } = view, hidden = live.length - shown.length + folded.size;
@@ -932,7 +954,7 @@ function fit() {
 /* ------------------------------------------------------------ drawing heaps: arrows */
 
 const marker = (k, px) => `<marker id="to-${k}" viewBox="0 0 8 8" refX="7" refY="4" markerWidth="${px}" markerHeight="${px}" markerUnits="userSpaceOnUse" orient="auto"><path d="M0 .5 8 4 0 7.5z" class="${k}"/></marker>`;
-const HEADS = marker('inside', 8) + marker('up', 8) + marker('down', 9) + marker('cross', 8);
+const HEADS = marker('inside', 8) + marker('up', 8) + marker('down', 9) + marker('cross', 8) + marker('root', 6);
 const KINDS = ['inside', 'up', 'down', 'cross'];
 const arrows = document.createElementNS('http://www.w3.org/2000/svg', 'svg');
 arrows.id = 'arrows';
@@ -963,7 +985,10 @@ const arrow = (look, kind, from, to, d) => `<path class="${cls(kind, look)}" dat
 function places(rect) {                 // where cards, heaps that are drawn as a whole, and tasks stand
   const at = { cards: new Map(), sums: new Map(), heads: new Map() };
   for (const el of $('stage').querySelectorAll('.obj')) at.cards.set(el.dataset.o, rect(el));
-  for (const el of $('stage').querySelectorAll('.sum[data-heap]')) at.sums.set(+el.dataset.heap, rect(el));
+"##;
+
+pub const AFTER_6: &str =
+    r##"  for (const el of $('stage').querySelectorAll('.sum[data-heap]')) at.sums.set(+el.dataset.heap, rect(el));
   for (const el of $('stage').querySelectorAll('.task')) at.heads.set(+el.dataset.t, rect(el.firstChild.firstChild.firstChild));
   return at;
 }
@@ -973,6 +998,14 @@ function fieldArrows(at, rect, em) {
     const from = el.closest('.obj').dataset.o, to = el.dataset.to, place = at.cards.get(to) || at.sums.get(heapOf(to));
     const kind = KINDS.find(k => el.classList.contains(k)), hit = view.how.has(from) || el.classList.contains('read');
     if (place) paths.push(arrow(cls(el.classList.contains('wrote') && 'fresh', hit && 'near'), kind, from, to, route(rect(el), place, em, at.cards.get(from))));
+  }
+  return paths;
+}
+function rootArrows(at, rect, em) {     // from what tasks hold
+  const paths = [];
+  for (const el of $('stage').querySelectorAll('.hold')) {
+    const to = el.dataset.o, place = at.cards.get(to) || at.sums.get(heapOf(to)), cell = rect(el), near = view.act.has(+el.closest('.task').dataset.t);
+    if (place) paths.push(arrow(near && 'near', 'root', '', to, route(cell, place, em, cell)));
   }
   return paths;
 }
@@ -986,10 +1019,7 @@ function countsBetween() {              // of heaps that are drawn as a whole: h
 function heapArrow(at, em, [key, n]) {
   const [a, b] = key.split(' ').map(Number), kind = kindOf(a, b), s = at.sums.get(a), t = at.sums.get(b) || at.heads.get(b);
   if (!s || !t) return '';
-"##;
-
-pub const AFTER_6: &str =
-    r##"  const low = s.t > t.t, shift = kind === 'down' ? em : -em, x1 = s.x + shift, y1 = low ? s.t : s.b, x2 = t.x + shift, y2 = low ? t.b : t.t, m = (y1 + y2) / 2;
+  const low = s.t > t.t, shift = kind === 'down' ? em : -em, x1 = s.x + shift, y1 = low ? s.t : s.b, x2 = t.x + shift, y2 = low ? t.b : t.t, m = (y1 + y2) / 2;
   return arrow('', kind, '', '', `M${x1} ${y1}C${x1} ${m} ${x2} ${m} ${x2} ${y2}`) + `<text class="${kind}" x="${(x1 + x2) / 2}" y="${m + 4}" text-anchor="middle">${n}</text>`;
 }
 function stoppedArrow(at, rect) {       // from the reader to the object that it may not have
@@ -1001,15 +1031,16 @@ function stoppedArrow(at, rect) {       // from the reader to the object that it
     + `<text class="cross" x="${(s.x + side[0]) / 2 + dx * .2}" y="${Math.max(s.b + 30, side[1] - 8)}" text-anchor="middle">stopped</text>`;
 }
 function arrowPaths() {
-  const rect = measure(), at = places(rect), em = fitted, paths = fieldArrows(at, rect, em);
+  const rect = measure(), at = places(rect), em = fitted, paths = [...rootArrows(at, rect, em), ...fieldArrows(at, rect, em)];
   for (const one of countsBetween()) paths.push(heapArrow(at, em, one));
   if (view.stopped) paths.push(stoppedArrow(at, rect));
   return paths;
 }
 function drawArrows(paths) {
-  const inside = paths.filter(p => p.startsWith('<path class="inside')).length;
+  const drawn = kind => paths.filter(p => p.startsWith(`<path class="${kind}`)).length;
   write(arrows, `<defs>${HEADS}</defs>${paths.join('')}`);
-  arrows.classList.toggle('few', inside > ARROWS_DRAWN);
+  arrows.classList.toggle('few', drawn('inside') > ARROWS_DRAWN);
+  arrows.classList.toggle('crowd', drawn('root') > ROOTS_DRAWN);
   hot(seen);
 }
 function hot(n) {                       // the arrows of one object
@@ -1017,7 +1048,7 @@ function hot(n) {                       // the arrows of one object
   for (const p of arrows.querySelectorAll('path[data-b]')) {
     const is = Boolean(n) && (p.dataset.a === n || p.dataset.b === n);
     p.classList.toggle('hot', is);
-    any ||= is;
+    any = any || is;
   }
   arrows.classList.toggle('hot', any);
 }
@@ -1077,7 +1108,7 @@ function drawLanes(follow) {
   const box = $('lanes'), block = 20 * wide;
   if (follow) followLanes();
   const from = Math.max(0, Math.floor(box.scrollLeft / block) - 1) * 20 + 1, to = Math.min(N, (Math.ceil((box.scrollLeft + box.clientWidth) / block) + 1) * 20);
-  const touch = new Set((seen && history.get(seen) || []).map(x => x[0])), out = workers.map((w, j) => `<div class="lane" style="top:${j * HIGH + 10}px"></div>`);
+  const touch = new Set((seen && histories.get(seen) || []).map(x => x[0])), out = workers.map((w, j) => `<div class="lane" style="top:${j * HIGH + 10}px"></div>`);
   for (let i = from; i <= to; i++) out.push(entryBox(i, touch));
   write($('track'), out.join('') + '<div id="veil"></div>');
   markEntry();
@@ -1087,7 +1118,10 @@ function drawLanes(follow) {
 
 let timer = null, linking = null, waits = 0;
 function keepingFocus(redraw) {         // the focus comes back to what was redrawn
-  const el = document.activeElement, at = el && ['o', 'e', 't'].find(k => el.dataset && el.dataset[k] !== undefined), inside = at && el.closest('[id]');
+"##;
+
+pub const AFTER_7: &str =
+    r##"  const el = document.activeElement, at = el && ['o', 'e', 't'].find(k => el.dataset && el.dataset[k] !== undefined), inside = at && el.closest('[id]');
   const value = at && el.dataset[at];
   redraw();
   if (!at || !inside || document.activeElement !== document.body) return;
@@ -1121,7 +1155,7 @@ function go(i) {
 }
 function pick(n, jump) {
   seen = n || null;
-  if (seen && jump && history.has(seen) && !S.objs.has(seen)) return go(history.get(seen)[0][0]);
+  if (seen && jump && histories.has(seen) && !S.objs.has(seen)) return go(histories.get(seen)[0][0]);
   draw();
   const el = seen && $('stage').querySelector(`.obj[data-o="${CSS.escape(seen)}"]`);
   if (el && jump) el.scrollIntoView({ block: 'nearest', inline: 'nearest' });
@@ -1133,9 +1167,7 @@ function play(on) {
   $('go').innerHTML = `<svg viewBox="0 0 16 16"><path d="${on ? 'M3 2h4v12H3zM9 2h4v12H9z' : 'M4 2v12l10-6z'}"/></svg>`;
   $('go').setAttribute('aria-pressed', Boolean(on));
   $('go').setAttribute('aria-label', on ? 'Pause' : 'Play');
-"##;
-
-pub const AFTER_7: &str = r##"  $('said').setAttribute('aria-live', on ? 'off' : 'polite');
+  $('said').setAttribute('aria-live', on ? 'off' : 'polite');
 }
 function theme() {
   const root = document.documentElement, dark = root.dataset.theme ? root.dataset.theme === 'dark' : matchMedia('(prefers-color-scheme: dark)').matches;
@@ -1155,7 +1187,7 @@ function nextMode() {
   mode = (mode + 1) % 3;
   drawHeaps();
 }
-const touches = () => (seen && history.get(seen) || []).map(x => x[0]);
+const touches = () => (seen && histories.get(seen) || []).map(x => x[0]);
 const ofSame = by => pos ? next(ofWorker.get(ENTRIES[pos - 1].e[0]), by) : go(pos + by);
 const KEYS = {
   ArrowRight: e => e.shiftKey ? ofSame(1) : go(pos + 1), ArrowLeft: e => e.shiftKey ? ofSame(-1) : go(pos - 1), PageDown: () => go(pos + 10), PageUp: () => go(pos - 10),
@@ -1249,7 +1281,7 @@ function lineRow(text, i) {
 function legend() {
   const line = (k, says) => node('span', {}, `<svg viewBox="0 0 26 8"><path class="${k}" d="M0 4H24"/></svg> ${says}`);
   const swatch = (k, says) => node('span', {}, node('i', { class: cls('sw', k) }), ` ${says}`);
-  return [line('inside', 'inside'), line('up', 'up'), line('down', 'down, remembered'), line('cross', 'entangled'),
+  return [line('inside', 'inside'), line('up', 'up'), line('down', 'down, remembered'), line('cross', 'entangled'), line('root', 'root of a task'),
     swatch('new', 'allocated'), swatch('set', 'written'), swatch('imm', 'immutable')].join('');
 }
 function begin() {
@@ -1257,7 +1289,10 @@ function begin() {
   try { const kept = localStorage.getItem('hh-theme'); if (kept) document.documentElement.dataset.theme = kept; } catch { /* no store */ }
   document.title = `${RUN.title}: a run`;
   $('title').textContent = RUN.title;
-  $('how').textContent = `${many(N, 'entry', 'entries')} by ${many(s.workers, 'worker')} \u00b7 leaf limit ${s.leaf} words \u00b7 inner limit ${s.inner} words \u00b7 ${s.chunks} chunks \u00b7 fuel ${count(s.fuel)}`;
+"##;
+
+pub const AFTER_8: &str =
+    r##"  $('how').textContent = `${many(N, 'entry', 'entries')} by ${many(s.workers, 'worker')} \u00b7 leaf limit ${s.leaf} words \u00b7 inner limit ${s.inner} words \u00b7 ${s.chunks} chunks \u00b7 fuel ${count(s.fuel)}`;
   $('lines').innerHTML = LINES.map(lineRow).join('');
   $('legend').innerHTML = legend();
   $('names').innerHTML = workers.map(w => `<div style="--w:${hue(w)}">worker <b>${w}</b></div>`).join('');
@@ -1346,6 +1381,12 @@ fn add_after_7(text: &mut Vec<u8>) -> Result<(), AllocError>
     text.extend_from_slice(AFTER_7.as_bytes())
 }
 
+fn add_after_8(text: &mut Vec<u8>) -> Result<(), AllocError>
+    ensures { OnOk result (text.new.items ≡ text.old.items ++ AFTER_8.now) }
+{
+    text.extend_from_slice(AFTER_8.as_bytes())
+}
+
 #[tactic(auto, unfolding(crate::specs::Text::after_group_1_1))]
 fn add_after_group_1_1(text: &mut Vec<u8>) -> Result<(), AllocError>
     ensures { OnOk result (text.new.items ≡ text.old.items ++ after_group_1_1) }
@@ -1368,7 +1409,8 @@ fn add_after_group_1_2(text: &mut Vec<u8>) -> Result<(), AllocError>
 fn add_after_group_1_3(text: &mut Vec<u8>) -> Result<(), AllocError>
     ensures { OnOk result (text.new.items ≡ text.old.items ++ after_group_1_3) }
 {
-    add_after_7(text)
+    add_after_7(text)?;
+    add_after_8(text)
 }
 
 /// Adds what stands after the data of a run.

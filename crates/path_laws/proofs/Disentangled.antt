@@ -1,25 +1,5 @@
 -- A task names only what its path owns, and an object refers only along a path.
-use Rattle.std.proofs.Common.{◌≡◌, ℕ, ℤ, zero, suc, ◌+◌, ◌<◌, ◌≤◌, ◌==◌, ◌||◌, Bool, true, false, Option, Some, List, [], ◌∷◌, ◌++◌, length, slice_get, slice_set, ◌⊎◌, inl, inr, refl, ap, sym, subst, ◌∙◌, arith, length-set, ne_eqb}
-use Rattle.std.proofs.lemmas.Bool.{or_right}
-use Rattle.std.proofs.Math.Path.{fun_ext}
-use Rattle.std.proofs.lemmas.Option.{same_Some}
-use Rattle.listed.proofs.Members.{In, got_cases, got_within, same_view}
-use Rattle.hh_lang.specs.Form.{ProgramText}
-use Rattle.hh_model.specs.declared.data.Name.{Name}
-use Rattle.hh_model.specs.declared.data.Object.{Object}
-use Rattle.hh_model.specs.declared.data.Status.TheVariants.{Waiting}
-use Rattle.hh_model.specs.declared.data.Task.{Task}
-use Rattle.hh_model.specs.declared.data.State.{State}
-use Rattle.hh_model.specs.Effect.{row_of, onward, ref_in}
-use Rattle.hh_model.specs.Names.{refs_of, refs_at, task_names}
-use Rattle.hh_model.specs.Step.{waits, is_over, is_running, is_waiting, is_joined, parent_of, parents, joined, owner_in, path_in, is_left, joined_task, resumed, child, step, root, run, start, ended_task, result_of}
-use Rattle.hh_model.proofs.Paths.{AreLow, path_child, path_itself, path_same, owner_same, owner_le, owner_joins, on_one_path, path_parent}
-use Rattle.hh_model.proofs.Carried.{in_from_named, next_name}
-use Rattle.hh_model.proofs.Runs.{running_tells, grown_length, grown_view, grown_view_front, grown_left, grown_right, fork_tree, three_length, three_view, three_left, three_right, parl, parr, below, drest, joiner_live}
-use Rattle.hh_model.proofs.ForkJoinStates.{IsForkJoinState, seen}
-use Rattle.hh_model.proofs.Steps.{Drawn, Put, runs_is, names_run, register_cases, step_cases}
-use Rattle.hh_model.proofs.Closed.{waits_is, refs_grown, grown_cases, three_cases, joined_names, resumed_names}
-use Rattle.hh_model.proofs.Climbs.{owner_here}
+use Rattle.path_laws.proofs.Common.{◌≡◌, ℕ, ℤ, zero, suc, ◌+◌, ◌<◌, ◌≤◌, ◌==◌, ◌||◌, Bool, true, false, Option, Some, List, [], ◌∷◌, ◌++◌, length, slice_get, slice_set, ◌⊎◌, inl, inr, refl, ap, sym, subst, ◌∙◌, arith, length-set, ne_eqb, or_right, fun_ext, same_Some, In, got_cases, got_within, same_view, ProgramText, Name, Object, Waiting, Task, MachineState, row_of, onward, ref_in, refs_of, refs_at, task_names, waits, is_over, is_running, is_waiting, is_joined, parent_of, parents, joined, owner_in, path_in, is_left, joined_task, resumed, child, step, root, run, start, ended_task, result_of, AreLow, path_child, path_itself, path_same, owner_same, owner_le, owner_joins, on_one_path, path_parent, in_from_named, next_name, running_tells, grown_length, grown_view, grown_view_front, grown_left, grown_right, fork_tree, three_length, three_view, three_left, three_right, parl, parr, below, drest, joiner_live, IsForkJoinState, seen, Drawn, Put, runs_is, names_run, register_cases, step_cases, waits_is, refs_grown, grown_cases, three_cases, joined_names, resumed_names, owner_here}
 pub use Rattle.path_laws.specs.Paths.{OnePath}
 pub use Rattle.path_laws.specs.Disentangled.{IsOnPathOf, AreOnOnePath, Apart, Disentangled}
 
@@ -60,18 +40,18 @@ module _ (par : ℕ → Option ℕ) (low : AreLow par) (jd jd' : ℕ → Bool) (
     | inr m ↦ ap (λ x. path_in par x u) m.0 ∙ h
   ]
 
-  at : (a b x y : ℕ) → o' a ≡ x → o' b ≡ y → OnePath par x y → OnePath par (o' a) (o' b)
-  at a b x y ea eb h = subst (λ w. OnePath par w (o' b)) (sym ea) (subst (λ w. OnePath par x w) (sym eb) h)
+  owners_on_one_path : (a b x y : ℕ) → o' a ≡ x → o' b ≡ y → OnePath par x y → OnePath par (o' a) (o' b)
+  owners_on_one_path a b x y ea eb h = subst (λ w. OnePath par w (o' b)) (sym ea) (subst (λ w. OnePath par x w) (sym eb) h)
 
   pub refers_joins : (a b : ℕ) → OnePath par (o a) (o b) → OnePath par (o' a) (o' b)
   refers_joins a b h = elim (moves a) [
     | inl m ↦ elim (moves b) [
-      | inl k ↦ at a b p p m.0 k.0 (inl (path_itself par low p))
-      | inr k ↦ at a b p (o b) m.0 k.0 (elim h [ inl f ↦ inl (lifted (o a) (o b) m.1 f) | inr g ↦ inr (above (o b) (o a) k.1 m.1 g) ])
+      | inl k ↦ owners_on_one_path a b p p m.0 k.0 (inl (path_itself par low p))
+      | inr k ↦ owners_on_one_path a b p (o b) m.0 k.0 (elim h [ inl f ↦ inl (lifted (o a) (o b) m.1 f) | inr g ↦ inr (above (o b) (o a) k.1 m.1 g) ])
     ]
     | inr m ↦ elim (moves b) [
-      | inl k ↦ at a b (o a) p m.0 k.0 (elim h [ inl f ↦ inl (above (o a) (o b) m.1 k.1 f) | inr g ↦ inr (lifted (o b) (o a) k.1 g) ])
-      | inr k ↦ at a b (o a) (o b) m.0 k.0 h
+      | inl k ↦ owners_on_one_path a b (o a) p m.0 k.0 (elim h [ inl f ↦ inl (above (o a) (o b) m.1 k.1 f) | inr g ↦ inr (lifted (o b) (o a) k.1 g) ])
+      | inr k ↦ owners_on_one_path a b (o a) (o b) m.0 k.0 h
     ]
   ]
 
@@ -106,7 +86,7 @@ module _ (par par' : ℕ → Option ℕ) (low : AreLow par) (low' : AreLow par')
   pub refers_forks : (a b : ℕ) → a < n → b < n → OnePath par (owner_in par jd a) (owner_in par jd b) → OnePath par' (owner_in par' jd a) (owner_in par' jd b)
   refers_forks a b la lb h = elim h [ inl f ↦ inl (path_forks a b la lb f) | inr g ↦ inr (path_forks b a lb la g) ]
 
-module _ (p : ProgramText) (m : State) (t : ℕ) (K : IsForkJoinState m) (I : Disentangled m.tasks m.store) where
+module _ (p : ProgramText) (m : MachineState) (t : ℕ) (K : IsForkJoinState m) (I : Disentangled m.tasks m.store) where
   abbrev n : ℕ
   n = length m.tasks
 

@@ -1,46 +1,20 @@
 -- Reads that are never stopped, and the owner that a stop names.
-use Rattle.std.proofs.Common.{◌≡◌, ℕ, true, false, cond, Option, Some, None, List, [], ◌∷◌, length, slice_get, slice_set, ◌⊎◌, inl, inr, refl, ap, sym, subst, ◌∙◌, is_some}
-use Rattle.std.specs.Option.{option_flatten}
-use Rattle.std.proofs.lemmas.Bool.{cases_eq, both_ways}
-use Rattle.std.proofs.lemmas.Option.{same_Some}
-use Rattle.listed.proofs.Members.{In, in_from_contains, contains_from_in}
-use Rattle.listed.proofs.Options.{none_some}
-use Rattle.hh_lang.specs.Form.{ProgramText}
-use Rattle.hh_model.specs.declared.data.Name.{Name}
-use Rattle.hh_model.specs.declared.data.Object.{Object}
-use Rattle.hh_model.specs.declared.data.Task.{Task}
-use Rattle.hh_model.specs.declared.data.End.{End}
-use Rattle.hh_model.specs.declared.data.End.TheVariants.{Done, Trapped, Entangled}
-use Rattle.hh_model.specs.declared.data.Trap.TheVariants.{Nil}
-use Rattle.hh_model.specs.declared.data.State.{State}
-use Rattle.hh_model.specs.Effect.{Goes, Stops, object_at, onward, or_trap, read_effect, with_ref, ref_in}
-use Rattle.hh_model.specs.Names.{task_names, refs_at, refs_of}
-use Rattle.hh_model.specs.Precedence.{Precedes, precedes}
-use Rattle.hh_model.specs.Step.{ended_by, is_running, is_waiting, joined, parents, path_in, is_on_path, owner_of, run, run_from, start, setting, step, strand_of, child, ended_task, result_of}
-use Rattle.path_laws.specs.ReadLaws.{ReadsFreely, OwnReadsGo, IsStop, StopsNameOwners}
-use Rattle.hh_model.specs.Store.{IsStored}
-use Rattle.hh_model.proofs.Paths.{path_itself}
-use Rattle.hh_model.proofs.Carried.{named_from_in, at_in}
-use Rattle.hh_model.proofs.Runs.{waiting, joins_in, running_tells}
-use Rattle.hh_model.proofs.Tree.{not_above, owner_not_joined}
-use Rattle.hh_model.proofs.ForkJoinStates.{IsForkJoinState, seen, start_is_fork_join_state, run_is_fork_join_state, step_is_fork_join_state}
-use Rattle.hh_model.proofs.Closed.{Closed}
+use Rattle.path_laws.proofs.Common.{◌≡◌, ℕ, true, false, cond, Option, Some, None, List, [], ◌∷◌, length, slice_get, slice_set, ◌⊎◌, inl, inr, refl, ap, sym, subst, ◌∙◌, is_some, option_flatten, cases_eq, both_ways, same_Some, In, in_from_contains, contains_from_in, none_some, ProgramText, Name, Object, Task, End, Done, Trapped, Entangled, Nil, MachineState, Goes, Stops, object_at, onward, or_trap, read_effect, with_ref, ref_in, task_names, refs_at, refs_of, Precedes, precedes, ended_by, is_running, is_waiting, joined, parents, path_in, is_on_path, owner_of, run, run_from, start, setting, step, strand_of, child, ended_task, result_of, IsStored, path_itself, named_from_in, at_in, waiting, joins_in, running_tells, not_above, owner_not_joined, IsForkJoinState, seen, start_is_fork_join_state, run_is_fork_join_state, step_is_fork_join_state, Closed, Halts, step_cases, names_run, runs_is, in_registers, ReadsFreely, OwnReadsGo, IsStop, StopsNameOwners}
 use Rattle.path_laws.proofs.Disentangled.{Disentangled, OnePath, disentangled_step, start_disentangled}
 use Rattle.path_laws.proofs.Stored.{run_stored}
-use Rattle.hh_model.proofs.Steps.{Halts, step_cases, names_run, runs_is, in_registers}
 
-disentangled_from : (p : ProgramText) (m : State) (ts : List ℕ) → IsForkJoinState m → Disentangled m.tasks m.store → Disentangled (run_from p m ts).tasks (run_from p m ts).store
+disentangled_from : (p : ProgramText) (m : MachineState) (ts : List ℕ) → IsForkJoinState m → Disentangled m.tasks m.store → Disentangled (run_from p m ts).tasks (run_from p m ts).store
 disentangled_from p m [] K I = I
 disentangled_from p m (t ∷ ts) K I = disentangled_from p (step p m t) ts (step_is_fork_join_state p m t K) (disentangled_step p m t K I)
 
 pub run_disentangled : (p : ProgramText) (limit : ℕ) (ts : List ℕ) → Disentangled (run p limit ts).tasks (run p limit ts).store
 run_disentangled p limit ts = disentangled_from p (start p limit) ts (start_is_fork_join_state p limit) (start_disentangled p limit)
 
-module _ (m : State) (K : IsForkJoinState m) (t : ℕ) (x : Task) (is : slice_get m.tasks t ≡ Some x) (run' : is_running (Some x) ≡ true) where
+module _ (m : MachineState) (K : IsForkJoinState m) (t : ℕ) (x : Task) (is : slice_get m.tasks t ≡ Some x) (run' : is_running (Some x) ≡ true) where
   idle : waiting m.tasks t ≡ false
   idle = ap is_waiting is ∙ (running_tells x.status run').1
 
-  -- one path with a running task leads up from it
+  -- a task on one path with a running task is its ancestor
   pub up_from : (a : ℕ) → OnePath (parents m.tasks) t (owner_of m.tasks a) → is_on_path m.tasks (owner_of m.tasks a) t ≡ true
   up_from a (inr h) = h
   up_from a (inl h) = elim (cases_eq t (owner_of m.tasks a)) [
@@ -51,8 +25,8 @@ module _ (m : State) (K : IsForkJoinState m) (t : ℕ) (x : Task) (is : slice_ge
         (owner_not_joined (length m.tasks) (parents m.tasks) (joined m.tasks) (waiting m.tasks) (joins_in m.tasks) m.edges K.tree a) ne idle) h)
   ]
 
-module _ (m : State) (K : IsForkJoinState m) (I : Disentangled m.tasks m.store) (S : Closed m.tasks m.store (IsStored m)) (t : ℕ) (x : Task) (is : slice_get m.tasks t ≡ Some x) (run' : is_running (Some x) ≡ true) where
-  -- where the owners of what an object's fields name are on the task's path, it reads them freely
+module _ (m : MachineState) (K : IsForkJoinState m) (I : Disentangled m.tasks m.store) (S : Closed m.tasks m.store (IsStored m)) (t : ℕ) (x : Task) (is : slice_get m.tasks t ≡ Some x) (run' : is_running (Some x) ≡ true) where
+  -- if the owners of what an object's fields name are on the task's path, its reads of them are never stopped
   module _ (n : Name) (o : Object) (held : IsStored m n) (at_n : object_at m.store n ≡ Some o) (above : (r : Name) → In o.refs (Some r) → is_on_path m.tasks (owner_of m.tasks r.task) t ≡ true) where
     stored : (r : Name) → In o.refs (Some r) → IsStored m r
     stored r h = S.of_object n r held (subst (λ w. In (refs_of w) r) (sym at_n) (named_from_in o.refs r h))
@@ -86,11 +60,11 @@ own_reads_go p limit ts t x n o H own =
     own_reads (run p limit ts) (run_is_fork_join_state p (start p limit) ts (start_is_fork_join_state p limit)) (run_disentangled p limit ts) (run_stored p limit ts) t x H.task H.running n o
     (in_from_contains (task_names x) n H.name) H.object own
 
-module _ (p : ProgramText) (m : State) (t : ℕ) (K : IsForkJoinState m) where
-  abbrev Named : State → Type 0
+module _ (p : ProgramText) (m : MachineState) (t : ℕ) (K : IsForkJoinState m) where
+  abbrev Named : MachineState → Type 0
   Named m' = (reader owner : ℕ) → m'.end ≡ Some (Entangled reader owner) → (m.end ≡ Some (Entangled reader owner)) ⊎ ((reader ≡ t) × IsStop m t owner)
 
-  same_end : (m' : State) → m'.end ≡ m.end → Named m'
+  same_end : (m' : MachineState) → m'.end ≡ m.end → Named m'
   same_end m' e reader owner h = inl (sym e ∙ h)
 
   pub named_stop : Named (step p m t)

@@ -1,43 +1,24 @@
 -- An immutable object refers only up its owner's path, so reads of it are never stopped.
-use Rattle.std.proofs.Common.{◌≡◌, ℕ, Bool, true, false, Option, Some, List, [], ◌∷◌, slice_get, slice_set, ◌⊎◌, inl, inr, refl, ap, sym, subst, ◌∙◌}
-use Rattle.std.proofs.lemmas.Bool.{both_ways}
-use Rattle.listed.proofs.Members.{In, in_from_contains, same_view}
-use Rattle.hh_lang.specs.Form.{ProgramText}
-use Rattle.hh_model.specs.declared.data.Name.{Name}
-use Rattle.hh_model.specs.declared.data.Object.{Object}
-use Rattle.hh_model.specs.declared.data.Task.{Task}
-use Rattle.hh_model.specs.declared.data.State.{State}
-use Rattle.hh_model.specs.Effect.{object_at}
-use Rattle.hh_model.specs.Names.{task_names, refs_at, refs_of}
-use Rattle.hh_model.specs.Step.{is_over, is_running, is_joined, joined, parents, parent_of, path_in, owner_in, owner_of, run, run_from, start, setting, step, ended_task, result_of}
-use Rattle.path_laws.specs.ReadLaws.{FrozenReadsGo}
-use Rattle.hh_model.proofs.Paths.{path_along}
-use Rattle.hh_model.proofs.Stores.{put_cases, made_cases}
-use Rattle.hh_model.proofs.Carried.{named_from_in}
-use Rattle.hh_model.proofs.Changes.{SetsRef, SetsInt, Freezes}
-use Rattle.hh_model.proofs.Runs.{running_tells}
-use Rattle.hh_model.proofs.ForkJoinStates.{IsForkJoinState, start_is_fork_join_state, step_is_fork_join_state, run_is_fork_join_state, empty_rows}
+use Rattle.path_laws.proofs.Common.{◌≡◌, ℕ, Bool, true, false, Option, Some, List, [], ◌∷◌, slice_get, slice_set, ◌⊎◌, inl, inr, refl, ap, sym, subst, ◌∙◌, both_ways, In, in_from_contains, same_view, ProgramText, Name, Object, Task, MachineState, object_at, task_names, refs_at, refs_of, is_over, is_running, is_joined, joined, parents, parent_of, path_in, owner_in, owner_of, run, run_from, start, setting, step, ended_task, result_of, path_along, put_cases, made_cases, named_from_in, SetsRef, SetsInt, Freezes, running_tells, IsForkJoinState, start_is_fork_join_state, step_is_fork_join_state, run_is_fork_join_state, empty_rows, Alters, step_cases, names_run, runs_is, in_registers, owner_here, FrozenReadsGo}
 use Rattle.path_laws.proofs.Disentangled.{Disentangled, OnePath, disentangled_step, start_disentangled, no_refs, up_forked, up_joined}
 use Rattle.path_laws.proofs.Stored.{run_stored}
 use Rattle.path_laws.proofs.FreeReads.{up_from, reads_freely, run_disentangled}
-use Rattle.hh_model.proofs.Steps.{Alters, step_cases, names_run, runs_is, in_registers}
-use Rattle.hh_model.proofs.Climbs.{owner_here}
 
--- the owner of the one stands on the path of the owner of the other
+-- the owner of the one is on the path of the owner of the other
 abbrev pub Up : (ℕ → Option ℕ) → (ℕ → Bool) → ℕ → ℕ → Type 0
 Up par jd a b = path_in par (owner_in par jd a) (owner_in par jd b) ≡ true
 
 abbrev pub Upward : (ℕ → Option ℕ) → (ℕ → Bool) → List (List Object) → Type 0
 Upward par jd store = (k r : Name) (o : Object) → object_at store k ≡ Some o → o.mutable ≡ false → In o.refs (Some r) → Up par jd r.task k.task
 
-module _ (p : ProgramText) (m : State) (t : ℕ) (K : IsForkJoinState m) (I : Disentangled m.tasks m.store) (U : Upward (parents m.tasks) (joined m.tasks) m.store) where
+module _ (p : ProgramText) (m : MachineState) (t : ℕ) (K : IsForkJoinState m) (I : Disentangled m.tasks m.store) (U : Upward (parents m.tasks) (joined m.tasks) m.store) where
   abbrev par : ℕ → Option ℕ
   par = parents m.tasks
 
   abbrev jd : ℕ → Bool
   jd = joined m.tasks
 
-  abbrev UpIn : State → Type 0
+  abbrev UpIn : MachineState → Type 0
   UpIn m' = Upward (parents m'.tasks) (joined m'.tasks) m'.store
 
   field_of : (k r : Name) (o : Object) → object_at m.store k ≡ Some o → In o.refs (Some r) → In (refs_at m.store k) r
@@ -47,7 +28,7 @@ module _ (p : ProgramText) (m : State) (t : ℕ) (K : IsForkJoinState m) (I : Di
     live : jd t ≡ false
     live = ap is_joined is ∙ (running_tells x.status run').0
 
-    -- what the running task holds, under what it owns
+    -- what the running task holds, among what it owns
     held : (r : Name) → In x.top.refs (Some r) → path_in par (owner_in par jd r.task) t ≡ true
     held r h = (I.of_task t x r is (names_run x r (runs_is x.status run') (in_registers (x.top ∷ x.below) x.top r (inl refl) h))).1
 
@@ -99,7 +80,7 @@ module _ (p : ProgramText) (m : State) (t : ℕ) (K : IsForkJoinState m) (I : Di
       (λ parent l xp xl xr rl rr ip il ir pl left dl dr wl wr nl nr side k r o at f i.
       up_joined p m t K I parent l xp xl xr rl rr ip il ir pl left dl dr wl wr nl nr r.task k.task (U k r o at f i))
 
-upward_from : (p : ProgramText) (m : State) (ts : List ℕ) → IsForkJoinState m → Disentangled m.tasks m.store → Upward (parents m.tasks) (joined m.tasks) m.store
+upward_from : (p : ProgramText) (m : MachineState) (ts : List ℕ) → IsForkJoinState m → Disentangled m.tasks m.store → Upward (parents m.tasks) (joined m.tasks) m.store
     → Upward (parents (run_from p m ts).tasks) (joined (run_from p m ts).tasks) (run_from p m ts).store
 upward_from p m [] K I U = U
 upward_from p m (t ∷ ts) K I U = upward_from p (step p m t) ts (step_is_fork_join_state p m t K) (disentangled_step p m t K I) (upward_step p m t K I U)

@@ -1,27 +1,6 @@
--- What a step leaves of the tasks that run beside it.
-use Rattle.std.proofs.Common.{◌≡◌, ℕ, ℤ, zero, suc, ◌+◌, ◌<◌, Bool, true, false, Option, Some, None, List, [], ◌∷◌, ◌++◌, length, slice_get, slice_set, ◌⊎◌, inl, inr, refl, ap, sym, ◌∙◌}
-use Rattle.std.proofs.lemmas.Bool.{cases_eq, cases_lt, both_ways, false≢true}
-use Rattle.std.proofs.Math.Path.{fun_ext}
-use Rattle.listed.proofs.Members.{got_same, got_other, got_past, got_within, same_view}
-use Rattle.hh_lang.specs.Form.{ProgramText}
-use Rattle.hh_model.specs.declared.data.Name.{Name}
-use Rattle.hh_model.specs.declared.data.Object.{Object}
-use Rattle.hh_model.specs.declared.data.Status.TheVariants.{Waiting}
-use Rattle.hh_model.specs.declared.data.Task.{Task}
-use Rattle.hh_model.specs.declared.data.End.{End}
-use Rattle.hh_model.specs.declared.data.State.{State}
-use Rattle.hh_model.specs.Effect.{object_at, onward, put_object, row_of}
-use Rattle.hh_model.specs.Step.{can_step, child, ended_task, goes_on, is_joined, is_left, is_on_path, is_over, is_running, is_waiting, joined, joined_task, owner_in, owner_of, parent_of, parents, result_of, resumed, run, runs, step, waits}
+-- What a step leaves unchanged of the other running tasks.
+use Rattle.path_laws.proofs.Common.{◌≡◌, ℕ, ℤ, zero, suc, ◌+◌, ◌<◌, Bool, true, false, Option, Some, None, List, [], ◌∷◌, ◌++◌, length, slice_get, slice_set, ◌⊎◌, inl, inr, refl, ap, sym, ◌∙◌, cases_eq, cases_lt, both_ways, false≢true, fun_ext, got_same, got_other, got_past, got_within, same_view, ProgramText, Name, Object, Waiting, Task, End, MachineState, object_at, onward, put_object, row_of, can_step, child, ended_task, goes_on, is_joined, is_left, is_on_path, is_over, is_running, is_waiting, joined, joined_task, owner_in, owner_of, parent_of, parents, result_of, resumed, run, runs, step, waits, grown_cases, three_cases, waits_is, owner_joins, owner_same, runs_tell, running_tells, grown_other, grown_view, grown_view_front, three_left, three_right, three_other, three_view, parl, parr, below, drest, wp, joiner_live, Alters, in_registers, names_run, runs_is, step_cases, not_above, owner_here, Disentangled, LeavesOwner, WaitsAlone}
 use Rattle.hh_model.specs.Tree.{IsForkJoinState, waiting, joins_in}
-use Rattle.path_laws.specs.Disentangled.{Disentangled}
-use Rattle.path_laws.specs.Leaves.{LeavesOwner, WaitsAlone}
-use Rattle.hh_model.proofs.Closed.{grown_cases, three_cases, waits_is}
-use Rattle.hh_model.proofs.Paths.{owner_joins, owner_same}
-use Rattle.hh_model.proofs.Root.{runs_tell}
-use Rattle.hh_model.proofs.Runs.{running_tells, grown_other, grown_view, grown_view_front, three_left, three_right, three_other, three_view, parl, parr, below, drest, wp, joiner_live}
-use Rattle.hh_model.proofs.Steps.{Alters, in_registers, names_run, runs_is, step_cases}
-use Rattle.hh_model.proofs.Tree.{not_above}
-use Rattle.hh_model.proofs.Climbs.{owner_here}
 
 -- OBJECTS
 
@@ -33,7 +12,7 @@ rows_same [] (suc (suc k)) c = refl
 rows_same (row ∷ store) zero c = refl
 rows_same (row ∷ store) (suc k) c = rows_same store k c
 
--- an object that is put into a row leaves the others of the row
+-- putting an object into a row keeps the others of the row
 row_same : (store : List (List Object)) (t k c : ℕ) (y : Object) → (c ≡ k → ⊥) → slice_get (row_of (slice_get (slice_set store t (slice_set (row_of (slice_get store t)) k y)) t)) c ≡ slice_get (row_of (slice_get store t)) c
 row_same [] t k c y ne = refl
 row_same (row ∷ store) zero k c y ne = got_other row k c y ne
@@ -47,12 +26,12 @@ put_leaves store k n y ne = elim (cases_eq n.task k.task) [
   | inr other ↦ ap (λ w. slice_get (row_of w) n.count) (got_other store k.task n.task (slice_set (row_of (slice_get store k.task)) k.count y) other)
 ]
 
--- what changes no task leaves them all
-pub same_owner : (m : State) (u : ℕ) → LeavesOwner m m u
+-- what changes no task keeps all owners
+pub same_owner : (m : MachineState) (u : ℕ) → LeavesOwner m m u
 same_owner m u = record { task = refl; owned = λ a. ((λ q. q), (λ q. q)); objects = λ n own. refl }
 
 -- owners after a fork
-module _ (m : State) (t : ℕ) (K : IsForkJoinState m) (x : Task) (g h : ℕ) (is : slice_get m.tasks t ≡ Some x) (run : is_running (Some x) ≡ true) where
+module _ (m : MachineState) (t : ℕ) (K : IsForkJoinState m) (x : Task) (g h : ℕ) (is : slice_get m.tasks t ≡ Some x) (run : is_running (Some x) ≡ true) where
   abbrev fy : Task
   fy = record x { status = Waiting; top = onward x.top }
 
@@ -80,7 +59,7 @@ module _ (m : State) (t : ℕ) (K : IsForkJoinState m) (x : Task) (g h : ℕ) (i
   pub fork_owner : (a : ℕ) → owner_of fork_tasks a ≡ owner_of m.tasks a
   fork_owner a = ap (λ f. owner_in (parents fork_tasks) f a) joined_same ∙ own_all a
 
-module _ (p : ProgramText) (m : State) (t : ℕ) (K : IsForkJoinState m) (D : Disentangled m.tasks m.store) (u : ℕ) (ne : u ≡ t → ⊥) (run_u : is_running (slice_get m.tasks u) ≡ true) where
+module _ (p : ProgramText) (m : MachineState) (t : ℕ) (K : IsForkJoinState m) (D : Disentangled m.tasks m.store) (u : ℕ) (ne : u ≡ t → ⊥) (run_u : is_running (slice_get m.tasks u) ≡ true) where
   abbrev n : ℕ
   n = length m.tasks
 
@@ -93,7 +72,7 @@ module _ (p : ProgramText) (m : State) (t : ℕ) (K : IsForkJoinState m) (D : Di
   idle_u : waiting m.tasks u ≡ false
   idle_u = (runs_tell (slice_get m.tasks u) run_u).3
 
-  -- another task that runs stands not below it
+  -- another running task is no descendant
   off_path : (x : Task) → slice_get m.tasks t ≡ Some x → is_running (Some x) ≡ true → is_on_path m.tasks u t ≡ false
   off_path x is run = not_above n par jd (waiting m.tasks) (joins_in m.tasks) m.edges K.tree u t (ap is_joined is ∙ (running_tells x.status run).0) ne idle_u
 
@@ -142,7 +121,7 @@ module _ (p : ProgramText) (m : State) (t : ℕ) (K : IsForkJoinState m) (D : Di
     abbrev all : List Task
     all = slice_set m.tasks t y ++ cl ∷ cr ∷ []
 
-    forked : (store : List (List Object)) → store ≡ m.store ++ [] ∷ [] ∷ [] → (m' : State) → m'.tasks ≡ all → m'.store ≡ store → LeavesOwner m m' u
+    forked : (store : List (List Object)) → store ≡ m.store ++ [] ∷ [] ∷ [] → (m' : MachineState) → m'.tasks ≡ all → m'.store ≡ store → LeavesOwner m m' u
     forked store es m' et es' = record {
       task = ap (λ ts. slice_get ts u) et ∙ grown_other m.tasks t x y cl cr is u (let z = runs_tell (slice_get m.tasks u) run_u in got_within m.tasks u z.0 z.1) ne;
       owned = by_same m'.tasks (λ a. ap (λ ts. owner_of ts a) et ∙ fork_owner m t K x g h is run a);
@@ -196,7 +175,7 @@ module _ (p : ProgramText) (m : State) (t : ℕ) (K : IsForkJoinState m) (D : Di
           | inr k ↦ ((λ q. sym (own_after a ∙ k.0) ∙ q), (λ q. (own_after a ∙ k.0) ∙ q))
         ]
 
-    joins : (m' : State) → m'.tasks ≡ after → m'.store ≡ m.store → LeavesOwner m m' u
+    joins : (m' : MachineState) → m'.tasks ≡ after → m'.store ≡ m.store → LeavesOwner m m' u
     joins m' et es = record {
       task = ap (λ ts. slice_get ts u) et ∙ three_other m.tasks l parent xl xr xp (joined_task xl) (joined_task xr) (resumed xp rl rr) il ir ip under u not_l not_r not_p;
       owned = λ a. (let o = owns a in let e : owner_of m'.tasks a ≡ owner_of after a = ap (λ ts. owner_of ts a) et in ((λ q. o.0 (sym e ∙ q)), (λ q. e ∙ o.1 q)));
@@ -236,10 +215,10 @@ pub goes_tells : (o : Option End) (b : Bool) → goes_on o b ≡ true → o ≡ 
 goes_tells None b h = refl
 goes_tells (Some e) b h = absurd (false≢true h)
 
-pub can_going : (m : State) (t : ℕ) → can_step m t ≡ true → m.end ≡ None
+pub can_going : (m : MachineState) (t : ℕ) → can_step m t ≡ true → m.end ≡ None
 can_going m t can = goes_tells m.end (is_running (slice_get m.tasks t)) can
 
-module _ (p : ProgramText) (m : State) (t : ℕ) (K : IsForkJoinState m) where
+module _ (p : ProgramText) (m : MachineState) (t : ℕ) (K : IsForkJoinState m) where
   module _ (u : ℕ) (ne : u ≡ t → ⊥) where
     abbrev Waited : List Task → Type 0
     Waited tasks = waiting tasks u ≡ true → waiting m.tasks u ≡ true

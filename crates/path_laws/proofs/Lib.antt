@@ -5,3 +5,4 @@ pub mod FreeReads
 pub mod Frozen
 pub mod PathLaws
 pub mod Leaves
+mod Common

@@ -1,23 +1,7 @@
--- After a step every object is there.
-use Rattle.std.proofs.Common.{◌≡◌, ℕ, ℤ, zero, suc, ◌<◌, true, false, Option, Some, None, List, [], ◌∷◌, ◌++◌, length, slice_get, slice_set, set, ◌⊎◌, inl, inr, refl, ap, sym, subst, ◌∙◌, length-set, append_assoc, append-nil}
-use Rattle.std.proofs.lemmas.Bool.{cases_eq, both_ways}
-use Rattle.std.proofs.lemmas.Option.{same_Some}
-use Rattle.listed.proofs.Members.{got_same, got_other, got_front, got_within}
-use Rattle.listed.proofs.Places.{none_set}
-use Rattle.hh_lang.specs.Form.{ProgramText}
-use Rattle.hh_model.specs.declared.data.Name.{Name}
-use Rattle.hh_model.specs.declared.data.Object.{Object}
-use Rattle.hh_model.specs.declared.data.Task.{Task}
-use Rattle.hh_model.specs.declared.data.State.{State}
-use Rattle.hh_model.specs.Effect.{row_of, object_at, put_object}
-use Rattle.hh_model.specs.Step.{step, run, run_from, start, setting}
-use Rattle.hh_model.specs.Store.{IsWriteTo, WritesNext, StaysAs, ObjectsStay, OutputsGrow}
-use Rattle.hh_model.proofs.Stores.{in_row}
-use Rattle.hh_model.proofs.Changes.{SetsRef, SetsInt, Freezes}
-use Rattle.hh_model.proofs.ForkJoinStates.{IsForkJoinState, start_is_fork_join_state, run_is_fork_join_state, step_is_fork_join_state}
-use Rattle.hh_model.proofs.Steps.{Alters, step_cases}
+-- After a step every object is still there.
+use Rattle.path_laws.proofs.Common.{◌≡◌, ℕ, ℤ, zero, suc, ◌<◌, true, false, Option, Some, None, List, [], ◌∷◌, ◌++◌, length, slice_get, slice_set, set, ◌⊎◌, inl, inr, refl, ap, sym, subst, ◌∙◌, length-set, append_assoc, append-nil, cases_eq, both_ways, same_Some, got_same, got_other, got_front, got_within, none_set, ProgramText, Name, Object, Task, MachineState, row_of, object_at, put_object, step, run, run_from, start, setting, IsWriteTo, WritesNext, StaysAs, ObjectsStay, OutputsGrow, in_row, SetsRef, SetsInt, Freezes, IsForkJoinState, start_is_fork_join_state, run_is_fork_join_state, step_is_fork_join_state, Alters, step_cases}
 
--- an object after another one was made
+-- an object after another one was added
 pub made_stays : (store : List (List Object)) (t : ℕ) (q : Object) (n : Name) (o : Object) → object_at store n ≡ Some o
     → object_at (slice_set store t (row_of (slice_get store t) ++ q ∷ [])) n ≡ Some o
 made_stays store t q n o is =
@@ -39,7 +23,7 @@ put_here store n x y is =
     ap (λ w. slice_get (row_of w) n.count) (got_same store n.task r.0 (slice_set (row_of (slice_get store n.task)) n.count y) r.1)
     ∙ (ap (λ w. slice_get (slice_set (row_of w) n.count y) n.count) r.1 ∙ got_same r.0 n.count x y r.2)
 
--- a row is as long after an object was put there
+-- putting an object keeps the length of a row
 pub put_rows : (store : List (List Object)) (m : Name) (y : Object) (u : ℕ) → length (row_of (slice_get (put_object store m y) u)) ≡ length (row_of (slice_get store u))
 put_rows store m y u = elim (cases_eq u m.task) [
   | inr off ↦ ap (λ r. length (row_of r)) (got_other store m.task u (slice_set (row_of (slice_get store m.task)) m.count y) off)
@@ -92,7 +76,7 @@ int_stays x at k h = record { strand = refl; refs = refl; ints = length-set x.in
 freeze_stays : (x : Object) → StaysAs x (record x { mutable = false })
 freeze_stays x = record { strand = refl; refs = refl; ints = refl; frozen = λ f. λ i. record x { mutable = (sym f) i } }
 
-module _ (p : ProgramText) (m : State) (t : ℕ) (K : IsForkJoinState m) where
+module _ (p : ProgramText) (m : MachineState) (t : ℕ) (K : IsForkJoinState m) where
   abbrev Later : Name → Object → List (List Object) → Type 0
   Later n o store = (new : Object) × (object_at store n ≡ Some new) × StaysAs o new × ((new ≡ o) ⊎ WritesNext p m t n)
 
@@ -134,14 +118,14 @@ module _ (p : ProgramText) (m : State) (t : ℕ) (K : IsForkJoinState m) where
 
   pub outputs_later : (outs : List ℤ) × ((step p m t).outputs ≡ m.outputs ++ outs)
   outputs_later =
-      step_cases p m t K (λ m'. (outs : List ℤ) × (m'.outputs ≡ m.outputs ++ outs)) same (λ x e ix run why. same)
+      step_cases p m t K (λ m'. (outs : List ℤ) × (m'.outputs ≡ m.outputs ++ outs)) outputs_later_same (λ x e ix run why. outputs_later_same)
       (λ x y store outs ix run ep ed es ej names fields alters grows. elim grows [ inl e ↦ ([], e ∙ sym (append-nil m.outputs)) | inr more ↦ (more.0 ∷ [], more.1) ])
-      (λ x parent e ix run pp which result. same) (λ x g h ix run next top. same) (λ parent l xp xl xr rl rr ip il ir pl left dl dr wl wr nl nr side. same)
+      (λ x parent e ix run pp which result. outputs_later_same) (λ x g h ix run next top. outputs_later_same) (λ parent l xp xl xr rl rr ip il ir pl left dl dr wl wr nl nr side. outputs_later_same)
     where
-      same : (outs : List ℤ) × (m.outputs ≡ m.outputs ++ outs)
-      same = ([], sym (append-nil m.outputs))
+      outputs_later_same : (outs : List ℤ) × (m.outputs ≡ m.outputs ++ outs)
+      outputs_later_same = ([], sym (append-nil m.outputs))
 
-objects_from : (p : ProgramText) (m : State) (more : List ℕ) (n : Name) (o : Object) → IsForkJoinState m → object_at m.store n ≡ Some o
+objects_from : (p : ProgramText) (m : MachineState) (more : List ℕ) (n : Name) (o : Object) → IsForkJoinState m → object_at m.store n ≡ Some o
     → (new : Object) × (object_at (run_from p m more).store n ≡ Some new) × StaysAs o new
 objects_from p m [] n o K is = (o, is, same_stays o)
 objects_from p m (t ∷ more) n o K is =
@@ -152,7 +136,7 @@ objects_from p m (t ∷ more) n o K is =
 pub objects_stay : ObjectsStay
 objects_stay p limit ts more n o is = objects_from p (run p limit ts) more n o (run_is_fork_join_state p (start p limit) ts (start_is_fork_join_state p limit)) is
 
-outputs_from : (p : ProgramText) (m : State) (more : List ℕ) → IsForkJoinState m → (outs : List ℤ) × ((run_from p m more).outputs ≡ m.outputs ++ outs)
+outputs_from : (p : ProgramText) (m : MachineState) (more : List ℕ) → IsForkJoinState m → (outs : List ℤ) × ((run_from p m more).outputs ≡ m.outputs ++ outs)
 outputs_from p m [] K = ([], sym (append-nil m.outputs))
 outputs_from p m (t ∷ more) K =
     let l = outputs_later p m t K in

@@ -1,12 +1,6 @@
 -- Paths and owners are walks along parents.
-use Rattle.std.proofs.Common.{◌≡◌, ℕ, zero, suc, Bool, true, false, cond, ◌==◌, Option, Some, None, List, [], ◌∷◌, inl, inr, refl, ap, sym, ◌∙◌, eqb-true}
-use Rattle.std.proofs.lemmas.Bool.{or_cases, or_right, false≢true, false_from_ne_true, both_ways}
-use Rattle.hh_model.specs.Step.{through, owner_by, path_by, path_in}
+use Rattle.path_laws.proofs.Common.{◌≡◌, ℕ, zero, suc, Bool, true, false, cond, ◌==◌, Option, Some, None, List, [], ◌∷◌, inl, inr, refl, ap, sym, ◌∙◌, eqb-true, or_cases, or_right, false≢true, false_from_ne_true, both_ways, through, owner_by, path_by, path_in, path_child, path_itself, path_le, path_through, path_parent, path_along, on_one_path, live_up, not_above, owner_not_joined, owner_here, IsWalkUp, IsWalkOfJoined, PathsAreWalks, OwnersAreWalks}
 use Rattle.hh_model.specs.Tree.{AreLow}
-use Rattle.path_laws.specs.Paths.{IsWalkUp, IsWalkOfJoined, PathsAreWalks, OwnersAreWalks}
-use Rattle.hh_model.proofs.Paths.{path_child, path_itself, path_le, path_through, path_parent, path_along, on_one_path}
-use Rattle.hh_model.proofs.Tree.{live_up, not_above, owner_not_joined}
-use Rattle.hh_model.proofs.Climbs.{owner_here}
 
 module _ (par : ℕ → Option ℕ) where
   abbrev Leads : ℕ → ℕ → Type 0

@@ -1,42 +1,18 @@
 -- Every name that a task or a field holds is in the store.
-use Rattle.std.proofs.Common.{◌≡◌, ℕ, zero, suc, ◌+◌, Bool, true, false, Option, Some, None, List, [], ◌∷◌, ◌++◌, length, slice_get, slice_set, ◌⊎◌, inl, inr, refl, ap, sym, subst, ◌∙◌, arith, is_some, ◌<◌}
-use Rattle.std.proofs.lemmas.Bool.{false≢true}
-use Rattle.std.proofs.lemmas.Option.{same_Some}
-use Rattle.listed.proofs.Members.{In, in_from_contains, got_same, got_back, got_within}
-use Rattle.listed.proofs.Places.{got_some}
-use Rattle.hh_lang.specs.declared.instr.Instr.{Instr}
-use Rattle.hh_lang.specs.declared.instr.Instr.TheVariants.{Set, Mov, Movr, Nil as NilOf, Calc, Same, Jmp, Jz, Newm, Pack, Getr, Geti, Putr, Puti, Cntr, Cnti, Freeze, Cas, Call, Par, Ret, Out}
-use Rattle.hh_lang.specs.declared.program.Line.{Line}
-use Rattle.hh_lang.specs.Form.{ProgramText}
-use Rattle.hh_model.specs.declared.data.Name.{Name}
-use Rattle.hh_model.specs.declared.data.Object.{Object}
-use Rattle.hh_model.specs.declared.data.Frame.{Frame}
-use Rattle.hh_model.specs.declared.data.Task.{Task}
-use Rattle.hh_model.specs.declared.data.Trap.TheVariants.{Size}
-use Rattle.hh_model.specs.declared.data.State.{State}
-use Rattle.hh_model.specs.Effect.{Effect, Setting, effect, made, row_of, object_at, counts_in, int_in, or_trap}
-use Rattle.hh_model.specs.Names.{refs_of, task_names, words_asked, words_for}
-use Rattle.hh_model.specs.Step.{setting, fetched, step, follow, root, start, run, run_from, can_step, asked, asked_line}
-use Rattle.hh_model.specs.Store.{IsStored, NamesAreStored}
-use Rattle.hh_model.proofs.Stores.{put_cases, made_cases}
-use Rattle.hh_model.proofs.Carried.{named_from_in, next_name}
-use Rattle.hh_model.proofs.ForkJoinStates.{IsForkJoinState, start_is_fork_join_state, step_is_fork_join_state, empty_rows}
-use Rattle.hh_model.proofs.Steps.{Alters, step_cases}
-use Rattle.hh_model.proofs.Closed.{Closed, closed_step, asked_at}
+use Rattle.path_laws.proofs.Common.{◌≡◌, ℕ, zero, suc, ◌+◌, Bool, true, false, Option, Some, None, List, [], ◌∷◌, ◌++◌, length, slice_get, slice_set, ◌⊎◌, inl, inr, refl, ap, sym, subst, ◌∙◌, arith, is_some, ◌<◌, false≢true, same_Some, In, in_from_contains, got_same, got_back, got_within, got_some, Instr, Set, Mov, Movr, Calc, Same, Jmp, Jz, Newm, Pack, Getr, Geti, Putr, Puti, Cntr, Cnti, Freeze, Cas, Call, Par, Ret, Out, Line, ProgramText, Name, Object, Frame, Task, Size, MachineState, Effect, StepContext, effect, made, row_of, object_at, counts_in, int_in, or_trap, refs_of, task_names, words_asked, words_for, setting, fetched, step, follow, root, start, run, run_from, can_step, asked, asked_line, IsStored, NamesAreStored, put_cases, made_cases, named_from_in, next_name, IsForkJoinState, start_is_fork_join_state, step_is_fork_join_state, empty_rows, Alters, step_cases, Closed, closed_step, asked_at, Counted, counted_step, start_counted, step_taken, step_idle, can_task}
+use Rattle.hh_lang.specs.declared.instr.Instr.TheVariants.{Nil as NilOf}
 use Rattle.path_laws.proofs.Disentangled.{no_refs}
-use Rattle.hh_model.proofs.Counts.{Counted, counted_step, start_counted}
-use Rattle.hh_model.proofs.Taken.{step_taken, step_idle, can_task}
 use Rattle.path_laws.proofs.Objects.{object_later}
 
--- an instruction that asks for words makes an object
-abbrev Makes : Setting → Frame → List (List Object) → Effect → Type 0
+-- an instruction that allocates adds an object
+abbrev Makes : StepContext → Frame → List (List Object) → Effect → Type 0
 Makes s f store e = (d : ℕ) × (o : Object) × (e ≡ made s f store d o)
 
-newm_makes : (s : Setting) (f : Frame) (store : List (List Object)) (o : Option (ℕ × ℕ)) (go : ℕ × ℕ → Effect) → is_some (words_for o) ≡ true → ((n : ℕ × ℕ) → Makes s f store (go n)) → Makes s f store (or_trap Size o go)
+newm_makes : (s : StepContext) (f : Frame) (store : List (List Object)) (o : Option (ℕ × ℕ)) (go : ℕ × ℕ → Effect) → is_some (words_for o) ≡ true → ((n : ℕ × ℕ) → Makes s f store (go n)) → Makes s f store (or_trap Size o go)
 newm_makes s f store None go h each = absurd (false≢true h)
 newm_makes s f store (Some n) go h each = each n
 
-effect_makes : (s : Setting) (f : Frame) (store : List (List Object)) (instr : Instr) → is_some (words_asked s.field_limit f instr) ≡ true → Makes s f store (effect s f store instr)
+effect_makes : (s : StepContext) (f : Frame) (store : List (List Object)) (instr : Instr) → is_some (words_asked s.field_limit f instr) ≡ true → Makes s f store (effect s f store instr)
 effect_makes s f store (Newm d a b) h = newm_makes s f store (counts_in s.field_limit (int_in f a) (int_in f b)) _ h (λ n. (d, _, refl))
 effect_makes s f store (Pack d r i) h = (d, _, refl)
 effect_makes s f store (Set d k) h = absurd (false≢true h)
@@ -67,7 +43,7 @@ made_here store t row o e =
     ∙ (ap (slice_get (row_of (slice_get store t) ++ o ∷ [])) (let h : length (row_of (slice_get store t)) ≡ length (row_of (slice_get store t)) + 0 = omega arith in h)
     ∙ got_back (row_of (slice_get store t)) (o ∷ []) 0)
 
-module _ (p : ProgramText) (m : State) (t : ℕ) (K : IsForkJoinState m) (rows : length m.store ≡ length m.tasks) where
+module _ (p : ProgramText) (m : MachineState) (t : ℕ) (K : IsForkJoinState m) (rows : length m.store ≡ length m.tasks) where
   next_by : (x : Task) (o : Option Line) → can_step m t ≡ true → slice_get m.tasks t ≡ Some x → fetched p x.top ≡ o → is_some (asked_line m.field_limit x.top o) ≡ true → IsStored (step p m t) (next_name t m.store)
   next_by x None can is il h = absurd (false≢true h)
   next_by x (Some line) can is il h =
@@ -75,7 +51,7 @@ module _ (p : ProgramText) (m : State) (t : ℕ) (K : IsForkJoinState m) (rows :
       let lt : t < length m.store = let a : t < length m.tasks = got_within m.tasks t x is in omega arith in
       let row = got_some m.store t lt in (
         e.1,
-        ap (λ (s : State). object_at s.store (next_name t m.store)) (step_taken p m t x line can is il ∙ ap (follow m t x line.number) e.2) ∙ made_here m.store t row.0 e.1 row.1,
+        ap (λ (s : MachineState). object_at s.store (next_name t m.store)) (step_taken p m t x line can is il ∙ ap (follow m t x line.number) e.2) ∙ made_here m.store t row.0 e.1 row.1,
       )
 
   pub next_stored : can_step m t ≡ true → is_some (asked p m t) ≡ true → IsStored (step p m t) (next_name t m.store)
@@ -86,7 +62,7 @@ module _ (p : ProgramText) (m : State) (t : ℕ) (K : IsForkJoinState m) (rows :
   stored_up : (n : Name) → IsStored m n → IsStored (step p m t) n
   stored_up n s = let l = object_later p m t K n s.0 s.1 in (l.0, l.1)
 
-  abbrev WasOrNew : State → Type 0
+  abbrev WasOrNew : MachineState → Type 0
   WasOrNew m' = (n : Name) → IsStored m' n → IsStored m n ⊎ (n ≡ next_name t m.store)
 
   altered_down : (x : Task) (store : List (List Object)) (n : Name) (q : Object) → Alters p m t x store → object_at store n ≡ Some q → IsStored m n ⊎ (n ≡ next_name t m.store)
@@ -105,14 +81,14 @@ module _ (p : ProgramText) (m : State) (t : ℕ) (K : IsForkJoinState m) (rows :
 
   stored_down : WasOrNew (step p m t)
   stored_down =
-      step_cases p m t K WasOrNew same (λ x e is run why. same) (λ x y store outs is run ep ed es ej names fields alters grows n s. altered_down x store n s.0 alters s.1)
-      (λ x parent e is run pp which result. same) (λ x g h is run next top n s. inl (s.0, empty_rows m.store n.task n.count s.0 s.1))
-      (λ parent l xp xl xr rl rr ip il ir pl left dl dr wl wr nl nr side. same)
+      step_cases p m t K WasOrNew stored_down_same (λ x e is run why. stored_down_same) (λ x y store outs is run ep ed es ej names fields alters grows n s. altered_down x store n s.0 alters s.1)
+      (λ x parent e is run pp which result. stored_down_same) (λ x g h is run next top n s. inl (s.0, empty_rows m.store n.task n.count s.0 s.1))
+      (λ parent l xp xl xr rl rr ip il ir pl left dl dr wl wr nl nr side. stored_down_same)
     where
-      same : WasOrNew m
-      same n s = inl s
+      stored_down_same : WasOrNew m
+      stored_down_same n s = inl s
 
-  abbrev All : State → Type 0
+  abbrev All : MachineState → Type 0
   All m' = Closed m'.tasks m'.store (IsStored m')
 
   stored_by : (b : Bool) → can_step m t ≡ b → All m → All (step p m t)
@@ -122,7 +98,7 @@ module _ (p : ProgramText) (m : State) (t : ℕ) (K : IsForkJoinState m) (rows :
   pub stored_step : All m → All (step p m t)
   stored_step I = stored_by (can_step m t) refl I
 
-stored_from : (p : ProgramText) (m : State) (ts : List ℕ) (k : ℕ) → IsForkJoinState m → Counted k m.tasks m.store → Closed m.tasks m.store (IsStored m) → Closed (run_from p m ts).tasks (run_from p m ts).store (IsStored (run_from p m ts))
+stored_from : (p : ProgramText) (m : MachineState) (ts : List ℕ) (k : ℕ) → IsForkJoinState m → Counted k m.tasks m.store → Closed m.tasks m.store (IsStored m) → Closed (run_from p m ts).tasks (run_from p m ts).store (IsStored (run_from p m ts))
 stored_from p m [] k K I C = C
 stored_from p m (t ∷ ts) k K I C = stored_from p (step p m t) ts (suc k) (step_is_fork_join_state p m t K) (counted_step p m t K k I) (stored_step p m t K I.rows C)
 

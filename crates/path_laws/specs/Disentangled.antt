@@ -1,18 +1,13 @@
 -- Names are on the path: a task names only what its path owns, and an object refers only along a path.
 use Rattle.std.specs.Prelude.{◌≡◌, ℕ, ◌<◌, Bool, true, Option, Some, List, length, slice_get}
-use Rattle.listed.specs.Members.{In}
-use Rattle.hh_model.specs.declared.data.Name.{Name}
-use Rattle.hh_model.specs.declared.data.Object.{Object}
-use Rattle.hh_model.specs.declared.data.Task.{Task}
-use Rattle.hh_model.specs.Names.{refs_at, task_names}
-use Rattle.hh_model.specs.Step.{parents, joined, owner_in, path_in}
+use Rattle.path_laws.specs.Common.{In, Name, Object, Task, refs_at, task_names, parents, joined, owner_in, path_in}
 use Rattle.path_laws.specs.Paths.{OnePath}
 
--- the owner of a name stands on the path of the task u, where n tasks have these parents
+-- the owner of a name is on the path of the task u, for n tasks with these parents
 abbrev pub IsOnPathOf : ℕ → (ℕ → Option ℕ) → (ℕ → Bool) → ℕ → Name → Type 0
 IsOnPathOf n par jd u r = (r.task < n) × (path_in par (owner_in par jd r.task) u ≡ true)
 
--- of the owners of two names, one stands on the other's path
+-- the owners of two names are on one path
 abbrev pub AreOnOnePath : ℕ → (ℕ → Option ℕ) → (ℕ → Bool) → Name → Name → Type 0
 AreOnOnePath n par jd k r = (k.task < n) × (r.task < n) × OnePath par (owner_in par jd k.task) (owner_in par jd r.task)
 

@@ -2,3 +2,4 @@ pub mod Paths
 pub mod Disentangled
 pub mod Leaves
 pub mod ReadLaws
+mod Common

@@ -1,8 +1,6 @@
--- Paths to the root and owners: walks along parents, and what forks and joins make of them.
+-- Paths to the root and owners as walks along parents, and what forks and joins change of them.
 use Rattle.std.specs.Prelude.{◌≡◌, ◌⊎◌, ◌↔◌, ◌==◌, ◌||◌, ℕ, ◌<◌, ◌≤◌, Bool, true, false, Option, Some, List, [], ◌∷◌}
-use Rattle.hh_model.specs.declared.data.Edge.{Edge}
-use Rattle.hh_model.specs.Step.{owner_in, path_in}
-use Rattle.hh_model.specs.Tree.{AreLow, Tree}
+use Rattle.path_laws.specs.Common.{Edge, owner_in, path_in, AreLow, Tree}
 
 -- WALKS UP
 
@@ -18,20 +16,20 @@ IsWalkOfJoined par jd t (p ∷ ps) a = (jd t ≡ true) × (par t ≡ Some p) × 
 
 -- PATHS
 
--- one of the two is the other or stands above it
+-- one of the two is the other or an ancestor of it
 abbrev pub OnePath : (ℕ → Option ℕ) → ℕ → ℕ → Type 0
 OnePath par a b = (path_in par a b ≡ true) ⊎ (path_in par b a ≡ true)
 
--- which tasks stand on the path of a task
+-- which tasks are on the path of a task
 pub record ArePaths (par : ℕ → Option ℕ) : Type 0 where
   -- those to which a walk up leads from it
   pub walks : (a t : ℕ) → (path_in par a t ≡ true) ↔ ((ps : List ℕ) × IsWalkUp par t ps a)
   pub itself : (t : ℕ) → path_in par t t ≡ true
   -- a child's path is the child and its parent's path
   pub child : (a t p : ℕ) → par t ≡ Some p → path_in par a t ≡ ((a == t) || path_in par a p)
-  -- the parent of who stands on a path stands on it
+  -- the parent of a task on a path is on it
   pub parent : (a p t : ℕ) → par a ≡ Some p → path_in par a t ≡ true → path_in par p t ≡ true
-  -- who stands on the path of another task has a child there
+  -- a proper ancestor of a task has a child on its path
   pub through : (a t : ℕ) → path_in par a t ≡ true → (a ≡ t) ⊎ ((c : ℕ) × (par c ≡ Some a) × (path_in par c t ≡ true))
   pub along : (a b t : ℕ) → path_in par a b ≡ true → path_in par b t ≡ true → path_in par a t ≡ true
   pub one : (a b t : ℕ) → path_in par a t ≡ true → path_in par b t ≡ true → OnePath par a b
@@ -44,15 +42,15 @@ PathsAreWalks = (par : ℕ → Option ℕ) → AreLow par → ArePaths par
 
 -- who owns what each task allocated
 pub record AreOwners (par : ℕ → Option ℕ) (jd wt : ℕ → Bool) : Type 0 where
-  -- a task that hasn't joined, to which joined tasks lead up
+  -- a task that hasn't joined, reached upward over joined tasks
   pub live : (a : ℕ) → jd (owner_in par jd a) ≡ false
   pub walks : (a : ℕ) → (ps : List ℕ) × IsWalkOfJoined par jd a ps (owner_in par jd a)
-  -- who hasn't joined owns what it allocated
+  -- a task that hasn't joined owns what it allocated
   pub own : (a : ℕ) → jd a ≡ false → owner_in par jd a ≡ a
-  -- on the path of a task that hasn't joined nobody has, so a joined task stands on no such path
+  -- no task on the path of a task that hasn't joined has joined
   pub above : (a t : ℕ) → path_in par a t ≡ true → jd t ≡ false → jd a ≡ false
   pub joined : (a t : ℕ) → jd a ≡ true → jd t ≡ false → path_in par a t ≡ false
-  -- who doesn't wait stands above no other task that hasn't joined
+  -- a task that doesn't wait is no proper ancestor of a task that hasn't joined
   pub leaf : (a t : ℕ) → jd t ≡ false → (a ≡ t → ⊥) → wt a ≡ false → path_in par a t ≡ false
 
 abbrev pub OwnersAreWalks : Type 0
@@ -60,7 +58,7 @@ OwnersAreWalks = (n : ℕ) (par : ℕ → Option ℕ) (jd wt : ℕ → Bool) (js
 
 -- AFTER A JOIN
 
--- where two children l and r of p have joined since, and nobody else
+-- after two children l and r of p, and no others, have joined
 pub record JoinsTwo (par : ℕ → Option ℕ) (jd jd' : ℕ → Bool) (l r p : ℕ) : Type 0 where
   pub left : par l ≡ Some p
   pub right : par r ≡ Some p

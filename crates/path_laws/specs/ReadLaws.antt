@@ -1,34 +1,22 @@
 -- Laws of reads: which are never stopped, and whom a stop names.
 use Rattle.std.specs.Prelude.{◌≡◌, ◌↔◌, ℕ, true, false, Some, None, List, length, slice_get, Contains}
 use Rattle.std.specs.Option.{option_flatten}
-use Rattle.hh_lang.specs.declared.instr.Instr.TheVariants.{Getr}
-use Rattle.hh_lang.specs.declared.program.Line.{Line}
-use Rattle.hh_lang.specs.Form.{ProgramText}
-use Rattle.hh_model.specs.declared.data.Name.{Name}
-use Rattle.hh_model.specs.declared.data.Object.{Object}
-use Rattle.hh_model.specs.declared.data.Task.{Task}
-use Rattle.hh_model.specs.declared.data.End.TheVariants.{Entangled}
-use Rattle.hh_model.specs.declared.data.State.{State}
-use Rattle.hh_model.specs.Effect.{Goes, int_in, object_at, onward, place_in, read_effect, ref_in, with_ref}
-use Rattle.hh_model.specs.Names.{task_names, refs_at}
-use Rattle.hh_model.specs.Precedence.{Precedes}
-use Rattle.hh_model.specs.Step.{ended_by, is_running, joined, is_on_path, owner_of, run, setting, step, strand_of, with_task}
-use Rattle.hh_model.specs.Store.{IsNext}
+use Rattle.path_laws.specs.Common.{Getr, Line, ProgramText, Name, Object, Task, Entangled, MachineState, Goes, int_in, object_at, onward, place_in, read_effect, ref_in, with_ref, task_names, refs_at, Precedes, ended_by, is_running, joined, is_on_path, owner_of, run, setting, step, strand_of, with_task, IsNext}
 
 -- a running task holds an object, in a register
-pub record Holds (m : State) (t : ℕ) (x : Task) (n : Name) (o : Object) : Type 0 where
+pub record Holds (m : MachineState) (t : ℕ) (x : Task) (n : Name) (o : Object) : Type 0 where
   pub task : slice_get m.tasks t ≡ Some x
   pub running : is_running (Some x) ≡ true
   pub name : Contains (task_names x) n
   pub object : object_at m.store n ≡ Some o
 
--- the object of a name precedes the task
-abbrev pub PrecedesTask : State → ℕ → Task → Name → Type 0
+-- the object of a name happens before the task
+abbrev pub PrecedesTask : MachineState → ℕ → Task → Name → Type 0
 PrecedesTask m t x n = (o : Object) × (object_at m.store n ≡ Some o) × Precedes m.edges o.strand (strand_of t x)
 
--- each reference field of the object is nil or names an object that precedes the task, so that its read is never
+-- each reference field of the object is nil or names an object that happens before the task, so that its read is never
 -- stopped
-pub record ReadsFreely (m : State) (t : ℕ) (x : Task) (o : Object) : Type 0 where
+pub record ReadsFreely (m : MachineState) (t : ℕ) (x : Task) (o : Object) : Type 0 where
   pub precede : (r : Name) → Contains o.refs (Some r) → PrecedesTask m t x r
   pub goes : (at d : ℕ) → let r = option_flatten (slice_get o.refs at) in read_effect (setting m t x) x.top m.store d r ≡ Goes (onward (with_ref x.top d r)) m.store
 
@@ -44,9 +32,9 @@ FrozenReadsGo =
     (p : ProgramText) (limit : ℕ) (ts : List ℕ) (t : ℕ) (x : Task) (n : Name) (o : Object)
     → let m = run p limit ts in Holds m t x n o → o.mutable ≡ false → ReadsFreely m t x o
 
--- a read of an object was stopped: what it would have yielded doesn't precede the reader, and the owner that is named
--- is a task that hasn't joined, owns that object, and doesn't stand on the reader's path
-pub record IsStop (m : State) (t owner : ℕ) : Type 0 where
+-- a read of an object was stopped: what it would have yielded doesn't happen before the reader, and the owner that is
+-- named is a task that hasn't joined, owns that object, and isn't on the reader's path
+pub record IsStop (m : MachineState) (t owner : ℕ) : Type 0 where
   pub name : Name
   pub source : Name
   pub field : Contains (refs_at m.store source) name
@@ -64,10 +52,10 @@ StopsNameOwners =
     (p : ProgramText) (limit : ℕ) (ts : List ℕ) (t reader owner : ℕ)
     → let m = run p limit ts in m.end ≡ None → (step p m t).end ≡ Some (Entangled reader owner) → (reader ≡ t) × IsStop m t owner
 
--- WHERE A READ IS STOPPED
+-- WHEN A READ IS STOPPED
 
 -- the next step of the running task t reads a reference field into the register d, and the field names the object o
-pub record ReadsNext (p : ProgramText) (m : State) (t : ℕ) (x : Task) (d : ℕ) (n : Name) (o : Object) : Type 0 where
+pub record ReadsNext (p : ProgramText) (m : MachineState) (t : ℕ) (x : Task) (d : ℕ) (n : Name) (o : Object) : Type 0 where
   pub running : is_running (Some x) ≡ true
   pub line : Line
   pub next : IsNext p m t x line
@@ -84,16 +72,16 @@ pub record ReadsNext (p : ProgramText) (m : State) (t : ℕ) (x : Task) (d : ℕ
   pub object : object_at m.store n ≡ Some o
 
 -- the register holds what was read
-abbrev pub IsRead : ProgramText → State → ℕ → Task → ℕ → Name → Type 0
+abbrev pub IsRead : ProgramText → MachineState → ℕ → Task → ℕ → Name → Type 0
 IsRead p m t x d n = step p m t ≡ with_task m t (record x { top = onward (with_ref x.top d (Some n)) })
 
 -- the machine ends as entangled with the reader and the owner, and nothing else changes
-abbrev pub IsStopped : ProgramText → State → ℕ → Name → Type 0
+abbrev pub IsStopped : ProgramText → MachineState → ℕ → Name → Type 0
 IsStopped p m t n = step p m t ≡ ended_by m (Entangled t (owner_of m.tasks n.task))
 
--- a read goes on exactly where the strand of what it reads precedes the reader's, and is stopped exactly where it
--- doesn't. The owner that a stop names hasn't joined
-pub record IsDecided (p : ProgramText) (m : State) (t : ℕ) (x : Task) (d : ℕ) (n : Name) (o : Object) : Type 0 where
+-- a read goes on if and only if the strand of what it reads happens before the reader's; otherwise it is stopped. The
+-- owner that a stop names hasn't joined
+pub record IsDecided (p : ProgramText) (m : MachineState) (t : ℕ) (x : Task) (d : ℕ) (n : Name) (o : Object) : Type 0 where
   pub goes : Precedes m.edges o.strand (strand_of t x) ↔ IsRead p m t x d n
   pub stops : (Precedes m.edges o.strand (strand_of t x) → ⊥) ↔ IsStopped p m t n
   pub live : joined m.tasks (owner_of m.tasks n.task) ≡ false
@@ -104,7 +92,7 @@ ReadsAreDecided =
     → let m = run p limit ts in m.end ≡ None → ReadsNext p m t x d n o → IsDecided p m t x d n o
 
 -- a read of t that is stopped, and names this owner
-pub record StopsRead (p : ProgramText) (m : State) (t owner : ℕ) : Type 0 where
+pub record StopsRead (p : ProgramText) (m : MachineState) (t owner : ℕ) : Type 0 where
   pub task : Task
   pub register : ℕ
   pub name : Name

@@ -1,4 +1,4 @@
-// Laws of what is named, each the contract of a function that does nothing.
+// Laws of names, each the contract of a function that does nothing.
 
 ghost use Rattle.path_laws.specs.ReadLaws.{OwnReadsGo, FrozenReadsGo, StopsNameOwners};
 ghost use Rattle.hh_model.specs.Store.{OutputsGrow};
@@ -8,13 +8,13 @@ pub fn own_reads_go()
     ensures { OwnReadsGo }
 {}
 
-/// A task's reads of an immutable object are never stopped: each field is nil or names an object that precedes the
-/// task.
+/// A task's reads of an immutable object are never stopped: each field is nil or names an object that happens before
+/// the task.
 pub fn frozen_reads_go()
     ensures { FrozenReadsGo }
 {}
 
-/// A stop names the task that owns the object now: it hasn't joined, and doesn't stand on the reader's path.
+/// A stop names the task that owns the object now: it hasn't joined, and isn't on the reader's path.
 pub fn stops_name_owners()
     ensures { StopsNameOwners }
 {}

@@ -1,5 +1,5 @@
-// What tasks and objects name, in every run: it stays in the store, and its owner is on one path with who names it.
-// So some reads are never stopped, and a step leaves what other tasks own.
+// What tasks and objects name, in every run: it stays in the store, and its owner is on one path with the task or
+// object that names it. So some reads are never stopped, and a step leaves what other tasks own unchanged.
 #![tactic(auto)]
 
 mod laws;

@@ -71,21 +71,21 @@ pub rounds_small : (x : ℕ) → rounds x < 1000
 rounds_small x = let h : drawn (after_three x) 40 < 40 = mod-lt (after_three x / 65536) (omega arith) in omega (arith, h)
 
 pub side_small : (i : ℕ) → side i < 1000
-side_small i = by (nat_eq i 0) (nat_eq (i % 2) 0)
+side_small i = side_small_by_cases (nat_eq i 0) (nat_eq (i % 2) 0)
   where
-    by : (b c : Bool) → cond b 0 (cond c 1 0) < 1000
-    by true c = omega arith
-    by false true = omega arith
-    by false false = omega arith
+    side_small_by_cases : (b c : Bool) → cond b 0 (cond c 1 0) < 1000
+    side_small_by_cases true c = omega arith
+    side_small_by_cases false true = omega arith
+    side_small_by_cases false false = omega arith
 
 -- A FUNCTION, AND ALL
 
 children_of_short : (size i : ℕ) → size ≤ 1000 → length (children_of size i) ≤ 123
-children_of_short size i le = by (nat_lt (2 * i + 2) size) refl
+children_of_short size i le = children_of_short_by_cases (nat_lt (2 * i + 2) size) refl
   where
-    by : (b : Bool) → nat_lt (2 * i + 2) size ≡ b → length (cond b (children_lines (2 * i + 1) (2 * i + 2)) []) ≤ 123
-    by true e = let lt = ltb-true (2 * i + 2) size e in children_short (2 * i + 1) (2 * i + 2) (omega (arith, lt, le)) (omega (arith, lt, le))
-    by false e = omega arith
+    children_of_short_by_cases : (b : Bool) → nat_lt (2 * i + 2) size ≡ b → length (cond b (children_lines (2 * i + 1) (2 * i + 2)) []) ≤ 123
+    children_of_short_by_cases true e = let lt = ltb-true (2 * i + 2) size e in children_short (2 * i + 1) (2 * i + 2) (omega (arith, lt, le)) (omega (arith, lt, le))
+    children_of_short_by_cases false e = omega arith
 
 function_short : (size i x : ℕ) → size ≤ 1000 → i < 1000 → length (function_text size i x) ≤ 422
 function_short size i x le lt =

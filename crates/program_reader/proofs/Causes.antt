@@ -1,15 +1,5 @@
 -- Which cause comes first.
-use Rattle.std.proofs.Common.{◌≡◌, ℕ, Bool, true, false, cond, List, refl, ap, sym, ◌∙◌}
-use Rattle.std.specs.Prelude.{Option, Some, None}
-use Rattle.program_reader.specs.declared.cause.Cause.{Cause}
-use Rattle.program_reader.specs.declared.cause.Cause.TheVariants.{NotUtf8, Word, Operand, NoEnd, TwoNames, NoName, NoLabel, NoMain, TooMany}
-use Rattle.program_reader.specs.declared.head.Head.{Head}
-use Rattle.program_reader.specs.declared.sense.Sense.{Sense}
-use Rattle.program_reader.specs.declared.sense.Outline.{Outline}
-use Rattle.program_reader.specs.Fault.{Spot, is_misplaced, has_wrong_operand, leaves_open, is_second, names_no_function, names_no_label, lacks_main, is_too_many, first_cause, fault_by, fault_on}
-use Rattle.std.specs.Str.{is_utf8}
-use Rattle.program_reader.specs.Sense.{sense_of}
-use Rattle.program_reader.specs.Around.{head_of_line, operands_of_line}
+use Rattle.program_reader.proofs.Common.{◌≡◌, ℕ, Bool, true, false, cond, List, refl, ap, sym, ◌∙◌, Option, Some, None, is_utf8, Cause, NotUtf8, Word, Operand, NoEnd, TwoNames, NoName, NoLabel, NoMain, TooMany, Head, Sense, Outline, LineContext, is_misplaced, has_wrong_operand, leaves_open, is_second, names_no_function, names_no_label, lacks_main, is_too_many, first_cause, fault_by, fault_on, sense_of, head_of_line, operands_of_line}
 
 by_word : (a b c d e f g h : Bool) → a ≡ true → ◌≡◌ {A = Option Cause} (Some Word) (first_cause a b c d e f g h)
 by_word a b c d e f g h pa = rw pa refl
@@ -40,7 +30,7 @@ by_none a b c d e f g h pa pb pc pd pe pf pg ph = rw (pa, pb, pc, pd, pe, pf, pg
 
 -- the first cause on a line, by its tests
 
-module _ (o : Outline) (s : Spot) (h : Head) (ws : List (List ℕ)) (x : Sense) where
+module _ (o : Outline) (s : LineContext) (h : Head) (ws : List (List ℕ)) (x : Sense) where
   pub gives_word : is_misplaced s.inside h ≡ true → ◌≡◌ {A = Option Cause} (Some Word) (fault_by o s h ws x)
   gives_word = by_word (is_misplaced s.inside h) (has_wrong_operand x) (leaves_open s h) (is_second s h ws) (names_no_function x) (names_no_label x) (lacks_main o s) (is_too_many s h)
 
@@ -74,7 +64,7 @@ passed : (b : Bool) (x : Cause) (rest : Option Cause) → cond b (Some x) rest �
 passed true x rest e = absurd (none_is x e)
 passed false x rest e = (refl, e)
 
-pub record IsFaultless (o : Outline) (s : Spot) (h : Head) (ws : List (List ℕ)) (x : Sense) : Type 0 where
+pub record IsFaultless (o : Outline) (s : LineContext) (h : Head) (ws : List (List ℕ)) (x : Sense) : Type 0 where
   pub known : is_misplaced s.inside h ≡ false
   pub operand : has_wrong_operand x ≡ false
   pub no_end : leaves_open s h ≡ false
@@ -84,7 +74,7 @@ pub record IsFaultless (o : Outline) (s : Spot) (h : Head) (ws : List (List ℕ)
   pub no_main : lacks_main o s ≡ false
   pub too_many : is_too_many s h ≡ false
 
-pub faultless : (o : Outline) (s : Spot) (h : Head) (ws : List (List ℕ)) (x : Sense) → fault_by o s h ws x ≡ None → IsFaultless o s h ws x
+pub faultless : (o : Outline) (s : LineContext) (h : Head) (ws : List (List ℕ)) (x : Sense) → fault_by o s h ws x ≡ None → IsFaultless o s h ws x
 faultless o s h ws x e =
     let e0 = passed (is_misplaced s.inside h) Word (cond (has_wrong_operand x) (Some Operand) (cond (leaves_open s h) (Some NoEnd) (cond (is_second s h ws) (Some TwoNames) (cond (names_no_function x) (Some NoName) (cond (names_no_label x) (Some NoLabel) (cond (lacks_main o s) (Some NoMain) (cond (is_too_many s h) (Some TooMany) None))))))) e in
     let e1 = passed (has_wrong_operand x) Operand (cond (leaves_open s h) (Some NoEnd) (cond (is_second s h ws) (Some TwoNames) (cond (names_no_function x) (Some NoName) (cond (names_no_label x) (Some NoLabel) (cond (lacks_main o s) (Some NoMain) (cond (is_too_many s h) (Some TooMany) None)))))) e0.1 in
@@ -96,10 +86,10 @@ faultless o s h ws x e =
     let e7 = passed (is_too_many s h) TooMany None e6.1 in
     record { known = e0.0; operand = e1.0; no_end = e2.0; two_names = e3.0; no_name = e4.0; no_label = e5.0; no_main = e6.0; too_many = e7.0 }
 
-pub gives_not_utf8 : (o : Outline) (s : Spot) (line : List ℕ) → is_utf8 line ≡ false → ◌≡◌ {A = Option Cause} (Some NotUtf8) (fault_on o s line)
+pub gives_not_utf8 : (o : Outline) (s : LineContext) (line : List ℕ) → is_utf8 line ≡ false → ◌≡◌ {A = Option Cause} (Some NotUtf8) (fault_on o s line)
 gives_not_utf8 o s line e = ap (λ b. cond b (fault_by o s (head_of_line line) (operands_of_line line) (sense_of o s.labels (head_of_line line) (operands_of_line line))) (Some NotUtf8)) (sym e)
 
-pub gives_fault : (o : Outline) (s : Spot) (line : List ℕ) (r : Option Cause) (h : Head) (ws : List (List ℕ)) (x : Sense) → is_utf8 line ≡ true → h ≡ head_of_line line → ws ≡ operands_of_line line → x ≡ sense_of o s.labels h ws → r ≡ fault_by o s h ws x → r ≡ fault_on o s line
+pub gives_fault : (o : Outline) (s : LineContext) (line : List ℕ) (r : Option Cause) (h : Head) (ws : List (List ℕ)) (x : Sense) → is_utf8 line ≡ true → h ≡ head_of_line line → ws ≡ operands_of_line line → x ≡ sense_of o s.labels h ws → r ≡ fault_by o s h ws x → r ≡ fault_on o s line
 gives_fault o s line r h ws x e eh ews ex er =
     let e1 : fault_by o s h ws x ≡ fault_by o s h ws (sense_of o s.labels h ws) = ap (λ y. fault_by o s h ws y) ex in
     let e2 : fault_by o s h ws (sense_of o s.labels h ws) ≡ fault_by o s (head_of_line line) ws (sense_of o s.labels (head_of_line line) ws) = ap (λ y. fault_by o s y ws (sense_of o s.labels y ws)) eh in

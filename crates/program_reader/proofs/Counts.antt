@@ -1,10 +1,5 @@
 -- Counts as operands, by what `read_u32` answers.
-use Rattle.std.proofs.Common.{◌≡◌, ◌<◌, ◌≤◌, ◌^◌, ℕ, Bool, true, false, List, cond, arith, refl, ap, ◌&&◌}
-use Rattle.std.specs.Prelude.{nat_le, Option, Some, None, SomeIff}
-use Rattle.std.specs.Str.Parse.{IsNumeral, digits_value}
-use Rattle.hh_lang.specs.Number.{is_numeral}
-use Rattle.hh_lang.proofs.Tests.{numeral_passes, passed_numeral}
-use Rattle.program_reader.specs.Operands.{field_count}
+use Rattle.program_reader.proofs.Common.{◌≡◌, ◌<◌, ◌≤◌, ◌^◌, ℕ, Bool, true, false, List, cond, arith, refl, ap, ◌&&◌, nat_le, Option, Some, None, SomeIff, IsNumeral, digits_value, is_numeral, numeral_passes, passed_numeral, field_count}
 
 abbrev pub IsRead : List ℕ → Option ℕ → Type 0
 IsRead w r = SomeIff r (IsNumeral 10 w × (digits_value 10 w < 2 ^ 32)) (digits_value 10 w)

@@ -1,25 +1,5 @@
 -- Reading on over the bytes of a text.
-use Rattle.std.proofs.Common.{◌≡◌, ◌<◌, ◌≤◌, ◌+◌, ◌++◌, ◌^◌, ℕ, Bool, true, false, cond, List, [], ◌∷◌, length, take, drop, arith, refl, ap, sym, subst, ◌∙◌, nat_lt, nat_eq}
-use Rattle.std.specs.Prelude.{Option, Some, None, IfNone, ◌==◌, codes}
-use Rattle.std.specs.List.{position_or_len}
-use Rattle.std.proofs.lemmas.List.{drop_all}
-use Rattle.hh_lang.specs.Form.{IsProgram}
-use Rattle.hh_lang.specs.declared.program.Fun.{Fun}
-use Rattle.program_reader.specs.declared.cause.Cause.{Cause}
-use Rattle.program_reader.specs.declared.cause.Refused.{Refused}
-use Rattle.program_reader.specs.declared.head.Head.{Head}
-use Rattle.program_reader.specs.declared.head.Head.TheVariants.{Begin}
-use Rattle.program_reader.specs.declared.sense.Sense.{Sense}
-use Rattle.program_reader.specs.declared.sense.Outline.{Outline}
-use Rattle.program_reader.specs.declared.reader.Reader.{Reader}
-use Rattle.text_lines.specs.Lines.{is_last, lines_of}
-use Rattle.text_lines.proofs.Last.{some_line}
-use Rattle.program_reader.specs.Names.{is_noted}
-use Rattle.program_reader.specs.Sense.{IsSmall, only_name, sense_of}
-use Rattle.program_reader.specs.Around.{outline_of, head_of_line, operands_of_line}
-use Rattle.program_reader.specs.Fault.{fault_on, first_fault}
-use Rattle.program_reader.specs.Program.{functions_from, program_of, unless_refused, reading_of}
-use Rattle.program_reader.specs.Reading.{spot_in, after_begin, after_line, line_taken, program_in}
+use Rattle.program_reader.proofs.Common.{◌≡◌, ◌<◌, ◌≤◌, ◌+◌, ◌++◌, ◌^◌, ℕ, Bool, true, false, cond, List, [], ◌∷◌, length, take, drop, arith, refl, ap, sym, subst, ◌∙◌, nat_lt, nat_eq, Option, Some, None, IfNone, ◌==◌, codes, position_or_len, drop_all, IsProgram, Fun, is_last, lines_of, some_line, Cause, TextFault, Head, Begin, Sense, Outline, Reader, is_noted, IsSmall, only_name, sense_of, outline_of, head_of_line, operands_of_line, fault_on, first_fault, functions_from, program_of, unless_refused, reading_of, spot_in, after_begin, after_line, line_taken, program_in}
 use Rattle.program_reader.proofs.Lines.{lines_first, lines_last, lines_cut, lines_behind}
 use Rattle.program_reader.proofs.Rounds.{IsReading, next_line, refused_at, no_fault, functions_done, at_last, has_main}
 use Rattle.program_reader.proofs.Sounds.{fun_names, entry_names}
@@ -91,7 +71,7 @@ module _ (o : Outline) (text : List ℕ) (r : Reader) (n end : ℕ) (rest : List
     faultless t = sym (no_fault o text s (n + 1) (ended t))
 
 -- what a text is read as, by its first fault and its functions
-pub read_as : (o : Outline) (text : List ℕ) (fault : Option Refused) (functions : List Fun) → o ≡ outline_of text → fault ≡ first_fault text → IfNone fault (functions ≡ functions_from o 1 (lines_of text))
+pub read_as : (o : Outline) (text : List ℕ) (fault : Option TextFault) (functions : List Fun) → o ≡ outline_of text → fault ≡ first_fault text → IfNone fault (functions ≡ functions_from o 1 (lines_of text))
     → unless_refused fault (program_in o functions) ≡ reading_of text
 read_as o text None functions same e h =
     ap (λ fs. unless_refused None (program_in o fs)) h

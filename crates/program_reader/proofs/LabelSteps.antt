@@ -1,12 +1,5 @@
 -- The labels of a function, line by line.
-use Rattle.std.proofs.Common.{◌≡◌, ◌<◌, ◌≤◌, ◌+◌, ℕ, true, false, cond, List, [], ◌∷◌, length, take, drop, arith, ap, sym, ◌∙◌, nat_lt}
-use Rattle.std.specs.Prelude.{◌==◌}
-use Rattle.std.specs.List.{position_or_len}
-use Rattle.program_reader.specs.declared.head.Head.{Head}
-use Rattle.program_reader.specs.declared.head.Head.TheVariants.{Label, Order}
-use Rattle.program_reader.specs.declared.labels.Labels.{Labels}
-use Rattle.text_lines.specs.Lines.{lines_of}
-use Rattle.program_reader.specs.Around.{head_of_line, operands_of_line, label_line, labels_onto, ends_body}
+use Rattle.program_reader.proofs.Common.{◌≡◌, ◌<◌, ◌≤◌, ◌+◌, ℕ, true, false, cond, List, [], ◌∷◌, length, take, drop, arith, ap, sym, ◌∙◌, nat_lt, ◌==◌, position_or_len, lines_of, Head, Label, Order, Labels, head_of_line, operands_of_line, label_line, labels_onto, ends_body}
 use Rattle.program_reader.proofs.Lines.{lines_first, lines_last, lines_cut, lines_behind}
 
 ended : (s : Labels) (line : List ℕ) (ls : List (List ℕ)) → ends_body (head_of_line line) ≡ true → s ≡ labels_onto s (line ∷ ls)

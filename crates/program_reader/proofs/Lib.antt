@@ -16,3 +16,4 @@ mod Endings
 mod FirstFaults
 mod LoopsRead
 pub mod Passing
+mod Common

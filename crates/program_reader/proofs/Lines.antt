@@ -1,11 +1,5 @@
 -- The first line of a text, and the others.
-use Rattle.std.proofs.Common.{◌≡◌, ◌<◌, ◌≤◌, ◌+◌, ℕ, Bool, true, false, List, [], ◌∷◌, length, take, drop, arith, refl, ap, sym, ◌∙◌, nat_lt}
-use Rattle.std.specs.Prelude.{◌==◌}
-use Rattle.std.specs.List.{position_or_len}
-use Rattle.std.proofs.lemmas.List.{take_all}
-use Rattle.std.proofs.lemmas.List.Splits.{slice_split_first}
-use Rattle.text_lines.specs.Lines.{lines_of}
-use Rattle.text_lines.proofs.Runs.{split_last}
+use Rattle.program_reader.proofs.Common.{◌≡◌, ◌<◌, ◌≤◌, ◌+◌, ℕ, Bool, true, false, List, [], ◌∷◌, length, take, drop, arith, refl, ap, sym, ◌∙◌, nat_lt, ◌==◌, position_or_len, take_all, slice_split_first, lines_of, split_last}
 
 pub lines_first : (text : List ℕ) (end : ℕ) → end ≡ position_or_len (λ c. c == 10) text → end < length text → lines_of text ≡ take end text ∷ lines_of (drop (end + 1) text)
 lines_first text end e lt = rw e (slice_split_first (λ c. c == 10) text 0 (let h : position_or_len (λ c. c == 10) text < length text = omega (arith, e, lt) in h))
@@ -19,8 +13,8 @@ lines_behind text end true = lines_of (drop (end + 1) text)
 lines_behind text end false = []
 
 pub lines_cut : (text : List ℕ) (end : ℕ) → end ≡ position_or_len (λ c. c == 10) text → end ≤ length text → lines_of text ≡ take end text ∷ lines_behind text end (nat_lt end (length text))
-lines_cut text end e le = by (nat_lt end (length text)) refl
+lines_cut text end e le = lines_cut_by_cases (nat_lt end (length text)) refl
   where
-    by : (b : Bool) → nat_lt end (length text) ≡ b → lines_of text ≡ take end text ∷ lines_behind text end b
-    by true h = lines_first text end e (let lt : end < length text = grind (arith, h) in lt)
-    by false h = lines_last text end e (let z : end ≡ length text = grind (arith, h, le) in z)
+    lines_cut_by_cases : (b : Bool) → nat_lt end (length text) ≡ b → lines_of text ≡ take end text ∷ lines_behind text end b
+    lines_cut_by_cases true h = lines_first text end e (let lt : end < length text = grind (arith, h) in lt)
+    lines_cut_by_cases false h = lines_last text end e (let z : end ≡ length text = grind (arith, h, le) in z)

@@ -1,13 +1,5 @@
 -- The functions of loops, one loop after the other.
-use Rattle.std.proofs.Common.{◌≡◌, ◌<◌, ◌+◌, ◌++◌, ℕ, List, [], ◌∷◌, length, drop, get_or, ap, sym, ◌∙◌, append_assoc, subst}
-use Rattle.std.specs.Prelude.{Option, Some, slice_get, MatchOption}
-use Rattle.std.proofs.lemmas.List.{drop_more}
-use Rattle.std.proofs.lemmas.Option.{slice_get-get_or}
-use Rattle.hh_lang.specs.declared.program.Fun.{Fun}
-use Rattle.program_reader.specs.declared.sense.Outline.{Outline}
-use Rattle.program_reader.specs.Names.{NotedName}
-use Rattle.program_reader.specs.Sense.{loop_function}
-use Rattle.program_reader.specs.Program.{loop_functions, loops_from}
+use Rattle.program_reader.proofs.Common.{◌≡◌, ◌<◌, ◌+◌, ◌++◌, ℕ, List, [], ◌∷◌, length, drop, get_or, ap, sym, ◌∙◌, append_assoc, subst, Option, Some, slice_get, MatchOption, drop_more, slice_get-get_or, Fun, Outline, NotedName, loop_function, loop_functions, loops_from}
 
 pub three_added : (fs f1 f2 f3 : List Fun) (a b c a' b' c' : Fun) → f1 ≡ fs ++ a ∷ [] → f2 ≡ f1 ++ b ∷ [] → f3 ≡ f2 ++ c ∷ [] → a ≡ a' → b ≡ b' → c ≡ c' → f3 ≡ fs ++ (a' ∷ b' ∷ c' ∷ [])
 three_added fs f1 f2 f3 a b c a' b' c' e1 e2 e3 ea eb ec = rw (e3, e2, e1, ea, eb, ec) (simp append_assoc)

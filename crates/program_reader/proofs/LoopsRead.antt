@@ -1,32 +1,5 @@
 -- A text without a fault has the functions of its loops after those that its lines begin.
-use Rattle.std.proofs.Common.{◌≡◌, ◌<◌, ◌+◌, ◌*◌, ◌++◌, ℕ, zero, suc, Bool, true, false, cond, List, [], ◌∷◌, length, arith, refl, ap, sym, ◌∙◌, get_or, length-append}
-use Rattle.std.specs.Prelude.{Option, Some, None, map, slice_get, codes}
-use Rattle.std.specs.Str.{bytes_eq, is_utf8}
-use Rattle.std.specs.Option.{unwrap_or}
-use Rattle.std.proofs.lemmas.List.Quantifiers.{position-Some}
-use Rattle.std.proofs.lemmas.Option.{get_or_from_slice_get}
-use Rattle.std.proofs.lemmas.Slice.Eq.{bytes_eq-Decides}
-use Rattle.listed.proofs.Members.{got_back, got_front}
-use Rattle.listed.proofs.Places.{got_some}
-use Rattle.hh_lang.specs.declared.instr.Instr.{Instr}
-use Rattle.hh_lang.specs.declared.program.Line.{Line}
-use Rattle.hh_lang.specs.declared.program.Fun.{Fun}
-use Rattle.hh_lang.specs.Form.{code_of}
-use Rattle.program_reader.specs.declared.cause.Cause.{Cause}
-use Rattle.program_reader.specs.declared.cause.Cause.TheVariants.{NotUtf8}
-use Rattle.program_reader.specs.declared.cause.Refused.{Refused}
-use Rattle.program_reader.specs.declared.head.Head.{Head}
-use Rattle.program_reader.specs.declared.head.Head.TheVariants.{Begin}
-use Rattle.program_reader.specs.declared.sense.Sense.TheVariants.{WrongOperand}
-use Rattle.program_reader.specs.declared.sense.Outline.{Outline}
-use Rattle.text_lines.specs.Lines.{lines_of}
-use Rattle.program_reader.specs.Names.{NotedName, is_noted, noted, place_of}
-use Rattle.program_reader.specs.Sense.{sense_of, loop_function, looping, only_name}
-use Rattle.program_reader.specs.Around.{head_of_line, operands_of_line, begun_name, noted_if, outline_line, outline_above, outline_onto, outline_of, no_labels, labels_onto}
-use Rattle.program_reader.specs.Fault.{spot_of, is_misplaced, has_wrong_operand, leaves_open, is_named_in, is_second, names_no_function, names_no_label, lacks_main, is_too_many, first_cause, fault_by, fault_on, or_later, fault_from}
-use Rattle.program_reader.specs.Program.{on_line, function_of, loop_from, loop_functions, loops_from, number_of, with_function, functions_from, code_from}
-use Rattle.hh_lang.specs.Loop.{instrs_of, whole_code, left_code, right_code}
-use Rattle.program_reader.specs.LoopLaw.{LoopsAreRead}
+use Rattle.program_reader.proofs.Common.{◌≡◌, ◌<◌, ◌+◌, ◌*◌, ◌++◌, ℕ, zero, suc, Bool, true, false, cond, List, [], ◌∷◌, length, arith, refl, ap, sym, ◌∙◌, get_or, length-append, Option, Some, None, map, slice_get, codes, bytes_eq, is_utf8, unwrap_or, position-Some, get_or_from_slice_get, bytes_eq-Decides, got_back, got_front, got_some, Instr, Line, Fun, code_of, lines_of, instrs_of, whole_code, left_code, right_code, Cause, NotUtf8, TextFault, Head, Begin, WrongOperand, Outline, NotedName, is_noted, noted, place_of, sense_of, loop_function, looping, only_name, head_of_line, operands_of_line, begun_name, noted_if, outline_line, outline_above, outline_onto, outline_of, no_labels, labels_onto, spot_of, is_misplaced, has_wrong_operand, leaves_open, is_named_in, is_second, names_no_function, names_no_label, lacks_main, is_too_many, first_cause, fault_by, fault_on, or_later, fault_from, on_line, function_of, loop_from, loop_functions, loops_from, number_of, with_function, functions_from, code_from, LoopsAreRead}
 
 -- AS MANY FUNCTIONS AS NAMES
 
@@ -72,11 +45,11 @@ line_begins : (name : Option (List ℕ)) (code : List Line) (rest : List Fun) �
 line_begins None code rest = omega arith
 line_begins (Some name) code rest = let e : length (with_function (Some name) code rest) ≡ suc (length rest) = refl in omega arith
 
-first_part : (c : Option Cause) (n : ℕ) (later : Option Refused) → or_later c n later ≡ None → c ≡ None
+first_part : (c : Option Cause) (n : ℕ) (later : Option TextFault) → or_later c n later ≡ None → c ≡ None
 first_part None n later e = refl
 first_part (Some cause) n later e = absurd cc
 
-later_part : (c : Option Cause) (n : ℕ) (later : Option Refused) → or_later c n later ≡ None → later ≡ None
+later_part : (c : Option Cause) (n : ℕ) (later : Option TextFault) → or_later c n later ≡ None → later ≡ None
 later_part None n later e = e
 later_part (Some cause) n later e = absurd cc
 

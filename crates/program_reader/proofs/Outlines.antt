@@ -1,12 +1,5 @@
 -- The outline of a text, line by line.
-use Rattle.std.proofs.Common.{◌≡◌, ◌<◌, ◌≤◌, ◌+◌, ◌++◌, ℕ, Bool, true, false, cond, List, [], ◌∷◌, length, take, drop, arith, ap, sym, length-append}
-use Rattle.std.specs.Prelude.{◌==◌, Option, Some, None}
-use Rattle.std.specs.List.{position_or_len}
-use Rattle.program_reader.specs.declared.sense.Outline.{Outline}
-use Rattle.text_lines.specs.Lines.{lines_of}
-use Rattle.program_reader.specs.Names.{NotedName, is_noted}
-use Rattle.program_reader.specs.Sense.{IsSmall}
-use Rattle.program_reader.specs.Around.{head_of_line, operands_of_line, begun_name, looped_name, noted_if, outline_line, outline_onto}
+use Rattle.program_reader.proofs.Common.{◌≡◌, ◌<◌, ◌≤◌, ◌+◌, ◌++◌, ℕ, Bool, true, false, cond, List, [], ◌∷◌, length, take, drop, arith, ap, sym, length-append, ◌==◌, Option, Some, None, position_or_len, lines_of, Outline, NotedName, is_noted, IsSmall, head_of_line, operands_of_line, begun_name, looped_name, noted_if, outline_line, outline_onto}
 use Rattle.program_reader.proofs.Lines.{lines_first, lines_last}
 
 pub outline_more : (o : Outline) (n end : ℕ) (rest : List ℕ) → end ≡ position_or_len (λ c. c == 10) rest → end < length rest → outline_onto (n + 1) (outline_line n o (take end rest)) (lines_of (drop (end + 1) rest)) ≡ outline_onto n o (lines_of rest)

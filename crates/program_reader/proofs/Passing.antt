@@ -1,24 +1,5 @@
 -- Lines without a fault, and the lines that follow them: what the crates above say of texts by their lines.
-use Rattle.std.proofs.Common.{◌≡◌, ◌≤◌, ◌<◌, ◌+◌, ◌++◌, ℕ, Bool, true, false, cond, List, [], ◌∷◌, length, arith, refl, ap, sym, ◌∙◌, ◌&&◌, ◌||◌, true≢false}
-use Rattle.std.specs.Prelude.{Option, Some, None, not, nat_le, codes}
-use Rattle.std.specs.Str.{is_utf8}
-use Rattle.std.specs.List.{list_all}
-use Rattle.std.proofs.lemmas.Bool.{and_parts, and_left}
-use Rattle.std.proofs.lemmas.List.{take_all}
-use Rattle.text_lines.specs.Lines.{is_last}
-use Rattle.hh_lang.specs.declared.instr.Instr.{Instr}
-use Rattle.program_reader.specs.declared.head.Head.{Head}
-use Rattle.program_reader.specs.declared.head.Head.TheVariants.{Blank, Begin, End, Label, Order, Unknown}
-use Rattle.program_reader.specs.declared.head.Verb.{Verb}
-use Rattle.program_reader.specs.declared.sense.Sense.{Sense}
-use Rattle.program_reader.specs.declared.sense.Sense.TheVariants.{Fits, Does, WrongOperand, NoSuchFunction, NoSuchLabel}
-use Rattle.program_reader.specs.declared.sense.Outline.{Outline}
-use Rattle.program_reader.specs.declared.labels.Labels.{Labels}
-use Rattle.program_reader.specs.Names.{NotedName, noted_name_of, is_noted, noted, place_of}
-use Rattle.program_reader.specs.Sense.{sense_of, only_name, named}
-use Rattle.program_reader.specs.Around.{head_of_line, operands_of_line, is_inside, is_open_after, ends_body, label_line, labels_above, labels_after, labels_onto, noted_if, begins, begun_above, begun_name, orders, orders_above, outline_above}
-use Rattle.program_reader.specs.Fault.{Spot, spot_of, is_named_in, is_begin, is_misplaced, fault_by, fault_on, fault_from, or_later}
-use Rattle.program_reader.specs.Laws.{turned}
+use Rattle.program_reader.proofs.Common.{◌≡◌, ◌≤◌, ◌<◌, ◌+◌, ◌++◌, ℕ, Bool, true, false, cond, List, [], ◌∷◌, length, arith, refl, ap, sym, ◌∙◌, ◌&&◌, ◌||◌, true≢false, Option, Some, None, not, nat_le, codes, is_utf8, list_all, and_parts, and_left, take_all, is_last, Instr, Head, Blank, Begin, End, Label, Order, Unknown, Verb, Sense, Fits, Does, WrongOperand, NoSuchFunction, NoSuchLabel, Outline, Labels, NotedName, noted_name_of, is_noted, noted, place_of, sense_of, only_name, named, head_of_line, operands_of_line, is_inside, is_open_after, ends_body, label_line, labels_above, labels_after, labels_onto, noted_if, begins, begun_above, begun_name, orders, orders_above, outline_above, LineContext, spot_of, is_named_in, is_begin, is_misplaced, fault_by, fault_on, fault_from, or_later, turned}
 use Rattle.program_reader.proofs.Causes.{gives_none, gives_fault}
 use Rattle.program_reader.proofs.Steps.{new_name}
 use Rattle.program_reader.proofs.Tables.{comes_before, noted_before}
@@ -31,7 +12,7 @@ pub passes : (o : Outline) (above : Lines) (l : List ℕ) (ls : Lines) → fault
 passes o above l ls e = ap (λ c. or_later c (length above + 1) (fault_from o (l ∷ above) ls)) e
 
 -- what a line says, and that it is no fault there
-module _ (o : Outline) (s : Spot) (l : List ℕ) (utf8 : is_utf8 l ≡ true) where
+module _ (o : Outline) (s : LineContext) (l : List ℕ) (utf8 : is_utf8 l ≡ true) where
   by_sense : (h : Head) (ws : Lines) (x : Sense) → head_of_line l ≡ h → operands_of_line l ≡ ws → sense_of o s.labels h ws ≡ x → fault_by o s h ws x ≡ None → fault_on o s l ≡ None
   by_sense h ws x eh ew ex ef = sym (gives_fault o s l None h ws x utf8 (sym eh) (sym ew) (sym ex) (sym ef))
 

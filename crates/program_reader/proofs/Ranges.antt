@@ -1,26 +1,7 @@
 -- Instructions name existing functions and places.
-use Rattle.std.proofs.Common.{◌≡◌, ◌<◌, ◌≤◌, ◌+◌, ◌*◌, ℕ, Bool, true, false, cond, List, [], ◌∷◌, ◌++◌, length, arith, refl, subst}
-use Rattle.std.specs.Prelude.{Option, Some, None, ◌&&◌, nat_le}
-use Rattle.std.specs.Str.{bytes_eq}
-use Rattle.std.specs.Str.Parse.{digits_value}
-use Rattle.std.proofs.lemmas.Bool.{and_parts}
-use Rattle.std.proofs.lemmas.List.Quantifiers.{position-Some}
-use Rattle.hh_lang.specs.declared.instr.Instr.{Instr}
+use Rattle.program_reader.proofs.Common.{◌≡◌, ◌<◌, ◌≤◌, ◌+◌, ◌*◌, ℕ, Bool, true, false, cond, List, [], ◌∷◌, ◌++◌, length, arith, refl, subst, Option, Some, None, ◌&&◌, nat_le, bytes_eq, digits_value, and_parts, position-Some, Instr, NamesExist, signed_number, is_numeral, Verb, Set, Mov, Movr, Nil, Calc, Same, Jmp, Jz, Newm, Pack, Getr, Geti, Putr, Puti, Cntr, Cnti, Freeze, Cas, Call, Par, Pfor, Out, Head, Begin, Label, Order, Sense, Fits, Does, WrongOperand, Outline, Labels, NotedName, is_name, is_noted, place_of, numbered_of, int_register, ref_register, field_count, one, two, three, five, plain, plain_one, plain_two, plain_three, plain_five, at_label, jump_on_zero, calling, forking, looping, order_alone, order_one, order_two, order_of, only_name, head_of_line, operands_of_line, noted_if, label_line, labels_after, labels_above, labels_onto, ends_body}
 use Rattle.hh_lang.specs.declared.instr.Instr.TheVariants as does
-use Rattle.hh_lang.specs.Form.{NamesExist}
-use Rattle.hh_lang.specs.Number.{signed_number, is_numeral}
-use Rattle.program_reader.specs.declared.head.Verb.{Verb}
-use Rattle.program_reader.specs.declared.head.Verb.TheVariants.{Set, Mov, Movr, Nil, Calc, Same, Jmp, Jz, Newm, Pack, Getr, Geti, Putr, Puti, Cntr, Cnti, Freeze, Cas, Call, Par, Pfor, Ret, Out}
-use Rattle.program_reader.specs.declared.head.Head.{Head}
-use Rattle.program_reader.specs.declared.head.Head.TheVariants.{Begin, Label, Order}
-use Rattle.program_reader.specs.declared.sense.Sense.{Sense}
-use Rattle.program_reader.specs.declared.sense.Sense.TheVariants.{Fits, Does, WrongOperand}
-use Rattle.program_reader.specs.declared.sense.Outline.{Outline}
-use Rattle.program_reader.specs.declared.labels.Labels.{Labels}
-use Rattle.program_reader.specs.Names.{NotedName, is_name, is_noted, place_of, numbered_of}
-use Rattle.program_reader.specs.Operands.{int_register, ref_register, field_count}
-use Rattle.program_reader.specs.Sense.{one, two, three, five, plain, plain_one, plain_two, plain_three, plain_five, at_label, jump_on_zero, calling, forking, looping, order_alone, order_one, order_two, order_of, only_name}
-use Rattle.program_reader.specs.Around.{head_of_line, operands_of_line, noted_if, label_line, labels_after, labels_above, labels_onto, ends_body}
+use Rattle.program_reader.specs.declared.head.Verb.TheVariants.{Ret}
 
 -- the number of all functions, those of loops included
 abbrev pub all_functions : Outline → ℕ

@@ -1,28 +1,5 @@
 -- Reading a text, line by line.
-use Rattle.std.proofs.Common.{◌≡◌, ◌<◌, ◌≤◌, ◌+◌, ◌++◌, ◌^◌, ℕ, suc, Bool, true, false, cond, List, [], ◌∷◌, length, arith, refl, ap, sym, subst, ◌∙◌}
-use Rattle.std.specs.Prelude.{Option, Some, None, ◌&&◌, ◌||◌, not, codes}
-use Rattle.std.specs.Str.{is_utf8}
-use Rattle.std.proofs.lemmas.List.{append-nil}
-use Rattle.std.proofs.lemmas.List.Elements.{All-nil}
-use Rattle.std.proofs.lemmas.Bool.{both_ways}
-use Rattle.hh_lang.specs.Form.{IsFunction}
-use Rattle.program_reader.specs.declared.cause.Cause.{Cause}
-use Rattle.program_reader.specs.declared.cause.Cause.TheVariants.{NotUtf8}
-use Rattle.program_reader.specs.declared.cause.Refused.{Refused}
-use Rattle.program_reader.specs.declared.head.Head.{Head}
-use Rattle.program_reader.specs.declared.head.Head.TheVariants.{Blank, Begin, End, Label, Order, Unknown}
-use Rattle.program_reader.specs.declared.sense.Sense.{Sense}
-use Rattle.program_reader.specs.declared.sense.Sense.TheVariants.{Does}
-use Rattle.program_reader.specs.Names.{is_noted}
-use Rattle.program_reader.specs.declared.sense.Outline.{Outline}
-use Rattle.program_reader.specs.declared.labels.Labels.{Labels}
-use Rattle.program_reader.specs.declared.reader.Reader.{Reader}
-use Rattle.text_lines.specs.Lines.{is_last, lines_of}
-use Rattle.program_reader.specs.Sense.{sense_of, only_name, named}
-use Rattle.program_reader.specs.Around.{begun_name, head_of_line, operands_of_line, is_open_after, outline_of, outline_onto, outline_above, outline_line, no_labels, labels_above, labels_onto, ends_body, label_line}
-use Rattle.program_reader.specs.Fault.{is_misplaced, is_begin, fault_by, fault_on, fault_from, first_fault, or_later, has_wrong_operand}
-use Rattle.program_reader.specs.Program.{code_from, functions_from}
-use Rattle.program_reader.specs.Reading.{spot_in, after_line, after_begin, after_order, line_taken, nothing_read}
+use Rattle.program_reader.proofs.Common.{◌≡◌, ◌<◌, ◌≤◌, ◌+◌, ◌++◌, ◌^◌, ℕ, suc, Bool, true, false, cond, List, [], ◌∷◌, length, arith, refl, ap, sym, subst, ◌∙◌, Option, Some, None, ◌&&◌, ◌||◌, not, codes, is_utf8, append-nil, All-nil, both_ways, IsFunction, is_last, lines_of, Cause, NotUtf8, TextFault, Head, Blank, Begin, End, Label, Order, Unknown, Sense, Does, is_noted, Outline, Labels, Reader, sense_of, only_name, named, begun_name, head_of_line, operands_of_line, is_open_after, outline_of, outline_onto, outline_above, outline_line, no_labels, labels_above, labels_onto, ends_body, label_line, is_misplaced, is_begin, fault_by, fault_on, fault_from, first_fault, or_later, has_wrong_operand, code_from, functions_from, spot_in, after_line, after_begin, after_order, line_taken, nothing_read}
 use Rattle.program_reader.proofs.Causes.{IsFaultless, faultless}
 use Rattle.program_reader.proofs.LabelSteps.{goes_on}
 use Rattle.program_reader.proofs.Ranges.{all_functions, order_in, AreInside, onto_inside, above_inside}
@@ -159,7 +136,7 @@ pub refused_at : (o : Outline) (text : List ℕ) (r : Reader) (n : ℕ) (l : Lis
 refused_at o text r n l ls last cause h e some =
     sym h.fault
     ∙ ap (λ c. or_later c (length h.above + 1) (fault_from o (l ∷ h.above) ls)) (sym (same_fault o r h.above ls l last h.follows e) ∙ some)
-    ∙ ap (λ k. let x : Refused = record { line = k; cause = cause } in Some x) (sym h.counted)
+    ∙ ap (λ k. let x : TextFault = record { line = k; cause = cause } in Some x) (sym h.counted)
 
 -- the last line
 pub no_fault : (o : Outline) (text : List ℕ) (r : Reader) (n : ℕ) → IsReading o text r n [] → first_fault text ≡ None

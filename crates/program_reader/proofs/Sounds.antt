@@ -1,26 +1,5 @@
 -- What was read so far is in range, and has the names that the lines give.
-use Rattle.std.proofs.Common.{◌≡◌, ◌<◌, ◌≤◌, ◌+◌, ◌++◌, ◌^◌, ℕ, Bool, true, false, cond, List, [], ◌∷◌, length, map, take, arith, refl, ap, sym, subst, ◌∙◌}
-use Rattle.std.specs.Prelude.{Option, Some, None, ◌&&◌}
-use Rattle.std.specs.List.{All}
-use Rattle.std.proofs.lemmas.List.Elements.{All-nil, All-push}
-use Rattle.std.proofs.lemmas.Bool.{both_ways}
-use Rattle.std.proofs.lemmas.List.{map-append, length_push}
-use Rattle.hh_lang.specs.declared.instr.Instr.TheVariants.{Ret}
-use Rattle.hh_lang.specs.declared.program.Line.{Line}
-use Rattle.hh_lang.specs.declared.program.Fun.{Fun}
-use Rattle.hh_lang.specs.Form.{NamesExist, IsFunction, EndsWithReturn}
-use Rattle.program_reader.specs.declared.head.Head.{Head}
-use Rattle.program_reader.specs.declared.head.Head.TheVariants.{Blank, Begin, End, Label, Order, Unknown}
-use Rattle.program_reader.specs.declared.sense.Sense.{Sense}
-use Rattle.program_reader.specs.declared.sense.Sense.TheVariants.{Fits, Does, WrongOperand, NoSuchFunction, NoSuchLabel}
-use Rattle.program_reader.specs.declared.sense.Outline.{Outline}
-use Rattle.program_reader.specs.declared.reader.Reader.{Reader}
-use Rattle.program_reader.specs.Names.{NotedName, is_noted}
-use Rattle.program_reader.specs.Sense.{only_name, named}
-use Rattle.program_reader.specs.Around.{noted_if, begun_name, outline_above, labels_after, labels_above, labels_onto, ends_body}
-use Rattle.program_reader.specs.Fault.{is_named_in, has_wrong_operand, names_no_function, names_no_label}
-use Rattle.program_reader.specs.Program.{line_of}
-use Rattle.program_reader.specs.Reading.{spot_in, after_begin, after_end, after_order, after_line}
+use Rattle.program_reader.proofs.Common.{◌≡◌, ◌<◌, ◌≤◌, ◌+◌, ◌++◌, ◌^◌, ℕ, Bool, true, false, cond, List, [], ◌∷◌, length, map, take, arith, refl, ap, sym, subst, ◌∙◌, Option, Some, None, ◌&&◌, All, All-nil, All-push, both_ways, map-append, length_push, Ret, Line, Fun, NamesExist, IsFunction, EndsWithReturn, Head, Blank, Begin, End, Label, Order, Unknown, Sense, Fits, Does, WrongOperand, NoSuchFunction, NoSuchLabel, Outline, Reader, NotedName, is_noted, only_name, named, noted_if, begun_name, outline_above, labels_after, labels_above, labels_onto, ends_body, is_named_in, has_wrong_operand, names_no_function, names_no_label, line_of, spot_in, after_begin, after_end, after_order, after_line}
 use Rattle.program_reader.proofs.Causes.{IsFaultless}
 use Rattle.program_reader.proofs.Ranges.{all_functions, IsInRange}
 use Rattle.program_reader.proofs.Spots.{Follows, first_named}

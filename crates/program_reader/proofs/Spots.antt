@@ -1,18 +1,5 @@
 -- The reader's state agrees with its line's.
-use Rattle.std.proofs.Common.{◌≡◌, ◌+◌, ℕ, Bool, true, false, cond, List, [], ◌∷◌, length, take, refl, ap, sym, ◌∙◌}
-use Rattle.std.specs.Prelude.{Some}
-use Rattle.std.specs.Str.{is_utf8}
-use Rattle.text_lines.specs.Lines.{is_last}
-use Rattle.program_reader.specs.declared.cause.Cause.TheVariants.{NotUtf8, Word}
-use Rattle.program_reader.specs.declared.head.Head.{Head}
-use Rattle.program_reader.specs.declared.head.Head.TheVariants.{Blank, Begin, End, Label, Order, Unknown}
-use Rattle.program_reader.specs.declared.sense.Sense.{Sense}
-use Rattle.program_reader.specs.declared.sense.Outline.{Outline}
-use Rattle.program_reader.specs.declared.reader.Reader.{Reader}
-use Rattle.program_reader.specs.Sense.{sense_of, only_name, named, alone}
-use Rattle.program_reader.specs.Around.{head_of_line, operands_of_line, is_inside, outline_above, outline_onto, labels_above, labels_onto, begun_above, orders_above}
-use Rattle.program_reader.specs.Fault.{Spot, spot_of, is_misplaced, fault_by, fault_on}
-use Rattle.program_reader.specs.Reading.{spot_in}
+use Rattle.program_reader.proofs.Common.{◌≡◌, ◌+◌, ℕ, Bool, true, false, cond, List, [], ◌∷◌, length, take, refl, ap, sym, ◌∙◌, Some, is_utf8, is_last, NotUtf8, Word, Head, Blank, Begin, End, Label, Order, Unknown, Sense, Outline, Reader, sense_of, only_name, named, alone, head_of_line, operands_of_line, is_inside, outline_above, outline_onto, labels_above, labels_onto, begun_above, orders_above, LineContext, spot_of, is_misplaced, fault_by, fault_on, spot_in}
 use Rattle.program_reader.proofs.Causes.{gives_word}
 use Rattle.program_reader.proofs.Prefixes.{functions_on, labels_on, first_are}
 
@@ -38,10 +25,10 @@ first_labeled r above rest f = ap (λ l. take r.labeled l.entries) f.labels ∙ 
 
 -- OUTSIDE A FUNCTION LABELS DO NOT MATTER
 
-inside_false : (h : Head) (o : Outline) (s : Spot) (ws : List (List ℕ)) (x : Sense) → is_misplaced s.inside h ≡ true → fault_by o s h ws x ≡ Some Word
+inside_false : (h : Head) (o : Outline) (s : LineContext) (ws : List (List ℕ)) (x : Sense) → is_misplaced s.inside h ≡ true → fault_by o s h ws x ≡ Some Word
 inside_false h o s ws x e = sym (gives_word o s h ws x e)
 
-module _ (o : Outline) (s t : Spot) (ws : List (List ℕ)) (i : s.inside ≡ false) (k : t.inside ≡ false) (l : s.last ≡ t.last) (n : s.named ≡ t.named) (b : s.begun ≡ t.begun) (d : s.orders ≡ t.orders) where
+module _ (o : Outline) (s t : LineContext) (ws : List (List ℕ)) (i : s.inside ≡ false) (k : t.inside ≡ false) (l : s.last ≡ t.last) (n : s.named ≡ t.named) (b : s.begun ≡ t.begun) (d : s.orders ≡ t.orders) where
   pub outside : (h : Head) → fault_by o s h ws (sense_of o s.labels h ws) ≡ fault_by o t h ws (sense_of o t.labels h ws)
   outside Blank = λ j. fault_by o (record { inside = (i ∙ sym k) j; last = l j; named = n j; begun = b j; orders = d j; labeled = []; labels = [] }) Blank ws (alone ws)
   outside Begin = λ j. fault_by o (record { inside = (i ∙ sym k) j; last = l j; named = n j; begun = b j; orders = d j; labeled = []; labels = [] }) Begin ws (named (only_name ws))

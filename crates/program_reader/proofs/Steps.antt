@@ -1,25 +1,5 @@
 -- One more line without a fault.
-use Rattle.std.proofs.Common.{◌≡◌, ◌+◌, ◌++◌, ℕ, Bool, true, false, cond, List, [], ◌∷◌, length, take, arith, refl, ap, sym, ◌∙◌, append_assoc}
-use Rattle.std.specs.Prelude.{Option, Some, None, ◌&&◌, ◌||◌}
-use Rattle.std.proofs.lemmas.Bool.{both_ways}
-use Rattle.std.proofs.lemmas.List.{length_push}
-use Rattle.hh_lang.specs.declared.instr.Instr.{Instr}
-use Rattle.hh_lang.specs.declared.instr.Instr.TheVariants.{Ret}
-use Rattle.hh_lang.specs.declared.program.Line.{Line}
-use Rattle.hh_lang.specs.declared.program.Fun.{Fun}
-use Rattle.program_reader.specs.declared.head.Head.{Head}
-use Rattle.program_reader.specs.declared.head.Head.TheVariants.{Blank, Begin, End, Label, Order, Unknown}
-use Rattle.program_reader.specs.declared.sense.Sense.{Sense}
-use Rattle.program_reader.specs.declared.sense.Sense.TheVariants.{Fits, Does, WrongOperand, NoSuchFunction, NoSuchLabel}
-use Rattle.program_reader.specs.declared.sense.Outline.{Outline}
-use Rattle.program_reader.specs.declared.labels.Labels.{Labels}
-use Rattle.program_reader.specs.declared.reader.Reader.{Reader}
-use Rattle.program_reader.specs.Names.{NotedName, is_noted, noted}
-use Rattle.program_reader.specs.Sense.{only_name, named, alone}
-use Rattle.program_reader.specs.Around.{is_inside, is_open_after, noted_if, begun_name, outline_above, label_line, labels_after, labels_above, labels_onto, ends_body, begins, begun_above, orders, orders_above}
-use Rattle.program_reader.specs.Fault.{is_misplaced, has_wrong_operand, is_begin, is_named_in, names_no_function, names_no_label}
-use Rattle.program_reader.specs.Program.{line_of, code_by, with_function}
-use Rattle.program_reader.specs.Reading.{spot_in, after_begin, after_end, after_order, after_line}
+use Rattle.program_reader.proofs.Common.{◌≡◌, ◌+◌, ◌++◌, ℕ, Bool, true, false, cond, List, [], ◌∷◌, length, take, arith, refl, ap, sym, ◌∙◌, append_assoc, Option, Some, None, ◌&&◌, ◌||◌, both_ways, length_push, Instr, Ret, Line, Fun, Head, Blank, Begin, End, Label, Order, Unknown, Sense, Fits, Does, WrongOperand, NoSuchFunction, NoSuchLabel, Outline, Labels, Reader, NotedName, is_noted, noted, only_name, named, alone, is_inside, is_open_after, noted_if, begun_name, outline_above, label_line, labels_after, labels_above, labels_onto, ends_body, begins, begun_above, orders, orders_above, is_misplaced, has_wrong_operand, is_begin, is_named_in, names_no_function, names_no_label, line_of, code_by, with_function, spot_in, after_begin, after_end, after_order, after_line}
 use Rattle.program_reader.proofs.Causes.{IsFaultless}
 use Rattle.program_reader.proofs.Ranges.{all_functions, IsInRange}
 use Rattle.program_reader.proofs.Spots.{IsOpen, Follows, first_named, first_labeled}

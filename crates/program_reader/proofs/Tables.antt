@@ -1,14 +1,5 @@
 -- A table's names, as its map has them.
-use Rattle.std.proofs.Common.{◌≡◌, ℕ, zero, suc, ◌+◌, Bool, true, false, cond, List, [], ◌∷◌, ◌++◌, length, take, map, refl, ap, sym, ◌∙◌, arith, Bor, nat_lt, ◌||◌, ◌&&◌}
-use Rattle.std.specs.Prelude.{Option, Some, None, is_some, position, not}
-use Rattle.std.specs.List.{list_any, position_or_len}
-use Rattle.std.specs.Map.{keys_of, lookup}
-use Rattle.std.specs.Str.{bytes_eq}
-use Rattle.indexmap.specs.IndexMap.{IndexMap, insert_entry}
-use Rattle.indexmap.proofs.CallerLemmas.{insert_entry-new}
-use Rattle.listed.proofs.Options.{none_of}
-use Rattle.listed.proofs.Numbers.{above_zero}
-use Rattle.program_reader.specs.Names.{NotedName, noted_name_of, is_noted, noted, place_of, numbered_of}
+use Rattle.program_reader.proofs.Common.{◌≡◌, ℕ, zero, suc, ◌+◌, Bool, true, false, cond, List, [], ◌∷◌, ◌++◌, length, take, map, refl, ap, sym, ◌∙◌, arith, Bor, nat_lt, ◌||◌, ◌&&◌, Option, Some, None, is_some, position, not, list_any, position_or_len, keys_of, lookup, bytes_eq, IndexMap, insert_entry, insert_entry-new, none_of, above_zero, NotedName, noted_name_of, is_noted, noted, place_of, numbered_of}
 
 abbrev pub Pairs : Type 0
 Pairs = List (Bor (List ℕ) × ℕ)

@@ -1,21 +1,5 @@
 -- The functions of a text and those of its loops are a program.
-use Rattle.std.proofs.Common.{◌≡◌, ◌<◌, ◌≤◌, ◌+◌, ◌*◌, ◌++◌, ℕ, zero, suc, true, List, [], ◌∷◌, length, get_or, arith, refl, ap, sym, subst, ◌∙◌, length-append}
-use Rattle.std.specs.Prelude.{Option, Some, None, IsSomeAnd, slice_get, codes}
-use Rattle.std.specs.Option.{unwrap_or}
-use Rattle.std.specs.List.{All}
-use Rattle.std.specs.Str.{bytes_eq}
-use Rattle.std.proofs.lemmas.List.{take_all}
-use Rattle.std.proofs.lemmas.List.Elements.{All-append, All-nil}
-use Rattle.std.proofs.lemmas.List.Quantifiers.{position-Some}
-use Rattle.std.proofs.lemmas.Slice.Eq.{bytes_eq-Decides}
-use Rattle.hh_lang.specs.declared.program.Fun.{Fun}
-use Rattle.hh_lang.specs.Form.{NamesExist, IsFunction, IsProgram}
-use Rattle.hh_lang.specs.Loop.{whole_code, left_code, right_code}
-use Rattle.program_reader.specs.declared.sense.Outline.{Outline}
-use Rattle.program_reader.specs.Names.{NotedName, is_noted, place_of}
-use Rattle.program_reader.specs.Sense.{IsSmall, loop_function}
-use Rattle.program_reader.specs.Program.{number_of, loop_from, on_line, loop_functions, loops_from}
-use Rattle.program_reader.specs.Reading.{program_in}
+use Rattle.program_reader.proofs.Common.{◌≡◌, ◌<◌, ◌≤◌, ◌+◌, ◌*◌, ◌++◌, ℕ, zero, suc, true, List, [], ◌∷◌, length, get_or, arith, refl, ap, sym, subst, ◌∙◌, length-append, Option, Some, None, IsSomeAnd, slice_get, codes, unwrap_or, All, bytes_eq, take_all, All-append, All-nil, position-Some, bytes_eq-Decides, Fun, NamesExist, IsFunction, IsProgram, whole_code, left_code, right_code, Outline, NotedName, is_noted, place_of, IsSmall, loop_function, number_of, loop_from, on_line, loop_functions, loops_from, program_in}
 use Rattle.program_reader.proofs.Ranges.{all_functions, place_below}
 use Rattle.program_reader.proofs.Sounds.{fun_names, entry_names}
 use Rattle.program_reader.proofs.Tables.{noted_before}

@@ -3,7 +3,7 @@ use Rattle.std.specs.Prelude.{ℕ, ◌+◌, ◌&&◌, ◌||◌, Bool, true, fals
 use Rattle.std.specs.Str.{is_utf8}
 use Rattle.program_reader.specs.declared.cause.Cause.{Cause}
 use Rattle.program_reader.specs.declared.cause.Cause.TheVariants.{NotUtf8, Word, Operand, NoEnd, TwoNames, NoName, NoLabel, NoMain, TooMany}
-use Rattle.program_reader.specs.declared.cause.Refused.{Refused}
+use Rattle.program_reader.specs.declared.cause.TextFault.{TextFault}
 use Rattle.program_reader.specs.declared.head.Head.{Head}
 use Rattle.program_reader.specs.declared.head.Head.TheVariants.{Blank, Begin, Label, Order, Unknown}
 use Rattle.program_reader.specs.declared.sense.Sense.{Sense}
@@ -15,7 +15,7 @@ use Rattle.program_reader.specs.Sense.{sense_of, only_name}
 use Rattle.program_reader.specs.Around.{head_of_line, operands_of_line, is_inside, is_open_after, outline_above, outline_of, labels_above, labels_onto, begun_above, orders_above}
 
 -- what the lines around a line say about it
-pub record Spot : Type 0 where
+pub record LineContext : Type 0 where
   -- a function is open
   pub inside : Bool
   -- no line follows
@@ -31,7 +31,7 @@ pub record Spot : Type 0 where
   -- all labels of its function
   pub labels : List NotedName
 
-abbrev pub spot_of : List (List ℕ) → List ℕ → List (List ℕ) → Spot
+abbrev pub spot_of : List (List ℕ) → List ℕ → List (List ℕ) → LineContext
 spot_of above line below = record {
   inside = is_inside above;
   last = is_last below;
@@ -61,7 +61,7 @@ is_begin Begin = true
 is_begin _ = false
 
 -- `fn` inside a function, or the last line while a function is open
-abbrev pub leaves_open : Spot → Head → Bool
+abbrev pub leaves_open : LineContext → Head → Bool
 leaves_open s h = (s.inside && is_begin h) || (s.last && is_open_after h s.inside)
 
 abbrev pub is_named_in : List NotedName → Option (List ℕ) → Bool
@@ -69,7 +69,7 @@ is_named_in es (Some name) = is_noted es name
 is_named_in es None = false
 
 -- a second `fn` with the same name, or a second `lab` with the same name in its function
-abbrev pub is_second : Spot → Head → List (List ℕ) → Bool
+abbrev pub is_second : LineContext → Head → List (List ℕ) → Bool
 is_second s Begin ws = is_named_in s.named (only_name ws)
 is_second s Label ws = is_named_in s.labeled (only_name ws)
 is_second s _ ws = false
@@ -83,7 +83,7 @@ names_no_label NoSuchLabel = true
 names_no_label _ = false
 
 -- no line is `fn main`, and none follows
-abbrev pub lacks_main : Outline → Spot → Bool
+abbrev pub lacks_main : Outline → LineContext → Bool
 lacks_main o s = s.last && not (is_noted o.functions (codes "main"))
 
 -- the most functions of a text, and the most instructions
@@ -94,7 +94,7 @@ abbrev pub order_limit : ℕ
 order_limit = 65536
 
 -- the line begins one function too many, or holds one instruction too many
-abbrev pub is_too_many : Spot → Head → Bool
+abbrev pub is_too_many : LineContext → Head → Bool
 is_too_many s Begin = nat_le function_limit s.begun
 is_too_many s (Order v) = nat_le order_limit s.orders
 is_too_many s _ = false
@@ -115,7 +115,7 @@ first_cause word operand no_end two_names no_name no_label no_main too_many =
     else None
 
 -- the first cause on a line that is UTF-8
-abbrev pub fault_by : Outline → Spot → Head → List (List ℕ) → Sense → Option Cause
+abbrev pub fault_by : Outline → LineContext → Head → List (List ℕ) → Sense → Option Cause
 fault_by o s h ws sense = first_cause
     (is_misplaced s.inside h)
     (has_wrong_operand sense)
@@ -127,21 +127,21 @@ fault_by o s h ws sense = first_cause
     (is_too_many s h)
 
 -- the first cause on a line; the outline is that of the whole text
-abbrev pub fault_on : Outline → Spot → List ℕ → Option Cause
+abbrev pub fault_on : Outline → LineContext → List ℕ → Option Cause
 fault_on o s line =
     if is_utf8 line
     then fault_by o s (head_of_line line) (operands_of_line line) (sense_of o s.labels (head_of_line line) (operands_of_line line))
     else Some NotUtf8
 
-abbrev pub or_later : Option Cause → ℕ → Option Refused → Option Refused
+abbrev pub or_later : Option Cause → ℕ → Option TextFault → Option TextFault
 or_later (Some cause) number later = Some (record { line = number; cause = cause })
 or_later None number later = later
 
 -- the first line with a fault, of the lines that follow those above
-abbrev pub fault_from : Outline → List (List ℕ) → List (List ℕ) → Option Refused
+abbrev pub fault_from : Outline → List (List ℕ) → List (List ℕ) → Option TextFault
 fault_from o above [] = None
 fault_from o above (l ∷ ls) = or_later (fault_on o (spot_of above l ls) l) (length above + 1) (fault_from o (l ∷ above) ls)
 
 -- the first fault of a text
-abbrev pub first_fault : List ℕ → Option Refused
+abbrev pub first_fault : List ℕ → Option TextFault
 first_fault text = fault_from (outline_of text) [] (lines_of text)

@@ -1,7 +1,7 @@
 -- The first fault of a text, by all its lines.
 use Rattle.std.specs.Prelude.{◌≡◌, ℕ, ◌+◌, ◌<◌, Option, Some, None, List, [], ◌∷◌, ◌++◌, length}
 use Rattle.program_reader.specs.declared.cause.Cause.{Cause}
-use Rattle.program_reader.specs.declared.cause.Refused.{Refused}
+use Rattle.program_reader.specs.declared.cause.TextFault.{TextFault}
 use Rattle.text_lines.specs.Lines.{lines_of}
 use Rattle.program_reader.specs.Around.{outline_of}
 use Rattle.program_reader.specs.Fault.{spot_of, fault_on, first_fault}
@@ -20,7 +20,7 @@ abbrev pub HasNoFault : List ℕ → Type 0
 HasNoFault text = (before : List (List ℕ)) (line : List ℕ) (below : List (List ℕ)) → lines_of text ≡ before ++ line ∷ below → cause_at text before line below ≡ None
 
 -- the refused line has the cause, and no line before it has a fault
-pub record IsRefusedAt (text : List ℕ) (r : Refused) : Type 0 where
+pub record IsRefusedAt (text : List ℕ) (r : TextFault) : Type 0 where
   pub before : List (List ℕ)
   pub line : List ℕ
   pub below : List (List ℕ)
@@ -33,4 +33,4 @@ abbrev pub NoFaultLaw : Type 0
 NoFaultLaw = (text : List ℕ) → first_fault text ≡ None → HasNoFault text
 
 abbrev pub FirstFaultLaw : Type 0
-FirstFaultLaw = (text : List ℕ) (r : Refused) → first_fault text ≡ Some r → IsRefusedAt text r
+FirstFaultLaw = (text : List ℕ) (r : TextFault) → first_fault text ≡ Some r → IsRefusedAt text r

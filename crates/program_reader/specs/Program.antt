@@ -12,7 +12,7 @@ use Rattle.program_reader.specs.declared.head.Head.TheVariants.{Begin, End}
 use Rattle.program_reader.specs.declared.sense.Sense.{Sense}
 use Rattle.program_reader.specs.declared.sense.Sense.TheVariants.{Does}
 use Rattle.program_reader.specs.declared.sense.Outline.{Outline}
-use Rattle.program_reader.specs.declared.cause.Refused.{Refused}
+use Rattle.program_reader.specs.declared.cause.TextFault.{TextFault}
 use Rattle.program_reader.specs.Fault.{first_fault}
 use Rattle.text_lines.specs.Lines.{lines_of}
 use Rattle.program_reader.specs.Names.{NotedName, place_of}
@@ -85,10 +85,10 @@ program_of text =
     let o = outline_of text in
     record { functions = functions_from o 1 (lines_of text) ++ loops_from o 0 o.loops; main = number_of o (codes "main") }
 
-abbrev pub unless_refused : Option Refused → ProgramText → Result ProgramText Refused
+abbrev pub unless_refused : Option TextFault → ProgramText → Result ProgramText TextFault
 unless_refused None p = Ok p
 unless_refused (Some r) p = Err r
 
 -- what a text is read as: its first fault, or its program
-abbrev pub reading_of : List ℕ → Result ProgramText Refused
+abbrev pub reading_of : List ℕ → Result ProgramText TextFault
 reading_of text = unless_refused (first_fault text) (program_of text)

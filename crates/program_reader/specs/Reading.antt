@@ -9,13 +9,13 @@ use Rattle.program_reader.specs.declared.sense.Outline.{Outline}
 use Rattle.program_reader.specs.declared.reader.Reader.{Reader}
 use Rattle.program_reader.specs.Sense.{only_name, sense_of}
 use Rattle.program_reader.specs.Around.{head_of_line, operands_of_line, no_labels, labels_onto}
-use Rattle.program_reader.specs.Fault.{Spot}
+use Rattle.program_reader.specs.Fault.{LineContext}
 use Rattle.program_reader.specs.Program.{line_of, loops_from, number_of}
 use Rattle.hh_lang.specs.declared.program.Fun.{Fun}
 use Rattle.hh_lang.specs.Form.{ProgramText}
 
 -- where the next line stands
-abbrev pub spot_in : Outline → Reader → Bool → Spot
+abbrev pub spot_in : Outline → Reader → Bool → LineContext
 spot_in o r last = record {
   inside = r.inside;
   last = last;

@@ -30,7 +30,7 @@ pub enum Cause {
 
 /// The first line with a fault, counted from 1, and its first cause.
 #[derive(Clone, Copy)]
-pub struct Refused {
+pub struct TextFault {
     pub line: u32,
     pub cause: Cause,
 }

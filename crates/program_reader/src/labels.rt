@@ -5,7 +5,7 @@ ghost use Rattle.text_lines.specs.Lines.{lines_of, words_of, most_bytes};
 ghost use Rattle.program_reader.specs.Around.{ends_body, no_labels, labels_onto};
 
 use crate::head::Head;
-use crate::names::Table;
+use crate::names::NameTable;
 use crate::operands::read_only_name;
 use crate::outline::{note_if, split_line};
 use std::alloc::{AllocError, Global};
@@ -14,7 +14,7 @@ use text_lines::{behind, line_end};
 /// Labels, each with the number of the instructions before it; and the number of all instructions.
 #[derive(Drop)]
 pub struct Labels<'a> {
-    pub entries: Table<'a>,
+    pub entries: NameTable<'a>,
     pub next: u32,
 }
 
@@ -33,7 +33,7 @@ impl<'a> Labels<'a> {
         ensures { result ≡ no_labels }
     {
         Labels {
-            entries: Table::new(alloc),
+            entries: NameTable::new(alloc),
             next: 0,
         }
     }

@@ -8,7 +8,7 @@ ghost use Rattle.program_reader.specs.Program.{function_of, loop_from, on_line, 
 
 use crate::sense::Outline;
 use hh_lang::{Fun, Instr, IntReg, Line, Operator, RefReg};
-use listed::Listed;
+use plain_vec::Listed;
 use std::alloc::{AllocError, Global};
 
 // Instructions that all have the same line.

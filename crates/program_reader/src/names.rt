@@ -45,11 +45,11 @@ pub fn is_name_word(word: &[u8]) -> bool
 
 /// Names without duplicates, in the order in which they were noted, each with a number.
 #[derive(Drop)]
-pub struct Table<'a> {
+pub struct NameTable<'a> {
     numbers: IndexMap<&'a [u8], u32>,
 }
 
-impl<'a> Model for Table<'a> {
+impl<'a> Model for NameTable<'a> {
     ghost use Rattle.std.specs.Prelude.{List, map};
     ghost use Rattle.program_reader.specs.Names.{NotedName, noted_name_of};
 
@@ -58,12 +58,12 @@ impl<'a> Model for Table<'a> {
     ghost view = { λ t. map (λ e. noted_name_of e.0.now e.1) t.numbers.entries };
 }
 
-impl<'a> Table<'a> {
+impl<'a> NameTable<'a> {
     /// No names.
-    pub fn new(alloc: Global) -> Table<'a>
+    pub fn new(alloc: Global) -> NameTable<'a>
         ensures { result ≡ [] }
     {
-        Table {
+        NameTable {
             numbers: IndexMap::new(alloc),
         }
     }

@@ -7,7 +7,7 @@ ghost use Rattle.program_reader.specs.Sense.{IsSmall};
 ghost use Rattle.program_reader.specs.Around.{begun_name, looped_name, no_names, noted_if, outline_line, outline_of};
 
 use crate::head::{Head, Verb, head_of};
-use crate::names::Table;
+use crate::names::NameTable;
 use crate::operands::read_only_name;
 use crate::sense::Outline;
 use std::alloc::{AllocError, Global};
@@ -26,7 +26,7 @@ pub(crate) fn split_line(line: &[u8]) -> (Head, &[u8])
 
 /// Notes a name, if there is one.
 pub fn note_if<'a>(
-    table: &mut Table<'a>,
+    table: &mut NameTable<'a>,
     name: Option<&'a [u8]>,
     number: u32,
 ) -> Result<(), AllocError>
@@ -64,8 +64,8 @@ impl<'a> Outline<'a> {
         ensures { result ≡ no_names }
     {
         Outline {
-            functions: Table::new(alloc),
-            loops: Table::new(alloc),
+            functions: NameTable::new(alloc),
+            loops: NameTable::new(alloc),
         }
     }
 

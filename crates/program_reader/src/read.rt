@@ -9,13 +9,13 @@ ghost use Rattle.program_reader.specs.Fault.{first_fault};
 ghost use Rattle.program_reader.specs.Program.{reading_of, unless_refused, functions_from};
 ghost use Rattle.program_reader.specs.Reading.{program_in, nothing_read};
 
-use crate::cause::Refused;
+use crate::cause::TextFault;
 use crate::labels::Labels;
 use crate::loops::{add_loops, number_in};
 use crate::reader::Reader;
 use crate::sense::Outline;
 use hh_lang::{Fun, Program};
-use listed::Listed;
+use plain_vec::Listed;
 use std::alloc::{AllocError, Global};
 use text_lines::{behind, line_end};
 
@@ -53,9 +53,9 @@ fn finish(
 fn reading_by(
     alloc: Global,
     outline: &Outline<'_>,
-    fault: Option<Refused>,
+    fault: Option<TextFault>,
     functions: Listed<Fun>,
-) -> Result<Result<Program, Refused>, AllocError>
+) -> Result<Result<Program, TextFault>, AllocError>
     requires small { IsSmall outline.now }
     requires form { IfNone fault (IsProgram (program_in outline.now functions)) }
     ensures { IfOk result (λ reading. reading ≡ unless_refused fault (program_in outline.now functions)) }
@@ -72,7 +72,7 @@ fn read_lines<'a>(
     outline: &Outline<'_>,
     reader: &mut Reader<'a>,
     text: &'a [u8],
-) -> Result<Option<Refused>, AllocError>
+) -> Result<Option<TextFault>, AllocError>
     requires sized { length text.now ≤ most_bytes }
     requires outline { outline.now ≡ outline_of text.now }
     requires small { IsSmall outline.now }
@@ -90,7 +90,7 @@ fn read_lines<'a>(
         let line = &rest[..end];
         match reader.read_line(alloc, outline, number, line, last, below)? {
             Some(cause) => {
-                return Ok(Some(Refused {
+                return Ok(Some(TextFault {
                     line: number,
                     cause,
                 }));
@@ -109,7 +109,7 @@ fn read_by(
     alloc: Global,
     outline: &Outline<'_>,
     text: &[u8],
-) -> Result<Result<Program, Refused>, AllocError>
+) -> Result<Result<Program, TextFault>, AllocError>
     requires sized { length text.now ≤ most_bytes }
     requires outline { outline.now ≡ outline_of text.now }
     requires small { IsSmall outline.now }
@@ -125,7 +125,7 @@ fn read_onto<'a>(
     alloc: Global,
     outline: &mut Outline<'a>,
     text: &'a [u8],
-) -> Result<Result<Program, Refused>, AllocError>
+) -> Result<Result<Program, TextFault>, AllocError>
     requires sized { length text.now ≤ most_bytes }
     requires nothing { outline.old ≡ no_names }
     ensures { IfOk result (λ reading. reading ≡ reading_of text.now) }
@@ -136,7 +136,7 @@ fn read_onto<'a>(
 
 /// Reads a program: the program that the text is, or the first line with a fault and its first cause. Fails if out of
 /// memory.
-pub fn read_program(alloc: Global, text: &[u8]) -> Result<Result<Program, Refused>, AllocError>
+pub fn read_program(alloc: Global, text: &[u8]) -> Result<Result<Program, TextFault>, AllocError>
     requires { length text.now ≤ most_bytes }
     ensures { IfOk result (λ reading. reading ≡ reading_of text.now) }
 {

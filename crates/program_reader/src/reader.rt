@@ -15,7 +15,7 @@ use crate::operands::read_only_name;
 use crate::outline::split_line;
 use crate::sense::{Outline, Sense, read_operands};
 use hh_lang::{Fun, Instr, Line};
-use listed::Listed;
+use plain_vec::Listed;
 use std::alloc::{AllocError, Global};
 use std::mem;
 

@@ -5,7 +5,7 @@ ghost use Rattle.text_lines.specs.Lines.{words_of};
 ghost use Rattle.program_reader.specs.Sense.{plain, jump, jump_on_zero, call, fork, loop_over, order_alone, order_one, order_two, order_of, only_name, named, alone, sense_of, IsSmall};
 
 use crate::head::{Head, Verb};
-use crate::names::{Table, is_name_word};
+use crate::names::{NameTable, is_name_word};
 use crate::operands::{read_int_register, read_only_name};
 use crate::plain::{read_plain_five, read_plain_one, read_plain_three, read_plain_two};
 use hh_lang::{Instr, IntReg};
@@ -26,8 +26,8 @@ pub enum Sense {
 /// The names of the functions of a text, and of those that its loops name, each with the line on which it first occurs.
 #[derive(Drop)]
 pub struct Outline<'a> {
-    pub functions: Table<'a>,
-    pub loops: Table<'a>,
+    pub functions: NameTable<'a>,
+    pub loops: NameTable<'a>,
 }
 
 fn plainly(instr: Option<Instr>) -> Sense
@@ -39,7 +39,7 @@ fn plainly(instr: Option<Instr>) -> Sense
     }
 }
 
-fn read_jump(labels: &Table<'_>, name: &[u8]) -> Sense
+fn read_jump(labels: &NameTable<'_>, name: &[u8]) -> Sense
     ensures { result ≡ jump labels.now name.now }
 {
     if !is_name_word(name) {
@@ -51,7 +51,7 @@ fn read_jump(labels: &Table<'_>, name: &[u8]) -> Sense
     }
 }
 
-fn read_jump_on_zero(labels: &Table<'_>, register: Option<IntReg>, name: &[u8]) -> Sense
+fn read_jump_on_zero(labels: &NameTable<'_>, register: Option<IntReg>, name: &[u8]) -> Sense
     ensures { result ≡ jump_on_zero labels.now register name.now }
 {
     let Some(register) = register else {
@@ -119,7 +119,7 @@ fn read_alone(verb: Verb) -> Sense
 }
 
 // An instruction with one operand.
-fn read_one(outline: &Outline<'_>, labels: &Table<'_>, verb: Verb, a: &[u8]) -> Sense
+fn read_one(outline: &Outline<'_>, labels: &NameTable<'_>, verb: Verb, a: &[u8]) -> Sense
     requires { IsSmall outline.now }
     ensures { result ≡ order_one outline.now labels.now verb a.now }
 {
@@ -132,7 +132,7 @@ fn read_one(outline: &Outline<'_>, labels: &Table<'_>, verb: Verb, a: &[u8]) -> 
 }
 
 // An instruction with two operands.
-fn read_two(outline: &Outline<'_>, labels: &Table<'_>, verb: Verb, a: &[u8], b: &[u8]) -> Sense
+fn read_two(outline: &Outline<'_>, labels: &NameTable<'_>, verb: Verb, a: &[u8], b: &[u8]) -> Sense
     requires { IsSmall outline.now }
     ensures { result ≡ order_two outline.now labels.now verb a.now b.now }
 {
@@ -144,7 +144,7 @@ fn read_two(outline: &Outline<'_>, labels: &Table<'_>, verb: Verb, a: &[u8], b: 
 }
 
 // What the operands of an instruction say.
-fn read_order(outline: &Outline<'_>, labels: &Table<'_>, verb: Verb, rest: &[u8]) -> Sense
+fn read_order(outline: &Outline<'_>, labels: &NameTable<'_>, verb: Verb, rest: &[u8]) -> Sense
     requires { IsSmall outline.now }
     ensures { result ≡ order_of outline.now labels.now verb (words_of rest.now) }
 {
@@ -190,7 +190,7 @@ fn read_name_operand(rest: &[u8]) -> Sense
 /// What the rest of a line of this kind says, after its first word.
 pub(crate) fn read_operands(
     outline: &Outline<'_>,
-    labels: &Table<'_>,
+    labels: &NameTable<'_>,
     head: Head,
     rest: &[u8],
 ) -> Sense

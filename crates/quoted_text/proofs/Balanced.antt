@@ -1,11 +1,7 @@
 -- Texts in which quotes and brackets balance.
-use Rattle.std.proofs.Common.{◌≡◌, ◌+◌, ◌/◌, ◌%◌, ◌==◌, ℕ, Bool, true, false, List, [], ◌∷◌, ◌++◌, refl, ap, ◌∙◌, arith}
-use Rattle.std.specs.Prelude.{nat_lt}
-use Rattle.std.specs.List.{flat_map}
-use Rattle.quoted_text.specs.Quoted.{hex, escaped}
-use Rattle.quoted_text.specs.Balanced.{Reading, Outside, Inside, read_outside, read_inside, read_byte, read_all, IsBalanced, is_plain, QuotedBalance, PlainBalance, JoinedBalance}
+use Rattle.quoted_text.proofs.Common.{◌≡◌, ◌+◌, ◌/◌, ◌%◌, ◌==◌, ℕ, Bool, true, false, List, [], ◌∷◌, ◌++◌, refl, ap, ◌∙◌, arith, nat_lt, flat_map, hex, escaped, ScanState, Outside, Inside, read_outside, read_inside, read_byte, read_all, IsBalanced, is_plain, QuotedBalance, PlainBalance, JoinedBalance}
 
-pub read_on : (r : Reading) (a b : List ℕ) → read_all r (a ++ b) ≡ read_all (read_all r a) b
+pub read_on : (r : ScanState) (a b : List ℕ) → read_all r (a ++ b) ≡ read_all (read_all r a) b
 read_on r [] b = refl
 read_on r (c ∷ cs) b = read_on (read_byte r c) cs b
 
@@ -13,15 +9,15 @@ read_on r (c ∷ cs) b = read_on (read_byte r c) cs b
 
 -- a hexadecimal digit continues a string
 hex_inside : (n : ℕ) (ws : List ℕ) → read_inside (hex n) ws ≡ Inside ws
-hex_inside n ws = by (nat_lt n 10) refl
+hex_inside n ws = hex_inside_by_cases (nat_lt n 10) refl
   where
-    by : (b : Bool) → nat_lt n 10 ≡ b → read_inside (hex n) ws ≡ Inside ws
-    by true e =
+    hex_inside_by_cases : (b : Bool) → nat_lt n 10 ≡ b → read_inside (hex n) ws ≡ Inside ws
+    hex_inside_by_cases true e =
         let quote : ((n + 48) == 34) ≡ false = grind arith in
         let stroke : ((n + 48) == 92) ≡ false = grind (arith, e) in
         let control : nat_lt (n + 48) 32 ≡ false = grind arith in
         rw (e, quote, stroke, control) refl
-    by false e =
+    hex_inside_by_cases false e =
         let quote : ((n + 87) == 34) ≡ false = grind arith in
         let stroke : ((n + 87) == 92) ≡ false = grind (arith, e) in
         let control : nat_lt (n + 87) 32 ≡ false = grind arith in

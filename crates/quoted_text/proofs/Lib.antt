@@ -1,2 +1,3 @@
 pub mod Balanced
 pub mod Tags
+mod Common

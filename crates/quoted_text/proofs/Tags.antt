@@ -1,9 +1,5 @@
 -- A guarded word has no `<`.
-use Rattle.std.proofs.Common.{◌≡◌, ◌+◌, ◌/◌, ◌%◌, ◌==◌, ℕ, Bool, true, false, List, [], ◌∷◌, ◌++◌, refl, arith}
-use Rattle.std.specs.Prelude.{nat_lt}
-use Rattle.std.specs.List.{flat_map}
-use Rattle.quoted_text.specs.Quoted.{hex, escaped}
-use Rattle.quoted_text.specs.Guarded.{guarded_byte, guarded, HasNoTag, GuardedHasNoTag}
+use Rattle.quoted_text.proofs.Common.{◌≡◌, ◌+◌, ◌/◌, ◌%◌, ◌==◌, ℕ, Bool, true, false, List, [], ◌∷◌, ◌++◌, refl, arith, nat_lt, flat_map, hex, escaped, guarded_byte, guarded, HasNoTag, GuardedHasNoTag}
 
 pub untagged_append : (a b : List ℕ) → HasNoTag a → HasNoTag b → HasNoTag (a ++ b)
 untagged_append [] b h g = g
@@ -14,11 +10,11 @@ untagged_map f h [] = tt
 untagged_map f h (x ∷ xs) = untagged_append (f x) (flat_map f xs) (h x) (untagged_map f h xs)
 
 hex_untagged : (n : ℕ) → (hex n == 60) ≡ false
-hex_untagged n = by (nat_lt n 10) refl
+hex_untagged n = hex_untagged_by_cases (nat_lt n 10) refl
   where
-    by : (b : Bool) → nat_lt n 10 ≡ b → (hex n == 60) ≡ false
-    by true e = rw e (grind (arith, e))
-    by false e = rw e (grind arith)
+    hex_untagged_by_cases : (b : Bool) → nat_lt n 10 ≡ b → (hex n == 60) ≡ false
+    hex_untagged_by_cases true e = rw e (grind (arith, e))
+    hex_untagged_by_cases false e = rw e (grind arith)
 
 escaped_untagged : (c : ℕ) → (c == 60) ≡ false → HasNoTag (escaped c)
 escaped_untagged c h = by_quote (c == 34) refl
@@ -36,11 +32,11 @@ escaped_untagged c h = by_quote (c == 34) refl
     by_quote false e = by_stroke (c == 92) e refl
 
 byte_untagged : (c : ℕ) → HasNoTag (guarded_byte c)
-byte_untagged c = by (c == 60) refl
+byte_untagged c = byte_untagged_by_cases (c == 60) refl
   where
-    by : (b : Bool) → (c == 60) ≡ b → HasNoTag (guarded_byte c)
-    by true e = rw e (refl, (refl, (refl, (refl, (refl, (refl, tt))))))
-    by false e = rw e (escaped_untagged c e)
+    byte_untagged_by_cases : (b : Bool) → (c == 60) ≡ b → HasNoTag (guarded_byte c)
+    byte_untagged_by_cases true e = rw e (refl, (refl, (refl, (refl, (refl, (refl, tt))))))
+    byte_untagged_by_cases false e = rw e (escaped_untagged c e)
 
 pub guarded_has_no_tag : GuardedHasNoTag
 guarded_has_no_tag word = (refl, untagged_append (flat_map guarded_byte word) (34 ∷ []) (untagged_map guarded_byte byte_untagged word) (refl, tt))

@@ -4,18 +4,18 @@ use Rattle.quoted_text.specs.Quoted.{quoted}
 
 -- the state of a scan: outside strings, with the closing brackets that are due, innermost first; in a string; in a
 -- string after a backslash; or at a fault
-pub data Reading : Type 0 where
-  Outside : List ℕ → Reading
-  Inside : List ℕ → Reading
-  Behind : List ℕ → Reading
-  Broken : Reading
+pub data ScanState : Type 0 where
+  Outside : List ℕ → ScanState
+  Inside : List ℕ → ScanState
+  Behind : List ℕ → ScanState
+  Broken : ScanState
 
 -- a bracket closes if it is the one due
-abbrev pub closed : ℕ → List ℕ → Reading
+abbrev pub closed : ℕ → List ℕ → ScanState
 closed c [] = Broken
 closed c (w ∷ ws) = if c == w then Outside ws else Broken
 
-abbrev pub read_outside : ℕ → List ℕ → Reading
+abbrev pub read_outside : ℕ → List ℕ → ScanState
 read_outside c ws =
     if c == 34 then Inside ws
     else if c == 91 then Outside (93 ∷ ws)
@@ -24,20 +24,20 @@ read_outside c ws =
     else Outside ws
 
 -- a string has no control byte
-abbrev pub read_inside : ℕ → List ℕ → Reading
+abbrev pub read_inside : ℕ → List ℕ → ScanState
 read_inside c ws =
     if c == 34 then Outside ws
     else if c == 92 then Behind ws
     else if nat_lt c 32 then Broken
     else Inside ws
 
-abbrev pub read_byte : Reading → ℕ → Reading
+abbrev pub read_byte : ScanState → ℕ → ScanState
 read_byte (Outside ws) c = read_outside c ws
 read_byte (Inside ws) c = read_inside c ws
 read_byte (Behind ws) c = Inside ws
 read_byte Broken c = Broken
 
-abbrev pub read_all : Reading → List ℕ → Reading
+abbrev pub read_all : ScanState → List ℕ → ScanState
 read_all r [] = r
 read_all r (c ∷ cs) = read_all (read_byte r c) cs
 

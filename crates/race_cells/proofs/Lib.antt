@@ -5,3 +5,4 @@ pub mod Reports
 pub mod Exactness
 pub mod Heights
 pub mod Continuing
+mod Common

@@ -1,11 +1,6 @@
 -- Lists from their ends.
-use Rattle.std.proofs.Common.{◌≡◌, ◌+◌, ◌-◌, Bool, true, false, cond, Some, None, List, [], ◌∷◌, ◌++◌, length, take, reverse, ◌⊎◌, inl, inr, refl, ap, sym, ◌∙◌, arith}
-use Rattle.std.specs.List.{find}
-use Rattle.std.proofs.lemmas.List.{reverse-append, reverse-reverse, length-append, length-take}
-use Rattle.std.proofs.lemmas.Option.{same_Some}
-use Rattle.std.proofs.Math.Seq.{take-append_seam}
+use Rattle.race_cells.proofs.Common.{◌≡◌, ◌+◌, ◌-◌, Bool, true, false, cond, Some, None, List, [], ◌∷◌, ◌++◌, length, take, reverse, ◌⊎◌, inl, inr, refl, ap, sym, ◌∙◌, arith, find, reverse-append, reverse-reverse, length-append, length-take, same_Some, take-append_seam, In}
 use mathlib.Core.List.{reverse_aux}
-use Rattle.listed.specs.Members.{In}
 
 -- a list by its last item, seen from there
 pub reverse_snoc : {A : Type 0} (xs : List A) (x : A) → reverse (xs ++ x ∷ []) ≡ x ∷ reverse xs

@@ -1,6 +1,6 @@
-pub mod Access
+pub mod CellAccess
 pub mod Order
-pub mod Stack
+pub mod AccessStack
 pub mod Scan
 pub mod Cell
 pub mod Laws

@@ -12,7 +12,7 @@ pub record StrandOrder : Type 0 where
   pub leaves_first : ℕ → ℕ → Bool
 
 -- "happens before" is reflexive and transitive, and the numbers of strands extend it
-pub record IsSerial (o : StrandOrder) : Type 0 where
+pub record ExtendsPrecedence (o : StrandOrder) : Type 0 where
   pub same : (u : ℕ) → u < o.strands → o.before u u ≡ true
   pub through : (u v w : ℕ) → w < o.strands → o.before u v ≡ true → o.before v w ≡ true → o.before u w ≡ true
   pub serial : (u v : ℕ) → v < o.strands → o.before u v ≡ true → u ≤ v

@@ -2,7 +2,7 @@
 
 /// How a location is accessed.
 #[derive(Clone, Copy, PartialEq, Eq)]
-pub enum AccessKind {
+pub enum CellAccessKind {
     PlainRead,
     PlainWrite,
     AtomicRead,
@@ -10,16 +10,16 @@ pub enum AccessKind {
     AtomicWrite,
 }
 
-impl AccessKind {
+impl CellAccessKind {
     ghost use Rattle.std.specs.Prelude.{◌≡◌};
-    ghost use Rattle.race_cells.specs.Access.{clash, is_atomic, writes};
+    ghost use Rattle.race_cells.specs.CellAccess.{clash, is_atomic, writes};
 
     pub fn writes(self) -> bool
         ensures { result ≡ writes self }
     {
         match self {
-            AccessKind::PlainRead | AccessKind::AtomicRead => false,
-            AccessKind::PlainWrite | AccessKind::AtomicWrite => true,
+            CellAccessKind::PlainRead | CellAccessKind::AtomicRead => false,
+            CellAccessKind::PlainWrite | CellAccessKind::AtomicWrite => true,
         }
     }
 
@@ -27,14 +27,14 @@ impl AccessKind {
         ensures { result ≡ is_atomic self }
     {
         match self {
-            AccessKind::PlainRead | AccessKind::PlainWrite => false,
-            AccessKind::AtomicRead | AccessKind::AtomicWrite => true,
+            CellAccessKind::PlainRead | CellAccessKind::PlainWrite => false,
+            CellAccessKind::AtomicRead | CellAccessKind::AtomicWrite => true,
         }
     }
 
     /// Whether two accesses of these kinds race if neither happens before the other: one of them writes, and not both
     /// are atomic.
-    pub fn clashes_with(self, other: AccessKind) -> bool
+    pub fn clashes_with(self, other: CellAccessKind) -> bool
         ensures { result ≡ clash self other }
     {
         (self.writes() || other.writes()) && !(self.is_atomic() && other.is_atomic())
@@ -43,55 +43,55 @@ impl AccessKind {
 
 /// An access of a location.
 #[derive(Clone, Copy)]
-pub struct Access {
+pub struct CellAccess {
     /// The strand that made it, by its place in the serial order.
     pub strand: u32,
-    pub kind: AccessKind,
+    pub kind: CellAccessKind,
     /// The line that tells of it.
     pub line: u32,
 }
 
 /// Two accesses that race, in the serial order.
 #[derive(Clone, Copy)]
-pub struct Race {
-    pub first: Access,
-    pub second: Access,
+pub struct CellRace {
+    pub first: CellAccess,
+    pub second: CellAccess,
 }
 
 /// An access whose kind is known from where it is kept.
 #[derive(Clone, Copy)]
-pub struct Entry {
+pub struct CellEntry {
     /// The strand that made it, by its place in the serial order.
     pub strand: u32,
     /// The line that tells of it.
     pub line: u32,
 }
 
-impl Access {
+impl CellAccess {
     ghost use Rattle.std.specs.Prelude.{◌≡◌};
-    ghost use Rattle.race_cells.specs.Access.{entry_of};
+    ghost use Rattle.race_cells.specs.CellAccess.{entry_of};
 
     /// What is kept of it beside its kind.
-    pub fn entry(self) -> Entry
+    pub fn entry(self) -> CellEntry
         ensures { result ≡ entry_of self }
     {
-        Entry {
+        CellEntry {
             strand: self.strand,
             line: self.line,
         }
     }
 }
 
-impl Entry {
+impl CellEntry {
     ghost use Rattle.std.specs.Prelude.{◌≡◌};
-    ghost use Rattle.race_cells.specs.Access.{race_of};
+    ghost use Rattle.race_cells.specs.CellAccess.{race_of};
 
     /// The race of this access, which is of a kind, with a later one.
-    pub fn race_with(self, kind: AccessKind, second: Access) -> Race
+    pub fn race_with(self, kind: CellAccessKind, second: CellAccess) -> CellRace
         ensures { result ≡ race_of kind second self }
     {
-        Race {
-            first: Access {
+        CellRace {
+            first: CellAccess {
                 strand: self.strand,
                 kind,
                 line: self.line,

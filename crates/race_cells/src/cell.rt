@@ -1,16 +1,16 @@
 // The cell of a location.
 
 ghost use Rattle.std.specs.Prelude.{◌≡◌, ◌≢◌, ◌↔◌, [], Some, IfOk, IsTrue, option_to_list};
-ghost use Rattle.race_cells.specs.declared.access.AccessKind.TheVariants.{PlainWrite};
-ghost use Rattle.race_cells.specs.Access.{entry_of};
-ghost use Rattle.race_cells.specs.Stack.{without_earlier};
+ghost use Rattle.race_cells.specs.declared.access.CellAccessKind.TheVariants.{PlainWrite};
+ghost use Rattle.race_cells.specs.CellAccess.{entry_of};
+ghost use Rattle.race_cells.specs.AccessStack.{without_earlier};
 ghost use Rattle.race_cells.specs.Scan.{keep, no_stacks};
 ghost use Rattle.race_cells.specs.Cell.{few_stacks, kept_stacks};
 
-use crate::access::{Access, AccessKind, Entry, Race};
+use crate::access::{CellAccess, CellAccessKind, CellEntry, CellRace};
 use crate::order::Strands;
 use crate::stacks::{Stacks, race_with_one, stacks_of};
-use out_of_line::Apart;
+use boxed::BoxedSlot;
 use std::alloc::{AllocError, Global};
 use std::marker::Model;
 use std::mem::size_of;
@@ -20,21 +20,21 @@ const _: () = prove!(size_of::<Cell>() == 32);
 
 // What a cell keeps: most locations have a plain write and a plain read to keep at most.
 #[derive(Drop)]
-enum Kept {
+enum KeptAccesses {
     // A race was reported.
     Done,
     Few {
-        write: Option<Entry>,
-        read: Option<Entry>,
+        write: Option<CellEntry>,
+        read: Option<CellEntry>,
     },
-    Many(Apart<Stacks>),
+    Many(BoxedSlot<Stacks>),
 }
 
 /// What is to be known of the accesses of a location so far to tell whether the next one races. Contracts see the
 /// stacks, or `None` once a race was reported.
 #[derive(Drop)]
 pub struct Cell {
-    kept: Kept,
+    kept: KeptAccesses,
 }
 
 impl Model for Cell {
@@ -49,8 +49,8 @@ impl Model for Cell {
 
 impl Cell {
     ghost use Rattle.std.specs.Prelude.{◌≡◌, List, [], ◌∷◌, ◌++◌, Some, None, IfOk, OnOk, OnErr};
-    ghost use Rattle.race_cells.specs.declared.access.Access.{Access};
-    ghost use Rattle.race_cells.specs.Order.{IsSerial, MeetsAsInTree};
+    ghost use Rattle.race_cells.specs.declared.access.CellAccess.{CellAccess};
+    ghost use Rattle.race_cells.specs.Order.{ExtendsPrecedence, MeetsAsInTree};
     ghost use Rattle.race_cells.specs.Scan.{after, no_stacks, race_at, scanned};
     ghost use Rattle.race_cells.specs.Laws.{AreInOrder, IsExactNext};
 
@@ -59,7 +59,7 @@ impl Cell {
         ensures { result ≡ Some no_stacks }
     {
         Cell {
-            kept: Kept::Few {
+            kept: KeptAccesses::Few {
                 write: None,
                 read: None,
             },
@@ -72,21 +72,21 @@ impl Cell {
         &mut self,
         alloc: Global,
         strands: &S,
-        access: Access,
-    ) -> Result<Option<Race>, AllocError>
+        access: CellAccess,
+    ) -> Result<Option<CellRace>, AllocError>
         ensures race { IfOk result (λ race. race ≡ race_at (S.order strands.now) self.old access) }
         ensures after { OnOk result (self.new ≡ after (S.order strands.now) self.old access) }
         ensures err { OnErr result (self.new ≡ self.old) }
 
         // In the subject's own words, where the cell has seen these accesses and no others.
-        ensures exact { (past : List Access) → self.old ≡ scanned (S.order strands.now) past
-            → IsSerial (S.order strands.now) → MeetsAsInTree (S.order strands.now)
+        ensures exact { (past : List CellAccess) → self.old ≡ scanned (S.order strands.now) past
+            → ExtendsPrecedence (S.order strands.now) → MeetsAsInTree (S.order strands.now)
             → AreInOrder (S.order strands.now) (past ++ access ∷ [])
             → IfOk result (IsExactNext (S.order strands.now) past access) }
     {
         match self.race(strands, access) {
             Some(race) => {
-                self.kept = Kept::Done;
+                self.kept = KeptAccesses::Done;
                 Ok(Some(race))
             }
             None => {
@@ -97,17 +97,17 @@ impl Cell {
     }
 
     // The race that an access makes with what is kept.
-    fn race<S: Strands>(&self, strands: &S, access: Access) -> Option<Race>
+    fn race<S: Strands>(&self, strands: &S, access: CellAccess) -> Option<CellRace>
         ensures { result ≡ race_at (S.order strands.now) self.now access }
     {
         match &self.kept {
-            Kept::Done => None,
-            Kept::Few { write, read } => {
-                let with_read = race_with_one(strands, access, AccessKind::PlainRead, *read);
-                let with_write = race_with_one(strands, access, AccessKind::PlainWrite, *write);
+            KeptAccesses::Done => None,
+            KeptAccesses::Few { write, read } => {
+                let with_read = race_with_one(strands, access, CellAccessKind::PlainRead, *read);
+                let with_write = race_with_one(strands, access, CellAccessKind::PlainWrite, *write);
                 with_read.or(with_write)
             }
-            Kept::Many(stacks) => stacks.get().race(strands, access),
+            KeptAccesses::Many(stacks) => stacks.get().race(strands, access),
         }
     }
 
@@ -116,22 +116,22 @@ impl Cell {
         &mut self,
         alloc: Global,
         strands: &S,
-        access: Access,
+        access: CellAccess,
     ) -> Result<(), AllocError>
         requires { race_at (S.order strands.now) self.old access ≡ None }
         ensures ok { OnOk result (self.new ≡ after (S.order strands.now) self.old access) }
         ensures err { OnErr result (self.new ≡ self.old) }
     {
         match &mut self.kept {
-            Kept::Done => Ok(()),
-            Kept::Few { write, read } => {
+            KeptAccesses::Done => Ok(()),
+            KeptAccesses::Few { write, read } => {
                 let write = *write;
                 let read = *read;
                 self.kept = few_and_next(alloc, strands, write, read, access)?;
                 Ok(())
             }
-            Kept::Many(stacks) => {
-                if access.kind == AccessKind::PlainWrite {
+            KeptAccesses::Many(stacks) => {
+                if access.kind == CellAccessKind::PlainWrite {
                     self.kept = only_written(access);
                     return Ok(());
                 }
@@ -142,10 +142,10 @@ impl Cell {
 }
 
 // A plain write stands for all before it.
-fn only_written(access: Access) -> Kept
+fn only_written(access: CellAccess) -> KeptAccesses
     ensures { kept_stacks result ≡ Some (record no_stacks { plain_write = Some (entry_of access) }) }
 {
-    Kept::Few {
+    KeptAccesses::Few {
         write: Some(access.entry()),
         read: None,
     }
@@ -155,25 +155,25 @@ fn only_written(access: Access) -> Kept
 fn few_and_next<S: Strands>(
     alloc: Global,
     strands: &S,
-    write: Option<Entry>,
-    read: Option<Entry>,
-    access: Access,
-) -> Result<Kept, AllocError>
+    write: Option<CellEntry>,
+    read: Option<CellEntry>,
+    access: CellAccess,
+) -> Result<KeptAccesses, AllocError>
     ensures { IfOk result (λ kept. kept_stacks kept
         ≡ Some (keep (S.order strands.now) access (few_stacks write read))) }
 {
     match access.kind {
-        AccessKind::PlainWrite => Ok(only_written(access)),
-        AccessKind::PlainRead if is_none_or_earlier(strands, read, access.strand) => {
+        CellAccessKind::PlainWrite => Ok(only_written(access)),
+        CellAccessKind::PlainRead if is_none_or_earlier(strands, read, access.strand) => {
             let read = Some(access.entry());
-            Ok(Kept::Few { write, read })
+            Ok(KeptAccesses::Few { write, read })
         }
         _ => many_and_next(alloc, strands, write, read, access),
     }
 }
 
 // Whether what there is of an access happens before a strand.
-fn is_none_or_earlier<S: Strands>(strands: &S, entry: Option<Entry>, strand: u32) -> bool
+fn is_none_or_earlier<S: Strands>(strands: &S, entry: Option<CellEntry>, strand: u32) -> bool
     ensures { IsTrue result ↔ (without_earlier (S.order strands.now) strand (option_to_list entry) ≡ []) }
 {
     match entry {
@@ -186,15 +186,15 @@ fn is_none_or_earlier<S: Strands>(strands: &S, entry: Option<Entry>, strand: u32
 fn many_and_next<S: Strands>(
     alloc: Global,
     strands: &S,
-    write: Option<Entry>,
-    read: Option<Entry>,
-    access: Access,
-) -> Result<Kept, AllocError>
+    write: Option<CellEntry>,
+    read: Option<CellEntry>,
+    access: CellAccess,
+) -> Result<KeptAccesses, AllocError>
     requires { access.kind ≢ PlainWrite }
     ensures { IfOk result (λ kept. kept_stacks kept
         ≡ Some (keep (S.order strands.now) access (few_stacks write read))) }
 {
     let mut stacks = stacks_of(alloc, strands, write, read)?;
     stacks.keep(strands, access)?;
-    Ok(Kept::Many(Apart::new(alloc, stacks)?))
+    Ok(KeptAccesses::Many(BoxedSlot::new(alloc, stacks)?))
 }

@@ -8,7 +8,7 @@ mod order;
 mod stack;
 mod stacks;
 
-pub use access::{Access, AccessKind, Entry, Race};
+pub use access::{CellAccess, CellAccessKind, CellEntry, CellRace};
 pub use cell::Cell;
 pub use laws::{own_accesses_never_race, scan_is_exact, scans_go_on, stacks_are_low};
 pub use order::Strands;

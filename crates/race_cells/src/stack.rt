@@ -1,43 +1,43 @@
 // A stack of accesses of one kind.
 
 ghost use Rattle.std.specs.Prelude.{◌≡◌, ◌≤◌, reverse, IfSome, vec_len, vec_capacity};
-ghost use Rattle.race_cells.specs.Stack.{is_low, last_to_leave, lowered_stack, topmost_pair, without_earlier};
+ghost use Rattle.race_cells.specs.AccessStack.{is_low, last_to_leave, lowered_stack, topmost_pair, without_earlier};
 
-use crate::access::Entry;
+use crate::access::CellEntry;
 use crate::order::Strands;
 use std::alloc::{AllocError, Global};
 use std::marker::Model;
 
 /// A stack of accesses of one kind, which contracts see from its top.
 #[derive(Drop)]
-pub struct Stack {
-    entries: Vec<Entry>,
+pub struct AccessStack {
+    entries: Vec<CellEntry>,
 }
 
-impl Model for Stack {
+impl Model for AccessStack {
     ghost use Rattle.std.specs.Prelude.{List, reverse};
-    ghost use Rattle.race_cells.specs.declared.access.Entry.{Entry};
+    ghost use Rattle.race_cells.specs.declared.access.CellEntry.{CellEntry};
 
-    ghost Value = { List Entry };
+    ghost Value = { List CellEntry };
 
     ghost view = { λ s. reverse s.entries.items };
 }
 
-impl Stack {
+impl AccessStack {
     ghost use Rattle.std.specs.Prelude.{◌≡◌, [], ◌∷◌, OnOk, OnErr};
-    ghost use Rattle.race_cells.specs.Stack.{lowest_unordered, settled};
+    ghost use Rattle.race_cells.specs.AccessStack.{lowest_unordered, settled};
 
     /// An empty stack, which takes no memory yet.
-    pub fn new(alloc: Global) -> Stack
+    pub fn new(alloc: Global) -> AccessStack
         ensures { result ≡ [] }
     {
-        Stack {
+        AccessStack {
             entries: Vec::new(alloc),
         }
     }
 
     /// The first from the bottom that doesn't happen before a strand.
-    pub fn lowest_unordered<S: Strands>(&self, strands: &S, strand: u32) -> Option<Entry>
+    pub fn lowest_unordered<S: Strands>(&self, strands: &S, strand: u32) -> Option<CellEntry>
         ensures { result ≡ lowest_unordered (S.order strands.now) strand self.now }
     {
         for entry in &self.entries {
@@ -49,7 +49,7 @@ impl Stack {
     }
 
     /// Pushes an access, after those have left that nobody has to know from then on. On an `Err` nothing has changed.
-    pub fn settle<S: Strands>(&mut self, strands: &S, entry: Entry) -> Result<(), AllocError>
+    pub fn settle<S: Strands>(&mut self, strands: &S, entry: CellEntry) -> Result<(), AllocError>
         ensures ok { OnOk result (self.new ≡ settled (S.order strands.now) entry self.old) }
         ensures err { OnErr result (self.new ≡ self.old) }
     {
@@ -62,7 +62,7 @@ impl Stack {
 }
 
 // Drops from the top what happens before a strand.
-fn drop_earlier<S: Strands>(entries: &mut Vec<Entry>, strands: &S, strand: u32)
+fn drop_earlier<S: Strands>(entries: &mut Vec<CellEntry>, strands: &S, strand: u32)
     ensures left { reverse entries.new.items ≡ without_earlier (S.order strands.now) strand (reverse entries.old.items) }
     ensures capacity { vec_capacity entries.new ≡ vec_capacity entries.old }
     ensures fewer { vec_len entries.new ≤ vec_len entries.old }
@@ -76,7 +76,7 @@ fn drop_earlier<S: Strands>(entries: &mut Vec<Entry>, strands: &S, strand: u32)
 }
 
 // Drops one of the two topmost while these meet no higher than the upper one meets a strand.
-fn lower<S: Strands>(entries: &mut Vec<Entry>, strands: &S, strand: u32)
+fn lower<S: Strands>(entries: &mut Vec<CellEntry>, strands: &S, strand: u32)
     ensures left { reverse entries.new.items ≡ lowered_stack (S.order strands.now) strand (reverse entries.old.items) }
     ensures capacity { vec_capacity entries.new ≡ vec_capacity entries.old }
     ensures fewer { vec_len entries.new ≤ vec_len entries.old }
@@ -92,7 +92,7 @@ fn lower<S: Strands>(entries: &mut Vec<Entry>, strands: &S, strand: u32)
 }
 
 // The two topmost, the lower one first.
-fn two_topmost(entries: &Vec<Entry>) -> Option<(Entry, Entry)>
+fn two_topmost(entries: &Vec<CellEntry>) -> Option<(CellEntry, CellEntry)>
     ensures pair { topmost_pair (reverse entries.now.items) ≡ result }
     ensures two { IfSome result (λ _. 2 ≤ vec_len entries.now) }
 {
@@ -103,14 +103,14 @@ fn two_topmost(entries: &Vec<Entry>) -> Option<(Entry, Entry)>
 }
 
 // Whether two meet no higher than the upper one meets a strand.
-fn is_low<S: Strands>(strands: &S, strand: u32, below: Entry, top: Entry) -> bool
+fn is_low<S: Strands>(strands: &S, strand: u32, below: CellEntry, top: CellEntry) -> bool
     ensures { result ≡ is_low (S.order strands.now) strand below top }
 {
     strands.meeting(top.strand, strand) <= strands.meeting(below.strand, top.strand)
 }
 
 // Of two the one that leaves their meeting later.
-fn last_to_leave<S: Strands>(strands: &S, below: Entry, top: Entry) -> Entry
+fn last_to_leave<S: Strands>(strands: &S, below: CellEntry, top: CellEntry) -> CellEntry
     ensures { result ≡ last_to_leave (S.order strands.now) below top }
 {
     if strands.leaves_first(below.strand, top.strand) {

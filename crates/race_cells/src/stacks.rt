@@ -1,55 +1,55 @@
 // What a cell keeps of the accesses of a location: a stack for each kind.
 
 ghost use Rattle.std.specs.Prelude.{◌≡◌, ◌≢◌, IfOk, OnOk, OnErr, Some, None, option_to_list};
-ghost use Rattle.race_cells.specs.declared.access.AccessKind.TheVariants.{PlainWrite};
+ghost use Rattle.race_cells.specs.declared.access.CellAccessKind.TheVariants.{PlainWrite};
 ghost use Rattle.race_cells.specs.Scan.{keep, no_stacks, race_among, race_in};
 
-use crate::access::{Access, AccessKind, Entry, Race};
+use crate::access::{CellAccess, CellAccessKind, CellEntry, CellRace};
 use crate::order::Strands;
-use crate::stack::Stack;
+use crate::stack::AccessStack;
 use std::alloc::{AllocError, Global};
 
 /// The accesses that stand for all so far, by kinds. A plain write stands for all before it, so of these there is at
 /// most one.
 #[derive(Drop)]
 pub struct Stacks {
-    pub plain_reads: Stack,
-    pub plain_write: Option<Entry>,
-    pub atomic_reads: Stack,
-    pub atomic_writes: Stack,
+    pub plain_reads: AccessStack,
+    pub plain_write: Option<CellEntry>,
+    pub atomic_reads: AccessStack,
+    pub atomic_writes: AccessStack,
 }
 
 /// The stacks of a plain write and a plain read.
 pub fn stacks_of<S: Strands>(
     alloc: Global,
     strands: &S,
-    plain_write: Option<Entry>,
-    plain_read: Option<Entry>,
+    plain_write: Option<CellEntry>,
+    plain_read: Option<CellEntry>,
 ) -> Result<Stacks, AllocError>
     ensures { IfOk result (λ s. s ≡ record no_stacks {
       plain_reads = option_to_list plain_read;
       plain_write = plain_write;
     }) }
 {
-    let mut plain_reads = Stack::new(alloc);
+    let mut plain_reads = AccessStack::new(alloc);
     if let Some(read) = plain_read {
         plain_reads.settle(strands, read)?;
     }
     Ok(Stacks {
         plain_reads,
         plain_write,
-        atomic_reads: Stack::new(alloc),
-        atomic_writes: Stack::new(alloc),
+        atomic_reads: AccessStack::new(alloc),
+        atomic_writes: AccessStack::new(alloc),
     })
 }
 
 /// The race of an access with a stack of a kind: with the first from the bottom that doesn't happen before it.
 fn race_with_stack<S: Strands>(
     strands: &S,
-    access: Access,
-    kind: AccessKind,
-    stack: &Stack,
-) -> Option<Race>
+    access: CellAccess,
+    kind: CellAccessKind,
+    stack: &AccessStack,
+) -> Option<CellRace>
     ensures { result ≡ race_in (S.order strands.now) access kind stack.now }
 {
     if !kind.clashes_with(access.kind) {
@@ -62,10 +62,10 @@ fn race_with_stack<S: Strands>(
 /// The race of an access with what is at most one of a kind.
 pub fn race_with_one<S: Strands>(
     strands: &S,
-    access: Access,
-    kind: AccessKind,
-    entry: Option<Entry>,
-) -> Option<Race>
+    access: CellAccess,
+    kind: CellAccessKind,
+    entry: Option<CellEntry>,
+) -> Option<CellRace>
     ensures { result ≡ race_in (S.order strands.now) access kind (option_to_list entry) }
 {
     let entry = entry?;
@@ -78,45 +78,60 @@ pub fn race_with_one<S: Strands>(
 impl Stacks {
     ghost use Rattle.std.specs.Prelude.{◌≡◌, ◌≢◌, OnOk, OnErr};
     ghost use Rattle.std.specs.Option.{option_or};
-    ghost use Rattle.race_cells.specs.declared.access.AccessKind.TheVariants.{PlainWrite, AtomicRead, AtomicWrite};
+    ghost use Rattle.race_cells.specs.declared.access.CellAccessKind.TheVariants.{PlainWrite, AtomicRead, AtomicWrite};
     ghost use Rattle.race_cells.specs.Scan.{keep, race_among, race_in};
 
     /// The race of an access with what is kept, by kinds.
-    pub fn race<S: Strands>(&self, strands: &S, access: Access) -> Option<Race>
+    pub fn race<S: Strands>(&self, strands: &S, access: CellAccess) -> Option<CellRace>
         ensures { result ≡ race_among (S.order strands.now) access self.now }
     {
-        let reads = race_with_stack(strands, access, AccessKind::PlainRead, &self.plain_reads);
-        let write = race_with_one(strands, access, AccessKind::PlainWrite, self.plain_write);
+        let reads = race_with_stack(
+            strands,
+            access,
+            CellAccessKind::PlainRead,
+            &self.plain_reads,
+        );
+        let write = race_with_one(
+            strands,
+            access,
+            CellAccessKind::PlainWrite,
+            self.plain_write,
+        );
         reads.or(write).or(self.atomic_race(strands, access))
     }
 
     // Its race with what is kept of the atomic accesses.
-    fn atomic_race<S: Strands>(&self, strands: &S, access: Access) -> Option<Race>
+    fn atomic_race<S: Strands>(&self, strands: &S, access: CellAccess) -> Option<CellRace>
         ensures { result ≡ option_or (race_in (S.order strands.now) access AtomicRead self.now.atomic_reads)
             (race_in (S.order strands.now) access AtomicWrite self.now.atomic_writes) }
     {
-        let reads = race_with_stack(strands, access, AccessKind::AtomicRead, &self.atomic_reads);
+        let reads = race_with_stack(
+            strands,
+            access,
+            CellAccessKind::AtomicRead,
+            &self.atomic_reads,
+        );
         let writes = race_with_stack(
             strands,
             access,
-            AccessKind::AtomicWrite,
+            CellAccessKind::AtomicWrite,
             &self.atomic_writes,
         );
         reads.or(writes)
     }
 
     /// Keeps an access that is no plain write. On an `Err` nothing has changed.
-    pub fn keep<S: Strands>(&mut self, strands: &S, access: Access) -> Result<(), AllocError>
+    pub fn keep<S: Strands>(&mut self, strands: &S, access: CellAccess) -> Result<(), AllocError>
         requires { access.kind ≢ PlainWrite }
         ensures ok { OnOk result (self.new ≡ keep (S.order strands.now) access self.old) }
         ensures err { OnErr result (self.new ≡ self.old) }
     {
         let entry = access.entry();
         match access.kind {
-            AccessKind::PlainRead => self.plain_reads.settle(strands, entry),
-            AccessKind::AtomicRead => self.atomic_reads.settle(strands, entry),
-            AccessKind::AtomicWrite => self.atomic_writes.settle(strands, entry),
-            AccessKind::PlainWrite => unreachable!(),
+            CellAccessKind::PlainRead => self.plain_reads.settle(strands, entry),
+            CellAccessKind::AtomicRead => self.atomic_reads.settle(strands, entry),
+            CellAccessKind::AtomicWrite => self.atomic_writes.settle(strands, entry),
+            CellAccessKind::PlainWrite => unreachable!(),
         }
     }
 }

@@ -1,4 +1,4 @@
-pub mod Groups
+pub mod RaceGroups
 pub mod Gathered
 pub mod Laws
 pub mod Swaps

@@ -9,7 +9,7 @@ use Rattle.race_report.specs.declared.data.Race.{Race}
 use Rattle.race_report.specs.Accesses.{accesses}
 use Rattle.race_report.specs.Report.{IsReport}
 use Rattle.race_groups.specs.declared.shown.ShownRaces.{ShownRaces}
-use Rattle.race_groups.specs.Groups.{groups_of}
+use Rattle.race_groups.specs.RaceGroups.{groups_of}
 use Rattle.race_groups.specs.Swaps.{has_swaps}
 use Rattle.race_groups.specs.Text.{groups_text}
 

@@ -6,7 +6,7 @@ use Rattle.std.specs.Str.{bytes_eq}
 use Rattle.text_lines.specs.Lines.{words_of}
 use Rattle.race_report.specs.declared.data.Race.{Race}
 use Rattle.race_report.specs.Text.{kind_word}
-use Rattle.race_groups.specs.declared.group.Group.{Group}
+use Rattle.race_groups.specs.declared.group.RaceGroup.{RaceGroup}
 
 -- THE SOURCE
 
@@ -37,7 +37,7 @@ plural n = if n == 1 then [] else codes "s"
 abbrev pub on_lines : ℕ → ℕ → List ℕ
 on_lines x y = if x == y then codes "line " ++ decimal x ++ codes " twice: " else codes "lines " ++ decimal x ++ codes " and " ++ decimal y ++ codes ": "
 
-abbrev pub head_line : Group → List ℕ
+abbrev pub head_line : RaceGroup → List ℕ
 head_line g = on_lines g.example.first.1 g.example.second.1 ++ decimal g.fields ++ codes " field" ++ plural g.fields ++ codes "\n"
 
 abbrev pub source_of : List (List ℕ) → ℕ → ℕ → List ℕ
@@ -60,14 +60,14 @@ abbrev pub example_line : Race → List ℕ
 example_line r = codes "  example: " ++ field_text r ++ codes ", " ++ tasks_text r ++ codes "\n"
 
 -- its lines with their text
-abbrev pub group_place : List (List ℕ) → Group → List ℕ
+abbrev pub group_place : List (List ℕ) → RaceGroup → List ℕ
 group_place lines g = head_line g ++ source_of lines g.example.first.1 g.example.second.1
 
 -- one of its races
-abbrev pub group_example : List (List ℕ) → Group → List ℕ
+abbrev pub group_example : List (List ℕ) → RaceGroup → List ℕ
 group_example lines g = example_line g.example ++ swap_note lines g.example.first.1 g.example.second.1
 
-abbrev pub group_text : List (List ℕ) → Group → List ℕ
+abbrev pub group_text : List (List ℕ) → RaceGroup → List ℕ
 group_text lines g = group_place lines g ++ group_example lines g
 
 -- ALL
@@ -83,5 +83,5 @@ abbrev pub count_line : ℕ → ℕ → List ℕ
 count_line races groups = codes "end: races " ++ decimal races ++ codes " on " ++ decimal groups ++ codes " pair" ++ plural groups ++ codes " of lines\n"
 
 -- each group, what compare and swaps mean for them, and the end line with the number of races and that of groups
-abbrev pub groups_text : List (List ℕ) → Bool → ℕ → List Group → List ℕ
+abbrev pub groups_text : List (List ℕ) → Bool → ℕ → List RaceGroup → List ℕ
 groups_text lines swaps races groups = flat_map (group_text lines) groups ++ lock_note swaps races ++ count_line races (length groups)

@@ -1,13 +1,13 @@
 // The races on one pair of lines.
 
 ghost use Rattle.std.specs.Prelude.{◌≡◌};
-ghost use Rattle.race_groups.specs.Groups.{Lines, lines_of_race, group_of};
+ghost use Rattle.race_groups.specs.RaceGroups.{Lines, lines_of_race, group_of};
 
 use race_report::Race;
 
 /// The races whose earlier accesses stand on one line, and whose later ones on one line.
 #[derive(Clone, Copy)]
-pub struct Group {
+pub struct RaceGroup {
     /// The first of them, in the order of the fields.
     pub example: Race,
     /// Their number. Each is of another field.
@@ -24,10 +24,10 @@ pub(crate) fn lines_of_race(race: &Race) -> (u32, u32)
 }
 
 /// The group of a race alone.
-pub(crate) fn group_of(race: &Race) -> Group
+pub(crate) fn group_of(race: &Race) -> RaceGroup
     ensures { result ≡ group_of race.now }
 {
-    Group {
+    RaceGroup {
         example: *race,
         fields: 1,
     }

@@ -1,9 +1,9 @@
 // Gathers races by their lines.
 
 ghost use Rattle.std.specs.Prelude.{◌≡◌, IfOk};
-ghost use Rattle.race_groups.specs.Groups.{groups_of};
+ghost use Rattle.race_groups.specs.RaceGroups.{groups_of};
 
-use crate::group::{Group, group_of, lines_of_race};
+use crate::group::{RaceGroup, group_of, lines_of_race};
 use indexmap::IndexSet;
 use race_report::Race;
 use std::alloc::{AllocError, Global};
@@ -11,32 +11,32 @@ use std::marker::Model;
 
 /// Groups, no two on one pair of lines.
 #[derive(Drop)]
-struct Groups {
-    list: Vec<Group>,
+struct RaceGroups {
+    list: Vec<RaceGroup>,
     lines: IndexSet<(u32, u32)>,
 }
 
-impl Model for Groups {
+impl Model for RaceGroups {
     ghost use Rattle.std.specs.Prelude.{◌≡◌, List};
-    ghost use Rattle.race_groups.specs.declared.group.Group.{Group};
+    ghost use Rattle.race_groups.specs.declared.group.RaceGroup.{RaceGroup};
     ghost use Rattle.race_groups.specs.Gathered.{lines_of_groups};
 
-    ghost Value = { List Group };
+    ghost Value = { List RaceGroup };
 
     ghost view = { λ g. g.list.items };
 
     ghost invariant = { λ g. g.lines.keys ≡ lines_of_groups g.list.items };
 }
 
-impl Groups {
+impl RaceGroups {
     ghost use Rattle.std.specs.Prelude.{◌≡◌, ◌<◌, ◌+◌, ◌∷◌, ◌++◌, [], length, Some, None, OnOk, position, slice_get, slice_set};
-    ghost use Rattle.race_groups.specs.Groups.{lines_of_race, same_pair, group_of};
+    ghost use Rattle.race_groups.specs.RaceGroups.{lines_of_race, same_pair, group_of};
     ghost use Rattle.race_groups.specs.Gathered.{with_race, lines_of_groups, AreFew};
 
-    fn new(alloc: Global) -> Groups
+    fn new(alloc: Global) -> RaceGroups
         ensures { result ≡ [] }
     {
-        Groups {
+        RaceGroups {
             list: Vec::new(alloc),
             lines: IndexSet::new(alloc),
         }
@@ -46,7 +46,7 @@ impl Groups {
     fn count(&mut self, place: usize)
         requires within { place < length self.old }
         requires few { AreFew self.old }
-        ensures { (g : Group) → slice_get self.old place ≡ Some g → self.new ≡ slice_set self.old place (record g { fields = g.fields + 1 }) }
+        ensures { (g : RaceGroup) → slice_get self.old place ≡ Some g → self.new ≡ slice_set self.old place (record g { fields = g.fields + 1 }) }
     {
         let mut group = self.list[place];
         group.fields += 1;
@@ -85,20 +85,20 @@ impl Groups {
         }
     }
 
-    fn into_vec(self) -> Vec<Group>
+    fn into_vec(self) -> Vec<RaceGroup>
         ensures { result.items ≡ self }
     {
-        let Groups { list, lines: _ } = self;
+        let RaceGroups { list, lines: _ } = self;
         list
     }
 }
 
 /// Gathers races by pairs of lines, in the order of the first race of each.
-pub fn group_races(alloc: Global, races: &[Race]) -> Result<Vec<Group>, AllocError>
+pub fn group_races(alloc: Global, races: &[Race]) -> Result<Vec<RaceGroup>, AllocError>
     ensures { IfOk result (λ groups. groups.items ≡ groups_of races.now) }
 {
     let _count = races.len();
-    let mut groups = Groups::new(alloc);
+    let mut groups = RaceGroups::new(alloc);
     for race in races {
         groups.add(race)?;
     }

@@ -12,7 +12,7 @@ mod source;
 mod swaps;
 mod text;
 
-pub use group::Group;
+pub use group::RaceGroup;
 pub use groups::group_races;
 pub use laws::groups_are_exact;
 pub use shown::{ShownRaces, shown_races};

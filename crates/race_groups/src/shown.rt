@@ -9,7 +9,7 @@ use crate::groups::group_races;
 use crate::swaps::has_swaps;
 use crate::text::groups_text;
 use hh_lang::Program;
-use listed::Listed;
+use plain_vec::Listed;
 use race_report::{Race, races_of_run};
 use run_journal::ReplayError;
 use run_trace::{Entry, Settings};

@@ -7,7 +7,7 @@ ghost use Rattle.text_lines.specs.Lines.{lines_of};
 ghost use Rattle.race_report.specs.Text.{kind_word};
 ghost use Rattle.race_groups.specs.Text.{plural, on_lines, head_line, shown_line, source_of, swap_note, field_text, tasks_text, example_line, group_place, group_example, group_text, lock_note, count_line, groups_text};
 
-use crate::group::Group;
+use crate::group::RaceGroup;
 use crate::source::{add_words, is_swap_line, lines_in, source_line};
 use race_report::Race;
 use std::alloc::{AllocError, Global};
@@ -30,7 +30,7 @@ fn on_lines(alloc: Global, first: u32, second: u32) -> Result<String, AllocError
 }
 
 // The first line of a group.
-fn head_line(alloc: Global, group: &Group) -> Result<String, AllocError>
+fn head_line(alloc: Global, group: &RaceGroup) -> Result<String, AllocError>
     ensures { IfOk result (λ text. string_bytes text ≡ head_line group.now) }
 {
     let (_, first) = group.example.first;
@@ -128,7 +128,7 @@ fn add_place(
     alloc: Global,
     text: &mut Vec<u8>,
     lines: &[&[u8]],
-    group: &Group,
+    group: &RaceGroup,
 ) -> Result<(), AllocError>
     ensures { OnOk result (text.new.items ≡ text.old.items ++ group_place (map (λ l. l.now) lines.now) group.now) }
 {
@@ -151,7 +151,7 @@ fn add_example(
     alloc: Global,
     text: &mut Vec<u8>,
     lines: &[&[u8]],
-    group: &Group,
+    group: &RaceGroup,
 ) -> Result<(), AllocError>
     ensures { OnOk result (text.new.items ≡ text.old.items ++ group_example (map (λ l. l.now) lines.now) group.now) }
 {
@@ -167,7 +167,7 @@ fn add_group(
     alloc: Global,
     text: &mut Vec<u8>,
     lines: &[&[u8]],
-    group: &Group,
+    group: &RaceGroup,
 ) -> Result<(), AllocError>
     ensures { OnOk result (text.new.items ≡ text.old.items ++ group_text (map (λ l. l.now) lines.now) group.now) }
 {
@@ -180,7 +180,7 @@ fn add_groups(
     alloc: Global,
     text: &mut Vec<u8>,
     lines: &[&[u8]],
-    groups: &[Group],
+    groups: &[RaceGroup],
 ) -> Result<(), AllocError>
     ensures { OnOk result (text.new.items ≡ text.old.items ++ flat_map (group_text (map (λ l. l.now) lines.now)) groups.now) }
 {
@@ -218,7 +218,7 @@ pub fn groups_text(
     source: &[u8],
     swaps: bool,
     races: usize,
-    groups: &[Group],
+    groups: &[RaceGroup],
 ) -> Result<Vec<u8>, AllocError>
     ensures { IfOk result (λ text. text.items ≡ groups_text (lines_of source.now) swaps races groups.now) }
 {

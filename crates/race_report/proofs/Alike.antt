@@ -1,15 +1,5 @@
 -- Of the accesses of one strand and kind the first is enough.
-use Rattle.std.proofs.Common.{◌≡◌, ℕ, zero, suc, ◌<◌, Bool, true, false, cond, not, ◌==◌, ◌||◌, ◌&&◌, Some, None, List, [], ◌∷◌, ◌++◌, length, slice_get, filter, ◌⊎◌, inl, inr, refl, ap, sym, subst, ◌∙◌, append_assoc, append-nil, eqb-true}
-use Rattle.std.specs.Bool.{beq}
-use Rattle.std.proofs.lemmas.Bool.{or_cases, both_ways, and_parts}
-use Rattle.indexmap.specs.IndexSet.{insert_key}
-use Rattle.run_journal.proofs.below.listed.{In, in_append_left, in_append_right, in_append_cases, got_front, got_within, in_from_kept}
-use Rattle.race_report.specs.declared.data.Access.{Access}
-use Rattle.race_report.specs.declared.data.Seen.{Seen}
-use Rattle.race_report.specs.declared.data.Open.{Open}
-use Rattle.race_report.specs.Ways.{Way, way_of, same_way, ways_of, has_alike}
-use Rattle.race_report.specs.Labels.{label_precedes}
-use Rattle.race_report.specs.Watch.{clashes, first_clash, with_first, with_access}
+use Rattle.race_report.proofs.Common.{◌≡◌, ℕ, zero, suc, ◌<◌, Bool, true, false, cond, not, ◌==◌, ◌||◌, ◌&&◌, Some, None, List, [], ◌∷◌, ◌++◌, length, slice_get, filter, ◌⊎◌, inl, inr, refl, ap, sym, subst, ◌∙◌, append_assoc, append-nil, eqb-true, beq, or_cases, both_ways, and_parts, insert_key, In, in_append_left, in_append_right, in_append_cases, got_front, got_within, in_from_kept, FieldAccess, Seen, Open, Way, way_of, same_way, ways_of, has_alike, label_precedes, clashes, first_clash, with_first, with_access}
 
 -- THE FIRST OF EACH
 
@@ -25,20 +15,20 @@ firsts_push es [] x = refl
 firsts_push es (y ∷ xs) x = firsts_push (with_new es y) xs x
 
 pub access_earlier : (o : Open) (x : Seen) → (with_access o x).earlier ≡ with_new o.earlier x
-access_earlier o x = by (has_alike o.earlier x.access)
+access_earlier o x = access_earlier_by_cases (has_alike o.earlier x.access)
   where
-    by : (b : Bool) → (cond b o (with_first o x)).earlier ≡ cond b o.earlier (o.earlier ++ x ∷ [])
-    by true = refl
-    by false = refl
+    access_earlier_by_cases : (b : Bool) → (cond b o (with_first o x)).earlier ≡ cond b o.earlier (o.earlier ++ x ∷ [])
+    access_earlier_by_cases true = refl
+    access_earlier_by_cases false = refl
 
-alike_in : (us : List Seen) (a : Access) → has_alike us a ≡ true → (u : Seen) × In us u × (same_way (way_of a) (way_of u.access) ≡ true)
+alike_in : (us : List Seen) (a : FieldAccess) → has_alike us a ≡ true → (u : Seen) × In us u × (same_way (way_of a) (way_of u.access) ≡ true)
 alike_in [] a e = absurd cc
-alike_in (u ∷ us) a e = by (or_cases (same_way (way_of a) (way_of u.access)) (has_alike us a) e) (alike_in us a)
+alike_in (u ∷ us) a e = alike_in_by_cases (or_cases (same_way (way_of a) (way_of u.access)) (has_alike us a) e) (alike_in us a)
   where
-    by : ((same_way (way_of a) (way_of u.access) ≡ true) ⊎ (has_alike us a ≡ true)) → (has_alike us a ≡ true → (w : Seen) × In us w × (same_way (way_of a) (way_of w.access) ≡ true))
+    alike_in_by_cases : ((same_way (way_of a) (way_of u.access) ≡ true) ⊎ (has_alike us a ≡ true)) → (has_alike us a ≡ true → (w : Seen) × In us w × (same_way (way_of a) (way_of w.access) ≡ true))
         → (w : Seen) × In (u ∷ us) w × (same_way (way_of a) (way_of w.access) ≡ true)
-    by (inl h) rest = (u, inl refl, h)
-    by (inr h) rest = let r = rest h in (r.0, inr r.1, r.2)
+    alike_in_by_cases (inl h) rest = (u, inl refl, h)
+    alike_in_by_cases (inr h) rest = let r = rest h in (r.0, inr r.1, r.2)
 
 -- THE SET OF WAYS
 
@@ -59,26 +49,26 @@ module _ (x : Seen) where
 
   within : (es : List Seen) (u : Seen) → In es u → clashes u x ≡ true → (zs ws : List Seen) → first_clash (es ++ zs) x ≡ first_clash (es ++ ws) x
   within [] u i c zs ws = absurd i
-  within (e ∷ es) u i c zs ws = by (clashes e x) refl i (λ j. within es u j c zs ws)
+  within (e ∷ es) u i c zs ws = within_by_cases (clashes e x) refl i (λ j. within es u j c zs ws)
     where
-      by : (b : Bool) → clashes e x ≡ b → In (e ∷ es) u → (In es u → first_clash (es ++ zs) x ≡ first_clash (es ++ ws) x)
+      within_by_cases : (b : Bool) → clashes e x ≡ b → In (e ∷ es) u → (In es u → first_clash (es ++ zs) x ≡ first_clash (es ++ ws) x)
           → cond b (Some e) (first_clash (es ++ zs) x) ≡ cond b (Some e) (first_clash (es ++ ws) x)
-      by true is at rest = refl
-      by false is (inl same) rest = absurd (both_ways (clashes e x) is (ap (λ (z : Seen). clashes z x) same ∙ c))
-      by false is (inr at) rest = rest at
+      within_by_cases true is at rest = refl
+      within_by_cases false is (inl same) rest = absurd (both_ways (clashes e x) is (ap (λ (z : Seen). clashes z x) same ∙ c))
+      within_by_cases false is (inr at) rest = rest at
 
   calm : (es : List Seen) (y : Seen) (ys : List Seen) → clashes y x ≡ false → first_clash (es ++ ys) x ≡ first_clash (es ++ y ∷ ys) x
   calm [] y ys c = sym (ap (λ b. cond b (Some y) (first_clash ys x)) c)
   calm (e ∷ es) y ys c = ap (cond (clashes e x) (Some e)) (calm es y ys c)
 
   skipped : (es : List Seen) (y : Seen) (ys : List Seen) → SameFor (es ++ y ∷ ys) → has_alike es y.access ≡ true → first_clash (es ++ ys) x ≡ first_clash (es ++ y ∷ ys) x
-  skipped es y ys S has = by (clashes y x) refl
+  skipped es y ys S has = skipped_by_cases (clashes y x) refl
     where
-      by : (b : Bool) → clashes y x ≡ b → first_clash (es ++ ys) x ≡ first_clash (es ++ y ∷ ys) x
-      by true c =
+      skipped_by_cases : (b : Bool) → clashes y x ≡ b → first_clash (es ++ ys) x ≡ first_clash (es ++ y ∷ ys) x
+      skipped_by_cases true c =
           let u = alike_in es y.access has in
           within es u.0 u.1 (S u.0 y (in_append_left es (y ∷ ys) u.0 u.1) (in_append_right es (y ∷ ys) y (inl refl)) u.2 ∙ c) ys (y ∷ ys)
-      by false c = calm es y ys c
+      skipped_by_cases false c = calm es y ys c
 
   fewer : (es : List Seen) (y : Seen) (ys : List Seen) → SameFor (es ++ y ∷ ys) → SameFor (es ++ ys)
   fewer es y ys S u w i j h = S u w (more u i) (more w j) h
@@ -89,14 +79,14 @@ module _ (x : Seen) where
   pub first_same : (es xs : List Seen) → SameFor (es ++ xs) → first_clash (firsts_from es xs) x ≡ first_clash (es ++ xs) x
   first_same es [] S = ap (λ us. first_clash us x) (sym (append-nil es))
   first_same es (y ∷ ys) S =
-      by (has_alike es y.access) refl (first_same es ys (fewer es y ys S))
+      first_same_by_cases (has_alike es y.access) refl (first_same es ys (fewer es y ys S))
       (first_same (es ++ y ∷ []) ys (subst SameFor (sym (append_assoc es (y ∷ []) ys)) S))
     where
-      by : (b : Bool) → has_alike es y.access ≡ b → first_clash (firsts_from es ys) x ≡ first_clash (es ++ ys) x
+      first_same_by_cases : (b : Bool) → has_alike es y.access ≡ b → first_clash (firsts_from es ys) x ≡ first_clash (es ++ ys) x
           → first_clash (firsts_from (es ++ y ∷ []) ys) x ≡ first_clash ((es ++ y ∷ []) ++ ys) x
           → first_clash (firsts_from (cond b es (es ++ y ∷ [])) ys) x ≡ first_clash (es ++ y ∷ ys) x
-      by true has skip push = skip ∙ skipped es y ys S has
-      by false has skip push = push ∙ ap (λ us. first_clash us x) (append_assoc es (y ∷ []) ys)
+      first_same_by_cases true has skip push = skip ∙ skipped es y ys S has
+      first_same_by_cases false has skip push = push ∙ ap (λ us. first_clash us x) (append_assoc es (y ∷ []) ys)
 
   pub all_free : (us : List Seen) → ((u : Seen) → In us u → clashes u x ≡ false) → first_clash us x ≡ None
   all_free [] free = refl
@@ -110,7 +100,7 @@ same_bool true false e = absurd cc
 same_bool false true e = absurd cc
 same_bool false false e = refl
 
--- in a list of accesses those of one strand precede the same later ones, by their labels
+-- in a list of accesses, those of one strand happen before the same later ones, by their labels
 abbrev pub StrandsTell : List Seen → Type 0
 StrandsTell zs =
     (i k j : ℕ) (u w v : Seen) → i < j → k < j → slice_get zs i ≡ Some u → slice_get zs k ≡ Some w → slice_get zs j ≡ Some v

@@ -1,14 +1,6 @@
 -- The record of one field is exact: nothing if there is no access, no race while it waits, and otherwise its pair.
-use Rattle.std.proofs.Common.{◌≡◌, ℕ, zero, suc, ◌<◌, ◌≤◌, Bool, true, false, cond, Option, Some, None, List, [], ◌∷◌, ◌++◌, length, slice_get, filter, ◌⊎◌, inl, inr, refl, ap, sym, subst, ◌∙◌, arith, append_assoc, append-nil}
-use Rattle.std.proofs.lemmas.Bool.{both_ways}
-use Rattle.std.proofs.lemmas.Option.{same_Some}
-use Rattle.run_journal.proofs.below.listed.{In, in_kept, got_front, got_within, got_in, got_last}
-use Rattle.race_report.specs.declared.data.Seen.{Seen}
-use Rattle.race_report.specs.declared.data.Open.{Open}
-use Rattle.race_report.specs.declared.data.Watch.{Watch}
-use Rattle.race_report.specs.declared.data.Watch.TheVariants.{Open as Waits, Found}
-use Rattle.race_report.specs.Labels.{allows}
-use Rattle.race_report.specs.Watch.{Key, bound_for, clashes, first_clash, found_by, watched_from, watched_with, key_of, nothing_yet, or_nothing, race_of, same_key, watch_with, with_access}
+use Rattle.race_report.proofs.Common.{◌≡◌, ℕ, zero, suc, ◌<◌, ◌≤◌, Bool, true, false, cond, Option, Some, None, List, [], ◌∷◌, ◌++◌, length, slice_get, filter, ◌⊎◌, inl, inr, refl, ap, sym, subst, ◌∙◌, arith, append_assoc, append-nil, both_ways, same_Some, In, in_kept, got_front, got_within, got_in, got_last, Seen, Open, Watch, Found, allows, Key, bound_for, clashes, first_clash, found_by, watched_from, watched_with, key_of, nothing_yet, or_nothing, race_of, same_key, watch_with, with_access}
+use Rattle.race_report.specs.declared.data.Watch.TheVariants.{Open as Waits}
 use Rattle.race_report.proofs.Alike.{SameFor, StrandsTell, access_earlier, all_free, first_same, firsts_from, firsts_push, same_for, with_new}
 use Rattle.race_report.proofs.Keys.{same_key_is, same_key_itself}
 use Rattle.race_report.proofs.BoundLaws.{Bounds, bound_tells, bounds_more, none_clashes}
@@ -26,11 +18,11 @@ push_got (y ∷ xs) x z (suc k) e = elim (push_got xs x z k e) [ inl old ↦ inl
 
 filter_push : (p : Seen → Bool) (xs : List Seen) (x : Seen) → filter p (xs ++ x ∷ []) ≡ filter p xs ++ filter p (x ∷ [])
 filter_push p [] x = refl
-filter_push p (y ∷ xs) x = by (p y) (filter_push p xs x)
+filter_push p (y ∷ xs) x = filter_push_by_cases (p y) (filter_push p xs x)
   where
-    by : (b : Bool) → filter p (xs ++ x ∷ []) ≡ filter p xs ++ filter p (x ∷ []) → cond b (y ∷ filter p (xs ++ x ∷ [])) (filter p (xs ++ x ∷ [])) ≡ cond b (y ∷ filter p xs) (filter p xs) ++ filter p (x ∷ [])
-    by true rest = ap (λ zs. y ∷ zs) rest
-    by false rest = rest
+    filter_push_by_cases : (b : Bool) → filter p (xs ++ x ∷ []) ≡ filter p xs ++ filter p (x ∷ []) → cond b (y ∷ filter p (xs ++ x ∷ [])) (filter p (xs ++ x ∷ [])) ≡ cond b (y ∷ filter p xs) (filter p xs) ++ filter p (x ∷ [])
+    filter_push_by_cases true rest = ap (λ zs. y ∷ zs) rest
+    filter_push_by_cases false rest = rest
 
 filter_none : (p : Seen → Bool) (xs : List Seen) → ((i : ℕ) (v : Seen) → slice_get xs i ≡ Some v → p v ≡ false) → filter p xs ≡ []
 filter_none p [] none = refl
@@ -40,12 +32,12 @@ filter_none p (y ∷ xs) none = ap (λ b. cond b (y ∷ filter p xs) (filter p x
 
 no_clash : (us : List Seen) (x : Seen) → first_clash us x ≡ None → (u : Seen) → In us u → clashes u x ≡ false
 no_clash [] x h u i = absurd i
-no_clash (y ∷ us) x h u i = by (λ h' i'. no_clash us x h' u i') (clashes y x) refl h i
+no_clash (y ∷ us) x h u i = no_clash_by_cases (λ h' i'. no_clash us x h' u i') (clashes y x) refl h i
   where
-    by : (first_clash us x ≡ None → In us u → clashes u x ≡ false) → (b : Bool) → clashes y x ≡ b → cond b (Some y) (first_clash us x) ≡ None → In (y ∷ us) u → clashes u x ≡ false
-    by rest true e h i = absurd cc
-    by rest false e h (inl same) = ap (λ (z : Seen). clashes z x) (sym same) ∙ e
-    by rest false e h (inr i) = rest h i
+    no_clash_by_cases : (first_clash us x ≡ None → In us u → clashes u x ≡ false) → (b : Bool) → clashes y x ≡ b → cond b (Some y) (first_clash us x) ≡ None → In (y ∷ us) u → clashes u x ≡ false
+    no_clash_by_cases rest true e h i = absurd cc
+    no_clash_by_cases rest false e h (inl same) = ap (λ (z : Seen). clashes z x) (sym same) ∙ e
+    no_clash_by_cases rest false e h (inr i) = rest h i
 
 -- the first of the chosen accesses that races with x
 pub record IsFirst (chosen : Seen → Bool) (xs : List Seen) (x u : Seen) : Type 0 where
@@ -66,7 +58,7 @@ first_later chosen y xs x u free F = record { i = suc F.i; is = F.is; has = F.ha
 
 first_at : (chosen : Seen → Bool) (xs : List Seen) (x u : Seen) → first_clash (filter chosen xs) x ≡ Some u → IsFirst chosen xs x u
 first_at chosen [] x u h = absurd cc
-first_at chosen (y ∷ xs) x u h = by (λ h'. first_at chosen xs x u h') (chosen y) refl h
+first_at chosen (y ∷ xs) x u h = first_at_by_cases (λ h'. first_at chosen xs x u h') (chosen y) refl h
   where
     clash_by : (first_clash (filter chosen xs) x ≡ Some u → IsFirst chosen xs x u) → (b : Bool) → chosen y ≡ true → clashes y x ≡ b → cond b (Some y) (first_clash (filter chosen xs) x) ≡ Some u → IsFirst chosen (y ∷ xs) x u
     clash_by rest true c e h =
@@ -74,9 +66,9 @@ first_at chosen (y ∷ xs) x u h = by (λ h'. first_at chosen xs x u h') (chosen
         record { i = 0; is = h; has = ap chosen (sym same) ∙ c; clash = ap (λ (z : Seen). clashes z x) (sym same) ∙ e; first = λ k w ew cw hw. omega arith }
     clash_by rest false c e h = first_later chosen y xs x u (λ c' e'. both_ways (clashes y x) e e') (rest h)
 
-    by : (first_clash (filter chosen xs) x ≡ Some u → IsFirst chosen xs x u) → (b : Bool) → chosen y ≡ b → first_clash (cond b (y ∷ filter chosen xs) (filter chosen xs)) x ≡ Some u → IsFirst chosen (y ∷ xs) x u
-    by rest true e h = clash_by rest (clashes y x) e refl h
-    by rest false e h = first_later chosen y xs x u (λ c' e'. both_ways (chosen y) e c') (rest h)
+    first_at_by_cases : (first_clash (filter chosen xs) x ≡ Some u → IsFirst chosen xs x u) → (b : Bool) → chosen y ≡ b → first_clash (cond b (y ∷ filter chosen xs) (filter chosen xs)) x ≡ Some u → IsFirst chosen (y ∷ xs) x u
+    first_at_by_cases rest true e h = clash_by rest (clashes y x) e refl h
+    first_at_by_cases rest false e h = first_later chosen y xs x u (λ c' e'. both_ways (chosen y) e c') (rest h)
 
 -- RACES OF ONE FIELD, BY LABELS
 
@@ -239,22 +231,22 @@ module _ (q : Key) where
     }
       where
         unchosen : (i : ℕ) (v : Seen) → slice_get ss i ≡ Some v → chosen v ≡ false
-        unchosen i v e = by (chosen v) refl
+        unchosen i v e = unchosen_by_cases (chosen v) refl
           where
-            by : (b : Bool) → chosen v ≡ b → b ≡ false
-            by true c = absurd (G i v e (same_key_is (key v) q c))
-            by false c = refl
+            unchosen_by_cases : (b : Bool) → chosen v ≡ b → b ≡ false
+            unchosen_by_cases true c = absurd (G i v e (same_key_is (key v) q c))
+            unchosen_by_cases false c = refl
 
     or_good : (w : Option Watch) → Good ss w → GoodWatch ss (or_nothing w)
     or_good None G = nothing_good G
     or_good (Some w) G = G
 
   good_step : (ss : List Seen) (x : Seen) (w : Option Watch) → SameFor x (filter chosen ss) → Good ss w → Good (ss ++ x ∷ []) (watched_with q w x)
-  good_step ss x w same G = by (chosen x) refl
+  good_step ss x w same G = good_step_by_cases (chosen x) refl
     where
-      by : (b : Bool) → chosen x ≡ b → Good (ss ++ x ∷ []) (cond b (Some (watch_with (or_nothing w) x)) w)
-      by true e = let kx = same_key_is (key x) q e in with_watch ss x kx same (or_nothing w) (or_good ss x kx same w G)
-      by false e = other ss x (λ k. both_ways (chosen x) e (choose x k)) e w G
+      good_step_by_cases : (b : Bool) → chosen x ≡ b → Good (ss ++ x ∷ []) (cond b (Some (watch_with (or_nothing w) x)) w)
+      good_step_by_cases true e = let kx = same_key_is (key x) q e in with_watch ss x kx same (or_nothing w) (or_good ss x kx same w G)
+      good_step_by_cases false e = other ss x (λ k. both_ways (chosen x) e (choose x k)) e w G
 
   good_from : (ss xs : List Seen) (w : Option Watch) → StrandsTell (ss ++ xs) → Good ss w → Good (ss ++ xs) (watched_from q w xs)
   good_from ss [] w T G = subst (λ zs. Good zs w) (sym (append-nil ss)) G

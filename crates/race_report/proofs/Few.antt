@@ -1,9 +1,7 @@
 -- Objects have few fields if the limit has 32 bits.
-use Rattle.std.proofs.Common.{◌<◌, ◌≤◌, ◌^◌, length, max, sym, subst, arith}
-use Rattle.run_journal.specs.below.hh_model.{State, MachineValue, IsOfRun, SizesIn, SizesAreBounded}
-use Rattle.race_report.specs.Few.{AreFew}
+use Rattle.race_report.proofs.Common.{◌<◌, ◌≤◌, ◌^◌, length, max, sym, subst, arith, MachineState, MachineValue, IsOfRun, SizesIn, SizesAreBounded, AreFew}
 
-few_in : (m : State) → SizesIn m → m.field_limit < 2 ^ 32 → AreFew m.store
+few_in : (m : MachineState) → SizesIn m → m.field_limit < 2 ^ 32 → AreFew m.store
 few_in m sizes lt n o e =
     let r = sizes.objects n o e in
     let most : max m.field_limit 16 < 2 ^ 32 = grind (arith, lt) in

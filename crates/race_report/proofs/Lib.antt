@@ -19,3 +19,4 @@ mod StepCounts
 mod Watched
 pub mod Raceless
 pub mod below
+mod Common

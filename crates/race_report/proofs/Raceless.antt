@@ -1,19 +1,9 @@
 -- A run without races is never entangled.
-use Rattle.std.proofs.Common.{◌≡◌, ℕ, zero, suc, ◌+◌, Bool, true, false, cond, Option, Some, None, List, [], ◌∷◌, slice_get, nat_lt, inl, inr, refl, ap, sym, ◌∙◌}
-use Rattle.std.proofs.lemmas.Bool.{false≢true}
-use Rattle.run_journal.proofs.below.listed.{in_from_contains}
-use Rattle.run_journal.specs.below.hh_lang.{ProgramText}
-use Rattle.run_journal.specs.below.run_trace.{Kind, Took, Ran, Chunk, Begin, End as EndOf, PutOff, Mark, More, Sweep, Fuel, EntryValue, SettingsValue, field_limit}
-use Rattle.run_journal.specs.below.hh_model.{Edge, End, Entangled, State, Task, asked, can_step, goes_on, is_running, run, step}
-use Rattle.run_journal.specs.below.run_ledger.{Heap, Ledger, Machine, Pool, in_use, with_heap, allocated_in, moved_to, settled, stepped_to, task_step, task_steps, after, after_kind, chunk_units, with_chunk, after_all, end_of, machine_of, opening, tasks_of}
-use Rattle.run_journal.proofs.below.run_ledger.{heap_machine, machine_is_run, allocated_end, heap_end, moved_on_end}
-use Rattle.race_report.specs.declared.data.Access.{Access}
-use Rattle.race_report.specs.Accesses.{accesses}
-use Rattle.race_report.specs.Report.{IsReport}
-use Rattle.race_report.specs.StopLaw.{HasNoRace, RacelessIsDisentangled, RacelessJournalsAreDisentangled}
+use Rattle.race_report.proofs.Common.{◌≡◌, ℕ, zero, suc, ◌+◌, Bool, true, false, cond, Option, Some, None, List, [], ◌∷◌, slice_get, nat_lt, inl, inr, refl, ap, sym, ◌∙◌, false≢true, in_from_contains, ProgramText, Kind, Took, Ran, Chunk, Begin, PutOff, Mark, More, Sweep, Fuel, EntryValue, SettingsValue, field_limit, Edge, End, Entangled, MachineState, Task, asked, can_step, goes_on, is_running, run, step, Heap, Ledger, Machine, Pool, in_use, with_heap, allocated_in, moved_to, settled, stepped_to, task_step, task_steps, after, after_kind, chunk_units, with_chunk, after_all, end_of, machine_of, opening, tasks_of, heap_machine, machine_is_run, allocated_end, heap_end, moved_on_end, FieldAccess, accesses, IsReport, HasNoRace, RacelessIsDisentangled, RacelessJournalsAreDisentangled}
+use Rattle.run_journal.specs.below.run_trace.{End as EndOf}
 use Rattle.race_report.proofs.Stopped.{stopped_reads_race}
 
-no_race : (edges : List Edge) (all : List Access) → IsReport edges all [] → HasNoRace edges all
+no_race : (edges : List Edge) (all : List FieldAccess) → IsReport edges all [] → HasNoRace edges all
 no_race edges all R field i j u v r = let pair = R.every field i j u v r in in_from_contains [] _ pair.3
 
 pub raceless_is_disentangled : RacelessIsDisentangled
@@ -28,30 +18,30 @@ EndsAlike l = (e : End) → l.end ≡ Some (Machine e) → l.machine.end ≡ Som
 
 -- only the heaps' accounts change
 heap_alike : (l : Ledger) (t : ℕ) (f : Heap → Heap) → EndsAlike l → EndsAlike (with_heap l t f)
-heap_alike l t f E e h = ap (λ (m : State). m.end) (heap_machine l t f) ∙ E e (sym (heap_end l t f) ∙ h)
+heap_alike l t f E e h = ap (λ (m : MachineState). m.end) (heap_machine l t f) ∙ E e (sym (heap_end l t f) ∙ h)
 
 settled_alike : (l : Ledger) (t : ℕ) (o : Option End) → l.machine.end ≡ o → ((e : End) → l.end ≡ Some (Machine e) → ⊥) → EndsAlike (settled l t o)
 settled_alike l t (Some z) is on e h = is ∙ (let same : Some z ≡ Some e = same_end h in same)
   where
     same_end : Some (Machine z) ≡ Some (Machine e) → Some z ≡ Some e
     same_end q = cc
-settled_alike l t None is on e h = absurd (on e (by (slice_get l.machine.tasks t) h))
+settled_alike l t None is on e h = absurd (on e (settled_alike_by_cases (slice_get l.machine.tasks t) h))
   where
-    by : (o : Option Task) → (moved_to l t o).end ≡ Some (Machine e) → l.end ≡ Some (Machine e)
-    by None q = q
-    by (Some x) q = sym (moved_on_end l t x.parent x.status) ∙ q
+    settled_alike_by_cases : (o : Option Task) → (moved_to l t o).end ≡ Some (Machine e) → l.end ≡ Some (Machine e)
+    settled_alike_by_cases None q = q
+    settled_alike_by_cases (Some x) q = sym (moved_on_end l t x.parent x.status) ∙ q
 
 step_alike : (p : ProgramText) (l : Ledger) (t : ℕ) → EndsAlike l → EndsAlike (task_step p l t)
-step_alike p l t E = by (can_step l.machine t) refl
+step_alike p l t E = step_alike_by_cases (can_step l.machine t) refl
   where
     stopped : (o : Option End) (runs : Bool) (e : End) → goes_on o runs ≡ true → o ≡ Some e → ⊥
     stopped None runs e g h = cc
     stopped (Some z) runs e g h = false≢true g
 
-    by : (c : Bool) → can_step l.machine t ≡ c → EndsAlike (cond c (stepped_to (allocated_in p l t) t (step p l.machine t)) (record l { steps = l.steps + 1 }))
-    by true can = settled_alike (record (allocated_in p l t) { machine = step p l.machine t; steps = (allocated_in p l t).steps + 1 }) t (step p l.machine t).end refl
+    step_alike_by_cases : (c : Bool) → can_step l.machine t ≡ c → EndsAlike (cond c (stepped_to (allocated_in p l t) t (step p l.machine t)) (record l { steps = l.steps + 1 }))
+    step_alike_by_cases true can = settled_alike (record (allocated_in p l t) { machine = step p l.machine t; steps = (allocated_in p l t).steps + 1 }) t (step p l.machine t).end refl
         (λ e h. stopped l.machine.end (is_running (slice_get l.machine.tasks t)) e can (E e (sym (allocated_end l t (asked p l.machine t)) ∙ h)))
-    by false can = E
+    step_alike_by_cases false can = E
 
 steps_alike : (p : ProgramText) (k : ℕ) (l : Ledger) (t : ℕ) → EndsAlike l → EndsAlike (task_steps p l t k)
 steps_alike p zero l t E = E
@@ -79,7 +69,7 @@ all_alike p s (e ∷ es) l E = all_alike p s es (after p s l e) (kind_alike p s 
 
 pub machine_ended : (p : ProgramText) (s : SettingsValue) (journal : List EntryValue) (e : End) → end_of p s journal ≡ Some (Machine e) → (machine_of p s journal).end ≡ Some e
 machine_ended p s journal e h =
-    ap (λ (m : State). m.end) (sym (machine_is_run p s journal)) ∙ all_alike p s journal (opening p s) (λ x q. absurd cc) e h
+    ap (λ (m : MachineState). m.end) (sym (machine_is_run p s journal)) ∙ all_alike p s journal (opening p s) (λ x q. absurd cc) e h
 
 pub raceless_journals_are_disentangled : RacelessJournalsAreDisentangled
 raceless_journals_are_disentangled p s journal t owner report h =

@@ -1,30 +1,8 @@
 -- The races found are the report.
-use Rattle.std.proofs.Common.{◌≡◌, ℕ, zero, suc, ◌<◌, Bool, true, false, not, ◌||◌, ◌&&◌, Option, Some, None, List, [], ◌∷◌, length, map, slice_get, get_or, Contains, ◌⊎◌, inl, inr, refl, ap, ap₂, sym, subst, ◌∙◌, arith}
-use Rattle.std.proofs.lemmas.Bool.{both_ways, false_from_ne_true}
-use Rattle.std.proofs.lemmas.Option.{get_or_from_slice_get, same_Some}
-use Rattle.std.specs.declared.cmp.Ordering.TheVariants.{Less}
+use Rattle.race_report.proofs.Common.{◌≡◌, ℕ, zero, suc, ◌<◌, Bool, true, false, not, ◌||◌, ◌&&◌, Option, Some, None, List, [], ◌∷◌, length, map, slice_get, get_or, Contains, ◌⊎◌, inl, inr, refl, ap, ap₂, sym, subst, ◌∙◌, arith, both_ways, false_from_ne_true, get_or_from_slice_get, same_Some, Less, BTreeMap, btree_map_get_place, place_from_lookup, Less-from_sorted, not-not, In, in_from_contains, contains_from_in, got_in, got_within, got_map, in_got, map_got, and_not_parts, ProgramText, Edge, Precedes, precedes, run, start, IsForkJoinState, run_is_fork_join_state, start_is_fork_join_state, Field, FieldAccess, Race, Seen, Sight, Open, Watch, Found, looked, label_precedes, IsPair, RaceAt, IsReport, race_key, Key, clash, watched_from, key_cmp, key_of, kind_key, race_of, races_in}
 use Rattle.std.specs.BTreeMap as tree
-use Rattle.std.specs.BTreeMap.{BTreeMap}
-use Rattle.std.proofs.lemmas.Map.Entries.{btree_map_get_place, place_from_lookup}
-use Rattle.std.proofs.lemmas.Map.Keys.{Less-from_sorted}
-use Rattle.std.proofs.Math.Bool.{not-not}
-use Rattle.run_journal.proofs.below.listed.{In, in_from_contains, contains_from_in, got_in, got_within, got_map, in_got, map_got, and_not_parts}
-use Rattle.run_journal.specs.below.hh_lang.{ProgramText}
-use Rattle.run_journal.specs.below.hh_model.{Edge, Precedes, precedes, run, start}
-use Rattle.run_journal.proofs.below.hh_model.{IsForkJoinState, run_is_fork_join_state, start_is_fork_join_state}
-use Rattle.race_report.specs.declared.data.Field.{Field}
-use Rattle.race_report.specs.declared.data.Access.{Access}
-use Rattle.race_report.specs.declared.data.Race.{Race}
-use Rattle.race_report.specs.declared.data.Seen.{Seen}
-use Rattle.race_report.specs.declared.data.Sight.{Sight}
-use Rattle.race_report.specs.declared.data.Open.{Open}
-use Rattle.race_report.specs.declared.data.Watch.{Watch}
-use Rattle.race_report.specs.declared.data.Watch.TheVariants.{Open as Waits, Found}
-use Rattle.race_report.specs.Sights.{looked}
-use Rattle.race_report.specs.Labels.{label_precedes}
-use Rattle.race_report.specs.Races.{IsPair, RaceAt}
-use Rattle.race_report.specs.Report.{IsReport, race_key}
-use Rattle.race_report.specs.Watch.{Key, clash, watched_from, key_cmp, key_of, kind_key, race_of, races_in, seen}
+use Rattle.race_report.specs.declared.data.Watch.TheVariants.{Open as Waits}
+use Rattle.race_report.specs.Watch.{seen}
 use Rattle.race_report.proofs.Exact.{Clash, Good, Pair, kept_good, key}
 use Rattle.race_report.proofs.Alike.{StrandsTell}
 use Rattle.race_report.proofs.Keys.{key_total}
@@ -48,43 +26,43 @@ key_tells f g e =
     let x : f.index ≡ g.index = ap (λ (k : Key). k.1.1) e in
     λ i. record { name = record { task = t i; count = c i }; is_number = n i; index = x i }
 
-race_field : (u v : Access) → race_key (race_of u v) ≡ key_of v.field
+race_field : (u v : FieldAccess) → race_key (race_of u v) ≡ key_of v.field
 race_field u v = ap (λ b. ((v.field.name.task, v.field.name.count), (kind_key b, v.field.index))) (not-not v.field.is_number)
 
 -- RACES BY LABELS AND BY WALKS
 
-clash_parts : (u v : Access) → clash u v ≡ true → ((u.writes ≡ true) ⊎ (v.writes ≡ true)) × ((u.swaps ≡ false) ⊎ (v.swaps ≡ false))
-clash_parts u v = by u.writes v.writes u.swaps v.swaps
+clash_parts : (u v : FieldAccess) → clash u v ≡ true → ((u.writes ≡ true) ⊎ (v.writes ≡ true)) × ((u.swaps ≡ false) ⊎ (v.swaps ≡ false))
+clash_parts u v = clash_parts_by_cases u.writes v.writes u.swaps v.swaps
   where
-    by : (a b c d : Bool) → ((a || b) && not (c && d)) ≡ true → ((a ≡ true) ⊎ (b ≡ true)) × ((c ≡ false) ⊎ (d ≡ false))
-    by true b true true h = absurd cc
-    by true b true false h = (inl refl, inr refl)
-    by true b false d h = (inl refl, inl refl)
-    by false true true true h = absurd cc
-    by false true true false h = (inr refl, inr refl)
-    by false true false d h = (inr refl, inl refl)
-    by false false c d h = absurd cc
+    clash_parts_by_cases : (a b c d : Bool) → ((a || b) && not (c && d)) ≡ true → ((a ≡ true) ⊎ (b ≡ true)) × ((c ≡ false) ⊎ (d ≡ false))
+    clash_parts_by_cases true b true true h = absurd cc
+    clash_parts_by_cases true b true false h = (inl refl, inr refl)
+    clash_parts_by_cases true b false d h = (inl refl, inl refl)
+    clash_parts_by_cases false true true true h = absurd cc
+    clash_parts_by_cases false true true false h = (inr refl, inr refl)
+    clash_parts_by_cases false true false d h = (inr refl, inl refl)
+    clash_parts_by_cases false false c d h = absurd cc
 
-clash_from : (u v : Access) → (u.writes ≡ true) ⊎ (v.writes ≡ true) → (u.swaps ≡ false) ⊎ (v.swaps ≡ false) → clash u v ≡ true
-clash_from u v = by u.writes v.writes u.swaps v.swaps
+clash_from : (u v : FieldAccess) → (u.writes ≡ true) ⊎ (v.writes ≡ true) → (u.swaps ≡ false) ⊎ (v.swaps ≡ false) → clash u v ≡ true
+clash_from u v = clash_from_by_cases u.writes v.writes u.swaps v.swaps
   where
-    by : (a b c d : Bool) → (a ≡ true) ⊎ (b ≡ true) → (c ≡ false) ⊎ (d ≡ false) → ((a || b) && not (c && d)) ≡ true
-    by true b false d x y = refl
-    by true b true false x y = refl
-    by true b true true x (inl e) = absurd cc
-    by true b true true x (inr e) = absurd cc
-    by false true false d x y = refl
-    by false true true false x y = refl
-    by false true true true x (inl e) = absurd cc
-    by false true true true x (inr e) = absurd cc
-    by false false c d (inl e) y = absurd cc
-    by false false c d (inr e) y = absurd cc
+    clash_from_by_cases : (a b c d : Bool) → (a ≡ true) ⊎ (b ≡ true) → (c ≡ false) ⊎ (d ≡ false) → ((a || b) && not (c && d)) ≡ true
+    clash_from_by_cases true b false d x y = refl
+    clash_from_by_cases true b true false x y = refl
+    clash_from_by_cases true b true true x (inl e) = absurd cc
+    clash_from_by_cases true b true true x (inr e) = absurd cc
+    clash_from_by_cases false true false d x y = refl
+    clash_from_by_cases false true true false x y = refl
+    clash_from_by_cases false true true true x (inl e) = absurd cc
+    clash_from_by_cases false true true true x (inr e) = absurd cc
+    clash_from_by_cases false false c d (inl e) y = absurd cc
+    clash_from_by_cases false false c d (inr e) y = absurd cc
 
 module _ (sight : Sight) (p : ProgramText) (limit : ℕ) (ts : List ℕ) where
   abbrev edges : List Edge
   edges = (run p limit ts).edges
 
-  abbrev all : List Access
+  abbrev all : List FieldAccess
   all = looked sight p limit ts
 
   abbrev ss : List Seen
@@ -119,18 +97,18 @@ module _ (sight : Sight) (p : ProgramText) (limit : ℕ) (ts : List ℕ) where
         };
       }
 
-  abbrev FromRace : Field → ℕ → ℕ → Access → Access → Type 0
+  abbrev FromRace : Field → ℕ → ℕ → FieldAccess → FieldAccess → Type 0
   FromRace field i j a b = (u : Seen) × (v : Seen) × Clash (key_of field) ss i j u v × (u.access ≡ a) × (v.access ≡ b)
 
-  clash_at : (field : Field) (i j : ℕ) (a b : Access) → RaceAt edges all field i j a b → FromRace field i j a b
+  clash_at : (field : Field) (i j : ℕ) (a b : FieldAccess) → RaceAt edges all field i j a b → FromRace field i j a b
   clash_at field i j a b R =
       let u = map_got (λ (z : Seen). z.access) ss i a (ap (λ xs. slice_get xs i) mapped ∙ R.first) in
       let v = map_got (λ (z : Seen). z.access) ss j b (ap (λ xs. slice_get xs j) mapped ∙ R.second) in
-      let kv : key v.0 ≡ key_of field = ap (λ (x : Access). key_of x.field) v.2 ∙ ap key_of R.of_field in
-      let ku : key u.0 ≡ key_of field = ap (λ (x : Access). key_of x.field) u.2 ∙ (ap key_of R.race.field ∙ ap key_of R.of_field) in
+      let kv : key v.0 ≡ key_of field = ap (λ (x : FieldAccess). key_of x.field) v.2 ∙ ap key_of R.of_field in
+      let ku : key u.0 ≡ key_of field = ap (λ (x : FieldAccess). key_of x.field) u.2 ∙ (ap key_of R.race.field ∙ ap key_of R.of_field) in
       let cl : clash u.0.access v.0.access ≡ true = ap₂ clash u.2 v.2 ∙ clash_from a b R.race.writes R.race.plain in
       let free : label_precedes u.0.label v.0.label ≡ false =
-      false_from_ne_true (label_precedes u.0.label v.0.label) (λ h. R.race.apart (subst (λ (x : Access). Precedes edges x.strand b.strand) u.2 (subst (λ (x : Access). Precedes edges u.0.access.strand x.strand) v.2 ((tells i j u.0 v.0 R.order u.1 v.1).0 h)))) in (
+      false_from_ne_true (label_precedes u.0.label v.0.label) (λ h. R.race.apart (subst (λ (x : FieldAccess). Precedes edges x.strand b.strand) u.2 (subst (λ (x : FieldAccess). Precedes edges u.0.access.strand x.strand) v.2 ((tells i j u.0 v.0 R.order u.1 v.1).0 h)))) in (
         u.0,
         v.0,
         record {
@@ -197,7 +175,7 @@ race_places (Found x ∷ ws) i zero r s lt e e' = absurd (omega arith)
 race_places (Found x ∷ ws) zero (suc j) r s lt e e' = let k = race_place ws j s e' in (0, suc k.0, omega arith, ap (λ y. Some (Found y)) (same_Some x r e), k.1)
 race_places (Found x ∷ ws) (suc i) (suc j) r s lt e e' = let k = race_places ws i j r s (omega arith) e e' in (suc k.0, suc k.1, let l = k.2 in omega arith, k.3, k.4)
 
--- accesses of one strand precede the same later ones
+-- accesses of one strand happen before the same later ones
 strands_tell : (sight : Sight) (p : ProgramText) (limit : ℕ) (ts : List ℕ) → StrandsTell (seen sight p limit ts)
 strands_tell sight p limit ts i k j u w v li lk eu ew ev same =
     seen_tells sight p (start p limit) (start_is_fork_join_state p limit) ts u v i j li eu ev
@@ -208,8 +186,8 @@ module _ (sight : Sight) (p : ProgramText) (limit : ℕ) (ts : List ℕ) (kept :
     (is : (q : Key) → tree.get key_cmp kept q ≡ watched_from q None (seen sight p limit ts)) where
   -- a race that is kept is the pair of its key's field
   pub record Told (q : Key) (r : Race) : Type 0 where
-    pub u : Access
-    pub v : Access
+    pub u : FieldAccess
+    pub v : FieldAccess
     pub pair : IsPair (run p limit ts).edges (looked sight p limit ts) v.field u v
     pub same : r ≡ race_of u v
     pub at : key_of v.field ≡ q
@@ -226,14 +204,14 @@ module _ (sight : Sight) (p : ProgramText) (limit : ℕ) (ts : List ℕ) (kept :
       let got : tree.get key_cmp kept m.0.0 ≡ Some m.0.1 = btree_map_get_place key_total kept k m.0.0 m.0.1 ordered m.1 in
       (m.0.0, told_at m.0.0 r (got ∙ ap (λ w. Some w) m.2), got_map (λ (x : Key × Watch). x.0) kept.entries k m.0 m.1)
 
-  each : (r : Race) → Contains (races_in (tree.values kept)) r → (field : Field) × (u : Access) × (v : Access) × IsPair (run p limit ts).edges (looked sight p limit ts) field u v × (r ≡ race_of u v)
+  each : (r : Race) → Contains (races_in (tree.values kept)) r → (field : Field) × (u : FieldAccess) × (v : FieldAccess) × IsPair (run p limit ts).edges (looked sight p limit ts) field u v × (r ≡ race_of u v)
   each r c =
       let at = in_got (tree.values kept) (Found r) (race_in (tree.values kept) r (in_from_contains (races_in (tree.values kept)) r c)) in
       let t = (told_place at.0 r at.1).1 in
       (t.v.field, t.u, t.v, t.pair, t.same)
 
   abbrev Has : Field → Type 0
-  Has field = (w : Access) × (z : Access) × IsPair (run p limit ts).edges (looked sight p limit ts) field w z × Contains (races_in (tree.values kept)) (race_of w z)
+  Has field = (w : FieldAccess) × (z : FieldAccess) × IsPair (run p limit ts).edges (looked sight p limit ts) field w z × Contains (races_in (tree.values kept)) (race_of w z)
 
   has_by : (field : Field) (i j : ℕ) (u v : Seen) → Clash (key_of field) (seen sight p limit ts) i j u v → (w : Option Watch) → watched_from (key_of field) None (seen sight p limit ts) ≡ w → Good (key_of field) (seen sight p limit ts) w → Has field
   has_by field i j u v C None e G = absurd (G i u C.first C.key_u)
@@ -248,7 +226,7 @@ module _ (sight : Sight) (p : ProgramText) (limit : ℕ) (ts : List ℕ) (kept :
         subst (Contains (races_in (tree.values kept))) t.same (contains_from_in (races_in (tree.values kept)) r (in_races (tree.values kept) r (got_in (tree.values kept) place.0 (Found r) there))),
       )
 
-  every : (field : Field) (i j : ℕ) (u v : Access) → RaceAt (run p limit ts).edges (looked sight p limit ts) field i j u v → Has field
+  every : (field : Field) (i j : ℕ) (u v : FieldAccess) → RaceAt (run p limit ts).edges (looked sight p limit ts) field i j u v → Has field
   every field i j u v R =
       let C = clash_at sight p limit ts field i j u v R in
       has_by field i j C.0 C.1 C.2 (watched_from (key_of field) None (seen sight p limit ts)) refl (kept_good (key_of field) (seen sight p limit ts) (strands_tell sight p limit ts))

@@ -1,12 +1,6 @@
 -- One more access to a field without a race.
-use Rattle.std.proofs.Common.{◌≡◌, Bool, true, false, cond, refl, ap}
-use Rattle.std.specs.Prelude.{Option, Some, None, option_map}
-use Rattle.race_report.specs.declared.data.Race.{Race}
-use Rattle.race_report.specs.declared.data.Seen.{Seen}
-use Rattle.race_report.specs.declared.data.Open.{Open}
-use Rattle.race_report.specs.declared.data.Watch.TheVariants.{Open as Waits, Found}
-use Rattle.race_report.specs.Labels.{allows}
-use Rattle.race_report.specs.Watch.{bound_for, first_clash, found_by, race_of, watch_with, with_access}
+use Rattle.race_report.proofs.Common.{◌≡◌, Bool, true, false, cond, refl, ap, Option, Some, None, option_map, Race, Seen, Open, Found, allows, bound_for, first_clash, found_by, race_of, watch_with, with_access}
+use Rattle.race_report.specs.declared.data.Watch.TheVariants.{Open as Waits}
 
 module _ (o : Open) (v : Seen) where
   abbrev race_by : Bool → Option Seen → Option Race

@@ -1,8 +1,5 @@
 -- A journal of a whole run has no refused entry.
-use Rattle.std.proofs.Common.{◌≡◌, ◌+◌, ℕ, List, Option, Some, None, refl, length}
-use Rattle.run_journal.specs.below.hh_lang.{ProgramText}
-use Rattle.run_journal.specs.below.run_trace.{EntryValue, SettingsValue}
-use Rattle.run_journal.specs.below.run_ledger.{RunEnd, RefusedAt, first_refused, end_of, or_short, refused_as_run}
+use Rattle.race_report.proofs.Common.{◌≡◌, ◌+◌, ℕ, List, Option, Some, None, refl, length, ProgramText, EntryValue, SettingsValue, RunEnd, RefusedAt, first_refused, end_of, or_short, refused_as_run}
 
 by_short : (r : Option RefusedAt) (end : Option RunEnd) (at : ℕ) → or_short r end at ≡ None → r ≡ None
 by_short None end at e = refl

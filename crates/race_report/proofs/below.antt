@@ -1,7 +1,7 @@
 -- Re-exports from lower crates for the crates above.
 pub mod hh_model
 pub mod journal_laws
-pub mod listed
+pub mod plain_vec
 pub mod model_laws
 pub mod path_laws
 pub mod run_ledger

@@ -3,9 +3,9 @@ use Rattle.std.specs.Prelude.{ℕ, ◌&&◌, ◌||◌, not, Bool, true, false, O
 use Rattle.std.specs.declared.cmp.Ordering.{Ordering}
 use Rattle.std.specs.Ordering.{is_eq, nat_cmp, ordering_then}
 use Rattle.run_journal.specs.below.hh_lang.{ProgramText}
-use Rattle.run_journal.specs.below.hh_model.{State, Strand, start, step}
+use Rattle.run_journal.specs.below.hh_model.{MachineState, Strand, start, step}
 use Rattle.race_report.specs.declared.data.Field.{Field}
-use Rattle.race_report.specs.declared.data.Access.{Access}
+use Rattle.race_report.specs.declared.data.FieldAccess.{FieldAccess}
 use Rattle.race_report.specs.declared.data.Race.{Race}
 use Rattle.race_report.specs.declared.data.Seen.{Seen}
 use Rattle.race_report.specs.declared.data.Bound.{Bound}
@@ -20,14 +20,14 @@ use Rattle.race_report.specs.Labels.{allows, bound, joined_bound, label_of, labe
 
 -- ACCESSES WITH LABELS
 
-abbrev pub labelled : List Strand → Option Access → Option Seen
+abbrev pub labelled : List Strand → Option FieldAccess → Option Seen
 labelled label None = None
 labelled label (Some a) = Some (record { access = a; label = label })
 
-abbrev pub seen_of : Sight → ProgramText → State → ℕ → Option Seen
+abbrev pub seen_of : Sight → ProgramText → MachineState → ℕ → Option Seen
 seen_of sight p m t = labelled (label_of m.tasks t) (looked_of sight p m t)
 
-abbrev pub seen_from : Sight → ProgramText → State → List ℕ → List Seen
+abbrev pub seen_from : Sight → ProgramText → MachineState → List ℕ → List Seen
 seen_from sight p m [] = []
 seen_from sight p m (t ∷ ts) = with_some (seen_of sight p m t) (seen_from sight p (step p m t) ts)
 
@@ -37,7 +37,7 @@ seen sight p limit ts = seen_from sight p (start p limit) ts
 -- ONE FIELD
 
 -- one of two accesses is a write, and not both are by `cas`
-abbrev pub clash : Access → Access → Bool
+abbrev pub clash : FieldAccess → FieldAccess → Bool
 clash u v = (u.writes || v.writes) && not (u.swaps && v.swaps)
 
 -- two accesses of one field race, by their labels
@@ -68,10 +68,10 @@ abbrev pub with_access : Open → Seen → Open
 with_access o v = if has_alike o.earlier v.access then o else with_first o v
 
 -- the bound of all accesses that this one may race with
-abbrev pub bound_for : Open → Access → Bound
+abbrev pub bound_for : Open → FieldAccess → Bound
 bound_for o v = if v.writes then (if v.swaps then o.plain else o.all) else (if v.swaps then o.plain_writes else o.writes)
 
-abbrev pub race_of : Access → Access → Race
+abbrev pub race_of : FieldAccess → FieldAccess → Race
 race_of u v = record {
   task = v.field.name.task;
   count = v.field.name.count;

@@ -1,12 +1,12 @@
 // The access that the next step of a task makes.
 
 ghost use Rattle.std.specs.Prelude.{◌≡◌, ◌<◌, ◌^◌, ℕ, pos, IfSome};
-ghost use Rattle.run_journal.specs.below.hh_model.{Setting, effect, place_in};
+ghost use Rattle.run_journal.specs.below.hh_model.{StepContext, effect, place_in};
 ghost use Rattle.race_report.specs.Accesses.{access_of, access_by, unless_trap};
 ghost use Rattle.race_report.specs.Few.{AreFew};
 
-use crate::data::{Access, Field};
-use run_journal::{Frame, Instr, IntReg, Program, RefReg, State, Strand, is_same};
+use crate::data::{Field, FieldAccess};
+use run_journal::{Frame, Instr, IntReg, MachineState, Program, RefReg, Strand, is_same};
 
 // A number as an index, if it is below n.
 fn field_index(count: usize, index: i64) -> Option<u32>
@@ -29,10 +29,10 @@ pub(crate) struct Place {
 }
 
 impl Place {
-    fn access(self, field: Field, writes: bool, swaps: bool) -> Access
+    fn access(self, field: Field, writes: bool, swaps: bool) -> FieldAccess
         ensures { result ≡ record { strand = self.strand; line = self.line; field = field; writes = writes; swaps = swaps } }
     {
-        Access {
+        FieldAccess {
             strand: self.strand,
             line: self.line,
             field,
@@ -43,14 +43,14 @@ impl Place {
 }
 
 fn getr_access(
-    state: &State,
+    state: &MachineState,
     top: &Frame,
     at: Place,
     object: RefReg,
     index: IntReg,
-) -> Option<Access>
+) -> Option<FieldAccess>
     requires { AreFew state.now.store }
-    ensures { (s : Setting) (d : ℕ) → result ≡ unless_trap (effect s top.now state.now.store (Instr.Getr d object index)) (access_by at.strand at.line top.now state.now.store (Instr.Getr d object index)) }
+    ensures { (s : StepContext) (d : ℕ) → result ≡ unless_trap (effect s top.now state.now.store (Instr.Getr d object index)) (access_by at.strand at.line top.now state.now.store (Instr.Getr d object index)) }
 {
     let name = top.reference(object)?;
     let object = state.object(name)?;
@@ -69,14 +69,14 @@ fn getr_access(
 }
 
 fn geti_access(
-    state: &State,
+    state: &MachineState,
     top: &Frame,
     at: Place,
     object: RefReg,
     index: IntReg,
-) -> Option<Access>
+) -> Option<FieldAccess>
     requires { AreFew state.now.store }
-    ensures { (s : Setting) (d : ℕ) → result ≡ unless_trap (effect s top.now state.now.store (Instr.Geti d object index)) (access_by at.strand at.line top.now state.now.store (Instr.Geti d object index)) }
+    ensures { (s : StepContext) (d : ℕ) → result ≡ unless_trap (effect s top.now state.now.store (Instr.Geti d object index)) (access_by at.strand at.line top.now state.now.store (Instr.Geti d object index)) }
 {
     let name = top.reference(object)?;
     let object = state.object(name)?;
@@ -90,14 +90,14 @@ fn geti_access(
 }
 
 fn putr_access(
-    state: &State,
+    state: &MachineState,
     top: &Frame,
     at: Place,
     object: RefReg,
     index: IntReg,
-) -> Option<Access>
+) -> Option<FieldAccess>
     requires { AreFew state.now.store }
-    ensures { (s : Setting) (v : ℕ) → result ≡ unless_trap (effect s top.now state.now.store (Instr.Putr object index v)) (access_by at.strand at.line top.now state.now.store (Instr.Putr object index v)) }
+    ensures { (s : StepContext) (v : ℕ) → result ≡ unless_trap (effect s top.now state.now.store (Instr.Putr object index v)) (access_by at.strand at.line top.now state.now.store (Instr.Putr object index v)) }
 {
     let name = top.reference(object)?;
     let object = state.object(name)?;
@@ -114,14 +114,14 @@ fn putr_access(
 }
 
 fn puti_access(
-    state: &State,
+    state: &MachineState,
     top: &Frame,
     at: Place,
     object: RefReg,
     index: IntReg,
-) -> Option<Access>
+) -> Option<FieldAccess>
     requires { AreFew state.now.store }
-    ensures { (s : Setting) (v : ℕ) → result ≡ unless_trap (effect s top.now state.now.store (Instr.Puti object index v)) (access_by at.strand at.line top.now state.now.store (Instr.Puti object index v)) }
+    ensures { (s : StepContext) (v : ℕ) → result ≡ unless_trap (effect s top.now state.now.store (Instr.Puti object index v)) (access_by at.strand at.line top.now state.now.store (Instr.Puti object index v)) }
 {
     let name = top.reference(object)?;
     let object = state.object(name)?;
@@ -138,15 +138,15 @@ fn puti_access(
 }
 
 fn cas_access(
-    state: &State,
+    state: &MachineState,
     top: &Frame,
     at: Place,
     object: RefReg,
     index: IntReg,
     expected: RefReg,
-) -> Option<Access>
+) -> Option<FieldAccess>
     requires { AreFew state.now.store }
-    ensures { (s : Setting) (d v : ℕ) → result ≡ unless_trap (effect s top.now state.now.store (Instr.Cas d object index expected v)) (access_by at.strand at.line top.now state.now.store (Instr.Cas d object index expected v)) }
+    ensures { (s : StepContext) (d v : ℕ) → result ≡ unless_trap (effect s top.now state.now.store (Instr.Cas d object index expected v)) (access_by at.strand at.line top.now state.now.store (Instr.Cas d object index expected v)) }
 {
     let name = top.reference(object)?;
     let object = state.object(name)?;
@@ -164,9 +164,9 @@ fn cas_access(
 }
 
 // The access of an instruction, unless it traps.
-fn instr_access(state: &State, top: &Frame, at: Place, instr: Instr) -> Option<Access>
+fn instr_access(state: &MachineState, top: &Frame, at: Place, instr: Instr) -> Option<FieldAccess>
     requires { AreFew state.now.store }
-    ensures { (s : Setting) → result ≡ unless_trap (effect s top.now state.now.store instr) (access_by at.strand at.line top.now state.now.store instr) }
+    ensures { (s : StepContext) → result ≡ unless_trap (effect s top.now state.now.store instr) (access_by at.strand at.line top.now state.now.store instr) }
 {
     match instr {
         Instr::Getr(_, object, index) => getr_access(state, top, at, object, index),
@@ -181,7 +181,7 @@ fn instr_access(state: &State, top: &Frame, at: Place, instr: Instr) -> Option<A
 }
 
 /// The access of a task's next step, if it can take one and makes one.
-pub(crate) fn access_of(program: &Program, state: &State, t: u32) -> Option<Access>
+pub(crate) fn access_of(program: &Program, state: &MachineState, t: u32) -> Option<FieldAccess>
     requires { AreFew state.now.store }
     ensures { result ≡ access_of program.now state.now t }
 {

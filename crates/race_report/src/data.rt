@@ -15,7 +15,7 @@ pub struct Field {
 
 /// What a step does to a field.
 #[derive(Clone, Copy)]
-pub struct Access {
+pub struct FieldAccess {
     /// The strand that takes the step; its task is the step's.
     pub strand: Strand,
     /// The source line of the instruction.
@@ -56,15 +56,16 @@ pub struct Race {
 /// An access with the label of its strand.
 #[derive(Drop)]
 pub struct Seen {
-    pub access: Access,
+    pub access: FieldAccess,
     pub label: Listed<Strand>,
 }
 
-/// What must precede a strand so that several strands all do.
+/// What must happen before a strand so that several strands all do.
 #[derive(Drop)]
 pub struct Bound {
     pub label: Listed<Strand>,
-    /// Whether the bound is strict: it precedes no strand whose label continues this one, only those with more joins.
+    /// Whether the bound is strict: it happens before no strand whose label continues this one, only before those with
+    /// more joins.
     pub strict: bool,
 }
 

@@ -3,13 +3,13 @@
 ghost use Rattle.std.specs.Prelude.{◌≡◌, ◌∷◌, ◌++◌, [], false, OnOk};
 ghost use Rattle.race_report.specs.Ways.{way_of, has_alike};
 
-use crate::data::{Access, Seen};
+use crate::data::{FieldAccess, Seen};
 use indexmap::IndexSet;
 use std::alloc::{AllocError, Global};
 use std::marker::Model;
 
 // The strand of an access, whether it writes, and whether it is made by `cas`.
-fn way_of(access: Access) -> ((u32, u32), (bool, bool))
+fn way_of(access: FieldAccess) -> ((u32, u32), (bool, bool))
     ensures { result ≡ way_of access }
 {
     (
@@ -58,7 +58,7 @@ impl Firsts {
     }
 
     /// Whether there is one of this strand and kind.
-    pub(crate) fn has_alike(&self, access: Access) -> bool
+    pub(crate) fn has_alike(&self, access: FieldAccess) -> bool
         ensures { result ≡ has_alike self.now access }
     {
         self.ways.contains(&way_of(access))

@@ -18,7 +18,7 @@ mod scan;
 mod sight;
 mod watch;
 
-pub use data::{Access, Field, Race, Sight};
+pub use data::{Field, FieldAccess, Race, Sight};
 pub use laws::{labels_tell_precedence, raceless_journals_are_disentangled, stopped_reads_race};
 pub use report::{races, races_of, races_of_run};
 pub use run_journal::{

@@ -6,19 +6,19 @@ ghost use Rattle.run_journal.specs.below.run_ledger.{tasks_in, tasks_of};
 ghost use Rattle.run_journal.specs.below.hh_model.{step};
 ghost use Rattle.race_report.specs.Accesses.{with_some};
 ghost use Rattle.race_report.specs.Watch.{Key, key_cmp, watched_from, seen, seen_from, seen_of};
-ghost use Rattle.race_report.specs.Scan.{Follows};
+ghost use Rattle.race_report.specs.Scan.{KeepsSame};
 
 use crate::data::{Seen, Sight, Watch};
 use crate::label::label_of;
 use crate::sight::looked_of;
 use crate::watch::keep;
 use model_laws::sizes_are_bounded;
-use run_journal::{Entry, Kind, Machine, Program, State, StepError};
+use run_journal::{Entry, Kind, Machine, MachineState, Program, StepError};
 use std::alloc::{AllocError, Global};
 use std::collections::BTreeMap;
 
 // The most fields that an object may have.
-fn field_limit(state: &State) -> u32
+fn field_limit(state: &MachineState) -> u32
     ensures value { result ≡ state.now.field_limit }
     ensures below { result < 2 ^ 32 }
 {
@@ -78,7 +78,7 @@ fn take_steps(
     requires few { machine.old.steps + k < 2 ^ 30 }
     ensures program { machine.new.program ≡ machine.old.program }
     ensures few { machine.new.steps ≤ machine.old.steps + k }
-    ensures follows { OnOk result (Follows sight program.now machine.old.state (tree.get key_cmp kept.old) machine.new.state (tree.get key_cmp kept.new) (replicate k t)) }
+    ensures follows { OnOk result (KeepsSame sight program.now machine.old.state (tree.get key_cmp kept.old) machine.new.state (tree.get key_cmp kept.new) (replicate k t)) }
 {
     for i in 0..k {
         look(alloc, sight, program, machine, kept, t)?;

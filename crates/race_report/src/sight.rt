@@ -5,8 +5,8 @@ ghost use Rattle.race_report.specs.Few.{AreFew};
 ghost use Rattle.race_report.specs.Sights.{swap_of, said_of, looked_of};
 
 use crate::access::access_of;
-use crate::data::{Access, Field, Sight};
-use run_journal::{Instr, Name, Program, State, Strand};
+use crate::data::{Field, FieldAccess, Sight};
+use run_journal::{Instr, MachineState, Name, Program, Strand};
 
 // All prints count as writes to this one field.
 const PRINT_FIELD: Field = Field {
@@ -16,14 +16,14 @@ const PRINT_FIELD: Field = Field {
 };
 
 // An access by `cas`, counted like any other.
-fn swap_of(access: Option<Access>) -> Option<Access>
+fn swap_of(access: Option<FieldAccess>) -> Option<FieldAccess>
     ensures { result ≡ swap_of access }
 {
     match access {
         None => None,
         Some(access) => {
             if access.swaps {
-                Some(Access {
+                Some(FieldAccess {
                     swaps: false,
                     ..access
                 })
@@ -35,7 +35,7 @@ fn swap_of(access: Option<Access>) -> Option<Access>
 }
 
 // What the next step of a task prints.
-fn said_of(program: &Program, state: &State, t: u32) -> Option<Access>
+fn said_of(program: &Program, state: &MachineState, t: u32) -> Option<FieldAccess>
     ensures { result ≡ said_of program.now state.now t }
 {
     if !state.can_step(t) {
@@ -44,7 +44,7 @@ fn said_of(program: &Program, state: &State, t: u32) -> Option<Access>
     let task = state.tasks.get(t as usize)?;
     let line = program.line(task.top.function, task.top.next)?;
     match line.instr {
-        Instr::Out(_) => Some(Access {
+        Instr::Out(_) => Some(FieldAccess {
             strand: Strand {
                 task: t,
                 joins: task.joins,
@@ -59,7 +59,12 @@ fn said_of(program: &Program, state: &State, t: u32) -> Option<Access>
 }
 
 /// What a task's next step adds to a scan.
-pub(crate) fn looked_of(sight: Sight, program: &Program, state: &State, t: u32) -> Option<Access>
+pub(crate) fn looked_of(
+    sight: Sight,
+    program: &Program,
+    state: &MachineState,
+    t: u32,
+) -> Option<FieldAccess>
     requires { AreFew state.now.store }
     ensures { result ≡ looked_of sight program.now state.now t }
 {

@@ -8,13 +8,13 @@ ghost use Rattle.race_report.specs.Ways.{has_alike};
 ghost use Rattle.race_report.specs.Watch.{clash, clashes, first_clash, bound_with, with_first, with_access, bound_for, race_of, watch_with, nothing_yet, Key, key_of, key_cmp, watched_with, races_in};
 
 use crate::bounds::allows;
-use crate::data::{Access, Bound, Field, Open, Race, Seen, Watch};
+use crate::data::{Bound, Field, FieldAccess, Open, Race, Seen, Watch};
 use crate::firsts::Firsts;
 use run_journal::{Listed, Strand};
 use std::alloc::{AllocError, Global};
 use std::collections::BTreeMap;
 
-/// Whether the strand of one label precedes that of another.
+/// Whether the strand of one label happens before that of another.
 fn label_precedes(first: &[Strand], second: &[Strand]) -> bool
     ensures { result ≡ label_precedes first.now second.now }
 {
@@ -22,7 +22,7 @@ fn label_precedes(first: &[Strand], second: &[Strand]) -> bool
 }
 
 /// Whether one of two accesses is a write, and not both are by `cas`.
-fn clash(first: Access, second: Access) -> bool
+fn clash(first: FieldAccess, second: FieldAccess) -> bool
     ensures { result ≡ clash first second }
 {
     if first.swaps && second.swaps {
@@ -54,7 +54,7 @@ fn first_clash<'a>(earlier: &'a [Seen], second: &Seen) -> Option<&'a Seen>
 }
 
 /// The race of two accesses.
-fn race_of(first: Access, second: Access) -> Race
+fn race_of(first: FieldAccess, second: FieldAccess) -> Race
     ensures { result ≡ race_of first second }
 {
     Race {
@@ -132,7 +132,7 @@ impl Open {
     }
 
     /// The bound of all accesses that this one may race with.
-    fn bound_for(&self, access: Access) -> &Bound
+    fn bound_for(&self, access: FieldAccess) -> &Bound
         ensures { result.now ≡ bound_for self.now access }
     {
         if access.writes {

@@ -1,9 +1,5 @@
 -- Which locations a region has.
-use Rattle.std.proofs.Common.{◌≡◌, ◌==◌, ◌&&◌, ◌||◌, ℕ, zero, suc, ◌+◌, ◌*◌, ◌<◌, ◌≤◌, Bool, true, false, nat_le, nat_lt, refl, ap, sym, subst, ◌∙◌, arith, inl, inr, eq-eqb}
-use Rattle.std.proofs.lemmas.Bool.{cases_lt, and_parts, and_from, eqb-true, false≢true, leb-true, le-leb, ltb-true, lt-ltb}
-use Rattle.log_places.specs.declared.region.Region.{Region}
-use Rattle.log_places.specs.Places.{run_start}
-use Rattle.race_scan.specs.Touches.{any_below, covers, is_in_run}
+use Rattle.race_scan.proofs.Common.{◌≡◌, ◌==◌, ◌||◌, ℕ, zero, suc, ◌+◌, ◌<◌, ◌≤◌, Bool, true, false, nat_le, nat_lt, refl, ap, subst, arith, inl, inr, eq-eqb, cases_lt, and_parts, and_from, eqb-true, false≢true, leb-true, le-leb, ltb-true, lt-ltb, Region, run_start, any_below, covers, is_in_run}
 
 or_left : (b c : Bool) → b ≡ true → (b || c) ≡ true
 or_left b c e = ap (λ x. x || c) e

@@ -1,15 +1,5 @@
 -- What was found is what is to be told.
-use Rattle.std.proofs.Common.{◌≡◌, ℕ, suc, ◌+◌, ◌<◌, ◌≤◌, List, [], ◌∷◌, All, AllPairs, length, get_or, map, filter, sym, subst, arith}
-use Rattle.std.proofs.lemmas.List.Kept.{AllPairs-cons, AllPairs-filter}
-use Rattle.listed.proofs.Members.{In, in_from_kept}
-use Rattle.listed.proofs.Places.{all_from, read_in, map_in}
-use Rattle.race_cells.specs.declared.access.Access.{Access}
-use Rattle.race_cells.specs.Order.{StrandOrder}
-use Rattle.race_cells.specs.Laws.{AreInOrder, IsExact}
-use Rattle.race_cells.proofs.Exactness.{scan_is_exact}
-use Rattle.race_scan.specs.declared.touch.Touch.{Touch}
-use Rattle.race_scan.specs.Touches.{accesses_at, covers}
-use Rattle.race_scan.specs.Laws.{AreSerial, ScansAreExact}
+use Rattle.race_scan.proofs.Common.{ℕ, suc, ◌<◌, ◌≤◌, List, [], ◌∷◌, All, AllPairs, map, filter, sym, subst, arith, AllPairs-cons, AllPairs-filter, in_from_kept, all_from, read_in, map_in, CellAccess, StrandOrder, AreInOrder, IsExact, scan_is_exact, Touch, accesses_at, covers, AreSerial, ScansAreExact}
 
 module _ {A : Type 0} (R : A → A → Type 0) where
   first_with : (x : A) (xs : List A) → AllPairs R (x ∷ xs) → All (R x) xs
@@ -31,11 +21,11 @@ in_order : (o : StrandOrder) (touches : List Touch) → AreSerial o touches → 
 in_order o touches serial block x =
     let kept = filter (λ (t : Touch). covers t.region block x) touches in
     record {
-      known = all_from (λ (a : Access). a.strand < o.strands) (accesses_at touches block x) (λ a i.
+      known = all_from (λ (a : CellAccess). a.strand < o.strands) (accesses_at touches block x) (λ a i.
           let m = map_in (λ (t : Touch). t.access) kept a i in
           let among = in_from_kept (λ (t : Touch). covers t.region block x) touches m.0 m.1 in
-          subst (λ (b : Access). b.strand < o.strands) m.2 (read_in (λ (t : Touch). t.access.strand < o.strands) touches m.0 among.0 serial.known));
-      serial = pairs_map (λ (t : Touch). t.access) (λ (a b : Access). a.strand ≤ b.strand) kept
+          subst (λ (b : CellAccess). b.strand < o.strands) m.2 (read_in (λ (t : Touch). t.access.strand < o.strands) touches m.0 among.0 serial.known));
+      serial = pairs_map (λ (t : Touch). t.access) (λ (a b : CellAccess). a.strand ≤ b.strand) kept
           (AllPairs-filter (λ (t u : Touch). t.access.strand ≤ u.access.strand) (λ (t : Touch). covers t.region block x) touches serial.serial);
     }
 

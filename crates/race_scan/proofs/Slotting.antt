@@ -1,24 +1,14 @@
 -- The slots of a region's stretches, run by run.
-use Rattle.std.proofs.Common.{◌≡◌, ℕ, zero, suc, ◌+◌, ◌*◌, ◌<◌, ◌≤◌, true, List, [], ◌∷◌, ◌++◌, ◌⊎◌, inl, inr, refl, ap, sym, subst, arith}
-use Rattle.std.proofs.lemmas.Bool.{cases_lt}
-use Rattle.std.proofs.Math.Nat.{mul-le-mul_right}
-use Rattle.listed.proofs.Members.{In, in_append_cases, in_append_left, in_append_right}
-use Rattle.log_places.specs.declared.region.Region.{Region}
-use Rattle.log_places.specs.declared.numbers.Slot.{Slot}
-use Rattle.log_places.specs.Places.{run_start, IsRegion, IsRegionCut, PlacesValue}
-use Rattle.log_places.specs.Numbers.{IsSlot}
-use Rattle.log_places.proofs.Numbering.{slots_are_one}
-use Rattle.race_scan.specs.Touches.{covers}
-use Rattle.race_scan.specs.Slots.{AreApart, AreSlots, AreUpto}
+use Rattle.race_scan.proofs.Common.{◌≡◌, ℕ, ◌+◌, ◌*◌, ◌<◌, ◌≤◌, true, List, [], ◌∷◌, ◌++◌, inl, inr, refl, ap, sym, subst, arith, cases_lt, mul-le-mul_right, In, in_append_cases, in_append_left, in_append_right, Region, LocationSlot, run_start, IsRegion, IsRegionCut, PlacesValue, IsSlot, slots_are_one, SlotsDiffer, covers, AreSlots, AreUpto}
 use Rattle.race_scan.proofs.Covering.{run_covers, run_of}
 
-apart_push : (ss : List Slot) (s : Slot) → AreApart ss → ((t : Slot) → In ss t → t.number ≡ s.number → ⊥) → AreApart (ss ++ s ∷ [])
+apart_push : (ss : List LocationSlot) (s : LocationSlot) → SlotsDiffer ss → ((t : LocationSlot) → In ss t → t.number ≡ s.number → ⊥) → SlotsDiffer (ss ++ s ∷ [])
 apart_push [] s apart new = (λ t none. absurd none, tt)
 apart_push (r ∷ rs) s apart new = (
   λ t i same. elim (in_append_cases rs (s ∷ []) t i) [
     | inl old ↦ apart.0 t old same
     | inr last ↦ elim last [
-      | inl is ↦ new r (inl refl) (subst (λ (x : Slot). r.number ≡ x.number) (sym is) same)
+      | inl is ↦ new r (inl refl) (subst (λ (x : LocationSlot). r.number ≡ x.number) (sym is) same)
       | inr none ↦ absurd none
     ]
   ],
@@ -42,7 +32,7 @@ module _ (v : PlacesValue) (r : Region) where
     apart = tt;
   }
 
-  module _ (cut : IsRegionCut v r) (run at : ℕ) (slots : List Slot) (slot : Slot) (lt : run < r.runs) (from : run_start r run ≤ at) (below : at < run_start r run + r.length)
+  module _ (cut : IsRegionCut v r) (run at : ℕ) (slots : List LocationSlot) (slot : LocationSlot) (lt : run < r.runs) (from : run_start r run ≤ at) (below : at < run_start r run + r.length)
       (is : IsSlot v r.block at slot) (upto : AreUpto v r at slots) where
     inside : (run_start r run ≤ slot.start) × (slot.end ≤ run_start r run + r.length) × ((y : ℕ) → slot.start ≤ y → y < slot.end → IsSlot v r.block y slot)
     inside = slots_are_one.cut v r.block (run_start r run) (run_start r run + r.length) at slot (cut run lt) from below is
@@ -56,17 +46,17 @@ module _ (v : PlacesValue) (r : Region) where
         let b : slot.end ≤ run_start r run + r.length = inside.1 in
         (inside.2 x low high, run_covers r run x lt (omega arith) (omega arith))
 
-    new_number : (t : Slot) → In slots t → t.number ≡ slot.number → ⊥
+    new_number : (t : LocationSlot) → In slots t → t.number ≡ slot.number → ⊥
     new_number t i same =
         let some : t.start < t.end = upto.some t i in
         let there = upto.are t t.start i (omega arith) some in
         let one = slots_are_one.same v r.block r.block t.start at t slot there.0 is same in
-        let end : t.end ≡ slot.end = ap (λ (x : Slot). x.end) one.1 in
+        let end : t.end ≡ slot.end = ap (λ (x : LocationSlot). x.end) one.1 in
         let old : t.end ≤ at = upto.ended t i in
         let past : at < slot.end = around.1 in
         omega arith
 
-    covered : (x : ℕ) → covers r r.block x ≡ true → x < slot.end → (s : Slot) × In (slots ++ slot ∷ []) s × (s.start ≤ x) × (x < s.end)
+    covered : (x : ℕ) → covers r r.block x ≡ true → x < slot.end → (s : LocationSlot) × In (slots ++ slot ∷ []) s × (s.start ≤ x) × (x < s.end)
     covered x h high =
         elim (cases_lt x at) [
           | inl less ↦ let s = upto.all x h less in (s.0, in_append_left slots (slot ∷ []) s.0 s.1, s.2, s.3)
@@ -79,22 +69,22 @@ module _ (v : PlacesValue) (r : Region) where
       are = λ s x i low high. elim (in_append_cases slots (slot ∷ []) s i) [
         | inl old ↦ upto.are s x old low high
         | inr last ↦ elim last [
-          | inl same ↦ subst (λ (t : Slot). IsSlot v r.block x t × (covers r r.block x ≡ true)) same
-              (new_are x (subst (λ (t : Slot). t.start ≤ x) (sym same) low) (subst (λ (t : Slot). x < t.end) (sym same) high))
+          | inl same ↦ subst (λ (t : LocationSlot). IsSlot v r.block x t × (covers r r.block x ≡ true)) same
+              (new_are x (subst (λ (t : LocationSlot). t.start ≤ x) (sym same) low) (subst (λ (t : LocationSlot). x < t.end) (sym same) high))
           | inr none ↦ absurd none
         ]
       ];
       some = λ s i. elim (in_append_cases slots (slot ∷ []) s i) [
         | inl old ↦ upto.some s old
         | inr last ↦ elim last [
-          | inl same ↦ subst (λ (t : Slot). t.start < t.end) same (let a : slot.start ≤ at = around.0 in let b : at < slot.end = around.1 in omega arith)
+          | inl same ↦ subst (λ (t : LocationSlot). t.start < t.end) same (let a : slot.start ≤ at = around.0 in let b : at < slot.end = around.1 in omega arith)
           | inr none ↦ absurd none
         ]
       ];
       ended = λ s i. elim (in_append_cases slots (slot ∷ []) s i) [
         | inl old ↦ let a : s.end ≤ at = upto.ended s old in let b : at < slot.end = around.1 in omega arith
         | inr last ↦ elim last [
-          | inl same ↦ subst (λ (t : Slot). t.end ≤ slot.end) same (omega arith)
+          | inl same ↦ subst (λ (t : LocationSlot). t.end ≤ slot.end) same (omega arith)
           | inr none ↦ absurd none
         ]
       ];
@@ -109,7 +99,7 @@ module _ (v : PlacesValue) (r : Region) where
     slot_upto = inside.1
 
   -- on to the next run
-  pub run_done : IsRegion r → (run : ℕ) (slots : List Slot) → AreUpto v r (run_start r run + r.length) slots → AreUpto v r (run_start r (run + 1)) slots
+  pub run_done : IsRegion r → (run : ℕ) (slots : List LocationSlot) → AreUpto v r (run_start r run + r.length) slots → AreUpto v r (run_start r (run + 1)) slots
   run_done region run slots upto = record {
     are = upto.are;
     some = upto.some;
@@ -130,7 +120,7 @@ module _ (v : PlacesValue) (r : Region) where
   }
 
   -- all runs
-  pub all_done : (run : ℕ) → r.runs ≤ run → IsRegion r → (slots : List Slot) → AreUpto v r (run_start r run) slots → AreSlots v r slots
+  pub all_done : (run : ℕ) → r.runs ≤ run → IsRegion r → (slots : List LocationSlot) → AreUpto v r (run_start r run) slots → AreSlots v r.block (covers r r.block) slots
   all_done run last region slots upto = record {
     are = upto.are;
     some = upto.some;

@@ -4,3 +4,4 @@ pub mod Value
 pub mod Scan
 pub mod Laws
 pub mod below
+mod Common

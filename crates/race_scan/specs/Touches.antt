@@ -1,8 +1,7 @@
--- The accesses of a location.
+-- Accesses, and those of a location.
 use Rattle.std.specs.Prelude.{◌==◌, ◌+◌, ◌&&◌, ◌||◌, ℕ, zero, suc, Bool, false, List, map, filter, nat_le, nat_lt}
-use Rattle.log_places.specs.declared.region.Region.{Region}
-use Rattle.log_places.specs.Places.{run_start}
-use Rattle.race_cells.specs.declared.access.Access.{Access}
+use Rattle.std.specs.List.{list_any}
+use Rattle.race_scan.specs.Common.{Region, run_start, CellAccess, PlainWrite}
 use Rattle.race_scan.specs.declared.touch.Touch.{Touch}
 
 -- whether a number below n passes
@@ -21,5 +20,21 @@ abbrev pub regions_of : List Touch → List Region
 regions_of touches = map (λ t. t.region) touches
 
 -- those of all accesses that are of the location, in their order
-abbrev pub accesses_at : List Touch → ℕ → ℕ → List Access
+abbrev pub accesses_at : List Touch → ℕ → ℕ → List CellAccess
 accesses_at touches block x = map (λ t. t.access) (filter (λ t. covers t.region block x) touches)
+
+-- RELEASES
+
+-- whether one of the regions has the location
+abbrev pub is_accessed : List Region → ℕ → ℕ → Bool
+is_accessed regions block x = list_any (λ r. covers r block x) regions
+
+abbrev pub plain_write : ℕ → ℕ → CellAccess
+plain_write strand line = record { strand = strand; kind = PlainWrite; line = line }
+
+abbrev pub touch_of : CellAccess → Region → Touch
+touch_of access r = record { region = r; access = access }
+
+-- a release of a block writes each of its locations that one of the regions has
+abbrev pub touches_of_release : List Region → ℕ → ℕ → ℕ → List Touch
+touches_of_release regions block strand line = map (touch_of (plain_write strand line)) (filter (λ r. r.block == block) regions)

@@ -1,7 +1,7 @@
 // The cells of all stretches, and the races that were found.
 
-use log_places::Slot;
-use race_cells::{Access, Cell, Race, Strands};
+use log_places::LocationSlot;
+use race_cells::{Cell, CellAccess, CellRace, Strands};
 use std::alloc::{AllocError, Global};
 use std::marker::Model;
 
@@ -10,8 +10,8 @@ use std::marker::Model;
 pub struct FoundRace {
     pub block: u64,
     /// The stretch.
-    pub slot: Slot,
-    pub race: Race,
+    pub slot: LocationSlot,
+    pub race: CellRace,
 }
 
 /// A cell for each stretch, and the races that were found so far, in that order.
@@ -62,8 +62,8 @@ impl Cells {
         alloc: Global,
         order: &S,
         block: u64,
-        slot: Slot,
-        access: Access,
+        slot: LocationSlot,
+        access: CellAccess,
     ) -> Result<(), AllocError>
         requires { slot.number < length self.old.cells }
         ensures ok { OnOk result (self.new ≡ visited (S.order order.now) block access self.old slot) }
@@ -82,8 +82,8 @@ impl Cells {
         alloc: Global,
         order: &S,
         block: u64,
-        slots: &[Slot],
-        access: Access,
+        slots: &[LocationSlot],
+        access: CellAccess,
     ) -> Result<(), AllocError>
         requires { All (λ s. s.number < length self.old.cells) slots.now }
         ensures ok { OnOk result (self.new ≡ fold (visited (S.order order.now) block access) self.old slots.now) }

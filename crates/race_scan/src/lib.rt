@@ -10,7 +10,7 @@ mod touch;
 
 pub use all::{number_all, scan_all};
 pub use cells::FoundRace;
-pub use laws::scans_are_exact;
-pub use race_cells::{Access, AccessKind, Strands};
+pub use laws::{releases_write_what_is_accessed, scans_are_exact};
+pub use race_cells::{CellAccess, CellAccessKind, Strands};
 pub use scan::RaceScan;
 pub use touch::Touch;

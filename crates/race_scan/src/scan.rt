@@ -3,8 +3,8 @@
 use crate::cells::{Cells, FoundRace};
 use crate::slots::slots_of;
 use crate::touch::Touch;
-use log_places::{Numbers, Slot};
-use race_cells::Strands;
+use log_places::{LocationSlot, Numbers};
+use race_cells::{CellAccess, CellAccessKind, Strands};
 use std::alloc::{AllocError, Global};
 use std::marker::Model;
 
@@ -12,7 +12,7 @@ use std::marker::Model;
 #[derive(Drop)]
 pub struct RaceScan {
     cells: Cells,
-    spare: Vec<Slot>,
+    spare: Vec<LocationSlot>,
 }
 
 impl Model for RaceScan {
@@ -24,11 +24,14 @@ impl Model for RaceScan {
 }
 
 impl RaceScan {
-    ghost use Rattle.std.specs.Prelude.{◌≡◌, [], ◌∷◌, ◌++◌, List, IfOk, OnOk, length};
+    ghost use Rattle.std.specs.Prelude.{◌≡◌, [], ◌∷◌, ◌++◌, List, IfOk, OnOk, length, true};
     ghost use Rattle.race_cells.specs.Order.{StrandOrder};
     ghost use Rattle.log_places.specs.Places.{IsRegion, IsRegionCut};
+    ghost use Rattle.log_places.specs.declared.region.Region.{Region};
     ghost use Rattle.log_places.specs.Numbers.{stretch_count};
+    ghost use Rattle.log_places.specs.Counting.{AreMarked};
     ghost use Rattle.race_scan.specs.declared.touch.Touch.{Touch};
+    ghost use Rattle.race_scan.specs.Touches.{touches_of_release};
     ghost use Rattle.race_scan.specs.Scan.{HasScanned};
 
     /// Nothing was accessed yet.
@@ -59,6 +62,34 @@ impl RaceScan {
     {
         slots_of(numbers, touch.region, &mut self.spare)?;
         self.cells.visit_all(alloc, order, touch.region.block, &self.spare, touch.access)
+    }
+
+    /// A block is released: a plain write of each of its locations that was marked before stretches were numbered. It
+    /// takes the time of a step for each stretch of the block. After an `Err` the scan is of no more use.
+    pub fn release<S: Strands>(
+        &mut self,
+        alloc: Global,
+        order: &S,
+        numbers: &Numbers,
+        block: u64,
+        strand: u32,
+        line: u32,
+    ) -> Result<(), AllocError>
+        requires known { (S.order order.now).before strand strand ≡ true }
+        requires size { length self.old.cells ≡ stretch_count numbers.now }
+        ensures ok { OnOk result ((regions : List Region) (past : List Touch) → AreMarked regions numbers.now
+            → HasScanned (S.order order.now) numbers.now past self.old
+            → HasScanned (S.order order.now) numbers.now (past ++ touches_of_release regions block strand line) self.new) }
+        ensures size { length self.new.cells ≡ length self.old.cells }
+    {
+        numbers.slots_of_block(block, &mut self.spare)?;
+        let access = CellAccess {
+            strand,
+            kind: CellAccessKind::PlainWrite,
+            line,
+        };
+        self.cells
+            .visit_all(alloc, order, block, &self.spare, access)
     }
 
     /// The races of the accesses so far: one for each stretch of which two accesses race.

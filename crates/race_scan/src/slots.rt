@@ -3,13 +3,14 @@
 ghost use Rattle.std.specs.Prelude.{◌≡◌, ◌+◌, ◌<◌, ◌≤◌, ◌++◌, ◌∷◌, [], OnOk};
 ghost use Rattle.log_places.specs.Places.{run_start, IsRegion, IsRegionCut};
 ghost use Rattle.log_places.specs.Numbers.{IsSlot};
+ghost use Rattle.race_scan.specs.Touches.{covers};
 ghost use Rattle.race_scan.specs.Slots.{AreSlots, AreUpto};
 
-use log_places::{Numbers, Region, Slot};
+use log_places::{LocationSlot, Numbers, Region};
 use std::alloc::AllocError;
 
 // Adds a slot.
-fn push(slots: &mut Vec<Slot>, slot: Slot) -> Result<(), AllocError>
+fn push(slots: &mut Vec<LocationSlot>, slot: LocationSlot) -> Result<(), AllocError>
     ensures { OnOk result (slots.new.items ≡ slots.old.items ++ slot ∷ []) }
 {
     slots.push(slot)?;
@@ -17,7 +18,7 @@ fn push(slots: &mut Vec<Slot>, slot: Slot) -> Result<(), AllocError>
 }
 
 // The slot of a location of a run.
-fn slot_at(numbers: &Numbers, region: Region, run: u64, at: u64) -> Slot
+fn slot_at(numbers: &Numbers, region: Region, run: u64, at: u64) -> LocationSlot
     requires region { IsRegion region }
     requires cut { IsRegionCut numbers.now region }
     requires run { run < region.runs }
@@ -36,7 +37,7 @@ fn add_run(
     numbers: &Numbers,
     region: Region,
     run: u64,
-    slots: &mut Vec<Slot>,
+    slots: &mut Vec<LocationSlot>,
 ) -> Result<(), AllocError>
     requires region { IsRegion region }
     requires cut { IsRegionCut numbers.now region }
@@ -58,11 +59,11 @@ fn add_run(
 pub(crate) fn slots_of(
     numbers: &Numbers,
     region: Region,
-    slots: &mut Vec<Slot>,
+    slots: &mut Vec<LocationSlot>,
 ) -> Result<(), AllocError>
     requires region { IsRegion region }
     requires cut { IsRegionCut numbers.now region }
-    ensures { OnOk result (AreSlots numbers.now region slots.new.items) }
+    ensures { OnOk result (AreSlots numbers.now region.block (covers region region.block) slots.new.items) }
 {
     slots.clear();
     for run in 0..region.runs {

@@ -7,11 +7,11 @@ ghost use Rattle.log_tasks.specs.Rows.{AreNestedTasks};
 
 use act_lines::{ActLine, lines_of_acts};
 use fork_graph::Extent;
-use listed::Listed;
-use log_pieces::{Piece, cut_log};
+use log_pieces::{LogPiece, cut_log};
 use log_races::{FoundRace, RacesError, log_races};
 use log_tasks::{LogTasks, log_tasks};
 use log_walk::SerialWalk;
+use plain_vec::Listed;
 use std::alloc::{AllocError, Global};
 
 // A race by its block, where its stretch begins and ends, and the numbers of the two acts.
@@ -48,6 +48,40 @@ const CASES: &[Case] = &[
         name: "of a log that is cut, a strand after a gap is left out",
         files: &[b"hhlog 1\ns 0 0\n+ 1\n+ 2\ns 0 3\nw 1 0\ns 1 0\nw 1 0\n"],
         races: &[],
+    },
+    Case {
+        name: "a release races with a read of a concurrent task",
+        files: &[b"hhlog 1\ns 0 0\na 4 8\n+ 1\nf 4\n- 1\n.\ns 1 0\nr 4 2 3\n.\nend\n"],
+        races: &[(4, 2, 5, 5, 2)],
+    },
+    Case {
+        name: "a write races with the release of a concurrent task, which comes first in serial order",
+        files: &[b"hhlog 1\ns 0 0\n+ 1\nW 4 0\n- 1\n.\ns 1 0\nf 4\n.\nend\n"],
+        races: &[(4, 0, 1, 4, 1)],
+    },
+    Case {
+        name: "a release after the join of the task that writes, and before a use that is stale",
+        files: &[
+            b"hhlog 1\ns 0 0\na 4 8\n+ 1\n- 1\nf 4\n+ 2\n- 2\n.\ns 1 0\nw 4 2\n.\ns 2 0\nr 4 2\n.\nend\n",
+        ],
+        races: &[],
+    },
+    Case {
+        name: "a block that is never accessed is released",
+        files: &[b"hhlog 1\ns 0 0\n+ 1\nf 9\nr 1 0\n- 1\n.\ns 1 0\nr 1 0\nr 2 9\n.\nend\n"],
+        races: &[],
+    },
+    Case {
+        name: "a release is of all accessed locations of its block, on each of its pages",
+        files: &[
+            b"hhlog 1\ns 0 0\n+ 1\nf 4\n- 1\nr 4 9\n.\ns 1 0\nr 4 1\nr 4 5000 2\nr 5 1\n.\nend\n",
+        ],
+        races: &[(4, 1, 2, 5, 1), (4, 5000, 5002, 6, 1)],
+    },
+    Case {
+        name: "places that overlap are released once",
+        files: &[b"hhlog 1\ns 0 0\n+ 1\nf 4\n- 1\n.\ns 1 0\nr 4 0 4\nr 4 2 4\n.\nend\n"],
+        races: &[(4, 0, 2, 4, 1), (4, 2, 4, 5, 1), (4, 4, 6, 5, 1)],
     },
 ];
 
@@ -95,7 +129,7 @@ enum Outcome<'e> {
 fn is_it(
     alloc: Global,
     texts: &[Listed<u8>],
-    pieces: &[Piece],
+    pieces: &[LogPiece],
     tasks: &LogTasks,
     limit: usize,
     outcome: Outcome,

@@ -2,8 +2,8 @@
 use Rattle.std.proofs.Common.{◌≡◌, ◌∙◌, ◌↔◌, ◌++◌, ℕ, Bool, true, List, [], ◌∷◌, Contains, is_some, refl, ap, sym, subst}
 use Rattle.std.specs.Prelude.{Option, Some, None, is_none}
 use Rattle.std.proofs.lemmas.Bool.{and_parts, false≢true}
-use Rattle.listed.proofs.Members.{got_same}
-use Rattle.listed.proofs.Options.{none_is}
+use Rattle.plain_vec.proofs.Members.{got_same}
+use Rattle.plain_vec.proofs.Options.{none_is}
 use Rattle.hh_lang.specs.Form.{ProgramText}
 use Rattle.hh_model.specs.declared.data.Name.{Name}
 use Rattle.run_trace.specs.declared.entry.Kind.TheVariants.{Ran, End, Sweep}
@@ -34,7 +34,7 @@ has_heap l t test None e fails is = absurd (fails is)
 heap_after : (l : Ledger) (t : ℕ) (f : Heap → Heap) (h : Heap) → heap_at l t ≡ Some h → heap_of (with_heap l t f) t ≡ f h
 heap_after l t f h e = ap (λ o. heap_of (with_heap_at l t f o) t) e ∙ ap or_fresh (got_same l.heaps t h (f h) e)
 
--- a heap that keeps, of what it holds, just these names
+-- a heap that keeps exactly these names of those that it holds
 kept_so : (earlier l : Ledger) (t : ℕ) (f : Heap → Heap) (h : Heap) (names : List Name) → heap_at l t ≡ Some h → names ≡ within earlier t
     → ((n : Name) → Contains (held_in (f h)) n ↔ (Contains (held_in h) n × Contains names n)) → KeepsReached earlier l (with_heap l t f) t
 kept_so earlier l t f h names is named just n =

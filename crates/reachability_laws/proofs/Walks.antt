@@ -1,7 +1,7 @@
--- What is reached within a heap, by the accounts, is what walks from its roots lead to.
+-- What is reachable within a heap, by the accounts, is what walks from its roots lead to.
 use Rattle.std.proofs.Common.{◌↔◌, ℕ, filter, Contains, slice_get, inl, inr}
 use Rattle.std.proofs.lemmas.List.Elements.{Contains-append_cases, Contains-append_left, Contains-append_right}
-use Rattle.listed.proofs.Members.{contains_from_in, flat_in, got_in, in_flat, in_from_contains, in_from_kept, in_kept}
+use Rattle.plain_vec.proofs.Members.{contains_from_in, flat_in, got_in, in_flat, in_from_contains, in_from_kept, in_kept}
 use Rattle.walk_laws.proofs.Reached.{reached_more, reached_start, reached_within}
 use Rattle.hh_model.specs.declared.data.Name.{Name}
 use Rattle.hh_model.specs.Names.{refs_at, registers}
@@ -11,7 +11,7 @@ use Rattle.run_ledger.specs.Heaps.{down_roots, frames_of, heap_of, held, held_in
 use Rattle.run_ledger.specs.Laws.{Refers}
 use Rattle.run_ledger.specs.Reachable.{IsReachedWithin, LeadsWithin, StartsWithin}
 use Rattle.run_ledger.proofs.Reached.{reached_is_walks}
-use Rattle.reachability_laws.specs.Kept.{Holds, IsFromAbove, IsReachedIn, IsRoot}
+use Rattle.reachability_laws.specs.Kept.{HeapHolds, IsFromAbove, IsReachedIn, IsRoot}
 
 module _ (l : Ledger) (t : ℕ) where
   from_above : (n : Name) → Contains (down_roots l t) n → IsFromAbove l t n
@@ -48,13 +48,13 @@ module _ (l : Ledger) (t : ℕ) where
   walked_is : (n : Name) → Walked n → IsReachedIn l t n
   walked_is n w =
       reached_within (StartsWithin (held_in (heap_of l t)) (roots_of l t)) (LeadsWithin l.machine.store (held_in (heap_of l t))) (IsReachedIn l t)
-      (λ a s. reached_start (λ m. Holds l t m × IsRoot l t m) (λ m k. Holds l t k × Refers l.machine m k) a (s.0, root_is a s.1))
-      (λ m a p e. reached_more (λ m. Holds l t m × IsRoot l t m) (λ m k. Holds l t k × Refers l.machine m k) m a p e)
+      (λ a s. reached_start (λ m. HeapHolds l t m × IsRoot l t m) (λ m k. HeapHolds l t k × Refers l.machine m k) a (s.0, root_is a s.1))
+      (λ m a p e. reached_more (λ m. HeapHolds l t m × IsRoot l t m) (λ m k. HeapHolds l t k × Refers l.machine m k) m a p e)
       n w
 
   is_walked : (n : Name) → IsReachedIn l t n → Walked n
   is_walked n w =
-      reached_within (λ m. Holds l t m × IsRoot l t m) (λ m k. Holds l t k × Refers l.machine m k) Walked
+      reached_within (λ m. HeapHolds l t m × IsRoot l t m) (λ m k. HeapHolds l t k × Refers l.machine m k) Walked
       (λ a s. reached_start (StartsWithin (held_in (heap_of l t)) (roots_of l t)) (LeadsWithin l.machine.store (held_in (heap_of l t))) a (s.0, is_root a s.1))
       (λ m a p e. reached_more (StartsWithin (held_in (heap_of l t)) (roots_of l t)) (LeadsWithin l.machine.store (held_in (heap_of l t))) m a p e)
       n w

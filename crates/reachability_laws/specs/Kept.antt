@@ -1,4 +1,4 @@
--- What collections keep, in words of reachability.
+-- What collections keep, in terms of reachability.
 use Rattle.std.specs.Prelude.{◌≡◌, ◌⊎◌, ◌↔◌, ℕ, true, List, [], ◌∷◌, ◌++◌, slice_get, Contains}
 use Rattle.hh_lang.specs.Form.{ProgramText}
 use Rattle.walk_laws.specs.Reached.{IsReached}
@@ -20,7 +20,7 @@ use Rattle.journal_laws.specs.Frozen.{HasNone, begins, is_of_steps}
 abbrev pub IsInFrames : Ledger → ℕ → Name → Type 0
 IsInFrames l t n = Contains (registers (frames_of (slice_get l.machine.tasks t))) n
 
--- an object that a heap above holds refers to it, whether or not that object is reached itself
+-- an object in the heap of an ancestor refers to it, whether or not that object is reachable itself
 pub record IsFromAbove (l : Ledger) (t : ℕ) (n : Name) : Type 0 where
   pub object : Name
   pub held_is : Contains (held l) object
@@ -33,16 +33,16 @@ IsRoot l t n = IsInFrames l t n ⊎ IsFromAbove l t n
 -- WALKS
 
 -- the heap of t holds the name
-abbrev pub Holds : Ledger → ℕ → Name → Type 0
-Holds l t n = Contains (held_in (heap_of l t)) n
+abbrev pub HeapHolds : Ledger → ℕ → Name → Type 0
+HeapHolds l t n = Contains (held_in (heap_of l t)) n
 
 -- a walk along references leads from a root to the name, through objects that t's heap holds
 abbrev pub IsReachedIn : Ledger → ℕ → Name → Type 0
-IsReachedIn l t n = IsReached (λ m. Holds l t m × IsRoot l t m) (λ m k. Holds l t k × Refers l.machine m k) n
+IsReachedIn l t n = IsReached (λ m. HeapHolds l t m × IsRoot l t m) (λ m k. HeapHolds l t k × Refers l.machine m k) n
 
--- of what t's heap holds before an entry it holds after it exactly what was reached at an earlier moment
+-- of what t's heap holds before an entry, it holds after it exactly what was reachable at an earlier moment
 abbrev pub KeepsReached : Ledger → Ledger → Ledger → ℕ → Type 0
-KeepsReached earlier before after t = (n : Name) → Holds after t n ↔ (Holds before t n × IsReachedIn earlier t n)
+KeepsReached earlier before after t = (n : Name) → HeapHolds after t n ↔ (HeapHolds before t n × IsReachedIn earlier t n)
 
 -- LEAF COLLECTIONS
 
@@ -53,7 +53,7 @@ pub record BeganAfter (journal : List EntryValue) (t : ℕ) (first : List EntryV
   pub is : journal ≡ first ++ record { worker = worker; kind = Begin t } ∷ rest
   pub last : HasNone (begins t) rest
 
--- an entry that ends a leaf collection: its heap keeps what was reached just before the collection began
+-- an entry that ends a leaf collection: its heap keeps what was reachable just before the collection began
 abbrev pub LeafCollectionsKeepReached : Type 0
 LeafCollectionsKeepReached =
     (p : ProgramText) (s : SettingsValue) (journal : List EntryValue) (w t taken given left : ℕ)
@@ -62,7 +62,7 @@ LeafCollectionsKeepReached =
 
 -- SWEEPS
 
--- the last of these entries of steps of t, which waits since, is the last of the first ones
+-- the last of these entries of steps of t, which has waited since, is the last of the first ones
 pub record ForkedAt (journal : List EntryValue) (t : ℕ) (first : List EntryValue) : Type 0 where
   pub before : List EntryValue
   pub worker : ℕ
@@ -72,7 +72,7 @@ pub record ForkedAt (journal : List EntryValue) (t : ℕ) (first : List EntryVal
   pub is : journal ≡ before ++ record { worker = worker; kind = Ran t steps } ∷ rest
   pub last : HasNone (is_of_steps t) rest
 
--- an entry that sweeps: its heap keeps what was reached just after the fork on which its task waits
+-- an entry that sweeps: its heap keeps what was reachable just after the fork on which its task waits
 abbrev pub SweepsKeepReached : Type 0
 SweepsKeepReached =
     (p : ProgramText) (s : SettingsValue) (journal : List EntryValue) (w t given : ℕ)

@@ -2,12 +2,12 @@
 
 ghost use Rattle.reachability_laws.specs.Kept.{LeafCollectionsKeepReached, SweepsKeepReached};
 
-/// A leaf collection keeps, of what its heap holds at its end, exactly what was reached as it began.
+/// A leaf collection keeps, of what its heap holds at its end, exactly what was reachable as it began.
 pub fn leaf_collections_keep_reached()
     ensures { LeafCollectionsKeepReached }
 {}
 
-/// A sweep keeps, of what its heap holds, exactly what was reached as its task forked.
+/// A sweep keeps, of what its heap holds, exactly what was reachable as its task forked.
 pub fn sweeps_keep_reached()
     ensures { SweepsKeepReached }
 {}

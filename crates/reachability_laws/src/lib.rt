@@ -1,4 +1,4 @@
-// What collections keep, in words of reachability.
+// What collections keep, in terms of reachability.
 #![tactic(auto)]
 
 mod laws;

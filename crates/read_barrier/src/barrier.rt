@@ -2,7 +2,7 @@
 
 ghost use Rattle.std.specs.Prelude.{◌≡◌, ℕ, ◌+◌, ◌*◌, ◌^◌, ◌<◌, ◌≤◌, ◌↔◌, length, Some, IsSome, IsOk};
 ghost use Rattle.heap_tree.specs.Walk.{IsUpFrom};
-ghost use Rattle.heap_tree.specs.Node.{parent_of, depth_of};
+ghost use Rattle.heap_tree.specs.TaskNode.{parent_of, depth_of};
 ghost use Rattle.chunk_pool.specs.PoolValue.{slot_at, owner_of};
 ghost use Rattle.read_barrier.specs.Checked.{checked_read};
 
@@ -20,8 +20,8 @@ pub struct Stop {
     pub owner: u32,
 }
 
-/// Lets a read yield an address, or stops it: exactly where the owner of the chunk is neither the reader nor
-/// above it.
+/// Lets a read yield an address, or stops it: it is stopped if and only if the owner of the chunk is neither the reader
+/// nor an ancestor.
 ///
 /// It follows the links that `check_counted` counts.
 pub fn check(tree: &Tree, pool: &Pool, reader: u32, to: Addr) -> Result<Addr, Stop>
@@ -34,8 +34,7 @@ pub fn check(tree: &Tree, pool: &Pool, reader: u32, to: Addr) -> Result<Addr, St
     check_from::<Brand>(tree, pool, reader, to, Blank::new(1))
 }
 
-/// `check`, which counts the links of the tree that it follows. They are no more than three times the
-/// logarithm of the reader's depth plus one, to base 2 and rounded down.
+/// `check`, counting the links of the tree that it follows: at most 3 ⌊log₂(d + 1)⌋, d being the reader's depth.
 pub fn check_counted<L: Ledger>(
     tree: &Tree,
     pool: &Pool,
@@ -59,7 +58,7 @@ pub fn check_counted<L: Ledger>(
     }
 }
 
-// `check_counted` from a new count, which is let go.
+// `check_counted` with a new count, which is dropped.
 fn check_from<L: Ledger>(
     tree: &Tree,
     pool: &Pool,

@@ -1,4 +1,4 @@
-// The test at a read: whether an object is of the reader or of a task above it.
+// The test at a read: whether an object belongs to the reader or to an ancestor.
 #![tactic(auto)]
 
 mod barrier;

@@ -1,13 +1,13 @@
 -- The lines that refuse the command-line arguments or the input.
 use Rattle.std.specs.Prelude.{ℕ, List, [], ◌∷◌, codes}
 use Rattle.std.specs.Fmt.{decimal}
-use Rattle.program_reader.specs.declared.cause.Refused.{Refused}
+use Rattle.program_reader.specs.declared.cause.TextFault.{TextFault}
 use Rattle.program_reader.specs.Cause.{text_of_cause}
 use Rattle.trace_input.specs.declared.input.InputFault.{InputFault}
 use Rattle.trace_input.specs.declared.input.InputFault.TheVariants.{Source as SourceFault, BadLine}
 use Rattle.run_ledger.specs.Text.{end_line, refused_line}
-use Rattle.image_check.specs.declared.cause.Fault.{Fault}
-use Rattle.image_check.specs.Cause.{text_of_cause as text_of_fault}
+use Rattle.image_check.specs.declared.cause.ImageFault.{ImageFault}
+use Rattle.image_check.specs.ImageCause.{text_of_cause as text_of_fault}
 use Rattle.refusal_lines.specs.declared.refusal.Refusal.{Refusal}
 use Rattle.refusal_lines.specs.declared.refusal.Refusal.TheVariants.{Words, Source, Line, Entry, Image}
 
@@ -16,7 +16,7 @@ abbrev pub words_line : List ℕ
 words_line = end_line (codes "words refused" ∷ [])
 
 -- a text that isn't a program
-abbrev pub source_line : Refused → List ℕ
+abbrev pub source_line : TextFault → List ℕ
 source_line r = end_line (codes "source refused line" ∷ decimal r.line ∷ text_of_cause r.cause ∷ [])
 
 -- a bad line of a trace
@@ -24,7 +24,7 @@ abbrev pub bad_line : ℕ → List ℕ
 bad_line n = end_line (codes "trace refused line" ∷ decimal n ∷ [])
 
 -- a text that isn't an image
-abbrev pub image_line : Fault → List ℕ
+abbrev pub image_line : ImageFault → List ℕ
 image_line f = end_line (codes "image refused line" ∷ decimal f.line ∷ text_of_fault f.cause ∷ [])
 
 abbrev pub refusal_line : Refusal → List ℕ

@@ -4,7 +4,7 @@
 mod refusal;
 mod text;
 
-pub use program_reader::{Refused, read_program};
+pub use program_reader::{TextFault, read_program};
 pub use refusal::Refusal;
 pub use run_report::{Extras, end_text, outputs_text, report_text, whole_run};
 pub use text::refusal_text;

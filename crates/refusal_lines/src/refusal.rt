@@ -3,8 +3,8 @@
 ghost use Rattle.std.specs.Prelude.{◌≡◌};
 ghost use Rattle.refusal_lines.specs.Refusals.{refusal_of};
 
-use image_check::Fault;
-use program_reader::Refused;
+use image_check::ImageFault;
+use program_reader::TextFault;
 use run_ledger::RefusedAt;
 use trace_input::InputFault;
 
@@ -14,13 +14,13 @@ pub enum Refusal {
     /// The arguments are no command.
     Words,
     /// The text isn't a program.
-    Source(Refused),
+    Source(TextFault),
     /// This line of the trace is bad.
     Line(u32),
     /// The trace isn't that of a whole run: an entry is refused, or it has no end.
     Entry(RefusedAt),
     /// The text isn't an image.
-    Image(Fault),
+    Image(ImageFault),
 }
 
 impl Refusal {

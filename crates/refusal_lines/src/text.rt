@@ -4,13 +4,13 @@ ghost use Rattle.std.specs.Prelude.{◌≡◌, IfOk, string_bytes};
 ghost use Rattle.refusal_lines.specs.Refusals.{image_line, refusal_line, source_line};
 
 use crate::refusal::Refusal;
-use image_check::Fault;
-use program_reader::Refused;
+use image_check::ImageFault;
+use program_reader::TextFault;
 use run_report::refused_text;
 use std::alloc::{AllocError, Global};
 
 // The line for a text that isn't a program.
-fn source_text(alloc: Global, refused: Refused) -> Result<String, AllocError>
+fn source_text(alloc: Global, refused: TextFault) -> Result<String, AllocError>
     ensures { IfOk result (λ text. string_bytes text ≡ source_line refused) }
 {
     let cause = refused.cause.text();
@@ -18,7 +18,7 @@ fn source_text(alloc: Global, refused: Refused) -> Result<String, AllocError>
 }
 
 // The line for a text that isn't an image.
-fn image_text(alloc: Global, fault: Fault) -> Result<String, AllocError>
+fn image_text(alloc: Global, fault: ImageFault) -> Result<String, AllocError>
     ensures { IfOk result (λ text. string_bytes text ≡ image_line fault) }
 {
     let cause = fault.cause.text();

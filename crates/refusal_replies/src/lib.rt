@@ -4,12 +4,12 @@
 ghost use Rattle.std.specs.Prelude.{◌≡◌, IfOk};
 ghost use Rattle.refusal_replies.specs.Refused.{Refuses, status_of_refusal};
 
-pub use all_bytes::ReadError;
-pub use outside_io::{Sink, Source};
+pub use io_traits::{Sink, Source};
+pub use read_write_all::ReadError;
 pub use refusal_lines::Refusal;
 use refusal_lines::refusal_text;
 use std::alloc::{AllocError, Global};
-pub use whole_call::{AnswerStatus, Reply, Status, give, read_up_to};
+pub use whole_call::{AnswerStatus, CallStatus, Reply, give, read_up_to};
 
 fn status_of(refusal: Refusal) -> AnswerStatus
     ensures { result ≡ status_of_refusal refusal }

@@ -3,3 +3,4 @@ mod SourceLemmas
 pub mod Noting
 pub mod LiftLemmas
 mod RewriteLemmas
+mod Common

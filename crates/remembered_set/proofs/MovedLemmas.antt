@@ -1,9 +1,5 @@
--- Where a relocation list in order leads an address.
-use Rattle.std.proofs.Common.{◌≡◌, ℕ, zero, suc, ◌+◌, ◌^◌, ◌<◌, ◌≤◌, true, false, List, [], ◌∷◌, length, get_or, refl, ap, arith, ⊎_elim, eqb, Some, None}
-use Rattle.std.proofs.lemmas.Bool.{and_from, and_parts, cases_Bool, cases_lt, eq-eqb, eqb-true}
-use Rattle.std.proofs.lemmas.List.{get_or_default}
-use Rattle.object_layout.specs.declared.word.Addr.{Addr}
-use Rattle.remembered_set.specs.Moved.{new_of, number_of, same_address, AreInOrder, ArePlaces}
+-- The new address of an address, in a sorted relocation list.
+use Rattle.remembered_set.proofs.Common.{◌≡◌, ℕ, zero, suc, ◌+◌, ◌^◌, ◌<◌, ◌≤◌, true, false, List, [], ◌∷◌, length, get_or, refl, ap, arith, ⊎_elim, eqb, Some, None, and_from, and_parts, cases_Bool, cases_lt, eq-eqb, eqb-true, get_or_default, Addr, new_of, number_of, same_address, AreInOrder, ArePlaces}
 
 same_parts : (a b : Addr) → same_address a b ≡ true → (a.chunk ≡ b.chunk) × (a.offset ≡ b.offset)
 same_parts a b e =

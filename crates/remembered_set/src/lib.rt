@@ -6,4 +6,4 @@ mod moved;
 mod remembered;
 mod table;
 
-pub use remembered::{Remembered, Source};
+pub use remembered::{RefField, Remembered};

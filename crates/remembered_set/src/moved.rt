@@ -1,4 +1,4 @@
-// The relocation list of a collection, and where it leads an address.
+// The relocation list of a collection, and the new address of an address.
 
 ghost use Rattle.std.specs.Prelude.{◌≡◌, ◌^◌, ◌<◌};
 ghost use Rattle.remembered_set.specs.Moved.{new_of, number_of, AreInOrder};
@@ -14,7 +14,7 @@ fn number_of(address: Addr) -> u64
     ((address.chunk as u64) << 32) + address.offset as u64
 }
 
-// The new address of what was moved from an old one.
+// The new address of the object that was moved from an old one.
 pub(crate) fn new_of(moved: &[(Addr, Addr)], old: Addr) -> Option<Addr>
     requires { AreInOrder moved.now }
     ensures { result ≡ new_of moved.now old }

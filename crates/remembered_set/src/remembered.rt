@@ -1,29 +1,29 @@
-// A remembered set, which takes no memory until it is to hold something.
+// A remembered set, which allocates nothing until it holds something.
 
 ghost use Rattle.std.specs.Prelude.{◌≡◌, ◌+◌, ◌<◌, ◌≤◌, [], fold, IfOk, None, OnErr, OnOk, length};
 ghost use Rattle.remembered_set.specs.Sources.{lifted, noted, notes_in, StandOnce};
 ghost use Rattle.remembered_set.specs.Moved.{redirected, targets_of, AreFields, AreInOrder, ArePlaces};
 
-use crate::table::Table;
+use crate::table::FieldTable;
+use boxed::BoxedSlot;
 use object_layout::{Addr, Chunk, Words};
-use out_of_line::Apart;
 use std::alloc::{AllocError, Global};
 use std::marker::Model;
 use std::mem;
 
-/// A reference field of an object: where the object lies, and which of its references it is.
+/// A reference field of an object: the object's address, and the index of the reference.
 #[derive(Clone, Copy, PartialEq, Eq, Hash)]
-pub struct Source {
+pub struct RefField {
     pub object: Addr,
     pub field: u32,
 }
 
-/// The fields that were seen to point down into a heap. A source stays when its field is
-/// overwritten; what it holds is read when it is needed.
+/// The fields that were seen to point down into a heap. A source stays when its field is overwritten; its value is read
+/// when it is needed.
 pub struct Remembered {
     alloc: Global,
-    // None where it holds nothing, and has no places.
-    table: Option<Apart<Table>>,
+    // None if it is empty and has no capacity.
+    table: Option<BoxedSlot<FieldTable>>,
 }
 
 impl Drop for Remembered {
@@ -40,19 +40,22 @@ impl Model for Remembered {
     ghost view = { λ r. notes_in r.table };
 }
 
-// The table that there is, or a new one.
-fn opened(alloc: Global, table: Option<Apart<Table>>) -> Result<Apart<Table>, AllocError>
+// The existing table, or a new one.
+fn opened(
+    alloc: Global,
+    table: Option<BoxedSlot<FieldTable>>,
+) -> Result<BoxedSlot<FieldTable>, AllocError>
     ensures same { IfOk result (λ t. t.sources ≡ (notes_in table).sources) }
     ensures none { OnErr result (table ≡ None) }
 {
     match table {
         Some(table) => Ok(table),
-        None => Ok(Apart::new(alloc, Table::new(alloc))?),
+        None => Ok(BoxedSlot::new(alloc, FieldTable::new(alloc))?),
     }
 }
 
 impl Remembered {
-    /// A set without sources, and without places.
+    /// An empty set without capacity.
     pub fn new(alloc: Global) -> Remembered
         ensures { result ≡ record { sources = []; slots = 0; spare = 0; numbers = 0 } }
     {
@@ -60,7 +63,7 @@ impl Remembered {
     }
 
     /// The sources in the order in which they were noted.
-    pub fn sources(&self) -> &[Source]
+    pub fn sources(&self) -> &[RefField]
         ensures sources { result.now ≡ self.now.sources }
         ensures once { StandOnce self.now.sources }
     {
@@ -70,7 +73,7 @@ impl Remembered {
         }
     }
 
-    /// Makes places for so many sources more, and for a lift to a heap of so many chunks.
+    /// Reserves capacity for `sources` more sources, and for a lift to a heap of `chunks` chunks.
     pub fn make_room(&mut self, sources: u32, chunks: u32) -> Result<(), AllocError>
         ensures kept { self.new.sources ≡ self.old.sources }
         ensures slots { OnOk result (sources ≤ self.new.slots) }
@@ -86,18 +89,18 @@ impl Remembered {
         made
     }
 
-    /// Notes a source, unless it is known.
+    /// Notes a source, unless it is there already.
     pub fn note(&mut self, object: Addr, field: u32) -> Result<(), AllocError>
         ensures ok { OnOk result (self.new.sources ≡ noted self.old.sources (record { object = object; field = field })) }
         ensures err { OnErr result (self.new.sources ≡ self.old.sources) }
     {
         self.make_room(1, 0)?;
-        self.note_spare(Source { object, field });
+        self.note_spare(RefField { object, field });
         Ok(())
     }
 
-    /// The same without memory, where there is a place.
-    pub fn note_spare(&mut self, source: Source)
+    /// Like `note`, but uses reserved capacity and doesn't allocate.
+    pub fn note_spare(&mut self, source: RefField)
         requires slots { 0 < self.old.slots }
         requires spare { 0 < self.old.spare }
         ensures noted { self.new.sources ≡ noted self.old.sources source }
@@ -111,8 +114,8 @@ impl Remembered {
         self.table = Some(table);
     }
 
-    /// What the sources hold now, as far as it points into these chunks: the addresses in the
-    /// order of the sources. Without sources it looks at no chunk.
+    /// What the sources hold now, if it points into these chunks: the addresses in the order of the sources. Without
+    /// sources it looks at no chunk.
     pub fn targets<W: Words>(
         &self,
         alloc: Global,
@@ -128,8 +131,8 @@ impl Remembered {
         }
     }
 
-    /// Leads each source that still holds an old address to the new one, and leaves the others. The
-    /// relocation list stands in order of the old addresses.
+    /// Updates each source that still holds an old address to the new one, and leaves the others unchanged. The
+    /// relocation list is sorted by the old addresses.
     pub fn rewrite<W: Words>(&self, words: &mut W, moved: &[(Addr, Addr)])
         requires fields { AreFields W.refs_at words.old self.now.sources }
         requires order { AreInOrder moved.now }
@@ -142,8 +145,8 @@ impl Remembered {
         }
     }
 
-    /// Notes the sources of another set, but for those whose object lies in one of these chunks:
-    /// of a heap that the other is merged into, say. It takes no memory.
+    /// Notes the sources of another set, except those whose object is in one of these chunks, such as those of a heap
+    /// into which the other is merged. It doesn't allocate.
     pub fn lift(&mut self, from: Remembered, parent: &[Chunk])
         requires slots { length from.sources ≤ self.old.slots }
         requires spare { length from.sources ≤ self.old.spare }

@@ -2,27 +2,27 @@
 
 ghost use Rattle.std.specs.Prelude.{◌≡◌, ℕ, ◌+◌, ◌-◌, ◌<◌, ◌≤◌, [], ◌++◌, filter, fold, IfOk, OnOk, length, nat_eq, not, vec_capacity, vec_len};
 ghost use Rattle.std.specs.HashSet.{contains, hash_set_len, spare};
-ghost use Rattle.remembered_set.specs.declared.remembered.Source.{Source};
+ghost use Rattle.remembered_set.specs.declared.remembered.RefField.{RefField};
 ghost use Rattle.remembered_set.specs.Sources.{has_chunk, has_source, lifted, noted, same_source, KnowsJust, StandOnce};
 ghost use Rattle.remembered_set.specs.Moved.{into_by, redirected, targets_of, AreFields, AreInOrder, ArePlaces};
 
 use crate::moved::new_of;
-use crate::remembered::Source;
+use crate::remembered::RefField;
 use object_layout::{Addr, Chunk, Words};
 use std::alloc::{AllocError, Global};
 use std::collections::HashSet;
 use std::marker::Model;
 
-/// The sources of a heap, in a list and in a table that tells which are known.
-pub struct Table {
-    sources: Vec<Source>,
-    known: HashSet<Source>,
+/// The sources of a heap, in a list and in a hash table.
+pub struct FieldTable {
+    sources: Vec<RefField>,
+    known: HashSet<RefField>,
     numbers: HashSet<u32>,
 }
 
-impl Drop for Table {
+impl Drop for FieldTable {
     fn drop(self) {
-        let Table {
+        let FieldTable {
             sources: _,
             known: _,
             numbers: _,
@@ -30,7 +30,7 @@ impl Drop for Table {
     }
 }
 
-impl Model for Table {
+impl Model for FieldTable {
     ghost use Rattle.std.specs.Prelude.{◌+◌, ◌-◌, vec_capacity, vec_len};
     ghost use Rattle.std.specs.HashSet.{contains, hash_set_len, spare};
     ghost use Rattle.remembered_set.specs.Sources.{same_source, KnowsJust, RememberedValue};
@@ -42,12 +42,12 @@ impl Model for Table {
     ghost invariant = { λ r. KnowsJust r.sources.items (contains same_source r.known) };
 }
 
-impl Table {
-    /// A set without sources.
-    pub fn new(alloc: Global) -> Table
+impl FieldTable {
+    /// An empty set.
+    pub fn new(alloc: Global) -> FieldTable
         ensures { result.sources ≡ [] }
     {
-        Table {
+        FieldTable {
             sources: Vec::new(alloc),
             known: HashSet::new(alloc),
             numbers: HashSet::new(alloc),
@@ -55,14 +55,14 @@ impl Table {
     }
 
     /// The sources in the order in which they were noted.
-    pub fn sources(&self) -> &[Source]
+    pub fn sources(&self) -> &[RefField]
         ensures sources { result.now ≡ self.now.sources }
         ensures once { StandOnce self.now.sources }
     {
         &self.sources
     }
 
-    /// Makes places for so many sources more, and for a lift to a heap of so many chunks.
+    /// Reserves capacity for `sources` more sources, and for a lift to a heap of `chunks` chunks.
     pub fn make_room(&mut self, sources: u32, chunks: u32) -> Result<(), AllocError>
         ensures kept { self.new.sources ≡ self.old.sources }
         ensures slots { OnOk result (sources ≤ self.new.slots) }
@@ -74,8 +74,8 @@ impl Table {
         self.numbers.reserve(chunks as usize)
     }
 
-    /// Notes a source, unless it is known. It takes no memory.
-    pub fn note_spare(&mut self, source: Source)
+    /// Notes a source, unless it is there already. It doesn't allocate.
+    pub fn note_spare(&mut self, source: RefField)
         requires slots { 0 < self.old.slots }
         requires spare { 0 < self.old.spare }
         ensures noted { self.new.sources ≡ noted self.old.sources source }
@@ -85,8 +85,8 @@ impl Table {
         note_in(&mut self.sources, &mut self.known, source);
     }
 
-    /// What the sources hold now, as far as it points into these chunks: the addresses in the
-    /// order of the sources. Without sources it looks at no chunk.
+    /// What the sources hold now, if it points into these chunks: the addresses in the order of the sources. Without
+    /// sources it looks at no chunk.
     pub fn targets<W: Words>(
         &self,
         alloc: Global,
@@ -110,8 +110,8 @@ impl Table {
         Ok(targets)
     }
 
-    /// Leads each source that still holds an old address to the new one, and leaves the others. The
-    /// relocation list stands in order of the old addresses.
+    /// Updates each source that still holds an old address to the new one, and leaves the others unchanged. The
+    /// relocation list is sorted by the old addresses.
     pub fn rewrite<W: Words>(&self, words: &mut W, moved: &[(Addr, Addr)])
         requires fields { AreFields W.refs_at words.old self.now.sources }
         requires order { AreInOrder moved.now }
@@ -124,9 +124,9 @@ impl Table {
         }
     }
 
-    /// Notes the sources of another set, but for those whose object lies in one of these chunks:
-    /// of a heap that the other is merged into, say. It takes no memory.
-    pub fn lift(&mut self, from: &[Source], parent: &[Chunk])
+    /// Notes the sources of another set, except those whose object is in one of these chunks, such as those of a heap
+    /// into which the other is merged. It doesn't allocate.
+    pub fn lift(&mut self, from: &[RefField], parent: &[Chunk])
         requires slots { length from.now ≤ self.old.slots }
         requires spare { length from.now ≤ self.old.spare }
         requires numbers { length parent.now ≤ self.old.numbers }
@@ -156,13 +156,13 @@ fn push_target(
     Ok(())
 }
 
-// Notes a source in a list and its table, unless it is known.
-fn note_in(sources: &mut Vec<Source>, known: &mut HashSet<Source>, source: Source)
+// Notes a source in a list and its table, unless it is there already.
+fn note_in(sources: &mut Vec<RefField>, known: &mut HashSet<RefField>, source: RefField)
     requires slots { vec_len sources.old < vec_capacity sources.old }
     requires spare { 0 < spare known.old }
     requires kept { KnowsJust sources.old.items (contains same_source known.old) }
     ensures noted { sources.new.items ≡ noted sources.old.items source }
-    ensures known { (s : Source) → contains same_source known.new s ≡ has_source sources.new.items s }
+    ensures known { (s : RefField) → contains same_source known.new s ≡ has_source sources.new.items s }
     ensures once { StandOnce sources.new.items }
     ensures slots { vec_capacity sources.old - vec_len sources.old ≤ vec_capacity sources.new - vec_len sources.new + 1 }
     ensures spare { spare known.old ≤ spare known.new + 1 }
@@ -172,12 +172,12 @@ fn note_in(sources: &mut Vec<Source>, known: &mut HashSet<Source>, source: Sourc
     }
 }
 
-// Notes those of these sources whose object doesn't lie in a chunk of one of these numbers.
+// Notes those of these sources whose object isn't in a chunk of one of these numbers.
 fn note_all(
-    sources: &mut Vec<Source>,
-    known: &mut HashSet<Source>,
+    sources: &mut Vec<RefField>,
+    known: &mut HashSet<RefField>,
     numbers: &HashSet<u32>,
-    from: &[Source],
+    from: &[RefField],
 )
     requires slots { length from.now ≤ vec_capacity sources.old - vec_len sources.old }
     requires spare { length from.now ≤ spare known.old }
@@ -194,7 +194,7 @@ fn note_all(
     }
 }
 
-// Makes a set the numbers of these chunks.
+// Fills a set with the numbers of these chunks.
 fn number_chunks(numbers: &mut HashSet<u32>, chunks: &[Chunk])
     requires { length chunks.now ≤ hash_set_len numbers.old + spare numbers.old }
     ensures known { (number : ℕ) → contains nat_eq numbers.new number ≡ has_chunk chunks.now number }
@@ -209,8 +209,8 @@ fn number_chunks(numbers: &mut HashSet<u32>, chunks: &[Chunk])
     }
 }
 
-// Leads a source that still holds an old address to the new one.
-fn redirect<W: Words>(words: &mut W, source: Source, moved: &[(Addr, Addr)])
+// Updates a source that still holds an old address to the new one.
+fn redirect<W: Words>(words: &mut W, source: RefField, moved: &[(Addr, Addr)])
     requires field { source.field < length (W.refs_at words.old source.object) }
     requires order { AreInOrder moved.now }
     requires places { ArePlaces moved.now }

@@ -1,10 +1,5 @@
 -- Walks and places under a renaming.
-use Rattle.std.proofs.Common.{ℕ, List, [], ◌∷◌, Contains, map, ap, ◌∙◌}
-use Rattle.listed.proofs.Members.{In, in_from_contains, contains_from_in}
-use Rattle.hh_model.specs.declared.data.Strand.{Strand}
-use Rattle.hh_model.specs.declared.data.Edge.{Edge}
-use Rattle.hh_model.specs.Precedence.{IsWalk, Precedes}
-use Rattle.renaming_laws.specs.Renaming.{strand_to, edge_to}
+use Rattle.renaming_laws.proofs.Common.{ℕ, List, [], ◌∷◌, Contains, map, ap, ◌∙◌, In, in_from_contains, contains_from_in, Strand, Edge, IsWalk, Precedes, strand_to, edge_to}
 
 module _ (f : ℕ → ℕ) (all all' : List Edge) (each : (e : Edge) → In all e → In all' (edge_to f e)) where
   edge_carried : (e : Edge) → Contains all e → Contains all' (edge_to f e)

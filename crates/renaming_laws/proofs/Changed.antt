@@ -1,13 +1,5 @@
 -- How an instruction changes the store, by what it does and not by the resulting store.
-use Rattle.std.proofs.Common.{◌≡◌, ℕ, ℤ, ◌==◌, Bool, true, false, Option, Some, None, List, [], ◌∷◌, ◌++◌, length, slice_get, slice_set}
-use Rattle.std.specs.Option.{option_flatten}
-use Rattle.hh_lang.specs.declared.instr.Instr.{Instr}
-use Rattle.hh_lang.specs.declared.instr.Instr.TheVariants.{Getr, Geti, Putr, Puti, Freeze, Cas}
-use Rattle.hh_model.specs.declared.data.Name.{Name}
-use Rattle.hh_model.specs.declared.data.Object.{Object}
-use Rattle.hh_model.specs.declared.data.Frame.{Frame}
-use Rattle.hh_model.specs.Effect.{Setting, int_in, object_at, place_in, ref_in, row_of, same_name}
-use Rattle.renaming_laws.specs.Renaming.{name_to, object_to, ref_to}
+use Rattle.renaming_laws.proofs.Common.{◌≡◌, ℕ, ℤ, ◌==◌, Bool, true, false, Option, Some, None, List, [], ◌∷◌, ◌++◌, length, slice_get, slice_set, option_flatten, Instr, Getr, Geti, Putr, Puti, Freeze, Cas, Name, Object, Frame, StepContext, int_in, object_at, place_in, ref_in, row_of, same_name, name_to, object_to, ref_to}
 
 -- one object becomes another
 pub data Edit : Type 0 where
@@ -54,7 +46,7 @@ abbrev pub fields_of : Bool → Object → ℕ
 fields_of false o = length o.refs
 fields_of true o = length o.ints
 
-module _ (s : Setting) (x : Frame) (store : List (List Object)) where
+module _ (s : StepContext) (x : Frame) (store : List (List Object)) where
   -- two registers name a field that exists; if it is to be written its object is mutable
   pub record Reach (number writes : Bool) (o k : ℕ) (b : Bool) (n : Name) (at : ℕ) : Type 0 where
     pub kind : b ≡ number

@@ -1,24 +1,7 @@
 -- A renaming preserves what an instruction does: if the frame, the object that it names, the field that it reads and
 -- its tests are alike, so is its effect.
-use Rattle.std.proofs.Common.{◌≡◌, ℕ, zero, suc, pos, ◌==◌, ◌&&◌, Bool, true, false, cond, Option, Some, None, List, [], ◌∷◌, ◌++◌, length, map, take, replicate, slice_get, slice_set, unwrap_or, inl, inr, refl, ap, ap₂, sym, subst, ◌∙◌, eq-eqb, ne_eqb}
-use Rattle.std.specs.Option.{option_flatten, option_map}
-use Rattle.std.proofs.lemmas.Bool.{cases_eq, false≢true}
-use Rattle.std.proofs.Math.Seq.{map-set}
-use Rattle.std.proofs.lemmas.Option.{slice_get-map}
-use Rattle.std.proofs.lemmas.List.{take-map}
-use Rattle.listed.proofs.Members.{In}
-use Rattle.hh_lang.specs.declared.instr.Instr.{Instr}
-use Rattle.hh_lang.specs.declared.instr.Instr.TheVariants.{Set, Mov, Movr, Nil as NilOf, Calc, Same as SameOf, Jmp, Jz, Newm, Pack, Getr, Geti, Putr, Puti, Cntr, Cnti, Freeze, Cas, Call, Par, Ret, Out}
-use Rattle.hh_model.specs.declared.data.Name.{Name}
-use Rattle.hh_model.specs.declared.data.Edge.{Edge}
-use Rattle.hh_model.specs.declared.data.Object.{Object}
-use Rattle.hh_model.specs.declared.data.Frame.{Frame}
-use Rattle.hh_model.specs.declared.data.Trap.{Trap}
-use Rattle.hh_model.specs.declared.data.Trap.TheVariants.{Nil, Range, Frozen, Div, Size}
-use Rattle.hh_model.specs.Effect.{Effect, Goes, Prints, Calls, Forks, Returns, Traps, Stops, Setting, effect, made, row_of, object_at, put_object, counts_in, int_in, ref_in, or_trap, with_object, read_effect, calculated, place_in, flag, same_name, onward, with_ref, with_int, int_eq, unless_frozen}
-use Rattle.hh_model.specs.Precedence.{precedes}
-use Rattle.hh_model.proofs.Carried.{at_in}
-use Rattle.renaming_laws.specs.Renaming.{name_to, ref_to, strand_to, object_to, frame_to}
+use Rattle.renaming_laws.proofs.Common.{◌≡◌, ℕ, zero, suc, pos, ◌==◌, ◌&&◌, Bool, true, false, cond, Option, Some, None, List, [], ◌∷◌, ◌++◌, length, map, take, replicate, slice_get, slice_set, unwrap_or, inl, inr, refl, ap, ap₂, sym, subst, ◌∙◌, eq-eqb, ne_eqb, option_flatten, option_map, cases_eq, false≢true, map-set, slice_get-map, take-map, In, Instr, Set, Mov, Movr, Nil as NilOf, Calc, Same as SameOf, Jmp, Jz, Newm, Pack, Getr, Geti, Putr, Puti, Cntr, Cnti, Freeze, Cas, Call, Par, Ret, Out, Name, Edge, Object, Frame, Trap, Range, Frozen, Div, Size, Effect, Goes, Prints, Calls, Forks, Returns, Traps, Stops, StepContext, effect, made, row_of, object_at, put_object, counts_in, int_in, ref_in, or_trap, with_object, read_effect, calculated, place_in, flag, same_name, onward, with_ref, with_int, int_eq, unless_frozen, precedes, at_in, name_to, ref_to, strand_to, object_to, frame_to}
+use Rattle.hh_model.specs.declared.data.Trap.TheVariants.{Nil}
 use Rattle.renaming_laws.proofs.Changed.{Change, Same, Grows, Edits, ChangesBy, Edit, SetRef, SetNumber, Freezes, EditsBy, Reach, Reaches, change_to, changed, edit_to, edited, put_in}
 
 module _ (f g : ℕ → ℕ) (back : (t : ℕ) → g (f t) ≡ t) where
@@ -53,8 +36,8 @@ module _ (f g : ℕ → ℕ) (back : (t : ℕ) → g (f t) ≡ t) where
   -- WHAT IS SEEN
 
   -- May b n k: the instruction may see field k of object n, a number field if b
-  module _ (s : Setting) (edges' : List Edge) (owner' : ℕ → ℕ) (x : Frame) (store store' : List (List Object)) (May : Bool → Name → ℕ → Type 0) where
-    abbrev s' : Setting
+  module _ (s : StepContext) (edges' : List Edge) (owner' : ℕ → ℕ) (x : Frame) (store store' : List (List Object)) (May : Bool → Name → ℕ → Type 0) where
+    abbrev s' : StepContext
     s' = record { task = f s.task; strand = strand_to f s.strand; field_limit = s.field_limit; edges = edges'; owner = owner' }
 
     abbrev x' : Frame
@@ -102,8 +85,8 @@ module _ (f g : ℕ → ℕ) (back : (t : ℕ) → g (f t) ≡ t) where
       abbrev To : Effect → Effect → Type 0
       To = EffectTo i
 
-      same : (a b : Frame) → b ≡ frame_to f a → To (Goes a store) (Goes b store')
-      same a b e = (Same, e, refl, refl, tt)
+      same_store : (a b : Frame) → b ≡ frame_to f a → To (Goes a store) (Goes b store')
+      same_store a b e = (Same, e, refl, refl, tt)
 
       trap : {A : Type 0} (t : Trap) (o : Option A) (go go' : A → Effect) → ((y : A) → o ≡ Some y → To (go y) (go' y)) → To (or_trap t o go) (or_trap t o go')
       trap t None go go' each = refl
@@ -116,7 +99,7 @@ module _ (f g : ℕ → ℕ) (back : (t : ℕ) → g (f t) ≡ t) where
       object : (o : ℕ) (go go' : Name → Object → Effect)
           → ((n : Name) (y y' : Object) → ref_in x o ≡ Some n → In x.refs (Some n) → object_at store n ≡ Some y → object_at store' (name_to f n) ≡ Some y' → IsSeen n y y' → To (go n y) (go' (name_to f n) y'))
           → To (with_object store (ref_in x o) go) (with_object store' (ref_in x' o) go')
-      object o go go' each = subst (λ r. To (with_object store (ref_in x o) go) (with_object store' r go')) (sym (ref_carried x o)) (by (ref_in x o) refl)
+      object o go go' each = subst (λ r. To (with_object store (ref_in x o) go) (with_object store' r go')) (sym (ref_carried x o)) (object_by_cases (ref_in x o) refl)
         where
           pair : (n : Name) → ref_in x o ≡ Some n → (a b : Option Object) → object_at store n ≡ a → object_at store' (name_to f n) ≡ b → SeenTo n a b → To (or_trap Nil a (go n)) (or_trap Nil b (go' (name_to f n)))
           pair n e None None ea eb h = refl
@@ -124,9 +107,9 @@ module _ (f g : ℕ → ℕ) (back : (t : ℕ) → g (f t) ≡ t) where
           pair n e None (Some y') ea eb h = absurd h
           pair n e (Some y) None ea eb h = absurd h
 
-          by : (r : Option Name) → ref_in x o ≡ r → To (with_object store r go) (with_object store' (ref_to f r) go')
-          by None e = refl
-          by (Some n) e = pair n e (object_at store n) (object_at store' (name_to f n)) refl refl (S.objects n (at_in x.refs o n e))
+          object_by_cases : (r : Option Name) → ref_in x o ≡ r → To (with_object store r go) (with_object store' (ref_to f r) go')
+          object_by_cases None e = refl
+          object_by_cases (Some n) e = pair n e (object_at store n) (object_at store' (name_to f n)) refl refl (S.objects n (at_in x.refs o n e))
 
       -- the index of a field, if the counts agree
       place : (c c' : ℕ) (k : ℕ) (go go' : ℕ → Effect) → c' ≡ c → ((at : ℕ) → place_in c (int_in x k) ≡ Some at → To (go at) (go' at)) → To (or_trap Range (place_in c (int_in x k)) go) (or_trap Range (place_in c' (int_in x' k)) go')
@@ -145,11 +128,11 @@ module _ (f g : ℕ → ℕ) (back : (t : ℕ) → g (f t) ≡ t) where
       )
 
       unless : (y y' : Object) (e e' : Effect) → y'.mutable ≡ y.mutable → (y.mutable ≡ true → To e e') → To (unless_frozen y e) (unless_frozen y' e')
-      unless y y' e e' same_flag h = subst (λ b. To (cond y.mutable e (Traps Frozen)) (cond b e' (Traps Frozen))) (sym same_flag) (by y.mutable h)
+      unless y y' e e' same_flag h = subst (λ b. To (cond y.mutable e (Traps Frozen)) (cond b e' (Traps Frozen))) (sym same_flag) (unless_by_cases y.mutable h)
         where
-          by : (b : Bool) → (b ≡ true → To e e') → To (cond b e (Traps Frozen)) (cond b e' (Traps Frozen))
-          by true h = h refl
-          by false h = refl
+          unless_by_cases : (b : Bool) → (b ≡ true → To e e') → To (cond b e (Traps Frozen)) (cond b e' (Traps Frozen))
+          unless_by_cases true h = h refl
+          unless_by_cases false h = refl
 
       put : (n : Name) (y y' : Object) (e : Edit) (a b : Frame) (z : Object) → b ≡ frame_to f a → z ≡ edited (edit_to f e) y' → object_at store n ≡ Some y → object_at store' (name_to f n) ≡ Some y' → EditsBy s x store i n e
           → To (Goes a (put_object store n (edited e y))) (Goes b (put_object store' (name_to f n) z))
@@ -162,33 +145,33 @@ module _ (f g : ℕ → ℕ) (back : (t : ℕ) → g (f t) ≡ t) where
       )
 
       read : (d : ℕ) (r : Option Name) → ((q : Name) → r ≡ Some q → TestTo (object_at store q) (object_at store' (name_to f q))) → To (read_effect s x store d r) (read_effect s' x' store' d (ref_to f r))
-      read d None test = same _ _ (set_reg d None None refl)
-      read d (Some q) test = by (object_at store q) (object_at store' (name_to f q)) (test q refl)
+      read d None test = same_store _ _ (set_reg d None None refl)
+      read d (Some q) test = read_by_cases (object_at store q) (object_at store' (name_to f q)) (test q refl)
         where
-          by : (a b : Option Object) → TestTo a b
+          read_by_cases : (a b : Option Object) → TestTo a b
               → To (or_trap Nil a (λ o. cond (precedes s.edges o.strand s.strand) (Goes (onward (with_ref x d (Some q))) store) (Stops q)))
               (or_trap Nil b (λ o. cond (precedes edges' o.strand (strand_to f s.strand)) (Goes (onward (with_ref x' d (Some (name_to f q)))) store') (Stops (name_to f q))))
-          by None None h = refl
-          by (Some o) (Some o') h =
+          read_by_cases None None h = refl
+          read_by_cases (Some o) (Some o') h =
               subst (λ b. To (cond (precedes s.edges o.strand s.strand) (Goes (onward (with_ref x d (Some q))) store) (Stops q)) (cond b (Goes (onward (with_ref x' d (Some (name_to f q)))) store') (Stops (name_to f q)))) (sym h)
-              (either (precedes s.edges o.strand s.strand) _ (Stops q) _ (Stops (name_to f q)) (same _ _ (set_reg d (Some q) _ refl)) refl)
-          by None (Some o') h = absurd h
-          by (Some o) None h = absurd h
+              (either (precedes s.edges o.strand s.strand) _ (Stops q) _ (Stops (name_to f q)) (same_store _ _ (set_reg d (Some q) _ refl)) refl)
+          read_by_cases None (Some o') h = absurd h
+          read_by_cases (Some o) None h = absurd h
 
       jumps : (to : ℕ) (b : Bool) → To (Goes (cond b (record x { next = to }) (onward x)) store) (Goes (cond b (record x' { next = to }) (onward x')) store')
-      jumps to true = same _ _ refl
-      jumps to false = same _ _ refl
+      jumps to true = same_store _ _ refl
+      jumps to false = same_store _ _ refl
 
     module _ (S : Sees) where
       pub effect_carried : (i : Instr) → ((b : Bool) (n : Name) (at : ℕ) → Reaches s x store i b n at → May b n at) → EffectTo i (effect s x store i) (effect s' x' store' i)
-      effect_carried (Set d k) may = same S (Set d k) _ _ refl
-      effect_carried (Mov d a) may = same S (Mov d a) _ _ refl
-      effect_carried (Movr d a) may = same S (Movr d a) _ _ (set_reg S (Movr d a) d (ref_in x a) (ref_in x' a) (ref_carried x a))
-      effect_carried (NilOf d) may = same S (NilOf d) _ _ (set_reg S (NilOf d) d None None refl)
-      effect_carried (Calc op d a b) may = let i = Calc op d a b in trap S i Div (calculated op (int_in x a) (int_in x b)) _ _ (λ y e. same S i _ _ refl)
+      effect_carried (Set d k) may = same_store S (Set d k) _ _ refl
+      effect_carried (Mov d a) may = same_store S (Mov d a) _ _ refl
+      effect_carried (Movr d a) may = same_store S (Movr d a) _ _ (set_reg S (Movr d a) d (ref_in x a) (ref_in x' a) (ref_carried x a))
+      effect_carried (NilOf d) may = same_store S (NilOf d) _ _ (set_reg S (NilOf d) d None None refl)
+      effect_carried (Calc op d a b) may = let i = Calc op d a b in trap S i Div (calculated op (int_in x a) (int_in x b)) _ _ (λ y e. same_store S i _ _ refl)
       effect_carried (SameOf d a b) may =
-          same S (SameOf d a b) _ _ (ap (λ w. onward (with_int x' d (flag w))) (ap₂ same_name (ref_carried x a) (ref_carried x b) ∙ same_carried (ref_in x a) (ref_in x b)))
-      effect_carried (Jmp to) may = same S (Jmp to) _ _ refl
+          same_store S (SameOf d a b) _ _ (ap (λ w. onward (with_int x' d (flag w))) (ap₂ same_name (ref_carried x a) (ref_carried x b) ∙ same_carried (ref_in x a) (ref_in x b)))
+      effect_carried (Jmp to) may = same_store S (Jmp to) _ _ refl
       effect_carried (Jz a to) may = jumps S (Jz a to) to (int_eq (int_in x a) (pos 0))
       effect_carried (Newm d a b) may =
           let i = Newm d a b in
@@ -207,7 +190,7 @@ module _ (f g : ℕ → ℕ) (back : (t : ℕ) → g (f t) ≡ t) where
           object S i o _ _ (λ n y y' e held was was' seen.
           place S i (length y.ints) (length y'.ints) k _ _ seen.ints (λ at e'.
           let m = may true n at (record { kind = refl; name = e; object = y; is = was; place = e'; mutable = λ z. absurd (false≢true z) }) in
-          same S i _ _ (ap (λ w. onward (with_int x' d (unwrap_or w (pos 0)))) (seen.int_at at m))))
+          same_store S i _ _ (ap (λ w. onward (with_int x' d (unwrap_or w (pos 0)))) (seen.int_at at m))))
       effect_carried (Putr o k v) may =
           let i = Putr o k v in
           object S i o _ _ (λ n y y' e held was was' seen.
@@ -220,8 +203,8 @@ module _ (f g : ℕ → ℕ) (back : (t : ℕ) → g (f t) ≡ t) where
           place S i (length y.ints) (length y'.ints) k _ _ seen.ints (λ at e'. unless S i y y' _ _ seen.mutable (λ mutable.
           put S i n y y' (SetNumber at (int_in x v)) _ _ _ refl refl was was'
           (record { kind = refl; name = e; object = y; is = was; place = e'; mutable = λ z. mutable }))))
-      effect_carried (Cntr d o) may = let i = Cntr d o in object S i o _ _ (λ n y y' e held was was' seen. same S i _ _ (ap (λ c. onward (with_int x' d (pos c))) seen.refs))
-      effect_carried (Cnti d o) may = let i = Cnti d o in object S i o _ _ (λ n y y' e held was was' seen. same S i _ _ (ap (λ c. onward (with_int x' d (pos c))) seen.ints))
+      effect_carried (Cntr d o) may = let i = Cntr d o in object S i o _ _ (λ n y y' e held was was' seen. same_store S i _ _ (ap (λ c. onward (with_int x' d (pos c))) seen.refs))
+      effect_carried (Cnti d o) may = let i = Cnti d o in object S i o _ _ (λ n y y' e held was was' seen. same_store S i _ _ (ap (λ c. onward (with_int x' d (pos c))) seen.ints))
       effect_carried (Freeze o) may =
           let i = Freeze o in
           object S i o _ _ (λ n y y' e held was was' seen.
@@ -251,7 +234,7 @@ module _ (f g : ℕ → ℕ) (back : (t : ℕ) → g (f t) ≡ t) where
               (cond b (Goes (onward (with_int x' d (pos 1))) (put_object store' (name_to f n) (record y' { refs = slice_set y'.refs at (ref_in x' v) }))) (Goes (onward (with_int x' d (pos 0))) store'))
           swapped d o k w v n y y' at r was' true e =
               put S (Cas d o k w v) n r.object y' (SetRef at (ref_in x v)) _ _ _ refl (ap (λ q. record y' { refs = slice_set y'.refs at q }) (ref_carried x v)) r.is was' (r, e)
-          swapped d o k w v n y y' at r was' false e = same S (Cas d o k w v) _ _ refl
+          swapped d o k w v n y y' at r was' false e = same_store S (Cas d o k w v) _ _ refl
       effect_carried (Call a) may = refl
       effect_carried (Par a b) may = (refl, refl)
       effect_carried Ret may = tt

@@ -1,14 +1,5 @@
 -- What a renaming leaves unchanged: whatever names only tasks that keep their numbers.
-use Rattle.std.proofs.Common.{◌≡◌, ℕ, ℤ, Option, Some, None, List, [], ◌∷◌, map, inl, inr, refl, ap}
-use Rattle.std.specs.Option.{option_map}
-use Rattle.listed.proofs.Members.{In}
-use Rattle.hh_model.specs.declared.data.Name.{Name}
-use Rattle.hh_model.specs.declared.data.Object.{Object}
-use Rattle.hh_model.specs.declared.data.Frame.{Frame}
-use Rattle.hh_model.specs.declared.data.Status.{Status}
-use Rattle.hh_model.specs.declared.data.Status.TheVariants.{Running, Waiting, Ended, Joined}
-use Rattle.hh_model.specs.declared.data.Task.{Task}
-use Rattle.renaming_laws.specs.Renaming.{ref_to, object_to, frame_to, status_to, task_to}
+use Rattle.renaming_laws.proofs.Common.{◌≡◌, ℕ, ℤ, Option, Some, None, List, [], ◌∷◌, map, inl, inr, refl, ap, option_map, In, Name, Object, Frame, TaskStatus, Running, Waiting, Ended, Joined, Task, ref_to, object_to, frame_to, status_to, task_to}
 
 module _ (f : ℕ → ℕ) where
   -- these references name tasks that keep their numbers
@@ -57,7 +48,7 @@ module _ (f : ℕ → ℕ) where
   parent_fixed None h = refl
   parent_fixed (Some q) h = ap Some (h q refl)
 
-  status_fixed : (s : Status) → ((k : ℤ) (r : Name) → s ≡ Ended k (Some r) → f r.task ≡ r.task) → status_to f s ≡ s
+  status_fixed : (s : TaskStatus) → ((k : ℤ) (r : Name) → s ≡ Ended k (Some r) → f r.task ≡ r.task) → status_to f s ≡ s
   status_fixed Running h = refl
   status_fixed Waiting h = refl
   status_fixed (Ended k None) h = refl

@@ -1,22 +1,5 @@
 -- A step of a renamed task is the renamed step.
-use Rattle.std.proofs.Common.{◌≡◌, ℕ, ℤ, ◌+◌, ◌≤◌, Bool, Option, Some, None, List, [], ◌∷◌, ◌++◌, length, map, slice_get, slice_set, inl, inr, refl, ap, sym, subst, ◌∙◌, arith, length-append, length-set}
-use Rattle.std.specs.Option.{option_map}
-use Rattle.std.proofs.lemmas.Option.{slice_get-map}
-use Rattle.listed.proofs.Members.{In, in_append_cases, in_append_left, in_append_right}
-use Rattle.listed.proofs.Places.{in_map}
-use Rattle.hh_model.specs.declared.data.Name.{Name}
-use Rattle.hh_model.specs.declared.data.Edge.{Edge}
-use Rattle.hh_model.specs.declared.data.Object.{Object}
-use Rattle.hh_model.specs.declared.data.Frame.{Frame}
-use Rattle.hh_model.specs.declared.data.Status.{Status}
-use Rattle.hh_model.specs.declared.data.Status.TheVariants.{Running, Waiting, Ended, Joined}
-use Rattle.hh_model.specs.declared.data.Task.{Task}
-use Rattle.hh_model.specs.declared.data.End.{End}
-use Rattle.hh_model.specs.declared.data.State.{State}
-use Rattle.hh_model.specs.Effect.{object_at, row_of, with_int, with_ref}
-use Rattle.hh_model.specs.Step.{can_step, edge, ended_by, goes_on, is_running, join_of, joined_task, result_at, result_in, resumed, runs, strand, with_task}
-use Rattle.renaming_laws.specs.Renaming.{IsRenaming, name_to, ref_to, edge_to, object_to, frame_to, status_to, task_to, end_to}
-use Rattle.renaming_laws.specs.Alike.{AreAlike}
+use Rattle.renaming_laws.proofs.Common.{◌≡◌, ℕ, ℤ, ◌+◌, ◌≤◌, Bool, Option, Some, None, List, [], ◌∷◌, ◌++◌, length, map, slice_get, slice_set, inl, inr, refl, ap, sym, subst, ◌∙◌, arith, length-append, length-set, option_map, slice_get-map, In, in_append_cases, in_append_left, in_append_right, in_map, Name, Edge, Object, Frame, TaskStatus, Running, Waiting, Ended, Joined, Task, End, MachineState, object_at, row_of, with_int, with_ref, can_step, edge, ended_by, goes_on, is_running, join_of, joined_task, result_at, result_in, resumed, runs, strand, with_task, IsRenaming, name_to, ref_to, edge_to, object_to, frame_to, status_to, task_to, end_to, AreAlike}
 use Rattle.renaming_laws.proofs.Effects.{set_carried}
 use Rattle.renaming_laws.proofs.Lists.{ListTo, from_map, push_to, set_to}
 
@@ -25,23 +8,23 @@ result_to f r = (r.0, ref_to f r.1)
 
 pub kept_to : (f : ℕ → ℕ) (o : Option Task) → result_at (option_map (task_to f) o) ≡ option_map (result_to f) (result_at o)
 kept_to f None = refl
-kept_to f (Some x) = by x.status
+kept_to f (Some x) = kept_to_by_cases x.status
   where
-    by : (s : Status) → result_in (status_to f s) ≡ option_map (result_to f) (result_in s)
-    by Running = refl
-    by Waiting = refl
-    by (Ended k r) = refl
-    by Joined = refl
+    kept_to_by_cases : (s : TaskStatus) → result_in (status_to f s) ≡ option_map (result_to f) (result_in s)
+    kept_to_by_cases Running = refl
+    kept_to_by_cases Waiting = refl
+    kept_to_by_cases (Ended k r) = refl
+    kept_to_by_cases Joined = refl
 
 runs_to : (f : ℕ → ℕ) (o : Option Task) → is_running (option_map (task_to f) o) ≡ is_running o
 runs_to f None = refl
-runs_to f (Some x) = by x.status
+runs_to f (Some x) = runs_to_by_cases x.status
   where
-    by : (s : Status) → runs (status_to f s) ≡ runs s
-    by Running = refl
-    by Waiting = refl
-    by (Ended k r) = refl
-    by Joined = refl
+    runs_to_by_cases : (s : TaskStatus) → runs (status_to f s) ≡ runs s
+    runs_to_by_cases Running = refl
+    runs_to_by_cases Waiting = refl
+    runs_to_by_cases (Ended k r) = refl
+    runs_to_by_cases Joined = refl
 
 goes_to : (f : ℕ → ℕ) (e : Option End) (b : Bool) → goes_on (option_map (end_to f) e) b ≡ goes_on e b
 goes_to f None b = refl
@@ -51,7 +34,7 @@ pub row_to : (f : ℕ → ℕ) (o : Option (List Object)) → row_of (option_map
 row_to f None = refl
 row_to f (Some row) = refl
 
-module _ (n : ℕ) (f g : ℕ → ℕ) (R : IsRenaming n f g) (m m' : State) (A : AreAlike f m m') where
+module _ (n : ℕ) (f g : ℕ → ℕ) (R : IsRenaming n f g) (m m' : MachineState) (A : AreAlike f m m') where
   abbrev TasksTo : List Task → List Task → Type 0
   TasksTo = ListTo f g R.back (task_to f)
 

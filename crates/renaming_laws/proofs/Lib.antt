@@ -10,3 +10,4 @@ pub mod Follows
 pub mod Stepped
 pub mod Runs
 mod Named
+mod Common

@@ -1,10 +1,5 @@
 -- Lists that agree under a renaming: item k of one, changed by h, is item f k of the other.
-use Rattle.std.proofs.Common.{◌≡◌, ℕ, zero, suc, ◌+◌, ◌-◌, ◌<◌, ◌≤◌, Option, Some, None, List, [], ◌∷◌, ◌++◌, length, map, slice_get, slice_set, ◌⊎◌, inl, inr, refl, ap, sym, subst, ◌∙◌, arith}
-use Rattle.std.specs.Option.{option_map}
-use Rattle.std.proofs.lemmas.Bool.{cases_eq, cases_lt}
-use Rattle.std.proofs.lemmas.Option.{slice_get-map}
-use Rattle.listed.proofs.Members.{In, got_front, got_back, got_other}
-use Rattle.hh_model.specs.Step.{last_of, front_of}
+use Rattle.renaming_laws.proofs.Common.{◌≡◌, ℕ, zero, suc, ◌+◌, ◌-◌, ◌<◌, ◌≤◌, Option, Some, None, List, [], ◌∷◌, ◌++◌, length, map, slice_get, slice_set, ◌⊎◌, inl, inr, refl, ap, sym, subst, ◌∙◌, arith, option_map, cases_eq, cases_lt, slice_get-map, In, got_front, got_back, got_other, last_of, front_of}
 
 pub got_set : {A : Type 0} (xs : List A) (k : ℕ) (x : A) → slice_get (slice_set xs k x) k ≡ option_map (λ y. x) (slice_get xs k)
 got_set [] k x = refl

@@ -1,20 +1,6 @@
 -- Places identify tasks.
-use Rattle.std.proofs.Common.{◌≡◌, ℕ, zero, suc, ◌+◌, ◌<◌, ◌≤◌, ◌%◌, ◌⊎◌, inl, inr, true, false, Some, List, [], ◌∷◌, ◌++◌, Contains, length, slice_get, slice_set, refl, ap, sym, subst, ◌∙◌, arith, eq-eqb, ne_eqb, length-append, length-set}
-use Rattle.std.proofs.lemmas.Bool.{cases_eq, cases_lt}
-use Rattle.std.proofs.lemmas.Option.{same_Some}
-use Rattle.listed.proofs.Members.{In, contains_from_in, got_front, got_other, got_same, got_within, in_append_cases, in_append_left, in_append_right, in_from_contains}
-use Rattle.hh_lang.specs.Form.{ProgramText}
-use Rattle.hh_model.specs.declared.data.Strand.{Strand}
-use Rattle.hh_model.specs.declared.data.Edge.{Edge}
-use Rattle.hh_model.specs.declared.data.Task.{Task}
-use Rattle.hh_model.specs.declared.data.State.{State}
-use Rattle.hh_model.specs.declared.data.Status.TheVariants.{Running, Waiting}
-use Rattle.hh_model.specs.Effect.{onward}
-use Rattle.hh_model.specs.Step.{child, edge, parent_of, parents, ended_task, is_left, is_running, joined_task, result_of, resumed, run_from, start, step, strand, strand_of, waits}
-use Rattle.hh_model.proofs.ForkJoinStates.{IsForkJoinState, start_is_fork_join_state, step_is_fork_join_state}
-use Rattle.hh_model.proofs.Steps.{runs_is, step_cases}
-use Rattle.renaming_laws.specs.PlaceLaw.{PlacesAreNames}
-use Rattle.renaming_laws.specs.Places.{IsPlace, Place}
+use Rattle.renaming_laws.proofs.Common.{◌≡◌, ℕ, zero, suc, ◌+◌, ◌<◌, ◌≤◌, ◌%◌, ◌⊎◌, inl, inr, true, false, Some, List, [], ◌∷◌, ◌++◌, Contains, length, slice_get, slice_set, refl, ap, sym, subst, ◌∙◌, arith, eq-eqb, ne_eqb, length-append, length-set, cases_eq, cases_lt, same_Some, In, contains_from_in, got_front, got_other, got_same, got_within, in_append_cases, in_append_left, in_append_right, in_from_contains, ProgramText, Strand, Edge, Task, MachineState, Running, Waiting, onward, child, edge, parent_of, parents, ended_task, is_left, is_running, joined_task, result_of, resumed, run_from, start, step, strand, strand_of, waits, start_is_fork_join_state, step_is_fork_join_state, runs_is, step_cases, PlacesAreNames, IsPlace, Place}
+use Rattle.hh_model.proofs.ForkJoinStates.{IsForkJoinState}
 
 -- INVARIANTS of the edges of forks, which lead into first strands
 
@@ -95,8 +81,8 @@ module _ (tasks : List Task) (edges : List Edge) (t : ℕ) (x : Task) (is : slic
   long : length after ≡ n + 2
   long = let a' = length-append (slice_set tasks t w) (a ∷ b ∷ []) in let b' = length-set tasks t w in omega (arith, a', b')
 
-  here : slice_get after t ≡ Some w
-  here = got_front (slice_set tasks t w) (a ∷ b ∷ []) t (let b' = length-set tasks t w in let lt = low in omega (arith, b', lt)) ∙ got_same tasks t x w is
+  task_after : slice_get after t ≡ Some w
+  task_after = got_front (slice_set tasks t w) (a ∷ b ∷ []) t (let b' = length-set tasks t w in let lt = low in omega (arith, b', lt)) ∙ got_same tasks t x w is
 
   keeps : (s : Strand) → HasForked tasks s → HasForked after s
   keeps s H =
@@ -139,7 +125,7 @@ module _ (tasks : List Task) (edges : List Edge) (t : ℕ) (x : Task) (is : slic
       record {
         later = elim at [ inl l ↦ omega arith | inr r ↦ omega arith ];
         made = elim at [ inl l ↦ omega arith | inr r ↦ omega arith ];
-        forked = record { task = w; is = ap (slice_get after) st ∙ here; past = inr (sj ∙ sym joins, waiting) };
+        forked = record { task = w; is = ap (slice_get after) st ∙ task_after; past = inr (sj ∙ sym joins, waiting) };
       }
 
   sides_differ : is_left n ≡ is_left (n + 1) → ⊥
@@ -221,7 +207,7 @@ joined_on tasks edges d e later later' F = record {
       ]
     ]
 
-step_forks : (p : ProgramText) (m : State) (t : ℕ) → IsForkJoinState m → Forks m.tasks m.edges → Forks (step p m t).tasks (step p m t).edges
+step_forks : (p : ProgramText) (m : MachineState) (t : ℕ) → IsForkJoinState m → Forks m.tasks m.edges → Forks (step p m t).tasks (step p m t).edges
 step_forks p m t K F =
     step_cases p m t K (λ m'. Forks m'.tasks m'.edges) F (λ x e is run why. F)
     (λ x y store outs is run ep ed es ej names fields alters grows.
@@ -242,10 +228,10 @@ step_forks p m t K F =
     (with_tasks one two m.edges (length-set one (l + 1) (joined_task xr)) (set_forked one (l + 1) xr (joined_task xr) ir' (inl (not_waiting xr wr, omega arith)))
     (with_tasks m.tasks one m.edges (length-set m.tasks l (joined_task xl)) (set_forked m.tasks l xl (joined_task xl) il (inl (not_waiting xl wl, omega arith))) F))))
   where
-    parent_is : (m : State) (l : ℕ) (xl : Task) (parent : ℕ) → slice_get m.tasks l ≡ Some xl → xl.parent ≡ Some parent → parents m.tasks l ≡ Some parent
+    parent_is : (m : MachineState) (l : ℕ) (xl : Task) (parent : ℕ) → slice_get m.tasks l ≡ Some xl → xl.parent ≡ Some parent → parents m.tasks l ≡ Some parent
     parent_is m l xl parent il pl = ap parent_of il ∙ pl
 
-run_forks : (p : ProgramText) (m : State) (ts : List ℕ) → IsForkJoinState m → Forks m.tasks m.edges → Forks (run_from p m ts).tasks (run_from p m ts).edges
+run_forks : (p : ProgramText) (m : MachineState) (ts : List ℕ) → IsForkJoinState m → Forks m.tasks m.edges → Forks (run_from p m ts).tasks (run_from p m ts).edges
 run_forks p m [] K F = F
 run_forks p m (t ∷ ts) K F = run_forks p (step p m t) ts (step_is_fork_join_state p m t K) (step_forks p m t K F)
 
@@ -257,7 +243,7 @@ start_forks p limit = record {
   each = λ t pos lt. absurd (omega arith);
 }
 
--- PLACES
+-- POSITIONS
 
 module _ (tasks : List Task) (edges : List Edge) (F : Forks tasks edges) where
   into : (e : Edge) (t : ℕ) → In edges e → e.target ≡ strand t 0 → IsFork tasks e

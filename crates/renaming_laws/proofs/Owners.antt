@@ -1,24 +1,8 @@
 -- Owners, and precedence of strands, under a renaming.
-use Rattle.std.proofs.Common.{◌≡◌, ℕ, zero, suc, ◌<◌, ◌≤◌, Bool, true, false, cond, Option, Some, None, slice_get, ◌⊎◌, inl, inr, refl, ap, sym, subst, ◌∙◌, arith}
-use Rattle.std.specs.Option.{option_map}
-use Rattle.std.proofs.lemmas.Bool.{cases_Bool}
-use Rattle.listed.proofs.Members.{In}
-use Rattle.listed.proofs.Options.{same_truth}
-use Rattle.hh_model.specs.declared.data.Strand.{Strand}
-use Rattle.hh_model.specs.declared.data.Edge.{Edge}
-use Rattle.hh_model.specs.declared.data.Status.{Status}
-use Rattle.hh_model.specs.declared.data.Status.TheVariants.{Running, Waiting, Ended, Joined}
-use Rattle.hh_model.specs.declared.data.Task.{Task}
-use Rattle.hh_model.specs.declared.data.State.{State}
-use Rattle.hh_model.specs.Precedence.{Precedes, precedes}
-use Rattle.hh_model.specs.Step.{is_joined, is_over, joined, owner_by, owner_of, parent_of, parents, through}
-use Rattle.hh_model.specs.Tree.{IsForkJoinState}
-use Rattle.hh_model.proofs.Climbs.{owner_here}
-use Rattle.renaming_laws.specs.Renaming.{IsRenaming, strand_to, edge_to, status_to, task_to}
-use Rattle.renaming_laws.specs.Alike.{AreAlike}
+use Rattle.renaming_laws.proofs.Common.{◌≡◌, ℕ, zero, suc, ◌<◌, ◌≤◌, Bool, true, false, cond, Option, Some, None, slice_get, ◌⊎◌, inl, inr, refl, ap, sym, subst, ◌∙◌, arith, option_map, cases_Bool, In, same_truth, Strand, Edge, TaskStatus, Running, Waiting, Ended, Joined, Task, MachineState, Precedes, precedes, is_joined, is_over, joined, owner_by, owner_of, parent_of, parents, through, IsForkJoinState, owner_here, IsRenaming, strand_to, edge_to, status_to, task_to, AreAlike}
 use Rattle.renaming_laws.proofs.Carried.{walk_to}
 
-pub over_to : (f : ℕ → ℕ) (s : Status) → is_over (status_to f s) ≡ is_over s
+pub over_to : (f : ℕ → ℕ) (s : TaskStatus) → is_over (status_to f s) ≡ is_over s
 over_to f Running = refl
 over_to f Waiting = refl
 over_to f (Ended k r) = refl
@@ -32,11 +16,11 @@ joined_to : (f : ℕ → ℕ) (o : Option Task) → is_joined (option_map (task_
 joined_to f None = refl
 joined_to f (Some x) = over_to f x.status
 
--- what precedes still precedes
-pub walks : (f : ℕ → ℕ) (a b : State) → AreAlike f a b → (u v : Strand) → Precedes a.edges u v → Precedes b.edges (strand_to f u) (strand_to f v)
+-- what happens before a strand still does
+pub walks : (f : ℕ → ℕ) (a b : MachineState) → AreAlike f a b → (u v : Strand) → Precedes a.edges u v → Precedes b.edges (strand_to f u) (strand_to f v)
 walks f a b A u v w = walk_to f a.edges b.edges (λ e. (A.edges e).1) w.0 u v w.1
 
-module _ (n : ℕ) (f g : ℕ → ℕ) (R : IsRenaming n f g) (m m' : State) (K : IsForkJoinState m) (K' : IsForkJoinState m') (A : AreAlike f m m') where
+module _ (n : ℕ) (f g : ℕ → ℕ) (R : IsRenaming n f g) (m m' : MachineState) (K : IsForkJoinState m) (K' : IsForkJoinState m') (A : AreAlike f m m') where
   abbrev par : ℕ → Option ℕ
   par = parents m.tasks
 

@@ -1,22 +1,9 @@
 -- Runs of renamed tasks.
-use Rattle.std.proofs.Common.{ℕ, suc, ◌+◌, ◌≤◌, List, [], ◌∷◌, length, map, slice_set, arith, length-append, length-set}
-use Rattle.hh_lang.specs.Form.{ProgramText}
-use Rattle.hh_model.specs.declared.data.Status.TheVariants.{Waiting}
-use Rattle.hh_model.specs.declared.data.State.{State}
-use Rattle.hh_model.specs.Counts.{Counted}
-use Rattle.hh_model.specs.Effect.{onward}
-use Rattle.hh_model.specs.Step.{child, ended_task, joined_task, result_of, resumed, run_from, start, step}
-use Rattle.hh_model.specs.Tree.{IsForkJoinState}
-use Rattle.hh_model.proofs.Counts.{counted_step, run_counted, start_counted}
-use Rattle.hh_model.proofs.ForkJoinStates.{run_is_fork_join_state, start_is_fork_join_state, step_is_fork_join_state}
-use Rattle.hh_model.proofs.Steps.{step_cases}
-use Rattle.renaming_laws.specs.Alike.{AreAlike}
-use Rattle.renaming_laws.specs.Laws.{RunsAreCarried}
-use Rattle.renaming_laws.specs.Renaming.{IsRenaming}
+use Rattle.renaming_laws.proofs.Common.{ℕ, suc, ◌+◌, ◌≤◌, List, [], ◌∷◌, length, map, slice_set, arith, length-append, length-set, ProgramText, Waiting, MachineState, Counted, onward, child, ended_task, joined_task, result_of, resumed, run_from, start, step, IsForkJoinState, counted_step, run_counted, start_counted, run_is_fork_join_state, start_is_fork_join_state, step_is_fork_join_state, step_cases, AreAlike, RunsAreCarried, IsRenaming}
 use Rattle.renaming_laws.proofs.Stepped.{step_to}
 
 -- tasks persist
-pub step_grows : (p : ProgramText) (m : State) (t : ℕ) → IsForkJoinState m → length m.tasks ≤ length (step p m t).tasks
+pub step_grows : (p : ProgramText) (m : MachineState) (t : ℕ) → IsForkJoinState m → length m.tasks ≤ length (step p m t).tasks
 step_grows p m t K =
     step_cases p m t K (λ m'. length m.tasks ≤ length m'.tasks) (omega arith) (λ x e is run why. omega arith)
     (λ x y store outs is run ep ed es ej names fields alters grows. omega (arith, length-set m.tasks t y))
@@ -31,11 +18,11 @@ step_grows p m t K =
       length-set (slice_set (slice_set m.tasks l (joined_task xl)) (l + 1) (joined_task xr)) parent (resumed xp rl rr),
     ))
 
-pub run_grows : (p : ProgramText) (m : State) (ts : List ℕ) → IsForkJoinState m → length m.tasks ≤ length (run_from p m ts).tasks
+pub run_grows : (p : ProgramText) (m : MachineState) (ts : List ℕ) → IsForkJoinState m → length m.tasks ≤ length (run_from p m ts).tasks
 run_grows p m [] K = omega arith
 run_grows p m (t ∷ ts) K = let a = step_grows p m t K in let b = run_grows p (step p m t) ts (step_is_fork_join_state p m t K) in omega arith
 
-pub run_to : (p : ProgramText) (n : ℕ) (f g : ℕ → ℕ) → IsRenaming n f g → (more : List ℕ) (m m' : State) (k k' : ℕ) → IsForkJoinState m → IsForkJoinState m' → Counted k m.tasks m.store → Counted k' m'.tasks m'.store
+pub run_to : (p : ProgramText) (n : ℕ) (f g : ℕ → ℕ) → IsRenaming n f g → (more : List ℕ) (m m' : MachineState) (k k' : ℕ) → IsForkJoinState m → IsForkJoinState m' → Counted k m.tasks m.store → Counted k' m'.tasks m'.store
     → n ≤ length m.tasks → AreAlike f m m' → AreAlike f (run_from p m more) (run_from p m' (map f more))
 run_to p n f g R [] m m' k k' K K' I I' made A = A
 run_to p n f g R (t ∷ more) m m' k k' K K' I I' made A =

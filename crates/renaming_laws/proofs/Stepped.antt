@@ -1,49 +1,28 @@
 -- A step of a renamed task is the renamed step.
-use Rattle.std.proofs.Common.{◌≡◌, ℕ, ℤ, ◌+◌, ◌-◌, ◌<◌, ◌≤◌, ◌==◌, Bool, true, false, cond, Option, Some, None, List, [], ◌∷◌, ◌++◌, length, map, nat_lt, slice_get, slice_set, refl, ap, sym, subst, ◌∙◌, arith}
-use Rattle.std.specs.Option.{option_map}
-use Rattle.std.proofs.lemmas.Bool.{cond-true, cond-false}
-use Rattle.std.proofs.lemmas.List.{length-map, map-append}
-use Rattle.std.proofs.Math.Seq.{map-set}
-use Rattle.std.proofs.lemmas.Option.{slice_get-map}
-use Rattle.hh_lang.specs.declared.instr.Instr.{Instr}
-use Rattle.hh_lang.specs.declared.program.Line.{Line}
-use Rattle.hh_lang.specs.Form.{ProgramText}
-use Rattle.hh_model.specs.declared.data.Name.{Name}
-use Rattle.hh_model.specs.declared.data.Object.{Object}
-use Rattle.hh_model.specs.declared.data.Frame.{Frame}
-use Rattle.hh_model.specs.declared.data.Status.TheVariants.{Waiting}
-use Rattle.hh_model.specs.declared.data.Task.{Task}
-use Rattle.hh_model.specs.declared.data.Trap.TheVariants.{Depth}
-use Rattle.hh_model.specs.declared.data.End.TheVariants.{Done, Trapped, Entangled}
-use Rattle.hh_model.specs.declared.data.State.{State}
-use Rattle.hh_model.specs.Effect.{Effect, Goes, Prints, Calls, Forks, Returns, Traps, Stops, Setting, effect, int_in, object_at, onward, ref_in, row_of, with_int, with_ref}
-use Rattle.hh_model.specs.Step.{back_in, called, can_step, child, child_ended_by, depth_limit, ended_by, ended_task, entry_frame, fetched, follow, forked, frame_limit, front_of, is_left, join_of, result_at, last_of, last_return, or_same, owner_of, parent_of, parents, result_of, returned, returned_to, setting, sibling, step, stepped, strand, with_task}
-use Rattle.hh_model.specs.Tree.{IsForkJoinState}
-use Rattle.renaming_laws.specs.Renaming.{IsRenaming, ref_to, object_to, frame_to, task_to}
-use Rattle.renaming_laws.specs.Alike.{AreAlike}
+use Rattle.renaming_laws.proofs.Common.{◌≡◌, ℕ, ℤ, ◌+◌, ◌-◌, ◌<◌, ◌≤◌, ◌==◌, Bool, true, false, cond, Option, Some, None, List, [], ◌∷◌, ◌++◌, length, map, nat_lt, slice_get, slice_set, refl, ap, sym, subst, ◌∙◌, arith, option_map, cond-true, cond-false, length-map, map-append, map-set, slice_get-map, Instr, Line, ProgramText, Name, Object, Frame, Waiting, Task, Depth, Done, Trapped, Entangled, MachineState, Effect, Goes, Prints, Calls, Forks, Returns, Traps, Stops, StepContext, effect, int_in, object_at, onward, ref_in, row_of, with_int, with_ref, back_in, called, can_step, child, child_ended_by, depth_limit, ended_by, ended_task, entry_frame, fetched, follow, forked, frame_limit, front_of, is_left, join_of, result_at, last_of, last_return, or_same, owner_of, parent_of, parents, result_of, returned, returned_to, setting, sibling, step, stepped, strand, with_task, IsForkJoinState, IsRenaming, ref_to, object_to, frame_to, task_to, AreAlike}
 use Rattle.renaming_laws.proofs.Changed.{Change, Same, Grows, Edits, Edit, SetRef, SetNumber, Freezes, change_to, changed, edit_to, edited, put_in}
 use Rattle.renaming_laws.proofs.Effects.{EffectTo, Sees, SeenTo, TestTo, effect_carried, ref_carried, same_task, set_carried}
 use Rattle.renaming_laws.proofs.Lists.{front_map, last_map, set_to}
 use Rattle.renaming_laws.proofs.Owners.{owner_to, test_to}
 use Rattle.renaming_laws.proofs.Follows.{StoreTo, can_to, forks, halted, joins, kept_to, object_there, own, result_to, row_to, written}
 
-module _ (p : ProgramText) (n : ℕ) (f g : ℕ → ℕ) (R : IsRenaming n f g) (m m' : State) (K : IsForkJoinState m) (K' : IsForkJoinState m') (rows : length m.store ≡ length m.tasks) (rows' : length m'.store ≡ length m'.tasks)
+module _ (p : ProgramText) (n : ℕ) (f g : ℕ → ℕ) (R : IsRenaming n f g) (m m' : MachineState) (K : IsForkJoinState m) (K' : IsForkJoinState m') (rows : length m.store ≡ length m.tasks) (rows' : length m'.store ≡ length m'.tasks)
     (made : n ≤ length m.tasks) (A : AreAlike f m m') (t : ℕ) where
-  abbrev Alike : State → State → Type 0
+  abbrev Alike : MachineState → MachineState → Type 0
   Alike = AreAlike f
 
-  either : (b : Bool) (a c a' c' : State) → Alike a a' → Alike c c' → Alike (cond b a c) (cond b a' c')
+  either : (b : Bool) (a c a' c' : MachineState) → Alike a a' → Alike c c' → Alike (cond b a c) (cond b a' c')
   either true a c a' c' h k = h
   either false a c a' c' h k = k
 
-  or_to : (o : Option Task) (go go' : Task → State) → ((x : Task) → o ≡ Some x → Alike (go x) (go' (task_to f x))) → Alike (or_same m o go) (or_same m' (option_map (task_to f) o) go')
+  or_to : (o : Option Task) (go go' : Task → MachineState) → ((x : Task) → o ≡ Some x → Alike (go x) (go' (task_to f x))) → Alike (or_same m o go) (or_same m' (option_map (task_to f) o) go')
   or_to None go go' each = A
   or_to (Some x) go go' each = each x refl
 
   -- THE STORE
 
   module _ (x : Task) (is : slice_get m.tasks t ≡ Some x) where
-    abbrev pub s : Setting
+    abbrev pub s : StepContext
     s = setting m t x
 
     pub sees : Sees f g R.back s m'.edges (owner_of m'.tasks) x.top m.store m'.store (λ b k i. Unit {0})

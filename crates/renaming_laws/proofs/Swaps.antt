@@ -1,9 +1,5 @@
 -- The exchange of the children of two forks.
-use Rattle.std.proofs.Common.{◌≡◌, ℕ, ◌+◌, ◌-◌, ◌%◌, ◌==◌, ◌<◌, ◌≤◌, true, false, cond, nat_lt, ◌⊎◌, inl, inr, ap, sym, ◌∙◌, arith, eqb-true, eq-eqb, ne_eqb}
-use Rattle.std.proofs.lemmas.Bool.{cases_lt, cond-true, cond-false, lt-ltb, le-ltb}
-use Rattle.hh_model.specs.Step.{is_left, sibling}
-use Rattle.renaming_laws.specs.Renaming.{IsRenaming}
-use Rattle.renaming_laws.specs.Laws.{swap}
+use Rattle.renaming_laws.proofs.Common.{◌≡◌, ℕ, ◌+◌, ◌-◌, ◌%◌, ◌==◌, ◌<◌, ◌≤◌, true, false, cond, nat_lt, ◌⊎◌, inl, inr, ap, sym, ◌∙◌, arith, eqb-true, eq-eqb, ne_eqb, cases_lt, cond-true, cond-false, lt-ltb, le-ltb, is_left, sibling, IsRenaming, swap}
 
 -- SIBLINGS
 
@@ -76,37 +72,37 @@ module _ (n : ℕ) (odd : n % 2 ≡ 1) where
   -- BACK
 
   back : (t : ℕ) → q (q t) ≡ t
-  back t = by t (stands t)
+  back t = back_by_cases t (stands t)
     where
-      by : (t : ℕ) → Low t ⊎ (First t ⊎ (Second t ⊎ High t)) → q (q t) ≡ t
-      by t (inl h) = ap q h.1 ∙ h.1
-      by t (inr (inl h)) = let a : n ≤ t = h.0 in let b : t < n + 2 = h.1 in ap q h.2 ∙ (at_second (t + 2) (omega arith) (omega arith) ∙ (let e : t + 2 - 2 ≡ t = omega arith in e))
-      by t (inr (inr (inl h))) = let a : n + 2 ≤ t = h.0 in let b : t < n + 4 = h.1 in ap q h.2 ∙ (at_first (t - 2) (omega arith) (omega arith) ∙ (let e : t - 2 + 2 ≡ t = omega arith in e))
-      by t (inr (inr (inr h))) = ap q h.1 ∙ h.1
+      back_by_cases : (t : ℕ) → Low t ⊎ (First t ⊎ (Second t ⊎ High t)) → q (q t) ≡ t
+      back_by_cases t (inl h) = ap q h.1 ∙ h.1
+      back_by_cases t (inr (inl h)) = let a : n ≤ t = h.0 in let b : t < n + 2 = h.1 in ap q h.2 ∙ (at_second (t + 2) (omega arith) (omega arith) ∙ (let e : t + 2 - 2 ≡ t = omega arith in e))
+      back_by_cases t (inr (inr (inl h))) = let a : n + 2 ≤ t = h.0 in let b : t < n + 4 = h.1 in ap q h.2 ∙ (at_first (t - 2) (omega arith) (omega arith) ∙ (let e : t - 2 + 2 ≡ t = omega arith in e))
+      back_by_cases t (inr (inr (inr h))) = ap q h.1 ∙ h.1
 
   -- SIDES
 
   same_rest : (t : ℕ) → q t % 2 ≡ t % 2
-  same_rest t = by t (stands t)
+  same_rest t = same_rest_by_cases t (stands t)
     where
-      by : (t : ℕ) → Low t ⊎ (First t ⊎ (Second t ⊎ High t)) → q t % 2 ≡ t % 2
-      by t (inl h) = ap (λ k. k % 2) h.1
-      by t (inr (inl h)) = ap (λ k. k % 2) h.2 ∙ (let e : (t + 2) % 2 ≡ t % 2 = omega arith in e)
-      by t (inr (inr (inl h))) = let a : n + 2 ≤ t = h.0 in ap (λ k. k % 2) h.2 ∙ (let e : (t - 2) % 2 ≡ t % 2 = omega arith in e)
-      by t (inr (inr (inr h))) = ap (λ k. k % 2) h.1
+      same_rest_by_cases : (t : ℕ) → Low t ⊎ (First t ⊎ (Second t ⊎ High t)) → q t % 2 ≡ t % 2
+      same_rest_by_cases t (inl h) = ap (λ k. k % 2) h.1
+      same_rest_by_cases t (inr (inl h)) = ap (λ k. k % 2) h.2 ∙ (let e : (t + 2) % 2 ≡ t % 2 = omega arith in e)
+      same_rest_by_cases t (inr (inr (inl h))) = let a : n + 2 ≤ t = h.0 in ap (λ k. k % 2) h.2 ∙ (let e : (t - 2) % 2 ≡ t % 2 = omega arith in e)
+      same_rest_by_cases t (inr (inr (inr h))) = ap (λ k. k % 2) h.1
 
   sides : (t : ℕ) → is_left (q t) ≡ is_left t
   sides t = ap (λ k. k == 1) (same_rest t)
 
   -- a left child and the number after it go together
   left_sibling : (t : ℕ) → t % 2 ≡ 1 → q t + 1 ≡ q (t + 1)
-  left_sibling t o = by t o (stands t)
+  left_sibling t o = left_sibling_by_cases t o (stands t)
     where
-      by : (t : ℕ) → t % 2 ≡ 1 → Low t ⊎ (First t ⊎ (Second t ⊎ High t)) → q t + 1 ≡ q (t + 1)
-      by t o (inl h) = let a : t < n = h.0 in ap (λ k. k + 1) h.1 ∙ sym (at_low (t + 1) (omega arith))
-      by t o (inr (inl h)) = let a : n ≤ t = h.0 in let b : t < n + 2 = h.1 in ap (λ k. k + 1) h.2 ∙ ((let e : t + 2 + 1 ≡ t + 1 + 2 = omega arith in e) ∙ sym (at_first (t + 1) (omega arith) (omega arith)))
-      by t o (inr (inr (inl h))) = let a : n + 2 ≤ t = h.0 in let b : t < n + 4 = h.1 in ap (λ k. k + 1) h.2 ∙ ((let e : t - 2 + 1 ≡ t + 1 - 2 = omega arith in e) ∙ sym (at_second (t + 1) (omega arith) (omega arith)))
-      by t o (inr (inr (inr h))) = let a : n + 4 ≤ t = h.0 in ap (λ k. k + 1) h.1 ∙ sym (at_high (t + 1) (omega arith))
+      left_sibling_by_cases : (t : ℕ) → t % 2 ≡ 1 → Low t ⊎ (First t ⊎ (Second t ⊎ High t)) → q t + 1 ≡ q (t + 1)
+      left_sibling_by_cases t o (inl h) = let a : t < n = h.0 in ap (λ k. k + 1) h.1 ∙ sym (at_low (t + 1) (omega arith))
+      left_sibling_by_cases t o (inr (inl h)) = let a : n ≤ t = h.0 in let b : t < n + 2 = h.1 in ap (λ k. k + 1) h.2 ∙ ((let e : t + 2 + 1 ≡ t + 1 + 2 = omega arith in e) ∙ sym (at_first (t + 1) (omega arith) (omega arith)))
+      left_sibling_by_cases t o (inr (inr (inl h))) = let a : n + 2 ≤ t = h.0 in let b : t < n + 4 = h.1 in ap (λ k. k + 1) h.2 ∙ ((let e : t - 2 + 1 ≡ t + 1 - 2 = omega arith in e) ∙ sym (at_second (t + 1) (omega arith) (omega arith)))
+      left_sibling_by_cases t o (inr (inr (inr h))) = let a : n + 4 ≤ t = h.0 in ap (λ k. k + 1) h.1 ∙ sym (at_high (t + 1) (omega arith))
 
   first_stays : q 0 ≡ 0
   first_stays = at_low 0 (omega arith)

@@ -1,15 +1,5 @@
 -- An instruction does the same in another setting if nothing is renamed and all that it sees is the same.
-use Rattle.std.proofs.Common.{◌≡◌, ℕ, ◌==◌, Bool, true, false, Option, Some, None, List, length, slice_get, refl, ap, sym, subst, ◌∙◌}
-use Rattle.std.specs.Option.{option_flatten, option_map}
-use Rattle.listed.proofs.Members.{In}
-use Rattle.hh_lang.specs.declared.instr.Instr.{Instr}
-use Rattle.hh_model.specs.declared.data.Name.{Name}
-use Rattle.hh_model.specs.declared.data.Edge.{Edge}
-use Rattle.hh_model.specs.declared.data.Object.{Object}
-use Rattle.hh_model.specs.declared.data.Frame.{Frame}
-use Rattle.hh_model.specs.Effect.{Effect, Goes, Prints, Calls, Forks, Returns, Traps, Stops, Setting, effect, object_at, row_of}
-use Rattle.hh_model.specs.Precedence.{precedes}
-use Rattle.renaming_laws.specs.Renaming.{ref_to}
+use Rattle.renaming_laws.proofs.Common.{◌≡◌, ℕ, ◌==◌, Bool, true, false, Option, Some, None, List, length, slice_get, refl, ap, sym, subst, ◌∙◌, option_flatten, option_map, In, Instr, Name, Edge, Object, Frame, Effect, Goes, Prints, Calls, Forks, Returns, Traps, Stops, StepContext, effect, object_at, row_of, precedes, ref_to}
 use Rattle.renaming_laws.proofs.Changed.{Change, Same, Grows, Edits, ChangesBy, Edit, SetRef, SetNumber, Freezes, Reaches, change_to, changed, edit_to}
 use Rattle.renaming_laws.proofs.Effects.{EffectTo, IsSeen, Sees, SeenTo, TestTo, effect_carried}
 use Rattle.renaming_laws.proofs.Fixed.{frame_fixed, object_fixed}
@@ -35,7 +25,7 @@ change_same Same = refl
 change_same (Grows o) = ap Grows (object_fixed itself o refl (λ r i. refl))
 change_same (Edits n e) = ap (Edits n) (edit_same e)
 
-module _ (s : Setting) (edges' : List Edge) (owner' : ℕ → ℕ) (x : Frame) (store store' : List (List Object)) (May : Bool → Name → ℕ → Type 0) where
+module _ (s : StepContext) (edges' : List Edge) (owner' : ℕ → ℕ) (x : Frame) (store store' : List (List Object)) (May : Bool → Name → ℕ → Type 0) where
   -- an object in both stores: equal except for fields that the instruction may not see
   pub record IsSame (n : Name) (o o' : Object) : Type 0 where
     pub mutable : o'.mutable ≡ o.mutable
@@ -96,7 +86,7 @@ module _ (s : Setting) (edges' : List Edge) (owner' : ℕ → ℕ) (x : Frame) (
     pub effect_as : (instr : Instr) → ((b : Bool) (n : Name) (at : ℕ) → Reaches s x store instr b n at → May b n at)
         → EffectAs instr (effect s x store instr) (effect (record { task = s.task; strand = s.strand; field_limit = s.field_limit; edges = edges'; owner = owner' }) x store' instr)
     effect_as instr may =
-        let s' : Setting = record { task = s.task; strand = s.strand; field_limit = s.field_limit; edges = edges'; owner = owner' } in
+        let s' : StepContext = record { task = s.task; strand = s.strand; field_limit = s.field_limit; edges = edges'; owner = owner' } in
         plain instr (effect s x store instr) (effect s' x store' instr)
         (subst (λ w. To instr (effect s x store instr) (effect s' w store' instr)) (frame_fixed itself x (λ r i. refl))
         (effect_carried itself itself (λ t. refl) s edges' owner' x store store' May sees instr may))

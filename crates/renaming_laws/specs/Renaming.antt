@@ -6,8 +6,8 @@ use Rattle.hh_model.specs.declared.data.Strand.{Strand}
 use Rattle.hh_model.specs.declared.data.Edge.{Edge}
 use Rattle.hh_model.specs.declared.data.Object.{Object}
 use Rattle.hh_model.specs.declared.data.Frame.{Frame}
-use Rattle.hh_model.specs.declared.data.Status.{Status}
-use Rattle.hh_model.specs.declared.data.Status.TheVariants.{Running, Waiting, Ended, Joined}
+use Rattle.hh_model.specs.declared.data.TaskStatus.{TaskStatus}
+use Rattle.hh_model.specs.declared.data.TaskStatus.TheVariants.{Running, Waiting, Ended, Joined}
 use Rattle.hh_model.specs.declared.data.Task.{Task}
 use Rattle.hh_model.specs.declared.data.End.{End}
 use Rattle.hh_model.specs.declared.data.End.TheVariants.{Done, Trapped, Entangled}
@@ -41,7 +41,7 @@ object_to f o = record o { strand = strand_to f o.strand; refs = map (ref_to f) 
 abbrev pub frame_to : (ℕ → ℕ) → Frame → Frame
 frame_to f x = record x { refs = map (ref_to f) x.refs }
 
-abbrev pub status_to : (ℕ → ℕ) → Status → Status
+abbrev pub status_to : (ℕ → ℕ) → TaskStatus → TaskStatus
 status_to f Running = Running
 status_to f Waiting = Waiting
 status_to f (Ended k r) = Ended k (ref_to f r)

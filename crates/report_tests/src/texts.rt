@@ -1,9 +1,10 @@
 // Reports as they are written. The expected texts are those of another checker, on the logs that the rows are from.
 
-use listed::Listed;
-use log_form::Position;
-use log_report::{Detail, LineKind, Report, Told, ToldRace, ToldUse, in_order, report_text};
-use log_sites::site_names;
+use log_form::LogPosition;
+use log_json::report_json;
+use log_report::{Detail, LineKind, LogReport, Told, ToldRace, ToldUse, in_order, report_text};
+use log_sites::{SiteNames, site_names};
+use plain_vec::Listed;
 use std::alloc::{AllocError, Global};
 
 // What a line does, its site, its file from 0 and its number.
@@ -83,6 +84,19 @@ const TABLE: Case = (
     (803, 503),
 );
 
+const SMALL: Case = (
+    b"hhlog 1\n@ 4 a\"b\nend\n",
+    &[(
+        3,
+        7,
+        9,
+        (LineKind::AtomicRead, Some(4), 0, 2),
+        (LineKind::Release, Some(5), 0, 9),
+    )],
+    &[(7, (LineKind::Read, None, 0, 14), (0, 10))],
+    (0, 0),
+);
+
 const TEXTS: &[(&Case, Detail, &str)] = &[
     (
         &SQUARES,
@@ -101,11 +115,25 @@ const TEXTS: &[(&Case, Detail, &str)] = &[
     ),
 ];
 
+// The same as JSON objects, by the names of members in docs/LOGS.md.
+const OBJECTS: &[(&Case, Detail, &str)] = &[
+    (
+        &SQUARES,
+        Detail::Merged,
+        "{\"races\":[{\"block\":1,\"offset\":55696,\"count\":4,\"first\":{\"kind\":\"write\",\"site\":\"squares.c:7\",\"file\":1,\"line\":6},\"second\":{\"kind\":\"write\",\"site\":\"squares.c:7\",\"file\":2,\"line\":3},\"locations\":4}],\"entangled_reads\":[],\"entangled_uses\":[],\"stale_uses\":[],\"work\":1003,\"span\":502,\"parallelism\":\"2.00\",\"end\":{\"races\":4,\"reads\":0,\"uses\":0,\"stale\":0}}\n",
+    ),
+    (
+        &SMALL,
+        Detail::Locations,
+        "{\"races\":[{\"block\":3,\"offset\":7,\"first\":{\"kind\":\"atomic read\",\"site\":\"a\\\"b\",\"file\":1,\"line\":2},\"second\":{\"kind\":\"release\",\"site\":\"@5\",\"file\":1,\"line\":9}},\n{\"block\":3,\"offset\":8,\"first\":{\"kind\":\"atomic read\",\"site\":\"a\\\"b\",\"file\":1,\"line\":2},\"second\":{\"kind\":\"release\",\"site\":\"@5\",\"file\":1,\"line\":9}}],\"entangled_reads\":[],\"entangled_uses\":[],\"stale_uses\":[{\"block\":7,\"use\":{\"kind\":\"read\",\"file\":1,\"line\":14},\"released\":{\"file\":1,\"line\":10},\"lines\":1}],\"work\":0,\"span\":0,\"parallelism\":\"1.00\",\"end\":{\"races\":2,\"reads\":0,\"uses\":0,\"stale\":1}}\n",
+    ),
+];
+
 fn told((kind, site, file, line): Row) -> Told {
     Told {
         kind,
         site,
-        at: Position { file, line },
+        at: LogPosition { file, line },
     }
 }
 
@@ -132,7 +160,7 @@ fn uses_of(
         uses.push(ToldUse {
             block: *block,
             line: told(*line),
-            other: Position {
+            other: LogPosition {
                 file: *file,
                 line: *at,
             },
@@ -141,11 +169,9 @@ fn uses_of(
     Ok(uses)
 }
 
-fn text_of(alloc: Global, case: &Case, detail: Detail) -> Result<Vec<u8>, AllocError> {
-    let (names, races, stale, (work, span)) = *case;
-    let mut texts = Listed::new(alloc);
-    texts.push(Listed::from_vec(names.to_vec(alloc)?))?;
-    let report = Report {
+fn report_of(alloc: Global, case: &Case) -> Result<LogReport, AllocError> {
+    let (_, races, stale, (work, span)) = *case;
+    Ok(LogReport {
         races: races_of(alloc, races)?,
         entangled_reads: Listed::new(alloc),
         entangled_uses: Listed::new(alloc),
@@ -153,17 +179,32 @@ fn text_of(alloc: Global, case: &Case, detail: Detail) -> Result<Vec<u8>, AllocE
         work,
         span,
         left_out: None,
-    };
-    report_text(
-        alloc,
-        &site_names(alloc, texts.as_slice())?,
-        detail,
-        &report,
-    )
+    })
 }
 
-fn is_text(alloc: Global, case: &Case, detail: Detail, text: &str) -> bool {
-    match text_of(alloc, case, detail) {
+fn names_of(alloc: Global, case: &Case) -> Result<SiteNames, AllocError> {
+    let mut texts = Listed::new(alloc);
+    texts.push(Listed::from_vec(case.0.to_vec(alloc)?))?;
+    site_names(alloc, texts.as_slice())
+}
+
+fn text_of(
+    alloc: Global,
+    case: &Case,
+    detail: Detail,
+    is_json: bool,
+) -> Result<Vec<u8>, AllocError> {
+    let report = report_of(alloc, case)?;
+    let names = names_of(alloc, case)?;
+    if is_json {
+        report_json(alloc, &names, detail, &report)
+    } else {
+        report_text(alloc, &names, detail, &report)
+    }
+}
+
+fn is_text(alloc: Global, case: &Case, detail: Detail, is_json: bool, text: &str) -> bool {
+    match text_of(alloc, case, detail, is_json) {
         Ok(written) => written.as_slice() == text.as_bytes(),
         Err(AllocError) => false,
     }
@@ -172,6 +213,13 @@ fn is_text(alloc: Global, case: &Case, detail: Detail, text: &str) -> bool {
 #[test]
 fn reports_are_written(rt: HostRuntime) {
     for (case, detail, text) in TEXTS {
-        assert!(rt; is_text(rt.alloc(), case, *detail, text));
+        assert!(rt; is_text(rt.alloc(), case, *detail, false, text));
+    }
+}
+
+#[test]
+fn reports_are_written_as_json(rt: HostRuntime) {
+    for (case, detail, text) in OBJECTS {
+        assert!(rt; is_text(rt.alloc(), case, *detail, true, text));
     }
 }

@@ -1,16 +1,5 @@
 -- No line of a program's text is a trace line.
-use Rattle.std.proofs.Common.{◌≡◌, ◌∙◌, ◌++◌, ℕ, ◌+◌, Bool, cond, true, false, List, [], ◌∷◌, length, refl, ap}
-use Rattle.std.specs.Prelude.{Option, Some, None, codes}
-use Rattle.std.specs.Str.{is_utf8}
-use Rattle.std.proofs.lemmas.Slice.Eq.{bytes_eq-Decides}
-use Rattle.text_lines.specs.Lines.{words_of}
-use Rattle.program_reader.specs.declared.cause.Cause.{Cause}
-use Rattle.program_reader.specs.declared.cause.Cause.TheVariants.{NotUtf8}
-use Rattle.program_reader.specs.declared.cause.Refused.{Refused}
-use Rattle.program_reader.specs.Head.{head_of_word, head_of_words}
-use Rattle.program_reader.specs.Around.{head_of_line, is_inside, outline_of}
-use Rattle.program_reader.specs.Fault.{fault_from, fault_on, first_cause, is_misplaced, or_later, spot_of}
-use Rattle.trace_input.specs.Cut.{begins_trace, is_trace_line, lines_above, trace_lines}
+use Rattle.round_trip_laws.proofs.Common.{◌≡◌, ◌∙◌, ◌++◌, ℕ, ◌+◌, Bool, cond, true, false, List, [], ◌∷◌, length, refl, ap, Option, Some, None, codes, is_utf8, bytes_eq-Decides, words_of, Cause, NotUtf8, TextFault, head_of_word, head_of_words, head_of_line, is_inside, outline_of, fault_from, fault_on, first_cause, is_misplaced, or_later, spot_of, begins_trace, is_trace_line, lines_above, trace_lines}
 
 -- none of these lines is one
 abbrev pub AreAbove : List (List ℕ) → Type 0
@@ -52,10 +41,10 @@ by_utf8 : (b : Bool) (f : Option Cause) → cond b f (Some NotUtf8) ≡ None →
 by_utf8 true f e = e
 by_utf8 false f e = absurd (has_fault NotUtf8 e)
 
-refused_is : (r : Refused) → Some r ≡ None → ⊥
+refused_is : (r : TextFault) → Some r ≡ None → ⊥
 refused_is r e = cc
 
-none_later : (c : Option Cause) (n : ℕ) (later : Option Refused) → or_later c n later ≡ None → (c ≡ None) × (later ≡ None)
+none_later : (c : Option Cause) (n : ℕ) (later : Option TextFault) → or_later c n later ≡ None → (c ≡ None) × (later ≡ None)
 none_later None n later e = (refl, e)
 none_later (Some c) n later e = absurd (refused_is (record { line = n; cause = c }) e)
 

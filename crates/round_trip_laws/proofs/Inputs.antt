@@ -1,22 +1,5 @@
 -- A program's text followed by a trace is read as these.
-use Rattle.std.proofs.Common.{◌≡◌, ◌∙◌, ◌≤◌, ◌+◌, ◌++◌, ℕ, Bool, cond, true, false, List, [], ◌∷◌, length, refl, ap, sym, subst, append_assoc, length-append}
-use Rattle.std.specs.Prelude.{Option, Some, None, Result, Ok, Err, codes}
-use Rattle.std.specs.Str.{bytes_eq, is_utf8}
-use Rattle.std.proofs.lemmas.Bool.{le-leb}
-use Rattle.hh_lang.specs.Form.{ProgramText}
-use Rattle.text_lines.specs.Lines.{lines_of, most_bytes, words_of}
-use Rattle.program_reader.specs.declared.cause.Refused.{Refused}
-use Rattle.program_reader.specs.Fault.{first_fault}
-use Rattle.program_reader.specs.Program.{program_of, unless_refused}
-use Rattle.run_trace.specs.declared.settings.Version.{Version}
-use Rattle.run_trace.specs.declared.trace.Trace.{Trace}
-use Rattle.run_trace.specs.Trace.{AreTraceLines, fault_in, trace_text, version_by, version_of, version_of_words}
-use Rattle.run_trace.proofs.ReadAgain.{texts_are_read_again}
-use Rattle.trace_input.specs.declared.input.InputFault.TheVariants.{Source}
-use Rattle.trace_input.specs.declared.input.TraceInput.{TraceInput}
-use Rattle.trace_input.specs.Cut.{begins_trace, bytes_above, is_trace_line, lines_above, program_part, trace_lines, trace_number, with_feeds}
-use Rattle.trace_input.specs.Input.{IsInput, as_bad_line, bad_line, fault_by as fault_of_parts, input_fault, is_too_old, parts_fault, too_long}
-use Rattle.round_trip_laws.specs.RoundTrip.{CanFollow, InputsAreRead, IsReadAs, RecordedInputsAreRead}
+use Rattle.round_trip_laws.proofs.Common.{◌≡◌, ◌∙◌, ◌≤◌, ◌+◌, ◌++◌, ℕ, Bool, cond, true, false, List, [], ◌∷◌, length, refl, ap, sym, subst, append_assoc, length-append, Option, Some, None, Result, Ok, Err, codes, bytes_eq, is_utf8, le-leb, ProgramText, lines_of, most_bytes, words_of, TextFault, first_fault, program_of, unless_refused, Version, Trace, AreTraceLines, fault_in, trace_text, version_by, version_of, version_of_words, texts_are_read_again, Source, TraceInput, begins_trace, bytes_above, is_trace_line, lines_above, program_part, trace_lines, trace_number, with_feeds, IsInput, as_bad_line, bad_line, fault_by as fault_of_parts, input_fault, is_too_old, parts_fault, too_long, CanFollow, InputsAreRead, IsReadAs, RecordedInputsAreRead}
 use Rattle.round_trip_laws.proofs.Lines.{fed_lines, lines_behind}
 use Rattle.round_trip_laws.proofs.Above.{AreAbove, above_both, clean_above, cut_above, cut_behind}
 
@@ -56,13 +39,13 @@ same_trace (l ∷ ls) t u a b = both_same t u (some_same u.version t.version (sy
 
 -- INPUTS
 
-refused_is : (r : Refused) (p : ProgramText) → Err r ≡ Ok p → ⊥
+refused_is : (r : TextFault) (p : ProgramText) → Err r ≡ Ok p → ⊥
 refused_is r p e = cc
 
-read_is : (p q : ProgramText) → ◌≡◌ {A = Result ProgramText Refused} (Ok p) (Ok q) → p ≡ q
+read_is : (p q : ProgramText) → ◌≡◌ {A = Result ProgramText TextFault} (Ok p) (Ok q) → p ≡ q
 read_is p q e = cc
 
-read_parts : (o : Option Refused) (p q : ProgramText) → unless_refused o p ≡ Ok q → (o ≡ None) × (p ≡ q)
+read_parts : (o : Option TextFault) (p q : ProgramText) → unless_refused o p ≡ Ok q → (o ≡ None) × (p ≡ q)
 read_parts None p q e = (refl, read_is p q e)
 read_parts (Some r) p q e = absurd (refused_is r q e)
 

@@ -1,3 +1,4 @@
 mod Lines
 mod Above
 pub mod Inputs
+mod Common

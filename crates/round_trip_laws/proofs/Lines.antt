@@ -1,11 +1,5 @@
 -- The lines of two texts, concatenated.
-use Rattle.std.proofs.Common.{◌≡◌, ◌∙◌, ◌<◌, ◌++◌, ℕ, Bool, cond, true, false, List, [], ◌∷◌, length, refl, ap, sym, arith}
-use Rattle.std.specs.Prelude.{◌==◌}
-use Rattle.std.specs.List.{onto_first}
-use Rattle.std.proofs.lemmas.Bool.{eqb-true}
-use Rattle.std.proofs.lemmas.List.Splits.{length-slice_split}
-use Rattle.text_lines.specs.Lines.{lines_of}
-use Rattle.trace_input.specs.Cut.{with_feeds}
+use Rattle.round_trip_laws.proofs.Common.{◌≡◌, ◌∙◌, ◌<◌, ◌++◌, ℕ, Bool, cond, true, false, List, [], ◌∷◌, length, refl, ap, sym, arith, ◌==◌, onto_first, eqb-true, length-slice_split, lines_of, with_feeds}
 
 some_lines : (text : List ℕ) → 0 < length (lines_of text)
 some_lines text = let e = length-slice_split (λ c. c == 10) text in omega (arith, e)

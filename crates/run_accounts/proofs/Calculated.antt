@@ -1,36 +1,22 @@
 -- Steps that only calculate, with their accounts.
-use Rattle.std.proofs.Common.{◌≡◌, ℕ, zero, suc, ◌+◌, ◌-◌, ◌<◌, ◌≤◌, ◌||◌, true, false, Option, Some, None, slice_get, nat_le, is_some, refl, ap, ap₂, sym, subst, ◌∙◌, arith}
-use Rattle.std.proofs.lemmas.Bool.{false≢true}
-use Rattle.hh_model.specs.declared.data.Task.{Task}
-use Rattle.hh_model.specs.declared.data.Status.{Status}
-use Rattle.hh_model.specs.declared.data.Status.TheVariants.{Running, Waiting, Ended, Joined}
-use Rattle.hh_model.specs.declared.data.State.{State}
-use Rattle.hh_model.specs.Calculations.{advanced_by, calculates}
-use Rattle.hh_model.specs.Machine.{MachineValue}
-use Rattle.hh_model.specs.Step.{asked, is_running, step}
-use Rattle.run_ledger.specs.declared.data.Ledger.{Ledger}
-use Rattle.run_ledger.specs.Heaps.{heap_of, in_use, lacks_room}
-use Rattle.run_ledger.specs.Steps.{is_due, is_in_need, moved_on, moved_to, on_asked, settled, standing, task_step, task_steps}
-use Rattle.run_ledger.proofs.Machine.{task_step_machine}
+use Rattle.run_accounts.proofs.Common.{◌≡◌, ℕ, zero, suc, ◌+◌, ◌-◌, ◌<◌, ◌≤◌, ◌||◌, true, false, Option, Some, None, slice_get, nat_le, is_some, refl, ap, ap₂, sym, subst, ◌∙◌, arith, false≢true, Task, TaskStatus, Running, Waiting, Ended, Joined, MachineState, advanced_by, calculates, MachineValue, asked, is_running, step, Ledger, heap_of, in_use, lacks_room, is_due, is_in_need, moved_on, moved_to, on_asked, settled, standing, task_step, task_steps, task_step_machine, Calculation, found, AccountsValue, StaysSteady, stood, used_after, went_on}
 use Rattle.next_steps.proofs.Calculating as calculating
-use Rattle.next_steps.proofs.Calculating.{Calculation, found}
 use Rattle.run_accounts.specs.declared.ran.Stood.TheVariants.{More}
-use Rattle.run_accounts.specs.Accounts.{AccountsValue, StaysSteady, stood, used_after, went_on}
 use Rattle.run_accounts.proofs.Standings.{Ran, ran_more, ran_none, ran_used, stood_is}
 use Rattle.run_accounts.proofs.Stepped.{advanced, allocates_nothing, counts_nothing, steps_by}
 
--- where the task runs on, no more changes
+-- if the task runs on, nothing else changes
 settles_nothing : (l : Ledger) (t : ℕ) (o : Option Task) → is_running o ≡ true → moved_to l t o ≡ l
 settles_nothing l t None e = absurd (false≢true e)
-settles_nothing l t (Some x) e = by x.status e
+settles_nothing l t (Some x) e = settles_nothing_by_cases x.status e
   where
-    by : (s : Status) → is_running (Some (record x { status = s })) ≡ true → moved_on l t x.parent s ≡ l
-    by Running e = refl
-    by Waiting e = absurd (false≢true e)
-    by (Ended k n) e = absurd (false≢true e)
-    by Joined e = absurd (false≢true e)
+    settles_nothing_by_cases : (s : TaskStatus) → is_running (Some (record x { status = s })) ≡ true → moved_on l t x.parent s ≡ l
+    settles_nothing_by_cases Running e = refl
+    settles_nothing_by_cases Waiting e = absurd (false≢true e)
+    settles_nothing_by_cases (Ended k n) e = absurd (false≢true e)
+    settles_nothing_by_cases Joined e = absurd (false≢true e)
 
--- what they leave of the machine
+-- how they change the machine
 pub steps_taken : (g : MachineValue) (t k : ℕ) → (advanced_by g t k).steps ≡ g.steps + k
 steps_taken g t zero = omega arith
 steps_taken g t (suc k) = let e = steps_taken g t k in omega arith
@@ -57,14 +43,14 @@ module _ (s : AccountsValue) (t : ℕ) (is : calculates s.program s.ledger.machi
   stands : (is_due s.settings s.program s.ledger t || is_in_need s.program s.ledger t) ≡ false
   stands = ap₂ (λ a b. a || b) not_due not_in_need
 
-  -- a further one can stand behind it
+  -- a further one fits after it
   more : More ≡ stood s.settings s.program s.ledger t
   more =
       let ended : false ≡ is_some (task_step s.program s.ledger t).machine.end =
-      sym (ap (λ (m : State). is_some m.end) (task_step_machine s.program s.ledger t) ∙ ap is_some (calculating.ends_not s.program s.ledger.machine t C)) in
+      sym (ap (λ (m : MachineState). is_some m.end) (task_step_machine s.program s.ledger t) ∙ ap is_some (calculating.ends_not s.program s.ledger.machine t C)) in
       stood_is s.settings s.program s.ledger t true false not_due not_in_need (sym (calculating.is_own_matter s.program s.ledger.machine t C)) ended
 
-  -- the machine goes on, and no more changes
+  -- the machine goes on, and nothing else changes
   went : s.used ≡ in_use s.ledger → used_after s.program s.ledger t ≡ in_use (task_step s.program s.ledger t)
       → record s { ledger = advanced s.program s.ledger t } ≡ went_on s (task_step s.program s.ledger t)
   went used next =
@@ -78,11 +64,11 @@ module _ (s : AccountsValue) (t : ℕ) (is : calculates s.program s.ledger.machi
 
 module _ (a : AccountsValue) (g : MachineValue) (t most n : ℕ) (program : g.program ≡ a.program) (state : g.state ≡ a.ledger.machine) (used : a.used ≡ in_use a.ledger)
     (S : StaysSteady a.settings a.program a.ledger t most) (le : n ≤ most) (only : (k : ℕ) → k < n → calculates g.program (advanced_by g t k).state t ≡ true) where
-  -- the accounts whose machine has taken so many of them
+  -- the accounts whose machine has taken n of them
   abbrev moved : ℕ → Ledger
   moved k = record a.ledger { machine = (advanced_by g t k).state; steps = a.ledger.steps + k }
 
-  -- they are those after so many steps of the entry, all of which stand
+  -- they are those after n steps of the entry, all of which fit
   record Along (k : ℕ) : Type 0 where
     pub of : (advanced_by g t k).program ≡ a.program
     pub ran : Ran a.settings a.program a.ledger t most k (moved k)

@@ -1,30 +1,6 @@
--- Who holds which task, by the task that each worker took last.
-use Rattle.std.proofs.Common.{◌≡◌, ℕ, zero, suc, ◌+◌, ◌-◌, ◌<◌, Bool, true, false, cond, Option, Some, None, List, [], ◌∷◌, ◌++◌, length, slice_get, slice_set, nat_lt, inl, inr, refl, ap, sym, subst, ◌∙◌, arith, ◌⊎◌, is_none, unwrap_or}
-use Rattle.std.proofs.lemmas.Bool.{both_ways, cases_eq}
-use Rattle.std.proofs.lemmas.Option.{same_Some, none-some}
-use Rattle.listed.proofs.Members.{got_same, got_other}
-use Rattle.listed.proofs.Places.{got_set}
-use Rattle.run_trace.specs.declared.entry.Kind.{Kind}
-use Rattle.run_trace.specs.declared.entry.Kind.TheVariants.{Took, Ran, Chunk, Begin, End as EndOf, PutOff, Mark, More, Sweep, Fuel}
-use Rattle.run_trace.specs.Settings.{SettingsValue}
-use Rattle.hh_lang.specs.Form.{ProgramText}
-use Rattle.hh_model.specs.Step.{step, can_step, asked}
-use Rattle.hh_model.proofs.Carried.{next_name}
-use Rattle.run_ledger.specs.declared.data.Heap.{Heap}
-use Rattle.run_ledger.specs.declared.data.Ledger.{Ledger}
-use Rattle.run_ledger.specs.declared.data.RunEnd.TheVariants.{Pool}
-use Rattle.run_ledger.specs.Heaps.{heap_of, or_fresh, with_heap, placed, is_small, in_use, chunk_words, collected, swept_heap}
-use Rattle.run_ledger.specs.Steps.{allocated_by, allocated_in, stepped_to, task_step, task_steps, on_asked}
-use Rattle.run_ledger.specs.Entries.{kind_refusal, after_kind, out_from, is_ready, with_chunk, chunk_units}
-use Rattle.listed.specs.Options.{option_is}
-use Rattle.run_ledger.proofs.Moves.{moves_each}
-use Rattle.run_ledger.proofs.Sound.{SoundLedger}
-use Rattle.run_ledger.proofs.Steps.{SoundAt, step_keeps, step_leaves, task_step_sound}
-use Rattle.run_ledger.proofs.Stocks.{with_heap_any}
-use Rattle.run_ledger.proofs.Journals.{none_unless, out_tells}
-use Rattle.run_ledger.proofs.Frames.{held_is, is_held}
-use Rattle.run_ledger.proofs.Holders.{none_holding, placed_worker}
-use Rattle.run_accounts.specs.Accounts.{AccountsValue, Agrees, taken_after}
+-- Which worker holds which task, by the task that each worker took last.
+use Rattle.run_accounts.proofs.Common.{◌≡◌, ℕ, zero, suc, ◌+◌, ◌-◌, ◌<◌, Bool, true, false, cond, Option, Some, None, List, [], ◌∷◌, ◌++◌, length, slice_get, slice_set, nat_lt, inl, inr, refl, ap, sym, subst, ◌∙◌, arith, ◌⊎◌, is_none, unwrap_or, both_ways, cases_eq, same_Some, none-some, got_same, got_other, got_set, Kind, Took, Ran, Chunk, Begin, PutOff, Mark, More, Sweep, Fuel, SettingsValue, ProgramText, step, can_step, asked, next_name, Heap, Ledger, Pool, heap_of, or_fresh, with_heap, placed, is_small, in_use, chunk_words, collected, swept_heap, allocated_by, allocated_in, stepped_to, task_step, task_steps, on_asked, kind_refusal, after_kind, out_from, is_ready, with_chunk, chunk_units, option_is, moves_each, SoundLedger, SoundAt, step_keeps, step_leaves, task_step_sound, with_heap_any, none_unless, out_tells, held_is, is_held, none_holding, placed_worker, AccountsValue, CachesAgree, taken_after}
+use Rattle.run_trace.specs.declared.entry.Kind.TheVariants.{End as EndOf}
 
 -- WHO HOLDS A TASK
 
@@ -40,50 +16,50 @@ Found w base heaps =
 
 found : (w base : ℕ) (heaps : List Heap) → Found w base heaps
 found w base [] = inl (refl, λ u e. absurd (none-some _ e))
-found w base (h ∷ heaps) = by (option_is h.worker w) refl (found w (base + 1) heaps)
+found w base (h ∷ heaps) = found_by_cases (option_is h.worker w) refl (found w (base + 1) heaps)
   where
-    by : (v : Bool) → option_is h.worker w ≡ v → Found w (base + 1) heaps
+    found_by_cases : (v : Bool) → option_is h.worker w ≡ v → Found w (base + 1) heaps
         → ((cond v (Some base) (out_from w (base + 1) heaps) ≡ None) × ((u : ℕ) → (or_fresh (slice_get (h ∷ heaps) u)).worker ≡ Some w → ⊥))
         ⊎ ((u : ℕ) × (cond v (Some base) (out_from w (base + 1) heaps) ≡ Some (base + u)) × ((or_fresh (slice_get (h ∷ heaps) u)).worker ≡ Some w))
-    by true e rest = inr (zero, ap Some (let q : base ≡ base + 0 = omega arith in q), held_is h.worker w e)
-    by false e (inl none) = inl (none.0, go)
+    found_by_cases true e rest = inr (zero, ap Some (let q : base ≡ base + 0 = omega arith in q), held_is h.worker w e)
+    found_by_cases false e (inl none) = inl (none.0, found_by_more_cases)
       where
-        go : (u : ℕ) → (or_fresh (slice_get (h ∷ heaps) u)).worker ≡ Some w → ⊥
-        go zero q = both_ways (option_is h.worker w) e (is_held h.worker w q)
-        go (suc u) q = none.1 u q
-    by false e (inr some) = inr (suc some.0, some.1 ∙ ap Some (let q : base + 1 + some.0 ≡ base + suc some.0 = omega arith in q), some.2)
+        found_by_more_cases : (u : ℕ) → (or_fresh (slice_get (h ∷ heaps) u)).worker ≡ Some w → ⊥
+        found_by_more_cases zero q = both_ways (option_is h.worker w) e (is_held h.worker w q)
+        found_by_more_cases (suc u) q = none.1 u q
+    found_by_cases false e (inr some) = inr (suc some.0, some.1 ∙ ap Some (let q : base + 1 + some.0 ≡ base + suc some.0 = omega arith in q), some.2)
 
-module _ (s : AccountsValue) (A : Agrees s) (w : ℕ) where
+module _ (s : AccountsValue) (A : CachesAgree s) (w : ℕ) where
   last : (t : ℕ) → worker_of s.ledger t ≡ Some w → unwrap_or (slice_get s.taken w) None ≡ Some t
   last t e = ap (λ o. unwrap_or o None) (A.taken t w e)
 
-  -- who took nothing holds nothing
+  -- a worker that took nothing holds nothing
   pub holds_none : unwrap_or (slice_get s.taken w) None ≡ None → out_from w 0 s.ledger.heaps ≡ None
-  holds_none none = by (found w 0 s.ledger.heaps)
+  holds_none none = holds_none_by_cases (found w 0 s.ledger.heaps)
     where
-      by : Found w 0 s.ledger.heaps → out_from w 0 s.ledger.heaps ≡ None
-      by (inl f) = f.0
-      by (inr f) = absurd (none-some _ (sym none ∙ last f.0 f.2))
+      holds_none_by_cases : Found w 0 s.ledger.heaps → out_from w 0 s.ledger.heaps ≡ None
+      holds_none_by_cases (inl f) = f.0
+      holds_none_by_cases (inr f) = absurd (none-some _ (sym none ∙ last f.0 f.2))
 
-  -- who holds a task holds the one that was taken last
+  -- a worker that holds a task holds the one that it took last
   pub holds_last : (t : ℕ) → unwrap_or (slice_get s.taken w) None ≡ Some t → worker_of s.ledger t ≡ Some w → out_from w 0 s.ledger.heaps ≡ Some t
-  holds_last t is e = by (found w 0 s.ledger.heaps)
+  holds_last t is e = holds_last_by_cases (found w 0 s.ledger.heaps)
     where
-      by : Found w 0 s.ledger.heaps → out_from w 0 s.ledger.heaps ≡ Some t
-      by (inl f) = absurd (f.1 t e)
-      by (inr f) = f.1 ∙ (ap Some (let q : 0 + f.0 ≡ f.0 = omega arith in q) ∙ (sym (last f.0 f.2) ∙ is))
+      holds_last_by_cases : Found w 0 s.ledger.heaps → out_from w 0 s.ledger.heaps ≡ Some t
+      holds_last_by_cases (inl f) = absurd (f.1 t e)
+      holds_last_by_cases (inr f) = f.1 ∙ (ap Some (let q : 0 + f.0 ≡ f.0 = omega arith in q) ∙ (sym (last f.0 f.2) ∙ is))
 
-  -- and nothing, once that is held no more
+  -- and nothing after that is released
   pub holds_no_more : (t : ℕ) → unwrap_or (slice_get s.taken w) None ≡ Some t → (worker_of s.ledger t ≡ Some w → ⊥) → out_from w 0 s.ledger.heaps ≡ None
-  holds_no_more t is other = by (found w 0 s.ledger.heaps)
+  holds_no_more t is other = holds_no_more_by_cases (found w 0 s.ledger.heaps)
     where
-      by : Found w 0 s.ledger.heaps → out_from w 0 s.ledger.heaps ≡ None
-      by (inl f) = f.0
-      by (inr f) = absurd (other (subst (λ v. worker_of s.ledger v ≡ Some w) (same_Some f.0 t (sym (last f.0 f.2) ∙ is)) f.2))
+      holds_no_more_by_cases : Found w 0 s.ledger.heaps → out_from w 0 s.ledger.heaps ≡ None
+      holds_no_more_by_cases (inl f) = f.0
+      holds_no_more_by_cases (inr f) = absurd (other (subst (λ v. worker_of s.ledger v ≡ Some w) (same_Some f.0 t (sym (last f.0 f.2) ∙ is)) f.2))
 
 -- NO STEP MAKES A WORKER HOLD A TASK
 
--- who holds a task in one ledger held it in the other
+-- a worker that holds a task in one ledger held it in the other
 abbrev Held : Ledger → Ledger → Type 0
 Held l k = (u w : ℕ) → worker_of k u ≡ Some w → worker_of l u ≡ Some w
 
@@ -116,11 +92,11 @@ module _ (p : ProgramText) (l : Ledger) (t : ℕ) (S : SoundAt t l) (can : can_s
       (λ u h x y v z is wait none q qx qy w e. ap (λ o. (or_fresh o).worker) is ∙ e) (λ u h none q w e. absurd (none-some _ e))
 
   held_k : Held l k
-  held_k u w e = held_b (asked p l.machine t) u w (by (slice_get k.heaps u) refl e)
+  held_k u w e = held_b (asked p l.machine t) u w (held_k_by_cases (slice_get k.heaps u) refl e)
     where
-      by : (o : Option Heap) → slice_get k.heaps u ≡ o → (or_fresh o).worker ≡ Some w → worker_of b u ≡ Some w
-      by None q r = absurd (none-some _ r)
-      by (Some h) q r = was_k u h q w r
+      held_k_by_cases : (o : Option Heap) → slice_get k.heaps u ≡ o → (or_fresh o).worker ≡ Some w → worker_of b u ≡ Some w
+      held_k_by_cases None q r = absurd (none-some _ r)
+      held_k_by_cases (Some h) q r = was_k u h q w r
 
 held_step : (p : ProgramText) (l : Ledger) (t : ℕ) → SoundAt t l → Held l (task_step p l t)
 held_step p l t S = step_keeps (Held l) p l t (held_k p l t S) (λ u w q. q)
@@ -133,13 +109,13 @@ held_steps p (suc n) l t S u w e = held_step p l t S u w (held_steps p n (task_s
 
 held_chunk : (l : Ledger) (t : ℕ) (next : Option ℕ) (full : Bool) → Held l (cond full (record l { end = Some (Pool (in_use l)) }) (with_heap l t (with_chunk next)))
 held_chunk l t next true u w e = e
-held_chunk l t next false u w e = held_set l t (with_chunk next) (λ h. by h (on_asked next is_small)) u w e
+held_chunk l t next false u w e = held_set l t (with_chunk next) (λ h. held_chunk_by_cases h (on_asked next is_small)) u w e
   where
-    by : (h : Heap) (v : Bool) → (cond v (record h { chunks = h.chunks ++ [] ∷ []; room = chunk_words }) (record h { reserved = chunk_units next })).worker ≡ h.worker
-    by h true = refl
-    by h false = refl
+    held_chunk_by_cases : (h : Heap) (v : Bool) → (cond v (record h { chunks = h.chunks ++ [] ∷ []; room = chunk_words }) (record h { reserved = chunk_units next })).worker ≡ h.worker
+    held_chunk_by_cases h true = refl
+    held_chunk_by_cases h false = refl
 
--- what is kept of who took what, after an entry
+-- the record of which worker took what, after an entry
 module _ (p : ProgramText) (s : SettingsValue) (l : Ledger) (taken : List (Option ℕ)) (A : (t w : ℕ) → worker_of l t ≡ Some w → slice_get taken w ≡ Some (Some t)) (S : SoundLedger l) where
   abbrev Tells : ℕ → Kind → Type 0
   Tells w kind = (u v : ℕ) → worker_of (after_kind p s l w kind) u ≡ Some v → slice_get (taken_after taken w kind) v ≡ Some (Some u)

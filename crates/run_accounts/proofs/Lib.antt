@@ -6,3 +6,4 @@ mod Standings
 pub mod Stepped
 pub mod Uses
 mod Went
+mod Common

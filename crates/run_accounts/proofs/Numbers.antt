@@ -1,20 +1,14 @@
--- The numbers that entries say, and that accounts keep, fit 32 bits.
-use Rattle.std.proofs.Common.{◌≡◌, ℕ, ◌+◌, ◌-◌, ◌<◌, ◌≤◌, ◌^◌, min, length, ap, arith}
-use Rattle.std.proofs.lemmas.List.Sums.{sum_by-append}
-use Rattle.hh_model.specs.declared.data.State.{State}
-use Rattle.run_ledger.specs.declared.data.Heap.{Heap}
-use Rattle.run_ledger.specs.Heaps.{words_at, words_in, units_in, units_sum, small_in, begun_in, take_of, collected, end_numbers, sweep_number, left_in, marked_in}
-use Rattle.run_ledger.proofs.Weights.{collected_weight}
-use Rattle.run_ledger.proofs.Laid.{collected_bound}
+-- The numbers of entries and of accounts fit in 32 bits.
+use Rattle.run_accounts.proofs.Common.{◌≡◌, ℕ, ◌+◌, ◌-◌, ◌<◌, ◌≤◌, ◌^◌, min, length, ap, arith, sum_by-append, MachineState, Heap, words_at, words_in, units_in, units_sum, small_in, begun_in, take_of, collected, end_numbers, sweep_number, left_in, marked_in, collected_weight, collected_bound}
 
 -- chunks that a leaf collection takes
-pub take_few : (m : State) (h : Heap) → words_in m h < 2 ^ 27 → take_of m h < 2 ^ 32
+pub take_few : (m : MachineState) (h : Heap) → words_in m h < 2 ^ 27 → take_of m h < 2 ^ 32
 take_few m h few =
     let a = sum_by-append (words_at m) (small_in h) h.large in
     omega arith
 
 -- the numbers of its end
-pub end_few : (m : State) (h : Heap) → words_in m h < 2 ^ 27 → units_in m h < 2 ^ 20 → (taken given left : ℕ) → (taken, given, left) ≡ end_numbers m h
+pub end_few : (m : MachineState) (h : Heap) → words_in m h < 2 ^ 27 → units_in m h < 2 ^ 20 → (taken given left : ℕ) → (taken, given, left) ≡ end_numbers m h
     → (taken < 2 ^ 32) × (given < 2 ^ 32) × (left < 2 ^ 32)
 end_few m h words few taken given left is =
     let a = ap (λ (q : ℕ × ℕ × ℕ). q.0) is in
@@ -26,7 +20,7 @@ end_few m h words few taken given left is =
     (omega arith, omega arith, omega arith)
 
 -- and that of a sweep
-pub sweep_few : (m : State) (h : Heap) → units_in m h < 2 ^ 20 → (given : ℕ) → given ≡ sweep_number m h → given < 2 ^ 32
+pub sweep_few : (m : MachineState) (h : Heap) → units_in m h < 2 ^ 20 → (given : ℕ) → given ≡ sweep_number m h → given < 2 ^ 32
 sweep_few m h few given is = omega arith
 
 -- the objects that are marked

@@ -1,26 +1,5 @@
--- How long snapshots are, and where the children of a task stand.
-use Rattle.std.proofs.Common.{◌≡◌, ℕ, zero, suc, ◌+◌, ◌-◌, ◌<◌, ◌≤◌, ◌||◌, Bool, true, false, cond, Option, Some, None, List, [], ◌∷◌, ◌++◌, length, slice_get, slice_set, filter, sum_by, inl, inr, refl, ap, ◌∙◌, arith, length-set}
-use Rattle.std.proofs.lemmas.Bool.{false≢true, cases_eq}
-use Rattle.std.proofs.lemmas.List.Sums.{sum_by-cons}
-use Rattle.std.specs.List.{list_any}
-use Rattle.listed.proofs.Members.{got_same, got_other}
-use Rattle.hh_model.specs.declared.data.Name.{Name}
-use Rattle.hh_model.specs.declared.data.Object.{Object}
-use Rattle.hh_model.specs.declared.data.Task.{Task}
-use Rattle.hh_model.specs.declared.data.End.{End}
-use Rattle.hh_model.specs.declared.data.Status.{Status}
-use Rattle.hh_model.specs.declared.data.Status.TheVariants.{Running, Waiting, Ended, Joined}
-use Rattle.hh_model.specs.Names.{refs_at}
-use Rattle.hh_model.specs.Step.{is_left, is_joined, sibling}
-use Rattle.run_ledger.specs.declared.data.Heap.{Heap}
-use Rattle.run_ledger.specs.declared.data.Ledger.{Ledger}
-use Rattle.run_ledger.specs.Reachable.{holds_name, reached_by}
-use Rattle.run_ledger.specs.Heaps.{fresh, heap_at, heap_of, or_fresh, with_heap, with_heap_at, held_in, roots_of, within, put_last, is_small, forked_heap, emptied, let_go}
-use Rattle.run_ledger.specs.Steps.{allocated_by, at_fork, at_join, join_heaps, moved_on, moved_to, settled}
-use Rattle.run_ledger.proofs.Sound.{SoundLedger}
-use Rattle.run_ledger.proofs.Weights.{weight, total, kept_weight}
-use Rattle.run_ledger.proofs.Stocks.{with_heap_any}
-use Rattle.run_accounts.specs.Accounts.{ArePaired}
+-- How long snapshots are, and the positions of the children of a task.
+use Rattle.run_accounts.proofs.Common.{◌≡◌, ℕ, zero, suc, ◌+◌, ◌-◌, ◌<◌, ◌≤◌, ◌||◌, Bool, true, false, cond, Option, Some, None, List, [], ◌∷◌, ◌++◌, length, slice_get, slice_set, filter, sum_by, inl, inr, refl, ap, ◌∙◌, arith, length-set, false≢true, cases_eq, sum_by-cons, list_any, got_same, got_other, Name, Object, Task, End, TaskStatus, Running, Waiting, Ended, Joined, refs_at, is_left, is_joined, sibling, Heap, Ledger, holds_name, reached_by, fresh, heap_at, heap_of, or_fresh, with_heap, with_heap_at, held_in, roots_of, within, put_last, is_small, forked_heap, emptied, let_go, allocated_by, at_fork, at_join, join_heaps, moved_on, moved_to, settled, SoundLedger, weight, total, kept_weight, with_heap_any, ArePaired}
 use Rattle.run_accounts.proofs.Uses.{one_of}
 
 -- SNAPSHOTS
@@ -40,7 +19,7 @@ reached_few store names roots zero = kept_few (holds_name roots) names
 reached_few store names roots (suc more) =
     kept_few (λ n. holds_name (reached_by store names roots more) n || list_any (λ m. holds_name (refs_at store m) n) (reached_by store names roots more)) names
 
--- what is reached within a heap is no more than all heaps hold
+-- what is reachable within a heap is no more than all heaps hold
 within_few : (l : Ledger) (t : ℕ) → length (within l t) ≤ total (weight one_each) l.heaps
 within_few l t =
     let a = reached_few l.machine.store (held_in (heap_of l t)) (roots_of l t) (length (held_in (heap_of l t))) in
@@ -48,7 +27,7 @@ within_few l t =
     let c = count_is (held_in (heap_of l t)) in
     omega arith
 
--- no snapshot has more names than so many
+-- no snapshot has more than n names
 abbrev pub Snaps : ℕ → Ledger → Type 0
 Snaps most l = (u : ℕ) → length (heap_of l u).snapshot ≤ most
 
@@ -77,12 +56,12 @@ snaps_more most (h ∷ heaps) I (suc u) = snaps_more most heaps (λ v. I (suc v)
 
 pub snaps_allocated : (most : ℕ) (l : Ledger) (t : ℕ) (o : Option ℕ) → Snaps most l → Snaps most (allocated_by l t o)
 snaps_allocated most l t None I = I
-snaps_allocated most l t (Some w) I = snaps_set most l t _ (λ h le. by h _ (is_small w) le) I
+snaps_allocated most l t (Some w) I = snaps_set most l t _ (λ h le. snaps_allocated_by_cases h _ (is_small w) le) I
   where
-    by : (h : Heap) (n : Name) (v : Bool) → length h.snapshot ≤ most
+    snaps_allocated_by_cases : (h : Heap) (n : Name) (v : Bool) → length h.snapshot ≤ most
         → length (cond v (record h { chunks = put_last h.chunks n; room = h.room - w; since = h.since + w }) (record h { large = h.large ++ n ∷ []; reserved = 0; since = h.since + w })).snapshot ≤ most
-    by h n true le = le
-    by h n false le = le
+    snaps_allocated_by_cases h n true le = le
+    snaps_allocated_by_cases h n false le = le
 
 module _ (most : ℕ) (l : Ledger) (t : ℕ) (few : total (weight one_each) l.heaps ≤ most) (I : Snaps most l) where
   snaps_fork : Snaps most (at_fork l t)
@@ -93,7 +72,7 @@ module _ (most : ℕ) (l : Ledger) (t : ℕ) (few : total (weight one_each) l.he
   snaps_join parent left =
       snaps_set most _ (left + 1) emptied (λ h le. le) (snaps_set most _ left emptied (λ h le. le) (snaps_set most l parent _ (λ h le. le) I))
 
-  snaps_moved : (parent : Option ℕ) (s : Status) → Snaps most (moved_on l t parent s)
+  snaps_moved : (parent : Option ℕ) (s : TaskStatus) → Snaps most (moved_on l t parent s)
   snaps_moved parent Running = I
   snaps_moved parent Waiting = snaps_fork
   snaps_moved parent (Ended k n) = snaps_set most l t let_go (λ h le. le) I
@@ -117,19 +96,19 @@ sound_paired l S t p e =
     let b = T.low (sibling t) p (T.pairs t p e) in
     let c = T.made t p e in
     let d = T.made (sibling t) p (T.pairs t p e) in
-    by (is_left t) a b c d S.lengths
+    sound_paired_by_cases (is_left t) a b c d S.lengths
   where
-    by : (v : Bool) → p < t → p < cond v (t + 1) (t - 1) → t < length l.machine.tasks → cond v (t + 1) (t - 1) < length l.machine.tasks → length l.heaps ≡ length l.machine.tasks
+    sound_paired_by_cases : (v : Bool) → p < t → p < cond v (t + 1) (t - 1) → t < length l.machine.tasks → cond v (t + 1) (t - 1) < length l.machine.tasks → length l.heaps ≡ length l.machine.tasks
         → (p < cond v t (t - 1)) × (cond v t (t - 1) + 1 < length l.heaps)
-    by true a b c d f = (omega arith, omega arith)
-    by false a b c d f = (omega arith, omega arith)
+    sound_paired_by_cases true a b c d f = (omega arith, omega arith)
+    sound_paired_by_cases false a b c d f = (omega arith, omega arith)
 
 paired_set : (l : Ledger) (t : ℕ) (f : Heap → Heap) → ArePaired (with_heap l t f) → ArePaired l
-paired_set l t f = by (heap_at l t)
+paired_set l t f = paired_set_by_cases (heap_at l t)
   where
-    by : (o : Option Heap) → ArePaired (with_heap_at l t f o) → ArePaired l
-    by None P = P
-    by (Some h) P = λ u p e. (let a = P u p e in let b = length-set l.heaps t (f h) in (a.0, omega arith))
+    paired_set_by_cases : (o : Option Heap) → ArePaired (with_heap_at l t f o) → ArePaired l
+    paired_set_by_cases None P = P
+    paired_set_by_cases (Some h) P = λ u p e. (let a = P u p e in let b = length-set l.heaps t (f h) in (a.0, omega arith))
 
 module _ (k : Ledger) (t : ℕ) where
   paired_join : (parent : Option ℕ) → ArePaired (at_join k t parent) → ArePaired k
@@ -138,15 +117,15 @@ module _ (k : Ledger) (t : ℕ) where
 
   paired_to : (o : Option Task) → is_joined o ≡ true → ArePaired (moved_to k t o) → ArePaired k
   paired_to None j P = absurd (false≢true j)
-  paired_to (Some x) j P = by x.status j P
+  paired_to (Some x) j P = paired_to_by_cases x.status j P
     where
-      by : (s : Status) → is_joined (Some (record x { status = s })) ≡ true → ArePaired (moved_on k t x.parent s) → ArePaired k
-      by Running j Q = Q
-      by Waiting j Q = absurd (false≢true j)
-      by (Ended i r) j Q = absurd (false≢true j)
-      by Joined j Q = paired_join x.parent Q
+      paired_to_by_cases : (s : TaskStatus) → is_joined (Some (record x { status = s })) ≡ true → ArePaired (moved_on k t x.parent s) → ArePaired k
+      paired_to_by_cases Running j Q = Q
+      paired_to_by_cases Waiting j Q = absurd (false≢true j)
+      paired_to_by_cases (Ended i r) j Q = absurd (false≢true j)
+      paired_to_by_cases Joined j Q = paired_join x.parent Q
 
-  -- a task that has joined has its place among pairs of children
+  -- a task that has joined is one of a pair of children
   pub settled_paired : (o : Option End) → is_joined (slice_get k.machine.tasks t) ≡ true → ArePaired (settled k t o) → ArePaired k
   settled_paired None j P = paired_to (slice_get k.machine.tasks t) j P
   settled_paired (Some e) j P = P

@@ -1,22 +1,6 @@
 -- The steps of one entry, one after the other.
-use Rattle.std.proofs.Common.{◌≡◌, ℕ, ◌+◌, ◌-◌, ◌<◌, ◌≤◌, ◌&&◌, ◌||◌, not, Bool, true, false, cond, zero, suc, Option, Some, None, slice_get, is_none, is_some, refl, ap, ap₂, sym, subst, ◌∙◌, arith}
-use Rattle.std.proofs.lemmas.Bool.{false≢true}
-use Rattle.hh_lang.specs.declared.program.Line.{Line}
-use Rattle.hh_lang.specs.Form.{ProgramText}
-use Rattle.run_trace.specs.Settings.{SettingsValue}
-use Rattle.hh_model.specs.declared.data.Task.{Task}
-use Rattle.hh_model.specs.declared.data.State.{State}
-use Rattle.hh_model.specs.declared.data.End.{End}
-use Rattle.hh_model.specs.Step.{step, fetched}
-use Rattle.run_ledger.specs.declared.data.Ledger.{Ledger}
-use Rattle.run_ledger.specs.Steps.{task_step, task_steps, is_due, is_in_need, is_private, is_private_by, is_private_line, standing, is_open, works_alone}
-use Rattle.run_ledger.proofs.Machine.{task_step_machine, task_steps_more}
-use Rattle.run_ledger.proofs.Steps.{steps_last}
-use Rattle.run_accounts.specs.declared.ran.Stood.{Stood}
-use Rattle.run_accounts.specs.declared.ran.Stood.TheVariants.{Not, Last, More}
-use Rattle.run_ledger.specs.Heaps.{in_use}
-use Rattle.next_steps.specs.Own.{is_own, is_own_by, is_own_line}
-use Rattle.run_accounts.specs.Accounts.{AccountsValue, Steady, StaysSteady, stood, after_stood, used_after, went_on}
+use Rattle.run_accounts.proofs.Common.{◌≡◌, ℕ, ◌+◌, ◌-◌, ◌<◌, ◌≤◌, ◌&&◌, ◌||◌, not, Bool, true, false, cond, zero, suc, Option, Some, None, slice_get, is_none, is_some, refl, ap, ap₂, sym, subst, ◌∙◌, arith, false≢true, Line, ProgramText, SettingsValue, Task, MachineState, End, step, fetched, Ledger, task_step, task_steps, is_due, is_in_need, is_private, is_private_by, is_private_line, standing, is_open, works_alone, task_step_machine, task_steps_more, steps_last, in_use, is_own, is_own_by, is_own_line, Stood, Not, Last, AccountsValue, Steady, StaysSteady, stood, after_stood, used_after, went_on}
+use Rattle.run_accounts.specs.declared.ran.Stood.TheVariants.{More}
 
 -- PRIVATE STEPS
 
@@ -24,20 +8,20 @@ three_and : (a b c : Bool) → (a && b && c) ≡ (a && (b && c))
 three_and true b c = refl
 three_and false b c = refl
 
-private_line : (p : ProgramText) (m : State) (t : ℕ) (x : Task) (o : Option Line) → is_private_line p m t x o ≡ (is_own_line m t x o && is_none (step p m t).end)
+private_line : (p : ProgramText) (m : MachineState) (t : ℕ) (x : Task) (o : Option Line) → is_private_line p m t x o ≡ (is_own_line m t x o && is_none (step p m t).end)
 private_line p m t x None = refl
 private_line p m t x (Some line) = sym (three_and (not (is_open x line.instr)) (works_alone m t x.top line.instr) (is_none (step p m t).end))
 
-private_by : (p : ProgramText) (m : State) (t : ℕ) (o : Option Task) → is_private_by p m t o ≡ (is_own_by p m t o && is_none (step p m t).end)
+private_by : (p : ProgramText) (m : MachineState) (t : ℕ) (o : Option Task) → is_private_by p m t o ≡ (is_own_by p m t o && is_none (step p m t).end)
 private_by p m t None = refl
 private_by p m t (Some x) = private_line p m t x (fetched p x.top)
 
-pub private_is : (p : ProgramText) (m : State) (t : ℕ) → is_private p m t ≡ (is_own p m t && is_none (step p m t).end)
+pub private_is : (p : ProgramText) (m : MachineState) (t : ℕ) → is_private p m t ≡ (is_own p m t && is_none (step p m t).end)
 private_is p m t = private_by p m t (slice_get m.tasks t)
 
 -- the machine after a step tells whether the step was private
 pub private_after : (p : ProgramText) (l : Ledger) (t : ℕ) → is_private p l.machine t ≡ (is_own p l.machine t && is_none (task_step p l t).machine.end)
-private_after p l t = private_is p l.machine t ∙ ap (λ (m : State). is_own p l.machine t && is_none m.end) (sym (task_step_machine p l t))
+private_after p l t = private_is p l.machine t ∙ ap (λ (m : MachineState). is_own p l.machine t && is_none m.end) (sym (task_step_machine p l t))
 
 -- MANY STEPS
 
@@ -47,39 +31,38 @@ steps_more p l t k = ap (task_steps p l t) (let e : k + 1 ≡ suc k = omega arit
 module _ (s : SettingsValue) (p : ProgramText) (t : ℕ) where
   pub stands_not : (l : Ledger) (k : ℕ) → Not ≡ stood s p l t → standing s p l t k ≡ 0
   stands_not l zero e = refl
-  stands_not l (suc k) e = by (is_due s p l t || is_in_need p l t) (is_private p l.machine t) e
+  stands_not l (suc k) e = stands_not_by_cases (is_due s p l t || is_in_need p l t) (is_private p l.machine t) e
     where
-      by : (b c : Bool) → Not ≡ cond b Not (cond c More Last) → cond b 0 (cond c (suc (standing s p (task_step p l t) t k)) 1) ≡ 0
-      by true c e = refl
-      by false true e = absurd cc
-      by false false e = absurd cc
+      stands_not_by_cases : (b c : Bool) → Not ≡ cond b Not (cond c More Last) → cond b 0 (cond c (suc (standing s p (task_step p l t) t k)) 1) ≡ 0
+      stands_not_by_cases true c e = refl
+      stands_not_by_cases false true e = absurd cc
+      stands_not_by_cases false false e = absurd cc
 
   pub stands_last : (l : Ledger) (k : ℕ) → Last ≡ stood s p l t → standing s p l t (suc k) ≡ 1
-  stands_last l k e = by (is_due s p l t || is_in_need p l t) (is_private p l.machine t) e
+  stands_last l k e = stands_last_by_cases (is_due s p l t || is_in_need p l t) (is_private p l.machine t) e
     where
-      by : (b c : Bool) → Last ≡ cond b Not (cond c More Last) → cond b 0 (cond c (suc (standing s p (task_step p l t) t k)) 1) ≡ 1
-      by true c e = absurd cc
-      by false true e = absurd cc
-      by false false e = refl
+      stands_last_by_cases : (b c : Bool) → Last ≡ cond b Not (cond c More Last) → cond b 0 (cond c (suc (standing s p (task_step p l t) t k)) 1) ≡ 1
+      stands_last_by_cases true c e = absurd cc
+      stands_last_by_cases false true e = absurd cc
+      stands_last_by_cases false false e = refl
 
   pub stands_more : (l : Ledger) (k : ℕ) → More ≡ stood s p l t → standing s p l t (suc k) ≡ suc (standing s p (task_step p l t) t k)
-  stands_more l k e = by (is_due s p l t || is_in_need p l t) (is_private p l.machine t) e
+  stands_more l k e = stands_more_by_cases (is_due s p l t || is_in_need p l t) (is_private p l.machine t) e
     where
-      by : (b c : Bool) → More ≡ cond b Not (cond c More Last) → cond b 0 (cond c (suc (standing s p (task_step p l t) t k)) 1) ≡ suc (standing s p (task_step p l t) t k)
-      by true c e = absurd cc
-      by false true e = refl
-      by false false e = absurd cc
+      stands_more_by_cases : (b c : Bool) → More ≡ cond b Not (cond c More Last) → cond b 0 (cond c (suc (standing s p (task_step p l t) t k)) 1) ≡ suc (standing s p (task_step p l t) t k)
+      stands_more_by_cases true c e = absurd cc
+      stands_more_by_cases false true e = refl
+      stands_more_by_cases false false e = absurd cc
 
   pub stands_some : (l : Ledger) (k : ℕ) → (is_due s p l t || is_in_need p l t) ≡ false → 1 ≤ standing s p l t (suc k)
-  stands_some l k e = by (is_due s p l t || is_in_need p l t) (is_private p l.machine t) e
+  stands_some l k e = stands_some_by_cases (is_due s p l t || is_in_need p l t) (is_private p l.machine t) e
     where
-      by : (b c : Bool) → b ≡ false → 1 ≤ cond b 0 (cond c (suc (standing s p (task_step p l t) t k)) 1)
-      by true c e = absurd (false≢true (sym e))
-      by false true e = omega arith
-      by false false e = omega arith
+      stands_some_by_cases : (b c : Bool) → b ≡ false → 1 ≤ cond b 0 (cond c (suc (standing s p (task_step p l t) t k)) 1)
+      stands_some_by_cases true c e = absurd (false≢true (sym e))
+      stands_some_by_cases false true e = omega arith
+      stands_some_by_cases false false e = omega arith
 
--- how far the steps have come: so many were taken, all of them can stand, and the rest of the question is that of the
--- rest
+-- the progress of the steps: n were taken, all of them fit, and what remains to be decided is about the rest
 pub record Ran (s : SettingsValue) (p : ProgramText) (l : Ledger) (t k done : ℕ) (now : Ledger) : Type 0 where
   pub is : now ≡ task_steps p l t done
   pub rest : standing s p l t k ≡ done + standing s p now t (k - done)
@@ -123,7 +106,7 @@ module _ (s : SettingsValue) (p : ProgramText) (l : Ledger) (t k done : ℕ) (no
 pub ran_none : (s : SettingsValue) (p : ProgramText) (l : Ledger) (t k : ℕ) → Ran s p l t k 0 l
 ran_none s p l t k = record { is = refl; rest = let e : standing s p l t k ≡ standing s p l t (k - 0) = ap (standing s p l t) (omega arith) in omega arith }
 
--- so many steps, and then so many of the rest
+-- n steps, and then k of the rest
 module _ (s : SettingsValue) (p : ProgramText) (l : Ledger) (t k done : ℕ) (now : Ledger) (R : Ran s p l t k done now) (le : done ≤ k) where
   pub ran_on : (count : ℕ) (later : Ledger) → Ran s p now t (k - done) count later → Ran s p l t k (done + count) later
   ran_on count later Q = record {
@@ -144,7 +127,7 @@ module _ (s : SettingsValue) (p : ProgramText) (l : Ledger) (t k done : ℕ) (no
     used = λ i lt. subst (λ q. (is_due s p q t || is_in_need p q t) ≡ false → used_after p q t ≡ in_use (task_step p q t)) (at_rest i) (S.used (done + i) (let a = R.rest in omega (arith, lt)));
   }
 
--- the same, by the accounts at the entry and those that the loop has come to
+-- the same, by the accounts at the entry and those in the loop
 module _ (a b : AccountsValue) (t k done : ℕ) (is : b ≡ went_on a b.ledger) (R : Ran a.settings a.program a.ledger t k done b.ledger) (lt : done < k) where
   el : b.settings ≡ a.settings
   el = ap (λ (q : AccountsValue). q.settings) is
@@ -198,7 +181,7 @@ module _ (a b : AccountsValue) (t k done : ℕ) (is : b ≡ went_on a b.ledger) 
       pub new_went : how ≡ More → new ≡ went_on a new.ledger
       new_went e = let q = new_is More e in q ∙ ap (went_on a) (sym (ap (λ (x : AccountsValue). x.ledger) q))
 
--- so many steps that were counted at once, by the accounts before and after
+-- n steps that were counted at once, by the accounts before and after
 module _ (b new : AccountsValue) (t k n : ℕ)
     (stand : standing b.settings b.program b.ledger t k ≡ n + standing b.settings b.program (task_steps b.program b.ledger t n) t (k - n)) (after : new ≡ went_on b (task_steps b.program b.ledger t n)) where
   led : new.ledger ≡ task_steps b.program b.ledger t n
@@ -210,7 +193,7 @@ module _ (b new : AccountsValue) (t k n : ℕ)
   pub counted_is : new ≡ went_on b new.ledger
   counted_is = after ∙ ap (went_on b) (sym led)
 
--- the same behind so many others
+-- the same after n others
 module _ (a b : AccountsValue) (t k done : ℕ) (is : b ≡ went_on a b.ledger) (R : Ran a.settings a.program a.ledger t k done b.ledger) (le : done ≤ k) where
   pub rest_at : StaysSteady a.settings a.program a.ledger t k → StaysSteady b.settings b.program b.ledger t (k - done)
   rest_at S = subst (λ (q : AccountsValue). StaysSteady q.settings q.program b.ledger t (k - done)) (sym is) (rest_steady a.settings a.program a.ledger t k done b.ledger R le S)
@@ -236,7 +219,7 @@ module _ (a b : AccountsValue) (t k done : ℕ) (is : b ≡ went_on a b.ledger) 
     pub all_went : b ≡ went_on a (task_steps a.program a.ledger t k)
     all_went = is ∙ (ap (went_on a) R.is ∙ ap (λ n. went_on a (task_steps a.program a.ledger t n)) all)
 
--- how a step stood that was taken
+-- how a taken step fitted
 pub stood_is : (s : SettingsValue) (p : ProgramText) (l : Ledger) (t : ℕ) (own ended : Bool) → is_due s p l t ≡ false → is_in_need p l t ≡ false → own ≡ is_own p l.machine t
     → ended ≡ is_some (task_step p l t).machine.end → cond (own && not ended) More Last ≡ stood s p l t
 stood_is s p l t own ended d n o e =

@@ -1,25 +1,6 @@
 -- One step of a task, put together from its parts.
-use Rattle.std.proofs.Common.{◌≡◌, ℕ, ◌+◌, ◌<◌, ◌≤◌, ◌^◌, ◌==◌, not, Bool, true, false, cond, List, [], ◌∷◌, ◌++◌, Option, Some, None, slice_get, slice_set, inl, inr, refl, ap, ap₂, sym, subst, ◌∙◌, arith, nat_lt}
-use Rattle.std.proofs.lemmas.Bool.{false≢true, cases_eq, eqb-true, leb-true, cond-true, not-false}
-use Rattle.std.proofs.lemmas.Option.{same_Some}
-use Rattle.listed.proofs.Members.{In, got_same, got_other, got_front, got_within, contains_from_in, in_from_contains}
-use Rattle.hh_lang.specs.Form.{ProgramText}
-use Rattle.hh_model.specs.declared.data.Name.{Name}
-use Rattle.hh_model.specs.declared.data.Task.{Task}
-use Rattle.hh_model.specs.declared.data.State.{State}
-use Rattle.hh_model.specs.declared.data.End.{End}
-use Rattle.hh_model.specs.declared.data.Status.{Status}
-use Rattle.hh_model.specs.declared.data.Status.TheVariants.{Running, Waiting, Ended, Joined}
-use Rattle.hh_model.specs.Step.{step, can_step, asked, is_joined, is_waiting}
-use Rattle.run_ledger.specs.declared.data.Heap.{Heap}
-use Rattle.run_ledger.specs.declared.data.Ledger.{Ledger}
-use Rattle.run_ledger.specs.Heaps.{heap_of, or_fresh, heap_at, fresh, with_heap, with_heap_at, held_in, in_use, placed, is_small, lacks_room, units, units_in, within, forked_heap}
-use Rattle.run_ledger.specs.Steps.{allocated_in, allocated_by, task_step, settled, moved_to, moved_on, at_fork, is_in_need, on_asked}
-use Rattle.run_ledger.proofs.Machine.{heap_machine}
-use Rattle.run_ledger.proofs.Held.{placed_since}
+use Rattle.run_accounts.proofs.Common.{◌≡◌, ℕ, ◌+◌, ◌<◌, ◌≤◌, ◌^◌, ◌==◌, not, Bool, true, false, cond, List, [], ◌∷◌, ◌++◌, Option, Some, None, slice_get, slice_set, inl, inr, refl, ap, ap₂, sym, subst, ◌∙◌, arith, nat_lt, false≢true, cases_eq, eqb-true, leb-true, cond-true, not-false, same_Some, In, got_same, got_other, got_front, got_within, contains_from_in, in_from_contains, ProgramText, Name, Task, MachineState, End, TaskStatus, Running, Waiting, Ended, Joined, step, can_step, asked, is_joined, is_waiting, Heap, Ledger, heap_of, or_fresh, heap_at, fresh, with_heap, with_heap_at, held_in, in_use, placed, is_small, lacks_room, units, units_in, within, forked_heap, allocated_in, allocated_by, task_step, settled, moved_to, moved_on, at_fork, is_in_need, on_asked, heap_machine, placed_since, AreOwned, AccountsValue, Steady, ArePaired, Forks, large_by, next_large, used_by, used_after, went_on}
 use Rattle.run_accounts.proofs.Snaps.{settled_paired}
-use Rattle.ledger_heaps.specs.Accounts.{AreOwned}
-use Rattle.run_accounts.specs.Accounts.{AccountsValue, Steady, ArePaired, Forks, large_by, next_large, used_by, used_after, went_on}
 
 pub allocated_machine : (l : Ledger) (t : ℕ) (o : Option ℕ) → (allocated_by l t o).machine ≡ l.machine
 allocated_machine l t None = refl
@@ -33,7 +14,7 @@ pub step_is : (p : ProgramText) (l : Ledger) (t : ℕ) → can_step l.machine t 
     → let k = advanced p (allocated_in p l t) t in settled k t k.machine.end ≡ task_step p l t
 step_is p l t can =
     let m = allocated_machine l t (asked p l.machine t) in
-    ap (λ (s : State). settled (record (allocated_in p l t) { machine = step p s t; steps = (allocated_in p l t).steps + 1 }) t (step p s t).end) m
+    ap (λ (s : MachineState). settled (record (allocated_in p l t) { machine = step p s t; steps = (allocated_in p l t).steps + 1 }) t (step p s t).end) m
     ∙ sym (cond-true (can_step l.machine t) _ _ can)
 
 -- the parts of a step, one after the other
@@ -52,7 +33,7 @@ steps_by s s1 s2 s3 s4 t can used next e1 e2 e3 e4 =
     ∙ ap (λ (u : ℕ). record s { ledger = task_step s.program s.ledger t; used = u })
     (ap₂ (λ u m. used_by u r (step s.program m t) n) used (allocated_machine s.ledger t (asked s.program s.ledger.machine t)) ∙ (sym (cond-true (can_step s.ledger.machine t) _ _ can) ∙ next))))
 
--- a step that asks for nothing allocates nothing, and leaves the count of the chunks
+-- a step that doesn't allocate keeps the count of the chunks
 pub allocates_nothing : (s : AccountsValue) (t : ℕ) → asked s.program s.ledger.machine t ≡ None → s ≡ record s { ledger = allocated_in s.program s.ledger t }
 allocates_nothing s t e = ap (λ (o : Option ℕ). record s { ledger = allocated_by s.ledger t o }) (sym e)
 
@@ -61,7 +42,7 @@ counts_nothing s k t r e = ap (λ (o : Option ℕ). record k { used = used_by k.
 
 -- WORDS SINCE THE LAST COLLECTION
 
--- what has room is no larger than a chunk, or than what waits for it
+-- what has room is no larger than a chunk, or than the chunk reserved for it
 pub small_enough : (h : Heap) (w : ℕ) (b : Bool) → is_small w ≡ b → cond b (nat_lt h.room w) (not (h.reserved == units w)) ≡ false → h.reserved < 2 ^ 20 → w < 2 ^ 31
 small_enough h w true is e few = let le : w ≤ 1024 = leb-true w 1024 is in omega arith
 small_enough h w false is e few =
@@ -105,7 +86,7 @@ since_few p l t S need s s1 s2 s3 used ep el e1 e2 e3 u =
     let e : (heap_of s3.ledger u).since ≡ (heap_of (allocated_in p l t) u).since = ap (λ hs. (or_fresh (slice_get hs u)).since) same in
     omega arith
 
--- WHO OWNS WHAT
+-- OWNERS
 
 module _ (k : Ledger) (t : ℕ) where
   in_fork : (h : Heap) (names : List Name) (u : ℕ) (n : Name) (g : Option Heap) → slice_get k.heaps u ≡ g → In (held_in (or_fresh g)) n
@@ -127,23 +108,23 @@ module _ (k : Ledger) (t : ℕ) where
       → let after = with_heap_at (record k { heaps = k.heaps ++ fresh ∷ fresh ∷ [] }) t (forked_heap names) o in
       AreOwned after.machine.tasks after.heaps → AreOwned k.machine.tasks k.heaps
   fork_by names None e owned u n i =
-      owned u n (contains_from_in _ n (by (slice_get k.heaps u) refl (in_from_contains _ n i)))
+      owned u n (contains_from_in _ n (fork_by_cases (slice_get k.heaps u) refl (in_from_contains _ n i)))
     where
-      by : (g : Option Heap) → slice_get k.heaps u ≡ g → In (held_in (or_fresh g)) n → In (held_in (or_fresh (slice_get (k.heaps ++ fresh ∷ fresh ∷ []) u))) n
-      by None q i = absurd i
-      by (Some g) q i = subst (λ o. In (held_in (or_fresh o)) n) (sym (got_front k.heaps (fresh ∷ fresh ∷ []) u (got_within k.heaps u g q) ∙ q)) i
+      fork_by_cases : (g : Option Heap) → slice_get k.heaps u ≡ g → In (held_in (or_fresh g)) n → In (held_in (or_fresh (slice_get (k.heaps ++ fresh ∷ fresh ∷ []) u))) n
+      fork_by_cases None q i = absurd i
+      fork_by_cases (Some g) q i = subst (λ o. In (held_in (or_fresh o)) n) (sym (got_front k.heaps (fresh ∷ fresh ∷ []) u (got_within k.heaps u g q) ∙ q)) i
   fork_by names (Some h) e owned u n i =
       owned u n (contains_from_in _ n (in_fork h names u n (slice_get k.heaps u) refl (in_from_contains _ n i) e))
 
   moved_owned : (o : Option Task) → is_waiting o ≡ true → AreOwned (moved_to k t o).machine.tasks (moved_to k t o).heaps → AreOwned k.machine.tasks k.heaps
   moved_owned None w owned = absurd (false≢true w)
-  moved_owned (Some x) w owned = by x.status w owned
+  moved_owned (Some x) w owned = moved_owned_by_cases x.status w owned
     where
-      by : (s : Status) → is_waiting (Some (record x { status = s })) ≡ true → AreOwned (moved_on k t x.parent s).machine.tasks (moved_on k t x.parent s).heaps → AreOwned k.machine.tasks k.heaps
-      by Running w q = q
-      by Waiting w q = fork_by (within k t) (slice_get (k.heaps ++ fresh ∷ fresh ∷ []) t) refl q
-      by (Ended i r) w q = absurd (false≢true w)
-      by Joined w q = absurd (false≢true w)
+      moved_owned_by_cases : (s : TaskStatus) → is_waiting (Some (record x { status = s })) ≡ true → AreOwned (moved_on k t x.parent s).machine.tasks (moved_on k t x.parent s).heaps → AreOwned k.machine.tasks k.heaps
+      moved_owned_by_cases Running w q = q
+      moved_owned_by_cases Waiting w q = fork_by (within k t) (slice_get (k.heaps ++ fresh ∷ fresh ∷ []) t) refl q
+      moved_owned_by_cases (Ended i r) w q = absurd (false≢true w)
+      moved_owned_by_cases Joined w q = absurd (false≢true w)
 
   pub settled_owned : (e : Option End) → is_waiting (slice_get k.machine.tasks t) ≡ true → AreOwned (settled k t e).machine.tasks (settled k t e).heaps → AreOwned k.machine.tasks k.heaps
   settled_owned None w owned = moved_owned (slice_get k.machine.tasks t) w owned
@@ -151,17 +132,17 @@ module _ (k : Ledger) (t : ℕ) where
 
 -- a task that waits has just forked
 pub settled_fork : (l : Ledger) (t : ℕ) → l.machine.end ≡ None → is_waiting (slice_get l.machine.tasks t) ≡ true → at_fork l t ≡ settled l t l.machine.end
-settled_fork l t e w = by (slice_get l.machine.tasks t) w ∙ sym (ap (settled l t) e)
+settled_fork l t e w = settled_fork_by_cases (slice_get l.machine.tasks t) w ∙ sym (ap (settled l t) e)
   where
-    at : (x : Task) (s : Status) → is_waiting (Some (record x { status = s })) ≡ true → at_fork l t ≡ moved_on l t x.parent s
-    at x Running w = absurd (false≢true w)
-    at x Waiting w = refl
-    at x (Ended k n) w = absurd (false≢true w)
-    at x Joined w = absurd (false≢true w)
+    settled_fork_at : (x : Task) (s : TaskStatus) → is_waiting (Some (record x { status = s })) ≡ true → at_fork l t ≡ moved_on l t x.parent s
+    settled_fork_at x Running w = absurd (false≢true w)
+    settled_fork_at x Waiting w = refl
+    settled_fork_at x (Ended k n) w = absurd (false≢true w)
+    settled_fork_at x Joined w = absurd (false≢true w)
 
-    by : (o : Option Task) → is_waiting o ≡ true → at_fork l t ≡ moved_to l t o
-    by None w = absurd (false≢true w)
-    by (Some x) w = at x x.status w
+    settled_fork_by_cases : (o : Option Task) → is_waiting o ≡ true → at_fork l t ≡ moved_to l t o
+    settled_fork_by_cases None w = absurd (false≢true w)
+    settled_fork_by_cases (Some x) w = settled_fork_at x x.status w
 
 pub stepped_owned : (s s1 s2 s3 : AccountsValue) (t used : ℕ) → can_step s.ledger.machine t ≡ true
     → s1 ≡ record s { ledger = allocated_in s.program s.ledger t } → s2 ≡ record s1 { ledger = advanced s1.program s1.ledger t } → s3 ≡ record s2 { used = used }
@@ -183,12 +164,12 @@ stepped_paired s s1 s2 s3 t used can e1 e2 e3 S j =
     (settled_paired k t k.machine.end (ap (λ (q : Ledger). is_joined (slice_get q.machine.tasks t)) (sym same) ∙ j)
     (subst ArePaired (sym (step_is s.program s.ledger t can)) S.paired))
 
--- a fork, by what is computed of it
-pub fork_is : (v s : AccountsValue) → v ≡ s → (t : ℕ) (m : State) → m ≡ v.ledger.machine → (names : List Name)
+-- a fork, by what is computed for it
+pub fork_is : (v s : AccountsValue) → v ≡ s → (t : ℕ) (m : MachineState) → m ≡ v.ledger.machine → (names : List Name)
     → names ≡ within (record { machine = m; heaps = v.ledger.heaps; steps = 0; end = None }) t → (heaps : List Heap) → Forks v.ledger.heaps heaps t names
     → record v { ledger = record v.ledger { heaps = heaps } } ≡ record s { ledger = at_fork s.ledger t }
 fork_is v s e t m em names en heaps f =
-    let same : names ≡ within v.ledger t = en ∙ ap (λ (q : State). within (record { machine = q; heaps = v.ledger.heaps; steps = 0; end = None }) t) em in
+    let same : names ≡ within v.ledger t = en ∙ ap (λ (q : MachineState). within (record { machine = q; heaps = v.ledger.heaps; steps = 0; end = None }) t) em in
     ap (λ (l : Ledger). record v { ledger = l })
     (sym (f v.ledger refl) ∙ ap (λ ns. with_heap (record v.ledger { heaps = v.ledger.heaps ++ fresh ∷ fresh ∷ [] }) t (forked_heap ns)) same)
     ∙ ap (λ (q : AccountsValue). record q { ledger = at_fork q.ledger t }) e

@@ -1,27 +1,8 @@
--- The count of the chunks in use, as it is kept from entry to entry and from step to step.
-use Rattle.std.proofs.Common.{◌≡◌, ℕ, zero, suc, ◌+◌, ◌-◌, ◌≤◌, ◌==◌, ◌||◌, not, Bool, true, false, cond, Option, Some, None, List, [], ◌∷◌, ◌++◌, length, slice_get, slice_set, sum_by, nat_lt, refl, ap, sym, ◌∙◌, arith, map}
-use Rattle.std.proofs.lemmas.Bool.{ltb-false}
-use Rattle.std.proofs.lemmas.List.Sums.{sum_by-append, sum_by-cons}
-use Rattle.run_trace.specs.Settings.{SettingsValue}
-use Rattle.hh_lang.specs.Form.{ProgramText}
-use Rattle.hh_model.specs.declared.data.Name.{Name}
-use Rattle.hh_model.specs.declared.data.State.{State}
-use Rattle.hh_model.specs.Step.{step, can_step, asked}
-use Rattle.hh_model.proofs.Carried.{next_name}
-use Rattle.run_ledger.specs.declared.data.Heap.{Heap}
-use Rattle.run_ledger.specs.declared.data.Ledger.{Ledger}
-use Rattle.run_ledger.specs.Heaps.{units, is_small, words_at, units_sum, begun_in, units_in, fresh, heap_of, or_fresh, with_heap_at, in_use, placed, put_last, collected, large_survivors, swept_heap, sweep_number, in_snapshot, without_empty}
-use Rattle.run_ledger.specs.Steps.{allocated_by, allocated_in, stepped_to, task_step, is_due, is_in_need}
-use Rattle.run_ledger.proofs.Machine.{stepped_machine}
-use Rattle.run_ledger.proofs.Steps.{SoundAt, StepLeaves}
-use Rattle.run_ledger.proofs.Weights.{total, total_set, moves_total}
-use Rattle.run_ledger.proofs.Stocks.{StockedLedger, L}
+-- The count of the chunks in use, as it is updated from entry to entry and from step to step.
+use Rattle.run_accounts.proofs.Common.{◌≡◌, ℕ, zero, suc, ◌+◌, ◌-◌, ◌≤◌, ◌==◌, ◌||◌, not, Bool, true, false, cond, Option, Some, None, List, [], ◌∷◌, ◌++◌, length, slice_get, slice_set, sum_by, nat_lt, refl, ap, sym, ◌∙◌, arith, map, ltb-false, sum_by-append, sum_by-cons, SettingsValue, ProgramText, Name, MachineState, step, can_step, asked, next_name, Heap, Ledger, units, is_small, words_at, units_sum, begun_in, units_in, fresh, heap_of, or_fresh, with_heap_at, in_use, placed, put_last, collected, large_survivors, swept_heap, sweep_number, in_snapshot, without_empty, allocated_by, allocated_in, stepped_to, task_step, is_due, is_in_need, stepped_machine, SoundAt, StepLeaves, total, total_set, moves_total, StockedLedger, L, BookedLedger, put_length, total_same, units_additive, survivors_units, snapshot_units, fewer_chunks, large_by, next_large, used_by, used_after}
 use Rattle.run_ledger.proofs.Booked as booked
-use Rattle.run_ledger.proofs.Booked.{BookedLedger, put_length, total_same, units_additive}
-use Rattle.ledger_heaps.proofs.Kept.{survivors_units, snapshot_units, fewer_chunks}
-use Rattle.run_accounts.specs.Accounts.{large_by, next_large, used_by, used_after}
 
--- one heap has no more than all
+-- one heap has no more than all heaps
 pub one_of : (f : Heap → ℕ) (heaps : List Heap) (u : ℕ) → f fresh ≡ 0 → f (or_fresh (slice_get heaps u)) ≤ total f heaps
 one_of f [] u z = omega arith
 one_of f (h ∷ heaps) zero z = let a = sum_by-cons f h heaps in omega arith
@@ -31,10 +12,10 @@ one_of f (h ∷ heaps) (suc u) z = let a = sum_by-cons f h heaps in let b = one_
 
 module _ (p : ProgramText) (s : SettingsValue) (l : Ledger) (t : ℕ) (S : SoundAt t l) (I : StockedLedger l) (B : BookedLedger p s l) (fine : (is_due s p l t || is_in_need p l t) ≡ false) where
   module _ (can : can_step l.machine t ≡ true) where
-    abbrev m : State
+    abbrev m : MachineState
     m = l.machine
 
-    abbrev m' : State
+    abbrev m' : MachineState
     m' = step p l.machine t
 
     abbrev b : Ledger
@@ -77,30 +58,30 @@ module _ (p : ProgramText) (s : SettingsValue) (l : Ledger) (t : ℕ) (S : Sound
         let f : total (units_in m') (allocated_by l t (Some w)).heaps ≡ total (units_in m') (slice_set l.heaps t (placed heap.0 next w)) = ap (λ (q : Ledger). total (units_in m') q.heaps) (ap (with_heap_at l t (λ g. placed g next w)) heap.1) in
         let g : units_in m' (or_fresh (slice_get l.heaps t)) ≤ total (units_in m') l.heaps = one_of (units_in m') l.heaps t refl in
         let h : units_in m' (or_fresh (slice_get l.heaps t)) ≡ units_in m' heap.0 = ap (λ o. units_in m' (or_fresh o)) heap.1 in
-        f ∙ by (is_small w) (units_in m' (placed heap.0 next w)) d c a g h
+        f ∙ use_by_cases (is_small w) (units_in m' (placed heap.0 next w)) d c a g h
       where
-        by : (v : Bool) (after : ℕ) → after ≡ used_by (units_in m' heap.0) heap.0.reserved m' (large_at v)
+        use_by_cases : (v : Bool) (after : ℕ) → after ≡ used_by (units_in m' heap.0) heap.0.reserved m' (large_at v)
             → total (units_in m') (slice_set l.heaps t (placed heap.0 next w)) + units_in m' heap.0 ≡ total (units_in m') l.heaps + after → total (units_in m') l.heaps ≡ in_use l
             → units_in m' (or_fresh (slice_get l.heaps t)) ≤ total (units_in m') l.heaps → units_in m' (or_fresh (slice_get l.heaps t)) ≡ units_in m' heap.0
             → total (units_in m') (slice_set l.heaps t (placed heap.0 next w)) ≡ used_by (in_use l) heap.0.reserved m' (large_at v)
-        by true after d c a g h = omega arith
-        by false after d c a g h = omega arith
+        use_by_cases true after d c a g h = omega arith
+        use_by_cases false after d c a g h = omega arith
 
     use_k : used_by (in_use l) (heap_of l t).reserved m' (next_large p l t) ≡ in_use k
     use_k =
         let a = moves_total (units_in m') (units_additive m') t m.tasks b.heaps k.heaps leaves.2 in
         let c = use_by (asked p m t) refl in
-        let d : in_use k ≡ total (units_in m') k.heaps = ap (λ (q : State). total (units_in q) k.heaps) (stepped_machine b t m') in
+        let d : in_use k ≡ total (units_in m') k.heaps = ap (λ (q : MachineState). total (units_in q) k.heaps) (stepped_machine b t m') in
         ap (λ o. used_by (in_use l) (or_fresh o).reserved m' (next_large p l t)) heap.1 ∙ (sym c ∙ (sym a ∙ sym d))
 
-  -- the chunks in use after a step are as they are kept
+  -- the count of the chunks in use after a step is right
   pub step_used : used_after p l t ≡ in_use (task_step p l t)
-  step_used = by (can_step l.machine t) refl
+  step_used = step_used_by_cases (can_step l.machine t) refl
     where
-      by : (v : Bool) → can_step l.machine t ≡ v → cond v (used_by (in_use l) (heap_of l t).reserved (step p l.machine t) (next_large p l t)) (in_use l)
+      step_used_by_cases : (v : Bool) → can_step l.machine t ≡ v → cond v (used_by (in_use l) (heap_of l t).reserved (step p l.machine t) (next_large p l t)) (in_use l)
           ≡ in_use (cond v (stepped_to (allocated_in p l t) t (step p l.machine t)) (record l { steps = l.steps + 1 }))
-      by true e = use_k e
-      by false e = refl
+      step_used_by_cases true e = use_k e
+      step_used_by_cases false e = refl
 
 -- ENTRIES
 

@@ -1,4 +1,4 @@
-// The accounts of a run as a value, and what is looked up in them.
+// The accounts of a run as a value, and look-ups in them.
 
 ghost use Rattle.std.specs.Prelude.{◌≡◌, ◌<◌, ◌^◌, IfOk, None, slice_get, option_copied, is_some, unwrap_or, replicate};
 ghost use Rattle.run_ledger.specs.Heaps.{heap_at, heap_of, marked_in, left_in, words_in, take_of, in_use};
@@ -7,19 +7,19 @@ ghost use Rattle.run_ledger.specs.Entries.{is_ready, is_out, out_from};
 ghost use Rattle.run_ledger.specs.Journals.{opening};
 ghost use Rattle.hh_model.specs.Step.{is_running, is_waiting, asked};
 ghost use Rattle.run_trace.specs.Settings.{AreSettings, worker_limit};
-ghost use Rattle.run_accounts.specs.Accounts.{AccountsValue, Steady, Agrees};
+ghost use Rattle.run_accounts.specs.Accounts.{AccountsValue, Steady, CachesAgree};
 
 use chunk_sizes::units;
 use hh_lang::Program;
-use hh_model::{Machine, State, Status};
+use hh_model::{Machine, MachineState, TaskStatus};
 use ledger_heaps::{CHUNK_WORDS, fresh, take_of, words_in};
-use listed::Listed;
+use plain_vec::Listed;
 use run_ledger::{Heap, RunEnd};
 use run_trace::{Settings, WORKER_LIMIT};
 use std::alloc::{AllocError, Global};
 use std::marker::Model;
 
-// A place for each worker that there can be.
+// A slot for each possible worker.
 const PLACES: usize = WORKER_LIMIT as usize;
 
 /// The accounts of a run, with the machine that never collects.
@@ -34,7 +34,7 @@ pub struct Accounts<'p> {
     pub(crate) end: Option<RunEnd>,
     /// The chunks in use, in units.
     pub(crate) used: u64,
-    /// For each worker the task that it took last.
+    /// For each worker, the task that it took last.
     pub(crate) taken: [Option<u32>; PLACES],
 }
 
@@ -114,7 +114,7 @@ impl<'p> Accounts<'p> {
         }
     }
 
-    /// The units of the heap's chunk that waits for a large object.
+    /// The units of the heap's chunk that is reserved for a large object.
     pub(crate) fn reserved(&self, task: u32) -> u32
         ensures { result ≡ (heap_of self.now.ledger task).reserved }
     {
@@ -203,7 +203,7 @@ impl<'p> Accounts<'p> {
 
     /// The chunks in use, in units.
     pub fn in_use(&self) -> u64
-        requires { Agrees self.now }
+        requires { CachesAgree self.now }
         ensures { result ≡ in_use self.now.ledger }
     {
         self.used
@@ -222,7 +222,7 @@ impl<'p> Accounts<'p> {
     #[tactic(auto, using(crate::proofs::Holds::holds_none, crate::proofs::Holds::holds_last, crate::proofs::Holds::holds_no_more))]
     /// The task that the worker holds.
     pub(crate) fn holding(&self, worker: u32) -> Option<u32>
-        requires { Agrees self.now }
+        requires { CachesAgree self.now }
         ensures { result ≡ out_from worker 0 self.now.ledger.heaps }
     {
         let task = self.last_taken(worker)?;
@@ -233,7 +233,7 @@ impl<'p> Accounts<'p> {
         }
     }
 
-    /// The words that the next step of a task allocates, where it allocates.
+    /// The words that the next step of a task allocates, if it allocates.
     pub(crate) fn asked(&self, task: u32) -> Option<usize>
         ensures { result ≡ asked self.now.program self.now.ledger.machine task }
     {
@@ -247,7 +247,7 @@ impl<'p> Accounts<'p> {
         self.is_due_by(task, self.asked(task))
     }
 
-    /// The same, where it is known what the step asks for.
+    /// Like `is_due`, given the words that the step allocates.
     pub(crate) fn is_due_by(&self, task: u32, words: Option<usize>) -> bool
         requires { words ≡ asked self.now.program self.now.ledger.machine task }
         ensures { result ≡ is_due self.now.settings self.now.program self.now.ledger task }
@@ -258,14 +258,14 @@ impl<'p> Accounts<'p> {
         }
     }
 
-    /// Whether the next step of a task allocates, and its object has no place yet.
+    /// Whether the next step of a task allocates, and its object doesn't fit yet.
     pub(crate) fn is_in_need(&self, task: u32) -> bool
         ensures { result ≡ is_in_need self.now.program self.now.ledger task }
     {
         self.is_in_need_by(task, self.asked(task))
     }
 
-    /// The same, where it is known what the step asks for.
+    /// Like `is_in_need`, given the words that the step allocates.
     pub(crate) fn is_in_need_by(&self, task: u32, words: Option<usize>) -> bool
         requires { words ≡ asked self.now.program self.now.ledger.machine task }
         ensures { result ≡ is_in_need self.now.program self.now.ledger task }
@@ -283,7 +283,7 @@ impl<'p> Accounts<'p> {
     {
         match self.machine.state().tasks.get(task as usize) {
             Some(task) => match task.status {
-                Status::Waiting => true,
+                TaskStatus::Waiting => true,
                 _ => false,
             },
             None => false,
@@ -296,7 +296,7 @@ impl<'p> Accounts<'p> {
     {
         match self.machine.state().tasks.get(task as usize) {
             Some(task) => match task.status {
-                Status::Running => true,
+                TaskStatus::Running => true,
                 _ => false,
             },
             None => false,

@@ -1,17 +1,17 @@
-// Why an entry is refused, but for the steps of tasks.
+// Why an entry is refused, except for the steps of tasks.
 
 ghost use Rattle.std.specs.Prelude.{◌≡◌, ℕ, ◌==◌, ◌<◌, ◌^◌, None, is_some};
 ghost use Rattle.run_trace.specs.declared.entry.Kind.TheVariants.{Took, Chunk, Begin, PutOff, Mark, More, Fuel};
 ghost use Rattle.run_ledger.specs.Entries.{kind_refusal, on_running, on_waiting, on_marking, on_due, is_pool_enough, is_out, refused_unless, counted, ends_as};
 ghost use Rattle.run_ledger.specs.Heaps.{heap_of, left_in, marked_in};
 ghost use Rattle.run_ledger.specs.declared.data.Refused.TheVariants.{NotOut, NotCollecting, Left};
-ghost use Rattle.run_accounts.specs.Accounts.{Steady, Agrees};
+ghost use Rattle.run_accounts.specs.Accounts.{Steady, CachesAgree};
 
 use crate::accounts::Accounts;
 use run_ledger::Refused;
 
 impl<'p> Accounts<'p> {
-    // The worker is to be at the task, which isn't to be amid a leaf collection.
+    // The worker must hold the task, which must be in no leaf collection.
     pub(crate) fn running_cause(&self, worker: u32, task: u32) -> Option<Refused>
         ensures { result ≡ on_running self.now.ledger worker task None }
     {
@@ -24,7 +24,7 @@ impl<'p> Accounts<'p> {
         None
     }
 
-    // The task is to wait, and its heap not to have been swept since its last fork.
+    // The task must wait, and its heap must not have been swept since its last fork.
     fn waiting_cause(&self, task: u32) -> Option<Refused>
         ensures { result ≡ on_waiting self.now.ledger task None }
     {
@@ -37,7 +37,7 @@ impl<'p> Accounts<'p> {
         None
     }
 
-    // Its heap is to be being marked.
+    // Its heap must be being marked.
     fn marking_cause(&self, task: u32) -> Option<Refused>
         ensures { result ≡ on_marking self.now.ledger task None }
     {
@@ -50,7 +50,7 @@ impl<'p> Accounts<'p> {
         None
     }
 
-    // A leaf collection of the task is to be due, and the worker at it.
+    // A leaf collection of the task must be due, and the worker must hold it.
     fn due_cause(&self, worker: u32, task: u32) -> Option<Refused>
         ensures { result ≡ on_running self.now.ledger worker task (on_due self.now.settings self.now.program self.now.ledger task None) }
     {
@@ -63,17 +63,17 @@ impl<'p> Accounts<'p> {
         None
     }
 
-    // Whether the chunks that are free are enough for a leaf collection of the task.
+    // Whether enough chunks are free for a leaf collection of the task.
     fn is_pool_enough(&self, task: u32) -> bool
         requires steady { Steady self.now.ledger }
-        requires agrees { Agrees self.now }
+        requires agrees { CachesAgree self.now }
         ensures { result ≡ is_pool_enough self.now.settings self.now.ledger task }
     {
         self.in_use() + self.take(task) <= self.settings.chunks() as u64
     }
 
     pub(crate) fn took_cause(&self, worker: u32, task: u32) -> Option<Refused>
-        requires { Agrees self.now }
+        requires { CachesAgree self.now }
         ensures { result ≡ kind_refusal self.now.program self.now.settings self.now.ledger worker (Took task) }
     {
         if !self.is_ready(task) {
@@ -102,7 +102,7 @@ impl<'p> Accounts<'p> {
 
     pub(crate) fn begin_cause(&self, worker: u32, task: u32) -> Option<Refused>
         requires steady { Steady self.now.ledger }
-        requires agrees { Agrees self.now }
+        requires agrees { CachesAgree self.now }
         ensures { result ≡ kind_refusal self.now.program self.now.settings self.now.ledger worker (Begin task) }
     {
         if let Some(cause) = self.due_cause(worker, task) {
@@ -116,7 +116,7 @@ impl<'p> Accounts<'p> {
 
     pub(crate) fn put_off_cause(&self, worker: u32, task: u32) -> Option<Refused>
         requires steady { Steady self.now.ledger }
-        requires agrees { Agrees self.now }
+        requires agrees { CachesAgree self.now }
         ensures { result ≡ kind_refusal self.now.program self.now.settings self.now.ledger worker (PutOff task) }
     {
         if let Some(cause) = self.due_cause(worker, task) {
@@ -166,7 +166,7 @@ impl<'p> Accounts<'p> {
         None
     }
 
-    // The worker is to be at the task, whose leaf collection has begun.
+    // The worker must hold the task, whose leaf collection has begun.
     pub(crate) fn collecting_cause(&self, worker: u32, task: u32) -> Option<Refused>
         ensures { result ≡ refused_unless (is_out self.now.ledger worker task) NotOut (refused_unless (is_some (heap_of self.now.ledger task).begun) NotCollecting None) }
     {
@@ -179,7 +179,7 @@ impl<'p> Accounts<'p> {
         None
     }
 
-    // The heap is to be being marked, and nothing left to mark in it.
+    // The heap must be being marked, with nothing left to mark.
     pub(crate) fn marked_cause(&self, task: u32) -> Option<Refused>
         ensures { result ≡ on_marking self.now.ledger task (refused_unless (left_in (heap_of self.now.ledger task) == 0) (Left (marked_in (heap_of self.now.ledger task))) None) }
     {
@@ -193,7 +193,7 @@ impl<'p> Accounts<'p> {
     }
 }
 
-/// A number of an entry is to say what it should.
+/// A number of an entry must have its right value.
 pub(crate) fn count_cause(said: u32, is: u64) -> Option<Refused>
     requires { is < 2 ^ 32 }
     ensures { result ≡ counted said is None }
@@ -205,7 +205,7 @@ pub(crate) fn count_cause(said: u32, is: u64) -> Option<Refused>
     }
 }
 
-/// The three numbers of the end of a leaf collection are to say what they should.
+/// The three numbers of the end of a leaf collection must have their right values.
 pub(crate) fn end_cause(said: (u32, u32, u32), is: (u64, u64, u64)) -> Option<Refused>
     requires { (is.0 < 2 ^ 32) × (is.1 < 2 ^ 32) × (is.2 < 2 ^ 32) }
     ensures { result ≡ ends_as (said.0, said.1, said.2) (is.0, is.1, is.2) }

@@ -1,4 +1,4 @@
-// What an entry changes, but for the steps of tasks.
+// What an entry changes, except for the steps of tasks.
 
 ghost use Rattle.std.specs.Prelude.{◌≡◌, ℕ, Some, ◌+◌, ◌<◌, ◌^◌, OnOk, OnErr, IfOk, slice_set, min};
 ghost use Rattle.run_trace.specs.declared.entry.Kind.TheVariants.{Took, Chunk, Begin, PutOff, Mark, More, Fuel};
@@ -8,12 +8,12 @@ ghost use Rattle.hh_model.specs.Step.{asked};
 ghost use Rattle.run_ledger.specs.Steps.{on_asked};
 ghost use Rattle.run_ledger.specs.Heaps.{is_small, heap_of, with_heap, collected, end_numbers, swept_heap, sweep_number, left_in, marked_in};
 ghost use Rattle.ledger_heaps.specs.Parts.{with_collected, with_swept};
-ghost use Rattle.run_accounts.specs.Accounts.{Steady, Agrees};
+ghost use Rattle.run_accounts.specs.Accounts.{Steady, CachesAgree};
 
 use crate::accounts::Accounts;
 use chunk_sizes::units;
 use ledger_heaps::{CHUNK_WORDS, Collected, Swept, collect, fresh, sweep, within};
-use listed::Listed;
+use plain_vec::Listed;
 use run_ledger::RunEnd;
 use std::alloc::AllocError;
 
@@ -61,7 +61,7 @@ impl<'p> Accounts<'p> {
         }
     }
 
-    // Whether the task's next step allocates an object that has its place in a chunk with others.
+    // Whether the task's next step allocates an object that shares a chunk with others.
     fn needs_small(&self, task: u32) -> bool
         ensures { result ≡ on_asked (asked self.now.program self.now.ledger.machine task) is_small }
     {
@@ -72,10 +72,10 @@ impl<'p> Accounts<'p> {
     }
 
     #[tactic(auto, using(hh_model::proofs::Lists::set_got))]
-    /// A chunk is asked for: the run ends where too few are free.
+    /// A chunk is asked for: the run ends if too few are free.
     pub(crate) fn chunk(&mut self, task: u32) -> Result<(), AllocError>
         requires steady { Steady self.old.ledger }
-        requires agrees { Agrees self.old }
+        requires agrees { CachesAgree self.old }
         ensures ok { (worker : ℕ) → OnOk result (self.new ≡ record self.old { ledger = after_kind self.old.program self.old.settings self.old.ledger worker (Chunk task) }) }
         ensures err { OnErr result (self.new ≡ self.old) }
     {
@@ -114,7 +114,7 @@ impl<'p> Accounts<'p> {
         Ok(())
     }
 
-    /// So many objects of the heap more are marked, at most.
+    /// At most `count` more objects of the heap are marked.
     pub(crate) fn more(&mut self, task: u32, count: u32)
         requires { Steady self.old.ledger }
         ensures { (worker : ℕ) → self.new ≡ record self.old { ledger = after_kind self.old.program self.old.settings self.old.ledger worker (More task count) } }
@@ -126,7 +126,7 @@ impl<'p> Accounts<'p> {
     }
 
     #[tactic(auto, using(crate::proofs::Numbers::marked_few))]
-    // How many objects of the heap are marked, once so many more are, at most.
+    // How many objects of the heap are marked after at most `count` more are.
     fn marked_by(&self, task: u32, count: u32) -> u32
         requires { Steady self.now.ledger }
         ensures { result ≡ marked_in (heap_of self.now.ledger task) + min count (left_in (heap_of self.now.ledger task)) }

@@ -1,4 +1,4 @@
-// The count of the chunks in use, which is kept beside the accounts: how an entry changes it.
+// The count of the chunks in use, which is cached beside the accounts: how an entry changes it.
 
 ghost use Rattle.std.specs.Prelude.{◌≡◌, ◌+◌, ◌-◌, ◌<◌, ◌^◌, length};
 ghost use Rattle.run_ledger.specs.Heaps.{heap_of, begun_in};
@@ -10,7 +10,7 @@ use hh_model::Name;
 use ledger_heaps::{Collected, Swept, words_at};
 
 impl<'p> Accounts<'p> {
-    /// The chunks in use for the heap, those of large objects aside.
+    /// The chunks in use for the heap, except those of large objects.
     pub(crate) fn places(&self, task: u32) -> u64
         ensures value { result ≡ places_in (heap_of self.now.ledger task) }
         ensures fits { result < 2 ^ 63 }
@@ -25,7 +25,7 @@ impl<'p> Accounts<'p> {
         }
     }
 
-    /// The heap has other chunks than so many, those of large objects aside.
+    /// Updates the count for the heap's chunks, except those of large objects, of which there were `before`.
     pub(crate) fn count_places(&mut self, task: u32, before: u64)
         requires { self.old.used < 2 ^ 20 }
         ensures { self.new ≡ record self.old { used = self.old.used + places_in (heap_of self.old.ledger task) - before } }
@@ -33,7 +33,7 @@ impl<'p> Accounts<'p> {
         self.used = (self.used + self.places(task)).saturating_sub(before);
     }
 
-    /// A large object has its place, and no chunk of so many units waits for it any more.
+    /// A large object is placed, and no chunk of `reserved` units is reserved for it any more.
     pub(crate) fn count_large(&mut self, large: Option<Name>, reserved: u32)
         requires { self.old.used < 2 ^ 20 }
         ensures { self.new ≡ record self.old { used = used_by self.old.used reserved self.old.ledger.machine large } }
@@ -44,7 +44,7 @@ impl<'p> Accounts<'p> {
         }
     }
 
-    /// The heap's leaf collection is to end, which leaves this.
+    /// The heap's leaf collection is to end, with this result.
     pub(crate) fn count_collected(&mut self, task: u32, parts: &Collected)
         requires { self.old.used < 2 ^ 20 }
         ensures { self.new ≡ record self.old { used = self.old.used + (length parts.now.chunks - begun_in (heap_of self.old.ledger task)) - parts.now.given } }
@@ -57,7 +57,7 @@ impl<'p> Accounts<'p> {
         self.used = (self.used + more).saturating_sub(parts.given);
     }
 
-    /// The heap is to be swept, which leaves this.
+    /// The heap is to be swept, with this result.
     pub(crate) fn count_swept(&mut self, parts: &Swept)
         ensures { self.new ≡ record self.old { used = self.old.used - parts.now.given } }
     {

@@ -1,4 +1,4 @@
-// An entry is entered, or refused.
+// An entry is made, or refused.
 
 ghost use Rattle.std.specs.Prelude.{◌≡◌, ℕ, ◌<◌, ◌≤◌, Some, None, false, OnOk, IfErr, is_some, slice_set};
 ghost use Rattle.run_trace.specs.declared.entry.Kind.TheVariants.{Took, Ran, Chunk, Begin, End, PutOff, Mark, More, Sweep, Fuel};
@@ -7,7 +7,7 @@ ghost use Rattle.run_trace.specs.Settings.{worker_limit};
 ghost use Rattle.run_ledger.specs.Heaps.{heap_of};
 ghost use Rattle.run_ledger.specs.Steps.{most_steps};
 ghost use Rattle.run_ledger.specs.Entries.{refusal, after, kind_refusal, after_kind};
-ghost use Rattle.run_accounts.specs.Accounts.{Steady, Agrees, StaysSteady, FailsFor, general_refusal, went_on, taken_after};
+ghost use Rattle.run_accounts.specs.Accounts.{Steady, CachesAgree, StaysSteady, FailsFor, general_refusal, went_on, taken_after};
 
 use crate::accounts::Accounts;
 use crate::causes::{count_cause, end_cause};
@@ -15,12 +15,12 @@ use run_ledger::Refused;
 use run_trace::{Entry, Kind};
 use std::alloc::AllocError;
 
-/// Why an entry wasn't entered.
+/// Why an entry wasn't made.
 #[derive(Clone, Copy, PartialEq, Eq)]
 pub enum ApplyError {
-    /// It is refused for this cause, the first in their order.
+    /// It is refused for this cause, the first in order.
     Refused(Refused),
-    /// Want of memory.
+    /// Out of memory.
     NoMemory,
 }
 
@@ -38,7 +38,7 @@ impl From<AllocError> for ApplyError {
 impl<'p> Accounts<'p> {
     fn enter_took(&mut self, worker: u32, task: u32) -> Result<(), ApplyError>
         requires worker { worker < worker_limit }
-        requires agrees { Agrees self.old }
+        requires agrees { CachesAgree self.old }
         ensures none { OnOk result (kind_refusal self.old.program self.old.settings self.old.ledger worker (Took task) ≡ None) }
         ensures ok { OnOk result (self.new ≡ record (went_on self.old (after_kind self.old.program self.old.settings self.old.ledger worker (Took task))) { taken = slice_set self.old.taken worker (Some task) }) }
         ensures err { IfErr result (FailsFor (kind_refusal self.old.program self.old.settings self.old.ledger worker (Took task))) }
@@ -53,7 +53,7 @@ impl<'p> Accounts<'p> {
     fn enter_ran(&mut self, worker: u32, task: u32, steps: u32) -> Result<(), ApplyError>
         requires few { steps ≤ most_steps }
         requires stays { is_some (heap_of self.old.ledger task).begun ≡ false → StaysSteady self.old.settings self.old.program self.old.ledger task steps }
-        requires agrees { Agrees self.old }
+        requires agrees { CachesAgree self.old }
         ensures none { OnOk result (kind_refusal self.old.program self.old.settings self.old.ledger worker (Ran task steps) ≡ None) }
         ensures ok { OnOk result (self.new ≡ went_on self.old (after_kind self.old.program self.old.settings self.old.ledger worker (Ran task steps))) }
         ensures err { IfErr result (FailsFor (kind_refusal self.old.program self.old.settings self.old.ledger worker (Ran task steps))) }
@@ -71,7 +71,7 @@ impl<'p> Accounts<'p> {
 
     fn enter_chunk(&mut self, worker: u32, task: u32) -> Result<(), ApplyError>
         requires steady { Steady self.old.ledger }
-        requires agrees { Agrees self.old }
+        requires agrees { CachesAgree self.old }
         ensures none { OnOk result (kind_refusal self.old.program self.old.settings self.old.ledger worker (Chunk task) ≡ None) }
         ensures ok { OnOk result (self.new ≡ went_on self.old (after_kind self.old.program self.old.settings self.old.ledger worker (Chunk task))) }
         ensures err { IfErr result (FailsFor (kind_refusal self.old.program self.old.settings self.old.ledger worker (Chunk task))) }
@@ -87,7 +87,7 @@ impl<'p> Accounts<'p> {
 
     fn enter_begin(&mut self, worker: u32, task: u32) -> Result<(), ApplyError>
         requires steady { Steady self.old.ledger }
-        requires agrees { Agrees self.old }
+        requires agrees { CachesAgree self.old }
         ensures none { OnOk result (kind_refusal self.old.program self.old.settings self.old.ledger worker (Begin task) ≡ None) }
         ensures ok { OnOk result (self.new ≡ went_on self.old (after_kind self.old.program self.old.settings self.old.ledger worker (Begin task))) }
         ensures err { IfErr result (FailsFor (kind_refusal self.old.program self.old.settings self.old.ledger worker (Begin task))) }
@@ -103,7 +103,7 @@ impl<'p> Accounts<'p> {
 
     fn enter_end(&mut self, worker: u32, task: u32, said: (u32, u32, u32)) -> Result<(), ApplyError>
         requires steady { Steady self.old.ledger }
-        requires agrees { Agrees self.old }
+        requires agrees { CachesAgree self.old }
         ensures none { OnOk result (kind_refusal self.old.program self.old.settings self.old.ledger worker (End task said.0 said.1 said.2) ≡ None) }
         ensures ok { OnOk result (self.new ≡ went_on self.old (after_kind self.old.program self.old.settings self.old.ledger worker (End task said.0 said.1 said.2))) }
         ensures err { IfErr result (FailsFor (kind_refusal self.old.program self.old.settings self.old.ledger worker (End task said.0 said.1 said.2))) }
@@ -122,7 +122,7 @@ impl<'p> Accounts<'p> {
 
     fn enter_put_off(&mut self, worker: u32, task: u32) -> Result<(), ApplyError>
         requires steady { Steady self.old.ledger }
-        requires agrees { Agrees self.old }
+        requires agrees { CachesAgree self.old }
         ensures none { OnOk result (kind_refusal self.old.program self.old.settings self.old.ledger worker (PutOff task) ≡ None) }
         ensures ok { OnOk result (self.new ≡ went_on self.old (after_kind self.old.program self.old.settings self.old.ledger worker (PutOff task))) }
         ensures err { IfErr result (FailsFor (kind_refusal self.old.program self.old.settings self.old.ledger worker (PutOff task))) }
@@ -136,7 +136,7 @@ impl<'p> Accounts<'p> {
 
     fn enter_mark(&mut self, task: u32) -> Result<(), ApplyError>
         requires steady { Steady self.old.ledger }
-        requires agrees { Agrees self.old }
+        requires agrees { CachesAgree self.old }
         ensures none { (worker : ℕ) → OnOk result (kind_refusal self.old.program self.old.settings self.old.ledger worker (Mark task) ≡ None) }
         ensures ok { (worker : ℕ) → OnOk result (self.new ≡ went_on self.old (after_kind self.old.program self.old.settings self.old.ledger worker (Mark task))) }
         ensures err { (worker : ℕ) → IfErr result (FailsFor (kind_refusal self.old.program self.old.settings self.old.ledger worker (Mark task))) }
@@ -150,7 +150,7 @@ impl<'p> Accounts<'p> {
 
     fn enter_more(&mut self, task: u32, count: u32) -> Result<(), ApplyError>
         requires steady { Steady self.old.ledger }
-        requires agrees { Agrees self.old }
+        requires agrees { CachesAgree self.old }
         ensures none { (worker : ℕ) → OnOk result (kind_refusal self.old.program self.old.settings self.old.ledger worker (More task count) ≡ None) }
         ensures ok { (worker : ℕ) → OnOk result (self.new ≡ went_on self.old (after_kind self.old.program self.old.settings self.old.ledger worker (More task count))) }
         ensures err { (worker : ℕ) → IfErr result (FailsFor (kind_refusal self.old.program self.old.settings self.old.ledger worker (More task count))) }
@@ -164,7 +164,7 @@ impl<'p> Accounts<'p> {
 
     fn enter_sweep(&mut self, task: u32, given: u32) -> Result<(), ApplyError>
         requires steady { Steady self.old.ledger }
-        requires agrees { Agrees self.old }
+        requires agrees { CachesAgree self.old }
         ensures none { (worker : ℕ) → OnOk result (kind_refusal self.old.program self.old.settings self.old.ledger worker (Sweep task given) ≡ None) }
         ensures ok { (worker : ℕ) → OnOk result (self.new ≡ went_on self.old (after_kind self.old.program self.old.settings self.old.ledger worker (Sweep task given))) }
         ensures err { (worker : ℕ) → IfErr result (FailsFor (kind_refusal self.old.program self.old.settings self.old.ledger worker (Sweep task given))) }
@@ -182,7 +182,7 @@ impl<'p> Accounts<'p> {
     }
 
     fn enter_fuel(&mut self) -> Result<(), ApplyError>
-        requires { Agrees self.old }
+        requires { CachesAgree self.old }
         ensures none { (worker : ℕ) → OnOk result (kind_refusal self.old.program self.old.settings self.old.ledger worker Fuel ≡ None) }
         ensures ok { (worker : ℕ) → OnOk result (self.new ≡ went_on self.old (after_kind self.old.program self.old.settings self.old.ledger worker Fuel)) }
         ensures err { (worker : ℕ) → IfErr result (FailsFor (kind_refusal self.old.program self.old.settings self.old.ledger worker Fuel)) }
@@ -198,7 +198,7 @@ impl<'p> Accounts<'p> {
         requires range { IsKind kind }
         requires worker { worker < worker_limit }
         requires steady { Steady self.old.ledger }
-        requires agrees { Agrees self.old }
+        requires agrees { CachesAgree self.old }
         requires stays { (t k : ℕ) → kind ≡ Ran t k → is_some (heap_of self.old.ledger t).begun ≡ false → StaysSteady self.old.settings self.old.program self.old.ledger t k }
         ensures none { OnOk result (kind_refusal self.old.program self.old.settings self.old.ledger worker kind ≡ None) }
         ensures ok { OnOk result (self.new ≡ record (went_on self.old (after_kind self.old.program self.old.settings self.old.ledger worker kind)) { taken = taken_after self.old.taken worker kind }) }
@@ -222,8 +222,7 @@ impl<'p> Accounts<'p> {
         }
     }
 
-    // Why an entry is refused whatever it says of tasks: the run has ended, or its fuel is spent, or there is no such
-    // worker.
+    // Why an entry is refused whatever its task: the run has ended, or its fuel is used up, or there is no such worker.
     fn general_cause(&self, worker: u32, kind: Kind) -> Option<Refused>
         ensures { result ≡ general_refusal self.now.settings self.now.ledger worker kind }
     {
@@ -243,11 +242,11 @@ impl<'p> Accounts<'p> {
         None
     }
 
-    /// The entry is entered, or refused for the first cause in their order. A refused one may leave steps that no entry
-    /// holds, and so may want of memory: such accounts are to be used no more.
+    /// The entry is made, or refused for the first cause in order. A refused one may leave steps that no entry holds,
+    /// and so may a failed allocation: such accounts must not be used any more.
     pub fn enter(&mut self, entry: Entry) -> Result<(), ApplyError>
         requires steady { Steady self.old.ledger }
-        requires agrees { Agrees self.old }
+        requires agrees { CachesAgree self.old }
         requires stays { (t k : ℕ) → entry.kind ≡ Ran t k → is_some (heap_of self.old.ledger t).begun ≡ false → StaysSteady self.old.settings self.old.program self.old.ledger t k }
         ensures none { OnOk result (refusal self.old.program self.old.settings self.old.ledger entry ≡ None) }
         ensures ok { OnOk result (self.new ≡ record (went_on self.old (after self.old.program self.old.settings self.old.ledger entry)) { taken = taken_after self.old.taken entry.worker entry.kind }) }

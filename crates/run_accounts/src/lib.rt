@@ -1,4 +1,4 @@
-// The accounts of a run, kept along with the machine that never collects: an entry is entered into them, or refused.
+// The accounts of a run, updated along with the machine that never collects: an entry is made in them, or refused.
 #![tactic(auto)]
 
 // The accounts, and what is read of them.
@@ -7,7 +7,7 @@ mod counts;
 mod reads;
 mod shown;
 
-// An entry is entered, or refused.
+// An entry is made, or refused.
 mod causes;
 mod changes;
 mod enter;

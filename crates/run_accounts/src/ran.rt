@@ -12,18 +12,18 @@ use crate::accounts::Accounts;
 use next_steps::next_step;
 use std::alloc::AllocError;
 
-/// Whether the next step of a task can stand in an entry, and whether a further one can behind it.
+/// Whether the next step of a task fits in an entry, and whether a further one fits after it.
 #[derive(Clone, Copy)]
 pub(crate) enum Stood {
-    /// It can't: it is due or in need.
+    /// It doesn't: it is due or in need.
     Not,
-    /// It stands, and none behind it.
+    /// It fits, and none fits after it.
     Last,
-    /// It stands, and a further one can.
+    /// It fits, and a further one does.
     More,
 }
 
-// How a step stood that was taken: by whether it was the task's own matter, and whether the machine ended with it.
+// How a taken step fitted: by whether it was the task's own, and whether the machine ended with it.
 fn stood_by(own: bool, ended: bool) -> Stood
     ensures { result ≡ (if own && not ended then More else Last) }
 {
@@ -35,7 +35,7 @@ fn stood_by(own: bool, ended: bool) -> Stood
 }
 
 impl<'p> Accounts<'p> {
-    // The calculations that come next in a task, at most so many: they stand, and a further step can behind each.
+    // The next calculations of a task, at most `most`: they fit, and a further step fits after each.
     fn calculate(&mut self, t: u32, most: u32) -> u32
         requires few { most ≤ most_steps }
         requires steady { StaysSteady self.old.settings self.old.program self.old.ledger t most }
@@ -50,7 +50,7 @@ impl<'p> Accounts<'p> {
         count
     }
 
-    // One step of the entry, if it can stand in it.
+    // One step of the entry, if it fits.
     fn stand(&mut self, t: u32) -> Result<Stood, AllocError>
         requires before { Steady self.old.ledger }
         requires after { (is_due self.old.settings self.old.program self.old.ledger t || is_in_need self.old.program self.old.ledger t) ≡ false → Steady (task_step self.old.program self.old.ledger t) }
@@ -68,7 +68,7 @@ impl<'p> Accounts<'p> {
         Ok(stood_by(ahead.own, ended))
     }
 
-    /// Takes the first of so many steps of a task, as many as can stand in one entry, and says how many those are.
+    /// Takes the first of `steps` steps of a task, as many as fit in one entry, and returns how many.
     pub(crate) fn ran(&mut self, t: u32, steps: u32) -> Result<u32, AllocError>
         requires few { steps ≤ most_steps }
         requires steady { StaysSteady self.old.settings self.old.program self.old.ledger t steps }

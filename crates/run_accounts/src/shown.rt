@@ -1,16 +1,16 @@
-// What is told of accounts to those who keep them.
+// What accounts show to their owners.
 
 ghost use Rattle.std.specs.Prelude.{◌≡◌};
 
 use crate::accounts::Accounts;
-use hh_model::State;
-use listed::Listed;
+use hh_model::MachineState;
+use plain_vec::Listed;
 use run_ledger::{Heap, RunEnd};
 use run_trace::Settings;
 use std::alloc::Global;
 
 impl<'p> Accounts<'p> {
-    /// What they take memory from.
+    /// Their allocator.
     pub fn allocator(&self) -> Global {
         self.alloc
     }
@@ -36,7 +36,7 @@ impl<'p> Accounts<'p> {
         self.steps
     }
 
-    /// What the steps have written out, the oldest first.
+    /// What the steps have printed, the oldest first.
     pub fn outputs(&self) -> &[i64]
         ensures { result.now ≡ self.now.ledger.machine.outputs }
     {
@@ -51,7 +51,7 @@ impl<'p> Accounts<'p> {
     }
 
     /// The machine that never collects, after the steps so far.
-    pub fn state(&self) -> &State
+    pub fn state(&self) -> &MachineState
         ensures { result.now ≡ self.now.ledger.machine }
     {
         self.machine.state()

@@ -5,18 +5,18 @@ ghost use Rattle.run_ledger.specs.Heaps.{heap_of, in_use, or_fresh, with_heap, l
 ghost use Rattle.run_ledger.specs.Steps.{allocated_in, is_in_need, task_step, at_fork, at_join, settled};
 ghost use Rattle.hh_model.specs.Step.{asked, step, is_joined, is_waiting};
 ghost use Rattle.ledger_heaps.specs.Accounts.{AreOwned};
-ghost use Rattle.run_accounts.specs.Accounts.{Steady, Forks, Joins, ArePaired, left_of, next_large, used_after, went_on};
+ghost use Rattle.run_accounts.specs.Accounts.{Steady, Forks, JoinsHeaps, ArePaired, left_of, next_large, used_after, went_on};
 
 use crate::accounts::Accounts;
-use hh_model::{Name, State, Status};
+use hh_model::{MachineState, Name, TaskStatus};
 use ledger_heaps::{CHUNK_WORDS, fresh, join, place, within};
-use listed::Listed;
 use next_steps::objects_of;
+use plain_vec::Listed;
 use run_ledger::{Heap, RunEnd};
 use std::alloc::{AllocError, Global};
 
 impl<'p> Accounts<'p> {
-    // The large object that the task's next step, which asks for so many words, allocates, if it does.
+    // The large object that the task's next step, which allocates `words` words, allocates, if it does.
     fn next_large(&self, t: u32, words: Option<usize>) -> Option<Name>
         requires few { self.now.ledger.steps < 2 ^ 30 }
         requires words { words ≡ asked self.now.program self.now.ledger.machine t }
@@ -31,7 +31,7 @@ impl<'p> Accounts<'p> {
         }
     }
 
-    // What the task's next step, which asks for so many words, allocates is held from now on.
+    // What the task's next step, which allocates `words` words, allocates is held from now on.
     fn allocate(&mut self, t: u32, words: Option<usize>) -> Result<(), AllocError>
         requires words { words ≡ asked self.old.program self.old.ledger.machine t }
         requires steady { Steady self.old.ledger }
@@ -60,7 +60,7 @@ impl<'p> Accounts<'p> {
         }
     }
 
-    // A fork: what is reached within the parent's heap is set down, and the children begin with nothing.
+    // A fork: what is reachable within the parent's heap is recorded, and the children begin with empty heaps.
     fn fork(&mut self, t: u32) -> Result<(), AllocError>
         requires { AreOwned self.old.ledger.machine.tasks self.old.ledger.heaps }
         ensures { OnOk result (self.new ≡ record self.old { ledger = at_fork self.old.ledger t }) }
@@ -69,7 +69,7 @@ impl<'p> Accounts<'p> {
         fork_heaps(self.alloc, &mut self.heaps, t, names)
     }
 
-    // The parent's heap gets all that its children's hold, of which the task is one.
+    // The parent's heap gets all that the heaps of its children hold, one of which is the task.
     fn join(&mut self, parent: u32, t: u32) -> Result<(), AllocError>
         requires since { (u : ℕ) → (heap_of self.old.ledger u).since < 2 ^ 62 }
         requires paired { (parent < left_of t) × (left_of t + 1 < length self.old.ledger.heaps) }
@@ -79,7 +79,7 @@ impl<'p> Accounts<'p> {
         join_three(self.alloc, &mut self.heaps, parent, left)
     }
 
-    // The task has taken a step, and stands where it stands.
+    // Updates the accounts after a step of the task.
     fn settle(&mut self, t: u32) -> Result<(), AllocError>
         requires since { (u : ℕ) → (heap_of self.old.ledger u).since < 2 ^ 62 }
         requires owned { is_waiting (slice_get self.old.ledger.machine.tasks t) ≡ true → AreOwned self.old.ledger.machine.tasks self.old.ledger.heaps }
@@ -95,13 +95,13 @@ impl<'p> Accounts<'p> {
         };
         let parent = task.parent;
         match task.status {
-            Status::Running => Ok(()),
-            Status::Waiting => self.fork(t),
-            Status::Ended(_, _) => {
+            TaskStatus::Running => Ok(()),
+            TaskStatus::Waiting => self.fork(t),
+            TaskStatus::Ended(_, _) => {
                 self.let_go(t);
                 Ok(())
             }
-            Status::Joined => match parent {
+            TaskStatus::Joined => match parent {
                 Some(parent) => self.join(parent, t),
                 None => Ok(()),
             },
@@ -122,7 +122,7 @@ impl<'p> Accounts<'p> {
         }
     }
 
-    /// One step of a task, which asks for so many words, with its accounts.
+    /// One step of a task, which allocates `words` words, with its accounts.
     pub(crate) fn step(&mut self, t: u32, words: Option<usize>) -> Result<(), AllocError>
         requires words { words ≡ asked self.old.program self.old.ledger.machine t }
         requires before { Steady self.old.ledger }
@@ -149,7 +149,7 @@ impl<'p> Accounts<'p> {
     }
 }
 
-// The heap of a task that forks, of which these names are reached, and those of its children.
+// The heap of a task that forks, in which these names are reachable, and those of its children.
 fn fork_heaps(
     alloc: Global,
     heaps: &mut Listed<Heap>,
@@ -179,7 +179,7 @@ fn join_three(
     requires since { (u : ℕ) → (or_fresh (slice_get heaps.old u)).since < 2 ^ 62 }
     requires above { parent < left }
     requires there { left + 1 < length heaps.old }
-    ensures { OnOk result (Joins heaps.old heaps.new parent left) }
+    ensures { OnOk result (JoinsHeaps heaps.old heaps.new parent left) }
 {
     join(alloc, heaps, parent, left)
 }

@@ -1,22 +1,12 @@
 -- What a step does to an object, or prints.
 use Rattle.std.specs.Prelude.{ℕ, ℤ, pos, ◌+◌, ◌==◌, Option, Some, None, List, slice_get, length, if◌then◌else◌, unwrap_or}
 use Rattle.std.specs.Option.{option_flatten}
-use Rattle.hh_lang.specs.declared.instr.Instr.{Instr}
-use Rattle.hh_lang.specs.declared.instr.Instr.TheVariants.{Newm, Pack, Getr, Geti, Putr, Puti, Cntr, Cnti, Freeze, Cas, Out}
-use Rattle.hh_lang.specs.declared.program.Line.{Line}
-use Rattle.hh_lang.specs.Form.{ProgramText}
-use Rattle.hh_model.specs.declared.data.Name.{Name}
-use Rattle.hh_model.specs.declared.data.Object.{Object}
-use Rattle.hh_model.specs.declared.data.Frame.{Frame}
-use Rattle.hh_model.specs.declared.data.Task.{Task}
-use Rattle.hh_model.specs.declared.data.State.{State}
-use Rattle.hh_model.specs.Effect.{object_at, int_in, ref_in, counts_in, place_in, same_name}
-use Rattle.hh_model.specs.Names.{next_name}
-use Rattle.hh_model.specs.Step.{can_step, fetched, owner_of}
+use Rattle.run_deltas.specs.Common.{Instr, Newm, Pack, Getr, Geti, Putr, Puti, Cntr, Cnti, Freeze, Cas, Out, Line, ProgramText, Name, Object, Frame, Task, MachineState, object_at, int_in, ref_in, counts_in, place_in, same_name, next_name, can_step, fetched, owner_of}
 use Rattle.run_deltas.specs.declared.data.Value.TheVariants.{Reference, Number}
 use Rattle.run_deltas.specs.declared.data.Deed.{Deed}
 use Rattle.run_deltas.specs.declared.data.Deed.TheVariants.{Allocates, Reads, Counts, Writes, Swaps, Freezes, Prints}
-use Rattle.run_deltas.specs.declared.data.Act.{Act}
+use Rattle.run_deltas.specs.declared.data.StepAct.{StepAct}
+use Rattle.run_deltas.specs.declared.data.StepDeed.{StepDeed}
 
 -- goes on with what is there
 abbrev pub if_there : {A B : Type 0} → Option A → (A → Option B) → Option B
@@ -50,7 +40,7 @@ abbrev pub unless_frozen : Object → Deed → Option Deed
 unless_frozen x d = if x.mutable then Some d else None
 
 -- what an instruction does, in a frame of the task t of this state
-abbrev pub deed : State → ℕ → Frame → Instr → Option Deed
+abbrev pub deed : MachineState → ℕ → Frame → Instr → Option Deed
 deed m t f (Newm d a b) = if_there (counts_in m.field_limit (int_in f a) (int_in f b)) (λ n. Some (Allocates (next_name t m.store)))
 deed m t f (Pack d r i) = Some (Allocates (next_name t m.store))
 deed m t f (Getr d o k) = with_reference f m.store o k (λ n x at. Some (Reads n at (Reference (reference_in x at))))
@@ -65,14 +55,19 @@ deed m t f (Freeze o) = with_object f m.store o (λ n x. if owner_of m.tasks n.t
 deed m t f (Out a) = Some (Prints (int_in f a))
 deed m t f _ = None
 
-abbrev pub act_line : State → ℕ → Task → Option Line → Option Act
+abbrev pub act_line : MachineState → ℕ → Task → Option Line → Option StepAct
 act_line m t x None = None
 act_line m t x (Some line) = Some (record { line = line.number; instr = line.instr; deed = deed m t x.top line.instr })
 
-abbrev pub act_by : ProgramText → State → ℕ → Option Task → Option Act
+abbrev pub act_by : ProgramText → MachineState → ℕ → Option Task → Option StepAct
 act_by p m t None = None
 act_by p m t (Some x) = act_line m t x (fetched p x.top)
 
 -- the next step of a task, where it can take one
-abbrev pub act_of : ProgramText → State → ℕ → Option Act
+abbrev pub act_of : ProgramText → MachineState → ℕ → Option StepAct
 act_of p m t = if can_step m t then act_by p m t (slice_get m.tasks t) else None
+
+-- its line, and what it does
+abbrev pub deed_of : Option StepAct → Option StepDeed
+deed_of None = None
+deed_of (Some a) = Some (record { line = a.line; deed = a.deed })

@@ -1,22 +1,17 @@
 -- The deltas of a journal: what each entry changes.
 use Rattle.std.specs.Prelude.{ℕ, List, [], ◌∷◌, length, slice_get}
-use Rattle.hh_lang.specs.Form.{ProgramText}
-use Rattle.hh_model.specs.declared.data.State.{State}
-use Rattle.hh_model.specs.Step.{start}
-use Rattle.run_trace.specs.declared.entry.Kind.{Kind}
-use Rattle.run_trace.specs.declared.entry.Kind.TheVariants.{Took, Ran}
-use Rattle.run_trace.specs.Entry.{EntryValue}
+use Rattle.run_deltas.specs.Common.{ProgramText, MachineState, start, Kind, Took, Ran, EntryValue}
 use Rattle.run_deltas.specs.declared.data.Delta.{Delta}
 use Rattle.run_deltas.specs.Steps.{unchanged, stepped, changes}
 use Rattle.run_deltas.specs.Tasks.{now_out, moved, children}
 
 -- the machine after an entry: its steps move it, and nothing else does
-abbrev pub machine_after : ProgramText → State → Kind → State
+abbrev pub machine_after : ProgramText → MachineState → Kind → MachineState
 machine_after p m (Ran t k) = stepped p m t k
 machine_after p m _ = m
 
 -- what an entry changes in front of which the machine is this
-abbrev pub delta : ProgramText → State → Kind → Delta
+abbrev pub delta : ProgramText → MachineState → Kind → Delta
 delta p m (Took t) = record { children = []; tasks = now_out p m t; changes = unchanged }
 delta p m (Ran t k) =
     let after = stepped p m t k in
@@ -27,7 +22,7 @@ delta p m (Ran t k) =
     }
 delta p m _ = record { children = []; tasks = []; changes = unchanged }
 
-abbrev pub deltas_from : ProgramText → State → List EntryValue → List Delta
+abbrev pub deltas_from : ProgramText → MachineState → List EntryValue → List Delta
 deltas_from p m [] = []
 deltas_from p m (e ∷ es) = delta p m e.kind ∷ deltas_from p (machine_after p m e.kind) es
 

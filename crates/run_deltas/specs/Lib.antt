@@ -1,5 +1,7 @@
 pub mod Deeds
 pub mod Steps
+pub mod Roots
 pub mod Tasks
 pub mod Deltas
 pub mod News
+mod Common

@@ -1,11 +1,6 @@
 -- What an entry tells of the heap of its task: of its chunks, of what a collection keeps, and of a marking.
 use Rattle.std.specs.Prelude.{ℕ, ◌==◌, Bool, Option, Some, None, List, slice_get, if◌then◌else◌, is_some}
-use Rattle.hh_model.specs.declared.data.Name.{Name}
-use Rattle.run_trace.specs.declared.entry.Kind.{Kind}
-use Rattle.run_trace.specs.declared.entry.Kind.TheVariants.{Took, Ran, Chunk, Begin, End, PutOff, Mark, More, Sweep, Fuel}
-use Rattle.run_ledger.specs.declared.data.Heap.{Heap}
-use Rattle.run_ledger.specs.declared.data.Ledger.{Ledger}
-use Rattle.run_ledger.specs.Heaps.{begun_in, marked_in}
+use Rattle.run_deltas.specs.Common.{Name, Kind, Took, Ran, Chunk, Begin, End, PutOff, Mark, More, Sweep, Fuel, Heap, Ledger, begun_in, marked_in}
 
 pub data News : Type 0 where
   -- nothing that doesn't follow from tasks and objects
@@ -20,6 +15,8 @@ pub data News : Type 0 where
   Snapped : ℕ → List Name → News
   -- so many of them are marked
   Marked : ℕ → ℕ → News
+  -- the same as of chunks that are laid out anew, by a sweep, which ends a marking
+  Swept : ℕ → List (List Name) → List Name → News
 
 -- the chunk that waits for a large object has its units, and one for small objects has one
 abbrev pub units_given : Heap → ℕ
@@ -32,7 +29,7 @@ news_in (Begin t) h = Taken t (begun_in h) h.survivors
 news_in (End t taken given left) h = Laid t h.chunks h.large
 news_in (Mark t) h = Snapped t h.snapshot
 news_in (More t n) h = Marked t (marked_in h)
-news_in (Sweep t given) h = Laid t h.chunks h.large
+news_in (Sweep t given) h = Swept t h.chunks h.large
 news_in _ h = Nothing
 
 -- the task of whose heap an entry tells. For want of a chunk the run may be over, and then none is given

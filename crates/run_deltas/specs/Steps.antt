@@ -1,15 +1,10 @@
 -- What the steps of an entry change of objects and outputs.
 use Rattle.std.specs.Prelude.{ℕ, zero, suc, Bool, Option, Some, None, List, [], ◌∷◌, ◌++◌, if◌then◌else◌}
-use Rattle.hh_lang.specs.Form.{ProgramText}
-use Rattle.hh_model.specs.declared.data.Name.{Name}
-use Rattle.hh_model.specs.declared.data.Object.{Object}
-use Rattle.hh_model.specs.declared.data.State.{State}
-use Rattle.hh_model.specs.Effect.{object_at}
-use Rattle.hh_model.specs.Step.{step}
+use Rattle.run_deltas.specs.Common.{ProgramText, Name, Object, MachineState, object_at, step}
 use Rattle.run_deltas.specs.declared.data.Value.TheVariants.{Reference}
 use Rattle.run_deltas.specs.declared.data.Deed.{Deed}
 use Rattle.run_deltas.specs.declared.data.Deed.TheVariants.{Allocates, Writes, Swaps, Freezes, Prints}
-use Rattle.run_deltas.specs.declared.data.Act.{Act}
+use Rattle.run_deltas.specs.declared.data.StepAct.{StepAct}
 use Rattle.run_deltas.specs.declared.data.Change.{Change}
 use Rattle.run_deltas.specs.declared.data.Change.TheVariants.{New, Set, Froze, Print}
 use Rattle.run_deltas.specs.declared.data.Changes.{Changes}
@@ -25,7 +20,7 @@ abbrev pub swap : Name → ℕ → Option Name → Bool → List Change
 swap n at r swapped = if swapped then Set (record { name = n; field = at; value = Reference r }) ∷ [] else []
 
 -- what a step changes by what it does, after which the state is this
-abbrev pub changed_by : State → Option Deed → List Change
+abbrev pub changed_by : MachineState → Option Deed → List Change
 changed_by m (Some (Allocates n)) = born n (object_at m.store n)
 changed_by m (Some (Writes n at v)) = Set (record { name = n; field = at; value = v }) ∷ []
 changed_by m (Some (Swaps n at r swapped)) = swap n at r swapped
@@ -34,7 +29,7 @@ changed_by m (Some (Prints k)) = Print k ∷ []
 changed_by m _ = []
 
 -- with a step more, which led to this state
-abbrev pub with_act : State → Changes → Option Act → Changes
+abbrev pub with_act : MachineState → Changes → Option StepAct → Changes
 with_act m c None = c
 with_act m c (Some a) = record { last = Some a; all = c.all ++ changed_by m a.deed }
 
@@ -42,11 +37,11 @@ abbrev pub unchanged : Changes
 unchanged = record { last = None; all = [] }
 
 -- the state after so many steps of a task
-abbrev pub stepped : ProgramText → State → ℕ → ℕ → State
+abbrev pub stepped : ProgramText → MachineState → ℕ → ℕ → MachineState
 stepped p m t zero = m
 stepped p m t (suc k) = step p (stepped p m t k) t
 
 -- what these steps change
-abbrev pub changes : ProgramText → State → ℕ → ℕ → Changes
+abbrev pub changes : ProgramText → MachineState → ℕ → ℕ → Changes
 changes p m t zero = unchanged
 changes p m t (suc k) = with_act (stepped p m t (suc k)) (changes p m t k) (act_of p (stepped p m t k) t)

@@ -2,7 +2,7 @@
 
 use hh_lang::Instr;
 use hh_model::Name;
-use listed::Listed;
+use plain_vec::Listed;
 
 /// What a field holds.
 #[derive(Clone, Copy)]
@@ -30,15 +30,22 @@ pub enum Deed {
 /// A step: the line and the instruction, and what it does; None where it touches no object and prints nothing, as a step
 /// that traps.
 #[derive(Clone, Copy)]
-pub struct Act {
+pub struct StepAct {
     pub line: u32,
     pub instr: Instr,
     pub deed: Option<Deed>,
 }
 
+/// A step: its line, and what it does.
+#[derive(Clone, Copy)]
+pub struct StepDeed {
+    pub line: u32,
+    pub deed: Option<Deed>,
+}
+
 /// A new object, as it is allocated.
 #[derive(Drop)]
-pub struct Birth {
+pub struct NewObject {
     pub name: Name,
     pub mutable: bool,
     /// The reference fields; None is nil.
@@ -58,7 +65,7 @@ pub struct Write {
 #[derive(Drop)]
 pub enum Change {
     /// An object is allocated.
-    New(Birth),
+    New(NewObject),
     /// A field is written.
     Set(Write),
     /// An object becomes immutable, or stays so.
@@ -71,11 +78,11 @@ pub enum Change {
 #[derive(Drop)]
 pub struct Changes {
     /// The last step.
-    pub last: Option<Act>,
+    pub last: Option<StepAct>,
     pub all: Listed<Change>,
 }
 
-/// Where a task stands.
+/// The status of a task.
 #[derive(Clone, Copy)]
 pub enum Standing {
     /// It can be taken by a worker.
@@ -89,18 +96,20 @@ pub enum Standing {
     HasJoined,
 }
 
-/// Where a task stands after an entry.
-#[derive(Clone, Copy)]
+/// Where a task stands after an entry, and what it holds.
+#[derive(Drop)]
 pub struct TaskNow {
     pub task: u32,
     pub standing: Standing,
     /// Of a task that can run the line of its next step, of one that waits that of its fork; else 0.
     pub line: u32,
+    /// What its frames' registers hold or, once it has ended, its result: each name once.
+    pub holds: Listed<Name>,
 }
 
 /// A task that was made.
 #[derive(Clone, Copy)]
-pub struct Child {
+pub struct NewTask {
     pub task: u32,
     pub parent: u32,
     /// The number of the function that it begins in.
@@ -111,7 +120,7 @@ pub struct Child {
 #[derive(Drop)]
 pub struct Delta {
     /// The tasks that were made.
-    pub children: Listed<Child>,
+    pub children: Listed<NewTask>,
     /// Where the tasks stand that the entry moved.
     pub tasks: Listed<TaskNow>,
     pub changes: Changes,

@@ -3,15 +3,15 @@
 ghost use Rattle.std.specs.Prelude.{◌≡◌, ◌<◌, ℕ, length, IfOk};
 ghost use Rattle.hh_model.specs.Names.{next_name};
 ghost use Rattle.hh_model.specs.declared.data.Frame.{Frame};
-ghost use Rattle.run_deltas.specs.Deeds.{number_place, deed, act_of};
+ghost use Rattle.run_deltas.specs.Deeds.{number_place, deed, act_of, deed_of};
 
-use crate::data::{Act, Deed, Value};
+use crate::data::{Deed, StepAct, StepDeed, Value};
 use hh_lang::{Instr, IntReg, Program, RefReg};
-use hh_model::{Frame, Name, Object, State, field_counts, field_index, is_same};
+use hh_model::{Frame, MachineState, Name, Object, field_counts, field_index, is_same};
 use std::alloc::AllocError;
 
 // The name of the next object of a task.
-fn next_name(state: &State, task: u32) -> Result<Name, AllocError>
+fn next_name(state: &MachineState, task: u32) -> Result<Name, AllocError>
     ensures { IfOk result (λ name. name ≡ next_name task state.now.store) }
 {
     let made = match state.store.get(task as usize) {
@@ -33,7 +33,7 @@ fn number_place(object: &Object, at: usize) -> usize
 }
 
 fn newm(
-    state: &State,
+    state: &MachineState,
     t: u32,
     top: &Frame,
     refs: IntReg,
@@ -50,14 +50,14 @@ fn newm(
     }
 }
 
-fn pack(state: &State, t: u32) -> Result<Option<Deed>, AllocError>
+fn pack(state: &MachineState, t: u32) -> Result<Option<Deed>, AllocError>
     ensures { (f : Frame) (d r i : ℕ) → IfOk result (λ did. did ≡ deed state.now t f (Instr.Pack d r i)) }
 {
     let name = next_name(state, t)?;
     Ok(Some(Deed::Allocates(name)))
 }
 
-fn getr(state: &State, top: &Frame, object: RefReg, index: IntReg) -> Option<Deed>
+fn getr(state: &MachineState, top: &Frame, object: RefReg, index: IntReg) -> Option<Deed>
     ensures { (t d : ℕ) → result ≡ deed state.now t top.now (Instr.Getr d object index) }
 {
     let name = top.reference(object)?;
@@ -66,7 +66,7 @@ fn getr(state: &State, top: &Frame, object: RefReg, index: IntReg) -> Option<Dee
     Some(Deed::Reads(name, at, Value::Reference(*object.refs.at(at))))
 }
 
-fn geti(state: &State, top: &Frame, object: RefReg, index: IntReg) -> Option<Deed>
+fn geti(state: &MachineState, top: &Frame, object: RefReg, index: IntReg) -> Option<Deed>
     ensures { (t d : ℕ) → result ≡ deed state.now t top.now (Instr.Geti d object index) }
 {
     let name = top.reference(object)?;
@@ -79,7 +79,13 @@ fn geti(state: &State, top: &Frame, object: RefReg, index: IntReg) -> Option<Dee
     ))
 }
 
-fn putr(state: &State, top: &Frame, object: RefReg, index: IntReg, value: RefReg) -> Option<Deed>
+fn putr(
+    state: &MachineState,
+    top: &Frame,
+    object: RefReg,
+    index: IntReg,
+    value: RefReg,
+) -> Option<Deed>
     ensures { (t : ℕ) → result ≡ deed state.now t top.now (Instr.Putr object index value) }
 {
     let name = top.reference(object)?;
@@ -92,7 +98,13 @@ fn putr(state: &State, top: &Frame, object: RefReg, index: IntReg, value: RefReg
     }
 }
 
-fn puti(state: &State, top: &Frame, object: RefReg, index: IntReg, value: IntReg) -> Option<Deed>
+fn puti(
+    state: &MachineState,
+    top: &Frame,
+    object: RefReg,
+    index: IntReg,
+    value: IntReg,
+) -> Option<Deed>
     ensures { (t : ℕ) → result ≡ deed state.now t top.now (Instr.Puti object index value) }
 {
     let name = top.reference(object)?;
@@ -110,7 +122,7 @@ fn puti(state: &State, top: &Frame, object: RefReg, index: IntReg, value: IntReg
 }
 
 fn cas(
-    state: &State,
+    state: &MachineState,
     top: &Frame,
     object: RefReg,
     index: IntReg,
@@ -130,7 +142,7 @@ fn cas(
     }
 }
 
-fn count(state: &State, top: &Frame, object: RefReg) -> Option<Deed>
+fn count(state: &MachineState, top: &Frame, object: RefReg) -> Option<Deed>
     ensures references { (t d : ℕ) → result ≡ deed state.now t top.now (Instr.Cntr d object) }
     ensures numbers { (t d : ℕ) → result ≡ deed state.now t top.now (Instr.Cnti d object) }
 {
@@ -139,7 +151,7 @@ fn count(state: &State, top: &Frame, object: RefReg) -> Option<Deed>
     Some(Deed::Counts(name))
 }
 
-fn freeze(state: &State, t: u32, top: &Frame, object: RefReg) -> Option<Deed>
+fn freeze(state: &MachineState, t: u32, top: &Frame, object: RefReg) -> Option<Deed>
     ensures { result ≡ deed state.now t top.now (Instr.Freeze object) }
 {
     let name = top.reference(object)?;
@@ -152,7 +164,7 @@ fn freeze(state: &State, t: u32, top: &Frame, object: RefReg) -> Option<Deed>
 }
 
 // What an instruction does.
-fn deed(state: &State, t: u32, top: &Frame, instr: Instr) -> Result<Option<Deed>, AllocError>
+fn deed(state: &MachineState, t: u32, top: &Frame, instr: Instr) -> Result<Option<Deed>, AllocError>
     ensures { IfOk result (λ did. did ≡ deed state.now t top.now instr) }
 {
     match instr {
@@ -174,7 +186,11 @@ fn deed(state: &State, t: u32, top: &Frame, instr: Instr) -> Result<Option<Deed>
 }
 
 /// The next step of a task, where it can take one.
-pub(crate) fn act_of(program: &Program, state: &State, t: u32) -> Result<Option<Act>, AllocError>
+pub(crate) fn act_of(
+    program: &Program,
+    state: &MachineState,
+    t: u32,
+) -> Result<Option<StepAct>, AllocError>
     ensures { IfOk result (λ act. act ≡ act_of program.now state.now t) }
 {
     if !state.can_step(t) {
@@ -187,9 +203,33 @@ pub(crate) fn act_of(program: &Program, state: &State, t: u32) -> Result<Option<
         return Ok(None);
     };
     let deed = deed(state, t, &task.top, line.instr)?;
-    Ok(Some(Act {
+    Ok(Some(StepAct {
         line: line.number,
         instr: line.instr,
+        deed,
+    }))
+}
+
+/// The next step of a task, where it can take one, without its instruction.
+pub fn step_deed(
+    program: &Program,
+    state: &MachineState,
+    t: u32,
+) -> Result<Option<StepDeed>, AllocError>
+    ensures { IfOk result (λ step. step ≡ deed_of (act_of program.now state.now t)) }
+{
+    if !state.can_step(t) {
+        return Ok(None);
+    }
+    let Some(task) = state.tasks.get(t as usize) else {
+        return Ok(None);
+    };
+    let Some(line) = program.line(task.top.function, task.top.next) else {
+        return Ok(None);
+    };
+    let deed = deed(state, t, &task.top, line.instr)?;
+    Ok(Some(StepDeed {
+        line: line.number,
         deed,
     }))
 }

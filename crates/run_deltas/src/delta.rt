@@ -10,8 +10,8 @@ use crate::data::{Changes, Delta, TaskNow};
 use crate::steps::take_steps;
 use crate::tasks::{add_children, add_free, add_moved, add_out};
 use hh_lang::Program;
-use hh_model::{Machine, State};
-use listed::Listed;
+use hh_model::{Machine, MachineState};
+use plain_vec::Listed;
 use run_trace::Kind;
 use std::alloc::{AllocError, Global};
 
@@ -32,7 +32,7 @@ fn took(alloc: Global, program: &Program, machine: &Machine, t: u32) -> Result<D
     ensures { IfOk result (λ d. d ≡ delta program.now machine.now.state (Took t)) }
 {
     let mut tasks = Listed::new(alloc);
-    add_out(&mut tasks, program, machine.state(), t)?;
+    add_out(alloc, &mut tasks, program, machine.state(), t)?;
     Ok(Delta {
         children: Listed::new(alloc),
         tasks,
@@ -40,8 +40,8 @@ fn took(alloc: Global, program: &Program, machine: &Machine, t: u32) -> Result<D
     })
 }
 
-// How many tasks there are.
-fn tasks_made(machine: &Machine) -> Result<u32, AllocError>
+/// How many tasks there are.
+pub fn tasks_made(machine: &Machine) -> Result<u32, AllocError>
     ensures value { IfOk result (λ made. made ≡ length machine.now.state.tasks) }
     ensures few { IfOk result (λ made. made + 1 < 2 ^ 32) }
 {
@@ -72,7 +72,7 @@ fn ran(
     let mut children = Listed::new(alloc);
     add_children(&mut children, machine.state(), made)?;
     let mut tasks = Listed::new(alloc);
-    add_moved(&mut tasks, program, machine.state(), made, t)?;
+    add_moved(alloc, &mut tasks, program, machine.state(), made, t)?;
     Ok(Delta {
         children,
         tasks,
@@ -103,11 +103,11 @@ pub fn advance(
 pub fn start_tasks(
     alloc: Global,
     program: &Program,
-    state: &State,
+    state: &MachineState,
 ) -> Result<Listed<TaskNow>, AllocError>
     ensures { IfOk result (λ tasks. tasks ≡ now_free program.now state.now 0) }
 {
     let mut tasks = Listed::new(alloc);
-    add_free(&mut tasks, program, state, 0)?;
+    add_free(alloc, &mut tasks, program, state, 0)?;
     Ok(tasks)
 }

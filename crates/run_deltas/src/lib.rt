@@ -4,13 +4,19 @@
 // The plain data of deltas.
 mod data;
 
-// What a step does to an object, what the steps of an entry change, and which tasks they move.
+// What a step does to an object, what the steps of an entry change, which tasks they move, and what tasks hold.
 mod deed;
+mod roots;
 mod steps;
 mod tasks;
 
 // What an entry changes.
 mod delta;
 
-pub use data::{Act, Birth, Change, Changes, Child, Deed, Delta, Standing, TaskNow, Value, Write};
-pub use delta::{advance, start_tasks};
+pub use data::{
+    Change, Changes, Deed, Delta, NewObject, NewTask, Standing, StepAct, StepDeed, TaskNow, Value,
+    Write,
+};
+pub use deed::step_deed;
+pub use delta::{advance, start_tasks, tasks_made};
+pub use steps::take;

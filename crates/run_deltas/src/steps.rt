@@ -5,23 +5,23 @@ ghost use Rattle.hh_model.specs.Effect.{object_at};
 ghost use Rattle.hh_model.specs.Step.{step};
 ghost use Rattle.run_deltas.specs.Steps.{born, swap, changed_by, with_act, unchanged, stepped, changes};
 
-use crate::data::{Act, Birth, Change, Changes, Deed, Value, Write};
+use crate::data::{Change, Changes, Deed, NewObject, StepAct, Value, Write};
 use crate::deed::act_of;
 use hh_lang::Program;
-use hh_model::{Machine, Name, Object, State, StepError};
-use listed::Listed;
+use hh_model::{Machine, MachineState, Name, Object, StepError};
+use plain_vec::Listed;
 use std::alloc::{AllocError, Global};
 
 /// A machine takes at most so many steps.
 const STEP_LIMIT: u32 = 1 << 30;
 
 // A new object as it is now.
-fn birth(alloc: Global, name: Name, object: &Object) -> Result<Birth, AllocError>
+fn birth(alloc: Global, name: Name, object: &Object) -> Result<NewObject, AllocError>
     ensures { IfOk result (λ birth. birth ≡ record { name = name; mutable = object.now.mutable; refs = object.now.refs; ints = object.now.ints }) }
 {
     let refs = object.refs.as_slice().to_vec(alloc)?;
     let ints = object.ints.as_slice().to_vec(alloc)?;
-    Ok(Birth {
+    Ok(NewObject {
         name,
         mutable: object.mutable,
         refs: Listed::from_vec(refs),
@@ -33,7 +33,7 @@ fn birth(alloc: Global, name: Name, object: &Object) -> Result<Birth, AllocError
 fn add_birth(
     alloc: Global,
     all: &mut Listed<Change>,
-    state: &State,
+    state: &MachineState,
     name: Name,
 ) -> Result<(), AllocError>
     ensures { OnOk result (all.new ≡ all.old ++ born name (object_at state.now.store name)) }
@@ -71,7 +71,7 @@ fn add_swap(
 fn add_deed(
     alloc: Global,
     all: &mut Listed<Change>,
-    state: &State,
+    state: &MachineState,
     deed: Option<Deed>,
 ) -> Result<(), AllocError>
     ensures { OnOk result (all.new ≡ all.old ++ changed_by state.now deed) }
@@ -102,7 +102,12 @@ impl Changes {
     }
 
     // Adds a step that led to a state, if there was one.
-    fn note(&mut self, alloc: Global, state: &State, act: Option<Act>) -> Result<(), AllocError>
+    fn note(
+        &mut self,
+        alloc: Global,
+        state: &MachineState,
+        act: Option<StepAct>,
+    ) -> Result<(), AllocError>
         ensures { OnOk result (self.new ≡ with_act state.now self.old act) }
     {
         match act {
@@ -116,8 +121,8 @@ impl Changes {
     }
 }
 
-// One step of a task, if it can take one.
-fn take(machine: &mut Machine, t: u32) -> Result<(), AllocError>
+/// One step of a task, if it can take one.
+pub fn take(machine: &mut Machine, t: u32) -> Result<(), AllocError>
     ensures program { machine.new.program ≡ machine.old.program }
     ensures state { OnOk result (machine.new.state ≡ step machine.old.program machine.old.state t) }
 {

@@ -1,27 +1,9 @@
--- What heaps of tasks that don't run hold, counted.
-use Rattle.std.proofs.Common.{◌≡◌, ℕ, zero, suc, ◌*◌, ◌≤◌, true, List, [], ◌∷◌, slice_get, length, sym, subst, arith, length-append}
-use Rattle.std.specs.List.{flat_map}
-use Rattle.std.proofs.lemmas.List.Sums.{sum_by-append}
-use Rattle.listed.proofs.Members.{contains_from_in}
-use Rattle.run_trace.specs.Entry.{EntryValue}
-use Rattle.run_trace.specs.Settings.{SettingsValue, AreSettings}
-use Rattle.hh_lang.specs.Form.{ProgramText}
-use Rattle.run_ledger.specs.declared.data.Heap.{Heap}
-use Rattle.run_ledger.specs.declared.data.Ledger.{Ledger}
-use Rattle.run_ledger.specs.Heaps.{heap_of, or_fresh, held, held_in, words_at, words_sum, in_use}
-use Rattle.run_ledger.specs.Journals.{ledger_of, is_legal}
-use Rattle.run_ledger.specs.Report.{held_not_running}
-use Rattle.run_ledger.specs.Laws.{HoldsOnce}
-use Rattle.run_ledger.specs.Space.{AllFit}
-use Rattle.journal_laws.proofs.KeptNames.{kept_least, stored_most}
-use Rattle.run_ledger.proofs.Stocks.{names_are_held_once}
-use Rattle.run_ledger.proofs.Space.{heaps_fit, use_is_bounded}
-use Rattle.run_journal.specs.BookValue.{IsLegalLedger}
-use Rattle.run_accounts.specs.Held.{IsCountable}
+-- Counts of what the heaps of tasks that don't run hold.
+use Rattle.run_journal.proofs.Common.{◌≡◌, ℕ, zero, suc, ◌*◌, ◌≤◌, true, List, [], ◌∷◌, slice_get, length, sym, subst, arith, length-append, flat_map, sum_by-append, contains_from_in, EntryValue, SettingsValue, AreSettings, ProgramText, Heap, Ledger, heap_of, or_fresh, held, held_in, words_at, words_sum, in_use, ledger_of, is_legal, held_not_running, HoldsOnce, AllFit, kept_least, stored_most, names_are_held_once, heaps_fit, use_is_bounded, IsCountable, IsLegalLedger}
 
 -- COUNTS
 
--- one heap holds no more names than all
+-- one heap holds no more names than all heaps
 one_of_all : (heaps : List Heap) (t : ℕ) → length (held_in (or_fresh (slice_get heaps t))) ≤ length (flat_map held_in heaps)
 one_of_all [] t = omega arith
 one_of_all (h ∷ heaps) zero = let a = length-append (held_in h) (flat_map held_in heaps) in omega arith

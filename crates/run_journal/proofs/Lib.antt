@@ -3,3 +3,4 @@ mod Opens
 pub mod Replays
 pub mod Steadies
 pub mod below
+mod Common

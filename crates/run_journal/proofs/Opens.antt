@@ -1,21 +1,5 @@
--- Books that go on from legal journals.
-use Rattle.std.proofs.Common.{◌≡◌, ℕ, ◌<◌, ◌≤◌, ◌&&◌, not, Bool, true, false, Option, Some, None, List, [], ◌∷◌, ◌++◌, length, nat_lt, nat_le, is_none, is_some, refl, ap, sym, subst, ◌∙◌, arith, length-set}
-use Rattle.std.proofs.lemmas.Bool.{ltb-true}
-use Rattle.run_trace.specs.declared.entry.Kind.{Kind}
-use Rattle.run_trace.specs.declared.entry.Kind.TheVariants.{Took, Ran, Chunk, Begin, End as EndOf, PutOff, Mark, More, Sweep, Fuel}
-use Rattle.run_trace.specs.Entry.{EntryValue, IsKind}
-use Rattle.run_trace.specs.Settings.{SettingsValue, AreSettings}
-use Rattle.hh_lang.specs.Form.{ProgramText}
-use Rattle.run_ledger.specs.declared.data.Ledger.{Ledger}
-use Rattle.run_ledger.specs.Heaps.{heap_of}
-use Rattle.run_ledger.specs.Entries.{refusal, after, is_fuel}
-use Rattle.run_ledger.specs.Journals.{opening, ledger_of}
-use Rattle.run_ledger.proofs.Cuts.{after_cut, joined_legal}
-use Rattle.run_ledger.proofs.Sound.{SoundLedger}
-use Rattle.run_ledger.proofs.Journals.{none_where, none_unless, entry_tells, legal_sound}
-use Rattle.run_accounts.specs.Accounts.{AccountsValue, Agrees, Steady, StaysSteady, went_on, taken_after}
-use Rattle.run_journal.specs.BookValue.{IsLegalLedger, IsOpened}
-use Rattle.run_accounts.proofs.Holds.{kind_tells}
+-- Books that continue from legal journals.
+use Rattle.run_journal.proofs.Common.{◌≡◌, ℕ, ◌<◌, ◌≤◌, ◌&&◌, not, Bool, true, false, Option, Some, None, List, [], ◌∷◌, ◌++◌, length, nat_lt, nat_le, is_none, is_some, refl, ap, sym, subst, ◌∙◌, arith, length-set, ltb-true, Kind, Took, Ran, Chunk, Begin, End as EndOf, PutOff, Mark, More, Sweep, Fuel, EntryValue, IsKind, SettingsValue, AreSettings, ProgramText, Ledger, heap_of, refusal, after, is_fuel, opening, ledger_of, after_cut, joined_legal, SoundLedger, none_where, none_unless, entry_tells, legal_sound, AccountsValue, CachesAgree, Steady, StaysSteady, went_on, taken_after, kind_tells, IsLegalLedger, IsOpened}
 use Rattle.run_journal.proofs.Steadies.{legal_steady, legal_stays}
 
 module _ (p : ProgramText) (s : SettingsValue) where
@@ -36,9 +20,9 @@ module _ (p : ProgramText) (s : SettingsValue) where
         ap (λ q. after p s q e) L.2 ∙ sym (after_cut p s L.0 (e ∷ []) (opening p s)),
       )
 
--- what is kept beside the accounts, after an entry
-pub accounts_agree : (s : AccountsValue) → AreSettings s.settings → IsLegalLedger s.program s.settings s.ledger → Agrees s → (e : EntryValue) → refusal s.program s.settings s.ledger e ≡ None
-    → Agrees (record (went_on s (after s.program s.settings s.ledger e)) { taken = taken_after s.taken e.worker e.kind })
+-- what is cached beside the accounts, after an entry
+pub accounts_agree : (s : AccountsValue) → AreSettings s.settings → IsLegalLedger s.program s.settings s.ledger → CachesAgree s → (e : EntryValue) → refusal s.program s.settings s.ledger e ≡ None
+    → CachesAgree (record (went_on s (after s.program s.settings s.ledger e)) { taken = taken_after s.taken e.worker e.kind })
 accounts_agree s limits L A e none =
     let h : is_none (refusal s.program s.settings s.ledger e) ≡ true = ap is_none none in
     let tells = entry_tells s.program s.settings s.ledger e h in
@@ -69,5 +53,5 @@ pub opened_after : (s new : AccountsValue) (stopped : Bool) → AreSettings s.se
     → new ≡ record (went_on s (after s.program s.settings s.ledger e)) { taken = taken_after s.taken e.worker e.kind } → IsOpened new stopped
 opened_after s new stopped limits I going e none is = record {
   legal = λ q. subst (λ (k : AccountsValue). IsLegalLedger k.program k.settings k.ledger) (sym is) (ledger_after s.program s.settings s.ledger (I.legal going) e none);
-  agrees = λ q. subst Agrees (sym is) (accounts_agree s limits (I.legal going) (I.agrees going) e none);
+  agrees = λ q. subst CachesAgree (sym is) (accounts_agree s limits (I.legal going) (I.agrees going) e none);
 }

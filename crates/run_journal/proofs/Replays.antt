@@ -1,12 +1,5 @@
 -- The next entry of a replay.
-use Rattle.std.proofs.Common.{◌≡◌, ℕ, ◌+◌, ◌<◌, suc, None, List, ◌∷◌, length, drop, get_or, ap, ap₂, sym, ◌∙◌, arith}
-use Rattle.std.proofs.Math.Seq.{drop-cons}
-use Rattle.run_trace.specs.Entry.{EntryValue}
-use Rattle.run_trace.specs.Settings.{SettingsValue}
-use Rattle.hh_lang.specs.Form.{ProgramText}
-use Rattle.run_ledger.specs.declared.data.Ledger.{Ledger}
-use Rattle.run_ledger.specs.Entries.{refusal, after}
-use Rattle.run_ledger.specs.Journals.{after_all, first_refused_from, refused_or}
+use Rattle.run_journal.proofs.Common.{◌≡◌, ℕ, ◌+◌, ◌<◌, suc, None, List, ◌∷◌, length, drop, get_or, ap, ap₂, sym, ◌∙◌, arith, drop-cons, EntryValue, SettingsValue, ProgramText, Ledger, refusal, after, after_all, first_refused_from, refused_or}
 
 module _ (p : ProgramText) (s : SettingsValue) (l : Ledger) (n : ℕ) (journal : List EntryValue) (i : ℕ) (e : EntryValue) (lt : i < length journal) (is : e ≡ get_or journal i e) where
   pub cut : drop i journal ≡ e ∷ drop (i + 1) journal

@@ -1,48 +1,11 @@
 -- The counts of the accounts of every legal journal fit their types.
-use Rattle.std.proofs.Common.{◌≡◌, ℕ, zero, suc, ◌+◌, ◌*◌, ◌<◌, ◌≤◌, ◌^◌, ◌||◌, Bool, true, false, cond, Option, Some, None, List, [], ◌∷◌, ◌++◌, length, slice_get, slice_set, nat_lt, is_none, is_some, inl, inr, refl, ap, sym, subst, ◌∙◌, arith, length-append, length-set}
-use Rattle.std.proofs.lemmas.Bool.{false≢true, and_parts}
-use Rattle.listed.proofs.Members.{in_from_contains}
-use Rattle.run_trace.specs.declared.entry.Kind.{Kind}
-use Rattle.run_trace.specs.declared.entry.Kind.TheVariants.{Took, Ran, Chunk, Begin, End as EndOf, PutOff, Mark, More, Sweep, Fuel}
-use Rattle.run_trace.specs.Entry.{EntryValue}
-use Rattle.run_trace.specs.Settings.{SettingsValue, AreSettings}
-use Rattle.hh_lang.specs.Form.{ProgramText}
-use Rattle.hh_model.specs.declared.data.Name.{Name}
-use Rattle.hh_model.specs.declared.data.State.{State}
-use Rattle.hh_model.specs.Step.{step, can_step, asked}
-use Rattle.hh_model.proofs.Carried.{next_name}
-use Rattle.run_ledger.specs.declared.data.Heap.{Heap}
-use Rattle.run_ledger.specs.declared.data.Ledger.{Ledger}
-use Rattle.run_ledger.specs.declared.data.RunEnd.TheVariants.{Pool}
-use Rattle.run_ledger.specs.Heaps.{heap_of, heap_at, or_fresh, fresh, words_in, units_in, in_use, is_small, lacks_room, placed, with_heap, with_heap_at, let_go, forked_heap, merged, emptied, collected, swept_heap}
-use Rattle.run_ledger.specs.Steps.{allocated_in, allocated_by, stepped_to, task_step, task_steps, is_due, is_in_need, is_private, standing, on_asked}
-use Rattle.run_ledger.specs.Entries.{refusal, after_kind, after, chunk_units, with_chunk}
-use Rattle.run_ledger.specs.Journals.{opening, ledger_of, is_legal, is_legal_from}
-use Rattle.run_ledger.specs.Space.{store_words}
-use Rattle.run_ledger.proofs.Machine.{stepped_machine}
-use Rattle.run_ledger.proofs.Sound.{SoundLedger, names_of, collecting}
-use Rattle.run_ledger.proofs.Moves.{Moves}
-use Rattle.run_ledger.proofs.Held.{placed_since}
-use Rattle.run_ledger.proofs.Steps.{SoundAt, heap_of_task, can_tells, task_step_sound}
-use Rattle.run_ledger.proofs.Weights.{weight, weight_additive, total, total_set, moves_total, collected_weight, swept_weight}
-use Rattle.run_ledger.proofs.Stocks.{StockedLedger, G, L, with_heap_any, same_weight, chunk_lighter, allocated_total, task_step_stocked, legal_stocked}
-use Rattle.run_ledger.proofs.Booked.{BookedLedger, task_steps_booked}
-use Rattle.run_ledger.proofs.Chunks.{heap_words}
-use Rattle.run_ledger.proofs.Space.{legal_booked}
-use Rattle.run_ledger.proofs.Journals.{legal_sound, entry_tells, out_tells}
-use Rattle.run_ledger.proofs.Cuts.{after_cut, cut_legal}
-use Rattle.run_ledger.proofs.Bounds.{asked_bounds, stands_by, ran_tells, task_steps_steps, steps_are_bounded}
-use Rattle.journal_laws.proofs.Since.{since_additive, since_in}
-use Rattle.run_accounts.specs.Accounts.{Steady, StaysSteady}
-use Rattle.run_accounts.proofs.Stepped.{small_enough}
-use Rattle.run_accounts.proofs.Snaps.{one_each, Snaps, snaps_set, snaps_allocated, snaps_settled, sound_paired}
-use Rattle.run_accounts.proofs.Uses.{one_of, step_used}
+use Rattle.run_journal.proofs.Common.{◌≡◌, ℕ, zero, suc, ◌+◌, ◌*◌, ◌<◌, ◌≤◌, ◌^◌, ◌||◌, Bool, true, false, cond, Option, Some, None, List, [], ◌∷◌, ◌++◌, length, slice_get, slice_set, nat_lt, is_none, is_some, inl, inr, refl, ap, sym, subst, ◌∙◌, arith, length-append, length-set, false≢true, and_parts, in_from_contains, Kind, Took, Ran, Chunk, Begin, End as EndOf, PutOff, Mark, More, Sweep, Fuel, EntryValue, SettingsValue, AreSettings, ProgramText, Name, MachineState, step, can_step, asked, next_name, Heap, Ledger, Pool, heap_of, heap_at, or_fresh, fresh, words_in, units_in, in_use, is_small, lacks_room, placed, with_heap, with_heap_at, let_go, forked_heap, merged, emptied, collected, swept_heap, allocated_in, allocated_by, stepped_to, task_step, task_steps, is_due, is_in_need, is_private, standing, on_asked, refusal, after_kind, after, chunk_units, with_chunk, opening, ledger_of, is_legal, is_legal_from, store_words, stepped_machine, SoundLedger, names_of, collecting, Moves, placed_since, SoundAt, heap_of_task, can_tells, task_step_sound, weight, weight_additive, total, total_set, moves_total, collected_weight, swept_weight, StockedLedger, G, L, with_heap_any, same_weight, chunk_lighter, allocated_total, task_step_stocked, legal_stocked, BookedLedger, task_steps_booked, heap_words, legal_booked, legal_sound, entry_tells, out_tells, after_cut, cut_legal, asked_bounds, stands_by, ran_tells, task_steps_steps, steps_are_bounded, since_additive, since_in, Steady, StaysSteady, small_enough, one_each, Snaps, snaps_set, snaps_allocated, snaps_settled, sound_paired, one_of, step_used}
 
 -- the most words of one object, in the runs that legal journals have
 abbrev most : ℕ
 most = 2 ^ 31
 
--- what is held, and what was allocated, came step by step; and each step makes two tasks at most
+-- what is held, and what was allocated, came step by step; and each step makes at most two tasks
 record Light (l : Ledger) : Type 0 where
   names : total (weight one_each) l.heaps ≤ l.steps
   snapshots : Snaps l.steps l
@@ -54,10 +17,10 @@ record Light (l : Ledger) : Type 0 where
 
 module _ (p : ProgramText) (s : SettingsValue) (A : AreSettings s) (l : Ledger) (t : ℕ) (S : SoundAt t l) (I : StockedLedger l) (B : BookedLedger p s l) (X : Light l) (can : can_step l.machine t ≡ true)
     (fine : (is_due s p l t || is_in_need p l t) ≡ false) where
-  abbrev m : State
+  abbrev m : MachineState
   m = l.machine
 
-  abbrev m' : State
+  abbrev m' : MachineState
   m' = step p l.machine t
 
   abbrev b : Ledger
@@ -126,11 +89,11 @@ module _ (p : ProgramText) (s : SettingsValue) (A : AreSettings s) (l : Ledger) 
       omega arith
 
   steps_k : k.steps ≡ l.steps + 1
-  steps_k = let a = task_steps_steps p 1 l t in by (can_step l.machine t) can a
+  steps_k = let a = task_steps_steps p 1 l t in steps_k_by_cases (can_step l.machine t) can a
     where
-      by : (v : Bool) → v ≡ true → (cond v (stepped_to (allocated_in p l t) t (step p l.machine t)) (record l { steps = l.steps + 1 })).steps ≡ l.steps + 1 → k.steps ≡ l.steps + 1
-      by true e q = q
-      by false e q = absurd (false≢true e)
+      steps_k_by_cases : (v : Bool) → v ≡ true → (cond v (stepped_to (allocated_in p l t) t (step p l.machine t)) (record l { steps = l.steps + 1 })).steps ≡ l.steps + 1 → k.steps ≡ l.steps + 1
+      steps_k_by_cases true e q = q
+      steps_k_by_cases false e q = absurd (false≢true e)
 
   stored_by : (o : Option ℕ) → asked p m t ≡ o → store_words m'.store ≤ store_words m.store + most
   stored_by None e = let a = (G p l t S I can).none e in omega arith
@@ -152,11 +115,11 @@ module _ (p : ProgramText) (s : SettingsValue) (A : AreSettings s) (l : Ledger) 
         store =
             let a = stored_by (asked p m t) refl in
             let d = X.store in
-            subst (λ (z : State). store_words z.store ≤ k.steps * most) (sym (stepped_machine b t m')) (omega arith);
+            subst (λ (z : MachineState). store_words z.store ≤ k.steps * most) (sym (stepped_machine b t m')) (omega arith);
       }
 
 module _ (p : ProgramText) (s : SettingsValue) (A : AreSettings s) where
-  -- all that is kept from step to step
+  -- the invariant of steps
   record Firm (t : ℕ) (l : Ledger) : Type 0 where
     sound : SoundAt t l
     stocked : StockedLedger l
@@ -167,19 +130,19 @@ module _ (p : ProgramText) (s : SettingsValue) (A : AreSettings s) where
   idle_light l X = let a = X.names in let b = X.since in let c = X.heaps in let e = X.store in record { names = omega arith; snapshots = λ u. (let d = X.snapshots u in omega arith); since = omega arith; heaps = omega arith; store = omega arith }
 
   task_step_light : (l : Ledger) (t : ℕ) → SoundAt t l → StockedLedger l → BookedLedger p s l → Light l → (is_due s p l t || is_in_need p l t) ≡ false → Light (task_step p l t)
-  task_step_light l t S I B X fine = by (can_step l.machine t) refl
+  task_step_light l t S I B X fine = task_step_light_by_cases (can_step l.machine t) refl
     where
-      by : (v : Bool) → can_step l.machine t ≡ v → Light (cond v (stepped_to (allocated_in p l t) t (step p l.machine t)) (record l { steps = l.steps + 1 }))
-      by false e = idle_light l X
-      by true e = step_light p s A l t S I B X e fine
+      task_step_light_by_cases : (v : Bool) → can_step l.machine t ≡ v → Light (cond v (stepped_to (allocated_in p l t) t (step p l.machine t)) (record l { steps = l.steps + 1 }))
+      task_step_light_by_cases false e = idle_light l X
+      task_step_light_by_cases true e = step_light p s A l t S I B X e fine
 
   stands_one : (l : Ledger) (t : ℕ) → (is_due s p l t || is_in_need p l t) ≡ false → 1 ≤ standing s p l t 1
-  stands_one l t fine = by (is_due s p l t || is_in_need p l t) (is_private p l.machine t) fine
+  stands_one l t fine = stands_one_by_cases (is_due s p l t || is_in_need p l t) (is_private p l.machine t) fine
     where
-      by : (a b : Bool) → a ≡ false → 1 ≤ cond a 0 (cond b (suc (standing s p (task_step p l t) t 0)) 1)
-      by true b e = absurd (false≢true (sym e))
-      by false true e = omega arith
-      by false false e = omega arith
+      stands_one_by_cases : (a b : Bool) → a ≡ false → 1 ≤ cond a 0 (cond b (suc (standing s p (task_step p l t) t 0)) 1)
+      stands_one_by_cases true b e = absurd (false≢true (sym e))
+      stands_one_by_cases false true e = omega arith
+      stands_one_by_cases false false e = omega arith
 
   step_firm : (l : Ledger) (t : ℕ) → Firm t l → (is_due s p l t || is_in_need p l t) ≡ false → Firm t (task_step p l t)
   step_firm l t F fine = record {
@@ -312,14 +275,14 @@ module _ (p : ProgramText) (s : SettingsValue) (A : AreSettings s) where
 
   standing_most : (k : ℕ) (l : Ledger) (t : ℕ) → standing s p l t k ≤ k
   standing_most zero l t = omega arith
-  standing_most (suc k) l t = by (standing s p (task_step p l t) t k) (standing_most k (task_step p l t) t) (is_due s p l t || is_in_need p l t) (is_private p l.machine t)
+  standing_most (suc k) l t = standing_most_by_cases (standing s p (task_step p l t) t k) (standing_most k (task_step p l t) t) (is_due s p l t || is_in_need p l t) (is_private p l.machine t)
     where
-      by : (rest : ℕ) → rest ≤ k → (a b : Bool) → cond a 0 (cond b (suc rest) 1) ≤ suc k
-      by rest le true b = omega arith
-      by rest le false true = omega arith
-      by rest le false false = omega arith
+      standing_most_by_cases : (rest : ℕ) → rest ≤ k → (a b : Bool) → cond a 0 (cond b (suc rest) 1) ≤ suc k
+      standing_most_by_cases rest le true b = omega arith
+      standing_most_by_cases rest le false true = omega arith
+      standing_most_by_cases rest le false false = omega arith
 
-  -- while a task takes steps that can stand in one entry
+  -- while a task takes steps that fit in one entry
   pub legal_stays : (journal : List EntryValue) (t k : ℕ) → is_legal p s journal ≡ true → is_some (heap_of (ledger_of p s journal) t).begun ≡ false → k ≤ 257 → StaysSteady s p (ledger_of p s journal) t k
   legal_stays journal t k legal idle few =
       let l = ledger_of p s journal in

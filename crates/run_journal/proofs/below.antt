@@ -1,5 +1,5 @@
--- What crates above name of the crates below.
+-- Re-exports from lower crates for the crates above.
 pub mod hh_model
 pub mod journal_laws
-pub mod listed
+pub mod plain_vec
 pub mod run_ledger

@@ -4,7 +4,7 @@ use Rattle.run_ledger.specs.declared.data.RefusedAt.{RefusedAt}
 use Rattle.run_journal.specs.declared.replay.ReplayError.{ReplayError}
 use Rattle.run_journal.specs.declared.replay.ReplayError.TheVariants.{RefusedAt as FailsAt, NoMemory}
 
--- a replay fails at the entry that is refused, or for want of memory
+-- a replay fails at the entry that is refused, or out of memory
 abbrev pub ReplayFails : Option RefusedAt → ReplayError → Type 0
 ReplayFails refused (FailsAt r) = refused ≡ Some r
 ReplayFails refused NoMemory = Unit {0}

@@ -1,4 +1,4 @@
--- What crates above name of the crates below.
+-- Re-exports from lower crates for the crates above.
 pub mod hh_lang
 pub mod hh_model
 pub mod run_accounts

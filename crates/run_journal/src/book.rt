@@ -1,4 +1,4 @@
-// The accounts of a journal, entered one entry after the other.
+// The accounts of a journal, updated entry by entry.
 
 ghost use Rattle.std.specs.Prelude.{◌≡◌, None, true, false, IfOk, OnOk, OnErr, IfErr};
 ghost use Rattle.run_ledger.specs.Heaps.{in_use};
@@ -8,16 +8,16 @@ ghost use Rattle.run_accounts.specs.Accounts.{FailsFor};
 ghost use Rattle.run_journal.specs.BookValue.{BookValue, IsOpened, IsLegalLedger, cause_in};
 
 use hh_lang::Program;
-use hh_model::State;
-use listed::Listed;
+use hh_model::MachineState;
+use plain_vec::Listed;
 use run_accounts::{Accounts, ApplyError};
 use run_ledger::{Heap, Refused, RunEnd};
 use run_trace::{Entry, Settings};
 use std::alloc::{AllocError, Global};
 use std::marker::Model;
 
-/// The accounts of a journal, which is entered one entry after the other. A refused entry stops it, and so does want of
-/// memory: from then on each further entry is refused as stopped.
+/// The accounts of a journal, updated entry by entry. A refused entry stops it, and so does a failed allocation: from
+/// then on each further entry is refused as stopped.
 #[derive(Drop)]
 pub struct Book<'p> {
     pub(crate) accounts: Accounts<'p>,
@@ -49,7 +49,7 @@ impl<'p> Book<'p> {
         })
     }
 
-    /// Enters an entry, unless it is refused.
+    /// Applies an entry, unless it is refused.
     pub fn apply(&mut self, entry: Entry) -> Result<(), ApplyError>
         ensures open { OnOk result (self.old.stopped ≡ false) }
         ensures legal { OnOk result (refusal self.old.program self.old.settings self.old.ledger entry ≡ None) }
@@ -85,7 +85,7 @@ impl<'p> Book<'p> {
         self.accounts.steps()
     }
 
-    /// What the steps have written out, the oldest first.
+    /// What the steps have printed, the oldest first.
     pub fn outputs(&self) -> &[i64]
         ensures { result.now ≡ self.now.ledger.machine.outputs }
     {
@@ -100,13 +100,13 @@ impl<'p> Book<'p> {
     }
 
     /// The machine that never collects, after the steps so far.
-    pub fn state(&self) -> &State
+    pub fn state(&self) -> &MachineState
         ensures { result.now ≡ self.now.ledger.machine }
     {
         self.accounts.state()
     }
 
-    /// Whether an entry was refused, or found no memory.
+    /// Whether an entry was refused, or ran out of memory.
     pub fn is_stopped(&self) -> bool
         ensures { result ≡ self.now.stopped }
     {
@@ -121,7 +121,7 @@ impl<'p> Book<'p> {
         self.accounts.in_use()
     }
 
-    /// Unless it is stopped, its accounts are those of a legal journal, so each law on legal journals holds of them.
+    /// Unless it is stopped, its accounts are those of a legal journal, so each law of legal journals applies to them.
     pub fn legal(&self)
         requires { self.now.stopped ≡ false }
         ensures { IsLegalLedger self.now.program self.now.settings self.now.ledger }

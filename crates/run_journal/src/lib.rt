@@ -1,4 +1,4 @@
-// Journals replayed: books of accounts that entries are entered into, and how the run of a journal ended.
+// Replays of journals: books of accounts to which entries are applied, and how the run of a journal ended.
 #![tactic(auto)]
 
 mod book;
@@ -8,9 +8,9 @@ mod replay;
 pub use book::Book;
 pub use hh_lang::{Instr, IntReg, Line, PROGRAM_LIMIT, Program, RefReg};
 pub use hh_model::{
-    End, Frame, Machine, Name, Object, State, Status, StepError, Strand, Task, is_same,
+    End, Frame, Machine, MachineState, Name, Object, StepError, Strand, Task, TaskStatus, is_same,
 };
-pub use listed::Listed;
+pub use plain_vec::Listed;
 pub use replay::{ReplayError, model_replay, replayed};
 pub use run_accounts::{ApplyError, Held};
 pub use run_ledger::{Heap, Refused, RefusedAt, RunEnd};

@@ -8,7 +8,7 @@ use crate::book::Book;
 use run_accounts::Held;
 
 impl<'p> Book<'p> {
-    /// The tasks made, the first one too.
+    /// The tasks made, including the first.
     pub fn tasks(&self) -> usize
         ensures { result ≡ length self.now.ledger.machine.tasks }
     {

@@ -15,9 +15,9 @@ use std::alloc::{AllocError, Global};
 #[derive(Clone, Copy)]
 pub enum ReplayError {
     /// This entry is the first that is refused; or none is, and the journal stops before an end of the run: then the
-    /// number is one past its last entry, and the cause `Short`.
+    /// number is one past its last entry, and the cause is `Short`.
     RefusedAt(RefusedAt),
-    /// Want of memory.
+    /// Out of memory.
     NoMemory,
 }
 
@@ -32,7 +32,7 @@ impl From<AllocError> for ReplayError {
     }
 }
 
-// Enters the entries of a journal.
+// Applies the entries of a journal.
 fn enter_all(book: &mut Book, journal: &[Entry]) -> Result<(), ReplayError>
     requires { book.old.stopped ≡ false }
     ensures book { OnOk result (book.new ≡ record book.old { ledger = after_all book.old.program book.old.settings book.old.ledger journal.now }) }
@@ -52,7 +52,7 @@ fn enter_all(book: &mut Book, journal: &[Entry]) -> Result<(), ReplayError>
     Ok(())
 }
 
-/// The accounts of a legal journal: how its run ended, if it did, what it has written out, and more.
+/// The accounts of a legal journal: how its run ended, if it did, its outputs, and more.
 pub fn replayed<'p>(
     alloc: Global,
     program: &'p Program,
@@ -73,7 +73,7 @@ pub fn replayed<'p>(
     }
 }
 
-/// How the run of a journal ended, where the journal is legal and has an end.
+/// How the run of a journal ended, if the journal is legal and has an end.
 pub fn model_replay(
     alloc: Global,
     program: &Program,

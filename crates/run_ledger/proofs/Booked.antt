@@ -1,29 +1,6 @@
--- The chunks of heaps: what a leaf collection took, where room comes from, what waits for a large object, and how many
--- are in use.
-use Rattle.std.proofs.Common.{◌≡◌, ℕ, zero, suc, ◌+◌, ◌-◌, ◌*◌, ◌<◌, ◌≤◌, ◌==◌, ◌||◌, not, max, Bool, true, false, cond, Option, Some, None, List, [], ◌∷◌, ◌++◌, length, slice_get, slice_set, sum_by, nat_lt, inl, inr, refl, ap, ap₂, sym, subst, ◌∙◌, arith, is_some, length-append}
-use Rattle.std.proofs.lemmas.Bool.{false≢true, both_ways, cases_eq, ltb-false, eqb-true, cases_lt}
-use Rattle.std.proofs.lemmas.List.Sums.{sum_by-append, sum_by-cons}
-use Rattle.std.proofs.lemmas.Option.{same_Some}
-use Rattle.listed.proofs.Members.{In, got_same, got_other, got_within, in_append_left, in_append_right}
-use Rattle.listed.proofs.Options.{none_some}
-use Rattle.run_trace.specs.Settings.{SettingsValue}
-use Rattle.hh_lang.specs.Form.{ProgramText}
-use Rattle.hh_model.specs.declared.data.Name.{Name}
-use Rattle.hh_model.specs.declared.data.Status.TheVariants.{Waiting}
-use Rattle.hh_model.specs.declared.data.Task.{Task}
-use Rattle.hh_model.specs.declared.data.State.{State}
-use Rattle.hh_model.specs.Effect.{onward}
-use Rattle.hh_model.specs.Step.{runs, is_running, child, joined_task, resumed, ended_task, result_of, step, can_step, asked, asked_by, asked_line, fetched}
-use Rattle.hh_model.proofs.Carried.{next_name}
-use Rattle.hh_model.proofs.ForkJoinStates.{IsForkJoinState}
-use Rattle.hh_model.proofs.Steps.{step_cases}
-use Rattle.hh_model.proofs.Counts.{step_limit}
-use Rattle.hh_model.proofs.Runs.{waiting, grown_other, three_other, wp, below}
-use Rattle.run_ledger.specs.declared.data.Heap.{Heap}
-use Rattle.run_ledger.specs.declared.data.Ledger.{Ledger}
-use Rattle.run_ledger.specs.Heaps.{units, is_small, words_of, words_at, small_in, held_in, begun_in, units_in, fresh, heap_of, or_fresh, with_heap_at, in_use, placed, put_last, lacks_room, take_of, chunk_words}
-use Rattle.run_ledger.specs.Steps.{allocated_by, allocated_in, stepped_to, task_step, task_steps, is_due, is_in_need, is_private, standing}
-use Rattle.run_ledger.specs.Space.{last_words}
+-- The chunks of heaps: what a leaf collection took, where room comes from, what is reserved for a large object, and how
+-- many are in use.
+use Rattle.run_ledger.proofs.Common.{◌≡◌, ℕ, zero, suc, ◌+◌, ◌-◌, ◌*◌, ◌<◌, ◌≤◌, ◌==◌, ◌||◌, not, max, Bool, true, false, cond, Option, Some, None, List, [], ◌∷◌, ◌++◌, length, slice_get, slice_set, sum_by, nat_lt, inl, inr, refl, ap, ap₂, sym, subst, ◌∙◌, arith, is_some, length-append, false≢true, both_ways, cases_eq, ltb-false, eqb-true, cases_lt, sum_by-append, sum_by-cons, same_Some, In, got_same, got_other, got_within, in_append_left, in_append_right, none_some, SettingsValue, ProgramText, Name, Waiting, Task, MachineState, onward, runs, is_running, child, joined_task, resumed, ended_task, result_of, step, can_step, asked, asked_by, asked_line, fetched, next_name, IsForkJoinState, step_cases, step_limit, waiting, grown_other, three_other, wp, below, waiting_stops, Heap, Ledger, units, is_small, words_of, words_at, small_in, held_in, begun_in, units_in, fresh, heap_of, or_fresh, with_heap_at, in_use, placed, put_last, lacks_room, take_of, chunk_words, allocated_by, allocated_in, stepped_to, task_step, task_steps, is_due, is_in_need, is_private, standing, last_words}
 use Rattle.run_ledger.proofs.Chunks.{sum_same, Full, full_same, last_same, last_full, put_last_words, put_full, append_full, last_append}
 use Rattle.run_ledger.proofs.Machine.{stepped_machine}
 use Rattle.run_ledger.proofs.Sound.{collecting, names_of}
@@ -33,7 +10,6 @@ use Rattle.run_ledger.proofs.Grown.{Grown}
 use Rattle.run_ledger.proofs.Weights.{total, total_set, Additive, moves_total}
 use Rattle.run_ledger.proofs.Stocks.{StockedLedger, G, L, task_step_stocked}
 use Rattle.run_ledger.proofs.Bounds.{asked_bounds, stands_by}
-use Rattle.path_laws.proofs.Leaves.{waiting_stops}
 
 -- SUMS THAT ARE THE SAME
 
@@ -42,7 +18,7 @@ total_same f g [] same = refl
 total_same f g (h ∷ heaps) same =
     sum_by-cons f h heaps ∙ (ap₂ (λ a b. a + b) (same zero h refl) (total_same f g heaps (λ u k e. same (suc u) k e)) ∙ sym (sum_by-cons g h heaps))
 
-pub units_additive : (m : State) → Additive (units_in m)
+pub units_additive : (m : MachineState) → Additive (units_in m)
 units_additive m = record {
   let_go = λ h. refl;
   fresh = refl;
@@ -67,10 +43,10 @@ put_length (ns ∷ ms ∷ rest) n l = ap suc (put_length (ms ∷ rest) n (omega 
 
 -- ONE HEAP
 
--- while a leaf collection goes on it has the chunks that it takes, and none waits for a large object; where there is
--- room there is a chunk; where a chunk waits, the task's next step allocates the large object that fits, and isn't due;
--- no list has more words than a chunk, and the last one leaves the room that is there
-pub record Booked (p : ProgramText) (s : SettingsValue) (m : State) (u : ℕ) (h : Heap) : Type 0 where
+-- while a leaf collection goes on it has the chunks that it takes, and none is reserved for a large object; if there is
+-- room there is a chunk; if a chunk is reserved, the task's next step allocates the large object that fits, and isn't
+-- due; no list has more words than a chunk, and the last one leaves the room that is there
+pub record Booked (p : ProgramText) (s : SettingsValue) (m : MachineState) (u : ℕ) (h : Heap) : Type 0 where
   pub begun : (c : ℕ) → h.begun ≡ Some c → (c ≡ take_of m h) × (h.reserved ≡ 0)
   pub room : 0 < h.room → 0 < length h.chunks
   pub reserved : 0 < h.reserved → (w : ℕ) × (asked p m u ≡ Some w) × (is_small w ≡ false) × (h.reserved ≡ units w) × (h.since < s.leaf)
@@ -84,27 +60,27 @@ pub record BookedLedger (p : ProgramText) (s : SettingsValue) (l : Ledger) : Typ
 pub no_begun : {A : Type 0} (h : Heap) (c : ℕ) → is_some h.begun ≡ false → h.begun ≡ Some c → A
 no_begun h c e is = absurd (false≢true (sym e ∙ ap is_some is))
 
--- the task runs whose next step asks for words
-asked_runs_by : (p : ProgramText) (m : State) (o : Option Task) (w : ℕ) → asked_by p m o ≡ Some w → is_running o ≡ true
+-- a task runs whose next step allocates
+asked_runs_by : (p : ProgramText) (m : MachineState) (o : Option Task) (w : ℕ) → asked_by p m o ≡ Some w → is_running o ≡ true
 asked_runs_by p m None w e = absurd cc
-asked_runs_by p m (Some x) w e = by (is_running (Some x)) refl (subst (λ b. cond b (asked_line m.field_limit x.top (fetched p x.top)) None ≡ Some w) refl e)
+asked_runs_by p m (Some x) w e = asked_runs_by_cases (is_running (Some x)) refl (subst (λ b. cond b (asked_line m.field_limit x.top (fetched p x.top)) None ≡ Some w) refl e)
   where
-    by : (b : Bool) → is_running (Some x) ≡ b → cond b (asked_line m.field_limit x.top (fetched p x.top)) None ≡ Some w → is_running (Some x) ≡ true
-    by true is q = is
-    by false is q = none_some q
+    asked_runs_by_cases : (b : Bool) → is_running (Some x) ≡ b → cond b (asked_line m.field_limit x.top (fetched p x.top)) None ≡ Some w → is_running (Some x) ≡ true
+    asked_runs_by_cases true is q = is
+    asked_runs_by_cases false is q = none_some q
 
-pub asked_runs : (p : ProgramText) (m : State) (u w : ℕ) → asked p m u ≡ Some w → is_running (slice_get m.tasks u) ≡ true
+pub asked_runs : (p : ProgramText) (m : MachineState) (u w : ℕ) → asked p m u ≡ Some w → is_running (slice_get m.tasks u) ≡ true
 asked_runs p m u w e = asked_runs_by p m (slice_get m.tasks u) w e
 
-asked_limit : (p : ProgramText) (m m' : State) (o : Option Task) → m'.field_limit ≡ m.field_limit → asked_by p m' o ≡ asked_by p m o
+asked_limit : (p : ProgramText) (m m' : MachineState) (o : Option Task) → m'.field_limit ≡ m.field_limit → asked_by p m' o ≡ asked_by p m o
 asked_limit p m m' None e = refl
 asked_limit p m m' (Some x) e = ap (λ k. cond (is_running (Some x)) (asked_line k x.top (fetched p x.top)) None) e
 
-pub wait_run : (m : State) (u : ℕ) → waiting m.tasks u ≡ true → is_running (slice_get m.tasks u) ≡ true → ⊥
+pub wait_run : (m : MachineState) (u : ℕ) → waiting m.tasks u ≡ true → is_running (slice_get m.tasks u) ≡ true → ⊥
 wait_run m u w r = both_ways (is_running (slice_get m.tasks u)) (waiting_stops (slice_get m.tasks u) w) r
 
--- a step leaves the other tasks that run as they are
-pub step_others : (p : ProgramText) (m : State) (t u : ℕ) → IsForkJoinState m → (u ≡ t → ⊥) → is_running (slice_get m.tasks u) ≡ true → slice_get (step p m t).tasks u ≡ slice_get m.tasks u
+-- a step leaves the other running tasks unchanged
+pub step_others : (p : ProgramText) (m : MachineState) (t u : ℕ) → IsForkJoinState m → (u ≡ t → ⊥) → is_running (slice_get m.tasks u) ≡ true → slice_get (step p m t).tasks u ≡ slice_get m.tasks u
 step_others p m t u K ne run =
     step_cases p m t K (λ m'. slice_get m'.tasks u ≡ slice_get m.tasks u) refl (λ x e is r why. refl)
     (λ x y store outs is r ep ed es ej names fields alters grows. got_other m.tasks t u y ne)
@@ -123,10 +99,10 @@ step_others p m t u K ne run =
 -- STEPS
 
 module _ (p : ProgramText) (s : SettingsValue) (l : Ledger) (t : ℕ) (S : SoundAt t l) (I : StockedLedger l) (B : BookedLedger p s l) (can : can_step l.machine t ≡ true) (fine : (is_due s p l t || is_in_need p l t) ≡ false) where
-  abbrev m : State
+  abbrev m : MachineState
   m = l.machine
 
-  abbrev m' : State
+  abbrev m' : MachineState
   m' = step p l.machine t
 
   abbrev b : Ledger
@@ -187,7 +163,7 @@ module _ (p : ProgramText) (s : SettingsValue) (l : Ledger) (t : ℕ) (S : Sound
   B_t : Booked p s l.machine t heap.0
   B_t = B.each t heap.0 heap.1
 
-  -- the heap of the task that takes the step, which asks for nothing
+  -- the heap of the task that takes the step, which doesn't allocate
   still : asked p m t ≡ None → Booked p s m' t heap.0
   still e = record {
     begun = λ c is. no_begun heap.0 c idle_t is;
@@ -200,7 +176,7 @@ module _ (p : ProgramText) (s : SettingsValue) (l : Ledger) (t : ℕ) (S : Sound
   abbrev next : Name
   next = next_name t l.machine.store
 
-  -- what is asked for is at least two words
+  -- an object has at least two words
   pub at_least : (w : ℕ) → asked p m t ≡ Some w → (2 ≤ w) × (words_at m' next ≤ w)
   at_least w e =
       let q = grown.new w e in
@@ -218,7 +194,7 @@ module _ (p : ProgramText) (s : SettingsValue) (l : Ledger) (t : ℕ) (S : Sound
       let d = last_now t heap.0 heap.1 in
       omega arith
 
-  -- or asks for these words
+  -- or allocates these words
   placed_by : (w : ℕ) → asked p m t ≡ Some w → (v : Bool) → is_small w ≡ v → cond v (nat_lt heap.0.room w) (not (heap.0.reserved == units w)) ≡ false
       → Booked p s m' t (cond v (record heap.0 { chunks = put_last heap.0.chunks next; room = heap.0.room - w; since = heap.0.since + w }) (record heap.0 { large = heap.0.large ++ next ∷ []; reserved = 0; since = heap.0.since + w }))
   placed_by w e true is lacks = record {
@@ -253,7 +229,7 @@ module _ (p : ProgramText) (s : SettingsValue) (l : Ledger) (t : ℕ) (S : Sound
         | inr ne ↦ carried u h ne (sym (got_other l.heaps t u (placed heap.0 next w) ne) ∙ is)
       ]
 
-  -- a parent that waits has no chunk that waits
+  -- a parent that waits has no reserved chunk
   parent_none : (u : ℕ) (h : Heap) → slice_get b.heaps u ≡ Some h → waiting m.tasks u ≡ true → 0 < h.reserved → ⊥
   parent_none u h is w pos =
       let ne : u ≡ t → ⊥ = λ e. wait_run m t (ap (waiting m.tasks) (sym e) ∙ w) (can_tells m t can).1 in
@@ -330,8 +306,8 @@ module _ (p : ProgramText) (s : SettingsValue) (l : Ledger) (t : ℕ) (S : Sound
 
   pub step_booked : BookedLedger p s k
   step_booked = record {
-    each = subst (λ (q : State). (u : ℕ) (h : Heap) → slice_get k.heaps u ≡ Some h → Booked p s q u h) (sym (stepped_machine b t m')) each_k;
-    within = subst (λ (q : State). total (units_in q) k.heaps ≤ s.chunks) (sym (stepped_machine b t m')) use_k;
+    each = subst (λ (q : MachineState). (u : ℕ) (h : Heap) → slice_get k.heaps u ≡ Some h → Booked p s q u h) (sym (stepped_machine b t m')) each_k;
+    within = subst (λ (q : MachineState). total (units_in q) k.heaps ≤ s.chunks) (sym (stepped_machine b t m')) use_k;
   }
 
 module _ (p : ProgramText) (s : SettingsValue) where

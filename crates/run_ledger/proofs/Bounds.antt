@@ -1,23 +1,6 @@
--- How many steps a legal journal takes, and what is so before each allocation.
-use Rattle.std.proofs.Common.{◌≡◌, ℕ, zero, suc, ◌+◌, ◌<◌, ◌≤◌, ◌&&◌, ◌||◌, min, Bool, true, false, cond, Option, Some, None, List, [], ◌∷◌, ◌++◌, slice_get, nat_le, nat_lt, refl, ap, sym, subst, ◌∙◌, arith, is_none, inl, inr, ◌⊎◌}
-use Rattle.std.proofs.lemmas.Bool.{false≢true, and_parts, leb-true, leb-false}
-use Rattle.run_trace.specs.declared.entry.Kind.{Kind}
-use Rattle.run_trace.specs.declared.entry.Kind.TheVariants.{Took, Ran, Chunk, Begin, End as EndOf, PutOff, Mark, More, Sweep, Fuel}
-use Rattle.run_trace.specs.Entry.{EntryValue}
-use Rattle.run_trace.specs.Settings.{SettingsValue}
-use Rattle.hh_lang.specs.Form.{ProgramText}
-use Rattle.hh_model.specs.declared.data.Status.{Status}
-use Rattle.hh_model.specs.declared.data.Status.TheVariants.{Running, Waiting, Ended, Joined}
-use Rattle.hh_model.specs.declared.data.Task.{Task}
+-- How many steps a legal journal takes, and what holds before each allocation.
+use Rattle.run_ledger.proofs.Common.{◌≡◌, ℕ, zero, suc, ◌+◌, ◌<◌, ◌≤◌, ◌&&◌, ◌||◌, min, Bool, true, false, cond, Option, Some, None, List, [], ◌∷◌, ◌++◌, slice_get, nat_le, nat_lt, refl, ap, sym, subst, ◌∙◌, arith, is_none, inl, inr, ◌⊎◌, false≢true, and_parts, leb-true, leb-false, Kind, Took, Ran, Chunk, Begin, End as EndOf, PutOff, Mark, More, Sweep, Fuel, EntryValue, SettingsValue, ProgramText, TaskStatus, Running, Waiting, Ended, Joined, Task, is_left, can_step, step, asked, Heap, Ledger, with_heap, with_heap_at, heap_at, within, fresh, let_go, emptied, forked_heap, in_use, lacks_room, join_heaps, moved_on, moved_to, settled, stepped_to, allocated_by, allocated_in, task_step, task_steps, on_asked, most_steps, standing, after_kind, after, chunk_units, refusal, long_at, after_all, opening, is_legal_from, StepsAreBounded}
 use Rattle.hh_model.specs.declared.data.End.{End}
-use Rattle.hh_model.specs.Step.{is_left, can_step, step, asked}
-use Rattle.run_ledger.specs.declared.data.Heap.{Heap}
-use Rattle.run_ledger.specs.declared.data.Ledger.{Ledger}
-use Rattle.run_ledger.specs.Heaps.{with_heap, with_heap_at, heap_at, within, fresh, let_go, emptied, forked_heap, in_use, lacks_room}
-use Rattle.run_ledger.specs.Steps.{join_heaps, moved_on, moved_to, settled, stepped_to, allocated_by, allocated_in, task_step, task_steps, on_asked, most_steps, standing}
-use Rattle.run_ledger.specs.Entries.{after_kind, after, chunk_units, refusal, long_at}
-use Rattle.run_ledger.specs.Journals.{after_all, opening, is_legal_from}
-use Rattle.run_ledger.specs.Space.{StepsAreBounded}
 use Rattle.run_ledger.proofs.Journals.{entry_tells, out_tells, none_unless}
 
 -- STEPS
@@ -32,7 +15,7 @@ heap_steps l t f = heap_at_steps l t f (heap_at l t)
 join_steps : (l : Ledger) (p c : ℕ) → (join_heaps l p c).steps ≡ l.steps
 join_steps l p c = heap_steps _ (c + 1) emptied ∙ (heap_steps _ c emptied ∙ heap_steps l p _)
 
-moved_on_steps : (l : Ledger) (t : ℕ) (parent : Option ℕ) (s : Status) → (moved_on l t parent s).steps ≡ l.steps
+moved_on_steps : (l : Ledger) (t : ℕ) (parent : Option ℕ) (s : TaskStatus) → (moved_on l t parent s).steps ≡ l.steps
 moved_on_steps l t parent Running = refl
 moved_on_steps l t parent Waiting = heap_steps (record l { heaps = l.heaps ++ fresh ∷ fresh ∷ [] }) t (forked_heap (within l t))
 moved_on_steps l t parent (Ended k n) = heap_steps l t let_go
@@ -52,11 +35,11 @@ allocated_steps l t None = refl
 allocated_steps l t (Some w) = heap_steps l t _
 
 pub task_step_steps : (p : ProgramText) (l : Ledger) (t : ℕ) → (task_step p l t).steps ≡ l.steps + 1
-task_step_steps p l t = by (can_step l.machine t)
+task_step_steps p l t = task_step_steps_by_cases (can_step l.machine t)
   where
-    by : (v : Bool) → (cond v (stepped_to (allocated_in p l t) t (step p l.machine t)) (record l { steps = l.steps + 1 })).steps ≡ l.steps + 1
-    by true = settled_steps (record (allocated_in p l t) { machine = step p l.machine t; steps = (allocated_in p l t).steps + 1 }) t (step p l.machine t).end ∙ ap (λ n. n + 1) (allocated_steps l t (asked p l.machine t))
-    by false = refl
+    task_step_steps_by_cases : (v : Bool) → (cond v (stepped_to (allocated_in p l t) t (step p l.machine t)) (record l { steps = l.steps + 1 })).steps ≡ l.steps + 1
+    task_step_steps_by_cases true = settled_steps (record (allocated_in p l t) { machine = step p l.machine t; steps = (allocated_in p l t).steps + 1 }) t (step p l.machine t).end ∙ ap (λ n. n + 1) (allocated_steps l t (asked p l.machine t))
+    task_step_steps_by_cases false = refl
 
 pub task_steps_steps : (p : ProgramText) (k : ℕ) (l : Ledger) (t : ℕ) → (task_steps p l t k).steps ≡ l.steps + k
 task_steps_steps p zero l t = omega arith
@@ -70,7 +53,7 @@ chunk_steps l t false end f e = heap_steps l t f
 long_bound : (k m : ℕ) → is_none (long_at k m) ≡ true → k ≤ m
 long_bound k m h = leb-true k m (none_unless (nat_le k m) _ _ h).0
 
--- an entry has at most so many steps, which are due or in need at none of them
+-- an entry has at most 257 steps, none of which is due or in need
 pub ran_tells : (p : ProgramText) (s : SettingsValue) (l : Ledger) (w t k : ℕ) → is_none (refusal p s l (record { worker = w; kind = Ran t k })) ≡ true → (k ≤ 257) × (k ≤ standing s p l t k) × (l.steps < s.fuel)
 ran_tells p s l w t k h =
     let a = entry_tells p s l (record { worker = w; kind = Ran t k }) h in
@@ -116,11 +99,11 @@ steps_are_bounded p s journal legal = bound_from p s journal (opening p s) legal
 -- ALLOCATIONS
 
 pub asked_bounds : (s : SettingsValue) (h : Heap) (o : Option ℕ) (w : ℕ) → o ≡ Some w → (on_asked o (λ v. nat_le s.leaf h.since) || on_asked o (lacks_room h)) ≡ false → (h.since < s.leaf) × (lacks_room h w ≡ false)
-asked_bounds s h o w e f = by (nat_le s.leaf h.since) (lacks_room h w) refl (subst (λ (v : Option ℕ). (on_asked v (λ u. nat_le s.leaf h.since) || on_asked v (lacks_room h)) ≡ false) e f)
+asked_bounds s h o w e f = asked_bounds_by_cases (nat_le s.leaf h.since) (lacks_room h w) refl (subst (λ (v : Option ℕ). (on_asked v (λ u. nat_le s.leaf h.since) || on_asked v (lacks_room h)) ≡ false) e f)
   where
-    by : (a b : Bool) → nat_le s.leaf h.since ≡ a → (a || b) ≡ false → (h.since < s.leaf) × (b ≡ false)
-    by true b is g = absurd (false≢true (sym g))
-    by false b is g = (leb-false s.leaf h.since is, g)
+    asked_bounds_by_cases : (a b : Bool) → nat_le s.leaf h.since ≡ a → (a || b) ≡ false → (h.since < s.leaf) × (b ≡ false)
+    asked_bounds_by_cases true b is g = absurd (false≢true (sym g))
+    asked_bounds_by_cases false b is g = (leb-false s.leaf h.since is, g)
 
 module _ (p : ProgramText) (s : SettingsValue) (t : ℕ) where
   pub stands_by : (l : Ledger) (k : ℕ) (a b : Bool) (rest : ℕ) → suc k ≤ cond a 0 (cond b (suc rest) 1) → (a ≡ false) × ((b ≡ true) × (k ≤ rest)) ⊎ (a ≡ false) × (k ≡ 0)

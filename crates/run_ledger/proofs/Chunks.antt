@@ -1,15 +1,5 @@
 -- The words of lists that stand for chunks.
-use Rattle.std.proofs.Common.{◌≡◌, ℕ, ◌+◌, ◌*◌, ◌<◌, ◌≤◌, Bool, true, false, cond, List, [], ◌∷◌, ◌++◌, map, length, nat_le, sum_by, inl, inr, refl, ap, ap₂, sym, subst, ◌∙◌, arith}
-use Rattle.std.specs.List.{flat_map}
-use Rattle.std.proofs.lemmas.Bool.{false≢true, leb-true}
-use Rattle.std.proofs.lemmas.List.Sums.{sum_by-append, sum_by-cons}
-use Rattle.listed.specs.Members.{is_empty}
-use Rattle.listed.proofs.Members.{In, in_append_left, in_append_right, in_append_cases}
-use Rattle.hh_model.specs.declared.data.Name.{Name}
-use Rattle.hh_model.specs.declared.data.State.{State}
-use Rattle.run_ledger.specs.declared.data.Heap.{Heap}
-use Rattle.run_ledger.specs.Heaps.{chunk_words, units, words_at, words_sum, units_sum, small_in, words_in, put_last, lay, laid_onto, room_behind, without_empty, is_last_empty, in_snapshot}
-use Rattle.run_ledger.specs.Space.{last_words}
+use Rattle.run_ledger.proofs.Common.{◌≡◌, ℕ, ◌+◌, ◌*◌, ◌<◌, ◌≤◌, Bool, true, false, cond, List, [], ◌∷◌, ◌++◌, map, length, nat_le, sum_by, inl, inr, refl, ap, ap₂, sym, subst, ◌∙◌, arith, flat_map, false≢true, leb-true, sum_by-append, sum_by-cons, is_empty, In, in_append_left, in_append_right, in_append_cases, Name, MachineState, Heap, chunk_words, units, words_at, words_sum, units_sum, small_in, words_in, put_last, lay, laid_onto, room_behind, without_empty, is_last_empty, in_snapshot, last_words}
 use Rattle.run_ledger.proofs.Weights.{kept_weight}
 
 pub sum_same : {A : Type 0} (f g : A → ℕ) (xs : List A) → ((x : A) → In xs x → f x ≡ g x) → sum_by f xs ≡ sum_by g xs
@@ -17,7 +7,7 @@ sum_same f g [] same = refl
 sum_same f g (x ∷ xs) same = sum_by-cons f x xs ∙ (ap₂ (λ a b. a + b) (same x (inl refl)) (sum_same f g xs (λ y i. same y (inr i))) ∙ sym (sum_by-cons g x xs))
 
 -- no list has more words than a chunk
-abbrev pub Full : State → List (List Name) → Type 0
+abbrev pub Full : MachineState → List (List Name) → Type 0
 Full m lists = (ns : List Name) → In lists ns → words_sum m ns ≤ chunk_words
 
 in_lists : (lists : List (List Name)) (ns : List Name) (n : Name) → In lists ns → In ns n → In (flat_map (λ ns. ns) lists) n
@@ -25,21 +15,21 @@ in_lists [] ns n i j = elim i [ ]
 in_lists (ms ∷ lists) ns n (inl e) j = in_append_left ms (flat_map (λ ns. ns) lists) n (subst (λ ks. In ks n) (sym e) j)
 in_lists (ms ∷ lists) ns n (inr i) j = in_append_right ms (flat_map (λ ns. ns) lists) n (in_lists lists ns n i j)
 
--- the words of names that keep theirs
-pub full_same : (m m' : State) (lists : List (List Name)) → ((n : Name) → In (flat_map (λ ns. ns) lists) n → words_at m' n ≡ words_at m n) → Full m lists → Full m' lists
+-- the words of names whose objects keep theirs
+pub full_same : (m m' : MachineState) (lists : List (List Name)) → ((n : Name) → In (flat_map (λ ns. ns) lists) n → words_at m' n ≡ words_at m n) → Full m lists → Full m' lists
 full_same m m' lists same F ns i = subst (λ w. w ≤ chunk_words) (sym (sum_same (words_at m') (words_at m) ns (λ n j. same n (in_lists lists ns n i j)))) (F ns i)
 
-pub last_same : (m m' : State) (lists : List (List Name)) → ((n : Name) → In (flat_map (λ ns. ns) lists) n → words_at m' n ≡ words_at m n) → last_words m' lists ≡ last_words m lists
+pub last_same : (m m' : MachineState) (lists : List (List Name)) → ((n : Name) → In (flat_map (λ ns. ns) lists) n → words_at m' n ≡ words_at m n) → last_words m' lists ≡ last_words m lists
 last_same m m' [] same = refl
 last_same m m' (ns ∷ []) same = sum_same (words_at m') (words_at m) ns (λ n j. same n (in_append_left ns [] n j))
 last_same m m' (ns ∷ ms ∷ rest) same = last_same m m' (ms ∷ rest) (λ n j. same n (in_append_right ns (flat_map (λ ns. ns) (ms ∷ rest)) n j))
 
-pub last_full : (m : State) (lists : List (List Name)) → Full m lists → last_words m lists ≤ chunk_words
+pub last_full : (m : MachineState) (lists : List (List Name)) → Full m lists → last_words m lists ≤ chunk_words
 last_full m [] F = omega arith
 last_full m (ns ∷ []) F = F ns (inl refl)
 last_full m (ns ∷ ms ∷ rest) F = last_full m (ms ∷ rest) (λ ks i. F ks (inr i))
 
-module _ (m : State) where
+module _ (m : MachineState) where
   push_words : (ns : List Name) (n : Name) → words_sum m (ns ++ n ∷ []) ≡ words_sum m ns + words_at m n
   push_words ns n = sum_by-append (words_at m) ns (n ∷ []) ∙ omega arith
 
@@ -61,7 +51,7 @@ module _ (m : State) where
   pub append_full : (xs ys : List (List Name)) → Full m xs → Full m ys → Full m (xs ++ ys)
   append_full xs ys F G ns i = elim (in_append_cases xs ys ns i) [ inl j ↦ F ns j | inr j ↦ G ns j ]
 
-  -- the last list of what is put behind others
+  -- the last list of a concatenation
   pub last_append : (xs ys : List (List Name)) → 0 < length ys → last_words m (xs ++ ys) ≡ last_words m ys
   last_append [] ys l = refl
   last_append (ns ∷ []) [] l = absurd (omega arith)
@@ -105,7 +95,7 @@ module _ (m : State) where
     | inr j ↦ small_full lists (λ ks q. F ks (inr q)) n j
   ]
 
-  -- lists that a sweep has gone over
+  -- lists after a sweep
   module _ (h : Heap) where
     snapshot_full : (lists : List (List Name)) → Full m lists → Full m (map (in_snapshot h) lists)
     snapshot_full [] F xs i = absurd i

@@ -1,12 +1,5 @@
 -- What a leaf collection and a sweep keep.
-use Rattle.std.proofs.Common.{◌≡◌, ◌<◌, ◌≤◌, ◌==◌, ◌&&◌, Bool, true, false, cond, List, [], ◌∷◌, nat_lt, nat_le, ◌⊎◌, inl, inr, refl, sym, subst, ◌∙◌, arith, filter}
-use Rattle.std.proofs.lemmas.Bool.{or_cases, or_left, or_right, and_parts, and_from, ltb-true, lt-ltb, leb-true, le-leb, eqb-true, cases_lt, both_ways}
-use Rattle.std.proofs.Common.{eq-eqb}
-use Rattle.listed.proofs.Members.{In, in_from_contains, contains_from_in}
-use Rattle.hh_model.specs.declared.data.Name.{Name}
-use Rattle.run_ledger.specs.Reachable.{holds_name}
-use Rattle.run_ledger.specs.Heaps.{held_in, small_in, name_le, insert_name, by_birth, small_survivors, collected, swept_heap}
-use Rattle.run_ledger.specs.Laws.{AreByBirth, CollectionsKeepJust}
+use Rattle.run_ledger.proofs.Common.{◌≡◌, ◌<◌, ◌≤◌, ◌==◌, ◌&&◌, Bool, true, false, cond, List, [], ◌∷◌, nat_lt, nat_le, ◌⊎◌, inl, inr, refl, sym, subst, ◌∙◌, arith, filter, or_cases, or_left, or_right, and_parts, and_from, ltb-true, lt-ltb, leb-true, le-leb, eqb-true, cases_lt, both_ways, eq-eqb, In, in_from_contains, contains_from_in, Name, holds_name, held_in, small_in, name_le, insert_name, by_birth, small_survivors, collected, swept_heap, AreByBirth, CollectionsKeepJust}
 use Rattle.run_ledger.proofs.Held.{laid_flat, collected_down, collected_up, swept_down, swept_up, insert_cases}
 
 -- BIRTH
@@ -46,7 +39,7 @@ born_on a b c (inl x) (inr y) = inl (let e : b.task ≡ c.task = y.0 in omega ar
 born_on a b c (inr x) (inl y) = inl (let e : a.task ≡ b.task = x.0 in omega arith)
 born_on a b c (inr x) (inr y) = inr (x.0 ∙ y.0, let d : a.count ≤ b.count = x.1 in let e : b.count ≤ c.count = y.1 in omega arith)
 
--- a name that isn't born before another is born no earlier
+-- of two names of one task, one was born no later than the other
 pub born_both : (a b : Name) → Born a b → Born b a → a ≡ b
 born_both a b (inl x) (inl y) = absurd (omega (arith, x, y))
 born_both a b (inl x) (inr y) = absurd (let e : b.task ≡ a.task = y.0 in omega (arith, x, e))

@@ -1,16 +1,6 @@
 -- Journals that are cut, and their first refused entry.
-use Rattle.std.proofs.Common.{◌≡◌, ℕ, ◌+◌, ◌&&◌, Bool, true, Option, Some, None, List, [], ◌∷◌, ◌++◌, length, refl, ap, subst, ◌∙◌, is_none, arith}
-use Rattle.std.proofs.lemmas.Bool.{and_parts, and_from}
-pub use Rattle.listed.proofs.Options.{none_is}
-use Rattle.run_trace.specs.Entry.{EntryValue}
-use Rattle.run_trace.specs.Settings.{SettingsValue}
-use Rattle.hh_lang.specs.Form.{ProgramText}
-use Rattle.run_ledger.specs.declared.data.Ledger.{Ledger}
-use Rattle.run_ledger.specs.declared.data.Refused.{Refused}
-use Rattle.run_ledger.specs.declared.data.RefusedAt.{RefusedAt}
-use Rattle.run_ledger.specs.Entries.{refusal, after}
-use Rattle.run_ledger.specs.Journals.{opening, after_all, ledger_of, is_legal, is_legal_from, refused_or, first_refused_from}
-use Rattle.run_ledger.specs.Cuts.{JournalsCanBeCut, FirstRefusedIsFirst}
+use Rattle.run_ledger.proofs.Common.{◌≡◌, ℕ, ◌+◌, ◌&&◌, Bool, true, Option, Some, None, List, [], ◌∷◌, ◌++◌, length, refl, ap, subst, ◌∙◌, is_none, arith, and_parts, and_from, EntryValue, SettingsValue, ProgramText, Ledger, Refused, RefusedAt, refusal, after, opening, after_all, ledger_of, is_legal, is_legal_from, refused_or, first_refused_from, JournalsCanBeCut, FirstRefusedIsFirst}
+pub use Rattle.plain_vec.proofs.Options.{none_is}
 
 module _ (p : ProgramText) (s : SettingsValue) where
   pub after_cut : (first rest : List EntryValue) (l : Ledger) → after_all p s l (first ++ rest) ≡ after_all p s (after_all p s l first) rest
@@ -30,7 +20,7 @@ module _ (p : ProgramText) (s : SettingsValue) where
       let both = and_parts (is_none (refusal p s l e)) (is_legal_from p s (after p s l e) first) h in
       and_from (is_none (refusal p s l e)) (is_legal_from p s (after p s l e) (first ++ rest)) both.0 (joined_legal first rest (after p s l e) both.1 g)
 
-  -- a journal stays legal with an entry more that isn't refused
+  -- a legal journal stays legal with one more entry that isn't refused
   pub legal_then : (journal : List EntryValue) (e : EntryValue) → is_legal p s journal ≡ true → refusal p s (ledger_of p s journal) e ≡ None → is_legal p s (journal ++ e ∷ []) ≡ true
   legal_then journal e legal none = joined_legal journal (e ∷ []) (opening p s) legal (ap (λ o. is_none o && true) none)
 

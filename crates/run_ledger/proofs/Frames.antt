@@ -1,41 +1,19 @@
--- What an entry of one worker leaves of what another worker holds.
-use Rattle.std.proofs.Common.{◌≡◌, ℕ, zero, suc, ◌+◌, Bool, true, false, cond, Option, Some, None, ◌∷◌, slice_get, nat_lt, inl, refl, ap, sym, subst, ◌∙◌, is_none, slice_set, inr, eq-eqb}
-use Rattle.std.proofs.lemmas.Bool.{false≢true, and_parts, eqb-true, cases_eq}
-use Rattle.std.proofs.lemmas.Option.{same_Some}
-use Rattle.listed.proofs.Members.{got_other, got_same}
-use Rattle.listed.proofs.Options.{none_is, none_of, none_some}
-use Rattle.run_trace.specs.declared.entry.Kind.{Kind}
-use Rattle.run_trace.specs.declared.entry.Kind.TheVariants.{Took, Ran, Chunk, Begin, End as EndOf, PutOff, Mark, More, Sweep, Fuel}
-use Rattle.run_trace.specs.Settings.{SettingsValue}
-use Rattle.hh_lang.specs.Form.{ProgramText}
-use Rattle.hh_model.specs.declared.data.State.{State}
-use Rattle.hh_model.specs.Step.{step, can_step, asked, is_running}
-use Rattle.hh_model.proofs.Runs.{waiting}
-use Rattle.run_ledger.specs.declared.data.Heap.{Heap}
-use Rattle.run_ledger.specs.declared.data.Ledger.{Ledger}
-use Rattle.run_ledger.specs.declared.data.RunEnd.TheVariants.{Pool}
-use Rattle.run_ledger.specs.Heaps.{heap_of, or_fresh, with_heap, in_use}
-use Rattle.run_ledger.specs.Steps.{allocated_in, stepped_to, task_step, task_steps}
-use Rattle.run_ledger.specs.Entries.{refusal, kind_refusal, after_kind, after, is_out, is_ready, with_chunk, chunk_units}
-use Rattle.listed.specs.Options.{option_is}
-use Rattle.run_ledger.specs.Journals.{opening, ledger_of, is_legal_from}
-use Rattle.run_ledger.specs.Laws.{EntriesLeaveOthers}
+-- What an entry of one worker leaves unchanged of what another worker holds.
+use Rattle.run_ledger.proofs.Common.{◌≡◌, ℕ, zero, suc, ◌+◌, Bool, true, false, cond, Option, Some, None, ◌∷◌, slice_get, nat_lt, inl, refl, ap, sym, subst, ◌∙◌, is_none, slice_set, inr, eq-eqb, false≢true, and_parts, eqb-true, cases_eq, same_Some, got_other, got_same, none_is, none_of, none_some, Kind, Took, Ran, Chunk, Begin, End as EndOf, PutOff, Mark, More, Sweep, Fuel, SettingsValue, ProgramText, MachineState, step, can_step, asked, is_running, waiting, option_is, LeavesOwner, leaves_owner, same_owner, Heap, Ledger, Pool, heap_of, or_fresh, with_heap, in_use, allocated_in, stepped_to, task_step, task_steps, refusal, kind_refusal, after_kind, after, is_out, is_ready, with_chunk, chunk_units, opening, ledger_of, is_legal_from, EntriesLeaveOthers}
 use Rattle.run_ledger.proofs.Machine.{stepped_machine}
 use Rattle.run_ledger.proofs.Sound.{SoundLedger}
 use Rattle.run_ledger.proofs.Steps.{SoundAt, step_leaves, task_step_sound}
-use Rattle.path_laws.specs.Leaves.{LeavesOwner}
-use Rattle.path_laws.proofs.Leaves.{leaves_owner, same_owner}
 use Rattle.run_ledger.proofs.Booked.{wait_run}
 use Rattle.run_ledger.proofs.Stocks.{with_heap_any}
 use Rattle.run_ledger.proofs.Cuts.{cut_legal}
 use Rattle.run_ledger.proofs.Holders.{tasks_are_out_once}
 use Rattle.run_ledger.proofs.Journals.{none_unless, out_tells, wait_tells, entry_tells, legal_sound}
 
--- the task u is as it was, with what it owns, and the account of its heap
+-- the task u is unchanged, with what it owns, and the account of its heap
 abbrev Left : ℕ → Ledger → Ledger → Type 0
 Left u l k = LeavesOwner l.machine k.machine u × (slice_get k.heaps u ≡ slice_get l.heaps u)
 
-both_owner : (m m' m'' : State) (u : ℕ) → LeavesOwner m m' u → LeavesOwner m' m'' u → LeavesOwner m m'' u
+both_owner : (m m' m'' : MachineState) (u : ℕ) → LeavesOwner m m' u → LeavesOwner m' m'' u → LeavesOwner m m'' u
 both_owner m m' m'' u A B = record {
   task = B.task ∙ A.task;
   owned = λ a. (let x = A.owned a in let y = B.owned a in ((λ q. x.0 (y.0 q)), (λ q. y.1 (x.1 q))));
@@ -46,11 +24,11 @@ left_heap : (l : Ledger) (t u : ℕ) (f : Heap → Heap) → (u ≡ t → ⊥) �
 left_heap l t u f ne = with_heap_any (Left u l) l t f (same_owner l.machine u, refl) (λ h e. (same_owner l.machine u, got_other l.heaps t u (f h) ne))
 
 pub left_step : (p : ProgramText) (l : Ledger) (t u : ℕ) → SoundAt t l → (u ≡ t → ⊥) → is_running (slice_get l.machine.tasks u) ≡ true → Left u l (task_step p l t)
-left_step p l t u S ne run = by (can_step l.machine t) refl
+left_step p l t u S ne run = left_step_by_cases (can_step l.machine t) refl
   where
-    by : (v : Bool) → can_step l.machine t ≡ v → Left u l (cond v (stepped_to (allocated_in p l t) t (step p l.machine t)) (record l { steps = l.steps + 1 }))
-    by false e = (same_owner l.machine u, refl)
-    by true e = (
+    left_step_by_cases : (v : Bool) → can_step l.machine t ≡ v → Left u l (cond v (stepped_to (allocated_in p l t) t (step p l.machine t)) (record l { steps = l.steps + 1 }))
+    left_step_by_cases false e = (same_owner l.machine u, refl)
+    left_step_by_cases true e = (
       subst (λ m. LeavesOwner l.machine m u) (sym (stepped_machine (allocated_in p l t) t (step p l.machine t))) (leaves_owner p l.machine t S.0.fork_join S.0.apart u ne run),
       (step_leaves p l t S e).4 u ne (inl run),
     )
@@ -73,7 +51,7 @@ held_is (Some v) w h = ap Some (eqb-true v w h)
 pub is_held : (o : Option ℕ) (w : ℕ) → o ≡ Some w → option_is o w ≡ true
 is_held o w e = ap (λ q. option_is q w) e ∙ eq-eqb w w refl
 
--- what of a heap a change keeps
+-- what a change keeps of a heap
 pub heap_view : {A : Type 0} (view : Heap → A) (l : Ledger) (u : ℕ) (f : Heap → Heap) → ((h : Heap) → view (f h) ≡ view h) → (t : ℕ) → view (heap_of (with_heap l u f) t) ≡ view (heap_of l t)
 heap_view view l u f same t = with_heap_any (λ k. view (heap_of k t) ≡ view (heap_of l t)) l u f refl (λ h e. elim (cases_eq t u) [
   | inl q ↦

@@ -1,47 +1,31 @@
 -- As long as the run goes on, so does the machine.
-use Rattle.std.proofs.Common.{◌≡◌, ℕ, zero, suc, ◌+◌, Bool, true, false, cond, Option, Some, None, List, [], ◌∷◌, nat_lt, refl, ap, ◌∙◌}
-use Rattle.hh_lang.specs.Form.{ProgramText}
-use Rattle.run_trace.specs.declared.entry.Kind.{Kind}
-use Rattle.run_trace.specs.declared.entry.Kind.TheVariants.{Took, Ran, Chunk, Begin, End as EndOf, PutOff, Mark, More, Sweep, Fuel}
-use Rattle.run_trace.specs.Entry.{EntryValue}
-use Rattle.run_trace.specs.Settings.{SettingsValue}
+use Rattle.run_ledger.proofs.Common.{◌≡◌, ℕ, zero, suc, ◌+◌, Bool, true, false, cond, Option, Some, None, List, [], ◌∷◌, nat_lt, refl, ap, ◌∙◌, ProgramText, Kind, Took, Ran, Chunk, Begin, End as EndOf, PutOff, Mark, More, Sweep, Fuel, EntryValue, SettingsValue, MachineState, step, can_step, asked, Heap, Ledger, RunEnd, Pool, with_heap, with_heap_at, heap_at, in_use, allocated_in, settled, stepped_to, task_step, task_steps, after_kind, after, with_chunk, chunk_units, opening, after_all, MachineGoesOn}
 use Rattle.hh_model.specs.declared.data.End.{End}
-use Rattle.hh_model.specs.declared.data.State.{State}
-use Rattle.hh_model.specs.Step.{step, can_step, asked}
-use Rattle.run_ledger.specs.declared.data.Heap.{Heap}
-use Rattle.run_ledger.specs.declared.data.Ledger.{Ledger}
-use Rattle.run_ledger.specs.declared.data.RunEnd.{RunEnd}
-use Rattle.run_ledger.specs.declared.data.RunEnd.TheVariants.{Pool}
-use Rattle.run_ledger.specs.Heaps.{with_heap, with_heap_at, heap_at, in_use}
-use Rattle.run_ledger.specs.Steps.{allocated_in, settled, stepped_to, task_step, task_steps}
-use Rattle.run_ledger.specs.Entries.{after_kind, after, with_chunk, chunk_units}
-use Rattle.run_ledger.specs.Journals.{opening, after_all}
 use Rattle.run_ledger.proofs.Machine.{stepped_machine}
-use Rattle.run_ledger.specs.Laws.{MachineGoesOn}
 
 abbrev pub Goes : Ledger → Type 0
 Goes l = l.end ≡ None → l.machine.end ≡ None
 
 heap_goes : (l : Ledger) (t : ℕ) (f : Heap → Heap) → Goes l → Goes (with_heap l t f)
-heap_goes l t f g = by (heap_at l t)
+heap_goes l t f g = heap_goes_by_cases (heap_at l t)
   where
-    by : (o : Option Heap) → Goes (with_heap_at l t f o)
-    by None = g
-    by (Some h) = g
+    heap_goes_by_cases : (o : Option Heap) → Goes (with_heap_at l t f o)
+    heap_goes_by_cases None = g
+    heap_goes_by_cases (Some h) = g
 
 settled_none : (l : Ledger) (t : ℕ) (o : Option End) → (settled l t o).end ≡ None → o ≡ None
 settled_none l t (Some e) h = absurd cc
 settled_none l t None h = refl
 
-stepped_goes : (l : Ledger) (t : ℕ) (m : State) → Goes (stepped_to l t m)
-stepped_goes l t m h = ap (λ (z : State). z.end) (stepped_machine l t m) ∙ settled_none (record l { machine = m; steps = l.steps + 1 }) t m.end h
+stepped_goes : (l : Ledger) (t : ℕ) (m : MachineState) → Goes (stepped_to l t m)
+stepped_goes l t m h = ap (λ (z : MachineState). z.end) (stepped_machine l t m) ∙ settled_none (record l { machine = m; steps = l.steps + 1 }) t m.end h
 
 pub step_goes : (p : ProgramText) (l : Ledger) (t : ℕ) → Goes l → Goes (task_step p l t)
-step_goes p l t g = by (can_step l.machine t)
+step_goes p l t g = step_goes_by_cases (can_step l.machine t)
   where
-    by : (c : Bool) → Goes (cond c (stepped_to (allocated_in p l t) t (step p l.machine t)) (record l { steps = l.steps + 1 }))
-    by true = stepped_goes (allocated_in p l t) t (step p l.machine t)
-    by false = g
+    step_goes_by_cases : (c : Bool) → Goes (cond c (stepped_to (allocated_in p l t) t (step p l.machine t)) (record l { steps = l.steps + 1 }))
+    step_goes_by_cases true = stepped_goes (allocated_in p l t) t (step p l.machine t)
+    step_goes_by_cases false = g
 
 pub steps_go : (p : ProgramText) (k : ℕ) (l : Ledger) (t : ℕ) → Goes l → Goes (task_steps p l t k)
 steps_go p zero l t g = g

@@ -1,39 +1,6 @@
--- What a step adds to the store: nothing, or the one object that it asks words for; and objects keep their words.
-use Rattle.run_ledger.specs.Space.{store_words}
-use Rattle.std.proofs.lemmas.List.Sums.{sum_by-append, sum_by-cons}
-use Rattle.std.proofs.Common.{◌≡◌, ℕ, ℤ, zero, suc, pos, ◌+◌, ◌-◌, ◌==◌, ◌<◌, ◌≤◌, Bool, true, false, cond, Option, Some, None, List, [], ◌∷◌, ◌++◌, length, slice_get, slice_set, replicate, take, ◌⊎◌, inl, inr, refl, ap, ap₂, sym, subst, ◌∙◌, arith, is_some, nat_lt, sum_by, length-set}
-use Rattle.std.specs.Option.{option_flatten}
-use Rattle.std.proofs.lemmas.Bool.{false≢true}
-use Rattle.std.proofs.lemmas.Option.{same_Some}
-use Rattle.std.proofs.lemmas.List.{length-take, length-replicate}
-use Rattle.listed.proofs.Members.{got_within}
-use Rattle.listed.proofs.Places.{got_some}
-use Rattle.listed.proofs.Options.{none_some}
-use Rattle.hh_lang.specs.declared.instr.Instr.{Instr}
-use Rattle.hh_lang.specs.declared.instr.Instr.TheVariants.{Set, Mov, Movr, Nil as NilOf, Calc, Same, Jmp, Jz, Newm, Pack, Getr, Geti, Putr, Puti, Cntr, Cnti, Freeze, Cas, Call, Par, Ret, Out}
-use Rattle.hh_lang.specs.declared.program.Line.{Line}
-use Rattle.hh_lang.specs.Form.{ProgramText}
-use Rattle.hh_model.specs.declared.data.Name.{Name}
-use Rattle.hh_model.specs.declared.data.Object.{Object}
-use Rattle.hh_model.specs.declared.data.Frame.{Frame}
-use Rattle.hh_model.specs.declared.data.Task.{Task}
-use Rattle.hh_model.specs.declared.data.Trap.{Trap}
-use Rattle.hh_model.specs.declared.data.Trap.TheVariants.{Nil, Range, Frozen, Div, Size, Depth}
-use Rattle.hh_model.specs.declared.data.End.TheVariants.{Trapped}
-use Rattle.hh_model.specs.declared.data.State.{State}
-use Rattle.hh_model.specs.Effect.{Effect, Goes, Prints, Calls, Forks, Returns, Traps, Stops, Setting, effect, made, row_of, object_at, put_object, counts_in, int_in, ref_in, or_trap, with_object, read_effect, calculated, place_in, same_name, onward}
-use Rattle.hh_model.specs.Names.{words_asked, words_for}
-use Rattle.hh_model.specs.Precedence.{precedes}
-use Rattle.hh_model.specs.Store.{IsStored}
-use Rattle.hh_model.specs.Step.{setting, fetched, step, follow, called, returned, returned_to, last_return, child_ended_by, last_of, result_at, result_of, sibling, is_left, or_same, join_of, ended_by, can_step, is_running, asked, asked_line, frame_limit, depth_limit}
-use Rattle.hh_model.proofs.Stores.{put_cases, made_cases, in_row}
-use Rattle.hh_model.proofs.Carried.{next_name}
-use Rattle.hh_model.proofs.ForkJoinStates.{IsForkJoinState, empty_rows}
-use Rattle.hh_model.proofs.Closed.{asked_at}
-use Rattle.path_laws.proofs.Objects.{object_later}
-use Rattle.path_laws.proofs.Stored.{made_here}
-use Rattle.hh_model.proofs.Taken.{can_runs, step_taken, step_none}
-use Rattle.run_ledger.specs.Heaps.{words_of, words_at}
+-- What a step adds to the store: nothing, or the one object that it allocates; and objects keep their words.
+use Rattle.run_ledger.proofs.Common.{sum_by-append, sum_by-cons, ◌≡◌, ℕ, ℤ, zero, suc, pos, ◌+◌, ◌-◌, ◌==◌, ◌<◌, ◌≤◌, Bool, true, false, cond, Option, Some, None, List, [], ◌∷◌, ◌++◌, length, slice_get, slice_set, replicate, take, ◌⊎◌, inl, inr, refl, ap, ap₂, sym, subst, ◌∙◌, arith, is_some, nat_lt, sum_by, length-set, option_flatten, false≢true, same_Some, length-take, length-replicate, got_within, got_some, none_some, Instr, Set, Mov, Movr, Nil as NilOf, Calc, Same, Jmp, Jz, Newm, Pack, Getr, Geti, Putr, Puti, Cntr, Cnti, Freeze, Cas, Call, Par, Ret, Out, Line, ProgramText, Name, Object, Frame, Task, Trap, Range, Frozen, Div, Size, Depth, Trapped, MachineState, Effect, Goes, Prints, Calls, Forks, Returns, Traps, Stops, StepContext, effect, made, row_of, object_at, put_object, counts_in, int_in, ref_in, or_trap, with_object, read_effect, calculated, place_in, same_name, onward, words_asked, words_for, precedes, IsStored, setting, fetched, step, follow, called, returned, returned_to, last_return, child_ended_by, last_of, result_at, result_of, sibling, is_left, or_same, join_of, ended_by, can_step, is_running, asked, asked_line, frame_limit, depth_limit, put_cases, made_cases, in_row, next_name, IsForkJoinState, empty_rows, asked_at, object_later, made_here, can_runs, step_taken, step_none, store_words, words_of, words_at}
+use Rattle.hh_model.specs.declared.data.Trap.TheVariants.{Nil}
 
 -- WORDS OF A STORE
 
@@ -75,11 +42,11 @@ push_words store t row o e =
 
 -- EFFECTS
 
--- the first store has no object that the second hasn't, and as many words
+-- each object of the first store is in the second, with as many words
 abbrev pub Within : List (List Object) → List (List Object) → Type 0
 Within store' store = ((n : Name) (q : Object) → object_at store' n ≡ Some q → (o : Object) × (object_at store n ≡ Some o)) × (store_words store' ≡ store_words store)
 
--- one object more, in the row of the task t, of at most so many words
+-- one more object, in the row of the task t, of at most these words
 pub record Adds (t words : ℕ) (store store' : List (List Object)) : Type 0 where
   pub new : Object
   pub size : words_of (Some new) ≤ words
@@ -88,8 +55,8 @@ pub record Adds (t words : ℕ) (store store' : List (List Object)) : Type 0 whe
 abbrev pub Grows : ℕ → Option ℕ → List (List Object) → List (List Object) → Type 0
 Grows t next store store' = ((next ≡ None) × Within store' store) ⊎ ((w : ℕ) × (next ≡ Some w) × Adds t w store store')
 
--- what an effect makes of the store, where the instruction asks for these words
-abbrev Makes : Setting → List (List Object) → Option ℕ → Effect → Type 0
+-- the store after an effect, if the instruction allocates these words
+abbrev Makes : StepContext → List (List Object) → Option ℕ → Effect → Type 0
 Makes s store next (Goes f store') = Grows s.task next store store'
 Makes s store next (Prints k) = next ≡ None
 Makes s store next (Calls g) = next ≡ None
@@ -98,9 +65,9 @@ Makes s store next Returns = next ≡ None
 Makes s store next (Traps kind) = next ≡ None
 Makes s store next (Stops n) = next ≡ None
 
-module _ (s : Setting) (f : Frame) (store : List (List Object)) where
-  same : Grows s.task None store store
-  same = inl (refl, (λ n q e. (q, e), refl))
+module _ (s : StepContext) (f : Frame) (store : List (List Object)) where
+  grows_nothing : Grows s.task None store store
+  grows_nothing = inl (refl, (λ n q e. (q, e), refl))
 
   trap : {A : Type 0} (kind : Trap) (o : Option A) (go : A → Effect) → ((x : A) → Makes s store None (go x)) → Makes s store None (or_trap kind o go)
   trap kind None go each = refl
@@ -108,11 +75,11 @@ module _ (s : Setting) (f : Frame) (store : List (List Object)) where
 
   object : (r : Option Name) (go : Name → Object → Effect) → ((n : Name) (x : Object) → object_at store n ≡ Some x → Makes s store None (go n x)) → Makes s store None (with_object store r go)
   object None go each = refl
-  object (Some n) go each = by (object_at store n) refl
+  object (Some n) go each = object_by_cases (object_at store n) refl
     where
-      by : (o : Option Object) → object_at store n ≡ o → Makes s store None (or_trap Nil o (go n))
-      by None e = refl
-      by (Some x) e = each n x e
+      object_by_cases : (o : Option Object) → object_at store n ≡ o → Makes s store None (or_trap Nil o (go n))
+      object_by_cases None e = refl
+      object_by_cases (Some x) e = each n x e
 
   put : (n : Name) (x y : Object) → object_at store n ≡ Some x → words_of (Some y) ≡ words_of (Some x) → Grows s.task None store (put_object store n y)
   put n x y is w = inl (refl, (λ k q e. elim (put_cases store n y k q e) [ inl p ↦ (x, ap (object_at store) p.0 ∙ is) | inr old ↦ (q, old) ], put_words store n x y is w))
@@ -132,8 +99,8 @@ module _ (s : Setting) (f : Frame) (store : List (List Object)) where
   either false e g m k = k
 
   reads : (d : ℕ) (r : Option Name) → Makes s store None (read_effect s f store d r)
-  reads d None = same
-  reads d (Some n) = trap Nil (object_at store n) _ (λ o. either (precedes s.edges o.strand s.strand) _ (Stops n) same refl)
+  reads d None = grows_nothing
+  reads d (Some n) = trap Nil (object_at store n) _ (λ o. either (precedes s.edges o.strand s.strand) _ (Stops n) grows_nothing refl)
 
   newm : (d : ℕ) (o : Option (ℕ × ℕ)) → Makes s store (words_for o) (or_trap Size o (λ n. made s f store d (record { strand = s.strand; mutable = true; refs = replicate n.0 None; ints = replicate n.1 (pos 0) })))
   newm d None = refl
@@ -148,14 +115,14 @@ module _ (s : Setting) (f : Frame) (store : List (List Object)) where
   )
 
   makes : (instr : Instr) → Makes s store (words_asked s.field_limit f instr) (effect s f store instr)
-  makes (Set d k) = same
-  makes (Mov d a) = same
-  makes (Movr d a) = same
-  makes (NilOf d) = same
-  makes (Calc op d a b) = trap Div (calculated op (int_in f a) (int_in f b)) _ (λ x. same)
-  makes (Same d a b) = same
-  makes (Jmp to) = same
-  makes (Jz a to) = same
+  makes (Set d k) = grows_nothing
+  makes (Mov d a) = grows_nothing
+  makes (Movr d a) = grows_nothing
+  makes (NilOf d) = grows_nothing
+  makes (Calc op d a b) = trap Div (calculated op (int_in f a) (int_in f b)) _ (λ x. grows_nothing)
+  makes (Same d a b) = grows_nothing
+  makes (Jmp to) = grows_nothing
+  makes (Jz a to) = grows_nothing
   makes (Newm d a b) = newm d (counts_in s.field_limit (int_in f a) (int_in f b))
   makes (Pack d r i) = inr (
     2 + r + i,
@@ -167,14 +134,14 @@ module _ (s : Setting) (f : Frame) (store : List (List Object)) where
     },
   )
   makes (Getr d o k) = object (ref_in f o) _ (λ n x is. trap Range (place_in (length x.refs) (int_in f k)) _ (λ at. reads d (option_flatten (slice_get x.refs at))))
-  makes (Geti d o k) = object (ref_in f o) _ (λ n x is. trap Range (place_in (length x.ints) (int_in f k)) _ (λ at. same))
+  makes (Geti d o k) = object (ref_in f o) _ (λ n x is. trap Range (place_in (length x.ints) (int_in f k)) _ (λ at. grows_nothing))
   makes (Putr o k v) = object (ref_in f o) _ (λ n x is. trap Range (place_in (length x.refs) (int_in f k)) _ (λ at. writable x.mutable _ (put n x _ is (refs_words x at (ref_in f v)))))
   makes (Puti o k v) = object (ref_in f o) _ (λ n x is. trap Range (place_in (length x.ints) (int_in f k)) _ (λ at. writable x.mutable _ (put n x _ is (ints_words x at (int_in f v)))))
-  makes (Cntr d o) = object (ref_in f o) _ (λ n x is. same)
-  makes (Cnti d o) = object (ref_in f o) _ (λ n x is. same)
+  makes (Cntr d o) = object (ref_in f o) _ (λ n x is. grows_nothing)
+  makes (Cnti d o) = object (ref_in f o) _ (λ n x is. grows_nothing)
   makes (Freeze o) = object (ref_in f o) _ (λ n x is.
       either (s.owner n.task == s.task) (Goes (onward f) (put_object store n (record x { mutable = false }))) (Traps Frozen) (put n x (record x { mutable = false }) is refl) refl)
-  makes (Cas d o k e v) = object (ref_in f o) _ (λ n x is. trap Range (place_in (length x.refs) (int_in f k)) _ (λ at. writable x.mutable _ (either (same_name (option_flatten (slice_get x.refs at)) (ref_in f e)) _ _ (put n x _ is (refs_words x at (ref_in f v))) same)))
+  makes (Cas d o k e v) = object (ref_in f o) _ (λ n x is. trap Range (place_in (length x.refs) (int_in f k)) _ (λ at. writable x.mutable _ (either (same_name (option_flatten (slice_get x.refs at)) (ref_in f e)) _ _ (put n x _ is (refs_words x at (ref_in f v))) grows_nothing)))
   makes (Call g) = refl
   makes (Par g h) = refl
   makes Ret = refl
@@ -182,12 +149,12 @@ module _ (s : Setting) (f : Frame) (store : List (List Object)) where
 
 -- STEPS
 
-module _ (m : State) (t : ℕ) (x : Task) where
-  store_either : (b : Bool) (m1 m2 : State) → m1.store ≡ m.store → m2.store ≡ m.store → (cond b m1 m2).store ≡ m.store
+module _ (m : MachineState) (t : ℕ) (x : Task) where
+  store_either : (b : Bool) (m1 m2 : MachineState) → m1.store ≡ m.store → m2.store ≡ m.store → (cond b m1 m2).store ≡ m.store
   store_either true m1 m2 e g = e
   store_either false m1 m2 e g = g
 
-  store_or : {A : Type 0} (o : Option A) (go : A → State) → ((y : A) → (go y).store ≡ m.store) → (or_same m o go).store ≡ m.store
+  store_or : {A : Type 0} (o : Option A) (go : A → MachineState) → ((y : A) → (go y).store ≡ m.store) → (or_same m o go).store ≡ m.store
   store_or None go each = refl
   store_or (Some y) go each = each y
 
@@ -207,7 +174,7 @@ module _ (m : State) (t : ℕ) (x : Task) where
   within_same : (store : List (List Object)) → store ≡ m.store → Within store m.store
   within_same store e = (λ n q h. (q, ap (λ w. object_at w n) (sym e) ∙ h), ap store_words e)
 
-  within_fork : (b : Bool) (m1 m2 : State) → m1.store ≡ m.store ++ [] ∷ [] ∷ [] → m2.store ≡ m.store → Within (cond b m1 m2).store m.store
+  within_fork : (b : Bool) (m1 m2 : MachineState) → m1.store ≡ m.store ++ [] ∷ [] ∷ [] → m2.store ≡ m.store → Within (cond b m1 m2).store m.store
   within_fork true m1 m2 e g = (λ n q h. (q, empty_rows m.store n.task n.count q (ap (λ w. object_at w n) (sym e) ∙ h)), ap store_words e ∙ two_empty m.store)
   within_fork false m1 m2 e g = within_same m2.store g
 
@@ -220,11 +187,11 @@ module _ (m : State) (t : ℕ) (x : Task) where
   followed p line next (Traps kind) k = inl (k, within_same m.store refl)
   followed p line next (Stops n) k = inl (k, within_same m.store refl)
 
-module _ (p : ProgramText) (m : State) (t : ℕ) (can : can_step m t ≡ true) where
+module _ (p : ProgramText) (m : MachineState) (t : ℕ) (can : can_step m t ≡ true) where
   grows_line : (x : Task) (o : Option Line) → slice_get m.tasks t ≡ Some x → fetched p x.top ≡ o → Grows t (asked_line m.field_limit x.top o) m.store (step p m t).store
-  grows_line x None is il = inl (refl, (λ n q h. (q, ap (λ (w : State). object_at w.store n) (sym (step_none p m t x can is il)) ∙ h), ap (λ (w : State). store_words w.store) (step_none p m t x can is il)))
+  grows_line x None is il = inl (refl, (λ n q h. (q, ap (λ (w : MachineState). object_at w.store n) (sym (step_none p m t x can is il)) ∙ h), ap (λ (w : MachineState). store_words w.store) (step_none p m t x can is il)))
   grows_line x (Some line) is il =
-      subst (λ (w : State). Grows t (words_asked m.field_limit x.top line.instr) m.store w.store) (sym (step_taken p m t x line can is il))
+      subst (λ (w : MachineState). Grows t (words_asked m.field_limit x.top line.instr) m.store w.store) (sym (step_taken p m t x line can is il))
       (followed m t x p line.number (words_asked m.field_limit x.top line.instr) (effect (setting m t x) x.top m.store line.instr) (makes (setting m t x) x.top m.store line.instr))
 
   grows_task : (o : Option Task) → slice_get m.tasks t ≡ o → is_running o ≡ true → Grows t (asked p m t) m.store (step p m t).store
@@ -235,7 +202,7 @@ module _ (p : ProgramText) (m : State) (t : ℕ) (can : can_step m t ≡ true) w
   step_grows = grows_task (slice_get m.tasks t) refl (can_runs m t can)
 
 -- what is known of names after a step
-pub record Grown (p : ProgramText) (m : State) (t : ℕ) : Type 0 where
+pub record Grown (p : ProgramText) (m : MachineState) (t : ℕ) : Type 0 where
   pub up : (n : Name) → IsStored m n → IsStored (step p m t) n
   pub words : (n : Name) → IsStored m n → words_at (step p m t) n ≡ words_at m n
   pub down : (n : Name) → IsStored (step p m t) n → IsStored m n ⊎ ((n ≡ next_name t m.store) × (is_some (asked p m t) ≡ true))
@@ -244,10 +211,10 @@ pub record Grown (p : ProgramText) (m : State) (t : ℕ) : Type 0 where
   pub some : (w : ℕ) → asked p m t ≡ Some w → store_words (step p m t).store ≡ store_words m.store + words_at (step p m t) (next_name t m.store)
 
 -- the next name of a task has no object yet
-pub next_unstored : (m : State) (t : ℕ) → IsStored m (next_name t m.store) → ⊥
+pub next_unstored : (m : MachineState) (t : ℕ) → IsStored m (next_name t m.store) → ⊥
 next_unstored m t s = let lt : length (row_of (slice_get m.store t)) < length (row_of (slice_get m.store t)) = got_within (row_of (slice_get m.store t)) (length (row_of (slice_get m.store t))) s.0 s.1 in omega arith
 
-module _ (p : ProgramText) (m : State) (t : ℕ) (K : IsForkJoinState m) (can : can_step m t ≡ true) (t_row : t < length m.store) where
+module _ (p : ProgramText) (m : MachineState) (t : ℕ) (K : IsForkJoinState m) (can : can_step m t ≡ true) (t_row : t < length m.store) where
   same_words : (o new : Object) → length new.refs ≡ length o.refs → length new.ints ≡ length o.ints → words_of (Some new) ≡ words_of (Some o)
   same_words o new r i = ap₂ (λ a b. 2 + a + b) r i
 

@@ -1,19 +1,11 @@
 -- The names that a heap's account holds after each change.
-use Rattle.std.proofs.Common.{◌≡◌, ℕ, ◌+◌, Bool, true, false, cond, List, [], ◌∷◌, ◌++◌, map, nat_le, ◌-◌, ◌⊎◌, inl, inr, refl, ap, sym, subst, ◌∙◌, append_assoc, append-nil}
-use Rattle.std.specs.List.{flat_map}
-use Rattle.std.proofs.lemmas.List.Concat.{flat_map-append}
-use Rattle.listed.proofs.Members.{In, in_append_left, in_append_right, in_append_cases, in_kept, in_from_kept}
-use Rattle.hh_model.specs.declared.data.Name.{Name}
-use Rattle.hh_model.specs.declared.data.State.{State}
-use Rattle.run_ledger.specs.declared.data.Heap.{Heap}
-use Rattle.run_ledger.specs.Reachable.{holds_name}
-use Rattle.run_ledger.specs.Heaps.{held_in, placed, put_last, is_small, merged, chunk_words, words_at, words_sum, collected, lay, laid_onto, by_birth, insert_name, name_le, small_survivors, swept_heap, without_empty, in_snapshot}
+use Rattle.run_ledger.proofs.Common.{◌≡◌, ℕ, ◌+◌, Bool, true, false, cond, List, [], ◌∷◌, ◌++◌, map, nat_le, ◌-◌, ◌⊎◌, inl, inr, refl, ap, sym, subst, ◌∙◌, append_assoc, append-nil, flat_map, flat_map-append, In, in_append_left, in_append_right, in_append_cases, in_kept, in_from_kept, Name, MachineState, Heap, holds_name, held_in, placed, put_last, is_small, merged, chunk_words, words_at, words_sum, collected, lay, laid_onto, by_birth, insert_name, name_le, small_survivors, swept_heap, without_empty, in_snapshot}
 use Rattle.run_ledger.proofs.Members.{in_from_holds, holds_from_in}
 
 abbrev flat : List (List Name) → List Name
 flat lists = flat_map (λ ns. ns) lists
 
--- in chunks or in the large ones
+-- in chunks, or large
 held_cases : (h : Heap) (x : Name) → In (held_in h) x → In (flat h.chunks) x ⊎ In h.large x
 held_cases h x i = in_append_cases (flat h.chunks) h.large x i
 
@@ -97,7 +89,7 @@ placed_since_by : (h : Heap) (n : Name) (w : ℕ) (b : Bool) → (cond b (small_
 placed_since_by h n w true = refl
 placed_since_by h n w false = refl
 
--- a heap counts the words that are placed in it
+-- a heap counts the words that are allocated in it
 pub placed_since : (h : Heap) (n : Name) (w : ℕ) → (placed h n w).since ≡ h.since + w
 placed_since h n w = placed_since_by h n w (is_small w)
 
@@ -114,21 +106,21 @@ chunk_up h room x i = elim (held_cases h x i) [
   | inr j ↦ in_large (record h { chunks = h.chunks ++ [] ∷ []; room = room }) x j
 ]
 
--- the new lists of a collection hold just what is laid into them
+-- the new lists of a collection hold exactly what is laid into them
 lay_flat_by : (ns : List Name) (n : Name) (b : Bool) → flat (cond b ((ns ++ n ∷ []) ∷ []) (ns ∷ (n ∷ []) ∷ [])) ≡ ns ++ n ∷ []
 lay_flat_by ns n true = append-nil (ns ++ n ∷ [])
 lay_flat_by ns n false = refl
 
-lay_flat : (m : State) (lists : List (List Name)) (n : Name) → flat (lay m lists n) ≡ flat lists ++ n ∷ []
+lay_flat : (m : MachineState) (lists : List (List Name)) (n : Name) → flat (lay m lists n) ≡ flat lists ++ n ∷ []
 lay_flat m [] n = refl
 lay_flat m (ns ∷ []) n = lay_flat_by ns n (nat_le (words_sum m ns + words_at m n) chunk_words) ∙ ap (λ w. w ++ n ∷ []) (sym (append-nil ns))
 lay_flat m (ns ∷ ms ∷ rest) n = ap (λ w. ns ++ w) (lay_flat m (ms ∷ rest) n) ∙ sym (append_assoc ns (flat (ms ∷ rest)) (n ∷ []))
 
-laid_onto_flat : (m : State) (ns : List Name) (lists : List (List Name)) → flat (laid_onto m lists ns) ≡ flat lists ++ ns
+laid_onto_flat : (m : MachineState) (ns : List Name) (lists : List (List Name)) → flat (laid_onto m lists ns) ≡ flat lists ++ ns
 laid_onto_flat m [] lists = sym (append-nil (flat lists))
 laid_onto_flat m (n ∷ ns) lists = laid_onto_flat m ns (lay m lists n) ∙ (ap (λ w. w ++ ns) (lay_flat m lists n) ∙ append_assoc (flat lists) (n ∷ []) ns)
 
-pub laid_flat : (m : State) (ns : List Name) → flat (laid_onto m [] ns) ≡ ns
+pub laid_flat : (m : MachineState) (ns : List Name) → flat (laid_onto m [] ns) ≡ ns
 laid_flat m ns = laid_onto_flat m ns []
 
 insert_by : (n m : Name) (ms : List Name) (x : Name) → (In (insert_name n ms) x → (n ≡ x) ⊎ In ms x) → (b : Bool) → In (cond b (n ∷ m ∷ ms) (m ∷ insert_name n ms)) x → (n ≡ x) ⊎ In (m ∷ ms) x
@@ -163,7 +155,7 @@ in_birth (n ∷ ns) x (inl e) = in_insert n (by_birth ns) x (inl e)
 in_birth (n ∷ ns) x (inr i) = in_insert n (by_birth ns) x (inr (in_birth ns x i))
 
 -- a leaf collection keeps the survivors
-pub collected_down : (m : State) (h : Heap) (x : Name) → In (held_in (collected m h)) x → In (held_in h) x × In h.survivors x
+pub collected_down : (m : MachineState) (h : Heap) (x : Name) → In (held_in (collected m h)) x → In (held_in h) x × In h.survivors x
 collected_down m h x i =
     elim (held_cases (collected m h) x i) [
       | inl j ↦
@@ -172,7 +164,7 @@ collected_down m h x i =
       | inr j ↦ let r = in_from_kept (holds_name h.survivors) h.large x j in (in_large h x r.0, in_from_holds h.survivors x r.1)
     ]
 
-pub collected_up : (m : State) (h : Heap) (x : Name) → In (held_in h) x → In h.survivors x → In (held_in (collected m h)) x
+pub collected_up : (m : MachineState) (h : Heap) (x : Name) → In (held_in h) x → In h.survivors x → In (held_in (collected m h)) x
 collected_up m h x i s =
     elim (held_cases h x i) [
       | inl j ↦ in_chunks (collected m h) x (subst (λ ns. In ns x) (sym (laid_flat m (small_survivors h))) (in_birth _ x (in_kept (holds_name h.survivors) (flat h.chunks) x j (holds_from_in h.survivors x s))))
@@ -228,7 +220,7 @@ swept_up h x i s =
       | inr j ↦ in_large (swept_heap h) x (in_kept (holds_name h.snapshot) h.large x j (holds_from_in h.snapshot x s))
     ]
 
--- a join hands the children's names to the parent
+-- a join gives the children's names to the parent
 three_cases : (a b c : List Name) (x : Name) → In (a ++ b ++ c) x → In a x ⊎ (In b x ⊎ In c x)
 three_cases a b c x i =
     elim (in_append_cases (a ++ b) c x i) [

@@ -1,30 +1,6 @@
 -- Which worker holds which task.
-use Rattle.std.proofs.Common.{◌≡◌, ℕ, zero, suc, ◌+◌, ◌-◌, Bool, true, false, cond, Option, Some, None, List, [], ◌∷◌, ◌++◌, slice_get, slice_set, nat_lt, inl, inr, refl, ap, sym, subst, ◌∙◌, is_some, is_none, eq-eqb}
-use Rattle.std.proofs.lemmas.Bool.{false≢true, both_ways, cases_eq, and_parts}
-use Rattle.listed.proofs.Members.{got_same, got_other}
-use Rattle.listed.proofs.Options.{none_some}
-use Rattle.run_trace.specs.declared.entry.Kind.{Kind}
-use Rattle.run_trace.specs.declared.entry.Kind.TheVariants.{Took, Ran, Chunk, Begin, End as EndOf, PutOff, Mark, More, Sweep, Fuel}
-use Rattle.run_trace.specs.Settings.{SettingsValue}
-use Rattle.hh_lang.specs.Form.{ProgramText}
-use Rattle.hh_model.specs.declared.data.Name.{Name}
+use Rattle.run_ledger.proofs.Common.{◌≡◌, ℕ, zero, suc, ◌+◌, ◌-◌, Bool, true, false, cond, Option, Some, None, List, [], ◌∷◌, ◌++◌, slice_get, slice_set, nat_lt, inl, inr, refl, ap, sym, subst, ◌∙◌, is_some, is_none, eq-eqb, false≢true, both_ways, cases_eq, and_parts, got_same, got_other, none_some, Kind, Took, Ran, Chunk, Begin, End as EndOf, PutOff, Mark, More, Sweep, Fuel, SettingsValue, ProgramText, Name, TaskStatus, Running, Waiting, Ended, Joined, Task, MachineState, step, can_step, asked, is_running, is_left, next_name, option_is, Heap, Ledger, RunEnd, Pool, heap_at, heap_of, or_fresh, with_heap, with_heap_at, placed, is_small, fresh, forked_heap, emptied, let_go, within, in_use, collected, swept_heap, put_last, chunk_words, allocated_by, allocated_in, settled, moved_on, moved_to, join_heaps, stepped_to, task_step, task_steps, on_asked, kind_refusal, after_kind, is_ready, is_out, out_from, refused_holding, with_chunk, chunk_units, opening, ledger_of, TasksAreOutOnce}
 use Rattle.hh_model.specs.declared.data.End.{End}
-use Rattle.hh_model.specs.declared.data.Status.{Status}
-use Rattle.hh_model.specs.declared.data.Status.TheVariants.{Running, Waiting, Ended, Joined}
-use Rattle.hh_model.specs.declared.data.Task.{Task}
-use Rattle.hh_model.specs.declared.data.State.{State}
-use Rattle.hh_model.specs.Step.{step, can_step, asked, is_running, is_left}
-use Rattle.hh_model.proofs.Carried.{next_name}
-use Rattle.run_ledger.specs.declared.data.Heap.{Heap}
-use Rattle.run_ledger.specs.declared.data.Ledger.{Ledger}
-use Rattle.run_ledger.specs.declared.data.RunEnd.{RunEnd}
-use Rattle.run_ledger.specs.declared.data.RunEnd.TheVariants.{Pool}
-use Rattle.run_ledger.specs.Heaps.{heap_at, heap_of, or_fresh, with_heap, with_heap_at, placed, is_small, fresh, forked_heap, emptied, let_go, within, in_use, collected, swept_heap, put_last, chunk_words}
-use Rattle.run_ledger.specs.Steps.{allocated_by, allocated_in, settled, moved_on, moved_to, join_heaps, stepped_to, task_step, task_steps, on_asked}
-use Rattle.run_ledger.specs.Entries.{kind_refusal, after_kind, is_ready, is_out, out_from, refused_holding, with_chunk, chunk_units}
-use Rattle.listed.specs.Options.{option_is}
-use Rattle.run_ledger.specs.Journals.{opening, ledger_of}
-use Rattle.run_ledger.specs.Laws.{TasksAreOutOnce}
 use Rattle.run_ledger.proofs.Machine.{stepped_machine}
 use Rattle.run_ledger.proofs.Sound.{SoundLedger, collecting}
 use Rattle.run_ledger.proofs.Moves.{moves_each}
@@ -33,7 +9,7 @@ use Rattle.run_ledger.proofs.Booked.{step_others}
 use Rattle.run_ledger.proofs.Stocks.{with_heap_any}
 use Rattle.run_ledger.proofs.Journals.{journal_keeps, none_unless, out_tells, opening_sound, legal_sound, fresh_idle}
 
--- THE END OF THE LEDGER
+-- AT THE END OF THE LEDGER
 
 pub heap_at_end : (l : Ledger) (t : ℕ) (f : Heap → Heap) (o : Option Heap) → (with_heap_at l t f o).end ≡ l.end
 heap_at_end l t f None = refl
@@ -45,7 +21,7 @@ heap_end l t f = heap_at_end l t f (heap_at l t)
 pub join_end : (l : Ledger) (p c : ℕ) → (join_heaps l p c).end ≡ l.end
 join_end l p c = heap_end _ (c + 1) emptied ∙ (heap_end _ c emptied ∙ heap_end l p _)
 
-pub moved_on_end : (l : Ledger) (t : ℕ) (parent : Option ℕ) (s : Status) → (moved_on l t parent s).end ≡ l.end
+pub moved_on_end : (l : Ledger) (t : ℕ) (parent : Option ℕ) (s : TaskStatus) → (moved_on l t parent s).end ≡ l.end
 moved_on_end l t parent Running = refl
 moved_on_end l t parent Waiting = heap_end (record l { heaps = l.heaps ++ fresh ∷ fresh ∷ [] }) t (forked_heap (within l t))
 moved_on_end l t parent (Ended k n) = heap_end l t let_go
@@ -64,9 +40,9 @@ pub allocated_end : (l : Ledger) (t : ℕ) (o : Option ℕ) → (allocated_by l 
 allocated_end l t None = refl
 allocated_end l t (Some w) = heap_end l t _
 
--- WHAT EVERY LEGAL JOURNAL KEEPS
+-- INVARIANTS OF LEGAL JOURNALS
 
-pub record Manned (m : State) (end : Option RunEnd) (heaps : List Heap) : Type 0 where
+pub record Manned (m : MachineState) (end : Option RunEnd) (heaps : List Heap) : Type 0 where
   pub runs : end ≡ None → (u w : ℕ) → worker_at (slice_get heaps u) ≡ Some w → is_running (slice_get m.tasks u) ≡ true
   pub one : (u v w : ℕ) → worker_at (slice_get heaps u) ≡ Some w → worker_at (slice_get heaps v) ≡ Some w → u ≡ v
   pub out : (u : ℕ) → collecting (slice_get heaps u) ≡ true → is_some (worker_at (slice_get heaps u)) ≡ true
@@ -74,7 +50,7 @@ pub record Manned (m : State) (end : Option RunEnd) (heaps : List Heap) : Type 0
 abbrev pub MannedLedger : Ledger → Type 0
 MannedLedger l = Manned l.machine l.end l.heaps
 
--- a heap's account changes, and its worker and its begun collection don't
+-- a heap's account changes, but not its worker and its begun collection
 same_manned : (l : Ledger) (t : ℕ) (f : Heap → Heap) → ((h : Heap) → (f h).worker ≡ h.worker) → ((h : Heap) → slice_get l.heaps t ≡ Some h → is_some (f h).begun ≡ true → is_some h.worker ≡ true) → MannedLedger l → MannedLedger (with_heap l t f)
 same_manned l t f same goes I = with_heap_any MannedLedger l t f I (λ h e.
     let heaps' : List Heap = slice_set l.heaps t (f h) in
@@ -93,19 +69,19 @@ same_manned l t f same goes I = with_heap_any MannedLedger l t f I (λ h e.
       ];
     })
 
--- where a collection doesn't begin
+-- if no collection begins
 still : (l : Ledger) (t : ℕ) (I : MannedLedger l) (h : Heap) → slice_get l.heaps t ≡ Some h → is_some h.begun ≡ true → is_some h.worker ≡ true
 still l t I h e c = sym (ap (λ o. is_some (worker_at o)) e) ∙ I.out t (ap collecting e ∙ c)
 
 -- A STEP
 
--- who holds a heap goes on to where an object is placed in it
+-- the worker of a heap stays when an object is placed in it
 pub placed_worker : (h : Heap) (n : Name) (w : ℕ) → (placed h n w).worker ≡ h.worker
-placed_worker h n w = by (is_small w)
+placed_worker h n w = placed_worker_by_cases (is_small w)
   where
-    by : (v : Bool) → (cond v (record h { chunks = put_last h.chunks n; room = h.room - w; since = h.since + w }) (record h { large = h.large ++ n ∷ []; reserved = 0; since = h.since + w })).worker ≡ h.worker
-    by true = refl
-    by false = refl
+    placed_worker_by_cases : (v : Bool) → (cond v (record h { chunks = put_last h.chunks n; room = h.room - w; since = h.since + w }) (record h { large = h.large ++ n ∷ []; reserved = 0; since = h.since + w })).worker ≡ h.worker
+    placed_worker_by_cases true = refl
+    placed_worker_by_cases false = refl
 
 module _ (p : ProgramText) (l : Ledger) (t : ℕ) (S : SoundAt t l) (I : MannedLedger l) (can : can_step l.machine t ≡ true) where
   abbrev b : Ledger
@@ -138,7 +114,7 @@ module _ (p : ProgramText) (l : Ledger) (t : ℕ) (S : SoundAt t l) (I : MannedL
       ap (λ (q : Ledger). collecting (slice_get q.heaps u)) (ap (with_heap_at l t (λ g. placed g (next_name t l.machine.store) w)) heap.1)
       ∙ ap collecting (got_other l.heaps t u (placed heap.0 (next_name t l.machine.store) w) ne)
 
-  -- who holds a task after the step held it before
+  -- whoever holds a task after the step held it before
   abbrev Was : ℕ → Heap → Type 0
   Was u h = (w : ℕ) → h.worker ≡ Some w → worker_at (slice_get b.heaps u) ≡ Some w
 
@@ -148,13 +124,13 @@ module _ (p : ProgramText) (l : Ledger) (t : ℕ) (S : SoundAt t l) (I : MannedL
       (λ u h x y v z is wait none q qx qy w e. ap worker_at is ∙ e) (λ u h none q w e. none_some e)
 
   was : (u w : ℕ) → worker_at (slice_get k.heaps u) ≡ Some w → worker_at (slice_get l.heaps u) ≡ Some w
-  was u w q = sym (worker_b (asked p l.machine t) u) ∙ by (slice_get k.heaps u) refl q
+  was u w q = sym (worker_b (asked p l.machine t) u) ∙ was_by_cases (slice_get k.heaps u) refl q
     where
-      by : (o : Option Heap) → slice_get k.heaps u ≡ o → worker_at o ≡ Some w → worker_at (slice_get b.heaps u) ≡ Some w
-      by None e r = none_some r
-      by (Some h) e r = was_k u h e w r
+      was_by_cases : (o : Option Heap) → slice_get k.heaps u ≡ o → worker_at o ≡ Some w → worker_at (slice_get b.heaps u) ≡ Some w
+      was_by_cases None e r = none_some r
+      was_by_cases (Some h) e r = was_k u h e w r
 
-  -- a leaf collection goes on in a task that a worker held before
+  -- a leaf collection goes on only in a task that a worker held before
   abbrev Goes : ℕ → Heap → Type 0
   Goes u h = (u ≡ t → ⊥) → is_some h.begun ≡ true → is_some h.worker ≡ true
 
@@ -174,7 +150,7 @@ module _ (p : ProgramText) (l : Ledger) (t : ℕ) (S : SoundAt t l) (I : MannedL
   runs_k : k.end ≡ None → (u w : ℕ) → worker_at (slice_get k.heaps u) ≡ Some w → is_running (slice_get k.machine.tasks u) ≡ true
   runs_k on u w q = elim (cases_eq u t) [
     | inl e ↦ elim leaves.3 [
-      | inl over ↦ absurd (false≢true (sym (ap is_some (ap (λ (m : State). m.end) machine_is ∙ ends.0)) ∙ over))
+      | inl over ↦ absurd (false≢true (sym (ap is_some (ap (λ (m : MachineState). m.end) machine_is ∙ ends.0)) ∙ over))
       | inr more ↦ elim more [
         | inl r ↦ ap (λ v. is_running (slice_get k.machine.tasks v)) e ∙ r
         | inr none ↦ none_some (sym none ∙ (ap (λ v. worker_at (slice_get k.heaps v)) (sym e) ∙ q))
@@ -182,7 +158,7 @@ module _ (p : ProgramText) (l : Ledger) (t : ℕ) (S : SoundAt t l) (I : MannedL
     ]
     | inr ne ↦
         let before : is_running (slice_get l.machine.tasks u) ≡ true = I.runs (sym (allocated_end l t (asked p l.machine t)) ∙ ends.1) u w (was u w q) in
-        ap (λ (m : State). is_running (slice_get m.tasks u)) machine_is ∙ (ap is_running (step_others p l.machine t u S.0.fork_join ne before) ∙ before)
+        ap (λ (m : MachineState). is_running (slice_get m.tasks u)) machine_is ∙ (ap is_running (step_others p l.machine t u S.0.fork_join ne before) ∙ before)
   ]
     where
       ends : ((step p l.machine t).end ≡ None) × (b.end ≡ None)
@@ -194,13 +170,13 @@ module _ (p : ProgramText) (l : Ledger) (t : ℕ) (S : SoundAt t l) (I : MannedL
     one = λ u v w q r. I.one u v w (was u w q) (was v w r);
     out = λ u c. elim (cases_eq u t) [
       | inl e ↦ absurd (both_ways (collecting (slice_get k.heaps t)) leaves.1 (ap (λ v. collecting (slice_get k.heaps v)) (sym e) ∙ c))
-      | inr ne ↦ by u ne (slice_get k.heaps u) refl c
+      | inr ne ↦ step_manned_by_cases u ne (slice_get k.heaps u) refl c
     ];
   }
     where
-      by : (u : ℕ) → (u ≡ t → ⊥) → (o : Option Heap) → slice_get k.heaps u ≡ o → collecting o ≡ true → is_some (worker_at o) ≡ true
-      by u ne None e c = c
-      by u ne (Some h) e c = goes_k u h e ne c
+      step_manned_by_cases : (u : ℕ) → (u ≡ t → ⊥) → (o : Option Heap) → slice_get k.heaps u ≡ o → collecting o ≡ true → is_some (worker_at o) ≡ true
+      step_manned_by_cases u ne None e c = c
+      step_manned_by_cases u ne (Some h) e c = goes_k u h e ne c
 
 task_step_manned : (p : ProgramText) (l : Ledger) (t : ℕ) → SoundAt t l → MannedLedger l → MannedLedger (task_step p l t)
 task_step_manned p l t S I = step_keeps MannedLedger p l t (step_manned p l t S I) I
@@ -210,10 +186,10 @@ task_steps_manned p k l t S I = steps_keep MannedLedger p t (λ m R J. task_step
 
 -- ENTRIES
 
--- who isn't found holding a task holds none
+-- a worker that isn't found to hold a task holds none
 pub holding_none : (w t : ℕ) (heaps : List Heap) → out_from w t heaps ≡ None → (u : ℕ) → worker_at (slice_get heaps u) ≡ Some w → ⊥
 holding_none w t [] h u q = none_some q
-holding_none w t (g ∷ heaps) h u q = by (option_is g.worker w) refl h (λ v free r. holding_none w (t + 1) heaps free v r) u q
+holding_none w t (g ∷ heaps) h u q = holding_none_by_cases (option_is g.worker w) refl h (λ v free r. holding_none w (t + 1) heaps free v r) u q
   where
     held_is : g.worker ≡ Some w → option_is g.worker w ≡ true
     held_is e = ap (λ o. option_is o w) e ∙ eq-eqb w w refl
@@ -221,11 +197,11 @@ holding_none w t (g ∷ heaps) h u q = by (option_is g.worker w) refl h (λ v fr
     none_task : {A : Type 0} → ◌≡◌ {A = Option ℕ} (Some t) None → A
     none_task q' = absurd cc
 
-    by : (v : Bool) → option_is g.worker w ≡ v → cond v (Some t) (out_from w (t + 1) heaps) ≡ None
+    holding_none_by_cases : (v : Bool) → option_is g.worker w ≡ v → cond v (Some t) (out_from w (t + 1) heaps) ≡ None
         → ((u' : ℕ) → out_from w (t + 1) heaps ≡ None → worker_at (slice_get heaps u') ≡ Some w → ⊥) → (u' : ℕ) → worker_at (slice_get (g ∷ heaps) u') ≡ Some w → ⊥
-    by true e free more u' q' = none_task free
-    by false e free more zero q' = both_ways (option_is g.worker w) e (held_is q')
-    by false e free more (suc u') q' = more u' free q'
+    holding_none_by_cases true e free more u' q' = none_task free
+    holding_none_by_cases false e free more zero q' = both_ways (option_is g.worker w) e (held_is q')
+    holding_none_by_cases false e free more (suc u') q' = more u' free q'
 
 pub none_holding : (o : Option ℕ) → is_none (refused_holding o None) ≡ true → o ≡ None
 none_holding None h = refl
@@ -302,18 +278,18 @@ opening_manned : (p : ProgramText) (s : SettingsValue) → MannedLedger (opening
 opening_manned p s = record { runs = λ on u w q. absurd (first_free u w q); one = λ u v w q r. absurd (first_free u w q); out = λ u c. absurd (fresh_idle u c) }
 
 pub worker_of : (l : Ledger) (t : ℕ) → (heap_of l t).worker ≡ worker_at (slice_get l.heaps t)
-worker_of l t = by (slice_get l.heaps t)
+worker_of l t = worker_of_by_cases (slice_get l.heaps t)
   where
-    by : (o : Option Heap) → (or_fresh o).worker ≡ worker_at o
-    by None = refl
-    by (Some h) = refl
+    worker_of_by_cases : (o : Option Heap) → (or_fresh o).worker ≡ worker_at o
+    worker_of_by_cases None = refl
+    worker_of_by_cases (Some h) = refl
 
 begun_of : (l : Ledger) (t : ℕ) → is_some (heap_of l t).begun ≡ collecting (slice_get l.heaps t)
-begun_of l t = by (slice_get l.heaps t)
+begun_of l t = begun_of_by_cases (slice_get l.heaps t)
   where
-    by : (o : Option Heap) → is_some (or_fresh o).begun ≡ collecting o
-    by None = refl
-    by (Some h) = refl
+    begun_of_by_cases : (o : Option Heap) → is_some (or_fresh o).begun ≡ collecting o
+    begun_of_by_cases None = refl
+    begun_of_by_cases (Some h) = refl
 
 pub tasks_are_out_once : TasksAreOutOnce
 tasks_are_out_once p s journal legal =

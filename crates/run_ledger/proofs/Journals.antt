@@ -1,40 +1,10 @@
--- What every legal journal keeps: nothing reachable is freed.
-use Rattle.std.proofs.Common.{◌≡◌, ℕ, zero, suc, ◌+◌, ◌&&◌, Bool, true, false, not, cond, Option, Some, None, List, [], ◌∷◌, ◌++◌, length, slice_get, slice_set, nat_lt, nat_le, inl, inr, refl, ap, sym, subst, ◌∙◌, is_some, is_none}
-use Rattle.std.proofs.lemmas.Bool.{cases_eq, both_ways, false≢true, and_parts}
-use Rattle.std.proofs.lemmas.Option.{same_Some}
-use Rattle.listed.proofs.Members.{In, in_from_contains, contains_from_in}
-use Rattle.listed.proofs.Options.{none_of}
-use Rattle.hh_lang.specs.Form.{ProgramText}
-use Rattle.hh_model.specs.declared.data.Name.{Name}
-use Rattle.hh_model.specs.declared.data.Task.{Task}
-use Rattle.hh_model.specs.Names.{refs_at, registers, task_names}
-use Rattle.hh_model.specs.Step.{is_running, is_waiting, is_joined, parents, joined, owner_of, is_on_path, root, start, asked}
-use Rattle.hh_model.proofs.Tree.{not_above, owner_not_joined}
-use Rattle.hh_model.proofs.Runs.{waiting, running_tells}
-use Rattle.hh_model.proofs.ForkJoinStates.{start_is_fork_join_state}
-use Rattle.hh_model.proofs.Steps.{runs_is, run_names}
-use Rattle.hh_model.proofs.Closed.{Closed}
-use Rattle.path_laws.proofs.Disentangled.{start_disentangled}
-use Rattle.run_trace.specs.declared.entry.Kind.{Kind}
-use Rattle.run_trace.specs.declared.entry.Kind.TheVariants.{Took, Ran, Chunk, Begin, End, PutOff, Mark, More, Sweep, Fuel}
-use Rattle.run_trace.specs.Entry.{EntryValue}
-use Rattle.run_trace.specs.Settings.{SettingsValue, field_limit}
-use Rattle.walk_laws.proofs.Reached.{reached_within}
-use Rattle.run_ledger.specs.declared.data.Heap.{Heap}
-use Rattle.run_ledger.specs.declared.data.Ledger.{Ledger}
-use Rattle.run_ledger.specs.declared.data.Refused.{Refused}
-use Rattle.run_ledger.specs.declared.data.RunEnd.TheVariants.{Pool}
-use Rattle.run_ledger.specs.Heaps.{held, held_in, heap_at, heap_of, or_fresh, frames_of, within, with_heap, with_heap_at, fresh, chunk_words, in_use, is_small, take_of, collected, swept_heap}
-use Rattle.run_ledger.specs.Steps.{on_asked}
-use Rattle.run_ledger.specs.Entries.{kind_refusal, refusal, refused_unless, refused_if, is_out, on_running, on_waiting, after_kind, after, chunk_units, is_fuel}
-use Rattle.listed.specs.Options.{option_is}
-use Rattle.run_ledger.specs.Journals.{opening, after_all, ledger_of, is_legal_from, is_legal}
-use Rattle.run_ledger.specs.Laws.{IsNamedByTask, Refers, KeepsReachable, NothingReachableIsFreed}
+-- Invariants of legal journals: nothing reachable is freed.
+use Rattle.run_ledger.proofs.Common.{◌≡◌, ℕ, zero, suc, ◌+◌, ◌&&◌, Bool, true, false, not, cond, Option, Some, None, List, [], ◌∷◌, ◌++◌, length, slice_get, slice_set, nat_lt, nat_le, inl, inr, refl, ap, sym, subst, ◌∙◌, is_some, is_none, cases_eq, both_ways, false≢true, and_parts, same_Some, In, in_from_contains, contains_from_in, none_of, ProgramText, Name, Task, refs_at, registers, task_names, is_running, is_waiting, is_joined, parents, joined, owner_of, is_on_path, root, start, asked, not_above, owner_not_joined, waiting, running_tells, start_is_fork_join_state, runs_is, run_names, Closed, start_disentangled, Kind, Took, Ran, Chunk, Begin, End, PutOff, Mark, More, Sweep, Fuel, EntryValue, SettingsValue, field_limit, reached_within, option_is, Heap, Ledger, Refused, Pool, held, held_in, heap_at, heap_of, or_fresh, frames_of, within, with_heap, with_heap_at, fresh, chunk_words, in_use, is_small, take_of, collected, swept_heap, on_asked, kind_refusal, refusal, refused_unless, refused_if, is_out, on_running, on_waiting, after_kind, after, chunk_units, is_fuel, opening, after_all, ledger_of, is_legal_from, is_legal, IsNamedByTask, Refers, KeepsReachable, NothingReachableIsFreed}
 use Rattle.run_ledger.proofs.Held.{chunk_down, chunk_up, collected_down, collected_up, swept_down, swept_up}
 use Rattle.run_ledger.proofs.Sound.{InHeaps, Keeps, Spares, collecting, snapshot_at, survivors_at, Sound, SoundLedger, closed_same, frozen, renewed, changed, cut, spares_kept, up_with, down, in_held, held_keeps}
 use Rattle.run_ledger.proofs.Steps.{named_live, task_steps_sound}
 
--- a refusal that is none
+-- a test that refuses nothing
 pub none_where : (b : Bool) (c : Refused) (rest : Option Refused) → is_none (refused_if b c rest) ≡ true → (b ≡ false) × (is_none rest ≡ true)
 none_where true c rest h = absurd (false≢true h)
 none_where false c rest h = (refl, h)
@@ -47,15 +17,15 @@ pub collecting_is : (o : Option Heap) → is_some (or_fresh o).begun ≡ collect
 collecting_is None = refl
 collecting_is (Some h) = refl
 
--- a heap's account is changed, where there is one
+-- a heap's account is changed, if there is one
 with_heap_sound : (l : Ledger) (t : ℕ) (f : Heap → Heap) → SoundLedger l → ((h : Heap) → slice_get l.heaps t ≡ Some h → Sound l.machine.tasks l.machine.edges l.machine.store (slice_set l.heaps t (f h))) → SoundLedger (with_heap l t f)
-with_heap_sound l t f S each = by (heap_at l t) refl
+with_heap_sound l t f S each = with_heap_sound_by_cases (heap_at l t) refl
   where
-    by : (o : Option Heap) → heap_at l t ≡ o → SoundLedger (with_heap_at l t f o)
-    by None e = S
-    by (Some h) e = each h e
+    with_heap_sound_by_cases : (o : Option Heap) → heap_at l t ≡ o → SoundLedger (with_heap_at l t f o)
+    with_heap_sound_by_cases None e = S
+    with_heap_sound_by_cases (Some h) e = each h e
 
--- changes that touch no name
+-- changes that keep all names
 plain : (l : Ledger) (t : ℕ) (f : Heap → Heap) → SoundLedger l → ((h : Heap) (n : Name) → In (held_in (f h)) n → In (held_in h) n) → ((h : Heap) (n : Name) → In (held_in h) n → In (held_in (f h)) n)
     → ((h : Heap) → (f h).begun ≡ h.begun) → ((h : Heap) → (f h).survivors ≡ h.survivors) → ((h : Heap) → (f h).snapshot ≡ h.snapshot) → SoundLedger (with_heap l t f)
 plain l t f S dn up eb es en =
@@ -131,7 +101,7 @@ chunk_sound p l t S false false end units E = plain l t _ S (λ h n i. i) (λ h 
 pub out_runs : (l : Ledger) (w t : ℕ) → is_out l w t ≡ true → is_running (slice_get l.machine.tasks t) ≡ true
 out_runs l w t h = (and_parts (is_running (slice_get l.machine.tasks t)) (option_is (heap_of l t).worker w) h).0
 
--- what an entry that isn't refused tells of the task that it speaks of
+-- what an accepted entry implies about its task
 pub out_tells : (l : Ledger) (w t : ℕ) (rest : Option Refused) → is_none (on_running l w t rest) ≡ true
     → (is_running (slice_get l.machine.tasks t) ≡ true) × (collecting (slice_get l.heaps t) ≡ false) × (is_none rest ≡ true)
 out_tells l w t rest h =
@@ -161,7 +131,7 @@ kind_sound p s l w (More t n) S h = plain l t _ S (λ h n i. i) (λ h n i. i) (�
 kind_sound p s l w (Sweep t g) S h = sweep_sound l S t (wait_tells l t _ h).0
 kind_sound p s l w Fuel S h = S
 
--- what an entry that isn't refused tells
+-- what an accepted entry implies
 pub entry_tells : (p : ProgramText) (s : SettingsValue) (l : Ledger) (e : EntryValue) → is_none (refusal p s l e) ≡ true
     → (is_some l.end ≡ false) × ((nat_le s.fuel l.steps && not (is_fuel e.kind)) ≡ false) × (is_none (kind_refusal p s l e.worker e.kind) ≡ true)
 entry_tells p s l e h =
@@ -170,14 +140,14 @@ entry_tells p s l e h =
     let c = none_unless (nat_lt e.worker s.workers) _ _ b.1 in
     (a.0, b.0, c.1)
 
--- it is entered while the run goes on
+-- it is made while the run goes on
 pub accepted_on : (p : ProgramText) (s : SettingsValue) (l : Ledger) (e : EntryValue) → refusal p s l e ≡ None → l.end ≡ None
 accepted_on p s l e accepted = none_of l.end (entry_tells p s l e (ap is_none accepted)).0
 
 pub entry_sound : (p : ProgramText) (s : SettingsValue) (l : Ledger) (e : EntryValue) → SoundLedger l → is_none (refusal p s l e) ≡ true → SoundLedger (after p s l e)
 entry_sound p s l e S h = kind_sound p s l e.worker e.kind S (entry_tells p s l e h).2
 
--- what each entry that is taken keeps, a legal journal keeps
+-- what each accepted entry keeps, every legal journal keeps
 pub journal_keeps : (P : Ledger → Type 0) (p : ProgramText) (s : SettingsValue) → ((l : Ledger) (w : ℕ) (kind : Kind) → SoundLedger l → is_none (kind_refusal p s l w kind) ≡ true → P l → P (after_kind p s l w kind)) → (journal : List EntryValue) (l : Ledger) → SoundLedger l → P l
     → is_legal_from p s l journal ≡ true → P (after_all p s l journal)
 journal_keeps P p s keeps [] l S I h = I

@@ -1,17 +1,8 @@
--- How many lists a leaf collection lays its survivors into, and that each has a name.
-use Rattle.std.proofs.Common.{◌≡◌, ℕ, suc, ◌+◌, ◌-◌, ◌*◌, ◌<◌, ◌≤◌, max, Bool, true, false, cond, List, [], ◌∷◌, ◌++◌, length, nat_le, ◌⊎◌, inl, inr, refl, ap, sym, subst, ◌∙◌, arith}
-use Rattle.std.proofs.lemmas.Bool.{leb-false}
-use Rattle.std.proofs.lemmas.List.Sums.{sum_by-append, sum_by-cons}
-use Rattle.listed.proofs.Members.{In}
-use Rattle.chunk_sizes.proofs.Filled.{Filled, filled_more, filled_next}
-use Rattle.hh_model.specs.declared.data.Name.{Name}
-use Rattle.hh_model.specs.declared.data.State.{State}
-use Rattle.run_ledger.specs.declared.data.Heap.{Heap}
-use Rattle.run_ledger.specs.Heaps.{chunk_words, units, words_at, words_sum, small_in, lay, laid_onto, small_survivors, collected, take_of, without_empty, is_last_empty, room_behind}
-use Rattle.run_ledger.specs.Space.{last_words}
+-- How many lists a leaf collection lays its survivors into, and that each is nonempty.
+use Rattle.run_ledger.proofs.Common.{◌≡◌, ℕ, suc, ◌+◌, ◌-◌, ◌*◌, ◌<◌, ◌≤◌, max, Bool, true, false, cond, List, [], ◌∷◌, ◌++◌, length, nat_le, ◌⊎◌, inl, inr, refl, ap, sym, subst, ◌∙◌, arith, leb-false, sum_by-append, sum_by-cons, In, Filled, filled_more, filled_next, Name, MachineState, Heap, chunk_words, units, words_at, words_sum, small_in, lay, laid_onto, small_survivors, collected, take_of, without_empty, is_last_empty, room_behind, last_words}
 use Rattle.run_ledger.proofs.Weights.{survivors_weight}
 
-module _ (m : State) where
+module _ (m : MachineState) where
   abbrev Laid : List (List Name) → Name → List (List Name) → Type 0
   Laid lists n lists' =
       ((0 < length lists) × (length lists' ≡ length lists) × (last_words m lists' ≡ last_words m lists + words_at m n))
@@ -63,7 +54,7 @@ module _ (m : State) where
       let less : words_sum m (small_survivors h) ≤ words_sum m (small_in h) = survivors_weight (words_at m) h in
       bounded (length (collected m h).chunks) (last_words m (collected m h).chunks) (0 + words_sum m (small_survivors h)) (words_sum m (small_in h)) F (omega arith)
 
-  -- each list has a name
+  -- each list is nonempty
   abbrev pub HaveNames : List (List Name) → Type 0
   HaveNames lists = (ns : List Name) → In lists ns → 0 < length ns
 
@@ -93,7 +84,7 @@ module _ (m : State) where
   room_some [] h = h
   room_some (ns ∷ lists) h = omega arith
 
-pub nonempty_names : (m : State) (lists : List (List Name)) → HaveNames m (without_empty lists)
+pub nonempty_names : (m : MachineState) (lists : List (List Name)) → HaveNames m (without_empty lists)
 nonempty_names m [] xs i = absurd i
 nonempty_names m ([] ∷ lists) xs i = nonempty_names m lists xs i
 nonempty_names m ((n ∷ ns) ∷ lists) xs (inl e) = subst (λ ys. 0 < length ys) e (omega arith)
@@ -104,7 +95,7 @@ nonempty_length [] = omega arith
 nonempty_length ([] ∷ lists) = let h = nonempty_length lists in omega arith
 nonempty_length ((n ∷ ns) ∷ lists) = let h = nonempty_length lists in omega arith
 
--- where the last list has a name, some list has one
+-- if the last list is nonempty, some list is
 pub last_some : (lists : List (List Name)) → is_last_empty lists ≡ false → 0 < length lists → 0 < length (without_empty lists)
 last_some [] e l = l
 last_some ([] ∷ []) e l = absurd cc

@@ -22,3 +22,4 @@ mod Exact
 pub mod Use
 pub mod Going
 pub mod RunOn
+mod Common

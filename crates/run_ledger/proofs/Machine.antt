@@ -1,27 +1,8 @@
 -- The machine of a journal's accounts is the run of the journal's steps.
-use Rattle.std.proofs.Common.{◌≡◌, ℕ, zero, suc, ◌+◌, ◌-◌, Bool, true, false, cond, Option, Some, None, List, [], ◌∷◌, ◌++◌, slice_get, replicate, nat_lt, refl, ap, sym, ◌∙◌, arith}
-use Rattle.std.proofs.lemmas.Bool.{cond-false}
-use Rattle.run_trace.specs.declared.entry.Kind.{Kind}
-use Rattle.run_trace.specs.declared.entry.Kind.TheVariants.{Took, Ran, Chunk, Begin, End as EndOf, PutOff, Mark, More, Sweep, Fuel}
-use Rattle.run_trace.specs.Entry.{EntryValue}
-use Rattle.run_trace.specs.Settings.{SettingsValue}
-use Rattle.hh_lang.specs.Form.{ProgramText}
-use Rattle.hh_model.specs.declared.data.Status.{Status}
-use Rattle.hh_model.specs.declared.data.Status.TheVariants.{Running, Waiting, Ended, Joined}
-use Rattle.hh_model.specs.declared.data.Task.{Task}
+use Rattle.run_ledger.proofs.Common.{◌≡◌, ℕ, zero, suc, ◌+◌, ◌-◌, Bool, true, false, cond, Option, Some, None, List, [], ◌∷◌, ◌++◌, slice_get, replicate, nat_lt, refl, ap, sym, ◌∙◌, arith, cond-false, Kind, Took, Ran, Chunk, Begin, End as EndOf, PutOff, Mark, More, Sweep, Fuel, EntryValue, SettingsValue, ProgramText, TaskStatus, Running, Waiting, Ended, Joined, Task, MachineState, is_left, can_step, or_same, stepped, fetched, step, asked, run_from, run_on, Heap, Ledger, with_heap, with_heap_at, heap_at, within, fresh, let_go, emptied, forked_heap, in_use, join_heaps, moved_on, moved_to, settled, stepped_to, allocated_in, task_step, task_steps, after_kind, after, chunk_units, after_all, opening, tasks_in, tasks_of, EntriesMoveMachine, MachineIsRun}
 use Rattle.hh_model.specs.declared.data.End.{End}
-use Rattle.hh_model.specs.declared.data.State.{State}
-use Rattle.hh_model.specs.Step.{is_left, can_step, or_same, stepped, fetched, step, asked, run_from}
-use Rattle.hh_model.proofs.Counts.{run_on}
-use Rattle.run_ledger.specs.declared.data.Heap.{Heap}
-use Rattle.run_ledger.specs.declared.data.Ledger.{Ledger}
-use Rattle.run_ledger.specs.Heaps.{with_heap, with_heap_at, heap_at, within, fresh, let_go, emptied, forked_heap, in_use}
-use Rattle.run_ledger.specs.Steps.{join_heaps, moved_on, moved_to, settled, stepped_to, allocated_in, task_step, task_steps}
-use Rattle.run_ledger.specs.Entries.{after_kind, after, chunk_units}
-use Rattle.run_ledger.specs.Journals.{after_all, opening, tasks_in, tasks_of}
-use Rattle.run_ledger.specs.Laws.{EntriesMoveMachine, MachineIsRun}
 
--- some steps of a task and then some more
+-- n steps of a task and then k more
 pub task_steps_more : (p : ProgramText) (t n k : ℕ) (l : Ledger) → task_steps p l t (n + k) ≡ task_steps p (task_steps p l t n) t k
 task_steps_more p t zero k l = ap (task_steps p l t) (let e : 0 + k ≡ k = omega arith in e)
 task_steps_more p t (suc n) k l = ap (task_steps p l t) (let e : suc n + k ≡ suc (n + k) = omega arith in e) ∙ task_steps_more p t n k (task_step p l t)
@@ -36,7 +17,7 @@ heap_machine l t f = heap_at_machine l t f (heap_at l t)
 join_machine : (l : Ledger) (p c : ℕ) → (join_heaps l p c).machine ≡ l.machine
 join_machine l p c = heap_machine _ (c + 1) emptied ∙ (heap_machine _ c emptied ∙ heap_machine l p _)
 
-moved_on_machine : (l : Ledger) (t : ℕ) (parent : Option ℕ) (s : Status) → (moved_on l t parent s).machine ≡ l.machine
+moved_on_machine : (l : Ledger) (t : ℕ) (parent : Option ℕ) (s : TaskStatus) → (moved_on l t parent s).machine ≡ l.machine
 moved_on_machine l t parent Running = refl
 moved_on_machine l t parent Waiting = heap_machine (record l { heaps = l.heaps ++ fresh ∷ fresh ∷ [] }) t (forked_heap (within l t))
 moved_on_machine l t parent (Ended k n) = heap_machine l t let_go
@@ -51,15 +32,15 @@ settled_machine : (l : Ledger) (t : ℕ) (o : Option End) → (settled l t o).ma
 settled_machine l t (Some e) = refl
 settled_machine l t None = moved_to_machine l t (slice_get l.machine.tasks t)
 
-pub stepped_machine : (l : Ledger) (t : ℕ) (m : State) → (stepped_to l t m).machine ≡ m
+pub stepped_machine : (l : Ledger) (t : ℕ) (m : MachineState) → (stepped_to l t m).machine ≡ m
 stepped_machine l t m = settled_machine _ t m.end
 
 pub task_step_machine : (p : ProgramText) (l : Ledger) (t : ℕ) → (task_step p l t).machine ≡ step p l.machine t
-task_step_machine p l t = by (can_step l.machine t) refl
+task_step_machine p l t = task_step_machine_by_cases (can_step l.machine t) refl
   where
-    by : (v : Bool) → can_step l.machine t ≡ v → (cond v (stepped_to (allocated_in p l t) t (step p l.machine t)) (record l { steps = l.steps + 1 })).machine ≡ step p l.machine t
-    by true e = stepped_machine (allocated_in p l t) t (step p l.machine t)
-    by false e = sym (cond-false (can_step l.machine t) (or_same l.machine (slice_get l.machine.tasks t) (λ x. stepped p l.machine t x (fetched p x.top))) l.machine e)
+    task_step_machine_by_cases : (v : Bool) → can_step l.machine t ≡ v → (cond v (stepped_to (allocated_in p l t) t (step p l.machine t)) (record l { steps = l.steps + 1 })).machine ≡ step p l.machine t
+    task_step_machine_by_cases true e = stepped_machine (allocated_in p l t) t (step p l.machine t)
+    task_step_machine_by_cases false e = sym (cond-false (can_step l.machine t) (or_same l.machine (slice_get l.machine.tasks t) (λ x. stepped p l.machine t x (fetched p x.top))) l.machine e)
 
 steps_machine : (p : ProgramText) (k : ℕ) (l : Ledger) (t : ℕ) → (task_steps p l t k).machine ≡ run_from p l.machine (replicate k t)
 steps_machine p zero l t = refl

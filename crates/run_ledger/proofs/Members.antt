@@ -1,9 +1,6 @@
 -- The test of membership for names.
-use Rattle.std.proofs.Common.{◌≡◌, true, List, refl, sym, subst, eqb, eqb-true, eq-eqb}
-use Rattle.std.proofs.lemmas.Bool.{and_parts, and_from}
-use Rattle.hh_model.specs.declared.data.Name.{Name}
-use Rattle.listed.proofs.Members.{In, any_from_in, in_from_any}
-use Rattle.run_ledger.specs.Reachable.{is_name, holds_name}
+use Rattle.std.proofs.Common.{eqb-true}
+use Rattle.run_ledger.proofs.Common.{◌≡◌, true, List, refl, sym, subst, eqb, eq-eqb, and_parts, and_from, Name, In, any_from_in, in_from_any, is_name, holds_name}
 
 pub same_from_is_name : (m n : Name) → is_name m n ≡ true → m ≡ n
 same_from_is_name m n h =

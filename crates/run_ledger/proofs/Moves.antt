@@ -1,14 +1,7 @@
--- How a step changes the heaps, once the account of its allocation is made.
-use Rattle.std.proofs.Common.{◌≡◌, ℕ, zero, suc, ◌+◌, ◌<◌, true, false, Some, List, [], ◌∷◌, ◌++◌, slice_get, slice_set, ◌⊎◌, inl, inr, ap, sym, subst, ◌∙◌, is_some}
-use Rattle.std.proofs.lemmas.Option.{same_Some}
-use Rattle.listed.proofs.Members.{got_cases}
-use Rattle.hh_model.specs.declared.data.Name.{Name}
-use Rattle.hh_model.specs.declared.data.Task.{Task}
-use Rattle.hh_model.proofs.Runs.{waiting}
-use Rattle.run_ledger.specs.declared.data.Heap.{Heap}
-use Rattle.run_ledger.specs.Heaps.{fresh, forked_heap, merged, emptied, let_go}
+-- How a step changes the heaps after the account of its allocation.
+use Rattle.run_ledger.proofs.Common.{◌≡◌, ℕ, zero, suc, ◌+◌, ◌<◌, true, false, Some, List, [], ◌∷◌, ◌++◌, slice_get, slice_set, ◌⊎◌, inl, inr, ap, sym, subst, ◌∙◌, is_some, same_Some, got_cases, Name, Task, waiting, Heap, fresh, forked_heap, merged, emptied, let_go}
 
--- the worker lets go of the task t, which has ended before its sibling
+-- the worker releases the task t, which has ended before its sibling
 pub record LetsGo (t : ℕ) (heaps heaps' : List Heap) : Type 0 where
   pub heap : Heap
   pub at : slice_get heaps t ≡ Some heap
@@ -21,7 +14,7 @@ pub record Forks (t : ℕ) (heaps heaps' : List Heap) : Type 0 where
   pub at : slice_get heaps t ≡ Some heap
   pub is : heaps' ≡ slice_set (heaps ++ fresh ∷ fresh ∷ []) t (forked_heap names heap)
 
--- both children join their parent, which waits; none of the three is amid a leaf collection
+-- both children join their parent, which waits; none of the three is in a leaf collection
 pub record Joins (tasks : List Task) (heaps heaps' : List Heap) : Type 0 where
   pub parent : ℕ
   pub child : ℕ
@@ -41,7 +34,7 @@ pub record Joins (tasks : List Task) (heaps heaps' : List Heap) : Type 0 where
 abbrev pub Moves : ℕ → List Task → List Heap → List Heap → Type 0
 Moves t tasks heaps heaps' = (heaps' ≡ heaps) ⊎ (LetsGo t heaps heaps' ⊎ (Forks t heaps heaps' ⊎ Joins tasks heaps heaps'))
 
--- what every heap has it keeps, if each of these changes keeps it
+-- a property of every heap is kept if each of these changes keeps it
 pub moves_each : (Q : ℕ → Heap → Type 0) (t : ℕ) (tasks : List Task) (heaps heaps' : List Heap) → Moves t tasks heaps heaps'
     → ((u : ℕ) (h : Heap) → slice_get heaps u ≡ Some h → Q u h) → ((h : Heap) → Q t h → Q t (let_go h)) → ((u : ℕ) → Q u fresh) → ((ns : List Name) (h : Heap) → Q t h → Q t (forked_heap ns h))
     → ((u : ℕ) (h l r : Heap) (v w : ℕ) → slice_get heaps u ≡ Some h → waiting tasks u ≡ true → is_some h.begun ≡ false → Q u h → Q v l → Q w r → Q u (merged h l r))

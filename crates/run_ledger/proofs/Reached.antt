@@ -1,15 +1,5 @@
 -- What is reached is what walks lead to.
-use Rattle.std.proofs.Common.{◌≡◌, ℕ, zero, suc, ◌≤◌, Bool, true, false, cond, ◌||◌, List, [], ◌∷◌, length, filter, ◌⊎◌, inl, inr, refl, ap, sym, ◌∙◌, subst, arith}
-use Rattle.std.specs.List.{list_any}
-use Rattle.std.proofs.lemmas.Bool.{or_cases, or_left, or_right, false≢true, cases_lt}
-use Rattle.hh_model.specs.declared.data.Name.{Name}
-use Rattle.hh_model.specs.declared.data.Object.{Object}
-use Rattle.hh_model.specs.Names.{refs_at}
-use Rattle.walk_laws.proofs.Reached.{reached_start, reached_within}
-use Rattle.walk_laws.proofs.Reached.{reached_more as walk_more}
-use Rattle.run_ledger.specs.Reachable.{holds_name, once_more, reached_by, reached, StartsWithin, LeadsWithin, IsReachedWithin}
-use Rattle.run_ledger.specs.Laws.{ReachedIsWalks}
-use Rattle.listed.proofs.Members.{In, in_from_contains, contains_from_in, in_kept, in_from_kept, any_from_in, in_from_any}
+use Rattle.run_ledger.proofs.Common.{◌≡◌, ℕ, zero, suc, ◌≤◌, Bool, true, false, cond, ◌||◌, List, [], ◌∷◌, length, filter, ◌⊎◌, inl, inr, refl, ap, sym, ◌∙◌, subst, arith, list_any, or_cases, or_left, or_right, false≢true, cases_lt, Name, Object, refs_at, reached_start, reached_within, reached_more as walk_more, In, in_from_contains, contains_from_in, in_kept, in_from_kept, any_from_in, in_from_any, holds_name, once_more, reached_by, reached, StartsWithin, LeadsWithin, IsReachedWithin, ReachedIsWalks}
 use Rattle.run_ledger.proofs.Members.{in_from_holds, holds_from_in}
 
 length_step : {A : Type 0} (p q : A → Bool) (x : A) (xs : List A) → (p x ≡ true → q x ≡ true) → length (filter p xs) ≤ length (filter q xs)
@@ -19,7 +9,7 @@ length_step p q x xs more rest true false is is' = absurd (false≢true (sym is'
 length_step p q x xs more rest false true is is' = omega arith
 length_step p q x xs more rest false false is is' = omega arith
 
--- a weaker test keeps no fewer
+-- a weaker test keeps at least as many
 pub length_weaker : {A : Type 0} (p q : A → Bool) (xs : List A) → ((x : A) → In xs x → p x ≡ true → q x ≡ true) → length (filter p xs) ≤ length (filter q xs)
 length_weaker p q [] more = omega arith
 length_weaker p q (x ∷ xs) more = length_step p q x xs (more x (inl refl)) (length_weaker p q xs (λ y h. more y (inr h))) (p x) (q x) refl refl
@@ -32,7 +22,7 @@ same_step p q x xs more le rest true false is is' h = absurd (false≢true (sym 
 same_step p q x xs more le rest false true is is' h = absurd (omega arith)
 same_step p q x xs more le rest false false is is' h = rest (omega arith)
 
--- and keeps the same, if as many
+-- and keeps the same ones, if equally many
 pub same_weaker : {A : Type 0} (p q : A → Bool) (xs : List A) → ((x : A) → In xs x → p x ≡ true → q x ≡ true) → length (filter q xs) ≤ length (filter p xs) → filter p xs ≡ filter q xs
 same_weaker p q [] more h = refl
 same_weaker p q (x ∷ xs) more h =
@@ -47,7 +37,7 @@ length_kept p [] = omega arith
 length_kept p (x ∷ xs) = all_step p x xs (length_kept p xs) (p x)
 
 module _ (store : List (List Object)) (names roots : List Name) where
-  -- the test of a round
+  -- the test of one round
   abbrev test : ℕ → Name → Bool
   test zero n = holds_name roots n
   test (suc k) n = holds_name (reached_by store names roots k) n || list_any (λ m. holds_name (refs_at store m) n) (reached_by store names roots k)
@@ -64,8 +54,8 @@ module _ (store : List (List Object)) (names roots : List Name) where
       let r = in_from_kept (test k) names n (subst (λ ns. In ns n) (by_test k) h) in
       in_kept (test (suc k)) names n r.0 (more k n r.0 r.1)
 
-  same : (k : ℕ) → length (reached_by store names roots (suc k)) ≤ length (reached_by store names roots k) → reached_by store names roots k ≡ reached_by store names roots (suc k)
-  same k h = by_test k ∙ same_weaker (test k) (test (suc k)) names (more k) (omega (arith, ap length (by_test k)))
+  round_is_last : (k : ℕ) → length (reached_by store names roots (suc k)) ≤ length (reached_by store names roots k) → reached_by store names roots k ≡ reached_by store names roots (suc k)
+  round_is_last k h = by_test k ∙ same_weaker (test k) (test (suc k)) names (more k) (omega (arith, ap length (by_test k)))
 
   stays_or_grows : (k : ℕ) → (reached_by store names roots k ≡ reached_by store names roots (suc k)) ⊎ (k ≤ length (reached_by store names roots k))
   stays_or_grows zero = inr (omega arith)
@@ -74,7 +64,7 @@ module _ (store : List (List Object)) (names roots : List Name) where
         | inl e ↦ inl (ap (once_more store names) e)
         | inr le ↦ elim (cases_lt (length (reached_by store names roots k)) (length (reached_by store names roots (suc k)))) [
           | inl lt ↦ inr (omega arith)
-          | inr ge ↦ inl (ap (once_more store names) (same k ge))
+          | inr ge ↦ inl (ap (once_more store names) (round_is_last k ge))
         ]
       ]
 
@@ -82,7 +72,7 @@ module _ (store : List (List Object)) (names roots : List Name) where
   stays =
       elim (stays_or_grows (length names)) [
         | inl e ↦ e
-        | inr le ↦ same (length names) (omega (arith, length_kept (test (suc (length names))) names))
+        | inr le ↦ round_is_last (length names) (omega (arith, length_kept (test (suc (length names))) names))
       ]
 
   from_start : (k : ℕ) (n : Name) → In (reached_by store names roots zero) n → In (reached_by store names roots k) n
@@ -123,6 +113,6 @@ reached_is_walks store names roots n = (
   λ w. contains_from_in (reached store names roots) n (in_from_walk store names roots n w),
 )
 
--- of some names, those that were found, and those to which these have references
+-- of some names, those that were found and those to which they refer
 abbrev pub once_by : (Name → List Name) → List Name → List Name → List Name
 once_by refs names found = filter (λ n. holds_name found n || list_any (λ m. holds_name (refs m) n) found) names

@@ -1,13 +1,5 @@
--- A step after which its task runs on, and the heaps that a step leaves.
-use Rattle.std.proofs.Common.{◌≡◌, ◌+◌, Bool, true, false, cond, Option, Some, None, slice_get, ◌⊎◌, refl, ap, ◌∙◌}
-use Rattle.std.proofs.lemmas.Bool.{false≢true, cond-true}
-use Rattle.hh_model.specs.declared.data.Task.{Task}
-use Rattle.hh_model.specs.declared.data.State.{State}
-use Rattle.hh_model.specs.Step.{is_running, step, can_step}
-use Rattle.hh_model.proofs.Steps.{runs_is}
-use Rattle.run_ledger.specs.declared.data.Ledger.{Ledger}
-use Rattle.run_ledger.specs.Steps.{allocated_in, moved_on, moved_to, settled, stepped_to}
-use Rattle.run_ledger.specs.Laws.{StepsRunOn}
+-- A step after which its task runs on, and the heaps after a step.
+use Rattle.run_ledger.proofs.Common.{◌≡◌, ◌+◌, Bool, true, false, cond, Option, Some, None, slice_get, ◌⊎◌, refl, ap, ◌∙◌, false≢true, cond-true, Task, MachineState, is_running, step, can_step, runs_is, Ledger, allocated_in, moved_on, moved_to, settled, stepped_to, StepsRunOn}
 
 running : (o : Option Task) → is_running o ≡ true → (x : Task) × (o ≡ Some x) × (is_running (Some x) ≡ true)
 running None h = absurd (false≢true h)
@@ -15,7 +7,7 @@ running (Some x) h = (x, refl, h)
 
 pub steps_run_on : StepsRunOn
 steps_run_on p l t can going runs =
-    let m : State = step p l.machine t in
+    let m : MachineState = step p l.machine t in
     let b : Ledger = allocated_in p l t in
     let c : Ledger = record b { machine = m; steps = b.steps + 1 } in
     let x = running (slice_get m.tasks t) runs in

@@ -1,28 +1,14 @@
--- What every legal journal keeps of the heaps, and what a change of one heap's account leaves of it.
-use Rattle.std.proofs.Common.{◌≡◌, ℕ, ◌==◌, true, not, Option, Some, None, List, slice_get, slice_set, inl, inr, refl, ap, sym, subst, ◌∙◌, length-set, is_some, ne_eqb}
-use Rattle.std.proofs.lemmas.Bool.{cases_eq, and_from}
-use Rattle.listed.proofs.Members.{In, got_same, got_other, got_in, in_flat, flat_in, in_kept, in_append_left, in_append_right}
-use Rattle.hh_model.specs.declared.data.Name.{Name}
-use Rattle.hh_model.specs.declared.data.Object.{Object}
-use Rattle.hh_model.specs.declared.data.Edge.{Edge}
-use Rattle.hh_model.specs.declared.data.Task.{Task}
-use Rattle.hh_model.specs.Names.{refs_at, registers, task_names}
-use Rattle.hh_model.specs.Step.{is_running, owner_of, is_on_path}
-use Rattle.hh_model.proofs.Runs.{waiting}
-use Rattle.hh_model.proofs.Closed.{Closed}
-use Rattle.path_laws.proofs.Disentangled.{Disentangled}
-use Rattle.run_ledger.specs.declared.data.Heap.{Heap}
-use Rattle.run_ledger.specs.declared.data.Ledger.{Ledger}
-use Rattle.run_ledger.specs.Heaps.{held, held_in, heap_at, frames_of, roots_of, within, is_above}
+-- The invariant of heaps for legal journals, and what a change of one heap's account keeps of it.
+use Rattle.run_ledger.proofs.Common.{◌≡◌, ℕ, ◌==◌, true, not, Option, Some, None, List, slice_get, slice_set, inl, inr, refl, ap, sym, subst, ◌∙◌, length-set, is_some, ne_eqb, cases_eq, and_from, In, got_same, got_other, got_in, in_flat, flat_in, in_kept, in_append_left, in_append_right, Name, Object, Edge, Task, refs_at, registers, task_names, is_running, owner_of, is_on_path, waiting, Closed, Disentangled, Heap, Ledger, held, held_in, heap_at, frames_of, roots_of, within, is_above}
 use Rattle.run_ledger.proofs.Reached.{reached_root, reached_more}
 pub use Rattle.run_ledger.specs.Sound.{names_of, InHeaps, Keeps, Owners, Spares, collecting, snapshot_at, survivors_at, Sound, SoundLedger}
 
 pub in_held : (l : Ledger) (n : Name) → Keeps l.heaps n → In (held l) n
-in_held l n k = go (slice_get l.heaps k.0) refl k.1
+in_held l n k = in_held_by_cases (slice_get l.heaps k.0) refl k.1
   where
-    go : (o : Option Heap) → slice_get l.heaps k.0 ≡ o → In (names_of o) n → In (held l) n
-    go None e i = absurd i
-    go (Some h) e i = in_flat held_in l.heaps h n (got_in l.heaps k.0 h e) i
+    in_held_by_cases : (o : Option Heap) → slice_get l.heaps k.0 ≡ o → In (names_of o) n → In (held l) n
+    in_held_by_cases None e i = absurd i
+    in_held_by_cases (Some h) e i = in_flat held_in l.heaps h n (got_in l.heaps k.0 h e) i
 
 pub held_keeps : (l : Ledger) (n : Name) → In (held l) n → Keeps l.heaps n
 held_keeps l n i = let r = flat_in held_in l.heaps n i in (r.0, subst (λ o. In (names_of o) n) (sym r.2) r.3)
@@ -33,7 +19,7 @@ closed_same tasks store P P' up down I = record {
   of_object = λ n r p i. up r (I.of_object n r (down n p) i);
 }
 
--- what a task's own registers and the objects above it reach is enough of its heap, where nobody stands below it
+-- if no task is below, the heap is used only through the task's own registers and the objects above it
 module _ (l : Ledger) (t : ℕ) (apart : Disentangled l.machine.tasks l.machine.store) (owners : Owners l.machine.tasks l.heaps) (all : Closed l.machine.tasks l.machine.store (Keeps l.heaps))
     (regs : (u : ℕ) (x : Task) (r : Name) → slice_get l.machine.tasks u ≡ Some x → is_on_path l.machine.tasks t u ≡ true → In (task_names x) r → In (registers (frames_of (slice_get l.machine.tasks t))) r)
     (alone : (n : Name) → Keeps l.heaps n → is_on_path l.machine.tasks t (owner_of l.machine.tasks n.task) ≡ true → owner_of l.machine.tasks n.task ≡ t) where
@@ -150,7 +136,7 @@ module _ (tasks : List Task) (edges : List Edge) (store : List (List Object)) (h
       (S.running t c', subst (λ ns. Spares tasks store heaps' t ns) (ap survivors_at is ∙ sym es) (spares_kept all' t (survivors_at (slice_get heaps t)) (S.collects t c'))))
       (λ w. subst (λ ns. Spares tasks store heaps' t ns) (ap snapshot_at is ∙ sym en) (spares_kept all' t (snapshot_at (slice_get heaps t)) (S.waits t w)))
 
-  -- the heap keeps just those names of which it may let go of the others
+  -- the heap keeps exactly those names without which it could not do
   pub cut : (ns : List Name) → ((n : Name) → In (held_in h') n → In ns n) → ((n : Name) → In (held_in h) n → In ns n → In (held_in h') n) → Spares tasks store heaps t ns
       → (collecting (Some h') ≡ true → ⊥) → (waiting tasks t ≡ true → ns ≡ h'.snapshot) → Sound tasks edges store heaps'
   cut ns only enough sp idle wai =

@@ -1,34 +1,9 @@
--- Space by count over legal journals.
-use Rattle.std.proofs.Common.{◌≡◌, ℕ, zero, suc, ◌+◌, ◌<◌, ◌≤◌, Bool, true, false, cond, Option, Some, None, List, [], ◌∷◌, ◌++◌, map, length, slice_get, slice_set, nat_lt, nat_le, ◌⊎◌, inl, inr, refl, ap, sym, subst, ◌∙◌, arith, is_some, is_none, length-append, filter, ◌*◌}
-use Rattle.std.proofs.lemmas.Bool.{false≢true, both_ways, cases_lt, and_parts, leb-true, leb-false, ltb-false}
-use Rattle.std.specs.Prelude.{unwrap_or}
-use Rattle.std.proofs.lemmas.List.{length-map}
-use Rattle.std.proofs.lemmas.Option.{same_Some}
-use Rattle.listed.proofs.Members.{in_from_contains, got_same, in_from_kept, In}
-use Rattle.run_trace.specs.declared.entry.Kind.{Kind}
-use Rattle.run_trace.specs.declared.entry.Kind.TheVariants.{Took, Ran, Chunk, Begin, End as EndOf, PutOff, Mark, More, Sweep, Fuel}
-use Rattle.run_trace.specs.Entry.{EntryValue}
-use Rattle.run_trace.specs.Settings.{SettingsValue}
-use Rattle.hh_lang.specs.Form.{ProgramText}
-use Rattle.hh_model.specs.declared.data.Name.{Name}
-use Rattle.hh_model.specs.declared.data.State.{State}
-use Rattle.hh_model.specs.Step.{asked}
-use Rattle.hh_model.proofs.Runs.{waiting}
-use Rattle.run_ledger.specs.declared.data.Heap.{Heap}
-use Rattle.run_ledger.specs.declared.data.Ledger.{Ledger}
-use Rattle.run_ledger.specs.declared.data.RunEnd.TheVariants.{Pool}
-use Rattle.run_ledger.specs.Heaps.{chunk_words, units, is_small, words_at, units_sum, begun_in, units_in, fresh, heap_at, heap_of, or_fresh, with_heap, with_heap_at, in_use, within, lacks_room, take_of, collected, swept_heap, in_snapshot, is_last_empty, without_empty, laid_onto, small_survivors, small_in, held_in, words_sum, words_in}
-use Rattle.run_ledger.specs.Steps.{on_asked, is_due, is_in_need}
-use Rattle.run_ledger.specs.Entries.{refusal, after_kind, after, is_out, is_pool_enough, chunk_units, with_chunk}
-use Rattle.run_ledger.specs.Report.{peak_from}
-use Rattle.run_ledger.specs.Journals.{opening, after_all, ledger_of, is_legal_from, is_legal}
-use Rattle.run_ledger.specs.Space.{EachHasName, LeafCollectionsAreBounded, SweptWithin, SweepsAreBounded, UseIsBounded, last_words, FitsInChunks, HeapsFit}
+-- Space by count in legal journals.
+use Rattle.run_ledger.proofs.Common.{◌≡◌, ℕ, zero, suc, ◌+◌, ◌<◌, ◌≤◌, Bool, true, false, cond, Option, Some, None, List, [], ◌∷◌, ◌++◌, map, length, slice_get, slice_set, nat_lt, nat_le, ◌⊎◌, inl, inr, refl, ap, sym, subst, ◌∙◌, arith, is_some, is_none, length-append, filter, ◌*◌, false≢true, both_ways, cases_lt, and_parts, leb-true, leb-false, ltb-false, unwrap_or, length-map, same_Some, in_from_contains, got_same, in_from_kept, In, Kind, Took, Ran, Chunk, Begin, End as EndOf, PutOff, Mark, More, Sweep, Fuel, EntryValue, SettingsValue, ProgramText, Name, MachineState, asked, waiting, sum_by-cons, Heap, Ledger, Pool, chunk_words, units, is_small, words_at, units_sum, begun_in, units_in, fresh, heap_at, heap_of, or_fresh, with_heap, with_heap_at, in_use, within, lacks_room, take_of, collected, swept_heap, in_snapshot, is_last_empty, without_empty, laid_onto, small_survivors, small_in, held_in, words_sum, words_in, on_asked, is_due, is_in_need, refusal, after_kind, after, is_out, is_pool_enough, chunk_units, with_chunk, peak_from, opening, after_all, ledger_of, is_legal_from, is_legal, EachHasName, LeafCollectionsAreBounded, SweptWithin, SweepsAreBounded, UseIsBounded, last_words, FitsInChunks, HeapsFit, holds_name}
 use Rattle.run_ledger.proofs.Sound.{collecting, SoundLedger}
 use Rattle.run_ledger.proofs.Weights.{sum_flat, total, total_set, kept_weight}
 use Rattle.run_ledger.proofs.Chunks.{Full, last_full, append_full, last_append, onto_full, room_full, small_full, swept_full, swept_last, heap_words}
 use Rattle.run_ledger.proofs.Held.{birth_cases}
-use Rattle.run_ledger.specs.Reachable.{holds_name}
-use Rattle.std.proofs.lemmas.List.Sums.{sum_by-cons}
 use Rattle.run_ledger.proofs.Laid.{HaveNames, onto_names, nonempty_names, collected_bound, room_some, nonempty_length, last_some}
 use Rattle.run_ledger.proofs.Stocks.{StockedLedger, with_heap_any, kind_stocked, opening_stocked}
 use Rattle.run_ledger.proofs.Bounds.{ran_tells}
@@ -36,16 +11,16 @@ use Rattle.run_ledger.proofs.Booked.{Booked, BookedLedger, no_begun, asked_runs,
 use Rattle.run_ledger.proofs.Cuts.{cut_legal}
 use Rattle.run_ledger.proofs.Journals.{none_unless, none_where, out_tells, wait_tells, entry_tells, entry_sound, opening_sound, not_waiting}
 
--- no collection, no chunks set aside for it
+-- without a collection no chunks are reserved for it
 pub begun_none : (h : Heap) → is_some h.begun ≡ false → begun_in h ≡ 0
-begun_none h e = by h.begun e
+begun_none h e = begun_none_by_cases h.begun e
   where
-    by : (o : Option ℕ) → is_some o ≡ false → unwrap_or o 0 ≡ 0
-    by None q = refl
-    by (Some c) q = absurd (false≢true (sym q))
+    begun_none_by_cases : (o : Option ℕ) → is_some o ≡ false → unwrap_or o 0 ≡ 0
+    begun_none_by_cases None q = refl
+    begun_none_by_cases (Some c) q = absurd (false≢true (sym q))
 
 module _ (p : ProgramText) (s : SettingsValue) where
-  -- the account of one heap changes, and it has at most so many chunks more in use
+  -- the account of one heap changes, and uses at most the extra chunks more
   set_booked : (l : Ledger) (t extra : ℕ) (f : Heap → Heap) → BookedLedger p s l
       → ((h : Heap) → slice_get l.heaps t ≡ Some h → Booked p s l.machine t h → Booked p s l.machine t (f h) × (units_in l.machine (f h) ≤ units_in l.machine h + extra))
       → in_use l + extra ≤ s.chunks → BookedLedger p s (with_heap l t f)
@@ -72,13 +47,13 @@ module _ (p : ProgramText) (s : SettingsValue) where
           got_cases' (x ∷ xs) (suc i) zero y z q = inr q
           got_cases' (x ∷ xs) (suc i) (suc j) y z q = elim (got_cases' xs i j y z q) [ inl r ↦ inl (ap suc r.0, r.1) | inr r ↦ inr r ]
 
-  -- changes that touch no chunk
+  -- changes that keep the chunks
   plain_booked : (l : Ledger) (t : ℕ) (f : Heap → Heap) → BookedLedger p s l
       → ((h : Heap) → Booked p s l.machine t h → Booked p s l.machine t (f h)) → ((h : Heap) → units_in l.machine (f h) ≡ units_in l.machine h) → BookedLedger p s (with_heap l t f)
   plain_booked l t f B each same =
       set_booked l t 0 f B (λ h e b. (each h b, let a = same h in omega arith)) (let a : in_use l ≤ s.chunks = B.within in omega arith)
 
-  -- the heap that an entry speaks of
+  -- the heap of the entry's task
   heap_is : (l : Ledger) (t : ℕ) (h : Heap) → slice_get l.heaps t ≡ Some h → heap_of l t ≡ h
   heap_is l t h e = ap or_fresh e
 
@@ -94,7 +69,7 @@ module _ (p : ProgramText) (s : SettingsValue) where
     chunk_by : (h : Heap) → slice_get l.heaps t ≡ Some h → Booked p s l.machine t h → (o : Option ℕ) → asked p l.machine t ≡ o → on_asked o (λ w. nat_le s.leaf h.since) ≡ false → on_asked o (lacks_room h) ≡ true
         → Booked p s l.machine t (with_chunk o h) × (units_in l.machine (with_chunk o h) ≤ units_in l.machine h + chunk_units o)
     chunk_by h e b None is no_due needs = absurd (false≢true needs)
-    chunk_by h e b (Some w) is no_due needs = by (is_small w) refl
+    chunk_by h e b (Some w) is no_due needs = chunk_by_cases (is_small w) refl
       where
         none : is_some h.begun ≡ false
         none = ap collecting (sym e) ∙ idle
@@ -103,14 +78,14 @@ module _ (p : ProgramText) (s : SettingsValue) where
         one_empty ns (inl q) = subst (λ ys. words_sum l.machine ys ≤ chunk_words) q (omega arith)
         one_empty ns (inr i) = absurd i
 
-        by : (v : Bool) → is_small w ≡ v
+        chunk_by_cases : (v : Bool) → is_small w ≡ v
             → Booked p s l.machine t (cond v (record h { chunks = h.chunks ++ [] ∷ []; room = chunk_words }) (record h { reserved = cond v 1 (units w) }))
             × (units_in l.machine (cond v (record h { chunks = h.chunks ++ [] ∷ []; room = chunk_words }) (record h { reserved = cond v 1 (units w) })) ≤ units_in l.machine h + cond v 1 (units w))
-        by true small = (
+        chunk_by_cases true small = (
           record { begun = λ c q. no_begun h c none q; room = λ pos. omega (arith, length-append h.chunks ([] ∷ [])); reserved = b.reserved; full = append_full l.machine h.chunks ([] ∷ []) b.full one_empty; last = let a = last_append l.machine h.chunks ([] ∷ []) (omega arith) in omega arith },
           omega (arith, length-append h.chunks ([] ∷ [])),
         )
-        by false small = (
+        chunk_by_cases false small = (
           record { begun = λ c q. no_begun h c none q; room = b.room; reserved = λ pos. (w, is, small, refl, leb-false s.leaf h.since no_due); full = b.full; last = b.last },
           omega arith,
         )
@@ -144,11 +119,11 @@ module _ (p : ProgramText) (s : SettingsValue) where
   survivor_in h n i = (in_from_kept (holds_name h.survivors) (small_in h) n (birth_cases (filter (holds_name h.survivors) (small_in h)) n i)).0
 
   some_begun : (h : Heap) → is_some h.begun ≡ true → (c : ℕ) × (h.begun ≡ Some c)
-  some_begun h e = by h.begun refl e
+  some_begun h e = some_begun_by_cases h.begun refl e
     where
-      by : (o : Option ℕ) → h.begun ≡ o → is_some o ≡ true → (c : ℕ) × (h.begun ≡ Some c)
-      by None is q = absurd (false≢true q)
-      by (Some c) is q = (c, is)
+      some_begun_by_cases : (o : Option ℕ) → h.begun ≡ o → is_some o ≡ true → (c : ℕ) × (h.begun ≡ Some c)
+      some_begun_by_cases None is q = absurd (false≢true q)
+      some_begun_by_cases (Some c) is q = (c, is)
 
   begun_is : (h : Heap) (c : ℕ) → h.begun ≡ Some c → begun_in h ≡ c
   begun_is h c e = ap (λ (o : Option ℕ). unwrap_or o 0) e
@@ -247,7 +222,7 @@ module _ (p : ProgramText) (s : SettingsValue) where
   legal_booked journal legal = journal_booked journal (opening p s) (opening_sound p s) (opening_stocked p s) opening_booked legal
 
 -- the words of all heaps
-all_words : (m : State) (heaps : List Heap) → ((u : ℕ) (h : Heap) → slice_get heaps u ≡ Some h → words_in m h ≤ chunk_words * units_in m h) → total (words_in m) heaps ≤ chunk_words * total (units_in m) heaps
+all_words : (m : MachineState) (heaps : List Heap) → ((u : ℕ) (h : Heap) → slice_get heaps u ≡ Some h → words_in m h ≤ chunk_words * units_in m h) → total (words_in m) heaps ≤ chunk_words * total (units_in m) heaps
 all_words m [] each = omega arith
 all_words m (h ∷ heaps) each =
     let a = sum_by-cons (words_in m) h heaps in
@@ -285,7 +260,7 @@ use_is_bounded p s journal legal = record {
   peak = peak_bounded p s journal (opening p s) (opening_sound p s) (opening_stocked p s) (opening_booked p s) legal;
 }
 
--- where an entry isn't refused after a journal that is legal
+-- an entry that isn't refused after a legal journal
 legal_entry : (p : ProgramText) (s : SettingsValue) (before : List EntryValue) (e : EntryValue) (rest : List EntryValue) → is_legal p s (before ++ e ∷ rest) ≡ true → (is_legal p s before ≡ true) × (is_none (refusal p s (ledger_of p s before) e) ≡ true)
 legal_entry p s before e rest legal =
     let c = cut_legal p s before (e ∷ rest) (opening p s) legal in
@@ -294,15 +269,15 @@ legal_entry p s before e rest legal =
 heap_changed : (l : Ledger) (t : ℕ) (f : Heap → Heap) (h : Heap) → slice_get l.heaps t ≡ Some h → heap_of (with_heap l t f) t ≡ f h
 heap_changed l t f h e = ap (λ (k : Ledger). heap_of k t) (ap (with_heap_at l t f) e) ∙ ap or_fresh (got_same l.heaps t h (f h) e)
 
-each_named : (m : State) (lists : List (List Name)) → HaveNames m lists → EachHasName lists
+each_named : (m : MachineState) (lists : List (List Name)) → HaveNames m lists → EachHasName lists
 each_named m lists H ns c = H ns (in_from_contains lists ns c)
 
 heap_from_begun : (l : Ledger) (t : ℕ) → is_some (heap_of l t).begun ≡ true → (h : Heap) × (slice_get l.heaps t ≡ Some h)
-heap_from_begun l t e = by (heap_at l t) refl e
+heap_from_begun l t e = heap_from_begun_by_cases (heap_at l t) refl e
   where
-    by : (o : Option Heap) → heap_at l t ≡ o → is_some (or_fresh o).begun ≡ true → (h : Heap) × (slice_get l.heaps t ≡ Some h)
-    by None is q = absurd (false≢true q)
-    by (Some h) is q = (h, is)
+    heap_from_begun_by_cases : (o : Option Heap) → heap_at l t ≡ o → is_some (or_fresh o).begun ≡ true → (h : Heap) × (slice_get l.heaps t ≡ Some h)
+    heap_from_begun_by_cases None is q = absurd (false≢true q)
+    heap_from_begun_by_cases (Some h) is q = (h, is)
 
 pub leaf_collections_are_bounded : LeafCollectionsAreBounded
 leaf_collections_are_bounded p s before rest w t taken given left legal =
@@ -324,7 +299,7 @@ leaf_collections_are_bounded p s before rest w t taken given left legal =
       reserved = ap (λ (g : Heap). g.reserved) now ∙ (B.begun c.0 c.1).1;
     }
 
--- a task that waits has no chunk that waits
+-- a waiting task has no reserved chunk
 none_reserved : (p : ProgramText) (s : SettingsValue) (l : Ledger) (t : ℕ) (h : Heap) → waiting l.machine.tasks t ≡ true → Booked p s l.machine t h → h.reserved ≡ 0
 none_reserved p s l t h w b = elim (cases_lt 0 h.reserved) [
   | inl pos ↦ let q = b.reserved pos in absurd (wait_run l.machine t w (asked_runs p l.machine t q.0 q.1))

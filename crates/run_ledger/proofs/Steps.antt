@@ -1,34 +1,6 @@
--- A step of a task keeps what every legal journal keeps of the heaps.
-use Rattle.std.proofs.Common.{◌≡◌, ℕ, ℤ, zero, suc, ◌+◌, ◌-◌, ◌<◌, ◌≤◌, Bool, true, false, cond, Option, Some, None, List, [], ◌∷◌, ◌++◌, length, slice_get, slice_set, ◌⊎◌, inl, inr, refl, ap, ap₂, sym, subst, ◌∙◌, arith, length-set, length-append, is_some}
-use Rattle.std.proofs.lemmas.Bool.{cases_eq, cases_lt, both_ways, false≢true, cond-true, cond-false}
-use Rattle.std.proofs.lemmas.Option.{same_Some}
-use Rattle.std.proofs.Math.Path.{fun_ext}
-use Rattle.listed.proofs.Members.{In, got_same, got_other, got_front, got_past, got_within, same_view, in_append_left}
-use Rattle.listed.proofs.Places.{got_some}
-use Rattle.hh_lang.specs.Form.{ProgramText}
-use Rattle.hh_model.specs.declared.data.Name.{Name}
-use Rattle.hh_model.specs.declared.data.Status.{Status}
-use Rattle.hh_model.specs.declared.data.Status.TheVariants.{Running, Waiting, Ended, Joined}
-use Rattle.hh_model.specs.declared.data.Task.{Task}
+-- A step of a task keeps the invariant of heaps.
+use Rattle.run_ledger.proofs.Common.{◌≡◌, ℕ, ℤ, zero, suc, ◌+◌, ◌-◌, ◌<◌, ◌≤◌, Bool, true, false, cond, Option, Some, None, List, [], ◌∷◌, ◌++◌, length, slice_get, slice_set, ◌⊎◌, inl, inr, refl, ap, ap₂, sym, subst, ◌∙◌, arith, length-set, length-append, is_some, cases_eq, cases_lt, both_ways, false≢true, cond-true, cond-false, same_Some, fun_ext, In, got_same, got_other, got_front, got_past, got_within, same_view, in_append_left, got_some, ProgramText, Name, TaskStatus, Running, Waiting, Ended, Joined, Task, Done, MachineState, onward, int_in, ref_in, named, registers, names_from, task_names, runs, waits, is_over, is_running, is_waiting, is_joined, is_left, parent_of, parents, joined, owner_in, owner_of, is_on_path, joined_task, resumed, child, step, can_step, goes_on, asked, join_of, ended_task, result_of, ended_by, strand, strand_of, edge, owner_le, owner_same, path_same, owner_joins, not_above, owner_not_joined, next_name, named_from_in, waiting, running_tells, grown_length, grown_view, grown_view_front, grown_at, grown_other, wrest_fork, three_length, three_top, three_left, three_right, three_other, three_view, parl, parr, below, dp, wp, drest, IsForkJoinStateIn, step_is_fork_join_state, step_cases, runs_is, register_cases, Closed, closed_step, grown_cases, owner_here, Disentangled, disentangled_step, Heap, Ledger, held_in, frames_of, within, placed, with_heap, with_heap_at, fresh, let_go, merged, emptied, or_fresh, forked_heap, join_heaps, at_join, allocated_by, allocated_in, moved_on, moved_to, settled, stepped_to, task_step, task_steps}
 use Rattle.hh_model.specs.declared.data.End.{End}
-use Rattle.hh_model.specs.declared.data.End.TheVariants.{Done}
-use Rattle.hh_model.specs.declared.data.State.{State}
-use Rattle.hh_model.specs.Effect.{onward, int_in, ref_in}
-use Rattle.hh_model.specs.Names.{named, registers, names_from, task_names}
-use Rattle.hh_model.specs.Step.{runs, waits, is_over, is_running, is_waiting, is_joined, is_left, parent_of, parents, joined, owner_in, owner_of, is_on_path, joined_task, resumed, child, step, can_step, goes_on, asked, join_of, ended_task, result_of, ended_by, strand, strand_of, edge}
-use Rattle.hh_model.proofs.Paths.{owner_le, owner_same, path_same, owner_joins}
-use Rattle.hh_model.proofs.Tree.{not_above, owner_not_joined}
-use Rattle.hh_model.proofs.Carried.{next_name, named_from_in}
-use Rattle.hh_model.proofs.Runs.{waiting, running_tells, grown_length, grown_view, grown_view_front, grown_at, grown_other, wrest_fork, three_length, three_top, three_left, three_right, three_other, three_view, parl, parr, below, dp, wp, drest}
-use Rattle.hh_model.proofs.ForkJoinStates.{IsForkJoinStateIn, step_is_fork_join_state}
-use Rattle.hh_model.proofs.Steps.{step_cases, runs_is, register_cases}
-use Rattle.hh_model.proofs.Closed.{Closed, closed_step, grown_cases}
-use Rattle.hh_model.proofs.Climbs.{owner_here}
-use Rattle.path_laws.proofs.Disentangled.{Disentangled, disentangled_step}
-use Rattle.run_ledger.specs.declared.data.Heap.{Heap}
-use Rattle.run_ledger.specs.declared.data.Ledger.{Ledger}
-use Rattle.run_ledger.specs.Heaps.{held_in, frames_of, within, placed, with_heap, with_heap_at, fresh, let_go, merged, emptied, or_fresh, forked_heap}
-use Rattle.run_ledger.specs.Steps.{join_heaps, at_join, allocated_by, allocated_in, moved_on, moved_to, settled, stepped_to, task_step, task_steps}
 use Rattle.run_ledger.proofs.Held.{placed_cases, placed_old, placed_new, placed_begun, merged_cases, merged_left, merged_right, merged_own}
 use Rattle.run_ledger.proofs.Moves.{Moves}
 use Rattle.run_ledger.proofs.Sound.{names_of, InHeaps, Keeps, Owners, Spares, collecting, snapshot_at, survivors_at, Sound, SoundLedger, closed_same, frozen, renewed}
@@ -37,16 +9,16 @@ pub use Rattle.run_ledger.specs.Sound.{SoundAt}
 pub heap_there : (tasks : List Task) (heaps : List Heap) (t : ℕ) → length heaps ≡ length tasks → t < length tasks → (h : Heap) × (slice_get heaps t ≡ Some h)
 heap_there tasks heaps t len lt = got_some heaps t (omega arith)
 
--- who holds the task of a heap
+-- the worker of the task of a heap
 abbrev pub worker_at : Option Heap → Option ℕ
 worker_at None = None
 worker_at (Some h) = h.worker
 
--- where a task stands after its step: the machine has ended, the task runs on, or nobody holds it
+-- the task after its step: the machine has ended, the task runs on, or nobody holds it
 abbrev pub StandsAfter : ℕ → Ledger → Type 0
 StandsAfter t k = (is_some k.machine.end ≡ true) ⊎ ((is_running (slice_get k.machine.tasks t) ≡ true) ⊎ (worker_at (slice_get k.heaps t) ≡ None))
 
--- the heaps of the other tasks that ran before it or wait after it are as they were
+-- the heaps of the other tasks that ran before or wait afterwards are unchanged
 abbrev pub LeavesOthers : ℕ → Ledger → Ledger → Type 0
 LeavesOthers t l k = (u : ℕ) → (u ≡ t → ⊥) → (is_running (slice_get l.machine.tasks u) ≡ true) ⊎ (waiting k.machine.tasks u ≡ true) → slice_get k.heaps u ≡ slice_get l.heaps u
 
@@ -70,20 +42,20 @@ allots l t h is None = record {
 }
 allots l t h is (Some w) = subst (λ (k : Ledger). Allots t next true l.heaps k.heaps) (sym (ap (with_heap_at l t (λ h. placed h next w)) is)) (record {
   down = λ u n i. elim (cases_eq u t) [
-    | inl e ↦ elim (placed_cases h next w n (subst (λ o. In (names_of o) n) at (subst (λ v. InHeaps heaps1 v n) e i))) [
+    | inl e ↦ elim (placed_cases h next w n (subst (λ o. In (names_of o) n) allots_at (subst (λ v. InHeaps heaps1 v n) e i))) [
       | inl old ↦ inl (subst (λ v. InHeaps l.heaps v n) (sym e) (subst (λ o. In (names_of o) n) (sym is) old))
       | inr new ↦ inr (e, sym new)
     ]
     | inr ne ↦ inl (subst (λ o. In (names_of o) n) (got_other l.heaps t u h1 ne) i)
   ];
   up = λ u n i. elim (cases_eq u t) [
-    | inl e ↦ subst (λ v. InHeaps heaps1 v n) (sym e) (subst (λ o. In (names_of o) n) (sym at) (placed_old h next w n (subst (λ o. In (names_of o) n) is (subst (λ v. InHeaps l.heaps v n) e i))))
+    | inl e ↦ subst (λ v. InHeaps heaps1 v n) (sym e) (subst (λ o. In (names_of o) n) (sym allots_at) (placed_old h next w n (subst (λ o. In (names_of o) n) is (subst (λ v. InHeaps l.heaps v n) e i))))
     | inr ne ↦ subst (λ o. In (names_of o) n) (sym (got_other l.heaps t u h1 ne)) i
   ];
-  new = λ e. subst (λ o. In (names_of o) next) (sym at) (placed_new h next w);
+  new = λ e. subst (λ o. In (names_of o) next) (sym allots_at) (placed_new h next w);
   others = λ u ne. got_other l.heaps t u h1 ne;
   long = length-set l.heaps t h1;
-  still = ap collecting at ∙ (begun_same ∙ sym (ap collecting is));
+  still = ap collecting allots_at ∙ (begun_same ∙ sym (ap collecting is));
 })
   where
     next : Name
@@ -95,8 +67,8 @@ allots l t h is (Some w) = subst (λ (k : Ledger). Allots t next true l.heaps k.
     heaps1 : List Heap
     heaps1 = slice_set l.heaps t (placed h (next_name t l.machine.store) w)
 
-    at : slice_get (slice_set l.heaps t (placed h (next_name t l.machine.store) w)) t ≡ Some (placed h (next_name t l.machine.store) w)
-    at = got_same l.heaps t h (placed h (next_name t l.machine.store) w) is
+    allots_at : slice_get (slice_set l.heaps t (placed h (next_name t l.machine.store) w)) t ≡ Some (placed h (next_name t l.machine.store) w)
+    allots_at = got_same l.heaps t h (placed h (next_name t l.machine.store) w) is
 
     begun_same : collecting (Some (placed h (next_name t l.machine.store) w)) ≡ collecting (Some h)
     begun_same = ap is_some (placed_begun h (next_name t l.machine.store) w)
@@ -121,8 +93,8 @@ fresh_collecting [] (suc (suc u)) c = c
 fresh_collecting (h ∷ hs) zero c = c
 fresh_collecting (h ∷ hs) (suc u) c = fresh_collecting hs u c
 
--- a task that names something isn't over
-pub named_live : (s : Status) (r : Name) (z : Task) → z.status ≡ s → In (task_names z) r → is_over s ≡ false
+-- a task that names something hasn't joined
+pub named_live : (s : TaskStatus) (r : Name) (z : Task) → z.status ≡ s → In (task_names z) r → is_over s ≡ false
 named_live Running r z e i = refl
 named_live Waiting r z e i = refl
 named_live (Ended q w) r z e i = refl
@@ -130,7 +102,7 @@ named_live Joined r z e i = absurd (subst (λ v. In (names_from v (z.top ∷ z.b
 
 module _ (p : ProgramText) (l : Ledger) (S : SoundLedger l) (t : ℕ) (x : Task) (is : slice_get l.machine.tasks t ≡ Some x) (run : is_running (Some x) ≡ true) (idle : collecting (slice_get l.heaps t) ≡ false) (going : l.machine.end ≡ None)
     (b : Ledger) (A : Allots t (next_name t l.machine.store) (is_some (asked p l.machine t)) l.heaps b.heaps) where
-  abbrev m : State
+  abbrev m : MachineState
   m = l.machine
 
   abbrev tasks : List Task
@@ -175,19 +147,19 @@ module _ (p : ProgramText) (l : Ledger) (S : SoundLedger l) (t : ℕ) (x : Task)
       let ne : u ≡ t → ⊥ = λ e. both_ways (collecting (slice_get b.heaps t)) (A.still ∙ idle) (ap (λ w. collecting (slice_get b.heaps w)) (sym e) ∙ c) in
       (ne, ap collecting (sym (A.others u ne)) ∙ c)
 
-  -- all is kept, the task collects nothing, and the heaps have changed so
+  -- the invariant holds, the task is in no collection, and the heaps have changed in one of these ways
   abbrev pub Good : Ledger → Type 0
   Good k = SoundLedger k × (collecting (slice_get k.heaps t) ≡ false) × Moves t l.machine.tasks b.heaps k.heaps × StandsAfter t k × LeavesOthers t l k
 
-  -- what a state after the step owes
-  abbrev Owes : State → Type 0
+  -- what has to be shown of a state after the step
+  abbrev Owes : MachineState → Type 0
   Owes m' =
       IsForkJoinStateIn m'.tasks m'.edges m'.store → Disentangled m'.tasks m'.store → Closed m'.tasks m'.store (Keeps b.heaps)
       → ((u : ℕ) (ns : List Name) → (u ≡ t → ⊥) → Spares tasks l.machine.store l.heaps u ns → Spares m'.tasks m'.store b.heaps u ns)
       → Good (stepped_to b t m')
 
-  -- the tree is as before
-  steady : (m' : State) → length m'.tasks ≡ length tasks → ((a : ℕ) → owner_of m'.tasks a ≡ owner_of tasks a) → ((u : ℕ) → (u ≡ t → ⊥) → slice_get m'.tasks u ≡ slice_get tasks u) → waiting m'.tasks t ≡ false
+  -- the tree is unchanged
+  steady : (m' : MachineState) → length m'.tasks ≡ length tasks → ((a : ℕ) → owner_of m'.tasks a ≡ owner_of tasks a) → ((u : ℕ) → (u ≡ t → ⊥) → slice_get m'.tasks u ≡ slice_get tasks u) → waiting m'.tasks t ≡ false
       → IsForkJoinStateIn m'.tasks m'.edges m'.store → Disentangled m'.tasks m'.store → Closed m'.tasks m'.store (Keeps b.heaps)
       → ((u : ℕ) (ns : List Name) → (u ≡ t → ⊥) → Spares tasks l.machine.store l.heaps u ns → Spares m'.tasks m'.store b.heaps u ns)
       → Sound m'.tasks m'.edges m'.store b.heaps
@@ -206,27 +178,27 @@ module _ (p : ProgramText) (l : Ledger) (S : SoundLedger l) (t : ℕ) (x : Task)
       not_t u w e = both_ways (waiting m'.tasks t) idle_t (ap (waiting m'.tasks) (sym e) ∙ w)
 
   -- the machine has ended
-  halts : (m' : State) (e : End) → m'.end ≡ Some e → Sound m'.tasks m'.edges m'.store b.heaps → Good (stepped_to b t m')
+  halts : (m' : MachineState) (e : End) → m'.end ≡ Some e → Sound m'.tasks m'.edges m'.store b.heaps → Good (stepped_to b t m')
   halts m' e at s = subst Good (sym (ap (settled (record b { machine = m'; steps = b.steps + 1 }) t) at)) (s, A.still ∙ idle, inl refl, inl (ap is_some at), λ u ne w. A.others u ne)
 
-  -- the step left the task running
-  runs_on : (m' : State) (y : Task) → m'.end ≡ None → slice_get m'.tasks t ≡ Some y → y.status ≡ Running → Sound m'.tasks m'.edges m'.store b.heaps → Good (stepped_to b t m')
+  -- the task runs on after the step
+  runs_on : (m' : MachineState) (y : Task) → m'.end ≡ None → slice_get m'.tasks t ≡ Some y → y.status ≡ Running → Sound m'.tasks m'.edges m'.store b.heaps → Good (stepped_to b t m')
   runs_on m' y on at st s =
       let k : Ledger = record b { machine = m'; steps = b.steps + 1 } in
       subst Good (sym (ap (settled k t) on ∙ (ap (moved_to k t) at ∙ ap (moved_on k t y.parent) st))) (s, A.still ∙ idle, inl refl, inr (inl (ap is_running at ∙ ap runs st)), λ u ne w. A.others u ne)
 
-  same_sound : (m' : State) → m'.tasks ≡ tasks → IsForkJoinStateIn m'.tasks m'.edges m'.store → Disentangled m'.tasks m'.store → Closed m'.tasks m'.store (Keeps b.heaps)
+  same_sound : (m' : MachineState) → m'.tasks ≡ tasks → IsForkJoinStateIn m'.tasks m'.edges m'.store → Disentangled m'.tasks m'.store → Closed m'.tasks m'.store (Keeps b.heaps)
       → ((u : ℕ) (ns : List Name) → (u ≡ t → ⊥) → Spares tasks l.machine.store l.heaps u ns → Spares m'.tasks m'.store b.heaps u ns)
       → Sound m'.tasks m'.edges m'.store b.heaps
   same_sound m' e K D C sp =
       steady m' (ap length e) (λ a. ap (λ ts. owner_of ts a) e) (λ u ne. ap (λ ts. slice_get ts u) e) (ap (λ ts. waiting ts t) e ∙ (ap is_waiting is ∙ tells.1)) K D C sp
 
-  -- a task is written with its place in the tree kept
+  -- a task is written and keeps its position in the tree
   own_written : (y : Task) → y.parent ≡ x.parent → is_over y.status ≡ is_over x.status → (a : ℕ) → owner_of (slice_set tasks t y) a ≡ owner_of tasks a
   own_written y ep ed a =
       ap (λ f. owner_in f (joined (slice_set tasks t y)) a) (same_view parent_of tasks t x y is ep) ∙ ap (λ f. owner_in (parents tasks) f a) (same_view is_joined tasks t x y is ed)
 
-  written_sound : (m' : State) (y : Task) → m'.tasks ≡ slice_set tasks t y → y.parent ≡ x.parent → is_over y.status ≡ is_over x.status → waits y.status ≡ false
+  written_sound : (m' : MachineState) (y : Task) → m'.tasks ≡ slice_set tasks t y → y.parent ≡ x.parent → is_over y.status ≡ is_over x.status → waits y.status ≡ false
       → IsForkJoinStateIn m'.tasks m'.edges m'.store → Disentangled m'.tasks m'.store → Closed m'.tasks m'.store (Keeps b.heaps)
       → ((u : ℕ) (ns : List Name) → (u ≡ t → ⊥) → Spares tasks l.machine.store l.heaps u ns → Spares m'.tasks m'.store b.heaps u ns)
       → Sound m'.tasks m'.edges m'.store b.heaps
@@ -234,8 +206,8 @@ module _ (p : ProgramText) (l : Ledger) (S : SoundLedger l) (t : ℕ) (x : Task)
       steady m' (ap length e ∙ length-set tasks t y) (λ a. ap (λ ts. owner_of ts a) e ∙ own_written y ep ed a) (λ u ne. ap (λ ts. slice_get ts u) e ∙ got_other tasks t u y ne)
       (ap (λ ts. waiting ts t) e ∙ (ap is_waiting (got_same tasks t x y is) ∙ ew)) K D C sp
 
-  -- the task ends, and its worker lets go
-  ended_case : (m' : State) (y : Task) (k : ℤ) (r : Option Name) → m'.end ≡ None → m'.tasks ≡ slice_set tasks t y → y.parent ≡ x.parent → y.status ≡ Ended k r → Owes m'
+  -- the task ends, and its worker releases it
+  ended_case : (m' : MachineState) (y : Task) (k : ℤ) (r : Option Name) → m'.end ≡ None → m'.tasks ≡ slice_set tasks t y → y.parent ≡ x.parent → y.status ≡ Ended k r → Owes m'
   ended_case m' y k r on e ep es K D C sp =
       let s = written_sound m' y e ep (ap is_over es ∙ sym tells.0) (ap waits es) K D C sp in
       let h = heap_there m'.tasks b.heaps t s.lengths (omega (arith, ap length e ∙ length-set tasks t y, tn)) in
@@ -263,7 +235,7 @@ module _ (p : ProgramText) (l : Ledger) (S : SoundLedger l) (t : ℕ) (x : Task)
     abbrev all : List Task
     all = slice_set tasks t y ++ cl ∷ cr ∷ []
 
-    abbrev mf : State
+    abbrev mf : MachineState
     mf = record m {
       tasks = all;
       store = l.machine.store ++ [] ∷ [] ∷ [];
@@ -413,7 +385,7 @@ module _ (p : ProgramText) (l : Ledger) (S : SoundLedger l) (t : ℕ) (x : Task)
   module _ (parent c : ℕ) (xp xl xr : Task) (rl rr : ℤ × Option Name) (ip : slice_get tasks parent ≡ Some xp) (il : slice_get tasks c ≡ Some xl) (ir : slice_get tasks (c + 1) ≡ Some xr)
       (pl : xl.parent ≡ Some parent) (left : is_left c ≡ true) (dl : is_over xl.status ≡ false) (dr : is_over xr.status ≡ false) (wl : waits xl.status ≡ false) (wr : waits xr.status ≡ false)
       (side : ((t ≡ c) × (is_left t ≡ true) × (runs xl.status ≡ true) × (runs xr.status ≡ false)) ⊎ ((t ≡ c + 1) × (is_left t ≡ false) × (runs xr.status ≡ true) × (runs xl.status ≡ false))) where
-    abbrev mj : State
+    abbrev mj : MachineState
     mj = join_of m parent xp c xl xr rl rr
 
     abbrev after : List Task
@@ -463,26 +435,26 @@ module _ (p : ProgramText) (l : Ledger) (S : SoundLedger l) (t : ℕ) (x : Task)
           | inr k ↦ inr (own_after a ∙ k.0, k.1)
         ]
 
-    there : (u : ℕ) (z : Task) → slice_get tasks u ≡ Some z → (h : Heap) × (slice_get b.heaps u ≡ Some h)
-    there u z e = heap_there tasks b.heaps u (A.long ∙ S.lengths) (got_within tasks u z e)
+    heap_is_there : (u : ℕ) (z : Task) → slice_get tasks u ≡ Some z → (h : Heap) × (slice_get b.heaps u ≡ Some h)
+    heap_is_there u z e = heap_there tasks b.heaps u (A.long ∙ S.lengths) (got_within tasks u z e)
 
     abbrev hp : Heap
-    hp = (there parent xp ip).0
+    hp = (heap_is_there parent xp ip).0
 
     abbrev hl : Heap
-    hl = (there c xl il).0
+    hl = (heap_is_there c xl il).0
 
     abbrev hr : Heap
-    hr = (there (c + 1) xr ir).0
+    hr = (heap_is_there (c + 1) xr ir).0
 
     e_p : slice_get b.heaps parent ≡ Some hp
-    e_p = (there parent xp ip).1
+    e_p = (heap_is_there parent xp ip).1
 
     e_l : slice_get b.heaps c ≡ Some hl
-    e_l = (there c xl il).1
+    e_l = (heap_is_there c xl il).1
 
     e_r : slice_get b.heaps (c + 1) ≡ Some hr
-    e_r = (there (c + 1) xr ir).1
+    e_r = (heap_is_there (c + 1) xr ir).1
 
     abbrev j2 : List Heap
     j2 = slice_set b.heaps parent (merged hp hl hr)
@@ -609,15 +581,15 @@ module _ (p : ProgramText) (l : Ledger) (S : SoundLedger l) (t : ℕ) (x : Task)
         false_if false e = e
 
     idle_heap : (q : ℕ) (z : Task) (h : Heap) → slice_get tasks q ≡ Some z → slice_get b.heaps q ≡ Some h → (q ≡ t) ⊎ (runs z.status ≡ false) → is_some h.begun ≡ false
-    idle_heap q z h e at why = by (is_some h.begun) refl
+    idle_heap q z h e at why = idle_heap_by_cases (is_some h.begun) refl
       where
         ends_at : (q ≡ t) ⊎ (runs z.status ≡ false) → collecting (slice_get b.heaps q) ≡ true → ⊥
         ends_at (inl same) c' = (idle1 q c').0 same
         ends_at (inr no_run) c' = both_ways (runs z.status) no_run (ap is_running (sym e) ∙ S.running q (idle1 q c').1)
 
-        by : (v : Bool) → is_some h.begun ≡ v → is_some h.begun ≡ false
-        by false e' = e'
-        by true e' = absurd (ends_at why (ap collecting at ∙ e'))
+        idle_heap_by_cases : (v : Bool) → is_some h.begun ≡ v → is_some h.begun ≡ false
+        idle_heap_by_cases false e' = e'
+        idle_heap_by_cases true e' = absurd (ends_at why (ap collecting at ∙ e'))
 
     collects4 : (u : ℕ) → collecting (slice_get j4 u) ≡ true → Other u × (collecting (slice_get l.heaps u) ≡ true)
     collects4 u q = elim (which u) [
@@ -720,12 +692,12 @@ module _ (p : ProgramText) (l : Ledger) (S : SoundLedger l) (t : ℕ) (x : Task)
         stops true e = absurd (not_t t (collects4 t e).0 refl)
 
   -- the root ends and so does the run, or another task ends before its sibling
-  ended_either : (m' : State) (y : Task) (k : ℤ) (r : Option Name) (parent : Option ℕ) → m'.tasks ≡ slice_set tasks t y → y.parent ≡ x.parent → y.status ≡ Ended k r
+  ended_either : (m' : MachineState) (y : Task) (k : ℤ) (r : Option Name) (parent : Option ℕ) → m'.tasks ≡ slice_set tasks t y → y.parent ≡ x.parent → y.status ≡ Ended k r
       → ((parent ≡ None) × (m'.end ≡ Some Done)) ⊎ (is_some parent ≡ true) × (m'.end ≡ m.end) → Owes m'
   ended_either m' y k r parent e ep es (inl q) K D C sp = halts m' Done q.1 (written_sound m' y e ep (ap is_over es ∙ sym tells.0) (ap waits es) K D C sp)
   ended_either m' y k r parent e ep es (inr q) K D C sp = ended_case m' y k r (q.1 ∙ going) e ep es K D C sp
 
-  -- whatever the step is
+  -- the step in any case
   pub step_sound : Good (stepped_to b t (step p m t))
   step_sound =
       step_cases p m t S.fork_join Owes
@@ -734,7 +706,7 @@ module _ (p : ProgramText) (l : Ledger) (S : SoundLedger l) (t : ℕ) (x : Task)
       (λ x' y' store outs is' run' ep ed es ej names fields alters grows K D C sp.
       let ex : x' ≡ x = same_Some x' x (sym is' ∙ is) in
       let run_y : y'.status ≡ Running = es ∙ (ap (λ (w : Task). w.status) ex ∙ runs_is x.status run) in
-      let m' : State = record m { tasks = slice_set tasks t y'; store = store; outputs = outs } in
+      let m' : MachineState = record m { tasks = slice_set tasks t y'; store = store; outputs = outs } in
       runs_on m' y' going (got_same tasks t x y' is) run_y
       (written_sound m' y' refl (ep ∙ ap (λ (w : Task). w.parent) ex) (ap is_over run_y ∙ sym tells.0) (ap waits run_y) K D C sp))
       (λ x' parent e is' run' pp which result.
@@ -755,11 +727,11 @@ pub goes_tells : (o : Option End) (b : Bool) → goes_on o b ≡ true → (o ≡
 goes_tells None b h = (refl, h)
 goes_tells (Some e) b h = absurd (false≢true h)
 
--- a task can take a step where the machine goes on and the task runs
-pub can_tells : (m : State) (t : ℕ) → can_step m t ≡ true → (m.end ≡ None) × (is_running (slice_get m.tasks t) ≡ true)
+-- a task can take a step if the machine goes on and the task runs
+pub can_tells : (m : MachineState) (t : ℕ) → can_step m t ≡ true → (m.end ≡ None) × (is_running (slice_get m.tasks t) ≡ true)
 can_tells m t h = goes_tells m.end (is_running (slice_get m.tasks t)) h
 
--- what a step of such a task leaves
+-- the result of a step of such a task
 abbrev pub StepLeaves : ℕ → Ledger → Ledger → Ledger → Type 0
 StepLeaves t l b k = SoundLedger k × (collecting (slice_get k.heaps t) ≡ false) × Moves t l.machine.tasks b.heaps k.heaps × StandsAfter t k × LeavesOthers t l k
 
@@ -779,18 +751,18 @@ step_leaves p l t S can =
     let h = heap_of_task l t S.0 tells.1 in
     step_sound p l S.0 t x.0 x.1 x.2 S.1 tells.0 (allocated_in p l t) (allots l t h.0 h.1 (asked p l.machine t))
 
--- what a step that is taken keeps, and its count where none is, the next step keeps
+-- an invariant of taken steps, and of the step count otherwise, holds after the next step
 pub step_keeps : (P : Ledger → Type 0) (p : ProgramText) (l : Ledger) (t : ℕ) → (can_step l.machine t ≡ true → P (stepped_to (allocated_in p l t) t (step p l.machine t))) → P (record l { steps = l.steps + 1 }) → P (task_step p l t)
-step_keeps P p l t taken none = by (can_step l.machine t) refl
+step_keeps P p l t taken none = step_keeps_by_cases (can_step l.machine t) refl
   where
-    by : (v : Bool) → can_step l.machine t ≡ v → P (cond v (stepped_to (allocated_in p l t) t (step p l.machine t)) (record l { steps = l.steps + 1 }))
-    by false e = none
-    by true e = taken e
+    step_keeps_by_cases : (v : Bool) → can_step l.machine t ≡ v → P (cond v (stepped_to (allocated_in p l t) t (step p l.machine t)) (record l { steps = l.steps + 1 }))
+    step_keeps_by_cases false e = none
+    step_keeps_by_cases true e = taken e
 
 pub task_step_sound : (p : ProgramText) (l : Ledger) (t : ℕ) → SoundAt t l → SoundAt t (task_step p l t)
 task_step_sound p l t S = step_keeps (SoundAt t) p l t (λ e. let g = step_leaves p l t S e in (g.0, g.1)) S
 
--- what each step keeps, many keep
+-- an invariant of each step holds after many
 pub steps_keep : (P : Ledger → Type 0) (p : ProgramText) (t : ℕ) → ((l : Ledger) → SoundAt t l → P l → P (task_step p l t)) → (k : ℕ) (l : Ledger) → SoundAt t l → P l → P (task_steps p l t k)
 steps_keep P p t keeps zero l S I = I
 steps_keep P p t keeps (suc k) l S I = steps_keep P p t keeps k (task_step p l t) (task_step_sound p l t S) (keeps l S I)
@@ -799,7 +771,7 @@ pub task_steps_sound : (p : ProgramText) (k : ℕ) (l : Ledger) (t : ℕ) → So
 task_steps_sound p zero l t S = S
 task_steps_sound p (suc k) l t S = task_steps_sound p k (task_step p l t) t (task_step_sound p l t S)
 
--- the last of so many steps
+-- the last of several steps
 pub steps_last : (p : ProgramText) (l : Ledger) (t j : ℕ) → task_steps p l t (suc j) ≡ task_step p (task_steps p l t j) t
 steps_last p l t zero = refl
 steps_last p l t (suc j) = steps_last p (task_step p l t) t j

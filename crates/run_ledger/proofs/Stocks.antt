@@ -1,31 +1,6 @@
 -- Each held name is held once, and is in the store.
-use Rattle.std.proofs.Common.{◌≡◌, ℕ, zero, suc, ◌+◌, ◌<◌, ◌≤◌, Bool, true, false, cond, Option, Some, None, List, [], ◌∷◌, ◌++◌, length, slice_get, slice_set, sum_by, nat_lt, inl, inr, refl, ap, sym, subst, ◌∙◌, arith, is_none}
-use Rattle.std.specs.List.{IsDistinct, AllByRecursion}
-use Rattle.std.proofs.lemmas.Bool.{cases_lt}
-use Rattle.std.proofs.lemmas.List.Sums.{sum_by-cons}
-use Rattle.listed.proofs.Members.{In, in_from_contains}
-use Rattle.run_trace.specs.declared.entry.Kind.{Kind}
-use Rattle.run_trace.specs.declared.entry.Kind.TheVariants.{Took, Ran, Chunk, Begin, End as EndOf, PutOff, Mark, More, Sweep, Fuel}
-use Rattle.run_trace.specs.Entry.{EntryValue}
-use Rattle.run_trace.specs.Settings.{SettingsValue, field_limit}
-use Rattle.hh_lang.specs.Form.{ProgramText}
-use Rattle.hh_model.specs.declared.data.Name.{Name}
-use Rattle.hh_model.specs.declared.data.State.{State}
-use Rattle.hh_model.specs.Step.{step, can_step, asked}
-use Rattle.hh_model.specs.Store.{IsStored}
-use Rattle.hh_model.proofs.Carried.{next_name}
-use Rattle.hh_model.proofs.ForkJoinStates.{IsForkJoinState}
-use Rattle.hh_model.proofs.Taken.{can_made}
-use Rattle.hh_model.proofs.Counts.{Counted, counted_step, start_counted}
-use Rattle.run_ledger.specs.declared.data.Heap.{Heap}
-use Rattle.run_ledger.specs.declared.data.Ledger.{Ledger}
-use Rattle.run_ledger.specs.declared.data.RunEnd.TheVariants.{Pool}
-use Rattle.run_ledger.specs.Reachable.{is_name}
-use Rattle.run_ledger.specs.Heaps.{held_in, held, heap_at, with_heap, with_heap_at, placed, chunk_words, is_small, in_use, collected, swept_heap, fresh}
-use Rattle.run_ledger.specs.Steps.{allocated_by, allocated_in, stepped_to, task_step, task_steps, on_asked}
-use Rattle.run_ledger.specs.Entries.{kind_refusal, after_kind, chunk_units, with_chunk}
-use Rattle.run_ledger.specs.Journals.{opening, ledger_of, is_legal}
-use Rattle.run_ledger.specs.Laws.{NamesAreHeldOnce}
+use Rattle.run_ledger.proofs.Common.{◌≡◌, ℕ, zero, suc, ◌+◌, ◌<◌, ◌≤◌, Bool, true, false, cond, Option, Some, None, List, [], ◌∷◌, ◌++◌, length, slice_get, slice_set, sum_by, nat_lt, inl, inr, refl, ap, sym, subst, ◌∙◌, arith, is_none, AllByRecursion, cases_lt, sum_by-cons, In, in_from_contains, Kind, Took, Ran, Chunk, Begin, End as EndOf, PutOff, Mark, More, Sweep, Fuel, EntryValue, SettingsValue, field_limit, ProgramText, Name, MachineState, step, can_step, asked, IsStored, next_name, IsForkJoinState, can_made, Counted, counted_step, start_counted, Heap, Ledger, Pool, is_name, held_in, held, heap_at, with_heap, with_heap_at, placed, chunk_words, is_small, in_use, collected, swept_heap, fresh, allocated_by, allocated_in, stepped_to, task_step, task_steps, on_asked, kind_refusal, after_kind, chunk_units, with_chunk, opening, ledger_of, is_legal, NamesAreHeldOnce}
+use Rattle.std.specs.List.{IsDistinct}
 use Rattle.run_ledger.proofs.Members.{same_from_is_name, is_name_itself}
 use Rattle.run_ledger.proofs.Machine.{stepped_machine}
 use Rattle.run_ledger.proofs.Sound.{Keeps, InHeaps, names_of, SoundLedger, held_keeps}
@@ -34,7 +9,7 @@ use Rattle.run_ledger.proofs.Grown.{Grown, grown, next_unstored}
 use Rattle.run_ledger.proofs.Weights.{weight, total, total_set, sum_flat, placed_weight, collected_weight, swept_weight, chunk_weight, moves_total, weight_additive}
 use Rattle.run_ledger.proofs.Journals.{journal_keeps, out_tells, opening_sound, legal_sound}
 
--- HOW OFTEN A NAME STANDS IN A LIST
+-- HOW OFTEN A NAME IS IN A LIST
 
 abbrev pub hit : Name → Name → ℕ
 hit n m = cond (is_name m n) 1 0
@@ -102,9 +77,9 @@ copies_at n (h ∷ heaps) (suc u) i = let a = sum_by-cons (weight (hit n)) h hea
 pub keeps_copies : (n : Name) (heaps : List Heap) → Keeps heaps n → 1 ≤ copies n heaps
 keeps_copies n heaps k = copies_at n heaps k.0 k.1
 
--- WHAT EVERY LEGAL JOURNAL KEEPS
+-- INVARIANTS OF LEGAL JOURNALS
 
-pub record Stocked (m : State) (heaps : List Heap) : Type 0 where
+pub record Stocked (m : MachineState) (heaps : List Heap) : Type 0 where
   pub counted : (k : ℕ) × Counted k m.tasks m.store
   pub stored : (n : Name) → Keeps heaps n → IsStored m n
   pub once : (n : Name) → copies n heaps ≤ 1
@@ -112,7 +87,7 @@ pub record Stocked (m : State) (heaps : List Heap) : Type 0 where
 abbrev pub StockedLedger : Ledger → Type 0
 StockedLedger l = Stocked l.machine l.heaps
 
-shrunk : (m : State) (heaps heaps' : List Heap) → Stocked m heaps → ((n : Name) → copies n heaps' ≤ copies n heaps) → Stocked m heaps'
+shrunk : (m : MachineState) (heaps heaps' : List Heap) → Stocked m heaps → ((n : Name) → copies n heaps' ≤ copies n heaps) → Stocked m heaps'
 shrunk m heaps heaps' I less = record {
   counted = I.counted;
   stored = λ n k. I.stored n (copies_keeps n heaps (let a = keeps_copies n heaps' k in let b = less n in omega arith));
@@ -120,11 +95,11 @@ shrunk m heaps heaps' I less = record {
 }
 
 pub with_heap_any : (C : Ledger → Type 0) (l : Ledger) (t : ℕ) (f : Heap → Heap) → C l → ((h : Heap) → slice_get l.heaps t ≡ Some h → C (record l { heaps = slice_set l.heaps t (f h) })) → C (with_heap l t f)
-with_heap_any C l t f same each = by (heap_at l t) refl
+with_heap_any C l t f same each = with_heap_any_by_cases (heap_at l t) refl
   where
-    by : (o : Option Heap) → heap_at l t ≡ o → C (with_heap_at l t f o)
-    by None e = same
-    by (Some h) e = each h e
+    with_heap_any_by_cases : (o : Option Heap) → heap_at l t ≡ o → C (with_heap_at l t f o)
+    with_heap_any_by_cases None e = same
+    with_heap_any_by_cases (Some h) e = each h e
 
 lighter : (l : Ledger) (t : ℕ) (f : Heap → Heap) → ((h : Heap) (g : Name → ℕ) → weight g (f h) ≤ weight g h) → StockedLedger l → StockedLedger (with_heap l t f)
 lighter l t f less I = with_heap_any StockedLedger l t f I (λ h e. shrunk l.machine l.heaps (slice_set l.heaps t (f h)) I (λ n.
@@ -148,7 +123,7 @@ allocated_total g l t h e w =
     omega arith)
 
 module _ (p : ProgramText) (l : Ledger) (t : ℕ) (S : SoundAt t l) (I : StockedLedger l) (can : can_step l.machine t ≡ true) where
-  abbrev m : State
+  abbrev m : MachineState
   m = l.machine
 
   abbrev b : Ledger
@@ -203,7 +178,7 @@ module _ (p : ProgramText) (l : Ledger) (t : ℕ) (S : SoundAt t l) (I : Stocked
   same_copies n = moves_total (weight (hit n)) (weight_additive (hit n)) t l.machine.tasks b.heaps k.heaps L.2
 
   pub step_stocked : StockedLedger k
-  step_stocked = subst (λ (s : State). Stocked s k.heaps) (sym (stepped_machine b t (step p m t))) (record {
+  step_stocked = subst (λ (s : MachineState). Stocked s k.heaps) (sym (stepped_machine b t (step p m t))) (record {
     counted = (suc I.counted.0, counted_step p m t K I.counted.0 I.counted.1);
     stored = λ n q. allotted.1 n (subst (λ c. 1 ≤ c) (same_copies n) (keeps_copies n k.heaps q));
     once = λ n. subst (λ c. c ≤ 1) (sym (same_copies n)) (allotted.0 n);

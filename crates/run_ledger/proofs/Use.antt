@@ -1,26 +1,6 @@
 -- How each entry changes the chunks in use.
-use Rattle.std.proofs.Common.{◌≡◌, ℕ, zero, suc, ◌+◌, ◌-◌, ◌<◌, ◌≤◌, ◌==◌, ◌||◌, not, arith, Bool, true, false, cond, Option, Some, None, List, [], ◌∷◌, ◌++◌, map, length, length-append, slice_get, slice_set, sum_by, nat_lt, is_none, is_some, unwrap_or, ◌⊎◌, inl, inr, refl, ap, sym, subst, ◌∙◌}
-use Rattle.std.proofs.lemmas.Bool.{false≢true, both_ways, ltb-false, eqb-true, eq-eqb, cases_lt, not-false, not-true}
-use Rattle.std.proofs.lemmas.List.{length-map}
-use Rattle.std.proofs.lemmas.List.Sums.{sum_by-append, sum_by-cons}
-use Rattle.std.proofs.lemmas.Option.{same_Some}
-use Rattle.hh_lang.specs.Form.{ProgramText}
-use Rattle.run_trace.specs.declared.entry.Kind.{Kind}
-use Rattle.run_trace.specs.declared.entry.Kind.TheVariants.{Took, Ran, Chunk, Begin, End as EndOf, PutOff, Mark, More, Sweep, Fuel}
-use Rattle.run_trace.specs.Entry.{EntryValue}
-use Rattle.run_trace.specs.Settings.{SettingsValue}
-use Rattle.hh_model.specs.declared.data.Name.{Name}
-use Rattle.hh_model.specs.declared.data.State.{State}
-use Rattle.hh_model.specs.Step.{step, can_step, asked}
-use Rattle.hh_model.proofs.Carried.{next_name}
-use Rattle.run_ledger.specs.declared.data.Heap.{Heap}
-use Rattle.run_ledger.specs.declared.data.Ledger.{Ledger}
-use Rattle.run_ledger.specs.declared.data.Refused.{Refused}
-use Rattle.run_ledger.specs.declared.data.RunEnd.TheVariants.{Pool}
-use Rattle.run_ledger.specs.Heaps.{chunk_words, units, is_small, words_at, units_sum, begun_in, units_in, heap_at, heap_of, or_fresh, with_heap, with_heap_at, in_use, placed, put_last, lacks_room, take_of, collected, end_numbers, swept_heap, sweep_number, in_snapshot, within, left_in}
-use Rattle.run_ledger.specs.Steps.{on_asked, allocated_by, allocated_in, stepped_to, task_step, task_steps, is_due, is_in_need, is_private, standing}
-use Rattle.run_ledger.specs.Entries.{refusal, after, after_kind, chunk_units, with_chunk, is_out, counted}
-use Rattle.run_ledger.specs.Journals.{ledger_of, is_legal}
+use Rattle.run_ledger.proofs.Common.{◌≡◌, ℕ, zero, suc, ◌+◌, ◌-◌, ◌<◌, ◌≤◌, ◌==◌, ◌||◌, not, arith, Bool, true, false, cond, Option, Some, None, List, [], ◌∷◌, ◌++◌, map, length, length-append, slice_get, slice_set, sum_by, nat_lt, is_none, is_some, unwrap_or, ◌⊎◌, inl, inr, refl, ap, sym, subst, ◌∙◌, false≢true, both_ways, ltb-false, eqb-true, cases_lt, not-false, not-true, length-map, sum_by-append, sum_by-cons, same_Some, ProgramText, Kind, Took, Ran, Chunk, Begin, End as EndOf, PutOff, Mark, More, Sweep, Fuel, EntryValue, SettingsValue, Name, MachineState, step, can_step, asked, next_name, packs_are_few, Heap, Ledger, Refused, Pool, chunk_words, units, is_small, words_at, units_sum, begun_in, units_in, heap_at, heap_of, or_fresh, with_heap, with_heap_at, in_use, placed, put_last, lacks_room, take_of, collected, end_numbers, swept_heap, sweep_number, in_snapshot, within, left_in, on_asked, allocated_by, allocated_in, stepped_to, task_step, task_steps, is_due, is_in_need, is_private, standing, refusal, after, after_kind, chunk_units, with_chunk, is_out, counted, ledger_of, is_legal, ChunkGoes, UseGoes, EntriesUse, ChunksAreUsed}
+use Rattle.std.proofs.lemmas.Bool.{eq-eqb}
 use Rattle.run_ledger.proofs.Booked as booked
 use Rattle.run_ledger.proofs.Booked.{BookedLedger, asked_runs, put_length, units_additive, total_same, task_step_booked}
 use Rattle.run_ledger.proofs.Bounds.{stands_by, ran_tells}
@@ -32,17 +12,15 @@ use Rattle.run_ledger.proofs.Space.{begun_none, legal_booked}
 use Rattle.run_ledger.proofs.Steps.{SoundAt, StepLeaves, heap_of_task, task_step_sound}
 use Rattle.run_ledger.proofs.Stocks.{StockedLedger, L, task_step_stocked, legal_stocked}
 use Rattle.run_ledger.proofs.Weights.{total, total_set, moves_total, kept_weight}
-use Rattle.run_ledger.specs.Use.{ChunkGoes, UseGoes, EntriesUse, ChunksAreUsed}
 use Rattle.run_ledger.proofs.Exact.{PacksAreSmall, large_exact}
-use Rattle.hh_model.proofs.Next.{packs_are_few}
 
 -- ONE STEP
 
 module _ (p : ProgramText) (s : SettingsValue) (packs : PacksAreSmall p) (l : Ledger) (t : ℕ) (S : SoundAt t l) (I : StockedLedger l) (B : BookedLedger p s l) (can : can_step l.machine t ≡ true) (fine : (is_due s p l t || is_in_need p l t) ≡ false) where
-  abbrev m : State
+  abbrev m : MachineState
   m = l.machine
 
-  abbrev m' : State
+  abbrev m' : MachineState
   m' = step p l.machine t
 
   abbrev b : Ledger
@@ -86,18 +64,18 @@ module _ (p : ProgramText) (s : SettingsValue) (packs : PacksAreSmall p) (l : Le
 
   pub step_use : in_use k ≡ in_use l
   step_use =
-      ap (λ (q : State). total (units_in q) k.heaps) (stepped_machine b t m')
+      ap (λ (q : MachineState). total (units_in q) k.heaps) (stepped_machine b t m')
       ∙ (moves_total (units_in m') (units_additive m') t m.tasks b.heaps k.heaps leaves.2 ∙ use_by (asked p m t) refl)
 
 -- STEPS
 
 module _ (p : ProgramText) (s : SettingsValue) (packs : PacksAreSmall p) where
   task_step_use : (l : Ledger) (t : ℕ) → SoundAt t l → StockedLedger l → BookedLedger p s l → (is_due s p l t || is_in_need p l t) ≡ false → in_use (task_step p l t) ≡ in_use l
-  task_step_use l t S I B fine = by (can_step l.machine t) refl
+  task_step_use l t S I B fine = task_step_use_by_cases (can_step l.machine t) refl
     where
-      by : (v : Bool) → can_step l.machine t ≡ v → in_use (cond v (stepped_to (allocated_in p l t) t (step p l.machine t)) (record l { steps = l.steps + 1 })) ≡ in_use l
-      by false e = refl
-      by true e = step_use p s packs l t S I B e fine
+      task_step_use_by_cases : (v : Bool) → can_step l.machine t ≡ v → in_use (cond v (stepped_to (allocated_in p l t) t (step p l.machine t)) (record l { steps = l.steps + 1 })) ≡ in_use l
+      task_step_use_by_cases false e = refl
+      task_step_use_by_cases true e = step_use p s packs l t S I B e fine
 
   pub steps_use : (k : ℕ) (l : Ledger) (t : ℕ) → SoundAt t l → StockedLedger l → BookedLedger p s l → k ≤ standing s p l t k → in_use (task_steps p l t k) ≡ in_use l
   steps_use zero l t S I B h = refl
@@ -109,7 +87,7 @@ module _ (p : ProgramText) (s : SettingsValue) (packs : PacksAreSmall p) where
 
 -- OTHER ENTRIES
 
--- one heap's account changes, by as many units as its own
+-- one heap's account changes, and the total by as many units
 changed : (l : Ledger) (t : ℕ) (f : Heap → Heap) (h : Heap) (more less : ℕ) → slice_get l.heaps t ≡ Some h → units_in l.machine (f h) + less ≡ units_in l.machine h + more → in_use (with_heap l t f) + less ≡ in_use l + more
 changed l t f h more less e d =
     let a = total_set (units_in l.machine) l.heaps t h (f h) e in
@@ -117,24 +95,24 @@ changed l t f h more less e d =
     let g : in_use l ≡ total (units_in l.machine) l.heaps = refl in
     omega arith
 
--- and by none
+-- one heap's account changes without changing its units
 pub same_use : (l : Ledger) (t : ℕ) (f : Heap → Heap) → ((h : Heap) → units_in l.machine (f h) ≡ units_in l.machine h) → in_use (with_heap l t f) ≡ in_use l
-same_use l t f same = by (heap_at l t) refl
+same_use l t f same = same_use_by_cases (heap_at l t) refl
   where
-    by : (o : Option Heap) → heap_at l t ≡ o → in_use (with_heap_at l t f o) ≡ in_use l
-    by None e = refl
-    by (Some h) e = let a = total_set (units_in l.machine) l.heaps t h (f h) e in let c = same h in let g : in_use l ≡ total (units_in l.machine) l.heaps = refl in omega arith
+    same_use_by_cases : (o : Option Heap) → heap_at l t ≡ o → in_use (with_heap_at l t f o) ≡ in_use l
+    same_use_by_cases None e = refl
+    same_use_by_cases (Some h) e = let a = total_set (units_in l.machine) l.heaps t h (f h) e in let c = same h in let g : in_use l ≡ total (units_in l.machine) l.heaps = refl in omega arith
 
 module _ (p : ProgramText) (s : SettingsValue) (l : Ledger) (t : ℕ) (S : SoundLedger l) (B : BookedLedger p s l) where
   -- a chunk is given, or the run ends
   chunk_by : (h : Heap) → slice_get l.heaps t ≡ Some h → (o : Option ℕ) → asked p l.machine t ≡ o → on_asked o (lacks_room h) ≡ true → units_in l.machine (with_chunk o h) ≡ units_in l.machine h + chunk_units o
   chunk_by h e None is needs = absurd (false≢true needs)
-  chunk_by h e (Some w) is needs = by (is_small w) refl needs
+  chunk_by h e (Some w) is needs = chunk_by_cases (is_small w) refl needs
     where
-      by : (v : Bool) → is_small w ≡ v → cond v (nat_lt h.room w) (not (h.reserved == units w)) ≡ true
+      chunk_by_cases : (v : Bool) → is_small w ≡ v → cond v (nat_lt h.room w) (not (h.reserved == units w)) ≡ true
           → units_in l.machine (cond v (record h { chunks = h.chunks ++ [] ∷ []; room = chunk_words }) (record h { reserved = cond v 1 (units w) })) ≡ units_in l.machine h + cond v 1 (units w)
-      by true small lacks = omega (arith, length-append h.chunks ([] ∷ []))
-      by false small lacks = let z : h.reserved ≡ 0 = none (cases_lt 0 h.reserved) in omega arith
+      chunk_by_cases true small lacks = omega (arith, length-append h.chunks ([] ∷ []))
+      chunk_by_cases false small lacks = let z : h.reserved ≡ 0 = none (cases_lt 0 h.reserved) in omega arith
         where
           none : (0 < h.reserved) ⊎ (h.reserved ≤ 0) → h.reserved ≡ 0
           none (inl pos) =
@@ -145,11 +123,11 @@ module _ (p : ProgramText) (s : SettingsValue) (l : Ledger) (t : ℕ) (S : Sound
           none (inr le) = omega arith
 
   pub chunk_use : (h : Heap) → slice_get l.heaps t ≡ Some h → is_in_need p l t ≡ true → UseGoes p s l (after_kind p s l 0 (Chunk t)) (Chunk t)
-  chunk_use h e needs = by (nat_lt s.chunks (in_use l + chunk_units (asked p l.machine t)))
+  chunk_use h e needs = chunk_use_by_cases (nat_lt s.chunks (in_use l + chunk_units (asked p l.machine t)))
     where
-      by : (v : Bool) → ChunkGoes v l (cond v (record l { end = Some (Pool (in_use l)) }) (with_heap l t (with_chunk (asked p l.machine t)))) (chunk_units (asked p l.machine t))
-      by true = refl
-      by false = (
+      chunk_use_by_cases : (v : Bool) → ChunkGoes v l (cond v (record l { end = Some (Pool (in_use l)) }) (with_heap l t (with_chunk (asked p l.machine t)))) (chunk_units (asked p l.machine t))
+      chunk_use_by_cases true = refl
+      chunk_use_by_cases false = (
         ap (λ (z : Ledger). z.end) (ap (with_heap_at l t (with_chunk (asked p l.machine t))) e),
         let a = changed l t (with_chunk (asked p l.machine t)) h (chunk_units (asked p l.machine t)) 0 e
             (let c = chunk_by h e (asked p l.machine t) refl (subst (λ (g : Heap). on_asked (asked p l.machine t) (lacks_room g) ≡ true) (ap or_fresh e) needs) in omega arith) in
@@ -193,15 +171,15 @@ counted_is : (said is : ℕ) (rest : Option Refused) → is_none (counted said i
 counted_is said is rest h = let a = none_unless (said == is) _ _ h in (eqb-true said is a.0, a.1)
 
 heap_from : (l : Ledger) (t : ℕ) → is_some (heap_of l t).begun ≡ true → (h : Heap) × (c : ℕ) × (slice_get l.heaps t ≡ Some h) × (h.begun ≡ Some c)
-heap_from l t e = by (heap_at l t) refl e
+heap_from l t e = heap_from_by_cases (heap_at l t) refl e
   where
     begun : (h : Heap) (o : Option ℕ) → h.begun ≡ o → is_some o ≡ true → (c : ℕ) × (h.begun ≡ Some c)
     begun h None is q = absurd (false≢true q)
     begun h (Some c) is q = (c, is)
 
-    by : (o : Option Heap) → heap_at l t ≡ o → is_some (or_fresh o).begun ≡ true → (h : Heap) × (c : ℕ) × (slice_get l.heaps t ≡ Some h) × (h.begun ≡ Some c)
-    by None is q = absurd (false≢true q)
-    by (Some h) is q = let c = begun h h.begun refl q in (h, c.0, is, c.1)
+    heap_from_by_cases : (o : Option Heap) → heap_at l t ≡ o → is_some (or_fresh o).begun ≡ true → (h : Heap) × (c : ℕ) × (slice_get l.heaps t ≡ Some h) × (h.begun ≡ Some c)
+    heap_from_by_cases None is q = absurd (false≢true q)
+    heap_from_by_cases (Some h) is q = let c = begun h h.begun refl q in (h, c.0, is, c.1)
 
 module _ (p : ProgramText) (s : SettingsValue) (journal : List EntryValue) (packs : PacksAreSmall p) (legal : is_legal p s journal ≡ true) where
   abbrev l : Ledger
@@ -254,7 +232,7 @@ module _ (p : ProgramText) (s : SettingsValue) (journal : List EntryValue) (pack
 pub entries_use : EntriesUse
 entries_use p s journal e I legal accepted = use_by_entry p s journal (packs_are_few p I) legal e accepted
 
--- WHAT CHUNKS ARE THERE FOR
+-- WHAT CHUNKS ARE USED FOR
 
 module _ (p : ProgramText) (s : SettingsValue) (l : Ledger) (B : BookedLedger p s l) (t : ℕ) where
   room_by : (o : Option Heap) → heap_at l t ≡ o → 0 < (or_fresh o).room → 0 < length (or_fresh o).chunks

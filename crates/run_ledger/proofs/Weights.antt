@@ -1,15 +1,5 @@
 -- Sums over the held names, and how each change of the heaps changes them.
-use Rattle.std.proofs.Common.{◌≡◌, ℕ, zero, suc, ◌+◌, ◌-◌, ◌<◌, ◌≤◌, Bool, true, false, cond, Option, Some, None, List, [], ◌∷◌, ◌++◌, map, slice_get, slice_set, filter, sum_by, inl, inr, refl, ap, sym, subst, ◌∙◌, arith, append-nil}
-use Rattle.std.specs.List.{flat_map}
-use Rattle.std.proofs.lemmas.List.Sums.{sum_by-append, sum_by-cons}
-use Rattle.std.proofs.lemmas.List.Concat.{flat_map-append}
-use Rattle.listed.proofs.Members.{got_other, got_front, got_within}
-use Rattle.hh_model.specs.declared.data.Name.{Name}
-use Rattle.hh_model.specs.declared.data.Task.{Task}
-use Rattle.hh_model.specs.declared.data.State.{State}
-use Rattle.run_ledger.specs.declared.data.Heap.{Heap}
-use Rattle.run_ledger.specs.Reachable.{holds_name}
-use Rattle.run_ledger.specs.Heaps.{held_in, small_in, placed, put_last, is_small, merged, emptied, let_go, forked_heap, fresh, collected, by_birth, insert_name, name_le, small_survivors, swept_heap, without_empty, in_snapshot}
+use Rattle.run_ledger.proofs.Common.{◌≡◌, ℕ, zero, suc, ◌+◌, ◌-◌, ◌<◌, ◌≤◌, Bool, true, false, cond, Option, Some, None, List, [], ◌∷◌, ◌++◌, map, slice_get, slice_set, filter, sum_by, inl, inr, refl, ap, sym, subst, ◌∙◌, arith, append-nil, flat_map, sum_by-append, sum_by-cons, flat_map-append, got_other, got_front, got_within, Name, Task, MachineState, Heap, holds_name, held_in, small_in, placed, put_last, is_small, merged, emptied, let_go, forked_heap, fresh, collected, by_birth, insert_name, name_le, small_survivors, swept_heap, without_empty, in_snapshot}
 use Rattle.run_ledger.proofs.Held.{laid_flat}
 use Rattle.run_ledger.proofs.Moves.{Forks, Joins, Moves}
 
@@ -82,7 +72,7 @@ module _ (f : Name → ℕ) where
       let g = three l.large r.large p.large in
       omega arith
 
-  -- what a test keeps weighs no more
+  -- what a test keeps has at most the same weight
   kept_by : (x : Name) (xs : List Name) (test : Name → Bool) → sum_by f (filter test xs) ≤ sum_by f xs → (b : Bool) → sum_by f (cond b (x ∷ filter test xs) (filter test xs)) ≤ f x + sum_by f xs
   kept_by x xs test h true = subst (λ k. k ≤ f x + sum_by f xs) (sym (sum_by-cons f x (filter test xs))) (omega arith)
   kept_by x xs test h false = omega arith
@@ -109,7 +99,7 @@ module _ (f : Name → ℕ) where
       let b = kept_weight (holds_name h.survivors) (small_in h) in
       omega arith
 
-  pub collected_weight : (m : State) (h : Heap) → weight (collected m h) ≤ weight h
+  pub collected_weight : (m : MachineState) (h : Heap) → weight (collected m h) ≤ weight h
   collected_weight m h =
       let a = weight_parts (collected m h) in
       let b = weight_parts h in
@@ -175,7 +165,7 @@ module _ (g : Heap → ℕ) where
       let b : total (slice_set (k ∷ heaps) (suc t) h') ≡ g k + total (slice_set heaps t h') = sum_by-cons g k (slice_set heaps t h') in
       omega arith
 
-  -- a number of heaps that no fork or join changes
+  -- a function of heaps whose sum no fork or join changes
   pub record Additive : Type 0 where
     pub let_go : (h : Heap) → g (let_go h) ≡ g h
     pub fresh : g fresh ≡ 0

@@ -1,11 +1,6 @@
 -- Entries: which are refused and why, and what the others change.
 use Rattle.std.specs.Prelude.{ℕ, ◌+◌, ◌==◌, ◌&&◌, not, Bool, true, false, Option, Some, None, List, [], ◌∷◌, ◌++◌, slice_get, if◌then◌else◌, nat_lt, nat_le, min, is_some, is_none}
-use Rattle.run_trace.specs.declared.entry.Kind.{Kind}
-use Rattle.run_trace.specs.declared.entry.Kind.TheVariants.{Took, Ran, Chunk, Begin, End, PutOff, Mark, More, Sweep, Fuel}
-use Rattle.run_trace.specs.Entry.{EntryValue}
-use Rattle.run_trace.specs.Settings.{SettingsValue}
-use Rattle.hh_lang.specs.Form.{ProgramText}
-use Rattle.hh_model.specs.Step.{asked, is_running, is_waiting}
+use Rattle.run_ledger.specs.Common.{Kind, Took, Ran, Chunk, Begin, End, PutOff, Mark, More, Sweep, Fuel, EntryValue, SettingsValue, ProgramText, asked, is_running, is_waiting, option_is}
 use Rattle.run_ledger.specs.declared.data.Heap.{Heap}
 use Rattle.run_ledger.specs.declared.data.Ledger.{Ledger}
 use Rattle.run_ledger.specs.declared.data.RunEnd.TheVariants.{Fuel as FuelEnd, Pool}
@@ -13,9 +8,8 @@ use Rattle.run_ledger.specs.declared.data.Refused.{Refused}
 use Rattle.run_ledger.specs.declared.data.Refused.TheVariants.{Over, Spent, NoWorker, NotReady, Holding, NotOut, Collecting, NotCollecting, NotWaiting, Swept, Marking, NotMarking, Long, Due, NotNeeded, NotDue, PoolShort, PoolEnough, Marked, Left, Count, NotSpent}
 use Rattle.run_ledger.specs.Heaps.{chunk_words, units, is_small, heap_of, with_heap, words_in, in_use, within, take_of, collected, end_numbers, marked_in, left_in, swept_heap, sweep_number}
 use Rattle.run_ledger.specs.Steps.{task_steps, on_asked, is_due, is_in_need, most_steps, standing}
-use Rattle.listed.specs.Options.{option_is}
 
--- WHO HOLDS WHAT
+-- WHICH WORKER HOLDS WHICH TASK
 
 -- the task runs and nobody holds it
 abbrev pub is_ready : Ledger → ℕ → Bool
@@ -32,23 +26,23 @@ out_from w t (h ∷ hs) = if option_is h.worker w then Some t else out_from w (t
 
 -- CAUSES IN THEIR ORDER
 
--- refused for this cause unless the test holds, or if it holds; else what comes after it decides
+-- refused for this cause unless the test holds, or if it holds; otherwise what follows decides
 abbrev pub refused_unless : Bool → Refused → Option Refused → Option Refused
 refused_unless test cause rest = if test then rest else Some cause
 
 abbrev pub refused_if : Bool → Refused → Option Refused → Option Refused
 refused_if test cause rest = if test then Some cause else rest
 
--- refused where the worker holds this task already
+-- refused if the worker holds this task already
 abbrev pub refused_holding : Option ℕ → Option Refused → Option Refused
 refused_holding None rest = rest
 refused_holding (Some t) rest = Some (Holding t)
 
--- a number says what it should
+-- a number has its right value
 abbrev pub counted : ℕ → ℕ → Option Refused → Option Refused
 counted said is rest = refused_unless (said == is) (Count said is) rest
 
--- the worker is at the task t, which isn't amid a leaf collection
+-- the worker holds the task t, which is in no leaf collection
 abbrev pub on_running : Ledger → ℕ → ℕ → Option Refused → Option Refused
 on_running l w t rest = refused_unless (is_out l w t) NotOut (refused_if (is_some (heap_of l t).begun) Collecting rest)
 
@@ -64,19 +58,19 @@ on_marking l t rest = on_waiting l t (refused_unless (is_some (heap_of l t).mark
 abbrev pub on_due : SettingsValue → ProgramText → Ledger → ℕ → Option Refused → Option Refused
 on_due s p l t rest = refused_unless (is_due s p l t) (NotDue (heap_of l t).since) rest
 
--- the chunks that are free are enough for a leaf collection of t
+-- enough chunks are free for a leaf collection of t
 abbrev pub is_pool_enough : SettingsValue → Ledger → ℕ → Bool
 is_pool_enough s l t = nat_le (in_use l + take_of l.machine (heap_of l t)) s.chunks
 
--- only so many of k steps can stand in one entry
+-- how many of k steps fit in one entry
 abbrev pub long_at : ℕ → ℕ → Option Refused
 long_at k m = refused_unless (nat_le k m) (Long m) None
 
--- the numbers that an entry says of the end of a leaf collection, and those that it should say
+-- the numbers in an entry that ends a leaf collection, and the right ones
 abbrev pub ends_as : ℕ × ℕ × ℕ → ℕ × ℕ × ℕ → Option Refused
 ends_as said is = counted said.0 is.0 (counted said.1 is.1 (counted said.2 is.2 None))
 
--- why an entry is refused for what it says, or none
+-- why an entry is refused because of its kind, or none
 abbrev pub kind_refusal : ProgramText → SettingsValue → Ledger → ℕ → Kind → Option Refused
 kind_refusal p s l w (Took t) = refused_unless (is_ready l t) NotReady (refused_holding (out_from w 0 l.heaps) None)
 kind_refusal p s l w (Ran t k) = on_running l w t (long_at k (min most_steps (standing s p l t k)))
@@ -113,14 +107,14 @@ abbrev pub chunk_units : Option ℕ → ℕ
 chunk_units None = 1
 chunk_units (Some w) = if is_small w then 1 else units w
 
--- one chunk more: for a small object an empty one, for a large one its own
+-- one more chunk: an empty one for small objects, or one for the large object
 abbrev pub with_chunk : Option ℕ → Heap → Heap
 with_chunk next h =
     if on_asked next is_small
     then record h { chunks = h.chunks ++ [] ∷ []; room = chunk_words }
     else record h { reserved = chunk_units next }
 
--- a chunk was asked for: the run ends where too few are free
+-- a chunk was asked for: the run ends if too few are free
 abbrev pub given_chunk : ProgramText → SettingsValue → Ledger → ℕ → Ledger
 given_chunk p s l t =
     if nat_lt s.chunks (in_use l + chunk_units (asked p l.machine t))

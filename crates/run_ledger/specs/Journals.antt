@@ -1,13 +1,7 @@
 -- Whole journals: their accounts, their end, their steps, and which of them are legal.
 use Rattle.std.specs.Prelude.{◌≡◌, ℕ, ◌+◌, ◌&&◌, Bool, true, Option, Some, None, List, [], ◌∷◌, ◌++◌, length, replicate, is_none}
 use Rattle.std.specs.List.{flat_map}
-use Rattle.run_trace.specs.declared.entry.Kind.{Kind}
-use Rattle.run_trace.specs.declared.entry.Kind.TheVariants.{Ran}
-use Rattle.run_trace.specs.Entry.{EntryValue}
-use Rattle.run_trace.specs.Settings.{SettingsValue, field_limit}
-use Rattle.hh_lang.specs.Form.{ProgramText}
-use Rattle.hh_model.specs.declared.data.State.{State}
-use Rattle.hh_model.specs.Step.{start, run}
+use Rattle.run_ledger.specs.Common.{Kind, Ran, EntryValue, SettingsValue, field_limit, ProgramText, MachineState, start, run}
 use Rattle.run_ledger.specs.declared.data.Ledger.{Ledger}
 use Rattle.run_ledger.specs.declared.data.RunEnd.{RunEnd}
 use Rattle.run_ledger.specs.declared.data.Refused.{Refused}
@@ -30,7 +24,7 @@ after_all p s l (e ∷ es) = after_all p s (after p s l e) es
 abbrev pub ledger_of : ProgramText → SettingsValue → List EntryValue → Ledger
 ledger_of p s journal = after_all p s (opening p s) journal
 
--- how a journal ends, if it does: as its machine, for spent fuel, or for want of chunks
+-- how a journal ends, if it does: as its machine, without fuel, or without chunks
 abbrev pub end_of : ProgramText → SettingsValue → List EntryValue → Option RunEnd
 end_of p s journal = (ledger_of p s journal).end
 
@@ -45,8 +39,8 @@ tasks_in _ = []
 abbrev pub tasks_of : List EntryValue → List ℕ
 tasks_of journal = flat_map (λ e. tasks_in e.kind) journal
 
--- the machine that never collects, over a journal's steps
-abbrev pub machine_of : ProgramText → SettingsValue → List EntryValue → State
+-- the machine that never collects, after a journal's steps
+abbrev pub machine_of : ProgramText → SettingsValue → List EntryValue → MachineState
 machine_of p s journal = run p (field_limit s.version) (tasks_of journal)
 
 -- LEGAL JOURNALS
@@ -69,12 +63,12 @@ abbrev pub refused_or : Option Refused → ℕ → Option RefusedAt → Option R
 refused_or None at rest = rest
 refused_or (Some cause) at rest = Some (record { index = at; cause = cause })
 
--- the first refused entry, where the entries are counted on from this number
+-- the first refused entry, with entries numbered from this number on
 abbrev pub first_refused_from : ProgramText → SettingsValue → Ledger → ℕ → List EntryValue → Option RefusedAt
 first_refused_from p s l at [] = None
 first_refused_from p s l at (e ∷ es) = refused_or (refusal p s l e) at (first_refused_from p s (after p s l e) (at + 1) es)
 
--- the first refused entry, counted from 1, with its cause
+-- the first refused entry, numbered from 1, with its cause
 abbrev pub first_refused : ProgramText → SettingsValue → List EntryValue → Option RefusedAt
 first_refused p s journal = first_refused_from p s (opening p s) 1 journal
 
@@ -83,7 +77,7 @@ or_short (Some r) end at = Some r
 or_short None (Some e) at = None
 or_short None None at = Some (record { index = at; cause = Short })
 
--- why a journal isn't one of a whole run: its first refused entry, or, where none is and it has no end, one past its
--- last entry as short
+-- why a journal isn't one of a whole run: its first refused entry, or, if none is refused and it has no end, one past
+-- its last entry with the cause `short`
 abbrev pub refused_as_run : ProgramText → SettingsValue → List EntryValue → Option RefusedAt
 refused_as_run p s journal = or_short (first_refused p s journal) (end_of p s journal) (length journal + 1)

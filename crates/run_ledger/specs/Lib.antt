@@ -11,3 +11,4 @@ pub mod Text
 pub mod Laws
 pub mod Cuts
 pub mod Space
+mod Common

@@ -1,13 +1,6 @@
--- The pace of inner collections: what a worker's next entry has to be where its previous one is an entry of steps.
+-- The pace of inner collections: what a worker's next entry has to be if its previous one is an entry of steps.
 use Rattle.std.specs.Prelude.{ℕ, ◌==◌, ◌&&◌, ◌||◌, not, Bool, true, false, Option, Some, None, List, [], ◌∷◌, ◌++◌, slice_get, slice_set, if◌then◌else◌, nat_le, replicate, is_none}
-use Rattle.run_trace.specs.declared.entry.Kind.{Kind}
-use Rattle.run_trace.specs.declared.entry.Kind.TheVariants.{Ran, Mark, More, Sweep}
-use Rattle.run_trace.specs.Entry.{EntryValue}
-use Rattle.run_trace.specs.Settings.{SettingsValue}
-use Rattle.hh_lang.specs.Form.{ProgramText}
-use Rattle.hh_model.specs.declared.data.Strand.{Strand}
-use Rattle.hh_model.specs.declared.data.Task.{Task}
-use Rattle.hh_model.specs.Step.{waits, strand_of}
+use Rattle.run_ledger.specs.Common.{Kind, Ran, Mark, More, Sweep, EntryValue, SettingsValue, ProgramText, Strand, Task, waits, strand_of}
 use Rattle.run_ledger.specs.declared.data.Heap.{Heap}
 use Rattle.run_ledger.specs.declared.data.Ledger.{Ledger}
 use Rattle.run_ledger.specs.declared.data.Previous.{Previous}
@@ -19,7 +12,7 @@ use Rattle.run_ledger.specs.Heaps.{heap_of, words_in, left_in}
 use Rattle.run_ledger.specs.Entries.{after, is_fuel}
 use Rattle.run_ledger.specs.Journals.{opening}
 
--- FORKS, EACH TOLD BY THE STRAND THAT IT ENDED
+-- FORKS, EACH NAMED BY THE STRAND THAT IT ENDED
 
 abbrev pub waits_since : Option Task → ℕ → Bool
 waits_since None joins = false
@@ -29,15 +22,15 @@ waits_since (Some x) joins = waits x.status && (x.joins == joins)
 abbrev pub waits_on : Ledger → Strand → Bool
 waits_on l fork = waits_since (slice_get l.machine.tasks fork.task) fork.joins
 
--- nobody marks the heap, or has marked and swept it, since the last fork
+-- nobody has marked the heap, or marked and swept it, since the last fork
 abbrev pub is_unmarked : Heap → Bool
 is_unmarked h = is_none h.marked && not h.swept
 
--- the heap that waits on this fork isn't marked, and has the words for it
+-- the heap that waits on this fork isn't marked, and has enough words to be
 abbrev pub is_to_mark : SettingsValue → Ledger → Strand → Bool
 is_to_mark s l fork = waits_on l fork && (is_unmarked (heap_of l fork.task) && nat_le s.inner (words_in l.machine (heap_of l fork.task)))
 
--- a marking that began after this fork is neither given up nor swept
+-- a marking that began after this fork is neither abandoned nor swept
 abbrev pub is_under_way : Ledger → Strand → Bool
 is_under_way l fork = waits_on l fork && not (heap_of l fork.task).swept
 
@@ -51,18 +44,18 @@ abbrev pub owed_to_marks : Ledger → List Strand → Owed
 owed_to_marks l [] = Nothing
 owed_to_marks l (fork ∷ forks) = if is_under_way l fork then more_of l fork.task else owed_to_marks l forks
 
--- after steps that forked, the marking of the heap that waits comes first, where it is to be marked; after any steps,
--- the worker's last marking that is under way goes on
+-- after steps that forked, the heap that now waits is marked first, if it is to be marked; after any steps, the
+-- worker's last marking that is under way goes on
 abbrev pub owed_after : SettingsValue → Ledger → List Strand → Previous → Owed
 owed_after s l marks Other = Nothing
 owed_after s l marks RanBefore = owed_to_marks l marks
 owed_after s l marks (Forked fork) = if is_to_mark s l fork then OwesMark fork.task else owed_to_marks l marks
 
--- what the worker's next entry is to be
+-- what the worker's next entry has to be
 abbrev pub owed : SettingsValue → Ledger → WorkerPace → Owed
 owed s l x = owed_after s l x.marks x.previous
 
--- WHAT IS KEPT OF EACH WORKER
+-- THE RECORD OF EACH WORKER
 
 abbrev pub idle : WorkerPace
 idle = record { previous = Other; marks = [] }
@@ -86,7 +79,7 @@ abbrev pub fork_of : ℕ → Option Task → List Strand
 fork_of t None = []
 fork_of t (Some x) = strand_of t x ∷ []
 
--- what is kept of the worker after its entry, by the accounts after it
+-- the record of the worker after its entry, by the accounts after it
 abbrev pub noted : Ledger → WorkerPace → Kind → WorkerPace
 noted l x (Ran t k) = record x { previous = previous_by t (slice_get l.machine.tasks t) }
 noted l x (Mark t) = record { previous = Other; marks = fork_of t (slice_get l.machine.tasks t) ++ x.marks }
@@ -120,7 +113,7 @@ gives (OwesMore t) kind = is_more_of t kind
 gives (OwesSweep t) kind = is_sweep_of t kind
 gives Nothing kind = true
 
--- each entry gives what its worker owes by the accounts just before it, or ends the run for spent fuel
+-- each entry gives what its worker owes by the accounts just before it, or ends the run because the fuel is used up
 abbrev pub is_paced_from : ProgramText → SettingsValue → Ledger → List WorkerPace → List EntryValue → Bool
 is_paced_from p s l pace [] = true
 is_paced_from p s l pace (e ∷ es) =
@@ -134,6 +127,6 @@ abbrev pub pace_after_all : ProgramText → SettingsValue → Ledger → List Wo
 pace_after_all p s l pace [] = pace
 pace_after_all p s l pace (e ∷ es) = pace_after_all p s (after p s l e) (pace_after (after p s l e) pace e) es
 
--- what is kept of each worker after a journal
+-- the record of each worker after a journal
 abbrev pub pace_at_end : ProgramText → SettingsValue → List EntryValue → List WorkerPace
 pace_at_end p s journal = pace_after_all p s (opening p s) (pace_opening s) journal

@@ -1,10 +1,7 @@
--- What is reached from some names within a heap.
+-- What is reachable from some names within a heap.
 use Rattle.std.specs.Prelude.{ℕ, zero, suc, ◌==◌, ◌&&◌, ◌||◌, Bool, List, length, filter, Contains}
 use Rattle.std.specs.List.{list_any}
-use Rattle.walk_laws.specs.Reached.{IsReached}
-use Rattle.hh_model.specs.declared.data.Name.{Name}
-use Rattle.hh_model.specs.declared.data.Object.{Object}
-use Rattle.hh_model.specs.Names.{refs_at}
+use Rattle.run_ledger.specs.Common.{IsReached, Name, Object, refs_at}
 
 abbrev pub is_name : Name → Name → Bool
 is_name m n = (m.task == n.task) && (m.count == n.count)
@@ -12,16 +9,16 @@ is_name m n = (m.task == n.task) && (m.count == n.count)
 abbrev pub holds_name : List Name → Name → Bool
 holds_name ns n = list_any (is_name n) ns
 
--- of these names, those that are found or that a found one refers to
+-- those of these names that are found or to which a found one refers
 abbrev pub once_more : List (List Object) → List Name → List Name → List Name
 once_more store names found = filter (λ n. holds_name found n || list_any (λ m. holds_name (refs_at store m) n) found) names
 
--- of these names, those that are reached from the roots over as many references at the most, through these names alone
+-- those of these names that are reachable from the roots over at most n references, through these names alone
 abbrev pub reached_by : List (List Object) → List Name → List Name → ℕ → List Name
 reached_by store names roots zero = filter (holds_name roots) names
 reached_by store names roots (suc more) = once_more store names (reached_by store names roots more)
 
--- of these names, those that are reached from the roots through these names alone, in the order in which they are given
+-- those of these names that are reachable from the roots through these names alone, in the given order
 abbrev pub reached : List (List Object) → List Name → List Name → List Name
 reached store names roots = reached_by store names roots (length names)
 

@@ -1,13 +1,6 @@
 -- The report of a journal: sums over its entries and the accounts before them, and counts of the accounts at its end.
 use Rattle.std.specs.Prelude.{ℕ, ◌+◌, ◌-◌, List, [], ◌∷◌, ◌++◌, slice_get, length, if◌then◌else◌, max}
-use Rattle.run_trace.specs.declared.entry.Kind.{Kind}
-use Rattle.run_trace.specs.declared.entry.Kind.TheVariants.{End, PutOff, Sweep}
-use Rattle.run_trace.specs.Entry.{EntryValue}
-use Rattle.run_trace.specs.Settings.{SettingsValue}
-use Rattle.hh_lang.specs.Form.{ProgramText}
-use Rattle.hh_model.specs.declared.data.Name.{Name}
-use Rattle.hh_model.specs.declared.data.Task.{Task}
-use Rattle.hh_model.specs.Step.{is_running}
+use Rattle.run_ledger.specs.Common.{Kind, End, PutOff, Sweep, EntryValue, SettingsValue, ProgramText, Name, Task, is_running}
 use Rattle.run_ledger.specs.declared.data.Heap.{Heap}
 use Rattle.run_ledger.specs.declared.data.Ledger.{Ledger}
 use Rattle.run_ledger.specs.declared.data.Report.{Report}
@@ -46,7 +39,7 @@ abbrev pub freed_by_sweep : Ledger → Kind → ℕ
 freed_by_sweep l (Sweep t given) = lost l t swept_heap
 freed_by_sweep l _ = 0
 
--- the most chunks in use after any entry, and 0 without one
+-- the most chunks in use after any entry, or 0 without an entry
 abbrev pub peak_from : ProgramText → SettingsValue → Ledger → List EntryValue → ℕ
 peak_from p s l [] = 0
 peak_from p s l (e ∷ es) = max (in_use (after p s l e)) (peak_from p s (after p s l e) es)
@@ -59,7 +52,7 @@ held_not_running_from tasks (h ∷ hs) t = if is_running (slice_get tasks t) the
 abbrev pub held_not_running : Ledger → List Name
 held_not_running l = held_not_running_from l.machine.tasks l.heaps 0
 
--- what a journal came to
+-- the report of a journal
 abbrev pub report_of : ProgramText → SettingsValue → List EntryValue → Report
 report_of p s journal =
     let first = opening p s in

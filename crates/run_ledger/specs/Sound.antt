@@ -1,21 +1,13 @@
--- Sound accounts: what every legal journal keeps of its heaps.
+-- Sound accounts: the invariant of heaps for legal journals.
 use Rattle.std.specs.Prelude.{◌≡◌, ℕ, ◌<◌, Bool, true, false, Option, Some, None, List, [], length, slice_get, is_some}
-use Rattle.listed.specs.Members.{In}
-use Rattle.hh_model.specs.declared.data.Name.{Name}
-use Rattle.hh_model.specs.declared.data.Object.{Object}
-use Rattle.hh_model.specs.declared.data.Edge.{Edge}
-use Rattle.hh_model.specs.declared.data.Task.{Task}
-use Rattle.hh_model.specs.Step.{is_running, owner_of}
-use Rattle.hh_model.specs.Tree.{waiting, IsForkJoinStateIn}
-use Rattle.hh_model.specs.Closed.{Closed}
-use Rattle.path_laws.specs.Disentangled.{Disentangled}
+use Rattle.run_ledger.specs.Common.{In, Name, Object, Edge, Task, is_running, owner_of, waiting, IsForkJoinStateIn, Closed, Disentangled}
 use Rattle.run_ledger.specs.declared.data.Heap.{Heap}
 use Rattle.run_ledger.specs.declared.data.Ledger.{Ledger}
 use Rattle.run_ledger.specs.Heaps.{held_in, or_fresh}
 
 -- HELD NAMES, over the heaps by task
 
--- the names of a heap, and none where there is no heap
+-- the names of a heap; none if there is no heap
 abbrev pub names_of : Option Heap → List Name
 names_of o = held_in (or_fresh o)
 
@@ -27,14 +19,14 @@ InHeaps heaps u n = In (names_of (slice_get heaps u)) n
 abbrev pub Keeps : List Heap → Name → Type 0
 Keeps heaps n = (u : ℕ) × InHeaps heaps u n
 
--- each held name lies in its owner's heap
+-- each held name is in its owner's heap
 abbrev pub Owners : List Task → List Heap → Type 0
 Owners tasks heaps = (u : ℕ) (n : Name) → InHeaps heaps u n → (n.task < length tasks) × (owner_of tasks n.task ≡ u)
 
 -- USES OF A HEAP
 
--- these names are all for which the heap of u is used: without its others, what is held still has all that tasks hold,
--- and all to which its objects refer
+-- the heap of u is used only for these names: without its others, what is held still contains all that tasks hold, and
+-- all to which its objects refer
 abbrev pub Spares : List Task → List (List Object) → List Heap → ℕ → List Name → Type 0
 Spares tasks store heaps u ns = Closed tasks store (λ n. Keeps heaps n × (InHeaps heaps u n → In ns n))
 
@@ -53,8 +45,8 @@ survivors_at (Some h) = h.survivors
 
 -- SOUND ACCOUNTS
 
--- all that is reached is held; what the heap of a task that waits is used for is in its snapshot; and what the heap of
--- a task amid a leaf collection is used for is among its survivors
+-- all that is reachable is held; the uses of a waiting task's heap are in its snapshot; and the uses of the heap of a
+-- task in a leaf collection are among its survivors
 pub record Sound (tasks : List Task) (edges : List Edge) (store : List (List Object)) (heaps : List Heap) : Type 0 where
   pub fork_join : IsForkJoinStateIn tasks edges store
   pub apart : Disentangled tasks store
@@ -68,6 +60,6 @@ pub record Sound (tasks : List Task) (edges : List Edge) (store : List (List Obj
 abbrev pub SoundLedger : Ledger → Type 0
 SoundLedger l = Sound l.machine.tasks l.machine.edges l.machine.store l.heaps
 
--- and so does a step of a task that isn't amid a leaf collection
+-- and a step of a task that is in no leaf collection keeps that
 abbrev pub SoundAt : ℕ → Ledger → Type 0
 SoundAt t l = SoundLedger l × (collecting (slice_get l.heaps t) ≡ false)

@@ -1,14 +1,6 @@
 -- Laws of space by count.
 use Rattle.std.specs.Prelude.{◌≡◌, ℕ, ◌+◌, ◌*◌, ◌<◌, ◌≤◌, true, false, List, [], ◌∷◌, ◌++◌, Some, length, Contains, sum_by}
-use Rattle.run_trace.specs.declared.entry.Kind.TheVariants.{End, Sweep}
-use Rattle.run_trace.specs.Entry.{EntryValue, private_limit}
-use Rattle.run_trace.specs.Settings.{SettingsValue, field_limit}
-use Rattle.hh_lang.specs.Form.{ProgramText, IsProgram}
-use Rattle.hh_lang.specs.Limits.{most_fields}
-use Rattle.hh_model.specs.declared.data.Name.{Name}
-use Rattle.hh_model.specs.declared.data.Object.{Object}
-use Rattle.hh_model.specs.declared.data.State.{State}
-use Rattle.hh_model.specs.Step.{asked}
+use Rattle.run_ledger.specs.Common.{End, Sweep, EntryValue, private_limit, SettingsValue, field_limit, ProgramText, IsProgram, most_fields, Name, Object, MachineState, asked, Counted}
 use Rattle.run_ledger.specs.declared.data.Heap.{Heap}
 use Rattle.run_ledger.specs.declared.data.Ledger.{Ledger}
 use Rattle.run_ledger.specs.Heaps.{chunk_words, words_sum, held, heap_of, begun_in, take_of, in_use, words_of}
@@ -16,20 +8,19 @@ use Rattle.run_ledger.specs.Steps.{task_steps}
 use Rattle.run_ledger.specs.Entries.{after}
 use Rattle.run_ledger.specs.Journals.{ledger_of, is_legal, tasks_of}
 use Rattle.run_ledger.specs.Sound.{SoundAt}
-use Rattle.hh_model.specs.Counts.{Counted}
 use Rattle.run_ledger.specs.Report.{report_of}
 
--- the steps of a legal journal are at most the fuel and the private steps of one entry more
+-- a legal journal has at most fuel + 256 steps
 abbrev pub StepsAreBounded : Type 0
 StepsAreBounded = (p : ProgramText) (s : SettingsValue) (journal : List EntryValue) → is_legal p s journal ≡ true → (ledger_of p s journal).steps ≤ s.fuel + private_limit
 
--- each list has a name
+-- each list is nonempty
 abbrev pub EachHasName : List (List Name) → Type 0
 EachHasName lists = (ns : List Name) → Contains lists ns → 0 < length ns
 
--- the end of t's leaf collection, by the accounts l before it and those after it: as many chunks were taken when it
--- began as its small names would take still; at most so many hold the small survivors, each has one, and none waits for
--- a large object
+-- the end of t's leaf collection, by the accounts l before it and those after it: it took as many chunks when it began
+-- as its small names would take now; at most that many hold the small survivors, each at least one, and none is
+-- reserved for a large object
 pub record CollectedWithin (l after : Ledger) (t : ℕ) : Type 0 where
   pub took : begun_in (heap_of l t) ≡ take_of l.machine (heap_of l t)
   pub most : length (heap_of after t).chunks ≤ take_of l.machine (heap_of l t)
@@ -42,7 +33,7 @@ LeafCollectionsAreBounded =
     → let e : EntryValue = record { worker = w; kind = End t taken given left } in
     is_legal p s (before ++ e ∷ rest) ≡ true → CollectedWithin (ledger_of p s before) (after p s (ledger_of p s before) e) t
 
--- a sweep of t's heap, by the accounts after it: each chunk has a name, and none waits for a large object
+-- a sweep of t's heap, by the accounts after it: each chunk has a name, and none is reserved for a large object
 pub record SweptWithin (after : Ledger) (t : ℕ) : Type 0 where
   pub each : EachHasName (heap_of after t).chunks
   pub reserved : (heap_of after t).reserved ≡ 0
@@ -61,21 +52,21 @@ pub record UsesFew (p : ProgramText) (s : SettingsValue) (journal : List EntryVa
 abbrev pub UseIsBounded : Type 0
 UseIsBounded = (p : ProgramText) (s : SettingsValue) (journal : List EntryValue) → is_legal p s journal ≡ true → UsesFew p s journal
 
--- with this limit on the fields of objects, no step of the program asks for more words than so many
+-- with this limit of fields, no step of the program allocates more than n words
 abbrev pub AsksAtMost : ProgramText → ℕ → ℕ → Type 0
-AsksAtMost p limit most = (m : State) (t w : ℕ) → m.field_limit ≡ limit → asked p m t ≡ Some w → w ≤ most
+AsksAtMost p limit most = (m : MachineState) (t w : ℕ) → m.field_limit ≡ limit → asked p m t ≡ Some w → w ≤ most
 
--- a `newm` asks for two words more than fields, and a `pack` for two more than registers
+-- a `newm` allocates two words more than its fields, and a `pack` two more than its registers
 abbrev pub ProgramsAskFew : Type 0
 ProgramsAskFew = (p : ProgramText) → IsProgram p → (limit : ℕ) → AsksAtMost p limit (limit + 34)
 
--- so the words that a heap counts since its last leaf collection are at most so many for each step taken, in both
--- versions of the trace
+-- so a heap counts at most this many words since its last leaf collection for each step taken, in both versions of the
+-- trace
 pub record CountsFew (s : SettingsValue) (l : Ledger) : Type 0 where
   pub by_steps : (t : ℕ) → (heap_of l t).since ≤ (field_limit s.version + 34) * l.steps
   pub below : (t : ℕ) → (heap_of l t).since ≤ (most_fields + 34) * l.steps
 
--- after a legal journal, and after any steps of a task then that isn't amid a leaf collection
+-- after a legal journal, and then after any steps of a task that is in no leaf collection
 abbrev pub SinceIsBounded : Type 0
 SinceIsBounded =
     (p : ProgramText) (s : SettingsValue) (journal : List EntryValue) → IsProgram p → is_legal p s journal ≡ true
@@ -89,14 +80,14 @@ pub record IsCountedBy (l : Ledger) (journal : List EntryValue) : Type 0 where
 abbrev pub JournalsAreCounted : Type 0
 JournalsAreCounted = (p : ProgramText) (s : SettingsValue) (journal : List EntryValue) → IsCountedBy (ledger_of p s journal) journal
 
--- the words in the last list, and none without one
-abbrev pub last_words : State → List (List Name) → ℕ
+-- the words in the last list; none without a list
+abbrev pub last_words : MachineState → List (List Name) → ℕ
 last_words m [] = 0
 last_words m (ns ∷ []) = words_sum m ns
 last_words m (ns ∷ ms ∷ rest) = last_words m (ms ∷ rest)
 
 -- a list has at most a chunk's words, and the last one leaves the room that is there
-pub record FitsInChunks (m : State) (h : Heap) : Type 0 where
+pub record FitsInChunks (m : MachineState) (h : Heap) : Type 0 where
   pub each : (ns : List Name) → Contains h.chunks ns → words_sum m ns ≤ chunk_words
   pub last : last_words m h.chunks + h.room ≤ chunk_words
 
@@ -112,7 +103,7 @@ HeapsFit = (p : ProgramText) (s : SettingsValue) (journal : List EntryValue) →
 abbrev pub store_words : List (List Object) → ℕ
 store_words store = sum_by (λ row. sum_by (λ o. words_of (Some o)) row) store
 
--- each word that was allocated is held, or the end of a leaf collection or a sweep has dropped it
+-- each word that was allocated is held, or was dropped by the end of a leaf collection or a sweep
 abbrev pub WordsAreAccounted : Type 0
 WordsAreAccounted =
     (p : ProgramText) (s : SettingsValue) (journal : List EntryValue) → is_legal p s journal ≡ true

@@ -2,15 +2,9 @@
 use Rattle.std.specs.Prelude.{ℕ, ℤ, Bool, Option, Some, None, List, [], ◌∷◌, ◌++◌, codes, if◌then◌else◌}
 use Rattle.std.specs.List.{flat_map}
 use Rattle.std.specs.Fmt.{decimal, signed_decimal}
-use Rattle.run_trace.specs.Entry.{EntryValue}
-use Rattle.run_trace.specs.Settings.{SettingsValue}
+use Rattle.run_ledger.specs.Common.{EntryValue, SettingsValue, trace_text, ProgramText, Trap, Nil, Range, Frozen, Div, Size, Depth, Done, Trapped, Entangled}
 pub use Rattle.run_trace.specs.Line.{line}
-use Rattle.run_trace.specs.Trace.{trace_text}
-use Rattle.hh_lang.specs.Form.{ProgramText}
-use Rattle.hh_model.specs.declared.data.Trap.{Trap}
-use Rattle.hh_model.specs.declared.data.Trap.TheVariants.{Nil, Range, Frozen, Div, Size, Depth}
 use Rattle.hh_model.specs.declared.data.End.{End}
-use Rattle.hh_model.specs.declared.data.End.TheVariants.{Done, Trapped, Entangled}
 use Rattle.run_ledger.specs.declared.data.RunEnd.{RunEnd}
 use Rattle.run_ledger.specs.declared.data.RunEnd.TheVariants.{Machine, Fuel, Pool}
 use Rattle.run_ledger.specs.declared.data.Report.{Report}
@@ -108,13 +102,13 @@ abbrev pub refused_words : ℕ → Refused → List (List ℕ)
 refused_words index Short = codes "short" ∷ []
 refused_words index cause = codes "entry" ∷ decimal index ∷ cause_words cause
 
--- the end line where an entry is refused
+-- the end line if an entry is refused
 abbrev pub refused_line : RefusedAt → List ℕ
 refused_line r = end_line (codes "trace refused" ∷ refused_words r.index r.cause)
 
 -- ALL THAT IS WRITTEN
 
--- the outputs of a journal that has an end, the report and the trace where they are asked for, and the end line
+-- the outputs of a journal that has an end, the report and the trace if they are asked for, and the end line
 abbrev pub out_text : ProgramText → SettingsValue → Bool → Bool → List EntryValue → List ℕ
 out_text p s report trace journal =
     output_lines (machine_of p s journal).outputs

@@ -1,11 +1,6 @@
--- How the chunks in use change, and what they are there for.
+-- How the chunks in use change, and what they are used for.
 use Rattle.std.specs.Prelude.{◌≡◌, ℕ, ◌+◌, ◌<◌, ◌≤◌, Bool, true, false, None, Some, List, length, nat_lt, slice_get}
-use Rattle.run_trace.specs.declared.entry.Kind.{Kind}
-use Rattle.run_trace.specs.declared.entry.Kind.TheVariants.{Chunk, Begin, End, Sweep}
-use Rattle.run_trace.specs.Entry.{EntryValue}
-use Rattle.run_trace.specs.Settings.{SettingsValue}
-use Rattle.hh_lang.specs.Form.{ProgramText, IsProgram}
-use Rattle.hh_model.specs.Step.{asked, is_running}
+use Rattle.run_ledger.specs.Common.{Kind, Chunk, Begin, End, Sweep, EntryValue, SettingsValue, ProgramText, IsProgram, asked, is_running}
 use Rattle.run_ledger.specs.declared.data.Ledger.{Ledger}
 use Rattle.run_ledger.specs.declared.data.RunEnd.TheVariants.{Pool}
 use Rattle.run_ledger.specs.Heaps.{heap_of, in_use, is_small, take_of, units}
@@ -14,13 +9,13 @@ use Rattle.run_ledger.specs.Journals.{ledger_of, is_legal}
 
 -- CHUNKS IN USE
 
--- a chunk of so many units is asked for, and too few are free or it is given
+-- a chunk of n units is asked for: too few are free, or it is given
 abbrev pub ChunkGoes : Bool → Ledger → Ledger → ℕ → Type 0
 ChunkGoes true l l' asks = l' ≡ record l { end = Some (Pool (in_use l)) }
 ChunkGoes false l l' asks = (l'.end ≡ l.end) × (in_use l' ≡ in_use l + asks)
 
--- by the units of a chunk that is given, or the run ends where too few are free; by what a leaf collection takes as it
--- begins; down by the number that its end or a sweep says is given back, and by nothing else
+-- up by the units of a chunk that is given, unless the run ends because too few are free; up by what a leaf collection
+-- takes as it begins; down by the number that its end or a sweep reports as released; and by nothing else
 abbrev pub UseGoes : ProgramText → SettingsValue → Ledger → Ledger → Kind → Type 0
 UseGoes p s l l' (Chunk t) = let asks : ℕ = chunk_units (asked p l.machine t) in ChunkGoes (nat_lt s.chunks (in_use l + asks)) l l' asks
 UseGoes p s l l' (Begin t) = in_use l' ≡ in_use l + take_of l.machine (heap_of l t)
@@ -34,7 +29,7 @@ EntriesUse =
     (p : ProgramText) (s : SettingsValue) (journal : List EntryValue) (e : EntryValue) → IsProgram p → is_legal p s journal ≡ true
     → let l = ledger_of p s journal in refusal p s l e ≡ None → UseGoes p s l (after p s l e) e.kind
 
--- WHAT CHUNKS ARE THERE FOR
+-- WHAT CHUNKS ARE USED FOR
 
 -- t runs, and its next step allocates a large object that its reserved chunk fits, and isn't due
 pub record ReservesFor (p : ProgramText) (s : SettingsValue) (l : Ledger) (t : ℕ) : Type 0 where
@@ -45,8 +40,8 @@ pub record ReservesFor (p : ProgramText) (s : SettingsValue) (l : Ledger) (t : �
   pub fits : (heap_of l t).reserved ≡ units words
   pub early : (heap_of l t).since < s.leaf
 
--- a heap without a chunk has no room; only a task that runs reserves a chunk, for the object that it allocates next;
--- and a leaf collection holds the chunks that it takes, with none reserved
+-- a heap without a chunk has no room; only a running task reserves a chunk, for the object that it allocates next; and
+-- a leaf collection holds the chunks that it takes, with none reserved
 pub record UsesChunks (p : ProgramText) (s : SettingsValue) (l : Ledger) : Type 0 where
   pub room : (t : ℕ) → 0 < (heap_of l t).room → 0 < length (heap_of l t).chunks
   pub reserved : (t : ℕ) → 0 < (heap_of l t).reserved → ReservesFor p s l t

@@ -1,15 +1,15 @@
 // The plain data of a journal's accounts: heaps, the ledger, how a run ends, why an entry is refused, the report and
 // the pace.
 
-use hh_model::{End, Name, State, Strand};
-use listed::Listed;
+use hh_model::{End, MachineState, Name, Strand};
+use plain_vec::Listed;
 
 /// How a run ended.
 #[derive(Clone, Copy, PartialEq, Eq)]
 pub enum RunEnd {
     /// The machine ended.
     Machine(End),
-    /// The fuel was spent: the steps taken by then.
+    /// The fuel was used up: the steps taken by then.
     Fuel(u64),
     /// A task needed a chunk and too few were free: the chunks in use.
     Pool(u32),
@@ -20,7 +20,7 @@ pub enum RunEnd {
 pub enum Refused {
     /// The run has ended.
     Over,
-    /// The fuel is spent: the steps taken so far. Only the entry that ends the run may follow.
+    /// The fuel is used up: the steps taken so far. Only the entry that ends the run may follow.
     Spent(u64),
     /// There is no such worker.
     NoWorker,
@@ -28,7 +28,7 @@ pub enum Refused {
     NotReady,
     /// The worker holds this task already.
     Holding(u32),
-    /// The task doesn't run with this worker.
+    /// The worker doesn't hold the task, or it doesn't run.
     NotOut,
     /// The task's leaf collection has begun and hasn't ended.
     Collecting,
@@ -42,30 +42,30 @@ pub enum Refused {
     Marking,
     /// The marking of the heap hasn't begun.
     NotMarking,
-    /// Only so many of the next steps can stand in one entry.
+    /// Only this many of the next steps fit in one entry.
     Long(u32),
     /// The task is due for a leaf collection: the words allocated since its last one.
     Due(u64),
     /// The task needs no chunk: the words that it has room for.
     NotNeeded(u32),
-    /// For a leaf collection the words allocated since the last one are too few, or nothing is allocated next; for a
-    /// marking the heap's words are.
+    /// For a leaf collection: too few words were allocated since the last one, or nothing is allocated next. For a
+    /// marking: the heap has too few words.
     NotDue(u64),
     /// The collection would take more chunks than are free: the chunks in use.
     PoolShort(u32),
-    /// The chunks that are free are enough for the collection: the chunks in use.
+    /// Enough chunks are free for the collection: the chunks in use.
     PoolEnough(u32),
     /// Nothing is left to mark.
     Marked,
     /// Something is left to mark: the objects marked so far.
     Left(u32),
-    /// A number of the entry is wrong: what it says, and what it should say.
+    /// A number of the entry is wrong: its value, and the right one.
     Count(u32, u32),
     /// Fuel is left: the steps taken so far.
     NotSpent(u64),
     /// The journal stops before an end of the run.
     Short,
-    /// An earlier entry was refused, or found no memory.
+    /// An earlier entry was refused, or ran out of memory.
     Stopped,
 }
 
@@ -77,22 +77,22 @@ pub struct RefusedAt {
 }
 
 /// The account of one task's heap. A chunk has 1,024 words; a large object has a chunk of its own, of as many units of
-/// 1,024 words as hold it.
+/// 1,024 words as it needs.
 #[derive(Drop)]
 pub struct Heap {
     /// The held names of small objects, chunk by chunk.
     pub chunks: Listed<Listed<Name>>,
     /// The held names of large objects.
     pub large: Listed<Name>,
-    /// The units of a chunk that waits for a large object, or 0.
+    /// The units of a chunk that is reserved for a large object, or 0.
     pub reserved: u32,
     /// The words left in the last chunk.
     pub room: u32,
-    /// The words allocated since the last leaf collection, in the children that joined too.
+    /// The words allocated since the last leaf collection, including those of children that joined.
     pub since: u64,
     /// The worker that holds the task.
     pub worker: Option<u32>,
-    /// How many chunks the leaf collection took that has begun and not ended.
+    /// How many chunks the current leaf collection took, if one has begun and not ended.
     pub begun: Option<u32>,
     /// What the last leaf collection that began keeps.
     pub survivors: Listed<Name>,
@@ -107,7 +107,7 @@ pub struct Heap {
 /// The accounts of a journal.
 pub struct Ledger {
     /// The machine that never collects, after the journal's steps.
-    pub machine: State,
+    pub machine: MachineState,
     /// The heaps by task.
     pub heaps: Listed<Heap>,
     /// The steps taken.
@@ -127,10 +127,10 @@ impl Drop for Ledger {
     }
 }
 
-/// What a run came to, in counts.
+/// The counts of a run.
 #[derive(Clone, Copy)]
 pub struct Report {
-    /// The tasks made, the first one too.
+    /// The tasks made, including the first.
     pub tasks: u64,
     pub steps: u64,
     /// The entries.
@@ -155,23 +155,23 @@ pub struct Report {
     pub words: u64,
 }
 
-/// A worker's previous entry, as far as the pace of inner collections asks.
+/// A worker's previous entry, as far as the pace of inner collections needs it.
 #[derive(Clone, Copy)]
 pub enum Previous {
-    /// None, or no steps.
+    /// None, or an entry without steps.
     Other,
-    /// Steps that forked nothing.
+    /// Steps that didn't fork.
     Ran,
     /// Steps that ended this strand with a fork.
     Forked(Strand),
 }
 
-/// What the pace of inner collections keeps of a worker.
+/// What the pace of inner collections records of a worker.
 #[derive(Drop)]
 pub struct WorkerPace {
     pub previous: Previous,
-    /// The forks after which the worker began to mark the heap of the task that waits, the last one first. A fork is
-    /// told by the strand that it ended.
+    /// The forks after which the worker began to mark the heap of the waiting task, the last one first. A fork is named
+    /// by the strand that it ended.
     pub marks: Listed<Strand>,
 }
 
@@ -183,7 +183,7 @@ pub const MARKED_AT_ONCE: u32 = 64;
 pub enum Owed {
     /// The marking of this task's heap is to begin.
     Mark(u32),
-    /// `MARKED_AT_ONCE` objects more of this task's heap are to be marked.
+    /// `MARKED_AT_ONCE` more objects of this task's heap are to be marked.
     More(u32),
     /// This task's heap is to be swept.
     Sweep(u32),

@@ -1,4 +1,4 @@
-// Journals of runs: the accounts that each entry changes, which entries are legal, and what a run comes to. The
+// Journals of runs: the accounts that each entry changes, which entries are legal, and the result of a run. The
 // definitions are in specs/, and what most crates cite of legal journals is in proofs/.
 #![tactic(auto)]
 

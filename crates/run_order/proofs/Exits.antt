@@ -1,31 +1,19 @@
 -- Where the ways of strands come into a common ancestor, by places in a serial order.
-use Rattle.std.proofs.Common.{◌≡◌, ◌↔◌, ℕ, zero, suc, ◌+◌, ◌<◌, ◌≤◌, List, length, slice_get, Some, ◌⊎◌, inl, inr, refl, ap, sym, subst, ◌∙◌, arith}
-use Rattle.std.proofs.lemmas.Option.{slice_get_within, slice_get-get_or, get_or_from_slice_get}
-use Rattle.fork_graph.specs.declared.graph.Turn.TheVariants.{Join}
-use Rattle.fork_graph.specs.declared.graph.Strand.{Strand}
-use Rattle.fork_graph.specs.Graph.{Tasks, strand, first_of, last_of, Does, Precedes, IsParent, IsAncestor}
-use Rattle.fork_graph.specs.Nested.{IsNested}
-use Rattle.ancestor_laws.specs.Meeting.{IsLowestCommon, IsExit}
-use Rattle.ancestor_laws.specs.Serial.{IsSerial}
-use Rattle.ancestor_laws.specs.Blocks.{AreBlocks, TellsPrecedence}
-use Rattle.ancestor_laws.proofs.Trees.{IsLine, same_ancestor, through, up_cases, down_cases, one_parent, no_root_parent, joins_child, no_self, one_line, rooted_above, same_child, decide}
-use Rattle.ancestor_laws.proofs.Walks.{IsRooted, strand_is, attached_rooted, rooted_attached}
-use Rattle.log_walk.specs.Tables.{strand_at, task_at}
-use Rattle.log_walk.specs.Meetings.{IsExitAt}
+use Rattle.run_order.proofs.Common.{◌≡◌, ◌↔◌, ℕ, zero, suc, ◌+◌, ◌<◌, ◌≤◌, List, length, slice_get, Some, ◌⊎◌, inl, inr, refl, ap, sym, subst, ◌∙◌, arith, slice_get_within, slice_get-get_or, get_or_from_slice_get, Join, GraphStrand, Tasks, strand, first_of, last_of, Does, Precedes, IsParent, IsAncestor, IsNested, IsLowestCommon, IsExit, IsSerialOrder, AreBlocks, TellsPrecedence, IsLine, same_ancestor, through, up_cases, down_cases, one_parent, no_root_parent, joins_child, no_self, one_line, rooted_above, same_child, decide, IsRooted, strand_is, attached_rooted, rooted_attached, strand_at, task_at, IsExitAt}
 
-module _ (tasks : Tasks) (order : List Strand) (n : IsNested tasks) (serial : IsSerial tasks order) where
-  -- PLACES
+module _ (tasks : Tasks) (order : List GraphStrand) (n : IsNested tasks) (serial : IsSerialOrder tasks order) where
+  -- POSITIONS
 
   pub at_place : (i : ℕ) → i < length order → slice_get order i ≡ Some (strand_at order i)
   at_place i lt = slice_get-get_or order i (strand 0 0) lt
 
-  pub strand_is_at : (i : ℕ) (u : Strand) → slice_get order i ≡ Some u → strand_at order i ≡ u
+  pub strand_is_at : (i : ℕ) (u : GraphStrand) → slice_get order i ≡ Some u → strand_at order i ≡ u
   strand_is_at i u h = get_or_from_slice_get order i u (strand 0 0) h
 
   pub rooted_at : (i : ℕ) → i < length order → IsRooted tasks (strand_at order i)
   rooted_at i lt = attached_rooted tasks n.fork_join (strand_at order i) (serial.attached i (strand_at order i) (at_place i lt))
 
-  pub place_there : (u : Strand) → IsRooted tasks u → (i : ℕ) × (slice_get order i ≡ Some u)
+  pub place_there : (u : GraphStrand) → IsRooted tasks u → (i : ℕ) × (slice_get order i ≡ Some u)
   place_there u r = serial.all u (rooted_attached tasks u r)
 
   pub next_there : (q j c : ℕ) → IsAncestor tasks 0 q → Does tasks q j (Join c) → (e : ℕ) × (slice_get order e ≡ Some (strand q (j + 1)))
@@ -74,7 +62,7 @@ module _ (tasks : Tasks) (order : List Strand) (n : IsNested tasks) (serial : Is
 
   -- THE PLACE WHERE A WAY COMES IN
 
-  exit_index_once : (u : Strand) (q i j : ℕ) → IsAncestor tasks 0 u.task → IsExit tasks q u i → IsExit tasks q u j → i ≡ j
+  exit_index_once : (u : GraphStrand) (q i j : ℕ) → IsAncestor tasks 0 u.task → IsExit tasks q u i → IsExit tasks q u j → i ≡ j
   exit_index_once u q i j root (inl (et, ei)) (inl (et', ej)) = sym ei ∙ ej
   exit_index_once u q i j root (inl (et, ei)) (inr (c, k, up, jn, e)) =
       no_self tasks n.fork_join q c (subst (IsAncestor tasks 0) et root) (joins_child tasks n.fork_join q k c jn) (subst (IsAncestor tasks c) et up)
@@ -118,7 +106,7 @@ module _ (tasks : Tasks) (order : List Strand) (n : IsNested tasks) (serial : Is
   -- where two strands are both below a task that isn't above a third one's, their ways come in where that one's task lies at the same place
   pub same_exit : (a b w e q : ℕ) → a < length order → IsAncestor tasks q (task_at order a) → IsAncestor tasks q (task_at order b) → (IsAncestor tasks q (task_at order w) → ⊥)
       → IsExitAt tasks order b w e → IsExitAt tasks order a w e
-  same_exit a b w e q lt qa qb apart s = by s.exit
+  same_exit a b w e q lt qa qb apart s = same_exit_by_cases s.exit
     where
       rooted : IsAncestor tasks 0 (task_at order a)
       rooted = (rooted_at a lt).rooted
@@ -140,9 +128,9 @@ module _ (tasks : Tasks) (order : List Strand) (n : IsNested tasks) (serial : Is
             ]
           ]
 
-      by : IsExit tasks s.task (strand_at order b) s.index → IsExitAt tasks order a w e
-      by (inl (et, ei)) = absurd (not_over (subst (IsAncestor tasks q) et qb))
-      by (inr (c, m, up, jn, ek)) =
+      same_exit_by_cases : IsExit tasks s.task (strand_at order b) s.index → IsExitAt tasks order a w e
+      same_exit_by_cases (inl (et, ei)) = absurd (not_over (subst (IsAncestor tasks q) et qb))
+      same_exit_by_cases (inr (c, m, up, jn, ek)) =
           let par = joins_child tasks n.fork_join s.task m c jn in
           let ca = through tasks c q (task_at order a) (child_over c m up jn) qa in
           exit_apart a w e s.task s.index (through tasks s.task q (task_at order a) over_q qa) s.lowest.above_second (inr (c, m, ca, jn, ek)) s.at
@@ -157,7 +145,7 @@ module _ (tasks : Tasks) (order : List Strand) (n : IsNested tasks) (serial : Is
     tells_by : (i j e q k : ℕ) → i < length order → j < length order → IsLowestCommon tasks q (task_at order i) (task_at order j)
         → IsExit tasks q (strand_at order i) k → slice_get order e ≡ Some (strand q k) → (Precedes tasks (strand_at order i) (strand_at order j) ↔ (e ≤ j))
     tells_by i j e q k lt lt' low (inl (et, ei)) at =
-        subst (λ (u : Strand). Precedes tasks u (strand_at order j) ↔ (e ≤ j)) (sym (strand_is (strand_at order i) q k et ei))
+        subst (λ (u : GraphStrand). Precedes tasks u (strand_at order j) ↔ (e ≤ j)) (sym (strand_is (strand_at order i) q k et ei))
         (tells.own q k e j (strand_at order j) low.above_second at (at_place j lt'))
     tells_by i j e q k lt lt' low (inr (c, m, up, jn, ek)) at =
         let par = joins_child tasks n.fork_join q m c jn in
@@ -204,8 +192,8 @@ module _ (tasks : Tasks) (order : List Strand) (n : IsNested tasks) (serial : Is
           | inl over ↦ inl (
             exit_apart a w e x.task x.index x.lowest.above_first over x.exit x.at
                 (λ c par ca cw. no_self tasks n.fork_join x.task c root par (x.lowest.lowest c ca (between c a b w ab (omega arith) lt ca cw))),
-            exit_apart b w f x.task y.index x.lowest.above_second over (subst (λ q. IsExit tasks q (strand_at order b) y.index) same y.exit)
-                (subst (λ q. slice_get order f ≡ Some (strand q y.index)) same y.at)
+            exit_apart b w f x.task y.index x.lowest.above_second over (subst (λ q. IsExit tasks q (strand_at order b) y.index) exits_stay_same y.exit)
+                (subst (λ q. slice_get order f ≡ Some (strand q y.index)) exits_stay_same y.at)
                 (λ c par cb cw. no_self tasks n.fork_join x.task c root par
                 (through tasks c z.task x.task (z.lowest.lowest c cb (between c b v w bv vw lt cb cw)) up)),
           )
@@ -217,7 +205,7 @@ module _ (tasks : Tasks) (order : List Strand) (n : IsNested tasks) (serial : Is
         root : IsAncestor tasks 0 x.task
         root = rooted_above tasks n.fork_join x.task (task_at order a) rooted_a x.lowest.above_first
 
-        same : y.task ≡ x.task
-        same =
+        exits_stay_same : y.task ≡ x.task
+        exits_stay_same =
             same_lowest y.task x.task (task_at order a) (task_at order b) rooted_a
             (record { above_first = y.lowest.above_second; above_second = y.lowest.above_first; lowest = λ p pa pb. y.lowest.lowest p pb pa }) x.lowest

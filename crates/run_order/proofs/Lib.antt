@@ -1,3 +1,4 @@
 pub mod Exits
 pub mod Ways
 pub mod Orders
+mod Common

@@ -1,20 +1,7 @@
 -- The order of a run's strands: what it says of precedence, and how strands meet.
-use Rattle.std.proofs.Common.{◌≡◌, ◌↔◌, ℕ, zero, suc, ◌+◌, ◌-◌, ◌<◌, ◌≤◌, Bool, true, false, Option, Some, None, length, nat_le, ◌⊎◌, inl, inr, refl, ap, sym, subst, ◌∙◌, arith}
-use Rattle.std.proofs.lemmas.Bool.{cases_lt, false≢true, leb-true, le-leb}
-use Rattle.std.proofs.lemmas.Option.{same_Some}
-use Rattle.fork_graph.specs.declared.graph.Strand.{Strand}
-use Rattle.fork_graph.specs.Graph.{tasks_in, strand, Precedes}
-use Rattle.ancestor_laws.specs.Meeting.{IsLowestCommon}
-use Rattle.ancestor_laws.specs.Blocks.{AreBlocks, TellsPrecedence}
-use Rattle.ancestor_laws.proofs.Trees.{IsLine, rooted_above}
-use Rattle.ancestor_laws.proofs.Walks.{here, both}
-use Rattle.ancestor_laws.proofs.Blocks.{are_blocks, tells_precedence}
-use Rattle.log_walk.specs.Tables.{strand_at, task_at}
-use Rattle.log_walk.specs.Value.{WalkValue, IsWalked}
-use Rattle.log_walk.specs.Meetings.{IsExitAt}
-use Rattle.race_cells.specs.Order.{IsSerial, MeetsAsInTree}
-use Rattle.run_order.specs.Order.{way_up, exit_of, is_upto, is_no_later, depth_of, run_order}
-use Rattle.run_order.specs.Laws.{IsOrderOf, WalksHaveAnOrder}
+use Rattle.run_order.proofs.Common.{◌≡◌, ◌↔◌, ℕ, zero, suc, ◌+◌, ◌-◌, ◌<◌, ◌≤◌, Bool, true, false, Option, Some, None, length, nat_le, ◌⊎◌, inl, inr, refl, ap, sym, subst, ◌∙◌, arith, cases_lt, false≢true, leb-true, le-leb, same_Some, GraphStrand, tasks_in, strand, Precedes, IsLowestCommon, AreBlocks, TellsPrecedence, IsLine, rooted_above, precedes_itself, both, are_blocks, tells_precedence, strand_at, task_at, WalkValue, IsWalked, IsExitAt, MeetsAsInTree, way_up, exit_of, is_upto, is_no_later, depth_of, IsOrderOf, WalksHaveAnOrder}
+use Rattle.race_cells.specs.Order.{ExtendsPrecedence}
+use Rattle.run_order.specs.Order.{run_order}
 use Rattle.run_order.proofs.Exits.{at_place, strand_is_at, line_once, no_deeper, same_lowest, exit_once, same_exit, exit_tells, meets_higher, exits_stay}
 use Rattle.run_order.proofs.Ways.{levels, serial, rooted, line_at, way_up_length, exit_is, exit_within}
 
@@ -70,7 +57,7 @@ module _ (walk : WalkValue) (w : IsWalked walk) where
       let size : length (way_up walk x.0) ≡ suc line.0 = way_up_length walk w line.0 x.0 x.1.1 line.1 in
       let depth : depth_of walk (exit_of walk i j) ≡ line.0 = ap (depth_of walk) x.1.0 ∙ (let s : length (way_up walk x.0) - 1 ≡ line.0 = omega arith in s) in
       let task : task_at walk.order x.0 ≡ x.1.2.task =
-      ap (λ (u : Strand). u.task) (strand_is_at (tasks_in walk.tasks) walk.order w.nested (serial walk w) x.0 (strand x.1.2.task x.1.2.index) x.1.2.at) in
+      ap (λ (u : GraphStrand). u.task) (strand_is_at (tasks_in walk.tasks) walk.order w.nested (serial walk w) x.0 (strand x.1.2.task x.1.2.index) x.1.2.at) in
       record {
         place = x.0;
         is = x.1.0;
@@ -165,10 +152,10 @@ module _ (walk : WalkValue) (w : IsWalked walk) where
     meeting = λ u v q lt lt' low. depth_is u v q lt lt' low;
   }
 
-  is_serial : IsSerial (run_order walk)
+  is_serial : ExtendsPrecedence (run_order walk)
   unfolding run_order
   is_serial = record {
-    same = λ u lt. is_before u u lt lt (here (tasks_in walk.tasks) (strand_at walk.order u));
+    same = λ u lt. is_before u u lt lt (precedes_itself (tasks_in walk.tasks) (strand_at walk.order u));
     through = λ a b c lt h h'.
         let p = before_is a b h in
         let q = before_is b c h' in

@@ -1,28 +1,5 @@
 -- The ways of strands up to the root, as they are computed.
-use Rattle.std.proofs.Common.{◌≡◌, ◌==◌, ◌&&◌, ℕ, zero, suc, ◌+◌, ◌<◌, ◌≤◌, Bool, true, false, cond, Option, Some, None, List, [], ◌∷◌, length, slice_get, get_or, position, find, nat_lt, eqb, ◌⊎◌, inl, inr, refl, ap, sym, subst, ◌∙◌, arith, eq-eqb, if◌then◌else◌}
-use Rattle.std.proofs.lemmas.Bool.{cases_eq, cases_lt, eqb-true, false≢true, lt-ltb, ltb-true}
-use Rattle.std.proofs.lemmas.List.Sums.{position_or_len_is}
-use Rattle.std.proofs.lemmas.Option.{same_Some, slice_get_within, slice_get-get_or}
-use Rattle.std.specs.List.{position_or_len}
-use Rattle.listed.specs.Options.{option_is}
-use Rattle.listed.proofs.Members.{In, any_from_in, in_from_any}
-use Rattle.listed.proofs.Options.{none_some}
-use Rattle.fork_graph.specs.declared.graph.Turn.{Turn}
-use Rattle.fork_graph.specs.declared.graph.Turn.TheVariants.{Join}
-use Rattle.fork_graph.specs.declared.graph.Strand.{Strand}
-use Rattle.fork_graph.specs.Graph.{tasks_in, strand, Does, IsParent, IsAncestor}
-use Rattle.ancestor_laws.specs.Meeting.{IsExit}
-use Rattle.ancestor_laws.specs.Serial.{AreLevels, IsSerial}
-use Rattle.ancestor_laws.proofs.Trees.{IsLine, itself, same_ancestor, below, up_cases, no_root_parent, parent_line}
-use Rattle.ancestor_laws.proofs.Walks.{IsRooted}
-use Rattle.ancestor_laws.proofs.Serial.{serial_order_extends, levels_are_few}
-use Rattle.log_walk.specs.Places.{joined_before}
-use Rattle.log_walk.specs.Tables.{strand_at, task_at}
-use Rattle.log_walk.specs.Value.{WalkValue, IsWalked}
-use Rattle.log_walk.specs.Meetings.{IsExitAt}
-use Rattle.log_walk.proofs.Lines.{line_short}
-use Rattle.log_walk.proofs.Marks.{is_joined, joined_mark, same_joined}
-use Rattle.run_order.specs.Order.{after_join, if_there, steps_from, way_up, is_above, exit_of}
+use Rattle.run_order.proofs.Common.{◌≡◌, ◌==◌, ◌&&◌, ℕ, zero, suc, ◌+◌, ◌<◌, ◌≤◌, Bool, true, false, cond, Option, Some, None, List, [], ◌∷◌, length, slice_get, get_or, position, find, nat_lt, eqb, ◌⊎◌, inl, inr, refl, ap, sym, subst, ◌∙◌, arith, eq-eqb, if◌then◌else◌, cases_eq, cases_lt, eqb-true, false≢true, lt-ltb, ltb-true, position_or_len_is, same_Some, slice_get_within, slice_get-get_or, position_or_len, option_is, In, any_from_in, in_from_any, none_some, GraphTurn, Join, GraphStrand, tasks_in, strand, Does, IsParent, IsAncestor, IsExit, AreLevels, IsSerialOrder, IsLine, itself, same_ancestor, below, up_cases, no_root_parent, parent_line, IsRooted, serial_order_extends, levels_are_few, joined_before, strand_at, task_at, WalkValue, IsWalked, IsExitAt, line_short, is_joined, joined_mark, same_joined, after_join, if_there, steps_from, way_up, is_above, exit_of}
 use Rattle.run_order.proofs.Exits.{at_place, strand_is_at, rooted_at, next_there}
 
 -- PLACES OF WHAT PASSES A TEST
@@ -68,13 +45,13 @@ module _ (walk : WalkValue) (w : IsWalked walk) where
   pub levels : AreLevels (tasks_in walk.tasks) (length walk.tasks)
   levels = levels_are_few (tasks_in walk.tasks) (length walk.tasks) w.nested.fork_join w.some w.below
 
-  pub serial : IsSerial (tasks_in walk.tasks) walk.order
-  serial = subst (IsSerial (tasks_in walk.tasks)) (sym w.order) (serial_order_extends (tasks_in walk.tasks) (length walk.tasks) w.nested levels)
+  pub serial : IsSerialOrder (tasks_in walk.tasks) walk.order
+  serial = subst (IsSerialOrder (tasks_in walk.tasks)) (sym w.order) (serial_order_extends (tasks_in walk.tasks) (length walk.tasks) w.nested levels)
 
   pub rooted : (i : ℕ) → i < length walk.order → IsRooted (tasks_in walk.tasks) (strand_at walk.order i)
   rooted i lt = rooted_at (tasks_in walk.tasks) walk.order w.nested serial i lt
 
-  rooted_place : (k : ℕ) (y : Strand) → slice_get walk.order k ≡ Some y → IsRooted (tasks_in walk.tasks) y
+  rooted_place : (k : ℕ) (y : GraphStrand) → slice_get walk.order k ≡ Some y → IsRooted (tasks_in walk.tasks) y
   rooted_place k y h =
       subst (IsRooted (tasks_in walk.tasks)) (strand_is_at (tasks_in walk.tasks) walk.order w.nested serial k y h) (rooted k (slice_get_within walk.order k y h))
 
@@ -119,7 +96,7 @@ module _ (walk : WalkValue) (w : IsWalked walk) where
       )
 
   next_task : (p t e : ℕ) → IsNext p t e → task_at walk.order e ≡ p
-  next_task p t e s = ap (λ (u : Strand). u.task) s.at
+  next_task p t e s = ap (λ (u : GraphStrand). u.task) s.at
 
   abbrev next : ℕ → Option ℕ
   next e = after_join walk (task_at walk.order e)
@@ -217,7 +194,7 @@ module _ (walk : WalkValue) (w : IsWalked walk) where
         s.turn,
         itself (tasks_in walk.tasks) (task_at walk.order i),
         subst (λ x. Does (tasks_in walk.tasks) x s.turn (Join (task_at walk.order i))) is s.joins,
-        sym ei ∙ ap (λ (u : Strand). u.index) s.at,
+        sym ei ∙ ap (λ (u : GraphStrand). u.index) s.at,
       )
   parent_exit i p f q k par s (inr (c, m, up, jn, ek)) =
       inr (c, m, below (tasks_in walk.tasks) c p (task_at walk.order i) (subst (IsAncestor (tasks_in walk.tasks) c) (next_task p (task_at walk.order i) f s) up) par, jn, ek)

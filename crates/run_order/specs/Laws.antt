@@ -5,7 +5,7 @@ use Rattle.fork_graph.specs.Graph.{tasks_in, Precedes, IsParent}
 use Rattle.ancestor_laws.specs.Meeting.{IsLowestCommon}
 use Rattle.log_walk.specs.Tables.{strand_at, task_at}
 use Rattle.log_walk.specs.Value.{WalkValue, IsWalked}
-use Rattle.race_cells.specs.Order.{StrandOrder, IsSerial, MeetsAsInTree}
+use Rattle.race_cells.specs.Order.{StrandOrder, ExtendsPrecedence, MeetsAsInTree}
 use Rattle.run_order.specs.Order.{run_order}
 
 -- an order of the strands of a walk, by their places
@@ -20,4 +20,4 @@ pub record IsOrderOf (walk : WalkValue) (o : StrandOrder) : Type 0 where
       → IsWalk (λ x. x ≡ 0) (IsParent (tasks_in walk.tasks)) (o.meeting u v) q
 
 abbrev pub WalksHaveAnOrder : Type 0
-WalksHaveAnOrder = (walk : WalkValue) → IsWalked walk → IsOrderOf walk (run_order walk) × IsSerial (run_order walk) × MeetsAsInTree (run_order walk)
+WalksHaveAnOrder = (walk : WalkValue) → IsWalked walk → IsOrderOf walk (run_order walk) × ExtendsPrecedence (run_order walk) × MeetsAsInTree (run_order walk)

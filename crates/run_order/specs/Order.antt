@@ -1,7 +1,7 @@
 -- The order of a walked run's strands by their serial numbers, computed along their ways up to the root.
 use Rattle.std.specs.Prelude.{◌==◌, ◌-◌, ◌&&◌, ℕ, zero, suc, Bool, false, Option, Some, None, List, [], ◌∷◌, length, position, find, nat_lt, nat_le, if◌then◌else◌}
 use Rattle.std.specs.List.{list_any}
-use Rattle.listed.specs.Options.{option_is}
+use Rattle.plain_vec.specs.Options.{option_is}
 use Rattle.fork_graph.specs.Graph.{tasks_in}
 use Rattle.race_cells.specs.Order.{StrandOrder}
 use Rattle.log_walk.specs.Places.{joined_before}

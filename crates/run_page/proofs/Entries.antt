@@ -1,12 +1,5 @@
 -- One entry more of a page's data.
-use Rattle.std.proofs.Common.{◌≡◌, ◌<◌, ◌+◌, ◌++◌, ℕ, suc, List, ◌∷◌, length, drop, get_or, arith, ap, ap₂, sym, ◌∙◌, append_assoc}
-use Rattle.std.proofs.Math.Seq.{drop-cons}
-use Rattle.hh_lang.specs.Form.{ProgramText}
-use Rattle.run_trace.specs.Entry.{EntryValue}
-use Rattle.run_trace.specs.Settings.{SettingsValue}
-use Rattle.run_ledger.specs.declared.data.Ledger.{Ledger}
-use Rattle.run_ledger.specs.Entries.{after}
-use Rattle.page_data.specs.Run.{entry, entries_from}
+use Rattle.run_page.proofs.Common.{◌≡◌, ◌<◌, ◌+◌, ◌++◌, ℕ, suc, List, ◌∷◌, length, drop, get_or, arith, ap, ap₂, sym, ◌∙◌, append_assoc, drop-cons, ProgramText, EntryValue, SettingsValue, Ledger, after, entry, entries_from}
 
 module _ (p : ProgramText) (s : SettingsValue) (journal : List EntryValue) (i : ℕ) (e : EntryValue) (lt : i < length journal) (is : e ≡ get_or journal i e) where
   cut : drop i journal ≡ e ∷ drop (i + 1) journal

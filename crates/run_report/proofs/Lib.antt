@@ -1,3 +1,4 @@
 mod Lines
 pub mod Sums
 pub mod Writing
+mod Common

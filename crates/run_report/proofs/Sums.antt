@@ -1,25 +1,5 @@
 -- The totals of a journal, entry by entry.
-use Rattle.std.proofs.Common.{◌≡◌, ℕ, zero, suc, ◌+◌, ◌-◌, ◌<◌, ◌≤◌, ◌^◌, ◌&&◌, true, is_none, take, ap₂, subst, Option, Some, None, List, [], ◌∷◌, ◌++◌, length, drop, get_or, max, refl, ap, sym, ◌∙◌, arith, length-append, length-take-le}
-use Rattle.std.proofs.lemmas.List.{take_all}
-use Rattle.listed.proofs.Members.{got_same}
-use Rattle.run_trace.specs.declared.entry.Kind.{Kind}
-use Rattle.run_trace.specs.declared.entry.Kind.TheVariants.{Took, Ran, Chunk, Begin, End, PutOff, Mark, More, Sweep, Fuel}
-use Rattle.run_trace.specs.Entry.{EntryValue}
-use Rattle.run_trace.specs.Settings.{SettingsValue, AreSettings}
-use Rattle.hh_lang.specs.Form.{ProgramText}
-use Rattle.run_ledger.specs.declared.data.Heap.{Heap}
-use Rattle.run_ledger.specs.declared.data.Ledger.{Ledger}
-use Rattle.run_ledger.specs.Heaps.{fresh, heap_at, heap_of, or_fresh, with_heap, with_heap_at, words_in, in_use, collected, swept_heap}
-use Rattle.run_ledger.specs.Entries.{refusal, after_kind, after}
-use Rattle.run_ledger.specs.Report.{tally, lost, count_end, count_putoff, count_sweep, freed_by_end, freed_by_sweep}
-use Rattle.run_ledger.specs.Journals.{opening, after_all, ledger_of, is_legal, first_refused_from, first_refused}
-use Rattle.run_journal.specs.BookValue.{BookValue}
-use Rattle.run_ledger.proofs.Cuts.{after_cut, joined_legal}
-use Rattle.journal_laws.proofs.Words.{words_are_accounted}
-use Rattle.run_journal.proofs.Steadies.{legal_stored}
-use Rattle.run_journal.proofs.Replays.{accounts_next, refused_next}
-use Rattle.run_report.specs.declared.totals.Totals.{Totals}
-use Rattle.run_report.specs.Totals.{AreFew, no_totals, joined, counted, cleared_words, entry_totals, totals_from}
+use Rattle.run_report.proofs.Common.{◌≡◌, ℕ, zero, suc, ◌+◌, ◌-◌, ◌<◌, ◌≤◌, ◌^◌, ◌&&◌, true, is_none, take, ap₂, subst, Option, Some, None, List, [], ◌∷◌, ◌++◌, length, drop, get_or, max, refl, ap, sym, ◌∙◌, arith, length-append, length-take-le, take_all, got_same, Kind, Took, Ran, Chunk, Begin, End, PutOff, Mark, More, Sweep, Fuel, EntryValue, SettingsValue, AreSettings, ProgramText, Heap, Ledger, fresh, heap_at, heap_of, or_fresh, with_heap, with_heap_at, words_in, in_use, collected, swept_heap, refusal, after_kind, after, tally, lost, count_end, count_putoff, count_sweep, freed_by_end, freed_by_sweep, opening, after_all, ledger_of, is_legal, first_refused_from, first_refused, BookValue, after_cut, joined_legal, words_are_accounted, legal_stored, accounts_next, refused_next, Totals, AreFew, no_totals, joined, counted, cleared_words, entry_totals, totals_from}
 
 -- SUMS
 
@@ -49,12 +29,12 @@ none_joined a = same_fields (joined no_totals a) a (omega arith) (omega arith) (
 
 -- the words that a heap loses are those before less those after
 pub lost_is : (l : Ledger) (t : ℕ) (f : Heap → Heap) → words_in l.machine (heap_of l t) - words_in (with_heap l t f).machine (heap_of (with_heap l t f) t) ≡ lost l t f
-lost_is l t f = by (heap_at l t) refl
+lost_is l t f = lost_is_by_cases (heap_at l t) refl
   where
-    by : (o : Option Heap) → heap_at l t ≡ o
+    lost_is_by_cases : (o : Option Heap) → heap_at l t ≡ o
         → words_in l.machine (or_fresh o) - words_in (with_heap_at l t f o).machine (heap_of (with_heap_at l t f o) t) ≡ words_in l.machine (or_fresh o) - words_in l.machine (f (or_fresh o))
-    by None e = let z : words_in l.machine fresh ≡ 0 = refl in omega arith
-    by (Some h) e = ap (λ o. words_in l.machine h - words_in l.machine (or_fresh o)) (got_same l.heaps t h (f h) e)
+    lost_is_by_cases None e = let z : words_in l.machine fresh ≡ 0 = refl in omega arith
+    lost_is_by_cases (Some h) e = ap (λ o. words_in l.machine h - words_in l.machine (or_fresh o)) (got_same l.heaps t h (f h) e)
 
 module _ (p : ProgramText) (s : SettingsValue) (l : Ledger) where
   -- what an entry of this kind counts by the report's sums
@@ -84,7 +64,7 @@ module _ (p : ProgramText) (s : SettingsValue) (l : Ledger) where
   totals_next e rest = ap (λ a. joined a (totals_from p s (after p s l e) rest)) (sym (counted_is e.worker e.kind (in_use (after p s l e))))
 
 module _ (p : ProgramText) (s : SettingsValue) where
-  -- one entry more at the end
+  -- one more entry at the end
   pub totals_last : (before : List EntryValue) (l : Ledger) (e : EntryValue) → totals_from p s l (before ++ e ∷ []) ≡ joined (totals_from p s l before) (entry_totals p s (after_all p s l before) e)
   totals_last [] l e = totals_next p s l e [] ∙ (joined_none (entry_totals p s l e) ∙ sym (none_joined (entry_totals p s l e)))
   totals_last (x ∷ before) l e =
@@ -96,7 +76,7 @@ module _ (p : ProgramText) (s : SettingsValue) where
 -- NO TOTAL IS TOO LARGE
 
 module _ (p : ProgramText) (s : SettingsValue) where
-  -- what counts at most one for each entry comes to at most their number
+  -- what counts at most one for each entry is at most their number
   most_of : (count : Ledger → Kind → ℕ) → ((l : Ledger) (kind : Kind) → count l kind ≤ 1) → (journal : List EntryValue) (l : Ledger) → tally p s count l journal ≤ length journal
   most_of count one [] l = omega arith
   most_of count one (e ∷ journal) l = let a = one l e.kind in let b = most_of count one journal (after p s l e) in omega arith

@@ -1,19 +1,5 @@
 -- What is written of a run, put together.
-use Rattle.std.proofs.Common.{◌≡◌, ℕ, ◌++◌, Bool, true, Some, List, length, ap, ap₂, sym, ◌∙◌}
-use Rattle.run_trace.specs.declared.settings.Version.{Version}
-use Rattle.run_trace.specs.Entry.{EntryValue}
-use Rattle.run_trace.specs.Settings.{SettingsValue}
-use Rattle.hh_lang.specs.Form.{ProgramText}
-use Rattle.hh_model.specs.declared.data.State.{State}
-use Rattle.run_ledger.specs.declared.data.Ledger.{Ledger}
-use Rattle.run_ledger.specs.declared.data.Report.{Report}
-use Rattle.run_ledger.specs.declared.data.RunEnd.{RunEnd}
-use Rattle.run_ledger.specs.Journals.{opening, ledger_of}
-use Rattle.run_ledger.specs.Text.{output_lines, report_lines, end_line_of, out_text}
-use Rattle.run_ledger.proofs.Machine.{machine_is_run}
-use Rattle.run_report.specs.declared.totals.Totals.{Totals}
-use Rattle.run_report.specs.Totals.{totals_from, report_from}
-use Rattle.run_report.specs.Written.{report_part, trace_part, text_from}
+use Rattle.run_report.proofs.Common.{◌≡◌, ℕ, ◌++◌, Bool, true, Some, List, length, ap, ap₂, sym, ◌∙◌, Version, EntryValue, SettingsValue, ProgramText, MachineState, Ledger, Report, RunEnd, opening, ledger_of, output_lines, report_lines, end_line_of, out_text, machine_is_run, Totals, totals_from, report_from, report_part, trace_part, text_from}
 
 pub report_shown : (asked : Bool) (l : Ledger) (turns : ℕ) (totals : Totals) (r : Report) → asked ≡ true → r ≡ report_from l turns totals → report_lines r ≡ report_part asked l turns totals
 report_shown asked l turns totals r ea er = rw ea (ap report_lines er)
@@ -25,5 +11,5 @@ pub whole_text : (p : ProgramText) (s : SettingsValue) (journal : List EntryValu
 whole_text p s journal report trace version l totals end ev el et ee =
     let last : end_line_of (ledger_of p s journal).end ≡ end_line_of (Some end) = ap end_line_of (sym (ap (λ (k : Ledger). k.end) el) ∙ ee) in
     rw (ev, el, et)
-    (ap₂ (λ (m : State) (text : List ℕ). output_lines m.outputs ++ report_part report (ledger_of p s journal) (length journal) (totals_from p s (opening p s) journal) ++ trace_part trace s.version journal ++ text)
+    (ap₂ (λ (m : MachineState) (text : List ℕ). output_lines m.outputs ++ report_part report (ledger_of p s journal) (length journal) (totals_from p s (opening p s) journal) ++ trace_part trace s.version journal ++ text)
     (machine_is_run p s journal) (sym last))

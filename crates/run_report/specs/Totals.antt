@@ -35,7 +35,7 @@ pub record AreFew (totals : Totals) : Type 0 where
   pub inner : totals.inner < 2 ^ 64
   pub inner_freed : totals.inner_freed < 2 ^ 64
 
--- what an entry counts, with which the heap lost so many words, and behind which so many chunks are in use
+-- what an entry counts that made the heap lose this many words, with this many chunks in use after it
 abbrev pub counted : Kind → ℕ → ℕ → Totals
 counted (End t taken given left) lost used = record no_totals { leaf = 1; leaf_freed = lost; peak = used }
 counted (PutOff t) lost used = record no_totals { putoff = 1; peak = used }

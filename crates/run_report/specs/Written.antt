@@ -9,11 +9,11 @@ use Rattle.run_ledger.specs.Text.{output_lines, report_lines, end_line, end_word
 use Rattle.run_report.specs.declared.totals.Totals.{Totals}
 use Rattle.run_report.specs.Totals.{report_from}
 
--- the lines of the report, where it is asked for
+-- the lines of the report, if it is asked for
 abbrev pub report_part : Bool → Ledger → ℕ → Totals → List ℕ
 report_part report l turns totals = if report then report_lines (report_from l turns totals) else []
 
--- the trace, where it is asked for
+-- the trace, if it is asked for
 abbrev pub trace_part : Bool → Version → List EntryValue → List ℕ
 trace_part trace version journal = if trace then trace_text version journal else []
 

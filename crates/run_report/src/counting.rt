@@ -17,7 +17,7 @@ use std::alloc::Global;
 
 /// The accounts of a journal, and the totals of its entries.
 #[derive(Drop)]
-pub(crate) struct Counted<'p> {
+pub(crate) struct CountedJournal<'p> {
     pub(crate) book: Book<'p>,
     pub(crate) totals: Totals,
 }
@@ -34,7 +34,7 @@ pub fn cleared_words(book: &Book, kind: Kind) -> u64
     }
 }
 
-// Enters an entry, and adds what it counts to the totals.
+// Applies an entry, and adds what it counts to the totals.
 fn enter(book: &mut Book, totals: Totals, entry: Entry) -> Result<Totals, ApplyError>
     requires open { book.old.stopped ≡ false }
     requires few { refusal book.old.program book.old.settings book.old.ledger entry ≡ None → AreFew (joined totals (entry_totals book.old.program book.old.settings book.old.ledger entry)) }
@@ -50,7 +50,7 @@ fn enter(book: &mut Book, totals: Totals, entry: Entry) -> Result<Totals, ApplyE
     Ok(totals.join(Totals::counted(kind, lost, book.in_use())))
 }
 
-// Enters the entries of a journal into the accounts of a run before its first entry, and adds up what they count.
+// Applies the entries of a journal to the accounts of a run before its first entry, and adds up what they count.
 fn enter_all(book: &mut Book, journal: &[Entry]) -> Result<Totals, ReplayError>
     requires settings { AreSettings book.old.settings }
     requires first { book.old.ledger ≡ opening book.old.program book.old.settings }
@@ -83,7 +83,7 @@ pub(crate) fn count<'p>(
     program: &'p Program,
     settings: Settings,
     journal: &[Entry],
-) -> Result<Counted<'p>, ReplayError>
+) -> Result<CountedJournal<'p>, ReplayError>
     ensures book { IfOk result (λ c. c.book ≡ record { program = program.entry.now; settings = settings; ledger = ledger_of program.entry.now settings journal.now; stopped = false }) }
     ensures totals { IfOk result (λ c. c.totals ≡ totals_from program.entry.now settings (opening program.entry.now settings) journal.now) }
     ensures legal { OnOk result (first_refused program.entry.now settings journal.now ≡ None) }
@@ -92,7 +92,7 @@ pub(crate) fn count<'p>(
     let mut book = Book::open(alloc, program, settings)?;
     let _workers = settings.workers();
     match enter_all(&mut book, journal) {
-        Ok(totals) => Ok(Counted { book, totals }),
+        Ok(totals) => Ok(CountedJournal { book, totals }),
         Err(error) => {
             drop(book);
             Err(error)
@@ -100,7 +100,7 @@ pub(crate) fn count<'p>(
     }
 }
 
-/// The report of accounts, of so many entries with these totals.
+/// The report of accounts, with this number of entries and these totals.
 pub(crate) fn report(book: &Book, turns: usize, totals: Totals) -> Report
     requires { book.now.stopped ≡ false }
     ensures { result ≡ report_from book.now.ledger turns totals }

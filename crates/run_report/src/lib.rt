@@ -1,4 +1,4 @@
-// What a journal comes to: its report, and what is written of its run.
+// The result of a journal: its report, and what is written of its run.
 #![tactic(auto)]
 
 mod counting;

@@ -11,7 +11,7 @@ use hh_model::{End, Trap};
 use run_ledger::{Refused, RefusedAt, Report, RunEnd};
 use std::alloc::{AllocError, Global};
 
-// The word for why an instruction couldn't be done.
+// The word for a trap.
 fn trap_name(trap: Trap) -> &'static str
     ensures { result.now ≡ trap_word trap }
 {
@@ -25,7 +25,7 @@ fn trap_name(trap: Trap) -> &'static str
     }
 }
 
-// How the machine ended, in words with a space between each two.
+// How the machine ended, in words separated by single spaces.
 fn machine_end_text(alloc: Global, end: End) -> Result<String, AllocError>
     ensures { IfOk result (λ text. string_bytes text ≡ join_with_byte 32 (machine_end_words end)) }
 {
@@ -57,57 +57,57 @@ pub fn end_text(alloc: Global, end: RunEnd) -> Result<String, AllocError>
 
 // The numbers of a cause.
 #[derive(Clone, Copy)]
-enum Numbers {
+enum CauseNumbers {
     None,
     One(u64),
     Two(u64, u64),
 }
 
 // The word of a cause, and its numbers.
-fn cause_parts(cause: Refused) -> (&'static str, Numbers)
+fn cause_parts(cause: Refused) -> (&'static str, CauseNumbers)
     ensures { cause_words cause ≡ result.0.now ∷ number_words result.1 }
 {
     match cause {
-        Refused::Over => ("over", Numbers::None),
-        Refused::Spent(steps) => ("spent", Numbers::One(steps)),
-        Refused::NoWorker => ("noworker", Numbers::None),
-        Refused::NotReady => ("notready", Numbers::None),
-        Refused::Holding(task) => ("holding", Numbers::One(task as u64)),
-        Refused::NotOut => ("notout", Numbers::None),
-        Refused::Collecting => ("collecting", Numbers::None),
-        Refused::NotCollecting => ("notcollecting", Numbers::None),
-        Refused::NotWaiting => ("notwaiting", Numbers::None),
-        Refused::Swept => ("swept", Numbers::None),
-        Refused::Marking => ("marking", Numbers::None),
-        Refused::NotMarking => ("notmarking", Numbers::None),
-        Refused::Long(steps) => ("long", Numbers::One(steps as u64)),
-        Refused::Due(since) => ("due", Numbers::One(since)),
-        Refused::NotNeeded(room) => ("notneeded", Numbers::One(room as u64)),
-        Refused::NotDue(words) => ("notdue", Numbers::One(words)),
-        Refused::PoolShort(chunks) => ("poolshort", Numbers::One(chunks as u64)),
-        Refused::PoolEnough(chunks) => ("poolenough", Numbers::One(chunks as u64)),
-        Refused::Marked => ("marked", Numbers::None),
-        Refused::Left(marked) => ("left", Numbers::One(marked as u64)),
-        Refused::Count(said, is) => ("count", Numbers::Two(said as u64, is as u64)),
-        Refused::NotSpent(steps) => ("notspent", Numbers::One(steps)),
-        Refused::Short => ("short", Numbers::None),
-        Refused::Stopped => ("stopped", Numbers::None),
+        Refused::Over => ("over", CauseNumbers::None),
+        Refused::Spent(steps) => ("spent", CauseNumbers::One(steps)),
+        Refused::NoWorker => ("noworker", CauseNumbers::None),
+        Refused::NotReady => ("notready", CauseNumbers::None),
+        Refused::Holding(task) => ("holding", CauseNumbers::One(task as u64)),
+        Refused::NotOut => ("notout", CauseNumbers::None),
+        Refused::Collecting => ("collecting", CauseNumbers::None),
+        Refused::NotCollecting => ("notcollecting", CauseNumbers::None),
+        Refused::NotWaiting => ("notwaiting", CauseNumbers::None),
+        Refused::Swept => ("swept", CauseNumbers::None),
+        Refused::Marking => ("marking", CauseNumbers::None),
+        Refused::NotMarking => ("notmarking", CauseNumbers::None),
+        Refused::Long(steps) => ("long", CauseNumbers::One(steps as u64)),
+        Refused::Due(since) => ("due", CauseNumbers::One(since)),
+        Refused::NotNeeded(room) => ("notneeded", CauseNumbers::One(room as u64)),
+        Refused::NotDue(words) => ("notdue", CauseNumbers::One(words)),
+        Refused::PoolShort(chunks) => ("poolshort", CauseNumbers::One(chunks as u64)),
+        Refused::PoolEnough(chunks) => ("poolenough", CauseNumbers::One(chunks as u64)),
+        Refused::Marked => ("marked", CauseNumbers::None),
+        Refused::Left(marked) => ("left", CauseNumbers::One(marked as u64)),
+        Refused::Count(said, is) => ("count", CauseNumbers::Two(said as u64, is as u64)),
+        Refused::NotSpent(steps) => ("notspent", CauseNumbers::One(steps)),
+        Refused::Short => ("short", CauseNumbers::None),
+        Refused::Stopped => ("stopped", CauseNumbers::None),
     }
 }
 
-// A cause and its numbers, with a space between each two.
+// A cause and its numbers, separated by single spaces.
 fn cause_text(alloc: Global, cause: Refused) -> Result<String, AllocError>
     ensures { IfOk result (λ text. string_bytes text ≡ join_with_byte 32 (cause_words cause)) }
 {
     let (word, numbers) = cause_parts(cause);
     match numbers {
-        Numbers::None => format!(in alloc; "{word}"),
-        Numbers::One(number) => format!(in alloc; "{word} {number}"),
-        Numbers::Two(said, is) => format!(in alloc; "{word} {said} {is}"),
+        CauseNumbers::None => format!(in alloc; "{word}"),
+        CauseNumbers::One(number) => format!(in alloc; "{word} {number}"),
+        CauseNumbers::Two(said, is) => format!(in alloc; "{word} {said} {is}"),
     }
 }
 
-// The end line where this entry is refused.
+// The end line if this entry is refused.
 fn entry_text(alloc: Global, refused: RefusedAt) -> Result<String, AllocError>
     requires { refused.cause ≢ Refused.Short }
     ensures { IfOk result (λ text. string_bytes text ≡ refused_line refused) }
@@ -116,7 +116,7 @@ fn entry_text(alloc: Global, refused: RefusedAt) -> Result<String, AllocError>
     format!(in alloc; "end: trace refused entry {} {cause}\n", refused.index)
 }
 
-/// The end line where an entry is refused, with its line feed.
+/// The end line if an entry is refused, with its line feed.
 pub fn refused_text(alloc: Global, refused: RefusedAt) -> Result<String, AllocError>
     ensures { IfOk result (λ text. string_bytes text ≡ refused_line refused) }
 {
@@ -126,42 +126,42 @@ pub fn refused_text(alloc: Global, refused: RefusedAt) -> Result<String, AllocEr
     }
 }
 
-// Adds the report's line on the run's length to a text.
+// Appends the report's line on the run's length.
 fn add_length(text: &mut String, tasks: u64, steps: u64, turns: u64) -> Result<(), AllocError>
     ensures { OnOk result (string_bytes text.new ≡ string_bytes text.old ++ line (codes "report tasks" ∷ decimal tasks ∷ codes "steps" ∷ decimal steps ∷ codes "turns" ∷ decimal turns ∷ [])) }
 {
     write!(text, "report tasks {tasks} steps {steps} turns {turns}\n")
 }
 
-// Adds the report's line on leaf collections.
+// Appends the report's line on leaf collections.
 fn add_leaf(text: &mut String, leaf: u64, putoff: u64, freed: u64) -> Result<(), AllocError>
     ensures { OnOk result (string_bytes text.new ≡ string_bytes text.old ++ line (codes "report leaf" ∷ decimal leaf ∷ codes "putoff" ∷ decimal putoff ∷ codes "freed" ∷ decimal freed ∷ [])) }
 {
     write!(text, "report leaf {leaf} putoff {putoff} freed {freed}\n")
 }
 
-// Adds the report's line on sweeps.
+// Appends the report's line on sweeps.
 fn add_inner(text: &mut String, inner: u64, freed: u64) -> Result<(), AllocError>
     ensures { OnOk result (string_bytes text.new ≡ string_bytes text.old ++ line (codes "report inner" ∷ decimal inner ∷ codes "freed" ∷ decimal freed ∷ [])) }
 {
     write!(text, "report inner {inner} freed {freed}\n")
 }
 
-// Adds the report's line on chunks.
+// Appends the report's line on chunks.
 fn add_chunks(text: &mut String, chunks: u64, peak: u64) -> Result<(), AllocError>
     ensures { OnOk result (string_bytes text.new ≡ string_bytes text.old ++ line (codes "report chunks" ∷ decimal chunks ∷ codes "peak" ∷ decimal peak ∷ [])) }
 {
     write!(text, "report chunks {chunks} peak {peak}\n")
 }
 
-// Adds the report's line on what is held at the end.
+// Appends the report's line on what is held at the end.
 fn add_held(text: &mut String, held: u64, words: u64) -> Result<(), AllocError>
     ensures { OnOk result (string_bytes text.new ≡ string_bytes text.old ++ line (codes "report held" ∷ decimal held ∷ codes "words" ∷ decimal words ∷ [])) }
 {
     write!(text, "report held {held} words {words}\n")
 }
 
-// Adds the lines of the report to a text.
+// Appends the lines of the report to a text.
 fn add_report(text: &mut String, report: Report) -> Result<(), AllocError>
     ensures { OnOk result (string_bytes text.new ≡ string_bytes text.old ++ report_lines report) }
 {
@@ -181,7 +181,7 @@ pub fn report_text(alloc: Global, report: Report) -> Result<String, AllocError>
     Ok(text)
 }
 
-/// The lines of what a run has written out.
+/// The lines of a run's outputs.
 pub fn outputs_text(alloc: Global, outputs: &[i64]) -> Result<Vec<u8>, AllocError>
     ensures { IfOk result (λ text. text.items ≡ output_lines outputs.now) }
 {
@@ -192,7 +192,7 @@ pub fn outputs_text(alloc: Global, outputs: &[i64]) -> Result<Vec<u8>, AllocErro
     Ok(text)
 }
 
-// Adds the line of one output.
+// Appends the line of one output.
 fn add_output(alloc: Global, text: &mut Vec<u8>, output: i64) -> Result<(), AllocError>
     ensures { OnOk result (text.new.items ≡ text.old.items ++ signed_decimal output ++ 10 ∷ []) }
 {

@@ -5,7 +5,7 @@ ghost use Rattle.run_report.specs.Totals.{AreFew, no_totals, joined, counted};
 
 use run_trace::Kind;
 
-/// What the entries of a journal come to, in numbers.
+/// The totals of a journal's entries, in numbers.
 #[derive(Clone, Copy, PartialEq, Eq)]
 pub struct Totals {
     /// The leaf collections that ended.
@@ -37,7 +37,7 @@ impl Totals {
         }
     }
 
-    /// What an entry counts, with which the heap lost so many words, and behind which so many chunks are in use.
+    /// What an entry counts that made the heap lose this many words, with this many chunks in use after it.
     pub fn counted(kind: Kind, lost: u64, used: u64) -> Totals
         ensures { result ≡ counted kind lost used }
     {

@@ -1,4 +1,4 @@
-// What a journal comes to: its report, and all that is written of its run.
+// The result of a journal: its report, and all that is written of its run.
 
 ghost use Rattle.std.specs.Prelude.{◌≡◌, ◌++◌, Some, None, false, IfOk, OnOk, IfErr};
 ghost use Rattle.run_ledger.specs.Journals.{opening, ledger_of, first_refused, end_of, refused_as_run};
@@ -7,10 +7,10 @@ ghost use Rattle.run_journal.specs.Replay.{ReplayFails};
 ghost use Rattle.run_report.specs.Totals.{totals_from};
 ghost use Rattle.run_report.specs.Written.{report_part, trace_part, text_from};
 
-use crate::counting::{Counted, count, report};
+use crate::counting::{CountedJournal, count, report};
 use crate::texts::{end_text, outputs_text, report_text};
 use hh_lang::Program;
-use listed::Listed;
+use plain_vec::Listed;
 use run_journal::ReplayError;
 use run_ledger::{Refused, RefusedAt, RunEnd};
 use run_trace::{Entry, Settings, Version, trace_text};
@@ -27,16 +27,16 @@ pub struct Extras {
 #[derive(Drop)]
 pub struct WholeRun {
     pub end: RunEnd,
-    /// The outputs, the report and the trace where they are asked for, and the end line.
+    /// The outputs, the report and the trace if they are asked for, and the end line.
     pub text: Listed<u8>,
 }
 
-// Adds the lines of the report to a text, where it is asked for.
+// Appends the lines of the report to a text, if it is asked for.
 fn add_report(
     alloc: Global,
     text: &mut Vec<u8>,
     asked: bool,
-    counted: &Counted,
+    counted: &CountedJournal,
     turns: usize,
 ) -> Result<(), AllocError>
     requires { counted.now.book.stopped ≡ false }
@@ -49,7 +49,7 @@ fn add_report(
     text.extend_from_slice(lines.as_bytes())
 }
 
-// Adds the trace to a text, where it is asked for.
+// Appends the trace to a text, if it is asked for.
 fn add_trace(
     alloc: Global,
     text: &mut Vec<u8>,
@@ -66,7 +66,7 @@ fn add_trace(
     text.extend_from_slice(trace.as_slice())
 }
 
-// Adds the end line to a text.
+// Appends the end line to a text.
 fn add_end(alloc: Global, text: &mut Vec<u8>, end: RunEnd) -> Result<(), AllocError>
     ensures { OnOk result (text.new.items ≡ text.old.items ++ end_line (end_words end)) }
 {
@@ -74,10 +74,10 @@ fn add_end(alloc: Global, text: &mut Vec<u8>, end: RunEnd) -> Result<(), AllocEr
     text.extend_from_slice(line.as_bytes())
 }
 
-// All that is written of a run that ended so.
+// All that is written of a run with this end.
 fn written(
     alloc: Global,
-    counted: &Counted,
+    counted: &CountedJournal,
     version: Version,
     journal: &[Entry],
     end: RunEnd,
@@ -96,7 +96,7 @@ fn written(
 // How a run ended, and all that is written of it, by its accounts and the totals of its journal.
 fn whole_of(
     alloc: Global,
-    counted: &Counted,
+    counted: &CountedJournal,
     settings: Settings,
     journal: &[Entry],
     extras: Extras,
@@ -124,8 +124,8 @@ fn whole_of(
     })
 }
 
-/// How the run of a journal ended, and all that is written of it, where the journal is legal and has an end: with the
-/// report and with the trace where they are asked for.
+/// How the run of a journal ended, and all that is written of it, if the journal is legal and has an end: with the
+/// report and with the trace if they are asked for.
 pub fn whole_run(
     alloc: Global,
     program: &Program,

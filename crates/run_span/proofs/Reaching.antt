@@ -1,30 +1,5 @@
 -- The reaches of strands, strand after strand in the serial order.
-use Rattle.std.proofs.Common.{◌≡◌, ◌==◌, ℕ, zero, suc, ◌+◌, ◌-◌, ◌<◌, ◌≤◌, max, Bool, true, false, Option, Some, None, List, [], ◌∷◌, ◌++◌, length, take, get_or, set, replicate, slice_get, slice_set, ◌⊎◌, inl, inr, refl, ap, sym, subst, ◌∙◌, arith, if◌then◌else◌}
-use Rattle.std.specs.List.{sum_by}
-use Rattle.std.proofs.lemmas.Bool.{cases_lt, cases_eq, ne_eqb, eq-eqb}
-use Rattle.std.proofs.lemmas.List.{length-append, length-set, length-replicate, get_or-replicate, get_or_past, get_or-set_same, get_or-set_other, nil_from_length}
-use Rattle.std.proofs.lemmas.List.Sums.{sum_by_more, sum_by_more_le}
-use Rattle.std.proofs.lemmas.Option.{same_Some, slice_get_within, get_or_from_slice_get}
-use Rattle.listed.proofs.Members.{got_front}
-use Rattle.listed.proofs.Places.{got_some, got_none, got_last, got_more}
-use Rattle.listed.proofs.Options.{none_some}
-use Rattle.walk_laws.specs.Reached.{IsWalk}
-use Rattle.fork_graph.specs.declared.graph.Turn.{Turn}
-use Rattle.fork_graph.specs.declared.graph.Turn.TheVariants.{Spawn, Join}
-use Rattle.fork_graph.specs.declared.graph.Strand.{Strand}
-use Rattle.fork_graph.specs.Graph.{Tasks, tasks_in, strand, first_of, last_of, Does, IsParent, IsAncestor}
-use Rattle.fork_graph.specs.Nested.{IsNested}
-use Rattle.fork_graph.specs.Faults.{SpawnsBelow}
-use Rattle.ancestor_laws.specs.Serial.{serial_order, AreLevels, IsSerial}
-use Rattle.ancestor_laws.specs.Blocks.{AreBlocks}
-use Rattle.ancestor_laws.specs.Span.{IsReach, AreReaches}
-use Rattle.ancestor_laws.proofs.Trees.{below, joins_child, no_self, same_ancestor}
-use Rattle.ancestor_laws.proofs.Walks.{IsRooted, here, and_then, along, attached_rooted, rooted_attached}
-use Rattle.ancestor_laws.proofs.Serial.{serial_order_extends, levels_are_few}
-use Rattle.ancestor_laws.proofs.Blocks.{are_blocks}
-use Rattle.ancestor_laws.proofs.Span.{are_reaches, span_is_longest}
-use Rattle.run_span.specs.declared.reach.Reaches.{Reaches}
-use Rattle.run_span.specs.Reaches.{last_reach, latest_of, turn_before, with_child, reach_before, entered, AreWeights, AreReachesOf, IsSpanOf}
+use Rattle.run_span.proofs.Common.{◌≡◌, ◌==◌, ℕ, zero, suc, ◌+◌, ◌-◌, ◌<◌, ◌≤◌, max, Bool, true, false, Option, Some, None, List, [], ◌∷◌, ◌++◌, length, take, get_or, set, replicate, slice_get, slice_set, ◌⊎◌, inl, inr, refl, ap, sym, subst, ◌∙◌, arith, if◌then◌else◌, sum_by, cases_lt, cases_eq, ne_eqb, eq-eqb, length-append, length-set, length-replicate, get_or-replicate, get_or_past, get_or-set_same, get_or-set_other, nil_from_length, sum_by_more, sum_by_more_le, same_Some, slice_get_within, get_or_from_slice_get, got_front, got_some, got_none, got_last, got_more, none_some, IsWalk, GraphTurn, Spawn, Join, GraphStrand, Tasks, tasks_in, strand, first_of, last_of, Does, IsParent, IsAncestor, IsNested, SpawnsBelow, serial_order, AreLevels, IsSerialOrder, AreBlocks, IsReach, AreReaches, below, joins_child, no_self, same_ancestor, IsRooted, precedes_itself, and_then, along, attached_rooted, rooted_attached, serial_order_extends, levels_are_few, are_blocks, are_reaches, span_is_longest, Reaches, last_reach, latest_of, turn_before, with_child, reach_before, entered, AreWeights, AreReachesOf, IsSpanOf}
 
 if_is : {A : Type 0} (b c : Bool) (x y : A) → b ≡ c → (if b then x else y) ≡ (if c then x else y)
 if_is b c x y e = ap (λ z. if z then x else y) e
@@ -57,19 +32,19 @@ abbrev pub total : List ℕ → ℕ → ℕ
 total weights e = sum_by (λ x. x) (take e weights)
 
 -- what is known of the first so many strands
-pub record IsReaching (tasks : Tasks) (n : ℕ) (order : List Strand) (weights : List ℕ) (e : ℕ) (rs : Reaches) : Type 0 where
+pub record IsReaching (tasks : Tasks) (n : ℕ) (order : List GraphStrand) (weights : List ℕ) (e : ℕ) (rs : Reaches) : Type 0 where
   pub size : length rs.all ≡ e
   pub slots : length rs.latest ≡ n
   pub all_bound : (i r : ℕ) → slice_get rs.all i ≡ Some r → r ≤ total weights e
   pub latest_bound : (t : ℕ) → latest_of rs t ≤ total weights e
-  pub each : (weight : Strand → ℕ) → AreWeights order weights weight
-      → (i r : ℕ) (u : Strand) → slice_get order i ≡ Some u → slice_get rs.all i ≡ Some r → IsReach tasks weight u r
+  pub each : (weight : GraphStrand → ℕ) → AreWeights order weights weight
+      → (i r : ℕ) (u : GraphStrand) → slice_get order i ≡ Some u → slice_get rs.all i ≡ Some r → IsReach tasks weight u r
   -- of a task that goes on, the latest strand, and of one that has ended, the last
   pub going : (t k i j : ℕ) → slice_get order i ≡ Some (strand t k) → i < e → slice_get order j ≡ Some (strand t (k + 1)) → e ≤ j
       → slice_get rs.all i ≡ Some (latest_of rs t)
   pub ended : (t i : ℕ) → slice_get order i ≡ Some (last_of tasks t) → i < e → slice_get rs.all i ≡ Some (latest_of rs t)
 
-pub reaching_start : (tasks : Tasks) (n : ℕ) (order : List Strand) (weights : List ℕ) → IsReaching tasks n order weights 0 (record { all = []; latest = replicate n 0 })
+pub reaching_start : (tasks : Tasks) (n : ℕ) (order : List GraphStrand) (weights : List ℕ) → IsReaching tasks n order weights 0 (record { all = []; latest = replicate n 0 })
 reaching_start tasks n order weights = record {
   size = refl;
   slots = length-replicate n 0;
@@ -81,7 +56,7 @@ reaching_start tasks n order weights = record {
 }
 
 -- the bound on the next reach
-child_bound : (weights : List ℕ) (e own : ℕ) (rs : Reaches) → ((t : ℕ) → latest_of rs t ≤ total weights e) → own ≤ total weights e → (o : Option Turn) → with_child rs own o ≤ total weights e
+child_bound : (weights : List ℕ) (e own : ℕ) (rs : Reaches) → ((t : ℕ) → latest_of rs t ≤ total weights e) → own ≤ total weights e → (o : Option GraphTurn) → with_child rs own o ≤ total weights e
 child_bound weights e own rs bound le None = le
 child_bound weights e own rs bound le (Some (Spawn c)) = le
 child_bound weights e own rs bound le (Some (Join c)) = let le' : latest_of rs c ≤ total weights e = bound c in omega arith
@@ -98,27 +73,27 @@ either_bound : (b : Bool) (x y m : ℕ) → x ≤ m → y ≤ m → (if b then x
 either_bound true x y m p q = p
 either_bound false x y m p q = q
 
-pub before_bound : (tasks : Tasks) (n : ℕ) (order : List Strand) (weights : List ℕ) (e : ℕ) (rs : Reaches) (u : Strand) → IsReaching tasks n order weights e rs
+pub before_bound : (tasks : Tasks) (n : ℕ) (order : List GraphStrand) (weights : List ℕ) (e : ℕ) (rs : Reaches) (u : GraphStrand) → IsReaching tasks n order weights e rs
     → reach_before tasks rs u ≤ total weights e
 before_bound tasks n order weights e rs u f =
     either_bound (u.index == 0) (last_reach rs.all) (with_child rs (latest_of rs u.task) (turn_before tasks u)) (total weights e)
     (last_bound weights e rs.all f.all_bound) (child_bound weights e (latest_of rs u.task) rs f.latest_bound (f.latest_bound u.task) (turn_before tasks u))
 
-module _ (rows : List (List Turn)) (order : List Strand) (weights : List ℕ) (some : 0 < length rows) (nested : IsNested (tasks_in rows))
+module _ (rows : List (List GraphTurn)) (order : List GraphStrand) (weights : List ℕ) (some : 0 < length rows) (nested : IsNested (tasks_in rows))
     (bounded : SpawnsBelow (tasks_in rows) (length rows)) (is : order ≡ serial_order (tasks_in rows) (length rows)) (weighed : length weights ≡ length order) where
   levels : AreLevels (tasks_in rows) (length rows)
   levels = levels_are_few (tasks_in rows) (length rows) nested.fork_join some bounded
 
-  serial : IsSerial (tasks_in rows) order
-  serial = subst (IsSerial (tasks_in rows)) (sym is) (serial_order_extends (tasks_in rows) (length rows) nested levels)
+  serial : IsSerialOrder (tasks_in rows) order
+  serial = subst (IsSerialOrder (tasks_in rows)) (sym is) (serial_order_extends (tasks_in rows) (length rows) nested levels)
 
   blocks : AreBlocks (tasks_in rows) order
   blocks = subst (AreBlocks (tasks_in rows)) (sym is) (are_blocks (tasks_in rows) (length rows) nested levels)
 
-  rooted_at : (i : ℕ) (u : Strand) → slice_get order i ≡ Some u → IsRooted (tasks_in rows) u
+  rooted_at : (i : ℕ) (u : GraphStrand) → slice_get order i ≡ Some u → IsRooted (tasks_in rows) u
   rooted_at i u h = attached_rooted (tasks_in rows) nested.fork_join u (serial.attached i u h)
 
-  place_there : (u : Strand) → IsRooted (tasks_in rows) u → (i : ℕ) × (slice_get order i ≡ Some u)
+  place_there : (u : GraphStrand) → IsRooted (tasks_in rows) u → (i : ℕ) × (slice_get order i ≡ Some u)
   place_there u r = serial.all u (rooted_attached (tasks_in rows) u r)
 
   there_by : (k t : ℕ) → IsWalk (λ x. x ≡ 0) (IsParent (tasks_in rows)) k t → t < length rows
@@ -128,7 +103,7 @@ module _ (rows : List (List Turn)) (order : List Strand) (weights : List ℕ) (s
   own_order : (q i j a b : ℕ) → slice_get order a ≡ Some (strand q i) → slice_get order b ≡ Some (strand q j) → i ≤ j → a ≤ b
   own_order q i j a b ha hb le = serial.extends a b (strand q i) (strand q j) ha hb (along (tasks_in rows) q i j le (rooted_at b (strand q j) hb).stands)
 
-  apart : {A : Type 0} (e : ℕ) (u v : Strand) → slice_get order e ≡ Some u → slice_get order e ≡ Some v → (u ≡ v → ⊥) → A
+  apart : {A : Type 0} (e : ℕ) (u v : GraphStrand) → slice_get order e ≡ Some u → slice_get order e ≡ Some v → (u ≡ v → ⊥) → A
   apart e u v h g ne = absurd (ne (same_Some u v (sym h ∙ g)))
 
   root_place : (e : ℕ) → slice_get order e ≡ Some (first_of 0) → e ≡ 0
@@ -139,7 +114,7 @@ module _ (rows : List (List Turn)) (order : List Strand) (weights : List ℕ) (s
       let le : suc e ≤ e = serial.extends (suc e) e (first_of 0) v.0 h v.1 (serial.attached e v.0 v.1) in
       absurd (omega arith)
 
-  module _ (e : ℕ) (rs : Reaches) (f : IsReaching (tasks_in rows) (length rows) order weights e rs) (weight : Strand → ℕ) (w : AreWeights order weights weight) where
+  module _ (e : ℕ) (rs : Reaches) (f : IsReaching (tasks_in rows) (length rows) order weights e rs) (weight : GraphStrand → ℕ) (w : AreWeights order weights weight) where
     reaches : AreReaches (tasks_in rows) weight
     reaches = are_reaches (tasks_in rows) weight nested.fork_join
 
@@ -162,7 +137,7 @@ module _ (rows : List (List Turn)) (order : List Strand) (weights : List ℕ) (s
         (reaches.child p k t r.0 sp (f.each weight w a.0 r.0 (strand p k) a.1 r.1))
 
     -- past a turn
-    past_by : (t k : ℕ) (turn : Turn) → Does (tasks_in rows) t k turn → slice_get order e ≡ Some (strand t (k + 1)) → IsReach (tasks_in rows) weight (strand t k) (latest_of rs t)
+    past_by : (t k : ℕ) (turn : GraphTurn) → Does (tasks_in rows) t k turn → slice_get order e ≡ Some (strand t (k + 1)) → IsReach (tasks_in rows) weight (strand t k) (latest_of rs t)
         → IsReach (tasks_in rows) weight (strand t (k + 1)) (with_child rs (latest_of rs t) (Some turn) + weight (strand t (k + 1)))
     past_by t k (Spawn c) sp h own = reaches.past_spawn t k c (latest_of rs t) sp own
     past_by t k (Join c) jn h own =
@@ -170,13 +145,13 @@ module _ (rows : List (List Turn)) (order : List Strand) (weights : List ℕ) (s
         let up = joins_child (tasks_in rows) nested.fork_join t k c jn in
         let last = place_there (last_of (tasks_in rows) c) (record { stands = omega arith; rooted = below (tasks_in rows) 0 t c r.rooted up }) in
         let le : last.0 ≤ e = serial.extends last.0 e (last_of (tasks_in rows) c) (strand t (k + 1)) last.1 h
-        (and_then (tasks_in rows) (last_of (tasks_in rows) c) (last_of (tasks_in rows) c) (strand t (k + 1)) (here (tasks_in rows) (last_of (tasks_in rows) c)) (inr (inr (t, k, c, jn, refl, refl)))) in
+        (and_then (tasks_in rows) (last_of (tasks_in rows) c) (last_of (tasks_in rows) c) (strand t (k + 1)) (precedes_itself (tasks_in rows) (last_of (tasks_in rows) c)) (inr (inr (t, k, c, jn, refl, refl)))) in
         let lt : last.0 < e = elim (cases_lt last.0 e) [
           | inl before ↦ before
           | inr ge ↦
               let same : last.0 ≡ e = omega arith in
               apart e (last_of (tasks_in rows) c) (strand t (k + 1)) (subst (λ x. slice_get order x ≡ Some (last_of (tasks_in rows) c)) same last.1) h
-              (λ clash. no_self (tasks_in rows) nested.fork_join t c r.rooted up (same_ancestor (tasks_in rows) c t (sym (ap (λ (x : Strand). x.task) clash))))
+              (λ clash. no_self (tasks_in rows) nested.fork_join t c r.rooted up (same_ancestor (tasks_in rows) c t (sym (ap (λ (x : GraphStrand). x.task) clash))))
         ] in
         let noted = f.ended c last.0 last.1 lt in
         reaches.past_join t k c (latest_of rs t) (latest_of rs c) jn own (f.each weight w last.0 (latest_of rs c) (last_of (tasks_in rows) c) last.1 noted)
@@ -194,13 +169,13 @@ module _ (rows : List (List Turn)) (order : List Strand) (weights : List ℕ) (s
           | inr ge ↦
               let same : own.0 ≡ e = omega arith in
               apart e (strand t k) (strand t (k + 1)) (subst (λ x. slice_get order x ≡ Some (strand t k)) same own.1) h
-              (λ clash. let equal : k ≡ k + 1 = ap (λ (x : Strand). x.index) clash in omega arith)
+              (λ clash. let equal : k ≡ k + 1 = ap (λ (x : GraphStrand). x.index) clash in omega arith)
         ] in
         let noted = f.going t k own.0 e own.1 lt h (omega arith) in
         subst (λ o. IsReach (tasks_in rows) weight (strand t (k + 1)) (with_child rs (latest_of rs t) o + weight (strand t (k + 1)))) (sym turn.1)
         (past_by t k turn.0 turn.1 h (f.each weight w own.0 (latest_of rs t) (strand t k) own.1 noted))
 
-    pub next_reach : (u : Strand) → slice_get order e ≡ Some u → IsReach (tasks_in rows) weight u (reach_before (tasks_in rows) rs u + weight u)
+    pub next_reach : (u : GraphStrand) → slice_get order e ≡ Some u → IsReach (tasks_in rows) weight u (reach_before (tasks_in rows) rs u + weight u)
     next_reach u h =
         elim (cases_eq u.index 0) [
           | inl none ↦
@@ -209,7 +184,7 @@ module _ (rows : List (List Turn)) (order : List Strand) (weights : List ℕ) (s
               sym (if_is (u.index == 0) true (last_reach rs.all) (with_child rs (latest_of rs u.task) (turn_before (tasks_in rows) u)) (eq-eqb u.index 0 none)) in
               let r = first_by u.task (h ∙ ap Some (sym same)) (rooted_at e u h).rooted in
               subst (λ x. IsReach (tasks_in rows) weight u (x + weight u)) is_first
-              (subst (λ (v : Strand). IsReach (tasks_in rows) weight v (last_reach rs.all + weight v)) same r)
+              (subst (λ (v : GraphStrand). IsReach (tasks_in rows) weight v (last_reach rs.all + weight v)) same r)
           | inr more ↦
               let k : ℕ = u.index - 1 in
               let index : k + 1 ≡ u.index = elim (cases_lt 0 u.index) [ inl lt ↦ omega arith | inr ge ↦ absurd (more (omega arith)) ] in
@@ -218,12 +193,12 @@ module _ (rows : List (List Turn)) (order : List Strand) (weights : List ℕ) (s
               sym (if_is (u.index == 0) false (last_reach rs.all) (with_child rs (latest_of rs u.task) (turn_before (tasks_in rows) u)) (ne_eqb u.index 0 more)) in
               let r = next_by u.task k (h ∙ ap Some (sym same)) in
               subst (λ x. IsReach (tasks_in rows) weight u (x + weight u)) is_next
-              (subst (λ (v : Strand). IsReach (tasks_in rows) weight v (with_child rs (latest_of rs u.task) (slice_get (tasks_in rows u.task) k) + weight v)) same r)
+              (subst (λ (v : GraphStrand). IsReach (tasks_in rows) weight v (with_child rs (latest_of rs u.task) (slice_get (tasks_in rows u.task) k) + weight v)) same r)
         ]
 
   -- ONE STRAND MORE
 
-  module _ (e : ℕ) (rs : Reaches) (f : IsReaching (tasks_in rows) (length rows) order weights e rs) (u : Strand) (x : ℕ)
+  module _ (e : ℕ) (rs : Reaches) (f : IsReaching (tasks_in rows) (length rows) order weights e rs) (u : GraphStrand) (x : ℕ)
       (at : slice_get order e ≡ Some u) (has : slice_get weights e ≡ Some x) where
     reach : ℕ
     reach = reach_before (tasks_in rows) rs u + x
@@ -233,13 +208,13 @@ module _ (rows : List (List Turn)) (order : List Strand) (weights : List ℕ) (s
         let lt : e < length weights = slice_get_within weights e x has in
         sum_by_more (λ y. y) weights e 0 lt ∙ ap (λ y. total weights e + y) (get_or_from_slice_get weights e x 0 has)
 
-    there : u.task < length rs.latest
-    there =
+    latest_is_known : u.task < length rs.latest
+    latest_is_known =
         let r = rooted_at e u at in
         subst (λ n. u.task < n) (sym f.slots) (there_by r.rooted.0 u.task r.rooted.1)
 
     own_latest : (y : ℕ) → latest_of (entered rs u y) u.task ≡ y
-    own_latest y = get_or-set_same rs.latest u.task y 0 there
+    own_latest y = get_or-set_same rs.latest u.task y 0 latest_is_known
 
     other_latest : (y t : ℕ) → (t ≡ u.task → ⊥) → latest_of (entered rs u y) t ≡ latest_of rs t
     other_latest y t ne = get_or-set_other rs.latest u.task t y 0 ne
@@ -275,7 +250,7 @@ module _ (rows : List (List Turn)) (order : List Strand) (weights : List ℕ) (s
                 let is_v : u ≡ v = same_Some u v (sym at ∙ subst (λ k. slice_get order k ≡ Some v) here_at h) in
                 let is_x : weight u ≡ x = same_Some (weight u) x (sym (w e u at) ∙ has) in
                 let all : reach_before (tasks_in rows) rs u + weight u ≡ r = omega arith in
-                subst (λ (z : Strand). IsReach (tasks_in rows) weight z r) is_v
+                subst (λ (z : GraphStrand). IsReach (tasks_in rows) weight z r) is_v
                 (subst (IsReach (tasks_in rows) weight u) all (next_reach e rs f weight w u at))
           ];
           going = λ t k i j hi lt hj le. elim (cases_lt i e) [
@@ -285,14 +260,14 @@ module _ (rows : List (List Turn)) (order : List Strand) (weights : List ℕ) (s
             | inr ge ↦
                 let here_at : i ≡ e = omega arith in
                 let is_u : strand t k ≡ u = same_Some (strand t k) u (sym (subst (λ z. slice_get order z ≡ Some (strand t k)) here_at hi) ∙ at) in
-                new_all y i here_at ∙ ap Some (sym (ap (latest_of (entered rs u y)) (ap (λ (z : Strand). z.task) is_u) ∙ own_latest y))
+                new_all y i here_at ∙ ap Some (sym (ap (latest_of (entered rs u y)) (ap (λ (z : GraphStrand). z.task) is_u) ∙ own_latest y))
           ];
           ended = λ t i hi lt. elim (cases_lt i e) [
             | inl before ↦ old_all y i before ∙ (f.ended t i hi before ∙ ap Some (sym (other_latest y t (λ same. over t i hi before same))))
             | inr ge ↦
                 let here_at : i ≡ e = omega arith in
                 let is_u : last_of (tasks_in rows) t ≡ u = same_Some (last_of (tasks_in rows) t) u (sym (subst (λ z. slice_get order z ≡ Some (last_of (tasks_in rows) t)) here_at hi) ∙ at) in
-                new_all y i here_at ∙ ap Some (sym (ap (latest_of (entered rs u y)) (ap (λ (z : Strand). z.task) is_u) ∙ own_latest y))
+                new_all y i here_at ∙ ap Some (sym (ap (latest_of (entered rs u y)) (ap (λ (z : GraphStrand). z.task) is_u) ∙ own_latest y))
           ];
         }
       where
@@ -339,5 +314,5 @@ module _ (rows : List (List Turn)) (order : List Strand) (weights : List ℕ) (s
       (span_is_longest (tasks_in rows) weight nested).1 span
       (are.each weight w (length order - 1) span (last_of (tasks_in rows) 0) last_place (subst (λ n. slice_get reaches (n - 1) ≡ Some span) are.size h))
 
-pub reaching_end : (tasks : Tasks) (n : ℕ) (order : List Strand) (weights : List ℕ) (rs : Reaches) → IsReaching tasks n order weights (length order) rs → AreReachesOf tasks order weights rs.all
+pub reaching_end : (tasks : Tasks) (n : ℕ) (order : List GraphStrand) (weights : List ℕ) (rs : Reaches) → IsReaching tasks n order weights (length order) rs → AreReachesOf tasks order weights rs.all
 reaching_end tasks n order weights rs f = record { size = f.size; each = λ weight w i r u h g. f.each weight w i r u h g }

@@ -1,8 +1,8 @@
 -- The reaches of strands, strand after strand in the serial order.
 use Rattle.std.specs.Prelude.{◌≡◌, ◌==◌, ◌+◌, ◌-◌, ℕ, max, Option, Some, None, List, [], ◌∷◌, ◌++◌, length, get_or, slice_get, slice_set, if◌then◌else◌}
-use Rattle.fork_graph.specs.declared.graph.Turn.{Turn}
-use Rattle.fork_graph.specs.declared.graph.Turn.TheVariants.{Spawn, Join}
-use Rattle.fork_graph.specs.declared.graph.Strand.{Strand}
+use Rattle.fork_graph.specs.declared.graph.GraphTurn.{GraphTurn}
+use Rattle.fork_graph.specs.declared.graph.GraphTurn.TheVariants.{Spawn, Join}
+use Rattle.fork_graph.specs.declared.graph.GraphStrand.{GraphStrand}
 use Rattle.fork_graph.specs.Graph.{Tasks}
 use Rattle.ancestor_laws.specs.Span.{IsReach, IsSpan}
 use Rattle.run_span.specs.declared.reach.Reaches.{Reaches}
@@ -14,32 +14,32 @@ last_reach all = get_or all (length all - 1) 0
 abbrev pub latest_of : Reaches → ℕ → ℕ
 latest_of reaches t = get_or reaches.latest t 0
 
-abbrev pub turn_before : Tasks → Strand → Option Turn
+abbrev pub turn_before : Tasks → GraphStrand → Option GraphTurn
 turn_before tasks u = slice_get (tasks u.task) (u.index - 1)
 
 -- past a join also what the child's last strand reaches counts
-abbrev pub with_child : Reaches → ℕ → Option Turn → ℕ
+abbrev pub with_child : Reaches → ℕ → Option GraphTurn → ℕ
 with_child reaches own None = own
 with_child reaches own (Some (Spawn c)) = own
 with_child reaches own (Some (Join c)) = max own (latest_of reaches c)
 
 -- the greatest reach of what leads to the next strand
-abbrev pub reach_before : Tasks → Reaches → Strand → ℕ
+abbrev pub reach_before : Tasks → Reaches → GraphStrand → ℕ
 reach_before tasks reaches u = if u.index == 0 then last_reach reaches.all else with_child reaches (latest_of reaches u.task) (turn_before tasks u)
 
-abbrev pub entered : Reaches → Strand → ℕ → Reaches
+abbrev pub entered : Reaches → GraphStrand → ℕ → Reaches
 entered reaches u reach = record { all = reaches.all ++ reach ∷ []; latest = slice_set reaches.latest u.task reach }
 
 -- weights of strands that stand in the order with these weights
-abbrev pub AreWeights : List Strand → List ℕ → (Strand → ℕ) → Type 0
-AreWeights order weights weight = (i : ℕ) (u : Strand) → slice_get order i ≡ Some u → slice_get weights i ≡ Some (weight u)
+abbrev pub AreWeights : List GraphStrand → List ℕ → (GraphStrand → ℕ) → Type 0
+AreWeights order weights weight = (i : ℕ) (u : GraphStrand) → slice_get order i ≡ Some u → slice_get weights i ≡ Some (weight u)
 
 -- a list of the reach of each strand of the order
-pub record AreReachesOf (tasks : Tasks) (order : List Strand) (weights reaches : List ℕ) : Type 0 where
+pub record AreReachesOf (tasks : Tasks) (order : List GraphStrand) (weights reaches : List ℕ) : Type 0 where
   pub size : length reaches ≡ length order
-  pub each : (weight : Strand → ℕ) → AreWeights order weights weight
-      → (i reach : ℕ) (u : Strand) → slice_get order i ≡ Some u → slice_get reaches i ≡ Some reach → IsReach tasks weight u reach
+  pub each : (weight : GraphStrand → ℕ) → AreWeights order weights weight
+      → (i reach : ℕ) (u : GraphStrand) → slice_get order i ≡ Some u → slice_get reaches i ≡ Some reach → IsReach tasks weight u reach
 
 -- the greatest weight of a walk, where strands have these weights
-abbrev pub IsSpanOf : Tasks → List Strand → List ℕ → ℕ → Type 0
-IsSpanOf tasks order weights span = (weight : Strand → ℕ) → AreWeights order weights weight → IsSpan tasks weight span
+abbrev pub IsSpanOf : Tasks → List GraphStrand → List ℕ → ℕ → Type 0
+IsSpanOf tasks order weights span = (weight : GraphStrand → ℕ) → AreWeights order weights weight → IsSpan tasks weight span

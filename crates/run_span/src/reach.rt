@@ -7,8 +7,8 @@ ghost use Rattle.fork_graph.specs.Faults.{SpawnsBelow};
 ghost use Rattle.ancestor_laws.specs.Serial.{serial_order};
 ghost use Rattle.run_span.specs.Reaches.{entered, last_reach, latest_of, reach_before, turn_before, AreReachesOf, IsSpanOf};
 
-use fork_graph::{Strand, Turn};
-use listed::Listed;
+use fork_graph::{GraphStrand, GraphTurn};
+use plain_vec::Listed;
 use std::alloc::{AllocError, Global};
 
 /// What is known of reaches at some strand of the serial order.
@@ -41,7 +41,7 @@ impl Reaches {
     }
 
     // The greatest reach of what leads to the next strand.
-    fn reach_before(&self, tasks: &Listed<Listed<Turn>>, strand: Strand) -> u64
+    fn reach_before(&self, tasks: &Listed<Listed<GraphTurn>>, strand: GraphStrand) -> u64
         ensures { result ≡ reach_before (tasks_in tasks.now) self.now strand }
     {
         if strand.index == 0 {
@@ -49,7 +49,7 @@ impl Reaches {
         }
         let own = self.latest_of(strand.task);
         match turn_before(tasks, strand) {
-            Some(Turn::Join(child)) => own.max(self.latest_of(child)),
+            Some(GraphTurn::Join(child)) => own.max(self.latest_of(child)),
             _ => own,
         }
     }
@@ -67,7 +67,7 @@ impl Reaches {
     }
 
     // Enters the reach of the next strand.
-    fn enter(&mut self, strand: Strand, reach: u64) -> Result<(), AllocError>
+    fn enter(&mut self, strand: GraphStrand, reach: u64) -> Result<(), AllocError>
         ensures { OnOk result (self.new ≡ entered self.old strand reach) }
     {
         self.all.push(reach)?;
@@ -80,7 +80,7 @@ impl Reaches {
 }
 
 // The turn before a strand that isn't its task's first.
-fn turn_before(tasks: &Listed<Listed<Turn>>, strand: Strand) -> Option<Turn>
+fn turn_before(tasks: &Listed<Listed<GraphTurn>>, strand: GraphStrand) -> Option<GraphTurn>
     requires { 0 < strand.index }
     ensures { result ≡ turn_before (tasks_in tasks.now) strand }
 {
@@ -94,8 +94,8 @@ fn turn_before(tasks: &Listed<Listed<Turn>>, strand: Strand) -> Option<Turn>
 /// first strand. The last one is the run's span.
 pub fn reaches_of(
     alloc: Global,
-    tasks: &Listed<Listed<Turn>>,
-    order: &[Strand],
+    tasks: &Listed<Listed<GraphTurn>>,
+    order: &[GraphStrand],
     weights: &[u64],
 ) -> Result<Listed<u64>, AllocError>
     requires some { 0 < length tasks.now }
@@ -120,8 +120,8 @@ pub fn reaches_of(
 /// the root's first strand.
 pub fn span_of(
     alloc: Global,
-    tasks: &Listed<Listed<Turn>>,
-    order: &[Strand],
+    tasks: &Listed<Listed<GraphTurn>>,
+    order: &[GraphStrand],
     weights: &[u64],
 ) -> Result<u64, AllocError>
     requires some { 0 < length tasks.now }

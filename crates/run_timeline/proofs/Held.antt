@@ -1,56 +1,44 @@
 -- The words that are held follow from entry to entry.
-use Rattle.std.proofs.Common.{◌≡◌, ℕ, zero, suc, ◌+◌, ◌-◌, ◌<◌, ◌≤◌, true, false, inl, inr, Option, Some, None, List, [], ◌∷◌, ◌++◌, length, slice_get, replicate, refl, ap, ap₂, sym, subst, ◌∙◌, arith, is_some}
-use Rattle.std.proofs.lemmas.Bool.{cases_Bool, cases_lt}
-use Rattle.run_journal.proofs.below.listed.{got_within, got_some}
-use Rattle.run_journal.specs.below.hh_lang.{ProgramText}
-use Rattle.run_journal.specs.below.hh_model.{Name, State, Counted, row_of, IsStored, asked, can_step, run_from, start, step}
-use Rattle.run_journal.proofs.below.hh_model.{next_name, counted_step, runs_are_counted, IsForkJoinState, run_is_fork_join_state, start_is_fork_join_state, step_is_fork_join_state, can_made, step_idle}
-use Rattle.run_journal.specs.below.run_trace.{Kind, Took, Ran, Chunk, Begin, End, PutOff, Mark, More, Sweep, Fuel, EntryValue, SettingsValue, field_limit}
-use Rattle.run_journal.specs.below.run_ledger.{Ledger, collected, held_in, swept_heap, words_at, after, after_kind, refusal, after_all, is_legal, ledger_of, opening, tasks_in, tasks_of, freed_by_end, freed_by_sweep, tally, store_words}
-use Rattle.run_journal.proofs.below.run_ledger.{after_cut, legal_then, Grown, grown, entries_move_machine, machine_is_run, sum_flat}
-use Rattle.run_journal.proofs.below.journal_laws.{words_are_accounted}
-use Rattle.run_report.specs.Totals.{cleared_words}
-use Rattle.run_report.proofs.Sums.{lost_is}
-use Rattle.run_timeline.specs.Words.{WordsFollowEntries, objects_by, objects_made, words_by, words_held, words_made}
+use Rattle.run_timeline.proofs.Common.{◌≡◌, ℕ, zero, suc, ◌+◌, ◌-◌, ◌<◌, ◌≤◌, true, false, inl, inr, Option, Some, None, List, [], ◌∷◌, ◌++◌, length, slice_get, replicate, refl, ap, ap₂, sym, subst, ◌∙◌, arith, is_some, cases_Bool, cases_lt, got_within, got_some, ProgramText, Name, MachineState, Counted, row_of, IsStored, asked, can_step, run_from, start, step, next_name, counted_step, runs_are_counted, IsForkJoinState, run_is_fork_join_state, start_is_fork_join_state, step_is_fork_join_state, can_made, step_idle, Kind, Took, Ran, Chunk, Begin, End, PutOff, Mark, More, Sweep, Fuel, EntryValue, SettingsValue, field_limit, Ledger, collected, held_in, swept_heap, words_at, after, after_kind, refusal, after_all, is_legal, ledger_of, opening, tasks_in, tasks_of, freed_by_end, freed_by_sweep, tally, store_words, after_cut, legal_then, Grown, grown, entries_move_machine, machine_is_run, sum_flat, words_are_accounted, cleared_words, lost_is, WordsFollowEntries, objects_by, objects_made, words_by, words_held, words_made}
 
 -- OBJECTS OF ONE TASK
 
 module _ (p : ProgramText) (t : ℕ) where
-  abbrev at : ℕ → Name
-  at c = record { task = t; count = c }
+  abbrev name_at : ℕ → Name
+  name_at c = record { task = t; count = c }
 
-  stored_below : (m : State) (c : ℕ) → c < objects_made m t → IsStored m (at c)
+  stored_below : (m : MachineState) (c : ℕ) → c < objects_made m t → IsStored m (name_at c)
   stored_below m c lt = got_some (row_of (slice_get m.store t)) c lt
 
-  stored_within : (m : State) (c : ℕ) → IsStored m (at c) → c < objects_made m t
+  stored_within : (m : MachineState) (c : ℕ) → IsStored m (name_at c) → c < objects_made m t
   stored_within m c s = got_within (row_of (slice_get m.store t)) c s.0 s.1
 
-  same_made : (m m' : State) (first n : ℕ) → first + n ≤ objects_made m t → ((c : Name) → IsStored m c → words_at m' c ≡ words_at m c) → words_made m' t first n ≡ words_made m t first n
+  same_made : (m m' : MachineState) (first n : ℕ) → first + n ≤ objects_made m t → ((c : Name) → IsStored m c → words_at m' c ≡ words_at m c) → words_made m' t first n ≡ words_made m t first n
   same_made m m' first zero le same = refl
   same_made m m' first (suc n) le same =
-      ap₂ (λ a b. a + b) (same_made m m' first n (omega arith) same) (same (at (first + n)) (stored_below m (first + n) (omega arith)))
+      ap₂ (λ a b. a + b) (same_made m m' first n (omega arith) same) (same (name_at (first + n)) (stored_below m (first + n) (omega arith)))
 
   -- the store has the words of an older one and those of the objects that the task has made since
-  pub record HasMore (base first : ℕ) (m : State) : Type 0 where
+  pub record HasMore (base first : ℕ) (m : MachineState) : Type 0 where
     pub within : first ≤ objects_made m t
     pub sum : store_words m.store ≡ base + words_made m t first (objects_made m t - first)
 
   -- ONE STEP
 
-  module _ (m : State) (G : Grown p m t) where
-    abbrev m' : State
+  module _ (m : MachineState) (G : Grown p m t) where
+    abbrev m' : MachineState
     m' = step p m t
 
     at_least : objects_made m t ≤ objects_made m' t
     at_least = elim (cases_lt (objects_made m' t) (objects_made m t)) [
-      | inl fewer ↦ absurd (let lt : objects_made m' t < objects_made m' t = stored_within m' (objects_made m' t) (G.up (at (objects_made m' t)) (stored_below m (objects_made m' t) fewer)) in omega arith)
+      | inl fewer ↦ absurd (let lt : objects_made m' t < objects_made m' t = stored_within m' (objects_made m' t) (G.up (name_at (objects_made m' t)) (stored_below m (objects_made m' t) fewer)) in omega arith)
       | inr le ↦ le
     ]
 
     none_more : asked p m t ≡ None → objects_made m' t ≡ objects_made m t
     none_more e = elim (cases_lt (objects_made m t) (objects_made m' t)) [
       | inr le ↦ omega (arith, at_least)
-      | inl more ↦ elim (G.down (at (objects_made m t)) (stored_below m' (objects_made m t) more)) [
+      | inl more ↦ elim (G.down (name_at (objects_made m t)) (stored_below m' (objects_made m t) more)) [
         | inl old ↦ absurd (let lt : objects_made m t < objects_made m t = stored_within m (objects_made m t) old in omega arith)
         | inr new ↦ absurd (let h : false ≡ true = sym (ap is_some e) ∙ new.1 in cc)
       ]
@@ -61,7 +49,7 @@ module _ (p : ProgramText) (t : ℕ) where
         let lower : objects_made m t < objects_made m' t = stored_within m' (objects_made m t) (G.new w e).0 in
         elim (cases_lt (objects_made m t + 1) (objects_made m' t)) [
           | inr le ↦ omega arith
-          | inl more ↦ elim (G.down (at (objects_made m t + 1)) (stored_below m' (objects_made m t + 1) more)) [
+          | inl more ↦ elim (G.down (name_at (objects_made m t + 1)) (stored_below m' (objects_made m t + 1) more)) [
             | inl old ↦ absurd (let lt : objects_made m t + 1 < objects_made m t = stored_within m (objects_made m t + 1) old in omega arith)
             | inr new ↦ absurd (let h : objects_made m t + 1 ≡ objects_made m t = ap (λ (n : Name). n.count) new.0 in omega arith)
           ]
@@ -71,8 +59,8 @@ module _ (p : ProgramText) (t : ℕ) where
       abbrev n : ℕ
       n = objects_made m t - first
 
-      same : words_made m' t first n ≡ words_made m t first n
-      same = let le : first ≤ objects_made m t = H.within in same_made m m' first n (omega arith) G.words
+      same_words : words_made m' t first n ≡ words_made m t first n
+      same_words = let le : first ≤ objects_made m t = H.within in same_made m m' first n (omega arith) G.words
 
       by_asked : (o : Option ℕ) → asked p m t ≡ o → HasMore base first m'
       by_asked None e =
@@ -80,23 +68,23 @@ module _ (p : ProgramText) (t : ℕ) where
           let le : first ≤ objects_made m t = H.within in
           let words = ap (λ i. words_made m' t first (i - first)) k in
           let s : store_words m.store ≡ base + words_made m t first n = H.sum in
-          record { within = omega arith; sum = let g = G.none e in omega (arith, same, words, s, g) }
+          record { within = omega arith; sum = let g = G.none e in omega (arith, same_words, words, s, g) }
       by_asked (Some w) e =
           let k = one_more w e in
           let le : first ≤ objects_made m t = H.within in
           let next : objects_made m' t - first ≡ suc n = omega arith in
           let last : first + n ≡ objects_made m t = omega arith in
-          let words : words_made m' t first (objects_made m' t - first) ≡ words_made m' t first n + words_at m' (at (first + n)) = ap (words_made m' t first) next in
-          let object : words_at m' (at (first + n)) ≡ words_at m' (next_name t m.store) = ap (λ c. words_at m' (at c)) last in
+          let words : words_made m' t first (objects_made m' t - first) ≡ words_made m' t first n + words_at m' (name_at (first + n)) = ap (words_made m' t first) next in
+          let object : words_at m' (name_at (first + n)) ≡ words_at m' (next_name t m.store) = ap (λ c. words_at m' (name_at c)) last in
           let s : store_words m.store ≡ base + words_made m t first n = H.sum in
-          record { within = omega arith; sum = let g = G.some w e in omega (arith, same, words, object, s, g) }
+          record { within = omega arith; sum = let g = G.some w e in omega (arith, same_words, words, object, s, g) }
 
       pub step_more : HasMore base first m'
       step_more = by_asked (asked p m t) refl
 
   -- STEPS
 
-  step_has : (base first j : ℕ) (m : State) → IsForkJoinState m → Counted j m.tasks m.store → HasMore base first m → HasMore base first (step p m t)
+  step_has : (base first j : ℕ) (m : MachineState) → IsForkJoinState m → Counted j m.tasks m.store → HasMore base first m → HasMore base first (step p m t)
   step_has base first j m K C H = elim (cases_Bool (can_step m t)) [
     | inl can ↦
         let rows : length m.store ≡ length m.tasks = C.rows in
@@ -105,12 +93,12 @@ module _ (p : ProgramText) (t : ℕ) where
     | inr not ↦ subst (HasMore base first) (sym (step_idle p m t not)) H
   ]
 
-  pub steps_have : (base first k j : ℕ) (m : State) → IsForkJoinState m → Counted j m.tasks m.store → HasMore base first m → HasMore base first (run_from p m (replicate k t))
+  pub steps_have : (base first k j : ℕ) (m : MachineState) → IsForkJoinState m → Counted j m.tasks m.store → HasMore base first m → HasMore base first (run_from p m (replicate k t))
   steps_have base first zero j m K C H = H
   steps_have base first (suc k) j m K C H =
       steps_have base first k (suc j) (step p m t) (step_is_fork_join_state p m t K) (counted_step p m t K j C) (step_has base first j m K C H)
 
-  at_first : (m : State) → HasMore (store_words m.store) (objects_made m t) m
+  at_first : (m : MachineState) → HasMore (store_words m.store) (objects_made m t) m
   at_first m =
       let z : objects_made m t - objects_made m t ≡ 0 = omega arith in
       let e : words_made m t (objects_made m t) (objects_made m t - objects_made m t) ≡ 0 = ap (words_made m t (objects_made m t)) z in
@@ -148,7 +136,7 @@ module _ (p : ProgramText) (s : SettingsValue) (journal : List EntryValue) (lega
   fork_join = subst IsForkJoinState (sym (machine_is_run p s journal)) (run_is_fork_join_state p (start p (field_limit s.version)) (tasks_of journal) (start_is_fork_join_state p (field_limit s.version)))
 
   counted : Counted (length (tasks_of journal)) l.machine.tasks l.machine.store
-  counted = subst (λ (m : State). Counted (length (tasks_of journal)) m.tasks m.store) (sym (machine_is_run p s journal)) (runs_are_counted p (field_limit s.version) (tasks_of journal))
+  counted = subst (λ (m : MachineState). Counted (length (tasks_of journal)) m.tasks m.store) (sym (machine_is_run p s journal)) (runs_are_counted p (field_limit s.version) (tasks_of journal))
 
   next : l' ≡ ledger_of p s (journal ++ e ∷ [])
   next = sym (after_cut p s journal (e ∷ []) (opening p s))
@@ -163,13 +151,13 @@ module _ (p : ProgramText) (s : SettingsValue) (journal : List EntryValue) (lega
       omega (arith, a, flat)
 
   -- the words of the store with those of the entry's steps
-  abbrev Grew : Kind → State → Type 0
+  abbrev Grew : Kind → MachineState → Type 0
   Grew kind m = store_words m.store ≡ store_words l.machine.store + words_by kind (objects_by kind l.machine) m
 
-  still : (m : State) → m ≡ l.machine → store_words m.store ≡ store_words l.machine.store + 0
-  still m q = let w = ap (λ (x : State). store_words x.store) q in omega (arith, w)
+  still : (m : MachineState) → m ≡ l.machine → store_words m.store ≡ store_words l.machine.store + 0
+  still m q = let w = ap (λ (x : MachineState). store_words x.store) q in omega (arith, w)
 
-  grew_by : (kind : Kind) (m : State) → m ≡ run_from p l.machine (tasks_in kind) → Grew kind m
+  grew_by : (kind : Kind) (m : MachineState) → m ≡ run_from p l.machine (tasks_in kind) → Grew kind m
   grew_by (Took t) m q = still m q
   grew_by (Ran t k) m q =
       subst (Grew (Ran t k)) (sym q) (steps_have p t (store_words l.machine.store) (objects_made l.machine t) k (length (tasks_of journal)) l.machine fork_join counted (at_first p t l.machine)).sum

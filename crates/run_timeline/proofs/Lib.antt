@@ -3,3 +3,4 @@ mod Made
 mod Steps
 mod Slices
 mod Held
+mod Common

@@ -1,38 +1,20 @@
 -- What is left to be written of a timeline, entry by entry.
-use Rattle.std.proofs.Common.{◌≡◌, ◌<◌, ◌+◌, ◌==◌, ℕ, suc, false, List, [], ◌∷◌, ◌++◌, length, take, drop, get_or, ap, sym, ◌∙◌, append_assoc, append-nil, arith, ◌-◌, length-append}
-use Rattle.std.specs.Prelude.{◌≢◌, codes, slice_set, Option}
-use Rattle.std.specs.List.{flat_map}
-use Rattle.std.proofs.lemmas.Grind.{flat_map-append}
-use Rattle.std.proofs.Math.Seq.{take-append_seam}
-use Rattle.run_journal.specs.below.hh_lang.{ProgramText}
-use Rattle.run_journal.specs.below.run_trace.{EntryValue, SettingsValue}
-use Rattle.run_journal.specs.below.run_ledger.{Ledger, after, RefusedAt, RunEnd, or_short}
-use Rattle.run_journal.specs.declared.replay.ReplayError.{ReplayError}
-use Rattle.run_journal.specs.declared.replay.ReplayError.TheVariants.{RefusedAt as FailsAt, NoMemory}
-use Rattle.run_journal.specs.Replay.{ReplayFails}
-use Rattle.run_journal.proofs.Replays.{cut}
-use Rattle.json_text.specs.below.quoted_text.{quoted, task_name}
-use Rattle.json_text.specs.Json.{Json, Word, NoMember, Member, Members, json, further, more_member, more_members}
-use Rattle.json_text.proofs.Texts.{arrays_are_joined}
-use Rattle.run_timeline.specs.Words.{counts_of}
-use Rattle.run_timeline.specs.Events.{process, lane, arrow_begins, arrow_ends, arguments, two_numbers, event, end_time}
-use Rattle.run_timeline.specs.Entries.{slice_name, entry_events, forked, task_begins}
-use Rattle.run_timeline.specs.Timeline.{events_from, events_of, lanes, timeline}
-use Rattle.run_timeline.specs.Pieces.{beginning, ending, span_head, head}
+use Rattle.run_timeline.proofs.Common.{◌≡◌, ◌<◌, ◌+◌, ◌==◌, ℕ, suc, false, List, [], ◌∷◌, ◌++◌, length, take, drop, get_or, ap, sym, ◌∙◌, append_assoc, append-nil, arith, ◌-◌, length-append, ◌≢◌, codes, slice_set, Option, flat_map, flat_map-append, take-append_seam, ProgramText, EntryValue, SettingsValue, Ledger, after, RefusedAt, RunEnd, or_short, ReplayError, NoMemory, ReplayFails, cut, quoted, task_name, Json, Word, NoMember, Member, Members, json, further, more_member, more_members, arrays_are_joined, counts_of, process, lane, arrow_begins, arrow_ends, arguments, two_numbers, event, end_time, slice_name, entry_events, forked, task_begins, events_from, events_of, lanes, timeline, beginning, ending, span_head, head}
+use Rattle.run_journal.specs.declared.replay.ReplayError.TheVariants.{RefusedAt as FailsAt}
 use Rattle.run_timeline.proofs.Made.{span_made, event_made}
 
 module _ (p : ProgramText) (s : SettingsValue) (l : Ledger) (n : ℕ) (journal : List EntryValue) (i : ℕ) (e : EntryValue) (lt : i < length journal) (is : e ≡ get_or journal i e) where
-  abbrev here : List Json
-  here = entry_events p (slice_name p l.machine e.kind) (counts_of l) (after p s l e) n e
+  abbrev events_of_entry : List Json
+  events_of_entry = entry_events p (slice_name p l.machine e.kind) (counts_of l) (after p s l e) n e
 
   abbrev later : List Json
   later = events_from p s (after p s l e) (n + 1) (drop (i + 1) journal)
 
   -- the events of an entry, and those of the entries behind it
-  pub events_next : flat_map further (events_from p s l n (drop i journal)) ≡ flat_map further here ++ flat_map further later
+  pub events_next : flat_map further (events_from p s l n (drop i journal)) ≡ flat_map further events_of_entry ++ flat_map further later
   events_next =
       ap (λ es. flat_map further (events_from p s l n es)) (cut p s l n journal i e lt is)
-      ∙ flat_map-append further here later
+      ∙ flat_map-append further events_of_entry later
 
 -- an object with an array, as the text has it
 abbrev whole : List ℕ → List ℕ

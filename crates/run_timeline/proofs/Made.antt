@@ -1,11 +1,5 @@
 -- How the text of an event is put together.
-use Rattle.std.proofs.Common.{◌≡◌, ℕ, List, [], ◌∷◌, ◌++◌, ap, sym, ◌∙◌, append_assoc, append-nil}
-use Rattle.std.specs.Prelude.{codes}
-use Rattle.std.specs.Fmt.{decimal}
-use Rattle.json_text.specs.below.quoted_text.{quoted}
-use Rattle.json_text.specs.Json.{Members, Number, Word, NoMember, Member, json, further, first_members, more_members, first_member, more_member}
-use Rattle.run_timeline.specs.Events.{event, arguments, end_time, middle_time, span, arrow_begins, arrow_ends}
-use Rattle.run_timeline.specs.Pieces.{head, span_head}
+use Rattle.run_timeline.proofs.Common.{◌≡◌, ℕ, List, [], ◌∷◌, ◌++◌, ap, sym, ◌∙◌, append_assoc, append-nil, codes, decimal, quoted, Members, Number, Word, NoMember, Member, json, further, first_members, more_members, first_member, more_member, event, arguments, end_time, middle_time, span, arrow_begins, arrow_ends, head, span_head}
 
 -- the members that all events have, and those of its own
 event_text : (name category phase : List ℕ) (time lane : ℕ) (more : Members)

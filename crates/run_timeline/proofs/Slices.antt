@@ -1,19 +1,5 @@
 -- Each entry is one slice.
-use Rattle.std.proofs.Common.{◌≡◌, ◌+◌, ◌==◌, ℕ, zero, suc, Bool, cond, true, false, List, [], ◌∷◌, ◌++◌, length, refl, ap, ◌∙◌, arith}
-use Rattle.std.specs.Prelude.{Option, Some, None, codes, slice_get, take}
-use Rattle.std.specs.List.{filter}
-use Rattle.std.proofs.lemmas.List.Elements.{filter-append}
-use Rattle.run_journal.specs.below.hh_lang.{ProgramText}
-use Rattle.run_journal.specs.below.hh_model.{Status, Running, Waiting, Ended, Joined, Task, State}
-use Rattle.run_journal.specs.below.run_trace.{Kind, Took, Ran, Chunk, Begin, End, PutOff, Mark, More, Sweep, Fuel, EntryValue, SettingsValue}
-use Rattle.run_journal.specs.below.run_ledger.{RunEnd, Ledger, in_use, after, after_all, opening}
-use Rattle.json_text.specs.Json.{Json}
-use Rattle.run_timeline.specs.declared.words.Counts.{Counts}
-use Rattle.run_timeline.specs.Words.{counts_of, words_held}
-use Rattle.run_timeline.specs.Events.{arrow_begins, arrow_ends}
-use Rattle.run_timeline.specs.Entries.{slice, slice_name, begins_and_ends, taken, first_taken, forked, ended, ended_by, joined, chunks_counted, counter, counted, run_ended, words_counted, entry_events}
-use Rattle.run_timeline.specs.Timeline.{events_from, events_of}
-use Rattle.run_timeline.specs.Laws.{is_slice, slices_of, SlicesAreEntries}
+use Rattle.run_timeline.proofs.Common.{◌≡◌, ◌+◌, ◌==◌, ℕ, zero, suc, Bool, cond, true, false, List, [], ◌∷◌, ◌++◌, length, refl, ap, ◌∙◌, arith, Option, Some, None, codes, slice_get, take, filter, filter-append, ProgramText, TaskStatus, Running, Waiting, Ended, Joined, Task, MachineState, Kind, Took, Ran, Chunk, Begin, End, PutOff, Mark, More, Sweep, Fuel, EntryValue, SettingsValue, RunEnd, Ledger, in_use, after, after_all, opening, Json, AccountCounts, counts_of, words_held, arrow_begins, arrow_ends, slice, slice_name, begins_and_ends, taken, first_taken, forked, ended, ended_by, joined, chunks_counted, counter, counted, run_ended, words_counted, entry_events, events_from, events_of, is_slice, slices_of, SlicesAreEntries}
 
 abbrev slices : List Json → List Json
 slices = filter is_slice
@@ -33,7 +19,7 @@ both xs ys e f = ap (λ z. z ++ ys) e ∙ f
 alone : (v : Json) (xs ys : List Json) → slices xs ≡ v ∷ [] → slices ys ≡ [] → slices (xs ++ ys) ≡ v ∷ []
 alone v xs ys e f = filter-append is_slice xs ys ∙ (ap (λ z. z ++ slices ys) e ∙ ap (λ z. v ∷ z) f)
 
-module _ (p : ProgramText) (m : State) (t n w : ℕ) where
+module _ (p : ProgramText) (m : MachineState) (t n w : ℕ) where
   first_by : (b : Bool) (q : Option ℕ) → slices (cond b (first_taken p m t n w q) (arrow_ends (codes "join") t n w ∷ [])) ≡ []
   first_by true None = refl
   first_by true (Some q) = refl
@@ -44,17 +30,17 @@ module _ (p : ProgramText) (m : State) (t n w : ℕ) where
   none_taken (Some x) = first_by (x.joins == 0) x.parent
 
 none_forked : (made now n w : ℕ) → slices (forked made now n w) ≡ []
-none_forked made now n w = go (now == made)
+none_forked made now n w = none_forked_by_cases (now == made)
   where
-    go : (b : Bool) → slices (cond b [] (arrow_begins (codes "fork") made n w ∷ (arrow_begins (codes "fork") (made + 1) n w ∷ []))) ≡ []
-    go true = refl
-    go false = refl
+    none_forked_by_cases : (b : Bool) → slices (cond b [] (arrow_begins (codes "fork") made n w ∷ (arrow_begins (codes "fork") (made + 1) n w ∷ []))) ≡ []
+    none_forked_by_cases true = refl
+    none_forked_by_cases false = refl
 
 none_joined : (n w : ℕ) (q : Option ℕ) → slices (joined n w q) ≡ []
 none_joined n w None = refl
 none_joined n w (Some q) = refl
 
-none_by : (t n w : ℕ) (q : Option ℕ) (s : Status) → slices (ended_by t n w q s) ≡ []
+none_by : (t n w : ℕ) (q : Option ℕ) (s : TaskStatus) → slices (ended_by t n w q s) ≡ []
 none_by t n w q Running = refl
 none_by t n w q Waiting = refl
 none_by t n w q (Ended k name) = refl
@@ -64,7 +50,7 @@ none_ended : (t n w : ℕ) (o : Option Task) → slices (ended t n w o) ≡ []
 none_ended t n w None = refl
 none_ended t n w (Some x) = none_by t n w x.parent x.status
 
-none_told : (p : ProgramText) (made : ℕ) (m : State) (n w : ℕ) (k : Kind) → slices (begins_and_ends p made m n w k) ≡ []
+none_told : (p : ProgramText) (made : ℕ) (m : MachineState) (n w : ℕ) (k : Kind) → slices (begins_and_ends p made m n w k) ≡ []
 none_told p made m n w (Took t) = none_taken p m t n w (slice_get m.tasks t)
 none_told p made m n w (Ran t k) =
     filter-append is_slice (forked made (length m.tasks) n w) (ended t n w (slice_get m.tasks t))
@@ -79,17 +65,17 @@ none_told p made m n w (Sweep t given) = refl
 none_told p made m n w Fuel = refl
 
 none_counted : (name unit : List ℕ) (before now n : ℕ) → slices (counted name unit before now n) ≡ []
-none_counted name unit before now n = go (now == before)
+none_counted name unit before now n = none_counted_by_cases (now == before)
   where
-    go : (b : Bool) → slices (cond b [] (counter name unit now n ∷ [])) ≡ []
-    go true = refl
-    go false = refl
+    none_counted_by_cases : (b : Bool) → slices (cond b [] (counter name unit now n ∷ [])) ≡ []
+    none_counted_by_cases true = refl
+    none_counted_by_cases false = refl
 
-none_run_ended : (p : ProgramText) (m : State) (n w : ℕ) (e : Option RunEnd) → slices (run_ended p m n w e) ≡ []
+none_run_ended : (p : ProgramText) (m : MachineState) (n w : ℕ) (e : Option RunEnd) → slices (run_ended p m n w e) ≡ []
 none_run_ended p m n w None = refl
 none_run_ended p m n w (Some e) = refl
 
-one_slice : (p : ProgramText) (name : List ℕ) (was : Counts) (l : Ledger) (n : ℕ) (e : EntryValue) → slices (entry_events p name was l n e) ≡ slice name n e ∷ []
+one_slice : (p : ProgramText) (name : List ℕ) (was : AccountCounts) (l : Ledger) (n : ℕ) (e : EntryValue) → slices (entry_events p name was l n e) ≡ slice name n e ∷ []
 one_slice p name was l n e =
     let ts = begins_and_ends p was.tasks l.machine n e.worker e.kind in
     let cs = chunks_counted was.chunks (in_use l) n in

@@ -1,14 +1,5 @@
 -- One entry more of a timeline.
-use Rattle.std.proofs.Common.{◌≡◌, ◌<◌, ◌+◌, ℕ, List, ◌++◌, length, drop, get_or, ap, sym, ◌∙◌, append_assoc}
-use Rattle.std.specs.List.{flat_map}
-use Rattle.run_journal.specs.below.hh_lang.{ProgramText}
-use Rattle.run_journal.specs.below.run_trace.{EntryValue}
-use Rattle.run_journal.specs.below.run_ledger.{after}
-use Rattle.run_journal.specs.BookValue.{BookValue}
-use Rattle.json_text.specs.Json.{further}
-use Rattle.run_timeline.specs.Words.{counts_of}
-use Rattle.run_timeline.specs.Entries.{slice_name, entry_events}
-use Rattle.run_timeline.specs.Timeline.{events_from}
+use Rattle.run_timeline.proofs.Common.{◌≡◌, ◌<◌, ◌+◌, ℕ, List, ◌++◌, length, drop, get_or, ap, sym, ◌∙◌, append_assoc, flat_map, ProgramText, EntryValue, after, BookValue, further, counts_of, slice_name, entry_events, events_from}
 use Rattle.run_timeline.proofs.Loops.{events_next}
 
 module _ (journal : List EntryValue) (b b' : BookValue) (i : ℕ) (e : EntryValue) (lt : i < length journal) (is : e ≡ get_or journal i e) (eb : b' ≡ record b { ledger = after b.program b.settings b.ledger e }) where

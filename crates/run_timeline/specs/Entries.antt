@@ -2,18 +2,12 @@
 use Rattle.std.specs.Prelude.{ℕ, ◌+◌, ◌-◌, ◌==◌, Option, Some, None, List, [], ◌∷◌, ◌++◌, codes, length, slice_get, if◌then◌else◌}
 use Rattle.std.specs.List.{join_with_byte}
 use Rattle.std.specs.Fmt.{decimal}
-use Rattle.run_journal.specs.below.hh_lang.{ProgramText, line_at, Line}
-use Rattle.run_journal.specs.below.hh_model.{Status, Ended, Joined, Entangled, Task, State}
-use Rattle.run_journal.specs.below.run_trace.{Kind, Took, Ran, Chunk, Begin, End, PutOff, Mark, More, Sweep, Fuel, EntryValue, kind_name}
-use Rattle.run_journal.specs.below.run_ledger.{RunEnd, Machine, Ledger, in_use, end_words}
-use Rattle.run_names.specs.Names.{function_name}
-use Rattle.json_text.specs.below.quoted_text.{task_name}
-use Rattle.json_text.specs.Json.{Json, Members, Number, Word, NoMember, Member}
-use Rattle.run_timeline.specs.declared.words.Counts.{Counts}
+use Rattle.run_timeline.specs.Common.{ProgramText, line_at, Line, TaskStatus, Ended, Joined, Entangled, Task, MachineState, Kind, Took, Ran, Chunk, Begin, End, PutOff, Mark, More, Sweep, Fuel, EntryValue, kind_name, RunEnd, Machine, Ledger, in_use, end_words, function_name, task_name, Json, Members, Number, Word, NoMember, Member}
+use Rattle.run_timeline.specs.declared.words.AccountCounts.{AccountCounts}
 use Rattle.run_timeline.specs.Words.{words_held}
 use Rattle.run_timeline.specs.Events.{event, arguments, one_number, two_numbers, end_time, span, arrow_begins, arrow_ends}
 
--- WHERE A TASK STANDS
+-- THE STATUS OF A TASK
 
 abbrev pub number_of : Option Line → ℕ
 number_of None = 0
@@ -48,12 +42,12 @@ place_of p None = []
 place_of p (Some x) = 32 ∷ (function_name p x.top.function ++ 58 ∷ decimal (next_line p (Some x)))
 
 -- steps begin where their task stands in front of them
-abbrev pub begins_at : ProgramText → State → Kind → List ℕ
+abbrev pub begins_at : ProgramText → MachineState → Kind → List ℕ
 begins_at p m (Ran t k) = place_of p (slice_get m.tasks t)
 begins_at p m _ = []
 
 -- the name of an entry in front of which the machine is this: its kind, and where its steps begin
-abbrev pub slice_name : ProgramText → State → Kind → List ℕ
+abbrev pub slice_name : ProgramText → MachineState → Kind → List ℕ
 slice_name p m kind = kind_name kind ++ begins_at p m kind
 
 -- an entry is a slice at its place, one entry wide
@@ -77,14 +71,14 @@ fork_line p None = 0
 fork_line p (Some x) = number_of (line_at p x.top.function (x.top.next - 1))
 
 -- a task is taken first: its span begins, and the arrow from its fork ends
-abbrev pub first_taken : ProgramText → State → ℕ → ℕ → ℕ → Option ℕ → List Json
+abbrev pub first_taken : ProgramText → MachineState → ℕ → ℕ → ℕ → Option ℕ → List Json
 first_taken p m t n w None = task_begins t n w NoMember ∷ []
 first_taken p m t n w (Some q) =
     task_begins t n w (arguments (two_numbers (codes "parent") q (codes "line") (fork_line p (slice_get m.tasks q))))
     ∷ (arrow_ends (codes "fork") t n w ∷ [])
 
 -- or it is taken again, behind the join of its children
-abbrev pub taken : ProgramText → State → ℕ → ℕ → ℕ → Option Task → List Json
+abbrev pub taken : ProgramText → MachineState → ℕ → ℕ → ℕ → Option Task → List Json
 taken p m t n w None = []
 taken p m t n w (Some x) = if x.joins == 0 then first_taken p m t n w x.parent else arrow_ends (codes "join") t n w ∷ []
 
@@ -97,7 +91,7 @@ joined n w None = []
 joined n w (Some q) = arrow_begins (codes "join") q n w ∷ []
 
 -- a task ends, alone or as the later one of two that join
-abbrev pub ended_by : ℕ → ℕ → ℕ → Option ℕ → Status → List Json
+abbrev pub ended_by : ℕ → ℕ → ℕ → Option ℕ → TaskStatus → List Json
 ended_by t n w parent (Ended k name) = task_ends t n w ∷ []
 ended_by t n w parent Joined = task_ends t n w ∷ joined n w parent
 ended_by t n w parent _ = []
@@ -115,7 +109,7 @@ abbrev pub marking : List ℕ → ℕ → ℕ → ℕ → Json
 marking phase t n w = span phase (codes "marking") (codes "inner") t n w NoMember
 
 -- what begins and ends with an entry, in front of which so many tasks were made, and behind which the machine is this
-abbrev pub begins_and_ends : ProgramText → ℕ → State → ℕ → ℕ → Kind → List Json
+abbrev pub begins_and_ends : ProgramText → ℕ → MachineState → ℕ → ℕ → Kind → List Json
 begins_and_ends p made m n w (Took t) = taken p m t n w (slice_get m.tasks t)
 begins_and_ends p made m n w (Ran t k) = forked made (length m.tasks) n w ++ ended t n w (slice_get m.tasks t)
 begins_and_ends p made m n w (Begin t) = collection (codes "b") t n w ∷ []
@@ -146,21 +140,21 @@ abbrev pub end_name : RunEnd → List ℕ
 end_name e = join_with_byte 32 (codes "end:" ∷ end_words e)
 
 -- of a stopped read the line
-abbrev pub end_members : ProgramText → State → RunEnd → Members
+abbrev pub end_members : ProgramText → MachineState → RunEnd → Members
 end_members p m (Machine (Entangled reader owner)) = arguments (one_number (codes "line") (next_line p (slice_get m.tasks reader)))
 end_members p m _ = arguments NoMember
 
-abbrev pub run_end : ProgramText → State → ℕ → ℕ → RunEnd → Json
+abbrev pub run_end : ProgramText → MachineState → ℕ → ℕ → RunEnd → Json
 run_end p m n w e = event (end_name e) (codes "end") (codes "i") (end_time n) w (Member (codes "s") (Word (codes "g")) (end_members p m e))
 
-abbrev pub run_ended : ProgramText → State → ℕ → ℕ → Option RunEnd → List Json
+abbrev pub run_ended : ProgramText → MachineState → ℕ → ℕ → Option RunEnd → List Json
 run_ended p m n w None = []
 run_ended p m n w (Some e) = run_end p m n w e ∷ []
 
 -- ALL OF AN ENTRY
 
 -- of the entry of this name and number: in front of it the accounts had these counts, and behind it they are these
-abbrev pub entry_events : ProgramText → List ℕ → Counts → Ledger → ℕ → EntryValue → List Json
+abbrev pub entry_events : ProgramText → List ℕ → AccountCounts → Ledger → ℕ → EntryValue → List Json
 entry_events p name was l n e =
     (slice name n e ∷ begins_and_ends p was.tasks l.machine n e.worker e.kind)
     ++ chunks_counted was.chunks (in_use l) n

@@ -2,10 +2,7 @@
 use Rattle.std.specs.Prelude.{◌≡◌, ◌+◌, ℕ, Bool, Some, List, [], codes, length, slice_get, take}
 use Rattle.std.specs.List.{filter}
 use Rattle.std.specs.Str.{bytes_eq}
-use Rattle.run_journal.specs.below.hh_lang.{ProgramText}
-use Rattle.run_journal.specs.below.run_trace.{EntryValue, SettingsValue}
-use Rattle.run_journal.specs.below.run_ledger.{ledger_of}
-use Rattle.json_text.specs.Json.{Json, Word, Object, Member}
+use Rattle.run_timeline.specs.Common.{ProgramText, EntryValue, SettingsValue, ledger_of, Json, Word, Object, Member}
 use Rattle.run_timeline.specs.Entries.{slice, slice_name}
 use Rattle.run_timeline.specs.Timeline.{events_of}
 

@@ -4,3 +4,4 @@ pub mod Entries
 pub mod Timeline
 pub mod Pieces
 pub mod Laws
+mod Common

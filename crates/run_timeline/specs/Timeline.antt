@@ -1,9 +1,6 @@
 -- A run as a timeline.
 use Rattle.std.specs.Prelude.{ℕ, zero, suc, ◌+◌, List, [], ◌∷◌, ◌++◌, codes}
-use Rattle.run_journal.specs.below.run_trace.{EntryValue, SettingsValue}
-use Rattle.run_journal.specs.below.hh_lang.{ProgramText}
-use Rattle.run_journal.specs.below.run_ledger.{Ledger, after, opening}
-use Rattle.json_text.specs.Json.{Json, Array, Object, Word, NoMember, Member, json, values}
+use Rattle.run_timeline.specs.Common.{EntryValue, SettingsValue, ProgramText, Ledger, after, opening, Json, Array, Object, Word, NoMember, Member, json, values}
 use Rattle.run_timeline.specs.Words.{counts_of}
 use Rattle.run_timeline.specs.Events.{process, lane}
 use Rattle.run_timeline.specs.Entries.{slice_name, entry_events}

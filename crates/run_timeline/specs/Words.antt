@@ -1,12 +1,7 @@
 -- The words that are held, and how they follow from entry to entry.
 use Rattle.std.specs.Prelude.{◌≡◌, ℕ, zero, suc, ◌+◌, ◌-◌, None, length, slice_get, sum_by}
-use Rattle.run_journal.specs.below.hh_lang.{ProgramText}
-use Rattle.run_journal.specs.below.hh_model.{State, row_of}
-use Rattle.run_journal.specs.below.run_trace.{Kind, Ran, EntryValue, SettingsValue}
-use Rattle.run_journal.specs.below.run_ledger.{Ledger, in_use, words_at, words_in, after, refusal}
-use Rattle.run_journal.specs.BookValue.{IsLegalLedger}
-use Rattle.run_report.specs.Totals.{cleared_words}
-use Rattle.run_timeline.specs.declared.words.Counts.{Counts}
+use Rattle.run_timeline.specs.Common.{ProgramText, MachineState, row_of, Kind, Ran, EntryValue, SettingsValue, Ledger, in_use, words_at, words_in, after, refusal, IsLegalLedger, cleared_words}
+use Rattle.run_timeline.specs.declared.words.AccountCounts.{AccountCounts}
 
 -- the words of all objects that heaps hold. While the run is under way those in the heaps of tasks that run count too,
 -- which the report's line of words held leaves out; after the return of main no task runs
@@ -14,26 +9,26 @@ abbrev pub words_held : Ledger → ℕ
 words_held l = sum_by (words_in l.machine) l.heaps
 
 -- of accounts the tasks that were made, the chunks in use and the words held
-abbrev pub counts_of : Ledger → Counts
+abbrev pub counts_of : Ledger → AccountCounts
 counts_of l = record { tasks = length l.machine.tasks; chunks = in_use l; words = words_held l }
 
 -- WHAT AN ENTRY ALLOCATES
 
 -- how many objects a task has made
-abbrev pub objects_made : State → ℕ → ℕ
+abbrev pub objects_made : MachineState → ℕ → ℕ
 objects_made m t = length (row_of (slice_get m.store t))
 
 -- the words of so many objects of a task from this one on
-abbrev pub words_made : State → ℕ → ℕ → ℕ → ℕ
+abbrev pub words_made : MachineState → ℕ → ℕ → ℕ → ℕ
 words_made m t first zero = 0
 words_made m t first (suc n) = words_made m t first n + words_at m (record { task = t; count = first + n })
 
 -- for an entry of steps how many objects its task has made, and the words of those behind the first so many
-abbrev pub objects_by : Kind → State → ℕ
+abbrev pub objects_by : Kind → MachineState → ℕ
 objects_by (Ran t k) m = objects_made m t
 objects_by _ m = 0
 
-abbrev pub words_by : Kind → ℕ → State → ℕ
+abbrev pub words_by : Kind → ℕ → MachineState → ℕ
 words_by (Ran t k) first m = words_made m t first (objects_made m t - first)
 words_by _ first m = 0
 

@@ -7,7 +7,7 @@ ghost use Rattle.run_timeline.specs.Entries.{place_of, begins_at, slice_name, nu
 use crate::events::{add_comma, begin_arguments, begin_event, end_arguments};
 use crate::tasks::next_line;
 use json_text::{add_number, first_number, more_number};
-use run_journal::{Kind, Program, State, Task};
+use run_journal::{Kind, MachineState, Program, Task};
 use run_names::{function_name, kind_name};
 use std::alloc::{AllocError, Global};
 
@@ -35,7 +35,7 @@ fn add_beginning(
     alloc: Global,
     name: &mut Vec<u8>,
     program: &Program,
-    state: &State,
+    state: &MachineState,
     kind: Kind,
 ) -> Result<(), AllocError>
     ensures { OnOk result (name.new.items ≡ name.old.items ++ begins_at program.now state.now kind) }
@@ -50,7 +50,7 @@ fn add_beginning(
 pub(crate) fn slice_name(
     alloc: Global,
     program: &Program,
-    state: &State,
+    state: &MachineState,
     kind: Kind,
 ) -> Result<Vec<u8>, AllocError>
     ensures { IfOk result (λ name. name.items ≡ slice_name program.now state.now kind) }

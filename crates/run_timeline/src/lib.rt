@@ -13,4 +13,4 @@ mod words;
 pub use laws::{slices_are_entries, words_follow_entries};
 pub use tasks::fork_line;
 pub use timeline::timeline_text;
-pub use words::Counts;
+pub use words::AccountCounts;

@@ -12,7 +12,7 @@ use crate::events::{
     end_arrow, end_event,
 };
 use json_text::{first_number, more_number, more_word};
-use run_journal::{End, Kind, Line, Program, RunEnd, State, Status, Task};
+use run_journal::{End, Kind, Line, MachineState, Program, RunEnd, Task, TaskStatus};
 use run_report::end_text;
 use std::alloc::{AllocError, Global};
 
@@ -66,7 +66,7 @@ fn add_first_taken(
     alloc: Global,
     text: &mut Vec<u8>,
     program: &Program,
-    state: &State,
+    state: &MachineState,
     task: u32,
     number: u32,
     worker: u32,
@@ -110,7 +110,7 @@ fn add_taken(
     alloc: Global,
     text: &mut Vec<u8>,
     program: &Program,
-    state: &State,
+    state: &MachineState,
     task: u32,
     number: u32,
     worker: u32,
@@ -206,8 +206,8 @@ fn add_ended(
         return Ok(());
     };
     match at.status {
-        Status::Ended(_, _) => add_task_ends(alloc, text, task, number, worker),
-        Status::Joined => {
+        TaskStatus::Ended(_, _) => add_task_ends(alloc, text, task, number, worker),
+        TaskStatus::Joined => {
             add_task_ends(alloc, text, task, number, worker)?;
             add_joined(alloc, text, number, worker, at.parent)
         }
@@ -219,7 +219,7 @@ fn add_ended(
 fn add_ran(
     alloc: Global,
     text: &mut Vec<u8>,
-    state: &State,
+    state: &MachineState,
     made: u64,
     task: u32,
     number: u32,
@@ -291,7 +291,7 @@ pub(crate) fn add_begins_and_ends(
     alloc: Global,
     text: &mut Vec<u8>,
     program: &Program,
-    state: &State,
+    state: &MachineState,
     made: u64,
     number: u32,
     worker: u32,
@@ -353,7 +353,7 @@ fn add_end_members(
     alloc: Global,
     text: &mut Vec<u8>,
     program: &Program,
-    state: &State,
+    state: &MachineState,
     end: RunEnd,
 ) -> Result<(), AllocError>
     ensures { OnOk result (text.new.items ≡ text.old.items ++ more_members (end_members program.now state.now end)) }
@@ -381,7 +381,7 @@ fn add_run_end(
     alloc: Global,
     text: &mut Vec<u8>,
     program: &Program,
-    state: &State,
+    state: &MachineState,
     number: u32,
     worker: u32,
     end: RunEnd,
@@ -409,7 +409,7 @@ pub(crate) fn add_run_ended(
     alloc: Global,
     text: &mut Vec<u8>,
     program: &Program,
-    state: &State,
+    state: &MachineState,
     number: u32,
     worker: u32,
     end: Option<RunEnd>,

@@ -14,7 +14,7 @@ ghost use Rattle.run_timeline.specs.Pieces.{beginning, ending};
 use crate::entry::{add_slice, slice_name};
 use crate::events::{add_lane, add_process};
 use crate::tasks::{add_begins_and_ends, add_counted, add_run_ended};
-use crate::words::{Counts, objects_by, words_behind};
+use crate::words::{AccountCounts, objects_by, words_behind};
 use run_journal::{ApplyError, Book, Entry, Program, Refused, RefusedAt, ReplayError, Settings};
 use run_report::cleared_words;
 use std::alloc::{AllocError, Global};
@@ -30,7 +30,7 @@ fn add_entered(
     program: &Program,
     book: &Book,
     name: &[u8],
-    was: Counts,
+    was: AccountCounts,
     held: u64,
     number: u32,
     entry: Entry,
@@ -122,7 +122,7 @@ fn enter(
     ensures held { IfOk result (λ words. words ≡ words_held (after book.old.program book.old.settings book.old.ledger entry)) }
     ensures fails { IfErr result (FailsFor (refusal book.old.program book.old.settings book.old.ledger entry)) }
 {
-    let was = Counts {
+    let was = AccountCounts {
         tasks: book.tasks() as u64,
         chunks: book.in_use(),
         words: held,

@@ -5,12 +5,12 @@ ghost use Rattle.run_report.specs.Totals.{cleared_words};
 ghost use Rattle.run_timeline.specs.Words.{objects_made, words_made, objects_by, words_by};
 
 use ledger_heaps::words_at;
-use run_journal::{Book, Kind, Name, State};
+use run_journal::{Book, Kind, MachineState, Name};
 use run_report::cleared_words;
 
 /// Counts of accounts.
 #[derive(Clone, Copy)]
-pub struct Counts {
+pub struct AccountCounts {
     /// The tasks made.
     pub tasks: u64,
     /// The chunks in use, in units.
@@ -20,7 +20,7 @@ pub struct Counts {
 }
 
 // How many objects a task has made.
-fn objects_made(state: &State, task: u32) -> usize
+fn objects_made(state: &MachineState, task: u32) -> usize
     ensures { result ≡ objects_made state.now task }
 {
     match state.store.get(task as usize) {
@@ -30,7 +30,7 @@ fn objects_made(state: &State, task: u32) -> usize
 }
 
 /// For an entry of steps how many objects its task has made, and 0 for another entry.
-pub(crate) fn objects_by(state: &State, kind: Kind) -> usize
+pub(crate) fn objects_by(state: &MachineState, kind: Kind) -> usize
     ensures { result ≡ objects_by kind state.now }
 {
     match kind {
@@ -40,7 +40,7 @@ pub(crate) fn objects_by(state: &State, kind: Kind) -> usize
 }
 
 // The words of so many objects of a task from one on; None where a number has no place for them.
-fn words_made(state: &State, task: u32, first: usize, count: usize) -> Option<u64>
+fn words_made(state: &MachineState, task: u32, first: usize, count: usize) -> Option<u64>
     ensures { IfSome result (λ words. words ≡ words_made state.now task first count) }
 {
     let mut words: u64 = 0;
@@ -56,7 +56,7 @@ fn words_made(state: &State, task: u32, first: usize, count: usize) -> Option<u6
 
 // The words of the objects of an entry's steps, behind the first so many of its task; None where a number has no place
 // for them.
-fn words_by(state: &State, kind: Kind, first: usize) -> Option<u64>
+fn words_by(state: &MachineState, kind: Kind, first: usize) -> Option<u64>
     ensures { IfSome result (λ words. words ≡ words_by kind first state.now) }
 {
     match kind {

@@ -1,4 +1,5 @@
 pub mod Numbers
 pub mod Words
-pub mod Said
+pub mod TraceLine
 pub mod ReadAgain
+mod Common

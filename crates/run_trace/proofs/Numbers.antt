@@ -1,11 +1,5 @@
--- The test on texts of numbers of 32 bits says what the relation says.
-use Rattle.std.proofs.Common.{◌≡◌, ◌<◌, ◌^◌, ℕ, Bool, true, false, List, cond, arith, refl, ap}
-use Rattle.std.specs.Prelude.{◌&&◌, nat_lt, Option, Some, None, SomeIff}
-use Rattle.std.specs.Str.Parse.{IsNumeral, digits_value}
-use Rattle.std.proofs.lemmas.Bool.{and_parts}
-use Rattle.hh_lang.specs.Number.{is_numeral}
-use Rattle.hh_lang.proofs.Tests.{numeral_passes, passed_numeral}
-use Rattle.run_trace.specs.Line.{unsigned_number}
+-- The test on texts of 32-bit numbers decides the relation.
+use Rattle.run_trace.proofs.Common.{◌≡◌, ◌<◌, ◌^◌, ℕ, Bool, true, false, List, cond, arith, refl, ap, ◌&&◌, nat_lt, Option, Some, None, SomeIff, IsNumeral, digits_value, and_parts, is_numeral, numeral_passes, passed_numeral, unsigned_number}
 
 abbrev Fits32 : List ℕ → Type 0
 Fits32 bs = IsNumeral 10 bs × (digits_value 10 bs < 2 ^ 32)

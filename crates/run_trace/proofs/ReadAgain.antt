@@ -1,27 +1,11 @@
--- A trace text read again is the journal that it was written for.
-use Rattle.std.proofs.Common.{◌≡◌, ◌<◌, ◌^◌, ◌+◌, ℕ, List, [], ◌∷◌, arith, refl, ap, sym, subst, ◌∙◌}
-use Rattle.std.specs.Prelude.{Some, None, codes}
-use Rattle.std.specs.List.{All, flat_map}
-use Rattle.std.specs.Fmt.{decimal}
-use Rattle.std.proofs.lemmas.Fmt.{decimal_digit}
-use Rattle.std.proofs.lemmas.Str.{is_utf8-from_IsUtf8, IsUtf8-nil}
-use Rattle.std.proofs.lemmas.List.Elements.{All-head, All-tail}
-use Rattle.text_lines.specs.Lines.{lines_of}
-use Rattle.run_trace.specs.declared.settings.Version.{Version}
-use Rattle.run_trace.specs.declared.settings.Version.TheVariants.{One, Two}
-use Rattle.run_trace.specs.declared.line.Said.TheVariants.{Nothing}
-use Rattle.run_trace.specs.declared.trace.Trace.{Trace}
-use Rattle.run_trace.specs.Entry.{EntryValue, IsEntry}
-use Rattle.run_trace.specs.Settings.{version_number}
-use Rattle.run_trace.specs.Line.{said_by, spaced, entry_line}
-use Rattle.run_trace.specs.Trace.{version_of, version_of_words, first_bad, entries_in, fault_in, trace_fault, AreTraceLines, IsTraceText, trace_text}
-use Rattle.run_trace.specs.TraceLaw.{TextsAreReadAgain}
+-- A trace text, read again, gives the journal for which it was written.
+use Rattle.run_trace.proofs.Common.{◌≡◌, ◌<◌, ◌^◌, ◌+◌, ℕ, List, [], ◌∷◌, arith, refl, ap, sym, subst, ◌∙◌, Some, None, codes, All, flat_map, decimal, decimal_digit, is_utf8-from_IsUtf8, IsUtf8-nil, All-head, All-tail, lines_of, Version, One, Two, Nothing, Trace, EntryValue, IsEntry, version_number, said_by, spaced, entry_line, version_of, version_of_words, first_bad, entries_in, fault_in, trace_fault, AreTraceLines, IsTraceText, trace_text, TextsAreReadAgain}
 use Rattle.run_trace.proofs.Words.{AreProper, words_spaced, line_first, decimal_is_proper}
-use Rattle.run_trace.proofs.Said.{entry_words, entry_is_proper, entry_again, spaced_utf8}
+use Rattle.run_trace.proofs.TraceLine.{entry_words, entry_is_proper, entry_again, spaced_utf8}
 
 -- ENTRIES
 
--- the lines of a journal's entries, and the empty one behind the last line feed
+-- the lines of a journal's entries, and the empty one after the last line feed
 abbrev lines_for : List EntryValue → List (List ℕ)
 lines_for [] = [] ∷ []
 lines_for (e ∷ es) = spaced (entry_words e) ∷ lines_for es
@@ -32,7 +16,7 @@ lines_are (e ∷ es) h =
     line_first (entry_words e) (flat_map entry_line es) (entry_is_proper e (All-head IsEntry e es h))
     ∙ ap (λ ls. spaced (entry_words e) ∷ ls) (lines_are es (All-tail IsEntry e es h))
 
--- the empty line says nothing
+-- an empty line has no entry
 empty_says : said_by [] ≡ Nothing
 empty_says = rw (is_utf8-from_IsUtf8 [] IsUtf8-nil) refl
 

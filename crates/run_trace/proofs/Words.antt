@@ -1,15 +1,5 @@
--- Words with a space between them are read again as these words.
-use Rattle.std.proofs.Common.{◌≡◌, ◌<◌, ◌++◌, ◌^◌, ℕ, false, List, [], ◌∷◌, length, arith, refl, ap, ◌∙◌, filter, append_assoc}
-use Rattle.std.specs.Prelude.{◌==◌}
-use Rattle.std.specs.List.{All, AllByRecursion, slice_split}
-use Rattle.std.specs.Char.{digit_value}
-use Rattle.std.specs.Fmt.{decimal}
-use Rattle.std.specs.Str.Parse.{AllDigits}
-use Rattle.std.proofs.lemmas.Fmt.{decimal_is_IsNumeral}
-use Rattle.std.proofs.lemmas.List.Elements.{All-nil, All-from_recursion, All-append}
-use Rattle.std.proofs.lemmas.List.Splits.{slice_split_at, slice_split_none}
-use Rattle.text_lines.specs.Lines.{is_blank, is_word, runs_of, words_of, before_comment, lines_of}
-use Rattle.run_trace.specs.Line.{spaced}
+-- Words separated by single spaces are read again as these words.
+use Rattle.run_trace.proofs.Common.{◌≡◌, ◌<◌, ◌++◌, ◌^◌, ℕ, false, List, [], ◌∷◌, length, arith, refl, ap, ◌∙◌, filter, append_assoc, ◌==◌, All, AllByRecursion, slice_split, digit_value, decimal, AllDigits, decimal_is_IsNumeral, All-nil, All-from_recursion, All-append, slice_split_at, slice_split_none, is_blank, is_word, runs_of, words_of, before_comment, lines_of, spaced}
 
 -- a byte that is neither blank nor a line feed, and begins no comment
 abbrev pub IsPlain : ℕ → Type 0

@@ -4,7 +4,7 @@ use Rattle.run_trace.specs.declared.entry.Kind.{Kind}
 use Rattle.run_trace.specs.declared.entry.Kind.TheVariants.{Took, Ran, Chunk, Begin, End, PutOff, Mark, More, Sweep, Fuel}
 use Rattle.run_trace.specs.Settings.{worker_limit}
 
--- an entry: the worker that made it, and what it says
+-- an entry: its worker, and its kind
 pub record EntryValue : Type 0 where
   pub worker : ℕ
   pub kind : Kind
@@ -13,15 +13,15 @@ pub record EntryValue : Type 0 where
 abbrev pub IsWord : ℕ → Type 0
 IsWord n = n < 2 ^ 32
 
--- one entry has at most so many private steps
+-- the most private steps of one entry
 abbrev pub private_limit : ℕ
 private_limit = 256
 
--- at least one step, and at most so many private ones with one behind them
+-- at least one step, and at most 256 private ones and one after them
 abbrev pub IsStepCount : ℕ → Type 0
 IsStepCount k = (1 ≤ k) × (k ≤ private_limit + 1)
 
--- one entry marks at most so many objects
+-- the most objects that one entry marks
 abbrev pub mark_limit : ℕ
 mark_limit = 1024
 

@@ -1,4 +1,4 @@
--- What a line of a trace text says, and how an entry is written.
+-- What a line of a trace text means, and how an entry is written.
 use Rattle.std.specs.Prelude.{ℕ, ◌+◌, ◌^◌, ◌&&◌, Bool, Option, Some, None, List, [], ◌∷◌, ◌++◌, codes, nat_le, nat_lt, if◌then◌else◌}
 use Rattle.std.specs.List.{join_with_byte}
 use Rattle.std.specs.Str.{bytes_eq, is_utf8}
@@ -8,8 +8,8 @@ use Rattle.hh_lang.specs.Number.{is_numeral, onto_number}
 use Rattle.text_lines.specs.Lines.{words_of}
 use Rattle.run_trace.specs.declared.entry.Kind.{Kind}
 use Rattle.run_trace.specs.declared.entry.Kind.TheVariants.{Took, Ran, Chunk, Begin, End, PutOff, Mark, More, Sweep, Fuel}
-use Rattle.run_trace.specs.declared.line.Said.{Said}
-use Rattle.run_trace.specs.declared.line.Said.TheVariants.{Nothing, Says, Wrong}
+use Rattle.run_trace.specs.declared.line.TraceLine.{TraceLine}
+use Rattle.run_trace.specs.declared.line.TraceLine.TheVariants.{Nothing, Says, Wrong}
 use Rattle.run_trace.specs.Entry.{EntryValue, private_limit, mark_limit}
 use Rattle.run_trace.specs.Settings.{worker_limit}
 
@@ -19,7 +19,7 @@ use Rattle.run_trace.specs.Settings.{worker_limit}
 abbrev pub unsigned_number : List ℕ → Option ℕ
 unsigned_number bs = if is_numeral bs && nat_lt (digits_value 10 bs) (2 ^ 32) then Some (digits_value 10 bs) else None
 
--- the numbers that words write, if each of them writes one
+-- the numbers that words denote, if each of them denotes one
 abbrev pub numbers_in : List (List ℕ) → Option (List ℕ)
 numbers_in [] = Some []
 numbers_in (w ∷ ws) = onto_number (unsigned_number w) (numbers_in ws)
@@ -27,7 +27,7 @@ numbers_in (w ∷ ws) = onto_number (unsigned_number w) (numbers_in ws)
 abbrev pub where_said : List ℕ → List ℕ → Kind → Option Kind → Option Kind
 where_said verb word kind otherwise = if bytes_eq verb word then Some kind else otherwise
 
--- entries that name a task alone
+-- entries that name only a task
 abbrev pub kind_of_task : List ℕ → ℕ → Option Kind
 kind_of_task verb t =
     where_said verb (codes "took") (Took t) (
@@ -46,7 +46,7 @@ kind_of_count verb t n =
     else if bytes_eq verb (codes "some") then (if within 1 mark_limit n then Some (More t n) else None)
     else where_said verb (codes "sweep") (Sweep t n) None
 
--- what a word and the numbers behind it say
+-- the entry of a word and the numbers after it
 abbrev pub kind_of : List ℕ → List ℕ → Option Kind
 kind_of verb [] = where_said verb (codes "fuel") Fuel None
 kind_of verb (t ∷ []) = kind_of_task verb t
@@ -58,18 +58,18 @@ abbrev pub kind_by : List ℕ → Option (List ℕ) → Option Kind
 kind_by verb None = None
 kind_by verb (Some ns) = kind_of verb ns
 
-abbrev pub entry_by : Option ℕ → Option Kind → Said
+abbrev pub entry_by : Option ℕ → Option Kind → TraceLine
 entry_by (Some w) (Some kind) = if nat_lt w worker_limit then Says (record { worker = w; kind = kind }) else Wrong
 entry_by _ _ = Wrong
 
--- what words say: nothing where there are none; an entry where they are a worker's number, a word and its numbers
-abbrev pub said_by_words : List (List ℕ) → Said
+-- the meaning of words: nothing if there are none; an entry if they are a worker's number, a word and its numbers
+abbrev pub said_by_words : List (List ℕ) → TraceLine
 said_by_words [] = Nothing
 said_by_words (w ∷ []) = Wrong
 said_by_words (w ∷ verb ∷ ws) = entry_by (unsigned_number w) (kind_by verb (numbers_in ws))
 
--- what a line says
-abbrev pub said_by : List ℕ → Said
+-- the meaning of a line
+abbrev pub said_by : List ℕ → TraceLine
 said_by l = if is_utf8 l then said_by_words (words_of l) else Wrong
 
 -- WRITING
@@ -99,7 +99,7 @@ kind_words (More t n) = codes "some" ∷ decimal t ∷ decimal n ∷ []
 kind_words (Sweep t given) = codes "sweep" ∷ decimal t ∷ decimal given ∷ []
 kind_words Fuel = codes "fuel" ∷ []
 
--- words with one space between them
+-- words with single spaces between them
 abbrev pub spaced : List (List ℕ) → List ℕ
 spaced ws = join_with_byte 32 ws
 

@@ -6,8 +6,8 @@ use Rattle.std.specs.Fmt.{decimal}
 use Rattle.text_lines.specs.Lines.{lines_of, words_of}
 use Rattle.run_trace.specs.declared.settings.Version.{Version}
 use Rattle.run_trace.specs.declared.settings.Version.TheVariants.{One, Two}
-use Rattle.run_trace.specs.declared.line.Said.{Said}
-use Rattle.run_trace.specs.declared.line.Said.TheVariants.{Nothing, Says, Wrong}
+use Rattle.run_trace.specs.declared.line.TraceLine.{TraceLine}
+use Rattle.run_trace.specs.declared.line.TraceLine.TheVariants.{Nothing, Says, Wrong}
 use Rattle.run_trace.specs.declared.trace.Trace.{Trace}
 use Rattle.run_trace.specs.declared.trace.TraceError.{TraceError}
 use Rattle.run_trace.specs.declared.trace.TraceError.TheVariants.{BadLine, NoMemory}
@@ -25,26 +25,26 @@ abbrev pub version_of_words : List (List ℕ) → Option Version
 version_of_words (w ∷ v ∷ []) = if bytes_eq w (codes "trace") then version_by v else None
 version_of_words _ = None
 
--- the version that the first line of a trace text bears
+-- the version in the first line of a trace text
 abbrev pub version_of : List ℕ → Option Version
 version_of line = if is_utf8 line then version_of_words (words_of line) else None
 
-abbrev pub or_bad : ℕ → Said → Option ℕ → Option ℕ
+abbrev pub or_bad : ℕ → TraceLine → Option ℕ → Option ℕ
 or_bad n Wrong later = Some n
 or_bad n Nothing later = later
 or_bad n (Says e) later = later
 
--- the number of the first line that says what is no entry, where the first line has the number n
+-- the number of the first line that is no entry, if the first line has the number n
 abbrev pub first_bad : ℕ → List (List ℕ) → Option ℕ
 first_bad n [] = None
 first_bad n (line ∷ lines) = or_bad n (said_by line) (first_bad (n + 1) lines)
 
-abbrev pub onto_entries : Said → List EntryValue → List EntryValue
+abbrev pub onto_entries : TraceLine → List EntryValue → List EntryValue
 onto_entries (Says e) rest = e ∷ rest
 onto_entries Nothing rest = rest
 onto_entries Wrong rest = rest
 
--- the entries that lines say
+-- the entries of lines
 abbrev pub entries_in : List (List ℕ) → List EntryValue
 entries_in [] = []
 entries_in (line ∷ lines) = onto_entries (said_by line) (entries_in lines)
@@ -57,7 +57,7 @@ abbrev pub fault_in : ℕ → List (List ℕ) → Option ℕ
 fault_in n [] = Some n
 fault_in n (line ∷ lines) = fault_by n (version_of line) lines
 
--- the first line that isn't of the form, where the text begins on line n
+-- the first malformed line, if the text begins on line n
 abbrev pub trace_fault : ℕ → List ℕ → Option ℕ
 trace_fault n text = fault_in n (lines_of text)
 
@@ -65,7 +65,7 @@ abbrev pub AreTraceLines : List (List ℕ) → Trace → Type 0
 AreTraceLines [] t = ⊥
 AreTraceLines (line ∷ lines) t = (version_of line ≡ Some t.version) × (t.entries ≡ entries_in lines)
 
--- a text without a fault, and what it says
+-- a text without a fault, and its entries
 pub record IsTraceText (n : ℕ) (text : List ℕ) (t : Trace) : Type 0 where
   pub no_fault : trace_fault n text ≡ None
   pub says : AreTraceLines (lines_of text) t
@@ -81,12 +81,12 @@ trace_text v journal = version_line v ++ flat_map entry_line journal
 
 -- THE READER
 
--- a reader fails at the first bad line, or for want of memory
+-- a reader fails at the first malformed line, or out of memory
 abbrev pub TraceFails : Option ℕ → TraceError → Type 0
 TraceFails bad (BadLine n) = bad ≡ Some n
 TraceFails bad NoMemory = Unit {0}
 
-abbrev pub NotesLine : List EntryValue → List EntryValue → Said → Bool → Type 0
+abbrev pub NotesLine : List EntryValue → List EntryValue → TraceLine → Bool → Type 0
 NotesLine old new Nothing noted = (new ≡ old) × (noted ≡ true)
 NotesLine old new (Says e) noted = (new ≡ old ++ e ∷ []) × (noted ≡ true)
 NotesLine old new Wrong noted = noted ≡ false

@@ -6,39 +6,39 @@ ghost use Rattle.run_trace.specs.Settings.{worker_limit};
 
 use std::marker::Model;
 
-/// One entry has at most so many private steps, and one step behind them.
+/// The most private steps of one entry, which may have one more step after them.
 pub const PRIVATE_LIMIT: u32 = 256;
 
-/// One entry marks at most so many objects.
+/// The most objects that one entry marks.
 pub const MARK_LIMIT: u32 = 1024;
 
-/// What an entry says. Tasks are named by their numbers.
+/// The kind of an entry. Tasks are named by their numbers.
 #[derive(Clone, Copy, PartialEq, Eq)]
 pub enum Kind {
     /// The worker takes the task, which is ready.
     Took(u32),
-    /// The task took so many steps, 1 to `PRIVATE_LIMIT + 1`; all but the last are private.
+    /// The task took these steps, 1 to `PRIVATE_LIMIT + 1`; all but the last are private.
     Ran(u32, u32),
-    /// The task's next step needs more words than it has room for: it gets a chunk more, or the run ends for want of
+    /// The task's next step needs more words than it has room for: it gets one more chunk, or the run ends without
     /// chunks.
     Chunk(u32),
     /// The task's leaf collection begins.
     Begin(u32),
-    /// It ends: new chunks kept, chunks given back, words held.
+    /// It ends: new chunks kept, chunks released, words held.
     End(u32, u32, u32, u32),
-    /// A leaf collection that is due is put off for want of chunks.
+    /// A leaf collection that is due is put off because there aren't enough chunks.
     PutOff(u32),
     /// The marking of the waiting task's heap begins.
     Mark(u32),
-    /// At most so many objects more are marked, 1 to `MARK_LIMIT`.
+    /// At most this many more objects are marked, 1 to `MARK_LIMIT`.
     More(u32, u32),
-    /// What wasn't marked is dropped: chunks given back.
+    /// What wasn't marked is dropped: chunks released.
     Sweep(u32, u32),
-    /// The run ends, since its fuel is spent.
+    /// The run ends because its fuel is used up.
     Fuel,
 }
 
-/// One atomic step of a run, and the worker that made it, whose number is below `WORKER_LIMIT`.
+/// One atomic step of a run, and its worker, whose number is below `WORKER_LIMIT`.
 #[derive(Clone, Copy, PartialEq, Eq)]
 pub struct Entry {
     worker: u32,
@@ -74,7 +74,7 @@ impl Entry {
         self.worker
     }
 
-    /// What the entry says, its numbers in range.
+    /// Its kind, with the numbers in range.
     pub fn kind(self) -> Kind
         ensures value { result ≡ self.kind }
         ensures range { IsKind result }

@@ -2,7 +2,7 @@
 
 ghost use Rattle.run_trace.specs.TraceLaw.{TextsAreReadAgain};
 
-/// The trace text of a journal has no fault, and says that journal and no other.
+/// The trace text of a journal has no fault, and gives that journal and no other.
 pub fn texts_are_read_again()
     ensures { TextsAreReadAgain }
 {}

@@ -11,14 +11,14 @@ use hh_lang::read_u32;
 use std::alloc::{AllocError, Global};
 use text_lines::next_word;
 
-/// What a line of a trace text says.
+/// The meaning of a line of a trace text.
 #[derive(Clone, Copy)]
-pub(crate) enum Said {
+pub(crate) enum TraceLine {
     /// It has no words.
     Nothing,
     /// An entry.
     Says(Entry),
-    /// What is no entry.
+    /// A malformed line.
     Wrong,
 }
 
@@ -82,7 +82,7 @@ fn read_of_count(verb: &[u8], task: u32, count: u32) -> Option<Kind>
     }
 }
 
-// What a word and the numbers behind it say.
+// The entry of a word and the numbers after it.
 fn read_kind(verb: &[u8], operands: &[u8]) -> Option<Kind>
     ensures { result ≡ kind_by verb.now (numbers_in (words_of operands.now)) }
 {
@@ -106,41 +106,43 @@ fn read_kind(verb: &[u8], operands: &[u8]) -> Option<Kind>
     }
 }
 
-// An entry of the worker and what it says, where both are there.
-fn entry_of(worker: Option<u32>, kind: Option<Kind>) -> Said
+// An entry of the worker and its kind, if both are there.
+fn entry_of(worker: Option<u32>, kind: Option<Kind>) -> TraceLine
     requires { IfSome kind IsKind }
     ensures { result ≡ entry_by worker kind }
 {
     match (worker, kind) {
-        (Some(worker), Some(kind)) if worker < WORKER_LIMIT => Said::Says(Entry::new(worker, kind)),
-        _ => Said::Wrong,
+        (Some(worker), Some(kind)) if worker < WORKER_LIMIT => TraceLine::Says(Entry::new(
+            worker, kind,
+        )),
+        _ => TraceLine::Wrong,
     }
 }
 
-// What the words of a line say.
-fn read_words(line: &[u8]) -> Said
+// The meaning of the words of a line.
+fn read_words(line: &[u8]) -> TraceLine
     ensures { result ≡ said_by_words (words_of line.now) }
 {
     let Some((worker, rest)) = next_word(line) else {
-        return Said::Nothing;
+        return TraceLine::Nothing;
     };
     match next_word(rest) {
-        None => Said::Wrong,
+        None => TraceLine::Wrong,
         Some((verb, operands)) => entry_of(read_number(worker), read_kind(verb, operands)),
     }
 }
 
-/// What a line says.
-pub(crate) fn read_line(line: &[u8]) -> Said
+/// The meaning of a line.
+pub(crate) fn read_line(line: &[u8]) -> TraceLine
     ensures { result ≡ said_by line.now }
 {
     match str::from_utf8(line) {
         Ok(_) => read_words(line),
-        Err(_) => Said::Wrong,
+        Err(_) => TraceLine::Wrong,
     }
 }
 
-// Adds what an entry says, behind its worker.
+// Appends the kind of an entry, after its worker.
 fn add_kind(alloc: Global, text: &mut Vec<u8>, kind: Kind) -> Result<(), AllocError>
     ensures { OnOk result (text.new.items ≡ text.old.items ++ spaced (kind_words kind)) }
 {
@@ -161,7 +163,7 @@ fn add_kind(alloc: Global, text: &mut Vec<u8>, kind: Kind) -> Result<(), AllocEr
     text.extend_from_slice(words.as_bytes())
 }
 
-/// Adds an entry's line.
+/// Appends an entry's line.
 pub(crate) fn add_entry(alloc: Global, text: &mut Vec<u8>, entry: Entry) -> Result<(), AllocError>
     ensures { OnOk result (text.new.items ≡ text.old.items ++ entry_line entry) }
 {

@@ -6,8 +6,8 @@ ghost use Rattle.run_trace.specs.Settings.{AreSettings, usual_settings, field_li
 use hh_lang::MOST_FIELDS;
 use std::marker::Model;
 
-/// The version of a run's trace: under the first one an object has at most 1,022 fields, and `freeze`, `cas` and
-/// parallel loops aren't there.
+/// The version of a run's trace: in version 1 an object has at most 1,022 fields, and there is no `freeze`, `cas` or
+/// parallel loop.
 #[derive(Clone, Copy, PartialEq, Eq)]
 pub enum Version {
     One,
@@ -25,7 +25,7 @@ impl Version {
         }
     }
 
-    /// The number that the first line of a trace bears.
+    /// The number in the first line of a trace.
     pub fn number(self) -> u32
         ensures { result ≡ version_number self }
     {
@@ -45,12 +45,12 @@ pub const FUEL_LIMIT: u64 = 1_000_000_000;
 /// The most chunks that a run may ask for.
 pub const CHUNK_LIMIT: u32 = 65_536;
 
-/// The most words from which on a run may make a collection due.
+/// The most words for the limits of collections.
 pub const WORDS_LIMIT: u32 = 1_000_000;
 
 /// The settings of a run: 1 to `WORKER_LIMIT` workers; fuel in steps, 1 to `FUEL_LIMIT`; the most chunks in use, 2 to
-/// `CHUNK_LIMIT`; the words that make a leaf heap due for a collection and those that let a waiting heap be marked,
-/// both 16 to `WORDS_LIMIT`.
+/// `CHUNK_LIMIT`; the words at which a leaf heap is due for a collection and those at which a waiting heap may be
+/// marked, both 16 to `WORDS_LIMIT`.
 #[derive(Clone, Copy, PartialEq, Eq)]
 pub struct Settings {
     version: Version,
@@ -95,7 +95,7 @@ impl Settings {
         }
     }
 
-    /// The settings where none are given.
+    /// The default settings.
     pub fn usual() -> Settings
         ensures { result ≡ usual_settings }
     {
@@ -130,7 +130,7 @@ impl Settings {
         self.workers
     }
 
-    /// The steps after which the run is to end.
+    /// The steps after which the run ends.
     pub fn fuel(self) -> u64
         ensures value { result ≡ self.fuel }
         ensures range { AreSettings self }
@@ -146,7 +146,7 @@ impl Settings {
         self.chunks
     }
 
-    /// The words allocated since its last collection at which a leaf heap is due for one.
+    /// The words allocated since the last collection at which a leaf heap is due for one.
     pub fn leaf(self) -> u32
         ensures value { result ≡ self.leaf }
         ensures range { AreSettings self }
@@ -154,7 +154,7 @@ impl Settings {
         self.leaf
     }
 
-    /// The words from which on a waiting heap may be marked.
+    /// The least words at which a waiting heap may be marked.
     pub fn inner(self) -> u32
         ensures value { result ≡ self.inner }
         ensures range { AreSettings self }

@@ -7,13 +7,13 @@ ghost use Rattle.run_trace.specs.Trace.{trace_text as text_of};
 ghost use Rattle.text_lines.specs.Lines.{lines_of, words_of, most_bytes};
 
 use crate::entry::Entry;
-use crate::line::{Said, add_entry, read_line};
+use crate::line::{TraceLine, add_entry, read_line};
 use crate::settings::Version;
-use listed::Listed;
+use plain_vec::Listed;
 use std::alloc::{AllocError, Global};
 use text_lines::{next_line, next_word};
 
-/// What a trace text says.
+/// The entries of a trace text, and its version.
 pub struct Trace {
     pub version: Version,
     pub entries: Listed<Entry>,
@@ -31,9 +31,9 @@ impl Drop for Trace {
 /// Why a text couldn't be read.
 #[derive(Clone, Copy)]
 pub enum TraceError {
-    /// The line of this number isn't of the form; it is the first such line.
+    /// The number of the first malformed line.
     BadLine(u32),
-    /// Want of memory.
+    /// Out of memory.
     NoMemory,
 }
 
@@ -73,7 +73,7 @@ fn version_in_words(line: &[u8]) -> Option<Version>
     }
 }
 
-/// The version that the first line of a trace text bears; None where it isn't such a line.
+/// The version in the first line of a trace text; None if it isn't such a line.
 pub fn read_version(line: &[u8]) -> Option<Version>
     ensures { result ≡ version_of line.now }
 {
@@ -83,17 +83,17 @@ pub fn read_version(line: &[u8]) -> Option<Version>
     }
 }
 
-// Adds what a line says to the entries before it; false where it says what is no entry.
+// Appends the entry of a line, if it has one; false if the line is malformed.
 fn note(entries: &mut Listed<Entry>, line: &[u8]) -> Result<bool, AllocError>
     ensures { IfOk result (NotesLine entries.old entries.new (said_by line.now)) }
 {
     match read_line(line) {
-        Said::Nothing => Ok(true),
-        Said::Says(entry) => {
+        TraceLine::Nothing => Ok(true),
+        TraceLine::Says(entry) => {
             entries.push(entry)?;
             Ok(true)
         }
-        Said::Wrong => Ok(false),
+        TraceLine::Wrong => Ok(false),
     }
 }
 
@@ -116,7 +116,7 @@ pub fn read_trace(alloc: Global, text: &[u8], first_line: u32) -> Result<Trace, 
     Ok(Trace { version, entries })
 }
 
-// The entries of lines of which the first has this number.
+// The entries of lines, the first of which has this number.
 fn read_entries(alloc: Global, text: &[u8], first_line: u32) -> Result<Listed<Entry>, TraceError>
     requires { first_line + length text.now ≤ 33554434 }
     ensures read { IfOk result (λ entries. (first_bad first_line (lines_of text.now) ≡ None) × (entries ≡ entries_in (lines_of text.now))) }

@@ -1,14 +1,14 @@
 // The race that is reported of a location's accesses.
 
 use crate::order::Order;
-use race_cells::AccessKind::{AtomicRead, AtomicWrite, PlainRead, PlainWrite};
-use race_cells::{Access, AccessKind, Cell};
+use race_cells::CellAccessKind::{AtomicRead, AtomicWrite, PlainRead, PlainWrite};
+use race_cells::{Cell, CellAccess, CellAccessKind};
 use std::alloc::{AllocError, Global};
 
 // Accesses by strand and kind, and the strands of the race that is reported.
 struct Case {
     order: Order,
-    accesses: &'static [(u32, AccessKind)],
+    accesses: &'static [(u32, CellAccessKind)],
     race: Option<(u32, u32)>,
 }
 
@@ -85,7 +85,7 @@ fn reported(alloc: Global, case: &Case) -> Result<Option<(u32, u32)>, AllocError
     let mut cell = Cell::new();
     let mut reported = None;
     for (strand, kind) in case.accesses {
-        let access = Access {
+        let access = CellAccess {
             strand: *strand,
             kind: *kind,
             line: 1,

@@ -3,33 +3,33 @@
 ghost use Rattle.std.specs.Prelude.{◌<◌, ◌≤◌, IsTrue, IfSome, All, AllPairs};
 ghost use Rattle.log_places.specs.Places.{IsRegion};
 
-use fork_graph::Turn::{Join, Spawn};
-use fork_graph::{Extent, Turn, are_small, first_fault};
-use listed::Listed;
+use fork_graph::GraphTurn::{Join, Spawn};
+use fork_graph::{Extent, GraphTurn, are_small, first_fault};
 use log_places::Region;
 use log_verdict::find_races;
 use log_walk::SerialWalk;
-use race_cells::AccessKind::{AtomicRead, AtomicWrite, PlainRead, PlainWrite};
-use race_cells::{Access, AccessKind};
+use plain_vec::Listed;
+use race_cells::CellAccessKind::{AtomicRead, AtomicWrite, PlainRead, PlainWrite};
+use race_cells::{CellAccess, CellAccessKind};
 use race_scan::{FoundRace, Touch};
 use std::alloc::{AllocError, Global};
 
 // An access by its strand's serial number, its kind, and the block, offset, length, number and distance of its runs.
-type Row = (u32, AccessKind, (u64, u64, u64, u64, u64));
+type Row = (u32, CellAccessKind, (u64, u64, u64, u64, u64));
 
 // A race by its block, where its stretch begins and ends, and the strands of the two accesses.
 type Found = (u64, u64, u64, u32, u32);
 
 struct Case {
     name: &'static str,
-    tasks: &'static [&'static [Turn]],
+    tasks: &'static [&'static [GraphTurn]],
     accesses: &'static [Row],
     races: &'static [Found],
 }
 
 // Two children beside each other, joined in the order of their spawns: strands 1 and 3 are theirs, 0, 2, 4, 5 and 6 the
 // root's; the first child is joined before strand 5, the second before strand 6.
-const PAIR: &[&[Turn]] = &[&[Spawn(1), Spawn(2), Join(1), Join(2)], &[], &[]];
+const PAIR: &[&[GraphTurn]] = &[&[Spawn(1), Spawn(2), Join(1), Join(2)], &[], &[]];
 
 const CASES: &[Case] = &[
     Case {
@@ -112,7 +112,7 @@ const CASES: &[Case] = &[
     },
 ];
 
-fn turns_of(alloc: Global, row: &[Turn]) -> Result<Listed<Turn>, AllocError> {
+fn turns_of(alloc: Global, row: &[GraphTurn]) -> Result<Listed<GraphTurn>, AllocError> {
     let mut turns = Listed::new(alloc);
     for turn in row {
         turns.push(*turn)?;
@@ -120,7 +120,7 @@ fn turns_of(alloc: Global, row: &[Turn]) -> Result<Listed<Turn>, AllocError> {
     Ok(turns)
 }
 
-fn tasks_of(alloc: Global, rows: &[&[Turn]]) -> Result<Listed<Listed<Turn>>, AllocError> {
+fn tasks_of(alloc: Global, rows: &[&[GraphTurn]]) -> Result<Listed<Listed<GraphTurn>>, AllocError> {
     let mut tasks = Listed::new(alloc);
     for row in rows {
         tasks.push(turns_of(alloc, row)?)?;
@@ -176,7 +176,7 @@ fn add(touches: &mut Vec<Touch>, row: &Row, last: u32, count: usize) -> Option<(
         return None;
     }
     let region = region_of(place)?;
-    let access = Access {
+    let access = CellAccess {
         strand,
         kind,
         line: 0,
@@ -233,7 +233,7 @@ fn finds(alloc: Global, walk: &SerialWalk, case: &Case) -> bool {
     }
 }
 
-fn is_told(alloc: Global, tasks: &Listed<Listed<Turn>>, case: &Case) -> bool {
+fn is_told(alloc: Global, tasks: &Listed<Listed<GraphTurn>>, case: &Case) -> bool {
     if tasks.is_empty() || !are_small(tasks) {
         return false;
     }

@@ -1,42 +1,19 @@
 -- Which field an access is of: one that the instruction reaches.
-use Rattle.std.proofs.Common.{◌≡◌, ℕ, pos, Bool, true, false, cond, Option, Some, None, length, slice_get, slice_set, unwrap_or, refl, ap, sym, ◌∙◌}
-use Rattle.std.specs.Option.{option_flatten}
-use Rattle.std.proofs.lemmas.Bool.{false≢true}
-use Rattle.std.proofs.lemmas.Option.{same_Some}
-use Rattle.hh_lang.specs.declared.instr.Instr.{Instr}
-use Rattle.hh_lang.specs.declared.instr.Instr.TheVariants.{Getr, Geti, Putr, Puti, Cas}
-use Rattle.hh_lang.specs.declared.program.Line.{Line}
-use Rattle.hh_lang.specs.Form.{ProgramText}
-use Rattle.hh_model.specs.declared.data.Name.{Name}
-use Rattle.hh_model.specs.declared.data.Object.{Object}
-use Rattle.hh_model.specs.declared.data.Frame.{Frame}
-use Rattle.hh_model.specs.declared.data.Task.{Task}
-use Rattle.hh_model.specs.declared.data.Trap.{Trap}
-use Rattle.hh_model.specs.declared.data.Trap.TheVariants.{Frozen, Nil, Range}
-use Rattle.hh_model.specs.declared.data.State.{State}
-use Rattle.hh_model.specs.Effect.{Effect, Goes, Prints, Calls, Forks, Returns, Traps, Stops, Setting, effect, int_in, object_at, onward, or_trap, place_in, put_object, read_effect, ref_in, same_name, unless_frozen, with_int, with_object}
-use Rattle.hh_model.specs.Precedence.{precedes}
-use Rattle.hh_model.specs.Step.{setting, strand_of}
-use Rattle.hh_model.specs.Store.{NamesAreStoredIn}
-use Rattle.race_report.specs.declared.data.Field.{Field}
-use Rattle.race_report.specs.declared.data.Access.{Access}
-use Rattle.race_report.specs.Accesses.{access, access_by, access_of, field_at, line_access, refs_in, swap_access, task_access, unless_trap, value_of}
-use Rattle.race_report.proofs.Written.{field_found, index_of}
-use Rattle.renaming_laws.proofs.Changed.{Reach, Reaches, Writes, fields_of}
+use Rattle.schedule_laws.proofs.Common.{◌≡◌, ℕ, pos, Bool, true, false, cond, Option, Some, None, length, slice_get, slice_set, unwrap_or, refl, ap, sym, ◌∙◌, option_flatten, false≢true, same_Some, Instr, Getr, Geti, Putr, Puti, Cas, Line, ProgramText, Name, Object, Frame, Task, Trap, Frozen, Nil, Range, MachineState, Effect, Goes, Prints, Calls, Forks, Returns, Traps, Stops, StepContext, effect, int_in, object_at, onward, or_trap, place_in, put_object, read_effect, ref_in, same_name, unless_frozen, with_int, with_object, precedes, setting, strand_of, NamesAreStoredIn, Field, FieldAccess, access, access_by, access_of, field_at, line_access, refs_in, swap_access, task_access, unless_trap, value_of, field_found, index_of, Reach, Reaches, Writes, fields_of}
 use Rattle.schedule_laws.proofs.StoreSteps.{Acting, in_field}
 
 abbrev pub field_of : Bool → Name → ℕ → Field
 field_of b n at = record { name = n; is_number = b; index = at }
 
-module _ (p : ProgramText) (m : State) (N : NamesAreStoredIn m) (u : ℕ) (y : Task) (line : Line) (A : Acting p m N u y line) where
-  abbrev s : Setting
+module _ (p : ProgramText) (m : MachineState) (N : NamesAreStoredIn m) (u : ℕ) (y : Task) (line : Line) (A : Acting p m N u y line) where
+  abbrev s : StepContext
   s = setting m u y
 
   abbrev f : Frame
   f = y.top
 
   -- what the step accesses if it doesn't trap
-  abbrev pub made_by : Instr → Option Access
+  abbrev pub made_by : Instr → Option FieldAccess
   made_by i = unless_trap (effect s f m.store i) (access_by (strand_of u y) line.number f m.store i)
 
   pub access_is : access_of p m u ≡ made_by line.instr
@@ -45,13 +22,13 @@ module _ (p : ProgramText) (m : State) (N : NamesAreStoredIn m) (u : ℕ) (y : T
   -- A FIELD THAT IS REACHED IS ACCESSED
 
   pub record Hit (i : Instr) (b : Bool) (n : Name) (at : ℕ) : Type 0 where
-    pub access : Access
+    pub access : FieldAccess
     pub is : made_by i ≡ Some access
     pub field : access.field ≡ field_of b n at
     pub strand : access.strand ≡ strand_of u y
     pub writes : Writes s f m.store i b n at → access.writes ≡ true
 
-  hit : (i : Instr) (b : Bool) (n : Name) (at : ℕ) (e : Effect) (writes swaps : Bool) → effect s f m.store i ≡ e → unless_trap {A = Access} e (Some (record { strand = strand_of u y; line = line.number; field = field_of b n at; writes = writes; swaps = swaps })) ≡ Some (record { strand = strand_of u y; line = line.number; field = field_of b n at; writes = writes; swaps = swaps })
+  hit : (i : Instr) (b : Bool) (n : Name) (at : ℕ) (e : Effect) (writes swaps : Bool) → effect s f m.store i ≡ e → unless_trap {A = FieldAccess} e (Some (record { strand = strand_of u y; line = line.number; field = field_of b n at; writes = writes; swaps = swaps })) ≡ Some (record { strand = strand_of u y; line = line.number; field = field_of b n at; writes = writes; swaps = swaps })
       → access_by (strand_of u y) line.number f m.store i ≡ Some (record { strand = strand_of u y; line = line.number; field = field_of b n at; writes = writes; swaps = swaps }) → (Writes s f m.store i b n at → writes ≡ true) → Hit i b n at
   hit i b n at e writes swaps ee goes ea wr = record {
     access = record { strand = strand_of u y; line = line.number; field = field_of b n at; writes = writes; swaps = swaps };
@@ -65,20 +42,20 @@ module _ (p : ProgramText) (m : State) (N : NamesAreStoredIn m) (u : ℕ) (y : T
   named b o k number writes n at r =
       field_found number (ref_in f o) (int_in f k) n at r.name (index_of (fields_of number r.object) (int_in f k) at r.place) ∙ ap (λ c. Some (field_of c n at)) (sym r.kind)
 
-  reads : (d : ℕ) (r : Option Name) (a : Access) → ((q : Name) → r ≡ Some q → (z : Object) × (object_at m.store q ≡ Some z)) → unless_trap (read_effect s f m.store d r) (Some a) ≡ Some a
+  reads : (d : ℕ) (r : Option Name) (a : FieldAccess) → ((q : Name) → r ≡ Some q → (z : Object) × (object_at m.store q ≡ Some z)) → unless_trap (read_effect s f m.store d r) (Some a) ≡ Some a
   reads d None a there = refl
-  reads d (Some q) a there = let z = there q refl in by (object_at m.store q) z.0 z.1
+  reads d (Some q) a there = let z = there q refl in reads_by_cases (object_at m.store q) z.0 z.1
     where
       either : (b : Bool) (e : Effect) → unless_trap e (Some a) ≡ Some a → unless_trap (cond b e (Stops q)) (Some a) ≡ Some a
       either true e h = h
       either false e h = refl
 
-      by : (o : Option Object) (z : Object) → o ≡ Some z
+      reads_by_cases : (o : Option Object) (z : Object) → o ≡ Some z
           → unless_trap (or_trap Nil o (λ o. cond (precedes s.edges o.strand s.strand) (Goes (onward (record f { refs = slice_set f.refs d (Some q) })) m.store) (Stops q))) (Some a) ≡ Some a
-      by None z e = absurd cc
-      by (Some o) z e = either (precedes s.edges o.strand s.strand) _ refl
+      reads_by_cases None z e = absurd cc
+      reads_by_cases (Some o) z e = either (precedes s.edges o.strand s.strand) _ refl
 
-  swaps_to : (b : Bool) (e e' : Effect) (a : Access) → unless_trap e (Some a) ≡ Some a → unless_trap e' (Some a) ≡ Some a → unless_trap (cond b e e') (Some a) ≡ Some a
+  swaps_to : (b : Bool) (e e' : Effect) (a : FieldAccess) → unless_trap e (Some a) ≡ Some a → unless_trap e' (Some a) ≡ Some a → unless_trap (cond b e e') (Some a) ≡ Some a
   swaps_to true e e' a h k = h
   swaps_to false e e' a h k = k
 
@@ -120,10 +97,10 @@ module _ (p : ProgramText) (m : State) (N : NamesAreStoredIn m) (u : ℕ) (y : T
       (λ w. ap (λ q. same_name (option_flatten (slice_get (refs_in q) at)) (ref_in f e)) w.0.is ∙ w.1)
   reached _ b n at r = absurd r
 
-  pub reached_at : (b : Bool) (n : Name) (at : ℕ) → Reaches s f m.store line.instr b n at → (a : Access) × (access_of p m u ≡ Some a) × (a.field ≡ field_of b n at) × (a.strand ≡ strand_of u y)
+  pub reached_at : (b : Bool) (n : Name) (at : ℕ) → Reaches s f m.store line.instr b n at → (a : FieldAccess) × (access_of p m u ≡ Some a) × (a.field ≡ field_of b n at) × (a.strand ≡ strand_of u y)
   reached_at b n at r = let h = reached line.instr b n at r in (h.access, access_is ∙ h.is, h.field, h.strand)
 
-  pub written_at : (b : Bool) (n : Name) (at : ℕ) → Writes s f m.store line.instr b n at → (a : Access) × (access_of p m u ≡ Some a) × (a.field ≡ field_of b n at) × (a.writes ≡ true)
+  pub written_at : (b : Bool) (n : Name) (at : ℕ) → Writes s f m.store line.instr b n at → (a : FieldAccess) × (access_of p m u ≡ Some a) × (a.field ≡ field_of b n at) × (a.writes ≡ true)
   written_at b n at w = let h = reached line.instr b n at (reach_of line.instr w) in (h.access, access_is ∙ h.is, h.field, h.writes w)
     where
       reach_of : (i : Instr) → Writes s f m.store i b n at → Reaches s f m.store i b n at
@@ -134,7 +111,7 @@ module _ (p : ProgramText) (m : State) (N : NamesAreStoredIn m) (u : ℕ) (y : T
 
   -- AN ACCESS IS OF A FIELD THAT IS REACHED
 
-  pub record Found (i : Instr) (a : Access) : Type 0 where
+  pub record Found (i : Instr) (a : FieldAccess) : Type 0 where
     pub number : Bool
     pub name : Name
     pub at : ℕ
@@ -142,11 +119,11 @@ module _ (p : ProgramText) (m : State) (N : NamesAreStoredIn m) (u : ℕ) (y : T
     pub field : a.field ≡ field_of number name at
     pub strand : a.strand ≡ strand_of u y
 
-  traps_none : (kind : Trap) (a : Option Access) (b : Access) → unless_trap (Traps kind) a ≡ Some b → ⊥
+  traps_none : (kind : Trap) (a : Option FieldAccess) (b : FieldAccess) → unless_trap (Traps kind) a ≡ Some b → ⊥
   traps_none kind a b e = let h : None ≡ Some b = e in cc
 
   -- the object, the field and what is done to it
-  found : (number : Bool) (o k : ℕ) (go : Name → Object → ℕ → Effect) (acc : Option Field → Option Access) (a : Access) → acc None ≡ None
+  found : (number : Bool) (o k : ℕ) (go : Name → Object → ℕ → Effect) (acc : Option Field → Option FieldAccess) (a : FieldAccess) → acc None ≡ None
       → unless_trap (with_object m.store (ref_in f o) (λ n z. or_trap Range (place_in (fields_of number z) (int_in f k)) (go n z))) (acc (field_at number (ref_in f o) (int_in f k))) ≡ Some a
       → (n : Name) × (z : Object) × (at : ℕ) × (ref_in f o ≡ Some n) × (object_at m.store n ≡ Some z) × (place_in (fields_of number z) (int_in f k) ≡ Some at) × (unless_trap (go n z at) (acc (Some (field_of number n at))) ≡ Some a)
   found number o k go acc a none h = by_name (ref_in f o) refl h
@@ -171,7 +148,7 @@ module _ (p : ProgramText) (m : State) (N : NamesAreStoredIn m) (u : ℕ) (y : T
       by_name (Some n) ew h = by_object n ew (object_at m.store n) refl h
 
   -- the access made is this one
-  made : (e : Effect) (b a : Access) → unless_trap e (Some b) ≡ Some a → b ≡ a
+  made : (e : Effect) (b a : FieldAccess) → unless_trap e (Some b) ≡ Some a → b ≡ a
   made (Goes x st) b a h = same_Some b a h
   made (Prints k) b a h = same_Some b a h
   made (Calls g) b a h = same_Some b a h
@@ -180,17 +157,17 @@ module _ (p : ProgramText) (m : State) (N : NamesAreStoredIn m) (u : ℕ) (y : T
   made (Traps kind) b a h = absurd (traps_none kind (Some b) a h)
   made (Stops n) b a h = same_Some b a h
 
-  unfrozen : (b : Bool) (e : Effect) (o : Option Access) (a : Access) → unless_trap (cond b e (Traps Frozen)) o ≡ Some a → (b ≡ true) × (unless_trap e o ≡ Some a)
+  unfrozen : (b : Bool) (e : Effect) (o : Option FieldAccess) (a : FieldAccess) → unless_trap (cond b e (Traps Frozen)) o ≡ Some a → (b ≡ true) × (unless_trap e o ≡ Some a)
   unfrozen true e o a h = (refl, h)
   unfrozen false e o a h = absurd (traps_none Frozen o a h)
 
-  plain : (i : Instr) (number : Bool) (o k : ℕ) (go : Name → Object → ℕ → Effect) (writes swaps mutable : Bool) (a : Access)
+  plain : (i : Instr) (number : Bool) (o k : ℕ) (go : Name → Object → ℕ → Effect) (writes swaps mutable : Bool) (a : FieldAccess)
       → ((n : Name) (at : ℕ) → Reach s f m.store number mutable o k number n at → Reaches s f m.store i number n at)
-      → ((n : Name) (z : Object) (at : ℕ) (b : Access) → unless_trap (go n z at) (Some b) ≡ Some a → (mutable ≡ true → z.mutable ≡ true) × (b ≡ a))
+      → ((n : Name) (z : Object) (at : ℕ) (b : FieldAccess) → unless_trap (go n z at) (Some b) ≡ Some a → (mutable ≡ true → z.mutable ≡ true) × (b ≡ a))
       → unless_trap (with_object m.store (ref_in f o) (λ n z. or_trap Range (place_in (fields_of number z) (int_in f k)) (go n z))) (access (strand_of u y) line.number writes swaps (field_at number (ref_in f o) (int_in f k))) ≡ Some a → Found i a
   plain i number o k go writes swaps mutable a reach split h =
       let z = found number o k go (access (strand_of u y) line.number writes swaps) a refl h in
-      let b : Access = record { strand = strand_of u y; line = line.number; field = field_of number z.0 z.2; writes = writes; swaps = swaps } in
+      let b : FieldAccess = record { strand = strand_of u y; line = line.number; field = field_of number z.0 z.2; writes = writes; swaps = swaps } in
       let w = split z.0 z.1 z.2 b z.6 in
       let same : b ≡ a = w.1 in
       record {
@@ -198,11 +175,11 @@ module _ (p : ProgramText) (m : State) (N : NamesAreStoredIn m) (u : ℕ) (y : T
         name = z.0;
         at = z.2;
         reach = reach z.0 z.2 (record { kind = refl; name = z.3; object = z.1; is = z.4; place = z.5; mutable = w.0 });
-        field = ap (λ (c : Access). c.field) (sym same);
-        strand = ap (λ (c : Access). c.strand) (sym same);
+        field = ap (λ (c : FieldAccess). c.field) (sym same);
+        strand = ap (λ (c : FieldAccess). c.strand) (sym same);
       }
 
-  unmade : (e : Effect) (a : Access) → unless_trap e None ≡ Some a → ⊥
+  unmade : (e : Effect) (a : FieldAccess) → unless_trap e None ≡ Some a → ⊥
   unmade (Goes x st) a h = let q : None ≡ Some a = h in cc
   unmade (Prints k) a h = let q : None ≡ Some a = h in cc
   unmade (Calls g) a h = let q : None ≡ Some a = h in cc
@@ -211,7 +188,7 @@ module _ (p : ProgramText) (m : State) (N : NamesAreStoredIn m) (u : ℕ) (y : T
   unmade (Traps kind) a h = let q : None ≡ Some a = h in cc
   unmade (Stops n) a h = let q : None ≡ Some a = h in cc
 
-  pub found_by : (i : Instr) (a : Access) → made_by i ≡ Some a → Found i a
+  pub found_by : (i : Instr) (a : FieldAccess) → made_by i ≡ Some a → Found i a
   found_by (Getr d o k) a h =
       plain (Getr d o k) false o k (λ n z at. read_effect s f m.store d (option_flatten (slice_get z.refs at))) false false false a (λ n at r. r) (λ n z at b e. ((λ q. absurd (false≢true q)), made (read_effect s f m.store d (option_flatten (slice_get z.refs at))) b a e)) h
   found_by (Geti d o k) a h =
@@ -225,7 +202,7 @@ module _ (p : ProgramText) (m : State) (N : NamesAreStoredIn m) (u : ℕ) (y : T
   found_by (Cas d o k e v) a h =
       let z = found false o k (λ n z at. unless_frozen z (cond (same_name (option_flatten (slice_get z.refs at)) (ref_in f e)) (Goes (onward (with_int f d (pos 1))) (put_object m.store n (record z { refs = slice_set z.refs at (ref_in f v) }))) (Goes (onward (with_int f d (pos 0))) m.store)))
       (swap_access (strand_of u y) line.number m.store (ref_in f e)) a refl h in
-      let b : Access = record { strand = strand_of u y; line = line.number; field = field_of false z.0 z.2; writes = same_name (value_of m.store (field_of false z.0 z.2)) (ref_in f e); swaps = true } in
+      let b : FieldAccess = record { strand = strand_of u y; line = line.number; field = field_of false z.0 z.2; writes = same_name (value_of m.store (field_of false z.0 z.2)) (ref_in f e); swaps = true } in
       let does : Effect = cond (same_name (option_flatten (slice_get z.1.refs z.2)) (ref_in f e)) (Goes (onward (with_int f d (pos 1))) (put_object m.store z.0 (record z.1 { refs = slice_set z.1.refs z.2 (ref_in f v) }))) (Goes (onward (with_int f d (pos 0))) m.store) in
       let q = unfrozen z.1.mutable does (Some b) a z.6 in
       let same : b ≡ a = made does b a q.1 in
@@ -234,10 +211,10 @@ module _ (p : ProgramText) (m : State) (N : NamesAreStoredIn m) (u : ℕ) (y : T
         name = z.0;
         at = z.2;
         reach = record { kind = refl; name = z.3; object = z.1; is = z.4; place = z.5; mutable = λ w. q.0 };
-        field = ap (λ (c : Access). c.field) (sym same);
-        strand = ap (λ (c : Access). c.strand) (sym same);
+        field = ap (λ (c : FieldAccess). c.field) (sym same);
+        strand = ap (λ (c : FieldAccess). c.strand) (sym same);
       }
   found_by i a h = absurd (unmade (effect s f m.store i) a h)
 
-  pub found_at : (a : Access) → access_of p m u ≡ Some a → Found line.instr a
+  pub found_at : (a : FieldAccess) → access_of p m u ≡ Some a → Found line.instr a
   found_at a e = found_by line.instr a (sym access_is ∙ e)

@@ -1,34 +1,6 @@
 -- The next step of a concurrent task sees the same after another task's step, except for the field that the other step
 -- writes.
-use Rattle.std.proofs.Common.{◌≡◌, ℕ, suc, Bool, true, false, Some, None, List, [], ◌∷◌, length, slice_get, inl, inr, refl, ap, sym, subst, ◌∙◌, eq-eqb, ne_eqb, length-set}
-use Rattle.std.proofs.lemmas.Bool.{both_ways, cases_eq, eqb-true}
-use Rattle.listed.proofs.Members.{In, got_other}
-use Rattle.hh_lang.specs.declared.instr.Instr.{Instr}
-use Rattle.hh_lang.specs.declared.instr.Instr.TheVariants.{Freeze}
-use Rattle.hh_lang.specs.Form.{ProgramText}
-use Rattle.hh_model.specs.declared.data.Name.{Name}
-use Rattle.hh_model.specs.declared.data.Strand.{Strand}
-use Rattle.hh_model.specs.declared.data.Object.{Object}
-use Rattle.hh_model.specs.declared.data.Task.{Task}
-use Rattle.hh_model.specs.declared.data.State.{State}
-use Rattle.path_laws.specs.Disentangled.{Disentangled}
-use Rattle.hh_model.specs.Effect.{Setting, effect, object_at, row_of}
-use Rattle.path_laws.specs.Leaves.{LeavesOwner}
-use Rattle.hh_model.specs.Precedence.{precedes}
-use Rattle.hh_model.specs.Step.{is_on_path, is_running, joined, owner_of, parents, setting, step, strand_of}
-use Rattle.hh_model.specs.Store.{NamesAreStoredIn}
-use Rattle.hh_model.specs.Tree.{IsForkJoinState, joins_in, waiting}
-use Rattle.hh_model.proofs.Counts.{step_limit}
-use Rattle.path_laws.proofs.Leaves.{leaves_owner}
-use Rattle.hh_model.proofs.Root.{runs_tell}
-use Rattle.hh_model.proofs.Steps.{in_registers, names_run, runs_is}
-use Rattle.hh_model.proofs.Tree.{not_above}
-use Rattle.hh_model.proofs.Climbs.{owner_here}
-use Rattle.race_report.specs.declared.data.Access.{Access}
-use Rattle.race_report.specs.Accesses.{access_of}
-use Rattle.race_report.proofs.LabelSteps.{begun_running, run_keeps}
-use Rattle.renaming_laws.proofs.Changed.{Edit, Edits, Freezes, FreezesBy, Reaches, SetNumber, SetRef, edited}
-use Rattle.renaming_laws.proofs.Unnamed.{EffectAs, IsSame, SeesSame, effect_as}
+use Rattle.schedule_laws.proofs.Common.{◌≡◌, ℕ, suc, Bool, true, false, Some, None, List, [], ◌∷◌, length, slice_get, inl, inr, refl, ap, sym, subst, ◌∙◌, eq-eqb, ne_eqb, length-set, both_ways, cases_eq, eqb-true, In, got_other, Instr, Freeze, ProgramText, Name, Strand, Object, Task, MachineState, Disentangled, StepContext, effect, object_at, row_of, LeavesOwner, precedes, is_on_path, is_running, joined, owner_of, parents, setting, step, strand_of, NamesAreStoredIn, IsForkJoinState, joins_in, waiting, step_limit, leaves_owner, runs_tell, in_registers, names_run, runs_is, not_above, owner_here, FieldAccess, access_of, begun_running, run_keeps, Edit, Edits, Freezes, FreezesBy, Reaches, SetNumber, SetRef, edited, EffectAs, IsSame, SeesSame, effect_as}
 use Rattle.schedule_laws.proofs.Accessed.{field_of, written_at}
 use Rattle.schedule_laws.proofs.StoreSteps.{GoesBy, held, in_field, object_after}
 
@@ -44,11 +16,11 @@ edit_strand (SetNumber at k) o = refl
 edit_strand Freezes o = refl
 
 -- the next step of t doesn't write this field
-abbrev pub Leaves : ProgramText → State → ℕ → Bool → Name → ℕ → Type 0
-Leaves p m t b n k = (a : Access) → access_of p m t ≡ Some a → a.field ≡ field_of b n k → a.writes ≡ true → ⊥
+abbrev pub Leaves : ProgramText → MachineState → ℕ → Bool → Name → ℕ → Type 0
+Leaves p m t b n k = (a : FieldAccess) → access_of p m t ≡ Some a → a.field ≡ field_of b n k → a.writes ≡ true → ⊥
 
-module _ (p : ProgramText) (m : State) (K : IsForkJoinState m) (D : Disentangled m.tasks m.store) (N : NamesAreStoredIn m) (t u : ℕ) (two : t ≡ u → ⊥) (y : Task) (iu : slice_get m.tasks u ≡ Some y) (run_u : is_running (Some y) ≡ true) where
-  abbrev m1 : State
+module _ (p : ProgramText) (m : MachineState) (K : IsForkJoinState m) (D : Disentangled m.tasks m.store) (N : NamesAreStoredIn m) (t u : ℕ) (two : t ≡ u → ⊥) (y : Task) (iu : slice_get m.tasks u ≡ Some y) (run_u : is_running (Some y) ≡ true) where
+  abbrev m1 : MachineState
   m1 = step p m t
 
   runs_u : is_running (slice_get m.tasks u) ≡ true
@@ -63,7 +35,7 @@ module _ (p : ProgramText) (m : State) (K : IsForkJoinState m) (D : Disentangled
   live_u : joined m.tasks u ≡ false
   live_u = (runs_tell (slice_get m.tasks u) runs_u).2
 
-  abbrev s : Setting
+  abbrev s : StepContext
   s = setting m u y
 
   -- an object after t's step
@@ -71,11 +43,11 @@ module _ (p : ProgramText) (m : State) (K : IsForkJoinState m) (D : Disentangled
       → (z : Object) × (object_at m1.store n ≡ Some z) × IsSame s m1.edges (owner_of m1.tasks) y.top m.store m1.store (Leaves p m t) n o z
   same_object n o thawed is = elim (object_after p m N t n o is) [
     | inl same ↦ (o, same, record { mutable = refl; refs = refl; ints = refl; ref_at = λ k may. refl; int_at = λ k may. refl })
-    | inr more ↦ (edited more.0 o, more.2, by more.0 more.1)
+    | inr more ↦ (edited more.0 o, more.2, same_object_by_cases more.0 more.1)
   ]
     where
-      by : (e : Edit) → GoesBy p m N t (Edits n e) → IsSame s m1.edges (owner_of m1.tasks) y.top m.store m1.store (Leaves p m t) n o (edited e o)
-      by (SetRef at v) g = record {
+      same_object_by_cases : (e : Edit) → GoesBy p m N t (Edits n e) → IsSame s m1.edges (owner_of m1.tasks) y.top m.store m1.store (Leaves p m t) n o (edited e o)
+      same_object_by_cases (SetRef at v) g = record {
         mutable = refl;
         refs = length-set o.refs at v;
         ints = refl;
@@ -85,7 +57,7 @@ module _ (p : ProgramText) (m : State) (K : IsForkJoinState m) (D : Disentangled
         ]);
         int_at = λ k may. refl;
       }
-      by (SetNumber at v) g = record {
+      same_object_by_cases (SetNumber at v) g = record {
         mutable = refl;
         refs = refl;
         ints = length-set o.ints at v;
@@ -95,22 +67,22 @@ module _ (p : ProgramText) (m : State) (K : IsForkJoinState m) (D : Disentangled
           | inl e ↦ (let w = written_at p m N t g.task g.line g.acting true n at g.by.1 in absurd (may w.0 w.1 (w.2 ∙ ap (field_of true n) (sym e)) w.3))
         ]);
       }
-      by Freezes g = absurd (thawed g)
+      same_object_by_cases Freezes g = absurd (thawed g)
 
   -- t freezes nothing that u holds
   not_frozen : (n : Name) → In y.top.refs (Some n) → GoesBy p m N t (Edits n Freezes) → ⊥
-  not_frozen n i g = by g.line.instr refl g.by.1
+  not_frozen n i g = not_frozen_by_cases g.line.instr refl g.by.1
     where
       on_path : is_on_path m.tasks (owner_of m.tasks n.task) u ≡ true
       on_path = (D.of_task u y n iu (names_run y n (runs_is y.status run_u) (in_registers (y.top ∷ y.below) y.top n (inl refl) i))).1
 
-      by : (i : Instr) → g.line.instr ≡ i → FreezesBy (setting m t g.task) g.task.top m.store i n → ⊥
-      by (Freeze o) e f =
+      not_frozen_by_cases : (i : Instr) → g.line.instr ≡ i → FreezesBy (setting m t g.task) g.task.top m.store i n → ⊥
+      not_frozen_by_cases (Freeze o) e f =
           let own : owner_of m.tasks n.task ≡ t = eqb-true (owner_of m.tasks n.task) t f.1 in
           both_ways (is_on_path m.tasks t u)
           (not_above (length m.tasks) (parents m.tasks) (joined m.tasks) (waiting m.tasks) (joins_in m.tasks) m.edges K.tree t u live_u two (runs_tell (slice_get m.tasks t) (ap is_running g.acting.is ∙ g.acting.running)).3)
           (ap (λ a. is_on_path m.tasks a u) (sym own) ∙ on_path)
-      by _ e f = absurd f
+      not_frozen_by_cases _ e f = absurd f
 
   -- strands of objects that u reads
   same_test : (q : Name) (z : Object) → object_at m.store q ≡ Some z → (z' : Object) × (object_at m1.store q ≡ Some z') × (precedes m1.edges z'.strand (strand_of u y) ≡ precedes m.edges z.strand (strand_of u y))

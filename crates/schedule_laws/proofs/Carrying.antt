@@ -1,34 +1,5 @@
 -- Accesses, prints and turns under a renaming.
-use Rattle.std.proofs.Common.{◌≡◌, ℕ, ℤ, suc, pos, negsuc, ◌+◌, ◌≤◌, Bool, true, false, cond, Option, Some, None, List, [], ◌∷◌, length, map, slice_get, refl, ap, ap₂, ◌∙◌, arith}
-use Rattle.std.specs.Option.{option_flatten, option_map}
-use Rattle.std.proofs.lemmas.Option.{slice_get-map}
-use Rattle.hh_lang.specs.declared.instr.Instr.{Instr}
-use Rattle.hh_lang.specs.declared.instr.Instr.TheVariants.{Getr, Geti, Putr, Puti, Cas}
-use Rattle.hh_lang.specs.declared.program.Line.{Line}
-use Rattle.hh_lang.specs.Form.{ProgramText}
-use Rattle.hh_model.specs.declared.data.Name.{Name}
-use Rattle.hh_model.specs.declared.data.Strand.{Strand}
-use Rattle.hh_model.specs.declared.data.Object.{Object}
-use Rattle.hh_model.specs.declared.data.Frame.{Frame}
-use Rattle.hh_model.specs.declared.data.Task.{Task}
-use Rattle.hh_model.specs.declared.data.State.{State}
-use Rattle.hh_model.specs.Counts.{Counted}
-use Rattle.hh_model.specs.Effect.{Effect, Goes, Prints, Calls, Forks, Returns, Traps, Stops, effect, int_in, object_at, ref_in, same_name}
-use Rattle.hh_model.specs.Step.{can_step, fetched, setting, step, strand_of}
-use Rattle.hh_model.specs.Tree.{IsForkJoinState}
-use Rattle.hh_model.proofs.Counts.{counted_step}
-use Rattle.hh_model.proofs.ForkJoinStates.{step_is_fork_join_state}
-use Rattle.race_report.specs.declared.data.Field.{Field}
-use Rattle.race_report.specs.declared.data.Access.{Access}
-use Rattle.race_report.specs.Accesses.{access, access_by, access_of, accesses_from, field_at, line_access, refs_in, swap_access, task_access, unless_trap, value_of, with_some}
-use Rattle.renaming_laws.specs.Renaming.{IsRenaming, frame_to, object_to, ref_to, strand_to, task_to}
-use Rattle.renaming_laws.specs.Alike.{AreAlike}
-use Rattle.renaming_laws.proofs.Effects.{flat_to, ref_carried, same_carried}
-use Rattle.renaming_laws.proofs.Follows.{can_to, object_there}
-use Rattle.renaming_laws.proofs.Runs.{step_grows}
-use Rattle.renaming_laws.proofs.Stepped.{Acts, acts, step_to}
-use Rattle.schedule_laws.specs.Agrees.{access_to, field_to}
-use Rattle.schedule_laws.specs.Prints.{Print, line_print, print_by, print_of, prints_from, task_print, turns_from}
+use Rattle.schedule_laws.proofs.Common.{◌≡◌, ℕ, ℤ, suc, pos, negsuc, ◌+◌, ◌≤◌, Bool, true, false, cond, Option, Some, None, List, [], ◌∷◌, length, map, slice_get, refl, ap, ap₂, ◌∙◌, arith, option_flatten, option_map, slice_get-map, Instr, Getr, Geti, Putr, Puti, Cas, Line, ProgramText, Name, Strand, Object, Frame, Task, MachineState, Counted, Effect, Goes, Prints, Calls, Forks, Returns, Traps, Stops, effect, int_in, object_at, ref_in, same_name, can_step, fetched, setting, step, strand_of, IsForkJoinState, counted_step, step_is_fork_join_state, Field, FieldAccess, access, access_by, access_of, accesses_from, field_at, line_access, refs_in, swap_access, task_access, unless_trap, value_of, with_some, IsRenaming, frame_to, object_to, ref_to, strand_to, task_to, AreAlike, flat_to, ref_carried, same_carried, can_to, object_there, step_grows, Acts, acts, step_to, access_to, field_to, Print, line_print, print_by, print_of, prints_from, task_print, turns_from}
 
 abbrev pub print_to : (ℕ → ℕ) → Print → Print
 print_to f a = record a { strand = strand_to f a.strand }
@@ -43,14 +14,14 @@ access_there f s line writes swaps None = refl
 access_there f s line writes swaps (Some field) = refl
 
 module _ (p : ProgramText) (n : ℕ) (f g : ℕ → ℕ) (R : IsRenaming n f g) where
-  module _ (m m' : State) (K : IsForkJoinState m) (K' : IsForkJoinState m') (rows : length m.store ≡ length m.tasks) (rows' : length m'.store ≡ length m'.tasks) (made : n ≤ length m.tasks) (A : AreAlike f m m') (t : ℕ) where
+  module _ (m m' : MachineState) (K : IsForkJoinState m) (K' : IsForkJoinState m') (rows : length m.store ≡ length m.tasks) (rows' : length m'.store ≡ length m'.tasks) (made : n ≤ length m.tasks) (A : AreAlike f m m') (t : ℕ) where
     value_there : (field : Field) → value_of m'.store (field_to f field) ≡ ref_to f (value_of m.store field)
     value_there field =
-        ap (λ o. option_flatten (slice_get (refs_in o) field.index)) (object_there n f g R m m' A field.name) ∙ by (object_at m.store field.name)
+        ap (λ o. option_flatten (slice_get (refs_in o) field.index)) (object_there n f g R m m' A field.name) ∙ value_there_by_cases (object_at m.store field.name)
       where
-        by : (o : Option Object) → option_flatten (slice_get (refs_in (option_map (object_to f) o)) field.index) ≡ ref_to f (option_flatten (slice_get (refs_in o) field.index))
-        by None = refl
-        by (Some o) = ap option_flatten (slice_get-map (ref_to f) o.refs field.index) ∙ flat_to f g R.back (slice_get o.refs field.index)
+        value_there_by_cases : (o : Option Object) → option_flatten (slice_get (refs_in (option_map (object_to f) o)) field.index) ≡ ref_to f (option_flatten (slice_get (refs_in o) field.index))
+        value_there_by_cases None = refl
+        value_there_by_cases (Some o) = ap option_flatten (slice_get-map (ref_to f) o.refs field.index) ∙ flat_to f g R.back (slice_get o.refs field.index)
 
     swap_there : (s : Strand) (line : ℕ) (r : Option Name) (o : Option Field) → swap_access (strand_to f s) line m'.store (ref_to f r) (option_map (field_to f) o) ≡ option_map (access_to f) (swap_access s line m.store r o)
     swap_there s line r None = refl
@@ -72,7 +43,7 @@ module _ (p : ProgramText) (n : ℕ) (f g : ℕ → ℕ) (R : IsRenaming n f g) 
       abbrev To : Instr → Effect → Effect → Type 0
       To = Acts p n f g R m m' K K' rows rows' made A t x is
 
-      trap_there : (i : Instr) (e e' : Effect) (a : Option Access) → To i e e' → unless_trap e' (option_map (access_to f) a) ≡ option_map (access_to f) (unless_trap e a)
+      trap_there : (i : Instr) (e e' : Effect) (a : Option FieldAccess) → To i e e' → unless_trap e' (option_map (access_to f) a) ≡ option_map (access_to f) (unless_trap e a)
       trap_there i (Goes c st) (Goes d st') a h = refl
       trap_there i (Prints k) (Prints l) a h = refl
       trap_there i (Calls c) (Calls d) a h = refl
@@ -110,32 +81,32 @@ module _ (p : ProgramText) (n : ℕ) (f g : ℕ → ℕ) (R : IsRenaming n f g) 
     pub access_to_there : access_of p m' (f t) ≡ option_map (access_to f) (access_of p m t)
     access_to_there =
         ap (λ b. cond b (task_access p m' (f t) (slice_get m'.tasks (f t))) None) (can_to n f g R m m' A t)
-        ∙ cond_there (access_to f) (can_step m t) (task_access p m t (slice_get m.tasks t)) (task_access p m' (f t) (slice_get m'.tasks (f t))) (ap (task_access p m' (f t)) (A.tasks t) ∙ by (slice_get m.tasks t) refl)
+        ∙ cond_there (access_to f) (can_step m t) (task_access p m t (slice_get m.tasks t)) (task_access p m' (f t) (slice_get m'.tasks (f t))) (ap (task_access p m' (f t)) (A.tasks t) ∙ access_to_there_by_cases (slice_get m.tasks t) refl)
       where
-        by : (o : Option Task) → slice_get m.tasks t ≡ o → task_access p m' (f t) (option_map (task_to f) o) ≡ option_map (access_to f) (task_access p m t o)
-        by None e = refl
-        by (Some x) e = line_there x e (fetched p x.top)
+        access_to_there_by_cases : (o : Option Task) → slice_get m.tasks t ≡ o → task_access p m' (f t) (option_map (task_to f) o) ≡ option_map (access_to f) (task_access p m t o)
+        access_to_there_by_cases None e = refl
+        access_to_there_by_cases (Some x) e = line_there x e (fetched p x.top)
 
     pub print_to_there : print_of p m' (f t) ≡ option_map (print_to f) (print_of p m t)
     print_to_there =
         ap (λ b. cond b (task_print p m' (f t) (slice_get m'.tasks (f t))) None) (can_to n f g R m m' A t)
-        ∙ cond_there (print_to f) (can_step m t) (task_print p m t (slice_get m.tasks t)) (task_print p m' (f t) (slice_get m'.tasks (f t))) (ap (task_print p m' (f t)) (A.tasks t) ∙ by (slice_get m.tasks t) refl)
+        ∙ cond_there (print_to f) (can_step m t) (task_print p m t (slice_get m.tasks t)) (task_print p m' (f t) (slice_get m'.tasks (f t))) (ap (task_print p m' (f t)) (A.tasks t) ∙ print_to_there_by_cases (slice_get m.tasks t) refl)
       where
-        by : (o : Option Task) → slice_get m.tasks t ≡ o → task_print p m' (f t) (option_map (task_to f) o) ≡ option_map (print_to f) (task_print p m t o)
-        by None e = refl
-        by (Some x) e = print_line x e (fetched p x.top)
+        print_to_there_by_cases : (o : Option Task) → slice_get m.tasks t ≡ o → task_print p m' (f t) (option_map (task_to f) o) ≡ option_map (print_to f) (task_print p m t o)
+        print_to_there_by_cases None e = refl
+        print_to_there_by_cases (Some x) e = print_line x e (fetched p x.top)
 
   some_map : {B C : Type 0} (h : B → C) (o : Option B) (xs : List B) → with_some (option_map h o) (map h xs) ≡ map h (with_some o xs)
   some_map h None xs = refl
   some_map h (Some x) xs = refl
 
   -- what lists of steps make
-  pub record Carried (m m' : State) (ts : List ℕ) : Type 0 where
+  pub record Carried (m m' : MachineState) (ts : List ℕ) : Type 0 where
     pub accesses : accesses_from p m' (map f ts) ≡ map (access_to f) (accesses_from p m ts)
     pub prints : prints_from p m' (map f ts) ≡ map (print_to f) (prints_from p m ts)
     pub turns : turns_from p m' (map f ts) ≡ turns_from p m ts
 
-  pub carried : (ts : List ℕ) (m m' : State) (k k' : ℕ) → IsForkJoinState m → IsForkJoinState m' → Counted k m.tasks m.store → Counted k' m'.tasks m'.store → n ≤ length m.tasks → AreAlike f m m' → Carried m m' ts
+  pub carried : (ts : List ℕ) (m m' : MachineState) (k k' : ℕ) → IsForkJoinState m → IsForkJoinState m' → Counted k m.tasks m.store → Counted k' m'.tasks m'.store → n ≤ length m.tasks → AreAlike f m m' → Carried m m' ts
   carried [] m m' k k' K K' I I' made A = record { accesses = refl; prints = refl; turns = refl }
   carried (t ∷ ts) m m' k k' K K' I I' made A =
       let up = step_grows p m t K in

@@ -1,65 +1,47 @@
 -- Steps of two concurrent tasks commute.
-use Rattle.std.proofs.Common.{◌≡◌, ℕ, Bool, true, false, Option, Some, None, List, slice_get, ◌⊎◌, inl, inr, refl, ap, sym, subst, ◌∙◌}
-use Rattle.std.proofs.lemmas.List.{set_comm}
-use Rattle.listed.proofs.Members.{In}
-use Rattle.hh_lang.specs.declared.program.Line.{Line}
-use Rattle.hh_lang.specs.Form.{ProgramText}
-use Rattle.hh_model.specs.declared.data.Name.{Name}
-use Rattle.hh_model.specs.declared.data.Object.{Object}
-use Rattle.hh_model.specs.declared.data.Task.{Task}
-use Rattle.hh_model.specs.declared.data.State.{State}
-use Rattle.hh_model.specs.Effect.{effect}
-use Rattle.hh_model.specs.Step.{can_step, fetched, follow, is_running, run, setting, step}
-use Rattle.hh_model.proofs.Steps.{runs_is}
-use Rattle.hh_model.proofs.Taken.{can_runs, step_none, step_taken, can_task}
-use Rattle.race_report.specs.declared.data.Access.{Access}
-use Rattle.race_report.specs.Accesses.{access_of}
-use Rattle.renaming_laws.proofs.Changed.{Change, ChangesBy, Edit, Edits, EditsBy, Freezes, Grows, Same, SetNumber, SetRef, Writes, edited}
-use Rattle.renaming_laws.proofs.Runs.{counted_here}
-use Rattle.schedule_laws.specs.Clashes.{Clash}
-use Rattle.schedule_laws.specs.Steps.{AreBeside, StepsCommute}
+use Rattle.schedule_laws.proofs.Common.{◌≡◌, ℕ, Bool, true, false, Option, Some, None, List, slice_get, ◌⊎◌, inl, inr, refl, ap, sym, subst, ◌∙◌, set_comm, In, Line, ProgramText, Name, Object, Task, MachineState, effect, can_step, fetched, follow, is_running, run, setting, step, runs_is, can_runs, step_none, step_taken, can_task, FieldAccess, access_of, Change, ChangesBy, Edit, Edits, EditsBy, Freezes, Grows, Same, SetNumber, SetRef, Writes, edited, counted_here, Clash, AreBeside, StepsCommute}
 use Rattle.schedule_laws.proofs.Accessed.{field_of, written_at}
 use Rattle.schedule_laws.proofs.Beside.{Leaves}
 use Rattle.schedule_laws.proofs.Commuting.{Even}
 use Rattle.schedule_laws.proofs.Crossed.{SameButNumbers, same_itself}
-use Rattle.schedule_laws.proofs.Leaving.{D, K, N, can_there, free_may, going, here_acting, same, there}
+use Rattle.schedule_laws.proofs.Leaving.{D, K, N, can_there, free_may, going, here_acting, left_effect, task_is_left}
 use Rattle.schedule_laws.proofs.Lows.{run_low}
 use Rattle.schedule_laws.proofs.Moves.{Two, both_to}
 use Rattle.schedule_laws.proofs.Siblings.{commute_two}
 use Rattle.schedule_laws.proofs.Swapping.{Agree}
 
-pub even_same : (m m' : State) → m' ≡ m → Even m m'
+pub even_same : (m m' : MachineState) → m' ≡ m → Even m m'
 even_same m m' e = record {
-  limit = ap (λ (w : State). w.field_limit) e;
-  tasks = ap (λ (w : State). w.tasks) e;
-  store = ap (λ (w : State). w.store) e;
-  edges = λ d. (subst (λ (w : State). In w.edges d) e, subst (λ (w : State). In w.edges d) (sym e));
-  end = ap (λ (w : State). w.end) e;
+  limit = ap (λ (w : MachineState). w.field_limit) e;
+  tasks = ap (λ (w : MachineState). w.tasks) e;
+  store = ap (λ (w : MachineState). w.store) e;
+  edges = λ d. (subst (λ (w : MachineState). In w.edges d) e, subst (λ (w : MachineState). In w.edges d) (sym e));
+  end = ap (λ (w : MachineState). w.end) e;
 }
 
 module _ (p : ProgramText) (limit : ℕ) (ts : List ℕ) where
-  abbrev m : State
+  abbrev m : MachineState
   m = run p limit ts
 
   abbrev Free : ℕ → ℕ → Type 0
-  Free t u = (a b : Access) → access_of p m t ≡ Some a → access_of p m u ≡ Some b → Clash a b → ⊥
+  Free t u = (a b : FieldAccess) → access_of p m t ≡ Some a → access_of p m u ≡ Some b → Clash a b → ⊥
 
   module _ (t u : ℕ) (two : t ≡ u → ⊥) (can_t : can_step m t ≡ true) (can_u : can_step m u ≡ true) (going1 : (step p m t).end ≡ None) (going2 : (step p m u).end ≡ None) (free : Free t u) where
     -- u's step, before and after t's
     two_of : (g : m.end ≡ None) (y : Task) (iu : slice_get m.tasks u ≡ Some y) (run_u : is_running (Some y) ≡ true) (line : Line) → fetched p y.top ≡ Some line
         → Two m (step p m t) u y (runs_is y.status run_u) g (step p m u) (step p (step p m t) u) line.instr
     two_of g y iu run_u line next =
-        let m1 : State = step p m t in
+        let m1 : MachineState = step p m t in
         let here = step_taken p m u y line can_u iu next in
-        let after = step_taken p m1 u y line (can_there p limit ts t u two can_t can_u going1 y iu run_u) (there p limit ts t u two can_t can_u going1 y iu run_u) next in
+        let after = step_taken p m1 u y line (can_there p limit ts t u two can_t can_u going1 y iu run_u) (task_is_left p limit ts t u two can_t can_u going1 y iu run_u) next in
         subst (λ w. Two m m1 u y (runs_is y.status run_u) g w (step p m1 u) line.instr) (sym here)
         (subst (λ w. Two m m1 u y (runs_is y.status run_u) g (follow m u y line.number (effect (setting m u y) y.top m.store line.instr)) w line.instr) (sym after)
         (both_to m m1 u y (runs_is y.status run_u) g (Leaves p m t) line.number line.instr (effect (setting m u y) y.top m.store line.instr) (effect (setting m1 u y) y.top m1.store line.instr)
-        (same p limit ts t u two can_t can_u going1 y iu run_u line next (free_may p limit ts t u two can_t can_u going1 y iu run_u line next free))
-        (ap (λ (w : State). w.end) (sym here) ∙ going2)))
+        (left_effect p limit ts t u two can_t can_u going1 y iu run_u line next (free_may p limit ts t u two can_t can_u going1 y iu run_u line next free))
+        (ap (λ (w : MachineState). w.end) (sym here) ∙ going2)))
 
   module _ (t u : ℕ) (B : AreBeside p m t u) (going1 : (step p m t).end ≡ None) (going2 : (step p m u).end ≡ None) where
-    m1 : State
+    m1 : MachineState
     m1 = step p m t
 
     back : u ≡ t → ⊥
@@ -76,7 +58,7 @@ module _ (p : ProgramText) (limit : ℕ) (ts : List ℕ) where
       module _ (lt lu : Line) (nt : fetched p x.top ≡ Some lt) (nu : fetched p y.top ≡ Some lu) where
         -- the writes of both are of different fields
         edits_agree : (k : Name) (d : Edit) (n : Name) (e : Edit) → EditsBy (setting m t x) x.top m.store lt.instr k d → EditsBy (setting m u y) y.top m.store lu.instr n e → n ≡ k → (o : Object) → edited e (edited d o) ≡ edited d (edited e o)
-        edits_agree k d n e ha hb same_name o = by d e ha hb
+        edits_agree k d n e ha hb same_name o = edits_agree_by_cases d e ha hb
           where
             clash : (b : Bool) (i j : ℕ) → Writes (setting m t x) x.top m.store lt.instr b k i → Writes (setting m u y) y.top m.store lu.instr b n j → i ≡ j → ⊥
             clash b i j wt wu e =
@@ -85,30 +67,30 @@ module _ (p : ProgramText) (limit : ℕ) (ts : List ℕ) where
                 let c = written_at p m (N p limit ts t u B.two B.first B.second going1) u y lu (here_acting p limit ts t u B.two B.first B.second going1 y iu run_u lu nu) b n j wu in
                 B.free a.0 c.0 a.1 c.1 (record { field = a.2 ∙ (named ∙ sym c.2); writes = inl a.3 })
 
-            by : (d e : Edit) → EditsBy (setting m t x) x.top m.store lt.instr k d → EditsBy (setting m u y) y.top m.store lu.instr n e → edited e (edited d o) ≡ edited d (edited e o)
-            by (SetRef i v) (SetRef j w) ht hu = ap (λ rs. record o { refs = rs }) (set_comm o.refs i j v w (clash false i j ht hu))
-            by (SetRef i v) (SetNumber j w) ht hu = refl
-            by (SetRef i v) Freezes ht hu = refl
-            by (SetNumber i v) (SetRef j w) ht hu = refl
-            by (SetNumber i v) (SetNumber j w) ht hu = ap (λ rs. record o { ints = rs }) (set_comm o.ints i j v w (clash true i j ht hu))
-            by (SetNumber i v) Freezes ht hu = refl
-            by Freezes (SetRef j w) ht hu = refl
-            by Freezes (SetNumber j w) ht hu = refl
-            by Freezes Freezes ht hu = refl
+            edits_agree_by_cases : (d e : Edit) → EditsBy (setting m t x) x.top m.store lt.instr k d → EditsBy (setting m u y) y.top m.store lu.instr n e → edited e (edited d o) ≡ edited d (edited e o)
+            edits_agree_by_cases (SetRef i v) (SetRef j w) ht hu = ap (λ rs. record o { refs = rs }) (set_comm o.refs i j v w (clash false i j ht hu))
+            edits_agree_by_cases (SetRef i v) (SetNumber j w) ht hu = refl
+            edits_agree_by_cases (SetRef i v) Freezes ht hu = refl
+            edits_agree_by_cases (SetNumber i v) (SetRef j w) ht hu = refl
+            edits_agree_by_cases (SetNumber i v) (SetNumber j w) ht hu = ap (λ rs. record o { ints = rs }) (set_comm o.ints i j v w (clash true i j ht hu))
+            edits_agree_by_cases (SetNumber i v) Freezes ht hu = refl
+            edits_agree_by_cases Freezes (SetRef j w) ht hu = refl
+            edits_agree_by_cases Freezes (SetNumber j w) ht hu = refl
+            edits_agree_by_cases Freezes Freezes ht hu = refl
 
         agree : (a b : Change) → ChangesBy (setting m t x) x.top m.store lt.instr a → ChangesBy (setting m u y) y.top m.store lu.instr b → Agree b a
-        agree Same b ha hb = by b
+        agree Same b ha hb = agree_by_cases b
           where
-            by : (b : Change) → Agree b Same
-            by Same = tt
-            by (Grows o) = tt
-            by (Edits n d) = tt
-        agree (Grows o) b ha hb = by b
+            agree_by_cases : (b : Change) → Agree b Same
+            agree_by_cases Same = tt
+            agree_by_cases (Grows o) = tt
+            agree_by_cases (Edits n d) = tt
+        agree (Grows o) b ha hb = agree_by_cases b
           where
-            by : (b : Change) → Agree b (Grows o)
-            by Same = tt
-            by (Grows q) = tt
-            by (Edits n d) = tt
+            agree_by_cases : (b : Change) → Agree b (Grows o)
+            agree_by_cases Same = tt
+            agree_by_cases (Grows q) = tt
+            agree_by_cases (Edits n d) = tt
         agree (Edits k d) Same ha hb = tt
         agree (Edits k d) (Grows o) ha hb = tt
         agree (Edits k d) (Edits n e) ha hb = λ same_name o. edits_agree k d n e ha.1 hb.1 same_name o
@@ -118,18 +100,18 @@ module _ (p : ProgramText) (limit : ℕ) (ts : List ℕ) where
             let g : m.end ≡ None = going p limit ts t u B.two B.first B.second going1 in
             commute_two m (K p limit ts t u B.two B.first B.second going1) (D p limit ts t u B.two B.first B.second going1) (N p limit ts t u B.two B.first B.second going1) (run_low p limit ts) (counted_here p limit ts).rows g
             t u B.two x y is iu (runs_is x.status run_t) (runs_is y.status run_u) (can_runs m t B.first) (can_runs m u B.second) (step p m t) (step p m u) (step p (step p m t) u) (step p (step p m u) t) lt.instr lu.instr agree
-            (there p limit ts u t back B.second B.first going2 x is run_t) (there p limit ts t u B.two B.first B.second going1 y iu run_u)
+            (task_is_left p limit ts u t back B.second B.first going2 x is run_t) (task_is_left p limit ts t u B.two B.first B.second going1 y iu run_u)
             (two_of u t back B.second B.first going2 going1 free_back g x is run_t lt nt) (two_of t u B.two B.first B.second going1 going2 B.free g y iu run_u lu nu)
 
       by_lines : (ot ou : Option Line) → fetched p x.top ≡ ot → fetched p y.top ≡ ou → SameButNumbers m (step p (step p m t) u) (step p (step p m u) t)
       by_lines (Some lt) (Some lu) nt nu = both_go lt lu nt nu
       by_lines None ou nt nu =
           let e1 : step p m t ≡ m = step_none p m t x B.first is nt in
-          let e2 : step p (step p m u) t ≡ step p m u = step_none p (step p m u) t x (can_there p limit ts u t back B.second B.first going2 x is run_t) (there p limit ts u t back B.second B.first going2 x is run_t) nt in
+          let e2 : step p (step p m u) t ≡ step p m u = step_none p (step p m u) t x (can_there p limit ts u t back B.second B.first going2 x is run_t) (task_is_left p limit ts u t back B.second B.first going2 x is run_t) nt in
           same_itself m (step p (step p m t) u) (step p (step p m u) t) (even_same (step p (step p m t) u) (step p (step p m u) t) (e2 ∙ ap (λ w. step p w u) (sym e1)))
       by_lines (Some lt) None nt nu =
           let e1 : step p m u ≡ m = step_none p m u y B.second iu nu in
-          let e2 : step p (step p m t) u ≡ step p m t = step_none p (step p m t) u y (can_there p limit ts t u B.two B.first B.second going1 y iu run_u) (there p limit ts t u B.two B.first B.second going1 y iu run_u) nu in
+          let e2 : step p (step p m t) u ≡ step p m t = step_none p (step p m t) u y (can_there p limit ts t u B.two B.first B.second going1 y iu run_u) (task_is_left p limit ts t u B.two B.first B.second going1 y iu run_u) nu in
           same_itself m (step p (step p m t) u) (step p (step p m u) t) (even_same (step p (step p m t) u) (step p (step p m u) t) (ap (λ w. step p w t) e1 ∙ sym e2))
 
     pub commute : SameButNumbers m (step p (step p m t) u) (step p (step p m u) t)

@@ -1,37 +1,19 @@
 -- Two moves of concurrent tasks, in either order.
-use Rattle.std.proofs.Common.{◌≡◌, ℕ, ◌+◌, ◌<◌, true, Option, Some, None, List, ◌++◌, length, map, slice_get, inl, inr, refl, ap, sym, subst, ◌∙◌, arith, length-append}
-use Rattle.std.specs.Option.{option_map}
-use Rattle.listed.proofs.Members.{In, in_append_cases, in_append_left, in_append_right}
-use Rattle.listed.proofs.Places.{got_none}
-use Rattle.hh_model.specs.declared.data.Name.{Name}
-use Rattle.hh_model.specs.declared.data.Edge.{Edge}
-use Rattle.hh_model.specs.declared.data.Object.{Object}
-use Rattle.hh_model.specs.declared.data.Task.{Task}
-use Rattle.hh_model.specs.declared.data.End.{End}
-use Rattle.hh_model.specs.declared.data.End.TheVariants.{Done, Trapped, Entangled}
-use Rattle.hh_model.specs.declared.data.State.{State}
-use Rattle.hh_model.specs.Effect.{object_at}
-use Rattle.hh_model.specs.Step.{is_running}
-use Rattle.hh_model.specs.Tree.{IsForkJoinState}
-use Rattle.renaming_laws.specs.Renaming.{object_to, task_to, end_to}
-use Rattle.renaming_laws.specs.Alike.{AreAlike}
-use Rattle.renaming_laws.proofs.Changed.{Change, Same, Grows, Edits, Edit, changed, edited}
-use Rattle.renaming_laws.proofs.Fixed.{row_fixed, task_fixed}
-use Rattle.renaming_laws.proofs.Unnamed.{itself}
+use Rattle.schedule_laws.proofs.Common.{◌≡◌, ℕ, ◌+◌, ◌<◌, true, Option, Some, None, List, ◌++◌, length, map, slice_get, inl, inr, refl, ap, sym, subst, ◌∙◌, arith, length-append, option_map, In, in_append_cases, in_append_left, in_append_right, got_none, Name, Edge, Object, Task, End, Done, Trapped, Entangled, MachineState, object_at, is_running, IsForkJoinState, object_to, task_to, end_to, AreAlike, Change, Same, Grows, Edits, Edit, changed, edited, row_fixed, task_fixed, itself}
 use Rattle.schedule_laws.proofs.StoreSteps.{after_change}
 use Rattle.schedule_laws.proofs.Swapping.{Agree, AllAt, Stored, all_at, changed_front, changed_length, changes_swap, sets, sets_front, sets_length, sets_swap}
 use Rattle.schedule_laws.proofs.Moves.{Move, Moves, change_in, edges_in, news, puts, rows_in}
 use Rattle.schedule_laws.proofs.Apart.{Kind, kind_within, kinds_apart}
 
 -- TWO STATES THAT ARE EQUAL except for the order of edges and the outputs
-pub record Even (m m' : State) : Type 0 where
+pub record Even (m m' : MachineState) : Type 0 where
   pub limit : m'.field_limit ≡ m.field_limit
   pub tasks : m'.tasks ≡ m.tasks
   pub store : m'.store ≡ m.store
   pub edges : (e : Edge) → (In m'.edges e → In m.edges e) × (In m.edges e → In m'.edges e)
   pub end : m'.end ≡ m.end
 
-pub even_back : (m m' : State) → Even m m' → Even m' m
+pub even_back : (m m' : MachineState) → Even m m' → Even m' m
 even_back m m' E = record { limit = sym E.limit; tasks = sym E.tasks; store = sym E.store; edges = λ e. ((E.edges e).1, (E.edges e).0); end = sym E.end }
 
 task_same : (o : Option Task) → option_map (task_to itself) o ≡ o
@@ -48,7 +30,7 @@ end_same (Some Done) = refl
 end_same (Some (Trapped kind t line)) = refl
 end_same (Some (Entangled reader owner)) = refl
 
-pub even_alike : (m m' : State) → Even m m' → AreAlike itself m m'
+pub even_alike : (m m' : MachineState) → Even m m' → AreAlike itself m m'
 even_alike m m' E = record {
   limit = E.limit;
   count = ap (λ (ts : List Task). length ts) E.tasks;
@@ -68,20 +50,20 @@ in_swap es xs bs e i = elim (in_append_cases (es ++ xs) bs e i) [
   ]
 ]
 
-module _ (m : State) (K : IsForkJoinState m) (rows : length m.store ≡ length m.tasks) (t u : ℕ) (two : t ≡ u → ⊥) (run_t : is_running (slice_get m.tasks t) ≡ true) (run_u : is_running (slice_get m.tasks u) ≡ true) (mt mu : Move)
+module _ (m : MachineState) (K : IsForkJoinState m) (rows : length m.store ≡ length m.tasks) (t u : ℕ) (two : t ≡ u → ⊥) (run_t : is_running (slice_get m.tasks t) ≡ true) (run_u : is_running (slice_get m.tasks u) ≡ true) (mt mu : Move)
     (kt : AllAt (Kind m t) (puts t mt)) (ku : AllAt (Kind m u) (puts u mu)) (st : Stored m.store (change_in mt)) (su : Stored m.store (change_in mu)) where
   stored_on : (op : Change) → Stored m.store op → (b : Change) → Stored m.store b → (v : ℕ) → Stored (changed op v m.store) b
   stored_on op s Same z v = tt
   stored_on op s (Grows o) z v = tt
-  stored_on op s (Edits n e) z v = elim (after_change op v m.store (there op s) n z.0 z.1) [
+  stored_on op s (Edits n e) z v = elim (after_change op v m.store (stored_on_there op s) n z.0 z.1) [
     | inl h ↦ (z.0, h)
     | inr h ↦ (edited h.0 z.0, h.2)
   ]
     where
-      there : (op : Change) → Stored m.store op → (k : Name) (d : Edit) → op ≡ Edits k d → (o : Object) × (object_at m.store k ≡ Some o)
-      there op s k d e = subst (Stored m.store) e s
+      stored_on_there : (op : Change) → Stored m.store op → (k : Name) (d : Edit) → op ≡ Edits k d → (o : Object) × (object_at m.store k ≡ Some o)
+      stored_on_there op s k d e = subst (Stored m.store) e s
 
-  pub tasks_then : (m1 m12 : State) → Moves m m1 t mt → Moves m1 m12 u mu → m12.tasks ≡ (sets (puts u mu) (sets (puts t mt) m.tasks) ++ news mt) ++ news mu
+  pub tasks_then : (m1 m12 : MachineState) → Moves m m1 t mt → Moves m1 m12 u mu → m12.tasks ≡ (sets (puts u mu) (sets (puts t mt) m.tasks) ++ news mt) ++ news mu
   tasks_then m1 m12 H H1 =
       H1.tasks
       ∙ (ap (λ ts. sets (puts u mu) ts ++ news mu) H.tasks
@@ -97,7 +79,7 @@ module _ (m : State) (K : IsForkJoinState m) (rows : length m.store ≡ length m
   within : (v : ℕ) → v < length m.tasks → v < length (changed (change_in mt) t m.store)
   within v lt = omega (arith, changed_length (change_in mt) t m.store, rows)
 
-  pub store_then : (m1 m12 : State) → Moves m m1 t mt → Moves m1 m12 u mu → m12.store ≡ (changed (change_in mu) u (changed (change_in mt) t m.store) ++ rows_in mt) ++ rows_in mu
+  pub store_then : (m1 m12 : MachineState) → Moves m m1 t mt → Moves m1 m12 u mu → m12.store ≡ (changed (change_in mu) u (changed (change_in mt) t m.store) ++ rows_in mt) ++ rows_in mu
   store_then m1 m12 H H1 =
       H1.store
       ∙ (ap (λ s. changed (change_in mu) u s ++ rows_in mu) H.store
@@ -110,13 +92,13 @@ module _ (m : State) (K : IsForkJoinState m) (rows : length m.store ≡ length m
       changes_swap m.store u t (λ e. two (sym e)) ru.0 rt.0 ru.1 rt.1 (change_in mu) (change_in mt) su st agree
     where
       row_there : (v : ℕ) → v < length m.tasks → (row : List Object) × (slice_get m.store v ≡ Some row)
-      row_there v lt = by (slice_get m.store v) refl
+      row_there v lt = row_there_by_cases (slice_get m.store v) refl
         where
-          by : (o : Option (List Object)) → slice_get m.store v ≡ o → (row : List Object) × (slice_get m.store v ≡ Some row)
-          by (Some row) e = (row, e)
-          by None e = absurd (got_none m.store v (omega (arith, rows)) e)
+          row_there_by_cases : (o : Option (List Object)) → slice_get m.store v ≡ o → (row : List Object) × (slice_get m.store v ≡ Some row)
+          row_there_by_cases (Some row) e = (row, e)
+          row_there_by_cases None e = absurd (got_none m.store v (omega (arith, rows)) e)
 
-  pub edges_then : (m1 m12 : State) → Moves m m1 t mt → Moves m1 m12 u mu → m12.edges ≡ (m.edges ++ edges_in t mt (length m.tasks)) ++ edges_in u mu (length m.tasks + length (news mt))
+  pub edges_then : (m1 m12 : MachineState) → Moves m m1 t mt → Moves m1 m12 u mu → m12.edges ≡ (m.edges ++ edges_in t mt (length m.tasks)) ++ edges_in u mu (length m.tasks + length (news mt))
   edges_then m1 m12 H H1 =
       let n1 : length m1.tasks ≡ length m.tasks + length (news mt) = ap (λ (ts : List Task). length ts) H.tasks ∙ (length-append (sets (puts t mt) m.tasks) (news mt) ∙ ap (λ k. k + length (news mt)) (sets_length (puts t mt) m.tasks)) in
       H1.edges ∙ (ap (λ es. es ++ edges_in u mu (length m1.tasks)) H.edges ∙ ap (λ k. (m.edges ++ edges_in t mt (length m.tasks)) ++ edges_in u mu k) n1)

@@ -1,17 +1,5 @@
 -- One renaming after another.
-use Rattle.std.proofs.Common.{◌≡◌, ℕ, ◌≤◌, Option, Some, None, List, [], ◌∷◌, map, slice_get, refl, ap, ◌∙◌, arith}
-use Rattle.std.specs.Option.{option_map}
-use Rattle.hh_model.specs.declared.data.Name.{Name}
-use Rattle.hh_model.specs.declared.data.Object.{Object}
-use Rattle.hh_model.specs.declared.data.Frame.{Frame}
-use Rattle.hh_model.specs.declared.data.Status.{Status}
-use Rattle.hh_model.specs.declared.data.Status.TheVariants.{Running, Waiting, Ended, Joined}
-use Rattle.hh_model.specs.declared.data.Task.{Task}
-use Rattle.hh_model.specs.declared.data.End.{End}
-use Rattle.hh_model.specs.declared.data.End.TheVariants.{Done, Trapped, Entangled}
-use Rattle.hh_model.specs.declared.data.State.{State}
-use Rattle.renaming_laws.specs.Renaming.{IsRenaming, edge_to, end_to, frame_to, object_to, ref_to, status_to, task_to}
-use Rattle.renaming_laws.specs.Alike.{AreAlike}
+use Rattle.schedule_laws.proofs.Common.{◌≡◌, ℕ, ◌≤◌, Option, Some, None, List, [], ◌∷◌, map, slice_get, refl, ap, ◌∙◌, arith, option_map, Name, Object, Frame, TaskStatus, Running, Waiting, Ended, Joined, Task, End, Done, Trapped, Entangled, MachineState, IsRenaming, edge_to, end_to, frame_to, object_to, ref_to, status_to, task_to, AreAlike}
 
 module _ (f h : ℕ → ℕ) where
   abbrev pub then : ℕ → ℕ
@@ -35,7 +23,7 @@ module _ (f h : ℕ → ℕ) where
   object_twice : (o : Object) → object_to h (object_to f o) ≡ object_to then o
   object_twice o = ap (λ rs. record o { strand = record o.strand { task = h (f o.strand.task) }; refs = rs }) (map_twice (ref_to f) (ref_to h) (ref_to then) ref_twice o.refs)
 
-  status_twice : (s : Status) → status_to h (status_to f s) ≡ status_to then s
+  status_twice : (s : TaskStatus) → status_to h (status_to f s) ≡ status_to then s
   status_twice Running = refl
   status_twice Waiting = refl
   status_twice (Ended k r) = ap (Ended k) (ref_twice r)
@@ -54,7 +42,7 @@ module _ (f h : ℕ → ℕ) where
   end_twice (Trapped kind t line) = refl
   end_twice (Entangled reader owner) = refl
 
-  pub alike_then : (a b c : State) → AreAlike f a b → AreAlike h b c → AreAlike then a c
+  pub alike_then : (a b c : MachineState) → AreAlike f a b → AreAlike h b c → AreAlike then a c
   alike_then a b c A B = record {
     limit = B.limit ∙ A.limit;
     count = B.count ∙ A.count;

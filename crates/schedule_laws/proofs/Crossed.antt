@@ -1,24 +1,5 @@
 -- Steps of two concurrent tasks, in either order.
-use Rattle.std.proofs.Common.{◌≡◌, ℕ, ℤ, ◌+◌, ◌-◌, ◌<◌, Bool, true, false, cond, Option, Some, None, List, [], ◌∷◌, ◌++◌, length, map, slice_get, slice_set, ◌⊎◌, inl, inr, refl, ap, sym, subst, ◌∙◌, arith, append-nil, length-append, length-set}
-use Rattle.std.specs.Option.{option_map}
-use Rattle.listed.proofs.Members.{In}
-use Rattle.hh_lang.specs.declared.instr.Instr.{Instr}
-use Rattle.hh_model.specs.declared.data.Name.{Name}
-use Rattle.hh_model.specs.declared.data.Object.{Object}
-use Rattle.hh_model.specs.declared.data.Status.TheVariants.{Running, Waiting}
-use Rattle.hh_model.specs.declared.data.Task.{Task}
-use Rattle.hh_model.specs.declared.data.State.{State}
-use Rattle.path_laws.specs.Disentangled.{Disentangled}
-use Rattle.hh_model.specs.Effect.{onward}
-use Rattle.hh_model.specs.Step.{child, is_left, is_running, joined_task, result_at, parent_of, parents, result_of, resumed, setting, sibling}
-use Rattle.hh_model.specs.Store.{NamesAreStoredIn}
-use Rattle.hh_model.specs.Tree.{IsForkJoinState}
-use Rattle.hh_model.proofs.Root.{runs_tell}
-use Rattle.renaming_laws.specs.Renaming.{IsRenaming, edge_to, end_to, object_to, task_to}
-use Rattle.renaming_laws.specs.Alike.{AreAlike}
-use Rattle.renaming_laws.proofs.Changed.{Change, ChangesBy, Edits, Grows, Same, changed}
-use Rattle.renaming_laws.proofs.Swaps.{at_low, swapped}
-use Rattle.renaming_laws.proofs.Unnamed.{itself}
+use Rattle.schedule_laws.proofs.Common.{◌≡◌, ℕ, ℤ, ◌+◌, ◌-◌, ◌<◌, Bool, true, false, cond, Option, Some, None, List, [], ◌∷◌, ◌++◌, length, map, slice_get, slice_set, ◌⊎◌, inl, inr, refl, ap, sym, subst, ◌∙◌, arith, append-nil, length-append, length-set, option_map, In, Instr, Name, Object, Running, Waiting, Task, MachineState, Disentangled, onward, child, is_left, is_running, joined_task, result_at, parent_of, parents, result_of, resumed, setting, sibling, NamesAreStoredIn, IsForkJoinState, runs_tell, IsRenaming, edge_to, end_to, object_to, task_to, AreAlike, Change, ChangesBy, Edits, Grows, Same, changed, at_low, swapped, itself}
 use Rattle.schedule_laws.proofs.Swapping.{Agree, AllAt, Stored, sets}
 use Rattle.schedule_laws.proofs.Moves.{Acts, IsPlain, Joins, Last, Move, Moves, Plain, Shape, Splits, change_in, edges_in, last_move, last_moves, news, puts, rows_in}
 use Rattle.schedule_laws.proofs.Apart.{Kind, last_kinds, last_quiet, last_same}
@@ -27,13 +8,13 @@ use Rattle.schedule_laws.proofs.Forked.{edges_swap, f, rows_swap, tasks_swap}
 use Rattle.schedule_laws.proofs.Lows.{LowIn}
 
 -- m12 and m21 are equal except for the numbers of tasks that m doesn't have
-pub record SameButNumbers (m m12 m21 : State) : Type 0 where
+pub record SameButNumbers (m m12 m21 : MachineState) : Type 0 where
   pub f : ℕ → ℕ
   pub renaming : IsRenaming (length m12.tasks) f f
   pub old : (v : ℕ) → v < length m.tasks → f v ≡ v
   pub alike : AreAlike f m12 m21
 
-pub same_itself : (m m12 m21 : State) → Even m12 m21 → SameButNumbers m m12 m21
+pub same_itself : (m m12 m21 : MachineState) → Even m12 m21 → SameButNumbers m m12 m21
 same_itself m m12 m21 E = record {
   f = itself;
   renaming = record { back = λ t. refl; forth = λ t. refl; root = refl; beyond = λ t le. refl; sides = λ t. refl; siblings = λ t. refl };
@@ -42,7 +23,7 @@ same_itself m m12 m21 E = record {
 }
 
 -- the same move of u in two states
-pub record Resolved (m w m1 w1 : State) (u : ℕ) (y : Task) (i : Instr) : Type 0 where
+pub record Resolved (m w m1 w1 : MachineState) (u : ℕ) (y : Task) (i : Instr) : Type 0 where
   pub move : Move
   pub here : Moves m w u move
   pub there : Moves m1 w1 u move
@@ -51,10 +32,10 @@ pub record Resolved (m w m1 w1 : State) (u : ℕ) (y : Task) (i : Instr) : Type 
   pub shape : Shape u y move
   pub by : (change_in move ≡ Same) ⊎ ChangesBy (setting m u y) y.top m.store i (change_in move)
 
-module _ (m : State) (K : IsForkJoinState m) (D : Disentangled m.tasks m.store) (N : NamesAreStoredIn m) (L : LowIn m) (rows : length m.store ≡ length m.tasks) (going : m.end ≡ None) where
+module _ (m : MachineState) (K : IsForkJoinState m) (D : Disentangled m.tasks m.store) (N : NamesAreStoredIn m) (L : LowIn m) (rows : length m.store ≡ length m.tasks) (going : m.end ≡ None) where
   -- TWO MOVES
 
-  module _ (t u : ℕ) (two : t ≡ u → ⊥) (run_t : is_running (slice_get m.tasks t) ≡ true) (run_u : is_running (slice_get m.tasks u) ≡ true) (m1 m2 m12 m21 : State) where
+  module _ (t u : ℕ) (two : t ≡ u → ⊥) (run_t : is_running (slice_get m.tasks t) ≡ true) (run_u : is_running (slice_get m.tasks u) ≡ true) (m1 m2 m12 m21 : MachineState) where
     -- the first move adds no tasks
     pub even : (mt mu : Move) → news mt ≡ [] → rows_in mt ≡ [] → ((k j : ℕ) → edges_in t mt k ≡ edges_in t mt j)
         → AllAt (Kind m t) (puts t mt) → AllAt (Kind m u) (puts u mu) → Stored m.store (change_in mt) → Stored m.store (change_in mu) → Agree (change_in mu) (change_in mt)
@@ -87,7 +68,7 @@ module _ (m : State) (K : IsForkJoinState m) (D : Disentangled m.tasks m.store) 
           end = Ht2.end ∙ (Hu.end ∙ (sym Ht.end ∙ sym Hu1.end));
         }
 
-  module _ (t u : ℕ) (two : t ≡ u → ⊥) (run_t : is_running (slice_get m.tasks t) ≡ true) (run_u : is_running (slice_get m.tasks u) ≡ true) (m1 m2 m12 m21 : State) where
+  module _ (t u : ℕ) (two : t ≡ u → ⊥) (run_t : is_running (slice_get m.tasks t) ≡ true) (run_u : is_running (slice_get m.tasks u) ≡ true) (m1 m2 m12 m21 : MachineState) where
     -- the second one adds none, after a fork
     flipped : {zt ct dt : Task} (mu : Move) → news mu ≡ [] → rows_in mu ≡ [] → ((k j : ℕ) → edges_in u mu k ≡ edges_in u mu j)
         → AllAt (Kind m t) (puts t (Splits zt ct dt)) → AllAt (Kind m u) (puts u mu) → Stored m.store Same → Stored m.store (change_in mu) → Agree Same (change_in mu)
@@ -152,39 +133,39 @@ module _ (m : State) (K : IsForkJoinState m) (D : Disentangled m.tasks m.store) 
 
 -- ONE MOVE IN TWO STATES
 
-pub plain_kinds : (m : State) (u : ℕ) (mv : Move) → IsPlain mv → AllAt (Kind m u) (puts u mv)
+pub plain_kinds : (m : MachineState) (u : ℕ) (mv : Move) → IsPlain mv → AllAt (Kind m u) (puts u mv)
 plain_kinds m u (Acts y op) p = (inl refl, tt)
 plain_kinds m u (Splits y c d) p = (inl refl, tt)
 plain_kinds m u (Joins q l a b c) p = absurd p
 
-stored_by : (m : State) (u : ℕ) (y : Task) (i : Instr) (op : Change) → ChangesBy (setting m u y) y.top m.store i op → Stored m.store op
+stored_by : (m : MachineState) (u : ℕ) (y : Task) (i : Instr) (op : Change) → ChangesBy (setting m u y) y.top m.store i op → Stored m.store op
 stored_by m u y i Same h = tt
 stored_by m u y i (Grows o) h = tt
 stored_by m u y i (Edits n e) h = h.0
 
 -- the end of a child changes no object, and makes no tasks
-pub record Still (m : State) (u : ℕ) (y : Task) (mv : Move) : Type 0 where
+pub record Still (m : MachineState) (u : ℕ) (y : Task) (mv : Move) : Type 0 where
   pub change : change_in mv ≡ Same
   pub shape : Shape u y mv
 
-last_still : (m : State) (u : ℕ) (y z : Task) (q : ℕ) (r : ℤ × Option Name) (o : Option (ℤ × Option Name)) (oq ow : Option Task) → Still m u z (last_move u y q r o oq ow)
+last_still : (m : MachineState) (u : ℕ) (y z : Task) (q : ℕ) (r : ℤ × Option Name) (o : Option (ℤ × Option Name)) (oq ow : Option Task) → Still m u z (last_move u y q r o oq ow)
 last_still m u y z q r None oq ow = record { change = refl; shape = tt }
 last_still m u y z q r (Some other) None ow = record { change = refl; shape = tt }
 last_still m u y z q r (Some other) (Some xq) None = record { change = refl; shape = tt }
-last_still m u y z q r (Some other) (Some xq) (Some xw) = by (is_left u)
+last_still m u y z q r (Some other) (Some xq) (Some xw) = last_still_by_cases (is_left u)
   where
-    by : (b : Bool) → Still m u z (cond b (Joins q u (joined_task y) (joined_task xw) (resumed xq r other)) (Joins q (u - 1) (joined_task xw) (joined_task y) (resumed xq other r)))
-    by true = record { change = refl; shape = tt }
-    by false = record { change = refl; shape = tt }
+    last_still_by_cases : (b : Bool) → Still m u z (cond b (Joins q u (joined_task y) (joined_task xw) (resumed xq r other)) (Joins q (u - 1) (joined_task xw) (joined_task y) (resumed xq other r)))
+    last_still_by_cases true = record { change = refl; shape = tt }
+    last_still_by_cases false = record { change = refl; shape = tt }
 
 -- how a task moves in the first of two states
-pub record Moved (m w : State) (u : ℕ) : Type 0 where
+pub record Moved (m w : MachineState) (u : ℕ) : Type 0 where
   pub move : Move
   pub here : Moves m w u move
   pub kinds : AllAt (Kind m u) (puts u move)
   pub quiet : (v : ℕ) → (v ≡ u → ⊥) → result_at (slice_get m.tasks v) ≡ None → result_at (slice_get (sets (puts u move) m.tasks) v) ≡ None
 
-module _ (m m1 : State) (K : IsForkJoinState m) (u : ℕ) (y : Task) (running : y.status ≡ Running) (going : m.end ≡ None) (iu : slice_get m.tasks u ≡ Some y) (run_u : is_running (slice_get m.tasks u) ≡ true) (w w1 : State) (i : Instr) where
+module _ (m m1 : MachineState) (K : IsForkJoinState m) (u : ℕ) (y : Task) (running : y.status ≡ Running) (going : m.end ≡ None) (iu : slice_get m.tasks u ≡ Some y) (run_u : is_running (slice_get m.tasks u) ≡ true) (w w1 : MachineState) (i : Instr) where
   abbrev P : Type 0
   P = Plain m m1 u y running going w w1 i
 

@@ -1,21 +1,5 @@
 -- A whole run in order, and another of the same program in which tasks have other numbers: the law isn't vacuous.
-use Rattle.std.proofs.Common.{◌≡◌, ℕ, pos, ◌&&◌, ◌||◌, not, Bool, true, false, Some, List, [], ◌∷◌, ◌⊎◌, inl, inr, refl, sym, subst, ◌∙◌}
-use Rattle.std.proofs.lemmas.Bool.{and_parts, false≢true}
-use Rattle.listed.proofs.Members.{In}
-use Rattle.hh_lang.specs.declared.instr.Instr.TheVariants.{Set, Calc, Newm, Geti, Puti, Par, Ret, Out}
-use Rattle.hh_lang.specs.declared.instr.Operator.TheVariants.{Add}
-use Rattle.hh_lang.specs.Form.{ProgramText}
-use Rattle.hh_lang.proofs.Examples.{fun}
-use Rattle.hh_model.specs.declared.data.Edge.{Edge}
-use Rattle.hh_model.specs.declared.data.Strand.{Strand}
-use Rattle.hh_model.specs.declared.data.End.TheVariants.{Done}
-use Rattle.hh_model.specs.Precedence.{Precedes, precedes}
-use Rattle.hh_model.specs.Step.{parents, run}
-use Rattle.race_report.specs.declared.data.Access.{Access}
-use Rattle.race_report.specs.Accesses.{accesses}
-use Rattle.renaming_laws.proofs.Runs.{fork_join_here}
-use Rattle.schedule_laws.specs.Clashes.{Clash}
-use Rattle.schedule_laws.specs.Laws.{SomeRunSpeaksUp}
+use Rattle.schedule_laws.proofs.Common.{◌≡◌, ℕ, pos, ◌&&◌, ◌||◌, not, Bool, true, false, Some, List, [], ◌∷◌, ◌⊎◌, inl, inr, refl, sym, subst, ◌∙◌, and_parts, false≢true, In, Set, Calc, Newm, Geti, Puti, Par, Ret, Out, Add, ProgramText, fun, Edge, Strand, Done, Precedes, precedes, parents, run, FieldAccess, accesses, fork_join_here, Clash, SomeRunSpeaksUp}
 use Rattle.schedule_laws.proofs.Splits.{InOrder, from_order}
 
 -- the root makes an object with one number field, writes it and forks two tasks; each forks two, which read the field.
@@ -39,32 +23,32 @@ us = 0 ∷ 0 ∷ 0 ∷ 0 ∷ 0 ∷ 2 ∷ 1 ∷ 3 ∷ 3 ∷ 4 ∷ 4 ∷ 5 ∷ 5 �
 
 -- TESTS of order
 
-abbrev first_tested : List Edge → Access → List Access → Bool
+abbrev first_tested : List Edge → FieldAccess → List FieldAccess → Bool
 first_tested es a [] = true
 first_tested es a (b ∷ bs) = (not (a.writes || b.writes) || precedes es a.strand b.strand) && first_tested es a bs
 
-abbrev tested : List Edge → List Access → Bool
+abbrev tested : List Edge → List FieldAccess → Bool
 tested es [] = true
 tested es (a ∷ rest) = first_tested es a rest && tested es rest
 
 module _ (es : List Edge) (right : (u v : Strand) → precedes es u v ≡ true → Precedes es u v) where
-  pair : (a b : Access) → (not (a.writes || b.writes) || precedes es a.strand b.strand) ≡ true → Clash a b → Precedes es a.strand b.strand
-  pair a b h C = right a.strand b.strand (by a.writes b.writes (precedes es a.strand b.strand) h C.writes)
+  pair : (a b : FieldAccess) → (not (a.writes || b.writes) || precedes es a.strand b.strand) ≡ true → Clash a b → Precedes es a.strand b.strand
+  pair a b h C = right a.strand b.strand (pair_by_cases a.writes b.writes (precedes es a.strand b.strand) h C.writes)
     where
-      by : (x y z : Bool) → (not (x || y) || z) ≡ true → (x ≡ true) ⊎ (y ≡ true) → z ≡ true
-      by true y z h w = h
-      by false true z h w = h
-      by false false z h (inl w) = absurd (false≢true w)
-      by false false z h (inr w) = absurd (false≢true w)
+      pair_by_cases : (x y z : Bool) → (not (x || y) || z) ≡ true → (x ≡ true) ⊎ (y ≡ true) → z ≡ true
+      pair_by_cases true y z h w = h
+      pair_by_cases false true z h w = h
+      pair_by_cases false false z h (inl w) = absurd (false≢true w)
+      pair_by_cases false false z h (inr w) = absurd (false≢true w)
 
-  first_right : (a : Access) (rest : List Access) → first_tested es a rest ≡ true → (b : Access) → In rest b → Clash a b → Precedes es a.strand b.strand
+  first_right : (a : FieldAccess) (rest : List FieldAccess) → first_tested es a rest ≡ true → (b : FieldAccess) → In rest b → Clash a b → Precedes es a.strand b.strand
   first_right a [] h b i C = absurd i
   first_right a (c ∷ rest) h b (inl e) C =
       let k = and_parts (not (a.writes || c.writes) || precedes es a.strand c.strand) (first_tested es a rest) h in
-      subst (λ (w : Access). Precedes es a.strand w.strand) e (pair a c k.0 (subst (Clash a) (sym e) C))
+      subst (λ (w : FieldAccess). Precedes es a.strand w.strand) e (pair a c k.0 (subst (Clash a) (sym e) C))
   first_right a (c ∷ rest) h b (inr j) C = first_right a rest (and_parts (not (a.writes || c.writes) || precedes es a.strand c.strand) (first_tested es a rest) h).1 b j C
 
-  pub in_order : (all : List Access) → tested es all ≡ true → InOrder es all
+  pub in_order : (all : List FieldAccess) → tested es all ≡ true → InOrder es all
   in_order [] h = tt
   in_order (a ∷ rest) h = let k = and_parts (first_tested es a rest) (tested es rest) h in (first_right a rest k.0, in_order rest k.1)
 

@@ -1,29 +1,15 @@
 -- Fields persist.
-use Rattle.std.proofs.Common.{◌≡◌, ℕ, true, false, Some, inl, inr, refl, ap, sym, ◌∙◌, length-set}
-use Rattle.std.proofs.lemmas.Bool.{cases_eq, eqb-true}
-use Rattle.listed.proofs.Members.{got_other}
-use Rattle.hh_lang.specs.declared.instr.Instr.{Instr}
-use Rattle.hh_lang.specs.declared.instr.Instr.TheVariants.{Freeze}
-use Rattle.hh_lang.specs.Form.{ProgramText}
-use Rattle.hh_model.specs.declared.data.Name.{Name}
-use Rattle.hh_model.specs.declared.data.Object.{Object}
-use Rattle.hh_model.specs.declared.data.State.{State}
-use Rattle.hh_model.specs.Effect.{object_at}
-use Rattle.hh_model.specs.Step.{owner_of, run, setting, step}
-use Rattle.hh_model.specs.Store.{NamesAreStoredIn}
-use Rattle.path_laws.proofs.Stored.{names_are_stored}
-use Rattle.renaming_laws.proofs.Changed.{Edit, Edits, Freezes, FreezesBy, SetNumber, SetRef, edited}
-use Rattle.schedule_laws.specs.Steps.{ChangesOnly, FieldsStay, FreezesNext}
+use Rattle.schedule_laws.proofs.Common.{◌≡◌, ℕ, true, false, Some, inl, inr, refl, ap, sym, ◌∙◌, length-set, cases_eq, eqb-true, got_other, Instr, Freeze, ProgramText, Name, Object, MachineState, object_at, owner_of, run, setting, step, NamesAreStoredIn, names_are_stored, Edit, Edits, Freezes, FreezesBy, SetNumber, SetRef, edited, ChangesOnly, FieldsStay, FreezesNext}
 use Rattle.schedule_laws.proofs.Accessed.{field_of, written_at}
 use Rattle.schedule_laws.proofs.StoreSteps.{GoesBy, object_after}
 
-module _ (p : ProgramText) (m : State) (N : NamesAreStoredIn m) (t : ℕ) (n : Name) (old : Object) where
+module _ (p : ProgramText) (m : MachineState) (N : NamesAreStoredIn m) (t : ℕ) (n : Name) (old : Object) where
   freezes : (g : GoesBy p m N t (Edits n Freezes)) → FreezesNext p m t n
-  freezes g = by g.line.instr refl g.by.1
+  freezes g = freezes_by_cases g.line.instr refl g.by.1
     where
-      by : (i : Instr) → g.line.instr ≡ i → FreezesBy (setting m t g.task) g.task.top m.store i n → FreezesNext p m t n
-      by (Freeze o) e f = (g.task, g.line, o, record { task = g.acting.is; fetched = g.acting.next }, e, f.0, eqb-true (owner_of m.tasks n.task) t f.1)
-      by _ e f = absurd f
+      freezes_by_cases : (i : Instr) → g.line.instr ≡ i → FreezesBy (setting m t g.task) g.task.top m.store i n → FreezesNext p m t n
+      freezes_by_cases (Freeze o) e f = (g.task, g.line, o, record { task = g.acting.is; fetched = g.acting.next }, e, f.0, eqb-true (owner_of m.tasks n.task) t f.1)
+      freezes_by_cases _ e f = absurd f
 
   edits : (e : Edit) → GoesBy p m N t (Edits n e) → ChangesOnly p m t n old (edited e old)
   edits (SetRef at v) g = record {

@@ -1,26 +1,5 @@
 -- Two forks in either order give the same state except for the numbers of the four children.
-use Rattle.std.proofs.Common.{◌≡◌, ℕ, zero, suc, ◌+◌, ◌-◌, ◌%◌, ◌<◌, ◌≤◌, Option, Some, None, List, [], ◌∷◌, ◌++◌, length, map, slice_get, slice_set, ◌⊎◌, inl, inr, refl, ap, sym, subst, ◌∙◌, arith, length-append, length-set}
-use Rattle.std.specs.Option.{option_map}
-use Rattle.std.proofs.lemmas.List.{map-append}
-use Rattle.std.proofs.lemmas.Option.{same_Some}
-use Rattle.listed.proofs.Members.{In, got_back, got_cases, got_front, got_past, got_within}
-use Rattle.listed.proofs.Places.{in_got, in_map}
-use Rattle.hh_model.specs.declared.data.Edge.{Edge}
-use Rattle.hh_model.specs.declared.data.Object.{Object}
-use Rattle.hh_model.specs.declared.data.Status.TheVariants.{Waiting}
-use Rattle.hh_model.specs.declared.data.Task.{Task}
-use Rattle.hh_model.specs.declared.data.State.{State}
-use Rattle.path_laws.specs.Disentangled.{Disentangled}
-use Rattle.hh_model.specs.Effect.{object_at, onward, row_of}
-use Rattle.hh_model.specs.Names.{names_from}
-use Rattle.hh_model.specs.Step.{child, edge, parent_of, strand}
-use Rattle.hh_model.specs.Store.{NamesAreStoredIn}
-use Rattle.hh_model.specs.Tree.{IsForkJoinState}
-use Rattle.renaming_laws.specs.Laws.{swap}
-use Rattle.renaming_laws.specs.Renaming.{IsRenaming, edge_to, object_to, task_to}
-use Rattle.renaming_laws.proofs.Fixed.{KeepsTask, row_fixed, task_fixed}
-use Rattle.renaming_laws.proofs.Lists.{from_map}
-use Rattle.renaming_laws.proofs.Swaps.{at_first, at_low, at_second, stands, swapped}
+use Rattle.schedule_laws.proofs.Common.{◌≡◌, ℕ, zero, suc, ◌+◌, ◌-◌, ◌%◌, ◌<◌, ◌≤◌, Option, Some, None, List, [], ◌∷◌, ◌++◌, length, map, slice_get, slice_set, ◌⊎◌, inl, inr, refl, ap, sym, subst, ◌∙◌, arith, length-append, length-set, option_map, map-append, same_Some, In, got_back, got_cases, got_front, got_past, got_within, in_got, in_map, Edge, Object, Waiting, Task, MachineState, Disentangled, object_at, onward, row_of, names_from, child, edge, parent_of, strand, NamesAreStoredIn, IsForkJoinState, swap, IsRenaming, edge_to, object_to, task_to, KeepsTask, row_fixed, task_fixed, from_map, at_first, at_low, at_second, stands, swapped}
 use Rattle.schedule_laws.proofs.Commuting.{in_swap}
 use Rattle.schedule_laws.proofs.Lows.{LowIn, object_low}
 
@@ -68,7 +47,7 @@ module _ {A : Type 0} (n : ℕ) (odd : n % 2 ≡ 1) (xs : List A) (long : length
     ]
   ]
 
-module _ (m : State) (K : IsForkJoinState m) (D : Disentangled m.tasks m.store) (N : NamesAreStoredIn m) (L : LowIn m) (rows : length m.store ≡ length m.tasks) where
+module _ (m : MachineState) (K : IsForkJoinState m) (D : Disentangled m.tasks m.store) (N : NamesAreStoredIn m) (L : LowIn m) (rows : length m.store ≡ length m.tasks) where
   abbrev pub f : ℕ → ℕ
   f = swap (length m.tasks)
 
@@ -132,7 +111,7 @@ module _ (m : State) (K : IsForkJoinState m) (D : Disentangled m.tasks m.store) 
         | inr new ↦ elim new [ inl a ↦ empty row a | inr a ↦ empty row a ]
         | inl old ↦ row_fixed f row (λ o i.
             let c = in_got row o i in
-            let low = object_low m K N (record { task = v; count = c.0 }) o (at old c.0 c.1) in
+            let low = object_low m K N (record { task = v; count = c.0 }) o (row_keeps_at old c.0 c.1) in
             (stays o.strand.task low.0, (λ r j. stays r.task (low.1 r j))))
       ]
     ]
@@ -140,24 +119,24 @@ module _ (m : State) (K : IsForkJoinState m) (D : Disentangled m.tasks m.store) 
         empty : (row : List Object) → row ≡ [] → map (object_to f) row ≡ row
         empty row e = subst (λ w. map (object_to f) w ≡ w) (sym e) refl
 
-        at : slice_get m.store v ≡ Some row → {o : Object} (c : ℕ) → slice_get row c ≡ Some o → object_at m.store (record { task = v; count = c }) ≡ Some o
-        at old c e = ap (λ w. slice_get (row_of w) c) old ∙ e
+        row_keeps_at : slice_get m.store v ≡ Some row → {o : Object} (c : ℕ) → slice_get row c ≡ Some o → object_at m.store (record { task = v; count = c }) ≡ Some o
+        row_keeps_at old c e = ap (λ w. slice_get (row_of w) c) old ∙ e
 
     pub tasks_swap : (v : ℕ) → slice_get ((all ++ cu) ++ ct) (f v) ≡ option_map (task_to f) (slice_get ((all ++ ct) ++ cu) v)
     tasks_swap v =
         swap_get (length m.tasks) K.tree.odd all (length-set (slice_set m.tasks t yt) u yu ∙ length-set m.tasks t yt) ct cu refl refl v
-        ∙ by (slice_get ((all ++ ct) ++ cu) v) (λ z e. all_keep v z e)
+        ∙ tasks_swap_by_cases (slice_get ((all ++ ct) ++ cu) v) (λ z e. all_keep v z e)
       where
-        by : (o : Option Task) → ((z : Task) → o ≡ Some z → KeepsTask f z) → o ≡ option_map (task_to f) o
-        by None each = refl
-        by (Some z) each = ap Some (sym (task_fixed f z (each z refl)))
+        tasks_swap_by_cases : (o : Option Task) → ((z : Task) → o ≡ Some z → KeepsTask f z) → o ≡ option_map (task_to f) o
+        tasks_swap_by_cases None each = refl
+        tasks_swap_by_cases (Some z) each = ap Some (sym (task_fixed f z (each z refl)))
 
     pub rows_swap : (v : ℕ) → slice_get ((m.store ++ two_rows) ++ two_rows) (f v) ≡ option_map (map (object_to f)) (slice_get ((m.store ++ two_rows) ++ two_rows) v)
-    rows_swap v = swap_get (length m.tasks) K.tree.odd m.store rows two_rows two_rows refl refl v ∙ by (slice_get ((m.store ++ two_rows) ++ two_rows) v) (λ row e. row_keeps v row e)
+    rows_swap v = swap_get (length m.tasks) K.tree.odd m.store rows two_rows two_rows refl refl v ∙ rows_swap_by_cases (slice_get ((m.store ++ two_rows) ++ two_rows) v) (λ row e. row_keeps v row e)
       where
-        by : (o : Option (List Object)) → ((row : List Object) → o ≡ Some row → map (object_to f) row ≡ row) → o ≡ option_map (map (object_to f)) o
-        by None each = refl
-        by (Some row) each = ap Some (sym (each row refl))
+        rows_swap_by_cases : (o : Option (List Object)) → ((row : List Object) → o ≡ Some row → map (object_to f) row ≡ row) → o ≡ option_map (map (object_to f)) o
+        rows_swap_by_cases None each = refl
+        rows_swap_by_cases (Some row) each = ap Some (sym (each row refl))
 
     -- EDGES
 

@@ -1,46 +1,5 @@
 -- A step that can be taken now moves to the front of a run in order, with the same result.
-use Rattle.std.proofs.Common.{◌≡◌, ℕ, suc, ◌+◌, ◌<◌, ◌≤◌, Bool, true, false, cond, Option, Some, None, List, [], ◌∷◌, ◌++◌, length, map, slice_get, ◌⊎◌, inl, inr, refl, ap, sym, subst, ◌∙◌, arith}
-use Rattle.std.specs.Option.{option_map}
-use Rattle.std.proofs.lemmas.Bool.{cases_Bool, cases_eq}
-use Rattle.std.proofs.lemmas.Option.{same_Some}
-use Rattle.listed.proofs.Members.{In, got_within, in_append_right}
-use Rattle.hh_lang.specs.declared.instr.Instr.{Instr}
-use Rattle.hh_lang.specs.declared.instr.Instr.TheVariants.{Getr, Geti, Putr, Puti, Cas}
-use Rattle.hh_lang.specs.declared.program.Line.{Line}
-use Rattle.hh_lang.specs.Form.{ProgramText}
-use Rattle.hh_model.specs.declared.data.Name.{Name}
-use Rattle.hh_model.specs.declared.data.Strand.{Strand}
-use Rattle.hh_model.specs.declared.data.Edge.{Edge}
-use Rattle.hh_model.specs.declared.data.Object.{Object}
-use Rattle.hh_model.specs.declared.data.Task.{Task}
-use Rattle.hh_model.specs.declared.data.End.{End}
-use Rattle.hh_model.specs.declared.data.End.TheVariants.{Done, Trapped, Entangled}
-use Rattle.hh_model.specs.declared.data.State.{State}
-use Rattle.hh_model.specs.Counts.{Counted}
-use Rattle.hh_model.specs.Effect.{Effect, Goes, Prints, Calls, Forks, Returns, Traps, Stops, effect, object_at}
-use Rattle.hh_model.specs.Precedence.{Precedes}
-use Rattle.hh_model.specs.Step.{can_step, fetched, is_running, owner_of, run, run_from, setting, start, step, strand_of}
-use Rattle.hh_model.specs.Tree.{IsForkJoinState}
-use Rattle.hh_model.proofs.Counts.{counted_step, run_push}
-use Rattle.hh_model.proofs.EndLaws.{ended_stays}
-use Rattle.hh_model.proofs.ForkJoinStates.{step_is_fork_join_state}
-use Rattle.hh_model.proofs.Root.{runs_have_one_root}
-use Rattle.hh_model.proofs.Steps.{step_cases}
-use Rattle.path_laws.proofs.Stored.{names_are_stored}
-use Rattle.hh_model.proofs.Taken.{can_made, can_runs, step_idle, can_task}
-use Rattle.path_laws.proofs.Leaves.{can_going}
-use Rattle.race_report.specs.declared.data.Field.{Field}
-use Rattle.race_report.specs.declared.data.Access.{Access}
-use Rattle.race_report.specs.Accesses.{access_of, accesses_from, line_access, task_access, with_some}
-use Rattle.renaming_laws.specs.Renaming.{IsRenaming, end_to}
-use Rattle.renaming_laws.specs.Alike.{AreAlike}
-use Rattle.renaming_laws.proofs.Changed.{Reaches}
-use Rattle.renaming_laws.proofs.Runs.{counted_here, fork_join_here, run_grows, run_to, step_grows}
-use Rattle.renaming_laws.proofs.Unnamed.{itself}
-use Rattle.schedule_laws.specs.Agrees.{access_to}
-use Rattle.schedule_laws.specs.Clashes.{Clash}
-use Rattle.schedule_laws.specs.Prints.{Print, line_print, print_by, print_of, prints_from, task_print, turns_from}
-use Rattle.schedule_laws.specs.Steps.{AreBeside, Commutes, EndAlike, LeavesStep}
+use Rattle.schedule_laws.proofs.Common.{◌≡◌, ℕ, suc, ◌+◌, ◌<◌, ◌≤◌, Bool, true, false, cond, Option, Some, None, List, [], ◌∷◌, ◌++◌, length, map, slice_get, ◌⊎◌, inl, inr, refl, ap, sym, subst, ◌∙◌, arith, option_map, cases_Bool, cases_eq, same_Some, In, got_within, in_append_right, Instr, Getr, Geti, Putr, Puti, Cas, Line, ProgramText, Name, Strand, Edge, Object, Task, End, Done, Trapped, Entangled, MachineState, Counted, Effect, Goes, Prints, Calls, Forks, Returns, Traps, Stops, effect, object_at, Precedes, can_step, fetched, is_running, owner_of, run, run_from, setting, start, step, strand_of, IsForkJoinState, counted_step, run_push, ended_stays, step_is_fork_join_state, runs_have_one_root, step_cases, names_are_stored, can_made, can_runs, step_idle, can_task, can_going, Field, FieldAccess, access_of, accesses_from, line_access, task_access, with_some, IsRenaming, end_to, AreAlike, Reaches, counted_here, fork_join_here, run_grows, run_to, step_grows, itself, access_to, Clash, Print, line_print, print_by, print_of, prints_from, task_print, turns_from, AreBeside, Commutes, EndAlike, LeavesStep}
 use Rattle.schedule_laws.proofs.Accessed.{found_at}
 use Rattle.schedule_laws.proofs.Carrying.{Carried, carried, print_to}
 use Rattle.schedule_laws.proofs.Commute.{even_same, steps_commute}
@@ -56,7 +15,7 @@ Near es a b = (a.strand ≡ b.strand) ⊎ Precedes es a.strand b.strand
 
 -- from m a run has this end with these accesses, prints and turns; and so it has with u's step first, except for
 -- numbers of tasks
-pub record Fronted (p : ProgramText) (m : State) (u : ℕ) (end : State) (all : List Access) (said : List Print) (turns : ℕ) : Type 0 where
+pub record Fronted (p : ProgramText) (m : MachineState) (u : ℕ) (end : MachineState) (all : List FieldAccess) (said : List Print) (turns : ℕ) : Type 0 where
   pub rest : List ℕ
   pub f : ℕ → ℕ
   pub g : ℕ → ℕ
@@ -72,7 +31,7 @@ map_fixed h each [] = refl
 map_fixed h each (x ∷ xs) = let a = sym (each x) in let b = map_fixed h each xs in λ i. a i ∷ b i
 
 -- the step that ends a run by the return of main is the root's
-done_root : (p : ProgramText) (m : State) (t : ℕ) → IsForkJoinState m → m.end ≡ None → (step p m t).end ≡ Some Done → (x : Task) × (slice_get m.tasks t ≡ Some x) × (x.parent ≡ None)
+done_root : (p : ProgramText) (m : MachineState) (t : ℕ) → IsForkJoinState m → m.end ≡ None → (step p m t).end ≡ Some Done → (x : Task) × (slice_get m.tasks t ≡ Some x) × (x.parent ≡ None)
 done_root p m t K going =
     step_cases p m t K (λ m'. m'.end ≡ Some Done → (x : Task) × (slice_get m.tasks t ≡ Some x) × (x.parent ≡ None)) not_yet
     (λ x e is run why h. absurd (elim (why) [
@@ -95,7 +54,7 @@ none_or None = inl refl
 none_or (Some e) = inr (e, refl)
 
 module _ (p : ProgramText) (limit : ℕ) (hs : List ℕ) where
-  abbrev m : State
+  abbrev m : MachineState
   m = run p limit hs
 
   -- no step concurrent to another task's ends the run by the return of main
@@ -108,11 +67,11 @@ module _ (p : ProgramText) (limit : ℕ) (hs : List ℕ) where
       two (zero_t ∙ sym zero_u)
 
   -- an access names tasks that exist
-  pub access_low : (f : ℕ → ℕ) → ((v : ℕ) → v < length m.tasks → f v ≡ v) → (t : ℕ) → can_step m t ≡ true → (a : Access) → access_of p m t ≡ Some a → access_to f a ≡ a
+  pub access_low : (f : ℕ → ℕ) → ((v : ℕ) → v < length m.tasks → f v ≡ v) → (t : ℕ) → can_step m t ≡ true → (a : FieldAccess) → access_of p m t ≡ Some a → access_to f a ≡ a
   access_low f old t can a ia =
       let x = can_task m t can in
       let N = names_are_stored p limit hs in
-      let z = by x.0 x.1 x.2 (fetched p x.0.top) refl in
+      let z = access_low_by_cases x.0 x.1 x.2 (fetched p x.0.top) refl in
       let s : f a.strand.task ≡ a.strand.task = old a.strand.task z.0 in
       let n : f a.field.name.task ≡ a.field.name.task = old a.field.name.task z.1 in
       λ i. record a { strand = record a.strand { task = s i }; field = record a.field { name = record a.field.name { task = n i } } }
@@ -120,9 +79,9 @@ module _ (p : ProgramText) (limit : ℕ) (hs : List ℕ) where
       stored : (n : Name) (o : Object) → object_at m.store n ≡ Some o → n.task < length m.tasks
       stored n o is = let k = (fork_join_here p limit hs).store_of n o is in subst (λ j. j < length m.tasks) k.0 k.1.0
 
-      by : (x : Task) → slice_get m.tasks t ≡ Some x → is_running (Some x) ≡ true → (o : Option Line) → fetched p x.top ≡ o → (a.strand.task < length m.tasks) × (a.field.name.task < length m.tasks)
-      by x is run None next = absurd (let h : None ≡ Some a = sym (ap (λ b. cond b (task_access p m t (slice_get m.tasks t)) None) can ∙ (ap (task_access p m t) is ∙ ap (line_access m t x) next)) ∙ ia in cc)
-      by x is run (Some line) next =
+      access_low_by_cases : (x : Task) → slice_get m.tasks t ≡ Some x → is_running (Some x) ≡ true → (o : Option Line) → fetched p x.top ≡ o → (a.strand.task < length m.tasks) × (a.field.name.task < length m.tasks)
+      access_low_by_cases x is run None next = absurd (let h : None ≡ Some a = sym (ap (λ b. cond b (task_access p m t (slice_get m.tasks t)) None) can ∙ (ap (task_access p m t) is ∙ ap (line_access m t x) next)) ∙ ia in cc)
+      access_low_by_cases x is run (Some line) next =
           let F = found_at p m (names_are_stored p limit hs) t x line (record { can = can; is = is; running = run; next = next }) a ia in
           let there = reach_object line.instr F.number F.name F.at F.reach in (
             subst (λ (w : Strand). w.task < length m.tasks) (sym F.strand) (got_within m.tasks t x is),
@@ -138,15 +97,15 @@ module _ (p : ProgramText) (limit : ℕ) (hs : List ℕ) where
           reach_object _ b n at r = absurd r
 
   -- the strand of a task's step
-  pub access_strand : (t : ℕ) (can : can_step m t ≡ true) (a : Access) → access_of p m t ≡ Some a → a.strand ≡ strand_of t (can_task m t can).0
-  access_strand t can a ia = by (fetched p x.0.top) refl
+  pub access_strand : (t : ℕ) (can : can_step m t ≡ true) (a : FieldAccess) → access_of p m t ≡ Some a → a.strand ≡ strand_of t (can_task m t can).0
+  access_strand t can a ia = access_strand_by_cases (fetched p x.0.top) refl
     where
       x : (y : Task) × (slice_get m.tasks t ≡ Some y) × (is_running (Some y) ≡ true)
       x = can_task m t can
 
-      by : (o : Option Line) → fetched p x.0.top ≡ o → a.strand ≡ strand_of t x.0
-      by None next = absurd (let h : None ≡ Some a = sym (ap (λ b. cond b (task_access p m t (slice_get m.tasks t)) None) can ∙ (ap (task_access p m t) x.1 ∙ ap (line_access m t x.0) next)) ∙ ia in cc)
-      by (Some line) next = (found_at p m (names_are_stored p limit hs) t x.0 line (record { can = can; is = x.1; running = x.2; next = next }) a ia).strand
+      access_strand_by_cases : (o : Option Line) → fetched p x.0.top ≡ o → a.strand ≡ strand_of t x.0
+      access_strand_by_cases None next = absurd (let h : None ≡ Some a = sym (ap (λ b. cond b (task_access p m t (slice_get m.tasks t)) None) can ∙ (ap (task_access p m t) x.1 ∙ ap (line_access m t x.0) next)) ∙ ia in cc)
+      access_strand_by_cases (Some line) next = (found_at p m (names_are_stored p limit hs) t x.0 line (record { can = can; is = x.1; running = x.2; next = next }) a ia).strand
 
   print_strand : (t : ℕ) (can : can_step m t ≡ true) (a : Print) → print_of p m t ≡ Some a → a.strand ≡ strand_of t (can_task m t can).0
   print_strand t can a ia = by_line (fetched p x.0.top) (sym (ap (λ b. cond b (task_print p m t (slice_get m.tasks t)) None) can ∙ ap (task_print p m t) x.1) ∙ ia)
@@ -196,29 +155,29 @@ end_done (Some (Entangled reader owner)) h = absurd h
 
 module _ (p : ProgramText) (limit : ℕ) (hs ts : List ℕ) (t u : ℕ) (two : t ≡ u → ⊥) (can_t : can_step (run p limit hs) t ≡ true) (can_u : can_step (run p limit hs) u ≡ true)
     (done : (run_from p (run p limit hs) (t ∷ ts)).end ≡ Some Done) (order : InOrder (run_from p (run p limit hs) (t ∷ ts)).edges (accesses_from p (run p limit hs) (t ∷ ts))) where
-  abbrev n0 : State
+  abbrev n0 : MachineState
   n0 = run p limit hs
 
-  abbrev n1 : State
+  abbrev n1 : MachineState
   n1 = step p n0 t
 
-  abbrev n2 : State
+  abbrev n2 : MachineState
   n2 = step p n0 u
 
-  abbrev n12 : State
+  abbrev n12 : MachineState
   n12 = step p n1 u
 
-  abbrev n21 : State
+  abbrev n21 : MachineState
   n21 = step p n2 t
 
   pub going_first : n1.end ≡ None
   going_first = elim (none_or n1.end) [
     | inl e ↦ e
-    | inr z ↦ absurd (lone p limit hs t u two can_t can_u (ap (λ (w : State). w.end) (sym (ended_stays p n1 ts z.0 z.1)) ∙ done))
+    | inr z ↦ absurd (lone p limit hs t u two can_t can_u (ap (λ (w : MachineState). w.end) (sym (ended_stays p n1 ts z.0 z.1)) ∙ done))
   ]
 
   module _ (F : Fronted p n1 u (run_from p n1 ts) (accesses_from p n1 ts) (prints_from p n1 ts) (turns_from p n1 ts)) where
-    free : (a b : Access) → access_of p n0 t ≡ Some a → access_of p n0 u ≡ Some b → Clash a b → ⊥
+    free : (a b : FieldAccess) → access_of p n0 t ≡ Some a → access_of p n0 u ≡ Some b → Clash a b → ⊥
     free a b ia ib C =
         let c = clashes_stay p limit hs t u a b two can_t can_u going_first ia ib C in
         let within : In (accesses_from p n1 ts) c.0 =
@@ -239,7 +198,7 @@ module _ (p : ProgramText) (limit : ℕ) (hs ts : List ℕ) (t u : ℕ) (two : t
     going_second = elim (none_or n12.end) [
       | inl e ↦ end_none n2.end (subst (EndAlike n2.end) e Lu.ends)
       | inr z ↦
-          let last : n12.end ≡ Some Done = ap (λ (w : State). w.end) (sym (ended_stays p n12 F.rest z.0 z.1)) ∙ (F.alike.end ∙ ap (option_map (end_to F.f)) done) in
+          let last : n12.end ≡ Some Done = ap (λ (w : MachineState). w.end) (sym (ended_stays p n12 F.rest z.0 z.1)) ∙ (F.alike.end ∙ ap (option_map (end_to F.f)) done) in
           absurd (lone p limit hs u t (λ e. two (sym e)) can_u can_t (end_done n2.end (subst (EndAlike n2.end) last Lu.ends)))
     ]
 
@@ -318,7 +277,7 @@ can_beside p limit hs t u two can_t can_u going1 = let y = can_task (run p limit
 
 module _ (p : ProgramText) (limit : ℕ) where
   -- its own step is already first
-  own : (m : State) (u : ℕ) (ts : List ℕ) → can_step m u ≡ true → Fronted p m u (run_from p m (u ∷ ts)) (accesses_from p m (u ∷ ts)) (prints_from p m (u ∷ ts)) (turns_from p m (u ∷ ts))
+  own : (m : MachineState) (u : ℕ) (ts : List ℕ) → can_step m u ≡ true → Fronted p m u (run_from p m (u ∷ ts)) (accesses_from p m (u ∷ ts)) (prints_from p m (u ∷ ts)) (turns_from p m (u ∷ ts))
   own m u ts can = record {
     rest = ts;
     f = itself;
@@ -332,7 +291,7 @@ module _ (p : ProgramText) (limit : ℕ) where
   }
 
   -- a step that can't be taken changes nothing
-  idle : (m : State) (t u : ℕ) (ts : List ℕ) → can_step m t ≡ false → Fronted p m u (run_from p m ts) (accesses_from p m ts) (prints_from p m ts) (turns_from p m ts)
+  idle : (m : MachineState) (t u : ℕ) (ts : List ℕ) → can_step m t ≡ false → Fronted p m u (run_from p m ts) (accesses_from p m ts) (prints_from p m ts) (turns_from p m ts)
       → Fronted p m u (run_from p m (t ∷ ts)) (accesses_from p m (t ∷ ts)) (prints_from p m (t ∷ ts)) (turns_from p m (t ∷ ts))
   idle m t u ts idle_now F =
       let e : step p m t ≡ m = step_idle p m t idle_now in
@@ -350,7 +309,7 @@ module _ (p : ProgramText) (limit : ℕ) where
       (u : ℕ) → can_step (run p limit hs) u ≡ true → (run_from p (run p limit hs) ts).end ≡ Some Done → InOrder (run_from p (run p limit hs) ts).edges (accesses_from p (run p limit hs) ts)
       → Front p limit hs ts u
 
-  tail_order : (es : List Edge) (o : Option Access) (xs : List Access) → InOrder es (with_some o xs) → InOrder es xs
+  tail_order : (es : List Edge) (o : Option FieldAccess) (xs : List FieldAccess) → InOrder es (with_some o xs) → InOrder es xs
   tail_order es None xs h = h
   tail_order es (Some a) xs h = h.1
 
@@ -360,7 +319,7 @@ module _ (p : ProgramText) (limit : ℕ) where
         let e : step p (run p limit hs) t ≡ (run p limit hs) = step_idle p (run p limit hs) t idle_now in
         let es : run_from p (run p limit hs) (t ∷ ts) ≡ run_from p (run p limit hs) ts = ap (λ w. run_from p w ts) e in
         let ea : accesses_from p (run p limit hs) (t ∷ ts) ≡ accesses_from p (run p limit hs) ts = ap (λ o. with_some o (accesses_from p (step p (run p limit hs) t) ts)) (ap (λ b. cond b (task_access p (run p limit hs) t (slice_get (run p limit hs).tasks t)) None) idle_now) ∙ ap (λ w. accesses_from p w ts) e in
-        idle (run p limit hs) t u ts idle_now (all hs u can (ap (λ (w : State). w.end) (sym es) ∙ done) (subst (λ xs. InOrder (run_from p (run p limit hs) ts).edges xs) ea (subst (λ (w : State). InOrder w.edges (accesses_from p (run p limit hs) (t ∷ ts))) es order)))
+        idle (run p limit hs) t u ts idle_now (all hs u can (ap (λ (w : MachineState). w.end) (sym es) ∙ done) (subst (λ xs. InOrder (run_from p (run p limit hs) ts).edges xs) ea (subst (λ (w : MachineState). InOrder w.edges (accesses_from p (run p limit hs) (t ∷ ts))) es order)))
     | inl can_t ↦ elim (cases_eq t u) [
       | inl e ↦ subst (λ k. Fronted p (run p limit hs) u (run_from p (run p limit hs) (k ∷ ts)) (accesses_from p (run p limit hs) (k ∷ ts)) (prints_from p (run p limit hs) (k ∷ ts)) (turns_from p (run p limit hs) (k ∷ ts))) (sym e) (own (run p limit hs) u ts can)
       | inr two ↦
@@ -369,9 +328,9 @@ module _ (p : ProgramText) (limit : ℕ) where
           let can1 : can_step (step p (run p limit hs) t) u ≡ true = can_beside p limit hs t u two can_t can going1 in
           let tail = tail_order (run_from p (run p limit hs) (t ∷ ts)).edges (access_of p (run p limit hs) t) (accesses_from p (step p (run p limit hs) t) ts) order in
           exchanged p limit hs ts t u two can_t can done order
-          (subst (λ (w : State). Fronted p w u (run_from p w ts) (accesses_from p w ts) (prints_from p w ts) (turns_from p w ts)) push
-          (all (hs ++ t ∷ []) u (subst (λ (w : State). can_step w u ≡ true) (sym push) can1) (subst (λ (w : State). (run_from p w ts).end ≡ Some Done) (sym push) done)
-          (subst (λ (w : State). InOrder (run_from p w ts).edges (accesses_from p w ts)) (sym push) tail)))
+          (subst (λ (w : MachineState). Fronted p w u (run_from p w ts) (accesses_from p w ts) (prints_from p w ts) (turns_from p w ts)) push
+          (all (hs ++ t ∷ []) u (subst (λ (w : MachineState). can_step w u ≡ true) (sym push) can1) (subst (λ (w : MachineState). (run_from p w ts).end ≡ Some Done) (sym push) done)
+          (subst (λ (w : MachineState). InOrder (run_from p w ts).edges (accesses_from p w ts)) (sym push) tail)))
     ]
   ]
 

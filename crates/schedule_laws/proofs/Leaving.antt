@@ -1,42 +1,6 @@
 -- A step leaves a concurrent task's next step as it is unless their accesses clash; and accesses that clash still clash
 -- after it.
-use Rattle.std.proofs.Common.{◌≡◌, ℕ, ℤ, ◌+◌, ◌-◌, ◌++◌, Bool, true, false, cond, Option, Some, None, List, [], ◌∷◌, length, nat_lt, slice_get, ◌⊎◌, inl, inr, refl, ap, sym, subst, ◌∙◌}
-use Rattle.std.specs.Option.{option_flatten}
-use Rattle.std.proofs.lemmas.Bool.{cases_Bool, false≢true}
-use Rattle.std.proofs.lemmas.Option.{same_Some}
-use Rattle.listed.proofs.Members.{In}
-use Rattle.hh_lang.specs.declared.instr.Instr.{Instr}
-use Rattle.hh_lang.specs.declared.instr.Instr.TheVariants.{Getr, Geti, Putr, Puti, Cas}
-use Rattle.hh_lang.specs.declared.program.Line.{Line}
-use Rattle.hh_lang.specs.Form.{ProgramText}
-use Rattle.hh_model.specs.declared.data.Name.{Name}
-use Rattle.hh_model.specs.declared.data.Strand.{Strand}
-use Rattle.hh_model.specs.declared.data.Object.{Object}
-use Rattle.hh_model.specs.declared.data.Frame.{Frame}
-use Rattle.hh_model.specs.declared.data.Task.{Task}
-use Rattle.hh_model.specs.declared.data.Trap.TheVariants.{Depth}
-use Rattle.hh_model.specs.declared.data.End.{End}
-use Rattle.hh_model.specs.declared.data.End.TheVariants.{Trapped}
-use Rattle.hh_model.specs.declared.data.State.{State}
-use Rattle.path_laws.specs.Disentangled.{Disentangled}
-use Rattle.hh_model.specs.Effect.{Effect, Goes, Prints, Calls, Forks, Returns, Traps, Stops, effect, int_in, place_in, ref_in, same_name}
-use Rattle.hh_model.specs.Step.{can_step, child_ended_by, depth_limit, ended_by, fetched, follow, frame_limit, goes_on, is_left, is_running, join_of, result_at, last_of, last_return, or_same, owner_of, result_of, returned_to, run, setting, sibling, start, step, strand_of}
-use Rattle.hh_model.specs.Store.{NamesAreStoredIn}
-use Rattle.hh_model.specs.Tree.{IsForkJoinState}
-use Rattle.hh_model.proofs.Carried.{at_in}
-use Rattle.hh_model.proofs.Counts.{run_push}
-use Rattle.path_laws.proofs.FreeReads.{run_disentangled}
-use Rattle.hh_model.proofs.ForkJoinStates.{run_is_fork_join_state, start_is_fork_join_state}
-use Rattle.path_laws.proofs.Stored.{names_are_stored}
-use Rattle.hh_model.proofs.Taken.{step_none, step_taken, can_task}
-use Rattle.race_report.specs.declared.data.Field.{Field}
-use Rattle.race_report.specs.declared.data.Access.{Access}
-use Rattle.race_report.specs.Accesses.{access_by, access_of, line_access, ref_field, refs_in, swap_access, task_access, unless_trap, value_of}
-use Rattle.renaming_laws.proofs.Changed.{Reach, Reaches, fields_of}
-use Rattle.renaming_laws.proofs.Unnamed.{EffectAs, IsSame}
-use Rattle.schedule_laws.specs.Prints.{line_print, print_by, print_of, task_print}
-use Rattle.schedule_laws.specs.Clashes.{Clash}
-use Rattle.schedule_laws.specs.Steps.{ClashesStay, EndAlike, LeavesStep, StepsLeaveSteps}
+use Rattle.schedule_laws.proofs.Common.{◌≡◌, ℕ, ℤ, ◌+◌, ◌-◌, ◌++◌, Bool, true, false, cond, Option, Some, None, List, [], ◌∷◌, length, nat_lt, slice_get, ◌⊎◌, inl, inr, refl, ap, sym, subst, ◌∙◌, option_flatten, cases_Bool, false≢true, same_Some, In, Instr, Getr, Geti, Putr, Puti, Cas, Line, ProgramText, Name, Strand, Object, Frame, Task, Depth, End, Trapped, MachineState, Disentangled, Effect, Goes, Prints, Calls, Forks, Returns, Traps, Stops, effect, int_in, place_in, ref_in, same_name, can_step, child_ended_by, depth_limit, ended_by, fetched, follow, frame_limit, goes_on, is_left, is_running, join_of, result_at, last_of, last_return, or_same, owner_of, result_of, returned_to, run, setting, sibling, start, step, strand_of, NamesAreStoredIn, IsForkJoinState, at_in, run_push, run_disentangled, run_is_fork_join_state, start_is_fork_join_state, names_are_stored, step_none, step_taken, can_task, Field, FieldAccess, access_by, access_of, line_access, ref_field, refs_in, swap_access, task_access, unless_trap, value_of, Reach, Reaches, fields_of, EffectAs, IsSame, line_print, print_by, print_of, task_print, Clash, ClashesStay, EndAlike, LeavesStep, StepsLeaveSteps}
 use Rattle.schedule_laws.proofs.Accessed.{access_is, field_of, found_at, found_by, reached_at}
 use Rattle.schedule_laws.proofs.Beside.{Leaves, same_effect, sees, task_there}
 use Rattle.schedule_laws.proofs.StoreSteps.{Acting}
@@ -44,26 +8,26 @@ use Rattle.schedule_laws.proofs.StoreSteps.{Acting}
 pub none_alike : (a b : Option End) → a ≡ None → b ≡ None → EndAlike a b
 none_alike a b ea eb = subst (λ w. EndAlike w b) (sym ea) (subst (λ w. EndAlike None w) (sym eb) tt)
 
-child_end : (m : State) (u : ℕ) (y : Task) (q : ℕ) (r : ℤ × Option Name) (o : Option (ℤ × Option Name)) → (child_ended_by m u y q r o).end ≡ m.end
+child_end : (m : MachineState) (u : ℕ) (y : Task) (q : ℕ) (r : ℤ × Option Name) (o : Option (ℤ × Option Name)) → (child_ended_by m u y q r o).end ≡ m.end
 child_end m u y q r None = refl
 child_end m u y q r (Some other) = by_parent (slice_get m.tasks q)
   where
-    side : (b : Bool) (v w : State) → v.end ≡ m.end → w.end ≡ m.end → (cond b v w).end ≡ m.end
+    side : (b : Bool) (v w : MachineState) → v.end ≡ m.end → w.end ≡ m.end → (cond b v w).end ≡ m.end
     side true v w a c = a
     side false v w a c = c
 
-    by_sibling : (o : Option Task) (go : Task → State) → ((x : Task) → (go x).end ≡ m.end) → (or_same m o go).end ≡ m.end
+    by_sibling : (o : Option Task) (go : Task → MachineState) → ((x : Task) → (go x).end ≡ m.end) → (or_same m o go).end ≡ m.end
     by_sibling None go each = refl
     by_sibling (Some x) go each = each x
 
     by_parent : (o : Option Task) → (or_same m o (λ xq. or_same m (slice_get m.tasks (sibling u)) (λ x. cond (is_left u) (join_of m q xq u y x r other) (join_of m q xq (u - 1) x y other r)))).end ≡ m.end
     by_parent o = by_sibling o _ (λ xq. by_sibling (slice_get m.tasks (sibling u)) _ (λ x. side (is_left u) (join_of m q xq u y x r other) (join_of m q xq (u - 1) x y other r) refl refl))
 
-module _ (m m1 : State) (u : ℕ) (y : Task) (going : m.end ≡ None) (going1 : m1.end ≡ None) where
-  both_end : (v w : State) → v.end ≡ m.end → w.end ≡ m1.end → EndAlike v.end w.end
+module _ (m m1 : MachineState) (u : ℕ) (y : Task) (going : m.end ≡ None) (going1 : m1.end ≡ None) where
+  both_end : (v w : MachineState) → v.end ≡ m.end → w.end ≡ m1.end → EndAlike v.end w.end
   both_end v w a b = none_alike v.end w.end (a ∙ going) (b ∙ going1)
 
-  deep : (b : Bool) (v w : State) (line : ℕ) → v.end ≡ m.end → w.end ≡ m1.end → EndAlike (cond b v (ended_by m (Trapped Depth u line))).end (cond b w (ended_by m1 (Trapped Depth u line))).end
+  deep : (b : Bool) (v w : MachineState) (line : ℕ) → v.end ≡ m.end → w.end ≡ m1.end → EndAlike (cond b v (ended_by m (Trapped Depth u line))).end (cond b w (ended_by m1 (Trapped Depth u line))).end
   deep true v w line a c = both_end v w a c
   deep false v w line a c = (refl, refl, refl)
 
@@ -110,7 +74,7 @@ module _ (m m1 : State) (u : ℕ) (y : Task) (going : m.end ≡ None) (going1 : 
     same_print i (Stops x) (Stops z) s h = refl
     same_print i _ _ s h = absurd h
 
-trapped : (e : Effect) (b : Access) → unless_trap e (Some b) ≡ None → (c : Option Access) → unless_trap e c ≡ None
+trapped : (e : Effect) (b : FieldAccess) → unless_trap e (Some b) ≡ None → (c : Option FieldAccess) → unless_trap e c ≡ None
 trapped (Goes x st) b h c = absurd (let q : Some b ≡ None = h in cc)
 trapped (Prints k) b h c = absurd (let q : Some b ≡ None = h in cc)
 trapped (Calls g) b h c = absurd (let q : Some b ≡ None = h in cc)
@@ -119,7 +83,7 @@ trapped Returns b h c = absurd (let q : Some b ≡ None = h in cc)
 trapped (Traps kind) b h c = refl
 trapped (Stops n) b h c = absurd (let q : Some b ≡ None = h in cc)
 
-made_is : (e : Effect) (b a : Access) → unless_trap e (Some b) ≡ Some a → (b ≡ a) × ((c : Access) → unless_trap e (Some c) ≡ Some c)
+made_is : (e : Effect) (b a : FieldAccess) → unless_trap e (Some b) ≡ Some a → (b ≡ a) × ((c : FieldAccess) → unless_trap e (Some c) ≡ Some c)
 made_is (Goes x st) b a h = (same_Some b a h, λ c. refl)
 made_is (Prints k) b a h = (same_Some b a h, λ c. refl)
 made_is (Calls g) b a h = (same_Some b a h, λ c. refl)
@@ -129,10 +93,10 @@ made_is (Traps kind) b a h = absurd (let q : None ≡ Some a = h in cc)
 made_is (Stops n) b a h = (same_Some b a h, λ c. refl)
 
 module _ (p : ProgramText) (limit : ℕ) (ts : List ℕ) (t u : ℕ) (two : t ≡ u → ⊥) (can_t : can_step (run p limit ts) t ≡ true) (can_u : can_step (run p limit ts) u ≡ true) (going1 : (step p (run p limit ts) t).end ≡ None) where
-  abbrev pub m : State
+  abbrev pub m : MachineState
   m = run p limit ts
 
-  abbrev pub m1 : State
+  abbrev pub m1 : MachineState
   m1 = step p m t
 
   abbrev pub K : IsForkJoinState m
@@ -148,25 +112,25 @@ module _ (p : ProgramText) (limit : ℕ) (ts : List ℕ) (t u : ℕ) (two : t �
   N1 = subst NamesAreStoredIn (run_push p (start p limit) ts t) (names_are_stored p limit (ts ++ t ∷ []))
 
   pub going : m.end ≡ None
-  going = by m.end can_u
+  going = going_by_cases m.end can_u
     where
-      by : (o : Option End) → goes_on o (is_running (slice_get m.tasks u)) ≡ true → o ≡ None
-      by None h = refl
-      by (Some e) h = absurd (false≢true h)
+      going_by_cases : (o : Option End) → goes_on o (is_running (slice_get m.tasks u)) ≡ true → o ≡ None
+      going_by_cases None h = refl
+      going_by_cases (Some e) h = absurd (false≢true h)
 
   module _ (y : Task) (iu : slice_get m.tasks u ≡ Some y) (run_u : is_running (Some y) ≡ true) where
-    pub there : slice_get m1.tasks u ≡ Some y
-    there = task_there p m K D N t u two y iu run_u
+    pub task_is_left : slice_get m1.tasks u ≡ Some y
+    task_is_left = task_there p m K D N t u two y iu run_u
 
     pub can_there : can_step m1 u ≡ true
-    can_there = ap (λ o. goes_on o (is_running (slice_get m1.tasks u))) going1 ∙ (ap is_running there ∙ run_u)
+    can_there = ap (λ o. goes_on o (is_running (slice_get m1.tasks u))) going1 ∙ (ap is_running task_is_left ∙ run_u)
 
     module _ (line : Line) (next : fetched p y.top ≡ Some line) where
       pub here_acting : Acting p m N u y line
       here_acting = record { can = can_u; is = iu; running = run_u; next = next }
 
       pub there_acting : Acting p m1 N1 u y line
-      there_acting = record { can = can_there; is = there; running = run_u; next = next }
+      there_acting = record { can = can_there; is = task_is_left; running = run_u; next = next }
 
       abbrev pub May : Type 0
       May = (b : Bool) (n : Name) (at : ℕ) → Reaches (setting m u y) y.top m.store line.instr b n at → Leaves p m t b n at
@@ -177,45 +141,45 @@ module _ (p : ProgramText) (limit : ℕ) (ts : List ℕ) (t u : ℕ) (two : t �
       abbrev e1 : Effect
       e1 = effect (setting m1 u y) y.top m1.store line.instr
 
-      pub same : May → EffectAs (setting m u y) m1.edges (owner_of m1.tasks) y.top m.store m1.store (Leaves p m t) line.instr e e1
-      same may = same_effect p m K D N t u two y iu run_u line.instr may
+      pub left_effect : May → EffectAs (setting m u y) m1.edges (owner_of m1.tasks) y.top m.store m1.store (Leaves p m t) line.instr e e1
+      left_effect may = same_effect p m K D N t u two y iu run_u line.instr may
 
       value_same : (n : Name) (at : ℕ) → In y.top.refs (Some n) → Leaves p m t false n at → value_of m1.store (field_of false n at) ≡ value_of m.store (field_of false n at)
       value_same n at i may =
           let o = (sees p m K D N t u two y iu run_u).objects n i in
           ap (λ w. option_flatten (slice_get (refs_in w) at)) o.3 ∙ (ap option_flatten (o.4.ref_at at may) ∙ sym (ap (λ w. option_flatten (slice_get (refs_in w) at)) o.2))
 
-      abbrev swap_acc : List (List Object) → ℕ → Field → Access
+      abbrev swap_acc : List (List Object) → ℕ → Field → FieldAccess
       swap_acc store w field = record { strand = strand_of u y; line = line.number; field = field; writes = same_name (value_of store field) (ref_in y.top w); swaps = true }
 
-      swapped : (d o k w v : ℕ) → line.instr ≡ Cas d o k w v → May → (field : Field) → ref_field y.top o k ≡ Some field → (a : Access) → unless_trap e (Some (swap_acc m.store w field)) ≡ Some a → swap_acc m1.store w field ≡ swap_acc m.store w field
+      swapped : (d o k w v : ℕ) → line.instr ≡ Cas d o k w v → May → (field : Field) → ref_field y.top o k ≡ Some field → (a : FieldAccess) → unless_trap e (Some (swap_acc m.store w field)) ≡ Some a → swap_acc m1.store w field ≡ swap_acc m.store w field
       swapped d o k w v is may field ef a h =
-          let here : Access = swap_acc m.store w field in
+          let here : FieldAccess = swap_acc m.store w field in
           let by : access_by (strand_of u y) line.number y.top m.store line.instr ≡ Some here = ap (access_by (strand_of u y) line.number y.top m.store) is ∙ ap (swap_access (strand_of u y) line.number m.store (ref_in y.top w)) ef in
           let F = found_by p m N u y line here_acting line.instr a (ap (unless_trap e) by ∙ h) in
           let r : Reach (setting m u y) y.top m.store false true o k F.number F.name F.at = subst (λ i. Reaches (setting m u y) y.top m.store i F.number F.name F.at) is F.reach in
           let q : here ≡ a = (made_is e here a h).0 in
-          let named : field ≡ field_of false F.name F.at = ap (λ (c : Access). c.field) q ∙ (F.field ∙ ap (λ b. field_of b F.name F.at) r.kind) in
+          let named : field ≡ field_of false F.name F.at = ap (λ (c : FieldAccess). c.field) q ∙ (F.field ∙ ap (λ b. field_of b F.name F.at) r.kind) in
           let left : Leaves p m t false F.name F.at = subst (λ b. Leaves p m t b F.name F.at) r.kind (may F.number F.name F.at F.reach) in
           let value : value_of m1.store field ≡ value_of m.store field =
           ap (value_of m1.store) named ∙ (value_same F.name F.at (at_in y.top.refs o F.name r.name) left ∙ ap (value_of m.store) (sym named)) in
           ap (λ z. record { strand = strand_of u y; line = line.number; field = field; writes = same_name z (ref_in y.top w); swaps = true }) value
 
-      swaps : (d o k w v : ℕ) → line.instr ≡ Cas d o k w v → May → (field : Field) → ref_field y.top o k ≡ Some field → (z : Option Access) → unless_trap e (Some (swap_acc m.store w field)) ≡ z
+      swaps : (d o k w v : ℕ) → line.instr ≡ Cas d o k w v → May → (field : Field) → ref_field y.top o k ≡ Some field → (z : Option FieldAccess) → unless_trap e (Some (swap_acc m.store w field)) ≡ z
           → unless_trap e1 (Some (swap_acc m1.store w field)) ≡ unless_trap e (Some (swap_acc m.store w field))
       swaps d o k w v is may field ef None h =
-          same_trap m m1 u y going going1 (Leaves p m t) line.instr e e1 (Some (swap_acc m1.store w field)) (same may) ∙ (trapped e (swap_acc m.store w field) h (Some (swap_acc m1.store w field)) ∙ sym h)
+          same_trap m m1 u y going going1 (Leaves p m t) line.instr e e1 (Some (swap_acc m1.store w field)) (left_effect may) ∙ (trapped e (swap_acc m.store w field) h (Some (swap_acc m1.store w field)) ∙ sym h)
       swaps d o k w v is may field ef (Some a) h =
-          same_trap m m1 u y going going1 (Leaves p m t) line.instr e e1 (Some (swap_acc m1.store w field)) (same may) ∙ ap (λ c. unless_trap e (Some c)) (swapped d o k w v is may field ef a h)
+          same_trap m m1 u y going going1 (Leaves p m t) line.instr e e1 (Some (swap_acc m1.store w field)) (left_effect may) ∙ ap (λ c. unless_trap e (Some c)) (swapped d o k w v is may field ef a h)
 
       swap_same : (d o k w v : ℕ) → line.instr ≡ Cas d o k w v → May → (z : Option Field) → ref_field y.top o k ≡ z
           → unless_trap e1 (swap_access (strand_of u y) line.number m1.store (ref_in y.top w) z) ≡ unless_trap e (swap_access (strand_of u y) line.number m.store (ref_in y.top w) z)
-      swap_same d o k w v is may None ef = same_trap m m1 u y going going1 (Leaves p m t) line.instr e e1 None (same may)
+      swap_same d o k w v is may None ef = same_trap m m1 u y going going1 (Leaves p m t) line.instr e e1 None (left_effect may)
       swap_same d o k w v is may (Some field) ef = swaps d o k w v is may field ef (unless_trap e (Some (swap_acc m.store w field))) refl
 
       by_instr : (i : Instr) → line.instr ≡ i → May → unless_trap e1 (access_by (strand_of u y) line.number y.top m1.store i) ≡ unless_trap e (access_by (strand_of u y) line.number y.top m.store i)
       by_instr (Cas d o k w v) is may = swap_same d o k w v is may (ref_field y.top o k) refl
-      by_instr i is may = same_trap m m1 u y going going1 (Leaves p m t) line.instr e e1 (access_by (strand_of u y) line.number y.top m.store i) (same may)
+      by_instr i is may = same_trap m m1 u y going going1 (Leaves p m t) line.instr e e1 (access_by (strand_of u y) line.number y.top m.store i) (left_effect may)
 
       pub same_access : May → access_of p m1 u ≡ access_of p m u
       same_access may = access_is p m1 N1 u y line there_acting ∙ (by_instr line.instr refl may ∙ sym (access_is p m N u y line here_acting))
@@ -224,17 +188,17 @@ module _ (p : ProgramText) (limit : ℕ) (ts : List ℕ) (t u : ℕ) (two : t �
       prints_here = ap (λ b. cond b (task_print p m u (slice_get m.tasks u)) None) can_u ∙ (ap (task_print p m u) iu ∙ ap (line_print m u y) next)
 
       prints_there : print_of p m1 u ≡ print_by (strand_of u y) e1
-      prints_there = ap (λ b. cond b (task_print p m1 u (slice_get m1.tasks u)) None) can_there ∙ (ap (task_print p m1 u) there ∙ ap (line_print m1 u y) next)
+      prints_there = ap (λ b. cond b (task_print p m1 u (slice_get m1.tasks u)) None) can_there ∙ (ap (task_print p m1 u) task_is_left ∙ ap (line_print m1 u y) next)
 
       pub left_step : May → LeavesStep p m t u
       left_step may = record {
         can = can_there;
         access = same_access may;
-        print = prints_there ∙ (same_print m m1 u y going going1 (Leaves p m t) line.instr e e1 (strand_of u y) (same may) ∙ sym prints_here);
+        print = prints_there ∙ (same_print m m1 u y going going1 (Leaves p m t) line.instr e e1 (strand_of u y) (left_effect may) ∙ sym prints_here);
         ends =
-            subst (λ (w : State). EndAlike w.end (step p m1 u).end) (sym (step_taken p m u y line can_u iu next))
-            (subst (λ (w : State). EndAlike (follow m u y line.number e).end w.end) (sym (step_taken p m1 u y line can_there there next))
-            (ends_to m m1 u y going going1 (Leaves p m t) line.number line.instr e e1 (same may)));
+            subst (λ (w : MachineState). EndAlike w.end (step p m1 u).end) (sym (step_taken p m u y line can_u iu next))
+            (subst (λ (w : MachineState). EndAlike (follow m u y line.number e).end w.end) (sym (step_taken p m1 u y line can_there task_is_left next))
+            (ends_to m m1 u y going going1 (Leaves p m t) line.number line.instr e e1 (left_effect may)));
       }
 
       -- a field that is reached is reached after t's step
@@ -263,21 +227,21 @@ module _ (p : ProgramText) (limit : ℕ) (ts : List ℕ) (t u : ℕ) (two : t �
       reaches_there (Cas d o k w v) b n at r = reach_there false true o k b n at r
       reaches_there _ b n at r = absurd r
 
-      pub clash_there : (a b : Access) → access_of p m t ≡ Some a → access_of p m u ≡ Some b → Clash a b → (c : Access) × (access_of p m1 u ≡ Some c) × Clash a c × (c.strand ≡ b.strand)
+      pub clash_there : (a b : FieldAccess) → access_of p m t ≡ Some a → access_of p m u ≡ Some b → Clash a b → (c : FieldAccess) × (access_of p m1 u ≡ Some c) × Clash a c × (c.strand ≡ b.strand)
       clash_there a b ia ib C =
           let F = found_at p m N u y line here_acting b ib in
           let h = reached_at p m1 N1 u y line there_acting F.number F.name F.at (reaches_there line.instr F.number F.name F.at F.reach) in
-          (h.0, h.1, record { field = C.field ∙ (F.field ∙ sym h.2); writes = by h.0 h.1 (cases_Bool a.writes) C.writes }, h.3 ∙ sym F.strand)
+          (h.0, h.1, record { field = C.field ∙ (F.field ∙ sym h.2); writes = clash_there_by_cases h.0 h.1 (cases_Bool a.writes) C.writes }, h.3 ∙ sym F.strand)
         where
-          by : (c : Access) → access_of p m1 u ≡ Some c → (a.writes ≡ true) ⊎ (a.writes ≡ false) → (a.writes ≡ true) ⊎ (b.writes ≡ true) → (a.writes ≡ true) ⊎ (c.writes ≡ true)
-          by c ic (inl w) h = inl w
-          by c ic (inr nw) (inl w) = inl w
-          by c ic (inr nw) (inr w) =
-              let may : May = λ d n at r a' ia' fa wa. false≢true (sym nw ∙ (ap (λ (z : Access). z.writes) (same_Some a a' (sym ia ∙ ia')) ∙ wa)) in
+          clash_there_by_cases : (c : FieldAccess) → access_of p m1 u ≡ Some c → (a.writes ≡ true) ⊎ (a.writes ≡ false) → (a.writes ≡ true) ⊎ (b.writes ≡ true) → (a.writes ≡ true) ⊎ (c.writes ≡ true)
+          clash_there_by_cases c ic (inl w) h = inl w
+          clash_there_by_cases c ic (inr nw) (inl w) = inl w
+          clash_there_by_cases c ic (inr nw) (inr w) =
+              let may : May = λ d n at r a' ia' fa wa. false≢true (sym nw ∙ (ap (λ (z : FieldAccess). z.writes) (same_Some a a' (sym ia ∙ ia')) ∙ wa)) in
               let same : b ≡ c = same_Some b c (sym ib ∙ (sym (same_access may) ∙ ic)) in
-              inr (ap (λ (z : Access). z.writes) (sym same) ∙ w)
+              inr (ap (λ (z : FieldAccess). z.writes) (sym same) ∙ w)
 
-      pub free_may : ((a b : Access) → access_of p m t ≡ Some a → access_of p m u ≡ Some b → Clash a b → ⊥) → May
+      pub free_may : ((a b : FieldAccess) → access_of p m t ≡ Some a → access_of p m u ≡ Some b → Clash a b → ⊥) → May
       free_may free b n at r a ia fa wa =
           let h = reached_at p m N u y line here_acting b n at r in
           free a h.0 ia h.1 (record { field = fa ∙ sym h.2; writes = inl wa })
@@ -286,18 +250,18 @@ module _ (p : ProgramText) (limit : ℕ) (ts : List ℕ) (t u : ℕ) (two : t �
     pub left_none : fetched p y.top ≡ None → LeavesStep p m t u
     left_none next = record {
       can = can_there;
-      access = access_none m1 can_there there ∙ sym (access_none m can_u iu);
-      print = print_none m1 can_there there ∙ sym (print_none m can_u iu);
-      ends = none_alike (step p m u).end (step p m1 u).end (ap (λ (w : State). w.end) (step_none p m u y can_u iu next) ∙ going) (ap (λ (w : State). w.end) (step_none p m1 u y can_there there next) ∙ going1);
+      access = access_none m1 can_there task_is_left ∙ sym (access_none m can_u iu);
+      print = print_none m1 can_there task_is_left ∙ sym (print_none m can_u iu);
+      ends = none_alike (step p m u).end (step p m1 u).end (ap (λ (w : MachineState). w.end) (step_none p m u y can_u iu next) ∙ going) (ap (λ (w : MachineState). w.end) (step_none p m1 u y can_there task_is_left next) ∙ going1);
     }
       where
-        access_none : (w : State) → can_step w u ≡ true → slice_get w.tasks u ≡ Some y → access_of p w u ≡ None
+        access_none : (w : MachineState) → can_step w u ≡ true → slice_get w.tasks u ≡ Some y → access_of p w u ≡ None
         access_none w can is = ap (λ b. cond b (task_access p w u (slice_get w.tasks u)) None) can ∙ (ap (task_access p w u) is ∙ ap (line_access w u y) next)
 
-        print_none : (w : State) → can_step w u ≡ true → slice_get w.tasks u ≡ Some y → print_of p w u ≡ None
+        print_none : (w : MachineState) → can_step w u ≡ true → slice_get w.tasks u ≡ Some y → print_of p w u ≡ None
         print_none w can is = ap (λ b. cond b (task_print p w u (slice_get w.tasks u)) None) can ∙ (ap (task_print p w u) is ∙ ap (line_print w u y) next)
 
-    pub access_line : (o : Option Line) → fetched p y.top ≡ o → (b : Access) → access_of p m u ≡ Some b → (line : Line) × (fetched p y.top ≡ Some line)
+    pub access_line : (o : Option Line) → fetched p y.top ≡ o → (b : FieldAccess) → access_of p m u ≡ Some b → (line : Line) × (fetched p y.top ≡ Some line)
     access_line (Some line) e b ib = (line, e)
     access_line None e b ib =
         absurd (let h : None ≡ Some b = sym (ap (λ q. cond q (task_access p m u (slice_get m.tasks u)) None) can_u ∙ (ap (task_access p m u) iu ∙ ap (line_access m u y) e)) ∙ ib in cc)
@@ -305,11 +269,11 @@ module _ (p : ProgramText) (limit : ℕ) (ts : List ℕ) (t u : ℕ) (two : t �
 pub steps_leave_steps : StepsLeaveSteps
 steps_leave_steps p limit ts t u B going1 =
     let y = can_task (run p limit ts) u B.second in
-    by y.0 y.1 y.2 (fetched p y.0.top) refl
+    steps_leave_steps_by_cases y.0 y.1 y.2 (fetched p y.0.top) refl
   where
-    by : (y : Task) → slice_get (run p limit ts).tasks u ≡ Some y → is_running (Some y) ≡ true → (o : Option Line) → fetched p y.top ≡ o → LeavesStep p (run p limit ts) t u
-    by y iu run_u None next = left_none p limit ts t u B.two B.first B.second going1 y iu run_u next
-    by y iu run_u (Some line) next = left_step p limit ts t u B.two B.first B.second going1 y iu run_u line next (free_may p limit ts t u B.two B.first B.second going1 y iu run_u line next B.free)
+    steps_leave_steps_by_cases : (y : Task) → slice_get (run p limit ts).tasks u ≡ Some y → is_running (Some y) ≡ true → (o : Option Line) → fetched p y.top ≡ o → LeavesStep p (run p limit ts) t u
+    steps_leave_steps_by_cases y iu run_u None next = left_none p limit ts t u B.two B.first B.second going1 y iu run_u next
+    steps_leave_steps_by_cases y iu run_u (Some line) next = left_step p limit ts t u B.two B.first B.second going1 y iu run_u line next (free_may p limit ts t u B.two B.first B.second going1 y iu run_u line next B.free)
 
 pub clashes_stay : ClashesStay
 clashes_stay p limit ts t u a b two can_t can_u going1 ia ib C =

@@ -19,6 +19,7 @@ mod Splits
 mod Fronts
 mod Said
 pub mod Schedules
-pub mod GoesOn
+pub mod CanGoOn
 pub mod RaceFree
 mod Example
+mod Common

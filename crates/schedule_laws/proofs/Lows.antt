@@ -1,50 +1,29 @@
 -- Every frame names only tasks that exist, also the frames of ended tasks.
-use Rattle.std.proofs.Common.{◌≡◌, ℕ, zero, suc, ◌+◌, ◌<◌, true, Option, Some, List, [], ◌∷◌, length, slice_get, slice_set, ◌⊎◌, inl, inr, refl, ap, sym, subst, ◌∙◌, arith}
-use Rattle.std.proofs.lemmas.Bool.{false≢true}
-use Rattle.listed.proofs.Members.{In, contains_from_in, got_cases}
-use Rattle.hh_lang.specs.Form.{ProgramText}
-use Rattle.hh_model.specs.declared.data.Name.{Name}
-use Rattle.hh_model.specs.declared.data.Object.{Object}
-use Rattle.hh_model.specs.declared.data.Frame.{Frame}
-use Rattle.hh_model.specs.declared.data.Status.{Status}
-use Rattle.hh_model.specs.declared.data.Status.TheVariants.{Running, Waiting, Ended, Joined}
-use Rattle.hh_model.specs.declared.data.Task.{Task}
-use Rattle.hh_model.specs.declared.data.State.{State}
-use Rattle.path_laws.specs.Disentangled.{Disentangled}
-use Rattle.hh_model.specs.Effect.{object_at, onward}
-use Rattle.hh_model.specs.Names.{names_from, registers, task_names}
-use Rattle.hh_model.specs.Step.{child, ended_task, is_running, joined_task, result_of, resumed, run, run_from, runs, start, step, waits}
-use Rattle.hh_model.specs.Store.{NamesAreStoredIn}
-use Rattle.hh_model.specs.Tree.{IsForkJoinState}
-use Rattle.hh_model.proofs.Closed.{grown_cases, three_cases}
-use Rattle.path_laws.proofs.Disentangled.{disentangled_step, start_disentangled}
-use Rattle.hh_model.proofs.ForkJoinStates.{start_is_fork_join_state, step_is_fork_join_state}
-use Rattle.hh_model.proofs.Steps.{in_registers, step_cases}
-use Rattle.renaming_laws.proofs.Runs.{step_grows}
+use Rattle.schedule_laws.proofs.Common.{◌≡◌, ℕ, zero, suc, ◌+◌, ◌<◌, true, Option, Some, List, [], ◌∷◌, length, slice_get, slice_set, ◌⊎◌, inl, inr, refl, ap, sym, subst, ◌∙◌, arith, false≢true, In, contains_from_in, got_cases, ProgramText, Name, Object, Frame, TaskStatus, Running, Waiting, Ended, Joined, Task, MachineState, Disentangled, object_at, onward, names_from, registers, task_names, child, ended_task, is_running, joined_task, result_of, resumed, run, run_from, runs, start, step, waits, NamesAreStoredIn, IsForkJoinState, grown_cases, three_cases, disentangled_step, start_disentangled, start_is_fork_join_state, step_is_fork_join_state, in_registers, step_cases, step_grows}
 
 -- the frames of a task name tasks below n
 abbrev pub LowFrames : ℕ → Task → Type 0
 LowFrames n x = (f : Frame) → In (x.top ∷ x.below) f → (r : Name) → In f.refs (Some r) → r.task < n
 
-abbrev pub LowIn : State → Type 0
+abbrev pub LowIn : MachineState → Type 0
 LowIn m = (v : ℕ) (x : Task) → slice_get m.tasks v ≡ Some x → LowFrames (length m.tasks) x
 
 -- a task that runs or waits holds what its frames name
 live_names : (x : Task) → (runs x.status ≡ true) ⊎ (waits x.status ≡ true) → (f : Frame) → In (x.top ∷ x.below) f → (r : Name) → In f.refs (Some r) → In (task_names x) r
-live_names x h f i r j = by x.status h (in_registers (x.top ∷ x.below) f r i j)
+live_names x h f i r j = live_names_by_cases x.status h (in_registers (x.top ∷ x.below) f r i j)
   where
-    by : (s : Status) → (runs s ≡ true) ⊎ (waits s ≡ true) → In (registers (x.top ∷ x.below)) r → In (names_from s (x.top ∷ x.below)) r
-    by Running h k = k
-    by Waiting h k = k
-    by (Ended a b) (inl h) k = absurd (false≢true h)
-    by (Ended a b) (inr h) k = absurd (false≢true h)
-    by Joined (inl h) k = absurd (false≢true h)
-    by Joined (inr h) k = absurd (false≢true h)
+    live_names_by_cases : (s : TaskStatus) → (runs s ≡ true) ⊎ (waits s ≡ true) → In (registers (x.top ∷ x.below)) r → In (names_from s (x.top ∷ x.below)) r
+    live_names_by_cases Running h k = k
+    live_names_by_cases Waiting h k = k
+    live_names_by_cases (Ended a b) (inl h) k = absurd (false≢true h)
+    live_names_by_cases (Ended a b) (inr h) k = absurd (false≢true h)
+    live_names_by_cases Joined (inl h) k = absurd (false≢true h)
+    live_names_by_cases Joined (inr h) k = absurd (false≢true h)
 
-live_low : (m : State) → Disentangled m.tasks m.store → (v : ℕ) (x : Task) → slice_get m.tasks v ≡ Some x → (runs x.status ≡ true) ⊎ (waits x.status ≡ true) → LowFrames (length m.tasks) x
+live_low : (m : MachineState) → Disentangled m.tasks m.store → (v : ℕ) (x : Task) → slice_get m.tasks v ≡ Some x → (runs x.status ≡ true) ⊎ (waits x.status ≡ true) → LowFrames (length m.tasks) x
 live_low m D v x is live f i r j = (D.of_task v x r is (live_names x live f i r j)).0
 
-module _ (p : ProgramText) (m : State) (t : ℕ) (K : IsForkJoinState m) (D : Disentangled m.tasks m.store) (L : LowIn m) where
+module _ (p : ProgramText) (m : MachineState) (t : ℕ) (K : IsForkJoinState m) (D : Disentangled m.tasks m.store) (L : LowIn m) where
   -- a task whose frames it had before, or that runs or waits
   abbrev OldOrLive : List Task → Type 0
   OldOrLive ts = (v : ℕ) (x : Task) → slice_get ts v ≡ Some x → LowFrames (length m.tasks) x ⊎ ((runs x.status ≡ true) ⊎ (waits x.status ≡ true))
@@ -87,7 +66,7 @@ module _ (p : ProgramText) (m : State) (t : ℕ) (K : IsForkJoinState m) (D : Di
     | inr live ↦ live_low (step p m t) (disentangled_step p m t K D) v x is live
   ]
 
-pub low_from : (p : ProgramText) (m : State) (ts : List ℕ) → IsForkJoinState m → Disentangled m.tasks m.store → LowIn m → LowIn (run_from p m ts)
+pub low_from : (p : ProgramText) (m : MachineState) (ts : List ℕ) → IsForkJoinState m → Disentangled m.tasks m.store → LowIn m → LowIn (run_from p m ts)
 low_from p m [] K D L = L
 low_from p m (t ∷ ts) K D L = low_from p (step p m t) ts (step_is_fork_join_state p m t K) (disentangled_step p m t K D) (low_step p m t K D L)
 
@@ -95,14 +74,14 @@ pub run_low : (p : ProgramText) (limit : ℕ) (ts : List ℕ) → LowIn (run p l
 run_low p limit ts = low_from p (start p limit) ts (start_is_fork_join_state p limit) (start_disentangled p limit) start_low
   where
     start_low : LowIn (start p limit)
-    start_low v x is = live_low (start p limit) (start_disentangled p limit) v x is (by v is)
+    start_low v x is = live_low (start p limit) (start_disentangled p limit) v x is (start_low_by_cases v is)
       where
-        by : (v : ℕ) → slice_get (start p limit).tasks v ≡ Some x → (runs x.status ≡ true) ⊎ (waits x.status ≡ true)
-        by zero e = inl (ap (λ (o : Option Task). is_running o) (sym e))
-        by (suc v) e = absurd cc
+        start_low_by_cases : (v : ℕ) → slice_get (start p limit).tasks v ≡ Some x → (runs x.status ≡ true) ⊎ (waits x.status ≡ true)
+        start_low_by_cases zero e = inl (ap (λ (o : Option Task). is_running o) (sym e))
+        start_low_by_cases (suc v) e = absurd cc
 
 -- an object's strand and what its fields name
-pub object_low : (m : State) → IsForkJoinState m → NamesAreStoredIn m → (n : Name) (o : Object) → object_at m.store n ≡ Some o → (o.strand.task < length m.tasks) × ((r : Name) → In o.refs (Some r) → r.task < length m.tasks)
+pub object_low : (m : MachineState) → IsForkJoinState m → NamesAreStoredIn m → (n : Name) (o : Object) → object_at m.store n ≡ Some o → (o.strand.task < length m.tasks) × ((r : Name) → In o.refs (Some r) → r.task < length m.tasks)
 object_low m K N n o is = (
   (K.store_of n o is).1.0,
   (λ r i. (let z = N.in_fields n r o is (contains_from_in o.refs (Some r) i) in let k = K.store_of r z.0 z.1 in let lt : z.0.strand.task < length m.tasks = k.1.0 in let e : z.0.strand.task ≡ r.task = k.0 in omega arith)),

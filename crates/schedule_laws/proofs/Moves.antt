@@ -1,21 +1,5 @@
 -- What a step does to the tasks, the store and the edges, in a form that can be applied to another state.
-use Rattle.std.proofs.Common.{◌≡◌, ℕ, ℤ, ◌+◌, ◌-◌, Bool, true, false, cond, Option, Some, None, List, [], ◌∷◌, ◌++◌, length, slice_get, slice_set, nat_lt, ◌⊎◌, inl, inr, refl, ap, sym, subst, ◌∙◌, append-nil}
-use Rattle.hh_lang.specs.declared.instr.Instr.{Instr}
-use Rattle.hh_model.specs.declared.data.Name.{Name}
-use Rattle.hh_model.specs.declared.data.Edge.{Edge}
-use Rattle.hh_model.specs.declared.data.Object.{Object}
-use Rattle.hh_model.specs.declared.data.Frame.{Frame}
-use Rattle.hh_model.specs.declared.data.Status.TheVariants.{Running, Waiting}
-use Rattle.hh_model.specs.declared.data.Task.{Task}
-use Rattle.hh_model.specs.declared.data.Trap.TheVariants.{Depth}
-use Rattle.hh_model.specs.declared.data.End.{End}
-use Rattle.hh_model.specs.declared.data.End.TheVariants.{Trapped}
-use Rattle.hh_model.specs.declared.data.State.{State}
-use Rattle.hh_model.specs.Effect.{Effect, Goes, Prints, Calls, Forks, Returns, Traps, Stops, onward}
-use Rattle.hh_model.specs.Step.{back_in, child, child_ended_by, depth_limit, edge, ended_by, ended_task, entry_frame, follow, frame_limit, front_of, is_left, join_of, joined_task, result_at, last_of, last_return, or_same, owner_of, result_in, result_of, resumed, returned_to, setting, sibling, strand}
-use Rattle.hh_model.proofs.Lists.{set_got}
-use Rattle.renaming_laws.proofs.Changed.{Change, Same, ChangesBy, changed}
-use Rattle.renaming_laws.proofs.Unnamed.{EffectAs}
+use Rattle.schedule_laws.proofs.Common.{◌≡◌, ℕ, ℤ, ◌+◌, ◌-◌, Bool, true, false, cond, Option, Some, None, List, [], ◌∷◌, ◌++◌, length, slice_get, slice_set, nat_lt, ◌⊎◌, inl, inr, refl, ap, sym, subst, ◌∙◌, append-nil, Instr, Name, Edge, Object, Frame, Running, Waiting, Task, Depth, End, Trapped, MachineState, Effect, Goes, Prints, Calls, Forks, Returns, Traps, Stops, onward, back_in, child, child_ended_by, depth_limit, edge, ended_by, ended_task, entry_frame, follow, frame_limit, front_of, is_left, join_of, joined_task, result_at, last_of, last_return, or_same, owner_of, result_in, result_of, resumed, returned_to, setting, sibling, strand, set_got, Change, Same, ChangesBy, changed, EffectAs}
 use Rattle.schedule_laws.proofs.Swapping.{sets}
 
 pub data Move : Type 0 where
@@ -52,7 +36,7 @@ edges_in t (Splits y c d) n = edge (strand t y.joins) (strand n 0) ∷ edge (str
 edges_in t (Joins q l yl yr yq) n = edge (strand l yl.joins) (strand q yq.joins) ∷ edge (strand (l + 1) yr.joins) (strand q yq.joins) ∷ []
 
 -- m' is m after the move, except for the outputs
-pub record Moves (m m' : State) (t : ℕ) (mv : Move) : Type 0 where
+pub record Moves (m m' : MachineState) (t : ℕ) (mv : Move) : Type 0 where
   pub tasks : m'.tasks ≡ sets (puts t mv) m.tasks ++ news mv
   pub store : m'.store ≡ changed (change_in mv) t m.store ++ rows_in mv
   pub edges : m'.edges ≡ m.edges ++ edges_in t mv (length m.tasks)
@@ -65,7 +49,7 @@ IsPlain (Acts y op) = result_in y.status ≡ None
 IsPlain (Splits y c d) = result_in y.status ≡ None
 IsPlain (Joins q l yl yr yq) = ⊥
 
-module _ (m : State) (u : ℕ) where
+module _ (m : MachineState) (u : ℕ) where
   acts : (y : Task) (op : Change) (st : List (List Object)) (outs : List ℤ) → st ≡ changed op u m.store → Moves m (record m { tasks = slice_set m.tasks u y; store = st; outputs = outs }) u (Acts y op)
   acts y op st outs e = record {
     tasks = sym (append-nil (slice_set m.tasks u y));
@@ -109,7 +93,7 @@ last_move u y q r (Some other) (Some xq) None = Acts y Same
 last_move u y q r (Some other) (Some xq) (Some xw) =
     cond (is_left u) (Joins q u (joined_task y) (joined_task xw) (resumed xq r other)) (Joins q (u - 1) (joined_task xw) (joined_task y) (resumed xq other r))
 
-pub last_moves : (m : State) (u : ℕ) (y : Task) (q : ℕ) (r : ℤ × Option Name) → slice_get m.tasks u ≡ Some y → (o : Option (ℤ × Option Name))
+pub last_moves : (m : MachineState) (u : ℕ) (y : Task) (q : ℕ) (r : ℤ × Option Name) → slice_get m.tasks u ≡ Some y → (o : Option (ℤ × Option Name))
     → Moves m (child_ended_by m u y q r o) u (last_move u y q r o (slice_get m.tasks q) (slice_get m.tasks (sibling u)))
 last_moves m u y q r is None = acts m u (ended_task y r) Same m.store m.outputs refl
 last_moves m u y q r is (Some other) = by_parent (slice_get m.tasks q)
@@ -133,9 +117,9 @@ last_moves m u y q r is (Some other) = by_parent (slice_get m.tasks q)
 -- TWO STATES
 
 -- the same task, running in both, takes its next step in both
-module _ (m m1 : State) (u : ℕ) (y : Task) (running : y.status ≡ Running) (going : m.end ≡ None) where
+module _ (m m1 : MachineState) (u : ℕ) (y : Task) (running : y.status ≡ Running) (going : m.end ≡ None) where
   -- the step doesn't end the task: it is the same move in both
-  pub record Plain (w w1 : State) (i : Instr) : Type 0 where
+  pub record Plain (w w1 : MachineState) (i : Instr) : Type 0 where
     pub move : Move
     pub here : Moves m w u move
     pub there : Moves m1 w1 u move
@@ -144,13 +128,13 @@ module _ (m m1 : State) (u : ℕ) (y : Task) (running : y.status ≡ Running) (g
     pub by : ChangesBy (setting m u y) y.top m.store i (change_in move)
 
   -- or the task ends, and the outcome depends on its sibling
-  pub record Last (w w1 : State) : Type 0 where
+  pub record Last (w w1 : MachineState) : Type 0 where
     pub parent : ℕ
     pub above : y.parent ≡ Some parent
     pub here : w ≡ child_ended_by m u y parent (result_of y.top) (result_at (slice_get m.tasks (sibling u)))
     pub there : w1 ≡ child_ended_by m1 u y parent (result_of y.top) (result_at (slice_get m1.tasks (sibling u)))
 
-  abbrev pub Two : State → State → Instr → Type 0
+  abbrev pub Two : MachineState → MachineState → Instr → Type 0
   Two w w1 i = Plain w w1 i ⊎ Last w w1
 
   still : (z : Task) → z.status ≡ y.status → result_in z.status ≡ None
@@ -159,7 +143,7 @@ module _ (m m1 : State) (u : ℕ) (y : Task) (running : y.status ≡ Running) (g
   on : (i : Instr) (z : Task) (outs outs1 : List ℤ) → z.status ≡ y.status → Two (record m { tasks = slice_set m.tasks u z; outputs = outs }) (record m1 { tasks = slice_set m1.tasks u z; outputs = outs1 }) i
   on i z outs outs1 e = inl (record { move = Acts z Same; here = acts m u z Same m.store outs refl; there = acts m1 u z Same m1.store outs1 refl; plain = still z e; shape = tt; by = tt })
 
-  if_going : (i : Instr) (b : Bool) (a a1 : State) (e e1 : End) → (cond b a (ended_by m e)).end ≡ None → Two a a1 i → Two (cond b a (ended_by m e)) (cond b a1 (ended_by m1 e1)) i
+  if_going : (i : Instr) (b : Bool) (a a1 : MachineState) (e e1 : End) → (cond b a (ended_by m e)).end ≡ None → Two a a1 i → Two (cond b a (ended_by m e)) (cond b a1 (ended_by m1 e1)) i
   if_going i true a a1 e e1 g h = h
   if_going i false a a1 e e1 g h = absurd cc
 

@@ -1,26 +1,12 @@
 -- Runs in order are those without races and without contending compare and swaps; and the consequences for journals.
-use Rattle.std.proofs.Common.{◌≡◌, ℕ, true, List, [], inl, inr, refl, ap, sym, ◌∙◌}
-use Rattle.std.proofs.lemmas.Bool.{both_ways, cases_Bool}
-use Rattle.listed.proofs.Members.{in_from_contains}
-use Rattle.hh_lang.specs.Form.{ProgramText}
-use Rattle.run_trace.specs.Settings.{field_limit}
-use Rattle.hh_model.specs.declared.data.Edge.{Edge}
-use Rattle.hh_model.specs.Precedence.{Precedes, precedes}
-use Rattle.hh_model.specs.Step.{run}
-use Rattle.run_ledger.specs.Journals.{tasks_of}
-use Rattle.race_report.specs.declared.data.Access.{Access}
-use Rattle.race_report.specs.Accesses.{accesses}
-use Rattle.race_report.specs.StopLaw.{HasNoRace}
-use Rattle.renaming_laws.proofs.Runs.{fork_join_here}
-use Rattle.schedule_laws.specs.Laws.{JournalsAgree}
-use Rattle.schedule_laws.specs.Ordered.{IsOrdered, OrderedIsRaceFree, SwapsContend}
+use Rattle.schedule_laws.proofs.Common.{◌≡◌, ℕ, true, List, [], inl, inr, refl, ap, sym, ◌∙◌, both_ways, cases_Bool, in_from_contains, ProgramText, field_limit, Edge, Precedes, precedes, run, tasks_of, FieldAccess, accesses, HasNoRace, fork_join_here, JournalsAgree, IsOrdered, OrderedIsRaceFree, SwapsContend}
 use Rattle.schedule_laws.proofs.Schedules.{every_end_agrees}
 
 module _ (p : ProgramText) (limit : ℕ) (ts : List ℕ) where
   abbrev edges : List Edge
   edges = (run p limit ts).edges
 
-  abbrev all : List Access
+  abbrev all : List FieldAccess
   all = accesses p limit ts
 
   forth : IsOrdered p limit ts → HasNoRace edges all × (SwapsContend edges all → ⊥)

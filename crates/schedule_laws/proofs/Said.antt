@@ -1,24 +1,5 @@
 -- What a run prints: its outputs, and the numbers of each strand.
-use Rattle.std.proofs.Common.{◌≡◌, ℕ, ℤ, suc, ◌+◌, ◌-◌, ◌==◌, ◌&&◌, Bool, true, false, cond, Option, Some, None, List, [], ◌∷◌, ◌++◌, length, map, nat_lt, slice_get, inl, inr, refl, ap, ap₂, sym, subst, ◌∙◌, arith, append-nil, append_assoc}
-use Rattle.std.proofs.lemmas.Bool.{cases_Bool}
-use Rattle.listed.proofs.Members.{In, in_append_right}
-use Rattle.listed.proofs.Places.{in_got}
-use Rattle.hh_lang.specs.declared.program.Line.{Line}
-use Rattle.hh_lang.specs.Form.{ProgramText}
-use Rattle.hh_model.specs.declared.data.Name.{Name}
-use Rattle.hh_model.specs.declared.data.Strand.{Strand}
-use Rattle.hh_model.specs.declared.data.Edge.{Edge}
-use Rattle.hh_model.specs.declared.data.Frame.{Frame}
-use Rattle.hh_model.specs.declared.data.Task.{Task}
-use Rattle.hh_model.specs.declared.data.State.{State}
-use Rattle.hh_model.specs.Effect.{Effect, Goes, Prints, Calls, Forks, Returns, Traps, Stops, effect}
-use Rattle.hh_model.specs.Precedence.{Precedes, same_strand}
-use Rattle.hh_model.specs.Step.{can_step, child_ended_by, depth_limit, fetched, follow, frame_limit, is_left, join_of, result_at, last_of, last_return, or_same, result_of, returned_to, run_from, setting, sibling, step, stepped, strand_of}
-use Rattle.hh_model.proofs.Walks.{same_from_test}
-use Rattle.race_report.specs.Accesses.{with_some}
-use Rattle.renaming_laws.specs.Renaming.{strand_to}
-use Rattle.renaming_laws.proofs.Effects.{same_task}
-use Rattle.schedule_laws.specs.Prints.{Print, PrintsAreOrdered, line_print, print_by, print_of, printed_by, prints_from, task_print}
+use Rattle.schedule_laws.proofs.Common.{◌≡◌, ℕ, ℤ, suc, ◌+◌, ◌-◌, ◌==◌, ◌&&◌, Bool, true, false, cond, Option, Some, None, List, [], ◌∷◌, ◌++◌, length, map, nat_lt, slice_get, inl, inr, refl, ap, ap₂, sym, subst, ◌∙◌, arith, append-nil, append_assoc, cases_Bool, In, in_append_right, in_got, Line, ProgramText, Name, Strand, Edge, Frame, Task, MachineState, Effect, Goes, Prints, Calls, Forks, Returns, Traps, Stops, effect, Precedes, same_strand, can_step, child_ended_by, depth_limit, fetched, follow, frame_limit, is_left, join_of, result_at, last_of, last_return, or_same, result_of, returned_to, run_from, setting, sibling, step, stepped, strand_of, same_from_test, with_some, strand_to, same_task, Print, PrintsAreOrdered, line_print, print_by, print_of, printed_by, prints_from, task_print}
 use Rattle.schedule_laws.proofs.Carrying.{print_to}
 
 abbrev pub numbers : List Print → List ℤ
@@ -27,18 +8,18 @@ numbers (x ∷ xs) = x.number ∷ numbers xs
 
 -- OUTPUTS
 
-module _ (p : ProgramText) (m : State) (t : ℕ) where
-  abbrev Says : State → Option Print → Type 0
+module _ (p : ProgramText) (m : MachineState) (t : ℕ) where
+  abbrev Says : MachineState → Option Print → Type 0
   Says w o = w.outputs ≡ m.outputs ++ numbers (with_some o [])
 
-  quiet : (w : State) → w.outputs ≡ m.outputs → Says w None
+  quiet : (w : MachineState) → w.outputs ≡ m.outputs → Says w None
   quiet w e = e ∙ sym (append-nil m.outputs)
 
-  either : (b : Bool) (v w : State) → v.outputs ≡ m.outputs → w.outputs ≡ m.outputs → (cond b v w).outputs ≡ m.outputs
+  either : (b : Bool) (v w : MachineState) → v.outputs ≡ m.outputs → w.outputs ≡ m.outputs → (cond b v w).outputs ≡ m.outputs
   either true v w a c = a
   either false v w a c = c
 
-  same_or : (o : Option Task) (go : Task → State) → ((x : Task) → (go x).outputs ≡ m.outputs) → (or_same m o go).outputs ≡ m.outputs
+  same_or : (o : Option Task) (go : Task → MachineState) → ((x : Task) → (go x).outputs ≡ m.outputs) → (or_same m o go).outputs ≡ m.outputs
   same_or None go each = refl
   same_or (Some x) go each = each x
 
@@ -48,11 +29,11 @@ module _ (p : ProgramText) (m : State) (t : ℕ) where
 
   back_out : (x : Task) (o : Option Frame) → (returned_to m t x o).outputs ≡ m.outputs
   back_out x (Some f) = refl
-  back_out x None = by x.parent
+  back_out x None = back_out_by_cases x.parent
     where
-      by : (o : Option ℕ) → (last_return m t x o).outputs ≡ m.outputs
-      by None = refl
-      by (Some q) = ended x q (result_of x.top) (result_at (slice_get m.tasks (sibling t)))
+      back_out_by_cases : (o : Option ℕ) → (last_return m t x o).outputs ≡ m.outputs
+      back_out_by_cases None = refl
+      back_out_by_cases (Some q) = ended x q (result_of x.top) (result_at (slice_get m.tasks (sibling t)))
 
   by_effect : (x : Task) (line : ℕ) (e : Effect) → Says (follow m t x line e) (print_by (strand_of t x) e)
   by_effect x line (Goes f st) = quiet (follow m t x line (Goes f st)) refl
@@ -72,17 +53,17 @@ module _ (p : ProgramText) (m : State) (t : ℕ) where
   by_task (Some x) = by_line x (fetched p x.top)
 
   says : Says (step p m t) (print_of p m t)
-  says = by (can_step m t)
+  says = says_by_cases (can_step m t)
     where
-      by : (b : Bool) → Says (cond b (or_same m (slice_get m.tasks t) (λ x. stepped p m t x (fetched p x.top))) m) (cond b (task_print p m t (slice_get m.tasks t)) None)
-      by true = by_task (slice_get m.tasks t)
-      by false = quiet m refl
+      says_by_cases : (b : Bool) → Says (cond b (or_same m (slice_get m.tasks t) (λ x. stepped p m t x (fetched p x.top))) m) (cond b (task_print p m t (slice_get m.tasks t)) None)
+      says_by_cases true = by_task (slice_get m.tasks t)
+      says_by_cases false = quiet m refl
 
 some_numbers : (o : Option Print) (xs : List Print) → numbers (with_some o xs) ≡ numbers (with_some o []) ++ numbers xs
 some_numbers None xs = refl
 some_numbers (Some x) xs = refl
 
-pub outputs_are : (p : ProgramText) (m : State) (ts : List ℕ) → (run_from p m ts).outputs ≡ m.outputs ++ numbers (prints_from p m ts)
+pub outputs_are : (p : ProgramText) (m : MachineState) (ts : List ℕ) → (run_from p m ts).outputs ≡ m.outputs ++ numbers (prints_from p m ts)
 outputs_are p m [] = sym (append-nil m.outputs)
 outputs_are p m (t ∷ ts) =
     outputs_are p (step p m t) ts
@@ -106,21 +87,21 @@ printed_map f g back s (x ∷ xs) =
 -- the middle print moves to the front
 pub printed_moves : (s : Strand) (front back : List Print) (o : Option Print) → ((a b : Print) → In front a → o ≡ Some b → a.strand ≡ b.strand → ⊥) → printed_by s (with_some o (front ++ back)) ≡ printed_by s (front ++ with_some o back)
 printed_moves s front back None free = refl
-printed_moves s front back (Some b) free = by front (λ a i. free a b i refl)
+printed_moves s front back (Some b) free = printed_moves_by_cases front (λ a i. free a b i refl)
   where
-    by : (front : List Print) → ((a : Print) → In front a → a.strand ≡ b.strand → ⊥) → printed_by s (b ∷ (front ++ back)) ≡ printed_by s (front ++ b ∷ back)
-    by [] none = refl
-    by (a ∷ front) none = elim (cases_Bool (same_strand a.strand s)) [
+    printed_moves_by_cases : (front : List Print) → ((a : Print) → In front a → a.strand ≡ b.strand → ⊥) → printed_by s (b ∷ (front ++ back)) ≡ printed_by s (front ++ b ∷ back)
+    printed_moves_by_cases [] none = refl
+    printed_moves_by_cases (a ∷ front) none = elim (cases_Bool (same_strand a.strand s)) [
       | inr out ↦
           ap (λ w. cond (same_strand b.strand s) (b.number ∷ cond w (a.number ∷ printed_by s (front ++ back)) (printed_by s (front ++ back))) (cond w (a.number ∷ printed_by s (front ++ back)) (printed_by s (front ++ back)))) out
-          ∙ (by front (λ c i. none c (inr i)) ∙ sym (ap (λ w. cond w (a.number ∷ printed_by s (front ++ b ∷ back)) (printed_by s (front ++ b ∷ back))) out))
+          ∙ (printed_moves_by_cases front (λ c i. none c (inr i)) ∙ sym (ap (λ w. cond w (a.number ∷ printed_by s (front ++ b ∷ back)) (printed_by s (front ++ b ∷ back))) out))
       | inl here ↦
           let other : same_strand b.strand s ≡ false = elim (cases_Bool (same_strand b.strand s)) [
             | inr n ↦ n
             | inl y ↦ absurd (none a (inl refl) (same_from_test a.strand s here ∙ sym (same_from_test b.strand s y)))
           ] in
           ap (λ w. cond w (b.number ∷ printed_by s ((a ∷ front) ++ back)) (printed_by s ((a ∷ front) ++ back))) other
-          ∙ ap (λ w. cond (same_strand a.strand s) (a.number ∷ w) w) (sym (ap (λ w. cond w (b.number ∷ printed_by s (front ++ back)) (printed_by s (front ++ back))) other) ∙ by front (λ c i. none c (inr i)))
+          ∙ ap (λ w. cond (same_strand a.strand s) (a.number ∷ w) w) (sym (ap (λ w. cond w (b.number ∷ printed_by s (front ++ back)) (printed_by s (front ++ back))) other) ∙ printed_moves_by_cases front (λ c i. none c (inr i)))
     ]
 
 -- ORDER
@@ -138,12 +119,12 @@ said_order es (x ∷ xs) h = (
 
 pub said_map : (es es' : List Edge) (f : ℕ → ℕ) → ((u v : Strand) → Precedes es u v → Precedes es' (strand_to f u) (strand_to f v)) → (xs : List Print) → SaidInOrder es xs → SaidInOrder es' (map (print_to f) xs)
 said_map es es' f walk [] h = tt
-said_map es es' f walk (x ∷ xs) h = ((λ b i. by xs (λ c j. h.0 c j) b i), said_map es es' f walk xs h.1)
+said_map es es' f walk (x ∷ xs) h = ((λ b i. said_map_by_cases xs (λ c j. h.0 c j) b i), said_map es es' f walk xs h.1)
   where
-    by : (ys : List Print) → ((c : Print) → In ys c → Precedes es x.strand c.strand) → (b : Print) → In (map (print_to f) ys) b → Precedes es' (strand_to f x.strand) b.strand
-    by [] h b i = absurd i
-    by (y ∷ ys) h b (inl e) = subst (λ (w : Print). Precedes es' (strand_to f x.strand) w.strand) e (walk x.strand y.strand (h y (inl refl)))
-    by (y ∷ ys) h b (inr i) = by ys (λ c j. h c (inr j)) b i
+    said_map_by_cases : (ys : List Print) → ((c : Print) → In ys c → Precedes es x.strand c.strand) → (b : Print) → In (map (print_to f) ys) b → Precedes es' (strand_to f x.strand) b.strand
+    said_map_by_cases [] h b i = absurd i
+    said_map_by_cases (y ∷ ys) h b (inl e) = subst (λ (w : Print). Precedes es' (strand_to f x.strand) w.strand) e (walk x.strand y.strand (h y (inl refl)))
+    said_map_by_cases (y ∷ ys) h b (inr i) = said_map_by_cases ys (λ c j. h c (inr j)) b i
 
 -- if all prints are in order, the middle one was already first
 pub said_moves : (es : List Edge) (front back : List Print) (o : Option Print) → ((a b : Print) → In front a → o ≡ Some b → Precedes es a.strand b.strand → ⊥) → SaidInOrder es (front ++ with_some o back)

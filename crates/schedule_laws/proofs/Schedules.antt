@@ -1,31 +1,5 @@
 -- One whole run in order determines all schedules.
-use Rattle.std.proofs.Common.{◌≡◌, ℕ, ◌+◌, ◌<◌, Bool, true, false, cond, Option, Some, None, List, [], ◌∷◌, ◌++◌, length, map, slice_get, inl, inr, refl, ap, sym, subst, ◌∙◌, arith}
-use Rattle.std.specs.Option.{option_map}
-use Rattle.std.proofs.lemmas.Option.{same_Some}
-use Rattle.listed.proofs.Members.{In, contains_from_in, in_append_cases, in_append_left, in_append_right, in_from_contains}
-use Rattle.listed.proofs.Places.{in_map}
-use Rattle.hh_lang.specs.Form.{ProgramText}
-use Rattle.hh_model.specs.declared.data.Strand.{Strand}
-use Rattle.hh_model.specs.declared.data.Edge.{Edge}
-use Rattle.hh_model.specs.declared.data.End.{End}
-use Rattle.hh_model.specs.declared.data.End.TheVariants.{Done}
-use Rattle.hh_model.specs.declared.data.State.{State}
-use Rattle.hh_model.specs.Precedence.{Precedes, same_strand}
-use Rattle.hh_model.specs.Step.{can_step, goes_on, is_running, run, run_from, start, step}
-use Rattle.hh_model.proofs.Counts.{run_push}
-use Rattle.hh_model.proofs.Taken.{step_idle}
-use Rattle.race_report.specs.declared.data.Access.{Access}
-use Rattle.race_report.specs.Accesses.{access_of, accesses_from, task_access, with_some}
-use Rattle.renaming_laws.specs.Renaming.{IsRenaming, end_to, strand_to}
-use Rattle.renaming_laws.specs.Alike.{AreAlike}
-use Rattle.renaming_laws.proofs.Lists.{from_map}
-use Rattle.renaming_laws.proofs.Runs.{fork_join_here, step_grows}
-use Rattle.renaming_laws.proofs.Unnamed.{itself}
-use Rattle.renaming_laws.proofs.Owners.{walks}
-use Rattle.schedule_laws.specs.Agrees.{Agrees, access_to, field_to}
-use Rattle.schedule_laws.specs.Clashes.{Clash}
-use Rattle.schedule_laws.specs.Laws.{EveryEndAgrees, OneRunSpeaksForAll, SpeaksUp}
-use Rattle.schedule_laws.specs.Prints.{Print, print_of, printed_by, prints_from, task_print, turns_from}
+use Rattle.schedule_laws.proofs.Common.{◌≡◌, ℕ, ◌+◌, ◌<◌, Bool, true, false, cond, Option, Some, None, List, [], ◌∷◌, ◌++◌, length, map, slice_get, inl, inr, refl, ap, sym, subst, ◌∙◌, arith, option_map, same_Some, In, contains_from_in, in_append_cases, in_append_left, in_append_right, in_from_contains, in_map, ProgramText, Strand, Edge, End, Done, MachineState, Precedes, same_strand, can_step, goes_on, is_running, run, run_from, start, step, run_push, step_idle, FieldAccess, access_of, accesses_from, task_access, with_some, IsRenaming, end_to, strand_to, AreAlike, from_map, fork_join_here, step_grows, itself, walks, SameResult, access_to, field_to, Clash, EveryEndAgrees, OneRunSpeaksForAll, SpeaksUp, Print, print_of, printed_by, prints_from, task_print, turns_from}
 use Rattle.schedule_laws.proofs.Carrying.{print_to}
 use Rattle.schedule_laws.proofs.Commute.{even_same}
 use Rattle.schedule_laws.proofs.Commuting.{even_alike}
@@ -35,47 +9,47 @@ use Rattle.schedule_laws.proofs.Said.{SaidInOrder, numbers, numbers_map, outputs
 use Rattle.schedule_laws.proofs.Splits.{InOrder, from_order, in_some, order_moves, to_order}
 
 -- a run from m by ts, and another that had this end with these accesses, prints and turns
-pub record Comes (p : ProgramText) (m : State) (ts : List ℕ) (end : State) (all : List Access) (said : List Print) (turns : ℕ) : Type 0 where
+pub record Comes (p : ProgramText) (m : MachineState) (ts : List ℕ) (end : MachineState) (all : List FieldAccess) (said : List Print) (turns : ℕ) : Type 0 where
   pub f : ℕ → ℕ
   pub g : ℕ → ℕ
   pub renaming : IsRenaming (length (run_from p m ts).tasks) f g
   pub old : (v : ℕ) → v < length m.tasks → f v ≡ v
   pub alike : AreAlike f (run_from p m ts) end
   pub turned : turns ≡ turns_from p m ts
-  pub accesses : (a : Access) → (In all (access_to f a) → In (accesses_from p m ts) a) × (In (accesses_from p m ts) a → In all (access_to f a))
+  pub accesses : (a : FieldAccess) → (In all (access_to f a) → In (accesses_from p m ts) a) × (In (accesses_from p m ts) a → In all (access_to f a))
   pub order : InOrder end.edges all
   pub printed : (s : Strand) → printed_by (strand_to f s) said ≡ printed_by s (prints_from p m ts)
   pub spoken : SaidInOrder (run_from p m ts).edges (prints_from p m ts) → numbers said ≡ numbers (prints_from p m ts)
 
 -- a list of steps with the same result
-abbrev pub ComesAs : ProgramText → State → List ℕ → List ℕ → Type 0
+abbrev pub ComesAs : ProgramText → MachineState → List ℕ → List ℕ → Type 0
 ComesAs p m ts us = Comes p m ts (run_from p m us) (accesses_from p m us) (prints_from p m us) (turns_from p m us)
 
-access_back : (f g : ℕ → ℕ) → ((t : ℕ) → g (f t) ≡ t) → (a : Access) → access_to g (access_to f a) ≡ a
+access_back : (f g : ℕ → ℕ) → ((t : ℕ) → g (f t) ≡ t) → (a : FieldAccess) → access_to g (access_to f a) ≡ a
 access_back f g back a =
     let s = back a.strand.task in
     let n = back a.field.name.task in
     λ i. record a { strand = record a.strand { task = s i }; field = record a.field { name = record a.field.name { task = n i } } }
 
-clash_back : (f g : ℕ → ℕ) → ((t : ℕ) → g (f t) ≡ t) → (a b : Access) → Clash (access_to f a) (access_to f b) → Clash a b
+clash_back : (f g : ℕ → ℕ) → ((t : ℕ) → g (f t) ≡ t) → (a b : FieldAccess) → Clash (access_to f a) (access_to f b) → Clash a b
 clash_back f g back a b C = record {
-  field = sym (ap (λ (c : Access). c.field) (access_back f g back a)) ∙ (ap (field_to g) C.field ∙ ap (λ (c : Access). c.field) (access_back f g back b));
+  field = sym (ap (λ (c : FieldAccess). c.field) (access_back f g back a)) ∙ (ap (field_to g) C.field ∙ ap (λ (c : FieldAccess). c.field) (access_back f g back b));
   writes = C.writes;
 }
 
-order_map : (f g : ℕ → ℕ) → ((t : ℕ) → g (f t) ≡ t) → (a b : State) → AreAlike f a b → (xs : List Access) → InOrder a.edges xs → InOrder b.edges (map (access_to f) xs)
+order_map : (f g : ℕ → ℕ) → ((t : ℕ) → g (f t) ≡ t) → (a b : MachineState) → AreAlike f a b → (xs : List FieldAccess) → InOrder a.edges xs → InOrder b.edges (map (access_to f) xs)
 order_map f g back a b A [] h = tt
-order_map f g back a b A (x ∷ xs) h = (by xs h.0, order_map f g back a b A xs h.1)
+order_map f g back a b A (x ∷ xs) h = (order_map_by_cases xs h.0, order_map f g back a b A xs h.1)
   where
-    by : (ys : List Access) → ((c : Access) → In ys c → Clash x c → Precedes a.edges x.strand c.strand) → (c : Access) → In (map (access_to f) ys) c → Clash (access_to f x) c → Precedes b.edges (strand_to f x.strand) c.strand
-    by [] h c i k = absurd i
-    by (y ∷ ys) h c (inl e) k =
-        subst (λ (w : Access). Precedes b.edges (strand_to f x.strand) w.strand) e
+    order_map_by_cases : (ys : List FieldAccess) → ((c : FieldAccess) → In ys c → Clash x c → Precedes a.edges x.strand c.strand) → (c : FieldAccess) → In (map (access_to f) ys) c → Clash (access_to f x) c → Precedes b.edges (strand_to f x.strand) c.strand
+    order_map_by_cases [] h c i k = absurd i
+    order_map_by_cases (y ∷ ys) h c (inl e) k =
+        subst (λ (w : FieldAccess). Precedes b.edges (strand_to f x.strand) w.strand) e
         (walks f a b A x.strand y.strand (h y (inl refl) (clash_back f g back x y (subst (Clash (access_to f x)) (sym e) k))))
-    by (y ∷ ys) h c (inr i) k = by ys (λ d j. h d (inr j)) c i k
+    order_map_by_cases (y ∷ ys) h c (inr i) k = order_map_by_cases ys (λ d j. h d (inr j)) c i k
 
 module _ (p : ProgramText) where
-  itself_comes : (m : State) (ts : List ℕ) → InOrder (run_from p m ts).edges (accesses_from p m ts) → ComesAs p m ts ts
+  itself_comes : (m : MachineState) (ts : List ℕ) → InOrder (run_from p m ts).edges (accesses_from p m ts) → ComesAs p m ts ts
   itself_comes m ts order = record {
     f = itself;
     g = itself;
@@ -90,7 +64,7 @@ module _ (p : ProgramText) where
   }
 
   -- a step that can't be taken changes nothing
-  unidle : (m : State) (u : ℕ) (ts us : List ℕ) → can_step m u ≡ false → ComesAs p m ts (u ∷ us) → ComesAs p m ts us
+  unidle : (m : MachineState) (u : ℕ) (ts us : List ℕ) → can_step m u ≡ false → ComesAs p m ts (u ∷ us) → ComesAs p m ts us
   unidle m u ts us none C =
       let e : step p m u ≡ m = step_idle p m u none in
       let es : run_from p m (u ∷ us) ≡ run_from p m us = ap (λ w. run_from p w us) e in
@@ -102,7 +76,7 @@ module _ (p : ProgramText) where
       (subst (λ w. Comes p m ts (run_from p m (u ∷ us)) (accesses_from p m (u ∷ us)) w (turns_from p m us)) ep
       (subst (λ w. Comes p m ts (run_from p m (u ∷ us)) (accesses_from p m (u ∷ us)) (prints_from p m (u ∷ us)) w) et C)))
 
-  idle : (m : State) (u : ℕ) (ts us : List ℕ) → can_step m u ≡ false → ComesAs p m ts us → ComesAs p m ts (u ∷ us)
+  idle : (m : MachineState) (u : ℕ) (ts us : List ℕ) → can_step m u ≡ false → ComesAs p m ts us → ComesAs p m ts (u ∷ us)
   idle m u ts us none C =
       let e : step p m u ≡ m = step_idle p m u none in
       let es : run_from p m (u ∷ us) ≡ run_from p m us = ap (λ w. run_from p w us) e in
@@ -115,25 +89,25 @@ module _ (p : ProgramText) where
       (subst (λ w. Comes p m ts w (accesses_from p m us) (prints_from p m us) (turns_from p m us)) (sym es) C)))
 
   module _ (limit : ℕ) (hs ts : List ℕ) (u : ℕ) (can : can_step (run p limit hs) u ≡ true) (order : InOrder (run_from p (run p limit hs) ts).edges (accesses_from p (run p limit hs) ts)) (F : Front p limit hs ts u) where
-    abbrev m : State
+    abbrev m : MachineState
     m = run p limit hs
 
-    abbrev m2 : State
+    abbrev m2 : MachineState
     m2 = step p m u
 
     abbrev E : List Edge
     E = (run_from p m ts).edges
 
-    abbrev o : Option Access
+    abbrev o : Option FieldAccess
     o = access_of p m u
 
-    abbrev both : List Access
+    abbrev both : List FieldAccess
     both = F.accesses.front ++ F.accesses.back
 
     first_order : InOrder E (with_some o both)
     first_order = order_moves E F.accesses.front F.accesses.back o (subst (InOrder E) F.accesses.whole order) F.accesses.free
 
-    tail_of : (w : Option Access) (xs : List Access) → InOrder E (with_some w xs) → InOrder E xs
+    tail_of : (w : Option FieldAccess) (xs : List FieldAccess) → InOrder E (with_some w xs) → InOrder E xs
     tail_of None xs h = h
     tail_of (Some a) xs h = h.1
 
@@ -152,72 +126,72 @@ module _ (p : ProgramText) where
       alike : AreAlike h (run_from p m ts) (run_from p m2 us)
       alike = alike_then F.f C.f (run_from p m ts) (run_from p m2 F.rest) (run_from p m2 us) F.alike C.alike
 
-      abbrev A2 : List Access
+      abbrev A2 : List FieldAccess
       A2 = accesses_from p m2 us
 
       -- tasks of m keep their numbers: so u's first access and print are the same
       stays : (v : ℕ) → v < length m.tasks → h v ≡ v
       stays v lt = let up = step_grows p m u (fork_join_here p limit hs) in ap C.f (F.old v lt) ∙ C.old v (omega arith)
 
-      kept : (b : Access) → o ≡ Some b → access_to h b ≡ b
+      kept : (b : FieldAccess) → o ≡ Some b → access_to h b ≡ b
       kept b e = access_low p limit hs h stays u can b e
 
-      there : (a : Access) → In both a → In A2 (access_to h a)
-      there a i = (C.accesses (access_to F.f a)).1 (subst (λ xs. In xs (access_to F.f a)) (sym F.accesses.moved) (in_map (access_to F.f) both a i))
+      access_is_in_second : (a : FieldAccess) → In both a → In A2 (access_to h a)
+      access_is_in_second a i = (C.accesses (access_to F.f a)).1 (subst (λ xs. In xs (access_to F.f a)) (sym F.accesses.moved) (in_map (access_to F.f) both a i))
 
-      here : (a : Access) → In A2 (access_to h a) → In both a
-      here a i = from_map (access_to F.f) (access_to F.g) (access_back F.f F.g F.renaming.back) both a (subst (λ xs. In xs (access_to F.f a)) F.accesses.moved ((C.accesses (access_to F.f a)).0 i))
+      access_is_in_both : (a : FieldAccess) → In A2 (access_to h a) → In both a
+      access_is_in_both a i = from_map (access_to F.f) (access_to F.g) (access_back F.f F.g F.renaming.back) both a (subst (λ xs. In xs (access_to F.f a)) F.accesses.moved ((C.accesses (access_to F.f a)).0 i))
 
-      in_whole : (a : Access) → In both a → In (accesses_from p m ts) a
+      in_whole : (a : FieldAccess) → In both a → In (accesses_from p m ts) a
       in_whole a i =
           subst (λ xs. In xs a) (sym F.accesses.whole) (elim (in_append_cases F.accesses.front F.accesses.back a i) [
             | inl j ↦ in_append_left F.accesses.front (with_some o F.accesses.back) a j
             | inr j ↦ in_append_right F.accesses.front (with_some o F.accesses.back) a (more o F.accesses.back j)
           ])
         where
-          more : (w : Option Access) (xs : List Access) → In xs a → In (with_some w xs) a
+          more : (w : Option FieldAccess) (xs : List FieldAccess) → In xs a → In (with_some w xs) a
           more None xs j = j
           more (Some b) xs j = inr j
 
-      first : (a : Access) → o ≡ Some a → In (accesses_from p m ts) a
+      first : (a : FieldAccess) → o ≡ Some a → In (accesses_from p m ts) a
       first a e = subst (λ xs. In xs a) (sym (F.accesses.whole ∙ ap (λ w. F.accesses.front ++ with_some w F.accesses.back) e)) (in_append_right F.accesses.front (a ∷ F.accesses.back) a (inl refl))
 
-      to_old : (a : Access) → In (with_some o A2) (access_to h a) → In (accesses_from p m ts) a
+      to_old : (a : FieldAccess) → In (with_some o A2) (access_to h a) → In (accesses_from p m ts) a
       to_old a i = elim (in_some o A2 (access_to h a) i) [
-        | inr j ↦ in_whole a (here a j)
+        | inr j ↦ in_whole a (access_is_in_both a j)
         | inl e ↦
-            let b : Access = access_to h a in
+            let b : FieldAccess = access_to h a in
             let same : a ≡ b = sym (access_back h (then C.g F.g) renamed.back a) ∙ (ap (access_to (then C.g F.g)) (sym (kept b e)) ∙ access_back h (then C.g F.g) renamed.back b) in
             first a (e ∙ ap Some (sym same))
       ]
 
-      from_old : (a : Access) → In (accesses_from p m ts) a → In (with_some o A2) (access_to h a)
+      from_old : (a : FieldAccess) → In (accesses_from p m ts) a → In (with_some o A2) (access_to h a)
       from_old a i = elim (in_append_cases F.accesses.front (with_some o F.accesses.back) a (subst (λ xs. In xs a) F.accesses.whole i)) [
-        | inl j ↦ more o (there a (in_append_left F.accesses.front F.accesses.back a j))
+        | inl j ↦ more o (access_is_in_second a (in_append_left F.accesses.front F.accesses.back a j))
         | inr j ↦ elim (in_some o F.accesses.back a j) [
-          | inr k ↦ more o (there a (in_append_right F.accesses.front F.accesses.back a k))
+          | inr k ↦ more o (access_is_in_second a (in_append_right F.accesses.front F.accesses.back a k))
           | inl e ↦ subst (λ w. In (with_some w A2) (access_to h a)) (sym e) (inl (sym (kept a e)))
         ]
       ]
         where
-          more : (w : Option Access) → In A2 (access_to h a) → In (with_some w A2) (access_to h a)
+          more : (w : Option FieldAccess) → In A2 (access_to h a) → In (with_some w A2) (access_to h a)
           more None j = j
           more (Some b) j = inr j
 
-      ordered : (w : Option Access) → o ≡ w → InOrder (run_from p m2 us).edges (with_some w A2)
+      ordered : (w : Option FieldAccess) → o ≡ w → InOrder (run_from p m2 us).edges (with_some w A2)
       ordered None e = C.order
       ordered (Some b) e = (
         (λ c i k.
-            let a : Access = access_to (then C.g F.g) c in
+            let a : FieldAccess = access_to (then C.g F.g) c in
             let same : access_to h a ≡ c = access_back (then C.g F.g) h renamed.forth c in
             let clash : Clash b a = clash_back h (then C.g F.g) renamed.back b a (subst (λ z. Clash z (access_to h a)) (sym (kept b e)) (subst (Clash b) (sym same) k)) in
-            let before : Precedes E b.strand a.strand = head b a e (here a (subst (In A2) (sym same) i)) clash in
-            subst (λ (z : Access). Precedes (run_from p m2 us).edges z.strand c.strand) (kept b e)
-            (subst (λ (z : Access). Precedes (run_from p m2 us).edges (strand_to h b.strand) z.strand) same (walks h (run_from p m ts) (run_from p m2 us) alike b.strand a.strand before))),
+            let before : Precedes E b.strand a.strand = head b a e (access_is_in_both a (subst (In A2) (sym same) i)) clash in
+            subst (λ (z : FieldAccess). Precedes (run_from p m2 us).edges z.strand c.strand) (kept b e)
+            (subst (λ (z : FieldAccess). Precedes (run_from p m2 us).edges (strand_to h b.strand) z.strand) same (walks h (run_from p m ts) (run_from p m2 us) alike b.strand a.strand before))),
         C.order,
       )
         where
-          head : (b a : Access) → o ≡ Some b → In both a → Clash b a → Precedes E b.strand a.strand
+          head : (b a : FieldAccess) → o ≡ Some b → In both a → Clash b a → Precedes E b.strand a.strand
           head b a e i k = let first_ordered = subst (λ w. InOrder E (with_some w both)) e first_order in first_ordered.0 a i k
 
       -- PRINTS
@@ -282,42 +256,42 @@ module _ (p : ProgramText) where
         let done : (run_from p (step p (run p limit hs) u) F.rest).end ≡ Some Done = F.alike.end ∙ ap (option_map (end_to F.f)) W.0 in (
           F.rest,
           (
-            subst (λ (w : State). (run_from p w F.rest).end ≡ Some Done) (sym push) done,
-            subst (λ (w : State). InOrder (run_from p w F.rest).edges (accesses_from p w F.rest)) (sym push) (rest_order limit hs ts u can W.1 F),
+            subst (λ (w : MachineState). (run_from p w F.rest).end ≡ Some Done) (sym push) done,
+            subst (λ (w : MachineState). InOrder (run_from p w F.rest).edges (accesses_from p w F.rest)) (sym push) (rest_order limit hs ts u can W.1 F),
           ),
-          (λ us C. comes_first limit hs ts u can W.1 F us (subst (λ (w : State). ComesAs p w F.rest us) push C)),
+          (λ us C. comes_first limit hs ts u can W.1 F us (subst (λ (w : MachineState). ComesAs p w F.rest us) push C)),
         )
 
     pub comes : (us hs ts : List ℕ) → Whole hs limit ts → (more : List ℕ) × ComesAs p (run p limit hs) ts (us ++ more)
     comes [] hs ts W = (ts, itself_comes (run p limit hs) ts W.1)
-    comes (u ∷ us) hs ts W = by (λ hs' ts' W'. comes us hs' ts' W') (can_step (run p limit hs) u) refl
+    comes (u ∷ us) hs ts W = comes_by_cases (λ hs' ts' W'. comes us hs' ts' W') (can_step (run p limit hs) u) refl
       where
-        by : ((hs ts : List ℕ) → Whole hs limit ts → (more : List ℕ) × ComesAs p (run p limit hs) ts (us ++ more)) → (b : Bool) → can_step (run p limit hs) u ≡ b → (more : List ℕ) × ComesAs p (run p limit hs) ts (u ∷ us ++ more)
-        by all false e = let r = all hs ts W in (r.0, idle (run p limit hs) u ts (us ++ r.0) e r.1)
-        by all true e =
+        comes_by_cases : ((hs ts : List ℕ) → Whole hs limit ts → (more : List ℕ) × ComesAs p (run p limit hs) ts (us ++ more)) → (b : Bool) → can_step (run p limit hs) u ≡ b → (more : List ℕ) × ComesAs p (run p limit hs) ts (u ∷ us ++ more)
+        comes_by_cases all false e = let r = all hs ts W in (r.0, idle (run p limit hs) u ts (us ++ r.0) e r.1)
+        comes_by_cases all true e =
             let A = after hs ts u e W in
             let r = all (hs ++ u ∷ []) A.0 A.1 in
             (r.0, A.2 (us ++ r.0) r.1)
 
-    stopped : (m : State) (e : End) → m.end ≡ Some e → (u : ℕ) → can_step m u ≡ false
+    stopped : (m : MachineState) (e : End) → m.end ≡ Some e → (u : ℕ) → can_step m u ≡ false
     stopped m e is u = ap (λ w. goes_on w (is_running (slice_get m.tasks u))) is
 
-    cut : (m : State) (e : End) → m.end ≡ Some e → (ts us : List ℕ) → ComesAs p m ts us → ComesAs p m ts []
+    cut : (m : MachineState) (e : End) → m.end ≡ Some e → (ts us : List ℕ) → ComesAs p m ts us → ComesAs p m ts []
     cut m e is ts [] C = C
     cut m e is ts (u ∷ us) C = cut m e is ts us (unidle m u ts us (stopped m e is u) C)
 
     -- one that ends
     comes_whole : (us hs ts : List ℕ) (e : End) → Whole hs limit ts → (run_from p (run p limit hs) us).end ≡ Some e → ComesAs p (run p limit hs) ts us
     comes_whole [] hs ts e W is = cut (run p limit hs) e is ts ts (itself_comes (run p limit hs) ts W.1)
-    comes_whole (u ∷ us) hs ts e W is = by (λ hs' ts' W' is'. comes_whole us hs' ts' e W' is') (can_step (run p limit hs) u) refl
+    comes_whole (u ∷ us) hs ts e W is = comes_whole_by_cases (λ hs' ts' W' is'. comes_whole us hs' ts' e W' is') (can_step (run p limit hs) u) refl
       where
-        by : ((hs ts : List ℕ) → Whole hs limit ts → (run_from p (run p limit hs) us).end ≡ Some e → ComesAs p (run p limit hs) ts us) → (b : Bool) → can_step (run p limit hs) u ≡ b → ComesAs p (run p limit hs) ts (u ∷ us)
-        by all false none = idle (run p limit hs) u ts us none (all hs ts W (ap (λ w. (run_from p w us).end) (sym (step_idle p (run p limit hs) u none)) ∙ is))
-        by all true can =
+        comes_whole_by_cases : ((hs ts : List ℕ) → Whole hs limit ts → (run_from p (run p limit hs) us).end ≡ Some e → ComesAs p (run p limit hs) ts us) → (b : Bool) → can_step (run p limit hs) u ≡ b → ComesAs p (run p limit hs) ts (u ∷ us)
+        comes_whole_by_cases all false none = idle (run p limit hs) u ts us none (all hs ts W (ap (λ w. (run_from p w us).end) (sym (step_idle p (run p limit hs) u none)) ∙ is))
+        comes_whole_by_cases all true can =
             let A = after hs ts u can W in
             A.2 us (all (hs ++ u ∷ []) A.0 A.1 (ap (λ w. (run_from p w us).end) (run_push p (start p limit) hs u) ∙ is))
 
-    agrees : (ts us : List ℕ) → ComesAs p (start p limit) ts us → Agrees p limit ts us
+    agrees : (ts us : List ℕ) → ComesAs p (start p limit) ts us → SameResult p limit ts us
     agrees ts us C = record {
       f = C.f;
       g = C.g;

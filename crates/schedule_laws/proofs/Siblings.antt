@@ -1,21 +1,5 @@
 -- The two last returns into one join, in either order; and hence all steps of two concurrent tasks.
-use Rattle.std.proofs.Common.{◌≡◌, ℕ, ℤ, ◌+◌, ◌-◌, ◌%◌, ◌<◌, true, false, cond, Option, Some, None, List, [], ◌∷◌, ◌++◌, length, slice_get, slice_set, ◌⊎◌, inl, inr, refl, ap, sym, subst, ◌∙◌, arith, append-nil, eq-eqb}
-use Rattle.std.proofs.lemmas.Bool.{cases_Bool, cases_eq, cond-false, cond-true, eqb-false, eqb-true}
-use Rattle.std.proofs.lemmas.Option.{same_Some}
-use Rattle.std.proofs.lemmas.List.{set-set, set_comm}
-use Rattle.listed.proofs.Members.{In, got_other, got_same}
-use Rattle.hh_lang.specs.declared.instr.Instr.{Instr}
-use Rattle.hh_model.specs.declared.data.Name.{Name}
-use Rattle.hh_model.specs.declared.data.Status.TheVariants.{Running}
-use Rattle.hh_model.specs.declared.data.Task.{Task}
-use Rattle.hh_model.specs.declared.data.State.{State}
-use Rattle.path_laws.specs.Disentangled.{Disentangled}
-use Rattle.hh_model.specs.Step.{child_ended_by, edge, ended_task, is_left, is_running, joined_task, result_at, parent_of, parents, result_of, resumed, setting, sibling, strand}
-use Rattle.hh_model.specs.Store.{NamesAreStoredIn}
-use Rattle.hh_model.specs.Tree.{IsForkJoinState}
-use Rattle.hh_model.proofs.Root.{runs_tell}
-use Rattle.path_laws.proofs.Leaves.{wait_there}
-use Rattle.renaming_laws.proofs.Changed.{Change, ChangesBy, Edits, Grows, Same}
+use Rattle.schedule_laws.proofs.Common.{◌≡◌, ℕ, ℤ, ◌+◌, ◌-◌, ◌%◌, ◌<◌, true, false, cond, Option, Some, None, List, [], ◌∷◌, ◌++◌, length, slice_get, slice_set, ◌⊎◌, inl, inr, refl, ap, sym, subst, ◌∙◌, arith, append-nil, eq-eqb, cases_Bool, cases_eq, cond-false, cond-true, eqb-false, eqb-true, same_Some, set-set, set_comm, In, got_other, got_same, Instr, Name, Running, Task, MachineState, Disentangled, child_ended_by, edge, ended_task, is_left, is_running, joined_task, result_at, parent_of, parents, result_of, resumed, setting, sibling, strand, NamesAreStoredIn, IsForkJoinState, runs_tell, wait_there, Change, ChangesBy, Edits, Grows, Same}
 use Rattle.schedule_laws.proofs.Swapping.{Agree, sets}
 use Rattle.schedule_laws.proofs.Moves.{Acts, Joins, Last, Moves, Two, change_in, last_move, last_moves}
 use Rattle.schedule_laws.proofs.Apart.{plain_quiet, run_keeps_none}
@@ -30,7 +14,7 @@ join_over ts q l a b c k z (inr e) =
     subst (λ j. sets ((l, a) ∷ (l + 1, b) ∷ (q, c) ∷ []) (slice_set ts j z) ≡ sets ((l, a) ∷ (l + 1, b) ∷ (q, c) ∷ []) ts) (sym e)
     (ap (λ w. slice_set (slice_set w (l + 1) b) q c) (set_comm ts (l + 1) l z a (λ h. (let h' : l + 1 ≡ l = h in omega arith))) ∙ ap (λ w. slice_set w q c) (set-set (slice_set ts l a) (l + 1) z b))
 
-joined_even : (m m1 m2 m12 m21 : State) (t u q l : ℕ) (z z' a b c : Task) → (t ≡ l) ⊎ (t ≡ l + 1) → (u ≡ l) ⊎ (u ≡ l + 1) → Moves m m1 t (Acts z Same) → Moves m m2 u (Acts z' Same)
+joined_even : (m m1 m2 m12 m21 : MachineState) (t u q l : ℕ) (z z' a b c : Task) → (t ≡ l) ⊎ (t ≡ l + 1) → (u ≡ l) ⊎ (u ≡ l + 1) → Moves m m1 t (Acts z Same) → Moves m m2 u (Acts z' Same)
     → Moves m1 m12 u (Joins q l a b c) → Moves m2 m21 t (Joins q l a b c) → Even m12 m21
 joined_even m m1 m2 m12 m21 t u q l z z' a b c at au Ht Hu Hu1 Ht2 =
     let three = λ (ts : List Task). sets ((l, a) ∷ (l + 1, b) ∷ (q, c) ∷ []) ts in
@@ -47,9 +31,9 @@ joined_even m m1 m2 m12 m21 t u q l z z' a b c at au Ht Hu Hu1 Ht2 =
       end = Ht2.end ∙ (Hu.end ∙ (sym Ht.end ∙ sym Hu1.end));
     }
 
-module _ (m : State) (K : IsForkJoinState m) (D : Disentangled m.tasks m.store) (N : NamesAreStoredIn m) (L : LowIn m) (rows : length m.store ≡ length m.tasks) (going : m.end ≡ None)
+module _ (m : MachineState) (K : IsForkJoinState m) (D : Disentangled m.tasks m.store) (N : NamesAreStoredIn m) (L : LowIn m) (rows : length m.store ≡ length m.tasks) (going : m.end ≡ None)
     (t u : ℕ) (two : t ≡ u → ⊥) (x y : Task) (is : slice_get m.tasks t ≡ Some x) (iu : slice_get m.tasks u ≡ Some y) (running_t : x.status ≡ Running) (running_u : y.status ≡ Running)
-    (run_t : is_running (slice_get m.tasks t) ≡ true) (run_u : is_running (slice_get m.tasks u) ≡ true) (m1 m2 m12 m21 : State) where
+    (run_t : is_running (slice_get m.tasks t) ≡ true) (run_u : is_running (slice_get m.tasks u) ≡ true) (m1 m2 m12 m21 : MachineState) where
   abbrev rt : ℤ × Option Name
   rt = result_of x.top
 
@@ -57,7 +41,7 @@ module _ (m : State) (K : IsForkJoinState m) (D : Disentangled m.tasks m.store) 
   ru = result_of y.top
 
   -- the outcome of the second end, after the first
-  second : (v w : ℕ) (a b : Task) (ra rb : ℤ × Option Name) (n n' : State) (q : ℕ) → (v ≡ w → ⊥) → slice_get m.tasks v ≡ Some a → slice_get m.tasks w ≡ Some b → is_running (slice_get m.tasks v) ≡ true → sibling w ≡ v
+  second : (v w : ℕ) (a b : Task) (ra rb : ℤ × Option Name) (n n' : MachineState) (q : ℕ) → (v ≡ w → ⊥) → slice_get m.tasks v ≡ Some a → slice_get m.tasks w ≡ Some b → is_running (slice_get m.tasks v) ≡ true → sibling w ≡ v
       → parents m.tasks w ≡ Some q → (xq : Task) → slice_get m.tasks q ≡ Some xq → (q ≡ v → ⊥) → n.tasks ≡ slice_set m.tasks v (ended_task a ra) → n' ≡ child_ended_by n w b q rb (result_at (slice_get n.tasks (sibling w)))
       → Moves n n' w (cond (is_left w) (Joins q w (joined_task b) (joined_task a) (resumed xq rb ra)) (Joins q (w - 1) (joined_task a) (joined_task b) (resumed xq ra rb)))
   second v w a b ra rb n n' q ne ia ib run sib above xq iq nq tasks is' =
@@ -80,8 +64,8 @@ module _ (m : State) (K : IsForkJoinState m) (D : Disentangled m.tasks m.store) 
       pt : parents m.tasks t ≡ Some q
       pt = ap (parents m.tasks) (sym sib) ∙ K.tree.pairs u q pu
 
-      same : Et.parent ≡ q
-      same = same_Some Et.parent q (sym Et.above ∙ (ap parent_of (sym is) ∙ pt))
+      same_parent : Et.parent ≡ q
+      same_parent = same_Some Et.parent q (sym Et.above ∙ (ap parent_of (sym is) ∙ pt))
 
       lu : q < u
       lu = K.tree.low u q pu
@@ -104,9 +88,9 @@ module _ (m : State) (K : IsForkJoinState m) (D : Disentangled m.tasks m.store) 
           let H2 : m2 ≡ child_ended_by m u y q ru None = Eu.here ∙ ap (child_ended_by m u y q ru) (ap (λ k. result_at (slice_get m.tasks k)) sib ∙ run_keeps_none (slice_get m.tasks t) run_t) in
           let Ht : Moves m m1 t (Acts (ended_task x rt) Same) = subst (λ z. Moves m z t (Acts (ended_task x rt) Same)) (sym H1) (last_moves m t x Et.parent rt is None) in
           let Hu : Moves m m2 u (Acts (ended_task y ru) Same) = subst (λ z. Moves m z u (Acts (ended_task y ru) Same)) (sym H2) (last_moves m u y q ru iu None) in
-          let there = Et.there ∙ ap (λ k. child_ended_by m2 t x k rt (result_at (slice_get m2.tasks (sibling t)))) same in
-          let Hu1 : Moves m1 m12 u (Joins q l a b c) = subst (Moves m1 m12 u) eu (second t u x y rt ru m1 m12 q two is iu run_t sib pu top.0 top.1 nt (ap (λ (z : State). z.tasks) H1) Eu.there) in
-          let Ht2 : Moves m2 m21 t (Joins q l a b c) = subst (Moves m2 m21 t) et (second u t y x ru rt m2 m21 q (λ e. two (sym e)) iu is run_u sib' pt top.0 top.1 nu (ap (λ (z : State). z.tasks) H2) there) in
+          let there = Et.there ∙ ap (λ k. child_ended_by m2 t x k rt (result_at (slice_get m2.tasks (sibling t)))) same_parent in
+          let Hu1 : Moves m1 m12 u (Joins q l a b c) = subst (Moves m1 m12 u) eu (second t u x y rt ru m1 m12 q two is iu run_t sib pu top.0 top.1 nt (ap (λ (z : MachineState). z.tasks) H1) Eu.there) in
+          let Ht2 : Moves m2 m21 t (Joins q l a b c) = subst (Moves m2 m21 t) et (second u t y x ru rt m2 m21 q (λ e. two (sym e)) iu is run_u sib' pt top.0 top.1 nu (ap (λ (z : MachineState). z.tasks) H2) there) in
           same_itself m m12 m21 (joined_even m m1 m2 m12 m21 t u q l (ended_task x rt) (ended_task y ru) a b c at au Ht Hu Hu1 Ht2)
 
       by_side : (is_left u ≡ true) ⊎ (is_left u ≡ false) → SameButNumbers m m12 m21
@@ -137,12 +121,12 @@ module _ (m : State) (K : IsForkJoinState m) (D : Disentangled m.tasks m.store) 
       siblings = by_side (cases_Bool (is_left u))
 
     agree_right : (a b : Change) → b ≡ Same → Agree a b
-    agree_right a b e = subst (Agree a) (sym e) (by a)
+    agree_right a b e = subst (Agree a) (sym e) (agree_right_by_cases a)
       where
-        by : (a : Change) → Agree a Same
-        by Same = tt
-        by (Grows o) = tt
-        by (Edits n d) = tt
+        agree_right_by_cases : (a : Change) → Agree a Same
+        agree_right_by_cases Same = tt
+        agree_right_by_cases (Grows o) = tt
+        agree_right_by_cases (Edits n d) = tt
 
     agree_left : (a b : Change) → a ≡ Same → Agree a b
     agree_left a b e = subst (λ c. Agree c b) (sym e) tt

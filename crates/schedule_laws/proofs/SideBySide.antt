@@ -1,21 +1,8 @@
 -- The strands of two concurrent tasks are unordered.
-use Rattle.std.proofs.Common.{◌≡◌, ℕ, false, length, ap, sym, ◌∙◌, arith}
-use Rattle.std.proofs.lemmas.Bool.{both_ways}
-use Rattle.listed.proofs.Members.{got_within}
-use Rattle.hh_model.specs.declared.data.Task.{Task}
-use Rattle.hh_model.specs.declared.data.State.{State}
-use Rattle.hh_model.specs.Precedence.{precedes}
-use Rattle.hh_model.specs.Step.{is_joined, is_waiting, joined, owner_in, parents, path_in, run, run_from, start, strand, strand_of}
-use Rattle.hh_model.specs.Tree.{joins_in, joins_of, waiting}
-use Rattle.hh_model.proofs.ForkJoinStates.{IsForkJoinState, run_is_fork_join_state, start_is_fork_join_state}
-use Rattle.hh_model.proofs.Runs.{running_tells}
-use Rattle.hh_model.proofs.Tree.{not_above}
-use Rattle.hh_model.proofs.Climbs.{owner_here}
-use Rattle.race_report.specs.LabelLaw.{Runs}
-use Rattle.race_report.proofs.LabelSteps.{begun_running, run_keeps}
-use Rattle.schedule_laws.specs.Steps.{RunningTasksAreApart}
+use Rattle.schedule_laws.proofs.Common.{◌≡◌, ℕ, false, length, ap, sym, ◌∙◌, arith, both_ways, got_within, Task, MachineState, precedes, is_joined, is_waiting, joined, owner_in, parents, path_in, run, run_from, start, strand, strand_of, joins_in, joins_of, waiting, run_is_fork_join_state, start_is_fork_join_state, running_tells, not_above, owner_here, Runs, begun_running, run_keeps, RunningTasksAreApart}
+use Rattle.hh_model.proofs.ForkJoinStates.{IsForkJoinState}
 
-module _ (m : State) (K : IsForkJoinState m) (t u : ℕ) (x y : Task) (two : t ≡ u → ⊥) (R : Runs m t x) (S : Runs m u y) where
+module _ (m : MachineState) (K : IsForkJoinState m) (t u : ℕ) (x y : Task) (two : t ≡ u → ⊥) (R : Runs m t x) (S : Runs m u y) where
   live : joined m.tasks t ≡ false
   live = ap is_joined R.is ∙ (running_tells x.status R.running).0
 

@@ -1,14 +1,5 @@
 -- Lists of what steps make, of which one item moves to the front.
-use Rattle.std.proofs.Common.{◌≡◌, ℕ, zero, suc, Option, Some, None, List, [], ◌∷◌, ◌++◌, map, ◌⊎◌, inl, inr, refl, ap, sym, subst, ◌∙◌, arith}
-use Rattle.std.proofs.lemmas.Option.{same_Some}
-use Rattle.listed.proofs.Members.{In, got_in, in_append_cases, in_append_left, in_append_right}
-use Rattle.listed.proofs.Places.{in_got}
-use Rattle.hh_model.specs.declared.data.Edge.{Edge}
-use Rattle.hh_model.specs.Precedence.{Precedes}
-use Rattle.race_report.specs.declared.data.Access.{Access}
-use Rattle.race_report.specs.Accesses.{with_some}
-use Rattle.schedule_laws.specs.Clashes.{Clash}
-use Rattle.schedule_laws.specs.Ordered.{AreOrdered}
+use Rattle.schedule_laws.proofs.Common.{◌≡◌, ℕ, zero, suc, Option, Some, None, List, [], ◌∷◌, ◌++◌, map, ◌⊎◌, inl, inr, refl, ap, sym, subst, ◌∙◌, arith, same_Some, In, got_in, in_append_cases, in_append_left, in_append_right, in_got, Edge, Precedes, FieldAccess, with_some, Clash, AreOrdered}
 
 -- all of them are those before, this one if there is one, and those after; the rest are the others, renamed
 pub record Split {X : Type 0} (to : (ℕ → ℕ) → X → X) (Bad : X → X → Type 0) (f : ℕ → ℕ) (all : List X) (o : Option X) (rest : List X) : Type 0 where
@@ -50,38 +41,38 @@ module _ {X : Type 0} (to : (ℕ → ℕ) → X → X) (Bad : X → X → Type 0
 
 -- ORDER
 
--- of two that clash the strand of the earlier one precedes
-abbrev pub InOrder : List Edge → List Access → Type 0
+-- of two that clash the strand of the earlier one happens before
+abbrev pub InOrder : List Edge → List FieldAccess → Type 0
 InOrder es [] = Unit {0}
-InOrder es (a ∷ rest) = ((b : Access) → In rest b → Clash a b → Precedes es a.strand b.strand) × InOrder es rest
+InOrder es (a ∷ rest) = ((b : FieldAccess) → In rest b → Clash a b → Precedes es a.strand b.strand) × InOrder es rest
 
-pub to_order : (es : List Edge) (xs : List Access) → AreOrdered es xs → InOrder es xs
+pub to_order : (es : List Edge) (xs : List FieldAccess) → AreOrdered es xs → InOrder es xs
 to_order es [] h = tt
 to_order es (x ∷ xs) h = (
   (λ b i c. (let k = in_got xs b i in h 0 (suc k.0) x b (omega arith) refl k.1 c)),
   to_order es xs (λ i j u v lt iu iv c. h (suc i) (suc j) u v (omega arith) iu iv c),
 )
 
-pub from_order : (es : List Edge) (xs : List Access) → InOrder es xs → AreOrdered es xs
+pub from_order : (es : List Edge) (xs : List FieldAccess) → InOrder es xs → AreOrdered es xs
 from_order es [] h i j u v lt iu iv c = absurd cc
 from_order es (x ∷ xs) h zero zero u v lt iu iv c = absurd (omega arith)
-from_order es (x ∷ xs) h zero (suc j) u v lt iu iv c = let e : x ≡ u = same_Some x u iu in subst (λ (w : Access). Precedes es w.strand v.strand) e (h.0 v (got_in xs j v iv) (subst (λ w. Clash w v) (sym e) c))
+from_order es (x ∷ xs) h zero (suc j) u v lt iu iv c = let e : x ≡ u = same_Some x u iu in subst (λ (w : FieldAccess). Precedes es w.strand v.strand) e (h.0 v (got_in xs j v iv) (subst (λ w. Clash w v) (sym e) c))
 from_order es (x ∷ xs) h (suc i) zero u v lt iu iv c = absurd (omega arith)
 from_order es (x ∷ xs) h (suc i) (suc j) u v lt iu iv c = from_order es xs h.1 i j u v (omega arith) iu iv c
 
 -- the middle one moves to the front
-pub order_moves : (es : List Edge) (front back : List Access) (o : Option Access) → InOrder es (front ++ with_some o back) → ((a b : Access) → In front a → o ≡ Some b → Clash a b → ⊥) → InOrder es (with_some o (front ++ back))
+pub order_moves : (es : List Edge) (front back : List FieldAccess) (o : Option FieldAccess) → InOrder es (front ++ with_some o back) → ((a b : FieldAccess) → In front a → o ≡ Some b → Clash a b → ⊥) → InOrder es (with_some o (front ++ back))
 order_moves es front back None h free = h
-order_moves es front back (Some b) h free = ((λ c i k. by front h (λ a j. free a b j refl) c i k), rest front h)
+order_moves es front back (Some b) h free = ((λ c i k. order_moves_by_cases front h (λ a j. free a b j refl) c i k), rest front h)
   where
-    flip : (c : Access) → Clash b c → Clash c b
+    flip : (c : FieldAccess) → Clash b c → Clash c b
     flip c k = record { field = sym k.field; writes = elim (k.writes) [ inl w ↦ inr w | inr w ↦ inl w ] }
 
-    by : (front : List Access) → InOrder es (front ++ b ∷ back) → ((a : Access) → In front a → Clash a b → ⊥) → (c : Access) → In (front ++ back) c → Clash b c → Precedes es b.strand c.strand
-    by [] h none c i k = h.0 c i k
-    by (a ∷ front) h none c (inl e) k = absurd (none c (inl e) (flip c k))
-    by (a ∷ front) h none c (inr i) k = by front h.1 (λ d j. none d (inr j)) c i k
+    order_moves_by_cases : (front : List FieldAccess) → InOrder es (front ++ b ∷ back) → ((a : FieldAccess) → In front a → Clash a b → ⊥) → (c : FieldAccess) → In (front ++ back) c → Clash b c → Precedes es b.strand c.strand
+    order_moves_by_cases [] h none c i k = h.0 c i k
+    order_moves_by_cases (a ∷ front) h none c (inl e) k = absurd (none c (inl e) (flip c k))
+    order_moves_by_cases (a ∷ front) h none c (inr i) k = order_moves_by_cases front h.1 (λ d j. none d (inr j)) c i k
 
-    rest : (front : List Access) → InOrder es (front ++ b ∷ back) → InOrder es (front ++ back)
+    rest : (front : List FieldAccess) → InOrder es (front ++ b ∷ back) → InOrder es (front ++ back)
     rest [] h = h.1
     rest (a ∷ front) h = ((λ c i k. h.0 c (elim (in_append_cases front back c i) [ inl j ↦ in_append_left front (b ∷ back) c j | inr j ↦ in_append_right front (b ∷ back) c (inr j) ]) k), rest front h.1)

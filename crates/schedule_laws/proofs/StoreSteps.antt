@@ -1,25 +1,5 @@
 -- How a step changes the store.
-use Rattle.std.proofs.Common.{◌≡◌, ℕ, ℤ, Bool, true, false, cond, Option, Some, None, List, [], ◌∷◌, ◌++◌, slice_get, slice_set, ◌⊎◌, inl, inr, refl, ap, sym, subst, ◌∙◌, append-nil}
-use Rattle.std.specs.Option.{option_flatten}
-use Rattle.std.proofs.lemmas.Bool.{cases_eq, false≢true}
-use Rattle.std.proofs.lemmas.Option.{same_Some}
-use Rattle.listed.proofs.Members.{In, contains_from_in, got_in}
-use Rattle.hh_lang.specs.declared.program.Line.{Line}
-use Rattle.hh_lang.specs.Form.{ProgramText}
-use Rattle.hh_model.specs.declared.data.Name.{Name}
-use Rattle.hh_model.specs.declared.data.Object.{Object}
-use Rattle.hh_model.specs.declared.data.Frame.{Frame}
-use Rattle.hh_model.specs.declared.data.Task.{Task}
-use Rattle.hh_model.specs.declared.data.State.{State}
-use Rattle.hh_model.specs.Effect.{Effect, Goes, Prints, Calls, Forks, Returns, Traps, Stops, effect, object_at, put_object, row_of}
-use Rattle.hh_model.specs.Step.{can_step, child_ended_by, fetched, follow, is_left, is_running, result_at, last_of, last_return, or_same, owner_of, result_of, returned_to, setting, sibling, step}
-use Rattle.hh_model.specs.Store.{NamesAreStoredIn}
-use Rattle.hh_model.proofs.Carried.{flat_at}
-use Rattle.path_laws.proofs.Objects.{made_stays, put_here, put_other, rows_stay}
-use Rattle.hh_model.proofs.Steps.{in_registers, names_run, runs_is}
-use Rattle.hh_model.proofs.Taken.{can_runs, step_idle, step_none, step_taken}
-use Rattle.renaming_laws.proofs.Changed.{Change, Same, Grows, Edits, ChangesBy, Edit, changed, edited, put_in}
-use Rattle.renaming_laws.proofs.Unnamed.{EffectAs, SeesSame, effect_as}
+use Rattle.schedule_laws.proofs.Common.{◌≡◌, ℕ, ℤ, Bool, true, false, cond, Option, Some, None, List, [], ◌∷◌, ◌++◌, slice_get, slice_set, ◌⊎◌, inl, inr, refl, ap, sym, subst, ◌∙◌, append-nil, option_flatten, cases_eq, false≢true, same_Some, In, contains_from_in, got_in, Line, ProgramText, Name, Object, Frame, Task, MachineState, Effect, Goes, Prints, Calls, Forks, Returns, Traps, Stops, effect, object_at, put_object, row_of, can_step, child_ended_by, fetched, follow, is_left, is_running, result_at, last_of, last_return, or_same, owner_of, result_of, returned_to, setting, sibling, step, NamesAreStoredIn, flat_at, made_stays, put_here, put_other, rows_stay, in_registers, names_run, runs_is, can_runs, step_idle, step_none, step_taken, Change, Same, Grows, Edits, ChangesBy, Edit, changed, edited, put_in, EffectAs, SeesSame, effect_as}
 
 abbrev is_edit : Change → Bool
 is_edit Same = false
@@ -59,7 +39,7 @@ pub behind : (new : List (List Object)) → IsEmpty new → (store : List (List 
 behind new (inl e) store n o is = ap (λ w. object_at (store ++ w) n) e ∙ (ap (λ w. object_at w n) (append-nil store) ∙ is)
 behind new (inr e) store n o is = ap (λ w. object_at (store ++ w) n) e ∙ rows_stay store n.task n.count o is
 
-module _ (p : ProgramText) (m : State) (N : NamesAreStoredIn m) (t : ℕ) where
+module _ (p : ProgramText) (m : MachineState) (N : NamesAreStoredIn m) (t : ℕ) where
   pub held : (x : Task) → slice_get m.tasks t ≡ Some x → is_running (Some x) ≡ true → (n : Name) → In x.top.refs (Some n) → (o : Object) × (object_at m.store n ≡ Some o)
   held x is run n i = N.named t x n is (contains_from_in _ n (names_run x n (runs_is x.status run) (in_registers (x.top ∷ x.below) x.top n (inl refl) i)))
 
@@ -93,11 +73,11 @@ module _ (p : ProgramText) (m : State) (N : NamesAreStoredIn m) (t : ℕ) where
   stays : (store : List (List Object)) → store ≡ m.store → StoreStep store
   stays store e = record { op = Same; new = []; empty = inl refl; is = e ∙ sym (append-nil m.store); by = inl refl }
 
-  either : (b : Bool) (a c : State) → StoreStep a.store → StoreStep c.store → StoreStep (cond b a c).store
+  either : (b : Bool) (a c : MachineState) → StoreStep a.store → StoreStep c.store → StoreStep (cond b a c).store
   either true a c h k = h
   either false a c h k = k
 
-  same_or : {A : Type 0} (o : Option A) (go : A → State) → ((z : A) → StoreStep (go z).store) → StoreStep (or_same m o go).store
+  same_or : {A : Type 0} (o : Option A) (go : A → MachineState) → ((z : A) → StoreStep (go z).store) → StoreStep (or_same m o go).store
   same_or None go each = stays m.store refl
   same_or (Some z) go each = each z
 
@@ -140,12 +120,12 @@ module _ (p : ProgramText) (m : State) (N : NamesAreStoredIn m) (t : ℕ) where
 
     pub acted : StoreStep (step p m t).store
     acted =
-        subst (λ (w : State). StoreStep w.store) (sym (step_taken p m t x line A.can A.is A.next))
+        subst (λ (w : MachineState). StoreStep w.store) (sym (step_taken p m t x line A.can A.is A.next))
         (by_effect (effect (setting m t x) x.top m.store line.instr) refl
         (effect_as (setting m t x) m.edges (owner_of m.tasks) x.top m.store m.store (λ b n k. Unit {0}) (own_sees x A.is A.running) line.instr (λ b n k r. tt)))
 
   by_line : (x : Task) (o : Option Line) → can_step m t ≡ true → slice_get m.tasks t ≡ Some x → fetched p x.top ≡ o → StoreStep (step p m t).store
-  by_line x None can is e = stays (step p m t).store (ap (λ (w : State). w.store) (step_none p m t x can is e))
+  by_line x None can is e = stays (step p m t).store (ap (λ (w : MachineState). w.store) (step_none p m t x can is e))
   by_line x (Some line) can is e = acted x line (record { can = can; is = is; running = ap is_running (sym is) ∙ can_runs m t can; next = e })
 
   by_task : (o : Option Task) → can_step m t ≡ true → slice_get m.tasks t ≡ o → StoreStep (step p m t).store
@@ -157,7 +137,7 @@ module _ (p : ProgramText) (m : State) (N : NamesAreStoredIn m) (t : ℕ) where
     where
       by_can : (b : Bool) → can_step m t ≡ b → StoreStep (step p m t).store
       by_can true e = by_task (slice_get m.tasks t) e refl
-      by_can false e = stays (step p m t).store (ap (λ (w : State). w.store) (step_idle p m t e))
+      by_can false e = stays (step p m t).store (ap (λ (w : MachineState). w.store) (step_idle p m t e))
 
   edits_there : (op : Change) → (op ≡ Same) ⊎ GoesBy op → (k : Name) (e : Edit) → op ≡ Edits k e → (o : Object) × (object_at m.store k ≡ Some o)
   edits_there op (inl z) k e h = absurd (not_edit k e (sym z ∙ h))
@@ -170,9 +150,9 @@ module _ (p : ProgramText) (m : State) (N : NamesAreStoredIn m) (t : ℕ) where
       let S = store_step in
       elim (after_change S.op t m.store (edits_there S.op S.by) n old is) [
         | inl same ↦ inl (ap (λ w. object_at w n) S.is ∙ behind S.new S.empty (changed S.op t m.store) n old same)
-        | inr more ↦ inr (more.0, by S.op more.0 S.by more.1, ap (λ w. object_at w n) S.is ∙ behind S.new S.empty (changed S.op t m.store) n (edited more.0 old) more.2)
+        | inr more ↦ inr (more.0, object_after_by_cases S.op more.0 S.by more.1, ap (λ w. object_at w n) S.is ∙ behind S.new S.empty (changed S.op t m.store) n (edited more.0 old) more.2)
       ]
     where
-      by : (op : Change) (e : Edit) → (op ≡ Same) ⊎ GoesBy op → op ≡ Edits n e → GoesBy (Edits n e)
-      by op e (inl z) h = absurd (not_edit n e (sym z ∙ h))
-      by op e (inr g) h = subst GoesBy h g
+      object_after_by_cases : (op : Change) (e : Edit) → (op ≡ Same) ⊎ GoesBy op → op ≡ Edits n e → GoesBy (Edits n e)
+      object_after_by_cases op e (inl z) h = absurd (not_edit n e (sym z ∙ h))
+      object_after_by_cases op e (inr g) h = subst GoesBy h g

@@ -1,13 +1,5 @@
 -- Writes to different indices of a list commute.
-use Rattle.std.proofs.Common.{◌≡◌, ℕ, zero, suc, ◌<◌, Option, Some, None, List, [], ◌∷◌, ◌++◌, length, slice_get, slice_set, inl, inr, refl, ap, sym, subst, ◌∙◌, length-set}
-use Rattle.std.proofs.lemmas.Bool.{cases_eq}
-use Rattle.std.proofs.lemmas.List.{set-set, set_comm, set-append_left}
-use Rattle.listed.proofs.Members.{got_front, got_other, got_same, got_within}
-use Rattle.hh_model.specs.declared.data.Name.{Name}
-use Rattle.hh_model.specs.declared.data.Object.{Object}
-use Rattle.hh_model.specs.declared.data.Task.{Task}
-use Rattle.hh_model.specs.Effect.{object_at, row_of}
-use Rattle.renaming_laws.proofs.Changed.{Change, Same, Grows, Edits, Edit, changed, edited, edited_row, put_in}
+use Rattle.schedule_laws.proofs.Common.{◌≡◌, ℕ, zero, suc, ◌<◌, Option, Some, None, List, [], ◌∷◌, ◌++◌, length, slice_get, slice_set, inl, inr, refl, ap, sym, subst, ◌∙◌, length-set, cases_eq, set-set, set_comm, set-append_left, got_front, got_other, got_same, got_within, Name, Object, Task, object_at, row_of, Change, Same, Grows, Edits, Edit, changed, edited, edited_row, put_in}
 
 -- TASKS
 
@@ -69,11 +61,11 @@ alter_same store j k row g h e is same =
 
 -- an object's row is there
 row_at : (store : List (List Object)) (n : Name) (o : Object) → object_at store n ≡ Some o → (row : List Object) × (slice_get store n.task ≡ Some row) × (slice_get row n.count ≡ Some o)
-row_at store n o is = by (slice_get store n.task) refl is
+row_at store n o is = row_at_by_cases (slice_get store n.task) refl is
   where
-    by : (w : Option (List Object)) → slice_get store n.task ≡ w → slice_get (row_of w) n.count ≡ Some o → (row : List Object) × (slice_get store n.task ≡ Some row) × (slice_get row n.count ≡ Some o)
-    by None e h = absurd cc
-    by (Some row) e h = (row, e, h)
+    row_at_by_cases : (w : Option (List Object)) → slice_get store n.task ≡ w → slice_get (row_of w) n.count ≡ Some o → (row : List Object) × (slice_get store n.task ≡ Some row) × (slice_get row n.count ≡ Some o)
+    row_at_by_cases None e h = absurd cc
+    row_at_by_cases (Some row) e h = (row, e, h)
 
 abbrev pub Stored : List (List Object) → Change → Type 0
 Stored store Same = Unit {0}
@@ -97,12 +89,12 @@ edit_push row o c e old is =
 edit_edit : (row : List Object) (c c' : ℕ) (e d : Edit) (old old' : Object) → slice_get row c ≡ Some old → slice_get row c' ≡ Some old' → (c ≡ c' → edited e (edited d old) ≡ edited d (edited e old))
     → edited_row (edited_row row c' d) c e ≡ edited_row (edited_row row c e) c' d
 edit_edit row c c' e d old old' is is' same = elim (cases_eq c c') [
-  | inl h ↦ subst (λ j. edited_row (edited_row row j d) c e ≡ edited_row (edited_row row c e) j d) h (here e d is (same h) ∙ sym (here d e is refl))
+  | inl h ↦ subst (λ j. edited_row (edited_row row j d) c e ≡ edited_row (edited_row row c e) j d) h (edit_edit_here e d is (same h) ∙ sym (edit_edit_here d e is refl))
   | inr ne ↦ apart row c c' e d old old' is is' ne ∙ (set_comm row c' c (edited d old') (edited e old) (λ h. ne (sym h)) ∙ sym (apart row c' c d e old' old is' is (λ h. ne (sym h))))
 ]
   where
-    here : (e d : Edit) → slice_get row c ≡ Some old → {z : Object} → edited e (edited d old) ≡ z → edited_row (edited_row row c d) c e ≡ slice_set row c z
-    here e d is {z} h =
+    edit_edit_here : (e d : Edit) → slice_get row c ≡ Some old → {z : Object} → edited e (edited d old) ≡ z → edited_row (edited_row row c d) c e ≡ slice_set row c z
+    edit_edit_here e d is {z} h =
         ap (λ w. edited_row (put_in row c d w) c e) is
         ∙ (ap (put_in (slice_set row c (edited d old)) c e) (got_same row c old (edited d old) is) ∙ (set-set row c (edited d old) (edited e (edited d old)) ∙ ap (slice_set row c) h))
 

@@ -2,5 +2,6 @@ pub mod Prints
 pub mod Clashes
 pub mod Steps
 pub mod Ordered
-pub mod Agrees
+pub mod SameResult
 pub mod Laws
+mod Common

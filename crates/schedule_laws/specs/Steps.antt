@@ -1,24 +1,6 @@
 -- Steps of two concurrent tasks: what one leaves of the other's, and that they commute.
 use Rattle.std.specs.Prelude.{◌≡◌, ◌⊎◌, ◌<◌, ℕ, true, false, Option, Some, None, List, length, slice_get}
-use Rattle.hh_lang.specs.declared.instr.Instr.TheVariants.{Freeze}
-use Rattle.hh_lang.specs.declared.program.Line.{Line}
-use Rattle.hh_lang.specs.Form.{ProgramText}
-use Rattle.hh_model.specs.declared.data.Name.{Name}
-use Rattle.hh_model.specs.declared.data.Object.{Object}
-use Rattle.hh_model.specs.declared.data.Task.{Task}
-use Rattle.hh_model.specs.declared.data.End.{End}
-use Rattle.hh_model.specs.declared.data.End.TheVariants.{Done, Trapped, Entangled}
-use Rattle.hh_model.specs.declared.data.State.{State}
-use Rattle.hh_model.specs.Effect.{object_at, ref_in}
-use Rattle.hh_model.specs.Precedence.{Precedes}
-use Rattle.hh_model.specs.Step.{can_step, owner_of, run, run_from, step, strand_of}
-use Rattle.hh_model.specs.Store.{IsNext}
-use Rattle.race_report.specs.declared.data.Field.{Field}
-use Rattle.race_report.specs.declared.data.Access.{Access}
-use Rattle.race_report.specs.Accesses.{access_of}
-use Rattle.race_report.specs.LabelLaw.{Runs}
-use Rattle.renaming_laws.specs.Renaming.{IsRenaming}
-use Rattle.renaming_laws.specs.Alike.{AreAlike}
+use Rattle.schedule_laws.specs.Common.{Freeze, Line, ProgramText, Name, Object, Task, End, Done, Trapped, Entangled, MachineState, object_at, ref_in, Precedes, can_step, owner_of, run, run_from, step, strand_of, IsNext, Field, FieldAccess, access_of, Runs, IsRenaming, AreAlike}
 use Rattle.schedule_laws.specs.Prints.{print_of}
 use Rattle.schedule_laws.specs.Clashes.{Clash}
 
@@ -33,15 +15,15 @@ RunningTasksAreApart =
 -- FIELDS
 
 -- the next step of t makes a write access to this field
-abbrev pub WritesField : ProgramText → State → ℕ → Field → Type 0
-WritesField p m t field = (a : Access) × (access_of p m t ≡ Some a) × (a.field ≡ field) × (a.writes ≡ true)
+abbrev pub WritesField : ProgramText → MachineState → ℕ → Field → Type 0
+WritesField p m t field = (a : FieldAccess) × (access_of p m t ≡ Some a) × (a.field ≡ field) × (a.writes ≡ true)
 
 -- the next step of t freezes the object, which t owns
-abbrev pub FreezesNext : ProgramText → State → ℕ → Name → Type 0
+abbrev pub FreezesNext : ProgramText → MachineState → ℕ → Name → Type 0
 FreezesNext p m t n = (x : Task) × (line : Line) × (o : ℕ) × IsNext p m t x line × (line.instr ≡ Freeze o) × (ref_in x.top o ≡ Some n) × (owner_of m.tasks n.task ≡ t)
 
 -- a step changes only the field of an object that its access writes, and its mutability only by a freeze
-pub record ChangesOnly (p : ProgramText) (m : State) (t : ℕ) (n : Name) (old new : Object) : Type 0 where
+pub record ChangesOnly (p : ProgramText) (m : MachineState) (t : ℕ) (n : Name) (old new : Object) : Type 0 where
   pub strand : new.strand ≡ old.strand
   pub references : length new.refs ≡ length old.refs
   pub numbers : length new.ints ≡ length old.ints
@@ -58,11 +40,11 @@ FieldsStay =
 -- TWO STEPS
 
 -- t and u are two tasks, each can take a step, and the accesses of these don't clash
-pub record AreBeside (p : ProgramText) (m : State) (t u : ℕ) : Type 0 where
+pub record AreBeside (p : ProgramText) (m : MachineState) (t u : ℕ) : Type 0 where
   pub two : t ≡ u → ⊥
   pub first : can_step m t ≡ true
   pub second : can_step m u ≡ true
-  pub free : (a b : Access) → access_of p m t ≡ Some a → access_of p m u ≡ Some b → Clash a b → ⊥
+  pub free : (a b : FieldAccess) → access_of p m t ≡ Some a → access_of p m u ≡ Some b → Clash a b → ⊥
 
 -- no end, or the same end, except that the owner named by a stop may have joined
 abbrev pub EndAlike : Option End → Option End → Type 0
@@ -72,8 +54,8 @@ EndAlike (Some (Trapped kind t line)) (Some (Trapped kind' t' line')) = (kind' �
 EndAlike (Some (Entangled reader owner)) (Some (Entangled reader' owner')) = reader' ≡ reader
 EndAlike _ _ = ⊥
 
--- u's step is the same after t's
-pub record LeavesStep (p : ProgramText) (m : State) (t u : ℕ) : Type 0 where
+-- u's step is unchanged by t's
+pub record LeavesStep (p : ProgramText) (m : MachineState) (t u : ℕ) : Type 0 where
   pub can : can_step (step p m t) u ≡ true
   pub access : access_of p (step p m t) u ≡ access_of p m u
   pub print : print_of p (step p m t) u ≡ print_of p m u
@@ -89,13 +71,13 @@ StepsLeaveSteps =
 -- the same access if t's doesn't write. So a clash of concurrent next steps is one of the accesses that the run makes
 abbrev pub ClashesStay : Type 0
 ClashesStay =
-    (p : ProgramText) (limit : ℕ) (ts : List ℕ) (t u : ℕ) (a b : Access)
+    (p : ProgramText) (limit : ℕ) (ts : List ℕ) (t u : ℕ) (a b : FieldAccess)
     → let m = run p limit ts in (t ≡ u → ⊥) → can_step m t ≡ true → can_step m u ≡ true → (step p m t).end ≡ None
     → access_of p m t ≡ Some a → access_of p m u ≡ Some b → Clash a b
-    → (c : Access) × (access_of p (step p m t) u ≡ Some c) × Clash a c × (c.strand ≡ b.strand)
+    → (c : FieldAccess) × (access_of p (step p m t) u ≡ Some c) × Clash a c × (c.strand ≡ b.strand)
 
 -- in either order they have the same result, except for the numbers of tasks that both made
-pub record Commutes (p : ProgramText) (m : State) (t u : ℕ) : Type 0 where
+pub record Commutes (p : ProgramText) (m : MachineState) (t u : ℕ) : Type 0 where
   pub f : ℕ → ℕ
   pub renaming : IsRenaming (length (step p (step p m t) u).tasks) f f
   pub old : (v : ℕ) → v < length m.tasks → f v ≡ v

@@ -2,3 +2,4 @@ mod Empty
 mod Swapped
 mod Printed
 mod Verdicts
+mod Common

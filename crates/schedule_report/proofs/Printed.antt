@@ -1,39 +1,17 @@
 -- Prints are in order if and only if none race when counted as writes to one field.
-use Rattle.std.proofs.Common.{◌≡◌, ℕ, zero, suc, ◌==◌, Bool, true, false, cond, Option, Some, None, List, [], ◌∷◌, length, slice_get, inl, inr, refl, sym, subst, ◌∙◌}
-use Rattle.std.specs.Option.{option_flatten}
-use Rattle.std.specs.Prelude.{slice_set, pos}
-use Rattle.std.proofs.lemmas.Bool.{both_ways, cases_Bool}
-use Rattle.std.proofs.lemmas.Option.{same_Some}
-use Rattle.race_report.specs.below.hh_lang.{Instr, Set, Mov, Movr, Nil as NilOf, Calc, Same, Jmp, Jz, Newm, Pack, Getr, Geti, Putr, Puti, Cntr, Cnti, Freeze, Cas, Call, Par, Ret, Out, Line, ProgramText}
-use Rattle.hh_model.specs.declared.data.Name.{Name}
-use Rattle.hh_model.specs.declared.data.Strand.{Strand}
-use Rattle.hh_model.specs.declared.data.Edge.{Edge}
-use Rattle.hh_model.specs.declared.data.Object.{Object}
-use Rattle.hh_model.specs.declared.data.Frame.{Frame}
-use Rattle.hh_model.specs.declared.data.Task.{Task}
-use Rattle.hh_model.specs.declared.data.Trap.{Trap}
-use Rattle.hh_model.specs.declared.data.State.{State}
-use Rattle.hh_model.specs.declared.data.Trap.TheVariants.{Nil, Range, Frozen, Div as DivTrap, Size}
-use Rattle.hh_model.specs.Effect.{Effect, Goes, Setting, Stops, Traps, calculated, counts_in, effect, int_in, object_at, onward, or_trap, place_in, put_object, read_effect, ref_in, same_name, unless_frozen, with_int, with_object, with_ref}
-use Rattle.hh_model.specs.Precedence.{Precedes, precedes}
-use Rattle.hh_model.specs.Step.{can_step, fetched, run, setting, start, step, strand_of}
-use Rattle.race_report.specs.declared.data.Access.{Access}
-use Rattle.race_report.specs.Accesses.{with_some}
-use Rattle.race_report.specs.Sights.{line_said, print_field, said_by, said_from, said_of, task_said}
-use Rattle.race_report.specs.StopLaw.{HasNoRace}
-use Rattle.renaming_laws.proofs.Runs.{fork_join_here}
-use Rattle.schedule_laws.specs.Prints.{Print, PrintsAreOrdered, line_print, print_by, print_of, prints, prints_from, task_print}
+use Rattle.schedule_report.proofs.Common.{◌≡◌, ℕ, zero, suc, ◌==◌, Bool, true, false, cond, Option, Some, None, List, [], ◌∷◌, length, slice_get, inl, inr, refl, sym, subst, ◌∙◌, option_flatten, slice_set, pos, both_ways, cases_Bool, same_Some, Instr, Set, Mov, Movr, Nil as NilOf, Calc, Same, Jmp, Jz, Newm, Pack, Getr, Geti, Putr, Puti, Cntr, Cnti, Freeze, Cas, Call, Par, Ret, Out, Line, ProgramText, Name, Strand, Edge, Object, Frame, Task, Trap, MachineState, Range, Frozen, Div as DivTrap, Size, Effect, Goes, StepContext, Stops, Traps, calculated, counts_in, effect, int_in, object_at, onward, or_trap, place_in, put_object, read_effect, ref_in, same_name, unless_frozen, with_int, with_object, with_ref, Precedes, precedes, can_step, fetched, run, setting, start, step, strand_of, FieldAccess, with_some, line_said, print_field, said_by, said_from, said_of, task_said, HasNoRace, fork_join_here, Print, PrintsAreOrdered, line_print, print_by, print_of, prints, prints_from, task_print}
+use Rattle.hh_model.specs.declared.data.Trap.TheVariants.{Nil}
 
 -- ONE STEP
 
 -- a print as it is counted
-pub record IsSaid (a : Access) (x : Print) : Type 0 where
+pub record IsSaid (a : FieldAccess) (x : Print) : Type 0 where
   pub strand : a.strand ≡ x.strand
   pub field : a.field ≡ print_field
   pub writes : a.writes ≡ true
   pub swaps : a.swaps ≡ false
 
-abbrev Alike : Option Access → Option Print → Type 0
+abbrev Alike : Option FieldAccess → Option Print → Type 0
 Alike None None = Unit {0}
 Alike None (Some x) = ⊥
 Alike (Some a) None = ⊥
@@ -58,7 +36,7 @@ module _ (s : Strand) where
   frozen_quiet : (x : Object) (e : Effect) → IsQuiet e → IsQuiet (unless_frozen x e)
   frozen_quiet x e h = if_quiet x.mutable e (Traps Frozen) h (record { is = refl })
 
-  read_quiet : (set : Setting) (f : Frame) (store : List (List Object)) (d : ℕ) (o : Option Name) → IsQuiet (read_effect set f store d o)
+  read_quiet : (set : StepContext) (f : Frame) (store : List (List Object)) (d : ℕ) (o : Option Name) → IsQuiet (read_effect set f store d o)
   read_quiet set f store d None = record { is = refl }
   read_quiet set f store d (Some n) =
       or_quiet Nil (object_at store n) _ (λ o. if_quiet (precedes set.edges o.strand set.strand) (Goes (onward (with_ref f d (Some n))) store) (Stops n) (record { is = refl }) (record { is = refl }))
@@ -66,7 +44,7 @@ module _ (s : Strand) where
   by_quiet : (e : Effect) → IsQuiet e → Alike None (print_by s e)
   by_quiet e q = subst (λ (x : Option Print). Alike None x) (sym q.is) tt
 
-  says_alike : (line : ℕ) (set : Setting) (f : Frame) (store : List (List Object)) (instr : Instr) → Alike (said_by s line instr) (print_by s (effect set f store instr))
+  says_alike : (line : ℕ) (set : StepContext) (f : Frame) (store : List (List Object)) (instr : Instr) → Alike (said_by s line instr) (print_by s (effect set f store instr))
   says_alike line set f store (Out x) = record { strand = refl; field = refl; writes = refl; swaps = refl }
   says_alike line set f store (Set d k) = tt
   says_alike line set f store (Mov d k) = tt
@@ -90,7 +68,7 @@ module _ (s : Strand) where
   says_alike line set f store (Par g h) = tt
   says_alike line set f store Ret = tt
 
-module _ (p : ProgramText) (m : State) (t : ℕ) where
+module _ (p : ProgramText) (m : MachineState) (t : ℕ) where
   by_line : (x : Task) (o : Option Line) → Alike (line_said t x o) (line_print m t x o)
   by_line x None = tt
   by_line x (Some line) = says_alike (strand_of t x) line.number (setting m t x) x.top m.store line.instr
@@ -100,43 +78,43 @@ module _ (p : ProgramText) (m : State) (t : ℕ) where
   by_task (Some x) = by_line x (fetched p x.top)
 
   step_alike : Alike (said_of p m t) (print_of p m t)
-  step_alike = by (can_step m t)
+  step_alike = step_alike_by_cases (can_step m t)
     where
-      by : (b : Bool) → Alike (cond b (task_said p t (slice_get m.tasks t)) None) (cond b (task_print p m t (slice_get m.tasks t)) None)
-      by true = by_task (slice_get m.tasks t)
-      by false = tt
+      step_alike_by_cases : (b : Bool) → Alike (cond b (task_said p t (slice_get m.tasks t)) None) (cond b (task_print p m t (slice_get m.tasks t)) None)
+      step_alike_by_cases true = by_task (slice_get m.tasks t)
+      step_alike_by_cases false = tt
 
 -- THEIR PLACES
 
-abbrev SaidAt : ProgramText → State → List ℕ → ℕ → Print → Type 0
-SaidAt p m ts i x = (a : Access) × (slice_get (said_from p m ts) i ≡ Some a) × IsSaid a x
+abbrev SaidAt : ProgramText → MachineState → List ℕ → ℕ → Print → Type 0
+SaidAt p m ts i x = (a : FieldAccess) × (slice_get (said_from p m ts) i ≡ Some a) × IsSaid a x
 
-said_at : (p : ProgramText) (m : State) (ts : List ℕ) (i : ℕ) (x : Print) → slice_get (prints_from p m ts) i ≡ Some x → SaidAt p m ts i x
+said_at : (p : ProgramText) (m : MachineState) (ts : List ℕ) (i : ℕ) (x : Print) → slice_get (prints_from p m ts) i ≡ Some x → SaidAt p m ts i x
 said_at p m [] i x e = absurd cc
-said_at p m (t ∷ ts) i x e = by (said_of p m t) (print_of p m t) (step_alike p m t) (λ k h. said_at p (step p m t) ts k x h) i e
+said_at p m (t ∷ ts) i x e = said_at_by_cases (said_of p m t) (print_of p m t) (step_alike p m t) (λ k h. said_at p (step p m t) ts k x h) i e
   where
-    by : (o : Option Access) (q : Option Print) → Alike o q → ((k : ℕ) → slice_get (prints_from p (step p m t) ts) k ≡ Some x → SaidAt p (step p m t) ts k x)
-        → (k : ℕ) → slice_get (with_some q (prints_from p (step p m t) ts)) k ≡ Some x → (a : Access) × (slice_get (with_some o (said_from p (step p m t) ts)) k ≡ Some a) × IsSaid a x
-    by None None h more k e = more k e
-    by None (Some y) h more k e = absurd h
-    by (Some a) None h more k e = absurd h
-    by (Some a) (Some y) h more zero e = (a, refl, subst (IsSaid a) (same_Some y x e) h)
-    by (Some a) (Some y) h more (suc k) e = more k e
+    said_at_by_cases : (o : Option FieldAccess) (q : Option Print) → Alike o q → ((k : ℕ) → slice_get (prints_from p (step p m t) ts) k ≡ Some x → SaidAt p (step p m t) ts k x)
+        → (k : ℕ) → slice_get (with_some q (prints_from p (step p m t) ts)) k ≡ Some x → (a : FieldAccess) × (slice_get (with_some o (said_from p (step p m t) ts)) k ≡ Some a) × IsSaid a x
+    said_at_by_cases None None h more k e = more k e
+    said_at_by_cases None (Some y) h more k e = absurd h
+    said_at_by_cases (Some a) None h more k e = absurd h
+    said_at_by_cases (Some a) (Some y) h more zero e = (a, refl, subst (IsSaid a) (same_Some y x e) h)
+    said_at_by_cases (Some a) (Some y) h more (suc k) e = more k e
 
-abbrev PrintAt : ProgramText → State → List ℕ → ℕ → Access → Type 0
+abbrev PrintAt : ProgramText → MachineState → List ℕ → ℕ → FieldAccess → Type 0
 PrintAt p m ts i a = (x : Print) × (slice_get (prints_from p m ts) i ≡ Some x) × IsSaid a x
 
-print_at : (p : ProgramText) (m : State) (ts : List ℕ) (i : ℕ) (a : Access) → slice_get (said_from p m ts) i ≡ Some a → PrintAt p m ts i a
+print_at : (p : ProgramText) (m : MachineState) (ts : List ℕ) (i : ℕ) (a : FieldAccess) → slice_get (said_from p m ts) i ≡ Some a → PrintAt p m ts i a
 print_at p m [] i a e = absurd cc
-print_at p m (t ∷ ts) i a e = by (said_of p m t) (print_of p m t) (step_alike p m t) (λ k h. print_at p (step p m t) ts k a h) i e
+print_at p m (t ∷ ts) i a e = print_at_by_cases (said_of p m t) (print_of p m t) (step_alike p m t) (λ k h. print_at p (step p m t) ts k a h) i e
   where
-    by : (o : Option Access) (q : Option Print) → Alike o q → ((k : ℕ) → slice_get (said_from p (step p m t) ts) k ≡ Some a → PrintAt p (step p m t) ts k a)
+    print_at_by_cases : (o : Option FieldAccess) (q : Option Print) → Alike o q → ((k : ℕ) → slice_get (said_from p (step p m t) ts) k ≡ Some a → PrintAt p (step p m t) ts k a)
         → (k : ℕ) → slice_get (with_some o (said_from p (step p m t) ts)) k ≡ Some a → (x : Print) × (slice_get (with_some q (prints_from p (step p m t) ts)) k ≡ Some x) × IsSaid a x
-    by None None h more k e = more k e
-    by None (Some y) h more k e = absurd h
-    by (Some b) None h more k e = absurd h
-    by (Some b) (Some y) h more zero e = (y, refl, subst (λ (z : Access). IsSaid z y) (same_Some b a e) h)
-    by (Some b) (Some y) h more (suc k) e = more k e
+    print_at_by_cases None None h more k e = more k e
+    print_at_by_cases None (Some y) h more k e = absurd h
+    print_at_by_cases (Some b) None h more k e = absurd h
+    print_at_by_cases (Some b) (Some y) h more zero e = (y, refl, subst (λ (z : FieldAccess). IsSaid z y) (same_Some b a e) h)
+    print_at_by_cases (Some b) (Some y) h more (suc k) e = more k e
 
 -- BOTH WAYS
 
@@ -144,13 +122,13 @@ module _ (p : ProgramText) (limit : ℕ) (ts : List ℕ) where
   abbrev edges : List Edge
   edges = (run p limit ts).edges
 
-  abbrev said : List Access
+  abbrev said : List FieldAccess
   said = said_from p (start p limit) ts
 
-  moved : (a b : Access) (u v : Print) → IsSaid a u → IsSaid b v → Precedes edges a.strand b.strand → Precedes edges u.strand v.strand
+  moved : (a b : FieldAccess) (u v : Print) → IsSaid a u → IsSaid b v → Precedes edges a.strand b.strand → Precedes edges u.strand v.strand
   moved a b u v A B w = subst (λ (x : Strand). Precedes edges x v.strand) A.strand (subst (λ (x : Strand). Precedes edges a.strand x) B.strand w)
 
-  back : (a b : Access) (u v : Print) → IsSaid a u → IsSaid b v → Precedes edges u.strand v.strand → Precedes edges a.strand b.strand
+  back : (a b : FieldAccess) (u v : Print) → IsSaid a u → IsSaid b v → Precedes edges u.strand v.strand → Precedes edges a.strand b.strand
   back a b u v A B w = subst (λ (x : Strand). Precedes edges x b.strand) (sym A.strand) (subst (λ (x : Strand). Precedes edges u.strand x) (sym B.strand) w)
 
   pub prints_in_order : HasNoRace edges said → PrintsAreOrdered edges (prints p limit ts)

@@ -1,29 +1,5 @@
 -- Verdicts are exact, and hold for all schedules.
-use Rattle.std.proofs.Common.{◌≡◌, ℕ, ◌+◌, ◌-◌, ◌^◌, ◌<◌, ◌==◌, min, lit<, cond, Option, Some, None, List, [], ◌∷◌, length, refl, ap, sym, subst, ◌∙◌, arith}
-use Rattle.race_report.proofs.below.listed.{not_zero}
-use Rattle.race_report.specs.below.hh_lang.{ProgramText}
-use Rattle.race_report.specs.below.run_trace.{EntryValue, SettingsValue, field_limit}
-use Rattle.hh_model.specs.declared.data.End.{End}
-use Rattle.hh_model.specs.declared.data.End.TheVariants.{Done}
-use Rattle.hh_model.specs.declared.data.Edge.{Edge}
-use Rattle.hh_model.specs.Step.{run}
-use Rattle.run_ledger.specs.Journals.{machine_of, tasks_of}
-use Rattle.race_report.specs.declared.data.Access.{Access}
-use Rattle.race_report.specs.declared.data.Race.{Race}
-use Rattle.race_report.specs.declared.data.Sight.TheVariants.{Prints}
-use Rattle.race_report.specs.Accesses.{accesses}
-use Rattle.race_report.specs.Sights.{looked, swaps_of}
-use Rattle.race_report.proofs.Raceless.{machine_ended}
-use Rattle.schedule_laws.specs.Ordered.{IsOrdered}
-use Rattle.schedule_laws.specs.Laws.{SpeaksUp}
-use Rattle.schedule_laws.proofs.GoesOn.{every_run_goes_on}
-use Rattle.schedule_laws.proofs.RaceFree.{ordered_is_race_free}
-use Rattle.schedule_laws.proofs.Schedules.{every_end_agrees}
-use Rattle.schedule_report.specs.declared.data.Clashes.{Clashes}
-use Rattle.schedule_report.specs.declared.data.Verdict.{Verdict}
-use Rattle.schedule_report.specs.declared.data.Verdict.TheVariants.{Agree, AgreeButForPrints, MayDiffer}
-use Rattle.schedule_report.specs.Schedules.{AreClashes, verdict_of}
-use Rattle.schedule_report.specs.Laws.{AgreeingRunsSpeakForAll, Follows, HasPrintsOrdered, Means, SaysAgree, VerdictsAreExact}
+use Rattle.schedule_report.proofs.Common.{◌≡◌, ℕ, ◌+◌, ◌-◌, ◌^◌, ◌<◌, ◌==◌, min, lit<, cond, Option, Some, None, List, [], ◌∷◌, length, refl, ap, sym, subst, ◌∙◌, arith, not_zero, ProgramText, EntryValue, SettingsValue, field_limit, End, Done, Edge, run, machine_of, tasks_of, FieldAccess, Race, Prints, accesses, looked, swaps_of, machine_ended, IsOrdered, SpeaksUp, every_run_goes_on, ordered_is_race_free, every_end_agrees, Clashes, Verdict, Agree, AgreeButForPrints, MayDiffer, AreClashes, verdict_of, AgreeingRunsSpeakForAll, Follows, HasPrintsOrdered, Means, SaysAgree, VerdictsAreExact}
 use Rattle.schedule_report.proofs.Empty.{empty_report, none_races}
 use Rattle.schedule_report.proofs.Swapped.{no_contention, none_contends}
 use Rattle.schedule_report.proofs.Printed.{no_prints_race, prints_in_order}
@@ -38,7 +14,7 @@ module _ (p : ProgramText) (s : SettingsValue) (journal : List EntryValue) (c : 
   abbrev edges : List Edge
   edges = (run p limit ts).edges
 
-  abbrev all : List Access
+  abbrev all : List FieldAccess
   all = accesses p limit ts
 
   in_order : c.races ≡ [] → c.swaps ≡ [] → IsOrdered p limit ts
@@ -69,14 +45,14 @@ module _ (p : ProgramText) (s : SettingsValue) (journal : List EntryValue) (c : 
   prints_differ : (k : ℕ) → 0 < k → IsOrdered p limit ts → (HasPrintsOrdered p limit ts → ⊥) → Means p limit ts (by_counts 0 k)
   prints_differ k lt o h = subst (λ b. Means p limit ts (cond b Agree AgreeButForPrints)) (sym (not_zero k lt)) (o, h)
 
-  by : (rs ss ps : List Race) → c.races ≡ rs → c.swaps ≡ ss → c.prints ≡ ps → Means p limit ts (by_counts (min (length rs + length ss) (2 ^ 64 - 1)) (length ps))
-  by (r ∷ rs) ss ps er es ep = differs (min (length (r ∷ rs) + length ss) (2 ^ 64 - 1)) (length ps) (some_count (length (r ∷ rs) + length ss) (omega arith)) (λ h. (let e : c.races ≡ [] = no_races h in cc))
-  by [] (x ∷ ss) ps er es ep = differs (min (0 + length (x ∷ ss)) (2 ^ 64 - 1)) (length ps) (some_count (0 + length (x ∷ ss)) (omega arith)) (λ h. (let e : c.swaps ≡ [] = no_swaps h in cc))
-  by [] [] (x ∷ ps) er es ep = prints_differ (length (x ∷ ps)) (omega arith) (in_order er es) (λ h. (let e : c.prints ≡ [] = no_prints h in cc))
-  by [] [] [] er es ep = (in_order er es, prints_in_order p limit ts (none_races edges (looked Prints p limit ts) c.prints A.prints ep))
+  means_by_races : (rs ss ps : List Race) → c.races ≡ rs → c.swaps ≡ ss → c.prints ≡ ps → Means p limit ts (by_counts (min (length rs + length ss) (2 ^ 64 - 1)) (length ps))
+  means_by_races (r ∷ rs) ss ps er es ep = differs (min (length (r ∷ rs) + length ss) (2 ^ 64 - 1)) (length ps) (some_count (length (r ∷ rs) + length ss) (omega arith)) (λ h. (let e : c.races ≡ [] = no_races h in cc))
+  means_by_races [] (x ∷ ss) ps er es ep = differs (min (0 + length (x ∷ ss)) (2 ^ 64 - 1)) (length ps) (some_count (0 + length (x ∷ ss)) (omega arith)) (λ h. (let e : c.swaps ≡ [] = no_swaps h in cc))
+  means_by_races [] [] (x ∷ ps) er es ep = prints_differ (length (x ∷ ps)) (omega arith) (in_order er es) (λ h. (let e : c.prints ≡ [] = no_prints h in cc))
+  means_by_races [] [] [] er es ep = (in_order er es, prints_in_order p limit ts (none_races edges (looked Prints p limit ts) c.prints A.prints ep))
 
   exact : Means p limit ts (verdict_of c)
-  exact = by c.races c.swaps c.prints refl refl refl
+  exact = means_by_races c.races c.swaps c.prints refl refl refl
 
 pub verdicts_are_exact : VerdictsAreExact
 verdicts_are_exact p s journal c A = exact p s journal c A
@@ -92,7 +68,7 @@ prints_meant q k us AgreeButForPrints m e = absurd cc
 prints_meant q k us (MayDiffer n) m e = absurd cc
 
 pub agreeing_runs_speak_for_all : AgreeingRunsSpeakForAll
-agreeing_runs_speak_for_all p s s' journal journal' c whole A says same = by (machine_of p s' journal').end refl
+agreeing_runs_speak_for_all p s s' journal journal' c whole A says same = agreeing_runs_speak_for_all_by_cases (machine_of p s' journal').end refl
   where
     meant : Means p (field_limit s.version) (tasks_of journal) (verdict_of c)
     meant = verdicts_are_exact p s journal c A
@@ -103,11 +79,11 @@ agreeing_runs_speak_for_all p s s' journal journal' c whole A says same = by (ma
       ordered = order_meant p (field_limit s.version) (tasks_of journal) (verdict_of c) meant says;
     }
 
-    here : (run p (field_limit s.version) (tasks_of journal')).end ≡ (machine_of p s' journal').end
-    here = ap (λ k. (run p k (tasks_of journal')).end) (sym same)
+    agreeing_runs_speak_for_all_here : (run p (field_limit s.version) (tasks_of journal')).end ≡ (machine_of p s' journal').end
+    agreeing_runs_speak_for_all_here = ap (λ k. (run p k (tasks_of journal')).end) (sym same)
 
-    by : (o : Option End) → (machine_of p s' journal').end ≡ o → Follows p (field_limit s.version) (tasks_of journal) (verdict_of c) (tasks_of journal') o
-    by None is = every_run_goes_on p (field_limit s.version) (tasks_of journal) (tasks_of journal') up (here ∙ is)
-    by (Some e) is =
-        let r = every_end_agrees p (field_limit s.version) (tasks_of journal) (tasks_of journal') e up (here ∙ is) in
+    agreeing_runs_speak_for_all_by_cases : (o : Option End) → (machine_of p s' journal').end ≡ o → Follows p (field_limit s.version) (tasks_of journal) (verdict_of c) (tasks_of journal') o
+    agreeing_runs_speak_for_all_by_cases None is = every_run_goes_on p (field_limit s.version) (tasks_of journal) (tasks_of journal') up (agreeing_runs_speak_for_all_here ∙ is)
+    agreeing_runs_speak_for_all_by_cases (Some e) is =
+        let r = every_end_agrees p (field_limit s.version) (tasks_of journal) (tasks_of journal') e up (agreeing_runs_speak_for_all_here ∙ is) in
         (r.0, r.1, λ v. r.1.outputs (prints_meant p (field_limit s.version) (tasks_of journal) (verdict_of c) meant v))

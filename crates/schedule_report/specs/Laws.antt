@@ -8,12 +8,12 @@ use Rattle.hh_model.specs.Step.{run}
 use Rattle.run_ledger.specs.Journals.{machine_of, tasks_of}
 use Rattle.schedule_laws.specs.Ordered.{IsOrdered}
 use Rattle.schedule_laws.specs.Prints.{PrintsAreOrdered, prints}
-use Rattle.schedule_laws.specs.Agrees.{Agrees}
-use Rattle.schedule_laws.specs.Laws.{GoesOn}
+use Rattle.schedule_laws.specs.SameResult.{SameResult}
+use Rattle.schedule_laws.specs.Laws.{CanGoOn}
 use Rattle.schedule_report.specs.declared.data.Clashes.{Clashes}
 use Rattle.schedule_report.specs.declared.data.Verdict.{Verdict}
 use Rattle.schedule_report.specs.declared.data.Verdict.TheVariants.{Agree, AgreeButForPrints, MayDiffer}
-use Rattle.schedule_report.specs.Schedules.{AreClashes, IsWhole, verdict_of}
+use Rattle.schedule_report.specs.Schedules.{AreClashes, EndsByMain, verdict_of}
 
 -- the prints of a run are in order
 abbrev pub HasPrintsOrdered : ProgramText → ℕ → List ℕ → Type 0
@@ -40,13 +40,13 @@ SaysAgree (MayDiffer n) = ⊥
 -- the run by us ends by the return of main with the same result as that by ts, with the same outputs if the verdict
 -- makes no exception; or it hasn't ended, and can continue
 abbrev pub Follows : ProgramText → ℕ → List ℕ → Verdict → List ℕ → Option End → Type 0
-Follows p limit ts v us None = GoesOn p limit ts us
-Follows p limit ts v us (Some e) = (e ≡ Done) × Agrees p limit ts us × (v ≡ Agree → (run p limit us).outputs ≡ (run p limit ts).outputs)
+Follows p limit ts v us None = CanGoOn p limit ts us
+Follows p limit ts v us (Some e) = (e ≡ Done) × SameResult p limit ts us × (v ≡ Agree → (run p limit us).outputs ≡ (run p limit ts).outputs)
 
 -- if the verdict of one whole run is that schedules agree, every other one of the program with the same limit of fields
 -- agrees with it
 abbrev pub AgreeingRunsSpeakForAll : Type 0
 AgreeingRunsSpeakForAll =
     (p : ProgramText) (s s' : SettingsValue) (journal journal' : List EntryValue) (c : Clashes)
-    → IsWhole p s journal → AreClashes p s journal c → SaysAgree (verdict_of c) → field_limit s'.version ≡ field_limit s.version
+    → EndsByMain p s journal → AreClashes p s journal c → SaysAgree (verdict_of c) → field_limit s'.version ≡ field_limit s.version
     → Follows p (field_limit s.version) (tasks_of journal) (verdict_of c) (tasks_of journal') (machine_of p s' journal').end

@@ -5,7 +5,7 @@ use Rattle.race_report.specs.below.run_trace.{EntryValue, SettingsValue, field_l
 use Rattle.hh_model.specs.declared.data.End.TheVariants.{Done}
 use Rattle.run_ledger.specs.declared.data.RunEnd.TheVariants.{Machine}
 use Rattle.run_ledger.specs.Journals.{end_of, machine_of, tasks_of}
-use Rattle.still_counts.specs.Counts.{raised_by}
+use Rattle.saturating_counts.specs.Counts.{raised_by}
 use Rattle.race_report.specs.declared.data.Race.{Race}
 use Rattle.race_report.specs.declared.data.Sight.{Sight}
 use Rattle.race_report.specs.declared.data.Sight.TheVariants.{Fields, Swaps, Prints}
@@ -16,8 +16,8 @@ use Rattle.schedule_report.specs.declared.data.Verdict.{Verdict}
 use Rattle.schedule_report.specs.declared.data.Verdict.TheVariants.{Agree, AgreeButForPrints, MayDiffer}
 
 -- the run of a journal ended by the return of main
-abbrev pub IsWhole : ProgramText → SettingsValue → List EntryValue → Type 0
-IsWhole p s journal = end_of p s journal ≡ Some (Machine Done)
+abbrev pub EndsByMain : ProgramText → SettingsValue → List EntryValue → Type 0
+EndsByMain p s journal = end_of p s journal ≡ Some (Machine Done)
 
 -- the unordered pairs in a journal's run of what it is scanned for, one for each field
 abbrev pub ArePairs : Sight → ProgramText → SettingsValue → List EntryValue → List Race → Type 0
@@ -31,8 +31,8 @@ pub record AreClashes (p : ProgramText) (s : SettingsValue) (journal : List Entr
 
 -- a whole run, and no other, has its pairs reported
 abbrev pub IsAnswer : ProgramText → SettingsValue → List EntryValue → Option Clashes → Type 0
-IsAnswer p s journal None = IsWhole p s journal → ⊥
-IsAnswer p s journal (Some c) = IsWhole p s journal × AreClashes p s journal c
+IsAnswer p s journal None = EndsByMain p s journal → ⊥
+IsAnswer p s journal (Some c) = EndsByMain p s journal × AreClashes p s journal c
 
 -- the number of pairs of accesses reported, in 64 bits
 abbrev pub clash_count : Clashes → ℕ

@@ -1,33 +1,11 @@
--- The objects of heaps at rest: where they lie, and where their references lead.
-use Rattle.std.proofs.Common.{◌≡◌, ◌⊎◌, ℕ, ◌+◌, ◌*◌, ◌<◌, ◌≤◌, arith, false, Option, Some, None, List, length, map, option_map, slice_get, inl, inr, refl, ap, sym, subst, ◌∙◌}
-use Rattle.std.proofs.lemmas.Bool.{cases_Bool}
-use Rattle.std.proofs.lemmas.List.{length-map}
-use Rattle.std.proofs.lemmas.Option.{same_Some, slice_get-map}
-use Rattle.heap_image.proofs.below.listed.{got_some, in_got, map_in, read_in, got_in}
-use Rattle.tree_reading.specs.below.hh_model.{Name, Object, Task, object_at, joined}
-use Rattle.tree_reading.proofs.below.path_laws.{waiting_stops}
-use Rattle.tree_reading.specs.below.object_layout.{Addr, IsRef, word_of_ref, Located}
-use Rattle.tree_reading.specs.below.chunk_pool.{Slot, slot_at}
-use Rattle.tree_reading.specs.below.heap_tree.{state_of}
-use Rattle.tree_reading.specs.below.remembered_set.{Source}
-use Rattle.tree_reading.specs.below.ledger_step_laws.{Rests, own}
-use Rattle.tree_reading.specs.below.core_relation.{words, IsRead, BelongingsStand, IsSource, Place, Chunk as ChunkOf, In, Memory, object_name, objects, sources}
-use Rattle.tree_reading.proofs.below.core_relation.{name_at}
-use Rattle.tree_reading.specs.below.shared_value.{IsSharedValue, SharedValue, value_of}
-use Rattle.tree_reading.proofs.below.shared_value.{refs_long}
-use Rattle.tree_reading.specs.below.heap_reading.{is_state_running, field_of, in_words}
-use Rattle.image_check.specs.declared.line.Remembered.{Remembered}
-use Rattle.image_check.specs.Place.{offset}
-use Rattle.heap_image.specs.declared.picture.Picked.{Picked}
-use Rattle.heap_image.specs.declared.picture.Picture.{Picture}
-use Rattle.heap_image.specs.Picture.{AreApart, IsAbove, IsFit, IsOwned, IsPlaced, IsRunning, KeepsToPath, LeadsSomewhere, end_of}
-use Rattle.shared_image.specs.Drawn.{AreHeldInWords, IsHandedBack, IsPictureOf, drawn_field, drawn_object}
+-- The objects of heaps at rest: their positions, and where their references lead.
+use Rattle.shared_image.proofs.Common.{◌≡◌, ◌⊎◌, ℕ, ◌+◌, ◌*◌, ◌<◌, ◌≤◌, arith, false, Option, Some, None, List, length, map, option_map, slice_get, inl, inr, refl, ap, sym, subst, ◌∙◌, cases_Bool, length-map, same_Some, slice_get-map, got_some, in_got, map_in, read_in, got_in, Name, Object, Task, object_at, joined, waiting_stops, Addr, IsRef, word_of_ref, Located, Slot, slot_at, state_of, RefField, Rests, own, words, IsModelObject, BelongingsStand, IsSource, Place, Chunk as ChunkOf, In, Memory, object_name, objects, sources, name_at, IsSharedValue, SharedValue, value_of, refs_long, is_state_running, field_of, in_words, ImageRemembered, offset, Picked, ImageData, PickedDontOverlap, IsAbove, IsFit, IsOwned, IsPlaced, IsRunning, KeepsToPath, LeadsSomewhere, end_of, AreHeldInWords, IsHandedBack, IsPictureOf, drawn_field, drawn_object}
 use Rattle.shared_image.proofs.Resting.{R as Known_R, H as Known_H, content as Known_content, own_is as Known_own_is, live as Known_live, chunk as Known_chunk, owner as Known_owner, near as Known_near, measured as Known_measured, S, made}
 use Rattle.shared_image.proofs.Known.{T, k, owners, rests, runs, task_live}
 use Rattle.shared_image.proofs.Links.{chunk_in, not_running, on_path, owned_at, owner_is, running}
 use Rattle.shared_image.proofs.Numbers.{before_offset, chunk_of_word, offset_of_word, word_some}
 
-module _ (w : SharedValue) (I : IsSharedValue w) (F : AreHeldInWords w) (p : Picture) (P : IsPictureOf w p) where
+module _ (w : SharedValue) (I : IsSharedValue w) (F : AreHeldInWords w) (p : ImageData) (P : IsPictureOf w p) where
   abbrev v : Memory
   v = value_of w
 
@@ -42,7 +20,7 @@ module _ (w : SharedValue) (I : IsSharedValue w) (F : AreHeldInWords w) (p : Pic
     abbrev pub H : BelongingsStand v (k w I) t
     H = Known_H w I t idle o i
 
-    abbrev pub content : (x : Object) × (object_at (k w I).machine.store (object_name o) ≡ Some x) × IsRead (Place v (k w I)) o x
+    abbrev pub content : (x : Object) × (object_at (k w I).machine.store (object_name o) ≡ Some x) × IsModelObject (Place v (k w I)) o x
     content = Known_content w I t idle o i
 
     abbrev pub own_is : own (k w I) (object_name o) ≡ t
@@ -66,8 +44,8 @@ module _ (w : SharedValue) (I : IsSharedValue w) (F : AreHeldInWords w) (p : Pic
     abbrev pub q : Picked
     q = drawn_object (in_words o)
 
-    pub here : In p.objects q
-    here = (P.objects.each q).1 (t, o, idle, i, refl)
+    pub object_is_drawn : In p.objects q
+    object_is_drawn = (P.objects.each q).1 (t, o, idle, i, refl)
 
     pub end_is : end_of q ≡ o.at.offset + words o
     end_is =
@@ -122,12 +100,12 @@ module _ (w : SharedValue) (I : IsSharedValue w) (F : AreHeldInWords w) (p : Pic
     -- a field that another task's heap remembers
     noted : (n u : ℕ) → u < length TT → joined TT u ≡ false → In (sources v u) (record { object = o.at; field = n }) → IsAbove p.tasks t u × In p.fields (record { task = u; address = q.address; place = n })
     noted n u lt lives j =
-        let s : Source = record { object = o.at; field = n } in
+        let s : RefField = record { object = o.at; field = n } in
         let K : IsSource v (k w I) u s = (S w I).sources u s j in
         let mine : own (k w I) K.name ≡ t = same_Some (own (k w I) K.name) t (sym K.place.chunk ∙ owner) in
         let y = got_some TT u lt in
         let x = task_live w I u y.0 y.1 lives in
-        let f : Remembered = record { task = u; address = q.address; place = n } in
+        let f : ImageRemembered = record { task = u; address = q.address; place = n } in
         let above : (u ≡ own (k w I) K.name) ⊎ IsAbove p.tasks (own (k w I) K.name) u = on_path w I p P (own (k w I) K.name) u K.above lives in (
           elim above [ inl e ↦ absurd (K.below (sym e)) | inr a ↦ subst (λ z. IsAbove p.tasks z u) mine a ],
           (P.fields.each f).1 (x.0, field_of s, x.1, (s, subst (λ z. In (sources v z) s) (sym x.2) j, refl), ap (λ z. drawn_field z (field_of s)) (sym x.2)),
@@ -152,11 +130,11 @@ module _ (w : SharedValue) (I : IsSharedValue w) (F : AreHeldInWords w) (p : Pic
     keeps_by n (Some a) e h u oh ou = keeps_to n a e h u oh ou
 
     mapped : (xs : List (Option Addr)) (n x : ℕ) → slice_get (map word_of_ref xs) n ≡ Some x → (r : Option Addr) × (slice_get xs n ≡ Some r) × (word_of_ref r ≡ x)
-    mapped xs n x e = by (slice_get xs n) refl (sym (slice_get-map word_of_ref xs n) ∙ e)
+    mapped xs n x e = mapped_by_cases (slice_get xs n) refl (sym (slice_get-map word_of_ref xs n) ∙ e)
       where
-        by : (s : Option (Option Addr)) → slice_get xs n ≡ s → option_map word_of_ref s ≡ Some x → (r : Option Addr) × (slice_get xs n ≡ Some r) × (word_of_ref r ≡ x)
-        by None is z = absurd cc
-        by (Some r) is z = (r, is, same_Some (word_of_ref r) x z)
+        mapped_by_cases : (s : Option (Option Addr)) → slice_get xs n ≡ s → option_map word_of_ref s ≡ Some x → (r : Option Addr) × (slice_get xs n ≡ Some r) × (word_of_ref r ≡ x)
+        mapped_by_cases None is z = absurd cc
+        mapped_by_cases (Some r) is z = (r, is, same_Some (word_of_ref r) x z)
 
     pub keeps : (n x h u : ℕ) → slice_get q.references n ≡ Some x → IsOwned p q.address h → IsOwned p x u → KeepsToPath p q.address n h u
     keeps n x h u e oh ou =
@@ -170,7 +148,7 @@ module _ (w : SharedValue) (I : IsSharedValue w) (F : AreHeldInWords w) (p : Pic
         let same : t ≡ u = sym (own_is t idle o i) ∙ (ap (own (k w I)) e ∙ own_is u still s j) in
         ap (λ (z : Located). z.at) ((H t idle o i).named o s i (subst (λ z. In (objects v z) s) (sym same) j) e)
 
-    pub apart : AreApart (drawn_object (in_words o)) (drawn_object (in_words s))
+    pub apart : PickedDontOverlap (drawn_object (in_words o)) (drawn_object (in_words s))
     apart lt e =
         let chunks : o.at.chunk ≡ s.at.chunk = sym (chunk_of_word o.at (near t idle o i)) ∙ (e ∙ chunk_of_word s.at (near u still s j)) in
         let same : t ≡ u = same_Some t u (sym (owner t idle o i) ∙ (ap v.owner chunks ∙ owner u still s j)) in
@@ -189,7 +167,7 @@ module _ (w : SharedValue) (I : IsSharedValue w) (F : AreHeldInWords w) (p : Pic
         ]
 
   -- A REMEMBERED FIELD
-  pub fits : (u : ℕ) (s : Source) → joined TT u ≡ false → In (sources v u) s → IsFit p (drawn_field u (field_of s))
+  pub fits : (u : ℕ) (s : RefField) → joined TT u ≡ false → In (sources v u) s → IsFit p (drawn_field u (field_of s))
   fits u s lives j =
       let K : IsSource v (k w I) u s = (S w I).sources u s j in
       let t = own (k w I) K.name in
@@ -204,7 +182,7 @@ module _ (w : SharedValue) (I : IsSharedValue w) (F : AreHeldInWords w) (p : Pic
       let at : word_of_ref (Some d.0.at) ≡ word_of_ref (Some s.object) = ap (λ z. word_of_ref (Some z)) d.2.at in
       record {
         object = drawn_object (in_words d.0);
-        drawn = here t idle d.0 d.1;
+        drawn = object_is_drawn t idle d.0 d.1;
         address = at;
         place = omega (arith, a, b, m, lt);
         owner = t;

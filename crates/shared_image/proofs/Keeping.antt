@@ -1,26 +1,10 @@
 -- The objects of a picture are those that the heaps at rest hold.
-use Rattle.std.proofs.Common.{◌≡◌, ℕ, Option, Some, None, List, [], ◌∷◌, map, slice_get, inl, inr, refl, ap, sym, subst, ◌∙◌}
-use Rattle.std.proofs.lemmas.Bool.{cases_Bool}
-use Rattle.heap_image.proofs.below.listed.{read_in}
-use Rattle.tree_reading.specs.below.hh_model.{Name, State, object_at, is_running, owner_of}
-use Rattle.tree_reading.specs.below.run_ledger.{Ledger, heap_of, held_in}
-use Rattle.tree_reading.specs.below.object_layout.{Addr, IsRef, word_of_ref, Located}
-use Rattle.tree_reading.specs.below.heap_tree.{state_of}
-use Rattle.tree_reading.specs.below.ledger_step_laws.{own}
-use Rattle.tree_reading.specs.below.core_relation.{AllRead, Place, In, Memory, object_name, objects}
-use Rattle.tree_reading.proofs.below.core_relation.{held_object, object_held}
-use Rattle.tree_reading.specs.below.shared_value.{IsSharedValue, SharedValue, accounts, value_of}
-use Rattle.tree_reading.specs.below.heap_reading.{is_state_running, in_words}
-use Rattle.tree_reading.proofs.below.heap_reading.{handed_held}
-use Rattle.heap_image.specs.declared.picture.Picture.{Picture}
-use Rattle.heap_image.specs.Picture.{IsOwned}
-use Rattle.shared_image.specs.Drawn.{AreHeldInWords, IsHandedBack, IsPictureOf, drawn_object}
-use Rattle.shared_image.specs.Held.{AreReferences, HasJustHeld, IsReference, StandsFor}
-use Rattle.shared_image.proofs.Known.{k, owners, rests, runs, same}
+use Rattle.shared_image.proofs.Common.{◌≡◌, ℕ, Option, Some, None, List, [], ◌∷◌, map, slice_get, inl, inr, refl, ap, sym, subst, ◌∙◌, cases_Bool, read_in, Name, MachineState, object_at, is_running, owner_of, Ledger, heap_of, held_in, Addr, IsRef, word_of_ref, Located, state_of, own, AllRead, Place, In, Memory, object_name, objects, held_object, object_held, IsSharedValue, SharedValue, accounts, value_of, is_state_running, in_words, handed_held, ImageData, IsOwned, AreHeldInWords, IsHandedBack, IsPictureOf, drawn_object, AreReferences, HasJustHeld, IsReference, ObjectStandsFor}
+use Rattle.shared_image.proofs.Known.{k, owners, rests, runs, known_machine}
 use Rattle.shared_image.proofs.Links.{owned_at}
 use Rattle.shared_image.proofs.Resting.{H, content}
 
-module _ (w : SharedValue) (I : IsSharedValue w) (F : AreHeldInWords w) (p : Picture) (P : IsPictureOf w p) where
+module _ (w : SharedValue) (I : IsSharedValue w) (F : AreHeldInWords w) (p : ImageData) (P : IsPictureOf w p) where
   abbrev l : Ledger
   l = accounts w
 
@@ -28,7 +12,7 @@ module _ (w : SharedValue) (I : IsSharedValue w) (F : AreHeldInWords w) (p : Pic
   v = value_of w
 
   runs_now : (t : ℕ) → is_state_running (state_of w.tree t) ≡ is_running (slice_get l.machine.tasks t)
-  runs_now t = runs w I t ∙ ap (λ (m : State). is_running (slice_get m.tasks t)) (same w I)
+  runs_now t = runs w I t ∙ ap (λ (m : MachineState). is_running (slice_get m.tasks t)) (known_machine w I)
 
   drawn : (t : ℕ) → IsHandedBack w t → (o : Located) → In (objects v t) o → In p.objects (drawn_object (in_words o))
   drawn t idle o i = (P.objects.each (drawn_object (in_words o))).1 (t, o, idle, i, refl)
@@ -36,7 +20,7 @@ module _ (w : SharedValue) (I : IsSharedValue w) (F : AreHeldInWords w) (p : Pic
   reference : (a : Addr) (n : Name) → IsRef (Some a) → Place v (k w I) n a → IsReference p l (word_of_ref (Some a)) (Some n)
   reference a n near place =
       let u = own (k w I) n in
-      let owner : owner_of l.machine.tasks n.task ≡ u = ap (λ (m : State). owner_of m.tasks n.task) (sym (same w I)) in
+      let owner : owner_of l.machine.tasks n.task ≡ u = ap (λ (m : MachineState). owner_of m.tasks n.task) (sym (known_machine w I)) in
       elim (cases_Bool (is_state_running (state_of w.tree u))) [
         | inl on ↦
             inr (
@@ -57,12 +41,12 @@ module _ (w : SharedValue) (I : IsSharedValue w) (F : AreHeldInWords w) (p : Pic
   references (Some a ∷ rs) (None ∷ xs) near h = absurd h.0
   references (Some a ∷ rs) (Some n ∷ xs) near h = (reference a n (near (Some a) (inl refl)) h.0, references rs xs (λ r i. near r (inr i)) h.1)
 
-  stands : (t : ℕ) (idle : IsHandedBack w t) (o : Located) (i : In (objects v t) o) → StandsFor p l (drawn_object (in_words o)) (object_name o)
+  stands : (t : ℕ) (idle : IsHandedBack w t) (o : Located) (i : In (objects v t) o) → ObjectStandsFor p l (drawn_object (in_words o)) (object_name o)
   stands t idle o i =
       let x = content w I t idle o i in
       record {
         object = x.0;
-        is = ap (λ (m : State). object_at m.store (object_name o)) (sym (same w I)) ∙ x.1;
+        is = ap (λ (m : MachineState). object_at m.store (object_name o)) (sym (known_machine w I)) ∙ x.1;
         bears = (refl, refl);
         mutable = x.2.mutable;
         references = references o.refs x.0.refs (λ r j. read_in IsRef o.refs r j (F t o idle i).refs) x.2.refs;
@@ -74,10 +58,10 @@ module _ (w : SharedValue) (I : IsSharedValue w) (F : AreHeldInWords w) (p : Pic
     each = λ q j.
         let d = (P.objects.each q).0 j in
         let held : In (held_in (heap_of (k w I) d.0)) (object_name d.1) = object_held (v.belongings d.0).chunks (heap_of (k w I) d.0) (H w I d.0 d.2 d.1 d.3).names d.1 d.3 in
-        (object_name d.1, (d.0, sym (runs_now d.0) ∙ d.2, subst (λ ns. In ns (object_name d.1)) (handed_held l d.0) held), subst (λ z. StandsFor p l z (object_name d.1)) (sym d.4) (stands d.0 d.2 d.1 d.3));
+        (object_name d.1, (d.0, sym (runs_now d.0) ∙ d.2, subst (λ ns. In ns (object_name d.1)) (handed_held l d.0) held), subst (λ z. ObjectStandsFor p l z (object_name d.1)) (sym d.4) (stands d.0 d.2 d.1 d.3));
     all = λ n h.
         let idle : IsHandedBack w h.0 = runs_now h.0 ∙ h.1 in
         let names = (I.stands.belongings.belongings h.0 (rests w I h.0 idle)).names in
         let o = held_object (v.belongings h.0).chunks (heap_of (k w I) h.0) names n (subst (λ ns. In ns n) (sym (handed_held l h.0)) h.2) in
-        (drawn_object (in_words o.0), drawn h.0 idle o.0 o.1, subst (StandsFor p l (drawn_object (in_words o.0))) o.2 (stands h.0 idle o.0 o.1));
+        (drawn_object (in_words o.0), drawn h.0 idle o.0 o.1, subst (ObjectStandsFor p l (drawn_object (in_words o.0))) o.2 (stands h.0 idle o.0 o.1));
   }

@@ -1,22 +1,6 @@
--- What is known of the machine and the tree of a shared value, whose root is at rest once the run is done.
-use Rattle.std.proofs.Common.{◌≡◌, ℕ, ◌+◌, ◌^◌, ◌<◌, ◌≤◌, arith, false, Option, Some, None, List, length, max, slice_get, refl, ap, sym, subst, ◌∙◌}
-use Rattle.std.proofs.lemmas.Bool.{false≢true}
-use Rattle.std.proofs.lemmas.Option.{slice_get_within}
-use Rattle.heap_image.specs.below.listed.{In}
-use Rattle.tree_reading.specs.below.hh_model.{Name, Object, State, Task, Counted, object_at, row_of, is_running, joined, owner_of, parents, run, HasOneRoot, TreeOf, joins_in, waiting}
-use Rattle.tree_reading.specs.below.path_laws.{AreOwners, ArePaths}
-use Rattle.tree_reading.proofs.below.path_laws.{owners_are_walks, paths_are_walks}
-use Rattle.tree_reading.proofs.below.hh_model.{runs_have_one_root, limit_stays, sizes_are_bounded}
-use Rattle.heap_image.specs.below.run_trace.{Version, One, Two, field_limit}
-use Rattle.tree_reading.specs.below.run_ledger.{Ledger, heap_of, held_in, tasks_of}
-use Rattle.tree_reading.proofs.below.run_ledger.{steps_are_bounded, machine_is_run}
-use Rattle.tree_reading.proofs.below.journal_laws.{journals_are_counted}
-use Rattle.tree_reading.specs.below.heap_tree.{Joined as IsJoined, state_of}
-use Rattle.tree_reading.specs.below.ledger_step_laws.{Rests}
-use Rattle.tree_reading.specs.below.core_relation.{handed}
-use Rattle.tree_reading.specs.below.shared_value.{IsSharedValue, SharedValue, accounts}
-use Rattle.tree_reading.specs.below.heap_reading.{Live, is_state_running, IsLive}
-use Rattle.tree_reading.proofs.below.heap_reading.{journal_idle, handed_held, runs_is, joined_now, live_now, node_at, same_machine, sound, task_of, tree_of}
+-- What is known of the machine and the tree of a shared value, whose root is at rest after the run is done.
+use Rattle.shared_image.proofs.Common.{◌≡◌, ℕ, ◌+◌, ◌^◌, ◌<◌, ◌≤◌, arith, false, Option, Some, None, List, length, max, slice_get, refl, ap, sym, subst, ◌∙◌, false≢true, slice_get_within, Name, Object, MachineState, Task, Counted, object_at, row_of, is_running, joined, owner_of, parents, run, HasOneRoot, TreeOf, joins_in, waiting, AreOwners, ArePaths, owners_are_walks, paths_are_walks, runs_have_one_root, limit_stays, sizes_are_bounded, Version, One, Two, field_limit, Ledger, heap_of, held_in, tasks_of, steps_are_bounded, machine_is_run, journals_are_counted, Joined as IsJoined, state_of, Rests, handed, IsSharedValue, SharedValue, accounts, LiveTask, is_state_running, IsLive, journal_idle, handed_held, runs_is, joined_now, live_now, node_at, same_machine, sound, task_of, tree_of}
+use Rattle.heap_image.specs.below.plain_vec.{In}
 
 few_by : (v : Version) → max (field_limit v) 32 ≤ 1000000
 few_by One = omega arith
@@ -32,17 +16,17 @@ module _ (w : SharedValue) (I : IsSharedValue w) where
   abbrev pub T : List Task
   T = k.machine.tasks
 
-  pub same : k.machine ≡ l.machine
-  same = same_machine w I
+  pub known_machine : k.machine ≡ l.machine
+  known_machine = same_machine w I
 
   pub tree : TreeOf T k.machine.edges
-  tree = subst (λ (m : State). TreeOf m.tasks m.edges) (sym same) (tree_of w I)
+  tree = subst (λ (m : MachineState). TreeOf m.tasks m.edges) (sym known_machine) (tree_of w I)
 
   abbrev ran : l.machine ≡ run w.program (field_limit w.settings.version) (tasks_of w.journal.items)
   ran = machine_is_run w.program w.settings w.journal.items
 
   pub root : HasOneRoot T
-  root = subst (λ (m : State). HasOneRoot m.tasks) (sym (same ∙ ran)) (runs_have_one_root w.program (field_limit w.settings.version) (tasks_of w.journal.items))
+  root = subst (λ (m : MachineState). HasOneRoot m.tasks) (sym (known_machine ∙ ran)) (runs_have_one_root w.program (field_limit w.settings.version) (tasks_of w.journal.items))
 
   pub owners : AreOwners (parents T) (joined T) (waiting T)
   owners = owners_are_walks _ (parents T) (joined T) (waiting T) (joins_in T) k.machine.edges tree
@@ -52,7 +36,7 @@ module _ (w : SharedValue) (I : IsSharedValue w) where
 
   -- COUNTS
   counted : Counted l.steps T k.machine.store
-  counted = subst (λ (m : State). Counted l.steps m.tasks m.store) (sym same) (journals_are_counted w.program w.settings w.journal.items).counts
+  counted = subst (λ (m : MachineState). Counted l.steps m.tasks m.store) (sym known_machine) (journals_are_counted w.program w.settings w.journal.items).counts
 
   few_steps : l.steps ≤ 1000000256
   few_steps =
@@ -83,28 +67,28 @@ module _ (w : SharedValue) (I : IsSharedValue w) where
 
   pub fields_few : (n : Name) (x : Object) → object_at k.machine.store n ≡ Some x → length x.refs + length x.ints ≤ 1000000
   fields_few n x e =
-      let m : State = run w.program (field_limit w.settings.version) (tasks_of w.journal.items) in
-      let a = (sizes_are_bounded w.program (field_limit w.settings.version) (tasks_of w.journal.items)).together n x (subst (λ (z : State). object_at z.store n ≡ Some x) (same ∙ ran) e) in
+      let m : MachineState = run w.program (field_limit w.settings.version) (tasks_of w.journal.items) in
+      let a = (sizes_are_bounded w.program (field_limit w.settings.version) (tasks_of w.journal.items)).together n x (subst (λ (z : MachineState). object_at z.store n ≡ Some x) (known_machine ∙ ran) e) in
       let b : m.field_limit ≡ field_limit w.settings.version = limit_stays w.program (field_limit w.settings.version) (tasks_of w.journal.items) in
       let c = few_by w.settings.version in
       let d : length x.refs + length x.ints ≤ max (field_limit w.settings.version) 32 = subst (λ f. length x.refs + length x.ints ≤ max f 32) b a in
       omega (arith, c, d)
 
   -- TASKS
-  pub live_task : (x : Live) → IsLive w x → (y : Task) × (slice_get T x.number ≡ Some y) × (x.parent ≡ y.parent) × (joined T x.number ≡ false)
+  pub live_task : (x : LiveTask) → IsLive w x → (y : Task) × (slice_get T x.number ≡ Some y) × (x.parent ≡ y.parent) × (joined T x.number ≡ false)
   live_task x L =
       let y = task_of w I x.number (record { parent = x.parent; state = x.state }) L.is in
-      (y.0, ap (λ (m : State). slice_get m.tasks x.number) same ∙ y.1, y.2.parent, ap (λ (m : State). joined m.tasks x.number) same ∙ live_now w I x.number (record { parent = x.parent; state = x.state }) L.is L.live)
+      (y.0, ap (λ (m : MachineState). slice_get m.tasks x.number) known_machine ∙ y.1, y.2.parent, ap (λ (m : MachineState). joined m.tasks x.number) known_machine ∙ live_now w I x.number (record { parent = x.parent; state = x.state }) L.is L.live)
 
-  pub task_live : (t : ℕ) (y : Task) → slice_get T t ≡ Some y → joined T t ≡ false → (x : Live) × IsLive w x × (x.number ≡ t) × (x.parent ≡ y.parent)
+  pub task_live : (t : ℕ) (y : Task) → slice_get T t ≡ Some y → joined T t ≡ false → (x : LiveTask) × IsLive w x × (x.number ≡ t) × (x.parent ≡ y.parent)
   task_live t y e live =
-      let n = node_at w I t y (ap (λ (m : State). slice_get m.tasks t) (sym same) ∙ e) in
-      let x : Live = record { number = t; parent = n.0.parent; state = n.0.state } in
-      let off : n.0.state ≡ IsJoined → ⊥ = λ j. false≢true (sym live ∙ (ap (λ (m : State). joined m.tasks t) same ∙ joined_now w I t n.0 n.1 j)) in
+      let n = node_at w I t y (ap (λ (m : MachineState). slice_get m.tasks t) (sym known_machine) ∙ e) in
+      let x : LiveTask = record { number = t; parent = n.0.parent; state = n.0.state } in
+      let off : n.0.state ≡ IsJoined → ⊥ = λ j. false≢true (sym live ∙ (ap (λ (m : MachineState). joined m.tasks t) known_machine ∙ joined_now w I t n.0 n.1 j)) in
       (x, record { is = n.1; live = off }, refl, n.2.parent)
 
   pub runs : (t : ℕ) → is_state_running (state_of w.tree t) ≡ is_running (slice_get T t)
-  runs t = runs_is w I t ∙ ap (λ (m : State). is_running (slice_get m.tasks t)) (sym same)
+  runs t = runs_is w I t ∙ ap (λ (m : MachineState). is_running (slice_get m.tasks t)) (sym known_machine)
 
   pub rests : (t : ℕ) → is_state_running (state_of w.tree t) ≡ false → Rests k t
   rests t idle = journal_idle w.program w.settings w.journal.items I.form I.legal t (sym (runs_is w I t) ∙ idle)
@@ -112,4 +96,4 @@ module _ (w : SharedValue) (I : IsSharedValue w) where
   pub owned : (t : ℕ) (n : Name) → In (held_in (heap_of k t)) n → (n.task < length T) × (owner_of T n.task ≡ t)
   owned t n i =
       let o = (sound w I).owners t n (subst (λ ns. In ns n) (handed_held l t) i) in
-      (subst (λ (m : State). n.task < length m.tasks) (sym same) o.0, ap (λ (m : State). owner_of m.tasks n.task) same ∙ o.1)
+      (subst (λ (m : MachineState). n.task < length m.tasks) (sym known_machine) o.0, ap (λ (m : MachineState). owner_of m.tasks n.task) known_machine ∙ o.1)

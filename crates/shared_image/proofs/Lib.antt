@@ -9,3 +9,4 @@ mod Chunks
 mod Rounds
 mod Keeping
 pub mod below
+mod Common

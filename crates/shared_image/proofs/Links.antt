@@ -1,34 +1,17 @@
 -- The tasks and the chunks of a picture.
-use Rattle.std.proofs.Common.{◌≡◌, ◌⊎◌, ℕ, zero, suc, ◌*◌, ◌<◌, true, false, Option, Some, None, List, [], ◌∷◌, length, option_map, slice_get, inl, inr, refl, ap, sym, subst, ◌∙◌}
-use Rattle.std.proofs.lemmas.Bool.{false≢true}
-use Rattle.std.proofs.lemmas.Option.{same_Some}
-use Rattle.heap_image.specs.below.listed.{In}
-use Rattle.heap_image.proofs.below.listed.{got_some}
-use Rattle.tree_reading.specs.below.hh_model.{State as MachineState, Task, is_on_path, joined, owner_of, parent_of, parents}
-use Rattle.tree_reading.specs.below.path_laws.{IsWalkUp}
-use Rattle.tree_reading.specs.below.object_layout.{Addr, word_of_ref}
-use Rattle.tree_reading.specs.below.chunk_pool.{Slot, slot_at}
-use Rattle.tree_reading.specs.below.heap_tree.{State, Ready, Out, Waiting, Ended, Joined, Node, state_of}
-use Rattle.tree_reading.specs.below.core_relation.{Memory}
-use Rattle.tree_reading.specs.below.shared_value.{IsSharedValue, SharedValue, accounts, value_of}
-use Rattle.tree_reading.specs.below.heap_reading.{InUse, is_state_running, IsInUse}
-use Rattle.image_check.specs.declared.line.State.TheVariants.{Running}
-use Rattle.image_check.specs.declared.line.Task.{Task as Drawn}
-use Rattle.image_check.specs.declared.line.Chunk.{Chunk}
-use Rattle.heap_image.specs.declared.picture.Picture.{Picture}
-use Rattle.heap_image.specs.Picture.{HasTask, IsAbove, IsOwned, IsParent, IsRunning}
-use Rattle.shared_image.specs.Drawn.{IsPictureOf, drawn_chunk, drawn_state, drawn_task}
-use Rattle.shared_image.proofs.Known.{T, owners, paths, same, task_live, tree}
+use Rattle.shared_image.proofs.Common.{◌≡◌, ◌⊎◌, ℕ, zero, suc, ◌*◌, ◌<◌, true, false, Option, Some, None, List, [], ◌∷◌, length, option_map, slice_get, inl, inr, refl, ap, sym, subst, ◌∙◌, false≢true, same_Some, got_some, MachineState, Task, is_on_path, joined, owner_of, parent_of, parents, IsWalkUp, Addr, word_of_ref, Slot, slot_at, TaskState, Ready, Out, Waiting, Ended, Joined, TaskNode, state_of, Memory, IsSharedValue, SharedValue, accounts, value_of, InUse, is_state_running, IsInUse, Running, ImageTask as Drawn, ImageChunk, ImageData, HasTask, IsAbove, IsOwned, IsParent, IsRunning, IsPictureOf, drawn_chunk, drawn_state, drawn_task}
+use Rattle.heap_image.specs.below.plain_vec.{In}
+use Rattle.shared_image.proofs.Known.{T, owners, paths, known_machine, task_live, tree}
 use Rattle.shared_image.proofs.Numbers.{chunk_of_word, word_some}
 
-drawn_running : (s : State) → is_state_running (Some s) ≡ true → drawn_state s ≡ Running
+drawn_running : (s : TaskState) → is_state_running (Some s) ≡ true → drawn_state s ≡ Running
 drawn_running Ready e = refl
 drawn_running Out e = refl
 drawn_running Waiting e = absurd (false≢true e)
 drawn_running Ended e = absurd (false≢true e)
 drawn_running Joined e = absurd (false≢true e)
 
-running_drawn : (s : State) → drawn_state s ≡ Running → is_state_running (Some s) ≡ true
+running_drawn : (s : TaskState) → drawn_state s ≡ Running → is_state_running (Some s) ≡ true
 running_drawn Ready e = refl
 running_drawn Out e = refl
 running_drawn Waiting e = absurd cc
@@ -43,7 +26,7 @@ held_in : (o : Option Slot) (t : ℕ) → option_map (λ (h : Slot). h.owner) o 
 held_in None t e = absurd cc
 held_in (Some h) t e = (h, refl, same_Some h.owner t e)
 
-module _ (w : SharedValue) (I : IsSharedValue w) (p : Picture) (P : IsPictureOf w p) where
+module _ (w : SharedValue) (I : IsSharedValue w) (p : ImageData) (P : IsPictureOf w p) where
   abbrev TT : List Task
   TT = T w I
 
@@ -82,7 +65,7 @@ module _ (w : SharedValue) (I : IsSharedValue w) (p : Picture) (P : IsPictureOf 
   pub not_running : (t : ℕ) → is_state_running (state_of w.tree t) ≡ false → IsRunning p t → ⊥
   not_running t idle h =
       let x = (P.tasks.each h.0).0 h.1 in
-      let state : state_of w.tree t ≡ Some x.0.state = ap (λ n. state_of w.tree n) (sym h.2 ∙ ap (λ (q : Drawn). q.number) x.2) ∙ ap (option_map (λ (n : Node). n.state)) x.1.is in
+      let state : state_of w.tree t ≡ Some x.0.state = ap (λ n. state_of w.tree n) (sym h.2 ∙ ap (λ (q : Drawn). q.number) x.2) ∙ ap (option_map (λ (n : TaskNode). n.state)) x.1.is in
       let runs : is_state_running (Some x.0.state) ≡ true = running_drawn x.0.state (sym (ap (λ (q : Drawn). q.state) x.2) ∙ h.3) in
       false≢true (sym idle ∙ (ap is_state_running state ∙ runs))
 
@@ -90,14 +73,14 @@ module _ (w : SharedValue) (I : IsSharedValue w) (p : Picture) (P : IsPictureOf 
   running t lt live e =
       let y = got_some TT t lt in
       let x = task_live w I t y.0 y.1 live in
-      let state : state_of w.tree t ≡ Some x.0.state = ap (λ n. state_of w.tree n) (sym x.2) ∙ ap (option_map (λ (n : Node). n.state)) x.1.is in
+      let state : state_of w.tree t ≡ Some x.0.state = ap (λ n. state_of w.tree n) (sym x.2) ∙ ap (option_map (λ (n : TaskNode). n.state)) x.1.is in
       (drawn_task x.0, (P.tasks.each (drawn_task x.0)).1 (x.0, x.1, refl), x.2, drawn_running x.0.state (sym (ap is_state_running state) ∙ e))
 
   -- CHUNKS
   owner_now : (u : ℕ) → owner_of (accounts w).machine.tasks u ≡ owner_of TT u
-  owner_now u = ap (λ (m : MachineState). owner_of m.tasks u) (sym (same w I))
+  owner_now u = ap (λ (m : MachineState). owner_of m.tasks u) (sym (known_machine w I))
 
-  pub chunk_in : (n t : ℕ) → v.owner n ≡ Some t → joined TT t ≡ false → (c : Chunk) × (h : Slot) × In p.chunks c × (slot_at w.pool n ≡ Some h) × (c.number ≡ n) × (c.owner ≡ t) × (c.words ≡ 1024 * h.units)
+  pub chunk_in : (n t : ℕ) → v.owner n ≡ Some t → joined TT t ≡ false → (c : ImageChunk) × (h : Slot) × In p.chunks c × (slot_at w.pool n ≡ Some h) × (c.number ≡ n) × (c.owner ≡ t) × (c.words ≡ 1024 * h.units)
   chunk_in n t e live =
       let h = held_in (slot_at w.pool n) t e in
       let x : InUse = record { number = n; owner = owner_of (accounts w).machine.tasks h.0.owner; words = 1024 * h.0.units } in
@@ -111,7 +94,7 @@ module _ (w : SharedValue) (I : IsSharedValue w) (p : Picture) (P : IsPictureOf 
   pub owner_is : (a : Addr) (t u : ℕ) → a.offset < 1024 → v.owner a.chunk ≡ Some t → joined TT t ≡ false → IsOwned p (word_of_ref (Some a)) u → u ≡ t
   owner_is a t u near e live h =
       let x = (P.chunks.each h.0).0 h.1.0 in
-      let number : x.0.number ≡ a.chunk = sym (ap (λ (c : Chunk). c.number) x.2) ∙ (sym h.1.2 ∙ chunk_of_word a near) in
+      let number : x.0.number ≡ a.chunk = sym (ap (λ (c : ImageChunk). c.number) x.2) ∙ (sym h.1.2 ∙ chunk_of_word a near) in
       let holder : option_map (λ (z : Slot). z.owner) (slot_at w.pool x.0.number) ≡ Some t = ap v.owner number ∙ e in
       let owner : x.1.slot.owner ≡ t = same_Some x.1.slot.owner t (sym (ap (option_map (λ (z : Slot). z.owner)) x.1.is) ∙ holder) in
-      sym h.2 ∙ (ap (λ (c : Chunk). c.owner) x.2 ∙ (x.1.owner ∙ (owner_now x.1.slot.owner ∙ (ap (owner_of TT) owner ∙ (owners w I).own t live))))
+      sym h.2 ∙ (ap (λ (c : ImageChunk). c.owner) x.2 ∙ (x.1.owner ∙ (owner_now x.1.slot.owner ∙ (ap (owner_of TT) owner ∙ (owners w I).own t live))))

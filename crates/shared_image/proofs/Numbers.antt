@@ -1,11 +1,6 @@
 -- Addresses as numbers, sizes of chunks, and numbers of 64 bits.
-use Rattle.std.proofs.Common.{◌≡◌, ℕ, zero, suc, ◌+◌, ◌-◌, ◌*◌, ◌/◌, ◌%◌, ◌^◌, ◌<◌, arith, Some, List, [], ◌∷◌, refl, subst}
-use Rattle.std.proofs.lemmas.Option.{same_Some}
-use Rattle.heap_image.proofs.below.listed.{got_in}
-use Rattle.tree_reading.specs.below.object_layout.{Addr, word_of_ref}
-use Rattle.tree_reading.specs.below.heap_reading.{Rises}
-use Rattle.image_check.specs.Place.{chunk_number, offset}
-use Rattle.heap_image.specs.Picture.{Rises as RisesAt}
+use Rattle.shared_image.proofs.Common.{◌≡◌, ℕ, zero, suc, ◌+◌, ◌-◌, ◌*◌, ◌/◌, ◌%◌, ◌^◌, ◌<◌, arith, Some, List, [], ◌∷◌, refl, subst, same_Some, got_in, Addr, word_of_ref, Rises, chunk_number, offset}
+use Rattle.heap_image.specs.ImageData.{Rises as RisesAt}
 
 -- ADDRESSES
 chunk_by : (c o n : ℕ) → o < 1024 → n ≡ c * 1024 + o + 1 → (n - 1) / 1024 ≡ c

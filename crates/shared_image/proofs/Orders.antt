@@ -1,8 +1,6 @@
 -- Ordered lists, concatenated.
-use Rattle.std.proofs.Common.{◌≡◌, ◌⊎◌, ℕ, zero, suc, Some, List, [], ◌∷◌, ◌++◌, map, slice_get, take, inl, inr, refl, sym, subst}
-use Rattle.heap_image.specs.below.listed.{In}
-use Rattle.heap_image.proofs.below.listed.{in_append_cases, in_append_left, in_append_right, got_in, in_map, map_in}
-use Rattle.tree_reading.specs.below.heap_reading.{AreAll, Rises}
+use Rattle.shared_image.proofs.Common.{◌≡◌, ◌⊎◌, ℕ, zero, suc, Some, List, [], ◌∷◌, ◌++◌, map, slice_get, take, inl, inr, refl, sym, subst, in_append_cases, in_append_left, in_append_right, got_in, in_map, map_in, AreAll, Rises}
+use Rattle.heap_image.specs.below.plain_vec.{In}
 
 pub rises_append : {A : Type 0} (before : A → A → Type 0) (xs ys : List A) → Rises before xs → Rises before ys → ((x y : A) → In xs x → In ys y → before x y) → Rises before (xs ++ ys)
 rises_append before [] ys up vp both = vp

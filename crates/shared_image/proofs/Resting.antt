@@ -1,27 +1,13 @@
 -- The objects of heaps at rest: their owners and places.
-use Rattle.std.proofs.Common.{◌≡◌, ℕ, ◌<◌, true, false, Option, Some, None, List, length, is_some, slice_get, refl, ap, subst, ◌∙◌}
-use Rattle.std.proofs.lemmas.Bool.{false≢true}
-use Rattle.std.proofs.lemmas.Option.{slice_get_within}
-use Rattle.heap_image.proofs.below.listed.{map_in}
-use Rattle.tree_reading.specs.below.hh_model.{Object, Task, object_at, joined}
-use Rattle.tree_reading.specs.below.run_ledger.{heap_of}
-use Rattle.tree_reading.specs.below.object_layout.{Located}
-use Rattle.tree_reading.specs.below.chunk_pool.{slot_at}
-use Rattle.tree_reading.specs.below.ledger_step_laws.{Rests, own}
-use Rattle.tree_reading.specs.below.core_relation.{IsRead, BelongingsStand, Place, Stands, Chunk as ChunkOf, In, Memory, object_name, objects, objects_in}
-use Rattle.tree_reading.proofs.below.core_relation.{in_chunk, object_held}
-use Rattle.tree_reading.specs.below.task_homes.{Rest}
-use Rattle.tree_reading.specs.below.shared_value.{IsFree, chunk_of, IsSharedValue, SharedValue, belongings_in, rest_at, value_of}
-use Rattle.tree_reading.proofs.below.shared_value.{belongings_chunks}
-use Rattle.shared_image.specs.Drawn.{IsHandedBack}
+use Rattle.shared_image.proofs.Common.{◌≡◌, ℕ, ◌<◌, true, false, Option, Some, None, List, length, is_some, slice_get, refl, ap, subst, ◌∙◌, false≢true, slice_get_within, map_in, Object, Task, object_at, joined, heap_of, Located, slot_at, Rests, own, IsModelObject, BelongingsStand, Place, Stands, Chunk as ChunkOf, In, Memory, object_name, objects, objects_in, in_chunk, object_held, ParkedTask, IsFree, chunk_of, IsSharedValue, SharedValue, belongings_in, rest_at, value_of, belongings_chunks, IsHandedBack}
 use Rattle.shared_image.proofs.Known.{T, k, owned, owners, rests}
 
 pub some_within : {A : Type 0} (xs : List A) (t : ℕ) → is_some (slice_get xs t) ≡ true → t < length xs
-some_within {A = A} xs t e = by (slice_get xs t) refl e
+some_within {A = A} xs t e = some_within_by_cases (slice_get xs t) refl e
   where
-    by : (o : Option A) → slice_get xs t ≡ o → is_some o ≡ true → t < length xs
-    by None is z = absurd (false≢true z)
-    by (Some x) is z = slice_get_within xs t x is
+    some_within_by_cases : (o : Option A) → slice_get xs t ≡ o → is_some o ≡ true → t < length xs
+    some_within_by_cases None is z = absurd (false≢true z)
+    some_within_by_cases (Some x) is z = slice_get_within xs t x is
 
 module _ (w : SharedValue) (I : IsSharedValue w) where
   abbrev v : Memory
@@ -36,11 +22,11 @@ module _ (w : SharedValue) (I : IsSharedValue w) where
   pub made : (n t : ℕ) → v.owner n ≡ Some t → t < length TT
   made n t e = some_within TT t (S.made n t e)
 
-  near_by : (t : ℕ) (r : Option Rest) → rest_at w.rests t ≡ r → (o : Located) → In (objects_in (belongings_in r).chunks) o → o.at.offset < 1024
+  near_by : (t : ℕ) (r : Option ParkedTask) → rest_at w.rests t ≡ r → (o : Located) → In (objects_in (belongings_in r).chunks) o → o.at.offset < 1024
   near_by t None e o i = absurd i
   near_by t (Some r) e o i = (I.heaps t r e).near o (subst (λ ks. In (objects_in ks) o) (belongings_chunks r) i)
 
-  measured_by : (t : ℕ) → IsFree w.tasks_out t → (r : Option Rest) → rest_at w.rests t ≡ r → (c : ChunkOf) → In (belongings_in r).chunks c → slot_at w.pool c.number ≡ Some (record { owner = t; units = c.units })
+  measured_by : (t : ℕ) → IsFree w.tasks_out t → (r : Option ParkedTask) → rest_at w.rests t ≡ r → (c : ChunkOf) → In (belongings_in r).chunks c → slot_at w.pool c.number ≡ Some (record { owner = t; units = c.units })
   measured_by t un None e c i = absurd i
   measured_by t un (Some r) e c i =
       let q = map_in chunk_of r.heap.chunks c (subst (λ ks. In ks c) (belongings_chunks r) i) in
@@ -54,7 +40,7 @@ module _ (w : SharedValue) (I : IsSharedValue w) where
     pub H : BelongingsStand v (k w I) t
     H = S.belongings t R
 
-    pub content : (x : Object) × (object_at (k w I).machine.store (object_name o) ≡ Some x) × IsRead (Place v (k w I)) o x
+    pub content : (x : Object) × (object_at (k w I).machine.store (object_name o) ≡ Some x) × IsModelObject (Place v (k w I)) o x
     content = S.contents t o R i
 
     pub own_is : own (k w I) (object_name o) ≡ t

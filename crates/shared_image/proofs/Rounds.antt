@@ -1,18 +1,6 @@
 -- A picture grows chunk by chunk, and task by task.
-use Rattle.std.proofs.Common.{◌≡◌, ◌⊎◌, ℕ, ◌+◌, ◌*◌, ◌<◌, Option, Some, None, List, ◌++◌, map, option_map, slice_get, take, inl, inr, refl, sym, subst}
-use Rattle.heap_image.proofs.below.listed.{got_in_take, in_take_more, take_more_in}
-use Rattle.tree_reading.specs.below.hh_model.{owner_of}
-use Rattle.tree_reading.specs.below.chunk_pool.{Slot, slot_at}
-use Rattle.tree_reading.specs.below.object_layout.{Located}
-use Rattle.tree_reading.specs.below.core_relation.{In, objects}
-use Rattle.tree_reading.specs.below.shared_value.{IsSharedValue, SharedValue, accounts, value_of}
-use Rattle.tree_reading.specs.below.heap_reading.{InUse, Live, Field, AreAll, AreInWords, FieldBefore as NotedBefore, InUseBefore, IsInUse, IsLive, IsNoted, LiveBefore, in_words, objects_of}
-use Rattle.tree_reading.proofs.below.heap_reading.{all_same}
-use Rattle.image_check.specs.declared.line.Remembered.{Remembered}
-use Rattle.heap_image.specs.declared.picture.Picked.{Picked}
-use Rattle.heap_image.specs.Picture.{ChunkBefore, FieldBefore, ObjectBefore, TaskBefore}
-use Rattle.shared_image.specs.Drawing.{AreFieldsOf, AreObjectsOf}
-use Rattle.shared_image.specs.Drawn.{AreHeldInWords, IsFieldOf, IsHandedBack, IsObjectOf, IsPictureOf, drawn_chunk, drawn_field, drawn_object, drawn_task}
+use Rattle.shared_image.proofs.Common.{◌≡◌, ◌⊎◌, ℕ, ◌+◌, ◌*◌, ◌<◌, Option, Some, None, List, ◌++◌, map, option_map, slice_get, take, inl, inr, refl, sym, subst, got_in_take, in_take_more, take_more_in, owner_of, Slot, slot_at, Located, In, objects, IsSharedValue, SharedValue, accounts, value_of, InUse, LiveTask, FieldAt, AreAll, AreInWords, InUseBefore, IsInUse, IsLive, IsNoted, LiveBefore, in_words, objects_of, all_same, ImageRemembered, Picked, ChunkBefore, FieldBefore, ObjectBefore, TaskBefore, AreFieldsOf, AreObjectsOf, AreHeldInWords, IsFieldOf, IsHandedBack, IsObjectOf, IsPictureOf, drawn_chunk, drawn_field, drawn_object, drawn_task}
+use Rattle.tree_reading.specs.below.heap_reading.{FieldBefore as NotedBefore}
 use Rattle.shared_image.proofs.Chunks.{one, told_apart, told_back, told_in_order, told_there}
 use Rattle.shared_image.proofs.Orders.{all_append, all_map, rises_before}
 use Rattle.shared_image.proofs.Resting.{owner}
@@ -51,11 +39,11 @@ module _ (w : SharedValue) (I : IsSharedValue w) where
 
   -- the chunk of an object of a heap at rest is in use
   in_use_of : (cs : List InUse) → AreAll InUseBefore (IsInUse w) cs → (t : ℕ) → IsHandedBack w t → (o : Located) → In (objects (value_of w) t) o → (c : InUse) × In cs c × (c.number ≡ o.at.chunk)
-  in_use_of cs all t idle o i = by (slot_at w.pool o.at.chunk) refl (owner w I t idle o i)
+  in_use_of cs all t idle o i = in_use_of_by_cases (slot_at w.pool o.at.chunk) refl (owner w I t idle o i)
     where
-      by : (h : Option Slot) → slot_at w.pool o.at.chunk ≡ h → option_map (λ (z : Slot). z.owner) h ≡ Some t → (c : InUse) × In cs c × (c.number ≡ o.at.chunk)
-      by None e f = absurd cc
-      by (Some h) e f =
+      in_use_of_by_cases : (h : Option Slot) → slot_at w.pool o.at.chunk ≡ h → option_map (λ (z : Slot). z.owner) h ≡ Some t → (c : InUse) × In cs c × (c.number ≡ o.at.chunk)
+      in_use_of_by_cases None e f = absurd cc
+      in_use_of_by_cases (Some h) e f =
           let c : InUse = record { number = o.at.chunk; owner = owner_of (accounts w).machine.tasks h.owner; words = 1024 * h.units } in
           (c, (all.each c).1 (record { slot = h; is = e; owner = refl; words = refl }), refl)
 
@@ -65,36 +53,36 @@ module _ (w : SharedValue) (I : IsSharedValue w) where
       so c.0 c.1 o (subst (λ n. In (objects_of w n) o) (sym c.2) (told_there w I t idle o i))
 
   -- TASKS
-  module _ (xs : List Live) (i : ℕ) (x : Live) (all : AreAll LiveBefore (IsLive w) xs) (is : slice_get xs i ≡ Some x) where
-    abbrev Its : Remembered → Type 0
-    Its f = (g : Field) × IsNoted w x.number g × (f ≡ drawn_field x.number g)
+  module _ (xs : List LiveTask) (i : ℕ) (x : LiveTask) (all : AreAll LiveBefore (IsLive w) xs) (is : slice_get xs i ≡ Some x) where
+    abbrev Its : ImageRemembered → Type 0
+    Its f = (g : FieldAt) × IsNoted w x.number g × (f ≡ drawn_field x.number g)
 
-    pub fields_step : (old new : List Remembered) (gs : List Field) → AreAll FieldBefore (AreFieldsOf w (take i xs)) old → AreAll NotedBefore (IsNoted w x.number) gs → new ≡ old ++ map (drawn_field x.number) gs → AreAll FieldBefore (AreFieldsOf w (take (i + 1) xs)) new
+    pub fields_step : (old new : List ImageRemembered) (gs : List FieldAt) → AreAll FieldBefore (AreFieldsOf w (take i xs)) old → AreAll NotedBefore (IsNoted w x.number) gs → new ≡ old ++ map (drawn_field x.number) gs → AreAll FieldBefore (AreFieldsOf w (take (i + 1) xs)) new
     fields_step old new gs so now more =
         subst (AreAll FieldBefore (AreFieldsOf w (take (i + 1) xs))) (sym more)
         (all_append FieldBefore (AreFieldsOf w (take i xs)) Its (AreFieldsOf w (take (i + 1) xs)) old (map (drawn_field x.number) gs) so (all_map NotedBefore FieldBefore (drawn_field x.number) (IsNoted w x.number) gs now keeps) both join split)
       where
-        keeps : (f g : Field) → IsNoted w x.number f → IsNoted w x.number g → NotedBefore f g → FieldBefore (drawn_field x.number f) (drawn_field x.number g)
+        keeps : (f g : FieldAt) → IsNoted w x.number f → IsNoted w x.number g → NotedBefore f g → FieldBefore (drawn_field x.number f) (drawn_field x.number g)
         keeps f g X Y (inl lt) = inr (inl (refl, lt))
         keeps f g X Y (inr h) = inr (inr (refl, h.0, h.1))
 
-        both : (f g : Remembered) → AreFieldsOf w (take i xs) f → Its g → FieldBefore f g
+        both : (f g : ImageRemembered) → AreFieldsOf w (take i xs) f → Its g → FieldBefore f g
         both f g X Y =
             let lt : X.0.number < x.number = rises_before LiveBefore xs i x X.0 all.rising is X.2 in
-            inl (subst (λ (z : Remembered). z.task < g.task) (sym X.4) (subst (λ (z : Remembered). X.0.number < z.task) (sym Y.2) lt))
+            inl (subst (λ (z : ImageRemembered). z.task < g.task) (sym X.4) (subst (λ (z : ImageRemembered). X.0.number < z.task) (sym Y.2) lt))
 
-        join : (f : Remembered) → AreFieldsOf w (take i xs) f ⊎ Its f → AreFieldsOf w (take (i + 1) xs) f
+        join : (f : ImageRemembered) → AreFieldsOf w (take i xs) f ⊎ Its f → AreFieldsOf w (take (i + 1) xs) f
         join f (inl X) = (X.0, X.1, take_more_in xs i X.0 X.2, X.3, X.4)
         join f (inr Y) = (x, Y.0, got_in_take xs i x is, Y.1, Y.2)
 
-        split : (f : Remembered) → AreFieldsOf w (take (i + 1) xs) f → AreFieldsOf w (take i xs) f ⊎ Its f
+        split : (f : ImageRemembered) → AreFieldsOf w (take (i + 1) xs) f → AreFieldsOf w (take i xs) f ⊎ Its f
         split f X = elim (in_take_more xs i x X.0 is X.2) [
           | inl j ↦ inl (X.0, X.1, j, X.3, X.4)
-          | inr e ↦ inr (X.1, subst (λ (z : Live). IsNoted w z.number X.1) (sym e) X.3, subst (λ (z : Live). f ≡ drawn_field z.number X.1) (sym e) X.4)
+          | inr e ↦ inr (X.1, subst (λ (z : LiveTask). IsNoted w z.number X.1) (sym e) X.3, subst (λ (z : LiveTask). f ≡ drawn_field z.number X.1) (sym e) X.4)
         ]
 
   -- THE WHOLE
-  pub picture_of : (xs : List Live) (cs : List InUse) (os : List Picked) (fs : List Remembered) → AreAll LiveBefore (IsLive w) xs → AreAll InUseBefore (IsInUse w) cs → AreAll ObjectBefore (AreObjectsOf w cs) os → AreAll FieldBefore (AreFieldsOf w xs) fs
+  pub picture_of : (xs : List LiveTask) (cs : List InUse) (os : List Picked) (fs : List ImageRemembered) → AreAll LiveBefore (IsLive w) xs → AreAll InUseBefore (IsInUse w) cs → AreAll ObjectBefore (AreObjectsOf w cs) os → AreAll FieldBefore (AreFieldsOf w xs) fs
       → IsPictureOf w (record { tasks = map drawn_task xs; chunks = map drawn_chunk cs; objects = os; fields = fs })
   picture_of xs cs os fs X C O G = record {
     tasks = all_map LiveBefore TaskBefore drawn_task (IsLive w) xs X (λ x y a b lt. lt);

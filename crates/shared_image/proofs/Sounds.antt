@@ -1,31 +1,6 @@
 -- A picture of a shared value is sound.
-use Rattle.std.proofs.Common.{◌≡◌, ℕ, zero, suc, ◌+◌, ◌*◌, ◌^◌, ◌<◌, ◌≤◌, arith, false, Option, Some, None, List, [], ◌∷◌, length, map, option_map, slice_get, refl, ap, sym, subst, ◌∙◌}
-use Rattle.std.specs.Prelude.{FitsSigned}
-use Rattle.std.specs.Int.{w64}
-use Rattle.std.proofs.lemmas.List.{length-map}
-use Rattle.std.proofs.lemmas.Option.{slice_get_within}
-use Rattle.heap_image.proofs.below.listed.{map_in, read_in}
-use Rattle.heap_image.proofs.below.hh_lang.{fits_passes}
-use Rattle.tree_reading.specs.below.hh_model.{State, Task as TaskOf, joined, owner_of, parent_of as parents_in, parents}
-use Rattle.tree_reading.proofs.below.hh_model.{owner_le}
-use Rattle.tree_reading.specs.below.run_ledger.{in_use}
-use Rattle.tree_reading.proofs.below.run_ledger.{use_is_bounded}
-use Rattle.tree_reading.specs.below.object_layout.{Addr, IsRef, word_of_ref, Located}
-use Rattle.tree_reading.specs.below.chunk_pool.{Slot, AreChunks, slot_at, slot_in, slot_units, units_in, units_in_use}
-use Rattle.tree_reading.specs.below.core_relation.{Place, In, Memory, object_name, objects}
-use Rattle.tree_reading.specs.below.shared_value.{IsSharedValue, SharedValue, accounts, value_of}
-use Rattle.tree_reading.proofs.below.shared_value.{used_now, refs_long}
-use Rattle.tree_reading.specs.below.heap_reading.{in_words}
-use Rattle.image_check.specs.declared.line.Birth.{Birth}
-use Rattle.image_check.specs.declared.line.Task.{Task}
-use Rattle.image_check.specs.declared.line.Chunk.{Chunk}
-use Rattle.image_check.specs.declared.line.Remembered.{Remembered}
-use Rattle.heap_image.specs.declared.picture.Picked.{Picked}
-use Rattle.heap_image.specs.declared.picture.Picture.{Picture}
-use Rattle.heap_image.specs.Form.{HasFitParent, IsChunkForm, IsFieldForm, IsInForm, IsObjectForm, IsTaskForm}
-use Rattle.heap_image.specs.Picture.{AreApart, HasTask, IsFit, IsOwned, IsPlaced, IsSoundPicture, KeepsToPath, ObjectBefore, TaskBefore, ChunkBefore, FieldBefore}
-use Rattle.shared_image.specs.Drawn.{AreHeldInWords, IsHandedBack, IsPictureOf, drawn_field, drawn_object}
-use Rattle.shared_image.proofs.Known.{T, few, fields_few, k, live_task, owners, root, same, stored_few, tree}
+use Rattle.shared_image.proofs.Common.{◌≡◌, ℕ, zero, suc, ◌+◌, ◌*◌, ◌^◌, ◌<◌, ◌≤◌, arith, false, Option, Some, None, List, [], ◌∷◌, length, map, option_map, slice_get, refl, ap, sym, subst, ◌∙◌, FitsSigned, w64, length-map, slice_get_within, map_in, read_in, fits_passes, MachineState, Task as TaskOf, joined, owner_of, parent_of as parents_in, parents, owner_le, in_use, use_is_bounded, Addr, IsRef, word_of_ref, Located, Slot, AreChunks, slot_at, slot_in, slot_units, units_in, units_in_use, Place, In, Memory, object_name, objects, IsSharedValue, SharedValue, accounts, value_of, used_now, refs_long, in_words, ImageBirth, ImageTask, ImageChunk, ImageRemembered, Picked, ImageData, HasFitParent, IsChunkForm, IsFieldForm, IsInForm, IsObjectForm, IsTaskForm, PickedDontOverlap, HasTask, IsFit, IsOwned, IsPlaced, IsSoundPicture, KeepsToPath, ObjectBefore, TaskBefore, ChunkBefore, FieldBefore, AreHeldInWords, IsHandedBack, IsPictureOf, drawn_field, drawn_object}
+use Rattle.shared_image.proofs.Known.{T, few, fields_few, k, live_task, owners, root, known_machine, stored_few, tree}
 use Rattle.shared_image.proofs.Links.{has_task, parent_live}
 use Rattle.shared_image.proofs.Drawing.{births, apart, content, fits, keeps, leads, near, owner, placed, ref_near}
 use Rattle.shared_image.proofs.Resting.{made}
@@ -36,7 +11,7 @@ units_most [] n h e = absurd cc
 units_most (s ∷ slots) zero h e = let a : slot_units s ≡ h.units = ap slot_units e in omega (arith, a)
 units_most (s ∷ slots) (suc n) h e = let a : h.units ≤ units_in slots = units_most slots n h e in omega (arith, a)
 
-module _ (w : SharedValue) (I : IsSharedValue w) (C : AreChunks w.pool.slots) (F : AreHeldInWords w) (p : Picture) (P : IsPictureOf w p) where
+module _ (w : SharedValue) (I : IsSharedValue w) (C : AreChunks w.pool.slots) (F : AreHeldInWords w) (p : ImageData) (P : IsPictureOf w p) where
   abbrev v : Memory
   v = value_of w
 
@@ -52,7 +27,7 @@ module _ (w : SharedValue) (I : IsSharedValue w) (C : AreChunks w.pool.slots) (F
       let b = few w I in
       (omega (arith, low), omega (arith, low, a, b))
 
-  task_form : (t : Task) → In p.tasks t → IsTaskForm t
+  task_form : (t : ImageTask) → In p.tasks t → IsTaskForm t
   task_form t i =
       let x = (P.tasks.each t).0 i in
       let y = live_task w I x.0 x.1 in
@@ -66,7 +41,7 @@ module _ (w : SharedValue) (I : IsSharedValue w) (C : AreChunks w.pool.slots) (F
   owner_few : (u : ℕ) → u < length TT → owner_of (accounts w).machine.tasks u < length TT
   owner_few u lt =
       let le : owner_of TT u ≤ u = owner_le (parents TT) (tree w I).low (joined TT) u u in
-      let e : owner_of (accounts w).machine.tasks u ≡ owner_of TT u = ap (λ (m : State). owner_of m.tasks u) (sym (same w I)) in
+      let e : owner_of (accounts w).machine.tasks u ≡ owner_of TT u = ap (λ (m : MachineState). owner_of m.tasks u) (sym (known_machine w I)) in
       omega (arith, lt, le, e)
 
   units_few : (n : ℕ) (h : Slot) → slot_at w.pool n ≡ Some h → h.units ≤ 65536
@@ -77,7 +52,7 @@ module _ (w : SharedValue) (I : IsSharedValue w) (C : AreChunks w.pool.slots) (F
       let d : w.settings.chunks ≤ 65536 = I.settings.chunks.1 in
       omega (arith, a, b, c, d)
 
-  chunk_form : (c : Chunk) → In p.chunks c → IsChunkForm c
+  chunk_form : (c : ImageChunk) → In p.chunks c → IsChunkForm c
   chunk_form c i =
       let x = (P.chunks.each c).0 i in
       let h = x.1.slot in
@@ -92,11 +67,11 @@ module _ (w : SharedValue) (I : IsSharedValue w) (C : AreChunks w.pool.slots) (F
   -- of an object of a heap at rest
   module _ (t : ℕ) (idle : IsHandedBack w t) (o : Located) (i : In (objects v t) o) where
     short : o.at.chunk < 2 ^ 32
-    short = by (slot_at w.pool o.at.chunk) refl (owner w I F p P t idle o i)
+    short = short_by_cases (slot_at w.pool o.at.chunk) refl (owner w I F p P t idle o i)
       where
-        by : (h : Option Slot) → slot_at w.pool o.at.chunk ≡ h → option_map (λ (z : Slot). z.owner) h ≡ Some t → o.at.chunk < 2 ^ 32
-        by None is e = absurd cc
-        by (Some h) is e = (C o.at.chunk h is).0
+        short_by_cases : (h : Option Slot) → slot_at w.pool o.at.chunk ≡ h → option_map (λ (z : Slot). z.owner) h ≡ Some t → o.at.chunk < 2 ^ 32
+        short_by_cases None is e = absurd cc
+        short_by_cases (Some h) is e = (C o.at.chunk h is).0
 
     ref_long : (r : Option Addr) → IsRef r → word_of_ref r < 2 ^ 64
     ref_long None ref = omega arith
@@ -123,18 +98,18 @@ module _ (w : SharedValue) (I : IsSharedValue w) (C : AreChunks w.pool.slots) (F
   object_form : (q : Picked) → In p.objects q → IsObjectForm q
   object_form q j = let d = (P.objects.each q).0 j in subst IsObjectForm (sym d.4) (form_of d.0 d.2 d.1 d.3)
 
-  field_fits : (f : Remembered) → In p.fields f → IsFit p f
+  field_fits : (f : ImageRemembered) → In p.fields f → IsFit p f
   field_fits f j =
       let d = (P.fields.each f).0 j in
       subst (IsFit p) (sym (d.4 ∙ ap (drawn_field d.0.number) d.3.2)) (fits w I F p P d.0.number d.3.0 (live_task w I d.0 d.2).3 d.3.1)
 
-  field_form : (f : Remembered) → In p.fields f → IsFieldForm f
+  field_form : (f : ImageRemembered) → In p.fields f → IsFieldForm f
   field_form f j =
       let d = (P.fields.each f).0 j in
       let y = live_task w I d.0 d.2 in
       let a : d.0.number < length TT = slice_get_within TT d.0.number y.0 y.1 in
       let b = few w I in
-      let number : f.task ≡ d.0.number = ap (λ (z : Remembered). z.task) d.4 in
+      let number : f.task ≡ d.0.number = ap (λ (z : ImageRemembered). z.task) d.4 in
       let K = field_fits f j in
       let O = object_form K.object K.drawn in
       let long : K.object.address < 2 ^ 64 = O.address in
@@ -147,35 +122,35 @@ module _ (w : SharedValue) (I : IsSharedValue w) (C : AreChunks w.pool.slots) (F
   form = record { tasks = task_form; chunks = chunk_form; objects = object_form; fields = field_form }
 
   -- THE WHOLE
-  parent_of : (t : Task) (q : ℕ) → In p.tasks t → t.parent ≡ Some q → HasTask p q × (q < t.number)
+  parent_of : (t : ImageTask) (q : ℕ) → In p.tasks t → t.parent ≡ Some q → HasTask p q × (q < t.number)
   parent_of t q i e =
       let x = (P.tasks.each t).0 i in
       let y = live_task w I x.0 x.1 in
-      let parent : x.0.parent ≡ Some q = sym (ap (λ (z : Task). z.parent) x.2) ∙ e in
+      let parent : x.0.parent ≡ Some q = sym (ap (λ (z : ImageTask). z.parent) x.2) ∙ e in
       let up : parents TT x.0.number ≡ Some q = parents_at x.0.number y.0 y.1 ∙ (sym y.2 ∙ parent) in
       let low : q < x.0.number = (tree w I).low x.0.number q up in
-      let number : t.number ≡ x.0.number = ap (λ (z : Task). z.number) x.2 in
+      let number : t.number ≡ x.0.number = ap (λ (z : ImageTask). z.number) x.2 in
       let a : x.0.number < length TT = slice_get_within TT x.0.number y.0 y.1 in
       (has_task w I p P q (omega (arith, low, a)) (parent_live w I p P x.0.number q up y.3), omega (arith, low, number))
     where
       parents_at : (n : ℕ) (y : TaskOf) → slice_get TT n ≡ Some y → parents TT n ≡ y.parent
       parents_at n y e = ap parents_in e
 
-  chunk_owner : (c : Chunk) → In p.chunks c → HasTask p c.owner
+  chunk_owner : (c : ImageChunk) → In p.chunks c → HasTask p c.owner
   chunk_owner c i =
       let x = (P.chunks.each c).0 i in
       let o : x.0.owner < length TT = subst (λ z. z < length TT) (sym x.1.owner) (owner_few x.1.slot.owner (held_made x.0.number x.1.slot x.1.is)) in
-      let now : x.0.owner ≡ owner_of TT x.1.slot.owner = x.1.owner ∙ ap (λ (m : State). owner_of m.tasks x.1.slot.owner) (sym (same w I)) in
+      let now : x.0.owner ≡ owner_of TT x.1.slot.owner = x.1.owner ∙ ap (λ (m : MachineState). owner_of m.tasks x.1.slot.owner) (sym (known_machine w I)) in
       let lives : joined TT x.0.owner ≡ false = subst (λ z. joined TT z ≡ false) (sym now) ((owners w I).live x.1.slot.owner) in
-      subst (λ (z : Chunk). HasTask p z.owner) (sym x.2) (has_task w I p P x.0.owner o lives)
+      subst (λ (z : ImageChunk). HasTask p z.owner) (sym x.2) (has_task w I p P x.0.owner o lives)
 
   same_birth : (o q : Picked) → In p.objects o → In p.objects q → o.birth ≡ q.birth → o.address ≡ q.address
   same_birth o q i j e =
       let a = (P.objects.each o).0 i in
       let b = (P.objects.each q).0 j in
       let birth : (drawn_object (in_words a.1)).birth ≡ (drawn_object (in_words b.1)).birth = sym (ap (λ (z : Picked). z.birth) a.4) ∙ (e ∙ ap (λ (z : Picked). z.birth) b.4) in
-      let task : a.1.birth.task ≡ b.1.birth.task = ap (λ (z : Birth). z.task) birth in
-      let count : a.1.birth.count ≡ b.1.birth.count = ap (λ (z : Birth). z.count) birth in
+      let task : a.1.birth.task ≡ b.1.birth.task = ap (λ (z : ImageBirth). z.task) birth in
+      let count : a.1.birth.count ≡ b.1.birth.count = ap (λ (z : ImageBirth). z.count) birth in
       let name : object_name a.1 ≡ object_name b.1 = λ n. record { task = task n; count = count n } in
       let at = births w I F p P a.0 a.2 a.1 a.3 b.0 b.2 b.1 b.3 name in
       ap (λ (z : Picked). z.address) a.4 ∙ (ap (λ z. word_of_ref (Some z)) at ∙ sym (ap (λ (z : Picked). z.address) b.4))
@@ -193,7 +168,7 @@ module _ (w : SharedValue) (I : IsSharedValue w) (C : AreChunks w.pool.slots) (F
     apart = λ o q i j.
         let a = (P.objects.each o).0 i in
         let b = (P.objects.each q).0 j in
-        subst (λ z. AreApart z q) (sym a.4) (subst (AreApart (drawn_object (in_words a.1))) (sym b.4) (apart w I F p P a.0 a.2 a.1 a.3 b.0 b.2 b.1 b.3));
+        subst (λ z. PickedDontOverlap z q) (sym a.4) (subst (PickedDontOverlap (drawn_object (in_words a.1))) (sym b.4) (apart w I F p P a.0 a.2 a.1 a.3 b.0 b.2 b.1 b.3));
     leads = λ o x i j. (let a = (P.objects.each o).0 i in leads w I F p P a.0 a.2 a.1 a.3 x (subst (λ (z : Picked). In z.references x) a.4 j));
     keeps = λ o n x t u i e ot ou.
         let a = (P.objects.each o).0 i in

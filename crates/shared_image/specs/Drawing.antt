@@ -1,10 +1,10 @@
 -- A picture as it is drawn: chunk by chunk, and task by task.
 use Rattle.std.specs.Prelude.{◌≡◌, List}
 use Rattle.tree_reading.specs.below.object_layout.{Located}
-use Rattle.tree_reading.specs.below.core_relation.{In}
-use Rattle.tree_reading.specs.below.shared_value.{SharedValue}
-use Rattle.tree_reading.specs.below.heap_reading.{InUse, Live, Field, IsNoted, in_words, objects_of}
-use Rattle.image_check.specs.declared.line.Remembered.{Remembered}
+use Rattle.tree_reading.specs.below.refinement.{In}
+use Rattle.tree_reading.specs.below.core_invariant.{SharedValue}
+use Rattle.tree_reading.specs.below.heap_reading.{InUse, LiveTask, FieldAt, IsNoted, in_words, objects_of}
+use Rattle.image_check.specs.declared.line.ImageRemembered.{ImageRemembered}
 use Rattle.heap_image.specs.declared.picture.Picked.{Picked}
 use Rattle.shared_image.specs.Drawn.{drawn_field, drawn_object}
 
@@ -13,5 +13,5 @@ abbrev pub AreObjectsOf : SharedValue → List InUse → Picked → Type 0
 AreObjectsOf w cs q = (c : InUse) × (o : Located) × In cs c × In (objects_of w c.number) o × (q ≡ drawn_object (in_words o))
 
 -- it is a field that one of these tasks remembers
-abbrev pub AreFieldsOf : SharedValue → List Live → Remembered → Type 0
-AreFieldsOf w xs f = (x : Live) × (g : Field) × In xs x × IsNoted w x.number g × (f ≡ drawn_field x.number g)
+abbrev pub AreFieldsOf : SharedValue → List LiveTask → ImageRemembered → Type 0
+AreFieldsOf w xs f = (x : LiveTask) × (g : FieldAt) × In xs x × IsNoted w x.number g × (f ≡ drawn_field x.number g)

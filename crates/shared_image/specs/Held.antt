@@ -1,34 +1,34 @@
 -- The objects of a picture are those that the heaps at rest hold, as they are in the machine's store.
 use Rattle.std.specs.Prelude.{◌≡◌, ◌⊎◌, ℕ, true, false, Option, Some, None, List, [], ◌∷◌, slice_get}
-use Rattle.heap_image.specs.below.listed.{In}
+use Rattle.heap_image.specs.below.plain_vec.{In}
 use Rattle.tree_reading.specs.below.hh_model.{Name, Object, object_at, is_running, owner_of}
 use Rattle.tree_reading.specs.below.run_ledger.{Ledger, heap_of, held_in}
 use Rattle.heap_image.specs.declared.picture.Picked.{Picked}
-use Rattle.heap_image.specs.declared.picture.Picture.{Picture}
-use Rattle.heap_image.specs.Picture.{IsOwned}
+use Rattle.heap_image.specs.declared.picture.ImageData.{ImageData}
+use Rattle.heap_image.specs.ImageData.{IsOwned}
 
 -- it bears the name
 abbrev pub Bears : Picked → Name → Type 0
 Bears q n = (q.birth.task ≡ n.task) × (q.birth.count ≡ n.count)
 
 -- it lies in a chunk of this task, which runs
-abbrev pub LiesInRunning : Picture → Ledger → ℕ → ℕ → Type 0
+abbrev pub LiesInRunning : ImageData → Ledger → ℕ → ℕ → Type 0
 LiesInRunning p l v u = (is_running (slice_get l.machine.tasks u) ≡ true) × IsOwned p v u
 
 -- nil for nil; for a name the address of the object that bears it, or, if the name's owner runs, an address in a chunk
 -- of that owner (so not nil)
-abbrev pub IsReference : Picture → Ledger → ℕ → Option Name → Type 0
+abbrev pub IsReference : ImageData → Ledger → ℕ → Option Name → Type 0
 IsReference p l v None = v ≡ 0
 IsReference p l v (Some n) = ((q : Picked) × In p.objects q × (q.address ≡ v) × Bears q n) ⊎ LiesInRunning p l v (owner_of l.machine.tasks n.task)
 
-abbrev pub AreReferences : Picture → Ledger → List ℕ → List (Option Name) → Type 0
+abbrev pub AreReferences : ImageData → Ledger → List ℕ → List (Option Name) → Type 0
 AreReferences p l [] [] = Unit {0}
 AreReferences p l [] (x ∷ xs) = ⊥
 AreReferences p l (v ∷ vs) [] = ⊥
 AreReferences p l (v ∷ vs) (x ∷ xs) = IsReference p l v x × AreReferences p l vs xs
 
 -- the object stands for that of the name
-pub record StandsFor (p : Picture) (l : Ledger) (q : Picked) (n : Name) : Type 0 where
+pub record ObjectStandsFor (p : ImageData) (l : Ledger) (q : Picked) (n : Name) : Type 0 where
   pub object : Object
   pub is : object_at l.machine.store n ≡ Some object
   pub bears : Bears q n
@@ -41,6 +41,6 @@ abbrev pub IsHeldNotRunning : Ledger → Name → Type 0
 IsHeldNotRunning l n = (t : ℕ) × (is_running (slice_get l.machine.tasks t) ≡ false) × In (held_in (heap_of l t)) n
 
 -- each object represents a held name, and each held name has an object
-pub record HasJustHeld (p : Picture) (l : Ledger) : Type 0 where
-  pub each : (q : Picked) → In p.objects q → (n : Name) × IsHeldNotRunning l n × StandsFor p l q n
-  pub all : (n : Name) → IsHeldNotRunning l n → (q : Picked) × In p.objects q × StandsFor p l q n
+pub record HasJustHeld (p : ImageData) (l : Ledger) : Type 0 where
+  pub each : (q : Picked) → In p.objects q → (n : Name) × IsHeldNotRunning l n × ObjectStandsFor p l q n
+  pub all : (n : Name) → IsHeldNotRunning l n → (q : Picked) × In p.objects q × ObjectStandsFor p l q n

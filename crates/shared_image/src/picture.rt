@@ -3,33 +3,33 @@
 ghost use Rattle.std.specs.Prelude.{◌≡◌, ◌++◌, IfOk, OnOk, map};
 ghost use Rattle.tree_reading.specs.below.chunk_pool.{AreChunks};
 ghost use Rattle.tree_reading.specs.below.heap_reading.{AreAll, InUseBefore, IsInUse, IsLive, LiveBefore};
-ghost use Rattle.heap_image.specs.Picture.{FieldBefore, IsSoundPicture, ObjectBefore};
-ghost use Rattle.tree_reading.specs.below.shared_value.{accounts};
+ghost use Rattle.heap_image.specs.ImageData.{FieldBefore, IsSoundPicture, ObjectBefore};
+ghost use Rattle.tree_reading.specs.below.core_invariant.{accounts};
 ghost use Rattle.shared_image.specs.Drawn.{AreHeldInWords, IsPictureOf, drawn_chunk, drawn_field, drawn_object, drawn_state, drawn_task};
 ghost use Rattle.shared_image.specs.Drawing.{AreFieldsOf, AreObjectsOf};
 ghost use Rattle.shared_image.specs.Held.{HasJustHeld};
 
-use heap_image::{Listed, Picked, Picture};
-use image_check::{Birth, Chunk, Remembered, State as DrawnState, Task};
+use heap_image::{ImageData, Listed, Picked};
+use image_check::{ImageBirth, ImageChunk, ImageRemembered, ImageState as DrawnState, ImageTask};
 use std::alloc::{AllocError, Global};
-use tree_reading::{Field, InUse, Live, Seen, Shared, State};
+use tree_reading::{FieldAt, InUse, LiveTask, SeenObject, Shared, TaskState};
 
-fn draw_state(state: State) -> DrawnState
+fn draw_state(state: TaskState) -> DrawnState
     ensures { result ≡ drawn_state state }
 {
     match state {
-        State::Ready => DrawnState::Running,
-        State::Out => DrawnState::Running,
-        State::Waiting => DrawnState::Waiting,
-        State::Ended => DrawnState::Ended,
-        State::Joined => DrawnState::Ended,
+        TaskState::Ready => DrawnState::Running,
+        TaskState::Out => DrawnState::Running,
+        TaskState::Waiting => DrawnState::Waiting,
+        TaskState::Ended => DrawnState::Ended,
+        TaskState::Joined => DrawnState::Ended,
     }
 }
 
-fn draw_task(task: Live) -> Task
+fn draw_task(task: LiveTask) -> ImageTask
     ensures { result ≡ drawn_task task }
 {
-    Task {
+    ImageTask {
         number: task.number as u64,
         parent: match task.parent {
             None => None,
@@ -39,20 +39,20 @@ fn draw_task(task: Live) -> Task
     }
 }
 
-fn draw_chunk(chunk: InUse) -> Chunk
+fn draw_chunk(chunk: InUse) -> ImageChunk
     ensures { result ≡ drawn_chunk chunk }
 {
-    Chunk {
+    ImageChunk {
         number: chunk.number as u64,
         owner: chunk.owner as u64,
         words: chunk.words,
     }
 }
 
-fn draw_object(object: Seen) -> Picked
+fn draw_object(object: SeenObject) -> Picked
     ensures { result ≡ drawn_object object }
 {
-    let Seen {
+    let SeenObject {
         at,
         birth,
         mutable,
@@ -61,7 +61,7 @@ fn draw_object(object: Seen) -> Picked
     } = object;
     Picked {
         address: at,
-        birth: Birth {
+        birth: ImageBirth {
             task: birth.task as u64,
             count: birth.count as u64,
         },
@@ -71,17 +71,17 @@ fn draw_object(object: Seen) -> Picked
     }
 }
 
-fn draw_field(task: u32, field: Field) -> Remembered
+fn draw_field(task: u32, field: FieldAt) -> ImageRemembered
     ensures { result ≡ drawn_field task field }
 {
-    Remembered {
+    ImageRemembered {
         task: task as u64,
         address: field.object,
         place: field.field as u64,
     }
 }
 
-fn draw_tasks(alloc: Global, live: &[Live]) -> Result<Listed<Task>, AllocError>
+fn draw_tasks(alloc: Global, live: &[LiveTask]) -> Result<Listed<ImageTask>, AllocError>
     ensures { IfOk result (λ tasks. tasks ≡ map drawn_task live.now) }
 {
     let mut tasks = Listed::new(alloc);
@@ -91,7 +91,7 @@ fn draw_tasks(alloc: Global, live: &[Live]) -> Result<Listed<Task>, AllocError>
     Ok(tasks)
 }
 
-fn draw_chunks(alloc: Global, in_use: &[InUse]) -> Result<Listed<Chunk>, AllocError>
+fn draw_chunks(alloc: Global, in_use: &[InUse]) -> Result<Listed<ImageChunk>, AllocError>
     ensures { IfOk result (λ chunks. chunks ≡ map drawn_chunk in_use.now) }
 {
     let mut chunks = Listed::new(alloc);
@@ -102,7 +102,7 @@ fn draw_chunks(alloc: Global, in_use: &[InUse]) -> Result<Listed<Chunk>, AllocEr
 }
 
 // Appends objects.
-fn add_objects(objects: &mut Listed<Picked>, seen: Listed<Seen>) -> Result<(), AllocError>
+fn add_objects(objects: &mut Listed<Picked>, seen: Listed<SeenObject>) -> Result<(), AllocError>
     ensures { OnOk result (objects.new ≡ objects.old ++ map drawn_object seen) }
 {
     let mut left = seen.into_vec();
@@ -133,7 +133,11 @@ fn draw_objects(
 }
 
 // Appends the fields that a task remembers.
-fn add_fields(fields: &mut Listed<Remembered>, task: u32, noted: &[Field]) -> Result<(), AllocError>
+fn add_fields(
+    fields: &mut Listed<ImageRemembered>,
+    task: u32,
+    noted: &[FieldAt],
+) -> Result<(), AllocError>
     ensures { OnOk result (fields.new ≡ fields.old ++ map (drawn_field task) noted.now) }
 {
     for field in noted {
@@ -146,8 +150,8 @@ fn add_fields(fields: &mut Listed<Remembered>, task: u32, noted: &[Field]) -> Re
 fn draw_fields(
     alloc: Global,
     shared: &Shared,
-    live: &[Live],
-) -> Result<Listed<Remembered>, AllocError>
+    live: &[LiveTask],
+) -> Result<Listed<ImageRemembered>, AllocError>
     requires { AreAll LiveBefore (IsLive shared.now) live.now }
     ensures { IfOk result (λ fields. AreAll FieldBefore (AreFieldsOf shared.now live.now) fields) }
 {
@@ -164,9 +168,9 @@ fn draw_fields(
 fn draw_all(
     alloc: Global,
     shared: &Shared,
-    live: &[Live],
+    live: &[LiveTask],
     in_use: &[InUse],
-) -> Result<Picture, AllocError>
+) -> Result<ImageData, AllocError>
     requires live { AreAll LiveBefore (IsLive shared.now) live.now }
     requires in_use { AreAll InUseBefore (IsInUse shared.now) in_use.now }
     requires sized { AreChunks shared.now.pool.slots }
@@ -175,7 +179,7 @@ fn draw_all(
     ensures held { IfOk result (λ p. HasJustHeld p (accounts shared.now)) }
 {
     shared.stands();
-    Ok(Picture {
+    Ok(ImageData {
         tasks: draw_tasks(alloc, live)?,
         chunks: draw_chunks(alloc, in_use)?,
         objects: draw_objects(alloc, shared, in_use)?,
@@ -184,7 +188,7 @@ fn draw_all(
 }
 
 /// The picture of a shared value; it is sound, and has exactly the objects of heaps at rest.
-pub fn draw(alloc: Global, shared: &Shared) -> Result<Picture, AllocError>
+pub fn draw(alloc: Global, shared: &Shared) -> Result<ImageData, AllocError>
     ensures drawn { IfOk result (λ p. IsPictureOf shared.now p) }
     ensures sound { IfOk result (λ p. IsSoundPicture p) }
     ensures held { IfOk result (λ p. HasJustHeld p (accounts shared.now)) }

@@ -2,9 +2,9 @@
 
 ghost use Rattle.std.specs.Prelude.{◌≡◌, IfOk};
 ghost use Rattle.heap_image.specs.Text.{text_of};
-ghost use Rattle.heap_image.specs.Picture.{IsSoundPicture};
-ghost use Rattle.heap_image.specs.declared.picture.Picture.{Picture as PictureOf};
-ghost use Rattle.tree_reading.specs.below.shared_value.{accounts};
+ghost use Rattle.heap_image.specs.ImageData.{IsSoundPicture};
+ghost use Rattle.heap_image.specs.declared.picture.ImageData.{ImageData as PictureOf};
+ghost use Rattle.tree_reading.specs.below.core_invariant.{accounts};
 ghost use Rattle.shared_image.specs.Drawn.{IsPictureOf};
 ghost use Rattle.shared_image.specs.Held.{HasJustHeld};
 

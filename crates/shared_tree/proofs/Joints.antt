@@ -1,30 +1,8 @@
--- How other tasks have part in a part's next step, by the line that comes next; what is left if an allocation fails.
-use Rattle.std.specs.Result.{IfErr, OnErr}
-use Rattle.std.proofs.Common.{◌≡◌, ℕ, Result, Ok, Err, ◌||◌, not, true, Option, Some, None, List, length, slice_get, slice_set, option_map, is_some, refl, ap, sym, subst, ◌∙◌}
-use Rattle.std.specs.Option.{option_flatten}
-use Rattle.leaf_collections.proofs.below.listed.{or_false, got_set}
-use Rattle.leaf_collections.specs.below.hh_lang.{Instr, Par, Ret, Line}
-use Rattle.leaf_collections.specs.below.hh_model.{State, Task, fetched}
-use Rattle.leaf_collections.specs.below.run_ledger.{Ledger, owns, task_steps, touched, Refused}
-use Rattle.leaf_collections.specs.below.write_barrier.{SetOf, content_of}
-use Rattle.leaf_collections.specs.below.task_machine.{Private, FitsNow as FitsMachine, Places}
-use Rattle.leaf_collections.proofs.below.task_machine.{same_line}
-use Rattle.leaf_collections.specs.below.shared_value.{SharedValue, accounts, rest_at, value_of, IsSharedValue, AllFit, Fits, Answers, IsCaused, refused, NotEntered, NoMemory, Refuses, above_of, is_beyond, is_beyond_by, is_beyond_line, is_joint, next_line}
-use Rattle.leaf_collections.proofs.below.shared_value.{same_length, worker_there}
-use Rattle.child_tasks.specs.below.own_steps.{IsShared, alone_entry, machine_after}
-use Rattle.child_tasks.proofs.below.own_steps.{runs_on, fits_machine, machine_same}
-use Rattle.child_tasks.specs.ChildEnds.{IsAtEnd, is_last, is_last_by, is_last_line}
-use Rattle.child_tasks.specs.Forks.{ForkAnswered, IsAtFork, is_fork, is_fork_by, is_par}
-use Rattle.child_tasks.specs.NoTask.{HoldsNone, GivesTaskUp}
-use Rattle.child_tasks.specs.Joins.{IsUnchanged, SameButPlaces}
-use Rattle.child_tasks.specs.declared.fork.Forking.{Forking}
-use Rattle.child_tasks.specs.declared.fork.Forking.TheVariants.{Forked, Over}
-use Rattle.child_tasks.proofs.JoinPlaces.{same_itself, same_world}
-use Rattle.others_objects.specs.Other.{IsOther, SameButRoom, is_other, is_other_by, is_other_line}
+-- How a part's next step involves other tasks, by the next line; what remains if an allocation fails.
+use Rattle.std.specs.Result.{OnErr}
+use Rattle.shared_tree.proofs.Common.{IfErr, ◌≡◌, ℕ, Result, Ok, Err, ◌||◌, not, true, Option, Some, None, List, length, slice_get, slice_set, option_map, is_some, refl, ap, sym, subst, ◌∙◌, option_flatten, or_false, got_set, Instr, Par, Ret, Line, MachineState, Task, fetched, Ledger, owns, task_steps, touched, Refused, SetOf, content_of, Private, FitsNow as FitsMachine, Places, same_line, SharedValue, accounts, rest_at, value_of, IsSharedValue, AllFit, Fits, EntersOrRefuses, IsCaused, refused, NotEntered, NoMemory, Refuses, above_of, is_beyond, is_beyond_by, is_beyond_line, is_joint, next_line, same_length, worker_there, IsShared, alone_entry, machine_after, runs_on, fits_machine, machine_same, IsAtEnd, is_last, is_last_by, is_last_line, ForkAnswered, IsAtFork, is_fork, is_fork_by, is_par, HoldsNone, GivesTaskUp, IsUnchanged, SameButPlaces, Forking, Forked, Over, same_itself, same_world, IsOther, SameButRoom, is_other, is_other_by, is_other_line, RanTo, IsJoint}
 use Rattle.entry_calls.specs.declared.answers.Ran.{Ran}
 use Rattle.entry_calls.specs.declared.answers.Ran.TheVariants.{Forked as RanForked, Over as RanOver}
-use Rattle.shared_tree.specs.Ran.{IsJoint}
-use Rattle.entry_calls.specs.Ran.{RanTo}
 
 other_by : (tasks : List Task) (t : ℕ) (x : Task) (i : Instr) → ((g h : ℕ) → i ≡ Par g h → ⊥) → (i ≡ Ret → ⊥) → (is_joint x i || not (owns tasks t (touched x.top i))) ≡ true → not (owns tasks t (touched x.top i)) ≡ true
 other_by tasks t x (Par g h) par ret e = absurd (par g h refl)
@@ -47,39 +25,39 @@ module _ (w : SharedValue) (k : ℕ) (p : Private) (I : IsSharedValue w) (F : Fi
   machine_is : machine_after w p ≡ M.machine
   machine_is = machine_same w k p I F (runs_on (record { I = I; F = F; shared = shared; free = free }))
 
-  at : fetched w.program G.task.top ≡ Some line
-  at = sym (same_line w.program p M.machine above G) ∙ next
+  line_is_fetched : fetched w.program G.task.top ≡ Some line
+  line_is_fetched = sym (same_line w.program p M.machine above G) ∙ next
 
   joint_line : (is_joint G.task line.instr || not (owns M.machine.tasks t (touched G.task.top line.instr))) ≡ true
   joint_line =
-      ap (is_beyond_line M.machine t G.task) (sym at)
-      ∙ (ap (is_beyond_by w.program M.machine t) (sym G.is) ∙ (ap (λ (m : State). is_beyond w.program m t) (sym machine_is) ∙ joint))
+      ap (is_beyond_line M.machine t G.task) (sym line_is_fetched)
+      ∙ (ap (is_beyond_by w.program M.machine t) (sym G.is) ∙ (ap (λ (m : MachineState). is_beyond w.program m t) (sym machine_is) ∙ joint))
 
   pub at_fork : (g h : ℕ) → line.instr ≡ Par g h → IsAtFork w p
   at_fork g h by = record {
     forks =
-        ap (λ (m : State). is_fork_by w.program (slice_get m.tasks t)) machine_is
-        ∙ (ap (is_fork_by w.program) G.is ∙ (ap is_fork at ∙ ap is_par by));
+        ap (λ (m : MachineState). is_fork_by w.program (slice_get m.tasks t)) machine_is
+        ∙ (ap (is_fork_by w.program) G.is ∙ (ap is_fork line_is_fetched ∙ ap is_par by));
     few = shared.few;
   }
 
   pub at_end : line.instr ≡ Ret → IsAtEnd w p
   at_end by = record {
     ends =
-        ap (λ (m : State). is_last_by w.program (slice_get m.tasks t)) machine_is
+        ap (λ (m : MachineState). is_last_by w.program (slice_get m.tasks t)) machine_is
         ∙ (ap (is_last_by w.program) G.is
-        ∙ (ap (is_last_line G.task) at
+        ∙ (ap (is_last_line G.task) line_is_fetched
         ∙ (ap (is_last G.task) by ∙ or_false _ (ap (λ i. is_joint G.task i || not (owns M.machine.tasks t (touched G.task.top i))) (sym by) ∙ joint_line))));
     few = shared.few;
   }
 
   pub at_other : ((g h : ℕ) → line.instr ≡ Par g h → ⊥) → (line.instr ≡ Ret → ⊥) → IsOther w p
   at_other par ret =
-      ap (λ (m : State). is_other w.program m t) machine_is
+      ap (λ (m : MachineState). is_other w.program m t) machine_is
       ∙ (ap (is_other_by w.program M.machine t) G.is
-      ∙ (ap (is_other_line M.machine t G.task) at ∙ other_by M.machine.tasks t G.task line.instr par ret joint_line))
+      ∙ (ap (is_other_line M.machine t G.task) line_is_fetched ∙ other_by M.machine.tasks t G.task line.instr par ret joint_line))
 
--- ---- WHO HOLDS NOTHING
+-- ---- WHICH WORKER HOLDS NOTHING
 
 pub holds_none : (w after : SharedValue) (k : ℕ) (p : Private) → IsSharedValue w → IsSharedValue after → refused w (alone_entry k p) ≡ None → after.tasks_out ≡ slice_set w.tasks_out k None → HoldsNone after k
 holds_none w after k p I I' free task_out t held =
@@ -88,7 +66,7 @@ holds_none w after k p I I' free task_out t held =
     no_task : ◌≡◌ {A = Option ℕ} None (Some t) → ⊥
     no_task e = cc
 
--- ---- WANT OF MEMORY
+-- ---- OUT OF MEMORY
 
 some_is : (o : Option SetOf) → is_some (option_map content_of o) ≡ is_some o
 some_is None = refl
@@ -96,16 +74,16 @@ some_is (Some s) = refl
 
 pub same_places : (w after : SharedValue) → SameButRoom w after → SameButPlaces w after
 same_places w after S =
-    let homes_are : after.rests ≡ w.rests = ap (λ (z : SharedValue). z.rests) S.same in
+    let task_slots_are : after.rests ≡ w.rests = ap (λ (z : SharedValue). z.rests) S.same in
     record {
-      rest = S.same ∙ ap (λ hs. let z : SharedValue = record w { rests = hs; sets = after.sets } in z) (sym homes_are);
-      many = ap length homes_are;
-      rests = λ u. same_itself (rest_at w.rests u) (rest_at after.rests u) (ap (λ hs. rest_at hs u) homes_are);
+      rest = S.same ∙ ap (λ hs. let z : SharedValue = record w { rests = hs; sets = after.sets } in z) (sym task_slots_are);
+      many = ap length task_slots_are;
+      rests = λ u. same_itself (rest_at w.rests u) (rest_at after.rests u) (ap (λ hs. rest_at hs u) task_slots_are);
       many_sets = same_length after.sets w.sets (λ u. sym (some_is (slice_get after.sets u)) ∙ (ap is_some (S.sets u) ∙ some_is (slice_get w.sets u)));
       sets = S.sets;
     }
 
--- an entry that isn't refused wasn't made only because an allocation failed
+-- an entry that isn't refused fails only if an allocation fails
 pub room_unchanged : (w after : SharedValue) (e : NotEntered) → IsCaused e None → SameButRoom w after → IsUnchanged e w after
 room_unchanged w after (Refuses cause) why S = absurd (none_cause why)
   where
@@ -113,7 +91,7 @@ room_unchanged w after (Refuses cause) why S = absurd (none_cause why)
     none_cause q = cc
 room_unchanged w after NoMemory why S = same_places w after S
 
-pub results_unchanged : {A : Type 0} → (w after : SharedValue) (r : Result A NotEntered) → Answers r None → OnErr r (SameButRoom w after) → IfErr r (λ e. IsUnchanged e w after)
+pub results_unchanged : {A : Type 0} → (w after : SharedValue) (r : Result A NotEntered) → EntersOrRefuses r None → OnErr r (SameButRoom w after) → IfErr r (λ e. IsUnchanged e w after)
 results_unchanged w after (Ok a) why S = tt
 results_unchanged w after (Err e) why S = room_unchanged w after e why S
 
@@ -121,9 +99,9 @@ pub results_fit : {A : Type 0} → (w after : SharedValue) (r : Result A NotEnte
 results_fit w after (Ok a) S = tt
 results_fit w after (Err e) S = S.fit
 
--- ---- WHAT IT COMES TO
+-- ---- THE RESULT
 
--- what a fork comes to
+-- the result of a fork
 abbrev pub ran_by : Forking → Ran
 ran_by (Forked left right) = RanForked left right
 ran_by (Over q) = RanOver q
@@ -132,7 +110,7 @@ pub forks_to : (w after : SharedValue) (k : ℕ) (p : Private) → IsSharedValue
 forks_to w after k p I I' free (Forked left right) on task_out = (on, holds_none w after k p I I' free task_out)
 forks_to w after k p I I' free (Over q) over task_out = over
 
--- what is so of a value and a part is so where nothing was entered, and the other way round
+-- what holds of a value and a part if nothing was committed, and vice versa
 pub then_same : (w after : SharedValue) (p q : Private) → after ≡ w → q ≡ p → (G : SharedValue → Private → Type 0) → G w p → G after q
 then_same w after p q same part G g = subst (λ (z : SharedValue). G z q) (sym same) (subst (G w) (sym part) g)
 

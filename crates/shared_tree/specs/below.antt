@@ -1,5 +1,5 @@
--- What crates above name of the crates below.
-pub mod child_tasks
+-- Re-exports from lower crates for the crates above.
+pub mod fork_join_commit
 pub mod heap_marking
 pub mod leaf_collections
-pub mod own_steps
+pub mod step_commit

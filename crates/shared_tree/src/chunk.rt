@@ -1,7 +1,7 @@
 // A part gets a chunk.
 
 ghost use Rattle.std.specs.Prelude.{◌≡◌, ◌<◌, OnErr, OnOk, None};
-ghost use Rattle.leaf_collections.specs.below.shared_value.{refused, Enters, IsSamePart, Fits, OthersFit};
+ghost use Rattle.leaf_collections.specs.below.core_invariant.{refused, Enters, IsSamePart, Fits, OthersFit};
 ghost use Rattle.entry_calls.specs.Calls.{GetsChunk};
 
 use crate::shared::Shared;
@@ -58,7 +58,7 @@ impl Shared {
         }
     }
 
-    /// A part gets the chunk that its next step needs. Where too few units are free the run ends.
+    /// A part gets the chunk that its next step needs. If too few units are free the run ends.
     pub fn chunk(&mut self, worker: u32, part: &mut Private) -> Result<(), NotEntered>
         requires room { 0 < self.old.journal.room }
         requires fits { Fits self.old worker part.old }

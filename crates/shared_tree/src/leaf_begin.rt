@@ -1,7 +1,7 @@
 // A leaf collection of a part begins.
 
 ghost use Rattle.std.specs.Prelude.{◌≡◌, ◌<◌, IfOk, OnErr, OnOk, None};
-ghost use Rattle.leaf_collections.specs.below.shared_value.{refused, Enters, IsSamePart, Fits, OthersFit, HasBegun};
+ghost use Rattle.leaf_collections.specs.below.core_invariant.{refused, Enters, IsSamePart, Fits, OthersFit, HasBegun};
 ghost use Rattle.entry_calls.specs.Calls.{BeginsLeaf};
 
 use crate::shared::Shared;
@@ -55,14 +55,14 @@ impl Shared {
         self.stands();
         let roots = self.roots(part)?;
         let count = chunks_for(part.heap.small_words()) as u32;
-        let alloc = self.heaps.homes.allocator();
+        let alloc = self.heaps.task_slots.allocator();
         let to = begin_with(alloc, &mut self.heaps.pool, part, &roots, count)?;
         self.journal
             .push_reserved(Entry::new(worker, Kind::Begin(task)));
         Ok((roots, to))
     }
 
-    /// A due leaf collection of a part begins: the answer is its roots, and new chunks with all that copying needs.
+    /// A due leaf collection of a part begins: returns its roots, and new chunks with all that copying needs.
     pub fn leaf_begin(
         &mut self,
         worker: u32,

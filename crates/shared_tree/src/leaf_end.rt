@@ -1,7 +1,7 @@
 // The leaf collection of a part ends.
 
 ghost use Rattle.std.specs.Prelude.{◌≡◌, ◌<◌, None};
-ghost use Rattle.leaf_collections.specs.below.shared_value.{refused, Enters, Fits, OthersFit};
+ghost use Rattle.leaf_collections.specs.below.core_invariant.{refused, Enters, Fits, OthersFit};
 ghost use Rattle.leaf_collections.specs.LeafEnd.{end_entry, ended, FitsCopied};
 ghost use Rattle.entry_calls.specs.Calls.{EndsLeaf};
 
@@ -35,8 +35,8 @@ impl Shared {
             .push_reserved(Entry::new(worker, Kind::End(task, taken, given, left)));
     }
 
-    /// The leaf collection of a part ends, once its heap was copied: fields that still hold old addresses are led to
-    /// the new ones, and the chunks that nothing needs are given back. It takes no memory.
+    /// The leaf collection of a part ends, after its heap was copied: fields that still hold old addresses are updated,
+    /// and the chunks that aren't needed are released. It doesn't allocate.
     pub fn leaf_end(
         &mut self,
         worker: u32,

@@ -1,13 +1,13 @@
-// What the shared value is made of, to be read.
+// The contents of the shared value, to be read.
 
 ghost use Rattle.std.specs.Prelude.{◌≡◌, length};
-ghost use Rattle.leaf_collections.specs.below.shared_value.{accounts};
+ghost use Rattle.leaf_collections.specs.below.core_invariant.{accounts};
 
 use crate::shared::Shared;
 use leaf_collections::{Heaps, Pool, Tree};
 
 impl Shared {
-    /// How many tasks were made.
+    /// The number of tasks made.
     pub fn tasks(&self) -> u32
         ensures { result ≡ length (accounts self.now).machine.tasks }
     {
@@ -28,12 +28,12 @@ impl Shared {
         &self.heaps.pool
     }
 
-    /// What belongs to each task, and which task owns each chunk.
+    /// The slot of each task, and which task owns each chunk.
     pub fn heaps(&self) -> &Heaps
         ensures pool { result.now.pool ≡ self.now.pool }
-        ensures homes { result.now.homes.rests ≡ self.now.rests }
-        ensures sets { result.now.homes.sets ≡ self.now.sets }
-        ensures marks { result.now.homes.marks ≡ self.now.marks }
+        ensures task_slots { result.now.task_slots.rests ≡ self.now.rests }
+        ensures sets { result.now.task_slots.sets ≡ self.now.sets }
+        ensures marks { result.now.task_slots.marks ≡ self.now.marks }
     {
         &self.heaps
     }

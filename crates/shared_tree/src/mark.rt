@@ -2,14 +2,14 @@
 
 ghost use Rattle.std.specs.Prelude.{◌≡◌, ◌<◌, ℕ, IfOk, OnErr, OnOk, None};
 ghost use Rattle.leaf_collections.specs.below.run_ledger.{heap_of};
-ghost use Rattle.leaf_collections.specs.below.core_relation.{GoesOn};
-ghost use Rattle.leaf_collections.specs.below.shared_value.{refused, Enters, AllFit, accounts, value_of};
+ghost use Rattle.leaf_collections.specs.below.refinement.{CanGoOnMarking};
+ghost use Rattle.leaf_collections.specs.below.core_invariant.{refused, Enters, AllFit, accounts, value_of};
 ghost use Rattle.entry_calls.specs.Calls.{BeginsMarking};
 
 use crate::shared::Shared;
 use heap_marking::{begin_marking, waiting_cause, words_cause};
 use leaf_collections::{
-    Apart, Entry, Kind, Marking, MarkingRoom, NotEntered, Refused, first_cause,
+    BoxedSlot, Entry, Kind, Marking, MarkingRoom, NotEntered, Refused, first_cause,
 };
 use std::alloc::AllocError;
 use std::mem;
@@ -23,25 +23,25 @@ impl Shared {
         if first.is_some() {
             return first;
         }
-        let waiting = waiting_cause(&self.tree, &self.heaps.homes, t);
+        let waiting = waiting_cause(&self.tree, &self.heaps.task_slots, t);
         if waiting.is_some() {
             return waiting;
         }
-        if self.heaps.homes.marking(t).is_some() {
+        if self.heaps.task_slots.marking(t).is_some() {
             return Some(Refused::Marking);
         }
         words_cause(self.settings, self.words_at(t))
     }
 
-    // A marking that has marked nothing yet, of the heap of a task that waits. It takes the room that was kept.
+    // A marking that has marked nothing yet, of the heap of a waiting task. It uses the kept buffers.
     fn marking_of(&mut self, t: u32) -> Result<Marking, AllocError>
         requires free { (k : ℕ) × (refused self.old (record { worker = k; kind = Kind.Mark t }) ≡ None) }
         ensures same { self.new ≡ self.old }
         ensures none { IfOk result (λ m. m.marked ≡ 0) }
-        ensures goes { IfOk result (λ m. GoesOn (value_of self.old) t (heap_of (accounts self.old) t).snapshot m) }
+        ensures goes { IfOk result (λ m. CanGoOnMarking (value_of self.old) t (heap_of (accounts self.old) t).snapshot m) }
     {
         self.stands();
-        let alloc = self.heaps.homes.allocator();
+        let alloc = self.heaps.task_slots.allocator();
         let room = mem::replace(&mut self.room, MarkingRoom::new(alloc));
         begin_marking(alloc, room, &self.heaps, t)
     }
@@ -51,20 +51,20 @@ impl Shared {
         requires room { 0 < self.old.journal.room }
         requires free { refused self.old (record { worker = worker; kind = Kind.Mark t }) ≡ None }
         requires none { marking.marked ≡ 0 }
-        requires goes { GoesOn (value_of self.old) t (heap_of (accounts self.old) t).snapshot marking }
+        requires goes { CanGoOnMarking (value_of self.old) t (heap_of (accounts self.old) t).snapshot marking }
         ensures same { OnErr result (self.new ≡ self.old) }
         ensures enters { OnOk result (Enters self.old self.new (record { worker = worker; kind = Kind.Mark t })) }
         ensures fits { OnOk result (AllFit self.old self.new) }
     {
-        let marking = Apart::new(self.heaps.homes.allocator(), marking)?;
-        self.heaps.homes.put_marking(t, marking);
+        let marking = BoxedSlot::new(self.heaps.task_slots.allocator(), marking)?;
+        self.heaps.task_slots.put_marking(t, marking);
         self.journal
             .push_reserved(Entry::new(worker, Kind::Mark(t)));
         Ok(())
     }
 
     /// The marking of the heap of a waiting task begins: from what the task's registers hold, and from the fields of
-    /// heaps above that point down into it.
+    /// ancestors' heaps that point down into it.
     pub fn mark(&mut self, worker: u32, t: u32) -> Result<(), NotEntered>
         requires room { 0 < self.old.journal.room }
         ensures { BeginsMarking self.old self.new worker t result }

@@ -1,21 +1,21 @@
-// What there is of the heap of a waiting task, and what is left of it to mark.
+// What is known of the heap of a waiting task, and what is left of it to mark.
 
 ghost use Rattle.std.specs.Prelude.{◌≡◌, ◌==◌, None};
 ghost use Rattle.leaf_collections.specs.below.run_ledger.{heap_of, left_in, words_in};
-ghost use Rattle.leaf_collections.specs.below.alloc_path.{counted};
-ghost use Rattle.leaf_collections.specs.below.shared_value.{accounts};
+ghost use Rattle.leaf_collections.specs.below.leaf_heap.{counted};
+ghost use Rattle.leaf_collections.specs.below.core_invariant.{accounts};
 ghost use Rattle.heap_marking.specs.MarkCauses.{marking_cause, waiting_cause};
 
 use crate::shared::Shared;
 
 impl Shared {
-    /// The words of its heap, while its task waits, as far as 64 bits count.
+    /// The words of its heap, while its task waits, saturating at 64 bits.
     pub fn words_at(&self, t: u32) -> u64
         requires goes { (accounts self.now).end ≡ None }
         requires waits { waiting_cause self.now t ≡ None }
         ensures { result ≡ counted (words_in (accounts self.now).machine (heap_of (accounts self.now) t)) }
     {
-        match self.heaps.homes.rest(t) {
+        match self.heaps.task_slots.rest(t) {
             Some(rest) => rest.heap.words(),
             None => unreachable!(),
         }
@@ -27,8 +27,8 @@ impl Shared {
         requires marking { marking_cause self.now t ≡ None }
         ensures { result ≡ (left_in (heap_of (accounts self.now) t) == 0) }
     {
-        let kept = self.heaps.homes.kept(t);
-        match self.heaps.homes.marking(t) {
+        let kept = self.heaps.task_slots.kept(t);
+        match self.heaps.task_slots.marking(t) {
             Some(marking) => marking.ready(kept),
             None => unreachable!(),
         }

@@ -1,14 +1,14 @@
-// Whether the free chunks are enough for a leaf collection of a part.
+// Whether enough chunks are free for a leaf collection of a part.
 
 ghost use Rattle.std.specs.Prelude.{◌≡◌};
 ghost use Rattle.leaf_collections.specs.below.run_ledger.{is_pool_enough};
-ghost use Rattle.leaf_collections.specs.below.shared_value.{IsOutPart, accounts};
+ghost use Rattle.leaf_collections.specs.below.core_invariant.{IsOutPart, accounts};
 
 use crate::shared::Shared;
 use leaf_collections::{Private, chunks_for};
 
 impl Shared {
-    /// Whether the free chunks are enough for a leaf collection of a part.
+    /// Whether enough chunks are free for a leaf collection of a part.
     pub fn pool_enough(&self, part: &Private) -> bool
         requires out { IsOutPart self.now part.now }
         requires fresh { part.now.fresh ≡ 0 }

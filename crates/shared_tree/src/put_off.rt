@@ -1,7 +1,7 @@
 // A leaf collection is put off.
 
 ghost use Rattle.std.specs.Prelude.{◌≡◌, ◌<◌, None};
-ghost use Rattle.leaf_collections.specs.below.shared_value.{refused, Enters, Fits, OthersFit};
+ghost use Rattle.leaf_collections.specs.below.core_invariant.{refused, Enters, Fits, OthersFit};
 ghost use Rattle.entry_calls.specs.Calls.{PutsOff};
 
 use crate::shared::Shared;
@@ -46,7 +46,8 @@ impl Shared {
         part.reset_since();
     }
 
-    /// A due leaf collection of a part is put off, since too few chunks are free for it: its words count from 0 on.
+    /// A due leaf collection of a part is put off, since too few chunks are free for it: its words are counted from 0
+    /// on.
     pub fn put_off(&mut self, worker: u32, part: &mut Private) -> Result<(), Refused>
         requires room { 0 < self.old.journal.room }
         requires fits { Fits self.old worker part.old }

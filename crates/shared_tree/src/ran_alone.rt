@@ -1,18 +1,18 @@
-// A part's steps are entered with one that isn't private, and in which no other task has part.
+// A part's steps are committed with one that isn't private and involves no other task.
 
 ghost use Rattle.std.specs.Prelude.{◌≡◌, ◌≢◌, ◌<◌, ℕ, OnErr, OnOk, IfOk, None};
 ghost use Rattle.leaf_collections.specs.below.hh_model.{ended_by, step};
-ghost use Rattle.leaf_collections.specs.below.shared_value.{refused, Answers, Fits};
-ghost use Rattle.child_tasks.specs.below.own_steps.{alone_entry, then_accounts, GoesAlone, HaltsAlone, IsShared, Tells};
+ghost use Rattle.leaf_collections.specs.below.core_invariant.{refused, EntersOrRefuses, Fits};
+ghost use Rattle.fork_join_commit.specs.below.step_commit.{alone_entry, then_accounts, GoesAlone, HaltsAlone, IsShared, Tells};
 ghost use Rattle.entry_calls.specs.Calls.{EntersLeaving};
-ghost use Rattle.shared_tree.specs.Ran.{AloneTo, MayBeEntered};
+ghost use Rattle.shared_tree.specs.StepEnd.{AloneTo, MayBeEntered};
 
 use crate::shared::Shared;
 use crate::steps_entered::enter_alone;
-use child_tasks::at_end;
 use entry_calls::{Leaving, Lent, Ran};
+use fork_join_commit::at_end;
 use leaf_collections::{
-    End, Ending, NotEntered, NotRan, Private, Refused, RunEnd, State, first_cause, last_step,
+    End, Ending, NotEntered, NotRan, Private, Refused, RunEnd, TaskState, first_cause, last_step,
 };
 use std::alloc::AllocError;
 
@@ -34,7 +34,7 @@ impl Shared {
         }
     }
 
-    // What the part's next step does, and the line of the text where it stands.
+    // What the part's next step does, and its line in the text.
     fn next_ending(&self, part: &Private) -> (Ending, u32)
         requires out { MayBeEntered self.now part.now }
         requires shared { IsShared self.now part.now }
@@ -46,7 +46,7 @@ impl Shared {
         }
     }
 
-    // Enters an output.
+    // Commits an output.
     fn enter_output(
         &mut self,
         worker: u32,
@@ -70,7 +70,7 @@ impl Shared {
         Ok(())
     }
 
-    // Enters a step that ends the run and leaves all else as it was: it can't be done, or is a read that is stopped.
+    // Commits a step that ends the run and leaves all else unchanged: a trap, or a read that is stopped.
     pub(crate) fn enter_halt(&mut self, worker: u32, part: &mut Private, end: End)
         requires room { 0 < self.old.journal.room }
         requires fits { Fits self.old worker part.old }
@@ -85,7 +85,7 @@ impl Shared {
         part.fresh = 0;
     }
 
-    /// Enters the last return of the root, where there is memory for what goes with the root then.
+    /// Commits the last return of the root, given memory for its parked state.
     pub(crate) fn ran_done(&mut self, worker: u32, part: Private) -> Result<Ran, NotRan>
         requires room { 0 < self.old.journal.room }
         requires fits { Fits self.old worker part }
@@ -96,22 +96,22 @@ impl Shared {
         ensures { EntersLeaving self.old self.new worker part result }
     {
         let task = part.task;
-        if self.heaps.homes.make_block(task).is_err() {
+        if self.heaps.task_slots.make_block(task).is_err() {
             return Err(NotRan {
                 cause: NotEntered::NoMemory,
                 part,
             });
         }
         enter_alone(&mut self.steps, &mut self.journal, worker, &part);
-        self.tree.set_state(task, State::Ended);
+        self.tree.set_state(task, TaskState::Ended);
         self.tasks_out.set(worker as usize, None);
-        self.heaps.homes.put_rest(task, at_end(part));
+        self.heaps.task_slots.put_rest(task, at_end(part));
         self.end = Some(RunEnd::Machine(End::Done));
         Ok(Ran::Done)
     }
 
-    /// The fresh steps of a part, and its next one, which isn't private, are entered, where that one doesn't give the
-    /// part up. Where other tasks have part in it nothing is entered, and there is no answer.
+    /// Commits the fresh steps of a part and its next one, which isn't private, unless that one gives the part up. If
+    /// it involves other tasks nothing is committed, and there is no result.
     pub(crate) fn ran_alone(
         &mut self,
         worker: u32,
@@ -120,7 +120,7 @@ impl Shared {
         requires room { 0 < self.old.journal.room }
         requires fits { Fits self.old worker part.old }
         requires shared { IsShared self.old part.old }
-        ensures refused { Answers result (refused self.old (alone_entry worker part.old)) }
+        ensures refused { EntersOrRefuses result (refused self.old (alone_entry worker part.old)) }
         ensures same { OnErr result (self.new ≡ self.old) }
         ensures back { OnErr result (part.new ≡ part.old) }
         ensures answered { IfOk result (AloneTo self.old self.new worker part.old part.new) }

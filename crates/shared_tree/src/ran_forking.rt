@@ -1,24 +1,24 @@
-// A part's steps are entered with a fork.
+// A part's steps are committed with a fork.
 
 ghost use Rattle.std.specs.Prelude.{◌≡◌, ◌<◌, ℕ, OnErr, IfErr, IfOk, None};
 ghost use Rattle.leaf_collections.specs.below.hh_model.{depth_limit};
 ghost use Rattle.leaf_collections.specs.below.heap_tree.{depth_of};
-ghost use Rattle.leaf_collections.specs.below.shared_value.{refused, RanAnswers, Fits};
-ghost use Rattle.child_tasks.specs.below.own_steps.{alone_entry};
-ghost use Rattle.child_tasks.specs.NoTask.{GivesTaskUp};
-ghost use Rattle.child_tasks.specs.Forks.{ForkAnswered, ForksTo, IsAtFork};
-ghost use Rattle.shared_tree.specs.Ran.{MayBeEntered};
+ghost use Rattle.leaf_collections.specs.below.core_invariant.{refused, RanAnswers, Fits};
+ghost use Rattle.fork_join_commit.specs.below.step_commit.{alone_entry};
+ghost use Rattle.fork_join_commit.specs.NoTask.{GivesTaskUp};
+ghost use Rattle.fork_join_commit.specs.Forks.{ForkAnswered, ForksTo, IsAtFork};
+ghost use Rattle.shared_tree.specs.StepEnd.{MayBeEntered};
 
 use crate::shared::Shared;
 use crate::steps_entered::enter_alone;
-use child_tasks::{ForkBlocks, Forking, fork_homes, grow};
+use fork_join_commit::{ForkBlocks, Forking, fork_task_slots, grow};
 use leaf_collections::{
-    Apart, DEPTH_LIMIT, End, Instr, Marking, MarkingRoom, NotEntered, NotRan, Private, Trap,
+    BoxedSlot, DEPTH_LIMIT, End, Instr, Marking, MarkingRoom, NotEntered, NotRan, Private, Trap,
 };
 use std::mem;
 
-// The room for the next marking: that of the marking that is given up, if there is one, or else the room that was kept.
-fn room_kept(marked: Option<Apart<Marking>>, room: MarkingRoom) -> MarkingRoom {
+// The buffers for the next marking: those of the marking that is abandoned, if there is one, otherwise the kept ones.
+fn room_kept(marked: Option<BoxedSlot<Marking>>, room: MarkingRoom) -> MarkingRoom {
     match marked {
         Some(marking) => marking.into_inner().into_room(),
         None => room,
@@ -26,7 +26,7 @@ fn room_kept(marked: Option<Apart<Marking>>, room: MarkingRoom) -> MarkingRoom {
 }
 
 impl Shared {
-    // The functions that the children begin, and the line of the text where the fork stands.
+    // The functions that the children begin, and the line of the fork in the text.
     fn fork_line(&self, part: &Private) -> (u32, u32, u32)
         requires out { MayBeEntered self.now part.now }
         requires forks { IsAtFork self.now part.now }
@@ -41,7 +41,7 @@ impl Shared {
         }
     }
 
-    // Enters a fork.
+    // Commits a fork.
     fn enter_fork(
         &mut self,
         worker: u32,
@@ -61,14 +61,20 @@ impl Shared {
         ensures answered { IfOk result (ForkAnswered self.old self.new worker part) }
         ensures task_out { IfOk result (GivesTaskUp self.old.tasks_out self.new.tasks_out worker) }
     {
-        let alloc = self.heaps.homes.allocator();
+        let alloc = self.heaps.task_slots.allocator();
         let Ok(blocks) = ForkBlocks::new(alloc) else {
             return Err(NotRan {
                 cause: NotEntered::NoMemory,
                 part,
             });
         };
-        let grown = grow(&mut self.tree, &mut self.heaps.homes, &part, left, right);
+        let grown = grow(
+            &mut self.tree,
+            &mut self.heaps.task_slots,
+            &part,
+            left,
+            right,
+        );
         let Ok((first, second)) = grown else {
             return Err(NotRan {
                 cause: NotEntered::NoMemory,
@@ -78,7 +84,7 @@ impl Shared {
         let (left, right) = (first.task, second.task);
         enter_alone(&mut self.steps, &mut self.journal, worker, &part);
         self.tasks_out.set(worker as usize, None);
-        let marked = fork_homes(&mut self.heaps.homes, part, first, second, blocks);
+        let marked = fork_task_slots(&mut self.heaps.task_slots, part, first, second, blocks);
         self.room = room_kept(
             marked,
             mem::replace(&mut self.room, MarkingRoom::new(alloc)),
@@ -86,8 +92,8 @@ impl Shared {
         Ok(Forking::Forked { left, right })
     }
 
-    /// The fresh steps of a part, and its next one, which is a fork, are entered: its task waits for two children, or
-    /// the run ends, where too many forks are above it.
+    /// Commits the fresh steps of a part and its next one, which is a fork: its task waits for two children, or the run
+    /// ends, if too many forks are above it.
     pub(crate) fn ran_forking(&mut self, worker: u32, part: Private) -> Result<Forking, NotRan>
         requires room { 0 < self.old.journal.room }
         requires fits { Fits self.old worker part }

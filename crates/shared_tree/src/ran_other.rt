@@ -1,21 +1,21 @@
-// A part's steps are entered with one that works on an object of another task.
+// A part's steps are committed with one that works on an object of another task.
 
 ghost use Rattle.std.specs.Prelude.{◌≡◌, ◌<◌, ℕ, OnErr, IfErr, IfOk, None};
-ghost use Rattle.leaf_collections.specs.below.shared_value.{refused, Answers, AllFit, Fits};
-ghost use Rattle.child_tasks.specs.below.own_steps.{alone_entry, GoesAlone, IsShared};
-ghost use Rattle.child_tasks.specs.Joins.{IsUnchanged};
-ghost use Rattle.others_objects.specs.Other.{IsOther, SameButRoom, TellsOther};
-ghost use Rattle.shared_tree.specs.Ran.{MayBeEntered};
+ghost use Rattle.leaf_collections.specs.below.core_invariant.{refused, EntersOrRefuses, AllFit, Fits};
+ghost use Rattle.fork_join_commit.specs.below.step_commit.{alone_entry, GoesAlone, IsShared};
+ghost use Rattle.fork_join_commit.specs.Joins.{IsUnchanged};
+ghost use Rattle.remote_access.specs.Other.{IsOther, SameButRoom, TellsOther};
+ghost use Rattle.shared_tree.specs.StepEnd.{MayBeEntered};
 ghost use Rattle.entry_calls.specs.Ran.{LentTo};
 
 use crate::shared::Shared;
 use crate::steps_entered::enter_alone;
 use entry_calls::Lent;
 use leaf_collections::{Addr, End, IntReg, NotEntered, Private, RefReg};
-use others_objects::{OtherStep, named, step_on};
+use remote_access::{OtherStep, named, step_on};
 
 impl Shared {
-    // What the part's next step does, and the line of the text where it stands.
+    // What the part's next step does, and its line in the text.
     fn next_other(&self, part: &Private) -> (OtherStep, u32)
         requires out { MayBeEntered self.now part.now }
         requires shared { IsShared self.now part.now }
@@ -29,7 +29,7 @@ impl Shared {
             unreachable!()
         };
         let owner = self.heaps.pool.owner(object.chunk);
-        let Some(rest) = self.heaps.homes.rest(owner) else {
+        let Some(rest) = self.heaps.task_slots.rest(owner) else {
             unreachable!()
         };
         let does = step_on(
@@ -43,7 +43,7 @@ impl Shared {
         (does, line.number)
     }
 
-    // Enters a read of a number.
+    // Commits a read of a number.
     fn enter_number(&mut self, worker: u32, part: &mut Private, register: IntReg, value: i64)
         requires room { 0 < self.old.journal.room }
         requires fits { Fits self.old worker part.old }
@@ -59,7 +59,7 @@ impl Shared {
         part.fresh = 0;
     }
 
-    // Enters a read of a reference.
+    // Commits a read of a reference.
     fn enter_reference(
         &mut self,
         worker: u32,
@@ -81,7 +81,7 @@ impl Shared {
         part.fresh = 0;
     }
 
-    // Enters what the next step does.
+    // Commits the next step.
     fn enter_other(
         &mut self,
         worker: u32,
@@ -94,7 +94,7 @@ impl Shared {
         requires shared { IsShared self.old part.old }
         requires free { refused self.old (alone_entry worker part.old) ≡ None }
         requires tells { TellsOther self.old part.old does line }
-        ensures refused { Answers result None }
+        ensures refused { EntersOrRefuses result None }
         ensures same { OnErr result (SameButRoom self.old self.new) }
         ensures back { OnErr result (part.new ≡ part.old) }
         ensures answered { IfOk result (LentTo self.old self.new worker part.old part.new) }
@@ -131,15 +131,15 @@ impl Shared {
         }
     }
 
-    /// The fresh steps of a part, and its next one, which works on an object of another task, are entered. Where memory
-    /// is wanting nothing is, and what the barriers note is as it was, though there may be room for more of it. A
-    /// refusal changes nothing at all.
+    /// Commits the fresh steps of a part and its next one, which works on an object of another task. If an allocation
+    /// fails nothing is committed, and only the spare capacity for the notes of the barriers may change. A refusal
+    /// changes nothing at all.
     pub(crate) fn ran_other(&mut self, worker: u32, part: &mut Private) -> Result<Lent, NotEntered>
         requires room { 0 < self.old.journal.room }
         requires fits { Fits self.old worker part.old }
         requires shared { IsShared self.old part.old }
         requires other { IsOther self.old part.old }
-        ensures refused { Answers result (refused self.old (alone_entry worker part.old)) }
+        ensures refused { EntersOrRefuses result (refused self.old (alone_entry worker part.old)) }
         ensures same { OnErr result (SameButRoom self.old self.new) }
         ensures unchanged { IfErr result (λ e. IsUnchanged e self.old self.new) }
         ensures still { OnErr result (AllFit self.old self.new) }

@@ -1,7 +1,7 @@
-// A part's private steps are entered.
+// A part's private steps are committed.
 
 ghost use Rattle.std.specs.Prelude.{◌≡◌, ◌<◌, None};
-ghost use Rattle.leaf_collections.specs.below.shared_value.{refused, Enters, Fits, OthersFit};
+ghost use Rattle.leaf_collections.specs.below.core_invariant.{refused, Enters, Fits, OthersFit};
 ghost use Rattle.entry_calls.specs.Calls.{EntersSteps};
 
 use crate::shared::Shared;
@@ -24,7 +24,7 @@ impl Shared {
             .push_reserved(Entry::new(worker, Kind::Ran(part.task, part.fresh)));
     }
 
-    /// The fresh steps of a part, all private, are entered.
+    /// Commits the fresh steps of a part, all private.
     pub fn ran_private(&mut self, worker: u32, part: &mut Private) -> Result<(), Refused>
         requires room { 0 < self.old.journal.room }
         requires fits { Fits self.old worker part.old }

@@ -1,7 +1,7 @@
-// The program, and why an entry is refused whatever it says.
+// The program, and why an entry is refused whatever its kind.
 
 ghost use Rattle.std.specs.Prelude.{◌≡◌, false};
-ghost use Rattle.leaf_collections.specs.below.shared_value.{first_cause};
+ghost use Rattle.leaf_collections.specs.below.core_invariant.{first_cause};
 
 use crate::shared::Shared;
 use leaf_collections::{Program, Refused, first_cause};
@@ -14,8 +14,8 @@ impl Shared {
         &self.program
     }
 
-    /// Why a worker may make no entry but the end for spent fuel: the run has ended, its fuel is spent, or there is no
-    /// such worker.
+    /// Why a worker may make no entry except the end without fuel: the run has ended, its fuel is used up, or there is
+    /// no such worker.
     pub fn refused_first(&self, worker: u32) -> Option<Refused>
         ensures { result ≡ first_cause self.now.end self.now.steps self.now.settings worker false }
     {

@@ -1,14 +1,13 @@
 // What a run leaves, and its journal.
 
 ghost use Rattle.std.specs.Prelude.{◌≡◌};
-ghost use Rattle.leaf_collections.specs.below.shared_value.{without_journal};
+ghost use Rattle.leaf_collections.specs.below.core_invariant.{without_journal};
 
 use crate::shared::Shared;
 use leaf_collections::{Entry, Heaps, Listed, Program, RunEnd, Settings, Tree};
 use std::marker::Model;
 
-/// What a run leaves beside its journal: what belongs to each task, and the totals. No
-/// entry can be made any more.
+/// What a run leaves beside its journal: the slots of tasks, and the totals. No entry can be made any more.
 #[derive(Drop)]
 pub struct Remains {
     program: Program,
@@ -24,15 +23,15 @@ pub struct Remains {
 
 impl Model for Remains {
     ghost use Rattle.std.specs.Prelude.{[]};
-    ghost use Rattle.leaf_collections.specs.below.shared_value.{SharedValue};
+    ghost use Rattle.leaf_collections.specs.below.core_invariant.{SharedValue};
 
     ghost Value = { SharedValue };
 
-    ghost view = { λ s. record { program = s.program; settings = s.settings; tree = s.tree; pool = s.heaps.pool; rests = s.heaps.homes.rests; sets = s.heaps.homes.sets; marks = s.heaps.homes.marks; tasks_out = s.tasks_out; outputs = s.outputs; journal = record { items = []; room = 0 }; steps = s.steps; end = s.end; halted = s.halted } };
+    ghost view = { λ s. record { program = s.program; settings = s.settings; tree = s.tree; pool = s.heaps.pool; rests = s.heaps.task_slots.rests; sets = s.heaps.task_slots.sets; marks = s.heaps.task_slots.marks; tasks_out = s.tasks_out; outputs = s.outputs; journal = record { items = []; room = 0 }; steps = s.steps; end = s.end; halted = s.halted } };
 }
 
 impl Remains {
-    /// What was written out.
+    /// What was printed.
     pub fn outputs(&self) -> &[i64]
         ensures { result.now ≡ self.now.outputs }
     {

@@ -1,7 +1,7 @@
 // The roots of a part's heap.
 
 ghost use Rattle.std.specs.Prelude.{◌≡◌, ℕ, IfOk, None};
-ghost use Rattle.leaf_collections.specs.below.shared_value.{Fits, roots_of, accounts};
+ghost use Rattle.leaf_collections.specs.below.core_invariant.{Fits, roots_of, accounts};
 
 use crate::shared::Shared;
 use leaf_collections::{Addr, Private};
@@ -15,7 +15,7 @@ impl Shared {
         requires goes { (accounts self.now).end ≡ None }
         ensures { IfOk result (λ v. v.items ≡ roots_of self.now part.now) }
     {
-        let alloc = self.heaps.homes.allocator();
+        let alloc = self.heaps.task_slots.allocator();
         self.heaps.targets(alloc, part.task, part.heap.chunks())
     }
 }

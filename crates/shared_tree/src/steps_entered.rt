@@ -1,13 +1,18 @@
-// A part's steps are entered, whatever the last of them does.
+// A part's steps are committed, whatever the last of them does.
 
 ghost use Rattle.std.specs.Prelude.{◌≡◌, ◌≤◌, ◌<◌, ◌+◌, ◌-◌, ◌++◌, ◌∷◌, []};
 ghost use Rattle.leaf_collections.specs.below.run_trace.{private_limit, fuel_limit, worker_limit};
-ghost use Rattle.child_tasks.specs.below.own_steps.{alone_entry};
+ghost use Rattle.fork_join_commit.specs.below.step_commit.{alone_entry};
 
-use leaf_collections::{Entry, Kind, Private, Roomy};
+use leaf_collections::{Entry, Kind, Private, ReservedVec};
 
-/// Counts the fresh steps of a part and its next one, and makes the one entry of all of them.
-pub(crate) fn enter_alone(steps: &mut u64, journal: &mut Roomy<Entry>, worker: u32, part: &Private)
+/// Counts the fresh steps of a part and its next one, and makes one entry of all of them.
+pub(crate) fn enter_alone(
+    steps: &mut u64,
+    journal: &mut ReservedVec<Entry>,
+    worker: u32,
+    part: &Private,
+)
     requires room { 0 < journal.old.room }
     requires worker { worker < worker_limit }
     requires small { (steps.old < fuel_limit) × (part.now.fresh ≤ private_limit) }

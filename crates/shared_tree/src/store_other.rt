@@ -1,20 +1,20 @@
-// A part's steps are entered with one that writes an object of another task.
+// A part's steps are committed with one that writes an object of another task.
 
 ghost use Rattle.std.specs.Prelude.{◌≡◌, ◌<◌, ℕ, OnErr, OnOk, IfOk, None};
-ghost use Rattle.leaf_collections.specs.below.shared_value.{refused, Answers, Fits};
-ghost use Rattle.child_tasks.specs.below.own_steps.{alone_entry, GoesAlone, IsShared};
-ghost use Rattle.others_objects.specs.Other.{store_of, SameButRoom, TellsOther};
+ghost use Rattle.leaf_collections.specs.below.core_invariant.{refused, EntersOrRefuses, Fits};
+ghost use Rattle.fork_join_commit.specs.below.step_commit.{alone_entry, GoesAlone, IsShared};
+ghost use Rattle.remote_access.specs.Other.{store_of, SameButRoom, TellsOther};
 ghost use Rattle.entry_calls.specs.Ran.{LentTo};
 
 use crate::shared::Shared;
 use crate::steps_entered::enter_alone;
 use entry_calls::Lent;
 use leaf_collections::{Addr, IntReg, NotEntered, Private};
-use others_objects::{OtherStep, go_on, write_number, write_reference};
+use remote_access::{OtherStep, go_on, write_number, write_reference};
 use std::alloc::AllocError;
 
 impl Shared {
-    // Enters the write of a reference, which may be one of a compare and swap.
+    // Commits the write of a reference, which may be part of a compare and swap.
     fn enter_store(
         &mut self,
         worker: u32,
@@ -40,7 +40,7 @@ impl Shared {
         Ok(())
     }
 
-    // Enters the write of a number.
+    // Commits the write of a number.
     pub(crate) fn enter_store_number(
         &mut self,
         worker: u32,
@@ -62,7 +62,7 @@ impl Shared {
         part.fresh = 0;
     }
 
-    // The same, and what comes of it.
+    // Commits a write, and returns the result.
     pub(crate) fn store_other(
         &mut self,
         worker: u32,
@@ -77,7 +77,7 @@ impl Shared {
         requires shared { IsShared self.old part.old }
         requires free { refused self.old (alone_entry worker part.old) ≡ None }
         requires stores { (line : ℕ) × TellsOther self.old part.old (store_of swap object field value) line }
-        ensures refused { Answers result None }
+        ensures refused { EntersOrRefuses result None }
         ensures same { OnErr result (SameButRoom self.old self.new) }
         ensures back { OnErr result (part.new ≡ part.old) }
         ensures answered { IfOk result (LentTo self.old self.new worker part.old part.new) }

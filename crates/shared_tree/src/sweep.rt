@@ -2,7 +2,7 @@
 
 ghost use Rattle.std.specs.Prelude.{◌≡◌, ◌==◌, ◌<◌, None};
 ghost use Rattle.leaf_collections.specs.below.run_ledger.{counted, refused_unless, heap_of, left_in, marked_in, sweep_number};
-ghost use Rattle.leaf_collections.specs.below.shared_value.{refused, Enters, AllFit, accounts};
+ghost use Rattle.leaf_collections.specs.below.core_invariant.{refused, Enters, AllFit, accounts};
 ghost use Rattle.heap_marking.specs.MarkCauses.{marking_cause};
 ghost use Rattle.entry_calls.specs.Calls.{SweepsHeap};
 
@@ -11,14 +11,14 @@ use heap_marking::{drop_unmarked, forget_kept, marking_cause};
 use leaf_collections::{Entry, Kind, Refused, first_cause};
 
 impl Shared {
-    // Why a heap that is being marked isn't swept with so many units given back.
+    // Why a heap that is being marked isn't swept with this number of units released.
     fn given_cause(&self, t: u32, given: u32) -> Option<Refused>
         requires goes { (accounts self.now).end ≡ None }
         requires marking { marking_cause self.now t ≡ None }
         ensures { result ≡ refused_unless (left_in (heap_of (accounts self.now) t) == 0) (Refused.Left (marked_in (heap_of (accounts self.now) t))) (counted given (sweep_number (accounts self.now).machine (heap_of (accounts self.now) t)) None) }
     {
         if !self.is_marked(t) {
-            return match self.heaps.homes.marking(t) {
+            return match self.heaps.task_slots.marking(t) {
                 Some(marking) => Some(Refused::Left(marking.marked() as u32)),
                 None => unreachable!(),
             };
@@ -39,14 +39,14 @@ impl Shared {
         if first.is_some() {
             return first;
         }
-        let marking = marking_cause(&self.tree, &self.heaps.homes, t);
+        let marking = marking_cause(&self.tree, &self.heaps.task_slots, t);
         if marking.is_some() {
             return marking;
         }
         self.given_cause(t, given)
     }
 
-    // Makes the entry, and keeps the room of the marking for the next.
+    // Makes the entry, and keeps the buffers of the marking for the next.
     fn enter_sweep(&mut self, worker: u32, t: u32, given: u32)
         requires room { 0 < self.old.journal.room }
         requires free { refused self.old (record { worker = worker; kind = Kind.Sweep t given }) ≡ None }
@@ -54,30 +54,30 @@ impl Shared {
         ensures fits { AllFit self.old self.new }
     {
         self.room = drop_unmarked(&mut self.heaps, t);
-        forget_kept(&mut self.heaps.homes, t);
+        forget_kept(&mut self.heaps.task_slots, t);
         self.journal
             .push_reserved(Entry::new(worker, Kind::Sweep(t, given)));
     }
 
-    /// How many units of 1,024 words a sweep of a marked heap gives back.
+    /// How many units of 1,024 words a sweep of a marked heap releases.
     pub fn would_give(&self, t: u32) -> u32
         requires goes { (accounts self.now).end ≡ None }
         requires marked { marking_cause self.now t ≡ None }
         requires none_left { left_in (heap_of (accounts self.now) t) ≡ 0 }
         ensures { result ≡ sweep_number (accounts self.now).machine (heap_of (accounts self.now) t) }
     {
-        let Some(rest) = self.heaps.homes.rest(t) else {
+        let Some(rest) = self.heaps.task_slots.rest(t) else {
             unreachable!()
         };
-        let Some(marking) = self.heaps.homes.marking(t) else {
+        let Some(marking) = self.heaps.task_slots.marking(t) else {
             unreachable!()
         };
         marking.would_give(&rest.heap)
     }
 
-    /// The heap of a waiting task is swept: of its objects just those that were reached at the task's fork stay, each
-    /// where it lies, and chunks without an object are given back. From then on its overwritten references aren't kept.
-    /// It takes no memory.
+    /// The heap of a waiting task is swept: of its objects exactly those that were reachable at the task's fork stay,
+    /// each at its address, and chunks without an object are released. From then on its overwritten references aren't
+    /// kept. It doesn't allocate.
     pub fn sweep(&mut self, worker: u32, t: u32, given: u32) -> Result<(), Refused>
         requires room { 0 < self.old.journal.room }
         ensures { SweepsHeap self.old self.new worker t given result }

@@ -1,3 +1,4 @@
 mod Rules
 mod Lists
 mod Made
+mod Common

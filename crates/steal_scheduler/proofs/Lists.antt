@@ -1,13 +1,5 @@
--- Relations between the places of two lists, and one theft among a hand's.
-use Rattle.std.proofs.Common.{◌≡◌, ⊎_elim, ◌⊎◌, ◌++◌, ℕ, List, [], ◌∷◌, length, set, slice_get, Some, length-append, sym, ◌∙◌, subst, arith}
-use Rattle.std.proofs.lemmas.Option.{same_Some}
-use Rattle.listed.proofs.Members.{got_within, got_same, got_other}
-use Rattle.listed.proofs.Options.{none_some}
-use Rattle.listed.proofs.Places.{got_more}
-use Rattle.steal_scheduler.specs.declared.theft.Theft.{Theft}
-use Rattle.steal_scheduler.specs.Thefts.{SameTheft}
-use Rattle.steal_scheduler.specs.Hands.{ChangesAt}
-use Rattle.steal_scheduler.specs.New.{EachPlace}
+-- Relations between the positions of two lists, and one theft among a hand's.
+use Rattle.steal_scheduler.proofs.Common.{◌≡◌, ⊎_elim, ◌⊎◌, ◌++◌, ℕ, List, [], ◌∷◌, length, set, slice_get, Some, length-append, sym, ◌∙◌, subst, arith, same_Some, got_within, got_same, got_other, none_some, got_more, Theft, SameTheft, ChangesAt, EachPlace}
 
 pub changes_at : (l : List Theft) (i : ℕ) (t u : Theft) (Then : Theft → Theft → Type 0) → slice_get l i ≡ Some t → SameTheft t u → Then t u → ChangesAt l (set l i u) i Then
 changes_at l i t u Then at same did = record {
@@ -19,7 +11,7 @@ changes_at l i t u Then at same did = record {
 pub no_place : {A B : Type 0} (R : A → B → Type 0) (ys : List B) → EachPlace R [] ys
 no_place R ys k a b ea eb = none_some ea
 
--- one place more of both lists
+-- one more position in both lists
 pub places_more : {A B : Type 0} (R : A → B → Type 0) (xs : List A) (ys : List B) (x : A) (y : B) → length xs ≡ length ys → R x y → EachPlace R xs ys → EachPlace R (xs ++ x ∷ []) (ys ++ y ∷ [])
 places_more R xs ys x y long new old k a b ea eb = ⊎_elim
     (λ (e : slice_get xs k ≡ Some a). ⊎_elim (λ (f : slice_get ys k ≡ Some b). old k a b e f)

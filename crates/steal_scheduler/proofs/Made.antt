@@ -1,12 +1,5 @@
 -- The hands as they are made.
-use Rattle.std.proofs.Common.{◌≡◌, ℕ, List, length, slice_get, Some, sym, ap, ◌∙◌, subst, arith}
-use Rattle.listed.proofs.Members.{got_within}
-use Rattle.listed.proofs.Places.{got_some}
-use Rattle.crossbeam_deque.specs.Handles.{worker_deque}
-use Rattle.steal_scheduler.specs.declared.theft.Theft.{Theft}
-use Rattle.steal_scheduler.specs.declared.hand.Hand.{Hand}
-use Rattle.steal_scheduler.specs.Hands.{IsNewHand, AreNewHands, thefts}
-use Rattle.steal_scheduler.specs.New.{Owner, Thief, EachPlace, StealFrom, AreTheftsOf, IsHandOf}
+use Rattle.steal_scheduler.proofs.Common.{◌≡◌, ℕ, List, length, slice_get, Some, sym, ap, ◌∙◌, subst, arith, got_within, got_some, worker_deque, Theft, Hand, IsNewHand, AreNewHands, thefts, Owner, Thief, EachPlace, StealFrom, AreTheftsOf, IsHandOf}
 
 pub hand_of : (ss : List Thief) (h : Hand) (o : Owner) (ts : List Theft) → IsNewHand (length ts) h → h.own ≡ o → thefts h ≡ ts → AreTheftsOf ts ss → IsHandOf ss h o
 hand_of ss h o ts new own is of = record { own = own; new = subst (λ n. IsNewHand n h) of.count new; reaches = subst (λ l. AreTheftsOf l ss) (sym is) of }

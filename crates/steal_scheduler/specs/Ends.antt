@@ -1,4 +1,4 @@
--- What clauses say of the two ends of a deque, whatever its rule.
+-- What clauses say of the two ends of a deque, whatever its invariant.
 use Rattle.std.specs.Prelude.{◌≡◌, ℕ}
 use Rattle.std.specs.declared.alloc.Global.{Global}
 use Rattle.crossbeam_deque.specs.Handles.{view, stealer_deque, worker_deque, worker_port, worker_view, worker_capacity, worker_index, SameWorker, SamePass}
@@ -13,7 +13,7 @@ module _ {V P : Type 0} where
   abbrev pub IsStealerOf : Stealer ℕ Global V P → OwnDeque V P → Type 0
   IsStealerOf s o = stealer_deque s ≡ worker_deque o.worker
 
-  -- the owner's number among the deque's passes, and what its pass keeps
+  -- the owner's number among the deque's passes, and what its pass records
   abbrev pub owner_port : OwnDeque V P → ℕ
   owner_port o = worker_port o.worker
 
@@ -24,7 +24,7 @@ module _ {V P : Type 0} where
   abbrev pub slots : OwnDeque V P → ℕ
   slots o = worker_capacity o.worker
 
-  -- the index of the next put, which taking back takes down again
+  -- the index of the next put, which taking back decrements
   abbrev pub next_put : OwnDeque V P → ℕ
   next_put o = worker_index o.worker
 

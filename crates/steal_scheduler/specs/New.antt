@@ -1,8 +1,8 @@
--- What the making of hands tells from step to step.
+-- What the creation of hands guarantees, step by step.
 use Rattle.std.specs.Prelude.{◌≡◌, ℕ, ◌<◌, List, Some, slice_get, length}
 use Rattle.crossbeam_deque.specs.declared.handles.Stealer.{Stealer}
 use Rattle.std.specs.declared.alloc.Global.{Global}
-use Rattle.steal_scheduler.specs.declared.view.View.{View}
+use Rattle.steal_scheduler.specs.declared.view.PassView.{PassView}
 use Rattle.steal_scheduler.specs.declared.rule.Deals.{Deals}
 use Rattle.steal_scheduler.specs.declared.own_deque.OwnDeque.{OwnDeque}
 use Rattle.steal_scheduler.specs.declared.theft.Theft.{Theft}
@@ -12,15 +12,15 @@ use Rattle.steal_scheduler.specs.Thefts.{theft_view, vain_thefts}
 use Rattle.steal_scheduler.specs.declared.hand.Hand.{Hand}
 use Rattle.steal_scheduler.specs.Hands.{IsNewHand, thefts}
 
--- the relation holds at each place that both lists have
+-- the relation holds at each position that both lists have
 abbrev pub EachPlace : {A B : Type 0} → (A → B → Type 0) → List A → List B → Type 0
 EachPlace {A} {B} R xs ys = (k : ℕ) (x : A) (y : B) → slice_get xs k ≡ Some x → slice_get ys k ≡ Some y → R x y
 
 abbrev pub Owner : Type 0
-Owner = OwnDeque View Deals
+Owner = OwnDeque PassView Deals
 
 abbrev pub Thief : Type 0
-Thief = Stealer ℕ Global View Deals
+Thief = Stealer ℕ Global PassView Deals
 
 -- the owner's end of a new deque
 pub record IsNewOwner (o : Owner) : Type 0 where

@@ -7,7 +7,7 @@ use crate::theft::Theft;
 use std::alloc::{AllocFailed, Global};
 use std::sync::Wait;
 
-/// A worker's hand. One thread at a time has it.
+/// A worker's hand, owned by one thread at a time.
 #[derive(Drop)]
 pub struct Hand {
     own: Owner,
@@ -55,8 +55,8 @@ impl Hand {
         self.thefts[victim as usize].vain()
     }
 
-    /// Puts a task on the own deque; on the hand's list where that isn't empty or the deque refuses. For want of memory
-    /// the task comes back, and the hand is as before.
+    /// Puts a task on the own deque, or on the hand's list if that isn't empty or the deque refuses. If an allocation
+    /// fails the task is returned, and the hand is unchanged.
     pub fn put(&mut self, task: u32) -> Result<(), AllocFailed<u32>>
         ensures same { SameHand self.old self.new }
         ensures counted { empty_pops self.new ≡ empty_pops self.old }
@@ -73,8 +73,8 @@ impl Hand {
         }
     }
 
-    /// Takes the newest task, from the list first. None only where the list is empty and the own deque was empty at a
-    /// step of the call; the count of empty pops rises then, and in no other call.
+    /// Takes the newest task, from the list first. None only if the list is empty and the own deque was empty at some
+    /// step of the call; then, and in no other call, the count of empty pops rises.
     pub fn next_own(&mut self) -> Option<u32>
         ensures same { SameHand self.old self.new }
         ensures thefts { thefts self.new ≡ thefts self.old }
@@ -88,8 +88,8 @@ impl Hand {
         }
     }
 
-    /// Takes the oldest task of the victim's deque. None only where that deque held at most one task at a step of the
-    /// call; the count of vain thefts from that victim rises then, and in no other call.
+    /// Takes the oldest task of the victim's deque. None only if that deque held at most one task at some step of the
+    /// call; then, and in no other call, the count of vain thefts from that victim rises.
     pub fn steal_from<R: Wait>(&mut self, rt: &R, victim: u32) -> Option<u32>
         requires { victim < length (thefts self.old) }
         ensures same { SameHand self.old self.new }

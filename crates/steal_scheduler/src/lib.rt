@@ -16,4 +16,4 @@ pub use own_deque::OwnDeque;
 pub use rule::Deals;
 pub use theft::Theft;
 pub use victim_deque::VictimDeque;
-pub use view::View;
+pub use view::PassView;

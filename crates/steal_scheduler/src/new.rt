@@ -9,14 +9,14 @@ use crate::rule::{Owner, Thief};
 use crate::theft::Theft;
 use std::alloc::{AllocError, Global};
 
-// The slots that each deque begins with.
+// The initial slots of each deque.
 const FIRST_SLOTS: usize = 64;
 
-/// The deques of a number of workers. No value of it is made.
+/// The deques of a number of workers. No value of this type exists.
 pub struct Deques;
 
 impl Deques {
-    /// A hand for each worker, in their order.
+    /// A hand for each worker, in order.
     pub fn new(alloc: Global, workers: u32) -> Result<Vec<Hand>, AllocError>
         ensures { IfOk result (λ hands. AreNewHands workers hands.items) }
     {
@@ -31,7 +31,7 @@ impl Deques {
     }
 }
 
-// A new deque for each worker, at which its owner takes back the newest.
+// A new deque for each worker, from which its owner takes back the newest.
 fn owners(alloc: Global, workers: u32) -> Result<Vec<Owner>, AllocError>
     ensures { IfOk result (λ os. (length os.items ≡ workers) × All IsNewOwner os.items) }
 {

@@ -1,16 +1,16 @@
-//! The owner's end of a deque, with a count of the pops that found the deque empty. All is proved for every rule that
-//! the deque may be under. Of such a rule nothing is known but what a step tells, so no body answers None, or counts,
-//! without a look.
+//! The owner's end of a deque, with a count of the pops that found the deque empty. Everything is proved for every
+//! invariant that the deque may have. Only what a step guarantees is known of the invariant, so no body can return
+//! None, or count, without looking.
 ghost use Rattle.std.specs.Prelude.{◌≡◌, ◌<◌, ◌≤◌, ◌+◌, ◌∷◌, [], IfOk, IfErr, IfSome, IfNone, OnOk};
 ghost use Rattle.crossbeam_deque.specs.Tasks.{Pushes, Pops, Finds, Blocks};
 ghost use Rattle.crossbeam_deque.specs.Handles.{worker_flavor};
-ghost use Rattle.still_counts.specs.Counts.{raised_by};
+ghost use Rattle.saturating_counts.specs.Counts.{raised_by};
 
 use crossbeam_deque::protocol::{Outcome, Protocol};
 use crossbeam_deque::{Stealer, Worker};
 use std::alloc::{AllocError, Global};
 
-/// The owner's end of a deque, at which it takes back the newest.
+/// The owner's end of a deque, from which it takes back the newest.
 #[derive(Drop)]
 pub struct OwnDeque<V, P: Protocol<u32, V>> {
     worker: Worker<u32, Global, V, P>,
@@ -21,7 +21,7 @@ pub struct OwnDeque<V, P: Protocol<u32, V>> {
 impl<V, P: Protocol<u32, V>> OwnDeque<V, P> {
     ghost use Rattle.steal_scheduler.specs.Ends.{IsStealerOf, owner_port, owner_view, slots, next_put, pops_of_none, SameOwner};
 
-    /// A new deque with at least so many slots.
+    /// A new deque with at least `least` slots.
     pub fn new(alloc: Global, least: usize) -> Result<OwnDeque<V, P>, AllocError>
         requires { P.holds [] (P.first ∷ []) }
         ensures { IfOk result (λ o. (0 < slots o) × (next_put o ≡ 0) × (owner_view o ≡ P.first) × (pops_of_none o ≡ 0)) }
@@ -47,7 +47,7 @@ impl<V, P: Protocol<u32, V>> OwnDeque<V, P> {
         self.empty_pops
     }
 
-    /// Puts a number at the back. It comes back where the deque refuses.
+    /// Puts a number at the back. It is returned if the deque refuses.
     pub fn push<M: Outcome<u32, V>>(&mut self, task: u32) -> Result<(), u32>
         requires pushes { Pushes P.holds (owner_port self.old) (owner_view self.old) (task ∷ []) (M.then (owner_view self.old) (task ∷ [])) }
         requires full { Blocks P.holds (slots self.old) (owner_port self.old) (owner_view self.old) (M.full (owner_view self.old)) }
@@ -59,7 +59,7 @@ impl<V, P: Protocol<u32, V>> OwnDeque<V, P> {
         self.worker.push_as::<M>(task)
     }
 
-    /// Takes back the newest number. None, with one empty pop more, only where a step of the call found the deque
+    /// Takes back the newest number. None, with one more empty pop, only if some step of the call found the deque
     /// empty.
     pub fn pop<M: Outcome<u32, V>>(&mut self) -> Option<u32>
         requires pops { Pops P.holds (owner_port self.old) (owner_view self.old) (M.then (owner_view self.old)) }

@@ -1,16 +1,16 @@
-//! The rule of a deque between any two steps, and what each step tells.
+//! The invariant of a deque between any two steps, and what each step guarantees.
 
 use crate::own_deque::OwnDeque;
 use crate::victim_deque::VictimDeque;
-use crate::view::View;
+use crate::view::PassView;
 use crossbeam_deque::Stealer;
 use crossbeam_deque::protocol::{Outcome, Protocol};
 use std::alloc::Global;
 
-/// The rule of a deque. No value of it is made.
+/// The invariant of a deque. No value of this type exists.
 pub struct Deals;
 
-impl Protocol<u32, View> for Deals {
+impl Protocol<u32, PassView> for Deals {
     ghost use Rattle.steal_scheduler.specs.Rule.{Dealt, opening_view, guest_view};
 
     ghost holds = { Dealt };
@@ -22,7 +22,7 @@ impl Protocol<u32, View> for Deals {
 
 pub(crate) struct Puts;
 
-impl Outcome<u32, View> for Puts {
+impl Outcome<u32, PassView> for Puts {
     ghost use Rattle.std.specs.Prelude.{◌≡◌};
     ghost use Rattle.steal_scheduler.specs.Rule.{with_put};
 
@@ -31,7 +31,7 @@ impl Outcome<u32, View> for Puts {
 
 pub(crate) struct TakesBack;
 
-impl Outcome<u32, View> for TakesBack {
+impl Outcome<u32, PassView> for TakesBack {
     ghost use Rattle.steal_scheduler.specs.Rule.{TookBack, HasAtMost};
 
     ghost then = { TookBack };
@@ -41,7 +41,7 @@ impl Outcome<u32, View> for TakesBack {
 
 pub(crate) struct Steals;
 
-impl Outcome<u32, View> for Steals {
+impl Outcome<u32, PassView> for Steals {
     ghost use Rattle.std.specs.Prelude.{◌≡◌};
     ghost use Rattle.steal_scheduler.specs.Rule.{with_taken, HasAtMost};
 
@@ -50,8 +50,8 @@ impl Outcome<u32, View> for Steals {
     ghost empty = { HasAtMost 1 };
 }
 
-pub(crate) type Owner = OwnDeque<View, Deals>;
+pub(crate) type Owner = OwnDeque<PassView, Deals>;
 
-pub(crate) type Victim = VictimDeque<View, Deals>;
+pub(crate) type Victim = VictimDeque<PassView, Deals>;
 
-pub(crate) type Thief = Stealer<u32, Global, View, Deals>;
+pub(crate) type Thief = Stealer<u32, Global, PassView, Deals>;

@@ -1,4 +1,4 @@
-//! How a hand steals from one deque under the rule.
+//! How a hand steals from one deque under the invariant.
 ghost use Rattle.std.specs.Prelude.{◌≡◌, false, IfOk, IfSome, IfNone};
 ghost use Rattle.steal_scheduler.specs.Ends.{StealsBy, thief_view};
 ghost use Rattle.steal_scheduler.specs.Rule.{guest_view};
@@ -32,7 +32,7 @@ impl Theft {
         self.victim.vain_thefts()
     }
 
-    // The oldest, or none where the deque held at most one number at a step.
+    // The oldest, or None if the deque held at most one number at some step.
     pub(crate) fn steal<R: Wait>(&mut self, rt: &R) -> Option<u32>
         ensures same { SameTheft self.old self.new }
         ensures some { IfSome result (λ x. Stole x self.old self.new) }

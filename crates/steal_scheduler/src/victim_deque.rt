@@ -1,16 +1,16 @@
 //! A deque from which a hand steals, with a count of the thefts that found at most one number there. As in `own_deque`,
-//! all is proved for every rule that the deque may be under.
+//! everything is proved for every invariant that the deque may have.
 ghost use Rattle.std.specs.Prelude.{◌≡◌, ◌∷◌, [], IfOk, IfSome, IfNone};
 ghost use Rattle.crossbeam_deque.specs.Tasks.{Takes, FindsFew, Admits};
 ghost use Rattle.crossbeam_deque.specs.Handles.{stealer_deque, IsPassOf};
-ghost use Rattle.still_counts.specs.Counts.{raised_by};
+ghost use Rattle.saturating_counts.specs.Counts.{raised_by};
 
 use crossbeam_deque::protocol::{Outcome, Protocol};
 use crossbeam_deque::{Pass, Steal, Stealer};
 use std::alloc::{AllocError, Global};
 use std::sync::Wait;
 
-/// A deque from which a hand steals: a stealer, and the pass that keeps what was stolen.
+/// A deque from which a hand steals: a stealer, and the pass that records what was stolen.
 #[derive(Drop)]
 pub struct VictimDeque<V, P: Protocol<u32, V>> {
     stealer: Stealer<u32, Global, V, P>,
@@ -43,7 +43,7 @@ impl<V, P: Protocol<u32, V>> VictimDeque<V, P> {
         self.vain_thefts
     }
 
-    /// Takes the oldest number. None, with one vain theft more, only where a step of the call found at most one number.
+    /// Takes the oldest number. None, with one more vain theft, only if some step of the call found at most one number.
     pub fn steal<M: Outcome<u32, V>, R: Wait>(&mut self, rt: &R) -> Option<u32>
         requires takes { Takes P.holds (thief_port self.old) (thief_view self.old) 1 (M.then (thief_view self.old)) }
         requires few { FindsFew P.holds 1 (thief_port self.old) (thief_view self.old) (M.empty (thief_view self.old)) }

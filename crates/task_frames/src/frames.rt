@@ -13,7 +13,7 @@ use std::marker::Model;
 
 /// A call that has not returned: its function, its next instruction, and its registers.
 #[derive(Clone, Copy)]
-pub struct Frame {
+pub struct CallFrame {
     pub function: u32,
     pub next: u32,
     pub ints: [i64; 16],
@@ -25,21 +25,27 @@ pub struct Frame {
 pub enum NotPushed {
     /// There are `FRAME_LIMIT` frames.
     Deep,
-    /// There was no memory for the frame.
+    /// The frame couldn't be allocated.
     NoMemory,
+}
+
+// The top frame, and those below it.
+#[derive(Drop)]
+struct Stack {
+    below: Vec<CallFrame>,
+    top: CallFrame,
 }
 
 /// The frames of a task, of which the top one runs. The others wait for a return.
 ///
-/// The top frame lies behind a pointer, so that frames are moved without their registers.
+/// They are boxed together, so that moving them moves one pointer.
 pub struct Frames {
-    below: Vec<Frame>,
-    top: Box<Frame>,
+    stack: Box<Stack>,
 }
 
 impl Drop for Frames {
     fn drop(self) {
-        let Frames { below: _, top: _ } = self;
+        let Frames { stack: _ } = self;
     }
 }
 
@@ -50,9 +56,9 @@ impl Model for Frames {
 
     ghost Value = { FramesValue };
 
-    ghost view = { λ f. record { below = f.below.items; top = f.top.value } };
+    ghost view = { λ f. record { below = f.stack.value.below.items; top = f.stack.value.top } };
 
-    ghost invariant = { λ f. length f.below.items < frame_limit };
+    ghost invariant = { λ f. length f.stack.value.below.items < frame_limit };
 }
 
 // One of sixteen number registers.
@@ -77,7 +83,7 @@ fn sixteen(ints: &[i64; 16], refs: &[Option<Addr>; 16])
     ensures refs { length refs.now ≡ 16 }
 {}
 
-impl Frame {
+impl CallFrame {
     /// What a number register holds.
     pub fn int(&self, register: IntReg) -> i64
         ensures { result ≡ int_of self.now register }
@@ -109,12 +115,15 @@ impl Frame {
 
 impl Frames {
     // The only frame of a task.
-    fn only(alloc: Global, frame: Frame) -> Result<Frames, AllocError>
+    fn only(alloc: Global, frame: CallFrame) -> Result<Frames, AllocError>
         ensures { IfOk result (λ f. f ≡ record { below = []; top = frame }) }
     {
-        Ok(Frames {
+        let stack = Stack {
             below: Vec::new(alloc),
-            top: Box::new(alloc, frame)?,
+            top: frame,
+        };
+        Ok(Frames {
+            stack: Box::new(alloc, stack)?,
         })
     }
 
@@ -129,7 +138,7 @@ impl Frames {
     {
         Frames::only(
             alloc,
-            Frame {
+            CallFrame {
                 function: fun,
                 next: 0,
                 ints: *ints,
@@ -143,38 +152,39 @@ impl Frames {
     pub fn branch(&self, alloc: Global, fun: u32) -> Result<Frames, AllocError>
         ensures { IfOk result (λ f. f ≡ branched self.now fun) }
     {
-        let mut top = *self.top;
+        let mut top = self.stack.top;
         top.function = fun;
         top.next = 0;
         Frames::only(alloc, top)
     }
 
-    /// A frame for a call of a function: all registers of the top frame are copied into it.
+    /// Pushes a frame for a call of a function, with a copy of all registers of the top frame.
     ///
-    /// Whether there are `FRAME_LIMIT` frames is checked before memory is asked for.
+    /// The frame limit is checked before memory is allocated.
     pub fn push(&mut self, fun: u32) -> Result<(), NotPushed>
         ensures deep { (result ≡ Err NotPushed.Deep) ↔ (depth_of self.old ≡ frame_limit) }
         ensures ok { OnOk result (self.new ≡ pushed self.old fun) }
         ensures err { OnErr result (self.new ≡ self.old) }
     {
-        if self.below.len() >= FRAME_LIMIT - 1 {
+        if self.stack.below.len() >= FRAME_LIMIT - 1 {
             return Err(NotPushed::Deep);
         }
-        if self.below.push(*self.top).is_err() {
+        let top = self.stack.top;
+        if self.stack.below.push(top).is_err() {
             return Err(NotPushed::NoMemory);
         }
-        self.top.function = fun;
-        self.top.next = 0;
+        self.stack.top.function = fun;
+        self.stack.top.next = 0;
         Ok(())
     }
 
-    /// Gives the top frame up, so that the one below it is on top.
+    /// Drops the top frame, so that the one below it is on top.
     pub fn pop(&mut self)
         requires { 1 < depth_of self.old }
         ensures { IsPopped self.old self.new }
     {
-        if let Some(frame) = self.below.pop() {
-            *self.top = frame;
+        if let Some(frame) = self.stack.below.pop() {
+            self.stack.top = frame;
         }
     }
 
@@ -183,43 +193,43 @@ impl Frames {
         ensures count { result ≡ depth_of self.now }
         ensures most { result ≤ frame_limit }
     {
-        self.below.len() as u32 + 1
+        self.stack.below.len() as u32 + 1
     }
 
     /// The top frame: its function, its next instruction, and its registers.
-    pub fn top(&self) -> &Frame
+    pub fn top(&self) -> &CallFrame
         ensures { result.now ≡ self.now.top }
     {
-        &self.top
+        &self.stack.top
     }
 
-    /// The top frame, to be changed.
-    pub fn top_mut(&mut self) -> &mut Frame
+    /// The top frame, mutably.
+    pub fn top_mut(&mut self) -> &mut CallFrame
         ensures* writes_back { sem 𝓛 (lends_top self.entry result) }
         ensures value { result.now ≡ self.old.top }
     {
-        &mut self.top
+        &mut self.stack.top
     }
 
     /// The function that the top frame runs.
     pub fn fun(&self) -> u32
         ensures { result ≡ self.now.top.function }
     {
-        self.top.function
+        self.stack.top.function
     }
 
     /// The place in that function of the top frame's next instruction.
     pub fn next(&self) -> u32
         ensures { result ≡ self.now.top.next }
     {
-        self.top.next
+        self.stack.top.next
     }
 
     /// Goes on at another instruction of the same function.
     pub fn set_next(&mut self, next: u32)
         ensures { self.new ≡ with_next self.old next }
     {
-        self.top.next = next;
+        self.stack.top.next = next;
     }
 
     /// The top frame has sixteen registers of each kind.
@@ -227,7 +237,7 @@ impl Frames {
         ensures ints { length self.now.top.ints ≡ 16 }
         ensures refs { length self.now.top.refs ≡ 16 }
     {
-        sixteen(&self.top.ints, &self.top.refs);
+        sixteen(&self.stack.top.ints, &self.stack.top.refs);
     }
 
     /// A number register of the top frame.
@@ -235,7 +245,7 @@ impl Frames {
         requires { i < 16 }
         ensures { slice_get self.now.top.ints i ≡ Some result }
     {
-        int_at(&self.top.ints, i)
+        int_at(&self.stack.top.ints, i)
     }
 
     /// Writes a number register of the top frame.
@@ -243,7 +253,7 @@ impl Frames {
         requires { i < 16 }
         ensures { self.new ≡ with_int self.old i value }
     {
-        self.top.ints[i as usize] = value;
+        self.stack.top.ints[i as usize] = value;
     }
 
     /// A reference register of the top frame.
@@ -251,7 +261,7 @@ impl Frames {
         requires { i < 16 }
         ensures { slice_get self.now.top.refs i ≡ Some result }
     {
-        ref_at(&self.top.refs, i)
+        ref_at(&self.stack.top.refs, i)
     }
 
     /// Writes a reference register of the top frame.
@@ -259,30 +269,31 @@ impl Frames {
         requires { i < 16 }
         ensures { self.new ≡ with_reference self.old i value }
     {
-        self.top.refs[i as usize] = value;
+        self.stack.top.refs[i as usize] = value;
     }
 
-    /// All reference registers of any frame. Frames are counted from 0, the oldest.
+    /// All reference registers of a frame. Frames are counted from 0, the oldest.
     pub fn references_in(&self, frame: u32) -> [Option<Addr>; 16]
         requires { frame < depth_of self.now }
         ensures { result ≡ references_of (frames_of self.now) frame }
     {
-        if (frame as usize) < self.below.len() {
-            self.below[frame as usize].refs
+        let stack = &*self.stack;
+        if (frame as usize) < stack.below.len() {
+            stack.below[frame as usize].refs
         } else {
-            self.top.refs
+            stack.top.refs
         }
     }
 
-    /// Writes all reference registers of any frame. Frames are counted from 0, the oldest.
+    /// Writes all reference registers of a frame. Frames are counted from 0, the oldest.
     pub fn set_references_in(&mut self, frame: u32, refs: &[Option<Addr>; 16])
         requires { frame < depth_of self.old }
         ensures { frames_of self.new ≡ references_written (frames_of self.old) frame refs.now }
     {
-        if (frame as usize) < self.below.len() {
-            self.below[frame as usize].refs = *refs;
+        if (frame as usize) < self.stack.below.len() {
+            self.stack.below[frame as usize].refs = *refs;
         } else {
-            self.top.refs = *refs;
+            self.stack.top.refs = *refs;
         }
     }
 }

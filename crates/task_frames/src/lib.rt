@@ -3,4 +3,4 @@
 
 mod frames;
 
-pub use frames::{Frame, Frames, NotPushed};
+pub use frames::{CallFrame, Frames, NotPushed};

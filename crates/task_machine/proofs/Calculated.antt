@@ -1,29 +1,16 @@
 -- Calculations are private steps.
-use Rattle.std.proofs.Common.{◌≡◌, ℕ, zero, suc, ◌+◌, true, cond, Option, Some, None, IsSomeAnd, refl, ap, sym, subst, ◌∙◌, arith}
-use Rattle.std.proofs.lemmas.Bool.{false≢true}
-use Rattle.hh_lang.specs.declared.instr.Instr.{Instr}
-use Rattle.hh_lang.specs.declared.instr.Instr.TheVariants.{Pack}
-use Rattle.hh_lang.specs.declared.program.Line.{Line}
-use Rattle.hh_lang.specs.Form.{ProgramText, line_at}
-use Rattle.task_frames.specs.declared.frames.Frame.{Frame}
-use Rattle.task_machine.specs.declared.part.Private.{Private}
-use Rattle.task_machine.specs.declared.plan.Plan.{Plan}
-use Rattle.task_machine.specs.declared.plan.Plan.TheVariants.{Calculate}
-use Rattle.task_machine.specs.Calculations.{is_calculation, Leads, Makes}
-use Rattle.task_machine.specs.Plan.{planned, planned_other, taken, with_top}
-use Rattle.task_machine.specs.Ready.{FitsSome, IsReady, IsWide}
-use Rattle.task_machine.specs.Run.{IsStepPlan, KeepsRest, Runs}
+use Rattle.task_machine.proofs.Common.{◌≡◌, ℕ, zero, suc, ◌+◌, true, cond, Option, Some, None, IsSomeAnd, refl, ap, sym, subst, ◌∙◌, arith, false≢true, Instr, Pack, Line, ProgramText, line_at, CallFrame, Private, Plan, Calculate, is_calculation, Leads, CalculatesInFrame, planned, planned_other, taken, with_top, FitsSome, IsReady, IsWide, IsStepPlan, KeepsRest, Runs}
 use Rattle.task_machine.proofs.Agreement.{line_agrees}
 use Rattle.task_machine.proofs.Ends.{is_step, runs_more}
 
--- one calculation more
-pub leads_more : (p : ProgramText) (f h g : Frame) (k : ℕ) (line : Line) → Leads p f k h → line_at p h.function h.next ≡ Some line → Makes line.instr h g → Leads p f (k + 1) g
+-- one more calculation
+pub leads_more : (p : ProgramText) (f h g : CallFrame) (k : ℕ) (line : Line) → Leads p f k h → line_at p h.function h.next ≡ Some line → CalculatesInFrame line.instr h g → Leads p f (k + 1) g
 leads_more p f h g k line L e M =
     let one : suc k ≡ k + 1 = omega arith in
-    subst (λ n. Leads p f n g) one (h, L, subst (λ o. IsSomeAnd o (λ (l : Line). Makes l.instr h g)) (sym e) M)
+    subst (λ n. Leads p f n g) one (h, L, subst (λ o. IsSomeAnd o (λ (l : Line). CalculatesInFrame l.instr h g)) (sym e) M)
 
--- the part with this top frame, after so many steps more
-abbrev with_top_after : Private → Frame → ℕ → Private
+-- the part with this top frame, after n more steps
+abbrev with_top_after : Private → CallFrame → ℕ → Private
 with_top_after part f n = record (with_top part f) { fresh = part.fresh + n }
 
 -- a calculation is the plan
@@ -35,7 +22,7 @@ calculation_wide part (Pack d r i) e = absurd (false≢true e)
 calculation_wide part i e = tt
 
 module _ (p : ProgramText) (old : Private) (k : ℕ) (mid : Private) (S : FitsSome p old) (R : Runs p old k mid) where
-  one_runs : (n : ℕ) (h g : Frame) (o : Option Line) → line_at p h.function h.next ≡ o → IsSomeAnd o (λ line. Makes line.instr h g)
+  one_runs : (n : ℕ) (h g : CallFrame) (o : Option Line) → line_at p h.function h.next ≡ o → IsSomeAnd o (λ line. CalculatesInFrame line.instr h g)
       → Runs p old (k + n) (with_top_after mid h n) → Runs p old (k + suc n) (with_top_after mid g (suc n))
   one_runs n h g None e M before = absurd M
   one_runs n h g (Some line) e M before =
@@ -45,13 +32,13 @@ module _ (p : ProgramText) (old : Private) (k : ℕ) (mid : Private) (S : FitsSo
       let fresh : mid.fresh + suc n ≡ (mid.fresh + n) + 1 = omega arith in
       let is : with_top_after mid g (suc n) ≡ taken here (Calculate line.instr) =
       ap (λ z. let w : Private = record (with_top mid g) { fresh = z } in w) fresh
-      ∙ ap (λ (f : Frame). let w : Private = record (with_top mid f) { fresh = (mid.fresh + n) + 1 } in w) M.1 in
+      ∙ ap (λ (f : CallFrame). let w : Private = record (with_top mid f) { fresh = (mid.fresh + n) + 1 } in w) M.1 in
       let count : (k + n) + 1 ≡ k + suc n = omega arith in
       subst (λ z. Runs p old z (with_top_after mid g (suc n))) count
       (runs_more p old (k + n) here S before plan (is_step plan (subst (λ q. IsStepPlan q) (sym calculates) tt)) (λ m above F. line_agrees p here m above F line e (calculation_wide here line.instr M.0))
       (subst (λ q. IsReady here q) (sym calculates) tt) (with_top_after mid g (suc n)) (is ∙ ap (taken here) (sym calculates)))
 
-  all_run : (n : ℕ) (g : Frame) → Leads p mid.frames.top n g → Runs p old (k + n) (with_top_after mid g n)
+  all_run : (n : ℕ) (g : CallFrame) → Leads p mid.frames.top n g → Runs p old (k + n) (with_top_after mid g n)
   all_run zero g L =
       let fresh : mid.fresh ≡ mid.fresh + 0 = omega arith in
       let count : k ≡ k + 0 = omega arith in
@@ -59,11 +46,11 @@ module _ (p : ProgramText) (old : Private) (k : ℕ) (mid : Private) (S : FitsSo
       subst (λ z. Runs p old (k + 0) z) top (subst (λ z. Runs p old z mid) count R)
   all_run (suc n) g (h, L, T) = one_runs n h g (line_at p h.function h.next) refl T (all_run n h L)
 
-  -- so many of them are so many steps more
+  -- n of them are n more steps
   pub calculated : (n : ℕ) (new : Private) → Leads p mid.frames.top n new.frames.top → new ≡ record (with_top mid new.frames.top) { fresh = mid.fresh + n } → Runs p old (k + n) new
   calculated n new L is = subst (λ z. Runs p old (k + n) z) (sym is) (all_run n new.frames.top L)
 
--- they change the top frame and the count of fresh steps alone
+-- they change only the top frame and the count of fresh steps
 pub rest_calculated : (old mid new : Private) (n : ℕ) → KeepsRest old mid → new ≡ record (with_top mid new.frames.top) { fresh = mid.fresh + n } → KeepsRest old new
 rest_calculated old mid new n K is =
     let P : Private → Type 0 = λ z. KeepsRest old z in

@@ -1,24 +1,8 @@
--- A call is planned for a call alone.
-use Rattle.std.proofs.Common.{ℕ, ◌+◌, Bool, true, false, cond, Option, Some, None, length, slice_get, unwrap_or, is_some}
-use Rattle.std.specs.Prelude.{nat_le, nat_lt, pos}
-use Rattle.object_layout.specs.Cell.{Cell}
-use Rattle.object_layout.specs.Chunks.{object_of}
-use Rattle.alloc_path.specs.LeafHeapValue.{place_for}
-use Rattle.hh_lang.specs.declared.instr.Instr.{Instr}
-use Rattle.hh_lang.specs.declared.instr.Instr.TheVariants.{Set, Mov, Movr, Nil, Calc, Same, Jmp, Jz, Newm, Pack as PackOf, Getr, Geti, Putr, Puti, Cntr, Cnti, Freeze as FreezeOf, Cas, Call as CallOf, Par, Ret, Out}
-use Rattle.hh_lang.specs.declared.program.Line.{Line}
-use Rattle.hh_lang.specs.Form.{ProgramText, line_at}
-use Rattle.hh_model.specs.Effect.{counts_in, place_in as field_in}
-use Rattle.task_machine.specs.declared.part.Private.{Private}
-use Rattle.task_machine.specs.declared.part.Paused.TheVariants.{Shared, Due, NeedChunk}
-use Rattle.task_machine.specs.declared.plan.Plan.{Plan}
-use Rattle.task_machine.specs.declared.plan.Plan.TheVariants.{Pause, Calculate, SetInt, SetReference, Return, New, Pack, WriteReference, WriteInt, Swap, Freeze}
-use Rattle.task_machine.specs.declared.plan.Spot.{Spot}
-use Rattle.object_layout.specs.References.{same_reference}
-use Rattle.task_machine.specs.Calculations.{is_calculation}
-use Rattle.task_machine.specs.Plan.{counts_ints, counts_refs, own_or_shown, reads_int, reads_ref, shown_of, allocating, or_shared, own_in, planned, unless_frozen}
-use Rattle.task_frames.specs.FramesValue.{int_of, ref_of}
-use Rattle.task_machine.specs.Run.{next_plan, planned_line, IsCall, IsCallLine, IsCallPlan, StandsAtCall}
+-- A call is planned only for a call instruction.
+use Rattle.task_machine.proofs.Common.{ℕ, ◌+◌, Bool, true, false, cond, Option, Some, None, length, slice_get, unwrap_or, is_some, nat_le, nat_lt, pos, Cell, object_of, place_for, Instr, Set, Mov, Movr, Nil, Calc, Same, Jmp, Jz, Newm, Pack as PackOf, Getr, Geti, Putr, Puti, Cntr, Cnti, Freeze as FreezeOf, Cas, Call as CallOf, Par, Ret, Out, Line, ProgramText, line_at, counts_in, same_reference, int_of, ref_of, Private, Shared, Due, NeedChunk, Plan, Pause, Calculate, SetInt, SetReference, Return, New, WriteReference, WriteInt, Swap, Spot, is_calculation, counts_ints, counts_refs, own_or_shown, reads_int, reads_ref, shown_of, allocating, or_shared, own_in, planned, next_plan, planned_line, IsCall, IsCallLine, IsCallPlan, StandsAtCall}
+use Rattle.hh_model.specs.Effect.{place_in as field_in}
+use Rattle.task_machine.specs.declared.plan.Plan.TheVariants.{Pack, Freeze}
+use Rattle.task_machine.specs.Plan.{unless_frozen}
 
 abbrev Not : Plan → Type 0
 Not q = IsCallPlan q → ⊥
@@ -92,6 +76,6 @@ call_line : (part : Private) (o : Option Line) → IsCallPlan (planned_line part
 call_line part None h = h
 call_line part (Some line) h = call_planned part line.instr h
 
--- where a call is planned next, the part stands at one
+-- if a call is planned next, the part is at one
 pub call_stands : (p : ProgramText) (part : Private) → IsCallPlan (next_plan p part) → StandsAtCall p part
 call_stands p part h = call_line part (line_at p part.frames.top.function part.frames.top.next) h

@@ -1,22 +1,12 @@
--- Parts that entries have changed fit still.
-use Rattle.std.proofs.Common.{◌≡◌, ℕ, Option, ap, sym, subst, ◌∙◌, arith}
-use Rattle.alloc_path.specs.LeafHeapValue.{LeafHeapValue}
-use Rattle.hh_lang.specs.Form.{ProgramText}
-use Rattle.hh_model.specs.declared.data.State.{State}
-use Rattle.hh_model.specs.Step.{is_running, owner_of}
-use Rattle.hh_model.proofs.EndLaws.{still}
-use Rattle.task_machine.specs.declared.part.Begun.{Begun}
-use Rattle.task_machine.specs.declared.part.Private.{Private}
-use Rattle.task_machine.specs.Place.{Places}
-use Rattle.task_machine.specs.Begin.{FitsAsWell, FitsFromThere}
-use Rattle.task_machine.specs.Fits.{Fits, FitsNow, HeapStands, IsShaped, after_fresh}
+-- Parts that entries have changed still fit.
+use Rattle.task_machine.proofs.Common.{◌≡◌, ℕ, Option, ap, sym, subst, ◌∙◌, arith, LeafHeapValue, ProgramText, MachineState, is_running, owner_of, still, Begun, Private, Places, FitsAsWell, FitsFromThere, Fits, FitsNow, HeapStands, IsShaped, after_fresh}
 
 -- a part that differs in its heap, its fresh steps and its collection
 abbrev pub changed : Private → LeafHeapValue → ℕ → Option Begun → Private
 changed old h fresh begun = record old { heap = h; fresh = fresh; begun = begun }
 
--- it fits as it is now, where its heap stands for the same
-pub now_changed : (p : ProgramText) (old : Private) (m : State) (above : Places) (F : FitsNow p old m above) (h : LeafHeapValue) (fresh : ℕ) (begun : Option Begun)
+-- it fits as it is now, if its heap stands for the same
+pub now_changed : (p : ProgramText) (old : Private) (m : MachineState) (above : Places) (F : FitsNow p old m above) (h : LeafHeapValue) (fresh : ℕ) (begun : Option Begun)
     → HeapStands F.place (owner_of m.tasks) old.task m.store h.chunks above → IsShaped h → FitsNow p (changed old h fresh begun) m above
 now_changed p old m above F h fresh begun H S = record {
   reached = F.reached;
@@ -33,8 +23,8 @@ now_changed p old m above F h fresh begun H S = record {
   shown = F.shown;
 }
 
--- and behind its fresh steps, where they are as many
-pub behind_changed : (p : ProgramText) (old : Private) (m : State) (above : Places) (F : Fits p old m above) (h : LeafHeapValue) (begun : Option Begun)
+-- and after its fresh steps, if they are as many
+pub behind_changed : (p : ProgramText) (old : Private) (m : MachineState) (above : Places) (F : Fits p old m above) (h : LeafHeapValue) (begun : Option Begun)
     → HeapStands F.now.place (owner_of (after_fresh p old m).tasks) old.task (after_fresh p old m).store h.chunks above → IsShaped h → Fits p (changed old h old.fresh begun) m above
 behind_changed p old m above F h begun H S = record { running = F.running; private = F.private; now = now_changed p old (after_fresh p old m) above F.now h old.fresh begun H S }
 
@@ -56,13 +46,13 @@ begun_fits old begun = record {
   behind = λ p m above F. behind_changed p old m above F old.heap begun F.now.heap F.now.shape;
 }
 
--- how many steps are fresh is nothing that a part as it is now has to fit
+-- a part fits as it is now, however many steps are fresh
 pub fresh_fits : (old : Private) → FitsFromThere old (record old { fresh = 0 })
 fresh_fits old = record {
   now = λ p m above F. now_changed p old m above F old.heap 0 old.begun F.heap F.shape;
   there = λ p m above F.
       let here = after_fresh p old m in
       let N = now_changed p old here above F.now old.heap 0 old.begun F.now.heap F.now.shape in
-      let P : State → Type 0 = λ w. FitsNow p (record old { fresh = 0 }) w above in
+      let P : MachineState → Type 0 = λ w. FitsNow p (record old { fresh = 0 }) w above in
       record { running = ap is_running F.now.is ∙ F.now.running; private = λ i lt. absurd (omega arith); now = subst P (sym (still here F.now.going)) N };
 }

@@ -1,20 +1,7 @@
 -- The steps of a task in the ledger: its machine and its account follow.
-use Rattle.std.proofs.Common.{◌≡◌, ℕ, zero, suc, ◌≤◌, arith, true, Option, Some, None, length, slice_get, refl, ap, ◌∙◌}
-use Rattle.listed.proofs.Members.{got_same}
-use Rattle.hh_lang.specs.Form.{ProgramText}
-use Rattle.hh_model.specs.declared.data.State.{State}
-use Rattle.hh_model.specs.Effect.{row_of}
-use Rattle.hh_model.specs.Step.{asked, can_step, is_running, step}
-use Rattle.run_ledger.specs.declared.data.Heap.{Heap}
-use Rattle.run_ledger.specs.declared.data.Ledger.{Ledger}
-use Rattle.run_ledger.specs.Heaps.{placed, with_heap_at}
-use Rattle.run_ledger.specs.Steps.{allocated_by, task_steps}
-use Rattle.run_ledger.proofs.RunOn.{steps_run_on}
-use Rattle.run_ledger.proofs.Steps.{goes_tells, steps_last}
-use Rattle.task_machine.specs.Accounts.{FollowsSteps, account_after, account_by}
-use Rattle.task_machine.specs.Outline.{steps}
+use Rattle.task_machine.proofs.Common.{◌≡◌, ℕ, zero, suc, ◌≤◌, arith, true, Option, Some, None, length, slice_get, refl, ap, ◌∙◌, got_same, ProgramText, MachineState, row_of, asked, can_step, is_running, step, Heap, Ledger, placed, with_heap_at, allocated_by, task_steps, steps_run_on, goes_tells, steps_last, FollowsSteps, account_after, account_by, steps}
 
--- what an allocation makes of the account
+-- how an allocation changes the account
 pub allocated_account : (l : Ledger) (t : ℕ) (h : Heap) (o : Option ℕ) → slice_get l.heaps t ≡ Some h → slice_get (allocated_by l t o).heaps t ≡ Some (account_by l.machine t h o)
 allocated_account l t h None there = there
 allocated_account l t h (Some w) there =
@@ -27,7 +14,7 @@ module _ (p : ProgramText) (l : Ledger) (t : ℕ) (h : Heap) (there : slice_get 
   follows (suc k) can =
       let F = follows k (λ i le. can i (omega (arith, le))) in
       let b : Ledger = task_steps p l t k in
-      let old : State = steps p l.machine t k in
+      let old : MachineState = steps p l.machine t k in
       let now : can_step b.machine t ≡ true = ap (λ m. can_step m t) F.machine ∙ can k (omega arith) in
       let new = goes_tells (step p old t).end (is_running (slice_get (step p old t).tasks t)) (can (suc k) (omega arith)) in
       let ends : (step p b.machine t).end ≡ None = ap (λ m. (step p m t).end) F.machine ∙ new.0 in
@@ -38,5 +25,5 @@ module _ (p : ProgramText) (l : Ledger) (t : ℕ) (h : Heap) (there : slice_get 
         account =
             ap (λ (z : Ledger). slice_get z.heaps t) last
             ∙ (allocated_account b t (account_after p l.machine t h k) (asked p b.machine t) F.account
-            ∙ ap (λ (m : State). Some (account_by m t (account_after p l.machine t h k) (asked p m t))) F.machine);
+            ∙ ap (λ (m : MachineState). Some (account_by m t (account_after p l.machine t h k) (asked p m t))) F.machine);
       }

@@ -1,20 +1,11 @@
--- A run on its way: so many of its budget's steps are left.
-use Rattle.std.proofs.Common.{◌≡◌, ℕ, ◌+◌, ◌-◌, ◌<◌, ◌≤◌, ◌^◌, Option, Some, None, refl, ap, sym, subst, ◌∙◌, arith, inl, inr}
-use Rattle.std.proofs.lemmas.Bool.{cases_lt}
-use Rattle.hh_lang.specs.declared.program.Line.{Line}
-use Rattle.hh_lang.specs.Form.{IsProgram, ProgramText, line_at}
-use Rattle.task_machine.specs.declared.part.Private.{Private}
-use Rattle.task_machine.specs.declared.plan.Plan.{Plan}
-use Rattle.task_machine.specs.Calculations.{Leads}
-use Rattle.task_machine.specs.Plan.{planned, taken, with_top}
-use Rattle.task_machine.specs.Ready.{FitsSome, IsReady, IsSafe, IsWide}
-use Rattle.task_machine.specs.Run.{IsCallPlan, IsStepPlan, KeepsRest, Runs, StandsAtCall, planned_line}
+-- A run in progress: the steps left of its budget.
+use Rattle.task_machine.proofs.Common.{◌≡◌, ℕ, ◌+◌, ◌-◌, ◌<◌, ◌≤◌, ◌^◌, Option, Some, None, refl, ap, sym, subst, ◌∙◌, arith, inl, inr, cases_lt, Line, IsProgram, ProgramText, line_at, Private, Plan, Leads, planned, taken, with_top, FitsSome, IsReady, IsSafe, IsWide, IsCallPlan, IsStepPlan, KeepsRest, Runs, StandsAtCall, planned_line}
 use Rattle.task_machine.proofs.Agreement.{line_agrees, some_line, some_next, some_safe}
 use Rattle.task_machine.proofs.Calculated.{calculated, rest_calculated}
 use Rattle.task_machine.proofs.CallPlans.{call_stands}
 use Rattle.task_machine.proofs.Ends.{AgreesAll, IsRunTo, few_made, fresh_is, is_step, limit_is, rest_more, run_to, runs_more, runs_none, still_fits}
 
--- the steps of the budget that aren't left led from the old part to this one
+-- the steps used of the budget led from the old part to this one
 pub record IsOnItsWay (p : ProgramText) (old : Private) (budget left : ℕ) (now : Private) : Type 0 where
   pub within : left ≤ budget
   pub fits : FitsSome p old
@@ -30,7 +21,7 @@ at_first p part budget S = record {
 }
 
 module _ (p : ProgramText) (old : Private) (budget left : ℕ) (now : Private) (O : IsOnItsWay p old budget left now) where
-  -- after so many calculations more
+  -- after n more calculations
   pub after_calculations : (done : ℕ) (new : Private) → done ≤ left → Leads p now.frames.top done new.frames.top → new ≡ record (with_top now new.frames.top) { fresh = now.fresh + done } → IsOnItsWay p old budget (left - done) new
   after_calculations done new most L is =
       let within : left ≤ budget = O.within in
@@ -77,7 +68,7 @@ module _ (p : ProgramText) (old : Private) (budget left : ℕ) (now : Private) (
     pub stands_at_call : IsCallPlan (planned now line.instr) → StandsAtCall p now
     stands_at_call h = call_stands p now (subst IsCallPlan (ap (planned_line now) (sym next)) h)
 
-    -- after one step more
+    -- after one more step
     pub after_step : 0 < left → IsStepPlan (planned now line.instr) → IsReady now (planned now line.instr) → (new : Private) → new ≡ taken now (planned now line.instr) → IsOnItsWay p old budget (left - 1) new
     after_step some step ready new is =
         let plan : Plan = planned now line.instr in

@@ -1,45 +1,7 @@
 -- Steps that read an object: the task's own, or an immutable one that the view shows.
-use Rattle.std.proofs.Common.{◌≡◌, ℕ, ℤ, ◌≤◌, Bool, true, false, Option, Some, None, List, ◌∷◌, length, slice_get, unwrap_or, refl, ap, sym, subst, ◌∙◌, arith, inl, is_some}
-use Rattle.std.specs.Option.{option_flatten}
-use Rattle.std.specs.Prelude.{pos, ◌==◌, ◌&&◌, ◌||◌, not}
-use Rattle.std.proofs.lemmas.Bool.{eq-eqb, eqb-false}
-use Rattle.std.proofs.Math.Bool.{and-false}
-use Rattle.listed.proofs.Members.{contains_from_in}
-use Rattle.listed.specs.Members.{In}
-use Rattle.object_layout.specs.declared.word.Addr.{Addr}
-use Rattle.object_layout.specs.Cell.{Cell}
-use Rattle.object_layout.specs.Chunks.{object_of, place_in as chunk_in}
-use Rattle.chunk_rows.specs.View.{seen_at}
-use Rattle.hh_lang.specs.declared.instr.Instr.{Instr}
-use Rattle.hh_lang.specs.declared.instr.Instr.TheVariants.{Getr, Geti, Cntr, Cnti}
-use Rattle.hh_lang.specs.declared.program.Line.{Line}
-use Rattle.hh_lang.specs.Form.{ProgramText}
-use Rattle.hh_model.specs.declared.data.Name.{Name}
-use Rattle.hh_model.specs.declared.data.Object.{Object}
-use Rattle.hh_model.specs.declared.data.Task.{Task}
-use Rattle.hh_model.specs.declared.data.Trap.TheVariants.{Nil, Range}
-use Rattle.hh_model.specs.declared.data.State.{State}
-use Rattle.hh_model.specs.Effect.{Goes, Traps, int_in, object_at, or_trap, place_in, read_effect, ref_in, onward as framed_onward, with_int as framed_int}
-use Rattle.hh_model.specs.Names.{task_names}
-use Rattle.path_laws.specs.ReadLaws.{Holds, ReadsFreely}
-use Rattle.hh_model.specs.Step.{fetched, owner_of, parents, path_in, run, setting, start}
-use Rattle.hh_model.specs.Store.{IsStored}
-use Rattle.hh_model.specs.Tree.{AreLow}
-use Rattle.hh_model.proofs.Carried.{at_in}
-use Rattle.path_laws.proofs.FreeReads.{run_disentangled}
-use Rattle.path_laws.proofs.Frozen.{frozen_reads_go, run_upward}
-use Rattle.hh_model.proofs.ForkJoinStates.{run_is_fork_join_state, start_is_fork_join_state}
-use Rattle.hh_model.proofs.Paths.{path_le}
-use Rattle.hh_model.proofs.Steps.{in_registers, names_run, runs_is}
-use Rattle.path_laws.proofs.Stored.{run_stored}
-use Rattle.run_ledger.specs.Steps.{is_frozen, is_frozen_above, is_open, is_read, owns, touched, works_alone}
-use Rattle.task_machine.specs.declared.part.Private.{Private}
-use Rattle.task_machine.specs.declared.plan.Plan.{Plan}
-use Rattle.task_machine.specs.Place.{Places, IsAt, ObjectStands}
-use Rattle.task_machine.specs.Fits.{FitsNow, IsOwn, IsRun, IsShownBy}
-use Rattle.task_machine.specs.Plan.{counts_ints, counts_refs, own_or_shown, planned, reads_int, reads_ref, or_shared, spot_at, with_seen}
-use Rattle.task_frames.specs.FramesValue.{int_of, ref_of}
-use Rattle.task_machine.specs.Steps.{Agrees}
+use Rattle.task_machine.proofs.Common.{◌≡◌, ℕ, ℤ, ◌≤◌, Bool, true, false, Option, Some, None, List, ◌∷◌, length, slice_get, unwrap_or, refl, ap, sym, subst, ◌∙◌, arith, inl, is_some, option_flatten, pos, ◌==◌, ◌&&◌, ◌||◌, not, eq-eqb, eqb-false, and-false, contains_from_in, In, Addr, Cell, object_of, place_in as chunk_in, seen_at, Instr, Getr, Geti, Cntr, Cnti, Line, ProgramText, Name, Object, Task, Range, MachineState, Goes, Traps, int_in, object_at, or_trap, read_effect, ref_in, onward as framed_onward, with_int as framed_int, task_names, Holds, ReadsFreely, fetched, owner_of, parents, path_in, run, setting, start, IsStored, AreLow, at_in, run_disentangled, frozen_reads_go, run_upward, run_is_fork_join_state, start_is_fork_join_state, path_le, in_registers, names_run, runs_is, run_stored, is_frozen, is_frozen_above, is_open, is_read, owns, touched, works_alone, int_of, ref_of, Private, Plan, Places, NamesAddress, ObjectStands, FitsNow, IsOwn, IsRun, IsShownBy, counts_ints, counts_refs, own_or_shown, planned, reads_int, reads_ref, or_shared, spot_at, with_seen, Agrees}
+use Rattle.hh_model.specs.declared.data.Trap.TheVariants.{Nil}
+use Rattle.hh_model.specs.Effect.{place_in}
 use Rattle.task_machine.proofs.Stands.{at_get, at_length}
 use Rattle.task_machine.proofs.Owned.{other_at, own_object}
 use Rattle.task_machine.proofs.Fitting.{x, not_alone_shared, trap_shared}
@@ -48,24 +10,24 @@ use Rattle.task_machine.proofs.Registers.{does, int_here, ref_here, sets_int, se
 
 -- ---- IN A RUN
 
--- what a task holds is there, and owned on its path
-pub record IsHeld (m : State) (t : ℕ) (n : Name) : Type 0 where
+-- what a task holds exists, and its owner is on the path
+pub record IsHeld (m : MachineState) (t : ℕ) (n : Name) : Type 0 where
   pub stored : IsStored m n
   pub path : path_in (parents m.tasks) (owner_of m.tasks n.task) t ≡ true
 
-held : (p : ProgramText) (m : State) → IsRun p m → (t : ℕ) (y : Task) (n : Name) → slice_get m.tasks t ≡ Some y → In (task_names y) n → IsHeld m t n
+held : (p : ProgramText) (m : MachineState) → IsRun p m → (t : ℕ) (y : Task) (n : Name) → slice_get m.tasks t ≡ Some y → In (task_names y) n → IsHeld m t n
 held p m r t y n =
-    let L : State → Type 0 = λ w. slice_get w.tasks t ≡ Some y → In (task_names y) n → IsHeld w t n in
+    let L : MachineState → Type 0 = λ w. slice_get w.tasks t ≡ Some y → In (task_names y) n → IsHeld w t n in
     subst L (sym r.2) (λ is h. record { stored = (run_stored p r.0 r.1).of_task t y n is h; path = ((run_disentangled p r.0 r.1).of_task t y n is h).1 })
 
--- what an immutable object of a task above refers to isn't the task's own
-pub record RefersUp (m : State) (t : ℕ) (n : Name) (o : Object) : Type 0 where
+-- what an ancestor's immutable object refers to isn't the task's own
+pub record RefersUp (m : MachineState) (t : ℕ) (n : Name) (o : Object) : Type 0 where
   pub others : (k : Name) → In o.refs (Some k) → owner_of m.tasks k.task ≡ t → ⊥
 
-refers_up : (p : ProgramText) (m : State) → IsRun p m → (t : ℕ) (n : Name) (o : Object) → object_at m.store n ≡ Some o → o.mutable ≡ false
+refers_up : (p : ProgramText) (m : MachineState) → IsRun p m → (t : ℕ) (n : Name) (o : Object) → object_at m.store n ≡ Some o → o.mutable ≡ false
     → path_in (parents m.tasks) (owner_of m.tasks n.task) t ≡ true → (owner_of m.tasks n.task ≡ t → ⊥) → RefersUp m t n o
 refers_up p m r t n o =
-    let L : State → Type 0 = λ w. object_at w.store n ≡ Some o → o.mutable ≡ false → path_in (parents w.tasks) (owner_of w.tasks n.task) t ≡ true → (owner_of w.tasks n.task ≡ t → ⊥) → RefersUp w t n o in
+    let L : MachineState → Type 0 = λ w. object_at w.store n ≡ Some o → o.mutable ≡ false → path_in (parents w.tasks) (owner_of w.tasks n.task) t ≡ true → (owner_of w.tasks n.task ≡ t → ⊥) → RefersUp w t n o in
     subst L (sym r.2) (λ is frozen on ne. record {
       others = λ k h own.
           let w = run p r.0 r.1 in
@@ -78,17 +40,17 @@ refers_up p m r t n o =
 
 -- ---- THE OBJECT
 
--- an object that a task can read: what a cell has of it
-pub record CanRead (m : State) (t : ℕ) (y : Task) (place : Places) (n : Name) (c : Cell) : Type 0 where
+-- an object that a task can read: its cell
+pub record CanRead (m : MachineState) (t : ℕ) (y : Task) (place : Places) (n : Name) (c : Cell) : Type 0 where
   pub object : Object
   pub is : object_at m.store n ≡ Some object
   pub refs : length c.refs ≡ length object.refs
   pub ints : c.ints ≡ object.ints
-  pub field : (j : ℕ) → IsAt place (option_flatten (slice_get object.refs j)) (unwrap_or (slice_get c.refs j) None)
+  pub field : (j : ℕ) → NamesAddress place (option_flatten (slice_get object.refs j)) (unwrap_or (slice_get c.refs j) None)
   pub alone : (i : Instr) → is_read i ≡ true → touched y.top i ≡ Some n → works_alone m t y.top i ≡ true
   pub free : ReadsFreely m t y object
 
-module _ (p : ProgramText) (part : Private) (m : State) (above : Places) (F : FitsNow p part m above) (line : Line) (at : fetched p (x p part m above F).top ≡ Some line) where
+module _ (p : ProgramText) (part : Private) (m : MachineState) (above : Places) (F : FitsNow p part m above) (line : Line) (at : fetched p (x p part m above F).top ≡ Some line) where
   abbrev Can : Name → Cell → Type 0
   Can n c = CanRead m part.task F.task F.place n c
 
@@ -109,7 +71,7 @@ module _ (p : ProgramText) (part : Private) (m : State) (above : Places) (F : Fi
       own_works : (i : Instr) → touched F.task.top i ≡ Some n → works_alone m part.task F.task.top i ≡ true
       own_works i tie = ap (λ q. owns m.tasks part.task q || (is_read i && is_frozen_above m part.task q)) tie ∙ ap (λ b. b || (is_read i && is_frozen_above m part.task (Some n))) (eq-eqb (owner_of m.tasks n.task) part.task O.owned)
 
-  -- AN OBJECT OF A TASK ABOVE
+  -- AN ANCESTOR'S OBJECT
   module _ (o : ℕ) (n : Name) (a : Addr) (en : ref_in F.task.top o ≡ Some n) (is : F.place n ≡ Some a) (other : (owner_of m.tasks n.task == part.task) ≡ false) where
     ne : owner_of m.tasks n.task ≡ part.task → ⊥
     ne = eqb-false (owner_of m.tasks n.task) part.task other
@@ -131,7 +93,7 @@ module _ (p : ProgramText) (part : Private) (m : State) (above : Places) (F : Fi
         ∙ (ap (λ w. is_read i && is_frozen w) up.stored.1 ∙ ap (λ z. is_read i && not z) mut)))
 
     -- a reference of it has its address by the map of the part too
-    here_too : (r : Option Name) (b : Option Addr) → ((k : Name) → r ≡ Some k → owner_of m.tasks k.task ≡ part.task → ⊥) → IsAt above r b → IsAt F.place r b
+    here_too : (r : Option Name) (b : Option Addr) → ((k : Name) → r ≡ Some k → owner_of m.tasks k.task ≡ part.task → ⊥) → NamesAddress above r b → NamesAddress F.place r b
     here_too None None apart h = tt
     here_too None (Some b) apart h = absurd h
     here_too (Some k) None apart h = absurd h
@@ -152,7 +114,7 @@ module _ (p : ProgramText) (part : Private) (m : State) (above : Places) (F : Fi
       where
         frozen_free : q.mutable ≡ false → ReadsFreely m part.task F.task q
         frozen_free frozen =
-            let L : State → Type 0 = λ w. Holds w part.task F.task n q → q.mutable ≡ false → ReadsFreely w part.task F.task q in
+            let L : MachineState → Type 0 = λ w. Holds w part.task F.task n q → q.mutable ≡ false → ReadsFreely w part.task F.task q in
             let law : L m = subst L (sym F.reached.2) (frozen_reads_go p F.reached.0 F.reached.1 part.task F.task n q) in
             law (record { task = F.is; running = F.running; name = contains_from_in _ n (in_names o n en); object = up.stored.1 }) frozen
 
@@ -173,7 +135,7 @@ module _ (p : ProgramText) (part : Private) (m : State) (above : Places) (F : Fi
         shown_in n a en is other (seen_at part.view a)
         (F.shown n a (q o n a en is other) (above_at o n a en is other) (up o n a en is other).path (ne o n a en is other) (up o n a en is other).stored.1)
 
-    seen_by : (n : Option Name) (a : Option Addr) → ref_in F.task.top o ≡ n → IsAt F.place n a → Agrees p part m above (with_seen part a go)
+    seen_by : (n : Option Name) (a : Option Addr) → ref_in F.task.top o ≡ n → NamesAddress F.place n a → Agrees p part m above (with_seen part a go)
     seen_by None None en h = trap_shared p part m above F line at i e Nil (nil en)
     seen_by None (Some a) en h = absurd h
     seen_by (Some n) None en h = absurd h

@@ -1,4 +1,4 @@
-// Steps that only calculate: one after the other, with the top frame at hand.
+// Steps that only calculate, one after the other, on the top frame.
 
 ghost use Rattle.std.specs.Prelude.{◌≡◌, ◌≤◌, ◌<◌, ◌+◌, ◌^◌, false, None, option_copied};
 ghost use Rattle.hh_lang.specs.Form.{line_at};
@@ -10,11 +10,11 @@ use crate::plan::Plan;
 use hh_lang::{Instr, IntReg, Line, Operator, Program, RefReg};
 use hh_model::calculate;
 use object_layout::{Addr, is_same_reference};
-use task_frames::Frame;
+use task_frames::CallFrame;
 
 /// Sets a number register, and goes on with the next instruction.
 #[inline(always)]
-pub(crate) fn set_int(frame: &mut Frame, target: IntReg, value: i64)
+pub(crate) fn set_int(frame: &mut CallFrame, target: IntReg, value: i64)
     requires { frame.old.next + 1 < 2 ^ 32 }
     ensures { frame.new ≡ next_with_int frame.old target value }
 {
@@ -24,7 +24,7 @@ pub(crate) fn set_int(frame: &mut Frame, target: IntReg, value: i64)
 
 /// Sets a reference register, and goes on with the next instruction.
 #[inline(always)]
-pub(crate) fn set_reference(frame: &mut Frame, target: RefReg, value: Option<Addr>)
+pub(crate) fn set_reference(frame: &mut CallFrame, target: RefReg, value: Option<Addr>)
     requires { frame.old.next + 1 < 2 ^ 32 }
     ensures { frame.new ≡ next_with_ref frame.old target value }
 {
@@ -32,10 +32,16 @@ pub(crate) fn set_reference(frame: &mut Frame, target: RefReg, value: Option<Add
     frame.next += 1;
 }
 
-// Sets a register by an operator and goes on with the next instruction, or leaves the frame as it is where that
-// divides by 0.
+// Sets a register by an operator and goes on with the next instruction, or leaves the frame unchanged if that divides
+// by 0.
 #[inline(always)]
-fn calc(frame: &mut Frame, operator: Operator, target: IntReg, left: IntReg, right: IntReg) -> bool
+fn calc(
+    frame: &mut CallFrame,
+    operator: Operator,
+    target: IntReg,
+    left: IntReg,
+    right: IntReg,
+) -> bool
     requires { frame.old.next + 1 < 2 ^ 32 }
     ensures only { result ≡ is_calculation frame.old (Instr.Calc operator target left right) }
     ensures makes { frame.new ≡ calculation (Instr.Calc operator target left right) frame.old }
@@ -51,9 +57,9 @@ fn calc(frame: &mut Frame, operator: Operator, target: IntReg, left: IntReg, rig
     }
 }
 
-// Goes on elsewhere where a register is 0, and else with the next instruction.
+// Goes on elsewhere if a register is 0, otherwise with the next instruction.
 #[inline(always)]
-fn jump_at_zero(frame: &mut Frame, tested: IntReg, to: u32)
+fn jump_at_zero(frame: &mut CallFrame, tested: IntReg, to: u32)
     requires { frame.old.next + 1 < 2 ^ 32 }
     ensures makes { frame.new ≡ calculation (Instr.Jz tested to) frame.old }
     ensures function { frame.new.function ≡ frame.old.function }
@@ -65,9 +71,9 @@ fn jump_at_zero(frame: &mut Frame, tested: IntReg, to: u32)
     }
 }
 
-// Does an instruction that only calculates, or leaves the frame as it is.
+// Executes an instruction that only calculates, or leaves the frame unchanged.
 #[inline(always)]
-fn calculate_once(frame: &mut Frame, instr: &Instr) -> bool
+fn calculate_once(frame: &mut CallFrame, instr: &Instr) -> bool
     requires { frame.old.next + 1 < 2 ^ 32 }
     ensures only { result ≡ is_calculation frame.old instr.now }
     ensures makes { frame.new ≡ calculation instr.now frame.old }
@@ -94,7 +100,7 @@ fn calculate_once(frame: &mut Frame, instr: &Instr) -> bool
 }
 
 /// Whether an instruction only calculates.
-pub(crate) fn calculates(frame: &Frame, instr: &Instr) -> bool
+pub(crate) fn calculates(frame: &CallFrame, instr: &Instr) -> bool
     ensures { result ≡ is_calculation frame.now instr.now }
 {
     match instr {
@@ -112,9 +118,13 @@ pub(crate) fn calculates(frame: &Frame, instr: &Instr) -> bool
     }
 }
 
-// Calculates as long as what comes next is a calculation, at most so many times: how many times, and then the line that
-// comes next, unless so many are spent.
-fn calculate_on<'a>(frame: &mut Frame, program: &'a Program, most: u32) -> (u32, Option<&'a Line>)
+// Calculates as long as the next instruction is a calculation, at most `most` times: returns how many times, and the
+// next line, unless the budget is used up.
+fn calculate_on<'a>(
+    frame: &mut CallFrame,
+    program: &'a Program,
+    most: u32,
+) -> (u32, Option<&'a Line>)
     ensures most { result.0 ≤ most }
     ensures leads { Leads program.now frame.old result.0 frame.new }
     ensures line { result.0 < most → option_copied result.1 ≡ line_at program.now frame.new.function frame.new.next }
@@ -147,8 +157,8 @@ impl Private {
         self.fresh += 1;
     }
 
-    /// Takes steps as long as they only calculate, at most so many: how many it took, and then the line that comes
-    /// next, unless so many are spent.
+    /// Takes steps as long as they only calculate, at most `most`: returns how many, and the next line, unless the
+    /// budget is used up.
     pub(crate) fn calculate<'a>(
         &mut self,
         program: &'a Program,

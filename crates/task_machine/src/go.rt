@@ -1,4 +1,4 @@
-// What an instruction comes to, done at once: each plan is looked for first where its instruction most often leads.
+// Plans executed at once: for each instruction the most frequent plan is tested first.
 
 ghost use Rattle.std.specs.Prelude.{◌≡◌, ◌<◌, ◌+◌, ◌^◌};
 ghost use Rattle.task_machine.specs.Plan.{planned};
@@ -6,12 +6,12 @@ ghost use Rattle.task_machine.specs.Ready.{IsReady, IsSafe, IsWide};
 ghost use Rattle.task_machine.specs.Run.{ComesOf};
 
 use crate::part::Private;
-use crate::plan::{Came, Plan};
+use crate::plan::{Plan, StepResult};
 use hh_lang::Instr;
 
 impl Private {
-    // Does what a plan says, or tells why it pauses.
-    fn take(&mut self, plan: Plan) -> Came
+    // Executes a plan, or returns why it pauses.
+    fn take(&mut self, plan: Plan) -> StepResult
         requires next { self.old.frames.top.next + 1 < 2 ^ 32 }
         requires fresh { self.old.fresh + 1 < 2 ^ 32 }
         requires few { self.old.allocations + 1 < 2 ^ 32 }
@@ -20,7 +20,7 @@ impl Private {
         ensures { ComesOf self.old plan self.new result }
     {
         match plan {
-            Plan::Pause(why) => return Came::Stopped(why),
+            Plan::Pause(why) => return StepResult::Stopped(why),
             Plan::Calculate(instr) => self.calculate_one(&instr),
             Plan::SetInt(target, value) => self.set_int(target, value),
             Plan::SetReference(target, value) => self.set_reference(target, value),
@@ -33,25 +33,25 @@ impl Private {
             Plan::Swap(target, own, at, value) => self.swap(target, own, at, value),
             Plan::Freeze(own) => self.freeze(own),
         }
-        Came::Taken
+        StepResult::Taken
     }
 
     // Calls a function.
-    fn take_call(&mut self, function: u32) -> Came
+    fn take_call(&mut self, function: u32) -> StepResult
         requires next { self.old.frames.top.next + 1 < 2 ^ 32 }
         requires fresh { self.old.fresh + 1 < 2 ^ 32 }
         requires ready { IsReady self.old (Plan.Call function) }
         ensures { ComesOf self.old (Plan.Call function) self.new result }
     {
         match self.call(function) {
-            Ok(()) => Came::Taken,
-            Err(_) => Came::Wanting,
+            Ok(()) => StepResult::Taken,
+            Err(_) => StepResult::OutOfMemory,
         }
     }
 
-    // Looks at what an instruction comes to, and takes that step.
+    // Makes the plan of an instruction, and executes it.
     #[inline(never)]
-    fn go_slowly(&mut self, instr: &Instr) -> Came
+    fn go_slowly(&mut self, instr: &Instr) -> StepResult
         requires next { self.old.frames.top.next + 1 < 2 ^ 32 }
         requires fresh { self.old.fresh + 1 < 2 ^ 32 }
         requires few { self.old.allocations + 1 < 2 ^ 32 }
@@ -65,9 +65,9 @@ impl Private {
         self.take(plan)
     }
 
-    // Does what an instruction comes to, of which this is the plan: mostly, it sets a number register.
+    // Executes the plan of an instruction that mostly sets a number register.
     #[inline(always)]
-    fn take_int(&mut self, plan: Plan, instr: &Instr) -> Came
+    fn take_int(&mut self, plan: Plan, instr: &Instr) -> StepResult
         requires next { self.old.frames.top.next + 1 < 2 ^ 32 }
         requires fresh { self.old.fresh + 1 < 2 ^ 32 }
         requires few { self.old.allocations + 1 < 2 ^ 32 }
@@ -79,15 +79,15 @@ impl Private {
         match plan {
             Plan::SetInt(target, value) => {
                 self.set_int(target, value);
-                Came::Taken
+                StepResult::Taken
             }
             _ => self.go_slowly(instr),
         }
     }
 
-    // The same of a plan that mostly sets a reference register.
+    // Executes the plan of an instruction that mostly sets a reference register.
     #[inline(always)]
-    fn take_reference(&mut self, plan: Plan, instr: &Instr) -> Came
+    fn take_reference(&mut self, plan: Plan, instr: &Instr) -> StepResult
         requires next { self.old.frames.top.next + 1 < 2 ^ 32 }
         requires fresh { self.old.fresh + 1 < 2 ^ 32 }
         requires few { self.old.allocations + 1 < 2 ^ 32 }
@@ -99,15 +99,15 @@ impl Private {
         match plan {
             Plan::SetReference(target, value) => {
                 self.set_reference(target, value);
-                Came::Taken
+                StepResult::Taken
             }
             _ => self.go_slowly(instr),
         }
     }
 
-    // The same of a plan that mostly writes a field.
+    // Executes the plan of an instruction that mostly writes a field.
     #[inline(always)]
-    fn take_write(&mut self, plan: Plan, instr: &Instr) -> Came
+    fn take_write(&mut self, plan: Plan, instr: &Instr) -> StepResult
         requires next { self.old.frames.top.next + 1 < 2 ^ 32 }
         requires fresh { self.old.fresh + 1 < 2 ^ 32 }
         requires few { self.old.allocations + 1 < 2 ^ 32 }
@@ -120,19 +120,19 @@ impl Private {
         match plan {
             Plan::WriteInt(own, at, value) => {
                 self.write_int(own, at, value);
-                Came::Taken
+                StepResult::Taken
             }
             Plan::WriteReference(own, at, value) => {
                 self.write_reference(own, at, value);
-                Came::Taken
+                StepResult::Taken
             }
             _ => self.go_slowly(instr),
         }
     }
 
-    // The same of a plan that mostly makes an object.
+    // Executes the plan of an instruction that mostly makes an object.
     #[inline(always)]
-    fn take_new(&mut self, plan: Plan, instr: &Instr) -> Came
+    fn take_new(&mut self, plan: Plan, instr: &Instr) -> StepResult
         requires next { self.old.frames.top.next + 1 < 2 ^ 32 }
         requires fresh { self.old.fresh + 1 < 2 ^ 32 }
         requires few { self.old.allocations + 1 < 2 ^ 32 }
@@ -145,16 +145,16 @@ impl Private {
         match plan {
             Plan::New(target, refs, ints) => {
                 self.make_new(target, refs, ints);
-                Came::Taken
+                StepResult::Taken
             }
             _ => self.go_slowly(instr),
         }
     }
 
-    /// Takes the step that an instruction comes to, or says why there is none: mostly it works on an object, since what
-    /// only calculates was done before.
+    /// Takes the step of an instruction, or returns why there is none: mostly it works on an object, since calculations
+    /// were done before.
     #[inline(never)]
-    pub(crate) fn go(&mut self, instr: &Instr) -> Came
+    pub(crate) fn go(&mut self, instr: &Instr) -> StepResult
         requires next { self.old.frames.top.next + 1 < 2 ^ 32 }
         requires fresh { self.old.fresh + 1 < 2 ^ 32 }
         requires few { self.old.allocations + 1 < 2 ^ 32 }

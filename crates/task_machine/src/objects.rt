@@ -1,4 +1,4 @@
-// What an instruction on an object comes to: the task's own object is reached by one look-up of its chunk.
+// The plan of an instruction on an object: the task's own object is reached by one look-up of its chunk.
 
 ghost use Rattle.std.specs.Prelude.{◌≡◌, IfSome, Some};
 ghost use Rattle.object_layout.specs.Chunks.{cell_of};
@@ -15,7 +15,7 @@ use hh_lang::{Instr, IntReg, RefReg};
 use object_layout::{Chunk, header_at, int_at, is_same_reference, ref_at};
 
 impl Private {
-    /// The object that a register names, where it is the task's own; None for nil and for another task's.
+    /// The object that a register names, if it is the task's own; None for nil and for another task's.
     #[inline(always)]
     fn own(&self, register: RefReg) -> Option<Spot>
         requires safe { IsSafe self.now }
@@ -27,7 +27,7 @@ impl Private {
         Some(Spot { object, place })
     }
 
-    /// The chunk in which an own object lies.
+    /// The chunk of an own object.
     #[inline(always)]
     fn chunk_of(&self, own: Spot) -> &Chunk
         requires there { IsThere self.now.heap.chunks own }

@@ -1,4 +1,4 @@
-// What a read comes to of an object that isn't the task's own: the part's view may show it.
+// The plan of a read of an object that isn't the task's own: the part's view may show it.
 
 ghost use Rattle.std.specs.Prelude.{◌≡◌, IfSome, Some, option_map};
 ghost use Rattle.object_layout.specs.Cell.{header_of};
@@ -20,7 +20,7 @@ pub(crate) struct Shown {
 }
 
 impl Private {
-    /// The immutable object that a register names, where the view shows it.
+    /// The immutable object that a register names, if the view shows it.
     fn shown(&self, register: RefReg) -> Option<Shown>
         ensures kind { option_map (λ s. s.header) result ≡ option_map header_of (shown_of self.now.view (ref_of self.now.frames.top register)) }
         ensures named { IfSome result (λ s. ref_of self.now.frames.top register ≡ Some s.object) }

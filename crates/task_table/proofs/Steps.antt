@@ -1,19 +1,9 @@
 -- One entry more, and one line more, of a table.
-use Rattle.std.proofs.Common.{◌≡◌, ◌<◌, ◌+◌, ℕ, List, ◌++◌, length, drop, get_or, ap, sym, ◌∙◌, append_assoc}
-use Rattle.std.specs.Prelude.{slice_get}
-use Rattle.std.proofs.lemmas.List.{drop_more}
-use Rattle.run_journal.specs.below.hh_lang.{ProgramText}
-use Rattle.run_journal.specs.below.run_trace.{EntryValue}
-use Rattle.run_journal.specs.below.run_ledger.{Ledger, after}
-use Rattle.run_journal.specs.BookValue.{BookValue}
-use Rattle.run_journal.proofs.Replays.{cut}
-use Rattle.task_table.specs.declared.row.Row.{Row}
-use Rattle.task_table.specs.Rows.{rows_with, rows_from}
-use Rattle.task_table.specs.Table.{line_at, lines_from}
+use Rattle.task_table.proofs.Common.{◌≡◌, ◌<◌, ◌+◌, ℕ, List, ◌++◌, length, drop, get_or, ap, sym, ◌∙◌, append_assoc, slice_get, drop_more, ProgramText, EntryValue, Ledger, after, BookValue, cut, TaskRow, rows_with, rows_from, line_at, lines_from}
 
 module _ (journal : List EntryValue) (b b' : BookValue) (i : ℕ) (e : EntryValue) (lt : i < length journal) (is : e ≡ get_or journal i e) (eb : b' ≡ record b { ledger = after b.program b.settings b.ledger e }) where
   -- the rows behind the rest of a journal, also behind the entry
-  pub rows_on : (p : ProgramText) (rows more all : List Row) → b.program ≡ p
+  pub rows_on : (p : ProgramText) (rows more all : List TaskRow) → b.program ≡ p
       → rows_from b.program b.settings b.ledger rows (drop i journal) ≡ all
       → more ≡ rows_with p b.ledger (after b.program b.settings b.ledger e) e rows
       → rows_from b'.program b'.settings b'.ledger more (drop (i + 1) journal) ≡ all
@@ -23,7 +13,7 @@ module _ (journal : List EntryValue) (b b' : BookValue) (i : ℕ) (e : EntryValu
       ∙ inv
 
 -- the line of a row, and the lines behind it
-pub lines_on : (p : ProgramText) (l : Ledger) (rows : List Row) (i t : ℕ) (r : Row) (now later all : List ℕ) → i < length rows → r ≡ get_or rows i r
+pub lines_on : (p : ProgramText) (l : Ledger) (rows : List TaskRow) (i t : ℕ) (r : TaskRow) (now later all : List ℕ) → i < length rows → r ≡ get_or rows i r
     → now ++ lines_from p l t (drop i rows) ≡ all → later ≡ now ++ line_at p l t (slice_get l.machine.tasks t) r → later ++ lines_from p l (t + 1) (drop (i + 1) rows) ≡ all
 lines_on p l rows i t r now later all lt is inv e =
     ap (λ x. x ++ lines_from p l (t + 1) (drop (i + 1) rows)) (e ∙ ap (λ x. now ++ line_at p l t (slice_get l.machine.tasks t) x) is)

@@ -4,8 +4,8 @@ ghost use Rattle.std.specs.Prelude.{◌≡◌, ◌++◌, OnOk, slice_get};
 ghost use Rattle.run_journal.specs.below.hh_model.{row_of};
 ghost use Rattle.task_table.specs.Lines.{field, number_field, maybe_field, signed_field, fork_fields, words_onto, status_word, end_word, place_fields, work_fields, memory_fields, task_line};
 
-use crate::row::{Fork, Row};
-use run_journal::{End, Object, Program, RunEnd, State, Status, Task};
+use crate::row::{ForkOrigin, TaskRow};
+use run_journal::{End, MachineState, Object, Program, RunEnd, Task, TaskStatus};
 use run_names::function_name;
 use std::alloc::{AllocError, Global};
 
@@ -49,7 +49,7 @@ fn add_fork(
     alloc: Global,
     text: &mut Vec<u8>,
     program: &Program,
-    fork: Option<Fork>,
+    fork: Option<ForkOrigin>,
 ) -> Result<(), AllocError>
     ensures { OnOk result (text.new.items ≡ text.old.items ++ fork_fields program.now fork) }
 {
@@ -78,7 +78,7 @@ fn words_of(objects: &[Object]) -> u64
 }
 
 // The objects that a task allocated.
-fn objects_of(state: &State, task: u32) -> &[Object]
+fn objects_of(state: &MachineState, task: u32) -> &[Object]
     ensures { result.now ≡ row_of (slice_get state.now.store task) }
 {
     match state.store.get(task as usize) {
@@ -87,18 +87,18 @@ fn objects_of(state: &State, task: u32) -> &[Object]
     }
 }
 
-fn status_word(status: Status) -> &'static str
+fn status_word(status: TaskStatus) -> &'static str
     ensures { result.now ≡ status_word status }
 {
     match status {
-        Status::Running => "running",
-        Status::Waiting => "waiting",
-        Status::Ended(_, _) => "ended",
-        Status::Joined => "joined",
+        TaskStatus::Running => "running",
+        TaskStatus::Waiting => "waiting",
+        TaskStatus::Ended(_, _) => "ended",
+        TaskStatus::Joined => "joined",
     }
 }
 
-fn end_word(end: Option<RunEnd>, task: u32, status: Status) -> &'static str
+fn end_word(end: Option<RunEnd>, task: u32, status: TaskStatus) -> &'static str
     ensures { result.now ≡ end_word end task status }
 {
     match end {
@@ -114,7 +114,7 @@ fn add_place(
     program: &Program,
     number: u32,
     task: &Task,
-    row: Row,
+    row: TaskRow,
 ) -> Result<(), AllocError>
     ensures { OnOk result (text.new.items ≡ text.old.items ++ place_fields program.now number task.now row) }
 {
@@ -125,7 +125,7 @@ fn add_place(
     add_number(alloc, text, task.depth as u64)
 }
 
-fn add_work(alloc: Global, text: &mut Vec<u8>, row: Row) -> Result<(), AllocError>
+fn add_work(alloc: Global, text: &mut Vec<u8>, row: TaskRow) -> Result<(), AllocError>
     ensures { OnOk result (text.new.items ≡ text.old.items ++ work_fields row) }
 {
     add_maybe(alloc, text, row.worker)?;
@@ -137,7 +137,7 @@ fn add_memory(
     alloc: Global,
     text: &mut Vec<u8>,
     objects: &[Object],
-    row: Row,
+    row: TaskRow,
 ) -> Result<(), AllocError>
     ensures { OnOk result (text.new.items ≡ text.old.items ++ memory_fields objects.now row) }
 {
@@ -151,11 +151,11 @@ pub(crate) fn add_line(
     alloc: Global,
     text: &mut Vec<u8>,
     program: &Program,
-    state: &State,
+    state: &MachineState,
     end: Option<RunEnd>,
     number: u32,
     task: &Task,
-    row: Row,
+    row: TaskRow,
 ) -> Result<(), AllocError>
     ensures { OnOk result (text.new.items ≡ text.old.items ++ task_line program.now state.now end number task.now row) }
 {

@@ -2,7 +2,7 @@
 
 /// The fork by which a task was made.
 #[derive(Clone, Copy)]
-pub struct Fork {
+pub struct ForkOrigin {
     /// The line that it stands on.
     pub line: u32,
     /// The function that the task was made for.
@@ -13,9 +13,9 @@ pub struct Fork {
 
 /// What the entries of a journal tell of a task.
 #[derive(Clone, Copy)]
-pub struct Row {
+pub struct TaskRow {
     /// The fork by which it was made; None for the first task.
-    pub fork: Option<Fork>,
+    pub fork: Option<ForkOrigin>,
     /// The worker that took it first.
     pub worker: Option<u32>,
     pub entries: u64,

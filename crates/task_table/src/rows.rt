@@ -3,12 +3,12 @@
 ghost use Rattle.std.specs.Prelude.{◌≡◌, ◌<◌, ◌+◌, ◌^◌, ◌++◌, OnOk, Some, length, option_copied, slice_get};
 ghost use Rattle.task_table.specs.Rows.{half_begin, last_byte, loop_number, made_by, fork_of, fresh_row, first_of, entered, row_after, task_in, rows_after, children, rows_by};
 
-use crate::row::{Fork, Row};
-use run_journal::{Entry, Frame, IntReg, Kind, Listed, Program, State, Task};
+use crate::row::{ForkOrigin, TaskRow};
+use run_journal::{Entry, Frame, IntReg, Kind, Listed, MachineState, Program, Task};
 use run_names::function_name;
 use run_timeline::fork_line;
+use saturating_counts::raised_by;
 use std::alloc::AllocError;
-use still_counts::raised_by;
 
 // The last byte of a name.
 fn last_byte(name: &[u8]) -> Option<u8>
@@ -36,12 +36,12 @@ fn loop_number(program: &Program, frame: &Frame) -> Option<i64>
 }
 
 // The fork at a line by which a task has just been made.
-fn made_by(program: &Program, line: u32, task: Option<&Task>) -> Option<Fork>
+fn made_by(program: &Program, line: u32, task: Option<&Task>) -> Option<ForkOrigin>
     ensures { result ≡ made_by program.now line (option_copied task.entry) }
 {
     match task {
         None => None,
-        Some(task) => Some(Fork {
+        Some(task) => Some(ForkOrigin {
             line,
             function: task.top.function,
             number: loop_number(program, &task.top),
@@ -50,7 +50,7 @@ fn made_by(program: &Program, line: u32, task: Option<&Task>) -> Option<Fork>
 }
 
 // The fork by which a task has just been made.
-fn fork_of(program: &Program, state: &State, parent: u32, task: usize) -> Option<Fork>
+fn fork_of(program: &Program, state: &MachineState, parent: u32, task: usize) -> Option<ForkOrigin>
     ensures { result ≡ fork_of program.now state.now parent task }
 {
     let line = fork_line(program, state.tasks.get(parent as usize));
@@ -58,10 +58,10 @@ fn fork_of(program: &Program, state: &State, parent: u32, task: usize) -> Option
 }
 
 /// What is told of a task that no entry has told of.
-pub(crate) fn fresh_row(fork: Option<Fork>) -> Row
+pub(crate) fn fresh_row(fork: Option<ForkOrigin>) -> TaskRow
     ensures { result ≡ fresh_row fork }
 {
-    Row {
+    TaskRow {
         fork,
         worker: None,
         entries: 0,
@@ -80,7 +80,7 @@ fn first_of(first: Option<u32>, worker: u32) -> Option<u32>
 }
 
 // With an entry more.
-fn entered(row: Row) -> Row
+fn entered(row: TaskRow) -> TaskRow
     ensures { result ≡ entered row }
 {
     let mut row = row;
@@ -89,7 +89,7 @@ fn entered(row: Row) -> Row
 }
 
 // With what an entry tells.
-fn row_after(worker: u32, lost: u64, kind: Kind, row: Row) -> Row
+fn row_after(worker: u32, lost: u64, kind: Kind, row: TaskRow) -> TaskRow
     ensures { result ≡ row_after worker lost kind row }
 {
     let mut more = entered(row);
@@ -122,14 +122,14 @@ fn task_in(kind: Kind) -> Option<u32>
 }
 
 // The row of a task.
-fn row_at(rows: &Listed<Row>, task: usize) -> Option<Row>
+fn row_at(rows: &Listed<TaskRow>, task: usize) -> Option<TaskRow>
     ensures { result ≡ slice_get rows.now task }
 {
     rows.get(task).copied()
 }
 
 // Tells of a task.
-fn tell(rows: &mut Listed<Row>, worker: u32, lost: u64, kind: Kind, task: u32)
+fn tell(rows: &mut Listed<TaskRow>, worker: u32, lost: u64, kind: Kind, task: u32)
     ensures { rows.new ≡ rows_after rows.old worker lost kind (Some task) }
 {
     match row_at(rows, task as usize) {
@@ -141,10 +141,10 @@ fn tell(rows: &mut Listed<Row>, worker: u32, lost: u64, kind: Kind, task: u32)
 // Adds the rows of the children that a task has just forked.
 fn add_children(
     program: &Program,
-    state: &State,
+    state: &MachineState,
     made: u64,
     task: u32,
-    rows: &mut Listed<Row>,
+    rows: &mut Listed<TaskRow>,
 ) -> Result<(), AllocError>
     requires { made + 1 < 2 ^ 64 }
     ensures { OnOk result (rows.new ≡ rows.old ++ children program.now state.now made (length state.now.tasks) (Some task)) }
@@ -160,11 +160,11 @@ fn add_children(
 /// Tells what an entry tells, behind which the machine is so.
 pub(crate) fn tell_entry(
     program: &Program,
-    state: &State,
+    state: &MachineState,
     made: u64,
     lost: u64,
     entry: Entry,
-    rows: &mut Listed<Row>,
+    rows: &mut Listed<TaskRow>,
 ) -> Result<(), AllocError>
     requires { made + 1 < 2 ^ 64 }
     ensures { OnOk result (rows.new ≡ rows_by program.now state.now made lost entry rows.old) }

@@ -9,7 +9,7 @@ ghost use Rattle.task_table.specs.Rows.{fresh_row, rows_with, rows_from};
 ghost use Rattle.task_table.specs.Table.{first_line, line_at, lines_from, table};
 
 use crate::lines::add_line;
-use crate::row::Row;
+use crate::row::TaskRow;
 use crate::rows::{fresh_row, tell_entry};
 use run_journal::{
     ApplyError, Book, Entry, Listed, Program, Refused, RefusedAt, ReplayError, Settings,
@@ -21,7 +21,7 @@ use std::alloc::{AllocError, Global};
 fn enter(
     program: &Program,
     book: &mut Book,
-    rows: &mut Listed<Row>,
+    rows: &mut Listed<TaskRow>,
     entry: Entry,
 ) -> Result<(), ApplyError>
     requires open { book.old.stopped ≡ false }
@@ -45,7 +45,7 @@ fn enter(
 fn enter_all(
     program: &Program,
     book: &mut Book,
-    rows: &mut Listed<Row>,
+    rows: &mut Listed<TaskRow>,
     journal: &[Entry],
 ) -> Result<(), ReplayError>
     requires settings { AreSettings book.old.settings }
@@ -77,7 +77,7 @@ fn add_row(
     program: &Program,
     book: &Book,
     number: u32,
-    row: Row,
+    row: TaskRow,
 ) -> Result<(), AllocError>
     ensures { OnOk result (text.new.items ≡ text.old.items ++ line_at program.now book.now.ledger number (slice_get book.now.ledger.machine.tasks number) row) }
 {
@@ -102,7 +102,7 @@ fn add_rows(
     text: &mut Vec<u8>,
     program: &Program,
     book: &Book,
-    rows: &[Row],
+    rows: &[TaskRow],
 ) -> Result<(), AllocError>
     ensures { OnOk result (text.new.items ≡ text.old.items ++ lines_from program.now book.now.ledger 0 rows.now) }
 {
@@ -122,7 +122,7 @@ fn text_of(
     alloc: Global,
     program: &Program,
     book: &Book,
-    rows: &[Row],
+    rows: &[TaskRow],
 ) -> Result<Vec<u8>, AllocError>
     ensures { IfOk result (λ text. text.items ≡ first_line ++ lines_from program.now book.now.ledger 0 rows.now) }
 {
@@ -135,7 +135,7 @@ fn text_of(
 }
 
 // The rows before the first entry.
-fn first_rows(alloc: Global) -> Result<Listed<Row>, AllocError>
+fn first_rows(alloc: Global) -> Result<Listed<TaskRow>, AllocError>
     ensures { IfOk result (λ rows. rows ≡ fresh_row None ∷ []) }
 {
     let mut rows = Listed::new(alloc);

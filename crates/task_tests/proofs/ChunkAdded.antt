@@ -1,23 +1,5 @@
 -- A part that gets an empty chunk still fits.
-use Rattle.std.proofs.Common.{◌≡◌, ◌≢◌, ℕ, ◌≤◌, cond, Some, List, [], ◌∷◌, ◌++◌, length, refl, ap, sym, subst, ◌∙◌, eqb, inl, inr}
-use Rattle.std.proofs.lemmas.Bool.{cases_Bool, ne_eqb}
-use Rattle.object_layout.specs.declared.word.Addr.{Addr}
-use Rattle.object_layout.specs.Cell.{Cell}
-use Rattle.object_layout.specs.Chunks.{cell_of, place_in}
-use Rattle.object_layout.specs.ChunkValue.{ChunkValue}
-use Rattle.object_layout.specs.Place.{cell_at}
-use Rattle.alloc_path.specs.LeafHeapValue.{LeafHeapValue, IsFresh, added, with_places}
-use Rattle.alloc_path.proofs.HeapLemmas.{place_in-push}
-use Rattle.hh_lang.specs.Form.{ProgramText}
-use Rattle.hh_model.specs.declared.data.Name.{Name}
-use Rattle.hh_model.specs.declared.data.Object.{Object}
-use Rattle.hh_model.specs.declared.data.State.{State}
-use Rattle.hh_model.specs.Step.{owner_of}
-use Rattle.task_machine.specs.declared.part.Private.{Private}
-use Rattle.task_machine.specs.Place.{Places, name_of}
-use Rattle.task_machine.specs.Fits.{FitsNow, HeapStands, IsOwn}
-use Rattle.task_machine.proofs.Added.{chunks_added, shape_added}
-use Rattle.task_machine.proofs.Entries.{now_changed}
+use Rattle.task_tests.proofs.Common.{◌≡◌, ◌≢◌, ℕ, ◌≤◌, cond, Some, List, [], ◌∷◌, ◌++◌, length, refl, ap, sym, subst, ◌∙◌, eqb, inl, inr, cases_Bool, ne_eqb, Addr, Cell, cell_of, place_in, ChunkValue, cell_at, LeafHeapValue, IsFresh, added, with_places, place_in-push, ProgramText, Name, Object, MachineState, owner_of, Private, Places, name_of, FitsNow, HeapStands, IsOwn, chunks_added, shape_added, now_changed}
 
 -- no name has an address in the chunk of this number
 abbrev pub IsOutside : Places → ℕ → Type 0
@@ -48,7 +30,7 @@ module _ (h : LeafHeapValue) (k : ChunkValue) (empty : k.cells ≡ []) (fresh : 
     within = H.within;
   }
 
-pub chunk_fits : (p : ProgramText) (old : Private) (m : State) (above : Places) (k : ChunkValue) (slots spare : ℕ) → FitsNow p old m above → IsOutside above k.number → k.cells ≡ [] → 1024 ≤ k.size → IsFresh old.heap.chunks k.number
+pub chunk_fits : (p : ProgramText) (old : Private) (m : MachineState) (above : Places) (k : ChunkValue) (slots spare : ℕ) → FitsNow p old m above → IsOutside above k.number → k.cells ≡ [] → 1024 ≤ k.size → IsFresh old.heap.chunks k.number
     → FitsNow p (record old { heap = with_places (added old.heap k) slots spare }) m above
 chunk_fits p old m above k slots spare F out empty sized fresh =
     let h : LeafHeapValue = with_places (added old.heap k) slots spare in

@@ -1,2 +1,3 @@
 mod ChunkAdded
 mod RootPart
+mod Common

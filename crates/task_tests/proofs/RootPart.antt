@@ -1,17 +1,5 @@
 -- The root before its first step fits the machine before its first.
-use Rattle.std.proofs.Common.{◌≡◌, ℕ, None, List, [], replicate, refl, sym, subst}
-use Rattle.std.specs.Prelude.{pos}
-use Rattle.std.proofs.lemmas.Option.{none-some}
-use Rattle.object_layout.specs.declared.word.Birth.{Birth}
-use Rattle.object_layout.specs.Cell.{Born, Hole}
-use Rattle.object_layout.specs.ChunkValue.{ChunkValue}
-use Rattle.alloc_path.specs.LeafHeapValue.{AreApart, LeafHeapValue, IsCurrent, IsReserved}
-use Rattle.hh_lang.specs.Form.{ProgramText}
-use Rattle.hh_model.specs.Step.{owner_of, root, start}
-use Rattle.task_machine.specs.declared.part.Private.{Private}
-use Rattle.task_machine.specs.Fits.{FitsNow, HeapStands, IsShaped}
-use Rattle.task_machine.proofs.Stands.{at_nils}
-use Rattle.task_tests.specs.Root.{nowhere}
+use Rattle.task_tests.proofs.Common.{◌≡◌, ℕ, None, List, [], replicate, refl, sym, subst, pos, none-some, Birth, Born, Hole, ChunkValue, HaveDistinctNumbers, LeafHeapValue, IsCurrent, IsReserved, ProgramText, owner_of, root, start, Private, FitsNow, HeapStands, IsShaped, at_nils, nowhere}
 
 -- its part
 abbrev pub first_part : ProgramText → LeafHeapValue → ℕ → ℕ → Private
@@ -42,7 +30,7 @@ empty_stands p limit = record {
 
 empty_shape : (h : LeafHeapValue) → h.chunks ≡ [] → h.current ≡ None → h.reserved ≡ None → IsShaped h
 empty_shape h k c r = record {
-  apart = subst AreApart (sym k) tt;
+  apart = subst HaveDistinctNumbers (sym k) tt;
   current = subst (IsCurrent h.chunks) (sym c) tt;
   reserved = subst (IsReserved h.chunks) (sym r) tt;
 }

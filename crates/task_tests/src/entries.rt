@@ -5,7 +5,7 @@ ghost use Rattle.task_machine.specs.Ready.{FitsSome};
 
 use crate::parts::{AMPLE, Pause, Setup, pause, program_of, root_of};
 use hh_lang::Program;
-use listed::Listed;
+use plain_vec::Listed;
 use std::alloc::Global;
 use task_machine::{Begun, Paused, Private};
 

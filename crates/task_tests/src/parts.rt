@@ -3,16 +3,16 @@
 ghost use Rattle.std.specs.Prelude.{◌≡◌, ◌≤◌, [], IfSome, IsTrue, None};
 ghost use Rattle.object_layout.specs.Cell.{chunk_words};
 ghost use Rattle.hh_lang.specs.Form.{ProgramText};
-ghost use Rattle.hh_model.specs.declared.data.State.{State};
+ghost use Rattle.hh_model.specs.declared.data.MachineState.{MachineState};
 ghost use Rattle.hh_model.specs.Step.{start};
 ghost use Rattle.task_machine.specs.Fits.{FitsNow};
 ghost use Rattle.task_machine.specs.Ready.{FitsSome};
 ghost use Rattle.task_tests.specs.Root.{first_frames, nowhere};
 
-use alloc_path::{LeafHeap, View};
 use hh_lang::Program;
+use io_traits::EmptyGate;
+use leaf_heap::{LeafHeap, View};
 use object_layout::{Addr, Chunk};
-use outside_io::EmptyGate;
 use program_reader::read_program;
 use std::alloc::Global;
 use task_frames::Frames;
@@ -75,7 +75,7 @@ fn add_first_chunk(part: &mut Private, chunk: Chunk) -> bool
     requires empty { chunk.cells ≡ [] }
     requires size { chunk_words ≤ chunk.size }
     requires first { part.old.heap.chunks ≡ [] }
-    ensures fits { IsTrue result → (p : ProgramText) (m : State) → FitsNow p part.old m nowhere → FitsNow p part.new m nowhere }
+    ensures fits { IsTrue result → (p : ProgramText) (m : MachineState) → FitsNow p part.old m nowhere → FitsNow p part.new m nowhere }
     ensures idle { part.new.begun ≡ part.old.begun }
 {
     match part.heap.add(chunk) {

@@ -1,19 +1,8 @@
 -- The faults of the lines of a text, one line after the other.
-use Rattle.std.proofs.Common.{◌≡◌, ◌<◌, ◌≤◌, ◌+◌, ◌++◌, ℕ, Bool, true, false, List, [], ◌∷◌, length, take, drop, arith, refl, ap, sym, ◌∙◌, append_assoc, append-nil}
-use Rattle.std.specs.Prelude.{◌==◌}
-use Rattle.std.specs.List.{position_or_len}
-use Rattle.text_lines.specs.Lines.{is_last, lines_of}
-use Rattle.text_lines.proofs.Last.{some_line}
-use Rattle.text_faults.specs.declared.fault.Fault.{Fault}
-use Rattle.program_reader.specs.declared.head.Head.{Head}
-use Rattle.program_reader.specs.declared.head.Head.TheVariants.{Blank, Begin, End, Label, Order, Unknown}
-use Rattle.text_faults.specs.declared.walk.Walk.{Walk}
-use Rattle.text_faults.specs.Placed.{PlacedWord, placed_words}
-use Rattle.text_faults.specs.Lines.{head_of, behind_first}
-use Rattle.text_faults.specs.Faults.{faults_on, faults_from, walked, walked_by}
+use Rattle.text_faults.proofs.Common.{◌≡◌, ◌<◌, ◌≤◌, ◌+◌, ◌++◌, ℕ, Bool, true, false, List, [], ◌∷◌, length, take, drop, arith, refl, ap, sym, ◌∙◌, append_assoc, append-nil, ◌==◌, position_or_len, is_last, lines_of, some_line, Head, Blank, Begin, End, Label, Order, Unknown, Fault, LinesAbove, PlacedWord, placed_words, head_of, behind_first, faults_on, faults_from, walked, walked_by}
 use Rattle.text_faults.proofs.TextLines.{first_line, last_line}
 
-module _ (w : Walk) (n end : ℕ) (rest line : List ℕ) (last : Bool) (before now total : List Fault) (at : end ≡ position_or_len (λ c. c == 10) rest) (is : line ≡ take end rest) (added : now ≡ before ++ faults_on w n last line) (whole : before ++ faults_from w n (lines_of rest) ≡ total) where
+module _ (w : LinesAbove) (n end : ℕ) (rest line : List ℕ) (last : Bool) (before now total : List Fault) (at : end ≡ position_or_len (λ c. c == 10) rest) (is : line ≡ take end rest) (added : now ≡ before ++ faults_on w n last line) (whole : before ++ faults_from w n (lines_of rest) ≡ total) where
   pub last_added : end ≡ length rest → last ≡ true → now ≡ total
   last_added z e =
       added
@@ -30,12 +19,12 @@ module _ (w : Walk) (n end : ℕ) (rest line : List ℕ) (last : Bool) (before n
       ∙ ap (λ xs. before ++ faults_from w n xs) (sym d)
       ∙ whole
 
-  pub more_added : (w' : Walk) (below : List ℕ) → below ≡ drop (end + 1) rest → w' ≡ walked w n line (lines_of below) → end < length rest → last ≡ false → now ++ faults_from w' (n + 1) (lines_of below) ≡ total
+  pub more_added : (w' : LinesAbove) (below : List ℕ) → below ≡ drop (end + 1) rest → w' ≡ walked w n line (lines_of below) → end < length rest → last ≡ false → now ++ faults_from w' (n + 1) (lines_of below) ≡ total
   more_added w' below d passed lt e =
       ap (λ v. now ++ faults_from v (n + 1) (lines_of below)) (passed ∙ ap (λ l. walked w n l (lines_of below)) is)
       ∙ more_by (lines_of below) (some_line below) e (first_line rest end at lt ∙ ap (λ b. take end rest ∷ lines_of b) (sym d))
 
-begun_by : (w : Walk) (n : ℕ) (h : Head) (ps : List PlacedWord) (ls : List (List ℕ)) → (walked_by w n h ps ls).begun ≤ w.begun + 1
+begun_by : (w : LinesAbove) (n : ℕ) (h : Head) (ps : List PlacedWord) (ls : List (List ℕ)) → (walked_by w n h ps ls).begun ≤ w.begun + 1
 begun_by w n Blank ps ls = omega arith
 begun_by w n Begin ps ls = omega arith
 begun_by w n End ps ls = omega arith
@@ -43,7 +32,7 @@ begun_by w n Label ps ls = omega arith
 begun_by w n (Order v) ps ls = omega arith
 begun_by w n Unknown ps ls = omega arith
 
-orders_by : (w : Walk) (n : ℕ) (h : Head) (ps : List PlacedWord) (ls : List (List ℕ)) → (walked_by w n h ps ls).orders ≤ w.orders + 1
+orders_by : (w : LinesAbove) (n : ℕ) (h : Head) (ps : List PlacedWord) (ls : List (List ℕ)) → (walked_by w n h ps ls).orders ≤ w.orders + 1
 orders_by w n Blank ps ls = omega arith
 orders_by w n Begin ps ls = omega arith
 orders_by w n End ps ls = omega arith
@@ -51,8 +40,8 @@ orders_by w n Label ps ls = omega arith
 orders_by w n (Order v) ps ls = omega arith
 orders_by w n Unknown ps ls = omega arith
 
-pub begun_next : (w v : Walk) (n : ℕ) (line : List ℕ) (ls : List (List ℕ)) → v ≡ walked w n line ls → v.begun ≤ w.begun + 1
+pub begun_next : (w v : LinesAbove) (n : ℕ) (line : List ℕ) (ls : List (List ℕ)) → v ≡ walked w n line ls → v.begun ≤ w.begun + 1
 begun_next w v n line ls e = rw e (begun_by w n (head_of (placed_words line)) (behind_first (placed_words line)) ls)
 
-pub orders_next : (w v : Walk) (n : ℕ) (line : List ℕ) (ls : List (List ℕ)) → v ≡ walked w n line ls → v.orders ≤ w.orders + 1
+pub orders_next : (w v : LinesAbove) (n : ℕ) (line : List ℕ) (ls : List (List ℕ)) → v ≡ walked w n line ls → v.orders ≤ w.orders + 1
 orders_next w v n line ls e = rw e (orders_by w n (head_of (placed_words line)) (behind_first (placed_words line)) ls)

@@ -1,9 +1,5 @@
 -- The first names of a table.
-use Rattle.std.proofs.Common.{◌≡◌, ◌≤◌, ℕ, zero, suc, List, [], ◌∷◌, ◌++◌, ◌+◌, add-one, map, take, arith, ap, sym, ◌∙◌, inl, inr}
-use Rattle.std.specs.Prelude.{Option, Some, None, slice_get}
-use Rattle.std.proofs.lemmas.List.{take_all}
-use Rattle.std.proofs.lemmas.Option.{slice_get_cases}
-use Rattle.program_reader.specs.Names.{NotedName}
+use Rattle.text_faults.proofs.Common.{◌≡◌, ◌≤◌, ℕ, zero, suc, List, [], ◌∷◌, ◌++◌, ◌+◌, add-one, map, take, arith, ap, sym, ◌∙◌, inl, inr, Option, Some, None, slice_get, take_all, slice_get_cases, NotedName}
 
 -- if no name stands at a place, all names stand before it
 all_taken : (es : List NotedName) (k n : ℕ) → slice_get es k ≡ None → k ≤ n → take k es ≡ take n es

@@ -1,25 +1,13 @@
 -- The first fault of a text.
-use Rattle.std.proofs.Common.{◌≡◌, ◌+◌, ◌++◌, ℕ, Bool, true, false, List, [], ◌∷◌, length, map, refl, ap, sym, ◌∙◌, arith}
-use Rattle.std.specs.Prelude.{Option, Some, None}
-use Rattle.text_lines.specs.Lines.{is_last, lines_of}
-use Rattle.program_reader.specs.declared.cause.Cause.{Cause}
-use Rattle.program_reader.specs.declared.cause.Refused.{Refused}
-use Rattle.program_reader.specs.declared.sense.Outline.{Outline}
-use Rattle.program_reader.specs.Around.{outline_of}
-use Rattle.program_reader.specs.Fault.{spot_of, fault_on, or_later, fault_from, first_fault}
-use Rattle.text_faults.specs.declared.fault.Fault.{Fault}
-use Rattle.text_faults.specs.declared.walk.Walk.{Walk}
-use Rattle.text_faults.specs.Found.{Wronged, wrongs_on}
-use Rattle.text_faults.specs.Faults.{fault_of, walked, walk_of, faults_from, faults_of}
-use Rattle.text_faults.specs.Laws.{first_of_faults}
+use Rattle.text_faults.proofs.Common.{◌≡◌, ◌+◌, ◌++◌, ℕ, Bool, true, false, List, [], ◌∷◌, length, map, refl, ap, sym, ◌∙◌, arith, Option, Some, None, is_last, lines_of, Cause, TextFault, Outline, outline_of, spot_of, fault_on, or_later, fault_from, first_fault, Fault, LinesAbove, Wronged, wrongs_on, fault_of, walked, walk_of, faults_from, faults_of, first_of_faults}
 use Rattle.text_faults.proofs.LineCauses.{first_in, first_is_fault}
 use Rattle.text_faults.proofs.Walks.{IsAt, goes_on, at_first, spot_at, AllKnown, text_known}
 
-first_by : (w : Walk) (n m : ℕ) (fs : List Wronged) (later : List Fault) → n ≡ m → first_of_faults (map (fault_of w n) fs ++ later) ≡ or_later (first_in fs) m (first_of_faults later)
+first_by : (w : LinesAbove) (n m : ℕ) (fs : List Wronged) (later : List Fault) → n ≡ m → first_of_faults (map (fault_of w n) fs ++ later) ≡ or_later (first_in fs) m (first_of_faults later)
 first_by w n m [] later e = refl
 first_by w n m (f ∷ fs) later e = ap (λ k. or_later (first_in (f ∷ fs)) k (first_of_faults later)) e
 
-first_from : (o : Outline) (ls above : List (List ℕ)) (w : Walk) (n : ℕ) → n ≡ length above + 1 → IsAt o w above ls → AllKnown o ls → first_of_faults (faults_from w n ls) ≡ fault_from o above ls
+first_from : (o : Outline) (ls above : List (List ℕ)) (w : LinesAbove) (n : ℕ) → n ≡ length above + 1 → IsAt o w above ls → AllKnown o ls → first_of_faults (faults_from w n ls) ≡ fault_from o above ls
 first_from o [] above w n number at known = refl
 first_from o (l ∷ ls) above w n number at known =
     first_by w n (length above + 1) (wrongs_on w (is_last ls) l) (faults_from (walked w n l ls) (n + 1) ls) number

@@ -9,3 +9,4 @@ mod Senses
 mod TextLines
 mod Walks
 mod WordsOf
+mod Common

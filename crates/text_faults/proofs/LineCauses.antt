@@ -1,27 +1,7 @@
 -- The first cause on a line, for the reader and here.
-use Rattle.std.proofs.Common.{◌≡◌, ◌+◌, ◌&&◌, ◌||◌, ℕ, Bool, true, false, cond, List, [], ◌∷◌, length, refl, ap, sym, ◌∙◌, true≢false}
-use Rattle.std.specs.Prelude.{Option, Some, None, not, nat_le, codes}
-use Rattle.std.specs.Str.{is_utf8}
-use Rattle.text_lines.specs.Lines.{is_last}
-use Rattle.program_reader.specs.declared.cause.Cause.{Cause}
+use Rattle.text_faults.proofs.Common.{◌≡◌, ◌+◌, ◌&&◌, ◌||◌, ℕ, Bool, true, false, cond, List, [], ◌∷◌, length, refl, ap, sym, ◌∙◌, true≢false, Option, Some, None, not, nat_le, codes, is_utf8, is_last, Cause, Head, Blank, Begin, End, Label, Order, Unknown, Verb, Outline, is_noted, head_of_words, operands_of, sense_of, head_of_line, operands_of_line, is_open_after, looped_name, LineContext, is_begin, is_misplaced, has_wrong_operand, is_second, names_no_function, names_no_label, lacks_main, is_too_many, function_limit, order_limit, first_cause, fault_by, fault_on, Wrong, NotUtf8, InsideFunction, OpenFunction, NoMain, ManyFunctions, ManyInstructions, LinesAbove, PlacedWord, placed_words, head_form, head_of, form_of, first_of, behind_first, Wronged, wrong_if, misplaced, first_wrong, operand_wrong, unreadable, nested, left_open, first_misnamed, main_missing, too_many, with_wronged, if_read, all_wronged, wrongs_by, wrongs_on, cause_of}
 use Rattle.program_reader.specs.declared.cause.Cause.TheVariants as reads
-use Rattle.program_reader.specs.declared.head.Head.{Head}
-use Rattle.program_reader.specs.declared.head.Head.TheVariants.{Blank, Begin, End, Label, Order, Unknown}
-use Rattle.program_reader.specs.declared.head.Verb.{Verb}
-use Rattle.program_reader.specs.declared.sense.Outline.{Outline}
-use Rattle.program_reader.specs.Names.{is_noted}
-use Rattle.program_reader.specs.Head.{head_of_words, operands_of}
-use Rattle.program_reader.specs.Sense.{sense_of}
-use Rattle.program_reader.specs.Around.{head_of_line, operands_of_line, is_open_after, looped_name}
-use Rattle.program_reader.specs.Fault.{Spot, is_begin, is_misplaced, has_wrong_operand, is_second, names_no_function, names_no_label, lacks_main, is_too_many, function_limit, order_limit, first_cause, fault_by, fault_on}
-use Rattle.text_faults.specs.declared.fault.Wrong.{Wrong}
-use Rattle.text_faults.specs.declared.fault.Wrong.TheVariants.{NotUtf8, InsideFunction, OpenFunction, NoMain, ManyFunctions, ManyInstructions}
-use Rattle.text_faults.specs.declared.walk.Walk.{Walk}
-use Rattle.text_faults.specs.Placed.{PlacedWord, placed_words}
-use Rattle.text_faults.specs.Forms.{head_form}
-use Rattle.text_faults.specs.Lines.{head_of, form_of, first_of, behind_first}
-use Rattle.text_faults.specs.Found.{Wronged, wrong_if, place_of, misplaced, first_wrong, operand_wrong, unreadable, nested, left_open, first_misnamed, main_missing, too_many, with_wronged, if_read, all_wronged, wrongs_by, wrongs_on}
-use Rattle.text_faults.specs.Faults.{cause_of}
+use Rattle.text_faults.specs.WordFault.{place_of}
 use Rattle.text_faults.proofs.WordsOf.{texts, texts_of, texts_behind, head_is}
 use Rattle.text_faults.proofs.Senses.{Words, cause_in, cause_if, all_fit, wrong_unfit, senses_agree}
 use Rattle.text_faults.proofs.NamesAgree.{name_cause, KnowsNames, KnowsLoop, names_agree}
@@ -123,7 +103,7 @@ operand_cause false Label ps r e = refl
 operand_cause false (Order v) ps r e = refl
 operand_cause false Unknown ps r e = refl
 
-too_many_is : (w : Walk) (s : Spot) (h : Head) (p : PlacedWord) → w.begun ≡ s.begun → w.orders ≡ s.orders → cause_in (too_many w h p) ≡ cause_if (is_too_many s h) reads.TooMany
+too_many_is : (w : LinesAbove) (s : LineContext) (h : Head) (p : PlacedWord) → w.begun ≡ s.begun → w.orders ≡ s.orders → cause_in (too_many w h p) ≡ cause_if (is_too_many s h) reads.TooMany
 too_many_is w s Begin p b o = if_wrong (nat_le function_limit w.begun) p ManyFunctions ∙ ap (λ n. cause_if (nat_le function_limit n) reads.TooMany) b
 too_many_is w s (Order v) p b o = if_wrong (nat_le order_limit w.orders) p ManyInstructions ∙ ap (λ n. cause_if (nat_le order_limit n) reads.TooMany) o
 too_many_is w s Blank p b o = refl
@@ -140,7 +120,7 @@ unfit true e = refl
 unfit false e = absurd (true≢false e)
 
 -- the walk is where the spot is
-pub record IsSpot (o : Outline) (s : Spot) (w : Walk) : Type 0 where
+pub record IsSpot (o : Outline) (s : LineContext) (w : LinesAbove) : Type 0 where
   pub inside : w.inside ≡ s.inside
   pub begun : w.begun ≡ s.begun
   pub orders : w.orders ≡ s.orders
@@ -148,12 +128,12 @@ pub record IsSpot (o : Outline) (s : Spot) (w : Walk) : Type 0 where
 
 -- ---- a line
 
-module _ (o : Outline) (s : Spot) (w : Walk) (at : IsSpot o s w) (line : List ℕ) where
-  here : head_of (placed_words line) ≡ head_of_line line
-  here = head_is line
+module _ (o : Outline) (s : LineContext) (w : LinesAbove) (at : IsSpot o s w) (line : List ℕ) where
+  same_head : head_of (placed_words line) ≡ head_of_line line
+  same_head = head_is line
 
   form_is : form_of (placed_words line) ≡ head_form (head_of_line line)
-  form_is = ap head_form here
+  form_is = ap head_form same_head
 
   words_are : texts (behind_first (placed_words line)) ≡ operands_of_line line
   words_are = texts_behind (placed_words line) ∙ ap operands_of (texts_of line)
@@ -170,20 +150,20 @@ module _ (o : Outline) (s : Spot) (w : Walk) (at : IsSpot o s w) (line : List �
   unreadable_is : cause_in (operand_wrong (misplaced w.inside (head_of (placed_words line))) (placed_words line)) ≡ cond (is_misplaced s.inside (head_of_line line)) (Some reads.Word) (cause_if (has_wrong_operand (sense_of o s.labels (head_of_line line) (operands_of_line line))) reads.Operand)
   unreadable_is =
       ap (λ b. cause_in (operand_wrong (misplaced b (head_of (placed_words line))) (placed_words line))) at.inside
-      ∙ ap (λ h. cause_in (operand_wrong (misplaced s.inside h) (placed_words line))) here
+      ∙ ap (λ h. cause_in (operand_wrong (misplaced s.inside h) (placed_words line))) same_head
       ∙ operand_cause s.inside (head_of_line line) (placed_words line) _ wrong_operand
 
   nested_is : cause_in (nested w (placed_words line)) ≡ cause_if (s.inside && is_begin (head_of_line line)) reads.NoEnd
   nested_is =
       if_wrong (w.inside && is_begin (head_of (placed_words line))) (first_of (placed_words line)) InsideFunction
       ∙ ap (λ b. cause_if (b && is_begin (head_of (placed_words line))) reads.NoEnd) at.inside
-      ∙ ap (λ h. cause_if (s.inside && is_begin h) reads.NoEnd) here
+      ∙ ap (λ h. cause_if (s.inside && is_begin h) reads.NoEnd) same_head
 
   open_is_left : cause_in (left_open w s.last (placed_words line)) ≡ cause_if (s.last && is_open_after (head_of_line line) s.inside) reads.NoEnd
   open_is_left =
       if_wrong (s.last && is_open_after (head_of (placed_words line)) w.inside) (place_of (first_of (placed_words line))) OpenFunction
       ∙ ap (λ b. cause_if (s.last && is_open_after (head_of (placed_words line)) b) reads.NoEnd) at.inside
-      ∙ ap (λ h. cause_if (s.last && is_open_after h s.inside) reads.NoEnd) here
+      ∙ ap (λ h. cause_if (s.last && is_open_after h s.inside) reads.NoEnd) same_head
 
   main_is_missing : cause_in (main_missing w s.last (placed_words line)) ≡ cause_if (lacks_main o s) reads.NoMain
   main_is_missing =
@@ -192,7 +172,7 @@ module _ (o : Outline) (s : Spot) (w : Walk) (at : IsSpot o s w) (line : List �
 
   too_many_are : cause_in (too_many w (head_of (placed_words line)) (first_of (placed_words line))) ≡ cause_if (is_too_many s (head_of_line line)) reads.TooMany
   too_many_are =
-      ap (λ h. cause_in (too_many w h (first_of (placed_words line)))) here
+      ap (λ h. cause_in (too_many w h (first_of (placed_words line)))) same_head
       ∙ too_many_is w s (head_of_line line) (first_of (placed_words line)) at.begun at.orders
 
   names_are : KnowsLoop o (head_of_line line) (operands_of_line line) → is_misplaced s.inside (head_of_line line) ≡ false → has_wrong_operand (sense_of o s.labels (head_of_line line) (operands_of_line line)) ≡ false

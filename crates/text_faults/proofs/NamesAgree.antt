@@ -1,32 +1,7 @@
 -- Which names on a line are wrong, for the reader and here.
-use Rattle.std.proofs.Common.{◌≡◌, ◌+◌, ◌&&◌, ◌||◌, ◌++◌, ℕ, zero, suc, Bool, true, false, cond, List, [], ◌∷◌, length, refl, ap, sym, ◌∙◌, arith, nat_lt, true≢false}
-use Rattle.std.specs.Prelude.{Option, Some, None, not, is_some, option_map, position}
-use Rattle.std.specs.List.{list_any, list_all, position_or_len}
-use Rattle.std.specs.Str.{bytes_eq}
-use Rattle.hh_lang.specs.declared.instr.Instr.{Instr}
-use Rattle.program_reader.specs.declared.cause.Cause.{Cause}
+use Rattle.text_faults.proofs.Common.{◌≡◌, ◌+◌, ◌&&◌, ◌||◌, ◌++◌, ℕ, zero, suc, Bool, true, false, cond, List, [], ◌∷◌, length, refl, ap, sym, ◌∙◌, arith, nat_lt, true≢false, Option, Some, None, not, is_some, option_map, position, list_any, list_all, position_or_len, bytes_eq, Instr, Cause, Verb, Set, Mov, Movr, Nil, Calc, Same, Jmp, Jz, Newm, Pack, Getr, Geti, Putr, Puti, Cntr, Cnti, Freeze, Cas, Call, Par, Pfor, Ret, Out, Head, Blank, Begin, End, Label, Order, Unknown, Sense, WrongOperand, Outline, NotedName, is_name, is_noted, place_of, numbered_of, int_register, plain_one, plain_two, plain_three, plain_five, plain, at_label, jump_on_zero, calling, forking, looping, order_alone, order_one, order_two, order_of, only_name, named, sense_of, looped_name, LineContext, is_named_in, is_second, names_no_function, names_no_label, Operand, IntRegister, RefRegister, Number, FieldCount, Function, NewFunction, NewLabel, Wrong, UnknownFunction, UnknownLabel, SecondFunction, SecondLabel, LinesAbove, PlacedWord, Form, verb_form, head_form, Wronged, wrong_unless, name_wrong, wronged_or, first_misnamed, cause_of}
 use Rattle.program_reader.specs.declared.cause.Cause.TheVariants as reads
-use Rattle.program_reader.specs.declared.head.Verb.{Verb}
-use Rattle.program_reader.specs.declared.head.Verb.TheVariants.{Set, Mov, Movr, Nil, Calc, Same, Jmp, Jz, Newm, Pack, Getr, Geti, Putr, Puti, Cntr, Cnti, Freeze, Cas, Call, Par, Pfor, Ret, Out}
-use Rattle.program_reader.specs.declared.head.Head.{Head}
-use Rattle.program_reader.specs.declared.head.Head.TheVariants.{Blank, Begin, End, Label, Order, Unknown}
-use Rattle.program_reader.specs.declared.sense.Sense.{Sense}
-use Rattle.program_reader.specs.declared.sense.Sense.TheVariants.{WrongOperand}
-use Rattle.program_reader.specs.declared.sense.Outline.{Outline}
-use Rattle.program_reader.specs.Names.{NotedName, is_name, is_noted, place_of, numbered_of}
-use Rattle.program_reader.specs.Operands.{int_register}
-use Rattle.program_reader.specs.Sense.{plain_one, plain_two, plain_three, plain_five, plain, at_label, jump_on_zero, calling, forking, looping, order_alone, order_one, order_two, order_of, only_name, named, sense_of}
-use Rattle.program_reader.specs.Around.{looped_name}
-use Rattle.program_reader.specs.Fault.{Spot, is_named_in, is_second, names_no_function, names_no_label}
-use Rattle.text_faults.specs.declared.fault.Operand.{Operand}
-use Rattle.text_faults.specs.declared.fault.Operand.TheVariants.{IntRegister, RefRegister, Number, FieldCount, Label as LabelName, Function, NewFunction, NewLabel}
-use Rattle.text_faults.specs.declared.fault.Wrong.{Wrong}
-use Rattle.text_faults.specs.declared.fault.Wrong.TheVariants.{UnknownFunction, UnknownLabel, SecondFunction, SecondLabel}
-use Rattle.text_faults.specs.declared.walk.Walk.{Walk}
-use Rattle.text_faults.specs.Placed.{PlacedWord}
-use Rattle.text_faults.specs.Forms.{Form, verb_form, head_form}
-use Rattle.text_faults.specs.Found.{Wronged, wrong_unless, name_wrong, wronged_or, first_misnamed}
-use Rattle.text_faults.specs.Faults.{cause_of}
+use Rattle.text_faults.specs.declared.fault.Operand.TheVariants.{Label as LabelName}
 use Rattle.text_faults.proofs.WordsOf.{texts}
 use Rattle.text_faults.proofs.Senses.{Words, cause_in, all_fit}
 
@@ -80,7 +55,7 @@ is_nameless _ = false
 never : {P : Type 0} → false ≡ true → P
 never e = absurd (true≢false (sym e))
 
-nameless_more : (w : Walk) (k : Operand) (p : PlacedWord) (later : Option Wronged) → is_nameless k ≡ true → wronged_or p (name_wrong w k p.word) later ≡ later
+nameless_more : (w : LinesAbove) (k : Operand) (p : PlacedWord) (later : Option Wronged) → is_nameless k ≡ true → wronged_or p (name_wrong w k p.word) later ≡ later
 nameless_more w IntRegister p later e = refl
 nameless_more w RefRegister p later e = refl
 nameless_more w Number p later e = refl
@@ -94,7 +69,7 @@ both : (a b : Bool) → (a && b) ≡ true → (a ≡ true) × (b ≡ true)
 both true b e = (refl, e)
 both false b e = never e
 
-nameless : (w : Walk) (form : Form) (ps : List PlacedWord) → list_all is_nameless form ≡ true → first_misnamed w form ps ≡ None
+nameless : (w : LinesAbove) (form : Form) (ps : List PlacedWord) → list_all is_nameless form ≡ true → first_misnamed w form ps ≡ None
 nameless w [] ps e = refl
 nameless w (k ∷ ks) [] e = refl
 nameless w (k ∷ ks) (p ∷ ps) e =
@@ -172,7 +147,7 @@ new_by p false n es x g two fit d e = never fit
 
 -- ---- what the tables and the reader's lists have in common
 
-pub record KnowsNames (o : Outline) (s : Spot) (w : Walk) : Type 0 where
+pub record KnowsNames (o : Outline) (s : LineContext) (w : LinesAbove) : Type 0 where
   pub all : w.outline.functions ≡ o.functions
   pub named : w.named ≡ s.named
   pub labeled : (name : List ℕ) → is_noted w.labels.above name ≡ is_noted s.labeled name
@@ -182,7 +157,7 @@ pub record KnowsNames (o : Outline) (s : Spot) (w : Walk) : Type 0 where
 abbrev pub KnowsLoop : Outline → Head → Words → Type 0
 KnowsLoop o h ws = (name : List ℕ) → looped_name h ws ≡ Some name → is_noted o.loops name ≡ true
 
-module _ (o : Outline) (s : Spot) (w : Walk) (known : KnowsNames o s w) where
+module _ (o : Outline) (s : LineContext) (w : LinesAbove) (known : KnowsNames o s w) where
   in_functions : (name : List ℕ) → is_some (place_of o.functions name) ≡ is_noted w.outline.functions name
   in_functions name = place_is o.functions name ∙ ap (λ es. is_noted es name) (sym known.all)
 

@@ -1,18 +1,5 @@
 -- What is found on a line that is parsed.
-use Rattle.std.proofs.Common.{◌≡◌, ◌<◌, ◌+◌, ◌++◌, arith, ℕ, Bool, true, false, cond, List, [], ◌∷◌, length, map, refl, ap, sym, ◌∙◌, append_assoc}
-use Rattle.std.specs.Prelude.{Option, Some, None}
-use Rattle.std.specs.Str.{is_utf8}
-use Rattle.text_faults.specs.declared.fault.Fault.{Fault}
-use Rattle.text_faults.specs.declared.fault.Wrong.{Wrong}
-use Rattle.text_faults.specs.declared.fault.Wrong.TheVariants.{NotUtf8}
-use Rattle.text_faults.specs.declared.parsed.Parsed.{Parsed}
-use Rattle.text_faults.specs.declared.walk.Walk.{Walk}
-use Rattle.text_faults.specs.Placed.{PlacedWord, placed_of, placed_from, placed_words}
-use Rattle.text_faults.specs.Forms.{Form}
-use Rattle.text_faults.specs.Lines.{head_of, form_of, first_of, behind_first}
-use Rattle.text_faults.specs.Parsed.{IsParse}
-use Rattle.text_faults.specs.Found.{Wronged, wronged, misplaced, first_wrong, operand_wrong, unreadable, with_wronged, all_wronged, if_read}
-use Rattle.text_faults.specs.Faults.{fault_of}
+use Rattle.text_faults.proofs.Common.{◌≡◌, ◌<◌, ◌+◌, ◌++◌, arith, ℕ, Bool, true, false, cond, List, [], ◌∷◌, length, map, refl, ap, sym, ◌∙◌, append_assoc, Option, Some, None, is_utf8, Fault, Wrong, NotUtf8, Parsed, LinesAbove, PlacedWord, placed_of, placed_from, placed_words, Form, head_of, form_of, first_of, behind_first, IsParse, Wronged, wronged, misplaced, first_wrong, operand_wrong, unreadable, with_wronged, all_wronged, if_read, fault_of}
 
 pub no_form : (form : Form) → length form < 1 → form ≡ []
 no_form [] lt = refl

@@ -1,12 +1,5 @@
 -- The words of a line from a place on, step by step.
-use Rattle.std.proofs.Common.{◌≡◌, ◌<◌, ◌≤◌, ◌+◌, ◌==◌, inl, inr, ℕ, Bool, true, false, cond, List, [], ◌∷◌, length, take, drop, arith, refl, ap, sym, ◌∙◌, true≢false}
-use Rattle.std.proofs.lemmas.Bool.{cases_lt}
-use Rattle.std.proofs.lemmas.List.{take_all, drop_all, drop-drop, length-drop, length-take-le}
-use Rattle.std.specs.List.{slice_split, position_or_len}
-use Rattle.std.proofs.lemmas.List.Splits.{slice_split_first}
-use Rattle.text_lines.specs.Lines.{is_blank, begins_comment}
-use Rattle.text_lines.proofs.Runs.{split_last}
-use Rattle.text_faults.specs.Placed.{PlacedWord, placed_in, placed_from}
+use Rattle.text_faults.proofs.Common.{◌≡◌, ◌<◌, ◌≤◌, ◌+◌, ◌==◌, inl, inr, ℕ, Bool, true, false, cond, List, [], ◌∷◌, length, take, drop, arith, refl, ap, sym, ◌∙◌, true≢false, cases_lt, take_all, drop_all, drop-drop, length-drop, length-take-le, slice_split, position_or_len, slice_split_first, is_blank, begins_comment, split_last, PlacedWord, placed_in, placed_from}
 
 -- the pieces after the blank at a place, or none if the bytes end there
 behind_short : (bytes : List ℕ) (size : ℕ) → size ≡ position_or_len is_blank bytes → size < length bytes → slice_split is_blank bytes ≡ take size bytes ∷ slice_split is_blank (drop (size + 1) bytes)

@@ -1,29 +1,7 @@
 -- What the reader makes of the operands of a line, and which of them are wrong.
-use Rattle.std.proofs.Common.{◌≡◌, ◌+◌, ◌&&◌, ℕ, Bool, true, false, cond, List, [], ◌∷◌, length, refl, ap, sym, ◌∙◌, true≢false}
-use Rattle.std.specs.Prelude.{Option, Some, None, not, is_some, option_map}
-use Rattle.hh_lang.specs.Number.{signed_number}
-use Rattle.hh_lang.specs.declared.instr.Instr.{Instr}
-use Rattle.program_reader.specs.declared.cause.Cause.{Cause}
+use Rattle.text_faults.proofs.Common.{◌≡◌, ◌+◌, ◌&&◌, ℕ, Bool, true, false, cond, List, [], ◌∷◌, length, refl, ap, sym, ◌∙◌, true≢false, Option, Some, None, not, is_some, option_map, signed_number, Instr, Cause, Verb, Set, Mov, Movr, Nil, Calc, Same, Jmp, Jz, Newm, Pack, Getr, Geti, Putr, Puti, Cntr, Cnti, Freeze, Cas, Call, Par, Pfor, Ret, Out, Head, Blank, Begin, End, Label, Order, Unknown, Sense, Fits, Does, WrongOperand, NoSuchFunction, NoSuchLabel, Outline, NotedName, is_name, place_of, numbered_of, int_register, ref_register, field_count, one, two, three, five, plain_one, plain_two, plain_three, plain_five, plain, at_label, jump, jump_on_zero, calling, call, forking, fork, looping, loop_over, order_alone, order_one, order_two, order_of, only_name, named, alone, sense_of, has_wrong_operand, Operand, IntRegister, RefRegister, Number, FieldCount, Function, NewFunction, NewLabel, NotOne, PlacedWord, is_operand, Form, verb_form, head_form, Wronged, wronged, first_wrong, cause_of}
 use Rattle.program_reader.specs.declared.cause.Cause.TheVariants as reads
-use Rattle.program_reader.specs.declared.head.Verb.{Verb}
-use Rattle.program_reader.specs.declared.head.Verb.TheVariants.{Set, Mov, Movr, Nil, Calc, Same, Jmp, Jz, Newm, Pack, Getr, Geti, Putr, Puti, Cntr, Cnti, Freeze, Cas, Call, Par, Pfor, Ret, Out}
-use Rattle.program_reader.specs.declared.head.Head.{Head}
-use Rattle.program_reader.specs.declared.head.Head.TheVariants.{Blank, Begin, End, Label, Order, Unknown}
-use Rattle.program_reader.specs.declared.sense.Sense.{Sense}
-use Rattle.program_reader.specs.declared.sense.Sense.TheVariants.{Fits, Does, WrongOperand, NoSuchFunction, NoSuchLabel}
-use Rattle.program_reader.specs.declared.sense.Outline.{Outline}
-use Rattle.program_reader.specs.Names.{NotedName, is_name, place_of, numbered_of}
-use Rattle.program_reader.specs.Operands.{int_register, ref_register, field_count}
-use Rattle.program_reader.specs.Sense.{one, two, three, five, plain_one, plain_two, plain_three, plain_five, plain, at_label, jump, jump_on_zero, calling, call, forking, fork, looping, loop_over, order_alone, order_one, order_two, order_of, only_name, named, alone, sense_of}
-use Rattle.program_reader.specs.Fault.{has_wrong_operand}
-use Rattle.text_faults.specs.declared.fault.Operand.{Operand}
-use Rattle.text_faults.specs.declared.fault.Operand.TheVariants.{IntRegister, RefRegister, Number, FieldCount, Label as LabelName, Function, NewFunction, NewLabel}
-use Rattle.text_faults.specs.declared.fault.Wrong.TheVariants.{NotOne}
-use Rattle.text_faults.specs.Placed.{PlacedWord}
-use Rattle.text_faults.specs.Operands.{is_operand}
-use Rattle.text_faults.specs.Forms.{Form, verb_form, head_form}
-use Rattle.text_faults.specs.Found.{Wronged, wronged, first_wrong}
-use Rattle.text_faults.specs.Faults.{cause_of}
+use Rattle.text_faults.specs.declared.fault.Operand.TheVariants.{Label as LabelName}
 use Rattle.text_faults.proofs.WordsOf.{texts}
 
 abbrev pub Words : Type 0

@@ -1,23 +1,5 @@
 -- What the lines above say, for the reader and here.
-use Rattle.std.proofs.Common.{◌≡◌, ◌+◌, ◌++◌, ◌||◌, ℕ, Bool, true, false, cond, List, [], ◌∷◌, length, refl, ap, sym, ◌∙◌, arith, true≢false}
-use Rattle.std.specs.Prelude.{Option, Some, None, not}
-use Rattle.std.specs.List.{list_any}
-use Rattle.std.specs.Str.{bytes_eq}
-use Rattle.std.proofs.lemmas.Slice.Eq.{bytes_eq-Decides}
-use Rattle.text_lines.specs.Lines.{is_last, lines_of}
-use Rattle.program_reader.specs.declared.head.Head.{Head}
-use Rattle.program_reader.specs.declared.head.Head.TheVariants.{Blank, Begin, End, Label, Order, Unknown}
-use Rattle.program_reader.specs.declared.sense.Outline.{Outline}
-use Rattle.program_reader.specs.declared.labels.Labels.{Labels}
-use Rattle.program_reader.specs.Names.{NotedName, noted_name_of, is_noted, noted}
-use Rattle.program_reader.specs.Head.{head_of_words, operands_of}
-use Rattle.program_reader.specs.Sense.{only_name}
-use Rattle.program_reader.specs.Around.{head_of_line, operands_of_line, is_open_after, is_inside, noted_if, begun_name, looped_name, outline_line, outline_above, outline_onto, outline_of, no_names, no_labels, label_line, labels_after, labels_above, labels_onto, ends_body, begins, begun_above, orders, orders_above}
-use Rattle.program_reader.specs.Fault.{spot_of}
-use Rattle.text_faults.specs.declared.walk.Walk.{Walk}
-use Rattle.text_faults.specs.Placed.{PlacedWord, placed_words}
-use Rattle.text_faults.specs.Lines.{head_of, behind_first, lone_name}
-use Rattle.text_faults.specs.Faults.{walked_by, walked, walk_of}
+use Rattle.text_faults.proofs.Common.{◌≡◌, ◌+◌, ◌++◌, ◌||◌, ℕ, Bool, true, false, cond, List, [], ◌∷◌, length, refl, ap, sym, ◌∙◌, arith, true≢false, Option, Some, None, not, list_any, bytes_eq, bytes_eq-Decides, is_last, lines_of, Head, Blank, Begin, End, Label, Order, Unknown, Outline, Labels, NotedName, noted_name_of, is_noted, noted, head_of_words, operands_of, only_name, head_of_line, operands_of_line, is_open_after, is_inside, noted_if, begun_name, looped_name, outline_line, outline_above, outline_onto, outline_of, no_names, no_labels, label_line, labels_after, labels_above, labels_onto, ends_body, begins, begun_above, orders, orders_above, spot_of, LinesAbove, PlacedWord, placed_words, head_of, behind_first, lone_name, walked_by, walked, walk_of}
 use Rattle.text_faults.proofs.WordsOf.{texts, texts_of, texts_behind, head_is, lone_is_only}
 use Rattle.text_faults.proofs.Senses.{Words}
 use Rattle.text_faults.proofs.NamesAgree.{KnowsNames, KnowsLoop}
@@ -58,7 +40,7 @@ name_is l = lone_is_only (behind_first (placed_words l)) ∙ ap only_name (texts
 -- ---- one line more
 
 -- the walk is where these lines are above and those are left
-pub record IsAt (o : Outline) (w : Walk) (above rest : List (List ℕ)) : Type 0 where
+pub record IsAt (o : Outline) (w : LinesAbove) (above rest : List (List ℕ)) : Type 0 where
   pub inside : w.inside ≡ is_inside above
   pub begun : w.begun ≡ begun_above above
   pub orders : w.orders ≡ orders_above above
@@ -67,7 +49,7 @@ pub record IsAt (o : Outline) (w : Walk) (above rest : List (List ℕ)) : Type 0
   pub labeled : SameNames w.labels.above (labels_above above).entries
   pub labels : is_inside above ≡ true → w.labels.all ≡ labels_onto (labels_above above) rest
 
-module _ (w : Walk) (n : ℕ) (ps : List PlacedWord) (ws : Words) (ls : List (List ℕ)) (same : lone_name ps ≡ only_name ws) where
+module _ (w : LinesAbove) (n : ℕ) (ps : List PlacedWord) (ws : Words) (ls : List (List ℕ)) (same : lone_name ps ≡ only_name ws) where
   next_inside : (h : Head) → (walked_by w n h ps ls).inside ≡ is_open_after h w.inside
   next_inside Blank = refl
   next_inside Begin = refl
@@ -124,7 +106,7 @@ module _ (w : Walk) (n : ℕ) (ps : List PlacedWord) (ws : Words) (ls : List (Li
   next_labels (Order v) s i e f = f e
   next_labels Unknown s i e f = f e
 
-pub goes_on : (o : Outline) (w : Walk) (above : List (List ℕ)) (l : List ℕ) (ls : List (List ℕ)) (n : ℕ) → n ≡ length above + 1 → IsAt o w above (l ∷ ls) → IsAt o (walked w n l ls) (l ∷ above) ls
+pub goes_on : (o : Outline) (w : LinesAbove) (above : List (List ℕ)) (l : List ℕ) (ls : List (List ℕ)) (n : ℕ) → n ≡ length above + 1 → IsAt o w above (l ∷ ls) → IsAt o (walked w n l ls) (l ∷ above) ls
 goes_on o w above l ls n number at =
     let h = head_of_line l in
     let ps = behind_first (placed_words l) in
@@ -152,7 +134,7 @@ at_first text = record {
   labels = λ e. absurd (true≢false (sym e));
 }
 
-pub spot_at : (o : Outline) (w : Walk) (above : List (List ℕ)) (l : List ℕ) (ls : List (List ℕ)) → IsAt o w above (l ∷ ls) → IsSpot o (spot_of above l ls) w
+pub spot_at : (o : Outline) (w : LinesAbove) (above : List (List ℕ)) (l : List ℕ) (ls : List (List ℕ)) → IsAt o w above (l ∷ ls) → IsSpot o (spot_of above l ls) w
 spot_at o w above l ls at = record {
   inside = at.inside;
   begun = at.begun;

@@ -1,13 +1,5 @@
 -- The words of a line with their columns, and without.
-use Rattle.std.proofs.Common.{◌≡◌, ◌+◌, ◌==◌, ℕ, Bool, true, false, cond, List, [], ◌∷◌, length, map, filter, refl, ap, sym, ◌∙◌}
-use Rattle.std.specs.Prelude.{Option, Some, None, option_map, if◌then◌else◌}
-use Rattle.std.specs.List.{slice_split}
-use Rattle.text_lines.specs.Lines.{is_blank, is_word, before_comment, words_of}
-use Rattle.program_reader.specs.Head.{head_of_words, operands_of}
-use Rattle.program_reader.specs.Sense.{only_name}
-use Rattle.program_reader.specs.Around.{head_of_line}
-use Rattle.text_faults.specs.Placed.{PlacedWord, placed_in, placed_words}
-use Rattle.text_faults.specs.Lines.{head_of, behind_first, lone_name}
+use Rattle.text_faults.proofs.Common.{◌≡◌, ◌+◌, ◌==◌, ℕ, Bool, true, false, cond, List, [], ◌∷◌, length, map, filter, refl, ap, sym, ◌∙◌, Option, Some, None, option_map, if◌then◌else◌, slice_split, is_blank, is_word, before_comment, words_of, head_of_words, operands_of, only_name, head_of_line, PlacedWord, placed_in, placed_words, head_of, behind_first, lone_name}
 
 abbrev pub texts : List PlacedWord → List (List ℕ)
 texts ps = map (λ p. p.word) ps

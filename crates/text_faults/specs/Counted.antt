@@ -1,8 +1,8 @@
 -- Counts that don't overflow.
 use Rattle.std.specs.Prelude.{ℕ, ◌<◌, ◌^◌}
-use Rattle.text_faults.specs.declared.walk.Walk.{Walk}
+use Rattle.text_faults.specs.declared.walk.LinesAbove.{LinesAbove}
 
 -- the counts are those of a text
-pub record IsCounted (w : Walk) : Type 0 where
+pub record CountsLinesAbove (w : LinesAbove) : Type 0 where
   pub begun : w.begun < 2 ^ 62
   pub orders : w.orders < 2 ^ 62

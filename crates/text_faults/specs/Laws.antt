@@ -1,12 +1,12 @@
 -- What the reader of programs says of a text, and what its faults are.
 use Rattle.std.specs.Prelude.{◌≡◌, ◌↔◌, ℕ, Option, Some, None, List, [], ◌∷◌}
-use Rattle.program_reader.specs.declared.cause.Refused.{Refused}
+use Rattle.program_reader.specs.declared.cause.TextFault.{TextFault}
 use Rattle.program_reader.specs.Fault.{first_fault}
 use Rattle.text_faults.specs.declared.fault.Fault.{Fault}
 use Rattle.text_faults.specs.Faults.{cause_of, faults_of}
 
 -- the line and the cause of the first of some faults
-abbrev pub first_of_faults : List Fault → Option Refused
+abbrev pub first_of_faults : List Fault → Option TextFault
 first_of_faults [] = None
 first_of_faults (f ∷ fs) = Some (record { line = f.line; cause = cause_of f.wrong })
 

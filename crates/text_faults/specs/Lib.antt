@@ -3,7 +3,7 @@ pub mod Operands
 pub mod Forms
 pub mod Lines
 pub mod Parsed
-pub mod Found
+pub mod WordFault
 pub mod Near
 pub mod Faults
 pub mod Counted

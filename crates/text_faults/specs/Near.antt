@@ -4,7 +4,7 @@ use Rattle.near_words.specs.Near.{nearest}
 use Rattle.program_reader.specs.Names.{NotedName}
 use Rattle.text_faults.specs.declared.fault.Wrong.{Wrong}
 use Rattle.text_faults.specs.declared.fault.Wrong.TheVariants.{OutsideFunction, UnknownWord, UnknownFunction, UnknownLabel}
-use Rattle.text_faults.specs.declared.walk.Walk.{Walk}
+use Rattle.text_faults.specs.declared.walk.LinesAbove.{LinesAbove}
 
 -- the words that a line in a function begins with
 abbrev pub line_words : List (List ℕ)
@@ -20,7 +20,7 @@ abbrev pub first_names : List NotedName → List (List ℕ)
 first_names es = map (λ e. e.name) (take 100 es)
 
 -- the word that may have been meant in place of an unknown one
-abbrev pub meant : Walk → Wrong → List ℕ → Option (List ℕ)
+abbrev pub meant : LinesAbove → Wrong → List ℕ → Option (List ℕ)
 meant w UnknownWord word = nearest word line_words
 meant w OutsideFunction word = nearest word (codes "fn" ∷ [])
 meant w UnknownFunction word = nearest word (first_names w.outline.functions)

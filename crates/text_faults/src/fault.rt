@@ -3,7 +3,7 @@
 ghost use Rattle.std.specs.Prelude.{◌≡◌};
 ghost use Rattle.text_faults.specs.Faults.{cause_of};
 
-use listed::Listed;
+use plain_vec::Listed;
 use program_reader::Cause;
 
 /// What an operand has to be.

@@ -3,7 +3,7 @@
 ghost use Rattle.std.specs.Prelude.{◌≡◌, ◌≤◌, ◌+◌, [], ℕ, length, option_map};
 ghost use Rattle.text_faults.specs.Placed.{placed_of, placed_from};
 ghost use Rattle.text_faults.specs.Parsed.{IsParse};
-ghost use Rattle.text_faults.specs.Found.{wronged, wronged_of, wrong_if, place_of, misplaced, first_wrong};
+ghost use Rattle.text_faults.specs.WordFault.{wronged, wronged_of, wrong_if, place_of, misplaced, first_wrong};
 
 use crate::fault::{Operand, Wrong};
 use crate::operand::is_operand;
@@ -13,17 +13,17 @@ use program_reader::Head;
 
 /// A word of a line, its column, and what is wrong.
 #[derive(Clone, Copy)]
-pub(crate) struct Found<'a> {
+pub(crate) struct WordFault<'a> {
     pub column: usize,
     pub word: &'a [u8],
     pub wrong: Wrong,
 }
 
 /// A word with what is wrong about it.
-pub(crate) fn wrong_at(placed: Placed<'_>, wrong: Wrong) -> Found<'_>
+pub(crate) fn wrong_at(placed: Placed<'_>, wrong: Wrong) -> WordFault<'_>
     ensures { wronged_of result ≡ wronged (placed_of placed.entry) wrong }
 {
-    Found {
+    WordFault {
         column: placed.column,
         word: placed.word,
         wrong,
@@ -31,7 +31,7 @@ pub(crate) fn wrong_at(placed: Placed<'_>, wrong: Wrong) -> Found<'_>
 }
 
 /// Like it, but only if a test holds.
-pub(crate) fn wrong_if(test: bool, placed: Placed<'_>, wrong: Wrong) -> Option<Found<'_>>
+pub(crate) fn wrong_if(test: bool, placed: Placed<'_>, wrong: Wrong) -> Option<WordFault<'_>>
     ensures { option_map wronged_of result ≡ wrong_if test (placed_of placed.entry) wrong }
 {
     if test {
@@ -52,10 +52,10 @@ pub(crate) fn place_of<'a>(placed: Placed<'a>) -> Placed<'a>
 }
 
 // An operand that is missing after a word.
-fn missing<'a>(behind: usize, operand: Operand) -> Found<'a>
+fn missing<'a>(behind: usize, operand: Operand) -> WordFault<'a>
     ensures { wronged_of result ≡ record { column = behind; word = []; wrong = Wrong.Missing operand } }
 {
-    Found {
+    WordFault {
         column: behind,
         word: b"",
         wrong: Wrong::Missing(operand),
@@ -75,7 +75,7 @@ pub(crate) fn misplaced(inside: bool, head: Head) -> Option<Wrong>
 }
 
 // A word after all operands.
-fn extra(line: &[u8], at: usize) -> Option<Found<'_>>
+fn extra(line: &[u8], at: usize) -> Option<WordFault<'_>>
     requires { at ≤ length line.now }
     ensures { (behind : ℕ) → option_map wronged_of result ≡ first_wrong behind [] (placed_from line.now at) }
 {
@@ -84,7 +84,7 @@ fn extra(line: &[u8], at: usize) -> Option<Found<'_>>
 }
 
 /// The first operand of a line that isn't of its kind, is missing, or is one too many.
-pub(crate) fn first_wrong<'a>(parsed: &Parsed<'a>) -> Option<Found<'a>>
+pub(crate) fn first_wrong<'a>(parsed: &Parsed<'a>) -> Option<WordFault<'a>>
     requires { IsParse parsed.now }
     ensures { option_map wronged_of result ≡ first_wrong (parsed.now.first.column + length parsed.now.first.word.now) parsed.now.form.now (placed_from parsed.now.line.now parsed.now.rest) }
 {

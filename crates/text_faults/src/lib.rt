@@ -6,7 +6,7 @@ mod fault;
 mod laws;
 mod text;
 
-// What a line says.
+// The meaning of a line.
 mod form;
 mod operand;
 mod parsed;

@@ -4,9 +4,9 @@ ghost use Rattle.std.specs.Prelude.{◌≡◌, ◌∷◌, [], codes, map, option
 ghost use Rattle.near_words.specs.Near.{nearest};
 ghost use Rattle.text_faults.specs.Near.{line_words, first_names};
 
-use listed::Listed;
 use near_words::nearest;
-use program_reader::Table;
+use plain_vec::Listed;
+use program_reader::NameTable;
 use std::alloc::{AllocError, Global};
 
 /// The most names that are compared.
@@ -34,7 +34,7 @@ pub(crate) fn own_if(alloc: Global, word: Option<&[u8]>) -> Result<Option<Listed
 }
 
 // The first names of a table.
-fn first_names<'a>(alloc: Global, table: &Table<'a>) -> Result<Vec<&'a [u8]>, AllocError>
+fn first_names<'a>(alloc: Global, table: &NameTable<'a>) -> Result<Vec<&'a [u8]>, AllocError>
     ensures { IfOk result (λ names. map (λ n. n.now) names.items ≡ first_names table.now) }
 {
     let mut names = Vec::new(alloc);
@@ -50,7 +50,7 @@ fn first_names<'a>(alloc: Global, table: &Table<'a>) -> Result<Vec<&'a [u8]>, Al
 /// The nearest name of a table.
 pub(crate) fn nearest_name(
     alloc: Global,
-    table: &Table<'_>,
+    table: &NameTable<'_>,
     word: &[u8],
 ) -> Result<Option<Listed<u8>>, AllocError>
     ensures { IfOk result (λ o. o ≡ nearest word.now (first_names table.now)) }

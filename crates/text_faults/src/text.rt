@@ -7,22 +7,22 @@ ghost use Rattle.text_faults.specs.Faults.{walk_of, faults_of, faults_from};
 
 use crate::fault::Fault;
 use crate::parsed::parse;
-use crate::walk::{BodyLabels, Walk};
-use listed::Listed;
-use program_reader::{Outline, Table};
+use crate::walk::{BodyLabels, LinesAbove};
+use plain_vec::Listed;
+use program_reader::{NameTable, Outline};
 use std::alloc::{AllocError, Global};
 use text_lines::{behind, line_end};
 
 // Before the first line.
-fn new_walk<'a>(alloc: Global, outline: Outline<'a>) -> Walk<'a>
+fn new_walk<'a>(alloc: Global, outline: Outline<'a>) -> LinesAbove<'a>
     ensures { result ≡ walk_of outline.entry }
 {
-    Walk {
+    LinesAbove {
         inside: false,
         begun: 0,
         orders: 0,
         outline,
-        named: Table::new(alloc),
+        named: NameTable::new(alloc),
         labels: BodyLabels::new(alloc),
     }
 }
@@ -30,7 +30,7 @@ fn new_walk<'a>(alloc: Global, outline: Outline<'a>) -> Walk<'a>
 // Adds the faults of all lines.
 fn add_all<'a>(
     alloc: Global,
-    walk: &mut Walk<'a>,
+    walk: &mut LinesAbove<'a>,
     faults: &mut Listed<Fault>,
     text: &'a [u8],
 ) -> Result<(), AllocError>

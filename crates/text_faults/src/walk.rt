@@ -1,30 +1,30 @@
 // What the lines above a line say, and all that is wrong on the line.
 
 ghost use Rattle.std.specs.Prelude.{◌≡◌, [], option_map};
-ghost use Rattle.text_faults.specs.Found.{wronged_of, if_read};
+ghost use Rattle.text_faults.specs.WordFault.{wronged_of, if_read};
 
 use crate::fault::{Fault, Operand, Wrong};
-use crate::found::{Found, first_wrong, misplaced, place_of, wrong_at, wrong_if};
+use crate::found::{WordFault, first_wrong, misplaced, place_of, wrong_at, wrong_if};
 use crate::near::{nearest_begin, nearest_line_word, nearest_name, own, own_if};
 use crate::parsed::Parsed;
 use crate::placed::next_placed;
-use listed::Listed;
+use plain_vec::Listed;
 use program_reader::{
-    FUNCTION_LIMIT, Head, Labels, ORDER_LIMIT, Outline, Table, begins_function, is_text, note_if,
-    open_after, read_labels,
+    FUNCTION_LIMIT, Head, Labels, NameTable, ORDER_LIMIT, Outline, begins_function, is_text,
+    note_if, open_after, read_labels,
 };
 use std::alloc::{AllocError, Global};
 
 /// The labels of the open function: those above, each with its line, and all of them.
 #[derive(Drop)]
 pub(crate) struct BodyLabels<'a> {
-    pub above: Table<'a>,
+    pub above: NameTable<'a>,
     pub all: Labels<'a>,
 }
 
 /// What the lines above say.
 #[derive(Drop)]
-pub(crate) struct Walk<'a> {
+pub(crate) struct LinesAbove<'a> {
     /// Whether a function is open.
     pub inside: bool,
     /// How many functions began.
@@ -34,14 +34,14 @@ pub(crate) struct Walk<'a> {
     /// The functions of the whole text.
     pub outline: Outline<'a>,
     /// The functions above, each with its line.
-    pub named: Table<'a>,
+    pub named: NameTable<'a>,
     pub labels: BodyLabels<'a>,
 }
 
-fn not_utf8<'a>() -> Found<'a>
+fn not_utf8<'a>() -> WordFault<'a>
     ensures { wronged_of result ≡ record { column = 1; word = []; wrong = Wrong.NotUtf8 } }
 {
-    Found {
+    WordFault {
         column: 1,
         word: b"",
         wrong: Wrong::NotUtf8,
@@ -49,7 +49,10 @@ fn not_utf8<'a>() -> Found<'a>
 }
 
 // What is wrong on a line that can be read.
-fn if_read<'a>(unreadable: Option<Found<'_>>, found: Option<Found<'a>>) -> Option<Found<'a>>
+fn if_read<'a>(
+    unreadable: Option<WordFault<'_>>,
+    found: Option<WordFault<'a>>,
+) -> Option<WordFault<'a>>
     ensures { option_map wronged_of result ≡ if_read (option_map wronged_of unreadable.entry) (option_map wronged_of found.entry) }
 {
     match unreadable {
@@ -66,25 +69,25 @@ impl<'a> BodyLabels<'a> {
         ensures { result ≡ record { above = []; all = no_labels } }
     {
         BodyLabels {
-            above: Table::new(alloc),
+            above: NameTable::new(alloc),
             all: Labels::new(alloc),
         }
     }
 }
 
-impl<'a> Walk<'a> {
+impl<'a> LinesAbove<'a> {
     ghost use Rattle.std.specs.Prelude.{◌≡◌, ◌≤◌, ◌++◌, [], length, map, option_map, IfOk, OnOk};
     ghost use Rattle.text_lines.specs.Lines.{lines_of, most_bytes};
     ghost use Rattle.text_faults.specs.Placed.{placed_words};
     ghost use Rattle.text_faults.specs.Lines.{head_of, form_of, first_of, behind_first};
     ghost use Rattle.text_faults.specs.Parsed.{IsParse};
-    ghost use Rattle.text_faults.specs.Found.{wronged_of, unreadable, nested, left_open, name_wrong, first_misnamed, main_missing, too_many, with_wronged};
+    ghost use Rattle.text_faults.specs.WordFault.{wronged_of, unreadable, nested, left_open, name_wrong, first_misnamed, main_missing, too_many, with_wronged};
     ghost use Rattle.text_faults.specs.Near.{meant};
     ghost use Rattle.text_faults.specs.Faults.{fault_of, faults_on, walked, walked_by};
-    ghost use Rattle.text_faults.specs.Counted.{IsCounted};
+    ghost use Rattle.text_faults.specs.Counted.{CountsLinesAbove};
 
     // What makes a line unreadable.
-    fn unreadable<'b>(&self, parsed: &Parsed<'b>) -> Option<Found<'b>>
+    fn unreadable<'b>(&self, parsed: &Parsed<'b>) -> Option<WordFault<'b>>
         requires { IsParse parsed.now }
         ensures { option_map wronged_of result ≡ unreadable self.now.inside parsed.now.line.now (placed_words parsed.now.line.now) }
     {
@@ -98,7 +101,7 @@ impl<'a> Walk<'a> {
     }
 
     // A function that begins in another one.
-    fn nested<'b>(&self, parsed: &Parsed<'b>) -> Option<Found<'b>>
+    fn nested<'b>(&self, parsed: &Parsed<'b>) -> Option<WordFault<'b>>
         requires { IsParse parsed.now }
         ensures { option_map wronged_of result ≡ nested self.now (placed_words parsed.now.line.now) }
     {
@@ -107,7 +110,7 @@ impl<'a> Walk<'a> {
     }
 
     // A function that is open after the last line.
-    fn left_open<'b>(&self, parsed: &Parsed<'b>, last: bool) -> Option<Found<'b>>
+    fn left_open<'b>(&self, parsed: &Parsed<'b>, last: bool) -> Option<WordFault<'b>>
         requires { IsParse parsed.now }
         ensures { option_map wronged_of result ≡ left_open self.now last (placed_words parsed.now.line.now) }
     {
@@ -131,7 +134,7 @@ impl<'a> Walk<'a> {
     }
 
     // The first operand whose name is wrong.
-    fn first_misnamed<'b>(&self, parsed: &Parsed<'b>) -> Option<Found<'b>>
+    fn first_misnamed<'b>(&self, parsed: &Parsed<'b>) -> Option<WordFault<'b>>
         requires { IsParse parsed.now }
         ensures { option_map wronged_of result ≡ first_misnamed self.now (form_of (placed_words parsed.now.line.now)) (behind_first (placed_words parsed.now.line.now)) }
     {
@@ -150,7 +153,7 @@ impl<'a> Walk<'a> {
     }
 
     // No line follows, and no function is main.
-    fn main_missing<'b>(&self, parsed: &Parsed<'b>, last: bool) -> Option<Found<'b>>
+    fn main_missing<'b>(&self, parsed: &Parsed<'b>, last: bool) -> Option<WordFault<'b>>
         requires { IsParse parsed.now }
         ensures { option_map wronged_of result ≡ main_missing self.now last (placed_words parsed.now.line.now) }
     {
@@ -159,7 +162,7 @@ impl<'a> Walk<'a> {
     }
 
     // The line is one more than there may be.
-    fn too_many<'b>(&self, parsed: &Parsed<'b>) -> Option<Found<'b>>
+    fn too_many<'b>(&self, parsed: &Parsed<'b>) -> Option<WordFault<'b>>
         requires { IsParse parsed.now }
         ensures { option_map wronged_of result ≡ too_many self.now (head_of (placed_words parsed.now.line.now)) (first_of (placed_words parsed.now.line.now)) }
     {
@@ -177,7 +180,7 @@ impl<'a> Walk<'a> {
     }
 
     // The word that may have been meant.
-    fn meant(&self, alloc: Global, found: Found<'_>) -> Result<Option<Listed<u8>>, AllocError>
+    fn meant(&self, alloc: Global, found: WordFault<'_>) -> Result<Option<Listed<u8>>, AllocError>
         ensures { IfOk result (λ o. o ≡ meant self.now found.entry.wrong found.entry.word.now) }
     {
         match found.wrong {
@@ -195,7 +198,7 @@ impl<'a> Walk<'a> {
         alloc: Global,
         faults: &mut Listed<Fault>,
         number: u32,
-        found: Option<Found<'_>>,
+        found: Option<WordFault<'_>>,
     ) -> Result<(), AllocError>
         ensures { OnOk result (faults.new ≡ faults.old ++ map (fault_of self.now number) (with_wronged (option_map wronged_of found.entry) [])) }
     {
@@ -252,7 +255,7 @@ impl<'a> Walk<'a> {
         parsed: &Parsed<'a>,
         below: &'a [u8],
     ) -> Result<(), AllocError>
-        requires counted { IsCounted self.old }
+        requires counted { CountsLinesAbove self.old }
         requires parsed { IsParse parsed.now }
         requires sized { length below.now ≤ most_bytes }
         ensures { OnOk result (self.new ≡ walked_by self.old number Head.Begin (behind_first (placed_words parsed.now.line.now)) (lines_of below.now)) }
@@ -260,7 +263,7 @@ impl<'a> Walk<'a> {
         let all = read_labels(alloc, below)?;
         note_if(&mut self.named, parsed.lone_name(), number)?;
         self.labels = BodyLabels {
-            above: Table::new(alloc),
+            above: NameTable::new(alloc),
             all,
         };
         self.inside = true;
@@ -276,7 +279,7 @@ impl<'a> Walk<'a> {
         parsed: &Parsed<'a>,
         below: &'a [u8],
     ) -> Result<(), AllocError>
-        requires counted { IsCounted self.old }
+        requires counted { CountsLinesAbove self.old }
         requires parsed { IsParse parsed.now }
         requires sized { length below.now ≤ most_bytes }
         ensures { OnOk result (self.new ≡ walked self.old number parsed.now.line.now (lines_of below.now)) }

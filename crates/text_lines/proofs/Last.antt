@@ -1,7 +1,5 @@
--- No text is without a line.
-use Rattle.std.proofs.Common.{◌≡◌, ◌==◌, ℕ, Bool, true, false, List, [], ◌∷◌, cond, refl}
-use Rattle.std.specs.List.{onto_first}
-use Rattle.text_lines.specs.Lines.{is_last, lines_of}
+-- Every text has at least one line.
+use Rattle.text_lines.proofs.Common.{◌≡◌, ◌==◌, ℕ, Bool, true, false, List, [], ◌∷◌, cond, refl, onto_first, is_last, lines_of}
 
 more_by : (x : ℕ) (ps : List (List ℕ)) → is_last (onto_first x ps) ≡ false
 more_by x [] = refl

@@ -1,12 +1,5 @@
 -- Steps along the runs and the words of a line.
-use Rattle.std.proofs.Common.{◌≡◌, ◌<◌, ◌≤◌, ◌+◌, ◌-◌, ◌==◌, ℕ, zero, suc, Bool, true, false, List, [], ◌∷◌, length, take, drop, filter, get_or, arith, refl, ap, sym, ◌∙◌, cond}
-use Rattle.std.proofs.Common.{◌⊎◌, inl, inr}
-use Rattle.std.proofs.lemmas.Bool.{cases_lt}
-use Rattle.std.proofs.lemmas.List.{take_all, drop_all, length-drop}
-use Rattle.std.specs.List.{slice_split, position_or_len, All}
-use Rattle.std.proofs.lemmas.List.Splits.{slice_split_first, slice_split_none}
-use Rattle.std.proofs.lemmas.List.Sums.{fails_before_first, position_or_len_is}
-use Rattle.text_lines.specs.Lines.{is_blank, is_word, runs_of, lines_of}
+use Rattle.text_lines.proofs.Common.{◌≡◌, ◌<◌, ◌≤◌, ◌+◌, ◌-◌, ◌==◌, ℕ, zero, suc, Bool, true, false, List, [], ◌∷◌, length, take, drop, filter, get_or, arith, refl, ap, sym, ◌∙◌, cond, ◌⊎◌, inl, inr, cases_lt, take_all, drop_all, length-drop, slice_split, position_or_len, All, slice_split_first, slice_split_none, fails_before_first, position_or_len_is, is_blank, is_word, runs_of, lines_of}
 
 pub position_at : {X : Type 0} (p : X → Bool) (xs : List X) (i : ℕ) (d : X) → i < length xs → ((k : ℕ) → k < i → p (get_or xs k d) ≡ false) → p (get_or xs i d) ≡ true → i ≡ position_or_len p xs
 position_at p xs i d lt before here = sym (position_or_len_is p xs i d (omega (arith, lt)) before (λ _. here))
@@ -21,7 +14,7 @@ none_pass p xs e = λ k d lt. fails_before_first p xs k d (let h : k < length xs
 pub split_last : {X : Type 0} (p : X → Bool) (xs : List X) → position_or_len p xs ≡ length xs → slice_split p xs ≡ xs ∷ []
 split_last p xs e = slice_split_none p xs (none_pass p xs e)
 
--- a piece that isn't empty is a word
+-- a nonempty piece is a word
 abbrev pub kept_word : List ℕ → List (List ℕ) → List (List ℕ)
 kept_word w ws = cond (is_word w) (w ∷ ws) ws
 
@@ -35,11 +28,11 @@ by_end : (line : List ℕ) → position_or_len is_blank line ≤ length line →
 by_end line le (inl lt) = cut_short line lt
 by_end line le (inr ge) = whole line (omega (arith, le, ge))
 
--- the runs of a line, by the first of them
+-- the runs of a line, from its first run
 pub runs_step : (line : List ℕ) (end : ℕ) → end ≡ position_or_len is_blank line → end ≤ length line → runs_of line ≡ kept_word (take end line) (runs_of (drop (end + 1) line))
 runs_step line end e le = rw e (by_end line (omega (arith, e, le)) (cases_lt (position_or_len is_blank line) (length line)))
 
--- a run that isn't empty is the first one
+-- a nonempty run is the first word
 pub run_first : (line : List ℕ) (end : ℕ) → end ≡ position_or_len is_blank line → end ≤ length line → 0 < end → runs_of line ≡ take end line ∷ runs_of (drop (end + 1) line)
 run_first line zero e le lt = absurd (omega (arith, lt))
 run_first [] (suc n) e le lt = absurd (omega (arith, le))

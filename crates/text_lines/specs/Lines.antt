@@ -6,7 +6,7 @@ use Rattle.std.specs.List.{slice_split}
 abbrev pub most_bytes : ℕ
 most_bytes = 16777216
 
--- a text is cut at its line feeds
+-- a text split at its line feeds
 abbrev pub lines_of : List ℕ → List (List ℕ)
 lines_of text = slice_split (λ c. c == 10) text
 
@@ -23,11 +23,11 @@ abbrev pub is_word : List ℕ → Bool
 is_word [] = false
 is_word (c ∷ cs) = true
 
--- the runs of other bytes than blanks
+-- the maximal runs of non-blank bytes
 abbrev pub runs_of : List ℕ → List (List ℕ)
 runs_of line = filter is_word (slice_split is_blank line)
 
--- a word that begins with a number sign begins a comment
+-- a word that begins with `#` begins a comment
 abbrev pub begins_comment : List ℕ → Bool
 begins_comment [] = false
 begins_comment (c ∷ cs) = c == 35

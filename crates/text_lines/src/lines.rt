@@ -7,7 +7,7 @@ ghost use Rattle.text_lines.specs.Lines.{lines_of};
 /// The most bytes of a text that is read.
 pub const MOST_BYTES: usize = 16777216;
 
-/// Where the first line ends: at its line feed, or with the text.
+/// Where the first line ends: at its line feed, or at the end of the text.
 pub fn line_end(text: &[u8]) -> usize
     ensures end { result ≡ position_or_len (λ c. c == 10) text.now }
     ensures within { result ≤ length text.now }
@@ -20,7 +20,7 @@ pub fn line_end(text: &[u8]) -> usize
     text.len()
 }
 
-/// The first line of a text, and the text behind its line feed; None where that line is the last.
+/// The first line of a text, and the text after its line feed; None if that line is the last.
 pub fn next_line(text: &[u8]) -> (&[u8], Option<&[u8]>)
     ensures lines { MatchOption result.1 (lines_of text.now ≡ result.0.now ∷ []) (λ rest. lines_of text.now ≡ result.0.now ∷ lines_of rest.now) }
     ensures shorter { IfSome result.1 (λ rest. length result.0.now + 1 + length rest.now ≡ length text.now) }

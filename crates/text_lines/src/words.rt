@@ -11,7 +11,7 @@ fn is_blank_byte(byte: u8) -> bool
     byte == b' ' || byte == b'\t' || byte == b'\r'
 }
 
-// Where the first run of other bytes than blanks ends.
+// Where the first run of non-blank bytes ends.
 fn run_end(line: &[u8]) -> usize
     ensures end { result ≡ position_or_len is_blank line.now }
     ensures within { result ≤ length line.now }
@@ -24,7 +24,7 @@ fn run_end(line: &[u8]) -> usize
     line.len()
 }
 
-/// What comes behind the byte at a place, or nothing where there is none.
+/// What follows the byte at a position; empty if nothing does.
 pub fn behind(line: &[u8], end: usize) -> &[u8]
     requires { end ≤ length line.now }
     ensures { result.now ≡ drop (end + 1) line.now }
@@ -36,7 +36,7 @@ pub fn behind(line: &[u8], end: usize) -> &[u8]
     }
 }
 
-// The first run and what comes behind the blank after it, or None where there are only blanks.
+// The first run and what follows the blank after it; None if there are only blanks.
 fn next_run(line: &[u8]) -> Option<(&[u8], &[u8])>
     ensures runs { MatchOption result (runs_of line.now ≡ []) (λ r. runs_of line.now ≡ r.0.now ∷ runs_of r.1.now) }
     ensures shorter { IfSome result (λ r. length r.0.now + length r.1.now ≤ length line.now) }
@@ -55,7 +55,7 @@ fn next_run(line: &[u8]) -> Option<(&[u8], &[u8])>
     }
 }
 
-/// The first word of a line and the rest of the line, or None where it has no word before its comment.
+/// The first word of a line and the rest of the line; None if there is no word before its comment.
 pub fn next_word(line: &[u8]) -> Option<(&[u8], &[u8])>
     ensures words { MatchOption result (words_of line.now ≡ []) (λ r. words_of line.now ≡ r.0.now ∷ words_of r.1.now) }
     ensures shorter { IfSome result (λ r. length r.0.now + length r.1.now ≤ length line.now) }
@@ -68,7 +68,7 @@ pub fn next_word(line: &[u8]) -> Option<(&[u8], &[u8])>
     Some((word, rest))
 }
 
-/// Whether a word is this text.
+/// Whether a word equals this text.
 pub fn word_is(word: &[u8], text: &[u8]) -> bool
     ensures { result ≡ bytes_eq word.now text.now }
 {

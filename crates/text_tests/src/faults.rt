@@ -2,7 +2,7 @@
 
 use heap_image::MOST_BYTES;
 use hh_lang::{Fun, Instr, IntReg, Line, Program, is_program};
-use listed::Listed;
+use plain_vec::Listed;
 use program_reader::read_program;
 use std::alloc::{AllocError, Global};
 

@@ -1,8 +1,8 @@
 // The text of an image, and whether the verifier accepts it.
 
-use heap_image::{Picked, Picture, picture_text};
-use image_check::{Birth, Chunk, Remembered, State, Task, verify};
-use listed::Listed;
+use heap_image::{ImageData, Picked, picture_text};
+use image_check::{ImageBirth, ImageChunk, ImageRemembered, ImageState, ImageTask, verify};
+use plain_vec::Listed;
 use std::alloc::{AllocError, Global};
 
 // An object in a table: its address, its birth, whether it is mutable, its references and its numbers.
@@ -10,10 +10,10 @@ type Row = (u64, (u64, u64), bool, &'static [u64], &'static [i64]);
 
 // A picture as a table, and its text.
 struct Drawn {
-    tasks: &'static [Task],
-    chunks: &'static [Chunk],
+    tasks: &'static [ImageTask],
+    chunks: &'static [ImageChunk],
     objects: &'static [Row],
-    fields: &'static [Remembered],
+    fields: &'static [ImageRemembered],
     text: &'static [u8],
 }
 
@@ -28,7 +28,7 @@ fn picked(alloc: Global, row: Row) -> Result<Picked, AllocError> {
     let numbers = list_of(alloc, numbers)?;
     Ok(Picked {
         address,
-        birth: Birth { task, count },
+        birth: ImageBirth { task, count },
         mutable,
         references,
         numbers,
@@ -53,12 +53,12 @@ fn objects_of(alloc: Global, rows: &[Row]) -> Result<Listed<Picked>, AllocError>
     Ok(objects)
 }
 
-fn picture_of(alloc: Global, drawn: &Drawn) -> Result<Picture, AllocError> {
+fn picture_of(alloc: Global, drawn: &Drawn) -> Result<ImageData, AllocError> {
     let tasks = list_of(alloc, drawn.tasks)?;
     let chunks = list_of(alloc, drawn.chunks)?;
     let fields = list_of(alloc, drawn.fields)?;
     let objects = objects_of(alloc, drawn.objects)?;
-    Ok(Picture {
+    Ok(ImageData {
         tasks,
         chunks,
         objects,
@@ -72,7 +72,7 @@ fn verified(alloc: Global, text: &[u8], drawn: &Drawn) -> (bool, Option<u64>) {
 }
 
 // The same for the text of a picture; None if out of memory.
-fn written(alloc: Global, picture: &Picture, drawn: &Drawn) -> Option<(bool, Option<u64>)> {
+fn written(alloc: Global, picture: &ImageData, drawn: &Drawn) -> Option<(bool, Option<u64>)> {
     match picture_text(alloc, picture) {
         Ok(text) => Some(verified(alloc, text.as_slice(), drawn)),
         Err(_) => None,
@@ -89,12 +89,12 @@ fn drawn_and_written(alloc: Global, drawn: &Drawn) -> Option<(bool, Option<u64>)
 
 // Two objects of a task that has ended.
 const ENDED: Drawn = Drawn {
-    tasks: &[Task {
+    tasks: &[ImageTask {
         number: 0,
         parent: None,
-        state: State::Ended,
+        state: ImageState::Ended,
     }],
-    chunks: &[Chunk {
+    chunks: &[ImageChunk {
         number: 0,
         owner: 0,
         words: 1024,
@@ -110,36 +110,36 @@ fn an_ended_heap_is_written(rt: HostRuntime) {
 }
 
 // A task with a child that runs, and a child that has ended.
-const TASKS: &[Task] = &[
-    Task {
+const TASKS: &[ImageTask] = &[
+    ImageTask {
         number: 0,
         parent: None,
-        state: State::Waiting,
+        state: ImageState::Waiting,
     },
-    Task {
+    ImageTask {
         number: 1,
         parent: Some(0),
-        state: State::Running,
+        state: ImageState::Running,
     },
-    Task {
+    ImageTask {
         number: 2,
         parent: Some(0),
-        state: State::Ended,
+        state: ImageState::Ended,
     },
 ];
 
-const CHUNKS: &[Chunk] = &[
-    Chunk {
+const CHUNKS: &[ImageChunk] = &[
+    ImageChunk {
         number: 0,
         owner: 0,
         words: 1024,
     },
-    Chunk {
+    ImageChunk {
         number: 3,
         owner: 1,
         words: 1024,
     },
-    Chunk {
+    ImageChunk {
         number: 4,
         owner: 2,
         words: 2048,
@@ -154,7 +154,7 @@ const WAITING: Drawn = Drawn {
         (1, (0, 0), true, &[0, 3073], &[i64::MIN]),
         (4097, (2, 7), false, &[1, 4097], &[]),
     ],
-    fields: &[Remembered {
+    fields: &[ImageRemembered {
         task: 1,
         address: 1,
         place: 1,

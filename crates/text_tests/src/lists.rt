@@ -1,6 +1,6 @@
 // Lists, and lists with spare capacity.
 
-use listed::{Listed, Roomy};
+use plain_vec::{Listed, ReservedVec};
 
 // Adds three items and changes two; returns whether the list has them.
 fn is_filled(list: &mut Listed<i32>) -> bool {
@@ -31,7 +31,7 @@ fn items_come_and_go(rt: HostRuntime) {
 }
 
 // Adds two items with reserved capacity, and pops one; returns whether the list has and returns them.
-fn is_used(list: &mut Roomy<i32>) -> bool {
+fn is_used(list: &mut ReservedVec<i32>) -> bool {
     let Ok(()) = list.reserve(2) else {
         return false;
     };
@@ -42,7 +42,7 @@ fn is_used(list: &mut Roomy<i32>) -> bool {
 
 #[test]
 fn room_is_used(rt: HostRuntime) {
-    let mut list = Roomy::new(rt.alloc());
+    let mut list = ReservedVec::new(rt.alloc());
     let used = is_used(&mut list);
     let left = list.into_listed();
     assert!(rt; used && left.as_slice() == [1].as_slice());

@@ -1,6 +1,6 @@
 // Sources and sinks: over readers and writers, in memory, and those that never fail.
 
-use outside_io::{
+use io_traits::{
     Failed, FileSource, MemSink, MemSource, OutSink, Sink, Source, SureSink, SureSource,
 };
 use std::alloc::{AllocError, Global};

@@ -55,68 +55,68 @@ fn newest_taken_back_and_oldest_stolen(rt: HostRuntime) -> Result<(), Fail> {
 
 // A worker at its hand, and the numbers that it took.
 #[derive(Drop)]
-struct Desk {
+struct WorkerState {
     hand: Hand,
     taken: Vec<u32>,
     short_of_memory: bool,
 }
 
 // Puts its numbers, taking back every third time and stealing every seventh; then takes back what is left.
-fn work<R: Wait>(rt: &R, desk: &mut Desk, worker: u32) -> Result<(), AllocError>
+fn work<R: Wait>(rt: &R, worker_state: &mut WorkerState, worker: u32) -> Result<(), AllocError>
     requires { worker < 4 }
 {
     for step in 0..EACH {
-        desk.hand.put(worker * EACH + step)?;
+        worker_state.hand.put(worker * EACH + step)?;
         if step % 3 == 0
-            && let Some(task) = desk.hand.next_own()
+            && let Some(task) = worker_state.hand.next_own()
         {
-            desk.taken.push(task)?;
+            worker_state.taken.push(task)?;
         }
         if step % 7 == 0
-            && let Some(task) = stolen(rt, &mut desk.hand, (worker + 1) % 4)
+            && let Some(task) = stolen(rt, &mut worker_state.hand, (worker + 1) % 4)
         {
-            desk.taken.push(task)?;
+            worker_state.taken.push(task)?;
         }
     }
     for _ in 0..EACH {
-        if let Some(task) = desk.hand.next_own() {
-            desk.taken.push(task)?;
+        if let Some(task) = worker_state.hand.next_own() {
+            worker_state.taken.push(task)?;
         }
     }
     Ok(())
 }
 
 // Each worker in a thread of its own.
-fn all_work<R: Threads + Wait + Sync>(rt: &R, desks: &mut [Desk])
-    requires { length desks.old ≤ 4 }
+fn all_work<R: Threads + Wait + Sync>(rt: &R, worker_states: &mut [WorkerState])
+    requires { length worker_states.old ≤ 4 }
 {
     thread::for_each_mut(
         rt,
-        desks,
+        worker_states,
         4,
-        &|i: usize, desk: &mut Desk|
+        &|i: usize, worker_state: &mut WorkerState|
             requires { i < 4 }
-        { desk.short_of_memory = work(rt, desk, i as u32).is_err() },
+        { worker_state.short_of_memory = work(rt, worker_state, i as u32).is_err() },
     );
 }
 
 #[test]
 fn four_workers_take_every_number_once(rt: HostRuntime) -> Result<(), Fail> {
-    let mut desks = Vec::new(rt.alloc());
+    let mut worker_states = Vec::new(rt.alloc());
     for hand in Deques::new(rt.alloc(), 4)? {
         let taken = Vec::new(rt.alloc());
-        desks.push(Desk {
+        worker_states.push(WorkerState {
             hand,
             taken,
             short_of_memory: false,
         })?;
     }
-    assert!(rt; desks.len() == 4);
-    all_work(&rt, desks.as_mut_slice());
+    assert!(rt; worker_states.len() == 4);
+    all_work(&rt, worker_states.as_mut_slice());
     let mut taken = Vec::new(rt.alloc());
-    for desk in desks.iter() {
-        assert!(rt; !desk.short_of_memory);
-        taken.extend_from_slice(desk.taken.as_slice())?;
+    for worker_state in worker_states.iter() {
+        assert!(rt; !worker_state.short_of_memory);
+        taken.extend_from_slice(worker_state.taken.as_slice())?;
     }
     taken.sort()?;
     assert!(rt; taken.len() == 4000);

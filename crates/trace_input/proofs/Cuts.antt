@@ -1,11 +1,5 @@
 -- One more line that isn't the trace line.
-use Rattle.std.proofs.Common.{◌≡◌, ◌<◌, ◌+◌, ◌-◌, ◌++◌, ℕ, suc, false, List, [], ◌∷◌, length, take, arith, refl, ap, sym, ◌∙◌, append_assoc, length-append}
-use Rattle.std.specs.Prelude.{◌==◌}
-use Rattle.std.specs.List.{join_with_byte}
-use Rattle.std.proofs.lemmas.List.Splits.{join_with_byte-slice_split, length-slice_split}
-use Rattle.std.proofs.Math.Seq.{take-append_seam}
-use Rattle.text_lines.specs.Lines.{lines_of}
-use Rattle.trace_input.specs.Cut.{is_trace_line, lines_above, trace_lines, with_feeds}
+use Rattle.trace_input.proofs.Common.{◌≡◌, ◌<◌, ◌+◌, ◌-◌, ◌++◌, ℕ, suc, false, List, [], ◌∷◌, length, take, arith, refl, ap, sym, ◌∙◌, append_assoc, length-append, ◌==◌, join_with_byte, join_with_byte-slice_split, length-slice_split, take-append_seam, lines_of, is_trace_line, lines_above, trace_lines, with_feeds}
 
 join_first : (line : List ℕ) (ls : List (List ℕ)) → 0 < length ls → join_with_byte 10 (line ∷ ls) ≡ line ++ 10 ∷ join_with_byte 10 ls
 join_first line [] h = absurd (let a : 0 < 0 = h in omega arith)

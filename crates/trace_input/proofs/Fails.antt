@@ -1,21 +1,12 @@
 -- If a trace can't be read for its program, the input has that fault.
-use Rattle.std.proofs.Common.{◌≡◌, ◌<◌, ℕ, List, [], ◌∷◌, length, arith, refl, ap, sym, ◌∙◌, subst}
-use Rattle.std.specs.Prelude.{Option, Some, None, Ok, Err}
-use Rattle.hh_lang.specs.Form.{ProgramText}
-use Rattle.text_lines.specs.Lines.{lines_of}
-use Rattle.program_reader.specs.declared.cause.Refused.{Refused}
-use Rattle.program_reader.specs.Fault.{first_fault}
-use Rattle.program_reader.specs.Program.{program_of, reading_of, unless_refused}
-use Rattle.trace_input.specs.declared.input.InputError.{InputError}
-use Rattle.trace_input.specs.Cut.{program_part, trace_lines, trace_number}
-use Rattle.trace_input.specs.Input.{trace_bad, bad_line, as_bad_line, parts_fault, FailsAt, FailsTrace}
+use Rattle.trace_input.proofs.Common.{◌≡◌, ◌<◌, ℕ, List, [], ◌∷◌, length, arith, refl, ap, sym, ◌∙◌, subst, Option, Some, None, Ok, Err, ProgramText, lines_of, TextFault, first_fault, program_of, reading_of, unless_refused, InputError, program_part, trace_lines, trace_number, trace_bad, bad_line, as_bad_line, parts_fault, FailsAt, FailsTrace}
 use Rattle.trace_input.proofs.Cuts.{some_lines}
 
 bad_same : (last n : ℕ) (p : ProgramText) (ls : List (List ℕ)) → 0 < length ls → bad_line last n p ls ≡ trace_bad n p ls
 bad_same last n p [] h = absurd (let a : 0 < 0 = h in omega arith)
 bad_same last n p (l ∷ ls) h = refl
 
-read_by : (r : Option Refused) (q p : ProgramText) → unless_refused r q ≡ Ok p → (r ≡ None) × (p ≡ q)
+read_by : (r : Option TextFault) (q p : ProgramText) → unless_refused r q ≡ Ok p → (r ≡ None) × (p ≡ q)
 read_by None q p e = (refl, cc)
 read_by (Some r) q p e = absurd (let f : Err r ≡ Ok p = e in cc)
 

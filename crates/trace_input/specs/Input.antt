@@ -11,7 +11,7 @@ use Rattle.run_trace.specs.declared.settings.Version.TheVariants.{One, Two}
 use Rattle.run_trace.specs.Settings.{SettingsValue}
 use Rattle.run_trace.specs.Trace.{version_of, fault_in, AreTraceLines}
 use Rattle.program_reader.specs.declared.cause.Cause.TheVariants.{TooLong}
-use Rattle.program_reader.specs.declared.cause.Refused.{Refused}
+use Rattle.program_reader.specs.declared.cause.TextFault.{TextFault}
 use Rattle.program_reader.specs.Fault.{first_fault}
 use Rattle.program_reader.specs.Program.{program_of}
 use Rattle.trace_input.specs.declared.input.InputFault.{InputFault}
@@ -68,7 +68,7 @@ as_bad_line None = None
 as_bad_line (Some n) = Some (BadLine n)
 
 -- the program's faults come first, then those of the trace
-abbrev pub fault_by : Option Refused → Option ℕ → Option InputFault
+abbrev pub fault_by : Option TextFault → Option ℕ → Option InputFault
 fault_by (Some r) bad = Some (Source r)
 fault_by None bad = as_bad_line bad
 
@@ -78,7 +78,7 @@ parts_fault input =
     (bad_line (length (lines_of input)) (trace_number input) (program_of (program_part input)) (trace_lines (lines_of input)))
 
 -- more bytes than the limit
-abbrev pub too_long : Refused
+abbrev pub too_long : TextFault
 too_long = record { line = 0; cause = TooLong }
 
 -- the first fault of an input

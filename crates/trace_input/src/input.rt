@@ -10,13 +10,13 @@ ghost use Rattle.trace_input.specs.Input.{IsInput, FailsAt, FailsTrace, input_fa
 use crate::cut::cut;
 use crate::newer::is_newer;
 use hh_lang::Program;
-use program_reader::{Cause, Refused, read_program};
+use program_reader::{Cause, TextFault, read_program};
 use run_trace::{Trace, TraceError, Version, read_trace, read_version};
 use std::alloc::{AllocError, Global};
 use text_lines::{MOST_BYTES, next_line};
 
 /// The refusal of a program with more bytes than its limit.
-pub const TOO_LONG: Refused = Refused {
+pub const TOO_LONG: TextFault = TextFault {
     line: 0,
     cause: Cause::TooLong,
 };
@@ -32,7 +32,7 @@ pub struct TraceInput {
 #[derive(Clone, Copy)]
 pub enum InputFault {
     /// The program is refused.
-    Source(Refused),
+    Source(TextFault),
     /// This line isn't one of a trace; it may be the trace line itself, or the last line if there is no trace line.
     BadLine(u32),
 }

@@ -1,1 +1,2 @@
 pub mod below
+mod Common

@@ -1,6 +1,6 @@
--- What crates above name of the crates below.
+-- Re-exports from lower crates for the crates above.
 pub mod chunk_pool
-pub mod core_relation
+pub mod refinement
 pub mod heap_reading
 pub mod heap_tree
 pub mod hh_model
@@ -9,5 +9,5 @@ pub mod object_layout
 pub mod path_laws
 pub mod remembered_set
 pub mod run_ledger
-pub mod shared_value
-pub mod task_homes
+pub mod core_invariant
+pub mod task_slots

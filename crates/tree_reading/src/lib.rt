@@ -5,7 +5,7 @@ mod objects_seen;
 mod remembered_fields;
 mod tasks_and_chunks;
 
-pub use heap_reading::{Field, InUse, Live, Seen, State};
+pub use heap_reading::{FieldAt, InUse, LiveTask, SeenObject, TaskState};
 pub use objects_seen::objects;
 pub use remembered_fields::remembered;
 pub use shared_tree::Shared;

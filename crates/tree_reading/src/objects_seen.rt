@@ -2,14 +2,14 @@
 
 ghost use Rattle.std.specs.Prelude.{◌≡◌, All, IfOk, IfSome, None, [], map};
 ghost use Rattle.heap_reading.specs.below.object_layout.{moved_to};
-ghost use Rattle.heap_reading.specs.below.shared_value.{chunk_of};
+ghost use Rattle.heap_reading.specs.below.core_invariant.{chunk_of};
 ghost use Rattle.heap_reading.specs.Image.{objects_of, in_words, AreInWords};
 
-use heap_reading::{Chunk, Listed, Seen, is_running, seen_in};
+use heap_reading::{Chunk, Listed, SeenObject, is_running, seen_in};
 use shared_tree::Shared;
 use std::alloc::{AllocError, Global};
 
-// The chunk of a number, where that is in the heap of a task that doesn't run.
+// The chunk of a number, if that is in the heap of a task that doesn't run.
 fn resting_chunk(shared: &Shared, number: u32) -> Option<&Chunk>
     ensures none { result ≡ None → objects_of shared.now number ≡ [] }
     ensures some { IfSome result (λ k. (chunk_of k.now).objects ≡ objects_of shared.now number) }
@@ -20,14 +20,14 @@ fn resting_chunk(shared: &Shared, number: u32) -> Option<&Chunk>
     if is_running(shared.tree().state(owner)) {
         return None;
     }
-    match shared.heaps().homes.rest(owner) {
+    match shared.heaps().task_slots.rest(owner) {
         Some(rest) => rest.heap.chunk(number),
         None => None,
     }
 }
 
-/// The objects of a chunk, by rising address, where its owner doesn't run; else none.
-pub fn objects(alloc: Global, shared: &Shared, chunk: u32) -> Result<Listed<Seen>, AllocError>
+/// The objects of a chunk, by ascending address, if its owner doesn't run; otherwise none.
+pub fn objects(alloc: Global, shared: &Shared, chunk: u32) -> Result<Listed<SeenObject>, AllocError>
     ensures objects { IfOk result (λ objects. objects ≡ map in_words (objects_of shared.now chunk)) }
     ensures words { IfOk result (λ objects. AreInWords (objects_of shared.now chunk)) }
 {

@@ -3,15 +3,15 @@
 ghost use Rattle.std.specs.Prelude.{◌≡◌, IfOk, IfSome, None};
 ghost use Rattle.heap_reading.specs.below.hh_model.{owner_of};
 ghost use Rattle.heap_reading.specs.below.chunk_pool.{AreChunks};
-ghost use Rattle.heap_reading.specs.below.shared_value.{accounts};
+ghost use Rattle.heap_reading.specs.below.core_invariant.{accounts};
 ghost use Rattle.heap_reading.specs.Image.{AreAll, InUseBefore, IsInUse, IsLive, LiveBefore};
 
-use heap_reading::{CHUNK_WORDS, InUse, Listed, Live, live_in};
+use heap_reading::{CHUNK_WORDS, InUse, Listed, LiveTask, live_in};
 use shared_tree::{Shared, is_joined};
 use std::alloc::{AllocError, Global};
 
-/// The tasks that haven't joined, by rising number.
-pub fn live(alloc: Global, shared: &Shared) -> Result<Listed<Live>, AllocError>
+/// The tasks that haven't joined, by ascending number.
+pub fn live(alloc: Global, shared: &Shared) -> Result<Listed<LiveTask>, AllocError>
     ensures { IfOk result (λ tasks. AreAll LiveBefore (IsLive shared.now) tasks) }
 {
     live_in(alloc, shared.tree())
@@ -33,7 +33,7 @@ fn owner_now(shared: &Shared, task: u32) -> u32
     owner
 }
 
-// The chunk of a number, where that is in use.
+// The chunk of a number, if that is in use.
 fn chunk_in_use(shared: &Shared, number: usize) -> Option<InUse>
     requires { AreChunks shared.now.pool.slots }
     ensures there { IfSome result (λ c. IsInUse shared.now c) }
@@ -53,7 +53,7 @@ fn chunk_in_use(shared: &Shared, number: usize) -> Option<InUse>
     }
 }
 
-/// The chunks in use, by rising number. Each has a number of 32 bits, and a unit of 1,024 words at least.
+/// The chunks in use, by ascending number. Each has a number of 32 bits, and at least one unit of 1,024 words.
 pub fn chunk_list(alloc: Global, shared: &Shared) -> Result<Listed<InUse>, AllocError>
     ensures all { IfOk result (λ chunks. AreAll InUseBefore (IsInUse shared.now) chunks) }
     ensures sized { AreChunks shared.now.pool.slots }

@@ -1,24 +1,24 @@
 // Trees of heaps that fork and join, a path of 1,000 links, and reads on and off the path.
 
 ghost use Rattle.std.specs.Prelude.{◌≡◌, ◌<◌, IfSome};
-ghost use Rattle.heap_tree.specs.Node.{depth_of};
+ghost use Rattle.heap_tree.specs.TaskNode.{depth_of};
 
 use chunk_pool::Pool;
-use heap_tree::{LinkCount, State, Tree};
+use heap_tree::{LinkCount, TaskState, Tree};
 use memory_scenes::{DEPTH_LIMIT, relabel, take};
 use read_barrier::{Stop, check};
 use std::alloc::Global;
 use std::marker::Brand;
 use std::sync::ledger::{Blank, Ledger};
-use task_homes::Addr;
+use task_slots::Addr;
 
 // Forks a task; returns its children's numbers.
 fn forked(tree: &mut Tree, t: u32) -> Option<(u32, u32)> {
     if t >= tree.made() || tree.made() >= 100000 || tree.depth(t) >= DEPTH_LIMIT {
         return None;
     }
-    tree.set_state(t, State::Out);
-    if tree.state(t) != Some(State::Out) {
+    tree.set_state(t, TaskState::Out);
+    if tree.state(t) != Some(TaskState::Out) {
         return None;
     }
     tree.fork(t).ok()
@@ -55,7 +55,7 @@ fn path_counted<L: Ledger>(tree: &Tree, t: u32, depth: u32, blank: Blank) -> Opt
 }
 
 // The number of tasks of a new tree, the root's state, its parent, and whether it is on its own path.
-type First = (u32, Option<State>, Option<u32>, Option<bool>);
+type First = (u32, Option<TaskState>, Option<u32>, Option<bool>);
 
 fn first(tree: &Tree) -> First {
     (
@@ -67,7 +67,7 @@ fn first(tree: &Tree) -> First {
 }
 
 // The states of three tasks, and the parent of task 2.
-type States = ([Option<State>; 3], Option<u32>);
+type States = ([Option<TaskState>; 3], Option<u32>);
 
 fn states(tree: &Tree) -> States {
     (
@@ -88,8 +88,8 @@ fn one_fork(alloc: Global) -> Option<(First, (u32, u32), States)> {
 
 #[test]
 fn forks(rt: HostRuntime) {
-    let first = (1, Some(State::Ready), None, Some(true));
-    let states = [Some(State::Waiting), Some(State::Ready), None];
+    let first = (1, Some(TaskState::Ready), None, Some(true));
+    let states = [Some(TaskState::Waiting), Some(TaskState::Ready), None];
     assert!(rt; one_fork(rt.alloc()) == Some((first, (1, 2), (states, Some(0)))));
 }
 

@@ -7,7 +7,7 @@ use chunk_pool::Pool;
 use heap_tree::Tree;
 use memory_scenes::{add_taken, at, has_forked, one_frame};
 use std::alloc::Global;
-use task_homes::{Addr, Homes, LeafHeap, Rest, Source, View, Work, home_block};
+use task_slots::{Addr, LeafHeap, ParkedTask, RefField, TaskSlots, View, Work, slot_block};
 use write_barrier::note_write;
 
 // Whether a reference, if it isn't nil, leads into a chunk of a task of the tree.
@@ -27,18 +27,18 @@ fn is_owned(tree: &Tree, pool: &Pool, reference: Option<Addr>) -> bool
 fn note_checked(
     tree: &Tree,
     pool: &Pool,
-    homes: &mut Homes,
-    source: Source,
+    task_slots: &mut TaskSlots,
+    source: RefField,
     overwritten: Option<Addr>,
     value: Option<Addr>,
 ) -> bool {
-    if homes.len() < tree.made() as usize || !is_owned(tree, pool, Some(source.object)) {
+    if task_slots.len() < tree.made() as usize || !is_owned(tree, pool, Some(source.object)) {
         return false;
     }
     if !is_owned(tree, pool, overwritten) || !is_owned(tree, pool, value) {
         return false;
     }
-    note_write(tree, pool, homes, source, overwritten, value).is_ok()
+    note_write(tree, pool, task_slots, source, overwritten, value).is_ok()
 }
 
 // A root that has forked, and what belongs to the three tasks.
@@ -46,7 +46,7 @@ fn note_checked(
 struct Scene {
     tree: Tree,
     pool: Pool,
-    homes: Homes,
+    task_slots: TaskSlots,
 }
 
 // The address of the object whose field is written.
@@ -69,8 +69,8 @@ fn family(alloc: Global) -> Option<Tree> {
 }
 
 // A task without objects.
-fn bare_rest(alloc: Global) -> Rest {
-    Rest {
+fn bare_rest(alloc: Global) -> ParkedTask {
+    ParkedTask {
         work: Work::Result(0, None),
         heap: LeafHeap::new(alloc),
         view: View::none(),
@@ -79,16 +79,16 @@ fn bare_rest(alloc: Global) -> Rest {
 }
 
 // What belongs to three such tasks.
-fn three_homes(alloc: Global) -> Option<Homes> {
-    let mut homes = Homes::new(alloc, bare_rest(alloc)).ok()?;
-    let Ok(()) = homes.reserve(2) else {
+fn three_task_slots(alloc: Global) -> Option<TaskSlots> {
+    let mut task_slots = TaskSlots::new(alloc, bare_rest(alloc)).ok()?;
+    let Ok(()) = task_slots.reserve(2) else {
         return None;
     };
-    let left = home_block(alloc).ok()?;
-    let right = home_block(alloc).ok()?;
-    homes.push(bare_rest(alloc), left);
-    homes.push(bare_rest(alloc), right);
-    Some(homes)
+    let left = slot_block(alloc).ok()?;
+    let right = slot_block(alloc).ok()?;
+    task_slots.push(bare_rest(alloc), left);
+    task_slots.push(bare_rest(alloc), right);
+    Some(task_slots)
 }
 
 // Takes a chunk for a task; returns its number.
@@ -101,24 +101,28 @@ impl Scene {
     // The root has the chunk 0.
     fn new(alloc: Global) -> Option<Scene> {
         let tree = family(alloc)?;
-        let homes = three_homes(alloc)?;
+        let task_slots = three_task_slots(alloc)?;
         let mut pool = Pool::new(alloc, 4);
         match take_chunk(alloc, &mut pool, 0) {
-            Some(0) => Some(Scene { tree, pool, homes }),
+            Some(0) => Some(Scene {
+                tree,
+                pool,
+                task_slots,
+            }),
             _ => None,
         }
     }
 
     // Records the write of one reference over another; returns whether that succeeded.
     fn write(&mut self, overwritten: Option<Addr>, value: Option<Addr>) -> bool {
-        let source = Source {
+        let source = RefField {
             object: OBJECT,
             field: 0,
         };
         note_checked(
             &self.tree,
             &self.pool,
-            &mut self.homes,
+            &mut self.task_slots,
             source,
             overwritten,
             value,
@@ -127,8 +131,11 @@ impl Scene {
 
     // Sets whether the root's heap keeps overwritten references from now on.
     fn set_keeps(&mut self, keeps: bool) {
-        if self.homes.keeps(0) != keeps && self.homes.len() > 0 && self.homes.has_block(0) {
-            self.homes.set_keeps(0, keeps);
+        if self.task_slots.keeps(0) != keeps
+            && self.task_slots.len() > 0
+            && self.task_slots.has_block(0)
+        {
+            self.task_slots.set_keeps(0, keeps);
         }
     }
 
@@ -138,7 +145,10 @@ impl Scene {
     }
 
     fn count(&self, task: u32) -> (usize, usize) {
-        (self.homes.sources(task).len(), self.homes.kept(task).len())
+        (
+            self.task_slots.sources(task).len(),
+            self.task_slots.kept(task).len(),
+        )
     }
 }
 

@@ -1,19 +1,9 @@
 -- Which entry comes next.
-use Rattle.std.proofs.Common.{◌≡◌, ℕ, ◌<◌, ◌==◌, ◌||◌, Bool, true, false, Option, Some, None, is_some, ap, sym, subst, ◌∙◌, if◌then◌else◌, nat_le, eq-eqb, ne_eqb, arith}
-use Rattle.entry_calls.specs.below.run_trace.{Kind, Begin, Fuel, PutOff, Ran}
-use Rattle.entry_calls.specs.below.run_ledger.{Refused, is_pool_enough}
-use Rattle.entry_calls.specs.below.task_machine.{Private, Paused}
-use Rattle.entry_calls.specs.below.shared_value.{first_cause, IsSharedValue, SharedValue, accounts}
-use Rattle.entry_calls.specs.Owed.{owed_by}
-use Rattle.turn_entries.specs.declared.act.Acted.{Acted}
-use Rattle.turn_entries.specs.declared.between_turns.Ready.{Ready}
+use Rattle.turn_entries.proofs.Common.{◌≡◌, ℕ, ◌<◌, ◌==◌, ◌||◌, Bool, true, false, Option, Some, None, is_some, ap, sym, subst, ◌∙◌, if◌then◌else◌, nat_le, eq-eqb, ne_eqb, arith, Kind, Begin, Fuel, PutOff, Ran, Refused, is_pool_enough, Private, Paused, first_cause, IsSharedValue, SharedValue, accounts, owed_by, TurnOutcome, Ready, Acts, ActsFor, after_steps, brought_kind, due_kind, going_kind, is_out_of_memory, next_kind, owing_kind, paused_kind, is_over}
 use Rattle.turn_entries.specs.declared.between_turns.Ready.TheVariants.{Paused as HasPaused}
-use Rattle.turn_entries.specs.Acts.{Acts, ActsFor}
-use Rattle.turn_entries.specs.Next.{after_steps, brought_kind, due_kind, going_kind, is_wanting, next_kind, owing_kind, paused_kind}
-use Rattle.turn_entries.specs.Values.{is_over}
 use Rattle.turn_entries.proofs.Free.{spent_is}
 
-module _ {P : Type 0} (value : P → SharedValue) (w : SharedValue) (k : ℕ) (ready : Ready) (acted : Acted P) where
+module _ {P : Type 0} (value : P → SharedValue) (w : SharedValue) (k : ℕ) (ready : Ready) (acted : TurnOutcome P) where
   -- another kind that is the same
   pub acts_same : (a b : Option Kind) → a ≡ b → ActsFor value w k ready b acted → ActsFor value w k ready a acted
   acts_same a b e A = subst (λ (o : Option Kind). ActsFor value w k ready o acted) (sym e) A
@@ -37,10 +27,10 @@ module _ {P : Type 0} (value : P → SharedValue) (w : SharedValue) (k : ℕ) (r
   next_by : (a b : Bool) (o : Option Kind) → a ≡ false → b ≡ false → (if (a || b) then None else o) ≡ o
   next_by a b o x y = ap (λ (c : Bool). if (c || b) then None else o) x ∙ ap (λ (c : Bool). if c then None else o) y
 
-  pub acts_on : is_over w ≡ false → is_wanting ready ≡ false → ActsFor value w k ready (going_kind w k ready) acted → Acts value w k ready acted
-  acts_on on met A = acts_same (next_kind w k ready) (going_kind w k ready) (next_by (is_over w) (is_wanting ready) (going_kind w k ready) on met) A
+  pub acts_on : is_over w ≡ false → is_out_of_memory ready ≡ false → ActsFor value w k ready (going_kind w k ready) acted → Acts value w k ready acted
+  acts_on on met A = acts_same (next_kind w k ready) (going_kind w k ready) (next_by (is_over w) (is_out_of_memory ready) (going_kind w k ready) on met) A
 
-module _ {P : Type 0} (value : P → SharedValue) (w : SharedValue) (k : ℕ) (part : Private) (acted : Acted P) where
+module _ {P : Type 0} (value : P → SharedValue) (w : SharedValue) (k : ℕ) (part : Private) (acted : TurnOutcome P) where
   pub acts_paused : (why other : Paused) → why ≡ other → ActsFor value w k (HasPaused part other) (Some (paused_kind w part other)) acted → ActsFor value w k (HasPaused part why) (Some (paused_kind w part why)) acted
   acts_paused why other is A = subst (λ (y : Paused). ActsFor value w k (HasPaused part y) (Some (paused_kind w part y)) acted) (sym is) A
 
@@ -53,7 +43,7 @@ module _ {P : Type 0} (value : P → SharedValue) (w : SharedValue) (k : ℕ) (p
   pub acts_at_once : (ready : Ready) (kind : Kind) → part.fresh ≡ 0 → ActsFor value w k ready (Some kind) acted → ActsFor value w k ready (Some (after_steps part kind)) acted
   acts_at_once ready kind none A = acts_same value w k ready acted _ _ (ap Some (after_by kind true (eq-eqb part.fresh 0 none))) A
 
--- whether the pool is enough, by a look at the part that is lent
+-- whether enough chunks are free, by the lent part
 pub enough_is : (w : SharedValue) (part seen : Private) (enough b : Bool) → seen ≡ part → enough ≡ is_pool_enough w.settings (accounts w) seen.task → enough ≡ b → is_pool_enough w.settings (accounts w) part.task ≡ b
 enough_is w part seen enough b is told e = ap (λ (p : Private). is_pool_enough w.settings (accounts w) p.task) (sym is) ∙ (sym told ∙ e)
 

@@ -1,19 +1,6 @@
--- Entries that aren't refused, where the worker may make one.
-use Rattle.std.proofs.Common.{◌≡◌, ℕ, ◌<◌, ◌&&◌, true, false, Bool, Option, Some, None, is_none, is_some, nat_le, nat_lt, refl, ap, sym, subst, ◌∙◌, arith}
-use Rattle.std.proofs.lemmas.Bool.{false≢true}
-use Rattle.entry_calls.specs.below.hh_model.{asked}
-use Rattle.entry_calls.specs.below.run_trace.{Ran, Chunk, Begin, PutOff, Fuel, Mark, More, Sweep, SettingsValue}
-use Rattle.entry_calls.specs.below.run_ledger.{Mark as OwesMark, More as OwesMore, Sweep as OwesSweep, Refused, Collecting, Due as DueCause, NoWorker, NotDue, NotNeeded, NotSpent, Over, PoolEnough, PoolShort, Spent, RunEnd, CanBeGiven, is_pool_enough, kind_refusal, refused_if, refused_unless, heap_of, sweep_number, on_asked}
-use Rattle.entry_calls.proofs.below.journal_laws.{owed_can_be_given, not_refused}
-use Rattle.entry_calls.specs.below.chunk_pool.{units_in_use}
-use Rattle.entry_calls.specs.below.alloc_path.{place_for, room_of}
-use Rattle.entry_calls.specs.below.task_machine.{Private, Due, NeedChunk, is_part_due, lacks_place}
-use Rattle.entry_calls.specs.below.shared_value.{NotEntered, NoMemory, Refuses, first_cause, need_cause, or_else, due_cause, IsCaused, refused, Fits, part_asks, IsSharedValue, SharedValue, accounts}
-use Rattle.entry_calls.proofs.below.shared_value.{asked_same, end_now, steps_now, refused_is, ran_answer}
-use Rattle.entry_calls.specs.below.own_steps.{machine_after}
-use Rattle.entry_calls.proofs.below.leaf_collections.{begin_answer, chunk_answer, put_off_answer, without_fresh}
-use Rattle.entry_calls.specs.Owed.{owed_by}
-use Rattle.turn_entries.specs.Parts.{IsPaused}
+-- Entries that aren't refused, if the worker may make one.
+use Rattle.turn_entries.proofs.Common.{◌≡◌, ℕ, ◌<◌, ◌&&◌, true, false, Bool, Option, Some, None, is_none, is_some, nat_le, nat_lt, refl, ap, sym, subst, ◌∙◌, arith, false≢true, asked, Ran, Chunk, Begin, PutOff, Fuel, Mark, More, Sweep, SettingsValue, Refused, Collecting, NoWorker, NotDue, NotNeeded, NotSpent, Over, PoolEnough, PoolShort, RunEnd, CanBeGiven, is_pool_enough, kind_refusal, refused_if, refused_unless, heap_of, sweep_number, on_asked, owed_can_be_given, not_refused, units_in_use, place_for, room_of, Private, Due, NeedChunk, is_part_due, lacks_place, NotEntered, NoMemory, Refuses, first_cause, need_cause, or_else, due_cause, IsCaused, refused, Fits, part_asks, IsSharedValue, SharedValue, accounts, asked_same, end_now, steps_now, refused_is, ran_answer, machine_after, begin_answer, chunk_answer, put_off_answer, without_fresh, owed_by, IsPaused}
+use Rattle.entry_calls.specs.below.run_ledger.{Mark as OwesMark, More as OwesMore, Sweep as OwesSweep, Due as DueCause, Spent}
 use Rattle.turn_entries.proofs.Stepping.{first}
 
 -- ---- CAUSES
@@ -39,11 +26,11 @@ module _ (w : SharedValue) (k : ℕ) (part : Private) (I : IsSharedValue w) (fre
 
       need_none : (o : Option ℕ) → on_asked o (λ n. nat_le part.leaf_limit part.heap.since) ≡ false → on_asked o (lacks_place part.heap) ≡ true → need_cause part o ≡ None
       need_none None due need = absurd (false≢true need)
-      need_none (Some words) due need = ap (λ b. refused_if b (DueCause part.heap.since) (refused_if (is_some (place_for part.heap words)) (NotNeeded (room_of part.heap)) None)) due ∙ by (place_for part.heap words) need
+      need_none (Some words) due need = ap (λ b. refused_if b (DueCause part.heap.since) (refused_if (is_some (place_for part.heap words)) (NotNeeded (room_of part.heap)) None)) due ∙ need_none_by_cases (place_for part.heap words) need
         where
-          by : {A : Type 0} (o : Option A) → is_none o ≡ true → refused_if (is_some o) (NotNeeded (room_of part.heap)) None ≡ None
-          by None h = refl
-          by (Some x) h = absurd (false≢true h)
+          need_none_by_cases : {A : Type 0} (o : Option A) → is_none o ≡ true → refused_if (is_some o) (NotNeeded (room_of part.heap)) None ≡ None
+          need_none_by_cases None h = refl
+          need_none_by_cases (Some x) h = absurd (false≢true h)
 
       pub chunk_free : IsPaused w k part NeedChunk → refused w (record { worker = k; kind = Chunk part.task }) ≡ None
       chunk_free P =
@@ -88,34 +75,34 @@ module _ (w : SharedValue) (k t : ℕ) (I : IsSharedValue w) (free : first_cause
       refused_is w I (record { worker = k; kind = Sweep t given })
       ∙ or_none _ _ free (ap (λ (n : ℕ). kind_refusal w.program w.settings (accounts w) k (Sweep t n)) is ∙ subst (CanBeGiven w.program w.settings (accounts w) k) owes (owed_can_be_given w.program w.settings w.journal.items k I.legal))
 
--- ---- THE END FOR SPENT FUEL
+-- ---- THE END WITHOUT FUEL
 
 fuel_by : (end : Option RunEnd) (steps settled : ℕ) (s : SettingsValue) (k : ℕ) → end ≡ None → steps ≡ settled → k < s.workers → is_some (first_cause end steps s k false) ≡ true
     → or_else (first_cause end steps s k true) (refused_unless (nat_le s.fuel settled) (NotSpent settled) None) ≡ None
-fuel_by end steps settled s k none same below spent = by end (nat_le s.fuel steps) (nat_le s.fuel settled) (nat_lt k s.workers) none (ap (nat_le s.fuel) same) (grind (arith, below)) spent
+fuel_by end steps settled s k none same below spent = fuel_by_cases end (nat_le s.fuel steps) (nat_le s.fuel settled) (nat_lt k s.workers) none (ap (nat_le s.fuel) same) (grind (arith, below)) spent
   where
-    by : (e : Option RunEnd) (over over' hired : Bool) → e ≡ None → over ≡ over' → hired ≡ true → is_some (refused_if (is_some e) Over (refused_if (over && true) (Spent steps) (refused_unless hired NoWorker None))) ≡ true
+    fuel_by_cases : (e : Option RunEnd) (over over' hired : Bool) → e ≡ None → over ≡ over' → hired ≡ true → is_some (refused_if (is_some e) Over (refused_if (over && true) (Spent steps) (refused_unless hired NoWorker None))) ≡ true
         → or_else (refused_if (is_some e) Over (refused_if (over && false) (Spent steps) (refused_unless hired NoWorker None))) (refused_unless over' (NotSpent settled) None) ≡ None
-    by (Some x) over over' hired a b d h = absurd cc
-    by None over over' false a b d h = absurd (false≢true d)
-    by None true true true a b d h = refl
-    by None true false true a b d h = absurd (false≢true (sym b))
-    by None false over' true a b d h = absurd (false≢true h)
+    fuel_by_cases (Some x) over over' hired a b d h = absurd cc
+    fuel_by_cases None over over' false a b d h = absurd (false≢true d)
+    fuel_by_cases None true true true a b d h = refl
+    fuel_by_cases None true false true a b d h = absurd (false≢true (sym b))
+    fuel_by_cases None false over' true a b d h = absurd (false≢true h)
 
 pub fuel_free : (w : SharedValue) (k : ℕ) → IsSharedValue w → (accounts w).end ≡ None → k < w.settings.workers → is_some (first_cause w.end w.steps w.settings k false) ≡ true → refused w (record { worker = k; kind = Fuel }) ≡ None
 fuel_free w k I goes below spent = refused_is w I (record { worker = k; kind = Fuel }) ∙ fuel_by w.end w.steps (accounts w).steps w.settings k (end_now w I ∙ goes) (steps_now w I) below spent
 
 spent_by : (end : Option RunEnd) (steps settled : ℕ) (s : SettingsValue) (k : ℕ) → end ≡ None → steps ≡ settled → k < s.workers → nat_le s.fuel settled ≡ is_some (first_cause end steps s k false)
-spent_by end steps settled s k none same below = by end (nat_le s.fuel steps) (nat_le s.fuel settled) (nat_lt k s.workers) none (ap (nat_le s.fuel) same) (grind (arith, below))
+spent_by end steps settled s k none same below = spent_by_cases end (nat_le s.fuel steps) (nat_le s.fuel settled) (nat_lt k s.workers) none (ap (nat_le s.fuel) same) (grind (arith, below))
   where
-    by : (e : Option RunEnd) (over over' hired : Bool) → e ≡ None → over ≡ over' → hired ≡ true → over' ≡ is_some (refused_if (is_some e) Over (refused_if (over && true) (Spent steps) (refused_unless hired NoWorker None)))
-    by (Some x) over over' hired a b d = absurd cc
-    by None over over' false a b d = absurd (false≢true d)
-    by None true true true a b d = refl
-    by None true false true a b d = absurd (false≢true (sym b))
-    by None false true true a b d = absurd (false≢true b)
-    by None false false true a b d = refl
+    spent_by_cases : (e : Option RunEnd) (over over' hired : Bool) → e ≡ None → over ≡ over' → hired ≡ true → over' ≡ is_some (refused_if (is_some e) Over (refused_if (over && true) (Spent steps) (refused_unless hired NoWorker None)))
+    spent_by_cases (Some x) over over' hired a b d = absurd cc
+    spent_by_cases None over over' false a b d = absurd (false≢true d)
+    spent_by_cases None true true true a b d = refl
+    spent_by_cases None true false true a b d = absurd (false≢true (sym b))
+    spent_by_cases None false true true a b d = absurd (false≢true b)
+    spent_by_cases None false false true a b d = refl
 
--- the fuel is spent exactly where it is the first cause that refuses the worker's entries
+-- the fuel is used up if and only if that is the first cause that refuses the worker's entries
 pub spent_is : (w : SharedValue) (k : ℕ) → IsSharedValue w → (accounts w).end ≡ None → k < w.settings.workers → nat_le w.settings.fuel (accounts w).steps ≡ is_some (first_cause w.end w.steps w.settings k false)
 spent_is w k I goes below = spent_by w.end w.steps (accounts w).steps w.settings k (end_now w I ∙ goes) (steps_now w I) below

@@ -1,12 +1,5 @@
 -- Parts that may take steps.
-use Rattle.std.proofs.Common.{◌≡◌, ℕ, ◌<◌, None, ap, ◌∙◌, arith}
-use Rattle.entry_calls.specs.below.alloc_path.{LeafHeapValue}
-use Rattle.entry_calls.specs.below.leaf_copy_gc.{Moved}
-use Rattle.entry_calls.specs.below.task_machine.{Private, Shared}
-use Rattle.entry_calls.specs.below.shared_value.{Fits, SharedValue}
-use Rattle.entry_calls.specs.below.own_steps.{IsShared}
-use Rattle.entry_calls.specs.below.leaf_collections.{FitsCopied, ended}
-use Rattle.turn_entries.specs.Parts.{IsPaused, MayRun}
+use Rattle.turn_entries.proofs.Common.{◌≡◌, ℕ, ◌<◌, None, ap, ◌∙◌, arith, LeafHeapValue, Moved, Private, Shared, Fits, SharedValue, IsShared, FitsCopied, ended, IsPaused, MayRun}
 
 module _ (w : SharedValue) (k : ℕ) (part : Private) where
   -- without fresh steps

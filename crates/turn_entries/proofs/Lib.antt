@@ -5,3 +5,4 @@ mod Going
 pub mod Stepping
 mod Free
 pub mod below
+mod Common

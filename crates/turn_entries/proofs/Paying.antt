@@ -1,12 +1,6 @@
 -- Entries that give what is owed.
-use Rattle.std.proofs.Common.{◌≡◌, ℕ, ◌==◌, ◌&&◌, Bool, true, false, Option, None, refl, ap, sym, subst, ◌∙◌, eq-eqb, arith}
-use Rattle.entry_calls.specs.below.run_trace.{Kind, Mark, More, Sweep}
-use Rattle.entry_calls.specs.below.run_ledger.{Mark as OwesMark, More as OwesMore, Sweep as OwesSweep, Nothing, Refused, Left, CanBeGiven, kind_refusal, refused_unless, heap_of, left_in, marked_in, sweep_number, gives}
-use Rattle.entry_calls.proofs.below.journal_laws.{owed_can_be_given}
-use Rattle.entry_calls.specs.below.shared_value.{IsSharedValue, SharedValue, accounts}
-use Rattle.entry_calls.specs.below.heap_marking.{marking_cause}
-use Rattle.entry_calls.proofs.below.heap_marking.{marks_refuse, or_none}
-use Rattle.entry_calls.specs.Owed.{Pays, owed_by}
+use Rattle.turn_entries.proofs.Common.{◌≡◌, ℕ, ◌==◌, ◌&&◌, Bool, true, false, Option, None, refl, ap, sym, subst, ◌∙◌, eq-eqb, arith, Kind, Mark, More, Sweep, Nothing, Refused, Left, CanBeGiven, kind_refusal, refused_unless, heap_of, left_in, marked_in, sweep_number, gives, owed_can_be_given, IsSharedValue, SharedValue, accounts, marking_cause, marks_refuse, or_none, Pays, owed_by}
+use Rattle.entry_calls.specs.below.run_ledger.{Mark as OwesMark, More as OwesMore, Sweep as OwesSweep}
 
 module _ (w : SharedValue) (k : ℕ) where
   pub pays_nothing : (kind : Kind) → owed_by w k ≡ Nothing → Pays w (record { worker = k; kind = kind })
@@ -21,13 +15,13 @@ module _ (w : SharedValue) (k : ℕ) where
   pub pays_sweep : (t given : ℕ) → owed_by w k ≡ OwesSweep t → Pays w (record { worker = k; kind = Sweep t given })
   pays_sweep t given owes = subst (λ o. gives o (Sweep t given) ≡ true) (sym owes) (eq-eqb t t refl)
 
--- a heap whose sweep is owed is being marked, and nothing is left of it to mark
+-- a heap whose sweep is owed is being marked, and nothing of it is left to mark
 none_unless : (n : ℕ) (cause : Refused) (rest : Option Refused) → refused_unless (n == 0) cause rest ≡ None → n ≡ 0
-none_unless n cause rest e = by (n == 0) refl e
+none_unless n cause rest e = none_unless_by_cases (n == 0) refl e
   where
-    by : (b : Bool) → (n == 0) ≡ b → refused_unless b cause rest ≡ None → n ≡ 0
-    by true is e = grind (arith, is)
-    by false is e = absurd cc
+    none_unless_by_cases : (b : Bool) → (n == 0) ≡ b → refused_unless b cause rest ≡ None → n ≡ 0
+    none_unless_by_cases true is e = grind (arith, is)
+    none_unless_by_cases false is e = absurd cc
 
 pub sweep_is_owed : (w : SharedValue) (k t : ℕ) → IsSharedValue w → (accounts w).end ≡ None → owed_by w k ≡ OwesSweep t → (marking_cause w t ≡ None) × (left_in (heap_of (accounts w) t) ≡ 0)
 sweep_is_owed w k t I on owes =

@@ -1,22 +1,9 @@
 -- A part after private steps, whatever value it fits.
-use Rattle.std.proofs.Common.{◌≡◌, ℕ, zero, suc, ◌+◌, ◌<◌, ◌≤◌, None, length, slice_get, refl, ap, sym, subst, ◌∙◌, arith}
-use Rattle.entry_calls.specs.below.hh_lang.{ProgramText}
-use Rattle.entry_calls.specs.below.hh_model.{State, Counted, row_of, IsForkJoinState}
-use Rattle.entry_calls.proofs.below.hh_model.{steps_count, run_is_fork_join_state, start_is_fork_join_state, step_is_fork_join_state}
-use Rattle.entry_calls.specs.below.run_trace.{field_limit, private_limit}
-use Rattle.entry_calls.specs.below.run_ledger.{Ledger, tasks_of}
-use Rattle.entry_calls.proofs.below.run_ledger.{steps_are_bounded, machine_is_run}
-use Rattle.entry_calls.proofs.below.journal_laws.{journals_are_counted}
-use Rattle.entry_calls.specs.below.task_machine.{Private, Paused, Spent, KeepsAccounts, unended, steps, FitsSome, KeepsRest, PausesBy, Runs}
-use Rattle.entry_calls.specs.below.shared_value.{Fits, FitsFirst, IsSharedValue, SharedValue, accounts}
-use Rattle.entry_calls.proofs.below.shared_value.{second_gives_first, beyond_machine}
-use Rattle.entry_calls.specs.below.own_steps.{machine_after}
-use Rattle.entry_calls.proofs.below.own_steps.{fits_on, next_on, ran}
-use Rattle.turn_entries.specs.Parts.{AtSome, HasGrown, IsPaused, MayRun}
+use Rattle.turn_entries.proofs.Common.{◌≡◌, ℕ, zero, suc, ◌+◌, ◌<◌, ◌≤◌, None, length, slice_get, refl, ap, sym, subst, ◌∙◌, arith, ProgramText, MachineState, Counted, row_of, IsForkJoinState, steps_count, run_is_fork_join_state, start_is_fork_join_state, step_is_fork_join_state, field_limit, private_limit, Ledger, tasks_of, steps_are_bounded, machine_is_run, journals_are_counted, Private, Paused, Spent, KeepsAccounts, unended, steps, FitsSome, KeepsRest, PausesBy, Runs, Fits, FitsFirst, IsSharedValue, SharedValue, accounts, second_gives_first, beyond_machine, machine_after, fits_on, next_on, ran, AtSome, HasGrown, IsPaused, MayRun}
 
 -- ---- ITS OBJECTS are counted
 
-counted_then : (p : ProgramText) (m : State) (t j n k : ℕ) → k ≡ n + j → IsForkJoinState m → Counted j m.tasks m.store → IsForkJoinState (steps p m t n) × Counted k (steps p m t n).tasks (steps p m t n).store
+counted_then : (p : ProgramText) (m : MachineState) (t j n k : ℕ) → k ≡ n + j → IsForkJoinState m → Counted j m.tasks m.store → IsForkJoinState (steps p m t n) × Counted k (steps p m t n).tasks (steps p m t n).store
 counted_then p m t j zero k e K C = (K, subst (λ i. Counted i m.tasks m.store) (let h : j ≡ k = omega (arith, e) in h) C)
 counted_then p m t j (suc n) k e K C =
     let b = counted_then p m t j n (n + j) refl K C in
@@ -34,10 +21,10 @@ module _ (w : SharedValue) (k : ℕ) (part : Private) (I : IsSharedValue w) (on 
   few_allocations n few most =
       let l : Ledger = accounts w in
       let counts = (journals_are_counted w.program w.settings w.journal.items).counts in
-      let m : State = unended l.machine in
+      let m : MachineState = unended l.machine in
       let then : Counted (part.fresh + l.steps) (steps w.program m part.task part.fresh).tasks (steps w.program m part.task part.fresh).store = (counted_then w.program m part.task l.steps part.fresh (part.fresh + l.steps) refl (fork_join_now w) counts).1 in
       let count : part.allocations ≡ length (row_of (slice_get (steps w.program m part.task part.fresh).store part.task)) =
-      first.count ∙ ap (λ (z : State). length (row_of (slice_get z.store part.task))) (beyond_machine w.program l part) in
+      first.count ∙ ap (λ (z : MachineState). length (row_of (slice_get z.store part.task))) (beyond_machine w.program l part) in
       let rows : length (row_of (slice_get (steps w.program m part.task part.fresh).store part.task)) ≤ part.fresh + l.steps = then.objects part.task in
       let bound : l.steps ≤ w.settings.fuel + 256 = steps_are_bounded w.program w.settings w.journal.items I.legal in
       let fuel = I.settings.fuel.1 in

@@ -1,42 +1,26 @@
 -- Values before and after a turn.
-use Rattle.std.proofs.Common.{◌≡◌, ℕ, ◌+◌, ◌++◌, ◌∷◌, [], ◌||◌, Bool, true, false, List, Option, Some, None, is_some, length, refl, ap, sym, subst, ◌∙◌, inl, inr}
-use Rattle.std.proofs.lemmas.Bool.{false≢true, or_right}
-use Rattle.entry_calls.specs.below.run_trace.{EntryValue, Kind, Ran, Took}
-use Rattle.entry_calls.specs.below.run_ledger.{RunEnd}
-use Rattle.entry_calls.specs.below.task_machine.{Shared, Private}
-use Rattle.entry_calls.specs.below.shared_value.{Enters, refused, AllFit, Fits, OthersFit, NotEntered, NoMemory, Refuses, IsSharedValue, SharedValue, accounts}
-use Rattle.entry_calls.specs.below.child_tasks.{running_parent, HoldsNone, IsUnchanged, SameButPlaces}
-use Rattle.turn_entries.specs.declared.act.Acted.{Acted}
-use Rattle.turn_entries.specs.declared.act.Acted.TheVariants.{Entered, Same}
-use Rattle.turn_entries.specs.declared.between_turns.Next.{Next}
-use Rattle.turn_entries.specs.declared.between_turns.Next.TheVariants.{Running, Collecting as Collects, Copied as HasCopied, Found as GoesFor, Forked, Resumed, Idle, Waits, Stop}
-use Rattle.turn_entries.specs.declared.between_turns.Ready.{Ready}
-use Rattle.turn_entries.specs.declared.run.Run.{Run}
-use Rattle.turn_entries.specs.declared.between_turns.Ready.TheVariants.{Paused as HasPaused, Copied as IsCopied, Found, Wanting}
-use Rattle.turn_entries.specs.Acts.{ActsFor, after_end, EndsHalted, Follows, Goes, WhyNone}
-use Rattle.turn_entries.specs.Next.{going_kind, is_wanting}
-use Rattle.turn_entries.specs.Parts.{BringsTo, next_after}
-use Rattle.turn_entries.specs.Values.{EntersOne, IsSame, is_over}
-use Rattle.entry_calls.proofs.below.listed.{none_of}
+use Rattle.turn_entries.proofs.Common.{◌≡◌, ℕ, ◌+◌, ◌++◌, ◌∷◌, [], ◌||◌, Bool, true, false, List, Option, Some, None, is_some, length, refl, ap, sym, subst, ◌∙◌, inl, inr, false≢true, or_right, EntryValue, Kind, Ran, Took, RunEnd, Shared, Private, Enters, refused, AllFit, Fits, OthersFit, NotEntered, NoMemory, Refuses, IsSharedValue, SharedValue, accounts, running_parent, HoldsNone, IsUnchanged, SameButPlaces, none_of, TurnOutcome, Entered, Same, Next, Running, Forked, Resumed, Idle, Waits, Stop, Ready, Run, Copied as IsCopied, Found, OutOfMemory, ActsFor, after_end, EndsHalted, ComesNext, Goes, WhyNone, going_kind, is_out_of_memory, BringsTo, next_after, EntersOne, NoEntryMade, is_over}
+use Rattle.turn_entries.specs.declared.between_turns.Next.TheVariants.{Collecting as Collects, Copied as HasCopied, Found as GoesFor}
+use Rattle.turn_entries.specs.declared.between_turns.Ready.TheVariants.{Paused as HasPaused}
 
 -- ---- NO ENTRY
 
-pub unchanged : (w after : SharedValue) → after ≡ w → IsSame w after
+pub unchanged : (w after : SharedValue) → after ≡ w → NoEntryMade w after
 unchanged w after e = record { journal = ap (λ (z : SharedValue). z.journal.items) e; program = ap (λ (z : SharedValue). z.program) e; settings = ap (λ (z : SharedValue). z.settings) e; all = λ k p f. subst (λ (z : SharedValue). Fits z k p) (sym e) f }
 
-pub roomier : (w after : SharedValue) → after ≡ record w { journal = record { items = w.journal.items; room = after.journal.room } } → ((k : ℕ) (p : Private) → Fits w k p → Fits after k p) → IsSame w after
+pub roomier : (w after : SharedValue) → after ≡ record w { journal = record { items = w.journal.items; room = after.journal.room } } → ((k : ℕ) (p : Private) → Fits w k p → Fits after k p) → NoEntryMade w after
 roomier w after e all = record { journal = ap (λ (z : SharedValue). z.journal.items) e; program = ap (λ (z : SharedValue). z.program) e; settings = ap (λ (z : SharedValue). z.settings) e; all = all }
 
-pub placed : (w after : SharedValue) → SameButPlaces w after → AllFit w after → IsSame w after
+pub placed : (w after : SharedValue) → SameButPlaces w after → AllFit w after → NoEntryMade w after
 placed w after S all = record { journal = ap (λ (z : SharedValue). z.journal.items) S.rest; program = ap (λ (z : SharedValue). z.program) S.rest; settings = ap (λ (z : SharedValue). z.settings) S.rest; all = all }
 
-pub unentered : (w after : SharedValue) (cause : NotEntered) → IsUnchanged cause w after → AllFit w after → IsSame w after
+pub unentered : (w after : SharedValue) (cause : NotEntered) → IsUnchanged cause w after → AllFit w after → NoEntryMade w after
 unentered w after (Refuses cause) same all = unchanged w after same
 unentered w after NoMemory same all = placed w after same all
 
--- and then what is told of the value after
-module _ (w after : SharedValue) (S : IsSame w after) where
-  pub then_same : (last : SharedValue) → IsSame after last → IsSame w last
+-- and then what is known of the value afterwards
+module _ (w after : SharedValue) (S : NoEntryMade w after) where
+  pub then_same : (last : SharedValue) → NoEntryMade after last → NoEntryMade w last
   then_same last T = record { journal = T.journal ∙ S.journal; program = T.program ∙ S.program; settings = T.settings ∙ S.settings; all = λ k p f. T.all k p (S.all k p f) }
 
   pub then_one : after.halted ≡ w.halted → (last : SharedValue) (k : ℕ) (kind : Kind) → EntersOne after last k kind → EntersOne w last k kind
@@ -49,7 +33,7 @@ module _ (w after : SharedValue) (S : IsSame w after) where
   brings_then k (HasPaused part why) B = (B.0, S.all k B.0 B.1, λ z G f. B.2 z (record { shared = G.shared; program = G.program ∙ S.program; goes = G.goes }) f)
   brings_then k (IsCopied c) B = (S.all k c.begun.value B.0, λ z G f. B.1 z (record { shared = G.shared; program = G.program ∙ S.program; goes = G.goes }) f)
   brings_then k (Found task) B = tt
-  brings_then k Wanting B = tt
+  brings_then k OutOfMemory B = tt
 
 -- ---- ONE ENTRY
 
@@ -62,18 +46,18 @@ one w after k kind enters others = record { enters = enters; others = others }
 pub one_of_all : (w after : SharedValue) (k : ℕ) (kind : Kind) → Enters w after (record { worker = k; kind = kind }) → AllFit w after → EntersOne w after k kind
 one_of_all w after k kind enters all = one w after k kind enters (all_others w after k all)
 
--- after an entry by which every part still fits, the worker goes on with what it came with
-pub follows_paid : (w after : SharedValue) (k : ℕ) (ready : Ready) → IsSharedValue w → (accounts w).end ≡ None → is_wanting ready ≡ false → BringsTo w k ready → AllFit w after → after.program ≡ w.program → (accounts after).end ≡ None → Follows w after k ready (next_after ready)
+-- after an entry by which every part still fits, the worker goes on with what it brought
+pub follows_paid : (w after : SharedValue) (k : ℕ) (ready : Ready) → IsSharedValue w → (accounts w).end ≡ None → is_out_of_memory ready ≡ false → BringsTo w k ready → AllFit w after → after.program ≡ w.program → (accounts after).end ≡ None → ComesNext w after k ready (next_after ready)
 follows_paid w after k (HasPaused part why) I on met B all same goes =
     let P = (B.2 w (record { shared = I; program = refl; goes = on }) B.1).may in
     (goes, record { fits = all k part P.fits; few = P.few; idle = P.idle })
 follows_paid w after k (IsCopied c) I on met B all same goes = (goes, refl, all k c.begun.value B.0, λ z G f. B.1 z (record { shared = G.shared; program = G.program ∙ same; goes = G.goes }) f)
 follows_paid w after k (Found (Some t)) I on met B all same goes = (goes, refl)
 follows_paid w after k (Found None) I on met B all same goes = (goes, inl refl)
-follows_paid w after k Wanting I on met B all same goes = absurd (false≢true (sym met))
+follows_paid w after k OutOfMemory I on met B all same goes = absurd (false≢true (sym met))
 
 -- after the end of its task
-pub follows_end : (w after : SharedValue) (k : ℕ) (part : Private) (resumed : Option ℕ) → Goes after → HoldsNone after k → resumed ≡ running_parent (accounts after).machine.tasks part.task → Follows w after k (HasPaused part Shared) (after_end resumed)
+pub follows_end : (w after : SharedValue) (k : ℕ) (part : Private) (resumed : Option ℕ) → Goes after → HoldsNone after k → resumed ≡ running_parent (accounts after).machine.tasks part.task → ComesNext w after k (HasPaused part Shared) (after_end resumed)
 follows_end w after k part None goes none is = (goes, inr (record { part = part; brought = refl; none = none }, sym is))
 follows_end w after k part (Some parent) goes none is = (goes, record { part = part; brought = refl; none = none }, sym is)
 
@@ -94,7 +78,7 @@ ended_over w h = or_right w.halted (is_some (accounts w).end) h
 module _ {P : Type 0} (value : P → SharedValue) where
   -- after an entry that didn't end the run
   pub entered_goes : (w : SharedValue) (run : Run P) (k : ℕ) (ready : Ready) (kind : Kind) (next : Next) (end : Option RunEnd) (ends : Bool) → IsSharedValue (value run.paced) → end ≡ (accounts (value run.paced)).end → ends ≡ is_some end → ends ≡ false
-      → EntersOne w (value run.paced) k kind → w.halted ≡ false → (Goes (value run.paced) → Follows w (value run.paced) k ready next) → ActsFor value w k ready (Some kind) (Entered run next)
+      → EntersOne w (value run.paced) k kind → w.halted ≡ false → (Goes (value run.paced) → ComesNext w (value run.paced) k ready next) → ActsFor value w k ready (Some kind) (Entered run next)
   entered_goes w run k ready kind next end ends I told is going E on follows = record {
     made = kind;
     is_next = refl;
@@ -106,23 +90,23 @@ module _ {P : Type 0} (value : P → SharedValue) where
 
   pub halts_with : (after : SharedValue) (run : Run P) → value run.paced ≡ record after { halted = true } → AllFit after (value run.paced) → EndsHalted value after (Same run Stop)
   halts_with after run is all = λ w k ready kind same on.
-      let halts : IsSame after (value run.paced) = record { journal = ap (λ (z : SharedValue). z.journal.items) is; program = ap (λ (z : SharedValue). z.program) is; settings = ap (λ (z : SharedValue). z.settings) is; all = all } in
+      let halts : NoEntryMade after (value run.paced) = record { journal = ap (λ (z : SharedValue). z.journal.items) is; program = ap (λ (z : SharedValue). z.program) is; settings = ap (λ (z : SharedValue). z.settings) is; all = all } in
       (then_same w after same (value run.paced) halts, (ap is_over is, λ over. absurd (false≢true (sym on ∙ over))))
 
-  -- ---- THE SAME WHERE A CALL BEFORE IT CHANGED NOTHING
+  -- ---- THE SAME IF A CALL BEFORE IT CHANGED NOTHING
 
-  pub acts_same : (w after : SharedValue) (k : ℕ) (p q : Private) → after ≡ w → q ≡ p → (acted : Acted P) → ActsFor value after k (HasPaused q Shared) (Some (Ran q.task (q.fresh + 1))) acted → ActsFor value w k (HasPaused p Shared) (Some (Ran p.task (p.fresh + 1))) acted
+  pub acts_same : (w after : SharedValue) (k : ℕ) (p q : Private) → after ≡ w → q ≡ p → (acted : TurnOutcome P) → ActsFor value after k (HasPaused q Shared) (Some (Ran q.task (q.fresh + 1))) acted → ActsFor value w k (HasPaused p Shared) (Some (Ran p.task (p.fresh + 1))) acted
   acts_same w after k p q same part acted A =
       subst (λ (z : Private). ActsFor value w k (HasPaused z Shared) (Some (Ran z.task (z.fresh + 1))) acted) part
       (subst (λ (z : SharedValue). ActsFor value z k (HasPaused q Shared) (Some (Ran q.task (q.fresh + 1))) acted) same A)
 
--- ---- THE SAME FROM THE VALUE BEFORE PLACE WAS MADE FOR AN ENTRY
+-- ---- THE SAME FROM THE VALUE BEFORE CAPACITY WAS RESERVED FOR AN ENTRY
 
 module _ (w : SharedValue) (after : SharedValue) (e : after ≡ record w { journal = record { items = w.journal.items; room = after.journal.room } }) (all : AllFit w after) (on : is_over w ≡ false) (k : ℕ) (ready : Ready) where
   same_kind : going_kind w k ready ≡ going_kind after k ready
   same_kind = sym (ap (λ (z : SharedValue). going_kind z k ready) e)
 
-  follows_then : (last : SharedValue) (next : Next) → Follows after last k ready next → Follows w last k ready next
+  follows_then : (last : SharedValue) (next : Next) → ComesNext after last k ready next → ComesNext w last k ready next
   follows_then last (Running part) f = f
   follows_then last (Collects c) f = f
   follows_then last (HasCopied c) f = f
@@ -144,7 +128,7 @@ module _ (w : SharedValue) (after : SharedValue) (e : after ≡ record w { journ
   none_then last Waits f = (f.0, on, f.2, same_kind ∙ f.3)
   none_then last Stop f = (f.0, λ over. absurd (false≢true (sym on ∙ over)))
 
-  pub acts_then : {P : Type 0} (value : P → SharedValue) (acted : Acted P) → ActsFor value after k ready (going_kind after k ready) acted → ActsFor value w k ready (going_kind w k ready) acted
+  pub acts_then : {P : Type 0} (value : P → SharedValue) (acted : TurnOutcome P) → ActsFor value after k ready (going_kind after k ready) acted → ActsFor value w k ready (going_kind w k ready) acted
   acts_then value (Entered run next) A = record {
     made = A.made;
     is_next = same_kind ∙ A.is_next;

@@ -1,18 +1,15 @@
 -- What a worker does in its turn.
 use Rattle.std.specs.Prelude.{◌≡◌, ◌⊎◌, ℕ, ◌+◌, true, false, Option, Some, None, is_some, length}
-use Rattle.entry_calls.specs.below.run_trace.{Kind, Took}
-use Rattle.entry_calls.specs.below.task_machine.{Private, Shared}
-use Rattle.entry_calls.specs.below.shared_value.{refused, AllFit, Fits, IsSharedValue, SharedValue, accounts}
-use Rattle.entry_calls.specs.below.child_tasks.{running_parent, HoldsNone}
-use Rattle.turn_entries.specs.declared.act.Acted.{Acted}
-use Rattle.turn_entries.specs.declared.act.Acted.TheVariants.{Entered, Same}
+use Rattle.turn_entries.specs.Common.{Kind, Took, Private, Shared, refused, AllFit, Fits, IsSharedValue, SharedValue, accounts, running_parent, HoldsNone}
+use Rattle.turn_entries.specs.declared.act.TurnOutcome.{TurnOutcome}
+use Rattle.turn_entries.specs.declared.act.TurnOutcome.TheVariants.{Entered, Same}
 use Rattle.turn_entries.specs.declared.between_turns.Next.{Next}
 use Rattle.turn_entries.specs.declared.between_turns.Next.TheVariants.{Running, Collecting as Collects, Copied as HasCopied, Found as GoesFor, Forked, Resumed, Idle, Waits, Stop}
 use Rattle.turn_entries.specs.declared.between_turns.Ready.{Ready}
 use Rattle.turn_entries.specs.declared.between_turns.Ready.TheVariants.{Paused as HasPaused, Copied as IsCopied, Found}
-use Rattle.turn_entries.specs.Next.{is_wanting, next_kind}
+use Rattle.turn_entries.specs.Next.{is_out_of_memory, next_kind}
 use Rattle.turn_entries.specs.Parts.{BringsTo, MayCopy, MayRun, WasCopied}
-use Rattle.turn_entries.specs.Values.{EntersOne, IsSame, is_over}
+use Rattle.turn_entries.specs.Values.{EntersOne, NoEntryMade, is_over}
 
 -- ---- HOW IT GOES ON AFTER ITS ENTRY
 
@@ -20,32 +17,32 @@ use Rattle.turn_entries.specs.Values.{EntersOne, IsSame, is_over}
 abbrev pub Goes : SharedValue → Type 0
 Goes after = (accounts after).end ≡ None
 
--- the worker came with a part whose task has forked or ended, and holds none now
+-- the worker brought a part whose task has forked or ended, and holds none now
 pub record GaveTaskUp (after : SharedValue) (k : ℕ) (ready : Ready) : Type 0 where
   pub part : Private
   pub brought : ready ≡ HasPaused part Shared
   pub none : HoldsNone after k
 
--- with the part of the task that it holds; with what it came with; with what its step made ready; and it stops only
--- where the run has ended
-abbrev pub Follows : SharedValue → SharedValue → ℕ → Ready → Next → Type 0
-Follows w after k ready (Running part) = Goes after × MayRun after k part
-Follows w after k ready (Collects c) = Goes after × MayCopy after k c
-Follows w after k ready (HasCopied c) = Goes after × (ready ≡ IsCopied c) × Fits after k c.begun.value × WasCopied after.program k c
-Follows w after k ready (GoesFor t) = Goes after × (ready ≡ Found (Some t))
-Follows w after k ready (Forked left right) = Goes after × GaveTaskUp after k ready × (left ≡ length (accounts w).machine.tasks) × (right ≡ left + 1)
-Follows w after k ready (Resumed t) = Goes after × (p : GaveTaskUp after k ready) × (running_parent (accounts after).machine.tasks p.part.task ≡ Some t)
-Follows w after k ready Idle = Goes after × ((ready ≡ Found None) ⊎ ((p : GaveTaskUp after k ready) × (running_parent (accounts after).machine.tasks p.part.task ≡ None)))
-Follows w after k ready Waits = ⊥
-Follows w after k ready Stop = is_some (accounts after).end ≡ true
+-- with the part of the task that it holds; with what it brought; with what its step made ready; and it stops only if
+-- the run has ended
+abbrev pub ComesNext : SharedValue → SharedValue → ℕ → Ready → Next → Type 0
+ComesNext w after k ready (Running part) = Goes after × MayRun after k part
+ComesNext w after k ready (Collects c) = Goes after × MayCopy after k c
+ComesNext w after k ready (HasCopied c) = Goes after × (ready ≡ IsCopied c) × Fits after k c.begun.value × WasCopied after.program k c
+ComesNext w after k ready (GoesFor t) = Goes after × (ready ≡ Found (Some t))
+ComesNext w after k ready (Forked left right) = Goes after × GaveTaskUp after k ready × (left ≡ length (accounts w).machine.tasks) × (right ≡ left + 1)
+ComesNext w after k ready (Resumed t) = Goes after × (p : GaveTaskUp after k ready) × (running_parent (accounts after).machine.tasks p.part.task ≡ Some t)
+ComesNext w after k ready Idle = Goes after × ((ready ≡ Found None) ⊎ ((p : GaveTaskUp after k ready) × (running_parent (accounts after).machine.tasks p.part.task ≡ None)))
+ComesNext w after k ready Waits = ⊥
+ComesNext w after k ready Stop = is_some (accounts after).end ≡ true
 
--- whose task has ended it puts the parent, where that runs again, or looks for a task
+-- a worker whose task has ended puts the parent on its deque, if that runs again, or looks for a task
 abbrev pub after_end : Option ℕ → Next
 after_end None = Idle
 after_end (Some parent) = Resumed parent
 
--- ---- WHAT COMES OF A TURN: w is the value that was taken, after the one to give back, and kind the entry that comes
--- next, if one does
+-- ---- THE RESULT OF A TURN: w is the value that was taken, after the one to give back, and kind the entry that comes
+-- next, if any
 
 pub record MakesEntry (w after : SharedValue) (k : ℕ) (ready : Ready) (kind : Option Kind) (next : Next) : Type 0 where
   pub made : Kind
@@ -53,10 +50,10 @@ pub record MakesEntry (w after : SharedValue) (k : ℕ) (ready : Ready) (kind : 
   pub enters : EntersOne w after k made
   pub shared : IsSharedValue after
   pub on : after.halted ≡ false
-  pub follows : Follows w after k ready next
+  pub follows : ComesNext w after k ready next
 
--- no entry is made where the run is over, or is now since memory was wanting: the worker stops; where the task that it
--- came for can't be taken: it looks for another; or where it has found none: it waits
+-- no entry is made if the run is over, or is now because an allocation failed: the worker stops; if the task that it
+-- brought can't be taken: it looks for another; or if it has found none: it waits
 abbrev pub WhyNone : SharedValue → SharedValue → ℕ → Ready → Option Kind → Next → Type 0
 WhyNone w after k ready kind Stop = (is_over after ≡ true) × (is_over w ≡ true → after ≡ w)
 WhyNone w after k ready kind Idle = (is_over after ≡ false) × (t : ℕ) × (kind ≡ Some (Took t)) × (is_some (refused w (record { worker = k; kind = Took t })) ≡ true)
@@ -65,30 +62,30 @@ WhyNone w after k ready kind _ = ⊥
 
 -- whoever keeps the shared value
 module _ {P : Type 0} (value : P → SharedValue) where
-  abbrev pub ActsFor : SharedValue → ℕ → Ready → Option Kind → Acted P → Type 0
+  abbrev pub ActsFor : SharedValue → ℕ → Ready → Option Kind → TurnOutcome P → Type 0
   ActsFor w k ready kind (Entered run next) = MakesEntry w (value run.paced) k ready kind next
-  ActsFor w k ready kind (Same run next) = IsSame w (value run.paced) × WhyNone w (value run.paced) k ready kind next
+  ActsFor w k ready kind (Same run next) = NoEntryMade w (value run.paced) × WhyNone w (value run.paced) k ready kind next
 
   -- WHAT THE WORKER DOES IN ITS TURN: it makes the entry that comes next, or none for one of these reasons
-  abbrev pub Acts : SharedValue → ℕ → Ready → Acted P → Type 0
+  abbrev pub Acts : SharedValue → ℕ → Ready → TurnOutcome P → Type 0
   Acts w k ready acted = ActsFor w k ready (next_kind w k ready) acted
 
-  -- ---- HOW A TURN ENDS, at the value after
+  -- ---- HOW A TURN ENDS, in terms of the value afterwards
 
-  -- an entry was made, and the worker may go on so as long as the run does
-  abbrev pub EndsEntered : SharedValue → Next → Acted P → Type 0
-  EndsEntered after next acted = (w : SharedValue) (k : ℕ) (ready : Ready) (kind : Kind) → EntersOne w after k kind → w.halted ≡ false → (Goes after → Follows w after k ready next)
+  -- an entry was made, and the worker may go on in this way as long as the run does
+  abbrev pub EndsEntered : SharedValue → Next → TurnOutcome P → Type 0
+  EndsEntered after next acted = (w : SharedValue) (k : ℕ) (ready : Ready) (kind : Kind) → EntersOne w after k kind → w.halted ≡ false → (Goes after → ComesNext w after k ready next)
       → ActsFor w k ready (Some kind) acted
 
   -- none was made, since an allocation failed
-  abbrev pub EndsHalted : SharedValue → Acted P → Type 0
-  EndsHalted after acted = (w : SharedValue) (k : ℕ) (ready : Ready) (kind : Option Kind) → IsSame w after → is_over w ≡ false → ActsFor w k ready kind acted
+  abbrev pub EndsHalted : SharedValue → TurnOutcome P → Type 0
+  EndsHalted after acted = (w : SharedValue) (k : ℕ) (ready : Ready) (kind : Option Kind) → NoEntryMade w after → is_over w ≡ false → ActsFor w k ready kind acted
 
-  -- an entry was made by which each part still fits, and the worker goes on with what it came with
-  abbrev pub EndsPaid : SharedValue → Ready → Acted P → Type 0
-  EndsPaid after ready acted = (w : SharedValue) (k : ℕ) (kind : Kind) → IsSharedValue w → Goes w → is_wanting ready ≡ false → BringsTo w k ready → EntersOne w after k kind → AllFit w after → w.halted ≡ false
+  -- an entry was made by which each part still fits, and the worker goes on with what it brought
+  abbrev pub EndsPaid : SharedValue → Ready → TurnOutcome P → Type 0
+  EndsPaid after ready acted = (w : SharedValue) (k : ℕ) (kind : Kind) → IsSharedValue w → Goes w → is_out_of_memory ready ≡ false → BringsTo w k ready → EntersOne w after k kind → AllFit w after → w.halted ≡ false
       → ActsFor w k ready (Some kind) acted
 
-  -- the worker makes this entry, whatever it came with
-  abbrev pub ActsAnyhow : SharedValue → ℕ → Kind → Acted P → Type 0
+  -- the worker makes this entry, whatever it brought
+  abbrev pub ActsAnyhow : SharedValue → ℕ → Kind → TurnOutcome P → Type 0
   ActsAnyhow w k kind acted = (ready : Ready) → ActsFor w k ready (Some kind) acted

@@ -1,8 +1,8 @@
--- What lies in a block for a part.
+-- The contents of a block for a part.
 use Rattle.std.specs.Prelude.{Option, Some, None, [], pos, replicate}
 use Rattle.entry_calls.specs.below.task_machine.{Private}
 
--- one without objects, which stands for the part where there is none
+-- one without objects, which stands for a missing part
 pub no_part : Private
 no_part = record {
   task = 0;

@@ -5,3 +5,4 @@ pub mod Parts
 pub mod Next
 pub mod Acts
 pub mod below
+mod Common

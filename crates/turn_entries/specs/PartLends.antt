@@ -1,4 +1,4 @@
--- What a part ends as, where a `&mut` to it is returned.
+-- The final value of a part of which a `&mut` is returned.
 use Rattle.std.specs.Borrow.{Fml, Lends, MutBor}
 use Rattle.entry_calls.specs.below.task_machine.{Private, the_row as part_row}
 use Rattle.turn_entries.specs.contracts.part_block.PartInBlock.{the_row}

@@ -1,11 +1,7 @@
--- The shared value in turns, as the turn is told of it.
+-- The shared value in turns, as the turn sees it.
 use Rattle.std.specs.Prelude.{◌≡◌, ◌<◌, ℕ, ◌||◌, Bool, false, None, List, is_some}
 use Rattle.std.specs.declared.snapshot.Snapshot.{Snapshot}
-use Rattle.entry_calls.specs.below.run_trace.{EntryValue, Kind}
-use Rattle.entry_calls.specs.below.run_ledger.{Owed}
-use Rattle.entry_calls.specs.below.task_machine.{Private}
-use Rattle.entry_calls.specs.below.shared_value.{first_cause, Enters, AllFit, Fits, OthersFit, SharedValue, accounts}
-use Rattle.entry_calls.specs.Owed.{owed_by}
+use Rattle.turn_entries.specs.Common.{EntryValue, Kind, Owed, Private, first_cause, Enters, AllFit, Fits, OthersFit, SharedValue, accounts, owed_by}
 use Rattle.turn_entries.specs.declared.run.Run.{Run}
 use Rattle.turn_entries.specs.declared.run.Setup.{Setup}
 
@@ -28,7 +24,7 @@ module _ {P : Type 0} (value : P → SharedValue) where
   abbrev pub FitsSnapshot : Run P → ℕ → Snapshot Private → Type 0
   FitsSnapshot r k kept = Fits (value r.paced) k kept.value
 
--- worker k may make an entry, for which there is room, and owes this
+-- worker k may make an entry, for which there is capacity, and owes this
 pub record MayEnter (w : SharedValue) (k : ℕ) (owes : Owed) : Type 0 where
   pub room : 0 < w.journal.room
   pub goes : (accounts w).end ≡ None
@@ -36,8 +32,8 @@ pub record MayEnter (w : SharedValue) (k : ℕ) (owes : Owed) : Type 0 where
   pub free : first_cause w.end w.steps w.settings k false ≡ None
   pub owed : owed_by w k ≡ owes
 
--- no entry was made, and all is the same that workers rest on
-pub record IsSame (w after : SharedValue) : Type 0 where
+-- no entry was made, and all on which workers depend is the same
+pub record NoEntryMade (w after : SharedValue) : Type 0 where
   pub journal : after.journal.items ≡ w.journal.items
   pub program : after.program ≡ w.program
   pub settings : after.settings ≡ w.settings

@@ -1,9 +1,9 @@
 //! What a worker does with the shared value in its turn: at most one entry.
 ghost use Rattle.std.specs.Prelude.{◌≡◌, ◌<◌, None, false};
-ghost use Rattle.entry_calls.specs.below.shared_value.{accounts};
+ghost use Rattle.entry_calls.specs.below.core_invariant.{accounts};
 ghost use Rattle.entry_calls.specs.Owed.{owed_by};
 ghost use Rattle.turn_entries.specs.Acts.{Acts, ActsFor, EndsEntered, EndsHalted};
-ghost use Rattle.turn_entries.specs.Next.{going_kind, is_wanting, owing_kind};
+ghost use Rattle.turn_entries.specs.Next.{going_kind, is_out_of_memory, owing_kind};
 ghost use Rattle.turn_entries.specs.Parts.{BringsTo};
 ghost use Rattle.turn_entries.specs.Values.{MayEnter};
 
@@ -12,40 +12,40 @@ use crate::run::Run;
 use entry_calls::{EntryCalls, NotEntered, Owed};
 use std::alloc::Global;
 
-/// What has come of a turn.
+/// The outcome of a turn.
 #[derive(Drop)]
-pub enum Acted<P> {
+pub enum TurnOutcome<P> {
     /// One entry was made.
     Entered(Run<P>, Next),
-    /// No entry was made: the run is over, memory was wanting, the task that was found can't be taken, or none was
+    /// No entry was made: the run is over, an allocation failed, the task that was found can't be taken, or none was
     /// found.
     Same(Run<P>, Next),
 }
 
 impl<P: EntryCalls + Drop> Run<P> {
-    // An entry was made. Where the run has ended by it, the worker stops.
-    pub(crate) fn entered(self, next: Next) -> Acted<P>
+    // An entry was made. If it ended the run, the worker stops.
+    pub(crate) fn entered(self, next: Next) -> TurnOutcome<P>
         ensures { EndsEntered P.value (P.value self.paced) next result }
     {
         self.paced.stands();
         if self.paced.ended().is_some() {
-            Acted::Entered(self, Next::Stop)
+            TurnOutcome::Entered(self, Next::Stop)
         } else {
-            Acted::Entered(self, next)
+            TurnOutcome::Entered(self, next)
         }
     }
 
-    // Memory was wanting, and no entry was made.
-    pub(crate) fn halted(self) -> Acted<P>
+    // An allocation failed, and no entry was made.
+    pub(crate) fn halted(self) -> TurnOutcome<P>
         ensures { EndsHalted P.value (P.value self.paced) result }
     {
         let mut run = self;
         run.paced.halt();
-        Acted::Same(run, Next::Stop)
+        TurnOutcome::Same(run, Next::Stop)
     }
 
     // No entry was made: the only possible cause is a failed allocation.
-    pub(crate) fn wanting(self, cause: NotEntered) -> Acted<P>
+    pub(crate) fn out_of_memory(self, cause: NotEntered) -> TurnOutcome<P>
         requires { cause ≡ NotEntered.NoMemory }
         ensures { EndsHalted P.value (P.value self.paced) result }
     {
@@ -56,12 +56,12 @@ impl<P: EntryCalls + Drop> Run<P> {
     }
 
     // Makes the entry that comes next.
-    fn act_on(self, alloc: Global, worker: u32, ready: Ready) -> Acted<P>
+    fn act_on(self, alloc: Global, worker: u32, ready: Ready) -> TurnOutcome<P>
         requires room { 0 < (P.value self.paced).journal.room }
         requires worker { worker < (P.value self.paced).settings.workers }
         requires goes { (accounts (P.value self.paced)).end ≡ None }
         requires on { (P.value self.paced).halted ≡ false }
-        requires met { is_wanting ready ≡ false }
+        requires met { is_out_of_memory ready ≡ false }
         requires brings { BringsTo (P.value self.paced) worker ready }
         ensures { ActsFor P.value (P.value self.paced) worker ready (going_kind (P.value self.paced) worker ready) result }
     {
@@ -72,11 +72,11 @@ impl<P: EntryCalls + Drop> Run<P> {
         }
     }
 
-    // Makes the entry that comes next, where fuel is left.
-    fn act_free(self, alloc: Global, worker: u32, ready: Ready) -> Acted<P>
+    // Makes the entry that comes next, if fuel is left.
+    fn act_free(self, alloc: Global, worker: u32, ready: Ready) -> TurnOutcome<P>
         requires enter { MayEnter (P.value self.paced) worker (owed_by (P.value self.paced) worker) }
         requires worker { worker < (P.value self.paced).settings.workers }
-        requires met { is_wanting ready ≡ false }
+        requires met { is_out_of_memory ready ≡ false }
         requires brings { BringsTo (P.value self.paced) worker ready }
         ensures { ActsFor P.value (P.value self.paced) worker ready (owing_kind (P.value self.paced) (owed_by (P.value self.paced) worker) ready) result }
     {
@@ -88,12 +88,12 @@ impl<P: EntryCalls + Drop> Run<P> {
         }
     }
 
-    // Makes place for the entry, and makes it.
-    fn act_next(self, alloc: Global, worker: u32, ready: Ready) -> Acted<P>
+    // Reserves capacity for the entry, and makes it.
+    fn act_next(self, alloc: Global, worker: u32, ready: Ready) -> TurnOutcome<P>
         requires worker { worker < (P.value self.paced).settings.workers }
         requires goes { (accounts (P.value self.paced)).end ≡ None }
         requires on { (P.value self.paced).halted ≡ false }
-        requires met { is_wanting ready ≡ false }
+        requires met { is_out_of_memory ready ≡ false }
         requires brings { BringsTo (P.value self.paced) worker ready }
         ensures { ActsFor P.value (P.value self.paced) worker ready (going_kind (P.value self.paced) worker ready) result }
     {
@@ -107,19 +107,19 @@ impl<P: EntryCalls + Drop> Run<P> {
         }
     }
 
-    /// What the worker does in its turn: where the run isn't over it ends it for spent fuel, or makes the entry that it
-    /// owes, or else the one that it comes with. It makes a block for the part of a task that it takes, and for the new
-    /// chunks of a collection that begins.
-    pub fn act(self, alloc: Global, worker: u32, ready: Ready) -> Acted<P>
+    /// What the worker does in its turn: if the run isn't over it ends it without fuel, or makes the entry that it
+    /// owes, or otherwise the one that it came for. It makes a block for the part of a task that it takes, and for the
+    /// new chunks of a collection that begins.
+    pub fn act(self, alloc: Global, worker: u32, ready: Ready) -> TurnOutcome<P>
         requires worker { worker < (P.value self.paced).settings.workers }
         requires brings { BringsTo (P.value self.paced) worker ready }
         ensures { Acts P.value (P.value self.paced) worker ready result }
     {
         if !self.goes_on() {
             drop(ready);
-            return Acted::Same(self, Next::Stop);
+            return TurnOutcome::Same(self, Next::Stop);
         }
-        if ready.is_wanting() {
+        if ready.is_out_of_memory() {
             drop(ready);
             return self.halted();
         }

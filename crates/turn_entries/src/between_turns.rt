@@ -1,9 +1,9 @@
 //! What a worker holds between its turns.
 ghost use Rattle.std.specs.Prelude.{◌≡◌};
-ghost use Rattle.turn_entries.specs.Next.{is_wanting};
+ghost use Rattle.turn_entries.specs.Next.{is_out_of_memory};
 
 use crate::part_block::PartInBlock;
-use entry_calls::{Addr, Apart, Moved, Paused, Private, ToChunks};
+use entry_calls::{Addr, BoxedSlot, Moved, Paused, Private, ToChunks};
 use std::snapshot::Snapshot;
 
 /// A part whose leaf collection has begun, with its roots, and the new chunks with all that copying needs.
@@ -11,10 +11,10 @@ use std::snapshot::Snapshot;
 pub struct Collecting {
     pub part: PartInBlock,
     pub roots: Vec<Addr>,
-    pub to_chunks: Apart<ToChunks>,
+    pub to_chunks: BoxedSlot<ToChunks>,
 }
 
-/// A part whose heap was copied, with what the copying came to.
+/// A part whose heap was copied, with the result of copying.
 #[derive(Drop)]
 pub struct Copied {
     pub part: PartInBlock,
@@ -23,7 +23,7 @@ pub struct Copied {
     pub begun: Snapshot<Private>,
 }
 
-/// What a worker comes for the turn with.
+/// What a worker brings to its turn.
 #[derive(Drop)]
 pub enum Ready {
     /// A part, and why its steps paused.
@@ -32,17 +32,17 @@ pub enum Ready {
     Copied(Copied),
     /// A task that it has found, or none.
     Found(Option<u32>),
-    /// Nothing: memory was wanting.
-    Wanting,
+    /// Nothing: an allocation failed.
+    OutOfMemory,
 }
 
 impl Ready {
     /// Whether it comes because an allocation has failed.
-    pub(crate) fn is_wanting(&self) -> bool
-        ensures { result ≡ is_wanting self.now }
+    pub(crate) fn is_out_of_memory(&self) -> bool
+        ensures { result ≡ is_out_of_memory self.now }
     {
         match self {
-            Ready::Wanting => true,
+            Ready::OutOfMemory => true,
             _ => false,
         }
     }

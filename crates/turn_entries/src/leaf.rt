@@ -2,22 +2,22 @@
 ghost use Rattle.std.specs.Prelude.{◌≡◌, true, false};
 ghost use Rattle.entry_calls.specs.below.run_trace.{Kind as KindOf};
 ghost use Rattle.entry_calls.specs.below.run_ledger.{Owed as OwedOf, is_pool_enough};
-ghost use Rattle.entry_calls.specs.below.shared_value.{accounts};
+ghost use Rattle.entry_calls.specs.below.core_invariant.{accounts};
 ghost use Rattle.entry_calls.specs.below.leaf_collections.{FitsCopied};
 ghost use Rattle.turn_entries.specs.Acts.{ActsAnyhow};
 ghost use Rattle.turn_entries.specs.Next.{due_kind};
 ghost use Rattle.turn_entries.specs.Parts.{IsPaused};
 ghost use Rattle.turn_entries.specs.Values.{MayEnter};
 
-use crate::act::Acted;
+use crate::act::TurnOutcome;
 use crate::between_turns::{Collecting, Copied, Next};
 use crate::part_block::PartInBlock;
 use crate::run::Run;
-use entry_calls::{Apart, EntryCalls, Moved, Paused, ToChunks};
+use entry_calls::{BoxedSlot, EntryCalls, Moved, Paused, ToChunks};
 use std::alloc::{AllocError, Global};
 
 // A block for new chunks and lists, without any.
-fn chunks_block(alloc: Global) -> Result<Apart<ToChunks>, AllocError> {
+fn chunks_block(alloc: Global) -> Result<BoxedSlot<ToChunks>, AllocError> {
     let lists = Moved {
         moved: Vec::new(alloc),
         taken: 0,
@@ -31,12 +31,12 @@ fn chunks_block(alloc: Global) -> Result<Apart<ToChunks>, AllocError> {
         found: Vec::new(alloc),
         laid: Vec::new(alloc),
     };
-    Ok(Apart::new(alloc, none)?)
+    Ok(BoxedSlot::new(alloc, none)?)
 }
 
 impl<P: EntryCalls + Drop> Run<P> {
     // The collection of the part begins. There is a block for the new chunks.
-    fn begin_in(self, worker: u32, part: PartInBlock, block: Apart<ToChunks>) -> Acted<P>
+    fn begin_in(self, worker: u32, part: PartInBlock, block: BoxedSlot<ToChunks>) -> TurnOutcome<P>
         requires enter { MayEnter (P.value self.paced) worker OwedOf.Nothing }
         requires paused { IsPaused (P.value self.paced) worker part Paused.Due }
         requires enough { is_pool_enough (P.value self.paced).settings (accounts (P.value self.paced)) part.task ≡ true }
@@ -52,12 +52,12 @@ impl<P: EntryCalls + Drop> Run<P> {
                 roots,
                 to_chunks: block.put(to_chunks),
             })),
-            Err(cause) => run.wanting(cause),
+            Err(cause) => run.out_of_memory(cause),
         }
     }
 
-    // The collection of the part begins, where there is memory for what it takes along.
-    fn begin_leaf(self, alloc: Global, worker: u32, part: PartInBlock) -> Acted<P>
+    // The collection of the part begins, given memory for what it takes along.
+    fn begin_leaf(self, alloc: Global, worker: u32, part: PartInBlock) -> TurnOutcome<P>
         requires enter { MayEnter (P.value self.paced) worker OwedOf.Nothing }
         requires paused { IsPaused (P.value self.paced) worker part Paused.Due }
         requires enough { is_pool_enough (P.value self.paced).settings (accounts (P.value self.paced)) part.task ≡ true }
@@ -71,7 +71,7 @@ impl<P: EntryCalls + Drop> Run<P> {
     }
 
     // The collection of the part is put off.
-    fn put_off_leaf(self, worker: u32, part: PartInBlock) -> Acted<P>
+    fn put_off_leaf(self, worker: u32, part: PartInBlock) -> TurnOutcome<P>
         requires enter { MayEnter (P.value self.paced) worker OwedOf.Nothing }
         requires paused { IsPaused (P.value self.paced) worker part Paused.Due }
         requires short { is_pool_enough (P.value self.paced).settings (accounts (P.value self.paced)) part.task ≡ false }
@@ -87,8 +87,8 @@ impl<P: EntryCalls + Drop> Run<P> {
         }
     }
 
-    /// The due collection of the part begins, or is put off where too few chunks are free.
-    pub(crate) fn collect(self, alloc: Global, worker: u32, part: PartInBlock) -> Acted<P>
+    /// The due collection of the part begins, or is put off if too few chunks are free.
+    pub(crate) fn collect(self, alloc: Global, worker: u32, part: PartInBlock) -> TurnOutcome<P>
         requires enter { MayEnter (P.value self.paced) worker OwedOf.Nothing }
         requires paused { IsPaused (P.value self.paced) worker part Paused.Due }
         requires fresh { part.fresh ≡ 0 }
@@ -102,7 +102,7 @@ impl<P: EntryCalls + Drop> Run<P> {
     }
 
     /// The collection of the part ends, whose heap was copied.
-    pub(crate) fn end_leaf(self, worker: u32, copied: Copied) -> Acted<P>
+    pub(crate) fn end_leaf(self, worker: u32, copied: Copied) -> TurnOutcome<P>
         requires enter { MayEnter (P.value self.paced) worker OwedOf.Nothing }
         requires fits { FitsCopied (P.value self.paced) worker copied.part copied.moved }
         ensures { ActsAnyhow P.value (P.value self.paced) worker (KindOf.End copied.part.task copied.moved.taken copied.moved.given copied.moved.left) result }

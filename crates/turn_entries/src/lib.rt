@@ -1,5 +1,5 @@
 //! What a worker does under the turn: with the shared value in hand it makes at most one entry: the one that the pace
-//! demands, one that a pause asks for, or one that takes a task.
+//! demands, one for which a part paused, or one that takes a task.
 #![tactic(auto)]
 
 mod act;
@@ -10,7 +10,7 @@ mod pay;
 mod run;
 mod steps;
 
-pub use act::Acted;
+pub use act::TurnOutcome;
 pub use between_turns::{Collecting, Copied, Next, Ready};
 pub use entry_calls::{
     EntryCalls, PRIVATE_LIMIT, Paused, Private, Program, RunEnd, Settings, copy, run_local,

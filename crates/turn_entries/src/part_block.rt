@@ -1,4 +1,4 @@
-//! A part in a block of its own, so that what hands it on moves a pointer.
+//! A boxed part, so that passing it moves a pointer.
 ghost use Rattle.std.specs.Prelude.{◌≡◌};
 
 use entry_calls::Private;
@@ -6,8 +6,8 @@ use std::alloc::{AllocError, Global};
 use std::marker::Model;
 use std::snapshot::Snapshot;
 
-/// A block for a part. It takes the place of a pointer. It is no `Apart`, since a part that is there before the first
-/// one would take memory of its own, for a frame.
+/// A block for a part, which takes up a pointer. It is no `BoxedSlot`, since a placeholder part would allocate memory
+/// of its own, for a frame.
 #[derive(Drop)]
 pub struct PartBlock {
     inner: Box<Option<Private>>,
@@ -38,7 +38,7 @@ impl PartBlock {
         Ok(PartBlock { inner })
     }
 
-    /// Puts a part into it. It takes no memory.
+    /// Puts a part into it. It doesn't allocate.
     pub fn fill(self, part: Private) -> PartInBlock
         ensures { result ≡ part }
     {
@@ -53,7 +53,7 @@ impl PartInBlock {
     ghost use Rattle.std.specs.Borrow.{sem};
     ghost use Rattle.turn_entries.specs.PartLends.{lends_part};
 
-    /// The part, and its block, which is free for another one.
+    /// The part, and its block, which can be reused.
     pub fn take_out(self) -> (Private, PartBlock)
         ensures { result.0 ≡ self }
     {
@@ -64,7 +64,7 @@ impl PartInBlock {
         }
     }
 
-    /// The part, to be looked at.
+    /// A reference to the part.
     pub fn get(&self) -> &Private
         ensures { result.now ≡ self.now }
     {
@@ -88,7 +88,7 @@ impl PartInBlock {
         Snapshot::of(self.get())
     }
 
-    /// The part, to be changed.
+    /// A mutable reference to the part.
     pub fn get_mut(&mut self) -> &mut Private
         ensures* writes_back { sem 𝓛 (lends_part self.entry result) }
         ensures value { result.now ≡ self.old }

@@ -1,19 +1,19 @@
-//! The entries that a worker owes to the collections of waiting tasks' heaps, and the end for spent fuel.
+//! The entries that a worker owes to the collections of waiting tasks' heaps, and the end without fuel.
 ghost use Rattle.std.specs.Prelude.{◌≡◌, ◌<◌, Some, None, is_some, true, false};
 ghost use Rattle.entry_calls.specs.below.run_trace.{Kind as KindOf};
 ghost use Rattle.entry_calls.specs.below.run_ledger.{Owed as OwedOf, heap_of, sweep_number, marked_at_once};
-ghost use Rattle.entry_calls.specs.below.shared_value.{first_cause, accounts};
+ghost use Rattle.entry_calls.specs.below.core_invariant.{first_cause, accounts};
 ghost use Rattle.turn_entries.specs.Acts.{ActsAnyhow, ActsFor, EndsPaid};
-ghost use Rattle.turn_entries.specs.Next.{is_wanting};
+ghost use Rattle.turn_entries.specs.Next.{is_out_of_memory};
 ghost use Rattle.turn_entries.specs.Parts.{next_after, BringsTo};
 ghost use Rattle.turn_entries.specs.Values.{MayEnter};
 
-use crate::act::Acted;
+use crate::act::TurnOutcome;
 use crate::between_turns::{Next, Ready};
 use crate::run::Run;
 use entry_calls::{EntryCalls, MARKED_AT_ONCE};
 
-// How a worker goes on that came with this, once it has paid what it owed.
+// How a worker that brought this goes on after it has paid what it owed.
 fn next_after(ready: Ready) -> Next
     ensures { result ≡ next_after ready }
 {
@@ -22,13 +22,13 @@ fn next_after(ready: Ready) -> Next
         Ready::Copied(copied) => Next::Copied(copied),
         Ready::Found(Some(task)) => Next::Found(task),
         Ready::Found(None) => Next::Idle,
-        Ready::Wanting => Next::Stop,
+        Ready::OutOfMemory => Next::Stop,
     }
 }
 
 impl<P: EntryCalls + Drop> Run<P> {
-    // What was owed is paid: the worker goes on with what it came with.
-    fn paid(self, ready: Ready) -> Acted<P>
+    // What was owed is paid: the worker goes on with what it brought.
+    fn paid(self, ready: Ready) -> TurnOutcome<P>
         ensures { EndsPaid P.value (P.value self.paced) ready result }
     {
         let next = next_after(ready);
@@ -36,9 +36,9 @@ impl<P: EntryCalls + Drop> Run<P> {
     }
 
     /// A marking begins.
-    pub(crate) fn pay_mark(self, worker: u32, ready: Ready, task: u32) -> Acted<P>
+    pub(crate) fn pay_mark(self, worker: u32, ready: Ready, task: u32) -> TurnOutcome<P>
         requires enter { MayEnter (P.value self.paced) worker (OwedOf.Mark task) }
-        requires met { is_wanting ready ≡ false }
+        requires met { is_out_of_memory ready ≡ false }
         requires brings { BringsTo (P.value self.paced) worker ready }
         ensures { ActsFor P.value (P.value self.paced) worker ready (Some (KindOf.Mark task)) result }
     {
@@ -46,29 +46,29 @@ impl<P: EntryCalls + Drop> Run<P> {
         let mut run = self;
         match run.paced.mark(worker, task) {
             Ok(()) => run.paid(ready),
-            Err(cause) => run.wanting(cause),
+            Err(cause) => run.out_of_memory(cause),
         }
     }
 
     /// More objects are marked.
-    pub(crate) fn pay_more(self, worker: u32, ready: Ready, task: u32) -> Acted<P>
+    pub(crate) fn pay_more(self, worker: u32, ready: Ready, task: u32) -> TurnOutcome<P>
         requires enter { MayEnter (P.value self.paced) worker (OwedOf.More task) }
-        requires met { is_wanting ready ≡ false }
+        requires met { is_out_of_memory ready ≡ false }
         requires brings { BringsTo (P.value self.paced) worker ready }
         ensures { ActsFor P.value (P.value self.paced) worker ready (Some (KindOf.More task marked_at_once)) result }
     {
         self.paced.stands();
         let mut run = self;
-        match run.paced.some(worker, task, MARKED_AT_ONCE) {
+        match run.paced.mark_objects(worker, task, MARKED_AT_ONCE) {
             Ok(_) => run.paid(ready),
             Err(_) => unreachable!(),
         }
     }
 
     /// A heap is swept.
-    pub(crate) fn pay_sweep(self, worker: u32, ready: Ready, task: u32) -> Acted<P>
+    pub(crate) fn pay_sweep(self, worker: u32, ready: Ready, task: u32) -> TurnOutcome<P>
         requires enter { MayEnter (P.value self.paced) worker (OwedOf.Sweep task) }
-        requires met { is_wanting ready ≡ false }
+        requires met { is_out_of_memory ready ≡ false }
         requires brings { BringsTo (P.value self.paced) worker ready }
         ensures { ActsFor P.value (P.value self.paced) worker ready (Some (KindOf.Sweep task (sweep_number (accounts (P.value self.paced)).machine (heap_of (accounts (P.value self.paced)) task)))) result }
     {
@@ -81,8 +81,8 @@ impl<P: EntryCalls + Drop> Run<P> {
         }
     }
 
-    /// The run ends for spent fuel.
-    pub(crate) fn end_for_fuel(self, worker: u32) -> Acted<P>
+    /// The run ends without fuel.
+    pub(crate) fn end_for_fuel(self, worker: u32) -> TurnOutcome<P>
         requires room { 0 < (P.value self.paced).journal.room }
         requires worker { worker < (P.value self.paced).settings.workers }
         requires goes { (accounts (P.value self.paced)).end ≡ None }

@@ -12,7 +12,7 @@ pub struct Run<P> {
     pub paced: P,
 }
 
-/// What no entry changes. No value of it is made.
+/// What no entry changes. No value of this type exists.
 pub struct Setup {
     pub program: Program,
     pub settings: Settings,
@@ -49,7 +49,7 @@ impl<P: EntryCalls + Drop> Run<P> {
         Run { paced }
     }
 
-    /// The journal is a list in memory, and none is so long.
+    /// The journal is a list in memory, so its length fits.
     pub fn is_short(&self)
         ensures { length (P.value self.now.paced).journal.items < 2 ^ 63 }
     {

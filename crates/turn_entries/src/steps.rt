@@ -1,14 +1,14 @@
-//! The entries that a worker comes for.
+//! The entries for which a worker comes.
 ghost use Rattle.std.specs.Prelude.{◌≡◌, ◌+◌, ◌<◌, Some, false};
 ghost use Rattle.entry_calls.specs.below.run_trace.{Kind as KindOf};
 ghost use Rattle.entry_calls.specs.below.run_ledger.{Owed as OwedOf};
 ghost use Rattle.entry_calls.specs.Ran.{LeavesBy};
 ghost use Rattle.turn_entries.specs.Acts.{after_end, ActsAnyhow, ActsFor};
-ghost use Rattle.turn_entries.specs.Next.{brought_kind, is_wanting, paused_kind};
+ghost use Rattle.turn_entries.specs.Next.{brought_kind, is_out_of_memory, paused_kind};
 ghost use Rattle.turn_entries.specs.Parts.{BringsTo, IsPaused, MayRun};
 ghost use Rattle.turn_entries.specs.Values.{MayEnter};
 
-use crate::act::Acted;
+use crate::act::TurnOutcome;
 use crate::between_turns::{Next, Ready};
 use crate::part_block::{PartBlock, PartInBlock};
 use crate::run::Run;
@@ -27,19 +27,19 @@ fn after_end(resumed: Option<u32>) -> Next
 
 impl<P: EntryCalls + Drop> Run<P> {
     // The worker takes a task that it has found. There is a block for its part.
-    fn take_in(self, worker: u32, task: u32, block: PartBlock) -> Acted<P>
+    fn take_in(self, worker: u32, task: u32, block: PartBlock) -> TurnOutcome<P>
         requires enter { MayEnter (P.value self.paced) worker OwedOf.Nothing }
         ensures { ActsAnyhow P.value (P.value self.paced) worker (KindOf.Took task) result }
     {
         let mut run = self;
         match run.paced.took(worker, task) {
             Ok(part) => run.entered(Next::Running(block.fill(part))),
-            Err(_) => Acted::Same(run, Next::Idle),
+            Err(_) => TurnOutcome::Same(run, Next::Idle),
         }
     }
 
-    // The worker takes a task that it has found, where there is memory for a block.
-    fn take_task(self, alloc: Global, worker: u32, task: u32) -> Acted<P>
+    // The worker takes a task that it has found, given memory for a block.
+    fn take_task(self, alloc: Global, worker: u32, task: u32) -> TurnOutcome<P>
         requires enter { MayEnter (P.value self.paced) worker OwedOf.Nothing }
         ensures { ActsAnyhow P.value (P.value self.paced) worker (KindOf.Took task) result }
     {
@@ -50,18 +50,18 @@ impl<P: EntryCalls + Drop> Run<P> {
     }
 
     // The worker takes the task that it has found, if it has.
-    fn enter_found(self, alloc: Global, worker: u32, found: Option<u32>) -> Acted<P>
+    fn enter_found(self, alloc: Global, worker: u32, found: Option<u32>) -> TurnOutcome<P>
         requires enter { MayEnter (P.value self.paced) worker OwedOf.Nothing }
         ensures { ActsFor P.value (P.value self.paced) worker (Ready.Found found) (brought_kind (P.value self.paced) (Ready.Found found)) result }
     {
         match found {
             Some(task) => self.take_task(alloc, worker, task),
-            None => Acted::Same(self, Next::Waits),
+            None => TurnOutcome::Same(self, Next::Waits),
         }
     }
 
-    // The fresh steps of the part are entered.
-    fn enter_private(self, worker: u32, part: PartInBlock) -> Acted<P>
+    // The fresh steps of the part are committed.
+    fn enter_private(self, worker: u32, part: PartInBlock) -> TurnOutcome<P>
         requires enter { MayEnter (P.value self.paced) worker OwedOf.Nothing }
         requires may { MayRun (P.value self.paced) worker part }
         requires fresh { 0 < part.fresh }
@@ -76,8 +76,8 @@ impl<P: EntryCalls + Drop> Run<P> {
         }
     }
 
-    // Enters the fresh steps of the part together with its next one, which gives the part up in this way.
-    fn ran_in(self, worker: u32, part: Private, leaving: Leaving) -> Acted<P>
+    // Commits the fresh steps of the part together with its next one, which gives the part up in this way.
+    fn ran_in(self, worker: u32, part: Private, leaving: Leaving) -> TurnOutcome<P>
         requires enter { MayEnter (P.value self.paced) worker OwedOf.Nothing }
         requires paused { IsPaused (P.value self.paced) worker part Paused.Shared }
         requires leaves { LeavesBy (P.value self.paced) part leaving }
@@ -90,12 +90,12 @@ impl<P: EntryCalls + Drop> Run<P> {
             Ok(Ran::Ended { resumed }) => run.entered(after_end(resumed)),
             Ok(Ran::Over(_)) => run.entered(Next::Stop),
             Ok(Ran::Done) => run.entered(Next::Stop),
-            Err(failed) => run.wanting(failed.cause),
+            Err(failed) => run.out_of_memory(failed.cause),
         }
     }
 
-    // The same, where the part is taken out of its block.
-    fn enter_leaving(self, worker: u32, part: PartInBlock, leaving: Leaving) -> Acted<P>
+    // Like `ran_in`, after the part is taken out of its block.
+    fn enter_leaving(self, worker: u32, part: PartInBlock, leaving: Leaving) -> TurnOutcome<P>
         requires enter { MayEnter (P.value self.paced) worker OwedOf.Nothing }
         requires paused { IsPaused (P.value self.paced) worker part Paused.Shared }
         requires leaves { LeavesBy (P.value self.paced) part leaving }
@@ -106,9 +106,9 @@ impl<P: EntryCalls + Drop> Run<P> {
         self.ran_in(worker, part, leaving)
     }
 
-    // The fresh steps of the part are entered with its next one, which isn't private. The part stays in its block, but
-    // where that step gives it up.
-    fn enter_shared(self, worker: u32, part: PartInBlock) -> Acted<P>
+    // Commits the fresh steps of the part with its next one, which isn't private. The part stays in its block, unless
+    // that step gives it up.
+    fn enter_shared(self, worker: u32, part: PartInBlock) -> TurnOutcome<P>
         requires enter { MayEnter (P.value self.paced) worker OwedOf.Nothing }
         requires paused { IsPaused (P.value self.paced) worker part Paused.Shared }
         ensures { ActsFor P.value (P.value self.paced) worker (Ready.Paused part Paused.Shared) (Some (KindOf.Ran part.task (part.fresh + 1))) result }
@@ -120,12 +120,12 @@ impl<P: EntryCalls + Drop> Run<P> {
             Ok(Lent::Goes) => run.entered(Next::Running(part)),
             Ok(Lent::Over) => run.entered(Next::Stop),
             Ok(Lent::Leaves(leaving)) => run.enter_leaving(worker, part, leaving),
-            Err(cause) => run.wanting(cause),
+            Err(cause) => run.out_of_memory(cause),
         }
     }
 
     // The part gets a chunk.
-    fn enter_chunk(self, worker: u32, part: PartInBlock) -> Acted<P>
+    fn enter_chunk(self, worker: u32, part: PartInBlock) -> TurnOutcome<P>
         requires enter { MayEnter (P.value self.paced) worker OwedOf.Nothing }
         requires paused { IsPaused (P.value self.paced) worker part Paused.NeedChunk }
         requires fresh { part.fresh ≡ 0 }
@@ -136,12 +136,18 @@ impl<P: EntryCalls + Drop> Run<P> {
         let mut part = part;
         match run.paced.chunk(worker, part.get_mut()) {
             Ok(()) => run.entered(Next::Running(part)),
-            Err(cause) => run.wanting(cause),
+            Err(cause) => run.out_of_memory(cause),
         }
     }
 
-    // The entry that the part's steps have paused for; its fresh steps come before a chunk or a collection.
-    fn enter_part(self, alloc: Global, worker: u32, part: PartInBlock, why: Paused) -> Acted<P>
+    // The entry for which the part's steps have paused; its fresh steps come before a chunk or a collection.
+    fn enter_part(
+        self,
+        alloc: Global,
+        worker: u32,
+        part: PartInBlock,
+        why: Paused,
+    ) -> TurnOutcome<P>
         requires enter { MayEnter (P.value self.paced) worker OwedOf.Nothing }
         requires paused { IsPaused (P.value self.paced) worker part why }
         ensures { ActsFor P.value (P.value self.paced) worker (Ready.Paused part why) (Some (paused_kind (P.value self.paced) part why)) result }
@@ -164,10 +170,10 @@ impl<P: EntryCalls + Drop> Run<P> {
         }
     }
 
-    /// The entry that the worker comes with, where it owes none.
-    pub(crate) fn enter(self, alloc: Global, worker: u32, ready: Ready) -> Acted<P>
+    /// The entry for which the worker comes, if it owes none.
+    pub(crate) fn enter(self, alloc: Global, worker: u32, ready: Ready) -> TurnOutcome<P>
         requires enter { MayEnter (P.value self.paced) worker OwedOf.Nothing }
-        requires met { is_wanting ready ≡ false }
+        requires met { is_out_of_memory ready ≡ false }
         requires brings { BringsTo (P.value self.paced) worker ready }
         ensures { ActsFor P.value (P.value self.paced) worker ready (brought_kind (P.value self.paced) ready) result }
     {
@@ -176,7 +182,7 @@ impl<P: EntryCalls + Drop> Run<P> {
             Ready::Paused(part, why) => self.enter_part(alloc, worker, part, why),
             Ready::Copied(copied) => self.end_leaf(worker, copied),
             Ready::Found(found) => self.enter_found(alloc, worker, found),
-            Ready::Wanting => unreachable!(),
+            Ready::OutOfMemory => unreachable!(),
         }
     }
 }

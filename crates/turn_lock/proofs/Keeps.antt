@@ -1,6 +1,5 @@
--- Each step of the turn keeps its rule.
-use Rattle.std.proofs.Common.{◌≡◌, ◌≢◌, ◌⊎◌, ℕ, ◌+◌, ◌-◌, ◌*◌, ◌/◌, ◌%◌, ◌^◌, ◌<◌, ◌≤◌, true, List, [], ◌∷◌, ◌++◌, length, slice_index, set, sym, refl, ap, ◌∙◌, subst, arith, ⊎_elim, inl, inr, Option, Some, None, length-set, get_or-set_same, length-append, append-nil, append_assoc, unwrap_or, option_map, IfSome, eq-zero-or-pos}
-use Rattle.std.proofs.lemmas.Option.{same_Some}
+-- Each step of the turn keeps its invariant.
+use Rattle.turn_lock.proofs.Common.{◌≡◌, ◌≢◌, ◌⊎◌, ℕ, ◌+◌, ◌-◌, ◌*◌, ◌/◌, ◌%◌, ◌^◌, ◌<◌, ◌≤◌, true, List, [], ◌∷◌, ◌++◌, length, slice_index, set, sym, refl, ap, ◌∙◌, subst, arith, ⊎_elim, inl, inr, Option, Some, None, length-set, get_or-set_same, length-append, append-nil, append_assoc, unwrap_or, option_map, IfSome, eq-zero-or-pos, same_Some, none_some, some_apart, State, Me, step, keeps, takes, gives, Allows, at_set, set_else, SeatView, NoneBy, AllBelow, Knows, Extends, IsAlike, with_looked, with_taken, with_given, Sees, IsFree, IsTaken, Turning, HasAll, looks, returns}
 use mathlib.Core.Logic.{dite}
 use mathlib.Core.Option.{none, some}
 use mathlib.Core.Option as maybe
@@ -8,14 +7,8 @@ use native.Mathlib.Decide.{ℕ_discrete}
 use lib.ListN.{get_elem?}
 use denote.Ref.{Bor}
 use lib.Bits.{bit_or, or_shifted, or_add_and, and_mask}
-use Rattle.listed.proofs.Options.{none_some, some_apart}
-use Rattle.atomic_table.specs.Table.{State, Me, step, keeps, takes, gives, Allows}
-use Rattle.atomic_table.proofs.Lists.{at_set, set_else}
-use Rattle.turn_lock.specs.declared.view.View.{View}
-use Rattle.turn_lock.specs.Journal.{NoneBy, AllBelow}
-use Rattle.turn_lock.specs.Seats.{Knows, Extends, IsAlike, with_looked, with_taken, with_given}
-use Rattle.turn_lock.specs.Rule.{Sees, IsFree, IsTaken, Turning, HasAll, looks, takes as took, gives as gave, returns}
-use Rattle.turn_lock.proofs.Views.{Same, same, renumbered, set_hit, one_there}
+use Rattle.turn_lock.specs.Rule.{takes as took, gives as gave}
+use Rattle.turn_lock.proofs.Views.{Same, same_as_itself, renumbered, set_hit, one_there}
 
 pub set_last : (a : ℕ) → bit_or a 1 ≡ a / 2 * 2 + 1
 set_last a =
@@ -49,7 +42,7 @@ home_hit (y ∷ ys) x e = refl
 
 module _ {T E P S : Type 0} (journal : T → List E) (by : E → ℕ) (fits : T → ℕ → P → Type 0) (setup : T → S) where
   abbrev V : Type 0
-  V = View T E P S
+  V = SeatView T E P S
 
   abbrev St : Type 0
   St = State (Option T) V
@@ -86,7 +79,7 @@ module _ {T E P S : Type 0} (journal : T → List E) (by : E → ℕ) (fits : T 
     seats = renumbered s.views id v w at st r.seats;
   }
 
-  -- a step that changes neither the word nor who has the turn
+  -- a step that changes neither the word nor the holder of the turn
   still : (s : St) (r : Rule s) (id n : ℕ) (v w : V) → n ≡ slice_index s.words 0 → get_elem? s.views id ≡ some v → w.live ≡ v.live → w.taken ≡ v.taken
       → Free record { words = set s.words 0 n; homes = s.homes; views = set s.views id w } r.value ⊎ Held record { words = set s.words 0 n; homes = s.homes; views = set s.views id w } r.value
   still s r id n v w same_word at live taken = let wide = r.wide in let word : slice_index (set s.words 0 n) 0 ≡ slice_index s.words 0 = get_or-set_same s.words 0 n 0 (omega arith) ∙ same_word in
@@ -115,7 +108,7 @@ module _ {T E P S : Type 0} (journal : T → List E) (by : E → ℕ) (fits : T 
   half : (s : St) (r : Rule s) → slice_index s.words 0 / 2 ≡ length (journal r.value)
   half s r = ⊎_elim (λ (f : Free s r.value). let e = f.0 in omega arith) (λ (h : Held s r.value). let e = h.0 in omega arith) r.turn
 
-  -- the longest that was seen, after a step that changes no view's `seen`
+  -- the longest journal that was seen, after a step that changes no view's `seen`
   whole_still : (s : St) (r : Rule s) (id : ℕ) (v w : V) → get_elem? s.views id ≡ some v → Same v w → (All r.value v → All r.value w)
       → (i : ℕ) × (u : V) × (get_elem? (set s.views id w) i ≡ some u) × (u.live ≡ true) × All r.value u
   whole_still s r id v w at st all = let h = r.whole in dite (ℕ_discrete h.0 id)
@@ -150,11 +143,11 @@ module _ {T E P S : Type 0} (journal : T → List E) (by : E → ℕ) (fits : T 
             (λ j u _ e l. r.knows j u e l) t.0 t.1 t.2 t.3 t.4,
         ((λ _. (r.value, k.known, λ i. (w, (0, Some r.value) ∷ bare i))), λ odd. absurd (omega arith)),
       ))
-      (λ (h : Held s r.value). let t = whole_still s r id v v at (same v) (λ a. a) in let odd : n ≡ 2 * length (journal r.value) + 1 = h.0 in (
+      (λ (h : Held s r.value). let t = whole_still s r id v v at (same_as_itself v) (λ a. a) in let odd : n ≡ 2 * length (journal r.value) + 1 = h.0 in (
         v,
         keeps,
         tt,
-        moved s r id (bit_or n 1) v v s.homes r.value at (same v) (still s r id (bit_or n 1) v v (last ∙ (omega arith)) at refl refl) k (λ j u _ e l. r.knows j u e l) t.0 t.1 t.2 t.3 t.4,
+        moved s r id (bit_or n 1) v v s.homes r.value at (same_as_itself v) (still s r id (bit_or n 1) v v (last ∙ (omega arith)) at refl refl) k (λ j u _ e l. r.knows j u e l) t.0 t.1 t.2 t.3 t.4,
         ((λ even. absurd (omega arith)), λ _. refl),
       ))
       r.turn
@@ -181,7 +174,7 @@ module _ {T E P S : Type 0} (journal : T → List E) (by : E → ℕ) (fits : T 
       ))
       mine others id w (set_hit s.views id v w at) live (inl refl)
 
-  -- what was seen by those that were joined, with one entry more
+  -- what was seen by those that were joined, with one more entry
   joined_more : (t x : T) (u : V) (worker : ℕ) (more : Extends journal by fits setup t x worker) → SeesIt t u → (u.worker ≡ 0 → by more.entry < u.count)
       → (i k : ℕ) (l : List E) → get_elem? u.joined i ≡ some (k, l) → (u.worker ≡ 0) × (u.count ≤ k) × (m : List E) × (journal x ≡ l ++ m) × NoneBy by k m
   joined_more t x u worker more know below i k l e = let j = know.joined i k l e in let b = below j.0 in let c = j.1 in (
@@ -195,7 +188,7 @@ module _ {T E P S : Type 0} (journal : T → List E) (by : E → ℕ) (fits : T 
       below_ne : {a b c : ℕ} → a ≡ b → a < c → c ≤ b → ⊥
       below_ne is b c = omega arith
 
-  -- what a view knows of the value, with one entry more
+  -- what a view knows of the value, with one more entry
   knows_more : (t x : T) (u : V) (worker : ℕ) (more : Extends journal by fits setup t x worker) → SeesIt t u → by more.entry ≢ u.worker → (u.worker ≡ 0 → by more.entry < u.count) → SeesIt x u
   knows_more t x u worker more k apart below = record {
     known = record {

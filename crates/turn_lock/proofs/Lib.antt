@@ -3,3 +3,4 @@ mod Keeps
 mod SplitJoin
 pub mod SeatLists
 pub mod Laws
+mod Common

@@ -1,16 +1,9 @@
 -- A seat is split from worker 0's, or joined with it, and the turn begins and ends.
-use Rattle.std.proofs.Common.{◌≡◌, ◌≢◌, ◌⊎◌, ℕ, zero, suc, ◌+◌, ◌-◌, ◌*◌, ◌<◌, ◌≤◌, true, true≢false, List, [], ◌∷◌, ◌++◌, length, set, sym, refl, ap, ◌∙◌, subst, arith, ⊎_elim, inl, inr, Option, Some, None, append-nil, lt_of_not-le}
+use Rattle.turn_lock.proofs.Common.{◌≡◌, ◌≢◌, ◌⊎◌, ℕ, zero, suc, ◌+◌, ◌-◌, ◌*◌, ◌<◌, ◌≤◌, true, true≢false, List, [], ◌∷◌, ◌++◌, length, set, sym, refl, ap, ◌∙◌, subst, arith, ⊎_elim, inl, inr, Option, Some, None, append-nil, lt_of_not-le, none_some, some_apart, State, Splits, Joins, Seen, opening, at_set, set_else, at_longer, at_last, SeatView, NoneBy, AllBelow, opening_view, HasAll, Numbered, Sees, IsFree, IsTaken, Turning, with_seat_more, split_view, with_joined, spent_view}
 use mathlib.Core.Logic.{dite}
 use mathlib.Core.Option.{some, some-injective, some-ne-none}
 use native.Mathlib.Decide.{ℕ_discrete, dec_le}
 use lib.ListN.{get_elem?}
-use Rattle.listed.proofs.Options.{none_some, some_apart}
-use Rattle.atomic_table.specs.Table.{State, Splits, Joins, Seen, opening}
-use Rattle.atomic_table.proofs.Lists.{at_set, set_else, at_longer, at_last}
-use Rattle.turn_lock.specs.declared.view.View.{View}
-use Rattle.turn_lock.specs.Journal.{NoneBy, AllBelow}
-use Rattle.turn_lock.specs.Seats.{opening_view}
-use Rattle.turn_lock.specs.Rule.{HasAll, Numbered, Sees, IsFree, IsTaken, Turning, with_seat_more, split_view, with_joined, spent_view}
 use Rattle.turn_lock.proofs.Views.{set_hit, one_there}
 
 abbrev first_of : {A : Type 0} → List A → Option A
@@ -39,42 +32,42 @@ module _ {E : Type 0} (by : E → ℕ) where
   below_apart n (e ∷ es) f = ((λ is. let h = f.0 in omega arith), below_apart n es f.1)
 
 module _ {T E P S : Type 0} where
-  numbers_after_split : (l : List (View T E P S)) (id : ℕ) (v : View T E P S) → get_elem? l id ≡ some v → v.live ≡ true → v.worker ≡ 0 → Numbered l → Numbered (set l id (with_seat_more v) ++ split_view v ∷ [])
+  numbers_after_split : (l : List (SeatView T E P S)) (id : ℕ) (v : SeatView T E P S) → get_elem? l id ≡ some v → v.live ≡ true → v.worker ≡ 0 → Numbered l → Numbered (set l id (with_seat_more v) ++ split_view v ∷ [])
   numbers_after_split l id v at live first r = record {
     once = λ i j a b p q la lb e. let x = was i a p la in let y = was j b q lb in ⊎_elim
         (λ (t : Old i a). ⊎_elim (λ (u : Old j b). r.once i j t.0 u.0 t.1 u.1 t.2 u.2 (t.3 ∙ (e ∙ sym u.3)))
-        (λ (u : New j b). let h = r.counted id i v t.0 at t.1 live t.2 first in let e' : t.0.worker ≡ v.count = t.3 ∙ (e ∙ sym (ap (λ (z : View T E P S). z.worker) u.1)) in absurd (omega arith)) y)
-        (λ (t : New i a). ⊎_elim (λ (u : Old j b). let h = r.counted id j v u.0 at u.1 live u.2 first in let e' : u.0.worker ≡ v.count = u.3 ∙ (sym e ∙ sym (ap (λ (z : View T E P S). z.worker) t.1)) in absurd (omega arith))
+        (λ (u : New j b). let h = r.counted id i v t.0 at t.1 live t.2 first in let e' : t.0.worker ≡ v.count = t.3 ∙ (e ∙ sym (ap (λ (z : SeatView T E P S). z.worker) u.1)) in absurd (omega arith)) y)
+        (λ (t : New i a). ⊎_elim (λ (u : Old j b). let h = r.counted id j v u.0 at u.1 live u.2 first in let e' : u.0.worker ≡ v.count = u.3 ∙ (sym e ∙ sym (ap (λ (z : SeatView T E P S). z.worker) t.1)) in absurd (omega arith))
         (λ (u : New j b). t.0 ∙ sym u.0) y) x;
     counted = λ i j a b p q la lb e. let x = was i a p la in let y = was j b q lb in let few = r.counted id id v v at at live live first in
         ⊎_elim (λ (t : Old i a). let is : i ≡ id = r.once i id t.0 v t.1 at t.2 live (t.3 ∙ (e ∙ sym first)) in
         let count : a.count ≡ v.count + 1 = t.4 is in
         ⊎_elim (λ (u : Old j b). let h = r.counted id j v u.0 at u.1 live u.2 first in let w = u.3 in omega arith)
-        (λ (u : New j b). let w : v.count ≡ b.worker = ap (λ (z : View T E P S). z.worker) u.1 in omega arith) y)
-        (λ (t : New i a). let w : v.count ≡ a.worker = ap (λ (z : View T E P S). z.worker) t.1 in absurd (omega arith)) x;
+        (λ (u : New j b). let w : v.count ≡ b.worker = ap (λ (z : SeatView T E P S). z.worker) u.1 in omega arith) y)
+        (λ (t : New i a). let w : v.count ≡ a.worker = ap (λ (z : SeatView T E P S). z.worker) t.1 in absurd (omega arith)) x;
     each = λ i n a p la e h. let x = was i a p la in let few = r.counted id id v v at at live live first in
         ⊎_elim (λ (t : Old i a). let is : i ≡ id = r.once i id t.0 v t.1 at t.2 live (t.3 ∙ (e ∙ sym first)) in let count : a.count ≡ v.count + 1 = t.4 is in
         dite (ℕ_discrete n v.count)
         (λ last. (length (set l id (with_seat_more v)), split_view v, at_last (set l id (with_seat_more v)) (split_view v) (length (set l id (with_seat_more v))) refl, refl, sym last))
         (λ not. let u = r.each id n v at live first (omega arith) in dite (ℕ_discrete u.0 id)
-        (λ here. let one = one_there l u.0 id u.1 v u.2 at here in (id, with_seat_more v, at_longer (set l id (with_seat_more v)) (split_view v ∷ []) id (with_seat_more v) (set_hit l id v (with_seat_more v) at), live, ap (λ (z : View T E P S). z.worker) (sym one) ∙ u.4))
+        (λ here. let one = one_there l u.0 id u.1 v u.2 at here in (id, with_seat_more v, at_longer (set l id (with_seat_more v)) (split_view v ∷ []) id (with_seat_more v) (set_hit l id v (with_seat_more v) at), live, ap (λ (z : SeatView T E P S). z.worker) (sym one) ∙ u.4))
         (λ there. (u.0, u.1, at_longer (set l id (with_seat_more v)) (split_view v ∷ []) u.0 u.1 (set_else l id u.0 (with_seat_more v) there ∙ u.2), u.3, u.4))))
-        (λ (t : New i a). let w : v.count ≡ a.worker = ap (λ (z : View T E P S). z.worker) t.1 in absurd (omega arith)) x;
+        (λ (t : New i a). let w : v.count ≡ a.worker = ap (λ (z : SeatView T E P S). z.worker) t.1 in absurd (omega arith)) x;
   }
     where
-      Old : ℕ → View T E P S → Type 0
-      Old j b = (a : View T E P S) × (get_elem? l j ≡ some a) × (a.live ≡ true) × (a.worker ≡ b.worker) × (j ≡ id → b.count ≡ v.count + 1)
+      Old : ℕ → SeatView T E P S → Type 0
+      Old j b = (a : SeatView T E P S) × (get_elem? l j ≡ some a) × (a.live ≡ true) × (a.worker ≡ b.worker) × (j ≡ id → b.count ≡ v.count + 1)
 
-      New : ℕ → View T E P S → Type 0
+      New : ℕ → SeatView T E P S → Type 0
       New j b = (j ≡ length (set l id (with_seat_more v))) × (split_view v ≡ b)
 
-      was : (j : ℕ) (b : View T E P S) → get_elem? (set l id (with_seat_more v) ++ split_view v ∷ []) j ≡ some b → b.live ≡ true → Old j b ⊎ New j b
+      was : (j : ℕ) (b : SeatView T E P S) → get_elem? (set l id (with_seat_more v) ++ split_view v ∷ []) j ≡ some b → b.live ≡ true → Old j b ⊎ New j b
       was j b e lb = ⊎_elim (λ (h : get_elem? (set l id (with_seat_more v)) j ≡ some b). inl (⊎_elim
-          (λ (t : (j ≡ id) × (with_seat_more v ≡ b)). (v, ap (λ (k : ℕ). get_elem? l k) t.0 ∙ at, live, ap (λ (z : View T E P S). z.worker) t.1, λ _. ap (λ (z : View T E P S). z.count) (sym t.1)))
+          (λ (t : (j ≡ id) × (with_seat_more v ≡ b)). (v, ap (λ (k : ℕ). get_elem? l k) t.0 ∙ at, live, ap (λ (z : SeatView T E P S). z.worker) t.1, λ _. ap (λ (z : SeatView T E P S). z.count) (sym t.1)))
           (λ (t : (j ≢ id) × (get_elem? l j ≡ some b)). (b, t.1, lb, refl, λ is. absurd (t.0 is))) (at_set l id j (with_seat_more v) b h)))
           (λ (t : (j ≡ length (set l id (with_seat_more v))) × (split_view v ≡ b)). inr t) (at_snoc (set l id (with_seat_more v)) (split_view v) b j e)
 
-  numbers_after_join : (l : List (View T E P S)) (id other : ℕ) (v w : View T E P S) → get_elem? l id ≡ some v → get_elem? l other ≡ some w → other ≢ id → v.live ≡ true → w.live ≡ true → v.worker ≡ 0 → w.worker ≡ v.count - 1
+  numbers_after_join : (l : List (SeatView T E P S)) (id other : ℕ) (v w : SeatView T E P S) → get_elem? l id ≡ some v → get_elem? l other ≡ some w → other ≢ id → v.live ≡ true → w.live ≡ true → v.worker ≡ 0 → w.worker ≡ v.count - 1
       → Numbered l → Numbered (set (set l id (with_joined v w)) other spent_view)
   numbers_after_join l id other v w at at_w apart live live_w first last r = record {
     once = λ i j a b p q la lb e. let x = was i a p la in let y = was j b q lb in r.once i j x.0 y.0 x.1 y.1 x.2 y.2 (x.3 ∙ (e ∙ sym y.3));
@@ -82,27 +75,27 @@ module _ {T E P S : Type 0} where
         let count : a.count ≡ v.count - 1 = x.5 is in let h = r.counted id j v y.0 at y.1 live y.2 first in let same_worker : y.0.worker ≡ b.worker = y.3 in
         let not_last : ¬ (y.0.worker ≡ v.count - 1) = λ e'. y.4 (r.once j other y.0 w y.1 at_w y.2 live_w (e' ∙ sym last)) in less y.0.worker b.worker v.count a.count h not_last same_worker count;
     each = λ i n a p la e h. let x = was i a p la in let is : i ≡ id = r.once i id x.0 v x.1 at x.2 live (x.3 ∙ (e ∙ sym first)) in let count : a.count ≡ v.count - 1 = x.5 is in
-        let u = r.each id n v at live first (omega arith) in let there : u.0 ≢ other = λ o. let one = one_there l u.0 other u.1 w u.2 at_w o in let e1 = u.4 in let e2 : u.1.worker ≡ w.worker = ap (λ (z : View T E P S). z.worker) one in omega arith in
+        let u = r.each id n v at live first (omega arith) in let there : u.0 ≢ other = λ o. let one = one_there l u.0 other u.1 w u.2 at_w o in let e1 = u.4 in let e2 : u.1.worker ≡ w.worker = ap (λ (z : SeatView T E P S). z.worker) one in omega arith in
         dite (ℕ_discrete u.0 id)
         (λ here. let one = one_there l u.0 id u.1 v u.2 at here in
-        (id, with_joined v w, set_else (set l id (with_joined v w)) other id spent_view (λ o. apart (sym o)) ∙ set_hit l id v (with_joined v w) at, live, ap (λ (z : View T E P S). z.worker) (sym one) ∙ u.4))
+        (id, with_joined v w, set_else (set l id (with_joined v w)) other id spent_view (λ o. apart (sym o)) ∙ set_hit l id v (with_joined v w) at, live, ap (λ (z : SeatView T E P S). z.worker) (sym one) ∙ u.4))
         (λ away. (u.0, u.1, set_else (set l id (with_joined v w)) other u.0 spent_view there ∙ (set_else l id u.0 (with_joined v w) away ∙ u.2), u.3, u.4));
   }
     where
       less : (k k' n m : ℕ) → k < n → ¬ (k ≡ n - 1) → k ≡ k' → m ≡ n - 1 → k' < m
       less k k' n m h a e e' = dite (dec_le m k') (λ le. absurd (a (omega arith))) (λ not. lt_of_not-le not)
 
-      was : (j : ℕ) (b : View T E P S) → get_elem? (set (set l id (with_joined v w)) other spent_view) j ≡ some b → b.live ≡ true
-          → (a : View T E P S) × (get_elem? l j ≡ some a) × (a.live ≡ true) × (a.worker ≡ b.worker) × (j ≢ other) × (j ≡ id → b.count ≡ v.count - 1)
-      was j b e lb = ⊎_elim (λ (t : (j ≡ other) × (spent_view ≡ b)). absurd (true≢false (sym lb ∙ ap (λ (z : View T E P S). z.live) (sym t.1))))
+      was : (j : ℕ) (b : SeatView T E P S) → get_elem? (set (set l id (with_joined v w)) other spent_view) j ≡ some b → b.live ≡ true
+          → (a : SeatView T E P S) × (get_elem? l j ≡ some a) × (a.live ≡ true) × (a.worker ≡ b.worker) × (j ≢ other) × (j ≡ id → b.count ≡ v.count - 1)
+      was j b e lb = ⊎_elim (λ (t : (j ≡ other) × (spent_view ≡ b)). absurd (true≢false (sym lb ∙ ap (λ (z : SeatView T E P S). z.live) (sym t.1))))
           (λ (t : (j ≢ other) × (get_elem? (set l id (with_joined v w)) j ≡ some b)). ⊎_elim
-          (λ (u : (j ≡ id) × (with_joined v w ≡ b)). (v, ap (λ (k : ℕ). get_elem? l k) u.0 ∙ at, live, ap (λ (z : View T E P S). z.worker) u.1, t.0, λ _. ap (λ (z : View T E P S). z.count) (sym u.1)))
+          (λ (u : (j ≡ id) × (with_joined v w ≡ b)). (v, ap (λ (k : ℕ). get_elem? l k) u.0 ∙ at, live, ap (λ (z : SeatView T E P S). z.worker) u.1, t.0, λ _. ap (λ (z : SeatView T E P S). z.count) (sym u.1)))
           (λ (u : (j ≢ id) × (get_elem? l j ≡ some b)). (b, u.1, lb, refl, t.0, λ is. absurd (u.0 is))) (at_set l id j (with_joined v w) b t.1))
           (at_set (set l id (with_joined v w)) other j spent_view b e)
 
 module _ {T E P S : Type 0} (journal : T → List E) (by : E → ℕ) (fits : T → ℕ → P → Type 0) (setup : T → S) where
   abbrev V : Type 0
-  V = View T E P S
+  V = SeatView T E P S
 
   abbrev St : Type 0
   St = State (Option T) V
@@ -177,7 +170,7 @@ module _ {T E P S : Type 0} (journal : T → List E) (by : E → ℕ) (fits : T 
           (λ (g : get_elem? (set s.views id (with_seat_more v)) i ≡ some u). ⊎_elim (λ (t : (i ≡ id) × (with_seat_more v ≡ u)). ap (λ (z : V). z.taken) (sym t.1) ∙ idle) (λ (t : (i ≢ id) × (get_elem? s.views i ≡ some u)). f i u t.1) (at_set s.views id i (with_seat_more v) u g))
           (λ (t : (i ≡ length (set s.views id (with_seat_more v))) × (split_view v ≡ u)). ap (λ (z : V). z.taken) (sym t.1)) (at_snoc (set s.views id (with_seat_more v)) (split_view v) u i e)
 
-  -- what worker 0 knows once it has taken in what another saw
+  -- what worker 0 knows after it has taken over what another saw
   knows_joined : (x : T) (v w : V) → SeesIt x v → SeesIt x w → v.worker ≡ 0 → w.worker ≡ v.count - 1 → SeesIt x (with_joined v w)
   knows_joined x v w k m first last = record {
     known = record {
@@ -262,7 +255,7 @@ module _ {T E P S : Type 0} (journal : T → List E) (by : E → ℕ) (fits : T 
       only zero u e = (refl, some-injective (opening_view journal setup x) u e)
       only (suc i) u e = absurd (some-ne-none u (sym e))
 
-  -- with one seat left, without the turn, the value is at home and it has seen all
+  -- with one seat left, without the turn, the value is in its slot and the seat has seen all
   pub ends : (id : ℕ) (v : V) (s : St) → Seen Rule id v s → v.live ≡ true → v.worker ≡ 0 → v.count ≡ 1 → v.taken ≡ None
       → (x : T) × (get_elem? s.homes 0 ≡ some (some (Some x))) × All x v × SeesIt x v
   ends id v s seen live first one_left idle = let r = seen.0 in let at = seen.1 in

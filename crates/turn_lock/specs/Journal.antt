@@ -1,4 +1,4 @@
--- Journals, of whose entries each is one worker's.
+-- Journals, each entry of which belongs to one worker.
 use Rattle.std.specs.Prelude.{◌≢◌, ℕ, ◌<◌, ◌==◌, List, [], ◌∷◌, filter}
 
 -- no entry is worker w's
@@ -6,7 +6,7 @@ abbrev pub NoneBy : {E : Type 0} → (E → ℕ) → ℕ → List E → Type 0
 NoneBy worker_of w [] = Unit {0}
 NoneBy worker_of w (e ∷ es) = (worker_of e ≢ w) × NoneBy worker_of w es
 
--- the entries of worker w, in their order
+-- the entries of worker w, in order
 abbrev pub entries_by : {E : Type 0} → (E → ℕ) → ℕ → List E → List E
 entries_by worker_of w es = filter (λ e. worker_of e == w) es
 

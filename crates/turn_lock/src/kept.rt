@@ -1,7 +1,7 @@
-//! What a value in turns tells of itself.
+//! What a value in turns shows of itself.
 ghost use Rattle.std.specs.Prelude.{◌≡◌, ℕ, List, length};
 
-/// A value with a journal, of whose entries each is one worker's.
+/// A value with a journal, each entry of which belongs to one worker.
 pub trait Kept {
     /// One entry of the journal.
     type Entry;

@@ -10,4 +10,4 @@ mod view;
 pub use kept::Kept;
 pub use steps::{Rule, Seat, ViewOf};
 pub use turn::Turn;
-pub use view::View;
+pub use view::SeatView;

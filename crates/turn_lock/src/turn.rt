@@ -1,4 +1,4 @@
-//! The turn: who takes it has the value, and gives it back unchanged or with one entry more.
+//! The turn: whoever takes it has the value, and gives it back unchanged or with one more entry.
 ghost use Rattle.std.specs.Prelude.{◌≡◌, ◌^◌, ◌<◌, ◌≤◌, [], length, Some, None, option_map, IfSome, IfOk};
 ghost use Rattle.turn_lock.specs.Seats.{with_looked, with_taken, with_given, view, SameWorker, Knows, IsSeatOf, HasTurn, HasNoTurn, Extends, IsAlike, AreNewSeats, AreAllSeats, IsFinalFor, HasOwnEntries, GaveOne, own_entries, opening_view};
 ghost use Rattle.std.specs.Mem.Slots.{slots_items, slots_len, IsFull};
@@ -16,7 +16,7 @@ use std::snapshot::Snapshot;
 use std::sync::Wait;
 use std::{hint, thread};
 
-// After so many vain tries for the turn, who tries lets other threads run before each further one.
+// After this many failed attempts to take the turn, a thread yields before each further one.
 const PATIENCE: u32 = 7;
 
 /// A value that workers take in turns, each by its seat. Threads share it by reference.
@@ -29,7 +29,7 @@ pub struct Turn<T: Kept> {
 impl<T: Kept + Drop> Turn<T> {
     ghost use Rattle.turn_lock.specs.Turn.{identity};
 
-    /// The turn, and a seat for each worker, in their order. For want of memory the value is dropped.
+    /// The turn, and a seat for each worker, in order. If an allocation fails the value is dropped.
     pub fn new(alloc: Global, value: T, workers: u32) -> Result<(Turn<T>, Vec<Seat<T>>), AllocError>
         requires workers { 0 < workers }
         requires entries { length (T.journal value) < 2 ^ 63 }
@@ -63,7 +63,7 @@ impl<T: Kept + Drop> Turn<T> {
         Ok((self, seats))
     }
 
-    /// Ends the turn. All seats come back, in the order in which `new` gave them.
+    /// Ends the turn. All seats are returned, in the order in which `new` gave them.
     pub fn close(self, mut seats: Vec<Seat<T>>) -> T
         requires { AreAllSeats (identity self) seats.items }
         ensures value { IsFinalFor T.journal T.worker_of T.fits T.setup result seats.items }
@@ -77,7 +77,8 @@ impl<T: Kept + Drop> Turn<T> {
         value_at_home(table.close_with(first))
     }
 
-    /// The number of entries at its step. It takes no turn, and also answers while a seat has the turn.
+    /// The number of entries at the moment of its atomic step. It doesn't take the turn, and also returns while a seat
+    /// has the turn.
     pub fn look(&self, seat: &mut Seat<T>) -> u64
         requires { IsSeatOf (identity self.now) seat.old }
         ensures seat { (seat.new.table_id ≡ seat.old.table_id) × (seat.new.me.1 ≡ seat.old.me.1) × (view seat.new ≡ with_looked (view seat.old) result) }
@@ -89,8 +90,8 @@ impl<T: Kept + Drop> Turn<T> {
         self.table.shared.load::<Looks>(seat, 0) / 2
     }
 
-    /// Takes the turn and the value, as soon as no other seat has the turn. While one has it, this only
-    /// looks at the word, which then stays with all processors that look.
+    /// Takes the turn and the value, as soon as no other seat has the turn. While one has it, this only reads the word,
+    /// whose cache line then stays shared.
     pub fn take<R: Wait>(&self, rt: &R, seat: &mut Seat<T>) -> T
         requires { HasNoTurn (identity self.now) seat.old }
         ensures turn { HasTurn (identity self.now) seat.new result }
@@ -110,7 +111,7 @@ impl<T: Kept + Drop> Turn<T> {
         unreachable!()
     }
 
-    /// Gives the value and the turn back, with one entry more. The worker keeps the part.
+    /// Gives the value and the turn back, with one more entry. The worker keeps the part.
     pub fn give_back(&self, seat: &mut Seat<T>, value: T, part: Option<&T::Part>)
         requires turn { (taken : T) × HasTurn (identity self.now) seat.old taken × Extends T.journal T.worker_of T.fits T.setup taken value (view seat.old).worker }
         requires part { IfSome part (λ p. T.fits value (view seat.old).worker p.now) }
@@ -134,7 +135,7 @@ impl<T: Kept + Drop> Turn<T> {
     }
 
     /// Gives the value and the turn back, with the journal, the fitting parts and the setup that were taken.
-    pub fn give_same(&self, seat: &mut Seat<T>, value: T)
+    pub fn release_unchanged(&self, seat: &mut Seat<T>, value: T)
         requires { (taken : T) × HasTurn (identity self.now) seat.old taken × IsAlike T.journal T.worker_of T.fits T.setup taken value }
         ensures seat { HasNoTurn (identity self.now) seat.new × (view seat.new ≡ with_given (view seat.old) value (T.journal value) (view seat.old).part) }
         ensures same { SameWorker (view seat.old) (view seat.new) }
@@ -145,8 +146,8 @@ impl<T: Kept + Drop> Turn<T> {
     }
 }
 
-// A pause after so many vain tries, each twice as long as the one before, up to the point where other threads run;
-// the answer is how many tries there are with this one, as far as it matters.
+// Backs off after failed attempts, each time twice as long as before, up to the point at which other threads run;
+// returns the number of attempts including this one, saturating.
 fn pause(tries: u32) -> u32 {
     if tries < PATIENCE {
         for _ in 0..1u32 << tries {
@@ -158,7 +159,7 @@ fn pause(tries: u32) -> u32 {
     tries
 }
 
-// The value of the one slot, which is full.
+// The value in the only slot, which is full.
 fn value_at_home<T>(mut closed: Closed<Option<T>, Global>) -> T
     requires { (slots_len closed.slots ≡ 1) × IsFull closed.slots × ((value : T) × (get_elem? (slots_items closed.slots) 0 ≡ some (Some value))) }
     ensures { get_elem? (slots_items closed.slots) 0 ≡ some (Some result) }

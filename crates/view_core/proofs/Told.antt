@@ -1,12 +1,5 @@
 -- What is shown of a trace.
-use Rattle.std.proofs.Common.{◌≡◌, ℕ, List, sym, subst}
-use Rattle.std.specs.Prelude.{Option}
-use Rattle.run_page.specs.below.run_trace.{EntryValue, SettingsValue}
-use Rattle.run_page.specs.below.run_ledger.{RefusedAt, refused_as_run}
-use Rattle.run_page.specs.below.trace_input.{TraceInput, settings_for}
-use Rattle.view_line.specs.declared.line.RunView.{RunView}
-use Rattle.refusal_replies.specs.below.whole_call.{Reply}
-use Rattle.view_core.specs.Shown.{ShowsJournal, ShowsWhole, ShowsTrace}
+use Rattle.view_core.proofs.Common.{◌≡◌, ℕ, List, sym, subst, Option, EntryValue, SettingsValue, RefusedAt, refused_as_run, TraceInput, settings_for, RunView, Reply, ShowsJournal, ShowsWhole, ShowsTrace}
 
 -- what is shown of a journal, which is the trace's, with its settings
 pub trace_told : (v : RunView) (l : SettingsValue) (input : List ℕ) (t : TraceInput) (s : SettingsValue) (journal : List EntryValue) (r : Option RefusedAt) (w : Reply) → s ≡ settings_for l t → journal ≡ t.trace.entries

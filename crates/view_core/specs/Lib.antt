@@ -4,3 +4,4 @@ pub mod Shown
 pub mod Page
 pub mod Views
 pub mod Call
+mod Common

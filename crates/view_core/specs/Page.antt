@@ -1,14 +1,7 @@
 -- A run as a page.
 use Rattle.std.specs.Prelude.{ℕ, Bool, true, false, Option, Some, None, List, ◌++◌, codes, length, nat_lt}
 use Rattle.std.specs.Fmt.{decimal}
-use Rattle.run_page.specs.below.hh_lang.{ProgramText}
-use Rattle.run_page.specs.below.run_trace.{EntryValue, SettingsValue}
-use Rattle.run_page.specs.below.run_ledger.{refused_as_run}
-use Rattle.run_page.specs.below.trace_input.{InputFault, TraceInput, input_fault, settings_for, IsInput}
-use Rattle.refusal_replies.specs.below.refusal_lines.{refusal_of}
-use Rattle.refusal_replies.specs.Refused.{Refuses}
-use Rattle.run_page.specs.Page.{page}
-use Rattle.refusal_replies.specs.below.whole_call.{Done, Trace, Reply, Says}
+use Rattle.view_core.specs.Common.{ProgramText, EntryValue, SettingsValue, refused_as_run, InputFault, TraceInput, input_fault, settings_for, IsInput, refusal_of, Refuses, page, Done, Trace, Reply, Says}
 use Rattle.view_core.specs.Shown.{ShowsWhole}
 
 -- the title that is given, or the file's name

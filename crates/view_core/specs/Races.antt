@@ -1,10 +1,6 @@
 -- What is shown of the races of a run.
 use Rattle.std.specs.Prelude.{ℕ, zero, suc, List}
-use Rattle.run_page.specs.below.hh_lang.{ProgramText}
-use Rattle.run_page.specs.below.run_trace.{SettingsValue, EntryValue}
-use Rattle.race_groups.specs.declared.shown.ShownRaces.{ShownRaces}
-use Rattle.race_groups.specs.Shown.{IsShown}
-use Rattle.refusal_replies.specs.below.whole_call.{AnswerStatus, Done, Races, Reply, Says}
+use Rattle.view_core.specs.Common.{ProgramText, SettingsValue, EntryValue, ShownRaces, IsShown, AnswerStatus, Done, Races, Reply, Says}
 
 abbrev pub status_of_count : ℕ → AnswerStatus
 status_of_count zero = Done

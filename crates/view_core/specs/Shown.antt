@@ -1,29 +1,13 @@
 -- What is shown of an input: a picture, or why the input is refused, in the words of hheap.
 use Rattle.std.specs.Prelude.{ℕ, Option, Some, None, List, [], ◌∷◌, codes}
-use Rattle.run_page.specs.below.hh_lang.{ProgramText}
-use Rattle.run_page.specs.below.run_trace.{SettingsValue, EntryValue}
-use Rattle.run_page.specs.below.run_ledger.{RefusedAt, refused_as_run, end_line}
-use Rattle.heap_graph.specs.below.image_check.{Fault, image_fault}
-use Rattle.run_page.specs.below.trace_input.{InputFault, TraceInput, input_fault, settings_for, IsInput}
-use Rattle.refusal_replies.specs.below.refusal_lines.{Entry, Image, refusal_of}
-use Rattle.refusal_replies.specs.Refused.{Refuses}
-use Rattle.heap_graph.specs.Graph.{graph_of}
-use Rattle.task_table.specs.below.run_timeline.{timeline}
-use Rattle.task_table.specs.Table.{table}
-use Rattle.schedule_report.specs.declared.data.Clashes.{Clashes}
-use Rattle.schedule_report.specs.declared.data.Verdict.{Verdict}
-use Rattle.schedule_report.specs.declared.data.Verdict.TheVariants.{Agree, AgreeButForPrints, MayDiffer}
-use Rattle.schedule_report.specs.Schedules.{IsAnswer, verdict_of}
-use Rattle.schedule_report.specs.Text.{clashes_text}
-use Rattle.view_line.specs.declared.line.RunView.{RunView}
-use Rattle.view_line.specs.declared.line.RunView.TheVariants.{Timeline, Tasks, Schedules, Races as RacesView}
-use Rattle.refusal_replies.specs.below.whole_call.{AnswerStatus, Done, Trace, Races, Reply, Says}
+use Rattle.view_core.specs.Common.{ProgramText, SettingsValue, EntryValue, RefusedAt, refused_as_run, end_line, ImageFault, image_fault, InputFault, TraceInput, input_fault, settings_for, IsInput, Entry, Image, refusal_of, Refuses, graph_of, timeline, table, log_of, Clashes, Verdict, Agree, AgreeButForPrints, MayDiffer, IsAnswer, verdict_of, clashes_text, RunView, Timeline, Tasks, Schedules, Log, AnswerStatus, Done, Trace, Races, Reply, Says}
+use Rattle.view_arguments.specs.declared.line.RunView.TheVariants.{Races as RacesView}
 use Rattle.view_core.specs.Races.{ShowsRaces}
 
 -- HEAPS
 
 -- the graph of a sound image, or its first fault
-abbrev pub ShowsImage : Option ℕ → ℕ → List ℕ → Option Fault → Reply → Type 0
+abbrev pub ShowsImage : Option ℕ → ℕ → List ℕ → Option ImageFault → Reply → Type 0
 ShowsImage p limit input None = Says Done (graph_of p limit input)
 ShowsImage p limit input (Some f) = Refuses (Image f)
 
@@ -55,6 +39,7 @@ ShowsJournal Timeline input p s journal = Says Done (timeline p s journal)
 ShowsJournal Tasks input p s journal = Says Done (table p s journal)
 ShowsJournal Schedules input p s journal = ShowsSchedules p s journal
 ShowsJournal RacesView input p s journal = ShowsRaces input p s journal
+ShowsJournal Log input p s journal = Says Done (log_of p s journal)
 
 -- that of a journal that has an end, or its first refused entry, or that it is short
 abbrev pub ShowsWhole : (Reply → Type 0) → Option RefusedAt → Reply → Type 0

@@ -8,7 +8,7 @@ use refusal_replies::{AnswerStatus, Refusal, Reply, refused};
 use run_page::{Entry, InputError, Program, Settings, TraceInput, page_of, read_trace_input};
 use std::alloc::{AllocError, Global};
 use task_table::ReplayError;
-use view_line::{InputFile, PageTitle};
+use view_arguments::{InputFile, PageTitle};
 
 /// A page has at most so many entries.
 const MOST_ENTRIES: usize = 20_000;

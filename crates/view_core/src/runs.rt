@@ -9,10 +9,11 @@ ghost use Rattle.view_core.specs.Shown.{ShowsJournal, ShowsTrace, ShowsRun};
 use crate::races::show_races;
 use crate::schedules::show_schedules;
 use refusal_replies::{AnswerStatus, Refusal, Reply, refused};
+use run_log::log_text;
 use run_page::{Entry, InputError, Program, Settings, TraceInput, read_trace_input};
 use std::alloc::{AllocError, Global};
 use task_table::{ReplayError, table_text, timeline_text};
-use view_line::RunView;
+use view_arguments::RunView;
 
 // A picture of a run.
 fn picture(text: Vec<u8>) -> Reply
@@ -39,6 +40,7 @@ fn show_journal(
         RunView::Tasks => Ok(picture(table_text(alloc, program, settings, journal)?)),
         RunView::Schedules => show_schedules(alloc, program, settings, journal),
         RunView::Races => show_races(alloc, input, program, settings, journal),
+        RunView::Log => Ok(picture(log_text(alloc, program, settings, journal)?)),
     }
 }
 

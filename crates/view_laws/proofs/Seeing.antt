@@ -1,16 +1,16 @@
 -- The laws of what tasks see.
 use Rattle.std.proofs.Common.{◌≡◌, ℕ, false, Some, List, [], ◌∷◌, ◌⊎◌, inl, inr, slice_get, ap, sym, subst, ◌∙◌}
 use Rattle.std.proofs.lemmas.Option.{same_Some}
-use Rattle.shared_value.specs.below.listed.{In as InList}
-use Rattle.shared_value.specs.below.hh_lang.{ProgramText}
-use Rattle.shared_value.specs.below.hh_model.{Name, State, object_at, refs_of, start}
-use Rattle.shared_value.proofs.below.hh_model.{named_from_in, run_on}
-use Rattle.shared_value.proofs.below.path_laws.{objects_stay}
-use Rattle.shared_value.specs.below.run_ledger.{Ledger, ledger_of, Keeps, SoundLedger, collecting, task_steps}
-use Rattle.shared_value.proofs.below.run_ledger.{task_steps_sound}
-use Rattle.shared_value.proofs.below.ledger_step_laws.{legal_knows}
-use Rattle.shared_value.specs.below.task_machine.{Runs}
-use Rattle.shared_value.proofs.PartFitsMachine as link
+use Rattle.core_invariant.specs.below.plain_vec.{In as InList}
+use Rattle.core_invariant.specs.below.hh_lang.{ProgramText}
+use Rattle.core_invariant.specs.below.hh_model.{Name, MachineState, object_at, refs_of, start}
+use Rattle.core_invariant.proofs.below.hh_model.{named_from_in, run_on}
+use Rattle.core_invariant.proofs.below.path_laws.{objects_stay}
+use Rattle.core_invariant.specs.below.run_ledger.{Ledger, ledger_of, Keeps, SoundLedger, collecting, task_steps}
+use Rattle.core_invariant.proofs.below.run_ledger.{task_steps_sound}
+use Rattle.core_invariant.proofs.below.ledger_step_laws.{legal_knows}
+use Rattle.core_invariant.specs.below.task_machine.{Runs}
+use Rattle.core_invariant.proofs.PartFitsMachine as link
 use Rattle.view_laws.specs.Laws.{FrozenStay, LeadTo, ReadsStay, SeenNamesAreHeld}
 
 -- ---- IMMUTABLE OBJECTS
@@ -18,7 +18,7 @@ use Rattle.view_laws.specs.Laws.{FrozenStay, LeadTo, ReadsStay, SeenNamesAreHeld
 pub frozen_stay : FrozenStay
 frozen_stay p limit ts more n o is frozen =
     let r = objects_stay p limit ts more n o is in
-    ap (λ (m : State). object_at m.store n) (run_on p ts more (start p limit)) ∙ (r.1 ∙ ap Some (r.2.frozen frozen))
+    ap (λ (m : MachineState). object_at m.store n) (run_on p ts more (start p limit)) ∙ (r.1 ∙ ap Some (r.2.frozen frozen))
 
 -- ---- HELD NAMES
 

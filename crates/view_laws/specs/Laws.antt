@@ -1,35 +1,35 @@
--- What tasks see of the heaps above them: what they see is never written and refers only up; all of it is held; no
--- level is hidden where it would be looked up; and reads of it come to the same whatever others do.
+-- What tasks see of their ancestors' heaps: it is never written and refers only up; all of it is held; no level is
+-- hidden where it would be looked up; and reads of it have the same result whatever others do.
 use Rattle.std.specs.Prelude.{◌≡◌, ◌≢◌, ◌⊎◌, ℕ, suc, ◌<◌, ◌++◌, true, false, Some, None, List, [], ◌∷◌, drop, slice_get}
-use Rattle.shared_value.specs.below.listed.{In as InList}
-use Rattle.shared_value.specs.below.hh_lang.{ProgramText}
-use Rattle.shared_value.specs.below.hh_model.{Name, Object, Task, object_at, task_names, run}
-use Rattle.shared_value.specs.below.run_trace.{EntryValue, SettingsValue}
-use Rattle.shared_value.specs.below.run_ledger.{Ledger, is_legal, ledger_of, Keeps, collecting, task_steps}
-use Rattle.shared_value.specs.below.object_layout.{Located}
-use Rattle.shared_value.specs.below.core_relation.{Chunk, In, Memory, objects, HasNumber}
-use Rattle.shared_value.specs.below.task_machine.{Private, Ran, Runs}
-use Rattle.shared_value.specs.SharedValue.{SharedValue, accounts, value_of}
-use Rattle.shared_value.specs.Stands.{IsSharedValue}
-use Rattle.shared_value.specs.Fits.{Fits, OthersFit, beyond}
-use Rattle.shared_value.specs.Links.{above_of}
+use Rattle.core_invariant.specs.below.plain_vec.{In as InList}
+use Rattle.core_invariant.specs.below.hh_lang.{ProgramText}
+use Rattle.core_invariant.specs.below.hh_model.{Name, Object, Task, object_at, task_names, run}
+use Rattle.core_invariant.specs.below.run_trace.{EntryValue, SettingsValue}
+use Rattle.core_invariant.specs.below.run_ledger.{Ledger, is_legal, ledger_of, Keeps, collecting, task_steps}
+use Rattle.core_invariant.specs.below.object_layout.{Located}
+use Rattle.core_invariant.specs.below.refinement.{Chunk, In, Memory, objects, HasNumber}
+use Rattle.core_invariant.specs.below.task_machine.{Private, Ran, Runs}
+use Rattle.core_invariant.specs.SharedValue.{SharedValue, accounts, value_of}
+use Rattle.core_invariant.specs.Stands.{IsSharedValue}
+use Rattle.core_invariant.specs.Fits.{Fits, OthersFit, beyond}
+use Rattle.core_invariant.specs.Links.{above_of}
 
 -- ---- IMMUTABLE OBJECTS
 
--- whatever steps follow, such an object stays as it is
+-- whatever steps follow, such an object doesn't change
 abbrev pub FrozenStay : Type 0
 FrozenStay =
     (p : ProgramText) (limit : ℕ) (ts more : List ℕ) (n : Name) (o : Object) → object_at (run p limit ts).store n ≡ Some o → o.mutable ≡ false → object_at (run p limit (ts ++ more)).store n ≡ Some o
 
 -- ---- HELD NAMES
 
--- references lead from the one name to the other by way of these, one after another
+-- references lead from the one name to the other through these, one after another
 abbrev pub LeadTo : List (List Object) → Name → List Name → Name → Type 0
 LeadTo store n [] k = n ≡ k
 LeadTo store n (m ∷ ms) k = (o : Object) × (object_at store n ≡ Some o) × InList o.refs (Some m) × LeadTo store m ms k
 
--- after a legal journal and further steps of a task, none or any where it is amid no leaf collection, some heap's
--- account has each name to which references lead from those that the task holds
+-- after a legal journal and further steps of a task (none if it is in a leaf collection), each name to which references
+-- lead from those that the task holds is in some heap's account
 abbrev pub SeenNamesAreHeld : Type 0
 SeenNamesAreHeld =
     (p : ProgramText) (s : SettingsValue) (journal : List EntryValue) (t k : ℕ) → is_legal p s journal ≡ true → (k ≡ 0) ⊎ (collecting (slice_get (ledger_of p s journal).heaps t) ≡ false)
@@ -38,8 +38,8 @@ SeenNamesAreHeld =
 
 -- ---- LEVELS
 
--- u, which waits above t, has given a level of its view, behind which stand just those that u sees; an object of u's
--- lies in no chunk that a nearer level has, and in none of t's own
+-- u, an ancestor of t that waits, has given a level of its view, after which come exactly those that u sees; an object
+-- of u's is in no chunk that a nearer level has, and in none of t's own
 pub record IsApart (v : Memory) (u t : ℕ) : Type 0 where
   pub place : ℕ
   pub behind : drop (suc place) (v.belongings t).view ≡ (v.belongings u).view
@@ -48,7 +48,7 @@ pub record IsApart (v : Memory) (u t : ℕ) : Type 0 where
 
 -- ---- READS
 
--- the steps that made q of p are those of the machine after this journal
+-- the steps from p to q are those of the machine after this journal
 abbrev pub AreSteps : SharedValue → Private → ℕ → Private → Type 0
 AreSteps w p n q = Ran w.program p (beyond w.program (accounts w) p).machine (above_of (value_of w) (accounts w) p.task) n q
 

@@ -7,13 +7,14 @@ pub fn frozen_stay()
     ensures { FrozenStay }
 {}
 
-/// Each name that a task holds, or that is reached from there, is in the account of some heap: so nothing that was
+/// Each name that a task holds, or that is reachable from there, is in the account of some heap: so nothing that was
 /// swept is looked up.
 pub fn seen_names_are_held()
     ensures { SeenNamesAreHeld }
 {}
 
-/// Private steps come to the same before and after each entry of another worker, those that read what a view shows too.
+/// Private steps have the same result before and after each entry of another worker, including those that read what a
+/// view shows.
 pub fn reads_stay()
     ensures { ReadsStay }
 {}

@@ -1,4 +1,4 @@
-// What tasks see of the heaps above them stays as they see it.
+// What tasks see of their ancestors' heaps doesn't change.
 #![tactic(auto)]
 
 mod laws;

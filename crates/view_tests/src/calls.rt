@@ -1,6 +1,6 @@
 // Calls of the view, and what they write.
 
-use outside_io::{MemSink, MemSource};
+use io_traits::{MemSink, MemSource};
 use std::alloc::{AllocError, Global};
 use std::process::Abort;
 use view_core::view;

@@ -52,6 +52,20 @@ const ENTANGLES: &str =
 
 const RUNS: &[Call] = &[
     (
+        "log",
+        ENTANGLES,
+        0,
+        "hhlog 1\n@ 5 left:5\n@ 10 right:10\ns 0 0\nk 2\ns 0 0\nk 2\na 1 1\n+ 1\n+ 2\ns 1 0\nk 2\ns 1 0\nk 2\na 1000000001 1\np 1 0 1000000001 @5\ns 1 0\nk 1\n.\ns 2 0\nk 2\ng 1 0 1000000001 @10\n",
+        "",
+    ),
+    (
+        "log --workers 2",
+        "fn leaf\nset i1 0\ncas i0 r0 i1 r1 r0\nend\nfn main\nset i0 1\nnewm r0 i0 i0\npar leaf leaf\ngeti i2 r0 i1\nend\ntrace 2\n0 took 0\n0 ran 0 1\n0 chunk 0\n0 ran 0 2\n0 took 1\n0 ran 1 2\n0 ran 1 1\n0 took 2\n0 ran 2 2\n0 ran 2 1\n0 took 0\n0 ran 0 2\n",
+        0,
+        "hhlog 1\n@ 3 leaf:3\n@ 9 main:9\ns 0 0\nk 1\ns 0 0\nk 2\na 1 2\n+ 1\n+ 2\ns 1 0\nk 2\nW 1 0 @3\ns 1 0\nk 1\n.\ns 2 0\nk 2\nR 1 0 @3\ns 2 0\nk 1\n.\ns 0 2\n- 1\n- 2\ns 0 4\nk 2\nr 1 1 @9\n.\nend\n",
+        "",
+    ),
+    (
         "tasks --workers 2",
         ENTANGLES,
         0,
@@ -164,7 +178,7 @@ fn usage_is_shown(rt: HostRuntime) {
             "--help",
             "",
             0,
-            "usage: hhview heaps [FILE] [--path T] [--limit N]\n       hhview page [FILE] [OPTIONS] [--title WORDS]\n       hhview timeline [FILE] [OPTIONS]\n       hhview tasks [FILE] [OPTIONS]\n       hhview schedules [FILE] [OPTIONS]\n       hhview races [FILE] [OPTIONS]\n       hhview faults [FILE] [--json]\nOPTIONS are those of hheap replay: --workers N, --fuel N, --chunks N, --leaf N, --inner N\n",
+            "usage: hhview heaps [FILE] [--path T] [--limit N]\n       hhview page [FILE] [OPTIONS] [--title WORDS]\n       hhview timeline [FILE] [OPTIONS]\n       hhview tasks [FILE] [OPTIONS]\n       hhview schedules [FILE] [OPTIONS]\n       hhview races [FILE] [OPTIONS]\n       hhview log [FILE] [OPTIONS]\n       hhview faults [FILE] [--json]\nOPTIONS are those of hheap replay: --workers N, --fuel N, --chunks N, --leaf N, --inner N\n",
             "",
         )],
     );

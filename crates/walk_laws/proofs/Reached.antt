@@ -1,4 +1,4 @@
--- Laws of what walks lead to, for any sets and edges.
+-- Laws of reachability by walks, for any sets and edges.
 use Rattle.std.specs.Prelude.{ℕ, zero, suc}
 use Rattle.walk_laws.specs.Reached.{IsWalk, IsReached}
 use Rattle.walk_laws.specs.Laws.{ReachedIsLeast, Passes, Links}
@@ -10,7 +10,7 @@ module _ {A : Type 0} (starts : A → Type 0) (leads : A → A → Type 0) where
   pub reached_more : (m a : A) → IsReached starts leads m → leads m a → IsReached starts leads a
   reached_more m a w e = (suc w.0, (m, w.1, e))
 
-  -- a set with the starts that no edge leaves
+  -- every closed set that contains the starts contains what is reached
   pub reached_within : (P : A → Type 0) → ((a : A) → starts a → P a) → ((m a : A) → P m → leads m a → P a)
       → (a : A) → IsReached starts leads a → P a
   reached_within P first more a w = along w.0 a w.1

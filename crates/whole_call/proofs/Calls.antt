@@ -3,12 +3,12 @@ use Rattle.std.proofs.Common.{◌≡◌, ◌∙◌, ℕ, List, [], take, refl, s
 use Rattle.std.specs.Prelude.{◌≢◌, Option, Some, None, Result, Ok, Err, IfOk}
 use Rattle.std.specs.declared.alloc.AllocError.{AllocError}
 use Rattle.std.proofs.lemmas.List.{length-take}
-use Rattle.outside_io.specs.Fault.{HasRisen}
-use Rattle.whole_call.specs.declared.status.Status.{Status}
-use Rattle.whole_call.specs.declared.status.Status.TheVariants.{ReadFault, WriteFault, NoMemory}
+use Rattle.io_traits.specs.Fault.{HasRisen}
+use Rattle.whole_call.specs.declared.status.CallStatus.{CallStatus}
+use Rattle.whole_call.specs.declared.status.CallStatus.TheVariants.{ReadFault, WriteFault, NoMemory}
 use Rattle.whole_call.specs.declared.reply.Reply.{Reply}
 use Rattle.whole_call.specs.Input.{Reads, ReadsNothing, ReadsUpTo, SourceState, IsInputOf, HasTaken, HasRead, bytes_for, most_of}
-use Rattle.whole_call.specs.Streams.{Streams, Ends, Gives}
+use Rattle.whole_call.specs.Streams.{Streams, Ends, WritesReply}
 use Rattle.whole_call.specs.Call.{IsCall, IsCallWith}
 
 -- INPUTS
@@ -65,7 +65,7 @@ module _ {A : Type 0} (IsInput Ends : A → Type 0) (ReadsNone Taken WriteFails 
   }
 
   -- the input was read and answered
-  pub call_with_input : (status : Status) (input : A) → IsInput input → Taken → Ends input → status ≢ ReadFault → (status ≡ WriteFault → WriteFails) → IsCallWith IsInput Ends ReadsNone Taken WriteFails status before after
+  pub call_with_input : (status : CallStatus) (input : A) → IsInput input → Taken → Ends input → status ≢ ReadFault → (status ≡ WriteFault → WriteFails) → IsCallWith IsInput Ends ReadsNone Taken WriteFails status before after
   call_with_input status input is taken ends none fails = record {
     answered = (input, is, ends);
     taken = λ r m. taken;
@@ -88,7 +88,7 @@ module _ (reads : Reads) (Ends : List ℕ → Type 0) (WriteFails : Type 0) (bef
       call_without_input (IsInputOf reads before) Ends (reads ≡ ReadsNothing) (HasTaken reads before after) WriteFails before after at.0 at.1 (ends at.0) some risen
 
   -- the input was read and answered
-  pub with_input : (status : Status) (input : List ℕ) → HasRead reads before after input → Ends input → status ≢ ReadFault → (status ≡ WriteFault → WriteFails) → IsCall reads Ends WriteFails status before after
+  pub with_input : (status : CallStatus) (input : List ℕ) → HasRead reads before after input → Ends input → status ≢ ReadFault → (status ≡ WriteFault → WriteFails) → IsCall reads Ends WriteFails status before after
   with_input status input read ends none fails =
       call_with_input (IsInputOf reads before) Ends (reads ≡ ReadsNothing) (HasTaken reads before after) WriteFails before after status input read.is read.taken ends none fails
 
@@ -102,7 +102,7 @@ nothing_read before = record {
 -- STREAMS
 
 -- with the reply that was made, or out of memory
-pub gives_ends : (P : Reply → Type 0) (found : Result Reply AllocError) (status : Status) (before after : Streams) → IfOk found P → Gives found status before after → Ends P status before after
+pub gives_ends : (P : Reply → Type 0) (found : Result Reply AllocError) (status : CallStatus) (before after : Streams) → IfOk found P → WritesReply found status before after → Ends P status before after
 gives_ends P (Ok r) status before after is given = inr (r, is, given)
 gives_ends P (Err e) status before after is given = inl (record { cause = inr given.0; nothing = given.1 })
 

@@ -1,8 +1,8 @@
 -- What was read of a source.
 use Rattle.std.proofs.Common.{◌≡◌, ◌≤◌, ◌+◌, ℕ, List, length, drop, Vec, Global}
 use Rattle.std.specs.Prelude.{Option, Some, Result, Ok, Err, IfOk, OnOk}
-use Rattle.all_bytes.specs.declared.read.ReadError.{ReadError}
-use Rattle.all_bytes.specs.Bytes.{input_of, source_bytes}
+use Rattle.read_write_all.specs.declared.read.ReadError.{ReadError}
+use Rattle.read_write_all.specs.Bytes.{input_of, source_bytes}
 use Rattle.whole_call.specs.Input.{HasRead, ReadsUpTo, SourceState}
 
 -- within the limit, the first bytes of all that the source has, which were taken

@@ -1,12 +1,12 @@
 -- A whole call.
 use Rattle.std.specs.Prelude.{◌≡◌, ◌≢◌, ℕ, List}
-use Rattle.outside_io.specs.Fault.{HasRisen}
-use Rattle.whole_call.specs.declared.status.Status.{Status}
-use Rattle.whole_call.specs.declared.status.Status.TheVariants.{ReadFault, WriteFault, NoMemory}
+use Rattle.io_traits.specs.Fault.{HasRisen}
+use Rattle.whole_call.specs.declared.status.CallStatus.{CallStatus}
+use Rattle.whole_call.specs.declared.status.CallStatus.TheVariants.{ReadFault, WriteFault, NoMemory}
 use Rattle.whole_call.specs.Input.{Reads, ReadsNothing, SourceState, IsInputOf, HasTaken}
 
 -- a call that has an input in A ended so: by its input, whose end `Ends` says; and with a fault only if one occurred
-pub record IsCallWith {A : Type 0} (IsInput Ends : A → Type 0) (ReadsNone Taken WriteFails : Type 0) (status : Status) (before after : SourceState) : Type 0 where
+pub record IsCallWith {A : Type 0} (IsInput Ends : A → Type 0) (ReadsNone Taken WriteFails : Type 0) (status : CallStatus) (before after : SourceState) : Type 0 where
   -- it answered some input, whatever the source has
   pub answered : (input : A) × IsInput input × Ends input
   -- which it took whole, unless reading or an allocation failed; a source that isn't read is unchanged in any case
@@ -18,6 +18,6 @@ pub record IsCallWith {A : Type 0} (IsInput Ends : A → Type 0) (ReadsNone Take
   pub write_fault : status ≡ WriteFault → WriteFails
 
 -- a call that reads this
-abbrev pub IsCall : Reads → (List ℕ → Type 0) → Type 0 → Status → SourceState → SourceState → Type 0
+abbrev pub IsCall : Reads → (List ℕ → Type 0) → Type 0 → CallStatus → SourceState → SourceState → Type 0
 IsCall reads Ends WriteFails status before after =
     IsCallWith (IsInputOf reads before) Ends (reads ≡ ReadsNothing) (HasTaken reads before after) WriteFails status before after

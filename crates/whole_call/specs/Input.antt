@@ -1,6 +1,6 @@
 -- The input of a call: whose bytes it is, the most bytes read, and what is left of them.
 use Rattle.std.specs.Prelude.{◌≡◌, ◌≤◌, ◌+◌, ℕ, List, [], Option, Some, length, take, drop}
-use Rattle.all_bytes.specs.Bytes.{source_bytes}
+use Rattle.read_write_all.specs.Bytes.{source_bytes}
 
 -- a call reads nothing; or a file, or, if none is named, standard input, up to one byte past a limit
 pub data Reads : Type 0 where

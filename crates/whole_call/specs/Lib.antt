@@ -1,4 +1,4 @@
-pub mod Status
+pub mod CallStatus
 pub mod Input
 pub mod Output
 pub mod Streams

@@ -3,8 +3,8 @@ use Rattle.std.specs.Prelude.{◌≡◌, ◌⊎◌, ℕ, List, Option, Result, O
 use Rattle.std.specs.declared.alloc.AllocError.{AllocError}
 use Rattle.whole_call.specs.declared.status.AnswerStatus.{AnswerStatus}
 use Rattle.whole_call.specs.declared.status.AnswerStatus.TheVariants.{Done, Races, CutOff}
-use Rattle.whole_call.specs.declared.status.Status.{Status}
-use Rattle.whole_call.specs.declared.status.Status.TheVariants.{NoMemory}
+use Rattle.whole_call.specs.declared.status.CallStatus.{CallStatus}
+use Rattle.whole_call.specs.declared.status.CallStatus.TheVariants.{NoMemory}
 use Rattle.whole_call.specs.declared.reply.Reply.{Reply}
 use Rattle.whole_call.specs.declared.streams.Stream.{Stream}
 use Rattle.whole_call.specs.declared.streams.Stream.TheVariants.{Out, Error}
@@ -23,18 +23,18 @@ stream_of CutOff = Out
 stream_of _ = Error
 
 -- a reply was written to a stream, and nothing to the other one
-abbrev pub WroteTo : Stream → Reply → Status → Streams → Streams → Type 0
+abbrev pub WroteTo : Stream → Reply → CallStatus → Streams → Streams → Type 0
 WroteTo Out r status before after = Wrote r status before.out after.out × (after.error ≡ before.error)
 WroteTo Error r status before after = Wrote r status before.error after.error × (after.out ≡ before.out)
 
-abbrev pub Delivers : Reply → Status → Streams → Streams → Type 0
+abbrev pub Delivers : Reply → CallStatus → Streams → Streams → Type 0
 Delivers r = WroteTo (stream_of r.status) r
 
 -- a reply that was made was written, or an allocation failed
-abbrev pub Gives : Result Reply AllocError → Status → Streams → Streams → Type 0
-Gives (Ok r) status before after = Delivers r status before after
-Gives (Err e) status before after = (status ≡ NoMemory) × (after ≡ before)
+abbrev pub WritesReply : Result Reply AllocError → CallStatus → Streams → Streams → Type 0
+WritesReply (Ok r) status before after = Delivers r status before after
+WritesReply (Err e) status before after = (status ≡ NoMemory) × (after ≡ before)
 
 -- a reply with P was written; or reading or an allocation failed, and nothing was written
-abbrev pub Ends : (Reply → Type 0) → Status → Streams → Streams → Type 0
+abbrev pub Ends : (Reply → Type 0) → CallStatus → Streams → Streams → Type 0
 Ends P status before after = EndsSilent status before after ⊎ ((r : Reply) × P r × Delivers r status before after)

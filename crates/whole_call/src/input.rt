@@ -2,11 +2,11 @@
 
 ghost use Rattle.std.specs.Prelude.{◌≡◌, ◌≤◌, IfOk, IfErr, option_map};
 ghost use Rattle.text_lines.specs.Lines.{most_bytes};
-ghost use Rattle.outside_io.specs.Fault.{HasRisen};
+ghost use Rattle.io_traits.specs.Fault.{HasRisen};
 ghost use Rattle.whole_call.specs.Input.{HasRead, ReadsUpTo};
 
-use all_bytes::{ReadError, read_file};
-use outside_io::Source;
+use io_traits::Source;
+use read_write_all::{ReadError, read_file};
 use std::alloc::Global;
 
 /// Reads a file, or, if none is named, what is left of the source, up to one byte past the limit.

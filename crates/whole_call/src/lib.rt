@@ -10,6 +10,6 @@ mod words;
 
 pub use input::read_up_to;
 pub use reply::Reply;
-pub use status::{AnswerStatus, Status};
+pub use status::{AnswerStatus, CallStatus};
 pub use streams::give;
 pub use words::{exit_code, words_after_name, words_of_call};

@@ -1,13 +1,13 @@
 // What to write, and how it is written.
 
 ghost use Rattle.std.specs.Prelude.{◌≡◌, string_bytes};
-ghost use Rattle.outside_io.specs.Fault.{HasRisen};
+ghost use Rattle.io_traits.specs.Fault.{HasRisen};
 ghost use Rattle.whole_call.specs.Output.{Says, Wrote};
 
-use crate::status::{AnswerStatus, Status};
-use all_bytes::write_all;
-use listed::Listed;
-use outside_io::{Failed, Sink};
+use crate::status::{AnswerStatus, CallStatus};
+use io_traits::{Failed, Sink};
+use plain_vec::Listed;
+use read_write_all::write_all;
 
 /// What to write, with its status.
 #[derive(Drop)]
@@ -35,13 +35,13 @@ impl Reply {
     }
 
     /// Writes it to a sink, and returns how that ended.
-    pub fn write<K: Sink>(&self, sink: &mut K) -> Status
+    pub fn write<K: Sink>(&self, sink: &mut K) -> CallStatus
         ensures wrote { Wrote self.now result (K.written sink.old) (K.written sink.new) }
-        ensures fault { result ≡ Status.WriteFault → HasRisen (K.faults sink.old) (K.faults sink.new) }
+        ensures fault { result ≡ CallStatus.WriteFault → HasRisen (K.faults sink.old) (K.faults sink.new) }
     {
         match write_all(sink, self.bytes.as_slice()) {
-            Ok(()) => Status::Answered(self.status),
-            Err(Failed) => Status::WriteFault,
+            Ok(()) => CallStatus::Answered(self.status),
+            Err(Failed) => CallStatus::WriteFault,
         }
     }
 }

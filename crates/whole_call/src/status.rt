@@ -1,7 +1,7 @@
 // Statuses.
 
 ghost use Rattle.std.specs.Prelude.{◌≡◌};
-ghost use Rattle.whole_call.specs.Status.{code_of_answer, code_of_status};
+ghost use Rattle.whole_call.specs.CallStatus.{code_of_answer, code_of_status};
 
 /// How the command-line arguments, or the input, were answered.
 #[derive(Clone, Copy)]
@@ -16,7 +16,7 @@ pub enum AnswerStatus {
     Trap,
     /// A run ended by a read of a concurrent task's object.
     Entangled,
-    /// A run ended because its fuel was spent.
+    /// A run ended because its fuel was used up.
     Fuel,
     /// A run ended because too few chunks were free.
     Pool,
@@ -32,7 +32,7 @@ pub enum AnswerStatus {
 
 /// How a call ended.
 #[derive(Clone, Copy)]
-pub enum Status {
+pub enum CallStatus {
     /// All of the answer was written.
     Answered(AnswerStatus),
     /// Reading failed; nothing was written.
@@ -64,16 +64,16 @@ impl AnswerStatus {
     }
 }
 
-impl Status {
+impl CallStatus {
     /// The exit status.
     pub fn code(self) -> u8
         ensures { result ≡ code_of_status self }
     {
         match self {
-            Status::Answered(status) => status.code(),
-            Status::ReadFault => 8,
-            Status::WriteFault => 9,
-            Status::NoMemory => 10,
+            CallStatus::Answered(status) => status.code(),
+            CallStatus::ReadFault => 8,
+            CallStatus::WriteFault => 9,
+            CallStatus::NoMemory => 10,
         }
     }
 }

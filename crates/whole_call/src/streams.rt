@@ -1,12 +1,12 @@
 // Where a reply is written.
 
 ghost use Rattle.std.specs.Prelude.{◌≡◌, ◌≢◌, ◌⊎◌};
-ghost use Rattle.outside_io.specs.Fault.{HasRisen};
-ghost use Rattle.whole_call.specs.Streams.{Delivers, Gives, stream_of};
+ghost use Rattle.io_traits.specs.Fault.{HasRisen};
+ghost use Rattle.whole_call.specs.Streams.{Delivers, WritesReply, stream_of};
 
 use crate::reply::Reply;
-use crate::status::{AnswerStatus, Status};
-use outside_io::Sink;
+use crate::status::{AnswerStatus, CallStatus};
+use io_traits::Sink;
 use std::alloc::AllocError;
 
 // Where something is written.
@@ -27,9 +27,9 @@ fn stream_of(status: AnswerStatus) -> Stream
 }
 
 // Writes a report to standard output, and a refusal to standard error.
-fn deliver<K: Sink, E: Sink>(reply: &Reply, out: &mut K, error: &mut E) -> Status
+fn deliver<K: Sink, E: Sink>(reply: &Reply, out: &mut K, error: &mut E) -> CallStatus
     ensures delivered { Delivers reply.now result (record { out = K.written out.old; error = E.written error.old }) (record { out = K.written out.new; error = E.written error.new }) }
-    ensures fault { result ≡ Status.WriteFault → HasRisen (K.faults out.old) (K.faults out.new) ⊎ HasRisen (E.faults error.old) (E.faults error.new) }
+    ensures fault { result ≡ CallStatus.WriteFault → HasRisen (K.faults out.old) (K.faults out.new) ⊎ HasRisen (E.faults error.old) (E.faults error.new) }
 {
     match stream_of(reply.status) {
         Stream::Out => reply.write(out),
@@ -42,13 +42,13 @@ pub fn give<K: Sink, E: Sink>(
     found: Result<Reply, AllocError>,
     out: &mut K,
     error: &mut E,
-) -> Status
-    ensures given { Gives found result (record { out = K.written out.old; error = E.written error.old }) (record { out = K.written out.new; error = E.written error.new }) }
-    ensures read { result ≢ Status.ReadFault }
-    ensures fault { result ≡ Status.WriteFault → HasRisen (K.faults out.old) (K.faults out.new) ⊎ HasRisen (E.faults error.old) (E.faults error.new) }
+) -> CallStatus
+    ensures given { WritesReply found result (record { out = K.written out.old; error = E.written error.old }) (record { out = K.written out.new; error = E.written error.new }) }
+    ensures read { result ≢ CallStatus.ReadFault }
+    ensures fault { result ≡ CallStatus.WriteFault → HasRisen (K.faults out.old) (K.faults out.new) ⊎ HasRisen (E.faults error.old) (E.faults error.new) }
 {
     match found {
         Ok(reply) => deliver(&reply, out, error),
-        Err(AllocError) => Status::NoMemory,
+        Err(AllocError) => CallStatus::NoMemory,
     }
 }

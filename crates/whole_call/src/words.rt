@@ -3,9 +3,9 @@
 ghost use Rattle.std.specs.Prelude.{◌≡◌, IfOk, drop};
 ghost use Rattle.std.specs.Process.{exit_status};
 ghost use Rattle.std.specs.Vec.Iter.{into_iter_items};
-ghost use Rattle.whole_call.specs.Status.{code_of_status};
+ghost use Rattle.whole_call.specs.CallStatus.{code_of_status};
 
-use crate::status::Status;
+use crate::status::CallStatus;
 use std::alloc::{AllocError, Global};
 use std::env::Args;
 use std::io::ErrorKind;
@@ -53,7 +53,7 @@ pub fn words_after_name(words: &[String]) -> &[String]
 }
 
 /// The exit status of a call.
-pub fn exit_code(status: Status) -> ExitCode
+pub fn exit_code(status: CallStatus) -> ExitCode
     ensures { exit_status result ≡ code_of_status status }
 {
     ExitCode::from(status.code())

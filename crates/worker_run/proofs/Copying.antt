@@ -1,22 +1,5 @@
 -- The copy of a part whose collection has begun.
-use Rattle.std.proofs.Common.{◌≡◌, ℕ, All, List, map, ap, sym, subst, ◌∙◌}
-use Rattle.copied_part_laws.specs.below.hh_lang.{ProgramText}
-use Rattle.copied_part_laws.specs.below.object_layout.{ChunkValue, number_of}
-use Rattle.copied_part_laws.specs.below.alloc_path.{LeafHeapValue}
-use Rattle.copied_part_laws.specs.below.task_frames.{FramesValue}
-use Rattle.copied_part_laws.specs.below.leaf_copy_gc.{Moved, ToChunks, CanTake, IsCollected, IsSound, as_reference}
-use Rattle.copied_part_laws.specs.below.ledger_step_laws.{aside}
-use Rattle.copied_part_laws.specs.below.task_machine.{Begun, Private}
-use Rattle.copied_part_laws.specs.below.shared_value.{Fits, HasBegun, SharedValue, accounts, value_of}
-use Rattle.copied_part_laws.proofs.below.shared_value.{status}
-use Rattle.copied_part_laws.specs.below.leaf_collections.{FitsCopied}
-use Rattle.copied_part_laws.specs.Copied.{CanCopy}
-use Rattle.copied_part_laws.specs.Handed.{IsCopying}
-use Rattle.copied_part_laws.proofs.CopyBegins.{begun_is_copying}
-use Rattle.copied_part_laws.proofs.CopyHanded.{begun, copied_fits}
-use Rattle.copied_part_laws.proofs.CopySays.{begun_can_copy}
-use Rattle.turn_entries.specs.declared.between_turns.Collecting.{Collecting}
-use Rattle.turn_entries.specs.Parts.{MayCopy, RunGoesOn}
+use Rattle.worker_run.proofs.Common.{◌≡◌, ℕ, All, List, map, ap, sym, subst, ◌∙◌, ProgramText, ChunkValue, number_of, LeafHeapValue, FramesValue, Moved, ToChunks, CanTake, IsCollected, IsSoundReference, as_reference, aside, Begun, Private, Fits, HasBegun, SharedValue, accounts, value_of, status, FitsCopied, CanCopy, IsCopying, begun_is_copying, begun, copied_fits, begun_can_copy, Collecting, MayCopy, RunGoesOn}
 
 module _ (p : ProgramText) (w : SharedValue) (k : ℕ) (c : Collecting) (G : RunGoesOn p w) (M : MayCopy w k c) where
   abbrev news : List ChunkValue
@@ -35,7 +18,7 @@ module _ (p : ProgramText) (w : SharedValue) (k : ℕ) (c : Collecting) (G : Run
   can_copy =
       begun_can_copy w.program w.settings c.part.task c.part.heap c.part.view c.part.allocations c.part.frames (record { roots = c.roots.items; news = map number_of news }) news (value_of w) (aside (accounts w)) M.fits.fits.task
       (begun w k c.part b news copying) M.fits.fits.is (status w k c.part G.shared M.fits G.goes)
-      (subst (λ ks. All (IsSound ks) (map as_reference c.roots.items)) (sym (ap (λ (q : Private). q.heap.chunks) M.begun.part)) M.begun.sound)
+      (subst (λ ks. All (IsSoundReference ks) (map as_reference c.roots.items)) (sym (ap (λ (q : Private). q.heap.chunks) M.begun.part)) M.begun.sound)
 
   pub copied : (h' : LeafHeapValue) (frames' : FramesValue) (moved : Moved) → IsCollected c.part.heap c.part.frames c.roots.items news h' frames' moved → FitsCopied w k (record c.part { heap = h'; frames = frames' }) moved
   copied h' frames' moved D = copied_fits w k c.part b news copying h' frames' moved D

@@ -1,24 +1,9 @@
--- What becomes of tasks at a worker's hand.
-use Rattle.std.proofs.Common.{◌≡◌, ◌≢◌, ◌⊎◌, inl, inr, ℕ, zero, suc, ◌+◌, ◌-◌, ◌*◌, ◌/◌, ◌%◌, ◌<◌, ◌≤◌, List, [], ◌∷◌, length, slice_get, slice_index_or, slice_set, get_or, refl, sym, ap, ◌∙◌, subst, arith, Option, Some, None}
-use Rattle.std.specs.declared.snapshot.Snapshot.{Snapshot}
-use Rattle.std.proofs.Math.Nat.{mul-le-mul_left}
-use Rattle.std.proofs.lemmas.Bool.{cases_order}
-use Rattle.std.proofs.lemmas.Option.{slice_get_within, slice_get-get_or}
-use Rattle.copied_part_laws.specs.below.hh_lang.{ProgramText}
-use Rattle.copied_part_laws.specs.below.task_machine.{Private}
-use Rattle.steal_scheduler.specs.declared.hand.Hand.{Hand}
-use Rattle.steal_scheduler.specs.declared.theft.Theft.{Theft}
-use Rattle.steal_scheduler.specs.Hands.{AreNewHands, ChangesAt, KeepsOwn, SameHand, TookNone, empty_pops, thefts}
-use Rattle.steal_scheduler.specs.Thefts.{SameTheft, StoleNone}
-use Rattle.turn_entries.specs.declared.between_turns.Ready.{Ready}
-use Rattle.turn_entries.specs.declared.between_turns.Ready.TheVariants.{Paused as HasPaused, Copied as IsCopied, Found, Wanting}
-use Rattle.turn_entries.specs.Parts.{ComesWith}
-use Rattle.worker_run.specs.Desks.{AreHands}
-use Rattle.worker_run.specs.Tasks.{Finds, HaveRoot, Looks, Puts, PutsBoth, PutsFewer, Shares, SharesBoth, TriedBefore, after_it}
+-- How a worker's hand finds and puts tasks.
+use Rattle.worker_run.proofs.Common.{◌≡◌, ◌≢◌, ◌⊎◌, inl, inr, ℕ, zero, suc, ◌+◌, ◌-◌, ◌*◌, ◌/◌, ◌%◌, ◌<◌, ◌≤◌, List, [], ◌∷◌, length, slice_get, slice_index_or, slice_set, get_or, refl, sym, ap, ◌∙◌, subst, arith, Option, Some, None, Snapshot, mul-le-mul_left, cases_order, slice_get_within, slice_get-get_or, ProgramText, Private, Hand, Theft, AreNewHands, ChangesAt, KeepsOwn, SameHand, TookNone, empty_pops, thefts, SameTheft, StoleNone, Ready, Paused as HasPaused, Copied as IsCopied, Found, OutOfMemory, ComesWith, AreHands, Finds, HaveRoot, Looks, Puts, PutsBoth, PutsFewer, Shares, SharesBoth, TriedBefore, after_it}
 
 -- ---- GOING ROUND
 
--- less than a whole round leads elsewhere
+-- less than a whole round leads to another worker
 elsewhere : (a d n : ℕ) → 0 < d → d < n → (a + d) % n ≡ a % n → ⊥
 elsewhere a d n some less e = elim (cases_order (a / n) ((a + d) / n)) [
   | inl same ↦ (let h = ap (λ q. n * q) same in omega (arith, h, e, some, less, rest a, rest (a + d)))
@@ -46,23 +31,23 @@ none_tried k old = record { count = refl; vain = λ i some less. absurd (omega a
 pub tried_more : (k j : ℕ) (old mid new : List Theft) → TriedBefore k j old mid → 0 < j → j < length old → length new ≡ length mid → ChangesAt mid new (after_it k (length old) j) StoleNone → TriedBefore k (j + 1) old new
 tried_more k j old mid new T some within long change = record {
   count = long ∙ T.count;
-  vain = λ i low less t u was is. at i low (cases_order i j) less t u was is;
+  vain = λ i low less t u was is. tried_more_at i low (cases_order i j) less t u was is;
   others = λ v ne. change.others v (ne j some (omega arith)) ∙ T.others v (λ i low less. ne i low (omega (arith, less)));
 }
   where
-    at : (i : ℕ) → 0 < i → (i ≡ j) ⊎ ((i < j) ⊎ (j < i)) → i < j + 1 → (t u : Theft) → slice_get old (after_it k (length old) i) ≡ Some t → slice_get new (after_it k (length old) i) ≡ Some u → SameTheft t u × StoleNone t u
-    at i low (inl e) less t u was is = change.at_victim t u
+    tried_more_at : (i : ℕ) → 0 < i → (i ≡ j) ⊎ ((i < j) ⊎ (j < i)) → i < j + 1 → (t u : Theft) → slice_get old (after_it k (length old) i) ≡ Some t → slice_get new (after_it k (length old) i) ≡ Some u → SameTheft t u × StoleNone t u
+    tried_more_at i low (inl e) less t u was is = change.at_victim t u
         (T.others (after_it k (length old) j) (λ x l s same. apart k (length old) x j s within (sym same)) ∙ subst (λ x. slice_get old (after_it k (length old) x) ≡ Some t) e was)
         (subst (λ x. slice_get new (after_it k (length old) x) ≡ Some u) e is)
-    at i low (inr (inl before)) less t u was is = T.vain i low before t u was (sym (change.others (after_it k (length old) i) (λ same. apart k (length old) i j before within same)) ∙ is)
-    at i low (inr (inr beyond)) less t u was is = absurd (omega (arith, beyond, less))
+    tried_more_at i low (inr (inl before)) less t u was is = T.vain i low before t u was (sym (change.others (after_it k (length old) i) (λ same. apart k (length old) i j before within same)) ∙ is)
+    tried_more_at i low (inr (inr beyond)) less t u was is = absurd (omega (arith, beyond, less))
 
 pub tried_all : (k j : ℕ) (old new : List Theft) → TriedBefore k j old new → length old ≤ j → (1 ≤ length old → j ≤ length old) → TriedBefore k (length old) old new
 tried_all k j [] [] T all most = record { count = refl; vain = λ i some less. absurd (omega (arith, some, less)); others = λ v ne. refl }
 tried_all k j [] (x ∷ xs) T all most = absurd (let e = T.count in omega (arith, e))
 tried_all k j (t ∷ ts) new T all most = let e : j ≡ length (t ∷ ts) = (let m = most (omega arith) in omega (arith, m, all)) in subst (λ x. TriedBefore k x (t ∷ ts) new) e T
 
--- own tasks were none before, and the hand changed at its thefts alone
+-- there were no own tasks, and only the hand's thefts changed
 pub none_then : (a b c : Hand) → TookNone a b → KeepsOwn b c → empty_pops c ≡ empty_pops b → TookNone a c
 none_then a b c N K e = record {
   list_was = N.list_was;
@@ -76,7 +61,7 @@ none_then a b c N K e = record {
 pub same_then : (a b c : Hand) → SameHand a b → SameHand b c → SameHand a c
 same_then a b c S T = record { deque = T.deque ∙ S.deque; port = T.port ∙ S.port; room = (let x = S.room in let y = T.room in omega (arith, x, y)); workers = T.workers ∙ S.workers }
 
--- ---- WHAT THE CALLS TELL
+-- ---- WHAT FOLLOWS FROM THE CALLS
 
 pub finds_same : (k : ℕ) (a b : Hand) (o : Option ℕ) → Finds k a b o → SameHand a b
 finds_same k a b (Some task) (inl f) = f.same
@@ -94,31 +79,31 @@ pub looks_then_both : (k left right : ℕ) (a b c : Hand) (ready : Ready) → Pu
 looks_then_both k left right a b c (HasPaused part why) P h = absurd h
 looks_then_both k left right a b c (IsCopied d) P h = absurd h
 looks_then_both k left right a b c (Found o) P h = (b, P, h)
-looks_then_both k left right a b c Wanting P h = absurd h
+looks_then_both k left right a b c OutOfMemory P h = absurd h
 
 pub looks_then : (k task : ℕ) (a b c : Hand) (ready : Ready) → Puts a b task → Looks k b c ready → Shares k task a c ready
 looks_then k task a b c (HasPaused part why) P h = absurd h
 looks_then k task a b c (IsCopied d) P h = absurd h
 looks_then k task a b c (Found o) P h = (b, P, h)
-looks_then k task a b c Wanting P h = absurd h
+looks_then k task a b c OutOfMemory P h = absurd h
 
 pub comes_looking : (p : ProgramText) (k : ℕ) (kept : Option (Snapshot Private)) (a b : Hand) (ready : Ready) → Looks k a b ready → ComesWith p k kept ready
 comes_looking p k kept a b (HasPaused part why) h = absurd h
 comes_looking p k kept a b (IsCopied c) h = absurd h
 comes_looking p k kept a b (Found o) h = tt
-comes_looking p k kept a b Wanting h = absurd h
+comes_looking p k kept a b OutOfMemory h = absurd h
 
 pub comes_sharing_both : (p : ProgramText) (k left right : ℕ) (kept : Option (Snapshot Private)) (a b : Hand) (ready : Ready) → SharesBoth k left right a b ready → ComesWith p k kept ready
 comes_sharing_both p k left right kept a b (HasPaused part why) h = absurd h
 comes_sharing_both p k left right kept a b (IsCopied c) h = absurd h
 comes_sharing_both p k left right kept a b (Found o) h = tt
-comes_sharing_both p k left right kept a b Wanting h = tt
+comes_sharing_both p k left right kept a b OutOfMemory h = tt
 
 pub comes_sharing : (p : ProgramText) (k task : ℕ) (kept : Option (Snapshot Private)) (a b : Hand) (ready : Ready) → Shares k task a b ready → ComesWith p k kept ready
 comes_sharing p k task kept a b (HasPaused part why) h = absurd h
 comes_sharing p k task kept a b (IsCopied c) h = absurd h
 comes_sharing p k task kept a b (Found o) h = tt
-comes_sharing p k task kept a b Wanting h = tt
+comes_sharing p k task kept a b OutOfMemory h = tt
 
 -- ---- THE FIRST HANDS
 

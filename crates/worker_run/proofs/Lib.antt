@@ -4,3 +4,4 @@ pub mod Rows
 pub mod Giving
 mod Rounding
 pub mod Sent
+mod Common

@@ -1,25 +1,5 @@
--- Desks and their seats.
-use Rattle.std.proofs.Common.{◌≡◌, ℕ, zero, suc, ◌<◌, ◌^◌, true, List, [], ◌∷◌, ◌++◌, length, map, take, drop, take_all, drop_of_length-le, slice_get, get_or, remove, sym, ap, ◌∙◌, subst, arith, Option, Some, append_assoc, append-nil}
-use Rattle.std.proofs.lemmas.Option.{slice_get_within, slice_get-get_or, same_Some, none-some}
-use Rattle.std.proofs.lemmas.List.{map-append, length-map}
-use Rattle.atomic_table.specs.Seated.{TableId}
-use Rattle.atomic_table.specs.declared.shared.Seat.{Seat}
-use Rattle.copied_part_laws.proofs.below.listed.{got_map, map_got}
-use Rattle.copied_part_laws.specs.below.hh_lang.{ProgramText}
-use Rattle.copied_part_laws.specs.below.run_trace.{EntryValue, SettingsValue}
-use Rattle.copied_part_laws.specs.below.run_ledger.{RunEnd, end_of, is_legal, is_paced}
-use Rattle.copied_part_laws.specs.below.shared_value.{IsSharedValue, SharedValue, accounts}
-use Rattle.turn_entries.specs.below.turn_lock.{entries_by, view, HasNoTurn, HasOwnEntries, SameWorker, AreNewSeats, AreAllSeats, IsFinalFor}
-use Rattle.turn_entries.proofs.below.turn_lock.{first_there, new_are_all, kept_are_all, removed_first}
-use Rattle.turn_entries.specs.declared.run.Run.{Run}
-use Rattle.turn_entries.specs.declared.run.Setup.{Setup}
-use Rattle.turn_entries.specs.Parts.{Sight}
-use Rattle.turn_entries.specs.Values.{FitsSnapshot, journal_of, setup_of, worker_of}
-use Rattle.worker_run.specs.declared.desk.Desk.{Desk}
-use Rattle.worker_run.specs.declared.end.Finish.{Finish}
-use Rattle.worker_run.specs.Desks.{AreAllDesks, AreNewDesks, AreOpened, HasOfEach, HaveSeen, HaveStopped, IsDesk, SameDesk, entries_of}
-use Rattle.worker_run.specs.Outcomes.{IsRun, WasGivenBack, finish_of}
-use Rattle.worker_run.specs.Rounds.{AllGoRound}
+-- Worker states and their seats.
+use Rattle.worker_run.proofs.Common.{◌≡◌, ℕ, zero, suc, ◌<◌, ◌^◌, true, List, [], ◌∷◌, ◌++◌, length, map, take, drop, take_all, drop_of_length-le, slice_get, get_or, remove, sym, ap, ◌∙◌, subst, arith, Option, Some, append_assoc, append-nil, slice_get_within, slice_get-get_or, same_Some, none-some, map-append, length-map, TableId, Seat, got_map, map_got, ProgramText, EntryValue, SettingsValue, RunEnd, end_of, is_legal, is_paced, IsSharedValue, SharedValue, accounts, entries_by, view, HasNoTurn, HasOwnEntries, SameWorker, AreNewSeats, AreAllSeats, IsFinalFor, first_there, new_are_all, kept_are_all, removed_first, Run, Setup, Sight, FitsSnapshot, journal_of, setup_of, worker_of, WorkerState, Finish, AreAllWorkerStates, AreNewWorkerStates, AreOpened, HasOfEach, HaveSeen, HaveStopped, IsWorkerState, SameWorkerState, entries_of, IsRun, WasGivenBack, finish_of, AllGoRound}
 
 abbrev pub Chair : Type 0 → Type 0
 Chair P = Seat (Option (Run P)) (Sight P)
@@ -32,7 +12,7 @@ pub rest_of : {A : Type 0} (l : List A) (x : A) → 0 < length l → x ≡ get_o
 rest_of [] x h e k y at = absurd (omega arith)
 rest_of (z ∷ zs) x h e k y at = at
 
-pub none_new : (P : Type 0) (s : SettingsValue) → AreNewDesks {P = P} s []
+pub none_new : (P : Type 0) (s : SettingsValue) → AreNewWorkerStates {P = P} s []
 none_new P s = λ k d at. absurd (none-some d at)
 
 -- one more at the end
@@ -46,49 +26,49 @@ pub moved_on : {A B : Type 0} (f : A → B) (done : List A) (left : List B) (x :
 moved_on f done left x y is some first = ap (λ l. l ++ remove left 0) (map-append f done (x ∷ [])) ∙ (append_assoc (map f done) (f x ∷ []) (remove left 0)
     ∙ (ap (λ z. map f done ++ z ∷ remove left 0) is ∙ ap (λ l. map f done ++ l) (sym (removed_first left y some first))))
 
--- what a borrow of the whole leaves
+-- what a borrow of the whole slice leaves
 pub whole_written : {A : Type 0} (len : ℕ) (new old : List A) → length new ≡ length old → len ≡ length old → take len (new ++ drop (length new) old) ≡ new
 whole_written len new old e is = ap (λ l. take len (new ++ l)) (drop_of_length-le old (omega arith)) ∙ (ap (take len) (append-nil new) ∙ take_all len new (omega arith))
 
 module _ {P : Type 0} where
-  abbrev seat_of : Desk P → Chair P
+  abbrev seat_of : WorkerState P → Chair P
   seat_of d = d.seat
 
-  -- all desks after calls of which each left its desk in order
-  pub kept_desks : (z : TableId) (p : ProgramText) (s : SettingsValue) (before after : List (Desk P)) → AreAllDesks z p s before → length after ≡ length before
-      → ((k : ℕ) (d e : Desk P) → slice_get before k ≡ Some d → slice_get after k ≡ Some e → IsDesk z p e × SameDesk d e) → AreAllDesks z p s after
-  kept_desks z p s before after all long kept = record {
+  -- all worker states after calls each of which kept its own valid
+  pub kept_worker_states : (z : TableId) (p : ProgramText) (s : SettingsValue) (before after : List (WorkerState P)) → AreAllWorkerStates z p s before → length after ≡ length before
+      → ((k : ℕ) (d e : WorkerState P) → slice_get before k ≡ Some d → slice_get after k ≡ Some e → IsWorkerState z p e × SameWorkerState d e) → AreAllWorkerStates z p s after
+  kept_worker_states z p s before after all long kept = record {
     count = long ∙ all.count;
     seats = kept_are_all z (map seat_of before) (map seat_of after) all.seats (length-map after seat_of ∙ (long ∙ sym (length-map before seat_of)))
         (λ k x y at to. let d = map_got seat_of before k x at in let e = map_got seat_of after k y to in let one = kept k d.0 e.0 d.1 e.1 in
         (subst (HasNoTurn z) e.2 one.0.idle, subst (λ (t : Chair P). SameWorkerOf x t) e.2 (subst (λ (t : Chair P). SameWorkerOf t e.0.seat) d.2 one.1.seat)));
-    each_desk = λ k e at. let h = slice_get_within after k e at in let d = slice_get-get_or before k e (omega arith) in let one = kept k (get_or before k e) e d at in
-        (one.0, one.1.worker ∙ (all.each_desk k (get_or before k e) d).1, one.1.settings ∙ (all.each_desk k (get_or before k e) d).2);
+    each_worker_state = λ k e at. let h = slice_get_within after k e at in let d = slice_get-get_or before k e (omega arith) in let one = kept k (get_or before k e) e d at in
+        (one.0, one.1.worker ∙ (all.each_worker_state k (get_or before k e) d).1, one.1.settings ∙ (all.each_worker_state k (get_or before k e) d).2);
   }
     where
       SameWorkerOf : Chair P → Chair P → Type 0
       SameWorkerOf x t = SameWorker (view x) (view t)
 
-  -- all desks after calls on a borrow of the whole that keep them in order
-  pub lent_desks : (z : TableId) (p : ProgramText) (s : SettingsValue) (len : ℕ) (opened lent after : List (Desk P)) → lent ≡ opened → length after ≡ length opened → len ≡ length opened → AreAllDesks z p s opened
-      → ((t : SettingsValue) → AreAllDesks z p t lent → AreAllDesks z p t after) → AreAllDesks z p s after × AreAllDesks z p s (take len (after ++ drop (length after) opened))
-  lent_desks z p s len opened lent after was long many all kept = (done, subst (AreAllDesks z p s) (sym (whole_written len after opened long many)) done)
+  -- all worker states after calls on a borrow of the whole slice that keep them valid
+  pub lent_worker_states : (z : TableId) (p : ProgramText) (s : SettingsValue) (len : ℕ) (opened lent after : List (WorkerState P)) → lent ≡ opened → length after ≡ length opened → len ≡ length opened → AreAllWorkerStates z p s opened
+      → ((t : SettingsValue) → AreAllWorkerStates z p t lent → AreAllWorkerStates z p t after) → AreAllWorkerStates z p s after × AreAllWorkerStates z p s (take len (after ++ drop (length after) opened))
+  lent_worker_states z p s len opened lent after was long many all kept = (done, subst (AreAllWorkerStates z p s) (sym (whole_written len after opened long many)) done)
     where
-      done : AreAllDesks z p s after
-      done = kept s (subst (AreAllDesks z p s) (sym was) all)
+      done : AreAllWorkerStates z p s after
+      done = kept s (subst (AreAllWorkerStates z p s) (sym was) all)
 
-  -- the desks of new seats
-  pub new_desks : (z : TableId) (v : Sight P) (n : ℕ) (p : ProgramText) (s : SettingsValue) (seats : List (Chair P)) (desks : List (Desk P)) → 0 < n → n ≡ s.workers → s.workers < 2 ^ 32 → v.seen ≡ [] → v.joined ≡ [] → v.setup ≡ Some (record { program = p; settings = s }) → AreNewSeats z v n seats
-      → map (λ d. d.seat) desks ≡ seats → AreNewDesks s desks → AreAllDesks z p s desks
-  new_desks z v n p s seats desks some workers few none_seen none_joined under new same fresh = record {
-    count = sym (length-map desks seat_of) ∙ (ap length same ∙ (new.0 ∙ workers));
+  -- the worker states of new seats
+  pub new_worker_states : (z : TableId) (v : Sight P) (n : ℕ) (p : ProgramText) (s : SettingsValue) (seats : List (Chair P)) (worker_states : List (WorkerState P)) → 0 < n → n ≡ s.workers → s.workers < 2 ^ 32 → v.seen ≡ [] → v.joined ≡ [] → v.setup ≡ Some (record { program = p; settings = s }) → AreNewSeats z v n seats
+      → map (λ d. d.seat) worker_states ≡ seats → AreNewWorkerStates s worker_states → AreAllWorkerStates z p s worker_states
+  new_worker_states z v n p s seats worker_states some workers few none_seen none_joined under new same fresh = record {
+    count = sym (length-map worker_states seat_of) ∙ (ap length same ∙ (new.0 ∙ workers));
     seats = subst (AreAllSeats z) (sym same) (new_are_all z v n seats some none_joined new);
-    each_desk = λ k d e. let t = new.1 k d.seat (at k d e) in let f = fresh k d e in (
+    each_worker_state = λ k d e. let t = new.1 k d.seat (new_worker_states_at k d e) in let f = fresh k d e in (
       record {
         idle = t.0;
         number = ap (λ (u : Sight P). u.worker) t.1 ∙ sym f.0;
         under = ap (λ (u : Sight P). u.setup) t.1 ∙ (under ∙ ap (λ (x : SettingsValue). Some (record { program = p; settings = x })) (sym f.1));
-        below = (let h = slice_get_within desks k d e in let m = sym (length-map desks seat_of) ∙ (ap length same ∙ new.0) in let a = f.0 in let b : d.settings.workers ≡ s.workers = ap (λ (x : SettingsValue). x.workers) f.1 in omega (arith, h, m, workers, a, b));
+        below = (let h = slice_get_within worker_states k d e in let m = sym (length-map worker_states seat_of) ∙ (ap length same ∙ new.0) in let a = f.0 in let b : d.settings.workers ≡ s.workers = ap (λ (x : SettingsValue). x.workers) f.1 in omega (arith, h, m, workers, a, b));
         few = (let b : d.settings.workers ≡ s.workers = ap (λ (x : SettingsValue). x.workers) f.1 in omega (arith, few, b));
         gave = f.2 ∙ ap length (sym (nothing k d e));
         thieves = f.3 ∙ ap (λ (x : SettingsValue). x.workers) (sym f.1);
@@ -98,32 +78,32 @@ module _ {P : Type 0} where
     );
   }
     where
-      at : (k : ℕ) (d : Desk P) → slice_get desks k ≡ Some d → slice_get seats k ≡ Some d.seat
-      at k d e = ap (λ l. slice_get l k) (sym same) ∙ got_map seat_of desks k d e
+      new_worker_states_at : (k : ℕ) (d : WorkerState P) → slice_get worker_states k ≡ Some d → slice_get seats k ≡ Some d.seat
+      new_worker_states_at k d e = ap (λ l. slice_get l k) (sym same) ∙ got_map seat_of worker_states k d e
 
-      nothing : (k : ℕ) (d : Desk P) → slice_get desks k ≡ Some d → entries_of d ≡ []
-      nothing k d e = ap (λ (l : List EntryValue). entries_by worker_of (view d.seat).worker l) (ap (λ (u : Sight P). u.seen) (new.1 k d.seat (at k d e)).1 ∙ none_seen)
+      nothing : (k : ℕ) (d : WorkerState P) → slice_get worker_states k ≡ Some d → entries_of d ≡ []
+      nothing k d e = ap (λ (l : List EntryValue). entries_by worker_of (view d.seat).worker l) (ap (λ (u : Sight P). u.seen) (new.1 k d.seat (new_worker_states_at k d e)).1 ∙ none_seen)
 
 -- ---- THE VALUE AT THE END
 
 module _ {P : Type 0} (value : P → SharedValue) where
-  module _ (z : TableId) (p : ProgramText) (s : SettingsValue) (desks : List (Desk P)) (seats : List (Chair P)) (run : Run P) (all : AreAllDesks z p s desks) (is : seats ≡ map (λ d. d.seat) desks) where
-    seat_there : (k : ℕ) (d : Desk P) → slice_get desks k ≡ Some d → slice_get seats k ≡ Some d.seat
-    seat_there k d e = ap (λ (l : List (Chair P)). slice_get l k) is ∙ got_map seat_of desks k d e
+  module _ (z : TableId) (p : ProgramText) (s : SettingsValue) (worker_states : List (WorkerState P)) (seats : List (Chair P)) (run : Run P) (all : AreAllWorkerStates z p s worker_states) (is : seats ≡ map (λ d. d.seat) worker_states) where
+    seat_there : (k : ℕ) (d : WorkerState P) → slice_get worker_states k ≡ Some d → slice_get seats k ≡ Some d.seat
+    seat_there k d e = ap (λ (l : List (Chair P)). slice_get l k) is ∙ got_map seat_of worker_states k d e
 
-    pub of_each : HasOwnEntries (journal_of value) worker_of (FitsSnapshot value) (setup_of value) run seats → HasOfEach (journal_of value run) desks
-    of_each own = λ k d e. let same = own k d.seat (seat_there k d e) in (same, (all.each_desk k d e).0.gave ∙ ap length (sym same))
+    pub of_each : HasOwnEntries (journal_of value) worker_of (FitsSnapshot value) (setup_of value) run seats → HasOfEach (journal_of value run) worker_states
+    of_each own = λ k d e. let same = own k d.seat (seat_there k d e) in (same, (all.each_worker_state k d e).0.gave ∙ ap length (sym same))
 
-    pub have_seen : IsFinalFor (journal_of value) worker_of (FitsSnapshot value) (setup_of value) run seats → HaveSeen (journal_of value run) desks
+    pub have_seen : IsFinalFor (journal_of value) worker_of (FitsSnapshot value) (setup_of value) run seats → HaveSeen (journal_of value run) worker_states
     have_seen left = record {
       begins = λ k d e. left.begins k d.seat (seat_there k d e);
-      whole = (let l = left.longest in let d = map_got seat_of desks l.0 l.1 (ap (λ (x : List (Chair P)). slice_get x l.0) (sym is) ∙ l.2) in (l.0, d.0, d.1, ap (λ (c : Chair P). (view c).seen) d.2 ∙ l.3));
+      whole = (let l = left.longest in let d = map_got seat_of worker_states l.0 l.1 (ap (λ (x : List (Chair P)). slice_get x l.0) (sym is) ∙ l.2) in (l.0, d.0, d.1, ap (λ (c : Chair P). (view c).seen) d.2 ∙ l.3));
     }
 
     setup_at_end : IsFinalFor (journal_of value) worker_of (FitsSnapshot value) (setup_of value) run seats → setup_of value run ≡ record { program = p; settings = s }
     setup_at_end left =
-        let some = all.seats.some_seat in let long = length-map desks seat_of in let d = first_there desks (omega (arith, some, long)) in
-        same_Some (setup_of value run) _ (sym (left.same_setup d.0.seat (seat_there 0 d.0 d.1)) ∙ ((all.each_desk 0 d.0 d.1).0.under ∙ ap (λ (x : SettingsValue). Some (record { program = p; settings = x })) (all.each_desk 0 d.0 d.1).2))
+        let some = all.seats.some_seat in let long = length-map worker_states seat_of in let d = first_there worker_states (omega (arith, some, long)) in
+        same_Some (setup_of value run) _ (sym (left.same_setup d.0.seat (seat_there 0 d.0 d.1)) ∙ ((all.each_worker_state 0 d.0 d.1).0.under ∙ ap (λ (x : SettingsValue). Some (record { program = p; settings = x })) (all.each_worker_state 0 d.0 d.1).2))
 
     pub settings_at_end : IsFinalFor (journal_of value) worker_of (FitsSnapshot value) (setup_of value) run seats → (value run.paced).settings ≡ s
     settings_at_end left = ap (λ (x : Setup). x.settings) (setup_at_end left)
@@ -131,15 +111,15 @@ module _ {P : Type 0} (value : P → SharedValue) where
     pub program_at_end : IsFinalFor (journal_of value) worker_of (FitsSnapshot value) (setup_of value) run seats → (value run.paced).program ≡ p
     program_at_end left = ap (λ (x : Setup). x.program) (setup_at_end left)
 
-  -- what the desks gave back
-  pub was_given : (z : TableId) (p : ProgramText) (s : SettingsValue) (first desks : List (Desk P)) (w : SharedValue) → AreAllDesks z p s first → AreOpened s first → AreAllDesks z p s desks → AllGoRound value p first desks → HaveStopped value desks
-      → HaveSeen w.journal.items desks → HasOfEach w.journal.items desks → WasGivenBack value p s w.journal.items
-  was_given z p s first desks w all_first opened all rounds stopped seen each = record {
+  -- what the workers gave back
+  pub was_given : (z : TableId) (p : ProgramText) (s : SettingsValue) (first worker_states : List (WorkerState P)) (w : SharedValue) → AreAllWorkerStates z p s first → AreOpened s first → AreAllWorkerStates z p s worker_states → AllGoRound value p first worker_states → HaveStopped value worker_states
+      → HaveSeen w.journal.items worker_states → HasOfEach w.journal.items worker_states → WasGivenBack value p s w.journal.items
+  was_given z p s first worker_states w all_first opened all rounds stopped seen each = record {
     turn = z;
     first = first;
     all_first = all_first;
     opened = opened;
-    desks = desks;
+    worker_states = worker_states;
     all = all;
     rounds = rounds;
     stopped = stopped;
@@ -157,7 +137,7 @@ is_run p s w I program settings paced = record {
   stands = I;
 }
 
--- how it finished, where its end was told
+-- how it finished, if its end was reported
 pub told_finish : (p : ProgramText) (s : SettingsValue) (w : SharedValue) (f : Finish) (e : Option RunEnd) → IsRun p s w → e ≡ (accounts w).end → f ≡ finish_of e → f ≡ finish_of (end_of p s w.journal.items)
 told_finish p s w f e run is told =
     subst (λ (q : ProgramText). f ≡ finish_of (end_of q s w.journal.items)) run.program (subst (λ (l : SettingsValue). f ≡ finish_of (end_of w.program l w.journal.items)) run.settings (told ∙ ap finish_of is))

@@ -1,5 +1,6 @@
-pub mod Desks
+pub mod WorkerStates
 pub mod Outcomes
 pub mod Rounds
 pub mod Tasks
 pub mod below
+mod Common

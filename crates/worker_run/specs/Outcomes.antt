@@ -1,14 +1,10 @@
 -- What a run by workers leaves.
 use Rattle.std.specs.Prelude.{◌≡◌, List, Option, Some, None, true}
-use Rattle.atomic_table.specs.Seated.{TableId}
-use Rattle.copied_part_laws.specs.below.hh_lang.{ProgramText}
-use Rattle.copied_part_laws.specs.below.run_trace.{EntryValue, SettingsValue}
-use Rattle.copied_part_laws.specs.below.run_ledger.{RunEnd, is_legal, is_paced}
-use Rattle.copied_part_laws.specs.below.shared_value.{IsSharedValue, SharedValue}
-use Rattle.worker_run.specs.declared.desk.Desk.{Desk}
+use Rattle.worker_run.specs.Common.{TableId, ProgramText, EntryValue, SettingsValue, RunEnd, is_legal, is_paced, IsSharedValue, SharedValue}
+use Rattle.worker_run.specs.declared.worker_state.WorkerState.{WorkerState}
 use Rattle.worker_run.specs.declared.end.Finish.{Finish}
 use Rattle.worker_run.specs.declared.end.Finish.TheVariants.{Ended, NoMemory}
-use Rattle.worker_run.specs.Desks.{AreAllDesks, AreOpened, HasOfEach, HaveSeen, HaveStopped}
+use Rattle.worker_run.specs.WorkerStates.{AreAllWorkerStates, AreOpened, HasOfEach, HaveSeen, HaveStopped}
 use Rattle.worker_run.specs.Rounds.{AllGoRound}
 
 -- how a run finished whose journal has this end, or none
@@ -24,17 +20,17 @@ pub record IsRun (p : ProgramText) (s : SettingsValue) (w : SharedValue) : Type 
   pub paced : is_paced p s w.journal.items ≡ true
   pub stands : IsSharedValue w
 
--- WHAT THE WORKERS GAVE BACK: at one turn each worker of a run of this program with these settings had a desk, and the
--- first had put the root; there each went round until the run was over; of each the journal has just the entries that
--- its desk gave back, each once
+-- WHAT THE WORKERS GAVE BACK: at one turn each worker of a run of this program with these settings had a state, and the
+-- first had put the root; each went round until the run was over; for each the journal has exactly the entries that it
+-- gave back, each once
 pub record WasGivenBack {P : Type 0} (value : P → SharedValue) (p : ProgramText) (s : SettingsValue) (journal : List EntryValue) : Type 0 where
   pub turn : TableId
-  pub first : List (Desk P)
-  pub all_first : AreAllDesks turn p s first
+  pub first : List (WorkerState P)
+  pub all_first : AreAllWorkerStates turn p s first
   pub opened : AreOpened s first
-  pub desks : List (Desk P)
-  pub all : AreAllDesks turn p s desks
-  pub rounds : AllGoRound value p first desks
-  pub stopped : HaveStopped value desks
-  pub seen : HaveSeen journal desks
-  pub of_each : HasOfEach journal desks
+  pub worker_states : List (WorkerState P)
+  pub all : AreAllWorkerStates turn p s worker_states
+  pub rounds : AllGoRound value p first worker_states
+  pub stopped : HaveStopped value worker_states
+  pub seen : HaveSeen journal worker_states
+  pub of_each : HasOfEach journal worker_states

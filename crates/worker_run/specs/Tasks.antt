@@ -1,20 +1,12 @@
--- What becomes of tasks at a worker's hand: k is the worker.
+-- How a worker's hand finds and puts tasks: k is the worker.
 use Rattle.std.specs.Prelude.{◌≡◌, ◌≢◌, ◌⊎◌, ℕ, ◌+◌, ◌%◌, ◌<◌, List, Option, Some, None, slice_get, length}
-use Rattle.copied_part_laws.specs.below.hh_lang.{ProgramText}
-use Rattle.steal_scheduler.specs.declared.hand.Hand.{Hand}
-use Rattle.steal_scheduler.specs.declared.theft.Theft.{Theft}
-use Rattle.steal_scheduler.specs.Hands.{AreNewHands, ChangesAt, KeepsOwn, PutOnDeque, PutOnList, SameHand, TookFromDeque, TookFromList, TookNone, empty_pops, thefts}
-use Rattle.steal_scheduler.specs.Thefts.{SameTheft, Stole, StoleNone}
-use Rattle.turn_entries.specs.declared.between_turns.Collecting.{Collecting}
-use Rattle.turn_entries.specs.declared.between_turns.Next.{Next}
-use Rattle.turn_entries.specs.declared.between_turns.Next.TheVariants.{Running, Collecting as Collects, Copied as HasCopied, Found as GoesFor, Forked, Resumed, Idle, Waits, Stop}
-use Rattle.turn_entries.specs.declared.between_turns.Ready.{Ready}
-use Rattle.turn_entries.specs.declared.between_turns.Ready.TheVariants.{Paused as HasPaused, Copied as IsCopied, Found, Wanting}
-use Rattle.turn_entries.specs.Parts.{GrowsTo, WasCopied}
+use Rattle.worker_run.specs.Common.{ProgramText, Hand, Theft, AreNewHands, ChangesAt, KeepsOwn, PutOnDeque, PutOnList, SameHand, TookFromDeque, TookFromList, TookNone, empty_pops, thefts, SameTheft, Stole, StoleNone, Collecting, Next, Running, Copied as HasCopied, Found as GoesFor, Forked, Resumed, Idle, Waits, Stop, Ready, Paused as HasPaused, OutOfMemory, GrowsTo, WasCopied}
+use Rattle.turn_entries.specs.declared.between_turns.Next.TheVariants.{Collecting as Collects}
+use Rattle.turn_entries.specs.declared.between_turns.Ready.TheVariants.{Copied as IsCopied, Found}
 
 -- ---- TASKS ARE PUT
 
--- list, deque, ways to steal and counts are as before
+-- list, deque, ways to steal and counts are unchanged
 pub record KeepsHand (old new : Hand) : Type 0 where
   pub same : SameHand old new
   pub own : KeepsOwn old new
@@ -32,7 +24,7 @@ pub record Puts (old new : Hand) (task : ℕ) : Type 0 where
 abbrev pub PutsBoth : Hand → Hand → ℕ → ℕ → Type 0
 PutsBoth old new left right = (between : Hand) × Puts old between right × Puts between new left
 
--- memory was wanting for the first, or for the second
+-- an allocation failed for the first, or for the second
 abbrev pub PutsFewer : Hand → Hand → ℕ → Type 0
 PutsFewer old new right = KeepsHand old new ⊎ ((between : Hand) × Puts old between right × KeepsHand between new)
 
@@ -64,7 +56,7 @@ pub record FindsOwn (old new : Hand) (task : ℕ) : Type 0 where
   pub counted : empty_pops new ≡ empty_pops old
   pub thieves : thefts new ≡ thefts old
 
--- no own one was there, and it was stolen from the j-th after it, after those before were tried in vain
+-- there was no own one, and it was stolen from the j-th after it, after those before were tried in vain
 pub record Steals (k : ℕ) (old new : Hand) (task : ℕ) : Type 0 where
   pub same : SameHand old new
   pub own : TookNone old new
@@ -75,7 +67,7 @@ pub record Steals (k : ℕ) (old new : Hand) (task : ℕ) : Type 0 where
   pub tried : TriedBefore k j (thefts old) between
   pub stole : ChangesAt between (thefts new) (after_it k (length (thefts old)) j) (Stole task)
 
--- no own one was there, and all others were tried in vain: nothing was taken
+-- there was no own one, and all others were tried in vain: nothing was taken
 pub record FindsNone (k : ℕ) (old new : Hand) : Type 0 where
   pub same : SameHand old new
   pub own : TookNone old new
@@ -88,36 +80,36 @@ Finds k old new None = FindsNone k old new
 
 -- ---- HOW A WORKER GOES ON BETWEEN TWO TURNS
 
--- it has looked for a task, and comes with what it found
+-- it has looked for a task, and brings what it found
 abbrev pub Looks : ℕ → Hand → Hand → Ready → Type 0
 Looks k old new (HasPaused part why) = ⊥
 Looks k old new (IsCopied c) = ⊥
 Looks k old new (Found o) = Finds k old new o
-Looks k old new Wanting = ⊥
+Looks k old new OutOfMemory = ⊥
 
 -- it has put both children of its fork, and looked; or an allocation has failed
 abbrev pub SharesBoth : ℕ → ℕ → ℕ → Hand → Hand → Ready → Type 0
 SharesBoth k left right old new (HasPaused part why) = ⊥
 SharesBoth k left right old new (IsCopied c) = ⊥
 SharesBoth k left right old new (Found o) = (between : Hand) × PutsBoth old between left right × Finds k between new o
-SharesBoth k left right old new Wanting = PutsFewer old new right
+SharesBoth k left right old new OutOfMemory = PutsFewer old new right
 
 -- it has put the task that runs again, and looked; or an allocation has failed
 abbrev pub Shares : ℕ → ℕ → Hand → Hand → Ready → Type 0
 Shares k task old new (HasPaused part why) = ⊥
 Shares k task old new (IsCopied c) = ⊥
 Shares k task old new (Found o) = (between : Hand) × Puts old between task × Finds k between new o
-Shares k task old new Wanting = KeepsHand old new
+Shares k task old new OutOfMemory = KeepsHand old new
 
 -- the heap of the part was copied
 abbrev pub CopiesTo : ProgramText → ℕ → Collecting → Ready → Type 0
 CopiesTo p k c (HasPaused part why) = ⊥
 CopiesTo p k c (IsCopied d) = (d.begun.value ≡ c.part) × WasCopied p k d
 CopiesTo p k c (Found o) = ⊥
-CopiesTo p k c Wanting = ⊥
+CopiesTo p k c OutOfMemory = ⊥
 
--- WHAT A WORKER COMES WITH: a part has taken steps of its own, or its heap was copied; a task is at hand, was put, or
--- was found
+-- WHAT A WORKER BRINGS: a part has taken steps of its own, or its heap was copied; a task is at hand, was put, or was
+-- found
 abbrev pub Prepares : ProgramText → ℕ → Next → Hand → Hand → Ready → Type 0
 Prepares p k (Running part) old new ready = (new ≡ old) × GrowsTo p k part ready
 Prepares p k (Collects c) old new ready = (new ≡ old) × CopiesTo p k c ready

@@ -5,7 +5,7 @@ use turn_entries::RunEnd;
 /// How a run finished.
 #[derive(Clone, Copy)]
 pub enum Finish {
-    /// Its journal ends so.
+    /// Its journal has this end.
     Ended(RunEnd),
     /// An allocation failed: the journal has no end.
     NoMemory,
@@ -15,6 +15,6 @@ pub enum Finish {
 #[derive(Drop)]
 pub struct Outcome<P> {
     pub finish: Finish,
-    /// The shared value, whoever keeps it; None only where there was no memory to start with, before the first entry.
+    /// The shared value, whoever keeps it; None only if an allocation failed before the first entry.
     pub shared: Option<P>,
 }

@@ -12,17 +12,19 @@ mod local;
 mod tasks;
 mod turn;
 
-// What the workers use.
-mod bell;
-mod desk;
-mod workshop;
+// What the workers share.
+mod parking;
+mod run_context;
+mod worker_state;
 
-pub use bell::Bell;
-pub use desk::Desk;
 pub use end::{Finish, Outcome};
 pub use local::{copy_part, run_part};
+pub use parking::Parker;
+pub use run_context::RunContext;
 pub use turn::take_turn;
-pub use turn_entries::{Acted, Collecting, Copied, EntryCalls, Next, Ready, Run, Setup, Turn};
+pub use turn_entries::{
+    Collecting, Copied, EntryCalls, Next, Ready, Run, Setup, Turn, TurnOutcome,
+};
+pub use worker_state::WorkerState;
 pub use workers::{all_work, close, opened, run_on_workers};
 pub use working::{prepare, work};
-pub use workshop::Workshop;

@@ -3,7 +3,7 @@ ghost use Rattle.std.specs.Prelude.{◌≡◌, IfOk};
 ghost use Rattle.copied_part_laws.specs.below.hh_lang.{ProgramText};
 ghost use Rattle.turn_entries.specs.Parts.{AtSome, GrowsTo, HasGrown, MayCopy, MayRun, WasCopied};
 
-use outside_io::Gate;
+use io_traits::Gate;
 use std::alloc::AllocError;
 use std::snapshot::Snapshot;
 use turn_entries::{
@@ -11,7 +11,7 @@ use turn_entries::{
     run_local,
 };
 
-// Takes steps of a part until they pause, at most as many as one entry holds, and settles its heap where a fork comes
+// Takes steps of a part until they pause, at most as many as one entry holds, and settles its heap if a fork comes
 // next.
 fn take_steps<G: Gate>(
     part: &mut Private,
@@ -36,7 +36,7 @@ pub fn run_part<G: Gate>(part: PartInBlock, program: &Program, gate: &G, worker:
     let mut part = part;
     match take_steps(part.get_mut(), program, gate, worker) {
         Ok(why) => Ready::Paused(part, why),
-        Err(_) => Ready::Wanting,
+        Err(_) => Ready::OutOfMemory,
     }
 }
 

@@ -7,7 +7,8 @@ use std::alloc::AllocError;
 use std::sync::Wait;
 use steal_scheduler::Hand;
 
-/// The newest own task; else one stolen from the others, in order of their numbers from the own one upwards, round.
+/// The newest own task; otherwise one stolen from the others, which are tried in ascending order of their numbers from
+/// the own one on, cyclically.
 pub(crate) fn find<R: Wait>(rt: &R, hand: &mut Hand, worker: u32) -> Option<u32>
     requires { length (thefts hand.old) < 2 ^ 32 }
     ensures { Finds worker hand.old hand.new result }
@@ -25,7 +26,7 @@ pub(crate) fn find<R: Wait>(rt: &R, hand: &mut Hand, worker: u32) -> Option<u32>
     None
 }
 
-/// Puts a task on the own deque. If an allocation fails the hand is as before.
+/// Puts a task on the own deque. If an allocation fails the hand is unchanged.
 pub(crate) fn put(hand: &mut Hand, task: u32) -> Result<(), AllocError>
     ensures ok { OnOk result (Puts hand.old hand.new task) }
     ensures err { IfErr result (λ _. KeepsHand hand.old hand.new) }

@@ -2,101 +2,112 @@
 ghost use Rattle.std.specs.Prelude.{◌≡◌, IfNone, IfSome};
 ghost use Rattle.turn_entries.specs.below.turn_lock.{view, identity};
 ghost use Rattle.turn_entries.specs.Parts.{ComesWith, GoesWith};
-ghost use Rattle.worker_run.specs.Desks.{ChangesHand, FewThefts, HasStopped, IsDesk, SameDesk};
+ghost use Rattle.worker_run.specs.WorkerStates.{ChangesHand, FewThefts, HasStopped, IsWorkerState, SameWorkerState};
 ghost use Rattle.worker_run.specs.Rounds.{GoesRound};
 ghost use Rattle.worker_run.specs.Tasks.{Looks, Prepares, Shares, SharesBoth};
 
-use crate::bell::Bell;
-use crate::desk::Desk;
 use crate::local::{copy_part, run_part};
+use crate::parking::Parker;
+use crate::run_context::RunContext;
 use crate::tasks::{find, put, put_both};
 use crate::turn::take_turn;
-use crate::workshop::Workshop;
-use outside_io::{Gate, Point};
+use crate::worker_state::WorkerState;
+use io_traits::{Gate, Point};
 use std::sync::Wait;
 use turn_entries::{EntryCalls, Next, Ready};
 
 // The worker looks for a task.
-fn look<R: Wait, P: EntryCalls>(rt: &R, bell: &Bell, desk: &mut Desk<P>) -> Ready
-    requires { FewThefts desk.old }
-    ensures hand { ChangesHand desk.old desk.new }
-    ensures found { Looks desk.old.worker desk.old.hand desk.new.hand result }
+fn look<R: Wait, P: EntryCalls>(rt: &R, parker: &Parker, worker_state: &mut WorkerState<P>) -> Ready
+    requires { FewThefts worker_state.old }
+    ensures hand { ChangesHand worker_state.old worker_state.new }
+    ensures found { Looks worker_state.old.worker worker_state.old.hand worker_state.new.hand result }
 {
-    desk.heard = bell.rings(rt);
-    Ready::Found(find(rt, &mut desk.hand, desk.worker))
+    worker_state.heard = parker.rings(rt);
+    Ready::Found(find(rt, &mut worker_state.hand, worker_state.worker))
 }
 
 // The worker puts both children of a fork where others find them, and looks for a task. Others may take one of the two.
 fn share_both<R: Wait, P: EntryCalls>(
     rt: &R,
-    bell: &Bell,
-    desk: &mut Desk<P>,
+    parker: &Parker,
+    worker_state: &mut WorkerState<P>,
     left: u32,
     right: u32,
 ) -> Ready
-    requires { FewThefts desk.old }
-    ensures hand { ChangesHand desk.old desk.new }
-    ensures shared { SharesBoth desk.old.worker left right desk.old.hand desk.new.hand result }
+    requires { FewThefts worker_state.old }
+    ensures hand { ChangesHand worker_state.old worker_state.new }
+    ensures shared { SharesBoth worker_state.old.worker left right worker_state.old.hand worker_state.new.hand result }
 {
-    match put_both(&mut desk.hand, left, right) {
+    match put_both(&mut worker_state.hand, left, right) {
         Ok(()) => {
-            bell.ring_once(rt);
-            look(rt, bell, desk)
+            parker.ring_once(rt);
+            look(rt, parker, worker_state)
         }
-        Err(_) => Ready::Wanting,
+        Err(_) => Ready::OutOfMemory,
     }
 }
 
 // The worker puts a task that runs again where others find it, and looks for one.
-fn share<R: Wait, P: EntryCalls>(rt: &R, bell: &Bell, desk: &mut Desk<P>, task: u32) -> Ready
-    requires { FewThefts desk.old }
-    ensures hand { ChangesHand desk.old desk.new }
-    ensures shared { Shares desk.old.worker task desk.old.hand desk.new.hand result }
+fn share<R: Wait, P: EntryCalls>(
+    rt: &R,
+    parker: &Parker,
+    worker_state: &mut WorkerState<P>,
+    task: u32,
+) -> Ready
+    requires { FewThefts worker_state.old }
+    ensures hand { ChangesHand worker_state.old worker_state.new }
+    ensures shared { Shares worker_state.old.worker task worker_state.old.hand worker_state.new.hand result }
 {
-    match put(&mut desk.hand, task) {
-        Ok(()) => look(rt, bell, desk),
-        Err(_) => Ready::Wanting,
+    match put(&mut worker_state.hand, task) {
+        Ok(()) => look(rt, parker, worker_state),
+        Err(_) => Ready::OutOfMemory,
     }
 }
 
-/// What the worker comes for its next turn with; None where it stops.
+/// What the worker brings to its next turn; None if it stops.
 pub fn prepare<R: Wait, P: EntryCalls, G: Gate>(
     rt: &R,
-    shop: &Workshop<P, G>,
-    desk: &mut Desk<P>,
+    shop: &RunContext<P, G>,
+    worker_state: &mut WorkerState<P>,
     next: Next,
 ) -> Option<Ready>
-    requires goes { GoesWith shop.now.program.now desk.old.worker (view desk.old.seat).part next }
-    requires few { FewThefts desk.old }
-    ensures hand { ChangesHand desk.old desk.new }
-    ensures comes { IfSome result (ComesWith shop.now.program.now desk.old.worker (view desk.old.seat).part) }
-    ensures tasks { IfSome result (Prepares shop.now.program.now desk.old.worker next desk.old.hand desk.new.hand) }
-    ensures stops { IfNone result ((next ≡ Next.Stop) × (desk.new ≡ desk.old)) }
+    requires goes { GoesWith shop.now.program.now worker_state.old.worker (view worker_state.old.seat).part next }
+    requires few { FewThefts worker_state.old }
+    ensures hand { ChangesHand worker_state.old worker_state.new }
+    ensures comes { IfSome result (ComesWith shop.now.program.now worker_state.old.worker (view worker_state.old.seat).part) }
+    ensures tasks { IfSome result (Prepares shop.now.program.now worker_state.old.worker next worker_state.old.hand worker_state.new.hand) }
+    ensures stops { IfNone result ((next ≡ Next.Stop) × (worker_state.new ≡ worker_state.old)) }
 {
     match next {
-        Next::Running(part) => Some(run_part(part, shop.program, shop.gate, desk.worker)),
+        Next::Running(part) => Some(run_part(part, shop.program, shop.gate, worker_state.worker)),
         Next::Collecting(collecting) => Some(Ready::Copied(copy_part(
             collecting,
             shop.gate,
-            desk.worker,
+            worker_state.worker,
         ))),
         Next::Copied(copied) => Some(Ready::Copied(copied)),
         Next::Found(task) => Some(Ready::Found(Some(task))),
-        Next::Forked { left, right } => Some(share_both(rt, shop.bell, desk, left, right)),
-        Next::Resumed(task) => Some(share(rt, shop.bell, desk, task)),
-        Next::Idle => Some(look(rt, shop.bell, desk)),
+        Next::Forked { left, right } => Some(share_both(
+            rt,
+            shop.parker,
+            worker_state,
+            left,
+            right,
+        )),
+        Next::Resumed(task) => Some(share(rt, shop.parker, worker_state, task)),
+        Next::Idle => Some(look(rt, shop.parker, worker_state)),
         Next::Waits => {
-            shop.bell.wait_past(rt, desk.heard);
-            Some(look(rt, shop.bell, desk))
+            shop.parker.wait_past(rt, worker_state.heard);
+            Some(look(rt, shop.parker, worker_state))
         }
         Next::Stop => {
-            shop.bell.ring_all(rt);
+            shop.parker.ring_all(rt);
             None
         }
     }
 }
 
-// The task that the gate is told of.
+// The task that is passed to the gate.
 fn task_of(ready: &Ready) -> u32 {
     match ready {
         Ready::Paused(part, _) => part.get().task,
@@ -109,24 +120,24 @@ fn task_of(ready: &Ready) -> u32 {
 /// Works until the run is over, as the worker has seen at its last turn.
 pub fn work<R: Wait, P: EntryCalls + Drop, G: Gate>(
     rt: &R,
-    shop: &Workshop<P, G>,
-    desk: &mut Desk<P>,
+    shop: &RunContext<P, G>,
+    worker_state: &mut WorkerState<P>,
 )
-    requires desk { IsDesk (identity shop.now.turn.now) shop.now.program.now desk.old }
-    ensures desk { IsDesk (identity shop.now.turn.now) shop.now.program.now desk.new }
-    ensures same { SameDesk desk.old desk.new }
-    ensures rounds { GoesRound P.value shop.now.program.now desk.old Next.Idle desk.new Next.Stop }
-    ensures over { HasStopped P.value desk.new }
+    requires worker_state { IsWorkerState (identity shop.now.turn.now) shop.now.program.now worker_state.old }
+    ensures worker_state { IsWorkerState (identity shop.now.turn.now) shop.now.program.now worker_state.new }
+    ensures same { SameWorkerState worker_state.old worker_state.new }
+    ensures rounds { GoesRound P.value shop.now.program.now worker_state.old Next.Idle worker_state.new Next.Stop }
+    ensures over { HasStopped P.value worker_state.new }
 {
     let mut next = Next::Idle;
     for _ in rt.forever() {
-        let Some(ready) = prepare(rt, shop, desk, next) else {
+        let Some(ready) = prepare(rt, shop, worker_state, next) else {
             return;
         };
         let task = task_of(&ready);
-        shop.gate.pass(desk.worker, task, Point::BeforeTurn);
-        next = take_turn(rt, shop, desk, ready);
-        shop.gate.pass(desk.worker, task, Point::AfterTurn);
+        shop.gate.pass(worker_state.worker, task, Point::BeforeTurn);
+        next = take_turn(rt, shop, worker_state, ready);
+        shop.gate.pass(worker_state.worker, task, Point::AfterTurn);
     }
     unreachable!()
 }

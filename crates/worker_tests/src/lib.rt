@@ -1,7 +1,7 @@
-// Tests of workers at their desks. It has no code of its own.
+// Tests of workers by their states. It has no code of its own.
 #![tactic(auto)]
 
 #[cfg(test)]
-mod desks;
-#[cfg(test)]
 mod threads;
+#[cfg(test)]
+mod worker_states;

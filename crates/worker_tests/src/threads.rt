@@ -1,10 +1,11 @@
 // Four workers in threads take one turn again and again.
 ghost use Rattle.std.specs.Prelude.{◌≡◌, ℕ, Some, slice_get};
 ghost use Rattle.worker_run.specs.below.turn_lock.{HasNoTurn, identity};
-ghost use Rattle.worker_run.specs.below.shared_value.{SharedValue};
-ghost use Rattle.worker_run.specs.declared.desk.Desk.{Desk};
+ghost use Rattle.worker_run.specs.below.core_invariant.{SharedValue};
+ghost use Rattle.worker_run.specs.declared.worker_state.WorkerState.{WorkerState};
 
-use paced_tree::Paced;
+use gc_pacer::Paced;
+use journal_replay::{Program, Settings, Version};
 use program_reader::read_program;
 use std::alloc::Global;
 use std::hint::spin_loop;
@@ -12,8 +13,7 @@ use std::sync::Wait;
 use std::sync::atomic::{AtomicBool, AtomicU64, Ordering};
 use std::thread;
 use std::thread::Threads;
-use worker_run::{Desk, Run, Turn, opened};
-use world_core::{Program, Settings, Version};
+use worker_run::{Run, Turn, WorkerState, opened};
 
 // How often each worker takes the turn, and how long it keeps it.
 const ROUNDS: u32 = 1000;
@@ -59,21 +59,31 @@ impl Watch {
 }
 
 // The worker has the turn once, and returns the value unchanged.
-fn pass<R: Wait>(rt: &R, turn: &Turn<Run<Paced>>, watch: &Watch, desk: &mut Desk<Paced>)
-    requires { HasNoTurn (identity turn.now) desk.old.seat }
-    ensures { HasNoTurn (identity turn.now) desk.new.seat }
+fn pass<R: Wait>(
+    rt: &R,
+    turn: &Turn<Run<Paced>>,
+    watch: &Watch,
+    worker_state: &mut WorkerState<Paced>,
+)
+    requires { HasNoTurn (identity turn.now) worker_state.old.seat }
+    ensures { HasNoTurn (identity turn.now) worker_state.new.seat }
 {
-    let run = turn.take(rt, &mut desk.seat);
+    let run = turn.take(rt, &mut worker_state.seat);
     watch.stay();
-    turn.give_same(&mut desk.seat, run);
+    turn.release_unchanged(&mut worker_state.seat, run);
 }
 
 // The worker has the turn again and again.
-fn passes<R: Wait>(rt: &R, turn: &Turn<Run<Paced>>, watch: &Watch, desk: &mut Desk<Paced>)
-    requires { HasNoTurn (identity turn.now) desk.old.seat }
+fn passes<R: Wait>(
+    rt: &R,
+    turn: &Turn<Run<Paced>>,
+    watch: &Watch,
+    worker_state: &mut WorkerState<Paced>,
+)
+    requires { HasNoTurn (identity turn.now) worker_state.old.seat }
 {
     for _ in 0..ROUNDS {
-        pass(rt, turn, watch, desk);
+        pass(rt, turn, watch, worker_state);
     }
 }
 
@@ -82,20 +92,20 @@ fn all_pass<R: Threads + Wait + Sync>(
     rt: &R,
     turn: &Turn<Run<Paced>>,
     watch: &Watch,
-    desks: &mut [Desk<Paced>],
+    worker_states: &mut [WorkerState<Paced>],
 )
-    requires { (k : ℕ) (d : Desk SharedValue) → slice_get desks.old k ≡ Some d → HasNoTurn (identity turn.now) d.seat }
+    requires { (k : ℕ) (d : WorkerState SharedValue) → slice_get worker_states.old k ≡ Some d → HasNoTurn (identity turn.now) d.seat }
 {
-    if desks.len() == 0 {
+    if worker_states.len() == 0 {
         return;
     }
     thread::for_each_mut(
         rt,
-        desks,
+        worker_states,
         4,
-        &|_: usize, desk: &mut Desk<Paced>|
-            requires { HasNoTurn (identity turn.now) desk.now.seat }
-        { passes(rt, turn, watch, desk) },
+        &|_: usize, worker_state: &mut WorkerState<Paced>|
+            requires { HasNoTurn (identity turn.now) worker_state.now.seat }
+        { passes(rt, turn, watch, worker_state) },
     );
 }
 
@@ -108,8 +118,8 @@ fn watched<R: Threads + Wait + Sync>(
 ) -> Option<(u64, u64)> {
     let watch = Watch::new();
     match opened::<Paced>(alloc, program, settings) {
-        Ok((turn, mut desks)) => {
-            all_pass(rt, &turn, &watch, desks.as_mut_slice());
+        Ok((turn, mut worker_states)) => {
+            all_pass(rt, &turn, &watch, worker_states.as_mut_slice());
             Some(watch.told())
         }
         Err(_) => None,

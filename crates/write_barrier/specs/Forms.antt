@@ -4,7 +4,7 @@ use Rattle.write_barrier.specs.declared.sets.Noted.{Noted}
 use Rattle.write_barrier.specs.declared.sets.Form.{Form}
 use Rattle.write_barrier.specs.declared.sets.Form.TheVariants.{Bare, Full}
 
--- nothing, and places for nothing; whether its heap keeps is known all the same
+-- an empty set without capacity; whether its heap keeps references is known all the same
 abbrev pub bare : Bool → Noted
 bare keeps = record { remembered = record { sources = []; slots = 0; spare = 0; numbers = 0 }; kept = record { items = []; room = 0 }; keeps = keeps }
 

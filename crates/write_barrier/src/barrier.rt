@@ -1,4 +1,4 @@
-// What is done before the write of a reference.
+// The work before a reference is written.
 
 ghost use Rattle.std.specs.Prelude.{◌≡◌, ℕ, ◌<◌, ◌≤◌, IfSome, IsSome, OnErr, OnOk, Some, length, option_map};
 ghost use Rattle.chunk_pool.specs.PoolValue.{slot_at};
@@ -9,7 +9,7 @@ use crate::noting::{keep, note, reserve_kept};
 use chunk_pool::Pool;
 use heap_tree::Tree;
 use object_layout::Addr;
-use remembered_set::Source;
+use remembered_set::RefField;
 use std::alloc::AllocError;
 
 #[tactic(auto, using(crate::proofs::Owned::owned_used, crate::proofs::Owned::owned_made))]
@@ -26,8 +26,8 @@ fn heap_of(pool: &Pool, reference: Option<Addr>) -> Option<u32>
 }
 
 #[tactic(auto, using(crate::proofs::Owned::owned_used, crate::proofs::Owned::owned_made))]
-// The heap in whose set a reference that is written into an object is noted: that into which it points, where it
-// points down.
+// The heap in whose set a reference that is written into an object is noted: the one into which it points, if it points
+// down.
 fn noted_in(tree: &Tree, pool: &Pool, object: Addr, value: Option<Addr>) -> Option<u32>
     requires object { IsOwned (length tree.now) pool.now (Some object) }
     requires value { IsOwned (length tree.now) pool.now value }
@@ -48,20 +48,20 @@ fn noted_in(tree: &Tree, pool: &Pool, object: Addr, value: Option<Addr>) -> Opti
 }
 
 #[tactic(auto, using(crate::proofs::Owned::owned_used, crate::proofs::Owned::owned_made))]
-/// The write barrier: what is to be done before a reference is written into a field of an object in place of another
-/// one. It changes two sets at most:
+/// The write barrier: the work before a reference is written into a field of an object in place of another one. It
+/// changes at most two sets:
 ///
-/// - where the new reference points down, the set of the heap into which it points: there the field is noted, if it
-///   isn't yet. It points down where the owner of its chunk is a task below the owner of the object's chunk;
-/// - where the reference that stands in the field isn't nil, and the heap into which it points keeps, the set of that
-///   heap: there it is kept.
+/// - if the new reference points down, the set of the heap into which it points: the field is noted there, unless it is
+///   there already. It points down if the owner of its chunk is a task below the owner of the object's chunk;
+/// - if the reference in the field isn't nil, and the heap into which it points keeps references, the set of that heap:
+///   it is kept there.
 ///
-/// If an allocation fails, no set is changed. It costs what `Tree::on_path` does.
+/// If an allocation fails, no set changes. It costs as much as `Tree::on_path`.
 pub fn note_write<H: HoldsSets>(
     tree: &Tree,
     pool: &Pool,
     sets: &mut H,
-    source: Source,
+    source: RefField,
     overwritten: Option<Addr>,
     value: Option<Addr>,
 ) -> Result<(), AllocError>

@@ -1,13 +1,13 @@
-// What holds the sets of the heaps.
+// The holder of the sets of the heaps.
 
 ghost use Rattle.std.specs.Prelude.{◌≡◌, ℕ, ◌<◌, OnErr, OnOk, Option, Some, option_map};
 ghost use Rattle.write_barrier.specs.Stored.{with_kept, with_source, Content};
 
 use object_layout::Addr;
-use remembered_set::Source;
+use remembered_set::RefField;
 use std::alloc::AllocError;
 
-/// A value that has a set for each task, by its number: what is noted for the collections of the task's heap.
+/// A value with a set for each task, by its number: what is noted for the collections of the task's heap.
 pub trait HoldsSets {
     // the number of tasks
     ghost task_count: { Self → ℕ };
@@ -15,16 +15,16 @@ pub trait HoldsSets {
     // the number of sets
     ghost set_count: { Self → ℕ };
 
-    // what the set of a task's heap holds; None where there is no such set
+    // what the set of a task's heap holds; None if there is no such set
     ghost content: { Self → ℕ → Option Content };
 
-    // the set of a task's heap, if that keeps, has a place for one reference more
+    // the set of a task's heap, if it keeps references, has capacity for one more
     ghost has_place: { Self → ℕ → Type 0 };
 
     // the first value with the sets of the second
     ghost with_sets: { Self → Self → Self };
 
-    /// Makes a place for one overwritten reference more in the set of a heap, if that keeps such.
+    /// Reserves capacity for one more overwritten reference in the set of a heap, if that keeps references.
     fn reserve_kept(&mut self, heap: u32) -> Result<(), AllocError>
         requires { heap < task_count self.old }
         ensures same { (t : ℕ) → content self.new t ≡ content self.old t }
@@ -33,8 +33,8 @@ pub trait HoldsSets {
         ensures sets { set_count self.new ≡ set_count self.old }
         ensures others { self.new ≡ with_sets self.old self.new };
 
-    /// Notes in the set of a heap a field that points down into it, unless it is noted.
-    fn note(&mut self, heap: u32, source: Source) -> Result<(), AllocError>
+    /// Notes in the set of a heap a field that points down into it, unless it is there already.
+    fn note(&mut self, heap: u32, source: RefField) -> Result<(), AllocError>
         requires { heap < task_count self.old }
         ensures ok { OnOk result ((t : ℕ) → content self.new t ≡ option_map (with_source (Some heap) source t) (content self.old t)) }
         ensures err { OnErr result ((t : ℕ) → content self.new t ≡ content self.old t) }
@@ -43,8 +43,8 @@ pub trait HoldsSets {
         ensures sets { set_count self.new ≡ set_count self.old }
         ensures others { self.new ≡ with_sets self.old self.new };
 
-    /// Keeps an overwritten reference in the set of the heap into which it points, for which there is a place, if that
-    /// heap keeps such.
+    /// Keeps an overwritten reference in the set of the heap into which it points, within the reserved capacity, if
+    /// that heap keeps references.
     fn keep(&mut self, heap: u32, reference: Addr)
         requires made { heap < task_count self.old }
         requires place { has_place self.old heap }

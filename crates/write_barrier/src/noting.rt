@@ -1,14 +1,14 @@
-// What a write changes in the set of a heap, where there is one to change.
+// What a write changes in the set of a heap, if there is one to change.
 
 ghost use Rattle.std.specs.Prelude.{◌≡◌, ℕ, ◌<◌, OnErr, OnOk, IfSome, option_map};
 ghost use Rattle.write_barrier.specs.Stored.{with_kept, with_source};
 
 use crate::holder::HoldsSets;
 use object_layout::Addr;
-use remembered_set::Source;
+use remembered_set::RefField;
 use std::alloc::AllocError;
 
-// Makes a place for one reference more, if the heap keeps.
+// Reserves capacity for one more reference, if the heap keeps references.
 pub(crate) fn reserve_kept<H: HoldsSets>(sets: &mut H, heap: Option<u32>) -> Result<(), AllocError>
     requires { IfSome heap (λ h. h < H.task_count sets.old) }
     ensures same { (t : ℕ) → H.content sets.new t ≡ H.content sets.old t }
@@ -27,7 +27,7 @@ pub(crate) fn reserve_kept<H: HoldsSets>(sets: &mut H, heap: Option<u32>) -> Res
 pub(crate) fn note<H: HoldsSets>(
     sets: &mut H,
     into: Option<u32>,
-    source: Source,
+    source: RefField,
 ) -> Result<(), AllocError>
     requires { IfSome into (λ h. h < H.task_count sets.old) }
     ensures ok { OnOk result ((t : ℕ) → H.content sets.new t ≡ option_map (with_source into source t) (H.content sets.old t)) }
@@ -43,7 +43,7 @@ pub(crate) fn note<H: HoldsSets>(
     }
 }
 
-// Keeps an overwritten reference, if the heap into which it points keeps such.
+// Keeps an overwritten reference, if the heap into which it points keeps references.
 pub(crate) fn keep<H: HoldsSets>(sets: &mut H, heap: Option<u32>, overwritten: Option<Addr>)
     requires made { IfSome heap (λ h. h < H.task_count sets.old) }
     requires place { IfSome heap (λ h. H.has_place sets.old h) }

@@ -1,4 +1,4 @@
-// What is noted for the collections of one heap, which takes no memory until there is something.
+// What is noted for the collections of one heap; it allocates nothing until there is something.
 
 ghost use Rattle.std.specs.Prelude.{◌≡◌, ◌<◌, ◌≤◌, ◌++◌, ◌∷◌, [], IfErr, IfNone, IfOk, None, OnErr, OnOk, false, fold};
 ghost use Rattle.remembered_set.specs.Moved.{redirected, targets_of, AreFields, AreInOrder, ArePlaces};
@@ -6,10 +6,10 @@ ghost use Rattle.remembered_set.specs.Sources.{noted as noted_with, notes_in, St
 ghost use Rattle.write_barrier.specs.Forms.{bare, in_full};
 ghost use Rattle.write_barrier.specs.Stored.{content_of};
 
-use listed::Roomy;
+use boxed::BoxedSlot;
 use object_layout::{Addr, Chunk, Words};
-use out_of_line::Apart;
-use remembered_set::{Remembered, Source};
+use plain_vec::ReservedVec;
+use remembered_set::{RefField, Remembered};
 use std::alloc::{AllocError, Global};
 use std::marker::Model;
 use std::mem;
@@ -17,24 +17,24 @@ use std::mem;
 /// What is noted for the collections of a heap.
 #[derive(Drop)]
 pub struct Noted {
-    /// The fields of objects of heaps above that were seen to point down into this heap.
+    /// The fields of ancestors' objects that were seen to point down into this heap.
     pub remembered: Remembered,
     /// The references into this heap that were overwritten while it keeps them.
-    pub kept: Roomy<Addr>,
+    pub kept: ReservedVec<Addr>,
     /// Whether it keeps them: from the fork of its task until its sweep.
     pub keeps: bool,
 }
 
-/// Where it is held.
+/// How it is stored.
 #[derive(Drop)]
 pub enum Form {
-    /// Nowhere, since there is nothing; but whether the heap keeps is known.
+    /// Nothing is noted; whether the heap keeps references is known.
     Bare(bool),
-    /// In a block of its own.
-    Full(Apart<Noted>),
+    /// Boxed.
+    Full(BoxedSlot<Noted>),
 }
 
-/// What is noted for the collections of a heap. It takes no memory until it is to hold something.
+/// What is noted for the collections of a heap. It allocates nothing until it holds something.
 pub struct SetOf {
     alloc: Global,
     form: Form,
@@ -56,17 +56,17 @@ impl Model for SetOf {
     ghost view = { λ s. in_full s.form };
 }
 
-// Nothing, of a heap that keeps nothing.
+// An empty set of a heap that keeps no references.
 fn nothing(alloc: Global) -> Noted {
     Noted {
         remembered: Remembered::new(alloc),
-        kept: Roomy::new(alloc),
+        kept: ReservedVec::new(alloc),
         keeps: false,
     }
 }
 
-// The set of a heap that keeps nothing, which remembers this. The block goes where there is nothing.
-fn set_in(alloc: Global, remembered: Remembered, block: Apart<Noted>) -> SetOf
+// The set of a heap that keeps no references, with these remembered fields. An empty block is freed.
+fn set_in(alloc: Global, remembered: Remembered, block: BoxedSlot<Noted>) -> SetOf
     ensures { content_of result ≡ record { sources = remembered.sources; kept = []; keeps = false } }
 {
     if remembered.sources().is_empty() {
@@ -74,7 +74,7 @@ fn set_in(alloc: Global, remembered: Remembered, block: Apart<Noted>) -> SetOf
     }
     let noted = Noted {
         remembered,
-        kept: Roomy::new(alloc),
+        kept: ReservedVec::new(alloc),
         keeps: false,
     };
     SetOf {
@@ -83,8 +83,8 @@ fn set_in(alloc: Global, remembered: Remembered, block: Apart<Noted>) -> SetOf
     }
 }
 
-// The block that there is, or a new one; for want of memory the form is handed back.
-fn opened(alloc: Global, form: Form) -> Result<Apart<Noted>, Form>
+// The existing block, or a new one; if the allocation fails, the form is returned.
+fn opened(alloc: Global, form: Form) -> Result<BoxedSlot<Noted>, Form>
     ensures ok { IfOk result (λ n. content_of n ≡ content_of (in_full form)) }
     ensures places { IfOk result (λ n. (in_full form).kept.room ≤ n.kept.room) }
     ensures back { IfErr result (λ f. f ≡ form) }
@@ -94,10 +94,10 @@ fn opened(alloc: Global, form: Form) -> Result<Apart<Noted>, Form>
         Form::Bare(keeps) => {
             let noted = Noted {
                 remembered: Remembered::new(alloc),
-                kept: Roomy::new(alloc),
+                kept: ReservedVec::new(alloc),
                 keeps,
             };
-            match Apart::new(alloc, noted) {
+            match BoxedSlot::new(alloc, noted) {
                 Ok(noted) => Ok(noted),
                 Err(_) => Err(Form::Bare(keeps)),
             }
@@ -106,7 +106,7 @@ fn opened(alloc: Global, form: Form) -> Result<Apart<Noted>, Form>
 }
 
 impl SetOf {
-    /// A set that holds nothing, of a heap that keeps nothing.
+    /// An empty set of a heap that keeps no references.
     pub fn new(alloc: Global) -> SetOf
         ensures { result ≡ bare false }
     {
@@ -117,7 +117,7 @@ impl SetOf {
     }
 
     /// The fields that it remembers, in the order in which they were noted.
-    pub fn sources(&self) -> &[Source]
+    pub fn sources(&self) -> &[RefField]
         ensures sources { result.now ≡ self.now.remembered.sources }
         ensures once { StandOnce self.now.remembered.sources }
     {
@@ -137,7 +137,7 @@ impl SetOf {
         }
     }
 
-    /// Whether it keeps such.
+    /// Whether it keeps overwritten references.
     pub fn keeps(&self) -> bool
         ensures { result ≡ self.now.keeps }
     {
@@ -147,7 +147,7 @@ impl SetOf {
         }
     }
 
-    /// Whether it keeps such from now on; it has none yet, or none any more.
+    /// Sets whether it keeps overwritten references from now on; it has none now.
     pub fn set_keeps(&mut self, keeps: bool)
         ensures remembered { self.new.remembered ≡ self.old.remembered }
         ensures kept { self.new.kept.items ≡ [] }
@@ -164,7 +164,7 @@ impl SetOf {
         }
     }
 
-    /// Makes places for so many sources more.
+    /// Reserves capacity for `sources` more sources.
     pub fn make_room(&mut self, sources: u32) -> Result<(), AllocError>
         ensures same { content_of self.new ≡ content_of self.old }
         ensures slots { OnOk result (sources ≤ self.new.remembered.slots) }
@@ -187,7 +187,7 @@ impl SetOf {
         }
     }
 
-    /// Makes a place for one overwritten reference more.
+    /// Reserves capacity for one more overwritten reference.
     pub fn reserve_kept(&mut self) -> Result<(), AllocError>
         ensures same { content_of self.new ≡ content_of self.old }
         ensures room { OnOk result (0 < self.new.kept.room) }
@@ -206,8 +206,8 @@ impl SetOf {
         }
     }
 
-    /// Notes a source, unless it is known.
-    pub fn note(&mut self, source: Source) -> Result<(), AllocError>
+    /// Notes a source, unless it is there already.
+    pub fn note(&mut self, source: RefField) -> Result<(), AllocError>
         ensures ok { OnOk result (content_of self.new ≡ record (content_of self.old) { sources = noted_with self.old.remembered.sources source }) }
         ensures err { OnErr result (content_of self.new ≡ content_of self.old) }
         ensures room { self.old.kept.room ≤ self.new.kept.room }
@@ -226,7 +226,7 @@ impl SetOf {
         }
     }
 
-    /// Keeps an overwritten reference, for which there is a place.
+    /// Keeps an overwritten reference, within the reserved capacity.
     pub fn push_kept(&mut self, reference: Addr)
         requires { 0 < self.old.kept.room }
         ensures { content_of self.new ≡ record (content_of self.old) { kept = self.old.kept.items ++ reference ∷ [] } }
@@ -239,8 +239,8 @@ impl SetOf {
         self.form = Form::Full(noted);
     }
 
-    /// What the sources hold now, as far as it points into these chunks: the addresses in the
-    /// order of the sources. Without sources it looks at no chunk.
+    /// What the sources hold now, if it points into these chunks: the addresses in the order of the sources. Without
+    /// sources it looks at no chunk.
     pub fn targets<W: Words>(
         &self,
         alloc: Global,
@@ -256,8 +256,8 @@ impl SetOf {
         }
     }
 
-    /// Leads each source that still holds an old address to the new one, and leaves the others. The
-    /// relocation list stands in order of the old addresses.
+    /// Updates each source that still holds an old address to the new one, and leaves the others unchanged. The
+    /// relocation list is sorted by the old addresses.
     pub fn rewrite<W: Words>(&self, words: &mut W, moved: &[(Addr, Addr)])
         requires fields { AreFields W.refs_at words.old self.now.remembered.sources }
         requires order { AreInOrder moved.now }
@@ -271,8 +271,8 @@ impl SetOf {
         }
     }
 
-    /// What it remembers, and the block that held it. Without a block it remembers nothing, and has no places.
-    pub fn into_parts(self) -> (Remembered, Option<Apart<Noted>>)
+    /// Its remembered fields, and the block that held it. Without a block it has neither fields nor capacity.
+    pub fn into_parts(self) -> (Remembered, Option<BoxedSlot<Noted>>)
         ensures remembered { result.0 ≡ self.remembered }
         ensures bare { IfNone result.1 (result.0 ≡ notes_in None) }
     {
@@ -287,9 +287,13 @@ impl SetOf {
         }
     }
 
-    /// The set of a heap that keeps nothing, which remembers this; there is a block where there is something. It takes
-    /// no memory.
-    pub fn remembering(alloc: Global, remembered: Remembered, block: Option<Apart<Noted>>) -> SetOf
+    /// The set of a heap that keeps no references, with these remembered fields; it has a block if there are any. It
+    /// doesn't allocate.
+    pub fn remembering(
+        alloc: Global,
+        remembered: Remembered,
+        block: Option<BoxedSlot<Noted>>,
+    ) -> SetOf
         requires { IfNone block (remembered.sources ≡ []) }
         ensures { content_of result ≡ record { sources = remembered.sources; kept = []; keeps = false } }
     {

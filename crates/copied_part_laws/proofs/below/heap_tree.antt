@@ -1,2 +1,2 @@
--- What crates above name of `heap_tree`.
+-- Re-exports from `heap_tree` for the crates above.
 pub use Rattle.leaf_collections.proofs.below.heap_tree.TreeSendSync as TreeSendSync

@@ -1,2 +1,2 @@
--- What crates above name of `run_trace`.
+-- Re-exports from `run_trace` for the crates above.
 pub use Rattle.leaf_collections.proofs.below.run_trace.SettingsSendSync as SettingsSendSync

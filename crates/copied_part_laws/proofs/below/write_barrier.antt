@@ -1,2 +1,2 @@
--- What crates above name of `write_barrier`.
+-- Re-exports from `write_barrier` for the crates above.
 pub use Rattle.leaf_collections.proofs.below.write_barrier.SetOfSendSync as SetOfSendSync

@@ -1,2 +1,2 @@
--- What crates above name of `hh_lang`.
+-- Re-exports from `hh_lang` for the crates above.
 pub use Rattle.leaf_collections.specs.below.hh_lang.{ProgramText}

@@ -1,2 +1,2 @@
--- What crates above name of `ledger_step_laws`.
+-- Re-exports from `ledger_step_laws` for the crates above.
 pub use Rattle.leaf_collections.specs.below.ledger_step_laws.{aside}

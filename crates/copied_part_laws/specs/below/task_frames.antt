@@ -1,2 +1,2 @@
--- What crates above name of `task_frames`.
+-- Re-exports from `task_frames` for the crates above.
 pub use Rattle.leaf_collections.specs.below.task_frames.{FramesValue}

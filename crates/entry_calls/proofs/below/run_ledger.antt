@@ -1,2 +1,2 @@
--- What crates above name of `run_ledger`.
-pub use Rattle.shared_value.proofs.below.run_ledger.{machine_is_run, steps_are_bounded}
+-- Re-exports from `run_ledger` for the crates above.
+pub use Rattle.core_invariant.proofs.below.run_ledger.{machine_is_run, steps_are_bounded}

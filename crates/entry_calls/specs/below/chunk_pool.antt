@@ -1,2 +1,2 @@
--- What crates above name of `chunk_pool`.
-pub use Rattle.shared_value.specs.below.chunk_pool.{units_in_use}
+-- Re-exports from `chunk_pool` for the crates above.
+pub use Rattle.core_invariant.specs.below.chunk_pool.{units_in_use}

@@ -1,2 +1,2 @@
--- What crates above name of `hh_model`.
-pub use Rattle.shared_value.specs.below.hh_model.{Counted, IsForkJoinState, State, asked, row_of}
+-- Re-exports from `hh_model` for the crates above.
+pub use Rattle.core_invariant.specs.below.hh_model.{Counted, IsForkJoinState, MachineState, asked, row_of}

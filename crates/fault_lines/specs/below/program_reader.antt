@@ -1,2 +1,2 @@
--- What crates above name of `program_reader`.
-pub use Rattle.program_reader.specs.declared.cause.Refused.{Refused}
+-- Re-exports from `program_reader` for the crates above.
+pub use Rattle.program_reader.specs.declared.cause.TextFault.{TextFault}

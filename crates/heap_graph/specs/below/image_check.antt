@@ -1,3 +1,3 @@
 -- Re-exports from `image_check` for the crates above.
-pub use Rattle.image_check.specs.Fault.{image_fault}
-pub use Rattle.image_check.specs.declared.cause.Fault.{Fault}
+pub use Rattle.image_check.specs.ImageFault.{image_fault}
+pub use Rattle.image_check.specs.declared.cause.ImageFault.{ImageFault}

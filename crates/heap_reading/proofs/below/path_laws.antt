@@ -1,2 +1,2 @@
--- What crates above name of `path_laws`.
-pub use Rattle.shared_value.proofs.below.path_laws.{owners_are_walks, paths_are_walks, waiting_stops}
+-- Re-exports from `path_laws` for the crates above.
+pub use Rattle.core_invariant.proofs.below.path_laws.{owners_are_walks, paths_are_walks, waiting_stops}

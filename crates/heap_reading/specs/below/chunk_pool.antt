@@ -1,2 +1,2 @@
--- What crates above name of `chunk_pool`.
-pub use Rattle.shared_value.specs.below.chunk_pool.{AreChunks, PoolValue, Slot, owner_of, slot_at, slot_in, slot_units, units_in, units_in_use}
+-- Re-exports from `chunk_pool` for the crates above.
+pub use Rattle.core_invariant.specs.below.chunk_pool.{AreChunks, PoolValue, Slot, owner_of, slot_at, slot_in, slot_units, units_in, units_in_use}

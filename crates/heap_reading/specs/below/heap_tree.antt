@@ -1,2 +1,2 @@
--- What crates above name of `heap_tree`.
-pub use Rattle.shared_value.specs.below.heap_tree.{Ended, Joined, Node, Out, Ready, State, Waiting, parent_of, state_of}
+-- Re-exports from `heap_tree` for the crates above.
+pub use Rattle.core_invariant.specs.below.heap_tree.{Ended, Joined, TaskNode, Out, Ready, TaskState, Waiting, parent_of, state_of}

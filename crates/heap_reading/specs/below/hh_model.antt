@@ -1,2 +1,2 @@
--- What crates above name of `hh_model`.
-pub use Rattle.shared_value.specs.below.hh_model.{Counted, Done, End, Ended, Entangled, HasOneRoot, IsForkJoinState, Joined, Name, Object, Running, State, Status, Strand, Task, Trapped, TreeOf, Waiting, asked, can_step, is_left, is_on_path, is_running, is_waiting, joined, joins_in, object_at, owner_of, parent_of, parents, row_of, run, step, waiting}
+-- Re-exports from `hh_model` for the crates above.
+pub use Rattle.core_invariant.specs.below.hh_model.{Counted, Done, End, Ended, Entangled, HasOneRoot, IsForkJoinState, Joined, Name, Object, Running, MachineState, TaskStatus, Strand, Task, Trapped, TreeOf, Waiting, asked, can_step, is_left, is_on_path, is_running, is_waiting, joined, joins_in, object_at, owner_of, parent_of, parents, row_of, run, step, waiting}

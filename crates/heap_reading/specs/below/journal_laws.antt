@@ -1,2 +1,2 @@
--- What crates above name of `journal_laws`.
+-- Re-exports from `journal_laws` for the crates above.
 pub use Rattle.journal_laws.specs.Frozen.{begins}

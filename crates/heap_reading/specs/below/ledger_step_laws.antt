@@ -1,2 +1,2 @@
--- What crates above name of `ledger_step_laws`.
-pub use Rattle.shared_value.specs.below.ledger_step_laws.{ArePrivate, Knows, Rests, aside, own, rested}
+-- Re-exports from `ledger_step_laws` for the crates above.
+pub use Rattle.core_invariant.specs.below.ledger_step_laws.{ArePrivate, Knows, Rests, aside, own, rested}

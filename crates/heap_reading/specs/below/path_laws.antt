@@ -1,2 +1,2 @@
--- What crates above name of `path_laws`.
-pub use Rattle.shared_value.specs.below.path_laws.{AreOwners, ArePaths, IsWalkUp}
+-- Re-exports from `path_laws` for the crates above.
+pub use Rattle.core_invariant.specs.below.path_laws.{AreOwners, ArePaths, IsWalkUp}

@@ -1,2 +1,2 @@
--- What crates above name of `remembered_set`.
-pub use Rattle.shared_value.specs.below.remembered_set.{Source, StandOnce}
+-- Re-exports from `remembered_set` for the crates above.
+pub use Rattle.core_invariant.specs.below.remembered_set.{RefField, StandOnce}

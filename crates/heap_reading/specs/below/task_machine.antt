@@ -1,2 +1,2 @@
--- What crates above name of `task_machine`.
-pub use Rattle.shared_value.specs.below.task_machine.{Begun, Due, FitsSome, KeepsAccounts, KeepsRest, NeedChunk, Paused, Pauses, PausesBy, Private, Runs, Shared, Spent, is_part_due, is_part_in_need, lacks_place, steps, the_row, unended}
+-- Re-exports from `task_machine` for the crates above.
+pub use Rattle.core_invariant.specs.below.task_machine.{Begun, Due, FitsSome, KeepsAccounts, KeepsRest, NeedChunk, Paused, Pauses, PausesBy, Private, Runs, Shared, Spent, is_part_due, is_part_in_need, lacks_place, steps, the_row, unended}

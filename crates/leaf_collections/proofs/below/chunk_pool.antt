@@ -1,2 +1,2 @@
--- What crates above name of `chunk_pool`.
-pub use Rattle.shared_value.proofs.below.chunk_pool.PoolSendSync as PoolSendSync
+-- Re-exports from `chunk_pool` for the crates above.
+pub use Rattle.core_invariant.proofs.below.chunk_pool.PoolSendSync as PoolSendSync

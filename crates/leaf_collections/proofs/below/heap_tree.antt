@@ -1,2 +1,2 @@
--- What crates above name of `heap_tree`.
-pub use Rattle.shared_value.proofs.below.heap_tree.TreeSendSync as TreeSendSync
+-- Re-exports from `heap_tree` for the crates above.
+pub use Rattle.core_invariant.proofs.below.heap_tree.TreeSendSync as TreeSendSync

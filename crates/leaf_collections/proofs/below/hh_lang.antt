@@ -1,2 +1,2 @@
--- What crates above name of `hh_lang`.
-pub use Rattle.shared_value.proofs.below.hh_lang.ProgramSendSync as ProgramSendSync
+-- Re-exports from `hh_lang` for the crates above.
+pub use Rattle.core_invariant.proofs.below.hh_lang.ProgramSendSync as ProgramSendSync

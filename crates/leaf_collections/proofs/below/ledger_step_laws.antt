@@ -1,2 +1,2 @@
--- What crates above name of `ledger_step_laws`.
-pub use Rattle.shared_value.proofs.below.ledger_step_laws.{rested_view, rested_worker}
+-- Re-exports from `ledger_step_laws` for the crates above.
+pub use Rattle.core_invariant.proofs.below.ledger_step_laws.{rested_view, rested_worker}

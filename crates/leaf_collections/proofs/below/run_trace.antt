@@ -1,2 +1,2 @@
--- What crates above name of `run_trace`.
-pub use Rattle.shared_value.proofs.below.run_trace.SettingsSendSync as SettingsSendSync
+-- Re-exports from `run_trace` for the crates above.
+pub use Rattle.core_invariant.proofs.below.run_trace.SettingsSendSync as SettingsSendSync

@@ -1,2 +1,2 @@
--- What crates above name of `task_machine`.
-pub use Rattle.shared_value.proofs.below.task_machine.{names-push, same_line}
+-- Re-exports from `task_machine` for the crates above.
+pub use Rattle.core_invariant.proofs.below.task_machine.{names-push, same_line}

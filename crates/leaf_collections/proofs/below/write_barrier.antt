@@ -1,2 +1,2 @@
--- What crates above name of `write_barrier`.
-pub use Rattle.shared_value.proofs.below.write_barrier.SetOfSendSync as SetOfSendSync
+-- Re-exports from `write_barrier` for the crates above.
+pub use Rattle.core_invariant.proofs.below.write_barrier.SetOfSendSync as SetOfSendSync

@@ -1,2 +1,2 @@
--- What crates above name of `fork_join`.
-pub use Rattle.shared_value.specs.below.fork_join.{Child, EndedChild, joined_nodes}
+-- Re-exports from `fork_join` for the crates above.
+pub use Rattle.core_invariant.specs.below.fork_join.{Child, EndedChild, joined_nodes}

@@ -1,2 +1,2 @@
--- What crates above name of `hh_lang`.
-pub use Rattle.shared_value.specs.below.hh_lang.{Instr, Line, Par, ProgramText, Ret, line_at}
+-- Re-exports from `hh_lang` for the crates above.
+pub use Rattle.core_invariant.specs.below.hh_lang.{Instr, Line, Par, ProgramText, Ret, line_at}

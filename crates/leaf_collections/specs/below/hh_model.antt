@@ -1,2 +1,2 @@
--- What crates above name of `hh_model`.
-pub use Rattle.shared_value.specs.below.hh_model.{Depth, Done, Frame, Name, Object, Running, State, Task, Trapped, depth_limit, ended_by, fetched, object_at, step}
+-- Re-exports from `hh_model` for the crates above.
+pub use Rattle.core_invariant.specs.below.hh_model.{Depth, Done, Frame, Name, Object, Running, MachineState, Task, Trapped, depth_limit, ended_by, fetched, object_at, step}

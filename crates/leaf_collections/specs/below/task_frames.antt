@@ -1,2 +1,2 @@
--- What crates above name of `task_frames`.
-pub use Rattle.shared_value.specs.below.task_frames.{Frame, FramesValue, frames_of, led_frame, with_int, with_next, with_reference}
+-- Re-exports from `task_frames` for the crates above.
+pub use Rattle.core_invariant.specs.below.task_frames.{CallFrame, FramesValue, frames_of, led_frame, with_int, with_next, with_reference}

@@ -1,2 +1,2 @@
--- What crates above name of `walk_laws`.
-pub use Rattle.shared_value.specs.below.walk_laws.{IsWalk}
+-- Re-exports from `walk_laws` for the crates above.
+pub use Rattle.core_invariant.specs.below.walk_laws.{IsWalk}

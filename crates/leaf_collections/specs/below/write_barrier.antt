@@ -1,2 +1,2 @@
--- What crates above name of `write_barrier`.
-pub use Rattle.shared_value.specs.below.write_barrier.{SetOf, bare, content_after, content_at, content_of}
+-- Re-exports from `write_barrier` for the crates above.
+pub use Rattle.core_invariant.specs.below.write_barrier.{SetOf, bare, content_after, content_at, content_of}

@@ -1,2 +1,2 @@
--- What crates above name of `log_form`.
-pub use Rattle.log_left.specs.below.log_form.{Found, events_of, is_cut, log_fault}
+-- Re-exports from `log_form` for the crates above.
+pub use Rattle.log_left.specs.below.log_form.{LocatedFault, events_of, is_cut, log_fault}

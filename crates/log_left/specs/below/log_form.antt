@@ -1,4 +1,4 @@
--- What crates above name of `log_form`.
-pub use Rattle.log_form.specs.declared.fault.Found.{Found}
+-- Re-exports from `log_form` for the crates above.
+pub use Rattle.log_form.specs.declared.fault.LocatedFault.{LocatedFault}
 pub use Rattle.log_form.specs.Events.{events_of, is_cut}
 pub use Rattle.log_form.specs.Faults.{log_fault}

@@ -1,2 +1,2 @@
--- What crates above name of `log_pieces`.
+-- Re-exports from `log_pieces` for the crates above.
 pub use Rattle.log_pieces.specs.Pieces.{events_of_pieces}

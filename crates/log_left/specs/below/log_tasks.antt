@@ -1,3 +1,3 @@
--- What crates above name of `log_tasks`.
+-- Re-exports from `log_tasks` for the crates above.
 pub use Rattle.log_tasks.specs.declared.tasks.LogTasks.{LogTasks}
 pub use Rattle.log_tasks.specs.Log.{IsLog}

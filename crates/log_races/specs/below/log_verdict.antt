@@ -1,2 +1,2 @@
--- What crates above name of `log_verdict`.
+-- Re-exports from `log_verdict` for the crates above.
 pub use Rattle.log_verdict.specs.Verdict.{AreVerdicts}

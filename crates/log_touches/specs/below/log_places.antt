@@ -1,4 +1,4 @@
--- What crates above name of `log_places`.
+-- Re-exports from `log_places` for the crates above.
 pub use Rattle.log_places.specs.declared.numbers.NumberError.{NumberError}
 pub use Rattle.log_places.specs.declared.numbers.NumberError.TheVariants.{NoMemory, OverLimit}
 pub use Rattle.log_places.specs.Places.{IsRegionCut, PlacesValue}

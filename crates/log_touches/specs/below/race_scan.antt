@@ -1,3 +1,3 @@
--- What crates above name of `race_scan`.
+-- Re-exports from `race_scan` for the crates above.
 pub use Rattle.race_scan.specs.declared.touch.Touch.{Touch}
 pub use Rattle.race_scan.specs.Scan.{HasScanned}

@@ -1,2 +1,2 @@
--- What crates above name of `run_order`.
+-- Re-exports from `run_order` for the crates above.
 pub use Rattle.run_order.specs.Order.{run_order}

@@ -1,3 +1,3 @@
--- What crates above name of `ancestor_laws`.
+-- Re-exports from `ancestor_laws` for the crates above.
 pub use Rattle.ancestor_laws.specs.Serial.{serial_order}
 pub use Rattle.ancestor_laws.specs.Span.{IsSpan}

@@ -1,3 +1,3 @@
 -- Re-exports from `program_reader` for the crates above.
 pub use Rattle.program_reader.specs.Program.{program_of, reading_of}
-pub use Rattle.program_reader.specs.declared.cause.Refused.{Refused}
+pub use Rattle.program_reader.specs.declared.cause.TextFault.{TextFault}

@@ -1,4 +1,4 @@
--- What crates above name of `trace_input`.
+-- Re-exports from `trace_input` for the crates above.
 pub use Rattle.trace_input.specs.Input.{IsInput, input_fault, settings_for}
 pub use Rattle.trace_input.specs.declared.input.InputFault.{InputFault}
 pub use Rattle.trace_input.specs.declared.input.TraceInput.{TraceInput}

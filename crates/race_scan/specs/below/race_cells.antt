@@ -1,5 +1,5 @@
--- What crates above name of `race_cells`.
-pub use Rattle.race_cells.specs.declared.access.Access.{Access}
-pub use Rattle.race_cells.specs.declared.access.AccessKind.{AccessKind}
-pub use Rattle.race_cells.specs.declared.access.AccessKind.TheVariants.{AtomicRead, AtomicWrite, PlainRead, PlainWrite}
-pub use Rattle.race_cells.specs.Order.{IsSerial, StrandOrder}
+-- Re-exports from `race_cells` for the crates above.
+pub use Rattle.race_cells.specs.declared.access.CellAccess.{CellAccess}
+pub use Rattle.race_cells.specs.declared.access.CellAccessKind.{CellAccessKind}
+pub use Rattle.race_cells.specs.declared.access.CellAccessKind.TheVariants.{AtomicRead, AtomicWrite, PlainRead, PlainWrite}
+pub use Rattle.race_cells.specs.Order.{ExtendsPrecedence, StrandOrder}

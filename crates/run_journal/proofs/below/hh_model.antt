@@ -1,4 +1,4 @@
--- What crates above name of `hh_model`.
+-- Re-exports from `hh_model` for the crates above.
 pub use Rattle.hh_model.proofs.Carried.{at_in, next_name}
 pub use Rattle.hh_model.proofs.Changes.{Change, Freezes, SetsInt, SetsRef, WritesField}
 pub use Rattle.hh_model.proofs.Climbs.{owner_here}

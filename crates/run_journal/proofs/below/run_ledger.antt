@@ -1,4 +1,4 @@
--- What crates above name of `run_ledger`.
+-- Re-exports from `run_ledger` for the crates above.
 pub use Rattle.run_ledger.proofs.Bounds.{heap_steps, steps_are_bounded}
 pub use Rattle.run_ledger.proofs.Cuts.{after_cut, first_refused_is_first, journals_can_be_cut, legal_then}
 pub use Rattle.run_ledger.proofs.Grown.{Grown, grown}

@@ -1,6 +1,6 @@
--- What crates above name of `hh_model`.
+-- Re-exports from `hh_model` for the crates above.
 pub use Rattle.hh_model.specs.Counts.{Counted, SizesAreBounded, SizesIn}
-pub use Rattle.hh_model.specs.Effect.{Calls, Effect, Forks, Goes, Prints, Returns, Setting, Stops, Traps, calculated, counts_in, effect, int_in, object_at, onward, or_trap, place_in, put_object, read_effect, ref_in, row_of, same_name, with_int, with_object}
+pub use Rattle.hh_model.specs.Effect.{Calls, Effect, Forks, Goes, Prints, Returns, StepContext, Stops, Traps, calculated, counts_in, effect, int_in, object_at, onward, or_trap, place_in, put_object, read_effect, ref_in, row_of, same_name, with_int, with_object}
 pub use Rattle.hh_model.specs.Machine.{IsOfRun, MachineValue}
 pub use Rattle.hh_model.specs.Names.{task_names}
 pub use Rattle.hh_model.specs.Precedence.{IsWalk, Precedes, precedes, same_strand}
@@ -13,9 +13,9 @@ pub use Rattle.hh_model.specs.declared.data.End.{End}
 pub use Rattle.hh_model.specs.declared.data.Frame.{Frame}
 pub use Rattle.hh_model.specs.declared.data.Name.{Name}
 pub use Rattle.hh_model.specs.declared.data.Object.{Object}
-pub use Rattle.hh_model.specs.declared.data.State.{State}
-pub use Rattle.hh_model.specs.declared.data.Status.TheVariants.{Ended, Joined, Running, Waiting}
-pub use Rattle.hh_model.specs.declared.data.Status.{Status}
+pub use Rattle.hh_model.specs.declared.data.MachineState.{MachineState}
+pub use Rattle.hh_model.specs.declared.data.TaskStatus.TheVariants.{Ended, Joined, Running, Waiting}
+pub use Rattle.hh_model.specs.declared.data.TaskStatus.{TaskStatus}
 pub use Rattle.hh_model.specs.declared.data.Strand.{Strand}
 pub use Rattle.hh_model.specs.declared.data.Task.{Task}
 pub use Rattle.hh_model.specs.declared.data.Trap.TheVariants.{Depth, Div, Frozen, Nil, Range, Size}

@@ -1,2 +1,2 @@
--- What crates above name of `run_accounts`.
+-- Re-exports from `run_accounts` for the crates above.
 pub use Rattle.run_accounts.specs.Accounts.{FailsFor}

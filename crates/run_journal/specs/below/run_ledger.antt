@@ -1,4 +1,4 @@
--- What crates above name of `run_ledger`.
+-- Re-exports from `run_ledger` for the crates above.
 pub use Rattle.run_ledger.specs.Entries.{after, after_kind, chunk_units, refusal, with_chunk}
 pub use Rattle.run_ledger.specs.Heaps.{collected, heap_of, held, held_in, in_use, swept_heap, with_heap, words_at, words_in}
 pub use Rattle.run_ledger.specs.Journals.{IsPrefix, after_all, end_of, first_refused, first_refused_from, is_legal, is_legal_from, ledger_of, machine_of, opening, or_short, refused_as_run, tasks_in, tasks_of}

@@ -1,4 +1,4 @@
--- What crates above name of `run_trace`.
+-- Re-exports from `run_trace` for the crates above.
 pub use Rattle.run_trace.specs.Entry.{EntryValue, IsEntry}
 pub use Rattle.run_trace.specs.Line.{kind_name, spaced}
 pub use Rattle.run_trace.specs.Settings.{AreSettings, SettingsValue, field_limit, worker_limit}

@@ -1,3 +1,3 @@
--- What crates above name of `run_trace`.
+-- Re-exports from `run_trace` for the crates above.
 pub use Rattle.run_trace.specs.Entry.{EntryValue}
 pub use Rattle.run_trace.specs.Settings.{SettingsValue}

@@ -1,2 +1,2 @@
--- What crates above name of `trace_input`.
+-- Re-exports from `trace_input` for the crates above.
 pub use Rattle.page_frame.specs.below.trace_input.{InputFault, IsInput, TraceInput, input_fault, settings_for}

@@ -1,4 +1,4 @@
 -- Re-exports from `heap_image` for the crates above.
-pub use Rattle.heap_image.specs.Picture.{IsSoundPicture}
+pub use Rattle.heap_image.specs.ImageData.{IsSoundPicture}
 pub use Rattle.heap_image.specs.Text.{text_of}
-pub use Rattle.heap_image.specs.declared.picture.Picture.{Picture}
+pub use Rattle.heap_image.specs.declared.picture.ImageData.{ImageData}

@@ -1,4 +1,4 @@
--- What crates above name of `heap_marking`.
+-- Re-exports from `heap_marking` for the crates above.
 pub use Rattle.heap_marking.specs.MarkCauses.{marking_cause, marking_cause_in, waiting_cause, waiting_cause_in}
 pub use Rattle.heap_marking.specs.Pace.{IsForkIn, IsForkOf, IsLastGoing, KeepsMarks, KeepsPace, KeepsPrevious, is_going, is_state_joined, is_to_begin, previous_of}
 pub use Rattle.heap_marking.specs.declared.pace.Fork.{Fork}

@@ -1,2 +1,2 @@
--- What crates above name of `leaf_collections`.
+-- Re-exports from `leaf_collections` for the crates above.
 pub use Rattle.leaf_collections.specs.LeafEnd.{FitsCopied, end_entry, ended}

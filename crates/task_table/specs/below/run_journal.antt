@@ -1,2 +1,2 @@
--- What crates above name of `run_journal`.
+-- Re-exports from `run_journal` for the crates above.
 pub use Rattle.run_journal.specs.Replay.{ReplayFails}

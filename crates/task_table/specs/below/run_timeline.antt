@@ -1,2 +1,2 @@
--- What crates above name of `run_timeline`.
+-- Re-exports from `run_timeline` for the crates above.
 pub use Rattle.run_timeline.specs.Timeline.{timeline}

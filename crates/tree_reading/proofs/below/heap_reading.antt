@@ -1,4 +1,4 @@
--- What crates above name of `heap_reading`.
+-- Re-exports from `heap_reading` for the crates above.
 pub use Rattle.heap_reading.proofs.IdleTasks.{journal_idle}
 pub use Rattle.heap_reading.proofs.InOrder.{all_same}
 pub use Rattle.heap_reading.proofs.KeptNames.{handed_held, runs_is}

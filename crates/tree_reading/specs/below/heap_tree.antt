@@ -1,2 +1,2 @@
--- What crates above name of `heap_tree`.
-pub use Rattle.heap_reading.specs.below.heap_tree.{Ended, Joined, Node, Out, Ready, State, Waiting, state_of}
+-- Re-exports from `heap_tree` for the crates above.
+pub use Rattle.heap_reading.specs.below.heap_tree.{Ended, Joined, TaskNode, Out, Ready, TaskState, Waiting, state_of}

@@ -1,2 +1,2 @@
--- What crates above name of `ledger_step_laws`.
+-- Re-exports from `ledger_step_laws` for the crates above.
 pub use Rattle.heap_reading.specs.below.ledger_step_laws.{Rests, own}

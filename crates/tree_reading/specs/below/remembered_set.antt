@@ -1,2 +1,2 @@
--- What crates above name of `remembered_set`.
-pub use Rattle.heap_reading.specs.below.remembered_set.{Source}
+-- Re-exports from `remembered_set` for the crates above.
+pub use Rattle.heap_reading.specs.below.remembered_set.{RefField}

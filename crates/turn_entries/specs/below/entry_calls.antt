@@ -1,2 +1,2 @@
--- What crates above name of `entry_calls`.
+-- Re-exports from `entry_calls` for the crates above.
 pub use Rattle.entry_calls.specs.declared.calls.EntryCalls.{Ghosts as EntryCallsGhosts}

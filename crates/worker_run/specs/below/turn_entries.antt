@@ -1,3 +1,3 @@
--- What crates above name of `turn_entries`.
+-- Re-exports from `turn_entries` for the crates above.
 pub use Rattle.turn_entries.specs.Parts.{ComesWith, GoesWith, Sight}
 pub use Rattle.turn_entries.specs.declared.between_turns.Ready.{Ready}

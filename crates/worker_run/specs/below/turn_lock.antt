@@ -1,2 +1,2 @@
--- What crates above name of `turn_lock`.
+-- Re-exports from `turn_lock` for the crates above.
 pub use Rattle.turn_entries.specs.below.turn_lock.{HasNoTurn, identity, view}

@@ -1,9 +1,5 @@
-use Rattle.std.proofs.Common.{◌≡◌, ◌++◌, ◌∙◌, ℕ, List, [], get_or, slice_get, map, append-nil, ap, sym, subst}
-use Rattle.std.proofs.lemmas.List.{drop_all, get_or_read}
-use Rattle.std.proofs.lemmas.Result.{IfOk-weaker}
-use Rattle.log_form.specs.Text.{lines_in}
-use Rattle.act_lines.specs.declared.line.ActLine.{ActLine}
-use Rattle.act_lines.specs.ActLines.{act_lines, act_lines_from, act_lines_behind}
+use Rattle.std.proofs.Common.{append-nil}
+use Rattle.act_lines.proofs.Common.{◌≡◌, ◌++◌, ◌∙◌, ℕ, List, [], get_or, slice_get, map, ap, sym, subst, drop_all, get_or_read, IfOk-weaker, lines_in, ActLine, act_lines, act_lines_from, act_lines_behind}
 use Rattle.act_lines.proofs.Lines.{files_next}
 use Rattle.act_lines.proofs.find.lines_of_acts.Goals as goal
 

@@ -1,7 +1,4 @@
-use Rattle.std.proofs.Common.{◌≡◌, ◌++◌, List, drop}
-use Rattle.act_lines.specs.declared.line.ActLine.{ActLine}
-use Rattle.act_lines.specs.ActLines.{act_lines_behind, act_lines}
-use Rattle.act_lines.specs.Search.{HasFound}
+use Rattle.act_lines.proofs.Common.{◌≡◌, ◌++◌, List, drop, ActLine, act_lines_behind, act_lines, HasFound}
 use Rattle.act_lines.proofs.find.lines_of_acts.Given as goal
 
 abbrev pub invariant-loop-file : goal.invariant-loop-file

@@ -1,6 +1,4 @@
-use Rattle.std.proofs.Common.{◌≡◌, length}
-use Rattle.std.specs.Prelude.{All}
-use Rattle.chunk_pool.specs.PoolValue.{IsBlank}
+use Rattle.chunk_pool.proofs.Common.{◌≡◌, length, All, IsBlank}
 use Rattle.chunk_pool.proofs.numbers.blank_chunks.Given as goal
 
 abbrev pub invariant-loop : goal.invariant-loop

@@ -1,8 +1,4 @@
-use Rattle.std.proofs.Common.{◌≡◌, ◌+◌, ◌-◌, ◌≤◌, [], ◌∷◌, ◌++◌, length, ap, ◌∙◌, sym, subst, arith, rules, length-append}
-use Rattle.std.specs.Prelude.{All}
-use Rattle.std.proofs.lemmas.List.Elements.{All-head}
-use Rattle.object_layout.specs.ChunkValue.{ChunkValue}
-use Rattle.chunk_pool.specs.PoolValue.{IsBlank, NumbersBehind, one_unit}
+use Rattle.chunk_pool.proofs.Common.{◌≡◌, ◌+◌, ◌-◌, ◌≤◌, [], ◌∷◌, ◌++◌, length, ap, ◌∙◌, sym, subst, arith, rules, length-append, All, All-head, ChunkValue, IsBlank, NumbersBehind, one_unit}
 use Rattle.chunk_pool.proofs.Numbering.{all_left, all_right, behind_more}
 use Rattle.chunk_pool.proofs.UnitLemmas.{chunks_set}
 use Rattle.chunk_pool.proofs.numbers.number_all.Goals as goal

@@ -1,7 +1,4 @@
-use Rattle.std.proofs.Common.{◌+◌, ◌-◌, ◌≤◌, ◌^◌, length, vec_len, vec_capacity}
-use Rattle.std.specs.Prelude.{All}
-use Rattle.slab.specs.Slab.{HasRoomFor}
-use Rattle.chunk_pool.specs.PoolValue.{AreChunks, IsBlank, NumbersBehind}
+use Rattle.chunk_pool.proofs.Common.{◌+◌, ◌-◌, ◌≤◌, ◌^◌, length, vec_len, vec_capacity, All, HasRoomFor, AreChunks, IsBlank, NumbersBehind}
 use Rattle.chunk_pool.proofs.numbers.number_all.Given as goal
 
 abbrev pub invariant-loop-chunk : goal.invariant-loop-chunk

@@ -1,7 +1,7 @@
 use Rattle.std.proofs.Common.{◌≡◌, ◌∙◌, ◌≤◌, ℕ, List, ap, arith, subst}
 use Rattle.memory_scenes.specs.below.object_layout.{ChunkValue}
-use Rattle.memory_scenes.specs.below.alloc_path.{IsFresh}
-use Rattle.leaf_copy_gc.specs.Laid.{small_words}
+use Rattle.memory_scenes.specs.below.leaf_heap.{IsFresh}
+use Rattle.copying_gc.specs.Laid.{small_words}
 use Rattle.collection_tests.proofs.collecting.is_ready.Goals as goal
 
 pub returns : goal.returns

@@ -1,8 +1,4 @@
-use Rattle.std.proofs.Common.{◌∙◌, ap, refl}
-use Rattle.std.specs.Prelude.{Some}
-use Rattle.refusal_lines.proofs.below.run_report.{whole_text}
-use Rattle.world_core.specs.below.shared_value.{SharedValue, accounts}
-use Rattle.world_core.specs.below.counted_tree.{totals_of}
+use Rattle.command_answers.proofs.Common.{◌∙◌, ap, refl, Some, whole_text, SharedValue, accounts, totals_of}
 use Rattle.command_answers.proofs.Runs.{ended_run}
 use Rattle.command_answers.proofs.ended.answer_ended.Goals as goal
 

@@ -1,12 +1,4 @@
-use Rattle.std.proofs.Common.{◌≡◌, ℕ, Bool, true, List, length, refl, subst, ◌∙◌}
-use Rattle.std.specs.Prelude.{IfOk, string_bytes}
-use Rattle.made_program_laws.specs.below.hh_lang.{ProgramText}
-use Rattle.made_program_laws.specs.below.run_trace.{EntryValue, SettingsValue}
-use Rattle.race_report.specs.below.run_ledger.{Report, ledger_of, opening, report_of, report_lines}
-use Rattle.refusal_lines.specs.below.run_report.{report_from, totals_from, report_part}
-use Rattle.refusal_lines.proofs.below.run_report.{report_shown}
-use Rattle.world_core.specs.below.shared_value.{SharedValue, accounts}
-use Rattle.world_core.specs.below.counted_tree.{totals_of}
+use Rattle.command_answers.proofs.Common.{◌≡◌, ℕ, Bool, true, List, length, refl, subst, ◌∙◌, IfOk, string_bytes, ProgramText, EntryValue, SettingsValue, Report, ledger_of, opening, report_of, report_lines, report_from, totals_from, report_part, report_shown, SharedValue, accounts, totals_of}
 use Rattle.command_answers.proofs.ended.report_lines.Goals as goal
 
 from_totals : (p : ProgramText) (s : SettingsValue) (journal : List EntryValue) → report_of p s journal ≡ report_from (ledger_of p s journal) (length journal) (totals_from p s (opening p s) journal)

@@ -1,8 +1,4 @@
-use Rattle.std.proofs.Common.{List, subst, sym}
-use Rattle.std.proofs.lemmas.Result.{IfOk-weaker}
-use Rattle.made_program_laws.specs.below.run_trace.{EntryValue}
-use Rattle.refusal_lines.specs.declared.refusal.Refusal.TheVariants.{Entry}
-use Rattle.command_answers.specs.Answers.{Refuses, short_of}
+use Rattle.command_answers.proofs.Common.{List, subst, sym, IfOk-weaker, EntryValue, Entry, Refuses, short_of}
 use Rattle.command_answers.proofs.Imaged.{image_ended, image_short}
 use Rattle.command_answers.proofs.image.answer_made.Goals as goal
 

@@ -1,11 +1,4 @@
-use Rattle.std.proofs.Common.{◌≡◌, ◌∙◌, ap, subst}
-use Rattle.std.specs.Prelude.{Some}
-use Rattle.std.proofs.lemmas.Result.{IfOk-weaker}
-use Rattle.race_report.specs.below.run_ledger.{first_refused, RefusedAt}
-use Rattle.world_core.specs.Replay.{HasReplayed, IsStop, ReplayGives}
-use Rattle.world_core.specs.below.shared_value.{SharedValue}
-use Rattle.refusal_lines.specs.declared.refusal.Refusal.TheVariants.{Entry}
-use Rattle.command_answers.specs.Answers.{IsImaged, Refuses}
+use Rattle.command_answers.proofs.Common.{◌≡◌, ◌∙◌, ap, subst, Some, IfOk-weaker, first_refused, RefusedAt, HasReplayed, IsStop, ReplayGives, SharedValue, Entry, IsImaged, Refuses}
 use Rattle.command_answers.proofs.Imaged.{imaged}
 use Rattle.command_answers.proofs.Runs.{refused_first}
 use Rattle.command_answers.proofs.Traces.{trace_told}

@@ -1,9 +1,4 @@
-use Rattle.std.proofs.Common.{◌∙◌, ap, rules}
-use Rattle.std.specs.Prelude.{Some, None}
-use Rattle.std.proofs.lemmas.Result.{IfOk-weaker}
-use Rattle.race_report.specs.below.run_ledger.{out_text}
-use Rattle.refusal_lines.specs.below.run_report.{Extras}
-use Rattle.command_answers.specs.Answers.{IsModelled}
+use Rattle.command_answers.proofs.Common.{◌∙◌, ap, rules, Some, None, IfOk-weaker, out_text, Extras, IsModelled}
 use Rattle.command_answers.proofs.Traces.{modelled, trace_told}
 use Rattle.command_answers.proofs.model.answer_trace.Goals as goal
 

@@ -1,9 +1,4 @@
-use Rattle.std.proofs.Common.{rules, List, subst}
-use Rattle.std.specs.Prelude.{Some, None}
-use Rattle.std.proofs.lemmas.Result.{IfOk-weaker}
-use Rattle.race_report.specs.declared.data.Race.{Race}
-use Rattle.race_report.specs.Text.{races_text}
-use Rattle.command_answers.specs.Answers.{IsRaceAnswer, IsText, races_status}
+use Rattle.command_answers.proofs.Common.{rules, List, subst, Some, None, IfOk-weaker, Race, races_text, IsRaceAnswer, IsText, races_status}
 use Rattle.command_answers.proofs.Traces.{trace_told}
 use Rattle.command_answers.proofs.races.answer_trace.Goals as goal
 

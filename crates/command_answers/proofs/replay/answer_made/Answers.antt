@@ -1,6 +1,4 @@
-use Rattle.std.proofs.Common.{ap, sym, ◌∙◌}
-use Rattle.std.proofs.lemmas.Result.{IfOk-weaker}
-use Rattle.world_core.specs.below.shared_value.{SharedValue, accounts}
+use Rattle.command_answers.proofs.Common.{ap, sym, ◌∙◌, IfOk-weaker, SharedValue, accounts}
 use Rattle.command_answers.proofs.Runs.{made_ended, made_short}
 use Rattle.command_answers.proofs.replay.answer_made.Goals as goal
 

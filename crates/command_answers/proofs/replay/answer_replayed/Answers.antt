@@ -1,11 +1,4 @@
-use Rattle.std.proofs.Common.{subst, sym}
-use Rattle.std.specs.Prelude.{IfOk, Result}
-use Rattle.world_core.specs.below.shared_value.{SharedValue}
-use Rattle.race_report.specs.below.run_ledger.{refused_as_run}
-use Rattle.world_core.specs.WorldValue.{WorldValue}
-use Rattle.world_core.specs.declared.replaying.ReplayStop.{ReplayStop}
-use Rattle.command_answers.specs.Answers.{AnswersReplayed, WhereWhole}
-use Rattle.command_answers.specs.Runs.{IsReplayedRun}
+use Rattle.command_answers.proofs.Common.{subst, sym, IfOk, Result, SharedValue, refused_as_run, WorldValue, ReplayStop, AnswersReplayed, WhereWhole, IsReplayedRun}
 use Rattle.command_answers.proofs.replay.answer_replayed.Goals as goal
 
 pub returns-in-Ok-clause-answer : goal.returns-in-Ok-clause-answer

@@ -1,8 +1,4 @@
-use Rattle.std.proofs.Common.{subst}
-use Rattle.std.specs.Prelude.{IfOk}
-use Rattle.std.proofs.lemmas.Result.{IfErr-weaker, IfOk-weaker}
-use Rattle.refusal_lines.specs.below.run_report.{Extras}
-use Rattle.command_answers.specs.Answers.{AnswersReplayed}
+use Rattle.command_answers.proofs.Common.{subst, IfOk, IfErr-weaker, IfOk-weaker, Extras, AnswersReplayed}
 use Rattle.command_answers.proofs.Runs.{replayed_left, replayed_told}
 use Rattle.command_answers.proofs.replay.answer_trace.Goals as goal
 

@@ -1,5 +1,4 @@
-use Rattle.std.proofs.Common.{rules}
-use Rattle.std.proofs.lemmas.Result.{IfOk-weaker}
+use Rattle.command_answers.proofs.Common.{rules, IfOk-weaker}
 use Rattle.command_answers.proofs.ImagesTold.{image_told, image_refused}
 use Rattle.command_answers.proofs.verify.answer_verify.Goals as goal
 

@@ -1,8 +1,4 @@
-use Rattle.std.proofs.Common.{◌∙◌, sym, subst}
-use Rattle.std.proofs.lemmas.Result.{IfErr-weaker, IfOk-weaker}
-use Rattle.command_answers.specs.Answers.{AnswersMake, LeavesMake}
-use Rattle.command_answers.specs.Delivery.{IsWanted}
-use Rattle.command_answers.proofs.Traces.{made_left, made_run, text_made}
+use Rattle.command_core.proofs.Common.{◌∙◌, sym, subst, IfErr-weaker, IfOk-weaker, AnswersMake, LeavesMake, IsWanted, made_left, made_run, text_made}
 use Rattle.command_core.proofs.answers.answer_make.Goals as goal
 
 pub returns-then-run-clause-answer : goal.returns-then-run-clause-answer

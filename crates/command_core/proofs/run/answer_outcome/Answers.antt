@@ -1,8 +1,4 @@
-use Rattle.std.proofs.Common.{Some, sym, ap, subst, ◌∙◌}
-use Rattle.std.proofs.lemmas.Result.{IfErr-weaker, IfOk-weaker}
-use Rattle.worker_run.specs.below.shared_value.{SharedValue, accounts}
-use Rattle.command_answers.specs.Delivery.{remains_of}
-use Rattle.command_answers.specs.Runs.{IsReplayedRun}
+use Rattle.command_core.proofs.Common.{Some, sym, ap, subst, ◌∙◌, IfErr-weaker, IfOk-weaker, SharedValue, accounts, remains_of, IsReplayedRun}
 use Rattle.command_core.proofs.run.answer_outcome.Goals as goal
 
 pub answer_ended-requires : goal.answer_ended-requires

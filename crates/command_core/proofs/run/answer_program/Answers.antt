@@ -1,14 +1,5 @@
 use denote.Param.Send.{sendable}
-use Rattle.std.proofs.Common.{sym, subst, ◌∙◌, ◌≡◌}
-use Rattle.std.specs.Prelude.{IfOk, IfSome, Option, Some}
-use Rattle.std.proofs.lemmas.Result.{IfErr-weaker, IfOk-weaker}
-use Rattle.refusal_lines.specs.below.run_ledger.{end_of}
-use Rattle.worker_run.specs.below.shared_value.{SharedValue}
-use Rattle.worker_run.specs.Outcomes.{IsRun, finish_of}
-use Rattle.refusal_lines.specs.below.run_report.{Extras}
-use Rattle.command_answers.specs.Answers.{extras_of}
-use Rattle.command_core.specs.Outcomes.{AnswersOutcome}
-use Rattle.paced_tree.proofs.Sent.{paced_send}
+use Rattle.command_core.proofs.Common.{sym, subst, ◌∙◌, ◌≡◌, IfOk, IfSome, Option, Some, IfErr-weaker, IfOk-weaker, end_of, SharedValue, IsRun, finish_of, Extras, extras_of, paced_send, AnswersOutcome}
 use Rattle.command_core.proofs.Runs.{left_wanted, told_end, workers_run}
 use Rattle.command_core.proofs.run.answer_program.Goals as goal
 

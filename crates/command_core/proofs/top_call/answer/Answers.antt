@@ -1,7 +1,4 @@
-use Rattle.std.proofs.Common.{ℕ, List, subst}
-use Rattle.std.specs.Prelude.{Some}
-use Rattle.whole_call.specs.Input.{SourceState}
-use Rattle.command_core.specs.Call.{Ends}
+use Rattle.command_core.proofs.Common.{ℕ, List, subst, Some, SourceState, Ends}
 use Rattle.command_core.proofs.Calls.{has_read, is_read, nothing_read, served, without_input, without_memory}
 use Rattle.command_core.proofs.top_call.answer.Goals as goal
 

@@ -1,7 +1,4 @@
-use Rattle.std.proofs.Common.{◌≡◌, ◌∙◌, sym}
-use Rattle.std.specs.Prelude.{map, None, string_bytes}
-use Rattle.command_line.specs.CommandLine.{command_line}
-use Rattle.whole_call.specs.Input.{SourceState}
+use Rattle.command_core.proofs.Common.{◌≡◌, ◌∙◌, sym, map, None, string_bytes, command_line, SourceState}
 use Rattle.command_core.proofs.Calls.{refused, unread_words}
 use Rattle.command_core.proofs.top_call.command.Goals as goal
 

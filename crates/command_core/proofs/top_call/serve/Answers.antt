@@ -1,7 +1,4 @@
-use Rattle.std.proofs.lemmas.Result.{IfOk-weaker}
-use Rattle.command_answers.specs.Answers.{AnswersLine, LeavesLine}
-use Rattle.command_answers.proofs.Answered.{answered}
-use Rattle.command_answers.proofs.Deliveries.{found_given, found_no_read}
+use Rattle.command_core.proofs.Common.{IfOk-weaker, AnswersLine, LeavesLine, answered, found_given, found_no_read}
 use Rattle.command_core.proofs.top_call.serve.Goals as goal
 
 pub give-requires : goal.give-requires

@@ -1,5 +1,4 @@
-use Rattle.std.proofs.Common.{refl}
-use Rattle.std.proofs.lemmas.Result.{IfOk-weaker}
+use Rattle.command_line.proofs.Common.{refl, IfOk-weaker}
 use Rattle.command_line.proofs.Plain.{shaped}
 use Rattle.command_line.proofs.command.limited.Goals as goal
 

@@ -1,7 +1,5 @@
-use Rattle.std.proofs.Common.{◌∙◌, Some, ap, sym, codes, arith}
-use Rattle.clap.specs.Words.{Text, found_of, rows_of}
-use Rattle.command_line.specs.CommandLine.{asked}
-use Rattle.command_line.specs.declared.line.CommandLine.TheVariants.{Check, Run, Replay, Model, Races, Image, Verify}
+use Rattle.command_line.proofs.Common.{◌∙◌, Some, ap, sym, codes, arith, found_of, rows_of, asked, Check, Run, Replay, Model, Races, Image, Verify}
+use Rattle.clap.specs.Words.{Text}
 use Rattle.command_line.proofs.Ranges.{wider}
 use Rattle.command_line.proofs.read.asked.Goals as goal
 

@@ -1,6 +1,4 @@
-use Rattle.std.proofs.Common.{◌∙◌, codes, ap, Some}
-use Rattle.clap.specs.Words.{found_of}
-use Rattle.clap.proofs.WalkLemmas.{first_value-rows}
+use Rattle.command_line.proofs.Common.{◌∙◌, codes, ap, Some, found_of, first_value-rows}
 use Rattle.command_line.proofs.read.file.Goals as goal
 
 pub returns-in-Some : goal.returns-in-Some

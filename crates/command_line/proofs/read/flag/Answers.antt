@@ -1,6 +1,4 @@
-use Rattle.std.proofs.Common.{◌∙◌, inl, inr}
-use Rattle.clap.specs.Words.{found_of}
-use Rattle.clap.proofs.WalkLemmas.{one_text-rows}
+use Rattle.command_line.proofs.Common.{◌∙◌, inl, inr, found_of, one_text-rows}
 use Rattle.command_line.proofs.read.flag.Goals as goal
 
 pub returns : goal.returns

@@ -1,12 +1,5 @@
-use Rattle.std.proofs.Common.{◌≡◌, ◌∙◌, ap, sym, subst, true, [], List, map, is_some, string_bytes, Global}
-use Rattle.std.proofs.lemmas.Result.{IfOk-weaker}
-use Rattle.clap.specs.Words.{App, HasMatchesOf, Text, fault_of, subcommand_of, subcommand_rows_of}
-use Rattle.clap.specs.Kinds.{HasKind}
-use Rattle.clap.specs.Faults.{is_simple_and_free}
-use Rattle.clap.specs.Walk.{is_empty}
-use Rattle.command_line.specs.App.{app}
-use Rattle.command_line.specs.CommandLine.{HasSize}
-use Rattle.command_line.specs.Values.{FitsFound}
+use Rattle.command_line.proofs.Common.{◌≡◌, ◌∙◌, ap, sym, subst, true, [], List, map, is_some, string_bytes, Global, IfOk-weaker, App, HasMatchesOf, subcommand_rows_of, HasKind, is_simple_and_free, is_empty, app, HasSize, FitsFound}
+use Rattle.clap.specs.Words.{Text, fault_of, subcommand_of}
 use Rattle.command_line.proofs.Ranges.{found_size}
 use Rattle.command_line.proofs.Taken.{asked_at, is_good, is_plain_app, line_of, no_line, taken}
 use Rattle.command_line.proofs.read.read_command_line.Goals as goal

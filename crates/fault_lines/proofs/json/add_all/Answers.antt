@@ -1,6 +1,4 @@
-use Rattle.std.proofs.Common.{◌∙◌, ◌++◌, ap, arith, drop}
-use Rattle.std.proofs.lemmas.List.{take_all, length-drop}
-use Rattle.std.proofs.lemmas.Result.{on_ok_weaker}
+use Rattle.fault_lines.proofs.Common.{◌∙◌, ◌++◌, ap, arith, drop, take_all, length-drop, on_ok_weaker}
 use Rattle.fault_lines.proofs.Pieces.{pieces_are}
 use Rattle.fault_lines.proofs.json.add_all.Goals as goal
 

@@ -1,5 +1,4 @@
-use Rattle.std.proofs.Common.{◌∙◌, ap}
-use Rattle.program_reader.specs.Cause.{text_of_cause}
+use Rattle.fault_lines.proofs.Common.{◌∙◌, ap, text_of_cause}
 use Rattle.fault_lines.proofs.Pieces.{piece_added}
 use Rattle.fault_lines.proofs.json.add_fault.Goals as goal
 

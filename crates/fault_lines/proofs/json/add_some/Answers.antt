@@ -1,5 +1,4 @@
-use Rattle.std.proofs.Common.{◌∙◌}
-use Rattle.fault_lines.specs.Json.{fault_piece}
+use Rattle.fault_lines.proofs.Common.{◌∙◌, fault_piece}
 use Rattle.fault_lines.proofs.Pieces.{some_added}
 use Rattle.fault_lines.proofs.json.add_some.Goals as goal
 

@@ -1,5 +1,4 @@
-use Rattle.std.proofs.Common.{◌∙◌}
-use Rattle.std.proofs.lemmas.Result.{IfOk-weaker}
+use Rattle.fault_lines.proofs.Common.{◌∙◌, IfOk-weaker}
 use Rattle.fault_lines.proofs.Values.{array_is}
 use Rattle.fault_lines.proofs.json.faults_json.Goals as goal
 

@@ -1,6 +1,4 @@
-use Rattle.std.proofs.Common.{◌≡◌, take}
-use Rattle.std.specs.List.{flat_map}
-use Rattle.fault_lines.specs.Json.{further_piece}
+use Rattle.fault_lines.proofs.Common.{◌≡◌, take, flat_map, further_piece}
 use Rattle.fault_lines.proofs.json.further_text.Given as goal
 
 abbrev pub invariant-loop-fault : goal.invariant-loop-fault

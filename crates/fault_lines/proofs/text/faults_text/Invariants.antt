@@ -1,6 +1,4 @@
-use Rattle.std.proofs.Common.{◌≡◌, take}
-use Rattle.std.specs.List.{flat_map}
-use Rattle.fault_lines.specs.Text.{fault_line}
+use Rattle.fault_lines.proofs.Common.{◌≡◌, take, flat_map, fault_line}
 use Rattle.fault_lines.proofs.text.faults_text.Given as goal
 
 abbrev pub invariant-loop-fault : goal.invariant-loop-fault

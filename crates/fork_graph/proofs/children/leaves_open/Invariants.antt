@@ -1,6 +1,4 @@
-use Rattle.std.proofs.Common.{◌≡◌, false, take}
-use Rattle.std.specs.List.{list_any}
-use Rattle.fork_graph.specs.Children.{spawns_open}
+use Rattle.fork_graph.proofs.Common.{◌≡◌, false, take, list_any, spawns_open}
 use Rattle.fork_graph.proofs.children.leaves_open.Given as goal
 
 abbrev pub invariant-loop-turn : goal.invariant-loop-turn

@@ -1,19 +1,13 @@
-use Rattle.std.proofs.Common.{◌≡◌, ◌∙◌, Bool, length, slice_get, ap, sym, List}
-use Rattle.std.proofs.Common.{ℕ, Some}
-use Rattle.std.proofs.lemmas.Bool.{false≢true}
-use Rattle.std.specs.List.{list_any}
-use Rattle.fork_graph.specs.declared.graph.Turn.{Turn}
-use Rattle.fork_graph.specs.Graph.{tasks_in, strand, last_of}
-use Rattle.fork_graph.specs.Children.{spawns_open}
-use Rattle.fork_graph.proofs.Search.{row_is}
+use Rattle.fork_graph.proofs.Common.{◌≡◌, ◌∙◌, Bool, length, slice_get, ap, sym, List, ℕ, Some, false≢true, list_any, GraphTurn, tasks_in, strand, last_of, spawns_open}
+use Rattle.fork_graph.proofs.SpawnSearch.{row_is}
 use Rattle.fork_graph.proofs.Ends.{unjoined_first, unreached_first, clean_whole}
 use Rattle.fork_graph.proofs.fault.end_fault.Goals as goal
 
-left_by : (rows : List (List Turn)) (t : ℕ) (row turns : List Turn) (test : Turn → Bool) (b : Bool) → slice_get rows t ≡ Some row → turns ≡ row
+left_by : (rows : List (List GraphTurn)) (t : ℕ) (row turns : List GraphTurn) (test : GraphTurn → Bool) (b : Bool) → slice_get rows t ≡ Some row → turns ≡ row
     → b ≡ list_any test turns → list_any test (tasks_in rows t) ≡ b
-left_by rows t row turns test b h e is = ap (λ (ts : List Turn). list_any test ts) (row_is rows t row h ∙ sym e) ∙ sym is
+left_by rows t row turns test b h e is = ap (λ (ts : List GraphTurn). list_any test ts) (row_is rows t row h ∙ sym e) ∙ sym is
 
-end_of : (rows : List (List Turn)) (t i : ℕ) (row : List Turn) → slice_get rows t ≡ Some row → i ≡ length row → strand t i ≡ last_of (tasks_in rows) t
+end_of : (rows : List (List GraphTurn)) (t i : ℕ) (row : List GraphTurn) → slice_get rows t ≡ Some row → i ≡ length row → strand t i ≡ last_of (tasks_in rows) t
 end_of rows t i row h e = ap (strand t) (e ∙ ap length (sym (row_is rows t row h)))
 
 pub returns-then-leaves_open : goal.returns-then-leaves_open

@@ -1,6 +1,4 @@
-use Rattle.std.proofs.Common.{◌≡◌, length, subst, arith}
-use Rattle.fork_graph.specs.Graph.{strand}
-use Rattle.fork_graph.specs.Faults.{HasNoEarlier}
+use Rattle.fork_graph.proofs.Common.{◌≡◌, length, subst, arith, strand, HasNoEarlier}
 use Rattle.fork_graph.proofs.Sound.{sound_by}
 use Rattle.fork_graph.proofs.fault.first_fault.Goals as goal
 

@@ -1,7 +1,4 @@
-use Rattle.std.proofs.Common.{length}
-use Rattle.fork_graph.specs.Graph.{tasks_in, strand}
-use Rattle.fork_graph.specs.Faults.{HasNoEarlier}
-use Rattle.fork_graph.specs.Children.{AreStates}
+use Rattle.fork_graph.proofs.Common.{length, tasks_in, strand, HasNoEarlier, AreStates}
 use Rattle.fork_graph.proofs.fault.first_fault.Given as goal
 
 abbrev pub invariant-loop-task : goal.invariant-loop-task

@@ -1,17 +1,9 @@
-use Rattle.std.proofs.Common.{ℕ, ◌+◌, length, sym, subst, Option, Some, None, MatchOption, List}
-use Rattle.fork_graph.specs.declared.graph.Turn.{Turn}
-use Rattle.fork_graph.specs.declared.children.ChildState.{ChildState}
-use Rattle.fork_graph.specs.declared.fault.Fault.{Fault}
-use Rattle.fork_graph.specs.declared.fault.Extent.{Extent}
-use Rattle.fork_graph.specs.declared.fault.Extent.TheVariants.{Whole}
-use Rattle.fork_graph.specs.Graph.{tasks_in, strand, last_of}
-use Rattle.fork_graph.specs.Faults.{HasNoEarlier, IsFirstFault}
-use Rattle.fork_graph.specs.Children.{AreStates}
+use Rattle.fork_graph.proofs.Common.{ℕ, ◌+◌, length, sym, subst, Option, Some, None, MatchOption, List, GraphTurn, ChildState, StrandFault, Extent, Whole, tasks_in, strand, last_of, HasNoEarlier, IsFirstFault, AreStates}
 use Rattle.fork_graph.proofs.States.{states_next}
 use Rattle.fork_graph.proofs.Ends.{clean_cut}
 use Rattle.fork_graph.proofs.fault.task_fault.Goals as goal
 
-with_states : (rows : List (List Turn)) (extent : Extent) (t : ℕ) (states : List ChildState) (o : Option Fault)
+with_states : (rows : List (List GraphTurn)) (extent : Extent) (t : ℕ) (states : List ChildState) (o : Option StrandFault)
     → AreStates (tasks_in rows) (length rows) (strand (t + 1) 0) states
     → MatchOption o (HasNoEarlier rows extent (strand (t + 1) 0)) (IsFirstFault rows extent)
     → MatchOption o (AreStates (tasks_in rows) (length rows) (strand (t + 1) 0) states × HasNoEarlier rows extent (strand (t + 1) 0)) (IsFirstFault rows extent)

@@ -1,10 +1,5 @@
-use Rattle.std.proofs.Common.{◌≡◌, ◌<◌, ◌^◌, ◌∙◌, Some, None, length, slice_get, ap, sym, subst, rules, arith, List}
-use Rattle.fork_graph.specs.declared.graph.Turn.{Turn}
-use Rattle.fork_graph.specs.declared.fault.Cause.{Cause}
-use Rattle.fork_graph.specs.Graph.{tasks_in, strand, Does}
-use Rattle.fork_graph.specs.Faults.{HasNoEarlier, IsFirstFault}
-use Rattle.fork_graph.specs.Children.{AreStates, after_turn}
-use Rattle.fork_graph.proofs.Search.{row_is}
+use Rattle.fork_graph.proofs.Common.{◌≡◌, ◌<◌, ◌^◌, ◌∙◌, Some, None, length, slice_get, ap, sym, subst, rules, arith, List, GraphTurn, StrandCause, tasks_in, strand, Does, HasNoEarlier, IsFirstFault, AreStates, after_turn}
+use Rattle.fork_graph.proofs.SpawnSearch.{row_is}
 use Rattle.fork_graph.proofs.States.{turn_taken}
 use Rattle.fork_graph.proofs.Ends.{refused_first}
 use Rattle.fork_graph.proofs.fault.turn_fault.Goals as goal
@@ -26,9 +21,9 @@ returns-then-not-take_turn c =
     let rows = c.args.tasks.now in
     let row = row_is rows c.args.task c.at-turns.result.now c.at-turns.ensures in
     let does : Does (tasks_in rows) c.args.task c.loop-index.index c.at-turn.result.now =
-    ap (λ (turns : List Turn). slice_get turns c.loop-index.index) row ∙ c.at-turn.ensures in
+    ap (λ (turns : List GraphTurn). slice_get turns c.loop-index.index) row ∙ c.at-turn.ensures in
     let refused : after_turn c.loop-index.states c.args.task c.at-turn.result.now ≡ None = c.if-not-take_turn.ensures.0 in
-    subst (λ (cause : Cause). IsFirstFault rows c.args.extent (record { strand = strand c.args.task c.loop-index.index; cause = cause })) (sym c.cause_of.ensures)
+    subst (λ (cause : StrandCause). IsFirstFault rows c.args.extent (record { strand = strand c.args.task c.loop-index.index; cause = cause })) (sym c.cause_of.ensures)
     (refused_first rows c.args.extent c.args.task c.loop-index.index c.at-turn.result.now c.loop-index.states c.requires.there
     c.loop-index.invariant.states c.loop-index.invariant.none does refused)
 
@@ -37,7 +32,7 @@ loop-index-preserved c =
     let rows = c.args.tasks.now in
     let row = row_is rows c.args.task c.at-turns.result.now c.at-turns.ensures in
     let does : Does (tasks_in rows) c.args.task c.loop-index.index c.at-turn.result.now =
-    ap (λ (turns : List Turn). slice_get turns c.loop-index.index) row ∙ c.at-turn.ensures in
+    ap (λ (turns : List GraphTurn). slice_get turns c.loop-index.index) row ∙ c.at-turn.ensures in
     let taken : after_turn c.loop-index.states c.args.task c.at-turn.result.now ≡ Some c.take_turn.new.states = c.if-not-take_turn.ensures in
     let next = turn_taken rows c.args.extent c.args.task c.loop-index.index c.loop-index.states
     c.loop-index.invariant.states c.loop-index.invariant.none c.at-turn.result.now c.take_turn.new.states does taken in

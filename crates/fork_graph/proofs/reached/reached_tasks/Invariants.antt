@@ -1,6 +1,5 @@
-use Rattle.std.proofs.Common.{length}
-use Rattle.fork_graph.specs.Graph.{tasks_in}
-use Rattle.fork_graph.proofs.Search.{IsSearched, left}
+use Rattle.fork_graph.proofs.Common.{length, tasks_in}
+use Rattle.fork_graph.proofs.SpawnSearch.{IsSearched, left}
 use Rattle.fork_graph.proofs.reached.reached_tasks.Given as goal
 
 abbrev pub invariant-loop-task : goal.invariant-loop-task

@@ -1,7 +1,4 @@
-use Rattle.std.proofs.Common.{◌≡◌, ◌<◌, ◌≤◌, ◌^◌, ℕ, List, Some, length, slice_get, inl, inr, sym, subst, refl, ◌∙◌, arith}
-use Rattle.std.proofs.lemmas.Bool.{cases_lt, false≢true}
-use Rattle.std.proofs.lemmas.Option.{same_Some, slice_get_within}
-use Rattle.fork_graph.specs.declared.graph.Turn.{Turn}
+use Rattle.fork_graph.proofs.Common.{◌≡◌, ◌<◌, ◌≤◌, ◌^◌, ℕ, List, Some, length, slice_get, inl, inr, sym, subst, refl, ◌∙◌, arith, cases_lt, false≢true, same_Some, slice_get_within, GraphTurn}
 use Rattle.fork_graph.proofs.Smallness.{too_many, too_long, all_short}
 use Rattle.fork_graph.proofs.small.are_small.Goals as goal
 
@@ -18,7 +15,7 @@ loop-task-preserved c = λ k row lt h.
       | inr ge ↦
           let same : k ≡ c.loop-task.task = omega arith in
           let is : row ≡ c.at-turns.result.now = same_Some row c.at-turns.result.now (sym (subst (λ i. slice_get c.args.tasks.now i ≡ Some row) same h) ∙ c.at-turns.ensures) in
-          subst (λ (r : List Turn). length r < 2 ^ 32) (sym is) (omega arith)
+          subst (λ (r : List GraphTurn). length r < 2 ^ 32) (sym is) (omega arith)
     ]
 
 pub returns : goal.returns

@@ -1,5 +1,4 @@
-use Rattle.std.proofs.Common.{ap, ◌∙◌, rules}
-use Rattle.alloc_path.specs.LeafHeapValue.{room_of}
+use Rattle.fork_join.proofs.Common.{ap, ◌∙◌, rules, room_of}
 use Rattle.fork_join.proofs.Room.{room_kept}
 use Rattle.fork_join.proofs.joins.merge_sides.Goals as goal
 

@@ -1,9 +1,4 @@
-use Rattle.std.proofs.Common.{◌≡◌, List, [], ◌∷◌, ◌++◌, ap, subst, sym, take, get_or}
-use Rattle.std.specs.Prelude.{IsSome}
-use Rattle.std.proofs.lemmas.List.{take_more}
-use Rattle.object_layout.specs.ChunkValue.{ChunkValue}
-use Rattle.chunk_pool.specs.PoolValue.{Relabels, slot_at}
-use Rattle.fork_join.specs.Joined.{AreRelabelled}
+use Rattle.fork_join.proofs.Common.{◌≡◌, List, [], ◌∷◌, ◌++◌, ap, subst, sym, take, get_or, IsSome, take_more, ChunkValue, Relabels, slot_at, AreRelabelled}
 use Rattle.fork_join.proofs.Relabelling.{relabelled_both, relabelled_one, used_still}
 use Rattle.fork_join.proofs.joins.relabel_all.Goals as goal
 

@@ -1,5 +1,4 @@
-use Rattle.std.proofs.Common.{◌≡◌, ◌-◌, ◌++◌, suc, ap, sym, ◌∙◌, arith}
-use Rattle.std.proofs.lemmas.Result.{on_ok_weaker}
+use Rattle.heap_graph.proofs.Common.{◌≡◌, ◌-◌, ◌++◌, suc, ap, sym, ◌∙◌, arith, on_ok_weaker}
 use Rattle.heap_graph.proofs.Drawn.{path_alone, path_below}
 use Rattle.heap_graph.proofs.draw.+add_path.Goals as goal
 

@@ -1,10 +1,4 @@
-use Rattle.std.proofs.Common.{◌≡◌, ◌++◌, length}
-use Rattle.std.specs.List.{flat_map}
-use Rattle.std.specs.Prelude.{option_copied}
-use Rattle.dot_text.specs.Dot.{dot}
-use Rattle.text_lines.specs.Lines.{lines_of}
-use Rattle.heap_graph.specs.Drawn.{all_drawn}
-use Rattle.heap_graph.specs.Pieces.{optional_lines}
+use Rattle.heap_graph.proofs.Common.{◌≡◌, ◌++◌, length, flat_map, option_copied, dot, lines_of, all_drawn, optional_lines}
 use Rattle.heap_graph.proofs.draw.add_all.Given as goal
 
 abbrev pub invariant-loop-said : goal.invariant-loop-said

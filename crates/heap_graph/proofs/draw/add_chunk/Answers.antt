@@ -1,5 +1,4 @@
-use Rattle.std.proofs.lemmas.Result.{on_ok_weaker}
-use Rattle.heap_graph.specs.Drawn.{path_to, chunk_box}
+use Rattle.heap_graph.proofs.Common.{on_ok_weaker, path_to, chunk_box}
 use Rattle.heap_graph.proofs.Drawn.{boxed_along}
 use Rattle.heap_graph.proofs.draw.add_chunk.Goals as goal
 

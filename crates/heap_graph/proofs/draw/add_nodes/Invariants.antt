@@ -1,9 +1,4 @@
-use Rattle.std.proofs.Common.{◌≡◌, ◌++◌}
-use Rattle.std.specs.List.{flat_map}
-use Rattle.std.specs.Prelude.{option_copied}
-use Rattle.dot_text.specs.Dot.{dot}
-use Rattle.heap_graph.specs.Drawn.{nodes_in, lines_behind}
-use Rattle.heap_graph.specs.Pieces.{optional_lines}
+use Rattle.heap_graph.proofs.Common.{◌≡◌, ◌++◌, flat_map, option_copied, dot, nodes_in, lines_behind, optional_lines}
 use Rattle.heap_graph.proofs.Left.{bytes_left}
 use Rattle.heap_graph.proofs.draw.add_nodes.Given as goal
 

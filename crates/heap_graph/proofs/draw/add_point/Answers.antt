@@ -1,5 +1,4 @@
-use Rattle.std.specs.Prelude.{codes}
-use Rattle.std.proofs.lemmas.Result.{on_ok_weaker}
+use Rattle.heap_graph.proofs.Common.{codes, on_ok_weaker}
 use Rattle.heap_graph.proofs.Drawn.{node_made}
 use Rattle.heap_graph.proofs.draw.add_point.Goals as goal
 

@@ -1,8 +1,4 @@
-use Rattle.std.proofs.Common.{◌++◌, ap, ◌∙◌}
-use Rattle.std.proofs.lemmas.Result.{on_ok_weaker}
-use Rattle.dot_text.specs.Dot.{dot}
-use Rattle.heap_graph.specs.Held.{held_of}
-use Rattle.heap_graph.specs.Drawn.{path_above, path_to, task_box}
+use Rattle.heap_graph.proofs.Common.{◌++◌, ap, ◌∙◌, on_ok_weaker, dot, held_of, path_above, path_to, task_box}
 use Rattle.heap_graph.proofs.Drawn.{boxed_along}
 use Rattle.heap_graph.proofs.draw.add_task.Goals as goal
 

@@ -1,5 +1,4 @@
-use Rattle.std.proofs.Common.{[], refl, ◌∙◌}
-use Rattle.std.proofs.lemmas.Result.{on_ok_weaker}
+use Rattle.heap_graph.proofs.Common.{[], refl, ◌∙◌, on_ok_weaker}
 use Rattle.heap_graph.proofs.Drawn.{titled_along}
 use Rattle.heap_graph.proofs.draw.add_task_box.Goals as goal
 

@@ -1,5 +1,4 @@
-use Rattle.listed.proofs.Places.{lines_more}
-use Rattle.heap_graph.specs.Pieces.{opened}
+use Rattle.heap_graph.proofs.Common.{lines_more, opened}
 use Rattle.heap_graph.proofs.draw.begin_boxes.Goals as goal
 
 pub loop-task-preserved : goal.loop-task-preserved

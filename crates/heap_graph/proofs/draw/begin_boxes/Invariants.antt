@@ -1,6 +1,4 @@
-use Rattle.std.proofs.Common.{◌≡◌, ◌++◌, take}
-use Rattle.std.specs.List.{flat_map}
-use Rattle.heap_graph.specs.Pieces.{opened}
+use Rattle.heap_graph.proofs.Common.{◌≡◌, ◌++◌, take, flat_map, opened}
 use Rattle.heap_graph.proofs.draw.begin_boxes.Given as goal
 
 abbrev pub invariant-loop-task : goal.invariant-loop-task

@@ -1,6 +1,4 @@
-use Rattle.std.proofs.Common.{◌++◌, ◌∙◌, ap, sym, take, ℕ, List, append_assoc}
-use Rattle.std.specs.List.{flat_map}
-use Rattle.dot_text.specs.Dot.{braces_end}
+use Rattle.heap_graph.proofs.Common.{◌++◌, ◌∙◌, ap, sym, take, ℕ, List, append_assoc, flat_map, braces_end}
 use Rattle.heap_graph.proofs.Loops.{same_more}
 use Rattle.heap_graph.proofs.draw.end_boxes.Goals as goal
 

@@ -1,6 +1,4 @@
-use Rattle.std.proofs.Common.{◌≡◌, ◌++◌, take}
-use Rattle.std.specs.List.{flat_map}
-use Rattle.dot_text.specs.Dot.{braces_end}
+use Rattle.heap_graph.proofs.Common.{◌≡◌, ◌++◌, take, flat_map, braces_end}
 use Rattle.heap_graph.proofs.draw.end_boxes.Given as goal
 
 abbrev pub invariant-loop : goal.invariant-loop

@@ -1,9 +1,4 @@
-use Rattle.std.proofs.Common.{ℕ, List, ◌++◌, ap, ◌∙◌}
-use Rattle.std.specs.Prelude.{codes}
-use Rattle.std.proofs.lemmas.Result.{on_ok_weaker}
-use Rattle.dot_text.specs.Dot.{attribute}
-use Rattle.heap_graph.specs.Kinds.{kind_attributes}
-use Rattle.heap_graph.specs.Names.{task_cluster}
+use Rattle.heap_graph.proofs.Common.{ℕ, List, ◌++◌, ap, ◌∙◌, codes, on_ok_weaker, attribute, kind_attributes, task_cluster}
 use Rattle.heap_graph.proofs.Running.{two_added}
 use Rattle.heap_graph.proofs.edges.add_running.Goals as goal
 

@@ -1,6 +1,4 @@
-use Rattle.std.proofs.Common.{◌≡◌, ◌+◌, ℕ, subst, arith}
-use Rattle.std.specs.Prelude.{Contains}
-use Rattle.heap_graph.specs.Kinds.{is_long, port_at, edge_to, edges_of}
+use Rattle.heap_graph.proofs.Common.{◌≡◌, ◌+◌, ℕ, subst, arith, Contains, is_long, port_at, edge_to, edges_of}
 use Rattle.heap_graph.proofs.EveryEdge.{each_edge, no_more_edges}
 use Rattle.heap_graph.proofs.laws.references_are_edges.Goals as goal
 

@@ -1,9 +1,4 @@
-use Rattle.std.proofs.Common.{◌++◌, ap, ◌∙◌}
-use Rattle.std.specs.Prelude.{codes}
-use Rattle.std.proofs.lemmas.Result.{on_ok_weaker}
-use Rattle.dot_text.specs.Dot.{attribute, node_begin}
-use Rattle.heap_graph.specs.Names.{object_name}
-use Rattle.heap_graph.specs.Drawn.{object_title}
+use Rattle.heap_graph.proofs.Common.{◌++◌, ap, ◌∙◌, codes, on_ok_weaker, attribute, node_begin, object_name, object_title}
 use Rattle.heap_graph.proofs.Drawn.{node_made}
 use Rattle.heap_graph.proofs.objects.add_node.Goals as goal
 

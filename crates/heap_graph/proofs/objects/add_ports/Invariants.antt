@@ -1,5 +1,4 @@
-use Rattle.std.proofs.Common.{◌≡◌, ◌++◌, drop}
-use Rattle.heap_graph.specs.Drawn.{port_titles}
+use Rattle.heap_graph.proofs.Common.{◌≡◌, ◌++◌, drop, port_titles}
 use Rattle.heap_graph.proofs.objects.add_ports.Given as goal
 
 abbrev pub invariant-loop-place : goal.invariant-loop-place

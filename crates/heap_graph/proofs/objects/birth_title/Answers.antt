@@ -1,5 +1,4 @@
-use Rattle.std.proofs.Common.{◌∙◌, append_assoc}
-use Rattle.std.proofs.lemmas.Result.{IfOk-weaker}
+use Rattle.heap_graph.proofs.Common.{◌∙◌, append_assoc, IfOk-weaker}
 use Rattle.heap_graph.proofs.objects.birth_title.Goals as goal
 
 pub returns : goal.returns

@@ -1,5 +1,4 @@
-use Rattle.std.proofs.Common.{◌∙◌}
-use Rattle.std.proofs.lemmas.Result.{IfOk-weaker}
+use Rattle.heap_graph.proofs.Common.{◌∙◌, IfOk-weaker}
 use Rattle.heap_graph.proofs.Titles.{nil_port, reference_port}
 use Rattle.heap_graph.proofs.objects.port_title.Goals as goal
 

@@ -1,10 +1,4 @@
-use Rattle.std.proofs.Common.{◌++◌, ap, ◌∙◌}
-use Rattle.std.specs.Prelude.{codes}
-use Rattle.std.proofs.lemmas.Result.{on_ok_weaker}
-use Rattle.quoted_text.specs.Labels.{task_name}
-use Rattle.dot_text.specs.Dot.{attribute, node_begin}
-use Rattle.heap_graph.specs.Names.{heap_title}
-use Rattle.heap_graph.specs.Held.{held_of}
+use Rattle.heap_graph.proofs.Common.{◌++◌, ap, ◌∙◌, codes, on_ok_weaker, task_name, attribute, node_begin, heap_title, held_of}
 use Rattle.heap_graph.proofs.Drawn.{node_made}
 use Rattle.heap_graph.proofs.overview.add_heap_node.Goals as goal
 

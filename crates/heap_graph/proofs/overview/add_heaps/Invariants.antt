@@ -1,9 +1,4 @@
-use Rattle.std.proofs.Common.{◌≡◌, ◌++◌, length}
-use Rattle.std.specs.List.{flat_map}
-use Rattle.dot_text.specs.Dot.{dot}
-use Rattle.text_lines.specs.Lines.{lines_of}
-use Rattle.image_check.specs.Line.{said_by}
-use Rattle.heap_graph.specs.Overview.{heap_by}
+use Rattle.heap_graph.proofs.Common.{◌≡◌, ◌++◌, length, flat_map, dot, lines_of, said_by, heap_by}
 use Rattle.heap_graph.proofs.overview.add_heaps.Given as goal
 
 abbrev pub invariant-loop-said : goal.invariant-loop-said

@@ -1,11 +1,4 @@
-use Rattle.std.proofs.Common.{◌++◌, ap, ◌∙◌}
-use Rattle.std.specs.List.{flat_map}
-use Rattle.std.proofs.lemmas.Result.{on_ok_weaker}
-use Rattle.dot_text.specs.Dot.{attribute}
-use Rattle.image_check.specs.Tasks.{is_running, relation_of}
-use Rattle.quoted_text.specs.Labels.{task_name}
-use Rattle.heap_graph.specs.Names.{port_name}
-use Rattle.heap_graph.specs.Overview.{link_attributes}
+use Rattle.heap_graph.proofs.Common.{◌++◌, ap, ◌∙◌, flat_map, on_ok_weaker, attribute, is_running, relation_of, task_name, port_name, link_attributes}
 use Rattle.heap_graph.proofs.Drawn.{edge_made}
 use Rattle.heap_graph.proofs.overview.add_link.Goals as goal
 

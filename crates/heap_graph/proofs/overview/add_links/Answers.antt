@@ -1,7 +1,4 @@
-use Rattle.std.proofs.Common.{◌+◌, ◌++◌, drop, sym}
-use Rattle.std.specs.List.{flat_map}
-use Rattle.dot_text.specs.Dot.{dot}
-use Rattle.heap_graph.specs.Overview.{link_edge, links_drawn}
+use Rattle.heap_graph.proofs.Common.{◌+◌, ◌++◌, drop, sym, flat_map, dot, link_edge, links_drawn}
 use Rattle.heap_graph.proofs.Loops.{piece_more, pairs_cut}
 use Rattle.heap_graph.proofs.overview.add_links.Goals as goal
 

@@ -1,7 +1,4 @@
-use Rattle.std.proofs.Common.{◌≡◌, ◌++◌, drop}
-use Rattle.std.specs.List.{flat_map}
-use Rattle.dot_text.specs.Dot.{dot}
-use Rattle.heap_graph.specs.Overview.{links_drawn}
+use Rattle.heap_graph.proofs.Common.{◌≡◌, ◌++◌, drop, flat_map, dot, links_drawn}
 use Rattle.heap_graph.proofs.overview.add_links.Given as goal
 
 abbrev pub invariant-loop-place : goal.invariant-loop-place

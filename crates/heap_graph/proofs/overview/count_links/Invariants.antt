@@ -1,6 +1,4 @@
-use Rattle.std.proofs.Common.{◌≡◌, length}
-use Rattle.text_lines.specs.Lines.{lines_of}
-use Rattle.heap_graph.specs.Overview.{links_by}
+use Rattle.heap_graph.proofs.Common.{◌≡◌, length, lines_of, links_by}
 use Rattle.heap_graph.proofs.overview.count_links.Given as goal
 
 abbrev pub invariant-loop-said : goal.invariant-loop-said

@@ -1,5 +1,4 @@
-use Rattle.std.proofs.Common.{◌≡◌, drop}
-use Rattle.heap_graph.specs.Overview.{with_links}
+use Rattle.heap_graph.proofs.Common.{◌≡◌, drop, with_links}
 use Rattle.heap_graph.proofs.overview.count_references.Given as goal
 
 abbrev pub invariant-loop-reference : goal.invariant-loop-reference

@@ -1,7 +1,4 @@
-use Rattle.std.proofs.Common.{◌≡◌, ◌++◌, length}
-use Rattle.std.specs.List.{flat_map}
-use Rattle.text_lines.specs.Lines.{words_of}
-use Rattle.heap_graph.specs.Drawn.{word_field}
+use Rattle.heap_graph.proofs.Common.{◌≡◌, ◌++◌, length, flat_map, words_of, word_field}
 use Rattle.heap_graph.proofs.words.add_fields.Given as goal
 
 abbrev pub invariant-loop-word : goal.invariant-loop-word

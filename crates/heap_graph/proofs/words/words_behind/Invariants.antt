@@ -1,5 +1,4 @@
-use Rattle.std.proofs.Common.{◌≡◌, drop}
-use Rattle.text_lines.specs.Lines.{words_of}
+use Rattle.heap_graph.proofs.Common.{◌≡◌, drop, words_of}
 use Rattle.heap_graph.proofs.words.words_behind.Given as goal
 
 abbrev pub invariant-loop : goal.invariant-loop

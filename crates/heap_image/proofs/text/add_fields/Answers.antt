@@ -1,5 +1,4 @@
-use Rattle.listed.proofs.Places.{lines_more}
-use Rattle.heap_image.specs.Text.{field_line}
+use Rattle.heap_image.proofs.Common.{lines_more, field_line}
 use Rattle.heap_image.proofs.text.add_fields.Goals as goal
 
 pub loop-field-preserved : goal.loop-field-preserved

@@ -1,6 +1,4 @@
-use Rattle.std.proofs.Common.{◌≡◌, ◌++◌, take}
-use Rattle.std.specs.List.{flat_map}
-use Rattle.heap_image.specs.Text.{field_line}
+use Rattle.heap_image.proofs.Common.{◌≡◌, ◌++◌, take, flat_map, field_line}
 use Rattle.heap_image.proofs.text.add_fields.Given as goal
 
 abbrev pub invariant-loop-field : goal.invariant-loop-field

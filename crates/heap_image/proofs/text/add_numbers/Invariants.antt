@@ -1,6 +1,4 @@
-use Rattle.std.proofs.Common.{◌≡◌, ◌++◌, take}
-use Rattle.std.specs.List.{flat_map}
-use Rattle.heap_image.specs.Text.{number_text}
+use Rattle.heap_image.proofs.Common.{◌≡◌, ◌++◌, take, flat_map, number_text}
 use Rattle.heap_image.proofs.text.add_numbers.Given as goal
 
 abbrev pub invariant-loop-number : goal.invariant-loop-number

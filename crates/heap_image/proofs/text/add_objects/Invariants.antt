@@ -1,6 +1,4 @@
-use Rattle.std.proofs.Common.{◌≡◌, ◌++◌, take}
-use Rattle.std.specs.List.{flat_map}
-use Rattle.heap_image.specs.Text.{object_line}
+use Rattle.heap_image.proofs.Common.{◌≡◌, ◌++◌, take, flat_map, object_line}
 use Rattle.heap_image.proofs.text.add_objects.Given as goal
 
 abbrev pub invariant-loop-object : goal.invariant-loop-object

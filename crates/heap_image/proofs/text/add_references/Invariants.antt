@@ -1,6 +1,4 @@
-use Rattle.std.proofs.Common.{◌≡◌, ◌++◌, take}
-use Rattle.std.specs.List.{flat_map}
-use Rattle.heap_image.specs.Text.{reference_text}
+use Rattle.heap_image.proofs.Common.{◌≡◌, ◌++◌, take, flat_map, reference_text}
 use Rattle.heap_image.proofs.text.add_references.Given as goal
 
 abbrev pub invariant-loop-reference : goal.invariant-loop-reference

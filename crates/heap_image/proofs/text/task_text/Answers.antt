@@ -1,5 +1,4 @@
-use Rattle.std.proofs.Common.{◌∙◌}
-use Rattle.std.proofs.lemmas.Result.{IfOk-weaker}
+use Rattle.heap_image.proofs.Common.{◌∙◌, IfOk-weaker}
 use Rattle.heap_image.proofs.Spaced.{rooted_line, child_line}
 use Rattle.heap_image.proofs.text.task_text.Goals as goal
 

@@ -1,13 +1,8 @@
-use Rattle.std.proofs.Common.{◌≡◌, ◌≤◌, ◌&&◌, ℕ, not, false, List, Option, option_map, length, inl, inr, arith, below_more, ap, sym, ◌∙◌}
-use Rattle.std.proofs.lemmas.Bool.{cases_lt}
-use Rattle.shared_value.proofs.below.listed.{got_past}
-use Rattle.shared_value.specs.below.heap_tree.{Node, parent_in}
-use Rattle.heap_marking.specs.Pace.{is_live_child, is_state_joined}
-use Rattle.shared_value.specs.below.listed.{option_is}
+use Rattle.heap_marking.proofs.Common.{◌≡◌, ◌≤◌, ◌&&◌, ℕ, not, false, List, Option, option_map, length, inl, inr, arith, below_more, ap, sym, ◌∙◌, cases_lt, got_past, TaskNode, parent_in, option_is, is_live_child, is_state_joined}
 use Rattle.heap_marking.proofs.forks.live_child.Goals as goal
 
-unmade_child : (tree : List Node) (t c : ℕ) → length tree ≤ c → is_live_child tree t c ≡ false
-unmade_child tree t c le = ap (λ (o : Option Node). option_is (parent_in o) t && not (is_state_joined (option_map (λ (n : Node). n.state) o))) (got_past tree c le)
+unmade_child : (tree : List TaskNode) (t c : ℕ) → length tree ≤ c → is_live_child tree t c ≡ false
+unmade_child tree t c le = ap (λ (o : Option TaskNode). option_is (parent_in o) t && not (is_state_joined (option_map (λ (n : TaskNode). n.state) o))) (got_past tree c le)
 
 pub returns : goal.returns
 returns c = λ k. elim (cases_lt k (length c.args.tree.now)) [

@@ -1,5 +1,4 @@
-use Rattle.std.proofs.Common.{◌≡◌, ◌<◌, ℕ, false}
-use Rattle.heap_marking.specs.Pace.{is_live_child}
+use Rattle.heap_marking.proofs.Common.{◌≡◌, ◌<◌, ℕ, false, is_live_child}
 use Rattle.heap_marking.proofs.forks.live_child.Given as goal
 
 abbrev pub invariant-loop-child : goal.invariant-loop-child

@@ -1,6 +1,4 @@
-use Rattle.std.proofs.Common.{◌≡◌, ◌++◌, take}
-use Rattle.std.specs.List.{flat_map}
-use Rattle.shared_value.specs.below.remembered_set.{into}
+use Rattle.heap_marking.proofs.Common.{◌≡◌, ◌++◌, take, flat_map, into}
 use Rattle.heap_marking.proofs.starts.push_all_own.Given as goal
 
 abbrev pub invariant-loop-reference : goal.invariant-loop-reference

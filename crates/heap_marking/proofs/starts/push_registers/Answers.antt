@@ -1,16 +1,11 @@
-use Rattle.std.proofs.Common.{ℕ, ◌<◌, ◌++◌, List, Option, arith, length, length-append, append_assoc, take, ap, sym, ◌∙◌}
-use Rattle.std.specs.List.{flat_map}
-use Rattle.shared_value.specs.below.object_layout.{Addr}
-use Rattle.shared_value.specs.below.task_frames.{Frame, frames_of, references_of}
-use Rattle.shared_value.specs.below.remembered_set.{into}
-use Rattle.shared_value.specs.below.leaf_copy_gc.{frame_references}
+use Rattle.heap_marking.proofs.Common.{ℕ, ◌<◌, ◌++◌, List, Option, arith, length, length-append, append_assoc, take, ap, sym, ◌∙◌, flat_map, Addr, CallFrame, frames_of, references_of, into, frame_references}
 use Rattle.heap_marking.proofs.FrameReferences.{frames_more}
 use Rattle.heap_marking.proofs.starts.push_registers.Goals as goal
 
 pub loop-frame-preserved : goal.loop-frame-preserved
 loop-frame-preserved c =
     let g : Option Addr → List Addr = into c.args.heap.now.chunks in
-    let fs : List Frame = frames_of c.args.frames.now in
+    let fs : List CallFrame = frames_of c.args.frames.now in
     let k : ℕ = c.loop-frame.frame in
     let within : k < length fs = omega (arith, length-append c.args.frames.now.below) in
     c.in_ok-push_all_own.ensures

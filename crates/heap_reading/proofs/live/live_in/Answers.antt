@@ -1,20 +1,16 @@
-use Rattle.std.proofs.Common.{◌≡◌, ℕ, ◌+◌, ◌<◌, ◌≤◌, List, refl, subst, sym, ◌∙◌, arith, length}
-use Rattle.std.proofs.lemmas.Option.{slice_get_within}
-use Rattle.shared_value.specs.below.heap_tree.{Node}
-use Rattle.heap_reading.specs.declared.live.Live.{Live}
-use Rattle.heap_reading.specs.Image.{AreAll, IsLiveIn, LiveBefore}
+use Rattle.heap_reading.proofs.Common.{◌≡◌, ℕ, ◌+◌, ◌<◌, ◌≤◌, List, refl, subst, sym, ◌∙◌, arith, length, slice_get_within, TaskNode, LiveTask, AreAll, IsLiveIn, LiveBefore}
 use Rattle.heap_reading.proofs.LiveRead.{all_below, live_once, one_below, skip_below}
 use Rattle.heap_reading.proofs.live.live_in.Goals.{in-Some+in_ok-push, in_default}
 use Rattle.heap_reading.proofs.live.live_in.Goals as goal
 
-abbrev number_of : Live → ℕ
+abbrev number_of : LiveTask → ℕ
 number_of x = x.number
 
 pub loop-number-preserved : goal.loop-number-preserved
 loop-number-preserved c =
-    let tree : List Node = c.args.tree.now in
+    let tree : List TaskNode = c.args.tree.now in
     let k = c.loop-number.number in
-    let Next : List Live → Type 0 = AreAll LiveBefore (λ x. IsLiveIn tree x × (x.number < k + 1)) in
+    let Next : List LiveTask → Type 0 = AreAll LiveBefore (λ x. IsLiveIn tree x × (x.number < k + 1)) in
     elim c.match-live_task.branch [
       | in-Some+in_ok-push b ↦
           subst Next (sym (b.tasks-is ∙ b.in_ok-push.ensures.ok))
@@ -26,7 +22,7 @@ loop-number-preserved c =
 
 pub returns : goal.returns
 returns c =
-    let tree : List Node = c.args.tree.now in
+    let tree : List TaskNode = c.args.tree.now in
     let made : c.made-number-end.result ≡ length tree = c.made-number-end.ensures.count in
     let past : c.made-number-end.result ≤ c.loop-number.number = c.loop-number-test.false in
     all_below number_of (IsLiveIn tree) (live_once tree) c.loop-number.number c.loop-number.tasks c.loop-number.invariant

@@ -1,5 +1,4 @@
-use Rattle.std.proofs.Common.{◌<◌}
-use Rattle.heap_reading.specs.Image.{AreAll, IsLiveIn, LiveBefore}
+use Rattle.heap_reading.proofs.Common.{◌<◌, AreAll, IsLiveIn, LiveBefore}
 use Rattle.heap_reading.proofs.live.live_in.Given as goal
 
 abbrev pub invariant-loop-number : goal.invariant-loop-number

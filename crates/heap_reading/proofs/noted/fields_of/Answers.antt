@@ -1,6 +1,4 @@
-use Rattle.std.proofs.Common.{sym}
-use Rattle.std.proofs.lemmas.List.{map_more}
-use Rattle.heap_reading.specs.Image.{field_of}
+use Rattle.heap_reading.proofs.Common.{sym, map_more, field_of}
 use Rattle.heap_reading.proofs.noted.fields_of.Goals as goal
 
 pub loop-source-preserved : goal.loop-source-preserved

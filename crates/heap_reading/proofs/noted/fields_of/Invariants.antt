@@ -1,5 +1,4 @@
-use Rattle.std.proofs.Common.{◌≡◌, map, take}
-use Rattle.heap_reading.specs.Image.{field_of}
+use Rattle.heap_reading.proofs.Common.{◌≡◌, map, take, field_of}
 use Rattle.heap_reading.proofs.noted.fields_of.Given as goal
 
 abbrev pub invariant-loop-source : goal.invariant-loop-source

@@ -1,8 +1,4 @@
-use Rattle.std.proofs.Common.{ap, ◌∙◌, ◌++◌, ◌∷◌, [], sym, rules}
-use Rattle.std.proofs.lemmas.Int.{to_z-of_z}
-use Rattle.std.specs.Prelude.{FitsSigned}
-use Rattle.std.specs.Int.{w64}
-use Rattle.shared_value.specs.below.object_layout.{object_at}
+use Rattle.heap_reading.proofs.Common.{ap, ◌∙◌, ◌++◌, ◌∷◌, [], sym, rules, to_z-of_z, FitsSigned, w64, object_at}
 use Rattle.heap_reading.proofs.ObjectsRead.{all_next, take_next}
 use Rattle.heap_reading.proofs.seen.ints_at.Goals as goal
 

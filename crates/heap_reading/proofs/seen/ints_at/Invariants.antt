@@ -1,7 +1,4 @@
-use Rattle.std.proofs.Common.{◌≡◌, All, take}
-use Rattle.std.specs.Prelude.{FitsSigned}
-use Rattle.std.specs.Int.{w64}
-use Rattle.shared_value.specs.below.object_layout.{object_at}
+use Rattle.heap_reading.proofs.Common.{◌≡◌, All, take, FitsSigned, w64, object_at}
 use Rattle.heap_reading.proofs.seen.ints_at.Given as goal
 
 abbrev pub invariant-loop-field : goal.invariant-loop-field

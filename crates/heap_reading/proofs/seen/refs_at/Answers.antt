@@ -1,5 +1,4 @@
-use Rattle.std.proofs.Common.{◌^◌, ◌<◌, ap, ◌∙◌, IfSome, Option, Some, None, ◌++◌, ◌∷◌, [], sym, map, take}
-use Rattle.shared_value.specs.below.object_layout.{IsPlace, IsRef, Addr, word_of_ref, object_at}
+use Rattle.heap_reading.proofs.Common.{◌^◌, ◌<◌, ap, ◌∙◌, IfSome, Option, Some, None, ◌++◌, ◌∷◌, [], sym, map, take, IsPlace, IsRef, Addr, word_of_ref, object_at}
 use Rattle.heap_reading.proofs.ObjectsRead.{all_next, map_next}
 use Rattle.heap_reading.proofs.seen.refs_at.Goals as goal
 

@@ -1,5 +1,4 @@
-use Rattle.std.proofs.Common.{◌≡◌, All, map, take}
-use Rattle.shared_value.specs.below.object_layout.{IsRef, word_of_ref, object_at}
+use Rattle.heap_reading.proofs.Common.{◌≡◌, All, map, take, IsRef, word_of_ref, object_at}
 use Rattle.heap_reading.proofs.seen.refs_at.Given as goal
 
 abbrev pub invariant-loop-field : goal.invariant-loop-field

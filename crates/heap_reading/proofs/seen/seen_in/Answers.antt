@@ -1,8 +1,4 @@
-use Rattle.std.proofs.Common.{◌≡◌, ◌++◌, ◌∷◌, [], None, All, ap, ◌∙◌, subst, rules, map}
-use Rattle.std.proofs.lemmas.List.Elements.{All-head}
-use Rattle.shared_value.specs.below.object_layout.{Cell, IsObject, moved_to, cell_at, cells_from, located, objects_from}
-use Rattle.shared_value.proofs.below.object_layout.{born_name}
-use Rattle.heap_reading.specs.Image.{IsInWords, in_words}
+use Rattle.heap_reading.proofs.Common.{◌≡◌, ◌++◌, ◌∷◌, [], None, All, ap, ◌∙◌, subst, rules, map, All-head, Cell, IsObject, moved_to, cell_at, cells_from, located, objects_from, born_name, IsInWords, in_words}
 use Rattle.heap_reading.proofs.ObjectsRead.{born_from, objects_more, objects_same, unmoved_next, words_more, words_same}
 use Rattle.heap_reading.proofs.seen.seen_in.Goals as goal
 

@@ -1,7 +1,4 @@
-use Rattle.std.proofs.Common.{◌≡◌, ◌-◌, ◌<◌, ◌≤◌, ◌⊎◌, ◌++◌, All, None, map}
-use Rattle.shared_value.specs.below.object_layout.{moved_to, IsCellAt, cells_from, Located, objects_from}
-use Rattle.shared_value.specs.below.core_relation.{In}
-use Rattle.heap_reading.specs.Image.{IsInWords, in_words}
+use Rattle.heap_reading.proofs.Common.{◌≡◌, ◌-◌, ◌<◌, ◌≤◌, ◌⊎◌, ◌++◌, All, None, map, moved_to, IsCellAt, cells_from, Located, objects_from, In, IsInWords, in_words}
 use Rattle.heap_reading.proofs.seen.seen_in.Given as goal
 
 abbrev pub invariant-loop-at : goal.invariant-loop-at

@@ -1,5 +1,4 @@
-use Rattle.std.proofs.Common.{[], ◌∷◌}
-use Rattle.heap_tree.specs.declared.state.State.TheVariants.{Waiting}
+use Rattle.heap_tree.proofs.Common.{[], ◌∷◌, Waiting}
 use Rattle.heap_tree.proofs.PairLemmas.{front_set}
 use Rattle.heap_tree.proofs.tree.put_children.Goals as goal
 

@@ -1,6 +1,4 @@
-use Rattle.std.proofs.Common.{ℕ, ◌<◌, length, slice_index_or}
-use Rattle.hh_lang.specs.declared.program.Fun.{Fun}
-use Rattle.hh_lang.specs.Form.{IsFunction}
+use Rattle.hh_lang.proofs.Common.{ℕ, ◌<◌, length, slice_index_or, Fun, IsFunction}
 use Rattle.hh_lang.proofs.check.all_functions.Given as goal
 
 abbrev pub invariant-loop-fun : goal.invariant-loop-fun

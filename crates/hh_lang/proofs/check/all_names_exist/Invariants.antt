@@ -1,6 +1,4 @@
-use Rattle.std.proofs.Common.{ℕ, ◌<◌, length, slice_index_or}
-use Rattle.hh_lang.specs.declared.program.Line.{Line}
-use Rattle.hh_lang.specs.Form.{NamesExist}
+use Rattle.hh_lang.proofs.Common.{ℕ, ◌<◌, length, slice_index_or, Line, NamesExist}
 use Rattle.hh_lang.proofs.check.all_names_exist.Given as goal
 
 abbrev pub invariant-loop-line : goal.invariant-loop-line

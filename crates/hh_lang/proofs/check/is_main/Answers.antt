@@ -1,7 +1,4 @@
-use Rattle.std.proofs.Common.{◌≡◌, Some, codes, sym, ap, ◌∙◌}
-use Rattle.std.proofs.lemmas.Option.{slice_get-get_or, slice_get_past}
-use Rattle.std.proofs.lemmas.Slice.Eq.{bytes_eq-Decides}
-use Rattle.hh_lang.specs.declared.program.Fun.{Fun}
+use Rattle.hh_lang.proofs.Common.{◌≡◌, Some, codes, sym, ap, ◌∙◌, slice_get-get_or, slice_get_past, bytes_eq-Decides, Fun}
 use Rattle.hh_lang.proofs.Programs.{some_and, none_and}
 use Rattle.hh_lang.proofs.check.is_main.Goals as goal
 

@@ -1,5 +1,4 @@
-use Rattle.std.proofs.Common.{◌≡◌, ◌+◌, length}
-use Rattle.image_check.specs.Fault.{references_cause}
+use Rattle.image_check.proofs.Common.{◌≡◌, ◌+◌, length, references_cause}
 use Rattle.image_check.proofs.References.{cause_from}
 use Rattle.image_check.proofs.faults.cause_of_references.Given as goal
 

@@ -1,5 +1,4 @@
-use Rattle.std.proofs.Common.{◌≡◌, ◌≤◌, ◌+◌, ◌++◌, length, map, take}
-use Rattle.shared_value.specs.below.object_layout.{number_of}
+use Rattle.leaf_collections.proofs.Common.{◌≡◌, ◌≤◌, ◌+◌, ◌++◌, length, map, take, number_of}
 use Rattle.leaf_collections.proofs.leaf_begin.note_numbers.Given as goal
 
 abbrev pub invariant-loop-chunk : goal.invariant-loop-chunk

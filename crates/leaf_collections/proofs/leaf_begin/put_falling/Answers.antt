@@ -1,9 +1,4 @@
-use Rattle.std.proofs.Common.{◌≡◌, List, ap, rules, sym, subst, ◌∙◌}
-use Rattle.std.specs.Prelude.{reverse}
-use Rattle.std.specs.List.Sorted.{IsNonDecreasingBy, IsPermutation}
-use Rattle.std.proofs.lemmas.List.{reverse-reverse}
-use Rattle.std.proofs.lemmas.List.Sorted.{IsNonDecreasingBy-from_sort_by_key, IsPermutation-reverse, IsPermutation-trans}
-use Rattle.shared_value.specs.below.object_layout.{ChunkValue}
+use Rattle.leaf_collections.proofs.Common.{◌≡◌, List, ap, rules, sym, subst, ◌∙◌, reverse, IsNonDecreasingBy, IsPermutation, reverse-reverse, IsNonDecreasingBy-from_sort_by_key, IsPermutation-reverse, IsPermutation-trans, ChunkValue}
 use Rattle.leaf_collections.proofs.leaf_begin.put_falling.Goals as goal
 
 pub returns-clause-permutation : goal.returns-clause-permutation

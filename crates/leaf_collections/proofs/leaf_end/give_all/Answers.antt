@@ -1,14 +1,4 @@
-use Rattle.std.proofs.Common.{◌≡◌, ◌∙◌, ◌+◌, ◌++◌, ◌∷◌, [], List, ap, length, rules, sym, subst, take}
-use Rattle.std.proofs.lemmas.List.{length_push, take_more}
-use Rattle.std.proofs.lemmas.List.Elements.{All-cons, All-get_or, All-nil}
-use Rattle.std.proofs.lemmas.Iterator.Consumers.{YieldsList-turn}
-use Rattle.std.proofs.lemmas.Iterator.Adapters.{YieldsList-from_vec}
-use Rattle.std.specs.Prelude.{IsSome}
-use Rattle.shared_value.specs.below.object_layout.{ChunkValue}
-use Rattle.shared_value.specs.below.chunk_pool.{slot_at}
-use Rattle.shared_value.specs.below.alloc_path.{IsFresh}
-use Rattle.shared_value.proofs.below.alloc_path.{apart_before}
-use Rattle.shared_value.proofs.below.inner_mark_gc.{given_both, given_one}
+use Rattle.leaf_collections.proofs.Common.{◌≡◌, ◌∙◌, ◌+◌, ◌++◌, ◌∷◌, [], List, ap, length, rules, sym, subst, take, length_push, take_more, All-cons, All-get_or, All-nil, YieldsList-turn, YieldsList-from_vec, IsSome, ChunkValue, slot_at, IsFresh, apart_before, given_both, given_one}
 use Rattle.leaf_collections.proofs.leaf_end.give_all.Goals as goal
 
 pub give-requires : goal.give-requires

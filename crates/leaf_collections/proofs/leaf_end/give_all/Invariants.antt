@@ -1,5 +1,4 @@
-use Rattle.std.proofs.Common.{◌≡◌, length, take}
-use Rattle.shared_value.specs.below.inner_mark_gc.{AreGiven}
+use Rattle.leaf_collections.proofs.Common.{◌≡◌, length, take, AreGiven}
 use Rattle.leaf_collections.proofs.leaf_end.give_all.Given as goal
 
 abbrev pub invariant-loop-chunk : goal.invariant-loop-chunk

@@ -1,5 +1,4 @@
-use Rattle.std.proofs.Common.{◌∙◌, ap}
-use Rattle.run_ledger.specs.Heaps.{by_birth}
+use Rattle.ledger_heaps.proofs.Common.{◌∙◌, ap, by_birth}
 use Rattle.ledger_heaps.proofs.Birth.{sorted_is_by_birth}
 use Rattle.ledger_heaps.proofs.collection.in_order_of_birth.Goals as goal
 

@@ -1,6 +1,4 @@
-use Rattle.std.proofs.Common.{◌≡◌, ◌<◌, ◌^◌, [], drop}
-use Rattle.run_ledger.specs.Heaps.{laid_onto}
-use Rattle.run_ledger.specs.Space.{last_words}
+use Rattle.ledger_heaps.proofs.Common.{◌≡◌, ◌<◌, ◌^◌, [], drop, laid_onto, last_words}
 use Rattle.ledger_heaps.proofs.collection.lay_all.Given as goal
 
 abbrev pub invariant-loop-name : goal.invariant-loop-name

@@ -1,5 +1,4 @@
-use Rattle.std.proofs.Common.{◌≡◌, ◌∙◌, ◌+◌, ◌<◌, ◌^◌, List, Result, Ok, Err, OnErr, slice_set, ap, sym, subst, rules}
-use Rattle.run_ledger.specs.declared.data.Heap.{Heap}
+use Rattle.ledger_heaps.proofs.Common.{◌≡◌, ◌∙◌, ◌+◌, ◌<◌, ◌^◌, List, Result, Ok, Err, OnErr, slice_set, ap, sym, subst, rules, Heap}
 use Rattle.ledger_heaps.proofs.Joins.{join_since, join_done, join_undone}
 use Rattle.ledger_heaps.proofs.joined.join.Goals as goal
 

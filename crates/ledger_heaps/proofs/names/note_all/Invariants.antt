@@ -1,7 +1,4 @@
-use Rattle.std.proofs.Common.{◌≡◌, ◌||◌, take}
-use Rattle.std.specs.HashSet.{contains}
-use Rattle.hh_model.specs.declared.data.Name.{Name}
-use Rattle.run_ledger.specs.Reachable.{holds_name, is_name}
+use Rattle.ledger_heaps.proofs.Common.{◌≡◌, ◌||◌, take, contains, Name, holds_name, is_name}
 use Rattle.ledger_heaps.proofs.names.note_all.Given as goal
 
 abbrev pub invariant-loop-name : goal.invariant-loop-name

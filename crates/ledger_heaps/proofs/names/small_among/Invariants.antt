@@ -1,7 +1,4 @@
-use Rattle.std.proofs.Common.{◌≡◌, take, filter}
-use Rattle.std.specs.List.{flat_map}
-use Rattle.std.specs.HashSet.{contains}
-use Rattle.run_ledger.specs.Reachable.{is_name}
+use Rattle.ledger_heaps.proofs.Common.{◌≡◌, take, filter, flat_map, contains, is_name}
 use Rattle.ledger_heaps.proofs.names.small_among.Given as goal
 
 abbrev pub invariant-loop-names : goal.invariant-loop-names

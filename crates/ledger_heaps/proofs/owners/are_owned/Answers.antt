@@ -1,8 +1,4 @@
-use Rattle.std.proofs.Common.{◌∙◌, ◌<◌, refl, Option, List, ap, sym, length, get_or, arith, rules}
-use Rattle.std.proofs.lemmas.Bool.{false≢true}
-use Rattle.std.proofs.lemmas.Option.{slice_get_read}
-use Rattle.run_ledger.specs.declared.data.Heap.{Heap}
-use Rattle.run_ledger.specs.Heaps.{held_in, or_fresh}
+use Rattle.ledger_heaps.proofs.Common.{◌∙◌, ◌<◌, refl, Option, List, ap, sym, length, get_or, arith, rules, false≢true, slice_get_read, Heap, held_in, or_fresh}
 use Rattle.ledger_heaps.proofs.Owned.{owned_all, owns, not_owned, one_more_owned}
 use Rattle.ledger_heaps.proofs.owners.are_owned.Goals as goal
 

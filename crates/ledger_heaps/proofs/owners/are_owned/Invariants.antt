@@ -1,5 +1,4 @@
-use Rattle.std.proofs.Common.{◌≡◌, ℕ, ◌<◌, true, slice_get}
-use Rattle.run_ledger.specs.Heaps.{held_in, or_fresh}
+use Rattle.ledger_heaps.proofs.Common.{◌≡◌, ℕ, ◌<◌, true, slice_get, held_in, or_fresh}
 use Rattle.ledger_heaps.proofs.Owned.{owns}
 use Rattle.ledger_heaps.proofs.owners.are_owned.Given as goal
 

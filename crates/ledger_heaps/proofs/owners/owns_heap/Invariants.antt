@@ -1,7 +1,4 @@
-use Rattle.std.proofs.Common.{◌≡◌, ◌==◌, drop}
-use Rattle.std.specs.List.{flat_map, list_all}
-use Rattle.hh_model.specs.Step.{owner_of}
-use Rattle.run_ledger.specs.Heaps.{small_in}
+use Rattle.ledger_heaps.proofs.Common.{◌≡◌, ◌==◌, drop, flat_map, list_all, owner_of, small_in}
 use Rattle.ledger_heaps.proofs.owners.owns_heap.Given as goal
 
 abbrev pub invariant-loop-names : goal.invariant-loop-names

@@ -1,6 +1,4 @@
-use Rattle.std.proofs.Common.{◌≡◌, ◌++◌, take, filter, not}
-use Rattle.std.specs.HashSet.{contains}
-use Rattle.run_ledger.specs.Reachable.{is_name}
+use Rattle.ledger_heaps.proofs.Common.{◌≡◌, ◌++◌, take, filter, not, contains, is_name}
 use Rattle.ledger_heaps.proofs.reachable.add_met.Given as goal
 
 abbrev pub invariant-loop-name : goal.invariant-loop-name

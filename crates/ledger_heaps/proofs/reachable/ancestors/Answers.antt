@@ -1,6 +1,4 @@
-use Rattle.std.proofs.Common.{◌≡◌, ◌∙◌, ◌+◌, ◌-◌, ◌++◌, ◌∷◌, [], suc, ap, sym, append_assoc, arith, rules}
-use Rattle.hh_model.specs.Step.{parents}
-use Rattle.ledger_heaps.specs.Search.{ancestors_by}
+use Rattle.ledger_heaps.proofs.Common.{◌≡◌, ◌∙◌, ◌+◌, ◌-◌, ◌++◌, ◌∷◌, [], suc, ap, sym, append_assoc, arith, rules, parents, ancestors_by}
 use Rattle.ledger_heaps.proofs.Above.{one_up}
 use Rattle.ledger_heaps.proofs.reachable.ancestors.Goals as goal
 

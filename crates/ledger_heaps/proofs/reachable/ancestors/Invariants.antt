@@ -1,6 +1,4 @@
-use Rattle.std.proofs.Common.{◌≡◌, ◌-◌, ◌++◌}
-use Rattle.hh_model.specs.Step.{parents}
-use Rattle.ledger_heaps.specs.Search.{ancestors, ancestors_by}
+use Rattle.ledger_heaps.proofs.Common.{◌≡◌, ◌-◌, ◌++◌, parents, ancestors, ancestors_by}
 use Rattle.ledger_heaps.proofs.reachable.ancestors.Given as goal
 
 abbrev pub invariant-loop : goal.invariant-loop

@@ -1,10 +1,4 @@
-use Rattle.std.proofs.Common.{◌≡◌, ◌++◌, ◌∷◌, [], List, subst, rules}
-use Rattle.std.specs.HashSet.{contains}
-use Rattle.hh_model.specs.declared.data.Name.{Name}
-use Rattle.run_ledger.specs.Reachable.{is_name}
-use Rattle.run_ledger.specs.Heaps.{heap_of, held_in, roots_of}
-use Rattle.ledger_heaps.specs.Accounts.{accounts}
-use Rattle.ledger_heaps.specs.Search.{Meets}
+use Rattle.ledger_heaps.proofs.Common.{◌≡◌, ◌++◌, ◌∷◌, [], List, subst, rules, contains, Name, is_name, heap_of, held_in, roots_of, accounts, Meets}
 use Rattle.ledger_heaps.proofs.Sought.{Sought, sought_start, sought_step, sought_end}
 use Rattle.ledger_heaps.proofs.reachable.explore.Goals as goal
 

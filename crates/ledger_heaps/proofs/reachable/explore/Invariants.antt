@@ -1,8 +1,4 @@
-use Rattle.std.proofs.Common.{◌+◌, length}
-use Rattle.std.specs.HashSet.{contains, hash_set_len}
-use Rattle.run_ledger.specs.Reachable.{is_name}
-use Rattle.run_ledger.specs.Heaps.{heap_of, held_in, roots_of}
-use Rattle.ledger_heaps.specs.Accounts.{accounts}
+use Rattle.ledger_heaps.proofs.Common.{◌+◌, length, contains, hash_set_len, is_name, heap_of, held_in, roots_of, accounts}
 use Rattle.ledger_heaps.proofs.Sought.{Sought}
 use Rattle.ledger_heaps.proofs.reachable.explore.Given as goal
 

@@ -1,8 +1,4 @@
-use Rattle.std.proofs.Common.{take}
-use Rattle.std.specs.List.{flat_map}
-use Rattle.std.specs.HashSet.{contains}
-use Rattle.run_ledger.specs.Reachable.{is_name}
-use Rattle.ledger_heaps.specs.Search.{refs_in, Meets}
+use Rattle.ledger_heaps.proofs.Common.{take, flat_map, contains, is_name, refs_in, Meets}
 use Rattle.ledger_heaps.proofs.reachable.follow_heaps.Given as goal
 
 abbrev pub invariant-loop-task : goal.invariant-loop-task

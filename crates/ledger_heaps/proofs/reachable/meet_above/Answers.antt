@@ -1,11 +1,4 @@
-use Rattle.std.proofs.Common.{◌≡◌, ◌∙◌, ap, filter, List}
-use Rattle.std.specs.List.{flat_map}
-use Rattle.hh_model.specs.Names.{refs_at}
-use Rattle.hh_model.specs.Step.{owner_of}
-use Rattle.run_ledger.specs.Reachable.{holds_name}
-use Rattle.run_ledger.specs.Heaps.{held, is_above}
-use Rattle.ledger_heaps.specs.Accounts.{accounts}
-use Rattle.ledger_heaps.specs.Search.{ancestors, refs_in}
+use Rattle.ledger_heaps.proofs.Common.{◌≡◌, ◌∙◌, ap, filter, List, flat_map, refs_at, owner_of, holds_name, held, is_above, accounts, ancestors, refs_in}
 use Rattle.ledger_heaps.proofs.Above.{above_same}
 use Rattle.ledger_heaps.proofs.Meets.{meets_same}
 use Rattle.ledger_heaps.proofs.reachable.meet_above.Goals as goal

@@ -1,10 +1,4 @@
-use Rattle.std.proofs.Common.{◌≡◌, ◌∙◌, Option, Some, List, filter, not, ap, sym, slice_get, rules}
-use Rattle.std.specs.HashSet.{contains, hash_set_len}
-use Rattle.hh_model.specs.declared.data.Name.{Name}
-use Rattle.run_ledger.specs.declared.data.Heap.{Heap}
-use Rattle.run_ledger.specs.Reachable.{holds_name, is_name}
-use Rattle.run_ledger.specs.Heaps.{heap_of, held_in, or_fresh, roots_of}
-use Rattle.ledger_heaps.specs.Accounts.{accounts}
+use Rattle.ledger_heaps.proofs.Common.{◌≡◌, ◌∙◌, Option, Some, List, filter, not, ap, sym, slice_get, rules, contains, hash_set_len, Name, Heap, holds_name, is_name, heap_of, held_in, or_fresh, roots_of, accounts}
 use Rattle.ledger_heaps.proofs.Sought.{met_is_reached, none_held, nothing_reached}
 use Rattle.ledger_heaps.proofs.reachable.within.Goals as goal
 

@@ -1,5 +1,4 @@
-use Rattle.std.proofs.Common.{◌≡◌, ◌+◌, ◌^◌, take, min}
-use Rattle.run_ledger.specs.Heaps.{words_sum}
+use Rattle.ledger_heaps.proofs.Common.{◌≡◌, ◌+◌, ◌^◌, take, min, words_sum}
 use Rattle.ledger_heaps.proofs.sizes.capped_sum.Given as goal
 
 abbrev pub invariant-loop-name : goal.invariant-loop-name

@@ -1,6 +1,4 @@
-use Rattle.std.proofs.Common.{◌≡◌, ◌^◌, take, min}
-use Rattle.std.specs.List.{flat_map}
-use Rattle.run_ledger.specs.Heaps.{words_sum}
+use Rattle.ledger_heaps.proofs.Common.{◌≡◌, ◌^◌, take, min, flat_map, words_sum}
 use Rattle.ledger_heaps.proofs.sizes.is_countable.Given as goal
 
 abbrev pub invariant-loop-names : goal.invariant-loop-names

@@ -1,6 +1,4 @@
-use Rattle.std.proofs.Common.{◌≡◌, ◌+◌, drop}
-use Rattle.std.specs.List.{flat_map}
-use Rattle.run_ledger.specs.Heaps.{words_sum, small_in}
+use Rattle.ledger_heaps.proofs.Common.{◌≡◌, ◌+◌, drop, flat_map, words_sum, small_in}
 use Rattle.ledger_heaps.proofs.sizes.small_words.Given as goal
 
 abbrev pub invariant-loop-names : goal.invariant-loop-names

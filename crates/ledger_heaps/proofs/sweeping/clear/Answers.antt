@@ -1,8 +1,4 @@
-use Rattle.std.proofs.Common.{rules, ◌≡◌, ◌∙◌, ◌+◌, List, ◌++◌, ◌∷◌, not, ap, sym, drop, map}
-use Rattle.std.proofs.Math.Bool.{not-not}
-use Rattle.listed.specs.Members.{is_empty}
-use Rattle.hh_model.specs.declared.data.Name.{Name}
-use Rattle.run_ledger.specs.Heaps.{in_snapshot, without_empty}
+use Rattle.ledger_heaps.proofs.Common.{rules, ◌≡◌, ◌∙◌, ◌+◌, List, ◌++◌, ◌∷◌, not, ap, sym, drop, map, not-not, is_empty, Name, in_snapshot, without_empty}
 use Rattle.ledger_heaps.proofs.Cleared.{chunks_more, ends_empty, filled_more, snapshot_kept}
 use Rattle.ledger_heaps.proofs.sweeping.clear.Goals as goal
 

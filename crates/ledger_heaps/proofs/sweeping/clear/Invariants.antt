@@ -1,5 +1,4 @@
-use Rattle.std.proofs.Common.{◌≡◌, ◌++◌, drop, map}
-use Rattle.run_ledger.specs.Heaps.{in_snapshot, is_last_empty, without_empty}
+use Rattle.ledger_heaps.proofs.Common.{◌≡◌, ◌++◌, drop, map, in_snapshot, is_last_empty, without_empty}
 use Rattle.ledger_heaps.proofs.Cleared.{ends_empty}
 use Rattle.ledger_heaps.proofs.sweeping.clear.Given as goal
 

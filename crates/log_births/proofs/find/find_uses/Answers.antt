@@ -1,5 +1,4 @@
-use Rattle.std.proofs.Common.{length}
-use Rattle.log_pieces.specs.Pieces.{events_of_pieces}
+use Rattle.log_births.proofs.Common.{length, events_of_pieces}
 use Rattle.log_births.proofs.Whole.{are_within, places_within}
 use Rattle.log_births.proofs.Making.{places_are, found_all}
 use Rattle.log_births.proofs.find.find_uses.Goals as goal

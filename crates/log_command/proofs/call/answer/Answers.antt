@@ -9,5 +9,5 @@ returns-in-Err-NoMemory g c = answered_without_memory _ _ _ _ _ _ c.in-Err-NoMem
 
 pub returns-in-Ok : goal.returns-in-Ok
 returns-in-Ok g c =
-    answered_log c.args.detail _ _ _ _ c.in-Ok.texts c.as_slice.result.now c.show_log.result c.give.result _ _ c.in-Ok.ensures.texts c.as_slice.ensures c.show_log.ensures
+    answered_log c.args.view.now _ _ _ _ c.in-Ok.texts c.as_slice.result.now c.show_log.result c.give.result _ _ c.in-Ok.ensures.texts c.as_slice.ensures c.show_log.ensures
     c.give.ensures.given c.give.ensures.read c.give.ensures.fault

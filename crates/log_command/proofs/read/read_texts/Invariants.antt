@@ -1,5 +1,4 @@
-use Rattle.std.proofs.Common.{◌≡◌, ◌≤◌, ℕ, List, map, string_bytes, Global}
-use Rattle.log_command.specs.Files.{HasReadFirst}
+use Rattle.log_command.proofs.Common.{◌≡◌, ◌≤◌, ℕ, List, map, string_bytes, Global, HasReadFirst}
 use Rattle.log_command.proofs.read.read_texts.Given as goal
 
 abbrev pub invariant-loop-name : goal.invariant-loop-name

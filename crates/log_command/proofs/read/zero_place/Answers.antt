@@ -1,6 +1,4 @@
-use Rattle.std.proofs.Common.{ap}
-use Rattle.text_lines.proofs.Runs.{position_at, position_end}
-use Rattle.log_form.specs.Text.{is_zero}
+use Rattle.log_command.proofs.Common.{ap, position_at, position_end, is_zero}
 use Rattle.log_command.proofs.read.zero_place.Goals as goal
 
 pub returns-then-byte-eq0 : goal.returns-then-byte-eq0

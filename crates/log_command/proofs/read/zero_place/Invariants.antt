@@ -1,5 +1,4 @@
-use Rattle.std.proofs.Common.{◌≡◌, ℕ, ◌<◌, get_or, false}
-use Rattle.log_form.specs.Text.{is_zero}
+use Rattle.log_command.proofs.Common.{◌≡◌, ℕ, ◌<◌, get_or, false, is_zero}
 use Rattle.log_command.proofs.read.zero_place.Given as goal
 
 abbrev pub invariant-loop-i : goal.invariant-loop-i

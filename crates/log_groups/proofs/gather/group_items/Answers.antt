@@ -1,7 +1,4 @@
-use Rattle.std.proofs.Common.{◌∙◌, ◌^◌, ap, sym, arith, take, [], fold}
-use Rattle.std.proofs.lemmas.List.{take_all}
-use Rattle.std.proofs.lemmas.List.Sums.{fold_more}
-use Rattle.log_groups.specs.Gathered.{with_item}
+use Rattle.log_groups.proofs.Common.{◌∙◌, ◌^◌, ap, sym, arith, take, [], fold, take_all, fold_more, with_item}
 use Rattle.log_groups.proofs.Gathering.{all_gathered, below_more}
 use Rattle.log_groups.proofs.gather.group_items.Goals as goal
 

@@ -1,5 +1,4 @@
-use Rattle.std.proofs.Common.{◌≡◌, [], fold, take}
-use Rattle.log_groups.specs.Gathered.{with_item, AreBelow}
+use Rattle.log_groups.proofs.Common.{◌≡◌, [], fold, take, with_item, AreBelow}
 use Rattle.log_groups.proofs.gather.group_items.Given as goal
 
 abbrev pub invariant-loop-item : goal.invariant-loop-item

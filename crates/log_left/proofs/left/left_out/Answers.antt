@@ -1,6 +1,6 @@
 use Rattle.std.proofs.Common.{◌≡◌, ◌∙◌, ℕ, List, Option, subst, sym, ap, length, arith}
 use Rattle.log_form.specs.Events.{events_of}
-use Rattle.log_strands.specs.Places.{ArePlaces}
+use Rattle.log_strands.specs.Places.{ArePiecePlaces}
 use Rattle.log_left.specs.Left.{HasLeftOut, left_codes}
 use Rattle.log_left.proofs.Codes.{left_are}
 use Rattle.log_left.proofs.left.left_out.Goals as goal

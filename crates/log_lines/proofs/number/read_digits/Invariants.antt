@@ -1,5 +1,4 @@
-use Rattle.std.proofs.Common.{◌≡◌, ◌<◌, ◌^◌, drop}
-use Rattle.log_lines.specs.Words.{digits_number}
+use Rattle.log_lines.proofs.Common.{◌≡◌, ◌<◌, ◌^◌, drop, digits_number}
 use Rattle.log_lines.proofs.Digits.{digits_behind}
 use Rattle.log_lines.proofs.number.read_digits.Given as goal
 

@@ -1,5 +1,4 @@
-use Rattle.std.proofs.Common.{IfOk, sym, subst}
-use Rattle.log_lines.specs.Limits.{IsLine}
+use Rattle.log_lines.proofs.Common.{IfOk, sym, subst, IsLine}
 use Rattle.log_lines.proofs.Within.{lines_within}
 use Rattle.log_lines.proofs.read.read_line.Goals as goal
 

@@ -1,5 +1,4 @@
-use Rattle.std.proofs.Common.{ap, ◌∙◌}
-use Rattle.std.specs.Prelude.{not}
+use Rattle.log_lines.proofs.Common.{ap, ◌∙◌, not}
 use Rattle.log_lines.proofs.Pieces.{left_by}
 use Rattle.log_lines.proofs.words.is_left.Goals as goal
 

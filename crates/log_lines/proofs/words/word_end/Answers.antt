@@ -1,6 +1,4 @@
-use Rattle.std.proofs.Common.{ap}
-use Rattle.text_lines.proofs.Runs.{position_at, position_end}
-use Rattle.log_lines.specs.Words.{is_space}
+use Rattle.log_lines.proofs.Common.{ap, position_at, position_end, is_space}
 use Rattle.log_lines.proofs.words.word_end.Goals as goal
 
 pub returns-then-byte-eq32-clause-end : goal.returns-then-byte-eq32-clause-end

@@ -1,5 +1,4 @@
-use Rattle.std.proofs.Common.{◌≡◌, ℕ, ◌<◌, get_or, false}
-use Rattle.log_lines.specs.Words.{is_space}
+use Rattle.log_lines.proofs.Common.{◌≡◌, ℕ, ◌<◌, get_or, false, is_space}
 use Rattle.log_lines.proofs.words.word_end.Given as goal
 
 abbrev pub invariant-loop-i : goal.invariant-loop-i

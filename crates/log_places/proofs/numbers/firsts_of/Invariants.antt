@@ -1,6 +1,4 @@
-use Rattle.std.proofs.Common.{◌≡◌, ◌+◌, ◌≤◌, ◌++◌, drop, length}
-use Rattle.std.specs.List.{sum_by}
-use Rattle.log_places.specs.Numbers.{firsts_from}
+use Rattle.log_places.proofs.Common.{◌≡◌, ◌+◌, ◌≤◌, ◌++◌, drop, length, sum_by, firsts_from}
 use Rattle.log_places.proofs.numbers.firsts_of.Given as goal
 
 abbrev pub invariant-loop-page : goal.invariant-loop-page

@@ -1,5 +1,4 @@
-use Rattle.std.proofs.Common.{ℕ, ◌<◌, ◌≤◌, ◌-◌, length, get_or}
-use Rattle.log_places.specs.declared.stretch.Stretch.{Stretch}
+use Rattle.log_places.proofs.Common.{ℕ, ◌<◌, ◌≤◌, ◌-◌, length, get_or, Stretch}
 use Rattle.log_places.proofs.stretch.ended.Given as goal
 
 abbrev pub invariant-loop-low : goal.invariant-loop-low

@@ -1,5 +1,4 @@
-use Rattle.std.proofs.Common.{◌≡◌, ◌++◌, take, ap, sym, ◌∙◌}
-use Rattle.log_places.specs.Stretches.{marked}
+use Rattle.log_places.proofs.Common.{◌≡◌, ◌++◌, take, ap, sym, ◌∙◌, marked}
 use Rattle.log_places.proofs.Ends.{tiled_rest, marked_rest, on_ok}
 use Rattle.log_places.proofs.stretch.mark.Goals as goal
 

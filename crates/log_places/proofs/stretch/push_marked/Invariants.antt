@@ -1,5 +1,4 @@
-use Rattle.std.proofs.Common.{◌≡◌, ◌++◌, drop}
-use Rattle.log_places.specs.Stretches.{marked}
+use Rattle.log_places.proofs.Common.{◌≡◌, ◌++◌, drop, marked}
 use Rattle.log_places.proofs.stretch.push_marked.Given as goal
 
 abbrev pub invariant-loop-stretch : goal.invariant-loop-stretch

@@ -1,5 +1,4 @@
-use Rattle.std.proofs.Common.{◌≡◌, drop}
-use Rattle.log_places.specs.Stretches.{tiles}
+use Rattle.log_places.proofs.Common.{◌≡◌, drop, tiles}
 use Rattle.log_places.proofs.stretch.tiles.Given as goal
 
 abbrev pub invariant-loop-stretch : goal.invariant-loop-stretch

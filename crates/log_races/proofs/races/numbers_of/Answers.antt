@@ -1,9 +1,4 @@
-use Rattle.std.proofs.Common.{◌∙◌, Err, IfErr, ap, sym, subst}
-use Rattle.std.proofs.lemmas.Result.{err_from_is_err_and}
-use Rattle.log_pieces.specs.Pieces.{events_of_pieces}
-use Rattle.log_touches.specs.Strands.{regions_of_events}
-use Rattle.log_touches.specs.below.log_places.{stretch_count}
-use Rattle.log_races.specs.Limits.{IsTooLargeFor}
+use Rattle.log_races.proofs.Common.{◌∙◌, Err, IfErr, ap, sym, subst, err_from_is_err_and, events_of_pieces, regions_of_events, stretch_count, IsTooLargeFor}
 use Rattle.log_races.proofs.Parts.{over_for}
 use Rattle.log_races.proofs.races.numbers_of.Goals as goal
 

@@ -1,5 +1,4 @@
-use Rattle.std.proofs.Common.{◌∙◌, sym, ap}
-use Rattle.std.specs.Prelude.{option_copied}
+use Rattle.log_races.proofs.Common.{◌∙◌, sym, ap, option_copied}
 use Rattle.log_races.proofs.Parts.{none_there}
 use Rattle.log_races.proofs.strands.number_of.Goals as goal
 

@@ -1,9 +1,4 @@
-use Rattle.std.proofs.Common.{◌≡◌, length, take}
-use Rattle.log_pieces.specs.Pieces.{events_of_pieces}
-use Rattle.log_touches.specs.below.log_places.{stretch_count}
-use Rattle.log_touches.specs.below.race_scan.{HasScanned}
-use Rattle.log_verdict.specs.below.run_order.{run_order}
-use Rattle.log_races.specs.Touches.{touches_from}
+use Rattle.log_races.proofs.Common.{◌≡◌, length, take, events_of_pieces, stretch_count, HasScanned, run_order, touches_from}
 use Rattle.log_races.proofs.strands.scan_walk.Given as goal
 
 abbrev pub invariant-loop-serial : goal.invariant-loop-serial

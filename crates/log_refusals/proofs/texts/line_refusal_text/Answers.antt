@@ -1,5 +1,4 @@
-use Rattle.std.proofs.lemmas.Result.{IfOk-weaker}
-use Rattle.std.proofs.Common.{◌∙◌}
+use Rattle.log_refusals.proofs.Common.{IfOk-weaker, ◌∙◌}
 use Rattle.log_refusals.proofs.Parts.{line_is}
 use Rattle.log_refusals.proofs.texts.line_refusal_text.Goals as goal
 

@@ -1,5 +1,4 @@
-use Rattle.std.proofs.Common.{◌∙◌, map, string_bytes, Global}
-use Rattle.std.proofs.lemmas.Result.{IfOk-weaker}
+use Rattle.log_refusals.proofs.Common.{◌∙◌, map, string_bytes, Global, IfOk-weaker}
 use Rattle.log_refusals.proofs.Parts.{place_is}
 use Rattle.log_refusals.proofs.texts.line_text.Goals as goal
 

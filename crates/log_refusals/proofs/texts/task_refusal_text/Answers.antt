@@ -1,6 +1,4 @@
-use Rattle.std.proofs.lemmas.Result.{IfOk-weaker}
-use Rattle.std.proofs.Common.{◌∙◌, ap, map, string_bytes, Global}
-use Rattle.log_refusals.specs.Texts.{place_text}
+use Rattle.log_refusals.proofs.Common.{IfOk-weaker, ◌∙◌, ap, map, string_bytes, Global, place_text}
 use Rattle.log_refusals.proofs.Parts.{task_is}
 use Rattle.log_refusals.proofs.texts.task_refusal_text.Goals as goal
 

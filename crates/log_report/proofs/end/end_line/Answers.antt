@@ -1,7 +1,4 @@
-use Rattle.std.proofs.Common.{◌∙◌, ap, length}
-use Rattle.std.proofs.lemmas.Result.{IfOk-weaker}
-use Rattle.log_report.specs.Told.{racing_locations}
-use Rattle.log_report.specs.Ends.{counts_text, left_text}
+use Rattle.log_report.proofs.Common.{◌∙◌, ap, length, IfOk-weaker, racing_locations, counts_text, left_text}
 use Rattle.log_report.proofs.Parts.{end_is}
 use Rattle.log_report.proofs.end.end_line.Goals as goal
 

@@ -1,6 +1,4 @@
-use Rattle.std.proofs.Common.{◌≡◌, ◌≤◌, ◌*◌, ◌^◌, take}
-use Rattle.std.specs.Prelude.{sum_by}
-use Rattle.log_report.specs.Told.{locations_of}
+use Rattle.log_report.proofs.Common.{◌≡◌, ◌≤◌, ◌*◌, ◌^◌, take, sum_by, locations_of}
 use Rattle.log_report.proofs.end.racing_locations.Given as goal
 
 abbrev pub invariant-loop-race : goal.invariant-loop-race

@@ -1,5 +1,4 @@
-use Rattle.std.proofs.Common.{◌∙◌, append_assoc}
-use Rattle.std.proofs.lemmas.Result.{IfOk-weaker}
+use Rattle.log_report.proofs.Common.{◌∙◌, append_assoc, IfOk-weaker}
 use Rattle.log_report.proofs.label.line_text.Goals as goal
 
 pub returns : goal.returns

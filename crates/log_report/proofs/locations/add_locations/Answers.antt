@@ -1,5 +1,4 @@
-use Rattle.std.proofs.Common.{◌∙◌}
-use Rattle.log_sites.specs.Names.{name_of}
+use Rattle.log_report.proofs.Common.{◌∙◌, name_of}
 use Rattle.log_report.proofs.Along.{locations_next}
 use Rattle.log_report.proofs.locations.add_locations.Goals as goal
 

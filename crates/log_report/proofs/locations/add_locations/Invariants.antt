@@ -1,6 +1,4 @@
-use Rattle.std.proofs.Common.{◌≡◌, ◌++◌, ◌-◌}
-use Rattle.log_sites.specs.Names.{name_of}
-use Rattle.log_report.specs.Locations.{lines_from}
+use Rattle.log_report.proofs.Common.{◌≡◌, ◌++◌, ◌-◌, name_of, lines_from}
 use Rattle.log_report.proofs.locations.add_locations.Given as goal
 
 abbrev pub invariant-loop-location : goal.invariant-loop-location

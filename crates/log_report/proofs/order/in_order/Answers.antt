@@ -1,8 +1,4 @@
-use Rattle.std.proofs.Common.{List, rules, sym, subst}
-use Rattle.std.specs.List.Sorted.{IsNonDecreasingBy}
-use Rattle.std.proofs.lemmas.List.Sorted.{IsNonDecreasingBy-from_sort_by_key}
-use Rattle.log_report.specs.declared.told.ToldRace.{ToldRace}
-use Rattle.log_report.specs.Told.{place_of}
+use Rattle.log_report.proofs.Common.{List, rules, sym, subst, IsNonDecreasingBy, IsNonDecreasingBy-from_sort_by_key, ToldRace, place_of}
 use Rattle.log_report.proofs.order.in_order.Goals as goal
 
 pub returns-clause-sorted : goal.returns-clause-sorted

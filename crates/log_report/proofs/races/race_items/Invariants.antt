@@ -1,5 +1,4 @@
-use Rattle.std.proofs.Common.{◌≡◌, ◌++◌, drop}
-use Rattle.log_report.specs.Races.{race_items}
+use Rattle.log_report.proofs.Common.{◌≡◌, ◌++◌, drop, race_items}
 use Rattle.log_report.proofs.races.race_items.Given as goal
 
 abbrev pub invariant-loop-place : goal.invariant-loop-place

@@ -1,5 +1,4 @@
-use Rattle.std.proofs.Common.{◌≡◌, drop}
-use Rattle.log_report.specs.Races.{run_end}
+use Rattle.log_report.proofs.Common.{◌≡◌, drop, run_end}
 use Rattle.log_report.proofs.races.run_end.Given as goal
 
 abbrev pub invariant-loop-at : goal.invariant-loop-at

@@ -1,7 +1,4 @@
-use Rattle.std.proofs.Common.{◌≡◌, ◌++◌, take}
-use Rattle.std.specs.List.{flat_map}
-use Rattle.log_sites.specs.Names.{name_of}
-use Rattle.log_report.specs.Uses.{use_group_line}
+use Rattle.log_report.proofs.Common.{◌≡◌, ◌++◌, take, flat_map, name_of, use_group_line}
 use Rattle.log_report.proofs.uses.add_use_groups.Given as goal
 
 abbrev pub invariant-loop-group : goal.invariant-loop-group

@@ -1,5 +1,4 @@
-use Rattle.std.proofs.Common.{◌≡◌, ◌++◌, drop}
-use Rattle.log_report.specs.Uses.{use_items}
+use Rattle.log_report.proofs.Common.{◌≡◌, ◌++◌, drop, use_items}
 use Rattle.log_report.proofs.uses.use_items.Given as goal
 
 abbrev pub invariant-loop-place : goal.invariant-loop-place

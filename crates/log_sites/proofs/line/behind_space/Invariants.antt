@@ -1,5 +1,4 @@
-use Rattle.std.proofs.Common.{◌≡◌, drop}
-use Rattle.log_sites.specs.Names.{behind_space}
+use Rattle.log_sites.proofs.Common.{◌≡◌, drop, behind_space}
 use Rattle.log_sites.proofs.line.behind_space.Given as goal
 
 abbrev pub invariant-loop-i : goal.invariant-loop-i

@@ -1,5 +1,4 @@
-use Rattle.std.proofs.Common.{◌∙◌, ℕ, sym, refl}
-use Rattle.log_sites.specs.Names.{name_of}
+use Rattle.log_sites.proofs.Common.{◌∙◌, ℕ, sym, refl, name_of}
 use Rattle.log_sites.proofs.Known.{file_next, files_last}
 use Rattle.log_sites.proofs.names.site_names.Goals as goal
 

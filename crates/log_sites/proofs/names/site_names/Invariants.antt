@@ -1,5 +1,4 @@
-use Rattle.std.proofs.Common.{◌≡◌, ℕ}
-use Rattle.log_sites.specs.Names.{or_name, first_name, name_of, site_name}
+use Rattle.log_sites.proofs.Common.{◌≡◌, ℕ, or_name, first_name, name_of, site_name}
 use Rattle.log_sites.proofs.Known.{lines_from}
 use Rattle.log_sites.proofs.names.site_names.Given as goal
 

@@ -1,5 +1,4 @@
-use Rattle.std.proofs.Common.{◌≡◌, length, take}
-use Rattle.log_pieces.specs.Pieces.{events_of_pieces}
+use Rattle.log_strands.proofs.Common.{◌≡◌, length, take, events_of_pieces}
 use Rattle.log_strands.proofs.acts.count_acts.Given as goal
 
 abbrev pub invariant-loop-piece : goal.invariant-loop-piece

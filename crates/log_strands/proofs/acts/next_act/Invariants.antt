@@ -1,5 +1,4 @@
-use Rattle.std.proofs.Common.{◌≡◌, ◌≤◌, length}
-use Rattle.log_pieces.specs.Pieces.{acts_in}
+use Rattle.log_strands.proofs.Common.{◌≡◌, ◌≤◌, length, acts_in}
 use Rattle.log_strands.proofs.acts.next_act.Given as goal
 
 abbrev pub invariant-lines : goal.invariant-lines

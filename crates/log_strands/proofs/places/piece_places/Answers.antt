@@ -1,5 +1,4 @@
-use Rattle.std.proofs.Common.{◌∙◌, ◌+◌, ℕ, length, ap}
-use Rattle.std.proofs.lemmas.List.{length_push}
+use Rattle.log_strands.proofs.Common.{◌∙◌, ◌+◌, ℕ, length, ap, length_push}
 use Rattle.log_strands.proofs.Noted.{first_more}
 use Rattle.log_strands.proofs.places.piece_places.Goals as goal
 

@@ -1,6 +1,4 @@
-use Rattle.std.proofs.Common.{◌∙◌, ℕ, ap, sym}
-use Rattle.std.specs.Option.{option_copied}
-use Rattle.fork_graph.specs.Graph.{strand}
+use Rattle.log_strands.proofs.Common.{◌∙◌, ℕ, ap, sym, option_copied, strand}
 use Rattle.log_strands.proofs.Noted.{past_is}
 use Rattle.log_strands.proofs.places.strand_in_log.Goals as goal
 

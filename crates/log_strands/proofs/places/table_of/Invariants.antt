@@ -1,7 +1,4 @@
-use Rattle.std.proofs.Common.{ℕ, take}
-use Rattle.fork_graph.specs.Graph.{strand}
-use Rattle.log_strands.specs.Places.{IsPlaceOf}
-use Rattle.log_strands.specs.Table.{place_told}
+use Rattle.log_strands.proofs.Common.{ℕ, take, strand, IsPlaceOf, place_told}
 use Rattle.log_strands.proofs.places.table_of.Given as goal
 
 abbrev pub invariant-loop-place : goal.invariant-loop-place

@@ -1,5 +1,4 @@
-use Rattle.std.proofs.Common.{◌≡◌, map}
-use Rattle.fork_graph.specs.Cut.{completed}
+use Rattle.log_tasks.proofs.Common.{◌≡◌, map, completed}
 use Rattle.log_tasks.proofs.graph.all_completed.Given as goal
 
 abbrev pub invariant-loop-row : goal.invariant-loop-row

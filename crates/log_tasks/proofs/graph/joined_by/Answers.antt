@@ -1,5 +1,4 @@
-use Rattle.std.proofs.Common.{arith}
-use Rattle.std.proofs.lemmas.Grind.{common_steps}
+use Rattle.log_tasks.proofs.Common.{arith, common_steps}
 use Rattle.log_tasks.proofs.Joining.{joins_both}
 use Rattle.log_tasks.proofs.graph.joined_by.Goals as goal
 

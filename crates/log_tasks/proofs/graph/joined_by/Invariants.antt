@@ -1,6 +1,4 @@
-use Rattle.std.proofs.Common.{◌≡◌, ℕ, take, nat_eq}
-use Rattle.std.specs.HashSet.{contains}
-use Rattle.fork_graph.specs.Cut.{joins}
+use Rattle.log_tasks.proofs.Common.{◌≡◌, ℕ, take, nat_eq, contains, joins}
 use Rattle.log_tasks.proofs.graph.joined_by.Given as goal
 
 abbrev pub invariant-loop-turn : goal.invariant-loop-turn

@@ -1,5 +1,4 @@
-use Rattle.std.proofs.Common.{nat_eq}
-use Rattle.std.specs.HashSet.{contains}
+use Rattle.log_tasks.proofs.Common.{nat_eq, contains}
 use Rattle.log_tasks.proofs.Joining.{joins_step}
 use Rattle.log_tasks.proofs.graph.with_joins.Goals as goal
 

@@ -1,6 +1,4 @@
-use Rattle.std.proofs.Common.{◌≡◌, ◌-◌, ◌++◌, length, drop, nat_eq}
-use Rattle.std.specs.HashSet.{contains}
-use Rattle.log_tasks.specs.Joining.{joins_for}
+use Rattle.log_tasks.proofs.Common.{◌≡◌, ◌-◌, ◌++◌, length, drop, nat_eq, contains, joins_for}
 use Rattle.log_tasks.proofs.graph.with_joins.Given as goal
 
 abbrev pub invariant-loop-place : goal.invariant-loop-place

@@ -1,6 +1,4 @@
-use Rattle.std.proofs.Common.{◌≡◌, ◌++◌, ◌∙◌, ℕ, List, [], ap, subst, sym, append-nil}
-use Rattle.std.specs.List.Sorted.{IsStrictlyIncreasing}
-use Rattle.std.proofs.lemmas.Map.Keys.{IsStrictlyIncreasing-from_sorted}
+use Rattle.log_tasks.proofs.Common.{◌≡◌, ◌++◌, ◌∙◌, ℕ, List, [], ap, subst, sym, append-nil, IsStrictlyIncreasing, IsStrictlyIncreasing-from_sorted}
 use Rattle.log_tasks.proofs.numbers.numbers_of.Goals as goal
 
 pub returns-clause-ascending : goal.returns-clause-ascending

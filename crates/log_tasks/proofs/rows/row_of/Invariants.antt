@@ -1,6 +1,4 @@
-use Rattle.std.proofs.Common.{◌≡◌, ◌<◌, ℕ, length}
-use Rattle.std.specs.Prelude.{slice_get}
-use Rattle.log_tasks.specs.Told.{turn_told}
+use Rattle.log_tasks.proofs.Common.{◌≡◌, ◌<◌, ℕ, length, slice_get, turn_told}
 use Rattle.log_tasks.proofs.rows.row_of.Given as goal
 
 abbrev pub invariant-loop-index : goal.invariant-loop-index

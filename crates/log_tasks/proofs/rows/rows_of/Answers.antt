@@ -1,6 +1,4 @@
-use Rattle.std.proofs.Common.{◌≡◌, ◌<◌, ◌^◌, ℕ, length, subst, arith}
-use Rattle.std.proofs.Math.Facts.{Fits-lt-pow}
-use Rattle.log_tasks.specs.Told.{AreFirstRows}
+use Rattle.log_tasks.proofs.Common.{◌≡◌, ◌<◌, ◌^◌, ℕ, length, subst, arith, Fits-lt-pow, AreFirstRows}
 use Rattle.log_tasks.proofs.ToldRows.{rows_small}
 use Rattle.log_tasks.proofs.rows.rows_of.Goals as goal
 

@@ -1,5 +1,4 @@
-use Rattle.std.proofs.Common.{◌∙◌, ℕ, List, Bor, sym}
-use Rattle.log_pieces.proofs.Lines.{at_some}
+use Rattle.log_tasks.proofs.Common.{◌∙◌, ℕ, List, Bor, sym, at_some}
 use Rattle.log_tasks.proofs.Lines.{first_told, next_told}
 use Rattle.log_tasks.proofs.told.is_told.Goals as goal
 

@@ -1,6 +1,4 @@
-use Rattle.std.proofs.Common.{◌≡◌, length}
-use Rattle.log_pieces.specs.Pieces.{acts_in}
-use Rattle.log_tasks.specs.Told.{is_told}
+use Rattle.log_tasks.proofs.Common.{◌≡◌, length, acts_in, is_told}
 use Rattle.log_tasks.proofs.told.is_told.Given as goal
 
 abbrev pub invariant-lines : goal.invariant-lines

@@ -1,6 +1,4 @@
-use Rattle.std.proofs.Common.{◌≡◌, ◌++◌, take}
-use Rattle.std.specs.List.{flat_map}
-use Rattle.log_told.specs.Told.{lines_of_finding}
+use Rattle.log_told.proofs.Common.{◌≡◌, ◌++◌, take, flat_map, lines_of_finding}
 use Rattle.log_told.proofs.lines.add_findings.Given as goal
 
 abbrev pub invariant-loop-finding : goal.invariant-loop-finding

@@ -1,10 +1,4 @@
-use Rattle.std.proofs.Common.{ℕ, List, eqb, subst, sym}
-use Rattle.std.specs.Prelude.{Contains}
-use Rattle.std.specs.List.Sorted.{IsStrictlyIncreasing}
-use Rattle.std.proofs.lemmas.List.Filters.{dedup_is}
-use Rattle.std.proofs.lemmas.List.Kept.{Contains-dedup_nat}
-use Rattle.std.proofs.lemmas.List.Sorted.{Contains-permutation}
-use Rattle.std.proofs.lemmas.Map.Keys.{IsStrictlyIncreasing-dedup}
+use Rattle.log_told.proofs.Common.{ℕ, List, eqb, subst, sym, Contains, IsStrictlyIncreasing, dedup_is, Contains-dedup_nat, Contains-permutation, IsStrictlyIncreasing-dedup}
 use Rattle.log_told.proofs.lines.ascending.Goals as goal
 
 pub returns : goal.returns

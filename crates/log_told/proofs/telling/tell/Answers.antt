@@ -1,8 +1,4 @@
-use Rattle.std.proofs.Common.{◌∙◌, ℕ, List, ap, map, subst, sym}
-use Rattle.std.specs.Prelude.{All}
-use Rattle.log_births.specs.declared.findings.Finding.{Finding}
-use Rattle.log_told.specs.Told.{told_use, all_lines}
-use Rattle.log_told.specs.Table.{IsTable, IsToldUse}
+use Rattle.log_told.proofs.Common.{◌∙◌, ℕ, List, ap, map, subst, sym, All, Finding, told_use, all_lines, IsTable, IsToldUse}
 use Rattle.log_told.proofs.Tables.{races_told, reads_told, uses_told, stale_told}
 use Rattle.log_told.proofs.telling.tell.Goals as goal
 

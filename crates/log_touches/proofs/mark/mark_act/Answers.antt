@@ -1,7 +1,4 @@
-use Rattle.std.proofs.Common.{◌≡◌, ◌++◌, ◌∷◌, [], List, ℕ, sym, subst}
-use Rattle.std.proofs.lemmas.Result.{on_ok_weaker}
-use Rattle.log_places.specs.declared.region.Region.{Region}
-use Rattle.log_places.specs.Counting.{AreMarked}
+use Rattle.log_touches.proofs.Common.{◌++◌, List, sym, subst, on_ok_weaker, Region, AreMarked}
 use Rattle.log_touches.proofs.Texts.{region_of_access}
 use Rattle.log_touches.proofs.mark.mark_act.Goals as goal
 

@@ -1,9 +1,4 @@
-use Rattle.std.proofs.Common.{◌≡◌, ◌++◌, ◌∷◌, ◌∙◌, [], List, ap, sym, subst}
-use Rattle.std.specs.Prelude.{option_to_list}
-use Rattle.log_lines.specs.Grammar.{line_of}
-use Rattle.log_pieces.specs.Pieces.{act_said}
-use Rattle.log_places.specs.declared.region.Region.{Region}
-use Rattle.log_places.specs.Counting.{AreMarked}
+use Rattle.log_touches.proofs.Common.{◌++◌, ◌∙◌, List, ap, sym, subst, option_to_list, line_of, act_said, Region, AreMarked}
 use Rattle.log_touches.proofs.Texts.{one_act_regions, said_within}
 use Rattle.log_touches.proofs.mark.mark_line.Goals as goal
 

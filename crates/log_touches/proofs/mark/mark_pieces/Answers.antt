@@ -1,12 +1,4 @@
-use Rattle.std.proofs.Common.{◌≡◌, ◌+◌, ◌++◌, ◌∙◌, Err, IfErr, List, length, take, drop, get_or, ap, sym, subst, arith}
-use Rattle.std.proofs.lemmas.Result.{err_from_is_err_and}
-use Rattle.log_pieces.specs.Pieces.{acts_in, acts_of_piece, events_of_pieces}
-use Rattle.log_places.specs.declared.region.Region.{Region}
-use Rattle.log_places.specs.Counting.{AreMarked}
-use Rattle.log_touches.specs.Accesses.{regions_of_acts}
-use Rattle.log_touches.specs.Strands.{regions_of_events}
-use Rattle.log_touches.specs.Chains.{firsts_from}
-use Rattle.log_touches.specs.Limits.{AreTooMany}
+use Rattle.log_touches.proofs.Common.{◌≡◌, ◌+◌, ◌++◌, ◌∙◌, Err, IfErr, List, length, take, drop, get_or, ap, sym, subst, arith, err_from_is_err_and, acts_in, acts_of_piece, events_of_pieces, Region, AreMarked, regions_of_acts, regions_of_events, firsts_from, AreTooMany}
 use Rattle.log_touches.proofs.Chains.{count_more, few_up_to}
 use Rattle.log_touches.proofs.Parts.{no_piece, split_here, regions_more, firsts_more, still_too_many}
 use Rattle.log_touches.proofs.mark.mark_pieces.Goals as goal

@@ -1,9 +1,4 @@
-use Rattle.std.proofs.Common.{◌≡◌, ◌≤◌, ◌++◌, length, take, drop}
-use Rattle.log_pieces.specs.Pieces.{events_of_pieces}
-use Rattle.log_places.specs.Counting.{AreMarked}
-use Rattle.log_touches.specs.Strands.{regions_of_events}
-use Rattle.log_touches.specs.Chains.{firsts_from}
-use Rattle.log_touches.specs.Limits.{most_acts}
+use Rattle.log_touches.proofs.Common.{◌≡◌, ◌≤◌, ◌++◌, length, take, drop, events_of_pieces, AreMarked, regions_of_events, firsts_from, most_acts}
 use Rattle.log_touches.proofs.mark.mark_pieces.Given as goal
 
 abbrev pub invariant-loop-piece : goal.invariant-loop-piece

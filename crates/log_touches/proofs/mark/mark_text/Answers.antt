@@ -1,11 +1,4 @@
-use Rattle.std.proofs.Common.{◌≡◌, ◌+◌, ◌++◌, ◌∙◌, ℕ, List, Bor, length, ap, sym, subst, arith}
-use Rattle.std.proofs.lemmas.List.{append_assoc, length-append}
-use Rattle.log_lines.specs.Grammar.{line_of}
-use Rattle.log_pieces.specs.Pieces.{act_said, acts_in}
-use Rattle.log_places.specs.declared.region.Region.{Region}
-use Rattle.log_places.specs.Counting.{AreMarked}
-use Rattle.log_touches.specs.Accesses.{regions_of_acts}
-use Rattle.log_pieces.proofs.Lines.{at_some, at_none, line_more, line_last}
+use Rattle.log_touches.proofs.Common.{◌+◌, ◌++◌, ◌∙◌, ℕ, List, Bor, length, ap, sym, subst, append_assoc, line_of, act_said, acts_in, Region, AreMarked, at_some, at_none, line_more, line_last, regions_of_acts}
 use Rattle.log_touches.proofs.Texts.{count_next, regions_next}
 use Rattle.log_touches.proofs.mark.mark_text.Goals as goal
 

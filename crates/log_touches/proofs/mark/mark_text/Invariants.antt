@@ -1,9 +1,4 @@
-use Rattle.std.proofs.Common.{◌≡◌, ◌≤◌, ◌+◌, ◌++◌, List, length}
-use Rattle.log_pieces.specs.Pieces.{acts_in}
-use Rattle.log_places.specs.declared.region.Region.{Region}
-use Rattle.log_places.specs.Counting.{AreMarked}
-use Rattle.log_touches.specs.Accesses.{regions_of_acts}
-use Rattle.log_touches.specs.Limits.{most_acts}
+use Rattle.log_touches.proofs.Common.{◌≡◌, ◌≤◌, ◌+◌, ◌++◌, List, length, acts_in, Region, AreMarked, regions_of_acts, most_acts}
 use Rattle.log_touches.proofs.mark.mark_text.Given as goal
 
 abbrev pub invariant-lines : goal.invariant-lines

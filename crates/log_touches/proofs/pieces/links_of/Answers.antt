@@ -1,11 +1,4 @@
-use Rattle.std.proofs.Common.{◌≡◌, ◌+◌, ◌-◌, ◌<◌, ◌≤◌, ◌∙◌, ℕ, Bool, Option, Some, None, List, cond, length, drop, slice_get, ap, sym, subst, refl, arith}
-use Rattle.std.proofs.lemmas.List.{length-set}
-use Rattle.std.specs.HashMap.{get}
-use Rattle.listed.proofs.Members.{got_within}
-use Rattle.fork_graph.specs.Graph.{strand}
-use Rattle.log_pieces.specs.declared.piece.Piece.{Piece}
-use Rattle.log_pieces.specs.Claims.{is_pair, is_that}
-use Rattle.log_touches.specs.Chains.{next_on}
+use Rattle.log_touches.proofs.Common.{◌≡◌, ◌+◌, ◌-◌, ◌≤◌, ◌∙◌, ℕ, Option, Some, List, cond, length, drop, slice_get, ap, sym, subst, arith, length-set, got_within, strand, LogPiece, is_that, next_on}
 use Rattle.log_touches.proofs.Linking.{none_first, head_more, link_set}
 use Rattle.log_touches.proofs.pieces.links_of.Goals as goal
 
@@ -31,7 +24,7 @@ loop-place-preserved c =
           ∙ head_more c.args.pieces.now k t i p c.piece_at-piece.ensures);
       size = ap length c.set.ensures ∙ (length-set c.loop-place.nexts k c.in_ok-next.next ∙ c.loop-place.invariant.size);
       nexts =
-          subst (λ (ns : List (Option ℕ)). (j : ℕ) (q : Piece) → k ≤ j → slice_get c.args.pieces.now j ≡ Some q → slice_get ns j ≡ Some (next_on q.strand (j + 1) (drop (j + 1) c.args.pieces.now))) (sym c.set.ensures)
+          subst (λ (ns : List (Option ℕ)). (j : ℕ) (q : LogPiece) → k ≤ j → slice_get c.args.pieces.now j ≡ Some q → slice_get ns j ≡ Some (next_on q.strand (j + 1) (drop (j + 1) c.args.pieces.now))) (sym c.set.ensures)
           (link_set c.args.pieces.now c.loop-place.nexts k p c.in_ok-next.next c.loop-place.invariant.size c.piece_at-piece.ensures
           (c.in_ok-next.ensures.old ∙ (c.loop-place.invariant.heads p.strand.task p.strand.index ∙ ap (λ n. next_on p.strand n (drop n c.args.pieces.now)) (sym before)))
           (omega (arith, c.loop-place.invariant.within, c.loop-place-test.true))

@@ -1,9 +1,4 @@
-use Rattle.std.proofs.Common.{◌≡◌, ◌≤◌, ◌+◌, ℕ, Some, length, drop, slice_get}
-use Rattle.std.specs.HashMap.{get}
-use Rattle.fork_graph.specs.Graph.{strand}
-use Rattle.log_pieces.specs.declared.piece.Piece.{Piece}
-use Rattle.log_pieces.specs.Claims.{is_pair}
-use Rattle.log_touches.specs.Chains.{next_on}
+use Rattle.log_touches.proofs.Common.{◌≡◌, ◌≤◌, ◌+◌, ℕ, Some, length, drop, slice_get, get, strand, LogPiece, is_pair, next_on}
 use Rattle.log_touches.proofs.pieces.links_of.Given as goal
 
 abbrev pub invariant-loop-place : goal.invariant-loop-place
@@ -11,7 +6,7 @@ invariant-loop-place l = record {
   within : l.place ≤ length l.pieces;
   heads : (t i : ℕ) → get is_pair l.heads (t, i) ≡ next_on (strand t i) l.place (drop l.place l.pieces);
   size : length l.nexts ≡ length l.pieces;
-  nexts : (k : ℕ) (p : Piece) → l.place ≤ k → slice_get l.pieces k ≡ Some p → slice_get l.nexts k ≡ Some (next_on p.strand (k + 1) (drop (k + 1) l.pieces));
+  nexts : (k : ℕ) (p : LogPiece) → l.place ≤ k → slice_get l.pieces k ≡ Some p → slice_get l.nexts k ≡ Some (next_on p.strand (k + 1) (drop (k + 1) l.pieces));
 }
 
 abbrev pub decreases-loop-place : goal.decreases-loop-place

@@ -1,24 +1,17 @@
-use Rattle.std.proofs.Common.{◌≡◌, ◌++◌, ◌∷◌, ◌∙◌, [], List, All, inl, refl, ap, sym, subst}
-use Rattle.std.proofs.lemmas.Result.{on_ok_weaker}
-use Rattle.listed.proofs.Places.{read_in}
-use Rattle.log_places.specs.declared.region.Region.{Region}
-use Rattle.log_places.specs.Places.{IsRegionCut}
-use Rattle.race_scan.specs.declared.touch.Touch.{Touch}
-use Rattle.race_scan.specs.Scan.{HasScanned}
-use Rattle.log_touches.proofs.Texts.{region_of_access, touch_of_access}
+use Rattle.log_touches.proofs.Common.{◌++◌, List, sym, subst, on_ok_weaker, Act, Touch, HasScanned, touches_of_act}
+use Rattle.log_touches.proofs.Texts.{touches_without}
 use Rattle.log_touches.proofs.scan.touch_act.Goals as goal
 
-pub touch-requires-clause-cut : goal.touch-requires-clause-cut
-touch-requires-clause-cut g c =
-    let e = region_of_access c.access_of.result c.in-Some.access c.args.act c.access_of.ensures.value c.in-Some.is in
-    let all : All (IsRegionCut c.args.numbers.now) (c.in-Some.access.region ∷ []) = subst (λ (rs : List Region). All (IsRegionCut c.args.numbers.now) rs) e c.requires.cut in
-    subst (λ (t : Touch). IsRegionCut c.args.numbers.now t.region) (sym c.touch_by.ensures)
-    (read_in (IsRegionCut c.args.numbers.now) (c.in-Some.access.region ∷ []) c.in-Some.access.region (inl refl) all)
+pub returns-in-Release-clause-ok : goal.returns-in-Release-clause-ok
+returns-in-Release-clause-ok g c =
+    on_ok_weaker c.release.result
+    (λ scanned regions past are seen. subst (λ (a : Act). HasScanned (g.S.Strands.order c.args.order.now) c.args.numbers.now (past ++ touches_of_act regions c.args.at.0 c.args.at.1 a) c.release.new.self)
+    (sym c.in-Release.is) (scanned regions past are seen))
+    c.release.ensures.ok
 
-pub returns-in-Some-clause-ok : goal.returns-in-Some-clause-ok
-returns-in-Some-clause-ok g c =
-    let e = touch_of_access c.args.at.0 c.args.at.1 c.access_of.result c.in-Some.access c.args.act c.access_of.ensures.value c.in-Some.is in
-    on_ok_weaker c.touch.result
-    (λ scanned past seen. subst (λ (ts : List Touch). HasScanned (g.S.Strands.order c.args.order.now) c.args.numbers.now (past ++ ts) c.touch.new.self)
-    (ap (λ (t : Touch). t ∷ []) c.touch_by.ensures ∙ sym e) (scanned past seen))
-    c.touch.ensures.ok
+pub returns-in_default-clause-ok : goal.returns-in_default-clause-ok
+returns-in_default-clause-ok g c =
+    on_ok_weaker c.touch_access.result
+    (λ scanned regions past are seen. subst (λ (ts : List Touch). HasScanned (g.S.Strands.order c.args.order.now) c.args.numbers.now (past ++ ts) c.touch_access.new.scan)
+    (sym (touches_without regions c.args.at.0 c.args.at.1 c.args.act c.in_default.not-Release)) (scanned past seen))
+    c.touch_access.ensures.ok

@@ -1,8 +1,4 @@
-use Rattle.std.proofs.Common.{◌≡◌, ◌+◌, ◌≤◌, ◌∷◌, ◌++◌, [], ap, sym, subst, ◌∙◌, rules}
-use Rattle.std.proofs.lemmas.Option.{same_Some}
-use Rattle.far_links.specs.declared.links.Link.{Link}
-use Rattle.far_links.specs.Lists.{new_link}
-use Rattle.log_walk.specs.Tables.{place_before, AreSpawnLinks}
+use Rattle.log_walk.proofs.Common.{◌≡◌, ◌+◌, ◌≤◌, ◌∷◌, ◌++◌, [], ap, sym, subst, ◌∙◌, rules, same_Some, Link, new_link, place_before, AreSpawnLinks}
 use Rattle.log_walk.proofs.SpawnLinks.{link_pushed}
 use Rattle.log_walk.proofs.links.spawn_links.Goals as goal
 

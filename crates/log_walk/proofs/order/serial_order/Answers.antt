@@ -1,8 +1,4 @@
-use Rattle.std.proofs.Common.{◌≡◌, ◌<◌, ◌∷◌, ◌++◌, [], suc, ap, sym, subst, refl, rules, arith, length}
-use Rattle.fork_graph.specs.Graph.{tasks_in, first_of}
-use Rattle.ancestor_laws.proofs.Serial.{levels_are_few}
-use Rattle.log_walk.specs.declared.order.Walk.{Walk}
-use Rattle.log_walk.specs.Walking.{visited}
+use Rattle.log_walk.proofs.Common.{◌≡◌, ◌<◌, ◌∷◌, ◌++◌, [], suc, ap, sym, subst, refl, rules, arith, length, tasks_in, first_of, levels_are_few, Walk, visited}
 use Rattle.log_walk.proofs.Walking.{IsWalking, left, walk_start, walk_step, walk_end}
 use Rattle.log_walk.proofs.order.serial_order.Goals as goal
 

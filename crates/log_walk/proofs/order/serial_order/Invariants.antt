@@ -1,5 +1,4 @@
-use Rattle.std.proofs.Common.{length}
-use Rattle.fork_graph.specs.Graph.{tasks_in}
+use Rattle.log_walk.proofs.Common.{length, tasks_in}
 use Rattle.log_walk.proofs.Walking.{IsWalking, left}
 use Rattle.log_walk.proofs.order.serial_order.Given as goal
 

@@ -1,9 +1,7 @@
-use Rattle.std.proofs.Common.{◌≡◌, None, List, slice_get, ap, sym, rules}
-use Rattle.fork_graph.specs.declared.graph.Turn.{Turn}
-use Rattle.fork_graph.proofs.Search.{no_row}
+use Rattle.log_walk.proofs.Common.{◌≡◌, None, List, slice_get, ap, sym, rules, GraphTurn, no_row}
 use Rattle.log_walk.proofs.order.turn_after.Goals as goal
 
 pub returns-in-None : goal.returns-in-None
 returns-in-None c =
     let none : slice_get c.args.tasks.now c.args.strand.task ≡ None = search rules in
-    ap (λ (turns : List Turn). slice_get turns c.args.strand.index) (sym (no_row c.args.tasks.now c.args.strand.task none))
+    ap (λ (turns : List GraphTurn). slice_get turns c.args.strand.index) (sym (no_row c.args.tasks.now c.args.strand.task none))

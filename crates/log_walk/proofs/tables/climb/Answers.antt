@@ -1,6 +1,4 @@
-use Rattle.fork_graph.specs.Graph.{tasks_in}
-use Rattle.ancestor_laws.proofs.Trees.{through}
-use Rattle.log_walk.specs.Tables.{task_at}
+use Rattle.log_walk.proofs.Common.{tasks_in, through, task_at}
 use Rattle.log_walk.proofs.tables.climb.Goals as goal
 
 pub loop-up-preserved : goal.loop-up-preserved

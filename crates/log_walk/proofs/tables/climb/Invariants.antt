@@ -1,7 +1,4 @@
-use Rattle.std.proofs.Common.{◌<◌, length}
-use Rattle.far_links.specs.Lists.{depth_at}
-use Rattle.fork_graph.specs.Graph.{tasks_in, IsAncestor}
-use Rattle.log_walk.specs.Tables.{task_at}
+use Rattle.log_walk.proofs.Common.{◌<◌, length, depth_at, tasks_in, IsAncestor, task_at}
 use Rattle.log_walk.proofs.tables.climb.Given as goal
 
 abbrev pub invariant-loop-up : goal.invariant-loop-up

@@ -1,7 +1,4 @@
-use Rattle.std.proofs.Common.{◌<◌, ◌^◌, sym, subst, arith}
-use Rattle.fork_graph.specs.Graph.{tasks_in}
-use Rattle.far_links.specs.Lists.{depth_at}
-use Rattle.log_walk.specs.Meetings.{IsDepthAt}
+use Rattle.log_walk.proofs.Common.{◌<◌, ◌^◌, sym, subst, arith, tasks_in, depth_at, IsDepthAt}
 use Rattle.log_walk.proofs.Climbs.{depth_is, depth_small}
 use Rattle.log_walk.proofs.tables.depth.Goals as goal
 

@@ -1,8 +1,4 @@
-use Rattle.std.proofs.Common.{◌≡◌, Some, sym, subst, ◌∙◌}
-use Rattle.std.proofs.lemmas.Bool.{false≢true}
-use Rattle.far_links.specs.Lists.{up_from, far_at}
-use Rattle.fork_graph.specs.Graph.{tasks_in, IsAncestor}
-use Rattle.log_walk.specs.Tables.{task_at, IsNextUp}
+use Rattle.log_walk.proofs.Common.{◌≡◌, Some, sym, subst, ◌∙◌, false≢true, up_from, far_at, tasks_in, IsAncestor, task_at, IsNextUp}
 use Rattle.log_walk.proofs.Climbs.{far_up, parent_up}
 use Rattle.log_walk.proofs.tables.next_up.Goals as goal
 

@@ -1,5 +1,4 @@
-use Rattle.std.proofs.Common.{◌∙◌}
-use Rattle.log_strands.specs.below.log_form.{events_of}
+use Rattle.log_weights.proofs.Common.{◌∙◌, events_of}
 use Rattle.log_weights.proofs.Weighing.{span_is}
 use Rattle.log_weights.proofs.cost.work_and_span.Goals as goal
 

@@ -1,7 +1,4 @@
-use Rattle.std.proofs.Common.{◌≡◌, ◌∙◌, ap, sym, arith}
-use Rattle.log_pieces.specs.Pieces.{acts_in}
-use Rattle.log_weights.specs.Weights.{work_of}
-use Rattle.log_weights.specs.Sums.{fitting}
+use Rattle.log_weights.proofs.Common.{◌≡◌, ◌∙◌, ap, sym, arith, acts_in, work_of, fitting}
 use Rattle.log_weights.proofs.Fitting.{fits}
 use Rattle.log_weights.proofs.sums.text_work.Goals as goal
 

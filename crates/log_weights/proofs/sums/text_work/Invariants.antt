@@ -1,6 +1,4 @@
-use Rattle.std.proofs.Common.{◌≡◌, ◌<◌, ◌+◌, ◌^◌, length}
-use Rattle.log_pieces.specs.Pieces.{acts_in}
-use Rattle.log_weights.specs.Weights.{work_of}
+use Rattle.log_weights.proofs.Common.{◌≡◌, ◌<◌, ◌+◌, ◌^◌, length, acts_in, work_of}
 use Rattle.log_weights.proofs.sums.text_work.Given as goal
 
 abbrev pub invariant-loop-act : goal.invariant-loop-act

@@ -1,6 +1,4 @@
-use Rattle.std.proofs.Common.{arith}
-use Rattle.object_layout.specs.Place.{cell_at, cells_from}
-use Rattle.memory_scenes.specs.Fit.{IsFit}
+use Rattle.memory_scenes.proofs.Common.{arith, cell_at, cells_from, IsFit}
 use Rattle.memory_scenes.proofs.Checks.{all_step}
 use Rattle.memory_scenes.proofs.cells.is_fit_chunk.Goals as goal
 

@@ -1,7 +1,4 @@
-use Rattle.std.proofs.Common.{◌-◌, ◌<◌, ◌≤◌}
-use Rattle.std.specs.Prelude.{All}
-use Rattle.object_layout.specs.Place.{IsCellAt, cells_from}
-use Rattle.memory_scenes.specs.Fit.{IsFit}
+use Rattle.memory_scenes.proofs.Common.{◌-◌, ◌<◌, ◌≤◌, All, IsCellAt, cells_from, IsFit}
 use Rattle.memory_scenes.proofs.cells.is_fit_chunk.Given as goal
 
 abbrev pub invariant-loop-at : goal.invariant-loop-at

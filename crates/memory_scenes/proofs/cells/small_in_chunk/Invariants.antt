@@ -1,6 +1,4 @@
-use Rattle.std.proofs.Common.{◌≡◌, ◌+◌, ◌-◌, ◌<◌, ◌≤◌}
-use Rattle.object_layout.specs.Place.{IsCellAt, cells_from}
-use Rattle.leaf_copy_gc.specs.Laid.{small_in}
+use Rattle.memory_scenes.proofs.Common.{◌≡◌, ◌+◌, ◌-◌, ◌<◌, ◌≤◌, IsCellAt, cells_from, small_in}
 use Rattle.memory_scenes.proofs.cells.small_in_chunk.Given as goal
 
 abbrev pub invariant-loop-at : goal.invariant-loop-at

@@ -1,5 +1,4 @@
-use Rattle.std.proofs.Common.{◌-◌, ◌<◌, ◌≤◌}
-use Rattle.object_layout.specs.Place.{IsCellAt}
+use Rattle.memory_scenes.proofs.Common.{◌-◌, ◌<◌, ◌≤◌, IsCellAt}
 use Rattle.memory_scenes.proofs.soundness.begins_at.Given as goal
 
 abbrev pub invariant-loop-at : goal.invariant-loop-at

@@ -1,6 +1,4 @@
-use Rattle.std.proofs.Common.{ℕ, ◌<◌, slice_index_or}
-use Rattle.object_layout.specs.declared.word.Addr.{Addr}
-use Rattle.inner_mark_gc.specs.Snapshot.{HasObjectAt}
+use Rattle.memory_scenes.proofs.Common.{ℕ, ◌<◌, slice_index_or, Addr, HasObjectAt}
 use Rattle.memory_scenes.proofs.sweeping.are_objects.Given as goal
 
 abbrev pub invariant-loop-object : goal.invariant-loop-object

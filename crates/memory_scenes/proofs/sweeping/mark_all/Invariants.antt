@@ -1,4 +1,4 @@
-use Rattle.inner_mark_gc.specs.MarkingValue.{IsOf}
+use Rattle.mark_sweep_gc.specs.MarkingValue.{IsOf}
 use Rattle.memory_scenes.proofs.sweeping.mark_all.Given as goal
 
 abbrev pub invariant-loop-calls : goal.invariant-loop-calls

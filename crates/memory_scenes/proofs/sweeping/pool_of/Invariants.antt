@@ -1,7 +1,4 @@
-use Rattle.std.proofs.Common.{ℕ, ◌<◌, slice_index_or}
-use Rattle.std.specs.Prelude.{IsSome}
-use Rattle.object_layout.specs.ChunkValue.{ChunkValue}
-use Rattle.chunk_pool.specs.PoolValue.{slot_at}
+use Rattle.memory_scenes.proofs.Common.{ℕ, ◌<◌, slice_index_or, IsSome, ChunkValue, slot_at}
 use Rattle.memory_scenes.proofs.sweeping.pool_of.Given as goal
 
 abbrev pub invariant-loop-chunk : goal.invariant-loop-chunk

@@ -1,5 +1,4 @@
-use Rattle.object_layout.specs.Cell.{Born}
-use Rattle.std.proofs.Common.{sym, ap, ◌∙◌, arith}
+use Rattle.object_layout.proofs.Common.{Born, sym, ap, ◌∙◌, arith}
 use Rattle.object_layout.proofs.PlaceLemmas as place
 use Rattle.object_layout.proofs.ReadLemmas as read
 use Rattle.object_layout.proofs.chunk.birth_at.Goals as goal

@@ -1,10 +1,4 @@
-use Rattle.std.proofs.Common.{◌≡◌, ◌+◌, ◌-◌, ℕ, List, [], ◌∷◌, ◌++◌, length, take, arith, refl, sym, ap, ◌∙◌}
-use Rattle.std.specs.Vec.{with_items}
-use Rattle.std.proofs.lemmas.List.{with_items_is}
-use Rattle.object_layout.specs.Cell.{size_of}
-use Rattle.object_layout.specs.Layout.{words_of_cell}
-use Rattle.object_layout.specs.Place.{cell_at}
-use Rattle.object_layout.specs.ChunkValue.{HoldsCells}
+use Rattle.object_layout.proofs.Common.{◌≡◌, ◌+◌, ◌-◌, ℕ, List, [], ◌∷◌, ◌++◌, length, take, arith, refl, sym, ap, ◌∙◌, with_items, with_items_is, size_of, words_of_cell, cell_at, HoldsCells}
 use Rattle.object_layout.proofs.HoldLemmas as hold
 use Rattle.object_layout.proofs.PlaceLemmas as place
 use Rattle.object_layout.proofs.chunk.copy_behind.Goals as goal

@@ -1,10 +1,5 @@
-use Rattle.std.proofs.lemmas.List.{length-set, get_or_read}
+use Rattle.object_layout.proofs.Common.{length-set, get_or_read, bit_or, ◌≡◌, ◌+◌, ◌<◌, length, set, arith, ◌∙◌, with_mark, Hole, cell_at, put_cell, HoldsCells}
 use Rattle.object_layout.proofs.WriteLemmas as write
-use Rattle.std.specs.Prelude.{bit_or}
-use Rattle.std.proofs.Common.{◌≡◌, ◌+◌, ◌<◌, length, set, arith, ◌∙◌}
-use Rattle.object_layout.specs.Cell.{with_mark, Hole}
-use Rattle.object_layout.specs.Place.{cell_at, put_cell}
-use Rattle.object_layout.specs.ChunkValue.{HoldsCells}
 use Rattle.object_layout.proofs.HoldLemmas as hold
 use Rattle.object_layout.proofs.PlaceLemmas as place
 use Rattle.object_layout.proofs.ReadLemmas as read

@@ -1,10 +1,5 @@
-use Rattle.std.proofs.Common.{◌≡◌, ◌+◌, ◌<◌, length, refl, ap, sym, subst, ◌∙◌, arith}
-use Rattle.std.proofs.Common.{to_z, of_z, w64, rules}
-use Rattle.std.proofs.lemmas.Int.{to_z-of_z}
-use Rattle.object_layout.specs.Cell.{with_int}
-use Rattle.object_layout.specs.Chunks.{with_cell}
-use Rattle.object_layout.specs.ChunkValue.{ChunkValue}
-use Rattle.object_layout.specs.Place.{cell_at, object_at}
+use Rattle.object_layout.proofs.Common.{◌≡◌, ◌+◌, ◌<◌, length, refl, ap, sym, subst, ◌∙◌, arith, to_z, of_z, rules, to_z-of_z, with_int, with_cell, ChunkValue, cell_at, object_at}
+use Rattle.std.proofs.Common.{w64}
 use Rattle.object_layout.proofs.FillLemmas.{ints_begun, ints_done, ints_more, ints_within}
 use Rattle.object_layout.proofs.chunk.fill_ints.Goals as goal
 

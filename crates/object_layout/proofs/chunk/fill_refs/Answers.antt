@@ -1,8 +1,4 @@
-use Rattle.std.proofs.Common.{◌≡◌, ◌+◌, ◌<◌, length, refl, ap, sym, subst, ◌∙◌, arith}
-use Rattle.object_layout.specs.Cell.{with_ref}
-use Rattle.object_layout.specs.Chunks.{with_cell}
-use Rattle.object_layout.specs.ChunkValue.{ChunkValue}
-use Rattle.object_layout.specs.Place.{cell_at, object_at}
+use Rattle.object_layout.proofs.Common.{◌≡◌, ◌+◌, ◌<◌, length, refl, ap, sym, subst, ◌∙◌, arith, with_ref, with_cell, ChunkValue, cell_at, object_at}
 use Rattle.object_layout.proofs.FillLemmas.{refs_begun, refs_done, refs_more, refs_within}
 use Rattle.object_layout.proofs.chunk.fill_refs.Goals as goal
 

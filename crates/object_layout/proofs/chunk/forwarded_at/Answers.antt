@@ -1,6 +1,4 @@
-use Rattle.object_layout.specs.Layout.{is_gone}
-use Rattle.std.proofs.Common.{◌≡◌, sym, ◌∙◌, true, false}
-use Rattle.object_layout.specs.Place.{cell_at}
+use Rattle.object_layout.proofs.Common.{is_gone, ◌≡◌, sym, ◌∙◌, true, false, cell_at}
 use Rattle.object_layout.proofs.PlaceLemmas as place
 use Rattle.object_layout.proofs.ReadLemmas as read
 use Rattle.object_layout.proofs.chunk.forwarded_at.Goals as goal

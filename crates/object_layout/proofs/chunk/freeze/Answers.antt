@@ -1,9 +1,4 @@
-use Rattle.std.proofs.Common.{◌≡◌, ◌+◌, ◌<◌, length, set, arith, ◌∙◌}
-use Rattle.std.proofs.lemmas.List.{length-set, get_or_read}
-use Rattle.std.specs.Prelude.{bit_and}
-use Rattle.object_layout.specs.Cell.{frozen}
-use Rattle.object_layout.specs.Place.{cell_at, put_cell}
-use Rattle.object_layout.specs.ChunkValue.{HoldsCells}
+use Rattle.object_layout.proofs.Common.{◌≡◌, ◌+◌, ◌<◌, length, set, arith, ◌∙◌, length-set, get_or_read, bit_and, frozen, cell_at, put_cell, HoldsCells}
 use Rattle.object_layout.proofs.HoldLemmas as hold
 use Rattle.object_layout.proofs.PlaceLemmas as place
 use Rattle.object_layout.proofs.ReadLemmas as read

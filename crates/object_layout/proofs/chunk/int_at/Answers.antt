@@ -1,8 +1,4 @@
-use Rattle.std.proofs.Common.{◌≡◌, length, arith, sym, ap, ◌∙◌, rules, Some}
-use Rattle.std.proofs.lemmas.Int.{to_z-of_z}
-use Rattle.std.specs.Int.{w64}
-use Rattle.object_layout.specs.declared.word.Header.{Header}
-use Rattle.object_layout.specs.Place.{cell_at}
+use Rattle.object_layout.proofs.Common.{◌≡◌, length, arith, sym, ap, ◌∙◌, rules, Some, to_z-of_z, w64, Header, cell_at}
 use Rattle.object_layout.proofs.PlaceLemmas as place
 use Rattle.object_layout.proofs.ReadLemmas as read
 use Rattle.object_layout.proofs.chunk.int_at.Goals as goal

@@ -1,8 +1,4 @@
-use Rattle.std.proofs.Common.{◌≡◌, ◌∙◌, sym, ap, true, false}
-use Rattle.std.specs.Prelude.{not}
-use Rattle.object_layout.specs.declared.word.Header.{Header}
-use Rattle.object_layout.specs.Layout.{is_gone}
-use Rattle.object_layout.specs.Place.{cell_at}
+use Rattle.object_layout.proofs.Common.{◌≡◌, ◌∙◌, sym, ap, true, false, not, Header, is_gone, cell_at}
 use Rattle.object_layout.proofs.ReadLemmas as read
 use Rattle.object_layout.proofs.chunk.is_frozen_at.Goals as goal
 

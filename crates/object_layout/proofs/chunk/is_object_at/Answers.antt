@@ -1,7 +1,4 @@
-use Rattle.std.proofs.Common.{◌≡◌, ◌∙◌, sym, true, false}
-use Rattle.std.specs.Prelude.{not}
-use Rattle.object_layout.specs.Layout.{is_gone}
-use Rattle.object_layout.specs.Place.{cell_at}
+use Rattle.object_layout.proofs.Common.{◌≡◌, ◌∙◌, sym, true, false, not, is_gone, cell_at}
 use Rattle.object_layout.proofs.ReadLemmas as read
 use Rattle.object_layout.proofs.chunk.is_object_at.Goals as goal
 

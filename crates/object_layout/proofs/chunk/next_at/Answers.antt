@@ -1,7 +1,4 @@
-use Rattle.object_layout.specs.declared.word.Header.{Header}
-use Rattle.std.proofs.Common.{◌≡◌, ◌+◌, length, arith, ap}
-use Rattle.object_layout.specs.Cell.{size_of}
-use Rattle.object_layout.specs.Place.{cell_at}
+use Rattle.object_layout.proofs.Common.{Header, ◌≡◌, ◌+◌, length, arith, ap, size_of, cell_at}
 use Rattle.object_layout.proofs.PlaceLemmas as place
 use Rattle.object_layout.proofs.ReadLemmas as read
 use Rattle.object_layout.proofs.chunk.next_at.Goals as goal

@@ -1,15 +1,8 @@
-use Rattle.std.proofs.lemmas.List.{length-set}
+use Rattle.object_layout.proofs.Common.{length-set, ◌+◌, set, arith, ◌∙◌, ap, false, Header, with_mark, Born, header_word, cell_at, put_cell, HoldsCells}
 use Rattle.object_layout.proofs.WriteLemmas as write
-use Rattle.std.proofs.Common.{◌+◌, set, arith, ◌∙◌, ap}
-use Rattle.object_layout.specs.declared.word.Header.{Header}
-use Rattle.object_layout.specs.Cell.{with_mark, Born}
-use Rattle.object_layout.specs.Layout.{header_word}
-use Rattle.object_layout.specs.Place.{cell_at, put_cell}
-use Rattle.object_layout.specs.ChunkValue.{HoldsCells}
 use Rattle.object_layout.proofs.HoldLemmas as hold
 use Rattle.object_layout.proofs.PlaceLemmas as place
 use Rattle.object_layout.proofs.chunk.set_birth.Goals as goal
-use Rattle.std.specs.Prelude.{false}
 
 new_holds : (c : goal.After-chunk-2-1) →
     HoldsCells (set (set c.chunk.inside.words.items c.args.at c.header_to_word.result) (c.args.at + 1) c.birth_to_word.result) c.chunk.inside.used

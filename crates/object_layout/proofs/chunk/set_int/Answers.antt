@@ -1,5 +1,4 @@
-use Rattle.std.proofs.Common.{ap}
-use Rattle.object_layout.specs.declared.word.Header.{Header}
+use Rattle.object_layout.proofs.Common.{ap, Header}
 use Rattle.object_layout.proofs.PlaceLemmas as place
 use Rattle.object_layout.proofs.chunk.set_int.Goals as goal
 

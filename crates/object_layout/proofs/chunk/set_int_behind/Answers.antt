@@ -1,11 +1,5 @@
-use Rattle.std.proofs.lemmas.List.{length-set}
+use Rattle.object_layout.proofs.Common.{length-set, to_z-of_z, w64, ◌≡◌, ◌+◌, length, set, arith, with_int, cell_at, put_cell, HoldsCells}
 use Rattle.object_layout.proofs.WriteLemmas as write
-use Rattle.std.proofs.lemmas.Int.{to_z-of_z}
-use Rattle.std.specs.Int.{w64}
-use Rattle.std.proofs.Common.{◌≡◌, ◌+◌, length, set, arith}
-use Rattle.object_layout.specs.Cell.{with_int}
-use Rattle.object_layout.specs.Place.{cell_at, put_cell}
-use Rattle.object_layout.specs.ChunkValue.{HoldsCells}
 use Rattle.object_layout.proofs.HoldLemmas as hold
 use Rattle.object_layout.proofs.PlaceLemmas as place
 use Rattle.object_layout.proofs.chunk.set_int_behind.Goals as goal

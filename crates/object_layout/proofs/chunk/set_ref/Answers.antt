@@ -1,9 +1,5 @@
-use Rattle.std.proofs.lemmas.List.{length-set}
+use Rattle.object_layout.proofs.Common.{length-set, ◌+◌, set, arith, with_ref, cell_at, put_cell, HoldsCells}
 use Rattle.object_layout.proofs.WriteLemmas as write
-use Rattle.std.proofs.Common.{◌+◌, set, arith}
-use Rattle.object_layout.specs.Cell.{with_ref}
-use Rattle.object_layout.specs.Place.{cell_at, put_cell}
-use Rattle.object_layout.specs.ChunkValue.{HoldsCells}
 use Rattle.object_layout.proofs.HoldLemmas as hold
 use Rattle.object_layout.proofs.PlaceLemmas as place
 use Rattle.object_layout.proofs.chunk.set_ref.Goals as goal

@@ -1,5 +1,4 @@
-use Rattle.std.proofs.lemmas.List.{get_or_read}
-use Rattle.std.proofs.Common.{◌+◌, ◌<◌, length, arith, ◌∙◌}
+use Rattle.object_layout.proofs.Common.{get_or_read, ◌+◌, ◌<◌, length, arith, ◌∙◌}
 use Rattle.object_layout.proofs.HoldLemmas as hold
 use Rattle.object_layout.proofs.chunk.word_at.Goals as goal
 

@@ -1,6 +1,4 @@
-use Rattle.std.proofs.Common.{None, pos, length, ap, sym, subst, ◌∙◌}
-use Rattle.std.proofs.lemmas.List.{length-replicate}
-use Rattle.object_layout.specs.Cell.{Cell, IsObject, new_cell, with_ints, with_refs}
+use Rattle.object_layout.proofs.Common.{None, pos, length, ap, sym, subst, ◌∙◌, length-replicate, Cell, IsObject, new_cell, with_ints, with_refs}
 use Rattle.object_layout.proofs.FillLemmas as fill
 use Rattle.object_layout.proofs.chunk.write_filled.Goals as goal
 

@@ -1,6 +1,4 @@
-use Rattle.std.proofs.Common.{◌≡◌, ◌++◌, ◌-◌, ◌<◌, ◌≤◌}
-use Rattle.object_layout.specs.Piece.{starts_from, starts_in}
-use Rattle.object_layout.specs.Place.{IsCellAt, cells_from}
+use Rattle.object_layout.proofs.Common.{◌≡◌, ◌++◌, ◌-◌, ◌<◌, ◌≤◌, starts_from, starts_in, IsCellAt, cells_from}
 use Rattle.object_layout.proofs.piece.starts_of.Given as goal
 
 abbrev pub invariant-loop-at : goal.invariant-loop-at

@@ -1,9 +1,4 @@
-use Rattle.std.proofs.Common.{[], ◌∷◌}
-use Rattle.std.specs.Prelude.{codes}
-use Rattle.std.specs.List.{flat_map}
-use Rattle.std.proofs.lemmas.Result.{on_ok_weaker}
-use Rattle.page_data.specs.Values.{more}
-use Rattle.page_data.specs.Deltas.{child}
+use Rattle.page_data.proofs.Common.{[], ◌∷◌, codes, flat_map, on_ok_weaker, more, child}
 use Rattle.page_data.proofs.Pieces.{listed}
 use Rattle.page_data.proofs.delta.add_listed_children.Goals as goal
 

@@ -1,7 +1,4 @@
-use Rattle.std.proofs.Common.{◌≡◌, ◌++◌, take}
-use Rattle.std.specs.List.{flat_map}
-use Rattle.page_data.specs.Values.{more}
-use Rattle.page_data.specs.Deltas.{child}
+use Rattle.page_data.proofs.Common.{◌≡◌, ◌++◌, take, flat_map, more, child}
 use Rattle.page_data.proofs.delta.more_children.Given as goal
 
 abbrev pub invariant-loop-of : goal.invariant-loop-of

@@ -1,6 +1,4 @@
-use Rattle.std.proofs.Common.{◌≡◌, ◌++◌, take}
-use Rattle.std.specs.List.{flat_map}
-use Rattle.page_data.specs.Values.{more, reference}
+use Rattle.page_data.proofs.Common.{◌≡◌, ◌++◌, take, flat_map, more, reference}
 use Rattle.page_data.proofs.delta.more_references.Given as goal
 
 abbrev pub invariant-loop-held : goal.invariant-loop-held

@@ -1,7 +1,4 @@
-use Rattle.std.proofs.Common.{◌≡◌, ◌++◌, take}
-use Rattle.std.specs.List.{flat_map}
-use Rattle.page_data.specs.Values.{more}
-use Rattle.page_data.specs.Deltas.{task_now}
+use Rattle.page_data.proofs.Common.{◌≡◌, ◌++◌, take, flat_map, more, task_now}
 use Rattle.page_data.proofs.delta.more_tasks.Given as goal
 
 abbrev pub invariant-loop-of : goal.invariant-loop-of

@@ -1,7 +1,4 @@
-use Rattle.std.proofs.Common.{◌≡◌, ◌++◌, take}
-use Rattle.std.specs.List.{flat_map}
-use Rattle.page_data.specs.Values.{more}
-use Rattle.page_data.specs.Heaps.{names_list}
+use Rattle.page_data.proofs.Common.{◌≡◌, ◌++◌, take, flat_map, more, names_list}
 use Rattle.page_data.proofs.heap.more_chunks.Given as goal
 
 abbrev pub invariant-loop-of : goal.invariant-loop-of

@@ -1,6 +1,4 @@
-use Rattle.std.proofs.Common.{◌≡◌, ◌++◌, take}
-use Rattle.std.specs.List.{flat_map}
-use Rattle.page_data.specs.Values.{more, name}
+use Rattle.page_data.proofs.Common.{◌≡◌, ◌++◌, take, flat_map, more, name}
 use Rattle.page_data.proofs.heap.more_names.Given as goal
 
 abbrev pub invariant-loop-of : goal.invariant-loop-of

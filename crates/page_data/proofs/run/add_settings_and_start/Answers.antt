@@ -1,6 +1,4 @@
-use Rattle.std.specs.Prelude.{codes}
-use Rattle.std.proofs.lemmas.Result.{on_ok_weaker}
-use Rattle.run_trace.specs.Settings.{field_limit}
+use Rattle.page_data.proofs.Common.{codes, on_ok_weaker, field_limit}
 use Rattle.page_data.specs.Run.{settings_text, start_text, settings_and_start}
 use Rattle.page_data.proofs.Pieces.{four}
 use Rattle.page_data.proofs.run.add_settings_and_start.Goals as goal

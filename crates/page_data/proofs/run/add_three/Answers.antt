@@ -1,6 +1,4 @@
-use Rattle.std.specs.Prelude.{codes}
-use Rattle.std.proofs.lemmas.Result.{on_ok_weaker}
-use Rattle.page_data.specs.Run.{named}
+use Rattle.page_data.proofs.Common.{codes, on_ok_weaker, named}
 use Rattle.page_data.proofs.Pieces.{three}
 use Rattle.page_data.proofs.run.add_three.Goals as goal
 

@@ -1,7 +1,4 @@
-use Rattle.std.proofs.Common.{◌<◌, ◌≡◌, ◌≤◌, ◌+◌, length, drop, take, ap, sym, arith, ◌∙◌, true, false}
-use Rattle.std.proofs.lemmas.List.{length-drop}
-use Rattle.text_lines.specs.Lines.{words_of}
-use Rattle.program_reader.specs.Around.{head_of_line, operands_of_line, label_line, ends_body}
+use Rattle.program_reader.proofs.Common.{◌<◌, ◌≡◌, ◌≤◌, ◌+◌, length, drop, take, ap, sym, arith, ◌∙◌, true, false, length-drop, words_of, head_of_line, operands_of_line, label_line, ends_body}
 use Rattle.program_reader.proofs.LabelSteps.{labels_end, labels_more, labels_last, next_at_most}
 use Rattle.program_reader.proofs.labels.read_labels.Goals as goal
 

@@ -1,6 +1,4 @@
-use Rattle.std.proofs.Common.{◌≡◌, ◌≤◌, ◌+◌, length}
-use Rattle.text_lines.specs.Lines.{lines_of}
-use Rattle.program_reader.specs.Around.{no_labels, labels_onto}
+use Rattle.program_reader.proofs.Common.{◌≡◌, ◌≤◌, ◌+◌, length, lines_of, no_labels, labels_onto}
 use Rattle.program_reader.proofs.labels.read_labels.Given as goal
 
 abbrev pub invariant-loop-rest : goal.invariant-loop-rest

@@ -1,6 +1,4 @@
-use Rattle.std.proofs.Common.{[], arith}
-use Rattle.text_lines.specs.Lines.{lines_of}
-use Rattle.program_reader.specs.Around.{outline_of}
+use Rattle.program_reader.proofs.Common.{[], arith, lines_of, outline_of}
 use Rattle.program_reader.proofs.FirstFaults.{is_first}
 use Rattle.program_reader.proofs.laws.first_fault_is_first.Goals as goal
 

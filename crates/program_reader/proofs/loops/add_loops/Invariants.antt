@@ -1,5 +1,4 @@
-use Rattle.std.proofs.Common.{◌≡◌, ◌++◌, drop}
-use Rattle.program_reader.specs.Program.{loops_from}
+use Rattle.program_reader.proofs.Common.{◌≡◌, ◌++◌, drop, loops_from}
 use Rattle.program_reader.proofs.loops.add_loops.Given as goal
 
 abbrev pub invariant-loop-place : goal.invariant-loop-place

@@ -1,8 +1,4 @@
-use Rattle.std.proofs.Common.{◌≡◌, ◌++◌, ap, ◌∙◌}
-use Rattle.std.specs.Prelude.{codes}
-use Rattle.hh_lang.specs.declared.program.Fun.{Fun}
-use Rattle.hh_lang.specs.Loop.{whole_code, left_code, right_code}
-use Rattle.program_reader.specs.Program.{function_of, loop_from, number_of}
+use Rattle.program_reader.proofs.Common.{◌≡◌, ◌++◌, ap, ◌∙◌, codes, Fun, whole_code, left_code, right_code, function_of, loop_from, number_of}
 use Rattle.program_reader.proofs.LoopFunctions.{three_added}
 use Rattle.program_reader.proofs.loops.add_named.Goals as goal
 

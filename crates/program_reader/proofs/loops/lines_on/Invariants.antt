@@ -1,5 +1,4 @@
-use Rattle.std.proofs.Common.{◌≡◌, map, take}
-use Rattle.program_reader.specs.Program.{line_of}
+use Rattle.program_reader.proofs.Common.{◌≡◌, map, take, line_of}
 use Rattle.program_reader.proofs.loops.lines_on.Given as goal
 
 abbrev pub invariant-loop-instr : goal.invariant-loop-instr

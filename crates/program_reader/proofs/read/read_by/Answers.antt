@@ -1,5 +1,4 @@
-use Rattle.std.proofs.Common.{◌∙◌}
-use Rattle.std.proofs.lemmas.Result.{IfOk-weaker}
+use Rattle.program_reader.proofs.Common.{◌∙◌, IfOk-weaker}
 use Rattle.program_reader.proofs.Endings.{read_as}
 use Rattle.program_reader.proofs.read.read_by.Goals as goal
 

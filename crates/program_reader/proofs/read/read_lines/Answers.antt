@@ -1,10 +1,4 @@
-use Rattle.std.proofs.Common.{◌<◌, ◌≡◌, ◌≤◌, ◌+◌, false, length, drop, take, ap, arith, sym, subst, ◌∙◌, eq-eqb, nat_eq}
-use Rattle.std.specs.Prelude.{Option, Some, None, IfNone}
-use Rattle.std.proofs.lemmas.List.{length-drop}
-use Rattle.std.proofs.lemmas.Bool.{ne_eqb}
-use Rattle.program_reader.specs.declared.cause.Cause.{Cause}
-use Rattle.text_lines.specs.Lines.{lines_of}
-use Rattle.program_reader.specs.Reading.{line_taken}
+use Rattle.program_reader.proofs.Common.{◌<◌, ◌≡◌, ◌≤◌, ◌+◌, false, length, drop, take, ap, arith, sym, subst, ◌∙◌, eq-eqb, nat_eq, Option, Some, None, IfNone, length-drop, ne_eqb, lines_of, Cause, line_taken}
 use Rattle.program_reader.proofs.Endings.{refuses, goes_on, form, done, faultless}
 use Rattle.program_reader.proofs.Rounds.{IsReading, at_first}
 use Rattle.program_reader.proofs.read.read_lines.Goals as goal

@@ -1,5 +1,4 @@
-use Rattle.std.proofs.Common.{◌≤◌, ◌+◌, length}
-use Rattle.text_lines.specs.Lines.{lines_of}
+use Rattle.program_reader.proofs.Common.{◌≤◌, ◌+◌, length, lines_of}
 use Rattle.program_reader.proofs.Rounds.{IsReading}
 use Rattle.program_reader.proofs.read.read_lines.Given as goal
 

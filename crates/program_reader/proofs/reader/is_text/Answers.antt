@@ -1,6 +1,4 @@
-use Rattle.std.proofs.Common.{sym}
-use Rattle.std.proofs.lemmas.Str.{is_utf8-from_IsUtf8}
-use Rattle.text_lines.proofs.Utf8.{not_utf8}
+use Rattle.program_reader.proofs.Common.{sym, is_utf8-from_IsUtf8, not_utf8}
 use Rattle.program_reader.proofs.reader.is_text.Goals as goal
 
 pub returns-in-Ok : goal.returns-in-Ok

@@ -1,6 +1,4 @@
-use Rattle.std.proofs.Common.{◌≡◌, ◌++◌, take}
-use Rattle.std.specs.List.{flat_map}
-use Rattle.quoted_text.specs.Quoted.{escaped}
+use Rattle.quoted_text.proofs.Common.{◌≡◌, ◌++◌, take, flat_map, escaped}
 use Rattle.quoted_text.proofs.quote.add_all_escaped.Given as goal
 
 abbrev pub invariant-loop-byte : goal.invariant-loop-byte

@@ -1,5 +1,4 @@
-use Rattle.std.proofs.Common.{◌≡◌, ◌≤◌, reverse, vec_len, vec_capacity}
-use Rattle.race_cells.specs.Stack.{without_earlier}
+use Rattle.race_cells.proofs.Common.{◌≡◌, ◌≤◌, reverse, vec_len, vec_capacity, without_earlier}
 use Rattle.race_cells.proofs.stack.drop_earlier.Given as goal
 
 abbrev pub invariant-loop-top : goal.invariant-loop-top

@@ -1,5 +1,4 @@
-use Rattle.std.proofs.Common.{◌≡◌, ◌-◌, take, length, true, ap, sym, ◌∙◌, arith}
-use Rattle.race_cells.specs.Stack.{is_low}
+use Rattle.race_cells.proofs.Common.{◌≡◌, ◌-◌, take, length, true, ap, sym, ◌∙◌, arith, is_low}
 use Rattle.race_cells.proofs.Lists.{length_popped}
 use Rattle.race_cells.proofs.Lowering.{lowered_next}
 use Rattle.race_cells.proofs.stack.lower.Goals as goal

@@ -1,5 +1,4 @@
-use Rattle.std.proofs.Common.{◌≡◌, ◌≤◌, reverse, vec_len, vec_capacity}
-use Rattle.race_cells.specs.Stack.{lowered_stack}
+use Rattle.race_cells.proofs.Common.{◌≡◌, ◌≤◌, reverse, vec_len, vec_capacity, lowered_stack}
 use Rattle.race_cells.proofs.stack.lower.Given as goal
 
 abbrev pub invariant-loop-below : goal.invariant-loop-below

@@ -1,8 +1,4 @@
-use Rattle.std.proofs.Common.{◌∙◌, ap, sym, arith, take, [], fold}
-use Rattle.std.specs.Prelude.{slice_get}
-use Rattle.std.proofs.lemmas.List.{length-take, take_all}
-use Rattle.std.proofs.lemmas.List.Sums.{fold_more}
-use Rattle.race_groups.specs.Gathered.{with_race}
+use Rattle.race_groups.proofs.Common.{◌∙◌, ap, sym, arith, take, [], fold, slice_get, length-take, take_all, fold_more, with_race}
 use Rattle.race_groups.proofs.Gathering.{all_gathered, most_fields}
 use Rattle.race_groups.proofs.groups.group_races.Goals as goal
 

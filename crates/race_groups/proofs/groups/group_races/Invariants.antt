@@ -1,5 +1,4 @@
-use Rattle.std.proofs.Common.{◌≡◌, [], fold, take}
-use Rattle.race_groups.specs.Gathered.{with_race}
+use Rattle.race_groups.proofs.Common.{◌≡◌, [], fold, take, with_race}
 use Rattle.race_groups.proofs.groups.group_races.Given as goal
 
 abbrev pub invariant-loop-race : goal.invariant-loop-race

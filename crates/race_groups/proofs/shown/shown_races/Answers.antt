@@ -1,5 +1,4 @@
-use Rattle.std.proofs.Common.{ap, ◌∙◌}
-use Rattle.race_groups.specs.Shown.{shown_of}
+use Rattle.race_groups.proofs.Common.{ap, ◌∙◌, shown_of}
 use Rattle.race_groups.proofs.shown.shown_races.Goals as goal
 
 pub returns-clause-shown : goal.returns-clause-shown

@@ -1,5 +1,4 @@
-use Rattle.std.proofs.Common.{◌≡◌, ◌++◌, length}
-use Rattle.race_groups.specs.Text.{spaced_words}
+use Rattle.race_groups.proofs.Common.{◌≡◌, ◌++◌, length, spaced_words}
 use Rattle.race_groups.proofs.source.add_words.Given as goal
 
 abbrev pub invariant-loop-word : goal.invariant-loop-word

@@ -1,5 +1,4 @@
-use Rattle.std.proofs.Common.{◌≡◌, ◌++◌, map, length}
-use Rattle.text_lines.specs.Lines.{lines_of}
+use Rattle.race_groups.proofs.Common.{◌≡◌, ◌++◌, map, length, lines_of}
 use Rattle.race_groups.proofs.source.lines_in.Given as goal
 
 abbrev pub invariant-loop-lines : goal.invariant-loop-lines

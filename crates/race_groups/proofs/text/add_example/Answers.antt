@@ -1,6 +1,4 @@
-use Rattle.std.proofs.Common.{◌≡◌, ◌++◌, ◌∙◌, ℕ, List, map, append_assoc}
-use Rattle.std.proofs.lemmas.Result.{on_ok_weaker}
-use Rattle.race_groups.specs.Text.{example_line, swap_note}
+use Rattle.race_groups.proofs.Common.{◌≡◌, ◌++◌, ◌∙◌, ℕ, List, map, append_assoc, on_ok_weaker, example_line, swap_note}
 use Rattle.race_groups.proofs.text.add_example.Goals as goal
 
 two_added : (t u v a b x y : List ℕ) → u ≡ t ++ a → v ≡ u ++ b → a ≡ x → b ≡ y → v ≡ t ++ (x ++ y)

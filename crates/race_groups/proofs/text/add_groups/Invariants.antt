@@ -1,6 +1,4 @@
-use Rattle.std.proofs.Common.{◌≡◌, ◌++◌, take, map}
-use Rattle.std.specs.List.{flat_map}
-use Rattle.race_groups.specs.Text.{group_text}
+use Rattle.race_groups.proofs.Common.{◌≡◌, ◌++◌, take, map, flat_map, group_text}
 use Rattle.race_groups.proofs.text.add_groups.Given as goal
 
 abbrev pub invariant-loop-group : goal.invariant-loop-group

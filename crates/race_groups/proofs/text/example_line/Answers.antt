@@ -1,8 +1,4 @@
-use Rattle.std.proofs.Common.{◌≡◌, ◌++◌, ◌∙◌, ℕ, List, append_assoc}
-use Rattle.std.specs.Prelude.{codes}
-use Rattle.std.proofs.lemmas.Result.{IfOk-weaker}
-use Rattle.race_report.specs.declared.data.Race.{Race}
-use Rattle.race_groups.specs.Text.{field_text, tasks_text, example_line}
+use Rattle.race_groups.proofs.Common.{◌≡◌, ◌++◌, ◌∙◌, ℕ, List, append_assoc, codes, IfOk-weaker, Race, field_text, tasks_text, example_line}
 use Rattle.race_groups.proofs.text.example_line.Goals as goal
 
 shape : (f t : List ℕ) → codes "  example: " ++ (f ++ (codes ", " ++ (t ++ codes "\n"))) ≡ codes "  example: " ++ f ++ codes ", " ++ t ++ codes "\n"

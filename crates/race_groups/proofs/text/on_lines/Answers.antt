@@ -1,6 +1,4 @@
-use Rattle.std.proofs.Common.{◌∙◌, append_assoc}
-use Rattle.std.proofs.lemmas.Result.{IfOk-weaker}
-use Rattle.std.proofs.lemmas.Bool.{ne_eqb}
+use Rattle.race_groups.proofs.Common.{◌∙◌, append_assoc, IfOk-weaker, ne_eqb}
 use Rattle.race_groups.proofs.text.on_lines.Goals as goal
 
 pub returns-else-first-second : goal.returns-else-first-second

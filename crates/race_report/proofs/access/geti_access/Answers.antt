@@ -1,6 +1,4 @@
-use Rattle.std.proofs.Common.{◌≡◌, ◌∙◌, Some, ap, sym, arith}
-use Rattle.std.specs.Prelude.{option_copied}
-use Rattle.run_journal.specs.below.hh_model.{object_at}
+use Rattle.race_report.proofs.Common.{◌≡◌, ◌∙◌, Some, ap, sym, arith, option_copied, object_at}
 use Rattle.race_report.proofs.access.geti_access.Goals as goal
 
 pub field_index-requires : goal.field_index-requires

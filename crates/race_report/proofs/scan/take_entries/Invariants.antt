@@ -1,7 +1,5 @@
-use Rattle.std.proofs.Common.{◌≡◌, ◌+◌, ◌≤◌, length, drop}
+use Rattle.race_report.proofs.Common.{◌≡◌, ◌+◌, ◌≤◌, length, drop, tasks_of, Key, key_cmp, watched_from, seen_from}
 use Rattle.std.specs.BTreeMap as tree
-use Rattle.run_journal.specs.below.run_ledger.{tasks_of}
-use Rattle.race_report.specs.Watch.{Key, key_cmp, watched_from, seen_from}
 use Rattle.race_report.proofs.scan.take_entries.Given as goal
 
 abbrev pub invariant-loop-entry : goal.invariant-loop-entry

@@ -1,5 +1,4 @@
-use Rattle.std.proofs.Common.{◌∙◌, refl}
-use Rattle.std.proofs.lemmas.Result.{IfOk-weaker}
+use Rattle.race_report.proofs.Common.{◌∙◌, refl, IfOk-weaker}
 use Rattle.race_report.proofs.text.field_text.Goals as goal
 
 pub returns : goal.returns

@@ -1,6 +1,4 @@
-use Rattle.std.proofs.Common.{◌≡◌, take}
-use Rattle.std.specs.List.{flat_map}
-use Rattle.race_report.specs.Text.{pair_line}
+use Rattle.race_report.proofs.Common.{◌≡◌, take, flat_map, pair_line}
 use Rattle.race_report.proofs.text.pair_lines.Given as goal
 
 abbrev pub invariant-loop-race : goal.invariant-loop-race

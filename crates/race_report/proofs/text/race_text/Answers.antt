@@ -1,5 +1,4 @@
-use Rattle.std.proofs.Common.{◌∙◌, append_assoc}
-use Rattle.std.proofs.lemmas.Result.{IfOk-weaker}
+use Rattle.race_report.proofs.Common.{◌∙◌, append_assoc, IfOk-weaker}
 use Rattle.race_report.proofs.text.race_text.Goals as goal
 
 pub returns : goal.returns

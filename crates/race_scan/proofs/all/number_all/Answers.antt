@@ -1,13 +1,4 @@
-use Rattle.std.proofs.Common.{◌≡◌, ◌≤◌, ◌+◌, ◌++◌, [], ◌∷◌, ℕ, List, length, take, get_or, ap, sym, subst, ◌∙◌}
-use Rattle.std.proofs.lemmas.List.{take_more, take_all, map-append}
-use Rattle.std.proofs.lemmas.Result.{IfOk-weaker}
-use Rattle.log_places.specs.declared.region.Region.{Region}
-use Rattle.log_places.specs.Places.{PlacesValue}
-use Rattle.log_places.specs.Numbers.{stretch_count}
-use Rattle.log_places.specs.Counting.{AreMarked}
-use Rattle.race_cells.specs.declared.access.AccessKind.TheVariants.{PlainRead}
-use Rattle.race_scan.specs.declared.touch.Touch.{Touch}
-use Rattle.race_scan.specs.Touches.{regions_of}
+use Rattle.race_scan.proofs.Common.{◌≡◌, ◌≤◌, ◌+◌, ◌++◌, [], ◌∷◌, ℕ, List, length, take, get_or, ap, sym, subst, ◌∙◌, take_more, take_all, map-append, IfOk-weaker, Region, PlacesValue, stretch_count, AreMarked, PlainRead, Touch, regions_of}
 use Rattle.race_scan.proofs.Scanning.{cut_more}
 use Rattle.race_scan.proofs.all.number_all.Goals as goal
 

@@ -1,8 +1,4 @@
-use Rattle.std.proofs.Common.{ℕ, ◌<◌, take, slice_index_or}
-use Rattle.log_places.specs.Places.{IsRegionCut}
-use Rattle.log_places.specs.Counting.{AreMarked}
-use Rattle.race_scan.specs.declared.touch.Touch.{Touch}
-use Rattle.race_scan.specs.Touches.{regions_of}
+use Rattle.race_scan.proofs.Common.{ℕ, ◌<◌, take, slice_index_or, IsRegionCut, AreMarked, Touch, regions_of}
 use Rattle.race_scan.proofs.all.number_all.Given as goal
 
 abbrev pub invariant-loop-touch : goal.invariant-loop-touch

@@ -1,8 +1,4 @@
-use Rattle.std.proofs.Common.{List, take, sym, subst}
-use Rattle.std.proofs.lemmas.List.{take_more}
-use Rattle.race_cells.specs.declared.access.AccessKind.TheVariants.{PlainRead}
-use Rattle.race_scan.specs.declared.touch.Touch.{Touch}
-use Rattle.race_scan.specs.Scan.{HasScanned}
+use Rattle.race_scan.proofs.Common.{List, take, sym, subst, take_more, PlainRead, Touch, HasScanned}
 use Rattle.race_scan.proofs.all.scan_all.Goals as goal
 
 pub loop-touch-preserved : goal.loop-touch-preserved

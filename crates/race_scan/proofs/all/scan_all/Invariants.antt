@@ -1,5 +1,4 @@
-use Rattle.std.proofs.Common.{take}
-use Rattle.race_scan.specs.Scan.{HasScanned}
+use Rattle.race_scan.proofs.Common.{take, HasScanned}
 use Rattle.race_scan.proofs.all.scan_all.Given as goal
 
 abbrev pub invariant-loop-touch : goal.invariant-loop-touch

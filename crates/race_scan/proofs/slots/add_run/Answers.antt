@@ -1,7 +1,4 @@
-use Rattle.std.proofs.Common.{◌≡◌, ◌+◌, ◌<◌, ◌≤◌, List, sym, subst, arith}
-use Rattle.log_places.specs.declared.numbers.Slot.{Slot}
-use Rattle.log_places.specs.Places.{run_start}
-use Rattle.race_scan.specs.Slots.{AreUpto}
+use Rattle.race_scan.proofs.Common.{◌≡◌, ◌+◌, ◌<◌, ◌≤◌, List, sym, subst, arith, LocationSlot, run_start, AreUpto}
 use Rattle.race_scan.proofs.Slotting.{slot_added, slot_rises, slot_upto}
 use Rattle.race_scan.proofs.slots.add_run.Goals as goal
 
@@ -19,6 +16,6 @@ loop-at-preserved c =
     record {
       from = omega arith;
       upto = omega arith;
-      slots = subst (λ (l : List Slot). AreUpto v r c.slot_at-slot.result.end l) (sym c.in_ok-push.ensures)
+      slots = subst (λ (l : List LocationSlot). AreUpto v r c.slot_at-slot.result.end l) (sym c.in_ok-push.ensures)
           (slot_added v r c.requires.cut c.args.run c.loop-at.at c.loop-at.slots.items c.slot_at-slot.result c.requires.run from below c.slot_at-slot.ensures c.loop-at.invariant.slots);
     }

@@ -1,6 +1,4 @@
-use Rattle.std.proofs.Common.{◌+◌, ◌-◌, ◌≤◌}
-use Rattle.log_places.specs.Places.{run_start}
-use Rattle.race_scan.specs.Slots.{AreUpto}
+use Rattle.race_scan.proofs.Common.{◌-◌, ◌≤◌, run_start, AreUpto}
 use Rattle.race_scan.proofs.slots.add_run.Given as goal
 
 abbrev pub invariant-loop-at : goal.invariant-loop-at

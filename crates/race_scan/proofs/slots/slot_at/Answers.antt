@@ -1,5 +1,4 @@
-use Rattle.std.proofs.Common.{refl}
-use Rattle.log_places.proofs.Cutting.{marked_are_there}
+use Rattle.race_scan.proofs.Common.{refl, marked_are_there}
 use Rattle.race_scan.proofs.slots.slot_at.Goals as goal
 
 pub unreachable-requires : goal.unreachable-requires

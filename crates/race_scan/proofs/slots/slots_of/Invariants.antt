@@ -1,5 +1,4 @@
-use Rattle.log_places.specs.Places.{run_start}
-use Rattle.race_scan.specs.Slots.{AreUpto}
+use Rattle.race_scan.proofs.Common.{run_start, AreUpto}
 use Rattle.race_scan.proofs.slots.slots_of.Given as goal
 
 abbrev pub invariant-loop-run : goal.invariant-loop-run

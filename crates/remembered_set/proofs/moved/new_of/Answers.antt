@@ -1,6 +1,4 @@
-use Rattle.std.proofs.Common.{◌+◌, ◌-◌, ◌/◌, ◌<◌, ◌≤◌, ⊎_elim, arith, length, sym}
-use Rattle.std.proofs.lemmas.Bool.{cases_lt}
-use Rattle.object_layout.specs.declared.word.Addr.{Addr}
+use Rattle.remembered_set.proofs.Common.{◌+◌, ◌-◌, ◌/◌, ◌<◌, ◌≤◌, ⊎_elim, arith, length, sym, cases_lt, Addr}
 use Rattle.remembered_set.proofs.MovedLemmas as lemma
 use Rattle.remembered_set.proofs.moved.new_of.Goals as goal
 

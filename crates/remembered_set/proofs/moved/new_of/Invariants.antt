@@ -1,6 +1,4 @@
-use Rattle.std.proofs.Common.{ℕ, ◌-◌, ◌<◌, ◌≤◌, get_or, length}
-use Rattle.object_layout.specs.declared.word.Addr.{Addr}
-use Rattle.remembered_set.specs.Moved.{number_of}
+use Rattle.remembered_set.proofs.Common.{ℕ, ◌-◌, ◌<◌, ◌≤◌, get_or, length, Addr, number_of}
 use Rattle.remembered_set.proofs.moved.new_of.Given as goal
 
 abbrev pub invariant-loop-low : goal.invariant-loop-low

@@ -1,6 +1,4 @@
-use Rattle.std.proofs.Common.{◌≡◌, rules, subst, sym, arith}
-use Rattle.std.proofs.lemmas.Grind.{common_steps}
-use Rattle.remembered_set.specs.Sources.{noted, StandOnce}
+use Rattle.remembered_set.proofs.Common.{◌≡◌, rules, subst, sym, arith, common_steps, noted, StandOnce}
 use Rattle.remembered_set.proofs.Noting.{once_noted}
 use Rattle.remembered_set.proofs.table.note_in.Goals as goal
 

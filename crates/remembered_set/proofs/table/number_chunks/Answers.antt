@@ -1,8 +1,4 @@
-use Rattle.std.proofs.Common.{List, ap, eqb, sym, ◌∙◌}
-use Rattle.std.specs.List.{list_any}
-use Rattle.std.proofs.lemmas.List.{take_all}
-use Rattle.object_layout.specs.ChunkValue.{ChunkValue}
-use Rattle.object_layout.proofs.Owning.{found_any}
+use Rattle.remembered_set.proofs.Common.{List, ap, eqb, sym, ◌∙◌, list_any, take_all, ChunkValue, found_any}
 use Rattle.remembered_set.proofs.table.number_chunks.Goals as goal
 
 pub returns-clause-known : goal.returns-clause-known

@@ -1,8 +1,4 @@
-use Rattle.std.proofs.Common.{◌≡◌, ◌==◌, ℕ, ◌+◌, ◌≤◌, take}
-use Rattle.std.specs.Prelude.{nat_eq}
-use Rattle.std.specs.HashSet.{contains, hash_set_len, spare}
-use Rattle.std.specs.List.{list_any}
-use Rattle.object_layout.specs.ChunkValue.{ChunkValue}
+use Rattle.remembered_set.proofs.Common.{◌≡◌, ◌==◌, ℕ, ◌+◌, ◌≤◌, take, nat_eq, contains, hash_set_len, spare, list_any, ChunkValue}
 use Rattle.remembered_set.proofs.table.number_chunks.Given as goal
 
 abbrev pub invariant-loop-chunk : goal.invariant-loop-chunk

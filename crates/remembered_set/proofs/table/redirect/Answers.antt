@@ -1,5 +1,4 @@
-use Rattle.std.proofs.Common.{◌∙◌, None, sym}
-use Rattle.std.proofs.lemmas.Option.{get_or_from_slice_get}
+use Rattle.remembered_set.proofs.Common.{◌∙◌, None, sym, get_or_from_slice_get}
 use Rattle.remembered_set.proofs.MovedLemmas as lemma
 use Rattle.remembered_set.proofs.table.redirect.Goals as goal
 

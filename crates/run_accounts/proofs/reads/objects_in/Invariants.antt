@@ -1,6 +1,4 @@
-use Rattle.std.proofs.Common.{◌≡◌, ◌+◌, drop, length}
-use Rattle.std.specs.List.{flat_map}
-use Rattle.run_ledger.specs.Heaps.{held_in}
+use Rattle.run_accounts.proofs.Common.{◌≡◌, ◌+◌, drop, length, flat_map, held_in}
 use Rattle.run_accounts.proofs.reads.objects_in.Given as goal
 
 abbrev pub invariant-loop-names : goal.invariant-loop-names

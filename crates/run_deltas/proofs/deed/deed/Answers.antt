@@ -1,6 +1,4 @@
-use Rattle.std.proofs.Common.{◌∙◌, ap, sym}
-use Rattle.hh_lang.specs.declared.instr.Instr.{Instr}
-use Rattle.run_deltas.specs.Deeds.{deed}
+use Rattle.run_deltas.proofs.Common.{◌∙◌, ap, sym, Instr, deed}
 use Rattle.run_deltas.proofs.deed.deed.Goals as goal
 
 pub returns-in-Newm : goal.returns-in-Newm

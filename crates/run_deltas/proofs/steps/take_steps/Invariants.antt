@@ -1,5 +1,4 @@
-use Rattle.std.proofs.Common.{◌≡◌}
-use Rattle.run_deltas.specs.Steps.{stepped, changes}
+use Rattle.run_deltas.proofs.Common.{◌≡◌, stepped, changes}
 use Rattle.run_deltas.proofs.steps.take_steps.Given as goal
 
 abbrev pub invariant-loop-i : goal.invariant-loop-i

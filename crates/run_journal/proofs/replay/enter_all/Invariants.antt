@@ -1,5 +1,4 @@
-use Rattle.std.proofs.Common.{◌≡◌, ◌+◌, drop, false}
-use Rattle.run_ledger.specs.Journals.{after_all, first_refused_from}
+use Rattle.run_journal.proofs.Common.{◌≡◌, ◌+◌, drop, false, after_all, first_refused_from}
 use Rattle.run_journal.proofs.replay.enter_all.Given as goal
 
 abbrev pub invariant-loop-entry : goal.invariant-loop-entry

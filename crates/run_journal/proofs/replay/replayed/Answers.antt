@@ -1,7 +1,4 @@
-use Rattle.std.proofs.Common.{subst}
-use Rattle.run_ledger.specs.Journals.{first_refused_from}
-use Rattle.run_journal.specs.BookValue.{BookValue}
-use Rattle.run_journal.specs.Replay.{ReplayFails}
+use Rattle.run_journal.proofs.Common.{subst, first_refused_from, BookValue, ReplayFails}
 use Rattle.run_journal.proofs.replay.replayed.Goals as goal
 
 pub returns-in-Err-clause-fails : goal.returns-in-Err-clause-fails

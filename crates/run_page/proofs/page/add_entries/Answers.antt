@@ -1,9 +1,4 @@
-use Rattle.std.proofs.Common.{◌+◌, ◌++◌, drop, ap, ◌∙◌}
-use Rattle.hh_lang.specs.Form.{ProgramText}
-use Rattle.run_trace.specs.Settings.{SettingsValue}
-use Rattle.run_ledger.specs.Entries.{after}
-use Rattle.run_journal.specs.BookValue.{BookValue}
-use Rattle.page_data.specs.Run.{entries_from}
+use Rattle.run_page.proofs.Common.{◌+◌, ◌++◌, drop, ap, ◌∙◌, ProgramText, SettingsValue, after, BookValue, entries_from}
 use Rattle.run_page.proofs.Entries.{one_more}
 use Rattle.run_page.proofs.page.add_entries.Goals as goal
 

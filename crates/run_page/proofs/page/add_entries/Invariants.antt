@@ -1,5 +1,4 @@
-use Rattle.std.proofs.Common.{◌≡◌, ◌++◌, drop}
-use Rattle.page_data.specs.Run.{entries_from}
+use Rattle.run_page.proofs.Common.{◌≡◌, ◌++◌, drop, entries_from}
 use Rattle.run_page.proofs.page.add_entries.Given as goal
 
 abbrev pub invariant-loop-of : goal.invariant-loop-of

@@ -1,8 +1,4 @@
-use Rattle.std.proofs.Common.{◌++◌, ap, ◌∙◌, append_assoc}
-use Rattle.std.proofs.lemmas.Result.{on_ok_weaker}
-use Rattle.run_ledger.specs.Journals.{opening}
-use Rattle.run_journal.specs.BookValue.{BookValue}
-use Rattle.page_data.specs.Run.{settings_and_start, entries_from}
+use Rattle.run_page.proofs.Common.{◌++◌, ap, ◌∙◌, append_assoc, on_ok_weaker, opening, BookValue, settings_and_start, entries_from}
 use Rattle.run_page.proofs.page.add_run.Goals as goal
 
 pub returns : goal.returns

@@ -1,8 +1,4 @@
-use Rattle.std.proofs.Common.{◌∙◌, ap, subst}
-use Rattle.run_ledger.specs.Journals.{opening, first_refused}
-use Rattle.run_journal.specs.BookValue.{BookValue}
-use Rattle.run_journal.specs.Replay.{ReplayFails}
-use Rattle.run_report.specs.Totals.{totals_from}
+use Rattle.run_report.proofs.Common.{◌∙◌, ap, subst, opening, first_refused, BookValue, ReplayFails, totals_from}
 use Rattle.run_report.proofs.counting.count.Goals as goal
 
 pub returns-in-Ok-clause-totals : goal.returns-in-Ok-clause-totals

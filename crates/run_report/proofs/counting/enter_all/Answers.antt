@@ -1,5 +1,4 @@
-use Rattle.std.proofs.Common.{rules, subst, sym, arith}
-use Rattle.run_trace.specs.Settings.{AreSettings}
+use Rattle.run_report.proofs.Common.{rules, subst, sym, arith, AreSettings}
 use Rattle.run_report.proofs.Sums.{at_first, at_next, at_end, few_next, accounts_on, refused_on}
 use Rattle.run_report.proofs.counting.enter_all.Goals as goal
 

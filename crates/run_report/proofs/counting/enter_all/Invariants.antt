@@ -1,5 +1,4 @@
-use Rattle.std.proofs.Common.{◌≡◌, ◌+◌, drop, false}
-use Rattle.run_ledger.specs.Journals.{after_all, ledger_of, first_refused_from, first_refused}
+use Rattle.run_report.proofs.Common.{◌≡◌, ◌+◌, drop, false, after_all, ledger_of, first_refused_from, first_refused}
 use Rattle.run_report.proofs.Sums.{IsAt}
 use Rattle.run_report.proofs.counting.enter_all.Given as goal
 

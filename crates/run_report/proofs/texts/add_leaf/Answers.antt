@@ -1,5 +1,4 @@
-use Rattle.std.proofs.Common.{◌∙◌, append_assoc}
-use Rattle.std.proofs.lemmas.Result.{on_ok_weaker}
+use Rattle.run_report.proofs.Common.{◌∙◌, append_assoc, on_ok_weaker}
 use Rattle.run_report.proofs.texts.add_leaf.Goals as goal
 
 pub returns : goal.returns

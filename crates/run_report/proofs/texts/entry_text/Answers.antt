@@ -1,5 +1,4 @@
-use Rattle.std.proofs.Common.{◌∙◌}
-use Rattle.std.proofs.lemmas.Result.{IfOk-weaker}
+use Rattle.run_report.proofs.Common.{◌∙◌, IfOk-weaker}
 use Rattle.run_report.proofs.Lines.{refused_is}
 use Rattle.run_report.proofs.texts.entry_text.Goals as goal
 

@@ -1,5 +1,4 @@
-use Rattle.std.proofs.Common.{◌≡◌, take}
-use Rattle.run_ledger.specs.Text.{output_lines}
+use Rattle.run_report.proofs.Common.{◌≡◌, take, output_lines}
 use Rattle.run_report.proofs.texts.outputs_text.Given as goal
 
 abbrev pub invariant-loop-output : goal.invariant-loop-output

@@ -1,9 +1,4 @@
-use Rattle.std.proofs.Common.{◌≡◌, ◌∙◌, Some, ap, subst, sym, IfOk, IfErr}
-use Rattle.run_ledger.specs.Journals.{opening, end_of, refused_as_run}
-use Rattle.run_ledger.specs.Text.{out_text}
-use Rattle.run_journal.specs.BookValue.{BookValue}
-use Rattle.run_journal.specs.Replay.{ReplayFails}
-use Rattle.run_report.specs.Totals.{totals_from}
+use Rattle.run_report.proofs.Common.{◌≡◌, ◌∙◌, Some, ap, subst, sym, IfOk, IfErr, opening, end_of, refused_as_run, out_text, BookValue, ReplayFails, totals_from}
 use Rattle.run_report.proofs.whole.whole_run.Goals as goal
 
 pub whole_of-whole-requires-clause-totals : goal.whole_of-whole-requires-clause-totals

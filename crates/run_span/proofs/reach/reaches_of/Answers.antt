@@ -1,10 +1,4 @@
-use Rattle.std.proofs.Common.{◌≡◌, ◌+◌, ◌<◌, ◌≤◌, ◌^◌, ℕ, length, get_or, slice_get, Some, replicate, [], sum, ap, sym, subst, ◌∙◌, arith, rules}
-use Rattle.std.specs.List.{sum_by}
-use Rattle.std.proofs.lemmas.List.Sums.{sum_by_more_le}
-use Rattle.std.proofs.lemmas.Option.{slice_get-get_or}
-use Rattle.fork_graph.specs.Graph.{tasks_in, strand}
-use Rattle.run_span.specs.declared.reach.Reaches.{Reaches}
-use Rattle.run_span.specs.Reaches.{reach_before, entered, AreReachesOf}
+use Rattle.run_span.proofs.Common.{◌≡◌, ◌+◌, ◌<◌, ◌≤◌, ◌^◌, ℕ, length, get_or, slice_get, Some, replicate, [], sum, ap, sym, subst, ◌∙◌, arith, rules, sum_by, sum_by_more_le, slice_get-get_or, tasks_in, strand, Reaches, reach_before, entered, AreReachesOf}
 use Rattle.run_span.proofs.Reaching.{IsReaching, total, reaching_start, reaching_step, reaching_end, before_bound}
 use Rattle.run_span.proofs.reach.reaches_of.Goals as goal
 

@@ -1,5 +1,4 @@
-use Rattle.std.proofs.Common.{length}
-use Rattle.fork_graph.specs.Graph.{tasks_in}
+use Rattle.run_span.proofs.Common.{length, tasks_in}
 use Rattle.run_span.proofs.Reaching.{IsReaching}
 use Rattle.run_span.proofs.reach.reaches_of.Given as goal
 

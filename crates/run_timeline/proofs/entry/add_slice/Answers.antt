@@ -1,10 +1,4 @@
-use Rattle.std.proofs.Common.{◌++◌, ◌-◌, ℕ, ap, ◌∙◌}
-use Rattle.std.specs.Prelude.{codes}
-use Rattle.std.proofs.lemmas.Result.{on_ok_weaker}
-use Rattle.run_timeline.specs.Events.{arguments, end_time}
-use Rattle.run_timeline.specs.Entries.{numbers_of}
-use Rattle.run_timeline.specs.Pieces.{head}
-use Rattle.json_text.specs.Json.{Number, Member}
+use Rattle.run_timeline.proofs.Common.{◌++◌, ◌-◌, ℕ, ap, ◌∙◌, codes, on_ok_weaker, Number, Member, arguments, end_time, numbers_of, head}
 use Rattle.run_timeline.proofs.Made.{timed_made, event_made}
 use Rattle.run_timeline.proofs.entry.add_slice.Goals as goal
 

@@ -1,9 +1,4 @@
-use Rattle.std.proofs.Common.{◌++◌, ap, ◌∙◌}
-use Rattle.std.specs.Prelude.{codes}
-use Rattle.std.specs.Fmt.{decimal}
-use Rattle.std.proofs.lemmas.Result.{on_ok_weaker}
-use Rattle.run_timeline.specs.Events.{arguments}
-use Rattle.json_text.specs.Json.{Word, Member, NoMember, first_member}
+use Rattle.run_timeline.proofs.Common.{◌++◌, ap, ◌∙◌, codes, decimal, on_ok_weaker, Word, Member, NoMember, first_member, arguments}
 use Rattle.run_timeline.proofs.Made.{word_made, event_made}
 use Rattle.run_timeline.proofs.events.add_lane.Goals as goal
 

@@ -1,7 +1,4 @@
-use Rattle.std.specs.Prelude.{codes}
-use Rattle.std.proofs.lemmas.Result.{on_ok_weaker}
-use Rattle.run_timeline.specs.Events.{arguments}
-use Rattle.json_text.specs.Json.{Word, Member, NoMember}
+use Rattle.run_timeline.proofs.Common.{codes, on_ok_weaker, Word, Member, NoMember, arguments}
 use Rattle.run_timeline.proofs.Made.{word_made, first_made}
 use Rattle.run_timeline.proofs.events.add_process.Goals as goal
 

@@ -1,5 +1,4 @@
-use Rattle.std.proofs.lemmas.Result.{on_ok_weaker}
-use Rattle.json_text.specs.Json.{NoMember}
+use Rattle.run_timeline.proofs.Common.{on_ok_weaker, NoMember}
 use Rattle.run_timeline.proofs.Made.{span_made}
 use Rattle.run_timeline.proofs.events.add_span.Goals as goal
 

@@ -1,5 +1,4 @@
-use Rattle.std.proofs.lemmas.Result.{on_ok_weaker}
-use Rattle.run_timeline.specs.Entries.{collection}
+use Rattle.run_timeline.proofs.Common.{on_ok_weaker, collection}
 use Rattle.run_timeline.proofs.Loops.{one_told}
 use Rattle.run_timeline.proofs.tasks.add_collection.Goals as goal
 

@@ -1,6 +1,4 @@
-use Rattle.std.specs.Prelude.{codes}
-use Rattle.std.proofs.lemmas.Result.{on_ok_weaker}
-use Rattle.run_timeline.specs.Events.{arguments, one_number, end_time}
+use Rattle.run_timeline.proofs.Common.{codes, on_ok_weaker, arguments, one_number, end_time}
 use Rattle.run_timeline.proofs.Made.{one_made, event_made}
 use Rattle.run_timeline.proofs.tasks.add_counter.Goals as goal
 

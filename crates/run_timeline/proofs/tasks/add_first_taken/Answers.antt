@@ -1,7 +1,4 @@
-use Rattle.std.proofs.Common.{ap, ◌∙◌}
-use Rattle.std.specs.Prelude.{slice_get}
-use Rattle.std.proofs.lemmas.Result.{on_ok_weaker}
-use Rattle.run_timeline.specs.Entries.{fork_line}
+use Rattle.run_timeline.proofs.Common.{ap, ◌∙◌, slice_get, on_ok_weaker, fork_line}
 use Rattle.run_timeline.proofs.Loops.{first_told}
 use Rattle.run_timeline.proofs.tasks.add_first_taken.Goals as goal
 

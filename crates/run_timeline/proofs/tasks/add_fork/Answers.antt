@@ -1,5 +1,4 @@
-use Rattle.std.specs.Prelude.{codes}
-use Rattle.std.proofs.lemmas.Result.{on_ok_weaker}
+use Rattle.run_timeline.proofs.Common.{codes, on_ok_weaker}
 use Rattle.run_timeline.proofs.Made.{two_made}
 use Rattle.run_timeline.proofs.tasks.add_fork.Goals as goal
 

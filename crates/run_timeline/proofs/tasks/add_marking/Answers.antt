@@ -1,5 +1,4 @@
-use Rattle.std.proofs.lemmas.Result.{on_ok_weaker}
-use Rattle.run_timeline.specs.Entries.{marking}
+use Rattle.run_timeline.proofs.Common.{on_ok_weaker, marking}
 use Rattle.run_timeline.proofs.Loops.{one_told}
 use Rattle.run_timeline.proofs.tasks.add_marking.Goals as goal
 

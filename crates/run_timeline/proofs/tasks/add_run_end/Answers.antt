@@ -1,6 +1,4 @@
-use Rattle.std.proofs.Common.{◌∙◌}
-use Rattle.std.proofs.lemmas.Result.{on_ok_weaker}
-use Rattle.run_timeline.specs.Entries.{end_name, end_members}
+use Rattle.run_timeline.proofs.Common.{◌∙◌, on_ok_weaker, end_name, end_members}
 use Rattle.run_timeline.proofs.Loops.{end_told, without_feed}
 use Rattle.run_timeline.proofs.tasks.add_run_end.Goals as goal
 

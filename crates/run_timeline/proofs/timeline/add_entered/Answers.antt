@@ -1,10 +1,4 @@
-use Rattle.std.proofs.Common.{◌≡◌, ◌++◌, ap, ap₂, ◌∙◌}
-use Rattle.std.specs.List.{flat_map}
-use Rattle.std.proofs.lemmas.Result.{on_ok_weaker}
-use Rattle.json_text.specs.Json.{further}
-use Rattle.run_journal.specs.below.run_ledger.{in_use}
-use Rattle.run_timeline.specs.Words.{words_held}
-use Rattle.run_timeline.specs.Entries.{slice, begins_and_ends, chunks_counted, words_counted, run_ended}
+use Rattle.run_timeline.proofs.Common.{◌≡◌, ◌++◌, ap, ap₂, ◌∙◌, flat_map, on_ok_weaker, further, in_use, words_held, slice, begins_and_ends, chunks_counted, words_counted, run_ended}
 use Rattle.run_timeline.proofs.Loops.{entered_told}
 use Rattle.run_timeline.proofs.timeline.add_entered.Goals as goal
 

@@ -1,7 +1,4 @@
-use Rattle.std.proofs.Common.{◌≡◌, ◌++◌}
-use Rattle.std.specs.List.{flat_map}
-use Rattle.json_text.specs.Json.{further}
-use Rattle.run_timeline.specs.Timeline.{lanes}
+use Rattle.run_timeline.proofs.Common.{◌≡◌, ◌++◌, flat_map, further, lanes}
 use Rattle.run_timeline.proofs.timeline.add_lanes.Given as goal
 
 abbrev pub invariant-loop-worker : goal.invariant-loop-worker

@@ -1,6 +1,4 @@
-use Rattle.std.proofs.Common.{◌≡◌, ◌+◌, ◌-◌, ap, sym, ◌∙◌}
-use Rattle.run_report.specs.Totals.{cleared_words}
-use Rattle.run_timeline.specs.Words.{objects_by, words_by}
+use Rattle.run_timeline.proofs.Common.{◌≡◌, ◌+◌, ◌-◌, ap, sym, ◌∙◌, cleared_words, objects_by, words_by}
 use Rattle.run_timeline.proofs.Held.{words_follow_entries}
 use Rattle.run_timeline.proofs.timeline.apply.Goals as goal
 

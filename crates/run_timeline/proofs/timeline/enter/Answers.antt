@@ -1,7 +1,4 @@
-use Rattle.std.proofs.Common.{◌≡◌, ◌++◌, ap, ◌∙◌}
-use Rattle.std.specs.List.{flat_map}
-use Rattle.json_text.specs.Json.{further}
-use Rattle.run_timeline.specs.Entries.{slice_name, entry_events}
+use Rattle.run_timeline.proofs.Common.{◌≡◌, ◌++◌, ap, ◌∙◌, flat_map, further, slice_name, entry_events}
 use Rattle.run_timeline.proofs.timeline.enter.Goals as goal
 
 pub returns-clause-events : goal.returns-clause-events

@@ -1,7 +1,4 @@
-use Rattle.std.proofs.Common.{rules, refl, ap, sym, ◌∙◌}
-use Rattle.run_report.proofs.Sums.{accounts_on, refused_on}
-use Rattle.run_journal.specs.BookValue.{BookValue}
-use Rattle.run_timeline.specs.Words.{words_held}
+use Rattle.run_timeline.proofs.Common.{rules, refl, ap, sym, ◌∙◌, accounts_on, refused_on, BookValue, words_held}
 use Rattle.run_timeline.proofs.Steps.{text_on}
 use Rattle.run_timeline.proofs.timeline.enter_all.Goals as goal
 

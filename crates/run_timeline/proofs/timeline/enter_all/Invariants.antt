@@ -1,9 +1,4 @@
-use Rattle.std.proofs.Common.{◌≡◌, ◌+◌, ◌++◌, drop, false}
-use Rattle.std.specs.List.{flat_map}
-use Rattle.run_journal.specs.below.run_ledger.{after_all, ledger_of, first_refused_from, first_refused}
-use Rattle.json_text.specs.Json.{further}
-use Rattle.run_timeline.specs.Words.{words_held}
-use Rattle.run_timeline.specs.Timeline.{events_from, events_of}
+use Rattle.run_timeline.proofs.Common.{◌≡◌, ◌+◌, ◌++◌, drop, false, flat_map, after_all, ledger_of, first_refused_from, first_refused, further, words_held, events_from, events_of}
 use Rattle.run_timeline.proofs.timeline.enter_all.Given as goal
 
 abbrev pub invariant-loop-entry : goal.invariant-loop-entry

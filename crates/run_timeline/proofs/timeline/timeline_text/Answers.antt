@@ -1,13 +1,4 @@
-use Rattle.std.proofs.Common.{◌++◌, ◌+◌, Err, ap, subst, sym, length, ◌∙◌}
-use Rattle.std.specs.Prelude.{IfErr}
-use Rattle.std.specs.List.{flat_map}
-use Rattle.std.proofs.lemmas.Result.{err_from_is_err_and}
-use Rattle.json_text.specs.Json.{further}
-use Rattle.run_journal.specs.below.run_ledger.{end_of, first_refused, refused_as_run}
-use Rattle.run_journal.specs.BookValue.{BookValue}
-use Rattle.run_journal.specs.Replay.{ReplayFails}
-use Rattle.run_timeline.specs.Timeline.{events_of}
-use Rattle.run_timeline.specs.Pieces.{beginning, ending}
+use Rattle.run_timeline.proofs.Common.{◌++◌, ◌+◌, Err, ap, subst, sym, length, ◌∙◌, IfErr, flat_map, err_from_is_err_and, further, end_of, first_refused, refused_as_run, BookValue, ReplayFails, events_of, beginning, ending}
 use Rattle.run_timeline.proofs.Loops.{timeline_made, fails_whole}
 use Rattle.run_timeline.proofs.timeline.timeline_text.Goals as goal
 

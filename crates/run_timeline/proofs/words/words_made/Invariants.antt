@@ -1,5 +1,4 @@
-use Rattle.std.proofs.Common.{◌≡◌}
-use Rattle.run_timeline.specs.Words.{words_made}
+use Rattle.run_timeline.proofs.Common.{◌≡◌, words_made}
 use Rattle.run_timeline.proofs.words.words_made.Given as goal
 
 abbrev pub invariant-loop-k : goal.invariant-loop-k

@@ -1,6 +1,4 @@
-use Rattle.std.proofs.Common.{refl}
-use Rattle.std.proofs.lemmas.Str.{is_utf8-from_IsUtf8}
-use Rattle.text_lines.proofs.Utf8.{not_utf8}
+use Rattle.run_trace.proofs.Common.{refl, is_utf8-from_IsUtf8, not_utf8}
 use Rattle.run_trace.proofs.line.read_line.Goals as goal
 
 pub returns-in-Ok : goal.returns-in-Ok

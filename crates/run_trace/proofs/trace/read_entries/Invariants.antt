@@ -1,6 +1,4 @@
-use Rattle.std.proofs.Common.{◌≡◌, ◌++◌, ◌≤◌, ◌+◌, length}
-use Rattle.run_trace.specs.Trace.{first_bad, entries_in}
-use Rattle.text_lines.specs.Lines.{lines_of}
+use Rattle.run_trace.proofs.Common.{◌≡◌, ◌++◌, ◌≤◌, ◌+◌, length, lines_of, first_bad, entries_in}
 use Rattle.run_trace.proofs.trace.read_entries.Given as goal
 
 abbrev pub invariant-loop-entries : goal.invariant-loop-entries

@@ -1,7 +1,4 @@
-use Rattle.std.proofs.Common.{◌≡◌, ◌++◌, take}
-use Rattle.std.specs.List.{flat_map}
-use Rattle.run_trace.specs.Line.{entry_line}
-use Rattle.run_trace.specs.Trace.{version_line}
+use Rattle.run_trace.proofs.Common.{◌≡◌, ◌++◌, take, flat_map, entry_line, version_line}
 use Rattle.run_trace.proofs.trace.trace_text.Given as goal
 
 abbrev pub invariant-loop-entry : goal.invariant-loop-entry

@@ -1,5 +1,4 @@
-use Rattle.std.proofs.Common.{◌∙◌, append_assoc}
-use Rattle.std.proofs.lemmas.Result.{IfOk-weaker}
+use Rattle.schedule_report.proofs.Common.{◌∙◌, append_assoc, IfOk-weaker}
 use Rattle.schedule_report.proofs.text.unordered_line.Goals as goal
 
 pub returns : goal.returns

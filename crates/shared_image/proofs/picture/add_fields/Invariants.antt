@@ -1,5 +1,4 @@
-use Rattle.std.proofs.Common.{◌≡◌, ◌++◌, map, take}
-use Rattle.shared_image.specs.Drawn.{drawn_field}
+use Rattle.shared_image.proofs.Common.{◌≡◌, ◌++◌, map, take, drawn_field}
 use Rattle.shared_image.proofs.picture.add_fields.Given as goal
 
 abbrev pub invariant-loop-field : goal.invariant-loop-field

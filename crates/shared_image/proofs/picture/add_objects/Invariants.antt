@@ -1,5 +1,4 @@
-use Rattle.std.proofs.Common.{◌≡◌, ◌++◌, map, reverse, vec_len}
-use Rattle.shared_image.specs.Drawn.{drawn_object}
+use Rattle.shared_image.proofs.Common.{◌≡◌, ◌++◌, map, reverse, vec_len, drawn_object}
 use Rattle.shared_image.proofs.picture.add_objects.Given as goal
 
 abbrev pub invariant-loop-object : goal.invariant-loop-object

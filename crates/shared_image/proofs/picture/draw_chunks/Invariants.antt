@@ -1,5 +1,4 @@
-use Rattle.std.proofs.Common.{◌≡◌, map, take}
-use Rattle.shared_image.specs.Drawn.{drawn_chunk}
+use Rattle.shared_image.proofs.Common.{◌≡◌, map, take, drawn_chunk}
 use Rattle.shared_image.proofs.picture.draw_chunks.Given as goal
 
 abbrev pub invariant-loop-chunk : goal.invariant-loop-chunk

@@ -1,8 +1,4 @@
-use Rattle.std.proofs.Common.{◌++◌, map, take_all, ap, sym, subst, ◌∙◌}
-use Rattle.std.proofs.lemmas.Option.{slice_get-get_or}
-use Rattle.tree_reading.specs.below.core_relation.{In}
-use Rattle.tree_reading.specs.below.shared_value.{SharedValue}
-use Rattle.shared_image.specs.Drawn.{drawn_object}
+use Rattle.shared_image.proofs.Common.{◌++◌, map, take_all, ap, sym, subst, ◌∙◌, slice_get-get_or, In, SharedValue, drawn_object}
 use Rattle.shared_image.proofs.Rounds.{objects_step, words_all, words_step}
 use Rattle.shared_image.proofs.picture.draw_objects.Goals as goal
 

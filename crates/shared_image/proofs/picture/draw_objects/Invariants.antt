@@ -1,8 +1,4 @@
-use Rattle.std.proofs.Common.{take}
-use Rattle.tree_reading.specs.below.core_relation.{In}
-use Rattle.tree_reading.specs.below.heap_reading.{InUse, AreAll, AreInWords, objects_of}
-use Rattle.heap_image.specs.Picture.{ObjectBefore}
-use Rattle.shared_image.specs.Drawing.{AreObjectsOf}
+use Rattle.shared_image.proofs.Common.{take, In, InUse, AreAll, AreInWords, objects_of, ObjectBefore, AreObjectsOf}
 use Rattle.shared_image.proofs.picture.draw_objects.Given as goal
 
 abbrev pub invariant-loop-chunk : goal.invariant-loop-chunk

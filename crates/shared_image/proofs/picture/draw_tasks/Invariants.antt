@@ -1,5 +1,4 @@
-use Rattle.std.proofs.Common.{◌≡◌, map, take}
-use Rattle.shared_image.specs.Drawn.{drawn_task}
+use Rattle.shared_image.proofs.Common.{◌≡◌, map, take, drawn_task}
 use Rattle.shared_image.proofs.picture.draw_tasks.Given as goal
 
 abbrev pub invariant-loop-task : goal.invariant-loop-task

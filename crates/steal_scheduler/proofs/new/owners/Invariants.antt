@@ -1,5 +1,4 @@
-use Rattle.std.proofs.Common.{◌≡◌, All, length}
-use Rattle.steal_scheduler.specs.New.{IsNewOwner}
+use Rattle.steal_scheduler.proofs.Common.{◌≡◌, All, length, IsNewOwner}
 use Rattle.steal_scheduler.proofs.new.owners.Given as goal
 
 abbrev pub invariant-loop : goal.invariant-loop

@@ -1,6 +1,4 @@
-use Rattle.std.proofs.Common.{◌≡◌, length}
-use Rattle.crossbeam_deque.specs.Handles.{worker_deque, stealer_deque}
-use Rattle.steal_scheduler.specs.New.{EachPlace}
+use Rattle.steal_scheduler.proofs.Common.{◌≡◌, length, worker_deque, stealer_deque, EachPlace}
 use Rattle.steal_scheduler.proofs.new.stealers.Given as goal
 
 abbrev pub invariant-loop-owner : goal.invariant-loop-owner

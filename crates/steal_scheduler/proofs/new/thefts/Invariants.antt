@@ -1,5 +1,4 @@
-use Rattle.std.proofs.Common.{◌≡◌, length}
-use Rattle.steal_scheduler.specs.New.{EachPlace, IsNewTheft}
+use Rattle.steal_scheduler.proofs.Common.{◌≡◌, length, EachPlace, IsNewTheft}
 use Rattle.steal_scheduler.proofs.new.thefts.Given as goal
 
 abbrev pub invariant-loop-stealer : goal.invariant-loop-stealer

@@ -1,5 +1,4 @@
-use Rattle.std.proofs.Common.{◌≡◌}
-use Rattle.task_machine.specs.Calculations.{Leads}
+use Rattle.task_machine.proofs.Common.{◌≡◌, Leads}
 use Rattle.task_machine.proofs.calculations.calculate_on.Given as goal
 
 abbrev pub invariant-loop-done : goal.invariant-loop-done

@@ -1,6 +1,4 @@
-use Rattle.std.proofs.Common.{◌≡◌, sym, subst}
-use Rattle.hh_lang.specs.declared.instr.Instr.{Instr}
-use Rattle.task_machine.specs.Calculations.{calculation}
+use Rattle.task_machine.proofs.Common.{◌≡◌, sym, subst, Instr, calculation}
 use Rattle.task_machine.proofs.calculations.calculate_once.Goals as goal
 
 pub returns-in-Calc-clause-makes : goal.returns-in-Calc-clause-makes

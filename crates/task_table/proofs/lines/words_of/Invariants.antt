@@ -1,5 +1,4 @@
-use Rattle.std.proofs.Common.{◌≡◌, drop}
-use Rattle.task_table.specs.Lines.{words_onto}
+use Rattle.task_table.proofs.Common.{◌≡◌, drop, words_onto}
 use Rattle.task_table.proofs.lines.words_of.Given as goal
 
 abbrev pub invariant-loop-object : goal.invariant-loop-object

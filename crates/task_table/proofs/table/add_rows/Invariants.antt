@@ -1,5 +1,4 @@
-use Rattle.std.proofs.Common.{◌≡◌, ◌++◌, drop}
-use Rattle.task_table.specs.Table.{lines_from}
+use Rattle.task_table.proofs.Common.{◌≡◌, ◌++◌, drop, lines_from}
 use Rattle.task_table.proofs.table.add_rows.Given as goal
 
 abbrev pub invariant-loop-row : goal.invariant-loop-row

@@ -1,6 +1,4 @@
-use Rattle.std.proofs.Common.{rules, refl}
-use Rattle.std.proofs.Common.{◌∙◌}
-use Rattle.run_report.proofs.Sums.{accounts_on, refused_on}
+use Rattle.task_table.proofs.Common.{rules, refl, ◌∙◌, accounts_on, refused_on}
 use Rattle.task_table.proofs.Steps.{rows_on}
 use Rattle.task_table.proofs.table.enter_all.Goals as goal
 

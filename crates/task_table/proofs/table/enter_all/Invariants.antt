@@ -1,6 +1,4 @@
-use Rattle.std.proofs.Common.{◌≡◌, ◌+◌, drop, false}
-use Rattle.run_journal.specs.below.run_ledger.{after_all, ledger_of, first_refused_from, first_refused, opening}
-use Rattle.task_table.specs.Rows.{rows_from}
+use Rattle.task_table.proofs.Common.{◌≡◌, ◌+◌, drop, false, after_all, ledger_of, first_refused_from, first_refused, opening, rows_from}
 use Rattle.task_table.proofs.table.enter_all.Given as goal
 
 abbrev pub invariant-loop-entry : goal.invariant-loop-entry

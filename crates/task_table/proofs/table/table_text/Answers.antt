@@ -1,12 +1,4 @@
-use Rattle.std.proofs.Common.{◌≡◌, ◌++◌, ◌+◌, Err, ap, length, subst, sym, ◌∙◌}
-use Rattle.std.specs.Prelude.{IfErr}
-use Rattle.std.proofs.lemmas.Result.{err_from_is_err_and}
-use Rattle.run_journal.specs.below.run_ledger.{end_of, first_refused, opening, ledger_of, refused_as_run}
-use Rattle.run_journal.specs.BookValue.{BookValue}
-use Rattle.run_journal.specs.Replay.{ReplayFails}
-use Rattle.run_timeline.proofs.Loops.{fails_whole}
-use Rattle.task_table.specs.Rows.{rows_from}
-use Rattle.task_table.specs.Table.{first_line, lines_from, rows_of}
+use Rattle.task_table.proofs.Common.{◌≡◌, ◌++◌, ◌+◌, Err, ap, length, subst, sym, ◌∙◌, IfErr, err_from_is_err_and, end_of, first_refused, opening, ledger_of, refused_as_run, BookValue, ReplayFails, fails_whole, rows_from, first_line, lines_from, rows_of}
 use Rattle.task_table.proofs.table.table_text.Goals as goal
 
 pub returns-in_err-enter_all-clause-fails : goal.returns-in_err-enter_all-clause-fails

@@ -1,10 +1,5 @@
-use Rattle.std.proofs.Common.{◌≡◌, Some, None, refl, sym, subst}
-use Rattle.object_layout.specs.declared.word.Addr.{Addr}
+use Rattle.task_tests.proofs.Common.{◌≡◌, Some, None, refl, sym, subst, Addr, LeafHeapValue, Private, FitsNow, nowhere}
 use Rattle.object_layout.specs.Chunks.{IsFresh}
-use Rattle.alloc_path.specs.LeafHeapValue.{LeafHeapValue}
-use Rattle.task_machine.specs.declared.part.Private.{Private}
-use Rattle.task_machine.specs.Fits.{FitsNow}
-use Rattle.task_tests.specs.Root.{nowhere}
 use Rattle.task_tests.proofs.ChunkAdded.{chunk_fits}
 use Rattle.task_tests.proofs.parts.add_first_chunk.Goals as goal
 

@@ -1,9 +1,4 @@
-use Rattle.std.proofs.Common.{sym, subst, ap}
-use Rattle.alloc_path.specs.LeafHeapValue.{LeafHeapValue}
-use Rattle.task_frames.specs.FramesValue.{FramesValue}
-use Rattle.hh_model.specs.Step.{start}
-use Rattle.task_machine.specs.Fits.{FitsNow}
-use Rattle.task_tests.specs.Root.{nowhere}
+use Rattle.task_tests.proofs.Common.{sym, subst, ap, LeafHeapValue, FramesValue, start, FitsNow, nowhere}
 use Rattle.task_tests.proofs.RootPart.{first_part, root_now}
 use Rattle.task_tests.proofs.parts.bare_root.Goals as goal
 

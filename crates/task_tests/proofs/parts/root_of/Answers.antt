@@ -1,6 +1,4 @@
-use Rattle.std.proofs.Common.{rules, ◌≡◌}
-use Rattle.hh_model.specs.Step.{start}
-use Rattle.task_tests.specs.Root.{first_frames, nowhere}
+use Rattle.task_tests.proofs.Common.{rules, ◌≡◌, start, first_frames, nowhere}
 use Rattle.task_tests.proofs.parts.root_of.Goals as goal
 
 pub returns-then-setup-eq0-clause-fits : goal.returns-then-setup-eq0-clause-fits

@@ -1,6 +1,4 @@
-use Rattle.std.proofs.Common.{ap, sym, ◌∙◌}
-use Rattle.text_faults.specs.Placed.{placed_from}
-use Rattle.text_faults.specs.Found.{first_wrong}
+use Rattle.text_faults.proofs.Common.{ap, sym, ◌∙◌, placed_from, first_wrong}
 use Rattle.text_faults.proofs.OnLines.{no_form}
 use Rattle.text_faults.proofs.found.first_wrong.Goals as goal
 

@@ -1,6 +1,4 @@
-use Rattle.std.proofs.Common.{◌≡◌, ◌≤◌, ◌+◌, length}
-use Rattle.text_faults.specs.Placed.{placed_from}
-use Rattle.text_faults.specs.Found.{first_wrong}
+use Rattle.text_faults.proofs.Common.{◌≡◌, ◌≤◌, ◌+◌, length, placed_from, first_wrong}
 use Rattle.text_faults.proofs.found.first_wrong.Given as goal
 
 abbrev pub invariant-loop-form : goal.invariant-loop-form

@@ -1,6 +1,5 @@
-use Rattle.std.proofs.Common.{arith, ap, sym, ◌∙◌, ◌++◌, ◌∷◌, [], map}
+use Rattle.text_faults.proofs.Common.{arith, ap, sym, ◌∙◌, ◌++◌, ◌∷◌, [], map, map-append}
 use Rattle.text_faults.proofs.FirstNames.{none_named, taken_more}
-use Rattle.std.proofs.lemmas.List.{map-append}
 use Rattle.text_faults.proofs.near.first_names.Goals as goal
 
 pub returns-in_default : goal.returns-in_default

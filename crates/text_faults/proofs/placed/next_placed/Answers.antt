@@ -1,8 +1,4 @@
-use Rattle.std.proofs.Common.{◌≡◌, ◌<◌, List, [], ◌∷◌, length, arith, ap, sym, subst, ◌∙◌}
-use Rattle.std.specs.Prelude.{MatchOption}
-use Rattle.std.specs.List.{position_or_len}
-use Rattle.text_lines.specs.Lines.{is_blank}
-use Rattle.text_faults.specs.Placed.{PlacedWord, placed_of, placed_from}
+use Rattle.text_faults.proofs.Common.{◌≡◌, ◌<◌, List, [], ◌∷◌, length, arith, ap, sym, subst, ◌∙◌, MatchOption, position_or_len, is_blank, PlacedWord, placed_of, placed_from}
 use Rattle.text_faults.proofs.Pieces.{blank_passed, nothing_behind, rest_fits}
 use Rattle.text_faults.proofs.placed.next_placed.Goals as goal
 

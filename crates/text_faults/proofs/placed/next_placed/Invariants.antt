@@ -1,5 +1,4 @@
-use Rattle.std.proofs.Common.{◌≡◌, ◌≤◌, ◌-◌, length}
-use Rattle.text_faults.specs.Placed.{placed_from}
+use Rattle.text_faults.proofs.Common.{◌≡◌, ◌≤◌, ◌-◌, length, placed_from}
 use Rattle.text_faults.proofs.placed.next_placed.Given as goal
 
 abbrev pub invariant-loop-at : goal.invariant-loop-at

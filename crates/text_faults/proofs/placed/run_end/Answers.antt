@@ -1,6 +1,4 @@
-use Rattle.std.proofs.Common.{sym, ◌∙◌}
-use Rattle.text_lines.specs.Lines.{is_blank}
-use Rattle.text_lines.proofs.Runs.{position_at, position_end}
+use Rattle.text_faults.proofs.Common.{sym, ◌∙◌, is_blank, position_at, position_end}
 use Rattle.text_faults.proofs.placed.run_end.Goals as goal
 
 pub returns-then-is_blank_byte-clause-end : goal.returns-then-is_blank_byte-clause-end

@@ -1,5 +1,4 @@
-use Rattle.std.proofs.Common.{◌≡◌, ℕ, ◌<◌, get_or, false}
-use Rattle.text_lines.specs.Lines.{is_blank}
+use Rattle.text_faults.proofs.Common.{◌≡◌, ℕ, ◌<◌, get_or, false, is_blank}
 use Rattle.text_faults.proofs.placed.run_end.Given as goal
 
 abbrev pub invariant-loop-i : goal.invariant-loop-i

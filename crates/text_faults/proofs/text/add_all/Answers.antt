@@ -1,7 +1,4 @@
-use Rattle.std.proofs.Common.{◌<◌, ◌≡◌, ◌≤◌, ◌+◌, length, drop, ap, arith, eq-eqb}
-use Rattle.std.proofs.lemmas.Bool.{ne_eqb}
-use Rattle.std.proofs.lemmas.List.{length-drop}
-use Rattle.text_lines.specs.Lines.{lines_of}
+use Rattle.text_faults.proofs.Common.{◌<◌, ◌≡◌, ◌≤◌, ◌+◌, length, drop, ap, arith, eq-eqb, ne_eqb, length-drop, lines_of}
 use Rattle.text_faults.proofs.AllLines.{last_added, more_added, begun_next, orders_next}
 use Rattle.text_faults.proofs.text.add_all.Goals as goal
 

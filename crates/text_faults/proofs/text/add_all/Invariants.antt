@@ -1,6 +1,4 @@
-use Rattle.std.proofs.Common.{◌≡◌, ◌≤◌, ◌+◌, ◌++◌, length}
-use Rattle.text_lines.specs.Lines.{lines_of}
-use Rattle.text_faults.specs.Faults.{faults_from, faults_of}
+use Rattle.text_faults.proofs.Common.{◌≡◌, ◌≤◌, ◌+◌, ◌++◌, length, lines_of, faults_from, faults_of}
 use Rattle.text_faults.proofs.text.add_all.Given as goal
 
 abbrev pub invariant-loop-below : goal.invariant-loop-below

@@ -1,5 +1,4 @@
-use Rattle.std.proofs.Common.{ap}
-use Rattle.std.specs.Prelude.{◌==◌}
+use Rattle.text_lines.proofs.Common.{ap, ◌==◌}
 use Rattle.text_lines.proofs.Runs.{position_at, position_end}
 use Rattle.text_lines.proofs.lines.line_end.Goals as goal
 

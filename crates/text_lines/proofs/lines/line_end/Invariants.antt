@@ -1,5 +1,4 @@
-use Rattle.std.proofs.Common.{◌≡◌, ℕ, ◌<◌, get_or, false}
-use Rattle.std.specs.Prelude.{◌==◌}
+use Rattle.text_lines.proofs.Common.{◌≡◌, ℕ, ◌<◌, get_or, false, ◌==◌}
 use Rattle.text_lines.proofs.lines.line_end.Given as goal
 
 abbrev pub invariant-loop-i : goal.invariant-loop-i

@@ -1,5 +1,4 @@
-use Rattle.std.proofs.Common.{◌≡◌, ◌≤◌, length}
-use Rattle.text_lines.specs.Lines.{runs_of}
+use Rattle.text_lines.proofs.Common.{◌≡◌, ◌≤◌, length, runs_of}
 use Rattle.text_lines.proofs.words.next_run.Given as goal
 
 abbrev pub invariant-loop-rest : goal.invariant-loop-rest

@@ -1,5 +1,4 @@
-use Rattle.std.proofs.Common.{sym, ◌∙◌}
-use Rattle.text_lines.specs.Lines.{is_blank}
+use Rattle.text_lines.proofs.Common.{sym, ◌∙◌, is_blank}
 use Rattle.text_lines.proofs.Runs.{position_at, position_end}
 use Rattle.text_lines.proofs.words.run_end.Goals as goal
 

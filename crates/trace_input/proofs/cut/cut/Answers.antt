@@ -1,6 +1,4 @@
-use Rattle.std.proofs.Common.{◌≡◌, ◌+◌, ◌≤◌, ◌∷◌, length, false, arith, sym, ◌∙◌}
-use Rattle.text_lines.specs.Lines.{lines_of}
-use Rattle.trace_input.specs.Cut.{is_trace_line}
+use Rattle.trace_input.proofs.Common.{◌≡◌, ◌+◌, ◌≤◌, ◌∷◌, length, false, arith, sym, ◌∙◌, lines_of, is_trace_line}
 use Rattle.trace_input.proofs.Cuts.{counted_more, traced_more, fed_more, parts_more}
 use Rattle.trace_input.proofs.cut.cut.Goals as goal
 

@@ -1,6 +1,4 @@
-use Rattle.std.proofs.Common.{◌≡◌, ◌≤◌, ◌+◌, ◌-◌, ◌++◌, length, take}
-use Rattle.text_lines.specs.Lines.{lines_of}
-use Rattle.trace_input.specs.Cut.{lines_above, trace_lines, with_feeds}
+use Rattle.trace_input.proofs.Common.{◌≡◌, ◌≤◌, ◌+◌, ◌-◌, ◌++◌, length, take, lines_of, lines_above, trace_lines, with_feeds}
 use Rattle.trace_input.proofs.cut.cut.Given as goal
 
 abbrev pub invariant-loop-lines : goal.invariant-loop-lines

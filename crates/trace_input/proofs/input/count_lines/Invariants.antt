@@ -1,5 +1,4 @@
-use Rattle.std.proofs.Common.{◌≡◌, ◌≤◌, ◌+◌, length}
-use Rattle.text_lines.specs.Lines.{lines_of}
+use Rattle.trace_input.proofs.Common.{◌≡◌, ◌≤◌, ◌+◌, length, lines_of}
 use Rattle.trace_input.proofs.input.count_lines.Given as goal
 
 abbrev pub invariant-loop-below : goal.invariant-loop-below

@@ -1,7 +1,4 @@
-use Rattle.std.proofs.Common.{Err, ap, subst, sym, ◌∙◌}
-use Rattle.std.specs.Prelude.{IfErr}
-use Rattle.std.proofs.lemmas.Result.{err_from_is_err_and}
-use Rattle.trace_input.specs.Input.{parts_fault, FailsAt}
+use Rattle.trace_input.proofs.Common.{Err, ap, subst, sym, ◌∙◌, IfErr, err_from_is_err_and, parts_fault, FailsAt}
 use Rattle.trace_input.proofs.Fails.{fails}
 use Rattle.trace_input.proofs.input.read_parts.Goals as goal
 

@@ -1,11 +1,4 @@
-use Rattle.std.proofs.Common.{◌≡◌, Option, Some, None, List, [], IfSome, ap, ◌∙◌, sym, subst, false, option_map, option_copied, true, if◌then◌else◌}
-use Rattle.heap_reading.specs.below.chunk_pool.{Slot, PoolValue, owner_of}
-use Rattle.heap_reading.specs.below.heap_tree.{Node, state_of}
-use Rattle.heap_reading.specs.below.task_homes.{Rest}
-use Rattle.heap_reading.specs.below.shared_value.{chunk_of, chunks_of, SharedValue, rest_at, value_of}
-use Rattle.heap_reading.specs.HeldNames.{is_state_running}
-use Rattle.heap_reading.specs.Image.{objects_of, objects_numbered, objects_owned}
-use Rattle.heap_reading.proofs.ObjectsRead.{none_numbered, resting_objects, some_numbered}
+use Rattle.tree_reading.proofs.Common.{◌≡◌, Option, Some, None, List, [], IfSome, ap, ◌∙◌, sym, subst, false, option_map, option_copied, true, if◌then◌else◌, Slot, PoolValue, owner_of, TaskNode, state_of, ParkedTask, chunk_of, chunks_of, SharedValue, rest_at, value_of, is_state_running, objects_of, objects_numbered, objects_owned, none_numbered, resting_objects, some_numbered}
 use Rattle.tree_reading.proofs.objects_seen.resting_chunk.Goals as goal
 
 -- the objects of the number are those of its chunk in the heap that was found
@@ -14,8 +7,8 @@ objects_are c =
     let w : SharedValue = c.args.shared.now in
     let t = c.in_ok-owner.field-0.owner in
     let held : owner_of w.pool c.args.number ≡ Some t = ap (λ (p : PoolValue). owner_of p c.args.number) (sym c.pool.ensures) ∙ ap (option_map (λ (h : Slot). h.owner)) (sym c.slot.ensures ∙ c.in_ok-owner.was) in
-    let idle : is_state_running (state_of w.tree t) ≡ false = ap (λ (ns : List Node). is_state_running (state_of ns t)) (sym c.tree.ensures) ∙ (sym (ap is_state_running c.state.ensures) ∙ (sym c.is_running.ensures ∙ c.if-is_running.false)) in
-    let there : rest_at w.rests t ≡ Some c.in-Some.rest.now = ap (λ (hs : List (Option Rest)). rest_at hs t) (sym c.heaps.ensures.homes) ∙ (sym c.rest.ensures ∙ ap option_copied c.in-Some.is) in
+    let idle : is_state_running (state_of w.tree t) ≡ false = ap (λ (ns : List TaskNode). is_state_running (state_of ns t)) (sym c.tree.ensures) ∙ (sym (ap is_state_running c.state.ensures) ∙ (sym c.is_running.ensures ∙ c.if-is_running.false)) in
+    let there : rest_at w.rests t ≡ Some c.in-Some.rest.now = ap (λ (hs : List (Option ParkedTask)). rest_at hs t) (sym c.heaps.ensures.task_slots) ∙ (sym c.rest.ensures ∙ ap option_copied c.in-Some.is) in
     resting_objects w c.args.number t c.in-Some.rest.now held idle there
 
 pub returns-in-Some-clause-none : goal.returns-in-Some-clause-none
@@ -30,7 +23,7 @@ returns-then-is_running-clause-none c = λ none.
     let w : SharedValue = c.args.shared.now in
     let t = c.in_ok-owner.field-0.owner in
     let held : owner_of w.pool c.args.number ≡ Some t = ap (λ (p : PoolValue). owner_of p c.args.number) (sym c.pool.ensures) ∙ ap (option_map (λ (h : Slot). h.owner)) (sym c.slot.ensures ∙ c.in_ok-owner.was) in
-    let runs : is_state_running (state_of w.tree t) ≡ true = ap (λ (ns : List Node). is_state_running (state_of ns t)) (sym c.tree.ensures) ∙ (sym (ap is_state_running c.state.ensures) ∙ (sym c.is_running.ensures ∙ c.if-is_running.true)) in
+    let runs : is_state_running (state_of w.tree t) ≡ true = ap (λ (ns : List TaskNode). is_state_running (state_of ns t)) (sym c.tree.ensures) ∙ (sym (ap is_state_running c.state.ensures) ∙ (sym c.is_running.ensures ∙ c.if-is_running.true)) in
     ap (objects_owned w c.args.number) held ∙ ap (λ b. if b then [] else objects_numbered c.args.number ((value_of w).belongings t).chunks) runs
 
 pub returns-in_err-owner-clause-none : goal.returns-in_err-owner-clause-none

@@ -1,8 +1,4 @@
-use Rattle.std.proofs.Common.{ℕ, ◌+◌, ◌<◌, List, refl, subst, sym, ◌∙◌}
-use Rattle.heap_reading.specs.below.shared_value.{SharedValue}
-use Rattle.heap_reading.specs.declared.live.InUse.{InUse}
-use Rattle.heap_reading.specs.Image.{AreAll, InUseBefore, IsInUse}
-use Rattle.heap_reading.proofs.LiveRead.{chunk_once, one_below, skip_below}
+use Rattle.tree_reading.proofs.Common.{ℕ, ◌+◌, ◌<◌, List, refl, subst, sym, ◌∙◌, SharedValue, InUse, AreAll, InUseBefore, IsInUse, chunk_once, one_below, skip_below}
 use Rattle.tree_reading.proofs.tasks_and_chunks.chunk_list.Goals.{in-Some+in_ok-push, in_default}
 use Rattle.tree_reading.proofs.tasks_and_chunks.chunk_list.Goals as goal
 

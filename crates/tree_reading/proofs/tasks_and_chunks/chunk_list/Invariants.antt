@@ -1,5 +1,4 @@
-use Rattle.std.proofs.Common.{◌<◌}
-use Rattle.heap_reading.specs.Image.{AreAll, InUseBefore, IsInUse}
+use Rattle.tree_reading.proofs.Common.{◌<◌, AreAll, InUseBefore, IsInUse}
 use Rattle.tree_reading.proofs.tasks_and_chunks.chunk_list.Given as goal
 
 abbrev pub invariant-loop-number : goal.invariant-loop-number

@@ -1,6 +1,5 @@
-use Rattle.std.proofs.Common.{◌≡◌}
+use Rattle.tree_reading.proofs.Common.{◌≡◌, accounts}
 use Rattle.heap_reading.specs.below.hh_model.{owner_of}
-use Rattle.heap_reading.specs.below.shared_value.{accounts}
 use Rattle.tree_reading.proofs.tasks_and_chunks.owner_now.Given as goal
 
 abbrev pub invariant-loop-tree : goal.invariant-loop-tree

@@ -1,9 +1,4 @@
-use Rattle.std.proofs.Common.{ℕ, List, sym, subst}
-use Rattle.std.specs.Prelude.{Option}
-use Rattle.run_page.specs.below.run_ledger.{RefusedAt}
-use Rattle.run_page.specs.Page.{page}
-use Rattle.refusal_replies.specs.below.whole_call.{Done, Says}
-use Rattle.view_core.specs.Shown.{ShowsWhole}
+use Rattle.view_core.proofs.Common.{ℕ, List, sym, subst, Option, RefusedAt, page, Done, Says, ShowsWhole}
 use Rattle.view_core.proofs.page.show_journal_page.Goals as goal
 
 pub returns-in-Ok : goal.returns-in-Ok

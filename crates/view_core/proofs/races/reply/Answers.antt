@@ -1,5 +1,4 @@
-use Rattle.std.proofs.Common.{ℕ, List, subst}
-use Rattle.refusal_replies.specs.below.whole_call.{AnswerStatus, Says}
+use Rattle.view_core.proofs.Common.{ℕ, List, subst, AnswerStatus, Says}
 use Rattle.view_core.proofs.races.reply.Goals as goal
 
 pub returns : goal.returns

@@ -1,6 +1,4 @@
-use Rattle.std.proofs.Common.{rules}
-use Rattle.std.specs.Prelude.{Some, None}
-use Rattle.std.proofs.lemmas.Result.{IfOk-weaker}
+use Rattle.view_core.proofs.Common.{rules, Some, None, IfOk-weaker}
 use Rattle.view_core.proofs.Told.{trace_told}
 use Rattle.view_core.proofs.runs.show_trace.Goals as goal
 

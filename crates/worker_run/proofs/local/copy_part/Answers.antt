@@ -1,9 +1,4 @@
-use Rattle.std.proofs.Common.{All, sym, subst, ◌∙◌}
-use Rattle.copied_part_laws.specs.below.leaf_copy_gc.{IsCollected, IsSound, outside}
-use Rattle.copied_part_laws.specs.below.task_machine.{Private}
-use Rattle.copied_part_laws.specs.below.leaf_collections.{FitsCopied}
-use Rattle.turn_entries.specs.declared.between_turns.Collecting.{Collecting}
-use Rattle.turn_entries.specs.Parts.{MayCopy}
+use Rattle.worker_run.proofs.Common.{All, sym, subst, ◌∙◌, IsCollected, IsSoundReference, outside, Private, FitsCopied, Collecting, MayCopy}
 use Rattle.worker_run.proofs.Copying.{can_copy, copied, may_copy_at, may_copy_out, takes}
 use Rattle.worker_run.proofs.local.copy_part.Goals as goal
 
@@ -15,7 +10,7 @@ copy-moved-requires-clause-closed g c κs within =
 pub copy-moved-requires-clause-outside : goal.copy-moved-requires-clause-outside
 copy-moved-requires-clause-outside g c κs within =
     let k : Collecting = record { part = c.take_out-part.result.0; roots = c.args.collecting.roots; to_chunks = c.into_inner.result } in
-    subst (λ rs. All (IsSound k.part.heap.chunks) (outside k.part.frames rs)) (sym c.deref.ensures.value)
+    subst (λ rs. All (IsSoundReference k.part.heap.chunks) (outside k.part.frames rs)) (sym c.deref.ensures.value)
     (can_copy c.requires.0 c.requires.1.0 c.args.worker k c.requires.1.1 (may_copy_out c.requires.1.0 c.args.worker c.args.collecting k.part k.to_chunks c.take_out-part.ensures c.into_inner.ensures c.requires.1.2)).outside
 
 pub copy-moved-requires-clause-enough : goal.copy-moved-requires-clause-enough

@@ -1,7 +1,4 @@
-use Rattle.std.proofs.Common.{subst, sym}
-use Rattle.copied_part_laws.specs.below.task_machine.{Private}
-use Rattle.turn_entries.specs.Parts.{AtSome, HasGrown, MayRun}
-use Rattle.copied_part_laws.specs.below.shared_value.{SharedValue}
+use Rattle.worker_run.proofs.Common.{subst, sym, Private, AtSome, HasGrown, MayRun, SharedValue}
 use Rattle.worker_run.proofs.local.run_part.Goals as goal
 
 pub take_steps-requires-clause-may : goal.take_steps-requires-clause-may

@@ -1,8 +1,4 @@
-use Rattle.std.proofs.Common.{◌-◌, ◌+◌, ◌≤◌, arith, subst, sym}
-use Rattle.copied_part_laws.specs.below.run_trace.{private_limit}
-use Rattle.copied_part_laws.specs.below.task_machine.{Private}
-use Rattle.turn_entries.specs.Parts.{HasGrown}
-use Rattle.turn_entries.proofs.Stepping.{few_then, fits_some, grows}
+use Rattle.worker_run.proofs.Common.{◌-◌, ◌+◌, ◌≤◌, arith, subst, sym, private_limit, Private, HasGrown, few_then, fits_some, grows}
 use Rattle.worker_run.proofs.local.take_steps.Goals as goal
 
 pub run_local-requires-clause-fits : goal.run_local-requires-clause-fits

@@ -1,8 +1,4 @@
-use Rattle.std.proofs.Common.{ℕ, ◌≡◌, ◌+◌, ◌%◌, ap, ap₂, sym, subst, ◌∙◌, length, arith, List}
-use Rattle.steal_scheduler.specs.declared.theft.Theft.{Theft}
-use Rattle.steal_scheduler.specs.Hands.{ChangesAt, thefts}
-use Rattle.steal_scheduler.specs.Thefts.{StoleNone}
-use Rattle.worker_run.specs.Tasks.{TriedBefore, after_it}
+use Rattle.worker_run.proofs.Common.{ℕ, ◌≡◌, ◌+◌, ◌%◌, ap, ap₂, sym, subst, ◌∙◌, length, arith, List, Theft, ChangesAt, thefts, StoleNone, TriedBefore, after_it}
 use Rattle.worker_run.proofs.Finding.{none_then, none_tried, same_then, tried_all, tried_more}
 use Rattle.worker_run.proofs.tasks.find.Goals as goal
 

@@ -1,6 +1,4 @@
-use Rattle.std.proofs.Common.{◌≡◌, length}
-use Rattle.steal_scheduler.specs.Hands.{SameHand, TookNone, thefts}
-use Rattle.worker_run.specs.Tasks.{TriedBefore}
+use Rattle.worker_run.proofs.Common.{◌≡◌, length, SameHand, TookNone, thefts, TriedBefore}
 use Rattle.worker_run.proofs.tasks.find.Given as goal
 
 abbrev pub invariant-loop-k : goal.invariant-loop-k

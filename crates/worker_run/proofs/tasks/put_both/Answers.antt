@@ -1,5 +1,4 @@
-use Rattle.std.proofs.Common.{inr}
-use Rattle.std.proofs.lemmas.Result.{IfErr-weaker, on_ok_weaker}
+use Rattle.worker_run.proofs.Common.{inr, IfErr-weaker, on_ok_weaker}
 use Rattle.worker_run.proofs.tasks.put_both.Goals as goal
 
 pub returns-clause-ok : goal.returns-clause-ok

@@ -1,5 +1,4 @@
-use Rattle.std.proofs.Common.{◌∙◌, ap, sym}
-use Rattle.worker_run.specs.Outcomes.{finish_of}
+use Rattle.worker_run.proofs.Common.{◌∙◌, ap, sym, finish_of}
 use Rattle.worker_run.proofs.Rows.{told_finish}
 use Rattle.worker_run.proofs.workers.run_on_workers.Goals as goal
 use Rattle.worker_run.proofs.workers.run_on_workers.Goals.{in-Some, in-None}

@@ -10,4 +10,4 @@ returns-in-Ok-clause-hand g c = record { rest = c.look.ensures.hand.rest; thieve
 
 pub returns-in-Ok-clause-shared : goal.returns-in-Ok-clause-shared
 returns-in-Ok-clause-shared g c =
-    looks_then c.args.desk.now.worker c.args.task c.args.desk.now.hand c.put.new.hand c.look.new.desk.hand c.look.result c.in-Ok.ensures.ok c.look.ensures.found
+    looks_then c.args.worker_state.now.worker c.args.task c.args.worker_state.now.hand c.put.new.hand c.look.new.worker_state.hand c.look.result c.in-Ok.ensures.ok c.look.ensures.found

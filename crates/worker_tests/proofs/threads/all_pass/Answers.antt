@@ -3,18 +3,18 @@ use mir.Syntax.{given}
 use Rattle.std.proofs.Common.{refl}
 use Rattle.std.proofs.Crossing as std
 use Rattle.std.proofs.lemmas.Option.{slice_get_read}
-use Rattle.paced_tree.specs.contracts.calls.PacedEntryCalls.TheImpl.{ghosts}
-use Rattle.paced_tree.proofs.Sent.{paced_send}
+use Rattle.gc_pacer.specs.contracts.calls.PacedEntryCalls.TheImpl.{ghosts}
+use Rattle.gc_pacer.proofs.Sent.{paced_send}
 use Rattle.worker_run.proofs.Sent.{turn_sync}
-use Rattle.worker_run.proofs.desk.Desk.TheSendSync as desk
+use Rattle.worker_run.proofs.worker_state.WorkerState.TheSendSync as worker_state
 use Rattle.worker_tests.proofs.threads.Watch.TheSendSync as watch
 use Rattle.worker_tests.proofs.threads.all_pass.Goals as goal
 
 pub for_each_mut-requires-clause-accepts : goal.for_each_mut-requires-clause-accepts
-for_each_mut-requires-clause-accepts g c κs within = λ i p inside at. c.requires i p.now (slice_get_read c.args.desks.now _ i p.now refl inside at)
+for_each_mut-requires-clause-accepts g c κs within = λ i p inside at. c.requires i p.now (slice_get_read c.args.worker_states.now _ i p.now refl inside at)
 
 pub for_each_mut-requires-send-T : goal.for_each_mut-requires-send-T
-for_each_mut-requires-send-T g c κs within = search (desk.the_send, desk.the_field_send, paced_send, sendable, std.crosses) depth 300 fits 1000000
+for_each_mut-requires-send-T g c κs within = search (worker_state.the_send, worker_state.the_field_send, paced_send, sendable, std.crosses) depth 300 fits 1000000
 
 -- what its threads share: the host, the turn and the watch
 pub for_each_mut-requires-sync-F : goal.for_each_mut-requires-sync-F

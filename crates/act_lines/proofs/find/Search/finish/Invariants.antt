@@ -1,6 +1,4 @@
-use Rattle.std.proofs.Common.{◌-◌, List, length}
-use Rattle.act_lines.specs.declared.line.ActLine.{ActLine}
-use Rattle.act_lines.specs.Search.{HasFound}
+use Rattle.act_lines.proofs.Common.{◌-◌, List, length, ActLine, HasFound}
 use Rattle.act_lines.proofs.Searching.{HasEnded}
 use Rattle.act_lines.proofs.find.Search.finish.Given as goal
 

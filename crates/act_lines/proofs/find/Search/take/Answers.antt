@@ -1,7 +1,4 @@
-use Rattle.std.proofs.Common.{◌∙◌, ◌++◌, ◌∷◌, [], length, slice_get, ap, sym, subst}
-use Rattle.std.proofs.lemmas.Result.{on_ok_weaker}
-use Rattle.act_lines.specs.declared.find.Search.{Search}
-use Rattle.act_lines.specs.Search.{HasFound}
+use Rattle.act_lines.proofs.Common.{◌∙◌, ◌++◌, ◌∷◌, [], length, slice_get, ap, sym, subst, on_ok_weaker, Search, HasFound}
 use Rattle.act_lines.proofs.Searching.{past_end, none_left, found_one, passed_one}
 use Rattle.act_lines.proofs.find.Search.take.Goals as goal
 

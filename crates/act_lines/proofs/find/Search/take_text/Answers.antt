@@ -1,17 +1,10 @@
-use Rattle.std.proofs.Common.{◌≡◌, ◌+◌, ◌++◌, ℕ, Option, IfSome, List, Bor, length, subst, arith}
-use Rattle.std.proofs.lemmas.List.{append_assoc}
-use Rattle.log_lines.specs.Grammar.{line_of}
-use Rattle.log_form.specs.declared.fault.Position.{Position}
-use Rattle.log_form.specs.Text.{lines_in}
-use Rattle.act_lines.specs.declared.line.ActLine.{ActLine}
-use Rattle.act_lines.specs.ActLines.{act_line_at, act_lines_from}
-use Rattle.act_lines.specs.Search.{HasFound}
+use Rattle.act_lines.proofs.Common.{◌≡◌, ◌+◌, ◌++◌, ℕ, Option, IfSome, List, Bor, length, subst, arith, append_assoc, line_of, LogPosition, lines_in, ActLine, act_line_at, act_lines_from, HasFound}
 use Rattle.act_lines.proofs.Lines.{lines_next, acts_next}
 use Rattle.act_lines.proofs.find.Search.take_text.Goals as goal
 
 pub lines-preserved : goal.lines-preserved
 lines-preserved c =
-    let at : Position = record { file = c.args.file; line = c.lines.line } in
+    let at : LogPosition = record { file = c.args.file; line = c.lines.line } in
     let now = act_line_at at (line_of c.next_line.result.0.now) in
     let d = c.lines.invariant.done in
     let e = lines_next (λ (r : Bor (List ℕ)). r.now) c.next_line.result.1 c.lines.left.now c.next_line.result.0.now c.in-Some.rest c.in-Some.is c.next_line.ensures.lines in

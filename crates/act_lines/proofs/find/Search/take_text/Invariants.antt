@@ -1,8 +1,4 @@
-use Rattle.std.proofs.Common.{◌≡◌, ◌≤◌, ◌+◌, ◌++◌, List, length}
-use Rattle.log_form.specs.Text.{lines_in}
-use Rattle.act_lines.specs.declared.line.ActLine.{ActLine}
-use Rattle.act_lines.specs.ActLines.{act_lines_from}
-use Rattle.act_lines.specs.Search.{HasFound, IsSearch}
+use Rattle.act_lines.proofs.Common.{◌≡◌, ◌≤◌, ◌+◌, ◌++◌, List, length, lines_in, ActLine, act_lines_from, HasFound, IsSearch}
 use Rattle.act_lines.proofs.find.Search.take_text.Given as goal
 
 abbrev pub invariant-lines : goal.invariant-lines

@@ -1,5 +1,4 @@
-use Rattle.std.proofs.Common.{◌≡◌, Some, None, get_or, refl, sym}
-use Rattle.chunk_pool.specs.declared.pool.Slot.{Slot}
+use Rattle.chunk_pool.proofs.Common.{◌≡◌, Some, None, get_or, refl, sym, Slot}
 use Rattle.chunk_pool.proofs.UnitLemmas.{relabels, relabels_within, set_there, set_elsewhere}
 use Rattle.chunk_pool.proofs.pool.Pool.relabel.Goals as goal
 

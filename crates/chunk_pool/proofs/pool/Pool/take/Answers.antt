@@ -1,7 +1,4 @@
-use Rattle.std.proofs.Common.{◌≡◌, ◌≢◌, ◌^◌, ◌<◌, ◌≤◌, ℕ, List, Option, None, get_or, sym, ap, ◌∙◌, arith}
-use Rattle.object_layout.specs.ChunkValue.{ChunkValue}
-use Rattle.slab.specs.Slab.{Slab}
-use Rattle.chunk_pool.specs.declared.pool.Slot.{Slot}
+use Rattle.chunk_pool.proofs.Common.{◌≡◌, ◌≢◌, ◌^◌, ◌<◌, ◌≤◌, ℕ, List, Option, None, get_or, sym, ap, ◌∙◌, arith, ChunkValue, Slab, Slot}
 use Rattle.chunk_pool.proofs.UnitLemmas.{takes, takes_within}
 use Rattle.chunk_pool.proofs.pool.Pool.take.Goals as goal
 

@@ -1,7 +1,4 @@
-use Rattle.std.proofs.Common.{◌≡◌, ◌==◌, ◌-◌, ◌/◌, ◌%◌, List, None, Some, slice_get, option_map, ap, sym, ◌∙◌}
-use Rattle.heap_tree.specs.declared.links.Linked.{Linked}
-use Rattle.heap_tree.specs.declared.entries.Pair.{Pair}
-use Rattle.heap_tree.specs.Paired.{child_entry}
+use Rattle.heap_tree.proofs.Common.{◌≡◌, ◌==◌, ◌-◌, ◌/◌, ◌%◌, List, None, Some, slice_get, option_map, ap, sym, ◌∙◌, Linked, Pair, child_entry}
 use Rattle.heap_tree.proofs.PairLemmas.{got_child}
 use Rattle.heap_tree.proofs.entries.Entries.get.Goals as goal
 

@@ -1,5 +1,4 @@
-use Rattle.std.proofs.Common.{◌≡◌, ◌+◌, ◌*◌, List, length, vec_len, ap, sym, ◌∙◌, arith}
-use Rattle.heap_tree.specs.declared.entries.Pair.{Pair}
+use Rattle.heap_tree.proofs.Common.{◌≡◌, ◌+◌, ◌*◌, List, length, vec_len, ap, sym, ◌∙◌, arith, Pair}
 use Rattle.heap_tree.proofs.PairLemmas.{entries_length}
 use Rattle.heap_tree.proofs.entries.Entries.len.Goals as goal
 

@@ -1,7 +1,4 @@
-use Rattle.std.proofs.Common.{◌≡◌, false, ap, sym}
-use Rattle.heap_tree.specs.declared.links.Linked.{Linked}
-use Rattle.heap_tree.specs.declared.entries.Pair.{Pair}
-use Rattle.heap_tree.specs.Paired.{child_entry}
+use Rattle.heap_tree.proofs.Common.{◌≡◌, false, ap, sym, Linked, Pair, child_entry}
 use Rattle.heap_tree.proofs.PairLemmas.{two_more}
 use Rattle.heap_tree.proofs.entries.Entries.push_two.Goals as goal
 

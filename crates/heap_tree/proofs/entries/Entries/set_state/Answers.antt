@@ -1,5 +1,4 @@
-use Rattle.std.proofs.Common.{◌≡◌, ◌+◌, ◌*◌, List, length, ap, sym, ◌∙◌, arith}
-use Rattle.heap_tree.specs.declared.entries.Pair.{Pair}
+use Rattle.heap_tree.proofs.Common.{◌≡◌, ◌+◌, ◌*◌, List, length, ap, sym, ◌∙◌, arith, Pair}
 use Rattle.heap_tree.proofs.PairLemmas.{child_set, entries_length}
 use Rattle.heap_tree.proofs.entries.Entries.set_state.Goals as goal
 

@@ -1,7 +1,4 @@
-use Rattle.std.proofs.Common.{ℕ, ◌+◌, ◌<◌, Some, refl, ap, arith}
-use Rattle.hh_model.specs.Step.{depth_limit}
-use Rattle.heap_tree.specs.declared.links.Linked.{Linked}
-use Rattle.heap_tree.specs.declared.state.State.TheVariants.{Ready, Out}
+use Rattle.heap_tree.proofs.Common.{ℕ, ◌+◌, ◌<◌, Some, refl, ap, arith, depth_limit, Linked, Ready, Out}
 use Rattle.heap_tree.proofs.TreeLemmas.{made_from_state, made_entry, fork_shallow, depth_answer, fork_answer}
 use Rattle.heap_tree.proofs.tree.Tree.fork.Goals as goal
 

@@ -1,5 +1,4 @@
-use Rattle.heap_tree.specs.Node.{IsTree}
-use Rattle.std.proofs.Common.{subst}
+use Rattle.heap_tree.proofs.Common.{IsTree, subst}
 use Rattle.heap_tree.proofs.TreeLemmas.{tree_seen}
 use Rattle.heap_tree.proofs.tree.Tree.made.Goals as goal
 

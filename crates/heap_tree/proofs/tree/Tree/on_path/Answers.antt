@@ -1,5 +1,4 @@
-use Rattle.std.proofs.Common.{refl, sym, ◌∙◌}
-use Rattle.std.proofs.lemmas.Bool.{lt-leb}
+use Rattle.heap_tree.proofs.Common.{refl, sym, ◌∙◌, lt-leb}
 use Rattle.heap_tree.proofs.TreeLemmas.{on_path_answer, off_path_answer, walk_answer}
 use Rattle.heap_tree.proofs.tree.Tree.on_path.Goals as goal
 

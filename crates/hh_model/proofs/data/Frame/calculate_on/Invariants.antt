@@ -1,5 +1,4 @@
-use Rattle.std.proofs.Common.{◌≡◌}
-use Rattle.hh_model.specs.Calculations.{Leads}
+use Rattle.hh_model.proofs.Common.{◌≡◌, Leads}
 use Rattle.hh_model.proofs.data.Frame.calculate_on.Given as goal
 
 abbrev pub invariant-loop-done : goal.invariant-loop-done

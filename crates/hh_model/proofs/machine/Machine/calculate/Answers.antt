@@ -1,7 +1,4 @@
-use Rattle.std.proofs.Common.{rules, ◌≡◌, ◌∙◌, true, Some, ap, slice_get, subst, sym}
-use Rattle.hh_model.specs.Calculations.{advanced_by, calculates}
-use Rattle.hh_model.specs.Machine.{IsOfRun, MachineValue}
-use Rattle.hh_model.specs.Step.{can_step}
+use Rattle.hh_model.proofs.Common.{rules, ◌≡◌, ◌∙◌, true, Some, ap, slice_get, subst, sym, advanced_by, calculates, IsOfRun, MachineValue, can_step}
 use Rattle.hh_model.proofs.Calculating.{after, as_frame, each, reached_by}
 use Rattle.hh_model.proofs.machine.Machine.calculate.Goals as goal
 

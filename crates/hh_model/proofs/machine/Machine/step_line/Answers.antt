@@ -1,6 +1,4 @@
-use Rattle.std.proofs.Common.{rules, ◌<◌, ◌+◌, ◌^◌, ap, sym, subst, arith}
-use Rattle.hh_model.specs.declared.data.State.{State}
-use Rattle.hh_model.specs.Machine.{MachineValue, IsOfRun}
+use Rattle.hh_model.proofs.Common.{rules, ◌<◌, ◌+◌, ◌^◌, ap, sym, subst, arith, MachineState, MachineValue, IsOfRun}
 use Rattle.hh_model.proofs.Counts.{reached_sound, step_reached}
 use Rattle.hh_model.proofs.Taken.{step_nothing}
 use Rattle.hh_model.proofs.machine.Machine.step_line.Goals as goal
@@ -14,11 +12,11 @@ act-requires-clause-sound c =
 pub invariant_of-self : goal.invariant_of-self
 invariant_of-self c =
     let g : MachineValue = record { program = c.self.inside.program.now; state = c.self.inside.state; steps = c.self.inside.steps } in
-    let here : State → Type 0 = λ m. IsOfRun (record { program = c.self.inside.program.now; state = m; steps = c.self.inside.steps + 1 }) in
+    let here : MachineState → Type 0 = λ m. IsOfRun (record { program = c.self.inside.program.now; state = m; steps = c.self.inside.steps + 1 }) in
     subst here (step_nothing g.program g.state c.args.t (search rules) (search rules)) (step_reached g c.args.t c.self.invariant)
 
 pub invariant_of-self-2 : goal.invariant_of-self-2
 invariant_of-self-2 c =
     let g : MachineValue = record { program = c.self.inside.program.now; state = c.self.inside.state; steps = c.self.inside.steps } in
-    let here : State → Type 0 = λ m. IsOfRun (record { program = c.self.inside.program.now; state = m; steps = c.self.inside.steps + 1 }) in
+    let here : MachineState → Type 0 = λ m. IsOfRun (record { program = c.self.inside.program.now; state = m; steps = c.self.inside.steps + 1 }) in
     subst here (sym (search rules)) (step_reached g c.args.t c.self.invariant)

@@ -1,8 +1,4 @@
-use Rattle.std.proofs.Common.{◌≡◌, ◌<◌, ◌≤◌, ◌-◌, ℕ, false, nat_eq, sym, subst, arith, None}
-use Rattle.far_links.specs.Lists.{depth_at, IsUp}
-use Rattle.image_check.specs.Table.{found}
-use Rattle.image_check.specs.Tasks.{Tasks, is_above}
-use Rattle.image_check.specs.Links.{StandsAt}
+use Rattle.image_check.proofs.Common.{◌≡◌, ◌<◌, ◌≤◌, ◌-◌, ℕ, false, nat_eq, sym, subst, arith, None, depth_at, IsUp, found, Tasks, is_above, StandsAt}
 use Rattle.image_check.proofs.Linked.{stands_within, no_ancestor, not_deeper, climbed}
 use Rattle.image_check.proofs.tasks.Tasks.is_ancestor.Goals as goal
 

@@ -1,6 +1,4 @@
-use Rattle.std.proofs.Common.{◌≡◌, sym, subst, true}
-use Rattle.image_check.specs.Tasks.{HasParent}
-use Rattle.image_check.specs.Links.{IsParentAt}
+use Rattle.image_check.proofs.Common.{◌≡◌, sym, subst, true, HasParent, IsParentAt}
 use Rattle.image_check.proofs.Linked.{parent_answer}
 use Rattle.image_check.proofs.tasks.Tasks.parent_place.Goals as goal
 

@@ -1,8 +1,4 @@
-use Rattle.std.proofs.Common.{◌≡◌, subst, None}
-use Rattle.std.specs.Prelude.{MatchOption}
-use Rattle.image_check.specs.Table.{found}
-use Rattle.image_check.specs.Tasks.{Tasks}
-use Rattle.image_check.specs.Links.{StandsAt}
+use Rattle.image_check.proofs.Common.{◌≡◌, subst, None, MatchOption, found, Tasks, StandsAt}
 use Rattle.image_check.proofs.Linked.{place_answer}
 use Rattle.image_check.proofs.tasks.Tasks.place.Goals as goal
 

@@ -1,7 +1,4 @@
-use Rattle.std.proofs.Common.{◌∙◌, ap, sym, subst}
-use Rattle.image_check.specs.Table.{has, with_new}
-use Rattle.image_check.specs.Tasks.{Tasks}
-use Rattle.image_check.specs.Links.{IsParentAt}
+use Rattle.image_check.proofs.Common.{◌∙◌, ap, sym, subst, has, with_new, Tasks, IsParentAt}
 use Rattle.image_check.proofs.Linked.{put_answer}
 use Rattle.image_check.proofs.tasks.Tasks.put.Goals as goal
 

@@ -1,6 +1,4 @@
-use Rattle.std.proofs.Common.{◌≡◌, length}
-use Rattle.text_lines.specs.Lines.{lines_of}
-use Rattle.image_check.specs.Read.{with_lines}
+use Rattle.image_check.proofs.Common.{◌≡◌, length, lines_of, with_lines}
 use Rattle.image_check.proofs.whole.Whole.add_lines.Given as goal
 
 abbrev pub invariant-loop-more : goal.invariant-loop-more

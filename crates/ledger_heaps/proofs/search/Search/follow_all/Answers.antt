@@ -1,6 +1,4 @@
-use Rattle.std.proofs.Common.{refl, ◌∙◌}
-use Rattle.std.specs.List.{flat_map}
-use Rattle.hh_model.specs.Names.{refs_at}
+use Rattle.ledger_heaps.proofs.Common.{refl, ◌∙◌, flat_map, refs_at}
 use Rattle.ledger_heaps.proofs.Meets.{more_met, flat_append, flat_one}
 use Rattle.ledger_heaps.proofs.search.Search.follow_all.Goals as goal
 

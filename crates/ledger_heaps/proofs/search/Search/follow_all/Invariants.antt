@@ -1,9 +1,4 @@
-use Rattle.std.proofs.Common.{◌≡◌, ◌+◌, length, take}
-use Rattle.std.specs.List.{flat_map}
-use Rattle.std.specs.HashSet.{contains, hash_set_len}
-use Rattle.hh_model.specs.Names.{refs_at}
-use Rattle.run_ledger.specs.Reachable.{is_name}
-use Rattle.ledger_heaps.specs.Search.{Meets}
+use Rattle.ledger_heaps.proofs.Common.{◌≡◌, ◌+◌, length, take, flat_map, contains, hash_set_len, refs_at, is_name, Meets}
 use Rattle.ledger_heaps.proofs.search.Search.follow_all.Given as goal
 
 abbrev pub invariant-loop-name : goal.invariant-loop-name

@@ -1,6 +1,4 @@
-use Rattle.std.proofs.Common.{get_or, ap, rules, ◌∙◌}
-use Rattle.std.specs.List.{flat_map}
-use Rattle.hh_model.specs.Names.{refs_at}
+use Rattle.ledger_heaps.proofs.Common.{get_or, ap, rules, ◌∙◌, flat_map, refs_at}
 use Rattle.ledger_heaps.proofs.Meets.{more_met, twice, twice_append, twice_one}
 use Rattle.ledger_heaps.proofs.search.Search.follow_heap.Goals as goal
 

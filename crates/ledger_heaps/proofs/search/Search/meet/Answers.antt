@@ -1,6 +1,4 @@
-use Rattle.std.proofs.Common.{◌∙◌, sym}
-use Rattle.std.specs.HashSet.{contains}
-use Rattle.run_ledger.specs.Reachable.{is_name}
+use Rattle.ledger_heaps.proofs.Common.{◌∙◌, sym, contains, is_name}
 use Rattle.ledger_heaps.proofs.Meets.{met_one}
 use Rattle.ledger_heaps.proofs.search.Search.meet.Goals as goal
 

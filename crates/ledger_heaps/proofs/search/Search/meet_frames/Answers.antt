@@ -1,5 +1,4 @@
-use Rattle.std.proofs.Common.{refl, ◌∙◌}
-use Rattle.hh_model.specs.Names.{named, registers}
+use Rattle.ledger_heaps.proofs.Common.{refl, ◌∙◌, named, registers}
 use Rattle.ledger_heaps.proofs.Meets.{more_met, registers_append, registers_one}
 use Rattle.ledger_heaps.proofs.search.Search.meet_frames.Goals as goal
 

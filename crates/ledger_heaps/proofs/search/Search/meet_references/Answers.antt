@@ -1,5 +1,4 @@
-use Rattle.std.proofs.Common.{[], ◌∷◌, refl, ◌∙◌}
-use Rattle.hh_model.specs.Names.{named}
+use Rattle.ledger_heaps.proofs.Common.{[], ◌∷◌, refl, ◌∙◌, named}
 use Rattle.ledger_heaps.proofs.Meets.{more_met, named_append, named_one}
 use Rattle.ledger_heaps.proofs.search.Search.meet_references.Goals as goal
 

@@ -1,8 +1,4 @@
-use Rattle.std.proofs.Common.{◌≡◌, ◌+◌, length, take}
-use Rattle.std.specs.HashSet.{contains, hash_set_len}
-use Rattle.hh_model.specs.Names.{named}
-use Rattle.run_ledger.specs.Reachable.{is_name}
-use Rattle.ledger_heaps.specs.Search.{Meets}
+use Rattle.ledger_heaps.proofs.Common.{◌≡◌, ◌+◌, length, take, contains, hash_set_len, named, is_name, Meets}
 use Rattle.ledger_heaps.proofs.search.Search.meet_references.Given as goal
 
 abbrev pub invariant-loop-reference : goal.invariant-loop-reference

@@ -1,7 +1,4 @@
-use Rattle.std.proofs.Common.{ℕ, subst, arith}
-use Rattle.log_pieces.specs.Pieces.{events_of_pieces}
-use Rattle.log_strands.proofs.Counted.{no_more}
-use Rattle.log_births.specs.Found.{AreFoundBelow}
+use Rattle.log_births.proofs.Common.{ℕ, subst, arith, events_of_pieces, no_more, AreFoundBelow}
 use Rattle.log_births.proofs.Parts.{count_more}
 use Rattle.log_births.proofs.Going.{found_on, place_there, count_all}
 use Rattle.log_births.proofs.findings.Findings.take_pieces.Goals as goal

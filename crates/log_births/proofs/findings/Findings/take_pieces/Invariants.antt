@@ -1,13 +1,9 @@
-use Rattle.std.proofs.Common.{◌≡◌, length, take}
-use Rattle.log_pieces.specs.Pieces.{events_of_pieces}
-use Rattle.log_tasks.specs.declared.tasks.LogTasks.{LogTasks}
-use Rattle.log_strands.specs.Places.{ArePlaces}
-use Rattle.log_births.specs.Found.{IsScene, AreFoundBelow}
+use Rattle.log_births.proofs.Common.{◌≡◌, length, take, events_of_pieces, LogTasks, ArePiecePlaces, IsScene, AreFoundBelow}
 use Rattle.log_births.proofs.findings.Findings.take_pieces.Given as goal
 
 abbrev pub invariant-loop-at : goal.invariant-loop-at
 invariant-loop-at l = record {
   number : l.line ≡ length (events_of_pieces l.texts (take l.at l.pieces));
-  found : (tasks : LogTasks) → IsScene tasks (events_of_pieces l.texts l.pieces) l.walk l.lines → ArePlaces tasks l.walk.order l.pieces l.places → AreFoundBelow (events_of_pieces l.texts l.pieces) tasks 0 l.fn.self
+  found : (tasks : LogTasks) → IsScene tasks (events_of_pieces l.texts l.pieces) l.walk l.lines → ArePiecePlaces tasks l.walk.order l.pieces l.places → AreFoundBelow (events_of_pieces l.texts l.pieces) tasks 0 l.fn.self
       → AreFoundBelow (events_of_pieces l.texts l.pieces) tasks l.line l.self;
 }

@@ -1,8 +1,4 @@
-use Rattle.std.proofs.Common.{◌∙◌, ◌+◌, ◌^◌, ap, sym, subst, arith, ◌<◌}
-use Rattle.std.specs.Prelude.{position, slice_set}
-use Rattle.std.proofs.lemmas.Result.{on_ok_weaker}
-use Rattle.log_groups.specs.Groups.{same_key}
-use Rattle.log_groups.specs.Gathered.{keys_of, with_item, AreBelow}
+use Rattle.log_groups.proofs.Common.{◌∙◌, ◌+◌, ◌^◌, ap, sym, subst, arith, ◌<◌, position, slice_set, on_ok_weaker, same_key, keys_of, with_item, AreBelow}
 use Rattle.log_groups.proofs.Gathering.{counted_at, found_at, put_last, below_with}
 use Rattle.log_groups.proofs.gather.Groups.add.Goals as goal
 

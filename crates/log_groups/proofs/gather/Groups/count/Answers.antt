@@ -1,5 +1,4 @@
-use Rattle.std.proofs.Common.{◌≡◌, ◌+◌, ◌*◌, ◌≤◌, ◌^◌, ◌∙◌, sym, ap, arith, Some}
-use Rattle.std.specs.Prelude.{slice_get}
+use Rattle.log_groups.proofs.Common.{◌≡◌, ◌+◌, ◌*◌, ◌≤◌, ◌^◌, ◌∙◌, sym, ap, arith, Some, slice_get}
 use Rattle.log_groups.proofs.Gathering.{keys_stay, read_at, counted_same, below_at}
 use Rattle.log_groups.proofs.gather.Groups.count.Goals as goal
 

@@ -1,8 +1,4 @@
-use Rattle.std.proofs.Common.{◌∙◌, ◌∷◌, ◌++◌, List, [], ap, sym, refl}
-use Rattle.std.specs.Prelude.{position}
-use Rattle.log_groups.specs.declared.item.Group.{Group}
-use Rattle.log_groups.specs.Groups.{same_key}
-use Rattle.log_groups.specs.Gathered.{keys_of}
+use Rattle.log_groups.proofs.Common.{◌∙◌, ◌∷◌, ◌++◌, List, [], ap, sym, refl, position, Group, same_key, keys_of}
 use Rattle.log_groups.proofs.Gathering.{pushed_keys}
 use Rattle.log_groups.proofs.gather.Groups.push.Goals as goal
 

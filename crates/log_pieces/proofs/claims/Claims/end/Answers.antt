@@ -1,6 +1,4 @@
-use Rattle.std.proofs.Common.{◌∙◌}
-use Rattle.std.specs.HashSet.{contains}
-use Rattle.log_pieces.specs.Claims.{is_pair, is_that}
+use Rattle.log_pieces.proofs.Common.{◌∙◌, contains, is_pair, is_that}
 use Rattle.log_pieces.proofs.Known.{cond_or}
 use Rattle.log_pieces.proofs.claims.Claims.end.Goals as goal
 

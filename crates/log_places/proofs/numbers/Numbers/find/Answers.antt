@@ -1,5 +1,4 @@
-use Rattle.std.proofs.lemmas.Option.{IfSome_then}
-use Rattle.listed.proofs.Options.{if_none}
+use Rattle.log_places.proofs.Common.{IfSome_then, if_none}
 use Rattle.log_places.proofs.Numbering.{slot_of, none_of}
 use Rattle.log_places.proofs.numbers.Numbers.find.Goals as goal
 

@@ -1,6 +1,4 @@
-use Rattle.std.proofs.Common.{◌≡◌, ◌+◌, ◌<◌, ℕ, refl, subst, arith}
-use Rattle.log_places.specs.Counting.{AreMarked}
-use Rattle.log_places.specs.Runs.{IsRunMarked}
+use Rattle.log_places.proofs.Common.{◌≡◌, ◌+◌, ℕ, refl, subst, arith, AreMarked, IsRunMarked}
 use Rattle.log_places.proofs.Cutting.{runs_next, keeps_through}
 use Rattle.log_places.proofs.Along.{no_run, run_marked, first_runs, and_region}
 use Rattle.log_places.proofs.places.Places.mark.Goals as goal

@@ -1,7 +1,4 @@
-use Rattle.std.proofs.Common.{List}
-use Rattle.log_places.specs.declared.region.Region.{Region}
-use Rattle.log_places.specs.Places.{KeepsCuts}
-use Rattle.log_places.specs.Counting.{AreMarked}
+use Rattle.log_places.proofs.Common.{List, Region, KeepsCuts, AreMarked}
 use Rattle.log_places.proofs.Cutting.{RunsAreCut}
 use Rattle.log_places.proofs.Along.{and_region, first_runs}
 use Rattle.log_places.proofs.places.Places.mark.Given as goal

@@ -1,5 +1,4 @@
-use Rattle.std.proofs.Common.{◌≡◌, ◌-◌, ◌*◌, arith}
-use Rattle.log_places.specs.Places.{page_key}
+use Rattle.log_places.proofs.Common.{◌≡◌, ◌-◌, ◌*◌, arith, page_key}
 use Rattle.log_places.proofs.Cutting.{page_keeps, page_cut, part_cut}
 use Rattle.log_places.proofs.places.Places.mark_part.Goals as goal
 use Rattle.log_places.proofs.places.Places.mark_part.Goals.{then-base-start, else-base-start}

@@ -1,6 +1,4 @@
-use Rattle.std.proofs.Common.{◌/◌, ◌≤◌}
-use Rattle.log_places.specs.Places.{KeepsCuts}
-use Rattle.log_places.specs.Counting.{AreDifferent}
+use Rattle.log_places.proofs.Common.{◌/◌, ◌≤◌, KeepsCuts, AreDifferent}
 use Rattle.log_places.proofs.Cutting.{AreCutBelow}
 use Rattle.log_places.proofs.Along.{AreMarkedBelow}
 use Rattle.log_places.proofs.places.Places.mark_run.Given as goal

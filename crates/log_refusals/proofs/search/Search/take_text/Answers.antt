@@ -1,8 +1,4 @@
-use Rattle.std.proofs.Common.{◌≡◌, ◌∙◌, ◌+◌, ◌^◌, ◌≤◌, length, arith, List, ℕ, Bor, sym, ap, subst, fold, option_map}
-use Rattle.fork_graph.specs.declared.graph.Strand.{Strand}
-use Rattle.log_lines.specs.Grammar.{line_of}
-use Rattle.log_refusals.specs.Placed.{position, placed_said, later_of}
-use Rattle.log_refusals.specs.Search.{strand_of, IsUpTo}
+use Rattle.log_refusals.proofs.Common.{◌≡◌, ◌∙◌, ◌+◌, ◌^◌, ◌≤◌, length, arith, List, ℕ, Bor, sym, ap, subst, fold, option_map, GraphStrand, line_of, position, placed_said, later_of, strand_of, IsUpTo}
 use Rattle.log_refusals.proofs.Lines.{at_some, at_none, found_next, found_last}
 use Rattle.log_refusals.proofs.search.Search.take_text.Goals as goal
 
@@ -15,7 +11,7 @@ lines-preserved c =
     record {
       found =
           found_next c.args.self.now.strand c.args.file here c.lines.line c.lines.left.now line c.in-Some.rest.now c.lines.self.found c.take_line.new.self.found _ e
-          (c.take_line.ensures.found ∙ ap (λ (u : Strand). fold (later_of u) c.lines.self.found (placed_said (position c.args.file c.lines.line) here (line_of line))) c.lines.invariant.strand)
+          (c.take_line.ensures.found ∙ ap (λ (u : GraphStrand). fold (later_of u) c.lines.self.found (placed_said (position c.args.file c.lines.line) here (line_of line))) c.lines.invariant.strand)
           c.take_line.ensures.here
           ∙ c.lines.invariant.found;
       strand = c.take_line.ensures.strand ∙ c.lines.invariant.strand;

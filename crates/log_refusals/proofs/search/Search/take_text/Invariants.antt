@@ -1,5 +1,4 @@
-use Rattle.std.proofs.Common.{◌≡◌, ◌≤◌, ◌+◌, ◌^◌, length, None, option_map}
-use Rattle.log_refusals.specs.Search.{strand_of, IsUpTo}
+use Rattle.log_refusals.proofs.Common.{◌≡◌, ◌≤◌, ◌+◌, ◌^◌, length, None, option_map, strand_of, IsUpTo}
 use Rattle.log_refusals.proofs.Lines.{found_from}
 use Rattle.log_refusals.proofs.search.Search.take_text.Given as goal
 

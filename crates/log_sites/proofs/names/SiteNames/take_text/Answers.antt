@@ -1,5 +1,4 @@
-use Rattle.std.proofs.Common.{◌∙◌, ℕ, List, Bor}
-use Rattle.log_sites.specs.Names.{name_of}
+use Rattle.log_sites.proofs.Common.{◌∙◌, ℕ, List, Bor, name_of}
 use Rattle.log_sites.proofs.Known.{at_some, at_none, named_next, named_last}
 use Rattle.log_sites.proofs.names.SiteNames.take_text.Goals as goal
 

@@ -1,6 +1,4 @@
-use Rattle.std.proofs.Common.{◌≡◌, ℕ, length}
-use Rattle.log_form.specs.Text.{lines_in}
-use Rattle.log_sites.specs.Names.{or_name, first_name, name_of}
+use Rattle.log_sites.proofs.Common.{◌≡◌, ℕ, length, lines_in, or_name, first_name, name_of}
 use Rattle.log_sites.proofs.names.SiteNames.take_text.Given as goal
 
 abbrev pub invariant-lines : goal.invariant-lines

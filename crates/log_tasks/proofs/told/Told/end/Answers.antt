@@ -1,5 +1,4 @@
-use Rattle.std.proofs.Common.{◌∙◌, sym}
-use Rattle.std.specs.Prelude.{Some}
+use Rattle.log_tasks.proofs.Common.{◌∙◌, sym, Some}
 use Rattle.log_tasks.proofs.Puts.{end_put}
 use Rattle.log_tasks.proofs.told.Told.end.Goals as goal
 

@@ -1,5 +1,4 @@
-use Rattle.std.proofs.Common.{◌∙◌, ℕ, List, Bor}
-use Rattle.log_pieces.proofs.Lines.{at_some}
+use Rattle.log_tasks.proofs.Common.{◌∙◌, ℕ, List, Bor, at_some}
 use Rattle.log_tasks.proofs.Lines.{ends_next, tasks_next}
 use Rattle.log_tasks.proofs.told.Told.take_lines.Goals as goal
 

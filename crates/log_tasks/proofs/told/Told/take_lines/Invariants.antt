@@ -1,10 +1,4 @@
-use Rattle.std.proofs.Common.{◌≡◌, ℕ, length}
-use Rattle.std.specs.Prelude.{◌||◌}
-use Rattle.std.specs.List.{list_any}
-use Rattle.log_form.specs.Faults.{spawns}
-use Rattle.log_pieces.specs.Pieces.{acts_in}
-use Rattle.log_tasks.specs.Ends.{first_end}
-use Rattle.log_tasks.specs.Told.{end_after, task_told}
+use Rattle.log_tasks.proofs.Common.{◌≡◌, ℕ, length, ◌||◌, list_any, spawns, acts_in, first_end, end_after, task_told}
 use Rattle.log_tasks.proofs.told.Told.take_lines.Given as goal
 
 abbrev pub invariant-lines : goal.invariant-lines

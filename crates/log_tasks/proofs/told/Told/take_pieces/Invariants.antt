@@ -1,7 +1,5 @@
-use Rattle.std.proofs.Common.{take}
-use Rattle.log_pieces.specs.Pieces.{events_of_pieces}
-use Rattle.log_tasks.specs.Told.{Knows}
+use Rattle.log_tasks.proofs.Common.{take, events_of_pieces, KnowsEvents}
 use Rattle.log_tasks.proofs.told.Told.take_pieces.Given as goal
 
 abbrev pub invariant-loop-piece : goal.invariant-loop-piece
-invariant-loop-piece l = Knows l.self (events_of_pieces l.texts (take l.piece-index l.pieces))
+invariant-loop-piece l = KnowsEvents l.self (events_of_pieces l.texts (take l.piece-index l.pieces))

@@ -1,6 +1,4 @@
-use Rattle.std.proofs.Common.{◌∙◌, ap, map}
-use Rattle.std.proofs.lemmas.List.{take_all}
-use Rattle.log_told.specs.Told.{told_use}
+use Rattle.log_told.proofs.Common.{◌∙◌, ap, map, take_all, told_use}
 use Rattle.log_told.proofs.Tables.{more_told}
 use Rattle.log_told.proofs.table.LineTable.findings.Goals as goal
 

@@ -1,7 +1,4 @@
-use Rattle.std.proofs.Common.{◌≡◌, ℕ, List, take, map}
-use Rattle.std.specs.Prelude.{All}
-use Rattle.log_told.specs.Told.{told_use}
-use Rattle.log_told.specs.Table.{IsTable, IsToldUse}
+use Rattle.log_told.proofs.Common.{◌≡◌, ℕ, List, take, map, All, told_use, IsTable, IsToldUse}
 use Rattle.log_told.proofs.table.LineTable.findings.Given as goal
 
 abbrev pub invariant-loop-finding : goal.invariant-loop-finding

@@ -1,7 +1,4 @@
-use Rattle.std.proofs.Common.{◌∙◌, ℕ, List, ap, map, subst, sym}
-use Rattle.std.specs.Prelude.{Contains}
-use Rattle.std.specs.List.Sorted.{IsStrictlyIncreasing}
-use Rattle.act_lines.specs.ActLines.{act_line}
+use Rattle.log_told.proofs.Common.{◌∙◌, ℕ, List, ap, map, subst, sym, Contains, IsStrictlyIncreasing, act_line}
 use Rattle.log_told.proofs.table.LineTable.new.Goals as goal
 
 pub returns : goal.returns

@@ -1,7 +1,4 @@
-use Rattle.std.proofs.Common.{◌≡◌, ℕ, List, take, map}
-use Rattle.std.specs.Prelude.{All}
-use Rattle.log_told.specs.Told.{told_race}
-use Rattle.log_told.specs.Table.{IsTable, IsToldRace}
+use Rattle.log_told.proofs.Common.{◌≡◌, ℕ, List, take, map, All, told_race, IsTable, IsToldRace}
 use Rattle.log_told.proofs.table.LineTable.races.Given as goal
 
 abbrev pub invariant-loop-found : goal.invariant-loop-found

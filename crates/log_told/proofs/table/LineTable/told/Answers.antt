@@ -1,7 +1,4 @@
-use Rattle.std.proofs.Common.{◌∙◌, ℕ, List, ap, subst, Result, Ok, Err, nat_cmp}
-use Rattle.std.specs.List.Sorted.{IsBinarySearchResult}
-use Rattle.act_lines.specs.ActLines.{act_line}
-use Rattle.log_told.specs.Told.{told_line}
+use Rattle.log_told.proofs.Common.{◌∙◌, ℕ, List, ap, subst, Result, Ok, Err, nat_cmp, IsBinarySearchResult, act_line, told_line}
 use Rattle.log_told.proofs.Tables.{line_found, line_there}
 use Rattle.log_told.proofs.table.LineTable.told.Goals as goal
 

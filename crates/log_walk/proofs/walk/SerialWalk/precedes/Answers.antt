@@ -1,7 +1,4 @@
-use Rattle.std.proofs.Common.{◌↔◌, IsTrue, subst}
-use Rattle.fork_graph.specs.Graph.{tasks_in, Precedes}
-use Rattle.log_walk.specs.Tables.{strand_at}
-use Rattle.log_walk.specs.Value.{WalkValue}
+use Rattle.log_walk.proofs.Common.{◌↔◌, IsTrue, subst, tasks_in, Precedes, strand_at, WalkValue}
 use Rattle.log_walk.proofs.walk.SerialWalk.precedes.Goals as goal
 
 pub returns : goal.returns

@@ -1,8 +1,4 @@
-use Rattle.std.proofs.Common.{◌∙◌, ℕ, Option, ap}
-use Rattle.std.specs.HashMap.{get}
-use Rattle.log_pieces.specs.Claims.{is_pair}
-use Rattle.log_weights.specs.Sums.{plus}
-use Rattle.log_weights.specs.Known.{or_none}
+use Rattle.log_weights.proofs.Common.{◌∙◌, ℕ, Option, ap, get, is_pair, plus, or_none}
 use Rattle.log_weights.proofs.Works.{work_put}
 use Rattle.log_weights.proofs.units.StrandWork.add.Goals as goal
 

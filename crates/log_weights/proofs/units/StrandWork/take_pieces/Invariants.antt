@@ -1,6 +1,4 @@
-use Rattle.std.proofs.Common.{take}
-use Rattle.log_pieces.specs.Pieces.{events_of_pieces}
-use Rattle.log_weights.specs.Known.{Knows}
+use Rattle.log_weights.proofs.Common.{take, events_of_pieces, Knows}
 use Rattle.log_weights.proofs.units.StrandWork.take_pieces.Given as goal
 
 abbrev pub invariant-loop-piece : goal.invariant-loop-piece

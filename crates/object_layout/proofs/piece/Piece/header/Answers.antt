@@ -1,6 +1,4 @@
-use Rattle.std.proofs.Common.{◌∙◌, ap, sym, Some}
-use Rattle.std.specs.Prelude.{option_map}
-use Rattle.object_layout.specs.Cell.{header_of}
+use Rattle.object_layout.proofs.Common.{◌∙◌, ap, sym, Some, option_map, header_of}
 use Rattle.object_layout.proofs.PieceLemmas as piece
 use Rattle.object_layout.proofs.piece.Piece.header.Goals as goal
 

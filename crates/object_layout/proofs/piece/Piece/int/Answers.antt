@@ -1,8 +1,4 @@
-use Rattle.std.proofs.Common.{◌<◌, ◌∙◌, ap, length, refl, rules, subst, sym, Some}
-use Rattle.std.specs.Int.{w64}
-use Rattle.std.specs.Prelude.{slice_get}
-use Rattle.std.proofs.lemmas.Int.{to_z-of_z}
-use Rattle.object_layout.specs.Cell.{Cell}
+use Rattle.object_layout.proofs.Common.{◌<◌, ◌∙◌, ap, length, refl, rules, subst, sym, Some, w64, slice_get, to_z-of_z, Cell}
 use Rattle.object_layout.proofs.PieceLemmas as piece
 use Rattle.object_layout.proofs.piece.Piece.int.Goals as goal
 

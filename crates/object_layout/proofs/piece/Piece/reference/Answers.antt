@@ -1,6 +1,4 @@
-use Rattle.std.proofs.Common.{◌<◌, ◌∙◌, ap, length, refl, subst}
-use Rattle.std.specs.Prelude.{slice_get}
-use Rattle.object_layout.specs.Cell.{Cell}
+use Rattle.object_layout.proofs.Common.{◌<◌, ◌∙◌, ap, length, refl, subst, slice_get, Cell}
 use Rattle.object_layout.proofs.PieceLemmas as piece
 use Rattle.object_layout.proofs.piece.Piece.reference.Goals as goal
 

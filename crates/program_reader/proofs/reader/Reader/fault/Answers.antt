@@ -1,6 +1,4 @@
-use Rattle.std.proofs.Common.{sym, ◌∙◌}
-use Rattle.text_lines.specs.Lines.{words_of}
-use Rattle.program_reader.specs.Reading.{spot_in}
+use Rattle.program_reader.proofs.Common.{sym, ◌∙◌, words_of, spot_in}
 use Rattle.program_reader.proofs.Causes.{gives_no_end, gives_two_names, gives_no_name, gives_no_label, gives_no_main, gives_too_many, gives_none}
 use Rattle.program_reader.proofs.reader.Reader.fault.Goals as goal
 

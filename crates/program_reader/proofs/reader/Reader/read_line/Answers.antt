@@ -1,6 +1,4 @@
-use Rattle.std.proofs.Common.{None, Some, sym, ◌∙◌}
-use Rattle.text_lines.specs.Lines.{words_of}
-use Rattle.program_reader.specs.Reading.{spot_in}
+use Rattle.program_reader.proofs.Common.{None, Some, sym, ◌∙◌, words_of, spot_in}
 use Rattle.program_reader.proofs.Causes.{gives_not_utf8, gives_fault}
 use Rattle.program_reader.proofs.reader.Reader.read_line.Goals as goal
 

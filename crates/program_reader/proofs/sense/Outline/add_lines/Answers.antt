@@ -1,6 +1,4 @@
-use Rattle.std.proofs.Common.{◌<◌, ◌≡◌, ◌≤◌, ◌+◌, ◌-◌, length, drop, take, ap, arith, ◌∙◌}
-use Rattle.std.proofs.lemmas.List.{length-drop}
-use Rattle.program_reader.specs.Around.{outline_line}
+use Rattle.program_reader.proofs.Common.{◌<◌, ◌≡◌, ◌≤◌, ◌+◌, ◌-◌, length, drop, take, ap, arith, ◌∙◌, length-drop, outline_line}
 use Rattle.program_reader.proofs.Outlines.{outline_more, outline_last, short_more, short_small}
 use Rattle.program_reader.proofs.sense.Outline.add_lines.Goals as goal
 

@@ -1,6 +1,4 @@
-use Rattle.std.proofs.Common.{◌≡◌, ◌≤◌, ◌+◌, ◌-◌, length}
-use Rattle.text_lines.specs.Lines.{lines_of}
-use Rattle.program_reader.specs.Around.{outline_onto, outline_of}
+use Rattle.program_reader.proofs.Common.{◌≡◌, ◌≤◌, ◌+◌, ◌-◌, length, lines_of, outline_onto, outline_of}
 use Rattle.program_reader.proofs.Outlines.{IsShort}
 use Rattle.program_reader.proofs.sense.Outline.add_lines.Given as goal
 

@@ -1,6 +1,4 @@
-use Rattle.std.proofs.Common.{◌∙◌, ◌∷◌, ◌++◌, List, [], ap, sym}
-use Rattle.race_report.specs.declared.data.Seen.{Seen}
-use Rattle.race_report.specs.Ways.{has_alike, ways_of}
+use Rattle.race_report.proofs.Common.{◌∙◌, ◌∷◌, ◌++◌, List, [], ap, sym, Seen, has_alike, ways_of}
 use Rattle.race_report.proofs.Alike.{pushed_ways}
 use Rattle.race_report.proofs.firsts.Firsts.push.Goals as goal
 

@@ -1,5 +1,4 @@
-use Rattle.std.proofs.Common.{◌≡◌, ◌≤◌, Some, replicate, vec_capacity}
-use Rattle.race_cells.specs.Scan.{no_stacks}
+use Rattle.race_scan.proofs.Common.{◌≡◌, ◌≤◌, Some, replicate, vec_capacity, no_stacks}
 use Rattle.race_scan.proofs.cells.Cells.new.Given as goal
 
 abbrev pub invariant-loop : goal.invariant-loop

@@ -1,5 +1,4 @@
-use Rattle.std.proofs.Common.{◌≡◌, fold, length, take}
-use Rattle.race_scan.specs.Value.{visited}
+use Rattle.race_scan.proofs.Common.{◌≡◌, fold, length, take, visited}
 use Rattle.race_scan.proofs.cells.Cells.visit_all.Given as goal
 
 abbrev pub invariant-loop-slot : goal.invariant-loop-slot

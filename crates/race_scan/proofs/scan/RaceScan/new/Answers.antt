@@ -1,5 +1,4 @@
-use Rattle.std.proofs.Common.{[], sym, subst}
-use Rattle.race_scan.specs.Scan.{HasScanned}
+use Rattle.race_scan.proofs.Common.{[], sym, subst, HasScanned}
 use Rattle.race_scan.proofs.Scanning.{none_seen}
 use Rattle.race_scan.proofs.scan.RaceScan.new.Goals as goal
 

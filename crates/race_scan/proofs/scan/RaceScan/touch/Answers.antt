@@ -1,9 +1,4 @@
-use Rattle.std.proofs.Common.{◌<◌, List, length, slice_index_or, ap, sym, subst, ◌∙◌}
-use Rattle.std.proofs.lemmas.Result.{on_ok_weaker}
-use Rattle.log_places.specs.declared.numbers.Slot.{Slot}
-use Rattle.log_places.specs.Numbers.{stretch_count}
-use Rattle.race_scan.specs.Slots.{AreSlots}
-use Rattle.race_scan.specs.Value.{ScanValue}
+use Rattle.race_scan.proofs.Common.{◌<◌, List, length, slice_index_or, ap, sym, subst, ◌∙◌, on_ok_weaker, LocationSlot, covers, AreSlots, ScanValue}
 use Rattle.race_scan.proofs.Scanning.{seen_more, slots_counted}
 use Rattle.race_scan.proofs.scan.RaceScan.touch.Goals as goal
 
@@ -11,7 +6,7 @@ pub visit_all-requires : goal.visit_all-requires
 visit_all-requires g c = λ k d lt.
     let v = c.args.numbers.now in
     let few = slots_counted v c.args.touch.region c.deref.result.now
-    (subst (λ (l : List Slot). AreSlots v c.args.touch.region l) (sym c.deref.ensures.value) c.in_ok-slots_of.ensures) k d lt in
+    (subst (λ (l : List LocationSlot). AreSlots v c.args.touch.region.block (covers c.args.touch.region c.args.touch.region.block) l) (sym c.deref.ensures.value) c.in_ok-slots_of.ensures) k d lt in
     subst (λ n. (slice_index_or c.deref.result.now k d).number < n) (sym (ap (λ (s : ScanValue). length s.cells) c.self.view_is ∙ c.requires.size)) few
 
 pub returns-clause-ok : goal.returns-clause-ok

@@ -1,8 +1,4 @@
-use Rattle.std.proofs.Common.{◌≡◌, ◌+◌, ◌∙◌, arith, ap, rules}
-use Rattle.hh_model.specs.Calculations.{advanced_by}
-use Rattle.hh_model.specs.Machine.{MachineValue}
-use Rattle.hh_model.specs.declared.data.State.{State}
-use Rattle.run_accounts.specs.Accounts.{AccountsValue}
+use Rattle.run_accounts.proofs.Common.{◌≡◌, ◌+◌, ◌∙◌, arith, ap, rules, advanced_by, MachineValue, MachineState, AccountsValue}
 use Rattle.run_accounts.proofs.Calculated.{calculated_is, calculated_standing, same_program, steps_taken}
 use Rattle.run_accounts.proofs.accounts.Accounts.calculate.Goals as goal
 
@@ -43,7 +39,7 @@ returns-clause-after c =
     let same : a ≡ c.args.self.now = search rules in
     let g : MachineValue = c.self.inside.machine in
     let n = c.calculate-count.result in
-    let with : AccountsValue → State → AccountsValue = λ b m. record b { ledger = record b.ledger { machine = m; steps = b.ledger.steps + n } } in
+    let with : AccountsValue → MachineState → AccountsValue = λ b m. record b { ledger = record b.ledger { machine = m; steps = b.ledger.steps + n } } in
     ap (λ (h : MachineValue). with a h.state) c.calculate-count.ensures.after
     ∙ (ap (λ b. with b (advanced_by g c.args.t n).state) same
     ∙ calculated_is c.args.self.now g c.args.t c.args.most n (c.self.invariant.1 ∙ ap (λ (b : AccountsValue). b.program) same) (ap (λ (b : AccountsValue). b.ledger.machine) same) c.requires.used c.requires.steady

@@ -1,5 +1,4 @@
-use Rattle.std.proofs.Common.{ap, arith}
-use Rattle.run_accounts.specs.Accounts.{AccountsValue}
+use Rattle.run_accounts.proofs.Common.{ap, arith, AccountsValue}
 use Rattle.run_accounts.proofs.Went.{went_chunk}
 use Rattle.run_accounts.proofs.accounts.Accounts.enter_chunk.Goals as goal
 

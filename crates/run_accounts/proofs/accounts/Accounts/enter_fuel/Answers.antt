@@ -1,6 +1,4 @@
-use Rattle.std.proofs.Common.{sym, ◌∙◌, ap}
-use Rattle.run_ledger.specs.Entries.{after_kind}
-use Rattle.run_trace.specs.declared.entry.Kind.TheVariants.{Fuel}
+use Rattle.run_accounts.proofs.Common.{sym, ◌∙◌, ap, after_kind, Fuel}
 use Rattle.run_accounts.proofs.accounts.Accounts.enter_fuel.Goals as goal
 
 pub returns-in-Some-clause-err : goal.returns-in-Some-clause-err

@@ -1,7 +1,4 @@
-use Rattle.std.proofs.Common.{◌≡◌, None, OnOk, sym, subst}
-use Rattle.std.specs.Prelude.{IfErr}
-use Rattle.run_ledger.specs.Entries.{after_kind, kind_refusal}
-use Rattle.run_accounts.specs.Accounts.{FailsFor, taken_after, went_on}
+use Rattle.run_accounts.proofs.Common.{◌≡◌, None, OnOk, sym, subst, IfErr, after_kind, kind_refusal, FailsFor, taken_after, went_on}
 use Rattle.run_accounts.proofs.accounts.Accounts.enter_kind.Goals as goal
 
 pub returns-in-Mark-clause-none : goal.returns-in-Mark-clause-none

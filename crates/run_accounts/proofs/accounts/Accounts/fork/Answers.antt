@@ -1,14 +1,10 @@
-use Rattle.std.proofs.Common.{sym, subst}
-use Rattle.std.proofs.lemmas.Result.{on_ok_weaker}
-use Rattle.hh_model.specs.declared.data.State.{State}
-use Rattle.ledger_heaps.specs.Accounts.{AreOwned}
-use Rattle.run_accounts.specs.Accounts.{AccountsValue}
+use Rattle.run_accounts.proofs.Common.{sym, subst, on_ok_weaker, MachineState, AreOwned, AccountsValue}
 use Rattle.run_accounts.proofs.Stepped.{fork_is}
 use Rattle.run_accounts.proofs.accounts.Accounts.fork.Goals as goal
 
 pub within-requires : goal.within-requires
 within-requires c =
-    subst (λ (m : State). AreOwned m.tasks c.self.inside.heaps) (sym c.state.ensures)
+    subst (λ (m : MachineState). AreOwned m.tasks c.self.inside.heaps) (sym c.state.ensures)
     (subst (λ (s : AccountsValue). AreOwned s.ledger.machine.tasks s.ledger.heaps) (sym c.self.view_is) c.requires)
 
 pub returns : goal.returns

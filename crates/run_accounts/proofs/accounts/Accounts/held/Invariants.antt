@@ -1,6 +1,4 @@
-use Rattle.std.proofs.Common.{◌≡◌, ◌+◌, drop, length}
-use Rattle.run_ledger.specs.Heaps.{words_sum}
-use Rattle.run_ledger.specs.Report.{held_not_running_from, held_not_running}
+use Rattle.run_accounts.proofs.Common.{◌≡◌, ◌+◌, drop, length, words_sum, held_not_running_from, held_not_running}
 use Rattle.run_accounts.proofs.accounts.Accounts.held.Given as goal
 
 abbrev pub invariant-loop-task : goal.invariant-loop-task

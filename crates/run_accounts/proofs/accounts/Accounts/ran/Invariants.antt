@@ -1,5 +1,4 @@
-use Rattle.std.proofs.Common.{◌≡◌, ◌-◌, ◌≤◌}
-use Rattle.run_accounts.specs.Accounts.{went_on}
+use Rattle.run_accounts.proofs.Common.{◌≡◌, ◌-◌, ◌≤◌, went_on}
 use Rattle.run_accounts.proofs.Standings.{Ran}
 use Rattle.run_accounts.proofs.accounts.Accounts.ran.Given as goal
 

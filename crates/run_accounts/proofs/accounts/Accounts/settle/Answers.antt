@@ -1,7 +1,4 @@
-use Rattle.std.proofs.Common.{◌≡◌, ◌∙◌, ap, true, Some, None, slice_get, rules}
-use Rattle.std.proofs.lemmas.Result.{on_ok_weaker}
-use Rattle.hh_model.specs.Step.{is_joined, is_waiting, parents}
-use Rattle.run_ledger.specs.declared.data.Ledger.{Ledger}
+use Rattle.run_accounts.proofs.Common.{◌≡◌, ◌∙◌, ap, true, Some, None, slice_get, rules, on_ok_weaker, is_joined, is_waiting, parents, Ledger}
 use Rattle.run_accounts.proofs.Stepped.{settled_fork}
 use Rattle.run_accounts.proofs.accounts.Accounts.settle.Goals as goal
 

@@ -1,7 +1,4 @@
-use Rattle.std.proofs.Common.{◌≡◌, ◌∙◌, ap, false, is_some, rules}
-use Rattle.run_ledger.specs.Steps.{task_step, is_due, is_in_need}
-use Rattle.next_steps.specs.Own.{is_own}
-use Rattle.run_accounts.specs.Accounts.{AccountsValue}
+use Rattle.run_accounts.proofs.Common.{◌≡◌, ◌∙◌, ap, false, is_some, rules, task_step, is_due, is_in_need, is_own, AccountsValue}
 use Rattle.run_accounts.proofs.Standings.{stood_is}
 use Rattle.run_accounts.proofs.accounts.Accounts.stand.Goals as goal
 

@@ -1,13 +1,8 @@
-use Rattle.std.proofs.Common.{◌≡◌, ◌∙◌, ℕ, Option, None, ap₂, refl, true, rules}
-use Rattle.hh_model.specs.declared.data.Name.{Name}
-use Rattle.run_accounts.specs.Accounts.{used_by}
-use Rattle.run_ledger.specs.Heaps.{heap_of}
-use Rattle.hh_model.specs.Step.{asked, can_step}
+use Rattle.run_accounts.proofs.Common.{◌≡◌, ◌∙◌, ℕ, Option, None, ap₂, refl, true, rules, Name, heap_of, asked, can_step, on_ok_weaker, used_by}
 use Rattle.run_accounts.proofs.Stepped.{allocates_nothing, counts_nothing, steps_by, since_few, stepped_owned, stepped_paired}
-use Rattle.std.proofs.lemmas.Result.{on_ok_weaker}
 use Rattle.run_accounts.proofs.accounts.Accounts.step.Goals as goal
 
--- a step that asks for nothing
+-- a step that doesn't allocate
 
 pub settle-requires-clause-since : goal.settle-requires-clause-since
 settle-requires-clause-since c =

@@ -1,6 +1,4 @@
-use Rattle.std.proofs.Common.{sym, subst}
-use Rattle.std.proofs.lemmas.Bool.{false≢true}
-use Rattle.run_trace.specs.Entry.{IsKind}
+use Rattle.run_journal.proofs.Common.{sym, subst, false≢true, IsKind}
 use Rattle.run_journal.proofs.Opens.{ledger_steady, ledger_stays, opened_after}
 use Rattle.run_journal.proofs.book.Book.apply.Goals as goal
 

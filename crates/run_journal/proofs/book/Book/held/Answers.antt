@@ -1,5 +1,4 @@
-use Rattle.std.proofs.Common.{◌∙◌, ap}
-use Rattle.run_journal.specs.BookValue.{BookValue}
+use Rattle.run_journal.proofs.Common.{◌∙◌, ap, BookValue}
 use Rattle.run_journal.proofs.Opens.{ledger_steady}
 use Rattle.run_journal.proofs.Keeps.{ledger_countable}
 use Rattle.run_journal.proofs.book.Book.held.Goals as goal

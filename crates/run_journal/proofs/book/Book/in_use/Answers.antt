@@ -1,5 +1,4 @@
-use Rattle.std.proofs.Common.{◌∙◌, ap}
-use Rattle.run_journal.specs.BookValue.{BookValue}
+use Rattle.run_journal.proofs.Common.{◌∙◌, ap, BookValue}
 use Rattle.run_journal.proofs.book.Book.in_use.Goals as goal
 
 pub in_use-requires : goal.in_use-requires

@@ -1,6 +1,4 @@
-use Rattle.std.proofs.Common.{◌≡◌, Some, subst, arith}
-use Rattle.log_walk.specs.Value.{WalkValue}
-use Rattle.run_order.specs.Order.{exit_of}
+use Rattle.run_order.proofs.Common.{◌≡◌, Some, subst, arith, WalkValue, exit_of}
 use Rattle.run_order.proofs.Orders.{found_exit}
 use Rattle.run_order.proofs.order.RunOrder.exit.Goals as goal
 

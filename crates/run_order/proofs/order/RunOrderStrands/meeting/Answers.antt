@@ -1,7 +1,4 @@
-use Rattle.std.proofs.Common.{◌<◌, length, ap, sym, subst, ◌∙◌}
-use Rattle.fork_graph.specs.Graph.{tasks_in}
-use Rattle.log_walk.specs.Value.{WalkValue, IsWalked}
-use Rattle.log_walk.specs.Meetings.{IsDepthAt}
+use Rattle.run_order.proofs.Common.{◌<◌, length, ap, sym, subst, ◌∙◌, tasks_in, WalkValue, IsWalked, IsDepthAt}
 use Rattle.run_order.specs.Order.{depth_of, run_order}
 use Rattle.run_order.proofs.Orders.{found_depth}
 use Rattle.run_order.proofs.order.RunOrderStrands.meeting.Goals as goal

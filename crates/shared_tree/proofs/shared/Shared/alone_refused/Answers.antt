@@ -1,14 +1,7 @@
-use Rattle.std.proofs.Common.{◌≡◌, ℕ, true, false, Option, None, is_some, ap, sym, subst, ◌∙◌}
-use Rattle.leaf_collections.specs.below.run_ledger.{Refused, Collecting, refused_if}
-use Rattle.leaf_collections.specs.below.task_machine.{Private}
-use Rattle.leaf_collections.specs.below.shared_value.{first_cause, or_else, SharedValue, Fits, refused}
-use Rattle.leaf_collections.proofs.below.shared_value.{found_first, nothing_first}
-use Rattle.child_tasks.specs.below.own_steps.{IsShared, alone_entry}
-use Rattle.child_tasks.proofs.below.own_steps.{alone_answer}
-use Rattle.shared_tree.specs.contracts.shared.Shared.{the_view}
+use Rattle.shared_tree.proofs.Common.{◌≡◌, ℕ, true, false, Option, None, is_some, ap, sym, subst, ◌∙◌, Refused, Collecting, refused_if, Private, first_cause, or_else, SharedValue, Fits, refused, found_first, nothing_first, IsShared, alone_entry, alone_answer, the_view}
 use Rattle.shared_tree.proofs.shared.Shared.alone_refused.Goals as goal
 
--- as the causes come in turn
+-- in the order of the causes
 abbrev amid : Private → Option Refused
 amid p = refused_if (is_some p.begun) Collecting None
 

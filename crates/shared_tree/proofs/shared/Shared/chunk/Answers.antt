@@ -1,6 +1,4 @@
-use Rattle.std.proofs.Common.{Result, refl, sym, ◌∙◌}
-use Rattle.leaf_collections.specs.below.shared_value.{NotEntered}
-use Rattle.entry_calls.specs.Calls.{GetsChunk}
+use Rattle.shared_tree.proofs.Common.{Result, refl, sym, ◌∙◌, NotEntered, GetsChunk}
 use Rattle.shared_tree.proofs.HandedOn.{for_memory}
 use Rattle.shared_tree.proofs.shared.Shared.chunk.Goals as goal
 

@@ -1,9 +1,4 @@
-use Rattle.std.proofs.Common.{◌≡◌, false, is_some, ap, sym, subst, ◌∙◌}
-use Rattle.leaf_collections.specs.below.run_trace.{Chunk}
-use Rattle.leaf_collections.specs.below.task_machine.{Private}
-use Rattle.leaf_collections.specs.below.shared_value.{SharedValue, chunk_cause, first_cause, refused, Fits, part_asks}
-use Rattle.leaf_collections.proofs.WhyNoChunk.{chunk_answer, first_answer}
-use Rattle.shared_tree.specs.contracts.shared.Shared.{the_view}
+use Rattle.shared_tree.proofs.Common.{◌≡◌, false, is_some, ap, sym, subst, ◌∙◌, Chunk, Private, SharedValue, chunk_cause, first_cause, refused, Fits, part_asks, chunk_answer, first_answer, the_view}
 use Rattle.shared_tree.proofs.shared.Shared.chunk_refused.Goals as goal
 
 pub returns-then-is_some : goal.returns-then-is_some

@@ -1,15 +1,4 @@
-use Rattle.std.proofs.Common.{refl, ◌≡◌, ℕ, ◌-◌, ◌++◌, ◌∷◌, [], List, None, Some, map, arith, ap, sym, subst, ◌∙◌, ◌<◌}
-use Rattle.leaf_collections.specs.below.listed.{RoomyValue}
-use Rattle.leaf_collections.specs.below.run_trace.{EntryValue, Begin}
-use Rattle.leaf_collections.specs.below.object_layout.{small_words, ChunkValue, number_of}
-use Rattle.leaf_collections.specs.below.chunk_pool.{PoolValue}
-use Rattle.leaf_collections.specs.below.alloc_path.{counted, with_places}
-use Rattle.leaf_collections.specs.below.task_machine.{Private}
-use Rattle.leaf_collections.specs.below.shared_value.{SharedValue, IsSharedValue, Fits, OthersFit, take_by, refused, HasBegun, roots_of}
-use Rattle.leaf_collections.proofs.below.shared_value.{journal_by}
-use Rattle.leaf_collections.proofs.BeginEntered.{begin_count, begin_few, begin_free, begins_apart, begins_fit, begins_idle, begins_with, begins_world}
-use Rattle.leaf_collections.proofs.ChunkGiven.{places_fit}
-use Rattle.shared_tree.specs.contracts.shared.Shared.{the_view}
+use Rattle.shared_tree.proofs.Common.{refl, ◌≡◌, ℕ, ◌-◌, ◌++◌, ◌∷◌, [], List, None, Some, map, arith, ap, sym, subst, ◌∙◌, ◌<◌, ReservedVecValue, EntryValue, Begin, small_words, ChunkValue, number_of, PoolValue, counted, with_places, Private, SharedValue, IsSharedValue, Fits, OthersFit, take_by, refused, HasBegun, roots_of, journal_by, begin_count, begin_few, begin_free, begins_apart, begins_fit, begins_idle, begins_with, begins_world, places_fit, the_view}
 use Rattle.shared_tree.proofs.shared.Shared.enter_begin.Goals as goal
 
 -- how many chunks the code takes
@@ -63,7 +52,7 @@ pub push_reserved-requires : goal.push_reserved-requires
 push_reserved-requires c = subst (λ (z : SharedValue). 0 < z.journal.room) (sym c.self.view_is) c.requires.room
 
 -- the journal with the entry, as the call names the task
-entry_so : (j : RoomyValue EntryValue) (k t u : ℕ) → t ≡ u → (x : EntryValue) (j' : RoomyValue EntryValue) → x ≡ record { worker = k; kind = Begin t } → j' ≡ record { items = j.items ++ x ∷ []; room = j.room - 1 }
+entry_so : (j : ReservedVecValue EntryValue) (k t u : ℕ) → t ≡ u → (x : EntryValue) (j' : ReservedVecValue EntryValue) → x ≡ record { worker = k; kind = Begin t } → j' ≡ record { items = j.items ++ x ∷ []; room = j.room - 1 }
     → j' ≡ record { items = j.items ++ record { worker = k; kind = Begin u } ∷ []; room = j.room - 1 }
 entry_so j k t u same x j' is made = journal_by j j' x (record { worker = k; kind = Begin u }) (is ∙ ap (λ n. record { worker = k; kind = Begin n }) same) made
 
@@ -83,7 +72,7 @@ invariant_of-self-2 c =
     let pool : PoolValue = c.begin_with.new.pool in
     let news : List ChunkValue = c.in_ok-to.to.chunks.items in
     let journal : c.push_reserved.new.self ≡ record { items = w.journal.items ++ e ∷ []; room = w.journal.room - 1 } = entry_so w.journal k c.args.task p.task c.requires.task c.new.result c.push_reserved.new.self c.new.ensures c.push_reserved.ensures in
-    subst (λ (j : RoomyValue EntryValue). IsSharedValue (record w { pool = pool; journal = j })) (sym journal)
+    subst (λ (j : ReservedVecValue EntryValue). IsSharedValue (record w { pool = pool; journal = j })) (sym journal)
     (begins_world w k p c.self.invariant F c.requires.fresh free pool news [] p.task n refl count refl c.in_ok-to.ensures.taken c.deref.result.now roots (map number_of news) refl (record { items = []; room = w.journal.room - 1 }))
 
 pub returns-clause-others : goal.returns-clause-others
@@ -103,7 +92,7 @@ returns-clause-others c =
     let news : List ChunkValue = c.in_ok-to.to.chunks.items in
     let journal : c.push_reserved.new.self ≡ record { items = w.journal.items ++ e ∷ []; room = w.journal.room - 1 } = entry_so w.journal k c.args.task p.task c.requires.task c.new.result c.push_reserved.new.self c.new.ensures c.push_reserved.ensures in
     subst (λ (z : SharedValue). OthersFit z (record w { pool = pool; journal = c.push_reserved.new.self }) k) same
-    (subst (λ (j : RoomyValue EntryValue). OthersFit w (record w { pool = pool; journal = j }) k) (sym journal)
+    (subst (λ (j : ReservedVecValue EntryValue). OthersFit w (record w { pool = pool; journal = j }) k) (sym journal)
     (begins_apart w k p c.self.invariant F c.requires.fresh free pool news [] p.task n refl count refl c.in_ok-to.ensures.taken c.deref.result.now roots (map number_of news) refl (record { items = []; room = w.journal.room - 1 })))
 
 pub returns-clause-fits : goal.returns-clause-fits
@@ -124,7 +113,7 @@ returns-clause-fits c =
     let journal : c.push_reserved.new.self ≡ record { items = w.journal.items ++ e ∷ []; room = w.journal.room - 1 } = entry_so w.journal k c.args.task p.task c.requires.task c.new.result c.push_reserved.new.self c.new.ensures c.push_reserved.ensures in
     let q : Private = c.begin_with.new.part in
     subst (λ (x : Private). Fits (record w { pool = pool; journal = c.push_reserved.new.self }) k x) (sym c.in_ok-to.ensures.begun)
-    (subst (λ (j : RoomyValue EntryValue). Fits (record w { pool = pool; journal = j }) k (record p { heap = with_places p.heap q.heap.slots q.heap.spare; begun = Some (record { roots = c.deref.result.now; news = map number_of news }) })) (sym journal)
+    (subst (λ (j : ReservedVecValue EntryValue). Fits (record w { pool = pool; journal = j }) k (record p { heap = with_places p.heap q.heap.slots q.heap.spare; begun = Some (record { roots = c.deref.result.now; news = map number_of news }) })) (sym journal)
     (begins_fit w k p c.self.invariant F c.requires.fresh free pool news [] p.task n refl count refl c.in_ok-to.ensures.taken c.deref.result.now roots (map number_of news) refl (record { items = []; room = w.journal.room - 1 }) q.heap.slots q.heap.spare))
 
 pub returns-clause-begun : goal.returns-clause-begun

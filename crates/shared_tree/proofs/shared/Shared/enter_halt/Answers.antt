@@ -1,11 +1,4 @@
-use Rattle.std.proofs.Common.{◌≡◌, ℕ, ◌-◌, Some, [], sym, subst}
-use Rattle.leaf_collections.specs.below.hh_model.{ended_by, step}
-use Rattle.leaf_collections.specs.below.run_ledger.{Machine}
-use Rattle.leaf_collections.specs.below.task_machine.{Private}
-use Rattle.leaf_collections.specs.below.shared_value.{IsSharedValue, SharedValue}
-use Rattle.child_tasks.specs.below.own_steps.{HaltsAlone, then_accounts}
-use Rattle.child_tasks.proofs.below.own_steps.{AsksAlone, asks_alone, alone_small, halt_world, halts_alone}
-use Rattle.shared_tree.specs.contracts.shared.Shared.{the_view}
+use Rattle.shared_tree.proofs.Common.{◌≡◌, ℕ, ◌-◌, Some, [], sym, subst, ended_by, step, Machine, Private, IsSharedValue, SharedValue, HaltsAlone, then_accounts, AsksAlone, asks_alone, alone_small, halt_world, halts_alone, the_view}
 use Rattle.shared_tree.proofs.StepsEntered.{along}
 use Rattle.shared_tree.proofs.shared.Shared.enter_halt.Goals as goal
 

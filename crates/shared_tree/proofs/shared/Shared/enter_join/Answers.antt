@@ -1,27 +1,5 @@
-use Rattle.std.proofs.Common.{◌≡◌, ◌<◌, ℕ, ◌+◌, ◌-◌, arith, Some, None, List, [], length, length-set, slice_get, slice_set, refl, ap, sym, subst, ◌∙◌}
-use Rattle.std.specs.Prelude.{IsSome}
-use Rattle.leaf_collections.specs.below.listed.{RoomyValue}
-use Rattle.leaf_collections.proofs.below.listed.{if_none}
-use Rattle.leaf_collections.specs.below.run_trace.{EntryValue}
-use Rattle.leaf_collections.specs.below.chunk_pool.{PoolValue}
-use Rattle.leaf_collections.specs.below.heap_tree.{Ended, Node, parent_of, state_of, with_state, sibling}
-use Rattle.leaf_collections.specs.below.remembered_set.{RememberedValue}
-use Rattle.leaf_collections.specs.below.write_barrier.{SetOf}
-use Rattle.leaf_collections.specs.below.fork_join.{EndedChild, joined_nodes}
-use Rattle.leaf_collections.specs.below.task_machine.{Private}
-use Rattle.leaf_collections.specs.below.task_homes.{Home, Rest, HomesValue}
-use Rattle.leaf_collections.specs.below.shared_value.{SharedValue, rest_at, IsSharedValue}
-use Rattle.leaf_collections.proofs.below.shared_value.{four_changed}
-use Rattle.child_tasks.proofs.below.own_steps.{alone_small}
-use Rattle.child_tasks.specs.ChildEnds.{EndsChild}
-use Rattle.child_tasks.specs.Joins.{CanJoin, HasPlaces, parent_side}
-use Rattle.child_tasks.proofs.ChildReturns.{AsksEnd, asked_alone, asks_end, own_made, parent_low}
-use Rattle.child_tasks.proofs.NextStepForks.{few_tasks}
-use Rattle.child_tasks.proofs.JoinEntries as entry
-use Rattle.child_tasks.proofs.JoinEntries.{other_made}
-use Rattle.child_tasks.proofs.JoinTakes.{left_by}
-use Rattle.child_tasks.proofs.JoinValue.{Put, Taken, both_made, can_join}
-use Rattle.shared_tree.specs.contracts.shared.Shared.{the_view}
+use Rattle.shared_tree.proofs.Common.{◌≡◌, ◌<◌, ℕ, ◌+◌, ◌-◌, arith, Some, None, List, [], length, length-set, slice_get, slice_set, refl, ap, sym, subst, ◌∙◌, IsSome, ReservedVecValue, if_none, EntryValue, PoolValue, Ended, TaskNode, parent_of, state_of, with_state, sibling, RememberedValue, SetOf, EndedChild, joined_nodes, Private, TaskSlot, ParkedTask, TaskSlotsValue, SharedValue, rest_at, IsSharedValue, four_changed, alone_small, EndsChild, CanJoin, HasPlaces, parent_side, AsksEnd, asked_alone, asks_end, own_made, parent_low, few_tasks, other_made, left_by, Put, Taken, both_made, can_join, the_view}
+use Rattle.fork_join_commit.proofs.JoinEntries as entry
 use Rattle.shared_tree.proofs.StepsEntered.{along, entered}
 use Rattle.shared_tree.proofs.shared.Shared.enter_join.Goals as goal
 
@@ -64,7 +42,7 @@ leave-requires-2 c =
     let made = other_made asks ended in
     let o = c.sibling_of-other.ensures in
     let n = asks.I.made in
-    let m : length c.leave.new.self.rests ≡ length w.rests = ap (λ (z : HomesValue). length z.rests) c.leave.ensures.homes ∙ length-set w.rests p.task None in
+    let m : length c.leave.new.self.rests ≡ length w.rests = ap (λ (z : TaskSlotsValue). length z.rests) c.leave.ensures.task_slots ∙ length-set w.rests p.task None in
     record { made = omega (arith, made, o, n, m) }
 
 pub take_rest-above-requires : goal.take_rest-above-requires
@@ -74,9 +52,9 @@ take_rest-above-requires c =
     let asks = asks_end c.self.view_is c.self.invariant c.requires.fits c.requires.ends c.requires.free in
     let ended : state_of w.tree (sibling p.task) ≡ Some Ended = subst (λ (z : SharedValue). state_of z.tree (sibling p.task) ≡ Some Ended) (sym c.self.view_is) c.requires.ended in
     let par : parent_of w.tree p.task ≡ Some c.args.parent = subst (λ (z : SharedValue). parent_of z.tree p.task ≡ Some c.args.parent) (sym c.self.view_is) c.requires.parent in
-    let h : HomesValue = c.self.inside.heaps.homes in
-    let two : c.leave-2.new.self ≡ left_by (left_by h p.task) c.sibling_of-other.result = c.leave-2.ensures.homes ∙ ap (λ (z : HomesValue). left_by z c.sibling_of-other.result) c.leave.ensures.homes in
-    record { there = subst (λ (z : HomesValue). IsSome (rest_at z.rests c.args.parent)) (sym two) (entry.parent_stays asks ended c.args.parent c.sibling_of-other.result par c.sibling_of-other.ensures) }
+    let h : TaskSlotsValue = c.self.inside.heaps.task_slots in
+    let two : c.leave-2.new.self ≡ left_by (left_by h p.task) c.sibling_of-other.result = c.leave-2.ensures.task_slots ∙ ap (λ (z : TaskSlotsValue). left_by z c.sibling_of-other.result) c.leave.ensures.task_slots in
+    record { there = subst (λ (z : TaskSlotsValue). IsSome (rest_at z.rests c.args.parent)) (sym two) (entry.parent_stays asks ended c.args.parent c.sibling_of-other.result par c.sibling_of-other.ensures) }
 
 pub take_set-requires : goal.take_set-requires
 take_set-requires c = record { block = c.take_rest-above.ensures.block }
@@ -90,34 +68,34 @@ join_children-rest-requires-clause-work c =
     let par : parent_of w.tree p.task ≡ Some c.args.parent = subst (λ (z : SharedValue). parent_of z.tree p.task ≡ Some c.args.parent) (sym c.self.view_is) c.requires.parent in
     let places : HasPlaces w p c.args.parent = subst (λ (z : SharedValue). HasPlaces z p c.args.parent) (sym c.self.view_is) c.requires.places in
     let o : c.sibling_of-other.result ≡ sibling p.task = c.sibling_of-other.ensures in
-    let h : HomesValue = c.self.inside.heaps.homes in
-    let h1 : HomesValue = c.leave.new.self in
-    let h2 : HomesValue = c.leave-2.new.self in
-    let h3 : HomesValue = c.take_rest-above.new.self in
-    let h4 : HomesValue = c.take_set.new.self in
-    let home : Home = c.leave.result in
-    let beside : Home = c.leave-2.result in
-    let above : Rest = c.take_rest-above.result in
+    let h : TaskSlotsValue = c.self.inside.heaps.task_slots in
+    let h1 : TaskSlotsValue = c.leave.new.self in
+    let h2 : TaskSlotsValue = c.leave-2.new.self in
+    let h3 : TaskSlotsValue = c.take_rest-above.new.self in
+    let h4 : TaskSlotsValue = c.take_set.new.self in
+    let slot : TaskSlot = c.leave.result in
+    let beside : TaskSlot = c.leave-2.result in
+    let above : ParkedTask = c.take_rest-above.result in
     let set : SetOf = c.take_set.result in
     let notes : RememberedValue = c.into_parts-noted.result.0 in
     let own : EndedChild = c.own_child-own.result in
     let oth : EndedChild = c.other_child-beside.result in
     let left : EndedChild = c.in_order-children.result.0 in
     let right : EndedChild = c.in_order-children.result.1 in
-    let T : Taken w p c.args.parent c.sibling_of-other.result h h1 h2 h3 h4 home beside above set notes own oth left right = record {
+    let T : Taken w p c.args.parent c.sibling_of-other.result h h1 h2 h3 h4 slot beside above set notes own oth left right = record {
       rests_are = refl;
       sets_are = refl;
       marks_are = refl;
-      homes = record {
+      task_slots = record {
         own_set = c.leave.ensures.set;
-        own_left = c.leave.ensures.homes;
+        own_left = c.leave.ensures.task_slots;
         beside_rest = c.leave-2.ensures.rest;
         beside_set = c.leave-2.ensures.set;
-        beside_left = c.leave-2.ensures.homes;
+        beside_left = c.leave-2.ensures.task_slots;
         above_is = c.take_rest-above.ensures.rest;
-        rest_taken = c.take_rest-above.ensures.homes;
+        rest_taken = c.take_rest-above.ensures.task_slots;
         set_is = c.take_set.ensures.set;
-        set_taken = c.take_set.ensures.homes;
+        set_taken = c.take_set.ensures.task_slots;
       };
       notes_are = c.into_parts-noted.ensures.remembered;
       own_is = c.own_child-own.ensures;
@@ -125,7 +103,7 @@ join_children-rest-requires-clause-work c =
       left_is = c.in_order-children.ensures.left;
       right_is = c.in_order-children.ensures.right;
     } in
-    (can_join asks ended c.args.parent c.sibling_of-other.result par o h h1 h2 h3 h4 home beside above set notes own oth left right T places).0
+    (can_join asks ended c.args.parent c.sibling_of-other.result par o h h1 h2 h3 h4 slot beside above set notes own oth left right T places).0
 
 pub join_children-rest-requires-clause-can : goal.join_children-rest-requires-clause-can
 join_children-rest-requires-clause-can c =
@@ -136,34 +114,34 @@ join_children-rest-requires-clause-can c =
     let par : parent_of w.tree p.task ≡ Some c.args.parent = subst (λ (z : SharedValue). parent_of z.tree p.task ≡ Some c.args.parent) (sym c.self.view_is) c.requires.parent in
     let places : HasPlaces w p c.args.parent = subst (λ (z : SharedValue). HasPlaces z p c.args.parent) (sym c.self.view_is) c.requires.places in
     let o : c.sibling_of-other.result ≡ sibling p.task = c.sibling_of-other.ensures in
-    let h : HomesValue = c.self.inside.heaps.homes in
-    let h1 : HomesValue = c.leave.new.self in
-    let h2 : HomesValue = c.leave-2.new.self in
-    let h3 : HomesValue = c.take_rest-above.new.self in
-    let h4 : HomesValue = c.take_set.new.self in
-    let home : Home = c.leave.result in
-    let beside : Home = c.leave-2.result in
-    let above : Rest = c.take_rest-above.result in
+    let h : TaskSlotsValue = c.self.inside.heaps.task_slots in
+    let h1 : TaskSlotsValue = c.leave.new.self in
+    let h2 : TaskSlotsValue = c.leave-2.new.self in
+    let h3 : TaskSlotsValue = c.take_rest-above.new.self in
+    let h4 : TaskSlotsValue = c.take_set.new.self in
+    let slot : TaskSlot = c.leave.result in
+    let beside : TaskSlot = c.leave-2.result in
+    let above : ParkedTask = c.take_rest-above.result in
     let set : SetOf = c.take_set.result in
     let notes : RememberedValue = c.into_parts-noted.result.0 in
     let own : EndedChild = c.own_child-own.result in
     let oth : EndedChild = c.other_child-beside.result in
     let left : EndedChild = c.in_order-children.result.0 in
     let right : EndedChild = c.in_order-children.result.1 in
-    let T : Taken w p c.args.parent c.sibling_of-other.result h h1 h2 h3 h4 home beside above set notes own oth left right = record {
+    let T : Taken w p c.args.parent c.sibling_of-other.result h h1 h2 h3 h4 slot beside above set notes own oth left right = record {
       rests_are = refl;
       sets_are = refl;
       marks_are = refl;
-      homes = record {
+      task_slots = record {
         own_set = c.leave.ensures.set;
-        own_left = c.leave.ensures.homes;
+        own_left = c.leave.ensures.task_slots;
         beside_rest = c.leave-2.ensures.rest;
         beside_set = c.leave-2.ensures.set;
-        beside_left = c.leave-2.ensures.homes;
+        beside_left = c.leave-2.ensures.task_slots;
         above_is = c.take_rest-above.ensures.rest;
-        rest_taken = c.take_rest-above.ensures.homes;
+        rest_taken = c.take_rest-above.ensures.task_slots;
         set_is = c.take_set.ensures.set;
-        set_taken = c.take_set.ensures.homes;
+        set_taken = c.take_set.ensures.task_slots;
       };
       notes_are = c.into_parts-noted.ensures.remembered;
       own_is = c.own_child-own.ensures;
@@ -171,19 +149,19 @@ join_children-rest-requires-clause-can c =
       left_is = c.in_order-children.ensures.left;
       right_is = c.in_order-children.ensures.right;
     } in
-    subst (λ (ns : List Node). CanJoin ns w.pool (parent_side c.args.parent above notes) left right) (sym c.set_state.ensures)
-    (can_join asks ended c.args.parent c.sibling_of-other.result par o h h1 h2 h3 h4 home beside above set notes own oth left right T places).1
+    subst (λ (ns : List TaskNode). CanJoin ns w.pool (parent_side c.args.parent above notes) left right) (sym c.set_state.ensures)
+    (can_join asks ended c.args.parent c.sibling_of-other.result par o h h1 h2 h3 h4 slot beside above set notes own oth left right T places).1
 
 pub remembering-set-requires : goal.remembering-set-requires
 remembering-set-requires c =
     if_none c.into_parts-noted.result.1 _ _ c.join_children-rest.ensures.none c.into_parts-noted.ensures.bare
 
 pub put_rest-requires : goal.put_rest-requires
-put_rest-requires c = record { block = ap (λ (z : HomesValue). slice_get z.blocks c.args.parent) c.take_set.ensures.homes ∙ c.take_rest-above.ensures.block }
+put_rest-requires c = record { block = ap (λ (z : TaskSlotsValue). slice_get z.blocks c.args.parent) c.take_set.ensures.task_slots ∙ c.take_rest-above.ensures.block }
 
 pub put_set-requires : goal.put_set-requires
 put_set-requires c =
-    record { block = ap (λ (z : HomesValue). slice_get z.blocks c.args.parent) c.put_rest.ensures ∙ (ap (λ (z : HomesValue). slice_get z.blocks c.args.parent) c.take_set.ensures.homes ∙ c.take_rest-above.ensures.block) }
+    record { block = ap (λ (z : TaskSlotsValue). slice_get z.blocks c.args.parent) c.put_rest.ensures ∙ (ap (λ (z : TaskSlotsValue). slice_get z.blocks c.args.parent) c.take_set.ensures.task_slots ∙ c.take_rest-above.ensures.block) }
 
 pub invariant_of-self : goal.invariant_of-self
 invariant_of-self c =
@@ -194,34 +172,34 @@ invariant_of-self c =
     let ended : state_of w.tree (sibling p.task) ≡ Some Ended = subst (λ (z : SharedValue). state_of z.tree (sibling p.task) ≡ Some Ended) (sym c.self.view_is) c.requires.ended in
     let par : parent_of w.tree p.task ≡ Some c.args.parent = subst (λ (z : SharedValue). parent_of z.tree p.task ≡ Some c.args.parent) (sym c.self.view_is) c.requires.parent in
     let o : c.sibling_of-other.result ≡ sibling p.task = c.sibling_of-other.ensures in
-    let h : HomesValue = c.self.inside.heaps.homes in
-    let h1 : HomesValue = c.leave.new.self in
-    let h2 : HomesValue = c.leave-2.new.self in
-    let h3 : HomesValue = c.take_rest-above.new.self in
-    let h4 : HomesValue = c.take_set.new.self in
-    let home : Home = c.leave.result in
-    let beside : Home = c.leave-2.result in
-    let above : Rest = c.take_rest-above.result in
+    let h : TaskSlotsValue = c.self.inside.heaps.task_slots in
+    let h1 : TaskSlotsValue = c.leave.new.self in
+    let h2 : TaskSlotsValue = c.leave-2.new.self in
+    let h3 : TaskSlotsValue = c.take_rest-above.new.self in
+    let h4 : TaskSlotsValue = c.take_set.new.self in
+    let slot : TaskSlot = c.leave.result in
+    let beside : TaskSlot = c.leave-2.result in
+    let above : ParkedTask = c.take_rest-above.result in
     let set : SetOf = c.take_set.result in
     let notes : RememberedValue = c.into_parts-noted.result.0 in
     let own : EndedChild = c.own_child-own.result in
     let oth : EndedChild = c.other_child-beside.result in
     let left : EndedChild = c.in_order-children.result.0 in
     let right : EndedChild = c.in_order-children.result.1 in
-    let T : Taken w p c.args.parent c.sibling_of-other.result h h1 h2 h3 h4 home beside above set notes own oth left right = record {
+    let T : Taken w p c.args.parent c.sibling_of-other.result h h1 h2 h3 h4 slot beside above set notes own oth left right = record {
       rests_are = refl;
       sets_are = refl;
       marks_are = refl;
-      homes = record {
+      task_slots = record {
         own_set = c.leave.ensures.set;
-        own_left = c.leave.ensures.homes;
+        own_left = c.leave.ensures.task_slots;
         beside_rest = c.leave-2.ensures.rest;
         beside_set = c.leave-2.ensures.set;
-        beside_left = c.leave-2.ensures.homes;
+        beside_left = c.leave-2.ensures.task_slots;
         above_is = c.take_rest-above.ensures.rest;
-        rest_taken = c.take_rest-above.ensures.homes;
+        rest_taken = c.take_rest-above.ensures.task_slots;
         set_is = c.take_set.ensures.set;
-        set_taken = c.take_set.ensures.homes;
+        set_taken = c.take_set.ensures.task_slots;
       };
       notes_are = c.into_parts-noted.ensures.remembered;
       own_is = c.own_child-own.ensures;
@@ -229,21 +207,21 @@ invariant_of-self c =
       left_is = c.in_order-children.ensures.left;
       right_is = c.in_order-children.ensures.right;
     } in
-    let rest : Rest = c.join_children-rest.result.0 in
+    let rest : ParkedTask = c.join_children-rest.result.0 in
     let noted : RememberedValue = c.join_children-rest.result.1 in
     let pool : PoolValue = c.join_children-rest.new.pool in
     let put : SetOf = c.remembering-set.result in
-    let h5 : HomesValue = c.put_rest.new.self in
-    let h6 : HomesValue = c.put_set.new.self in
+    let h5 : TaskSlotsValue = c.put_rest.new.self in
+    let h6 : TaskSlotsValue = c.put_set.new.self in
     let P : Put w c.args.parent h4 h5 h6 notes above left right pool rest noted put = record {
       pool_is = c.join_children-rest.ensures.pool;
       side = c.join_children-rest.ensures.side;
       rest_is = c.join_children-rest.ensures.rest;
-      homes = record { rest_put = c.put_rest.ensures; set_put = c.put_set.ensures };
+      task_slots = record { rest_put = c.put_rest.ensures; set_put = c.put_set.ensures };
       put_is = c.remembering-set.ensures;
     } in
-    let j : RoomyValue EntryValue = record { items = []; room = w.journal.room - 1 } in
-    let both = both_made asks ended c.args.parent c.sibling_of-other.result par o h h1 h2 h3 h4 home beside above set notes own oth left right pool rest noted h5 h6 put j T P in
+    let j : ReservedVecValue EntryValue = record { items = []; room = w.journal.room - 1 } in
+    let both = both_made asks ended c.args.parent c.sibling_of-other.result par o h h1 h2 h3 h4 slot beside above set notes own oth left right pool rest noted h5 h6 put j T P in
     let v : SharedValue = record w { pool = pool; sets = h6.sets; marks = h6.marks; steps = w.steps + (p.fresh + 1) } in
     let tree : c.join_children-rest.new.tree ≡ joined_nodes (with_state w.tree p.task Ended) c.args.parent left.side.task right.side.task = c.join_children-rest.ensures.tree ∙ ap (λ ns. joined_nodes ns c.args.parent left.side.task right.side.task) c.set_state.ensures in
     let same = four_changed v (joined_nodes (with_state w.tree p.task Ended) c.args.parent left.side.task right.side.task) c.join_children-rest.new.tree h6.rests h6.rests (slice_set w.tasks_out k None) c.set.new.self (entered w k p) _ tree refl c.set.ensures refl in
@@ -258,34 +236,34 @@ returns-clause-joined c =
     let ended : state_of w.tree (sibling p.task) ≡ Some Ended = subst (λ (z : SharedValue). state_of z.tree (sibling p.task) ≡ Some Ended) (sym c.self.view_is) c.requires.ended in
     let par : parent_of w.tree p.task ≡ Some c.args.parent = subst (λ (z : SharedValue). parent_of z.tree p.task ≡ Some c.args.parent) (sym c.self.view_is) c.requires.parent in
     let o : c.sibling_of-other.result ≡ sibling p.task = c.sibling_of-other.ensures in
-    let h : HomesValue = c.self.inside.heaps.homes in
-    let h1 : HomesValue = c.leave.new.self in
-    let h2 : HomesValue = c.leave-2.new.self in
-    let h3 : HomesValue = c.take_rest-above.new.self in
-    let h4 : HomesValue = c.take_set.new.self in
-    let home : Home = c.leave.result in
-    let beside : Home = c.leave-2.result in
-    let above : Rest = c.take_rest-above.result in
+    let h : TaskSlotsValue = c.self.inside.heaps.task_slots in
+    let h1 : TaskSlotsValue = c.leave.new.self in
+    let h2 : TaskSlotsValue = c.leave-2.new.self in
+    let h3 : TaskSlotsValue = c.take_rest-above.new.self in
+    let h4 : TaskSlotsValue = c.take_set.new.self in
+    let slot : TaskSlot = c.leave.result in
+    let beside : TaskSlot = c.leave-2.result in
+    let above : ParkedTask = c.take_rest-above.result in
     let set : SetOf = c.take_set.result in
     let notes : RememberedValue = c.into_parts-noted.result.0 in
     let own : EndedChild = c.own_child-own.result in
     let oth : EndedChild = c.other_child-beside.result in
     let left : EndedChild = c.in_order-children.result.0 in
     let right : EndedChild = c.in_order-children.result.1 in
-    let T : Taken w p c.args.parent c.sibling_of-other.result h h1 h2 h3 h4 home beside above set notes own oth left right = record {
+    let T : Taken w p c.args.parent c.sibling_of-other.result h h1 h2 h3 h4 slot beside above set notes own oth left right = record {
       rests_are = refl;
       sets_are = refl;
       marks_are = refl;
-      homes = record {
+      task_slots = record {
         own_set = c.leave.ensures.set;
-        own_left = c.leave.ensures.homes;
+        own_left = c.leave.ensures.task_slots;
         beside_rest = c.leave-2.ensures.rest;
         beside_set = c.leave-2.ensures.set;
-        beside_left = c.leave-2.ensures.homes;
+        beside_left = c.leave-2.ensures.task_slots;
         above_is = c.take_rest-above.ensures.rest;
-        rest_taken = c.take_rest-above.ensures.homes;
+        rest_taken = c.take_rest-above.ensures.task_slots;
         set_is = c.take_set.ensures.set;
-        set_taken = c.take_set.ensures.homes;
+        set_taken = c.take_set.ensures.task_slots;
       };
       notes_are = c.into_parts-noted.ensures.remembered;
       own_is = c.own_child-own.ensures;
@@ -293,21 +271,21 @@ returns-clause-joined c =
       left_is = c.in_order-children.ensures.left;
       right_is = c.in_order-children.ensures.right;
     } in
-    let rest : Rest = c.join_children-rest.result.0 in
+    let rest : ParkedTask = c.join_children-rest.result.0 in
     let noted : RememberedValue = c.join_children-rest.result.1 in
     let pool : PoolValue = c.join_children-rest.new.pool in
     let put : SetOf = c.remembering-set.result in
-    let h5 : HomesValue = c.put_rest.new.self in
-    let h6 : HomesValue = c.put_set.new.self in
+    let h5 : TaskSlotsValue = c.put_rest.new.self in
+    let h6 : TaskSlotsValue = c.put_set.new.self in
     let P : Put w c.args.parent h4 h5 h6 notes above left right pool rest noted put = record {
       pool_is = c.join_children-rest.ensures.pool;
       side = c.join_children-rest.ensures.side;
       rest_is = c.join_children-rest.ensures.rest;
-      homes = record { rest_put = c.put_rest.ensures; set_put = c.put_set.ensures };
+      task_slots = record { rest_put = c.put_rest.ensures; set_put = c.put_set.ensures };
       put_is = c.remembering-set.ensures;
     } in
-    let j : RoomyValue EntryValue = record { items = []; room = w.journal.room - 1 } in
-    let both = both_made asks ended c.args.parent c.sibling_of-other.result par o h h1 h2 h3 h4 home beside above set notes own oth left right pool rest noted h5 h6 put j T P in
+    let j : ReservedVecValue EntryValue = record { items = []; room = w.journal.room - 1 } in
+    let both = both_made asks ended c.args.parent c.sibling_of-other.result par o h h1 h2 h3 h4 slot beside above set notes own oth left right pool rest noted h5 h6 put j T P in
     let v : SharedValue = record w { pool = pool; sets = h6.sets; marks = h6.marks; steps = w.steps + (p.fresh + 1) } in
     let tree : c.join_children-rest.new.tree ≡ joined_nodes (with_state w.tree p.task Ended) c.args.parent left.side.task right.side.task = c.join_children-rest.ensures.tree ∙ ap (λ ns. joined_nodes ns c.args.parent left.side.task right.side.task) c.set_state.ensures in
     let same = four_changed v (joined_nodes (with_state w.tree p.task Ended) c.args.parent left.side.task right.side.task) c.join_children-rest.new.tree h6.rests h6.rests (slice_set w.tasks_out k None) c.set.new.self (entered w k p) _ tree refl c.set.ensures refl in

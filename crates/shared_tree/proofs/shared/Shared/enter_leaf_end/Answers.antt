@@ -1,26 +1,10 @@
-use Rattle.std.proofs.Common.{◌≡◌, ℕ, All, None, Option, fold, is_some, slice_get, true, refl, ap, sym, subst, ◌∙◌, ◌<◌}
-use Rattle.std.specs.Prelude.{IsSome}
-use Rattle.leaf_collections.specs.below.listed.{RoomyValue}
-use Rattle.leaf_collections.proofs.below.listed.{all_from}
-use Rattle.leaf_collections.specs.below.run_trace.{EntryValue}
-use Rattle.leaf_collections.specs.below.object_layout.{ChunkValue}
-use Rattle.leaf_collections.specs.below.chunk_pool.{PoolValue, slot_at}
-use Rattle.leaf_collections.specs.below.remembered_set.{redirected, AreInOrder, ArePlaces, StandOnce}
-use Rattle.leaf_collections.specs.below.leaf_copy_gc.{Moved}
-use Rattle.leaf_collections.specs.below.inner_mark_gc.{AreGiven}
-use Rattle.leaf_collections.specs.below.task_machine.{Private}
-use Rattle.leaf_collections.specs.below.task_homes.{Heaps, Resting, refs_in, with_ref_in, with_resting}
-use Rattle.leaf_collections.specs.below.shared_value.{SharedValue, IsSharedValue, Fits, OthersFit, Enters, refused, heaps_of, sources_of}
-use Rattle.leaf_collections.proofs.below.shared_value.{journal_by}
-use Rattle.leaf_collections.specs.LeafEnd.{FitsCopied, end_entry, ended}
-use Rattle.leaf_collections.proofs.CollectionEnds.{are_fields, back_in_use, fits_so, has_home, others_so, pool_same, world_so}
-use Rattle.shared_tree.specs.contracts.shared.Shared.{the_view}
+use Rattle.shared_tree.proofs.Common.{◌≡◌, ℕ, All, None, Option, fold, is_some, slice_get, true, refl, ap, sym, subst, ◌∙◌, ◌<◌, IsSome, ReservedVecValue, all_from, EntryValue, ChunkValue, PoolValue, slot_at, redirected, AreInOrder, ArePlaces, StandOnce, Moved, AreGiven, Private, Heaps, Resting, refs_in, with_ref_in, with_resting, SharedValue, IsSharedValue, Fits, OthersFit, Enters, refused, heaps_of, sources_of, journal_by, FitsCopied, end_entry, ended, are_fields, back_in_use, fits_so, has_slot, others_so, pool_same, world_so, the_view}
 use Rattle.shared_tree.proofs.shared.Shared.enter_leaf_end.Goals as goal
 
 some_is : {A : Type 0} (o : Option A) → is_some o ≡ true → IsSome o
 some_is o e = e
 
--- what the fields are led to
+-- the heaps after the fields are updated
 abbrev led_heaps : SharedValue → Private → Moved → Resting
 led_heaps w p m = fold (redirected refs_in with_ref_in m.moved.items) (heaps_of w) (sources_of (slice_get w.sets p.task))
 
@@ -32,7 +16,7 @@ lead-requires-clause-made c =
     let m : Moved = c.args.moved in
     let F : FitsCopied w k p m = subst (λ (z : SharedValue). FitsCopied z k p m) (sym c.self.view_is) c.requires.fits in
     let free : refused w (end_entry k p m) ≡ None = subst (λ (z : SharedValue). refused z (end_entry k p m) ≡ None) (sym c.self.view_is) c.requires.free in
-    has_home w k p m c.self.invariant F free
+    has_slot w k p m c.self.invariant F free
 
 pub lead-requires-clause-fields : goal.lead-requires-clause-fields
 lead-requires-clause-fields c =
@@ -68,7 +52,7 @@ invariant_of-self c =
     let led : c.lead.new.heaps ≡ with_resting c.self.inside.heaps (led_heaps w p m) = c.lead.ensures.led ∙ ap (λ ms. with_resting c.self.inside.heaps (fold (redirected refs_in with_ref_in ms) (heaps_of w) (sources_of (slice_get w.sets p.task)))) c.deref.ensures.value in
     let once : StandOnce (sources_of (slice_get w.sets p.task)) = c.lead.ensures.once in
     let given : AreGiven (led_heaps w p m).pool c.give_all.new.pool m.back.items = subst (λ (z : PoolValue). AreGiven z c.give_all.new.pool m.back.items) (ap (λ (h : Heaps). h.pool) led ∙ sym (pool_same w k p m c.self.invariant F free (led_heaps w p m) refl once)) c.give_all.ensures in
-    subst (λ (h : Heaps). IsSharedValue (record w { pool = c.give_all.new.pool; rests = h.homes.rests; sets = h.homes.sets; marks = h.homes.marks; journal = c.push_reserved.new.self })) (sym led)
+    subst (λ (h : Heaps). IsSharedValue (record w { pool = c.give_all.new.pool; rests = h.task_slots.rests; sets = h.task_slots.sets; marks = h.task_slots.marks; journal = c.push_reserved.new.self })) (sym led)
     (world_so w k p m c.self.invariant F free (led_heaps w p m) refl once c.give_all.new.pool given c.push_reserved.new.self (journal_by w.journal _ _ (end_entry k p m) c.new.ensures c.push_reserved.ensures))
 
 pub returns-clause-fits : goal.returns-clause-fits
@@ -82,7 +66,7 @@ returns-clause-fits c =
     let led : c.lead.new.heaps ≡ with_resting c.self.inside.heaps (led_heaps w p m) = c.lead.ensures.led ∙ ap (λ ms. with_resting c.self.inside.heaps (fold (redirected refs_in with_ref_in ms) (heaps_of w) (sources_of (slice_get w.sets p.task)))) c.deref.ensures.value in
     let once : StandOnce (sources_of (slice_get w.sets p.task)) = c.lead.ensures.once in
     let given : AreGiven (led_heaps w p m).pool c.give_all.new.pool m.back.items = subst (λ (z : PoolValue). AreGiven z c.give_all.new.pool m.back.items) (ap (λ (h : Heaps). h.pool) led ∙ sym (pool_same w k p m c.self.invariant F free (led_heaps w p m) refl once)) c.give_all.ensures in
-    subst (λ (h : Heaps). Fits (record w { pool = c.give_all.new.pool; rests = h.homes.rests; sets = h.homes.sets; marks = h.homes.marks; journal = c.push_reserved.new.self }) k (ended p)) (sym led)
+    subst (λ (h : Heaps). Fits (record w { pool = c.give_all.new.pool; rests = h.task_slots.rests; sets = h.task_slots.sets; marks = h.task_slots.marks; journal = c.push_reserved.new.self }) k (ended p)) (sym led)
     (fits_so w k p m c.self.invariant F free (led_heaps w p m) refl once c.give_all.new.pool given c.push_reserved.new.self (journal_by w.journal _ _ (end_entry k p m) c.new.ensures c.push_reserved.ensures))
 
 pub returns-clause-others : goal.returns-clause-others
@@ -96,16 +80,16 @@ returns-clause-others c =
     let led : c.lead.new.heaps ≡ with_resting c.self.inside.heaps (led_heaps w p m) = c.lead.ensures.led ∙ ap (λ ms. with_resting c.self.inside.heaps (fold (redirected refs_in with_ref_in ms) (heaps_of w) (sources_of (slice_get w.sets p.task)))) c.deref.ensures.value in
     let once : StandOnce (sources_of (slice_get w.sets p.task)) = c.lead.ensures.once in
     let given : AreGiven (led_heaps w p m).pool c.give_all.new.pool m.back.items = subst (λ (z : PoolValue). AreGiven z c.give_all.new.pool m.back.items) (ap (λ (h : Heaps). h.pool) led ∙ sym (pool_same w k p m c.self.invariant F free (led_heaps w p m) refl once)) c.give_all.ensures in
-    subst (λ (z : SharedValue). OthersFit z (record w { pool = c.give_all.new.pool; rests = c.lead.new.heaps.homes.rests; sets = c.lead.new.heaps.homes.sets; marks = c.lead.new.heaps.homes.marks; journal = c.push_reserved.new.self }) k) c.self.view_is
-    (subst (λ (h : Heaps). OthersFit w (record w { pool = c.give_all.new.pool; rests = h.homes.rests; sets = h.homes.sets; marks = h.homes.marks; journal = c.push_reserved.new.self }) k) (sym led)
+    subst (λ (z : SharedValue). OthersFit z (record w { pool = c.give_all.new.pool; rests = c.lead.new.heaps.task_slots.rests; sets = c.lead.new.heaps.task_slots.sets; marks = c.lead.new.heaps.task_slots.marks; journal = c.push_reserved.new.self }) k) c.self.view_is
+    (subst (λ (h : Heaps). OthersFit w (record w { pool = c.give_all.new.pool; rests = h.task_slots.rests; sets = h.task_slots.sets; marks = h.task_slots.marks; journal = c.push_reserved.new.self }) k) (sym led)
     (others_so w k p m c.self.invariant F free (led_heaps w p m) refl once c.give_all.new.pool given c.push_reserved.new.self (journal_by w.journal _ _ (end_entry k p m) c.new.ensures c.push_reserved.ensures)))
 
 pub returns-clause-enters : goal.returns-clause-enters
 returns-clause-enters c =
     let w : SharedValue = the_view c.self.inside in
     let e : EntryValue = end_entry c.args.worker c.args.part.now c.args.moved in
-    subst (λ (z : SharedValue). Enters z (record w { pool = c.give_all.new.pool; rests = c.lead.new.heaps.homes.rests; sets = c.lead.new.heaps.homes.sets; marks = c.lead.new.heaps.homes.marks; journal = c.push_reserved.new.self }) e) c.self.view_is
-    (record { journal = ap (λ (j : RoomyValue EntryValue). j.items) (journal_by w.journal _ _ e c.new.ensures c.push_reserved.ensures); program = refl; settings = refl; halted = refl })
+    subst (λ (z : SharedValue). Enters z (record w { pool = c.give_all.new.pool; rests = c.lead.new.heaps.task_slots.rests; sets = c.lead.new.heaps.task_slots.sets; marks = c.lead.new.heaps.task_slots.marks; journal = c.push_reserved.new.self }) e) c.self.view_is
+    (record { journal = ap (λ (j : ReservedVecValue EntryValue). j.items) (journal_by w.journal _ _ e c.new.ensures c.push_reserved.ensures); program = refl; settings = refl; halted = refl })
 
 pub push_reserved-requires : goal.push_reserved-requires
 push_reserved-requires c = subst (λ (z : SharedValue). 0 < z.journal.room) (sym c.self.view_is) c.requires.room

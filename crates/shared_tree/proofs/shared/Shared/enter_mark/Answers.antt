@@ -1,17 +1,5 @@
-use Rattle.std.proofs.Common.{◌≡◌, ℕ, ◌-◌, ◌++◌, ◌∷◌, [], List, Option, None, Some, is_some, slice_set, ap, sym, subst, ◌∙◌, ◌<◌}
-use Rattle.std.specs.Option.{option_flatten}
-use Rattle.leaf_collections.specs.below.listed.{RoomyValue}
-use Rattle.leaf_collections.proofs.below.listed.{got_other}
-use Rattle.leaf_collections.specs.below.run_trace.{EntryValue, Mark}
-use Rattle.leaf_collections.specs.below.run_ledger.{heap_of}
-use Rattle.leaf_collections.specs.below.inner_mark_gc.{MarkingValue}
-use Rattle.leaf_collections.specs.below.core_relation.{GoesOn}
-use Rattle.leaf_collections.specs.below.task_homes.{HomesValue, marks_at}
-use Rattle.leaf_collections.specs.below.shared_value.{refused, AllFit, SharedValue, accounts, value_of, IsSharedValue}
-use Rattle.leaf_collections.proofs.below.shared_value.{entry_on, journal_by}
-use Rattle.heap_marking.proofs.MarkEntries.{mark_enters, mark_waits}
-use Rattle.heap_marking.proofs.WaitingHome.{rest}
-use Rattle.shared_tree.specs.contracts.shared.Shared.{the_view}
+use Rattle.shared_tree.proofs.Common.{◌≡◌, ℕ, ◌-◌, ◌++◌, ◌∷◌, [], List, Option, None, Some, is_some, slice_set, ap, sym, subst, ◌∙◌, ◌<◌, option_flatten, ReservedVecValue, got_other, EntryValue, Mark, heap_of, MarkingValue, CanGoOnMarking, TaskSlotsValue, refused, AllFit, SharedValue, accounts, value_of, IsSharedValue, entry_on, journal_by, mark_enters, mark_waits, rest, the_view}
+use Rattle.leaf_collections.specs.below.task_slots.{marks_at}
 use Rattle.shared_tree.proofs.shared.Shared.enter_mark.Goals as goal
 
 pub put_marking-requires : goal.put_marking-requires
@@ -30,13 +18,13 @@ invariant_of-self c =
     let t : ℕ = c.args.t in
     let e : EntryValue = record { worker = k; kind = Mark t } in
     let free : refused w e ≡ None = subst (λ (z : SharedValue). refused z e ≡ None) (sym c.self.view_is) c.requires.free in
-    let goes : GoesOn (value_of w) t (heap_of (accounts w) t).snapshot c.args.marking = subst (λ (z : SharedValue). GoesOn (value_of z) t (heap_of (accounts z) t).snapshot c.args.marking) (sym c.self.view_is) c.requires.goes in
+    let goes : CanGoOnMarking (value_of w) t (heap_of (accounts w) t).snapshot c.args.marking = subst (λ (z : SharedValue). CanGoOnMarking (value_of z) t (heap_of (accounts z) t).snapshot c.args.marking) (sym c.self.view_is) c.requires.goes in
     let journal : c.push_reserved.new.self ≡ record { items = w.journal.items ++ e ∷ []; room = w.journal.room - 1 } = journal_by w.journal _ _ e c.new-2.ensures c.push_reserved.ensures in
     let ms : List (Option MarkingValue) = slice_set w.marks t (Some c.in_ok-marking.marking) in
-    let at : marks_at ms t ≡ Some c.args.marking = ap (λ (h : HomesValue). marks_at h.marks t) (sym c.put_marking.ensures.homes) ∙ (c.put_marking.ensures.marking ∙ ap Some c.in_ok-marking.ensures.ok) in
+    let at : marks_at ms t ≡ Some c.args.marking = ap (λ (h : TaskSlotsValue). marks_at h.marks t) (sym c.put_marking.ensures.task_slots) ∙ (c.put_marking.ensures.marking ∙ ap Some c.in_ok-marking.ensures.ok) in
     let both = mark_enters w c.self.invariant k t c.args.marking ms (w.journal.room - 1) at (λ u ne. ap option_flatten (got_other w.marks t u (Some c.in_ok-marking.marking) ne)) free c.requires.none goes in
-    subst (λ (j : RoomyValue EntryValue). IsSharedValue (record w { rests = c.put_marking.new.self.rests; sets = c.put_marking.new.self.sets; marks = c.put_marking.new.self.marks; journal = j })) (sym journal)
-    (subst (λ (h : HomesValue). IsSharedValue (record w { rests = h.rests; sets = h.sets; marks = h.marks; journal = record { items = w.journal.items ++ e ∷ []; room = w.journal.room - 1 } })) (sym c.put_marking.ensures.homes) both.0)
+    subst (λ (j : ReservedVecValue EntryValue). IsSharedValue (record w { rests = c.put_marking.new.self.rests; sets = c.put_marking.new.self.sets; marks = c.put_marking.new.self.marks; journal = j })) (sym journal)
+    (subst (λ (h : TaskSlotsValue). IsSharedValue (record w { rests = h.rests; sets = h.sets; marks = h.marks; journal = record { items = w.journal.items ++ e ∷ []; room = w.journal.room - 1 } })) (sym c.put_marking.ensures.task_slots) both.0)
 
 pub returns-clause-fits : goal.returns-clause-fits
 returns-clause-fits c =
@@ -45,14 +33,14 @@ returns-clause-fits c =
     let t : ℕ = c.args.t in
     let e : EntryValue = record { worker = k; kind = Mark t } in
     let free : refused w e ≡ None = subst (λ (z : SharedValue). refused z e ≡ None) (sym c.self.view_is) c.requires.free in
-    let goes : GoesOn (value_of w) t (heap_of (accounts w) t).snapshot c.args.marking = subst (λ (z : SharedValue). GoesOn (value_of z) t (heap_of (accounts z) t).snapshot c.args.marking) (sym c.self.view_is) c.requires.goes in
+    let goes : CanGoOnMarking (value_of w) t (heap_of (accounts w) t).snapshot c.args.marking = subst (λ (z : SharedValue). CanGoOnMarking (value_of z) t (heap_of (accounts z) t).snapshot c.args.marking) (sym c.self.view_is) c.requires.goes in
     let journal : c.push_reserved.new.self ≡ record { items = w.journal.items ++ e ∷ []; room = w.journal.room - 1 } = journal_by w.journal _ _ e c.new-2.ensures c.push_reserved.ensures in
     let ms : List (Option MarkingValue) = slice_set w.marks t (Some c.in_ok-marking.marking) in
-    let at : marks_at ms t ≡ Some c.args.marking = ap (λ (h : HomesValue). marks_at h.marks t) (sym c.put_marking.ensures.homes) ∙ (c.put_marking.ensures.marking ∙ ap Some c.in_ok-marking.ensures.ok) in
+    let at : marks_at ms t ≡ Some c.args.marking = ap (λ (h : TaskSlotsValue). marks_at h.marks t) (sym c.put_marking.ensures.task_slots) ∙ (c.put_marking.ensures.marking ∙ ap Some c.in_ok-marking.ensures.ok) in
     let both = mark_enters w c.self.invariant k t c.args.marking ms (w.journal.room - 1) at (λ u ne. ap option_flatten (got_other w.marks t u (Some c.in_ok-marking.marking) ne)) free c.requires.none goes in
     subst (λ (z : SharedValue). AllFit z (record w { rests = c.put_marking.new.self.rests; sets = c.put_marking.new.self.sets; marks = c.put_marking.new.self.marks; journal = c.push_reserved.new.self })) c.self.view_is
-    (subst (λ (j : RoomyValue EntryValue). AllFit w (record w { rests = c.put_marking.new.self.rests; sets = c.put_marking.new.self.sets; marks = c.put_marking.new.self.marks; journal = j })) (sym journal)
-    (subst (λ (h : HomesValue). AllFit w (record w { rests = h.rests; sets = h.sets; marks = h.marks; journal = record { items = w.journal.items ++ e ∷ []; room = w.journal.room - 1 } })) (sym c.put_marking.ensures.homes) both.1))
+    (subst (λ (j : ReservedVecValue EntryValue). AllFit w (record w { rests = c.put_marking.new.self.rests; sets = c.put_marking.new.self.sets; marks = c.put_marking.new.self.marks; journal = j })) (sym journal)
+    (subst (λ (h : TaskSlotsValue). AllFit w (record w { rests = h.rests; sets = h.sets; marks = h.marks; journal = record { items = w.journal.items ++ e ∷ []; room = w.journal.room - 1 } })) (sym c.put_marking.ensures.task_slots) both.1))
 
 pub push_reserved-requires : goal.push_reserved-requires
 push_reserved-requires c = subst (λ (z : SharedValue). 0 < z.journal.room) (sym c.self.view_is) c.requires.room

@@ -1,15 +1,4 @@
-use Rattle.std.proofs.Common.{◌≡◌, ℕ, ◌+◌, ◌-◌, arith, [], ap, ap₂, sym, subst, ◌∙◌}
-use Rattle.std.proofs.Common.{w64}
-use Rattle.std.proofs.lemmas.Int.{to_z-of_z}
-use Rattle.leaf_collections.specs.below.task_frames.{FramesValue, with_int, with_next}
-use Rattle.leaf_collections.specs.below.task_machine.{Private}
-use Rattle.leaf_collections.specs.below.shared_value.{IsSharedValue, SharedValue}
-use Rattle.child_tasks.specs.below.own_steps.{GoesAlone}
-use Rattle.child_tasks.proofs.below.own_steps.{AsksAlone, asks_alone, alone_small, next_small}
-use Rattle.others_objects.specs.declared.other.OtherStep.TheVariants.{SetsNumber}
-use Rattle.others_objects.specs.Other.{TellsOther}
-use Rattle.others_objects.proofs.OtherEntries.{number_goes, number_world}
-use Rattle.shared_tree.specs.contracts.shared.Shared.{the_view}
+use Rattle.shared_tree.proofs.Common.{◌≡◌, ℕ, ◌+◌, ◌-◌, arith, [], ap, ap₂, sym, subst, ◌∙◌, w64, to_z-of_z, FramesValue, with_int, with_next, Private, IsSharedValue, SharedValue, GoesAlone, AsksAlone, asks_alone, alone_small, next_small, SetsNumber, TellsOther, number_goes, number_world, the_view}
 use Rattle.shared_tree.proofs.StepsEntered.{along}
 use Rattle.shared_tree.proofs.shared.Shared.enter_number.Goals as goal
 

@@ -1,10 +1,4 @@
-use Rattle.std.proofs.Common.{ℤ, SFits, w64, rules, ap, sym, subst, ◌∙◌}
-use Rattle.std.proofs.lemmas.Int.{to_z-of_z}
-use Rattle.leaf_collections.specs.below.hh_model.{Trapped, ended_by}
-use Rattle.child_tasks.specs.below.own_steps.{then_accounts}
-use Rattle.others_objects.specs.declared.other.OtherStep.{OtherStep}
-use Rattle.others_objects.specs.declared.other.OtherStep.TheVariants.{SetsNumber, Stops, StoresNumber, Traps}
-use Rattle.others_objects.specs.Other.{TellsOther}
+use Rattle.shared_tree.proofs.Common.{ℤ, SFits, w64, rules, ap, sym, subst, ◌∙◌, to_z-of_z, Trapped, ended_by, then_accounts, OtherStep, SetsNumber, Stops, StoresNumber, Traps, TellsOther}
 use Rattle.shared_tree.proofs.shared.Shared.enter_other.Goals as goal
 
 pub enter_reference-requires-clause-reads : goal.enter_reference-requires-clause-reads

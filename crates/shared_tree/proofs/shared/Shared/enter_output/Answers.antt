@@ -1,12 +1,4 @@
-use Rattle.std.proofs.Common.{◌≡◌, ℕ, ℤ, ◌+◌, ◌-◌, ◌++◌, ◌∷◌, arith, List, [], ap, sym, subst, ◌∙◌}
-use Rattle.std.proofs.Common.{w64}
-use Rattle.std.proofs.lemmas.Int.{to_z-of_z}
-use Rattle.leaf_collections.specs.below.task_frames.{FramesValue, with_next}
-use Rattle.leaf_collections.specs.below.task_machine.{Private}
-use Rattle.leaf_collections.specs.below.shared_value.{Prints, IsSharedValue, SharedValue}
-use Rattle.child_tasks.specs.below.own_steps.{GoesAlone, Tells}
-use Rattle.child_tasks.proofs.below.own_steps.{AsksAlone, asks_alone, alone_small, next_small, printed_goes, printed_world}
-use Rattle.shared_tree.specs.contracts.shared.Shared.{the_view}
+use Rattle.shared_tree.proofs.Common.{◌≡◌, ℕ, ℤ, ◌+◌, ◌-◌, ◌++◌, ◌∷◌, arith, List, [], ap, sym, subst, ◌∙◌, w64, to_z-of_z, FramesValue, with_next, Private, Prints, IsSharedValue, SharedValue, GoesAlone, Tells, AsksAlone, asks_alone, alone_small, next_small, printed_goes, printed_world, the_view}
 use Rattle.shared_tree.proofs.StepsEntered.{along, entered}
 use Rattle.shared_tree.proofs.shared.Shared.enter_output.Goals as goal
 

@@ -1,13 +1,4 @@
-use Rattle.std.proofs.Common.{◌≡◌, ℕ, ◌+◌, ◌-◌, arith, [], ap, ap₂, sym, subst, ◌∙◌}
-use Rattle.leaf_collections.specs.below.task_frames.{FramesValue, with_next, with_reference}
-use Rattle.leaf_collections.specs.below.task_machine.{Private}
-use Rattle.leaf_collections.specs.below.shared_value.{IsSharedValue, SharedValue}
-use Rattle.child_tasks.specs.below.own_steps.{GoesAlone}
-use Rattle.child_tasks.proofs.below.own_steps.{AsksAlone, asks_alone, alone_small, next_small}
-use Rattle.others_objects.specs.declared.other.OtherStep.TheVariants.{SetsReference}
-use Rattle.others_objects.specs.Other.{TellsOther}
-use Rattle.others_objects.proofs.OtherEntries.{reference_goes, reference_world}
-use Rattle.shared_tree.specs.contracts.shared.Shared.{the_view}
+use Rattle.shared_tree.proofs.Common.{◌≡◌, ℕ, ◌+◌, ◌-◌, arith, [], ap, ap₂, sym, subst, ◌∙◌, FramesValue, with_next, with_reference, Private, IsSharedValue, SharedValue, GoesAlone, AsksAlone, asks_alone, alone_small, next_small, SetsReference, TellsOther, reference_goes, reference_world, the_view}
 use Rattle.shared_tree.proofs.StepsEntered.{along}
 use Rattle.shared_tree.proofs.shared.Shared.enter_reference.Goals as goal
 

@@ -1,20 +1,5 @@
-use Rattle.std.proofs.Common.{◌≡◌, ℕ, ◌+◌, ◌-◌, arith, Some, None, List, [], length, option_map, slice_set, refl, sym, subst, Result, Ok, Err}
-use Rattle.std.specs.Prelude.{OnErr, slice_index_or}
-use Rattle.leaf_collections.specs.below.listed.{RoomyValue}
-use Rattle.leaf_collections.specs.below.run_trace.{EntryValue}
-use Rattle.leaf_collections.specs.below.object_layout.{with_ref, cell_of, object_of}
-use Rattle.leaf_collections.specs.below.task_frames.{FramesValue}
-use Rattle.leaf_collections.specs.below.write_barrier.{SetOf, content_after, content_at}
-use Rattle.leaf_collections.specs.below.task_machine.{Private}
-use Rattle.leaf_collections.specs.below.task_homes.{Heaps}
-use Rattle.leaf_collections.specs.below.shared_value.{IsSharedValue, SharedValue}
-use Rattle.child_tasks.specs.below.own_steps.{GoesAlone}
-use Rattle.child_tasks.proofs.below.own_steps.{AsksAlone, asks_alone, alone_small, next_small}
-use Rattle.others_objects.specs.declared.other.OtherStep.{OtherStep}
-use Rattle.others_objects.specs.Other.{SameButRoom, TellsOther, put_rest, store_frames, store_of}
-use Rattle.others_objects.proofs.SetRooms.{roomier_same, roomier_world}
-use Rattle.others_objects.proofs.StoreEntries as entries
-use Rattle.shared_tree.specs.contracts.shared.Shared.{the_view}
+use Rattle.shared_tree.proofs.Common.{◌≡◌, ℕ, ◌+◌, ◌-◌, arith, Some, None, List, [], length, option_map, slice_set, refl, sym, subst, Result, Ok, Err, OnErr, slice_index_or, ReservedVecValue, EntryValue, with_ref, cell_of, object_of, FramesValue, SetOf, content_after, content_at, Private, Heaps, IsSharedValue, SharedValue, GoesAlone, AsksAlone, asks_alone, alone_small, next_small, OtherStep, SameButRoom, TellsOther, put_rest, store_frames, store_of, roomier_same, roomier_world, the_view}
+use Rattle.remote_access.proofs.StoreEntries as entries
 use Rattle.shared_tree.proofs.HeapsWritten.{with_heaps, written_by}
 use Rattle.shared_tree.proofs.StepsEntered.{along, entered}
 use Rattle.shared_tree.proofs.shared.Shared.enter_store.Goals as goal
@@ -55,7 +40,7 @@ invariant_of-self c =
     let w : SharedValue = the_view c.self.inside in
     let asks = asks_alone c.self.view_is c.self.invariant c.requires.fits c.requires.shared c.requires.free in
     let h : Heaps = c.write_reference.new.heaps in
-    let new : List SetOf = h.homes.sets in
+    let new : List SetOf = h.task_slots.sets in
     let many : length new ≡ length w.sets = c.write_reference.ensures.many in
     let same : (z : ℕ) → content_at new z ≡ content_at w.sets z = c.in_err-write_reference.ensures.no_sets in
     subst IsSharedValue (written_by w w.steps w.journal h w.rests new c.write_reference.ensures.pool c.write_reference.ensures.marks c.in_err-write_reference.ensures.same refl) (roomier_world w new many same c.self.invariant)
@@ -65,7 +50,7 @@ returns-in_err-write_reference-clause-same c =
     let w : SharedValue = the_view c.self.inside in
     let asks = asks_alone c.self.view_is c.self.invariant c.requires.fits c.requires.shared c.requires.free in
     let h : Heaps = c.write_reference.new.heaps in
-    let new : List SetOf = h.homes.sets in
+    let new : List SetOf = h.task_slots.sets in
     let many : length new ≡ length w.sets = c.write_reference.ensures.many in
     let same : (z : ℕ) → content_at new z ≡ content_at w.sets z = c.in_err-write_reference.ensures.no_sets in
     always_err c.from_residual.result
@@ -92,13 +77,13 @@ invariant_of-self-2 c =
     let does : OtherStep = store_of c.args.swap c.args.object c.args.field c.args.value in
     let T : (n : ℕ) × TellsOther w p does n = subst (λ (z : SharedValue). (n : ℕ) × TellsOther z p does n) (sym c.self.view_is) c.requires.stores in
     let h : Heaps = c.write_reference.new.heaps in
-    let new : List SetOf = h.homes.sets in
+    let new : List SetOf = h.task_slots.sets in
     let many : length new ≡ length w.sets = c.write_reference.ensures.many in
-    let rests : h.homes.rests ≡ slice_set w.rests (entries.owner asks c.args.swap c.args.object c.args.field c.args.value T.0 T.1) (Some (put_rest (entries.foreign asks c.args.swap c.args.object c.args.field c.args.value T.0 T.1).rest c.args.object (with_ref (cell_of (entries.foreign asks c.args.swap c.args.object c.args.field c.args.value T.0 T.1).rest.heap.chunks c.args.object) c.args.field c.args.value))) =
+    let rests : h.task_slots.rests ≡ slice_set w.rests (entries.owner asks c.args.swap c.args.object c.args.field c.args.value T.0 T.1) (Some (put_rest (entries.foreign asks c.args.swap c.args.object c.args.field c.args.value T.0 T.1).rest c.args.object (with_ref (cell_of (entries.foreign asks c.args.swap c.args.object c.args.field c.args.value T.0 T.1).rest.heap.chunks c.args.object) c.args.field c.args.value))) =
     c.in_ok-write_reference.ensures.written (entries.owner asks c.args.swap c.args.object c.args.field c.args.value T.0 T.1) (entries.foreign asks c.args.swap c.args.object c.args.field c.args.value T.0 T.1).rest (entries.foreign asks c.args.swap c.args.object c.args.field c.args.value T.0 T.1).place.chunk (entries.foreign asks c.args.swap c.args.object c.args.field c.args.value T.0 T.1).there in
     let C : (z : ℕ) → content_at new z ≡ option_map (content_after w.tree w.pool (record { object = c.args.object; field = c.args.field }) (slice_index_or (object_of (entries.foreign asks c.args.swap c.args.object c.args.field c.args.value T.0 T.1).rest.heap.chunks c.args.object).refs c.args.field None) c.args.value z) (content_at w.sets z) =
     c.in_ok-write_reference.ensures.noted (entries.owner asks c.args.swap c.args.object c.args.field c.args.value T.0 T.1) (entries.foreign asks c.args.swap c.args.object c.args.field c.args.value T.0 T.1).rest (entries.foreign asks c.args.swap c.args.object c.args.field c.args.value T.0 T.1).place.chunk (entries.foreign asks c.args.swap c.args.object c.args.field c.args.value T.0 T.1).there in
-    let space : RoomyValue EntryValue = record { items = []; room = w.journal.room - 1 } in
+    let space : ReservedVecValue EntryValue = record { items = []; room = w.journal.room - 1 } in
     along w k p _ _ c.enter_alone.ensures.steps c.enter_alone.ensures.journal (λ n j. IsSharedValue (with_heaps w h n j))
     (subst IsSharedValue (written_by w (w.steps + (p.fresh + 1)) (entered w k p) h _ new c.write_reference.ensures.pool c.write_reference.ensures.marks rests refl) (entries.store_world asks c.args.swap c.args.object c.args.field c.args.value T.0 T.1 new many C space))
 
@@ -111,13 +96,13 @@ returns-clause-goes c =
     let does : OtherStep = store_of c.args.swap c.args.object c.args.field c.args.value in
     let T : (n : ℕ) × TellsOther w p does n = subst (λ (z : SharedValue). (n : ℕ) × TellsOther z p does n) (sym c.self.view_is) c.requires.stores in
     let h : Heaps = c.write_reference.new.heaps in
-    let new : List SetOf = h.homes.sets in
+    let new : List SetOf = h.task_slots.sets in
     let many : length new ≡ length w.sets = c.write_reference.ensures.many in
-    let rests : h.homes.rests ≡ slice_set w.rests (entries.owner asks c.args.swap c.args.object c.args.field c.args.value T.0 T.1) (Some (put_rest (entries.foreign asks c.args.swap c.args.object c.args.field c.args.value T.0 T.1).rest c.args.object (with_ref (cell_of (entries.foreign asks c.args.swap c.args.object c.args.field c.args.value T.0 T.1).rest.heap.chunks c.args.object) c.args.field c.args.value))) =
+    let rests : h.task_slots.rests ≡ slice_set w.rests (entries.owner asks c.args.swap c.args.object c.args.field c.args.value T.0 T.1) (Some (put_rest (entries.foreign asks c.args.swap c.args.object c.args.field c.args.value T.0 T.1).rest c.args.object (with_ref (cell_of (entries.foreign asks c.args.swap c.args.object c.args.field c.args.value T.0 T.1).rest.heap.chunks c.args.object) c.args.field c.args.value))) =
     c.in_ok-write_reference.ensures.written (entries.owner asks c.args.swap c.args.object c.args.field c.args.value T.0 T.1) (entries.foreign asks c.args.swap c.args.object c.args.field c.args.value T.0 T.1).rest (entries.foreign asks c.args.swap c.args.object c.args.field c.args.value T.0 T.1).place.chunk (entries.foreign asks c.args.swap c.args.object c.args.field c.args.value T.0 T.1).there in
     let C : (z : ℕ) → content_at new z ≡ option_map (content_after w.tree w.pool (record { object = c.args.object; field = c.args.field }) (slice_index_or (object_of (entries.foreign asks c.args.swap c.args.object c.args.field c.args.value T.0 T.1).rest.heap.chunks c.args.object).refs c.args.field None) c.args.value z) (content_at w.sets z) =
     c.in_ok-write_reference.ensures.noted (entries.owner asks c.args.swap c.args.object c.args.field c.args.value T.0 T.1) (entries.foreign asks c.args.swap c.args.object c.args.field c.args.value T.0 T.1).rest (entries.foreign asks c.args.swap c.args.object c.args.field c.args.value T.0 T.1).place.chunk (entries.foreign asks c.args.swap c.args.object c.args.field c.args.value T.0 T.1).there in
-    let space : RoomyValue EntryValue = record { items = []; room = w.journal.room - 1 } in
+    let space : ReservedVecValue EntryValue = record { items = []; room = w.journal.room - 1 } in
     subst (λ (z : SharedValue). GoesAlone z (with_heaps w h c.enter_alone.new.steps c.enter_alone.new.journal) k p (record p { frames = c.go_on.new.frames; fresh = 0 })) c.self.view_is
     (subst (λ (s : FramesValue). GoesAlone w (with_heaps w h c.enter_alone.new.steps c.enter_alone.new.journal) k p (record p { frames = s; fresh = 0 })) (sym c.go_on.ensures)
     (along w k p _ _ c.enter_alone.ensures.steps c.enter_alone.ensures.journal (λ n j. GoesAlone w (with_heaps w h n j) k p (record p { frames = store_frames c.args.swap p.frames; fresh = 0 }))

@@ -1,13 +1,4 @@
-use Rattle.std.proofs.Common.{◌≡◌, ℕ, Option, Some, None, ap₂, sym, subst, ◌∙◌}
-use Rattle.leaf_collections.specs.below.hh_lang.{Line, line_at}
-use Rattle.leaf_collections.specs.below.task_machine.{Private}
-use Rattle.leaf_collections.specs.below.shared_value.{SharedValue, Fits, refused, next_line}
-use Rattle.child_tasks.specs.below.own_steps.{alone_entry}
-use Rattle.child_tasks.proofs.below.own_steps.{runs_on, some_line}
-use Rattle.child_tasks.specs.Forks.{ForksTo, IsAtFork}
-use Rattle.child_tasks.proofs.NextStepForks.{fork_shared, forks_to, is_par_line, par_is}
-use Rattle.shared_tree.specs.Ran.{MayBeEntered}
-use Rattle.shared_tree.specs.contracts.shared.Shared.{the_view}
+use Rattle.shared_tree.proofs.Common.{◌≡◌, ℕ, Option, Some, None, ap₂, sym, subst, ◌∙◌, Line, line_at, Private, SharedValue, Fits, refused, next_line, alone_entry, runs_on, some_line, ForksTo, IsAtFork, fork_shared, forks_to, is_par_line, par_is, MayBeEntered, the_view}
 use Rattle.shared_tree.proofs.shared.Shared.fork_line.Goals as goal
 
 none_some : (line : Line) → ◌≡◌ {A = Option Line} None (Some line) → ⊥

@@ -1,19 +1,7 @@
-use Rattle.std.proofs.Common.{◌≡◌, ℕ, ◌+◌, ◌-◌, ◌<◌, ◌≤◌, None, Some, [], inl, inr, Ok, Err, refl, ap, sym, subst, ◌∙◌, Result}
-use Rattle.std.proofs.lemmas.Bool.{cases_lt}
-use Rattle.std.specs.Prelude.{OnErr}
-use Rattle.leaf_collections.specs.below.listed.{RoomyValue}
-use Rattle.leaf_collections.specs.below.run_trace.{EntryValue, Chunk}
-use Rattle.leaf_collections.specs.below.run_ledger.{Pool as PoolOf, chunk_units}
-use Rattle.leaf_collections.specs.below.chunk_pool.{NotTaken, Full, PoolValue, units_in_use}
-use Rattle.leaf_collections.specs.below.alloc_path.{LeafHeapValue, IsFresh, added, with_places}
-use Rattle.leaf_collections.specs.below.task_machine.{Private}
-use Rattle.leaf_collections.specs.below.shared_value.{SharedValue, IsSharedValue, Fits, OthersFit, part_asks, Enters, refused}
-use Rattle.leaf_collections.proofs.below.shared_value.{journal_by}
-use Rattle.leaf_collections.proofs.ChunkGiven.{given_fresh, given_others, given_part, given_world, places_fit, pool_others, pool_part, pool_world}
-use Rattle.shared_tree.specs.contracts.shared.Shared.{the_view}
+use Rattle.shared_tree.proofs.Common.{◌≡◌, ℕ, ◌+◌, ◌-◌, ◌<◌, ◌≤◌, None, Some, [], inl, inr, Ok, Err, refl, ap, sym, subst, ◌∙◌, Result, cases_lt, OnErr, ReservedVecValue, EntryValue, Chunk, Pool as PoolOf, chunk_units, NotTaken, Full, PoolValue, units_in_use, LeafHeapValue, IsFresh, added, with_places, Private, SharedValue, IsSharedValue, Fits, OthersFit, part_asks, Enters, refused, journal_by, given_fresh, given_others, given_part, given_world, places_fit, pool_others, pool_part, pool_world, the_view}
 use Rattle.shared_tree.proofs.shared.Shared.give_chunk.Goals as goal
 
-room_of_space : RoomyValue EntryValue → ℕ → RoomyValue EntryValue
+room_of_space : ReservedVecValue EntryValue → ℕ → ReservedVecValue EntryValue
 room_of_space j n = record { items = []; room = n }
 
 -- not full
@@ -44,7 +32,7 @@ invariant_of-self c =
     let e : EntryValue = record { worker = k; kind = Chunk p.task } in
     let free : refused w e ≡ None = subst (λ (z : SharedValue). refused z e ≡ None) (sym c.self.view_is) c.requires.free in
     let sized : c.units_for-units.result ≡ chunk_units (part_asks w.program p) = c.units_for-units.ensures.units ∙ ap chunk_units c.words_asked.ensures.asked in
-    subst (λ (j : RoomyValue EntryValue). IsSharedValue (record w { pool = c.take.new.self; journal = j })) (sym (journal_by w.journal _ _ e c.new.ensures c.push_reserved.ensures))
+    subst (λ (j : ReservedVecValue EntryValue). IsSharedValue (record w { pool = c.take.new.self; journal = j })) (sym (journal_by w.journal _ _ e c.new.ensures c.push_reserved.ensures))
     (given_world w k p c.self.invariant F c.requires.fresh free c.take.new.self c.in-Ok.chunk c.in-Ok.chunk.number c.units_for-units.result c.in-Ok.ensures.chunk sized
     (within_by w.pool.limit (units_in_use w.pool + c.units_for-units.result) (λ lt. not_full c.in-Ok.chunk (c.in-Ok.ensures.full.1 lt))) c.in-Ok.ensures.taken (record { items = []; room = w.journal.room - 1 }))
 
@@ -60,7 +48,7 @@ returns-in-Ok-clause-fits c =
     let heap : c.add_spare.new.self ≡ with_places (added (with_places p.heap c.make_room.new.self.slots c.make_room.new.self.spare) c.in-Ok.chunk) c.add_spare.new.self.slots c.add_spare.new.self.spare =
     c.add_spare.ensures.added ∙ ap (λ (h : LeafHeapValue). with_places (added h c.in-Ok.chunk) c.add_spare.new.self.slots c.add_spare.new.self.spare) c.make_room.ensures.kept in
     subst (λ (h : LeafHeapValue). Fits (record w { pool = c.take.new.self; journal = c.push_reserved.new.self }) k (record p { heap = h })) (sym heap)
-    (subst (λ (j : RoomyValue EntryValue). Fits (record w { pool = c.take.new.self; journal = j }) k (record p { heap = with_places (added (with_places p.heap c.make_room.new.self.slots c.make_room.new.self.spare) c.in-Ok.chunk) c.add_spare.new.self.slots c.add_spare.new.self.spare }))
+    (subst (λ (j : ReservedVecValue EntryValue). Fits (record w { pool = c.take.new.self; journal = j }) k (record p { heap = with_places (added (with_places p.heap c.make_room.new.self.slots c.make_room.new.self.spare) c.in-Ok.chunk) c.add_spare.new.self.slots c.add_spare.new.self.spare }))
     (sym (journal_by w.journal _ _ e c.new.ensures c.push_reserved.ensures))
     (given_part w k p c.self.invariant F c.requires.fresh free c.take.new.self c.in-Ok.chunk c.in-Ok.chunk.number c.units_for-units.result c.in-Ok.ensures.chunk sized
     (within_by w.pool.limit (units_in_use w.pool + c.units_for-units.result) (λ lt. not_full c.in-Ok.chunk (c.in-Ok.ensures.full.1 lt))) c.in-Ok.ensures.taken (record { items = []; room = w.journal.room - 1 })
@@ -76,15 +64,15 @@ returns-in-Ok-clause-others c =
     let free : refused w e ≡ None = subst (λ (z : SharedValue). refused z e ≡ None) (sym c.self.view_is) c.requires.free in
     let sized : c.units_for-units.result ≡ chunk_units (part_asks w.program p) = c.units_for-units.ensures.units ∙ ap chunk_units c.words_asked.ensures.asked in
     subst (λ (z : SharedValue). OthersFit z (record w { pool = c.take.new.self; journal = c.push_reserved.new.self }) k) c.self.view_is
-    (subst (λ (j : RoomyValue EntryValue). OthersFit w (record w { pool = c.take.new.self; journal = j }) k) (sym (journal_by w.journal _ _ e c.new.ensures c.push_reserved.ensures))
+    (subst (λ (j : ReservedVecValue EntryValue). OthersFit w (record w { pool = c.take.new.self; journal = j }) k) (sym (journal_by w.journal _ _ e c.new.ensures c.push_reserved.ensures))
     (given_others w k p c.self.invariant F c.requires.fresh free c.take.new.self c.in-Ok.chunk c.in-Ok.chunk.number c.units_for-units.result c.in-Ok.ensures.chunk sized
     (within_by w.pool.limit (units_in_use w.pool + c.units_for-units.result) (λ lt. not_full c.in-Ok.chunk (c.in-Ok.ensures.full.1 lt))) c.in-Ok.ensures.taken (record { items = []; room = w.journal.room - 1 })))
 
--- the value where the run ended, by what the code made of it
-pool_same : (w : SharedValue) (pool : PoolValue) (j j' : RoomyValue EntryValue) (n : ℕ) → pool ≡ w.pool → j' ≡ j → n ≡ units_in_use pool → record w { journal = j; end = Some (PoolOf (units_in_use w.pool)) } ≡ record w { pool = pool; journal = j'; end = Some (PoolOf n) }
+-- the value after the run ended, as the code made it
+pool_same : (w : SharedValue) (pool : PoolValue) (j j' : ReservedVecValue EntryValue) (n : ℕ) → pool ≡ w.pool → j' ≡ j → n ≡ units_in_use pool → record w { journal = j; end = Some (PoolOf (units_in_use w.pool)) } ≡ record w { pool = pool; journal = j'; end = Some (PoolOf n) }
 pool_same w pool j j' n ep ej en =
     sym (ap (λ m. record w { pool = pool; journal = j'; end = Some (PoolOf m) }) en
-    ∙ (ap (λ (z : PoolValue). record w { pool = z; journal = j'; end = Some (PoolOf (units_in_use z)) }) ep ∙ ap (λ (z : RoomyValue EntryValue). record w { journal = z; end = Some (PoolOf (units_in_use w.pool)) }) ej))
+    ∙ (ap (λ (z : PoolValue). record w { pool = z; journal = j'; end = Some (PoolOf (units_in_use z)) }) ep ∙ ap (λ (z : ReservedVecValue EntryValue). record w { journal = z; end = Some (PoolOf (units_in_use w.pool)) }) ej))
 
 pub invariant_of-self-in-Err-Full : goal.invariant_of-self-in-Err-Full
 invariant_of-self-in-Err-Full c =
@@ -147,14 +135,14 @@ returns-in-Ok-clause-enters c =
     let w : SharedValue = the_view c.self.inside in
     let e : EntryValue = record { worker = c.args.worker; kind = Chunk c.args.part.now.task } in
     subst (λ (z : SharedValue). Enters z (record w { pool = c.take.new.self; journal = c.push_reserved.new.self }) e) c.self.view_is
-    (record { journal = ap (λ (j : RoomyValue EntryValue). j.items) (journal_by w.journal _ _ e c.new.ensures c.push_reserved.ensures); program = refl; settings = refl; halted = refl })
+    (record { journal = ap (λ (j : ReservedVecValue EntryValue). j.items) (journal_by w.journal _ _ e c.new.ensures c.push_reserved.ensures); program = refl; settings = refl; halted = refl })
 
 pub returns-in-Err-Full-clause-enters : goal.returns-in-Err-Full-clause-enters
 returns-in-Err-Full-clause-enters c =
     let w : SharedValue = the_view c.self.inside in
     let e : EntryValue = record { worker = c.args.worker; kind = Chunk c.args.part.now.task } in
     subst (λ (z : SharedValue). Enters z (record w { pool = c.take.new.self; journal = c.push_reserved-in-Err-Full.new.self; end = Some (PoolOf c.in_use.result) }) e) c.self.view_is
-    (record { journal = ap (λ (j : RoomyValue EntryValue). j.items) (journal_by w.journal _ _ e c.new-in-Err-Full.ensures c.push_reserved-in-Err-Full.ensures); program = refl; settings = refl; halted = refl })
+    (record { journal = ap (λ (j : ReservedVecValue EntryValue). j.items) (journal_by w.journal _ _ e c.new-in-Err-Full.ensures c.push_reserved-in-Err-Full.ensures); program = refl; settings = refl; halted = refl })
 
 pub returns-in-Err-NoMemory-clause-same : goal.returns-in-Err-NoMemory-clause-same
 returns-in-Err-NoMemory-clause-same c = ap (λ (z : PoolValue). record (the_view c.self.inside) { pool = z }) c.in-Err-NoMemory.ensures.err ∙ c.self.view_is

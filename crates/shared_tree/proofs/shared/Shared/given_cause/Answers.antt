@@ -1,8 +1,4 @@
-use Rattle.std.proofs.Common.{◌≡◌, ℕ, ◌<◌, ◌^◌, arith, Some, None, option_copied, ap, sym, ◌∙◌}
-use Rattle.leaf_collections.specs.below.shared_value.{SharedValue, accounts, marks_at}
-use Rattle.heap_marking.specs.MarkCauses.{marking_cause}
-use Rattle.heap_marking.proofs.SweptUnits.{few_at}
-use Rattle.shared_tree.specs.contracts.shared.Shared.{the_view}
+use Rattle.shared_tree.proofs.Common.{◌≡◌, ℕ, ◌<◌, ◌^◌, arith, Some, None, option_copied, ap, sym, ◌∙◌, SharedValue, accounts, marks_at, marking_cause, few_at, the_view}
 use Rattle.shared_tree.proofs.shared.Shared.given_cause.Goals as goal
 
 pub overflow_cast-result : goal.overflow_cast-result

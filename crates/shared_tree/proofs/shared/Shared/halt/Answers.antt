@@ -1,7 +1,4 @@
-use Rattle.std.proofs.Common.{sym, subst}
-use Rattle.leaf_collections.specs.below.shared_value.{SharedValue, Fits}
-use Rattle.leaf_collections.proofs.below.shared_value.{halted_fit}
-use Rattle.shared_tree.specs.contracts.shared.Shared.{the_view}
+use Rattle.shared_tree.proofs.Common.{sym, subst, SharedValue, Fits, halted_fit, the_view}
 use Rattle.shared_tree.proofs.shared.Shared.halt.Goals as goal
 
 pub returns-clause-fits : goal.returns-clause-fits

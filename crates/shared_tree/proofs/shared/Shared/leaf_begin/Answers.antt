@@ -1,10 +1,4 @@
-use Rattle.std.proofs.Common.{Result, refl, sym, ◌∙◌}
-use Rattle.std.specs.Prelude.{Vec}
-use Rattle.std.specs.declared.alloc.Global.{Global}
-use Rattle.leaf_collections.specs.below.object_layout.{Addr}
-use Rattle.leaf_collections.specs.below.leaf_copy_gc.{ToChunks}
-use Rattle.leaf_collections.specs.below.shared_value.{NotEntered}
-use Rattle.entry_calls.specs.Calls.{BeginsLeaf}
+use Rattle.shared_tree.proofs.Common.{Result, refl, sym, ◌∙◌, Vec, Global, Addr, ToChunks, NotEntered, BeginsLeaf}
 use Rattle.shared_tree.proofs.HandedOn.{for_memory}
 use Rattle.shared_tree.proofs.shared.Shared.leaf_begin.Goals as goal
 

@@ -1,14 +1,4 @@
-use Rattle.std.proofs.Common.{◌≡◌, ℕ, true, false, Some, None, is_some, ap, sym, subst, ◌∙◌}
-use Rattle.leaf_collections.specs.below.run_trace.{EntryValue, Begin}
-use Rattle.leaf_collections.specs.below.run_ledger.{PoolShort, is_pool_enough, refused_unless}
-use Rattle.leaf_collections.specs.below.chunk_pool.{units_in_use}
-use Rattle.leaf_collections.specs.below.task_machine.{Private}
-use Rattle.leaf_collections.specs.below.shared_value.{SharedValue, accounts, first_cause, or_else, due_cause, refused, Fits, part_asks}
-use Rattle.leaf_collections.proofs.below.shared_value.{found_first, nothing_first}
-use Rattle.leaf_collections.proofs.WhyNoChunk.{first_answer}
-use Rattle.leaf_collections.proofs.WhyNoCollection.{begin_answer}
-use Rattle.leaf_collections.proofs.CollectionPutOff.{without_fresh}
-use Rattle.shared_tree.specs.contracts.shared.Shared.{the_view}
+use Rattle.shared_tree.proofs.Common.{◌≡◌, ℕ, true, false, Some, None, is_some, ap, sym, subst, ◌∙◌, EntryValue, Begin, PoolShort, is_pool_enough, refused_unless, units_in_use, Private, SharedValue, accounts, first_cause, or_else, due_cause, refused, Fits, part_asks, found_first, nothing_first, first_answer, begin_answer, without_fresh, the_view}
 use Rattle.shared_tree.proofs.shared.Shared.leaf_begin_refused.Goals as goal
 
 pub returns-then-is_some : goal.returns-then-is_some

@@ -1,10 +1,4 @@
-use Rattle.std.proofs.Common.{◌≡◌, ℕ, false, refl, sym, subst, ◌∙◌}
-use Rattle.leaf_collections.specs.below.leaf_copy_gc.{Moved}
-use Rattle.leaf_collections.specs.below.task_machine.{Private}
-use Rattle.leaf_collections.specs.below.shared_value.{SharedValue, first_cause, refused, IsSharedValue}
-use Rattle.leaf_collections.specs.LeafEnd.{FitsCopied, end_entry}
-use Rattle.leaf_collections.proofs.WhyNoEnd.{end_answer}
-use Rattle.shared_tree.specs.contracts.shared.Shared.{the_view}
+use Rattle.shared_tree.proofs.Common.{◌≡◌, ℕ, false, refl, sym, subst, ◌∙◌, Moved, Private, SharedValue, first_cause, refused, IsSharedValue, FitsCopied, end_entry, end_answer, the_view}
 use Rattle.shared_tree.proofs.shared.Shared.leaf_end.Goals as goal
 
 -- the first cause is the only one

@@ -1,14 +1,4 @@
-use Rattle.std.proofs.Common.{◌≡◌, ℕ, Option, Some, None, ap₂, sym, subst, ◌∙◌}
-use Rattle.leaf_collections.specs.below.hh_lang.{Line, line_at}
-use Rattle.leaf_collections.specs.below.task_machine.{Private}
-use Rattle.leaf_collections.specs.below.shared_value.{SharedValue, next_line}
-use Rattle.child_tasks.specs.below.own_steps.{IsShared}
-use Rattle.child_tasks.proofs.below.own_steps.{AsksAlone, runs_on, some_line}
-use Rattle.child_tasks.specs.ChildEnds.{IsAtEnd}
-use Rattle.child_tasks.specs.Forks.{IsAtFork}
-use Rattle.others_objects.specs.Other.{IsOther}
-use Rattle.shared_tree.specs.Ran.{IsJoint, MayBeEntered}
-use Rattle.shared_tree.specs.contracts.shared.Shared.{the_view}
+use Rattle.shared_tree.proofs.Common.{◌≡◌, ℕ, Option, Some, None, ap₂, sym, subst, ◌∙◌, Line, line_at, Private, SharedValue, next_line, IsShared, AsksAlone, runs_on, some_line, IsAtEnd, IsAtFork, IsOther, IsJoint, MayBeEntered, the_view}
 use Rattle.shared_tree.proofs.Joints.{at_end, at_fork, at_other}
 use Rattle.shared_tree.proofs.shared.Shared.leaving.Goals as goal
 

@@ -1,5 +1,4 @@
-use Rattle.std.proofs.Common.{refl, subst}
-use Rattle.shared_tree.specs.Ran.{ComesTo}
+use Rattle.shared_tree.proofs.Common.{refl, subst, ComesTo}
 use Rattle.shared_tree.proofs.shared.Shared.lent_joint.Goals as goal
 
 pub leaving-requires-clause-out : goal.leaving-requires-clause-out

@@ -1,7 +1,4 @@
-use Rattle.std.proofs.Common.{◌≡◌, Result, None, refl, sym, subst, ◌∙◌, ◌<◌}
-use Rattle.leaf_collections.specs.below.run_trace.{Mark}
-use Rattle.leaf_collections.specs.below.shared_value.{NotEntered, refused, Enters, AllFit, SharedValue}
-use Rattle.entry_calls.specs.Calls.{BeginsMarking}
+use Rattle.shared_tree.proofs.Common.{◌≡◌, Result, None, refl, sym, subst, ◌∙◌, ◌<◌, Mark, NotEntered, refused, Enters, AllFit, SharedValue, BeginsMarking}
 use Rattle.shared_tree.proofs.HandedOn.{for_memory}
 use Rattle.shared_tree.proofs.shared.Shared.mark.Goals as goal
 

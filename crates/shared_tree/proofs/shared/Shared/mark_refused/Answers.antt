@@ -1,16 +1,7 @@
-use Rattle.std.proofs.Common.{◌≡◌, ℕ, true, false, Option, Some, None, is_some, option_copied, refl, ap, sym, subst, ◌∙◌}
-use Rattle.std.specs.Borrow.{Bor}
-use Rattle.leaf_collections.specs.below.run_trace.{Mark}
-use Rattle.leaf_collections.specs.below.run_ledger.{heap_of, words_in}
-use Rattle.leaf_collections.specs.below.alloc_path.{counted}
-use Rattle.leaf_collections.specs.below.shared_value.{first_cause, refused, SharedValue, accounts, marks_at, IsSharedValue}
-use Rattle.leaf_collections.proofs.WhyNoChunk.{first_answer}
-use Rattle.heap_marking.specs.MarkCauses.{waiting_cause, words_cause}
-use Rattle.heap_marking.proofs.MarkEntries.{mark_as_marking, mark_as_waiting, mark_as_words}
-use Rattle.shared_tree.specs.contracts.shared.Shared.{the_view}
+use Rattle.shared_tree.proofs.Common.{◌≡◌, ℕ, true, false, Option, Some, None, is_some, option_copied, refl, ap, sym, subst, ◌∙◌, Bor, Mark, heap_of, words_in, counted, first_cause, refused, SharedValue, accounts, marks_at, IsSharedValue, first_answer, waiting_cause, words_cause, mark_as_marking, mark_as_waiting, mark_as_words, the_view}
 use Rattle.shared_tree.proofs.shared.Shared.mark_refused.Goals as goal
 
--- a reference is there where what it leads to is
+-- a reference exists if what it leads to does
 some_copied : {A : Type 0} (o : Option (Bor A)) → is_some (option_copied o) ≡ is_some o
 some_copied None = refl
 some_copied (Some r) = refl

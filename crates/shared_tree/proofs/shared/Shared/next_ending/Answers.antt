@@ -1,11 +1,4 @@
-use Rattle.std.proofs.Common.{◌≡◌, ℕ, Option, Some, None, ap₂, sym, subst, ◌∙◌}
-use Rattle.leaf_collections.specs.below.hh_lang.{Line, line_at}
-use Rattle.leaf_collections.specs.below.task_machine.{Private}
-use Rattle.leaf_collections.specs.below.shared_value.{Ending, SharedValue, next_line}
-use Rattle.child_tasks.specs.below.own_steps.{IsShared, Tells}
-use Rattle.child_tasks.proofs.below.own_steps.{AsksAlone, is_safe, runs_on, some_line, tells}
-use Rattle.shared_tree.specs.Ran.{MayBeEntered}
-use Rattle.shared_tree.specs.contracts.shared.Shared.{the_view}
+use Rattle.shared_tree.proofs.Common.{◌≡◌, ℕ, Option, Some, None, ap₂, sym, subst, ◌∙◌, Line, line_at, Private, Ending, SharedValue, next_line, IsShared, Tells, AsksAlone, is_safe, runs_on, some_line, tells, MayBeEntered, the_view}
 use Rattle.shared_tree.proofs.shared.Shared.next_ending.Goals as goal
 
 none_some : (line : Line) → ◌≡◌ {A = Option Line} None (Some line) → ⊥

@@ -1,14 +1,5 @@
-use Rattle.std.proofs.Common.{◌≡◌, ℕ, Option, Some, None, option_copied, ap, ap₂, sym, subst, ◌∙◌}
-use Rattle.leaf_collections.specs.below.hh_lang.{line_at}
-use Rattle.leaf_collections.specs.below.task_machine.{Private}
-use Rattle.leaf_collections.specs.below.shared_value.{SharedValue, accounts, next_line}
-use Rattle.child_tasks.specs.below.own_steps.{IsShared}
-use Rattle.child_tasks.proofs.below.own_steps.{AsksAlone, runs_on, some_line}
-use Rattle.others_objects.specs.declared.other.OtherStep.{OtherStep}
-use Rattle.others_objects.specs.Other.{IsOther, TellsOther}
-use Rattle.others_objects.proofs.NextOtherLine as lines
-use Rattle.shared_tree.specs.Ran.{MayBeEntered}
-use Rattle.shared_tree.specs.contracts.shared.Shared.{the_view}
+use Rattle.shared_tree.proofs.Common.{◌≡◌, ℕ, Option, Some, None, option_copied, ap, ap₂, sym, subst, ◌∙◌, line_at, Private, SharedValue, accounts, next_line, IsShared, AsksAlone, runs_on, some_line, OtherStep, IsOther, TellsOther, MayBeEntered, the_view}
+use Rattle.remote_access.proofs.NextOtherLine as lines
 use Rattle.shared_tree.proofs.shared.Shared.next_other.Goals as goal
 
 none_some : {A : Type 0} {x : A} → ◌≡◌ {A = Option A} None (Some x) → ⊥

@@ -1,9 +1,4 @@
-use Rattle.std.proofs.Common.{◌+◌, nat_le, ap, ap₂, sym, subst, ◌∙◌}
-use Rattle.leaf_collections.specs.below.run_ledger.{is_pool_enough}
-use Rattle.leaf_collections.specs.below.task_machine.{Private}
-use Rattle.leaf_collections.specs.below.shared_value.{SharedValue, accounts, IsOutPart, take_by, Fits}
-use Rattle.leaf_collections.proofs.below.shared_value.{enough_is}
-use Rattle.shared_tree.specs.contracts.shared.Shared.{the_view}
+use Rattle.shared_tree.proofs.Common.{◌+◌, nat_le, ap, ap₂, sym, subst, ◌∙◌, is_pool_enough, Private, SharedValue, accounts, IsOutPart, take_by, Fits, enough_is, the_view}
 use Rattle.shared_tree.proofs.shared.Shared.pool_enough.Goals as goal
 
 pub returns : goal.returns

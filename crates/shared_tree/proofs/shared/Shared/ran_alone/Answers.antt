@@ -1,12 +1,4 @@
-use Rattle.std.proofs.Common.{◌≡◌, ℕ, ℤ, SFits, w64, rules, Option, None, Result, refl, sym, subst, ◌∙◌}
-use Rattle.std.specs.Prelude.{IfOk, OnErr}
-use Rattle.std.proofs.lemmas.Int.{to_z-of_z}
-use Rattle.leaf_collections.specs.below.task_machine.{Private}
-use Rattle.leaf_collections.specs.below.shared_value.{NotEntered, Ending, Beyond, Prints, Returns, SharedValue, Answers, refused}
-use Rattle.child_tasks.specs.below.own_steps.{Tells, alone_entry}
-use Rattle.child_tasks.proofs.below.own_steps.{child_beyond, other_beyond, trap_is}
-use Rattle.entry_calls.specs.declared.answers.Lent.{Lent}
-use Rattle.shared_tree.specs.Ran.{AloneTo}
+use Rattle.shared_tree.proofs.Common.{◌≡◌, ℕ, ℤ, SFits, w64, rules, Option, None, Result, refl, sym, subst, ◌∙◌, IfOk, OnErr, to_z-of_z, Private, NotEntered, Ending, Beyond, Prints, Returns, SharedValue, EntersOrRefuses, refused, Tells, alone_entry, child_beyond, other_beyond, trap_is, Lent, AloneTo}
 use Rattle.shared_tree.proofs.HandedOn.{for_memory}
 use Rattle.shared_tree.proofs.shared.Shared.ran_alone.Goals as goal
 
@@ -53,7 +45,7 @@ returns-in_ok-enter_output-in-Prints-clause-refused c = sym c.alone_refused.ensu
 pub returns-in_err-enter_output-in-Prints-clause-refused : goal.returns-in_err-enter_output-in-Prints-clause-refused
 returns-in_err-enter_output-in-Prints-clause-refused c =
     let w : SharedValue = c.args.self.now in
-    for_memory (λ (r : Result (Option Lent) NotEntered). Answers r (refused w (alone_entry c.args.worker c.args.part.now))) (sym c.alone_refused.ensures ∙ c.in_default.is)
+    for_memory (λ (r : Result (Option Lent) NotEntered). EntersOrRefuses r (refused w (alone_entry c.args.worker c.args.part.now))) (sym c.alone_refused.ensures ∙ c.in_default.is)
     c.from_residual.result c.from_residual.ensures.1
 
 pub returns-in-Traps-clause-refused : goal.returns-in-Traps-clause-refused

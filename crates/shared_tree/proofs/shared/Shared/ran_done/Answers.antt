@@ -1,16 +1,4 @@
-use Rattle.std.proofs.Common.{refl, ◌≡◌, ℕ, ◌+◌, ◌-◌, Some, None, Err, [], slice_set, ap, sym, subst, ◌∙◌}
-use Rattle.leaf_collections.specs.below.hh_model.{Done}
-use Rattle.leaf_collections.specs.below.run_ledger.{Machine}
-use Rattle.leaf_collections.specs.below.heap_tree.{Ended, with_state}
-use Rattle.leaf_collections.specs.below.task_machine.{Private}
-use Rattle.leaf_collections.specs.below.shared_value.{Returns, NoMemory, IsSharedValue, SharedValue}
-use Rattle.leaf_collections.specs.below.task_homes.{Rest, HomesValue}
-use Rattle.leaf_collections.proofs.below.shared_value.{four_changed}
-use Rattle.child_tasks.specs.below.own_steps.{FinishesAlone, Tells, ended_rest}
-use Rattle.child_tasks.proofs.below.own_steps.{AsksAlone, asks_alone, alone_small, finishes_alone, finished_world, home_there, node_there}
-use Rattle.child_tasks.proofs.JoinPlaces.{same_world}
-use Rattle.entry_calls.specs.Calls.{EntersLeaving}
-use Rattle.shared_tree.specs.contracts.shared.Shared.{the_view}
+use Rattle.shared_tree.proofs.Common.{refl, ◌≡◌, ℕ, ◌+◌, ◌-◌, Some, None, Err, [], slice_set, ap, sym, subst, ◌∙◌, Done, Machine, Ended, with_state, Private, Returns, NoMemory, IsSharedValue, SharedValue, ParkedTask, TaskSlotsValue, four_changed, FinishesAlone, Tells, ended_rest, AsksAlone, asks_alone, alone_small, finishes_alone, finished_world, slot_there, node_there, same_world, EntersLeaving, the_view}
 use Rattle.shared_tree.proofs.StepsEntered.{along, entered}
 use Rattle.shared_tree.proofs.shared.Shared.ran_done.Goals as goal
 
@@ -27,11 +15,11 @@ set_state-requires c =
 pub make_block-requires : goal.make_block-requires
 make_block-requires c =
     let asks = asks_alone c.self.view_is c.self.invariant c.requires.fits c.requires.shared c.requires.free in
-    record { made = home_there asks }
+    record { made = slot_there asks }
 
 pub invariant_of-self : goal.invariant_of-self
 invariant_of-self c =
-    subst (λ (h : HomesValue). IsSharedValue (record (the_view c.self.inside) { rests = h.rests; sets = h.sets; marks = h.marks })) (sym c.make_block.ensures.homes) c.self.invariant
+    subst (λ (h : TaskSlotsValue). IsSharedValue (record (the_view c.self.inside) { rests = h.rests; sets = h.sets; marks = h.marks })) (sym c.make_block.ensures.task_slots) c.self.invariant
 
 pub invariant_of-self-2 : goal.invariant_of-self-2
 invariant_of-self-2 c =
@@ -40,14 +28,14 @@ invariant_of-self-2 c =
     let k : ℕ = c.args.worker in
     let asks : AsksAlone w k p = asks_alone c.self.view_is c.self.invariant c.requires.fits c.requires.shared c.requires.free in
     let T : (n : ℕ) × Tells w p Returns n = subst (λ (z : SharedValue). (n : ℕ) × Tells z p Returns n) (sym c.self.view_is) c.requires.returns in
-    let hm : HomesValue = record c.self.inside.heaps.homes { rests = slice_set w.rests p.task (Some (ended_rest p)); blocks = c.make_block.new.self.blocks } in
+    let hm : TaskSlotsValue = record c.self.inside.heaps.task_slots { rests = slice_set w.rests p.task (Some (ended_rest p)); blocks = c.make_block.new.self.blocks } in
     let put : c.put_rest.new.self ≡ hm =
     c.put_rest.ensures
-    ∙ (ap (λ (h : HomesValue). record h { rests = slice_set h.rests p.task (Some c.at_end.result) }) c.make_block.ensures.homes
-    ∙ ap (λ (r : Rest). record hm { rests = slice_set w.rests p.task (Some r) }) c.at_end.ensures) in
+    ∙ (ap (λ (h : TaskSlotsValue). record h { rests = slice_set h.rests p.task (Some c.at_end.result) }) c.make_block.ensures.task_slots
+    ∙ ap (λ (r : ParkedTask). record hm { rests = slice_set w.rests p.task (Some r) }) c.at_end.ensures) in
     along w k p _ _ c.enter_alone.ensures.steps c.enter_alone.ensures.journal
     (λ n j. IsSharedValue (record w { steps = n; end = Some (Machine Done); tree = c.set_state.new.self; rests = c.put_rest.new.self.rests; sets = c.put_rest.new.self.sets; marks = c.put_rest.new.self.marks; tasks_out = c.set.new.self; journal = j }))
-    (subst (λ (h : HomesValue). IsSharedValue (record w { steps = w.steps + (p.fresh + 1); end = Some (Machine Done); tree = c.set_state.new.self; rests = h.rests; sets = h.sets; marks = h.marks; tasks_out = c.set.new.self; journal = entered w k p })) (sym put)
+    (subst (λ (h : TaskSlotsValue). IsSharedValue (record w { steps = w.steps + (p.fresh + 1); end = Some (Machine Done); tree = c.set_state.new.self; rests = h.rests; sets = h.sets; marks = h.marks; tasks_out = c.set.new.self; journal = entered w k p })) (sym put)
     (subst IsSharedValue (sym (four_changed (record w { steps = w.steps + (p.fresh + 1); end = Some (Machine Done) }) (with_state w.tree p.task Ended) _ (slice_set w.rests p.task (Some (ended_rest p))) _ (slice_set w.tasks_out k None) _ (entered w k p) _
     c.set_state.ensures refl c.set.ensures refl))
     (finished_world asks T.0 T.1 c.requires.root (record { items = []; room = w.journal.room - 1 }))))
@@ -59,16 +47,16 @@ returns c =
     let k : ℕ = c.args.worker in
     let asks : AsksAlone w k p = asks_alone c.self.view_is c.self.invariant c.requires.fits c.requires.shared c.requires.free in
     let T : (n : ℕ) × Tells w p Returns n = subst (λ (z : SharedValue). (n : ℕ) × Tells z p Returns n) (sym c.self.view_is) c.requires.returns in
-    let hm : HomesValue = record c.self.inside.heaps.homes { rests = slice_set w.rests p.task (Some (ended_rest p)); blocks = c.make_block.new.self.blocks } in
+    let hm : TaskSlotsValue = record c.self.inside.heaps.task_slots { rests = slice_set w.rests p.task (Some (ended_rest p)); blocks = c.make_block.new.self.blocks } in
     let put : c.put_rest.new.self ≡ hm =
     c.put_rest.ensures
-    ∙ (ap (λ (h : HomesValue). record h { rests = slice_set h.rests p.task (Some c.at_end.result) }) c.make_block.ensures.homes
-    ∙ ap (λ (r : Rest). record hm { rests = slice_set w.rests p.task (Some r) }) c.at_end.ensures) in
+    ∙ (ap (λ (h : TaskSlotsValue). record h { rests = slice_set h.rests p.task (Some c.at_end.result) }) c.make_block.ensures.task_slots
+    ∙ ap (λ (r : ParkedTask). record hm { rests = slice_set w.rests p.task (Some r) }) c.at_end.ensures) in
     let finishes : FinishesAlone c.args.self.now (record w { steps = c.enter_alone.new.steps; end = Some (Machine Done); tree = c.set_state.new.self; rests = c.put_rest.new.self.rests; sets = c.put_rest.new.self.sets; marks = c.put_rest.new.self.marks; tasks_out = c.set.new.self; journal = c.enter_alone.new.journal }) k p =
     subst (λ (z : SharedValue). FinishesAlone z (record w { steps = c.enter_alone.new.steps; end = Some (Machine Done); tree = c.set_state.new.self; rests = c.put_rest.new.self.rests; sets = c.put_rest.new.self.sets; marks = c.put_rest.new.self.marks; tasks_out = c.set.new.self; journal = c.enter_alone.new.journal }) k p) c.self.view_is
     (along w k p _ _ c.enter_alone.ensures.steps c.enter_alone.ensures.journal
     (λ n j. FinishesAlone w (record w { steps = n; end = Some (Machine Done); tree = c.set_state.new.self; rests = c.put_rest.new.self.rests; sets = c.put_rest.new.self.sets; marks = c.put_rest.new.self.marks; tasks_out = c.set.new.self; journal = j }) k p)
-    (subst (λ (h : HomesValue). FinishesAlone w (record w { steps = w.steps + (p.fresh + 1); end = Some (Machine Done); tree = c.set_state.new.self; rests = h.rests; sets = h.sets; marks = h.marks; tasks_out = c.set.new.self; journal = entered w k p }) k p) (sym put)
+    (subst (λ (h : TaskSlotsValue). FinishesAlone w (record w { steps = w.steps + (p.fresh + 1); end = Some (Machine Done); tree = c.set_state.new.self; rests = h.rests; sets = h.sets; marks = h.marks; tasks_out = c.set.new.self; journal = entered w k p }) k p) (sym put)
     (subst (λ (z : SharedValue). FinishesAlone w z k p) (sym (four_changed (record w { steps = w.steps + (p.fresh + 1); end = Some (Machine Done) }) (with_state w.tree p.task Ended) _ (slice_set w.rests p.task (Some (ended_rest p))) _ (slice_set w.tasks_out k None) _ (entered w k p) _
     c.set_state.ensures refl c.set.ensures refl))
     (finishes_alone asks T.0 T.1 c.requires.root (record { items = []; room = w.journal.room - 1 }))))) in
@@ -78,6 +66,6 @@ pub returns-then-is_err : goal.returns-then-is_err
 returns-then-is_err c =
     let e : c.args.self.now ≡ record (the_view c.self.inside) { rests = c.make_block.new.self.rests; sets = c.make_block.new.self.sets; marks = c.make_block.new.self.marks } =
     sym c.self.view_is
-    ∙ ap (λ (h : HomesValue). record (the_view c.self.inside) { rests = h.rests; sets = h.sets; marks = h.marks }) (sym c.make_block.ensures.homes) in
+    ∙ ap (λ (h : TaskSlotsValue). record (the_view c.self.inside) { rests = h.rests; sets = h.sets; marks = h.marks }) (sym c.make_block.ensures.task_slots) in
     subst (λ (z : SharedValue). EntersLeaving c.args.self.now z c.args.worker c.args.part (Err (record { cause = NoMemory; part = c.args.part }))) e
     (record { refused = refl; same = same_world c.args.self.now; still = λ k p F. F; back = refl; answered = tt })

@@ -1,17 +1,9 @@
-use Rattle.std.proofs.Common.{false, true, ◌≡◌, ℕ, Option, Some, None, slice_set, ap, sym, ◌∙◌, ◌<◌, arith, refl, subst}
-use Rattle.std.specs.Prelude.{IfErr, OnErr, Result, Ok, Err}
-use Rattle.leaf_collections.specs.below.heap_tree.{parent_of, state_of, State, sibling}
-use Rattle.leaf_collections.specs.below.task_machine.{Private}
-use Rattle.leaf_collections.specs.below.shared_value.{NoMemory, NotRan, SharedValue, RanAnswers, refused, AllFit, Fits}
-use Rattle.child_tasks.specs.below.own_steps.{alone_entry}
-use Rattle.child_tasks.specs.ChildEnds.{IsAtEnd}
-use Rattle.child_tasks.specs.Joins.{IsUnchanged, SameButPlaces}
-use Rattle.child_tasks.proofs.ChildReturns.{end_shared, own_made, parent_low, tree_parent}
-use Rattle.child_tasks.proofs.NextStepForks.{few_tasks}
-use Rattle.child_tasks.proofs.JoinPlaces.{places_ends, places_fit, places_same, same_world}
+use Rattle.shared_tree.proofs.Common.{false, true, ◌≡◌, ℕ, Option, Some, None, slice_set, ap, sym, ◌∙◌, ◌<◌, arith, refl, subst, OnErr, Result, Ok, Err, parent_of, state_of, TaskState, sibling, Private, NoMemory, NotRan, SharedValue, RanAnswers, refused, AllFit, Fits, alone_entry, IsAtEnd, IsUnchanged, SameButPlaces, end_shared, own_made, parent_low, tree_parent, few_tasks, places_ends, places_same, same_world}
+use Rattle.std.specs.Prelude.{IfErr}
+use Rattle.fork_join_commit.proofs.JoinPlaces.{places_fit}
 use Rattle.shared_tree.proofs.shared.Shared.ran_ending.Goals as goal
 
--- if nothing has changed since an allocation failed, no place was made either
+-- if nothing has changed since an allocation failed, no capacity was reserved either
 unchanged : (w after : SharedValue) (r : Result (Option ℕ) NotRan) → IfErr r (λ e. e.cause ≡ NoMemory) → OnErr r (after ≡ w) → IfErr r (λ e. IsUnchanged e.cause w after)
 unchanged w after (Ok x) m e = m
 unchanged w after (Err x) m e = subst (λ c. IsUnchanged c w after) (sym m) (subst (SameButPlaces w) (sym e) (same_world w))
@@ -72,8 +64,8 @@ not_yes : false ≡ true → ⊥
 not_yes e = cc
 
 -- the state of the sibling, as it was read
-state_is : {f g : ℕ → Option State} {o : Option State} {t u : ℕ} → o ≡ f t → f ≡ g → t ≡ u → o ≡ g u
-state_is {f = f} {u = u} e same at = e ∙ (ap f at ∙ ap (λ (h : ℕ → Option State). h u) same)
+state_is : {f g : ℕ → Option TaskState} {o : Option TaskState} {t u : ℕ} → o ≡ f t → f ≡ g → t ≡ u → o ≡ g u
+state_is {f = f} {u = u} e same at = e ∙ (ap f at ∙ ap (λ (h : ℕ → Option TaskState). h u) same)
 
 pub returns-in-Some-clause-refused : goal.returns-in-Some-clause-refused
 returns-in-Some-clause-refused c = sym c.alone_refused.ensures ∙ c.in-Some.is

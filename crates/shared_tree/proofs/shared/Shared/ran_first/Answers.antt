@@ -1,21 +1,12 @@
-use Rattle.std.proofs.Common.{refl, ◌≡◌, ℕ, ◌+◌, ◌-◌, None, Some, [], slice_set, ap, sym, subst, ◌∙◌, ◌<◌}
-use Rattle.leaf_collections.specs.below.heap_tree.{Ended, state_of, with_state, sibling}
-use Rattle.leaf_collections.specs.below.task_machine.{Private}
-use Rattle.leaf_collections.specs.below.task_homes.{Rest, HomesValue}
-use Rattle.leaf_collections.specs.below.shared_value.{IsSharedValue, SharedValue}
-use Rattle.leaf_collections.proofs.below.shared_value.{four_changed}
-use Rattle.child_tasks.specs.below.own_steps.{ended_rest}
-use Rattle.child_tasks.proofs.below.own_steps.{alone_small, has_home, has_node}
-use Rattle.child_tasks.specs.ChildEnds.{EndsChild}
-use Rattle.child_tasks.proofs.ChildEnded.{alone_ends, alone_world}
-use Rattle.child_tasks.proofs.ChildReturns.{asked, asked_alone, asks_end}
-use Rattle.shared_tree.specs.contracts.shared.Shared.{the_view}
+use Rattle.shared_tree.proofs.Common.{refl, ◌≡◌, ℕ, ◌+◌, ◌-◌, None, Some, [], slice_set, ap, sym, subst, ◌∙◌, ◌<◌, Ended, state_of, with_state, sibling, Private, ParkedTask, TaskSlotsValue, IsSharedValue, SharedValue, four_changed, ended_rest, alone_small, EndsChild, alone_ends, asked, asked_alone, asks_end, the_view}
+use Rattle.fork_join_commit.proofs.below.step_commit.{has_slot, has_node}
+use Rattle.fork_join_commit.proofs.ChildEnded.{alone_world}
 use Rattle.shared_tree.proofs.StepsEntered.{along, entered}
 use Rattle.shared_tree.proofs.shared.Shared.ran_first.Goals as goal
 
 pub make_block-requires : goal.make_block-requires
 make_block-requires c =
-    record { made = has_home (asked (asks_end c.self.view_is c.self.invariant c.requires.fits c.requires.ends c.requires.free)) }
+    record { made = has_slot (asked (asks_end c.self.view_is c.self.invariant c.requires.fits c.requires.ends c.requires.free)) }
 
 pub enter_alone-requires-clause-small : goal.enter_alone-requires-clause-small
 enter_alone-requires-clause-small c =
@@ -28,7 +19,7 @@ set_state-requires c =
 
 pub invariant_of-self : goal.invariant_of-self
 invariant_of-self c =
-    subst (λ (h : HomesValue). IsSharedValue (record (the_view c.self.inside) { rests = h.rests; sets = h.sets; marks = h.marks })) (sym c.make_block.ensures.homes) c.self.invariant
+    subst (λ (h : TaskSlotsValue). IsSharedValue (record (the_view c.self.inside) { rests = h.rests; sets = h.sets; marks = h.marks })) (sym c.make_block.ensures.task_slots) c.self.invariant
 
 pub invariant_of-self-2 : goal.invariant_of-self-2
 invariant_of-self-2 c =
@@ -36,14 +27,14 @@ invariant_of-self-2 c =
     let p : Private = c.args.part in
     let k : ℕ = c.args.worker in
     let no : state_of w.tree (sibling p.task) ≡ Some Ended → ⊥ = λ e. c.requires.alone (subst (λ (z : SharedValue). state_of z.tree (sibling p.task) ≡ Some Ended) c.self.view_is e) in
-    let hm : HomesValue = record c.self.inside.heaps.homes { rests = slice_set w.rests p.task (Some (ended_rest p)); blocks = c.make_block.new.self.blocks } in
+    let hm : TaskSlotsValue = record c.self.inside.heaps.task_slots { rests = slice_set w.rests p.task (Some (ended_rest p)); blocks = c.make_block.new.self.blocks } in
     let put : c.put_rest.new.self ≡ hm =
     c.put_rest.ensures
-    ∙ (ap (λ (h : HomesValue). record h { rests = slice_set h.rests p.task (Some c.at_end.result) }) c.make_block.ensures.homes
-    ∙ ap (λ (r : Rest). record hm { rests = slice_set w.rests p.task (Some r) }) c.at_end.ensures) in
+    ∙ (ap (λ (h : TaskSlotsValue). record h { rests = slice_set h.rests p.task (Some c.at_end.result) }) c.make_block.ensures.task_slots
+    ∙ ap (λ (r : ParkedTask). record hm { rests = slice_set w.rests p.task (Some r) }) c.at_end.ensures) in
     along w k p _ _ c.enter_alone.ensures.steps c.enter_alone.ensures.journal
     (λ n j. IsSharedValue (record w { steps = n; tree = c.set_state.new.self; rests = c.put_rest.new.self.rests; sets = c.put_rest.new.self.sets; marks = c.put_rest.new.self.marks; tasks_out = c.set.new.self; journal = j }))
-    (subst (λ (h : HomesValue). IsSharedValue (record w { steps = w.steps + (p.fresh + 1); tree = c.set_state.new.self; rests = h.rests; sets = h.sets; marks = h.marks; tasks_out = c.set.new.self; journal = entered w k p })) (sym put)
+    (subst (λ (h : TaskSlotsValue). IsSharedValue (record w { steps = w.steps + (p.fresh + 1); tree = c.set_state.new.self; rests = h.rests; sets = h.sets; marks = h.marks; tasks_out = c.set.new.self; journal = entered w k p })) (sym put)
     (subst IsSharedValue (sym (four_changed (record w { steps = w.steps + (p.fresh + 1) }) (with_state w.tree p.task Ended) _ (slice_set w.rests p.task (Some (ended_rest p))) _ (slice_set w.tasks_out k None) _ (entered w k p) _
     c.set_state.ensures refl c.set.ensures refl))
     (alone_world (asks_end c.self.view_is c.self.invariant c.requires.fits c.requires.ends c.requires.free) no (record { items = []; room = w.journal.room - 1 }))))
@@ -54,15 +45,15 @@ returns-clause-answered c =
     let p : Private = c.args.part in
     let k : ℕ = c.args.worker in
     let no : state_of w.tree (sibling p.task) ≡ Some Ended → ⊥ = λ e. c.requires.alone (subst (λ (z : SharedValue). state_of z.tree (sibling p.task) ≡ Some Ended) c.self.view_is e) in
-    let hm : HomesValue = record c.self.inside.heaps.homes { rests = slice_set w.rests p.task (Some (ended_rest p)); blocks = c.make_block.new.self.blocks } in
+    let hm : TaskSlotsValue = record c.self.inside.heaps.task_slots { rests = slice_set w.rests p.task (Some (ended_rest p)); blocks = c.make_block.new.self.blocks } in
     let put : c.put_rest.new.self ≡ hm =
     c.put_rest.ensures
-    ∙ (ap (λ (h : HomesValue). record h { rests = slice_set h.rests p.task (Some c.at_end.result) }) c.make_block.ensures.homes
-    ∙ ap (λ (r : Rest). record hm { rests = slice_set w.rests p.task (Some r) }) c.at_end.ensures) in
+    ∙ (ap (λ (h : TaskSlotsValue). record h { rests = slice_set h.rests p.task (Some c.at_end.result) }) c.make_block.ensures.task_slots
+    ∙ ap (λ (r : ParkedTask). record hm { rests = slice_set w.rests p.task (Some r) }) c.at_end.ensures) in
     subst (λ (z : SharedValue). EndsChild z (record w { steps = c.enter_alone.new.steps; tree = c.set_state.new.self; rests = c.put_rest.new.self.rests; sets = c.put_rest.new.self.sets; marks = c.put_rest.new.self.marks; tasks_out = c.set.new.self; journal = c.enter_alone.new.journal }) k p None) c.self.view_is
     (along w k p _ _ c.enter_alone.ensures.steps c.enter_alone.ensures.journal
     (λ n j. EndsChild w (record w { steps = n; tree = c.set_state.new.self; rests = c.put_rest.new.self.rests; sets = c.put_rest.new.self.sets; marks = c.put_rest.new.self.marks; tasks_out = c.set.new.self; journal = j }) k p None)
-    (subst (λ (h : HomesValue). EndsChild w (record w { steps = w.steps + (p.fresh + 1); tree = c.set_state.new.self; rests = h.rests; sets = h.sets; marks = h.marks; tasks_out = c.set.new.self; journal = entered w k p }) k p None) (sym put)
+    (subst (λ (h : TaskSlotsValue). EndsChild w (record w { steps = w.steps + (p.fresh + 1); tree = c.set_state.new.self; rests = h.rests; sets = h.sets; marks = h.marks; tasks_out = c.set.new.self; journal = entered w k p }) k p None) (sym put)
     (subst (λ (z : SharedValue). EndsChild w z k p None) (sym (four_changed (record w { steps = w.steps + (p.fresh + 1) }) (with_state w.tree p.task Ended) _ (slice_set w.rests p.task (Some (ended_rest p))) _ (slice_set w.tasks_out k None) _ (entered w k p) _
     c.set_state.ensures refl c.set.ensures refl))
     (alone_ends (asks_end c.self.view_is c.self.invariant c.requires.fits c.requires.ends c.requires.free) no (record { items = []; room = w.journal.room - 1 })))))

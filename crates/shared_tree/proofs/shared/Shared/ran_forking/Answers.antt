@@ -1,11 +1,4 @@
-use Rattle.std.proofs.Common.{◌≡◌, ◌≤◌, ◌<◌, ℕ, None, length, sym, subst, ◌∙◌}
-use Rattle.leaf_collections.specs.below.hh_model.{Depth}
-use Rattle.leaf_collections.specs.below.heap_tree.{depth_of}
-use Rattle.leaf_collections.specs.below.task_machine.{Private}
-use Rattle.leaf_collections.specs.below.shared_value.{SharedValue, refused}
-use Rattle.child_tasks.specs.below.own_steps.{alone_entry}
-use Rattle.child_tasks.proofs.below.own_steps.{node_there, trap_is}
-use Rattle.child_tasks.proofs.NextStepForks.{deep_traps, fork_shared}
+use Rattle.shared_tree.proofs.Common.{◌≡◌, ◌≤◌, ◌<◌, ℕ, None, length, sym, subst, ◌∙◌, Depth, depth_of, Private, SharedValue, refused, alone_entry, node_there, trap_is, deep_traps, fork_shared}
 use Rattle.shared_tree.proofs.shared.Shared.ran_forking.Goals as goal
 
 pub depth-requires : goal.depth-requires

@@ -1,8 +1,4 @@
-use Rattle.std.proofs.Common.{Err, refl, subst}
-use Rattle.leaf_collections.specs.below.shared_value.{NotRan, SharedValue, IsCaused}
-use Rattle.child_tasks.specs.declared.fork.Forking.{Forking}
-use Rattle.entry_calls.specs.Calls.{EntersLeaving}
-use Rattle.entry_calls.specs.Ran.{IsAtRootEnd, LeavesBy, RanTo}
+use Rattle.shared_tree.proofs.Common.{Err, refl, subst, NotRan, SharedValue, IsCaused, Forking, EntersLeaving, IsAtRootEnd, LeavesBy, RanTo}
 use Rattle.shared_tree.proofs.HandedOn.{handed_on}
 use Rattle.shared_tree.proofs.Joints.{fit_by, forks_to, holds_none, ran_by, same_by}
 use Rattle.shared_tree.proofs.shared.Shared.ran_leaving.Goals as goal

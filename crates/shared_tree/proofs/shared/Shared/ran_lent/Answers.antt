@@ -1,9 +1,4 @@
-use Rattle.std.proofs.Common.{◌≡◌, None, Err, refl, sym, subst}
-use Rattle.leaf_collections.specs.below.task_machine.{Private}
-use Rattle.leaf_collections.specs.below.shared_value.{NotEntered, SharedValue, Answers, refused, Fits}
-use Rattle.child_tasks.specs.below.own_steps.{IsBeyond, IsShared, alone_entry}
-use Rattle.entry_calls.specs.Calls.{EntersLent}
-use Rattle.shared_tree.specs.Ran.{AloneTo, IsJoint}
+use Rattle.shared_tree.proofs.Common.{◌≡◌, None, Err, refl, sym, subst, Private, NotEntered, SharedValue, EntersOrRefuses, refused, Fits, IsBeyond, IsShared, alone_entry, EntersLent, AloneTo, IsJoint}
 use Rattle.shared_tree.proofs.HandedOn.{handed_on}
 use Rattle.shared_tree.proofs.Joints.{before_same, fit_by, same_by, then_same}
 use Rattle.shared_tree.proofs.shared.Shared.ran_lent.Goals as goal
@@ -62,7 +57,7 @@ returns-in-None c =
     let B : IsBeyond w after p q = subst (AloneTo w after c.args.worker p q) c.in-None.is c.in_ok-lent.ensures.answered in
     let free : refused after (alone_entry c.args.worker q) ≡ None = then_same w after p q B.same B.part (λ z r. refused z (alone_entry c.args.worker r) ≡ None) c.in_ok-lent.ensures.refused in
     let joint : EntersLent after c.lent_joint.new.self c.args.worker q c.lent_joint.new.part c.lent_joint.result = record {
-      refused = subst (Answers c.lent_joint.result) (sym free) c.lent_joint.ensures.refused;
+      refused = subst (EntersOrRefuses c.lent_joint.result) (sym free) c.lent_joint.ensures.refused;
       same = c.lent_joint.ensures.same;
       still = c.lent_joint.ensures.still;
       back = c.lent_joint.ensures.back;

@@ -1,9 +1,4 @@
-use Rattle.std.proofs.Common.{◌≡◌, ◌<◌, ℕ, false, refl, sym, subst, ◌∙◌}
-use Rattle.leaf_collections.specs.below.run_trace.{Ran}
-use Rattle.leaf_collections.specs.below.task_machine.{Private}
-use Rattle.leaf_collections.specs.below.shared_value.{SharedValue, first_cause, refused, Fits, IsSharedValue}
-use Rattle.leaf_collections.proofs.below.shared_value.{ran_answer}
-use Rattle.shared_tree.specs.contracts.shared.Shared.{the_view}
+use Rattle.shared_tree.proofs.Common.{◌≡◌, ◌<◌, ℕ, false, refl, sym, subst, ◌∙◌, Ran, Private, SharedValue, first_cause, refused, Fits, IsSharedValue, ran_answer, the_view}
 use Rattle.shared_tree.proofs.shared.Shared.ran_private.Goals as goal
 
 -- the first cause is the only one

@@ -1,8 +1,5 @@
-use Rattle.std.proofs.Common.{◌≡◌, ℕ, None, ap, sym, subst, ◌∙◌}
-use Rattle.leaf_collections.specs.below.task_machine.{Private}
-use Rattle.leaf_collections.specs.below.shared_value.{SharedValue, accounts, Fits}
-use Rattle.leaf_collections.proofs.below.shared_value.{are_fields}
-use Rattle.shared_tree.specs.contracts.shared.Shared.{the_view}
+use Rattle.shared_tree.proofs.Common.{◌≡◌, ℕ, None, ap, sym, subst, ◌∙◌, Private, SharedValue, accounts, Fits, the_view}
+use Rattle.leaf_collections.proofs.below.core_invariant.{are_fields}
 use Rattle.shared_tree.proofs.shared.Shared.roots.Goals as goal
 
 pub targets-requires : goal.targets-requires

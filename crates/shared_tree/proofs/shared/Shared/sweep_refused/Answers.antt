@@ -1,10 +1,4 @@
-use Rattle.std.proofs.Common.{◌≡◌, ℕ, true, false, is_some, ap, sym, subst, ◌∙◌}
-use Rattle.leaf_collections.specs.below.run_trace.{EntryValue, Sweep}
-use Rattle.leaf_collections.specs.below.shared_value.{first_cause, or_else, refused, SharedValue}
-use Rattle.leaf_collections.proofs.below.shared_value.{found_first, nothing_first}
-use Rattle.heap_marking.specs.MarkCauses.{marking_cause}
-use Rattle.heap_marking.proofs.SweptRefusals.{sweep_answer, sweep_cause}
-use Rattle.shared_tree.specs.contracts.shared.Shared.{the_view}
+use Rattle.shared_tree.proofs.Common.{◌≡◌, ℕ, true, false, is_some, ap, sym, subst, ◌∙◌, EntryValue, Sweep, first_cause, or_else, refused, SharedValue, found_first, nothing_first, marking_cause, sweep_answer, sweep_cause, the_view}
 use Rattle.shared_tree.proofs.shared.Shared.sweep_refused.Goals as goal
 
 pub returns-then-is_some-2 : goal.returns-then-is_some-2

@@ -1,7 +1,4 @@
-use Rattle.std.proofs.Common.{length, ap, ◌∙◌}
-use Rattle.leaf_collections.specs.below.shared_value.{SharedValue, accounts}
-use Rattle.leaf_collections.proofs.below.shared_value.{tree_long}
-use Rattle.shared_tree.specs.contracts.shared.Shared.{the_view}
+use Rattle.shared_tree.proofs.Common.{length, ap, ◌∙◌, SharedValue, accounts, tree_long, the_view}
 use Rattle.shared_tree.proofs.shared.Shared.tasks.Goals as goal
 
 pub returns : goal.returns

@@ -1,11 +1,5 @@
-use Rattle.std.proofs.Common.{◌≡◌, ℕ, Some, None, option_copied, ap, sym, ◌∙◌}
-use Rattle.leaf_collections.specs.below.run_ledger.{heap_of, words_in}
-use Rattle.leaf_collections.specs.below.alloc_path.{counted}
-use Rattle.leaf_collections.specs.below.shared_value.{SharedValue, accounts, rest_at}
-use Rattle.heap_marking.specs.MarkCauses.{waiting_cause}
-use Rattle.heap_marking.proofs.MarkEntries.{words_now}
-use Rattle.heap_marking.proofs.WaitingHome.{never_gone}
-use Rattle.shared_tree.specs.contracts.shared.Shared.{the_view}
+use Rattle.shared_tree.proofs.Common.{◌≡◌, ℕ, Some, None, option_copied, ap, sym, ◌∙◌, heap_of, words_in, counted, SharedValue, accounts, rest_at, waiting_cause, words_now, the_view}
+use Rattle.heap_marking.proofs.WaitingSlot.{never_gone}
 use Rattle.shared_tree.proofs.shared.Shared.words_at.Goals as goal
 
 pub unreachable-requires : goal.unreachable-requires

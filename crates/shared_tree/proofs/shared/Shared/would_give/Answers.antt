@@ -1,10 +1,4 @@
-use Rattle.std.proofs.Common.{◌≡◌, ℕ, Some, None, option_copied, ap, sym, ◌∙◌}
-use Rattle.leaf_collections.specs.below.run_ledger.{heap_of, left_in, sweep_number}
-use Rattle.leaf_collections.specs.below.shared_value.{SharedValue, accounts, marks_at, rest_at}
-use Rattle.heap_marking.specs.MarkCauses.{marking_cause}
-use Rattle.heap_marking.proofs.MarkedHeap.{never_gone}
-use Rattle.heap_marking.proofs.SweptUnits.{would_be}
-use Rattle.shared_tree.specs.contracts.shared.Shared.{the_view}
+use Rattle.shared_tree.proofs.Common.{◌≡◌, ℕ, Some, None, option_copied, ap, sym, ◌∙◌, heap_of, left_in, sweep_number, SharedValue, accounts, marks_at, rest_at, marking_cause, never_gone, would_be, the_view}
 use Rattle.shared_tree.proofs.shared.Shared.would_give.Goals as goal
 
 pub unreachable-requires : goal.unreachable-requires

@@ -1,7 +1,4 @@
-use Rattle.std.proofs.lemmas.Option.{IfSome_then}
-use Rattle.listed.proofs.Options.{if_none}
-use Rattle.listed.proofs.Places.{got_item}
-use Rattle.steal_scheduler.specs.Thefts.{Stole, StoleNone}
+use Rattle.steal_scheduler.proofs.Common.{IfSome_then, if_none, got_item, Stole, StoleNone}
 use Rattle.steal_scheduler.proofs.Lists.{changes_at}
 use Rattle.steal_scheduler.proofs.hand.Hand.steal_from.Goals as goal
 

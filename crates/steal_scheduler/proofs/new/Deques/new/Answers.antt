@@ -1,9 +1,4 @@
-use Rattle.std.proofs.Common.{rules, ◌≡◌, [], ◌∷◌, ◌++◌, length, sym, ap, ◌∙◌, subst}
-use Rattle.std.specs.Vec.Iter.{into_iter_items, into_iter_len}
-use Rattle.std.proofs.lemmas.Iterator.Consumers.{YieldsList-end}
-use Rattle.std.proofs.lemmas.Iterator.Adapters.{YieldsList-from_vec}
-use Rattle.std.proofs.lemmas.List.{map-id}
-use Rattle.steal_scheduler.specs.New.{EachPlace, StealFrom, AreTheftsOf, IsHandOf}
+use Rattle.steal_scheduler.proofs.Common.{rules, ◌≡◌, [], ◌∷◌, ◌++◌, length, sym, ap, ◌∙◌, subst, into_iter_items, into_iter_len, YieldsList-end, YieldsList-from_vec, map-id, EachPlace, StealFrom, AreTheftsOf, IsHandOf}
 use Rattle.steal_scheduler.proofs.Lists.{places_more, longer}
 use Rattle.steal_scheduler.proofs.Made.{hand_of, all_new}
 use Rattle.steal_scheduler.proofs.new.Deques.new.Goals as goal

@@ -1,5 +1,4 @@
-use Rattle.std.proofs.Common.{◌≡◌, length}
-use Rattle.steal_scheduler.specs.New.{EachPlace, IsHandOf}
+use Rattle.steal_scheduler.proofs.Common.{◌≡◌, length, EachPlace, IsHandOf}
 use Rattle.steal_scheduler.proofs.new.Deques.new.Given as goal
 
 abbrev pub invariant-loop-own : goal.invariant-loop-own

@@ -1,5 +1,4 @@
-use Rattle.std.proofs.Common.{◌≡◌}
-use Rattle.crossbeam_deque.specs.Handles.{view, stealer_deque, SamePass}
+use Rattle.steal_scheduler.proofs.Common.{◌≡◌, view, stealer_deque, SamePass}
 use Rattle.steal_scheduler.proofs.victim_deque.VictimDeque.steal.Given as goal
 
 abbrev pub invariant-loop : goal.invariant-loop

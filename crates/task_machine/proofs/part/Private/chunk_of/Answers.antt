@@ -1,4 +1,4 @@
-use Rattle.alloc_path.proofs.HeapLemmas.{place_within}
+use Rattle.leaf_heap.proofs.HeapLemmas.{place_within}
 use Rattle.task_machine.proofs.part.Private.chunk_of.Goals as goal
 
 pub chunk_in-requires : goal.chunk_in-requires

@@ -1,8 +1,5 @@
-use Rattle.std.proofs.Common.{◌≡◌, ◌+◌, arith, ap, sym, subst, ◌∙◌, is_some}
-use Rattle.alloc_path.specs.LeafHeapValue.{place_for}
-use Rattle.task_machine.specs.declared.plan.Plan.{Plan}
+use Rattle.task_machine.proofs.Common.{◌≡◌, ◌+◌, arith, ap, sym, subst, ◌∙◌, is_some, place_for, Plan, IsReady}
 use Rattle.task_machine.specs.declared.plan.Plan.TheVariants.{Pack}
-use Rattle.task_machine.specs.Ready.{IsReady}
 use Rattle.task_machine.proofs.Spots.{alloc_ready}
 use Rattle.task_machine.proofs.part.Private.decide_pack.Goals as goal
 

@@ -1,6 +1,4 @@
-use Rattle.std.proofs.Common.{sym, subst}
-use Rattle.alloc_path.specs.LeafHeapValue.{LeafHeapValue}
-use Rattle.task_machine.specs.Begin.{FitsAsWell}
+use Rattle.task_machine.proofs.Common.{sym, subst, LeafHeapValue, FitsAsWell}
 use Rattle.task_machine.proofs.Entries.{since_fits}
 use Rattle.task_machine.proofs.part.Private.reset_since.Goals as goal
 

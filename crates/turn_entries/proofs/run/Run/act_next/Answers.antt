@@ -1,7 +1,4 @@
-use Rattle.std.proofs.Common.{◌<◌, ap, sym, subst, ◌∙◌}
-use Rattle.entry_calls.specs.below.run_trace.{SettingsValue}
-use Rattle.entry_calls.specs.below.shared_value.{SharedValue, accounts}
-use Rattle.turn_entries.specs.Next.{going_kind}
+use Rattle.turn_entries.proofs.Common.{◌<◌, ap, sym, subst, ◌∙◌, SettingsValue, SharedValue, accounts, going_kind}
 use Rattle.turn_entries.proofs.Turning.{acts_then, brings_then, not_over, roomier}
 use Rattle.turn_entries.proofs.run.Run.act_next.Goals as goal
 

@@ -1,8 +1,4 @@
-use Rattle.std.proofs.Common.{ap, sym, subst, ◌∙◌, Some}
-use Rattle.entry_calls.specs.below.run_trace.{Begin}
-use Rattle.entry_calls.specs.below.leaf_copy_gc.{ToChunks}
-use Rattle.entry_calls.specs.below.task_machine.{Private}
-use Rattle.entry_calls.specs.below.shared_value.{Enters, IsCaused, refused, Fits, HasBegun}
+use Rattle.turn_entries.proofs.Common.{ap, sym, subst, ◌∙◌, Some, Begin, ToChunks, Private, Enters, IsCaused, refused, Fits, HasBegun}
 use Rattle.turn_entries.proofs.Free.{begin_free, only_memory}
 use Rattle.turn_entries.proofs.Paying.{pays_nothing}
 use Rattle.turn_entries.proofs.Turning.{not_over, one, unchanged}
@@ -11,8 +7,8 @@ use Rattle.turn_entries.proofs.run.Run.begin_in.Goals as goal
 pub leaf_begin-requires-clause-fits : goal.leaf_begin-requires-clause-fits
 leaf_begin-requires-clause-fits g c = subst (Fits (g.P.EntryCalls.value c.args.self.paced) c.args.worker) (sym c.get_mut.ensures.value) c.requires.paused.may.fits
 
-pub wanting-requires : goal.wanting-requires
-wanting-requires g c =
+pub out_of_memory-requires : goal.out_of_memory-requires
+out_of_memory-requires g c =
     only_memory c.in-Err.cause _ (begin_free (g.P.EntryCalls.value c.args.self.paced) c.args.worker c.args.part c.stands.ensures.stands c.requires.enter.free c.requires.paused.may.fits c.requires.paused.may.idle c.requires.fresh c.requires.enter.goes c.requires.paused c.requires.enough)
     (subst (λ (q : Private). IsCaused c.in-Err.cause (refused (g.P.EntryCalls.value c.args.self.paced) (record { worker = c.args.worker; kind = Begin q.task }))) c.get_mut.ensures.value c.in-Err.ensures.refused)
 
@@ -33,7 +29,7 @@ returns-in-Ok g c = λ ready.
     ))
 
 pub returns-in-Err : goal.returns-in-Err
-returns-in-Err g c = λ ready. c.wanting.ensures (g.P.EntryCalls.value c.args.self.paced) c.args.worker ready (Some (Begin c.args.part.task)) (unchanged (g.P.EntryCalls.value c.args.self.paced) (g.P.EntryCalls.value c.leaf_begin.new.self) c.in-Err.ensures.same) (not_over (g.P.EntryCalls.value c.args.self.paced) c.requires.enter.on c.requires.enter.goes)
+returns-in-Err g c = λ ready. c.out_of_memory.ensures (g.P.EntryCalls.value c.args.self.paced) c.args.worker ready (Some (Begin c.args.part.task)) (unchanged (g.P.EntryCalls.value c.args.self.paced) (g.P.EntryCalls.value c.leaf_begin.new.self) c.in-Err.ensures.same) (not_over (g.P.EntryCalls.value c.args.self.paced) c.requires.enter.on c.requires.enter.goes)
 
 pub leaf_begin-requires-clause-room : goal.leaf_begin-requires-clause-room
 leaf_begin-requires-clause-room g c = c.requires.enter.room

@@ -1,5 +1,4 @@
-use Rattle.std.proofs.Common.{refl, Some}
-use Rattle.entry_calls.specs.below.run_trace.{Begin}
+use Rattle.turn_entries.proofs.Common.{refl, Some, Begin}
 use Rattle.turn_entries.proofs.Turning.{not_over, unchanged}
 use Rattle.turn_entries.proofs.run.Run.begin_leaf.Goals as goal
 

@@ -1,7 +1,4 @@
-use Rattle.std.proofs.Common.{Some, ap, sym, subst, true, false}
-use Rattle.entry_calls.specs.below.run_trace.{Begin, PutOff}
-use Rattle.entry_calls.specs.below.shared_value.{Fits}
-use Rattle.turn_entries.specs.Next.{due_kind}
+use Rattle.turn_entries.proofs.Common.{Some, ap, sym, subst, true, false, Begin, PutOff, Fits, due_kind}
 use Rattle.turn_entries.proofs.Coming.{acts_same, due_begins, due_waits, enough_is}
 use Rattle.turn_entries.proofs.run.Run.collect.Goals as goal
 

@@ -1,9 +1,4 @@
-use Rattle.std.proofs.Common.{ap, sym, ◌∙◌, is_some}
-use Rattle.entry_calls.specs.below.run_trace.{Fuel}
-use Rattle.entry_calls.specs.below.run_ledger.{Ledger}
-use Rattle.entry_calls.proofs.below.journal_laws.{not_refused}
-use Rattle.entry_calls.specs.below.shared_value.{cause_of}
-use Rattle.entry_calls.proofs.below.heap_marking.{entered_accounts}
+use Rattle.turn_entries.proofs.Common.{ap, sym, ◌∙◌, is_some, Fuel, Ledger, not_refused, cause_of, entered_accounts}
 use Rattle.turn_entries.proofs.Free.{fuel_free}
 use Rattle.turn_entries.proofs.Turning.{one_of_all}
 use Rattle.turn_entries.proofs.run.Run.end_for_fuel.Goals as goal

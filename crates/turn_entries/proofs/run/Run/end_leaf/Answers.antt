@@ -1,11 +1,4 @@
-use Rattle.std.proofs.Common.{◌≡◌, ap, sym, subst, ◌∙◌}
-use Rattle.entry_calls.specs.below.run_trace.{Kind, End}
-use Rattle.entry_calls.proofs.below.journal_laws.{not_refused}
-use Rattle.entry_calls.specs.below.task_machine.{Private}
-use Rattle.entry_calls.specs.below.shared_value.{Enters, refused}
-use Rattle.entry_calls.specs.below.leaf_collections.{FitsCopied, end_entry, ended}
-use Rattle.entry_calls.proofs.below.leaf_collections.{end_free}
-use Rattle.entry_calls.specs.Ends.{end_cause}
+use Rattle.turn_entries.proofs.Common.{◌≡◌, ap, sym, subst, ◌∙◌, Kind, End, not_refused, Private, Enters, refused, FitsCopied, end_entry, ended, end_free, end_cause}
 use Rattle.turn_entries.proofs.Going.{may_ended}
 use Rattle.turn_entries.proofs.Paying.{pays_nothing}
 use Rattle.turn_entries.proofs.Turning.{one}

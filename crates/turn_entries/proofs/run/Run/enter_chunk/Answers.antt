@@ -1,7 +1,4 @@
-use Rattle.std.proofs.Common.{◌≡◌, Some, sym, subst}
-use Rattle.entry_calls.specs.below.run_trace.{Chunk}
-use Rattle.entry_calls.specs.below.task_machine.{Private}
-use Rattle.entry_calls.specs.below.shared_value.{Enters, IsCaused, refused, Fits}
+use Rattle.turn_entries.proofs.Common.{◌≡◌, Some, sym, subst, Chunk, Private, Enters, IsCaused, refused, Fits}
 use Rattle.turn_entries.proofs.Free.{chunk_free, only_memory}
 use Rattle.turn_entries.proofs.Going.{may_heap}
 use Rattle.turn_entries.proofs.Paying.{pays_nothing}
@@ -11,8 +8,8 @@ use Rattle.turn_entries.proofs.run.Run.enter_chunk.Goals as goal
 pub chunk-requires-clause-fits : goal.chunk-requires-clause-fits
 chunk-requires-clause-fits g c = subst (Fits (g.P.EntryCalls.value c.args.self.paced) c.args.worker) (sym c.get_mut.ensures.value) c.requires.paused.may.fits
 
-pub wanting-requires : goal.wanting-requires
-wanting-requires g c =
+pub out_of_memory-requires : goal.out_of_memory-requires
+out_of_memory-requires g c =
     only_memory c.in-Err.cause _ (chunk_free (g.P.EntryCalls.value c.args.self.paced) c.args.worker c.args.part c.stands.ensures.stands c.requires.enter.free c.requires.paused.may.fits c.requires.paused.may.idle c.requires.fresh c.requires.enter.goes c.requires.paused)
     (subst (λ (q : Private). IsCaused c.in-Err.cause (refused (g.P.EntryCalls.value c.args.self.paced) (record { worker = c.args.worker; kind = Chunk q.task }))) c.get_mut.ensures.value c.in-Err.ensures.refused)
 
@@ -29,7 +26,7 @@ returns-in-Ok g c = λ ready.
     ))
 
 pub returns-in-Err : goal.returns-in-Err
-returns-in-Err g c = λ ready. c.wanting.ensures (g.P.EntryCalls.value c.args.self.paced) c.args.worker ready (Some (Chunk c.args.part.task)) (unchanged (g.P.EntryCalls.value c.args.self.paced) (g.P.EntryCalls.value c.chunk.new.self) c.in-Err.ensures.same) (not_over (g.P.EntryCalls.value c.args.self.paced) c.requires.enter.on c.requires.enter.goes)
+returns-in-Err g c = λ ready. c.out_of_memory.ensures (g.P.EntryCalls.value c.args.self.paced) c.args.worker ready (Some (Chunk c.args.part.task)) (unchanged (g.P.EntryCalls.value c.args.self.paced) (g.P.EntryCalls.value c.chunk.new.self) c.in-Err.ensures.same) (not_over (g.P.EntryCalls.value c.args.self.paced) c.requires.enter.on c.requires.enter.goes)
 
 pub chunk-requires-clause-room : goal.chunk-requires-clause-room
 chunk-requires-clause-room g c = c.requires.enter.room

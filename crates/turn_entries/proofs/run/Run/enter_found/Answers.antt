@@ -1,5 +1,4 @@
-use Rattle.std.proofs.Common.{Some, ap}
-use Rattle.turn_entries.specs.declared.between_turns.Ready.TheVariants.{Found}
+use Rattle.turn_entries.proofs.Common.{Some, ap, Found}
 use Rattle.turn_entries.proofs.Coming.{acts_brought}
 use Rattle.turn_entries.proofs.run.Run.enter_found.Goals as goal
 

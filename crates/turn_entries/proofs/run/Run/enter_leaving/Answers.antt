@@ -1,10 +1,5 @@
-use Rattle.std.proofs.Common.{◌+◌, Some, sym, subst}
-use Rattle.entry_calls.specs.below.run_trace.{Ran}
-use Rattle.entry_calls.specs.below.task_machine.{Private, Shared}
-use Rattle.entry_calls.specs.Ran.{LeavesBy}
+use Rattle.turn_entries.proofs.Common.{◌+◌, Some, sym, subst, Ran, Private, Shared, LeavesBy, ActsFor, IsPaused}
 use Rattle.turn_entries.specs.declared.between_turns.Ready.TheVariants.{Paused as HasPaused}
-use Rattle.turn_entries.specs.Acts.{ActsFor}
-use Rattle.turn_entries.specs.Parts.{IsPaused}
 use Rattle.turn_entries.proofs.run.Run.enter_leaving.Goals as goal
 
 pub ran_in-requires-clause-paused : goal.ran_in-requires-clause-paused

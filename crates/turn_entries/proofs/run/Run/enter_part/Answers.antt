@@ -1,8 +1,5 @@
-use Rattle.std.proofs.Common.{arith}
-use Rattle.entry_calls.specs.below.run_trace.{Chunk}
-use Rattle.entry_calls.specs.below.task_machine.{Due, NeedChunk, Spent}
+use Rattle.turn_entries.proofs.Common.{arith, Chunk, Due, NeedChunk, Spent, due_kind}
 use Rattle.turn_entries.specs.declared.between_turns.Ready.TheVariants.{Paused as HasPaused}
-use Rattle.turn_entries.specs.Next.{due_kind}
 use Rattle.turn_entries.proofs.Coming.{acts_at_once, acts_fresh, acts_paused}
 use Rattle.turn_entries.proofs.run.Run.enter_part.Goals as goal
 

@@ -1,8 +1,4 @@
-use Rattle.std.proofs.Common.{◌≡◌, ◌<◌, ap, sym, subst, ◌∙◌}
-use Rattle.entry_calls.specs.below.run_trace.{Kind, Ran}
-use Rattle.entry_calls.proofs.below.journal_laws.{not_refused}
-use Rattle.entry_calls.specs.below.task_machine.{Private}
-use Rattle.entry_calls.specs.below.shared_value.{Enters, refused, Fits}
+use Rattle.turn_entries.proofs.Common.{◌≡◌, ◌<◌, ap, sym, subst, ◌∙◌, Kind, Ran, not_refused, Private, Enters, refused, Fits}
 use Rattle.turn_entries.proofs.Free.{private_free}
 use Rattle.turn_entries.proofs.Going.{may_cleared}
 use Rattle.turn_entries.proofs.Paying.{pays_nothing}

@@ -1,15 +1,5 @@
-use Rattle.std.proofs.Common.{◌≡◌, ℕ, ◌+◌, Option, Some, ap, sym, subst, ◌∙◌}
-use Rattle.std.specs.Prelude.{is_some}
-use Rattle.entry_calls.specs.below.run_trace.{Kind, Ran}
-use Rattle.entry_calls.specs.below.run_ledger.{Nothing, RunEnd}
-use Rattle.entry_calls.specs.below.task_machine.{Private, Shared}
-use Rattle.entry_calls.specs.below.shared_value.{IsCaused, refused, Fits, SharedValue}
-use Rattle.entry_calls.specs.below.own_steps.{GoesAlone, HaltsAlone, IsShared, alone_entry}
-use Rattle.entry_calls.proofs.below.own_steps.{alone_free}
-use Rattle.entry_calls.specs.Ran.{LeavesBy, LeavesPart, LentTo}
+use Rattle.turn_entries.proofs.Common.{◌≡◌, ℕ, ◌+◌, Option, Some, ap, sym, subst, ◌∙◌, is_some, Kind, Ran, Nothing, RunEnd, Private, Shared, IsCaused, refused, Fits, SharedValue, GoesAlone, HaltsAlone, IsShared, alone_entry, alone_free, LeavesBy, LeavesPart, LentTo, IsPaused, MayEnter}
 use Rattle.turn_entries.specs.declared.between_turns.Ready.TheVariants.{Paused as HasPaused}
-use Rattle.turn_entries.specs.Parts.{IsPaused}
-use Rattle.turn_entries.specs.Values.{MayEnter}
 use Rattle.turn_entries.proofs.Free.{only_memory}
 use Rattle.turn_entries.proofs.Going.{may_alone, stands_shared}
 use Rattle.turn_entries.proofs.Paying.{pays_nothing}
@@ -96,12 +86,12 @@ returns-in-Ok-Leaves g c =
     let part : q ≡ p = a.part ∙ c.get_mut.ensures.value in
     acts_same g.P.EntryCalls.value (g.P.EntryCalls.value c.args.self.paced) v k p q a.same part c.enter_leaving.result c.enter_leaving.ensures
 
-pub wanting-requires : goal.wanting-requires
-wanting-requires g c =
+pub out_of_memory-requires : goal.out_of_memory-requires
+out_of_memory-requires g c =
     only_memory c.in-Err.cause _ (alone_free (g.P.EntryCalls.value c.args.self.paced) c.args.worker c.args.part c.stands.ensures.stands c.requires.paused.may.fits (stands_shared (g.P.EntryCalls.value c.args.self.paced) c.args.worker c.args.part c.requires.paused) c.requires.paused.may.idle c.requires.enter.free)
     (subst (λ (r : Private). IsCaused c.in-Err.cause (refused (g.P.EntryCalls.value c.args.self.paced) (alone_entry c.args.worker r))) c.get_mut.ensures.value c.in-Err.ensures.refused)
 
 pub returns-in-Err : goal.returns-in-Err
 returns-in-Err g c =
-    c.wanting.ensures (g.P.EntryCalls.value c.args.self.paced) c.args.worker (HasPaused c.args.part Shared) (Some (Ran c.args.part.task (c.args.part.fresh + 1)))
+    c.out_of_memory.ensures (g.P.EntryCalls.value c.args.self.paced) c.args.worker (HasPaused c.args.part Shared) (Some (Ran c.args.part.task (c.args.part.fresh + 1)))
     (unentered (g.P.EntryCalls.value c.args.self.paced) (g.P.EntryCalls.value c.ran_lent.new.self) c.in-Err.cause c.in-Err.ensures.same c.in-Err.ensures.still) (not_over (g.P.EntryCalls.value c.args.self.paced) c.requires.enter.on c.requires.enter.goes)

@@ -1,8 +1,4 @@
-use Rattle.std.proofs.Common.{ℕ, Some, subst, ap, sym, ◌∙◌}
-use Rattle.entry_calls.specs.below.run_trace.{Kind, Sweep}
-use Rattle.entry_calls.proofs.below.journal_laws.{not_refused}
-use Rattle.entry_calls.specs.below.shared_value.{cause_of}
-use Rattle.turn_entries.specs.Acts.{ActsFor}
+use Rattle.turn_entries.proofs.Common.{ℕ, Some, subst, ap, sym, ◌∙◌, Kind, Sweep, not_refused, cause_of, ActsFor}
 use Rattle.turn_entries.proofs.Free.{sweep_free}
 use Rattle.turn_entries.proofs.Paying.{pays_sweep, sweep_is_owed}
 use Rattle.turn_entries.proofs.Turning.{one_of_all}

@@ -1,8 +1,4 @@
-use Rattle.std.proofs.Common.{◌≡◌, ap, sym, subst, ◌∙◌}
-use Rattle.entry_calls.specs.below.run_trace.{PutOff}
-use Rattle.entry_calls.proofs.below.journal_laws.{not_refused}
-use Rattle.entry_calls.specs.below.task_machine.{Private}
-use Rattle.entry_calls.specs.below.shared_value.{cause_of, Enters, refused, Fits}
+use Rattle.turn_entries.proofs.Common.{◌≡◌, ap, sym, subst, ◌∙◌, PutOff, not_refused, Private, cause_of, Enters, refused, Fits}
 use Rattle.turn_entries.proofs.Free.{put_off_free}
 use Rattle.turn_entries.proofs.Going.{may_heap}
 use Rattle.turn_entries.proofs.Paying.{pays_nothing}

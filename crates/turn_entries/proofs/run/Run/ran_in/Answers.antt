@@ -1,22 +1,13 @@
-use Rattle.std.proofs.Common.{◌+◌, Option, Some, None, refl, ap, subst, sym, ◌∙◌}
-use Rattle.std.specs.Prelude.{is_some}
-use Rattle.entry_calls.specs.below.run_trace.{Kind, Ran}
-use Rattle.entry_calls.specs.below.run_ledger.{RunEnd}
-use Rattle.entry_calls.specs.below.task_machine.{Shared}
-use Rattle.entry_calls.specs.below.own_steps.{FinishesAlone, HaltsAlone}
-use Rattle.entry_calls.proofs.below.own_steps.{alone_free}
-use Rattle.entry_calls.specs.below.child_tasks.{EndsChild, ForksOn, HoldsNone}
-use Rattle.entry_calls.specs.Ran.{RanTo}
+use Rattle.turn_entries.proofs.Common.{◌+◌, Option, Some, None, refl, ap, subst, sym, ◌∙◌, is_some, Kind, Ran, RunEnd, Shared, FinishesAlone, HaltsAlone, alone_free, EndsChild, ForksOn, HoldsNone, RanTo, ComesNext}
 use Rattle.turn_entries.specs.declared.between_turns.Ready.TheVariants.{Paused as HasPaused}
-use Rattle.turn_entries.specs.Acts.{Follows}
 use Rattle.turn_entries.proofs.Free.{only_memory}
 use Rattle.turn_entries.proofs.Going.{stands_shared}
 use Rattle.turn_entries.proofs.Paying.{pays_nothing}
 use Rattle.turn_entries.proofs.Turning.{follows_end, not_over, one, unentered}
 use Rattle.turn_entries.proofs.run.Run.ran_in.Goals as goal
 
-pub wanting-requires : goal.wanting-requires
-wanting-requires g c = only_memory c.in-Err.failed.cause None refl c.in-Err.ensures.refused
+pub out_of_memory-requires : goal.out_of_memory-requires
+out_of_memory-requires g c = only_memory c.in-Err.failed.cause None refl c.in-Err.ensures.refused
 
 pub returns-in-Ok-Forked : goal.returns-in-Ok-Forked
 returns-in-Ok-Forked g c =
@@ -32,7 +23,7 @@ returns-in-Ok-Ended g c =
     subst (RanTo (g.P.EntryCalls.value c.args.self.paced) (g.P.EntryCalls.value c.ran_leaving.new.self) c.args.worker c.args.part) c.in-Ok-Ended.field-0-is c.in-Ok-Ended.ensures.answered in
     let kind : Kind = Ran c.args.part.task (c.args.part.fresh + 1) in
     c.entered-in-Ok-Ended.ensures (g.P.EntryCalls.value c.args.self.paced) c.args.worker (HasPaused c.args.part Shared) kind (one (g.P.EntryCalls.value c.args.self.paced) (g.P.EntryCalls.value c.ran_leaving.new.self) c.args.worker kind a.0.enters a.0.others) c.requires.enter.on
-    (λ on. subst (Follows (g.P.EntryCalls.value c.args.self.paced) (g.P.EntryCalls.value c.ran_leaving.new.self) c.args.worker (HasPaused c.args.part Shared)) (sym c.after_end.ensures) (follows_end (g.P.EntryCalls.value c.args.self.paced) (g.P.EntryCalls.value c.ran_leaving.new.self) c.args.worker c.args.part c.in-Ok-Ended.resumed on a.1 a.0.resumed))
+    (λ on. subst (ComesNext (g.P.EntryCalls.value c.args.self.paced) (g.P.EntryCalls.value c.ran_leaving.new.self) c.args.worker (HasPaused c.args.part Shared)) (sym c.after_end.ensures) (follows_end (g.P.EntryCalls.value c.args.self.paced) (g.P.EntryCalls.value c.ran_leaving.new.self) c.args.worker c.args.part c.in-Ok-Ended.resumed on a.1 a.0.resumed))
 
 pub returns-in-Ok-Over : goal.returns-in-Ok-Over
 returns-in-Ok-Over g c =
@@ -52,7 +43,7 @@ returns-in-Ok-Done g c =
 
 pub returns : goal.returns
 returns g c =
-    c.wanting.ensures (g.P.EntryCalls.value c.args.self.paced) c.args.worker (HasPaused c.args.part Shared) (Some (Ran c.args.part.task (c.args.part.fresh + 1)))
+    c.out_of_memory.ensures (g.P.EntryCalls.value c.args.self.paced) c.args.worker (HasPaused c.args.part Shared) (Some (Ran c.args.part.task (c.args.part.fresh + 1)))
     (unentered (g.P.EntryCalls.value c.args.self.paced) (g.P.EntryCalls.value c.ran_leaving.new.self) c.in-Err.failed.cause c.in-Err.ensures.same c.in-Err.ensures.still) (not_over (g.P.EntryCalls.value c.args.self.paced) c.requires.enter.on c.requires.enter.goes)
 
 pub ran_leaving-requires-clause-room : goal.ran_leaving-requires-clause-room

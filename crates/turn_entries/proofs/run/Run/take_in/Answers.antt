@@ -1,8 +1,4 @@
-use Rattle.std.proofs.Common.{refl, ap, sym, subst, ◌∙◌, is_some}
-use Rattle.entry_calls.specs.below.run_trace.{Took}
-use Rattle.entry_calls.specs.below.shared_value.{cause_of}
-use Rattle.turn_entries.specs.Parts.{MayRun}
-use Rattle.turn_entries.specs.Values.{is_over}
+use Rattle.turn_entries.proofs.Common.{refl, ap, sym, subst, ◌∙◌, is_some, Took, cause_of, MayRun, is_over}
 use Rattle.turn_entries.proofs.Going.{may}
 use Rattle.turn_entries.proofs.Paying.{pays_nothing}
 use Rattle.turn_entries.proofs.Turning.{not_over, one, unchanged}

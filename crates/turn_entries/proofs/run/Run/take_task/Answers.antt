@@ -1,5 +1,4 @@
-use Rattle.std.proofs.Common.{refl, Some}
-use Rattle.entry_calls.specs.below.run_trace.{Took}
+use Rattle.turn_entries.proofs.Common.{refl, Some, Took}
 use Rattle.turn_entries.proofs.Turning.{not_over, unchanged}
 use Rattle.turn_entries.proofs.run.Run.take_task.Goals as goal
 

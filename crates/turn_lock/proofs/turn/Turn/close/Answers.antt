@@ -1,8 +1,5 @@
-use Rattle.std.proofs.Common.{rules, ◌≡◌, ◌-◌, [], ◌∷◌, ◌++◌, slice_get, ap, sym, ◌∙◌, subst, Some}
-use Rattle.std.proofs.lemmas.Option.{same_Some}
+use Rattle.turn_lock.proofs.Common.{rules, ◌≡◌, ◌-◌, [], ◌∷◌, ◌++◌, slice_get, ap, sym, ◌∙◌, subst, Some, same_Some, view, Sees, HasAll}
 use mathlib.Core.Option.{some-injective}
-use Rattle.turn_lock.specs.Seats.{view}
-use Rattle.turn_lock.specs.Rule.{Sees, HasAll}
 use Rattle.turn_lock.proofs.SplitJoin.{merges, ends}
 use Rattle.turn_lock.proofs.SeatLists.{joined_all, removed_first, may_join, is_last, gathers, emptied}
 use Rattle.turn_lock.proofs.Laws.{own_at_end}

@@ -1,6 +1,4 @@
-use Rattle.std.proofs.Common.{rules, ◌∷◌, Some, ap, sym, ◌∙◌, subst}
-use Rattle.atomic_table.specs.Table.{rest}
-use Rattle.turn_lock.specs.Seats.{Knows}
+use Rattle.turn_lock.proofs.Common.{rules, ◌∷◌, Some, ap, sym, ◌∙◌, subst, rest, Knows}
 use Rattle.turn_lock.proofs.Keeps.{gives_keep, fitting}
 use Rattle.turn_lock.proofs.Laws.{gave_one}
 use Rattle.turn_lock.proofs.turn.Turn.give.Goals as goal

@@ -1,5 +1,4 @@
-use Rattle.std.proofs.Common.{rules, ◌≡◌, ◌*◌, ap, subst, IfOk}
-use Rattle.turn_lock.specs.Seats.{view, opening_view, AreNewSeats}
+use Rattle.turn_lock.proofs.Common.{rules, ◌≡◌, ◌*◌, ap, subst, IfOk, view, opening_view, AreNewSeats}
 use Rattle.turn_lock.proofs.SplitJoin.{opens_at}
 use Rattle.turn_lock.proofs.turn.Turn.new.Goals as goal
 

@@ -1,6 +1,4 @@
-use Rattle.std.proofs.Common.{rules, ◌≡◌, suc, [], ◌∷◌, ◌++◌, length, ap, sym, ◌∙◌, subst, arith}
-use Rattle.turn_lock.specs.Seats.{view, newcomer, HasNoTurn}
-use Rattle.turn_lock.specs.Rule.{with_seat_more, split_view}
+use Rattle.turn_lock.proofs.Common.{rules, ◌≡◌, suc, [], ◌∷◌, ◌++◌, length, ap, sym, ◌∙◌, subst, arith, view, newcomer, HasNoTurn, with_seat_more, split_view}
 use Rattle.turn_lock.proofs.SplitJoin.{hires}
 use Rattle.turn_lock.proofs.SeatLists.{AreNext, one_more, split_next}
 use Rattle.turn_lock.proofs.turn.Turn.with_seats.Goals as goal

@@ -1,5 +1,4 @@
-use Rattle.std.proofs.Common.{◌≡◌, ◌+◌, [], length}
-use Rattle.turn_lock.specs.Seats.{newcomer}
+use Rattle.turn_lock.proofs.Common.{◌≡◌, ◌+◌, [], length, newcomer}
 use Rattle.turn_lock.proofs.SeatLists.{AreNext}
 use Rattle.turn_lock.proofs.turn.Turn.with_seats.Given as goal
 

@@ -1,3 +1,0 @@
--- What crates above name of `outside_io`.
-pub use Rattle.outside_io.specs.Fault.{HasRisen}
-pub use Rattle.outside_io.specs.Told.{with_more}

@@ -1,5 +1,0 @@
-pub mod HeapLemmas
-pub mod PlacedLaws
-pub mod Settled
-pub mod Near
-pub mod Counting

@@ -1,8 +1,0 @@
-use Rattle.std.proofs.Common.{refl}
-use Rattle.object_layout.specs.Chunks.{cell_of}
-use Rattle.object_layout.proofs.PlaceLemmas as place
-use Rattle.alloc_path.proofs.Settled as settled
-use Rattle.alloc_path.proofs.heap.LeafHeap.own_set_int.Goals as goal
-
-pub invariant_of-self : goal.invariant_of-self
-invariant_of-self c = rw c.own_set_int.ensures (settled.settled_put c.self.inside.space.chunks c.args.object _ c.self.invariant refl (place.size_of-with_int (cell_of c.self.inside.space.chunks c.args.object) _ _))

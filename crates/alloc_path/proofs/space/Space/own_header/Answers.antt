@@ -1,5 +1,0 @@
-use Rattle.object_layout.proofs.ChunkLaws as chunks
-use Rattle.alloc_path.proofs.space.Space.own_header.Goals as goal
-
-pub chunk_of-requires : goal.chunk_of-requires
-chunk_of-requires c = chunks.chunk_of_object c.args.self.now.chunks c.args.object c.requires

@@ -1,5 +1,0 @@
-pub mod LeafHeapValue
-pub mod Counted
-pub mod Units
-pub mod FieldLaws
-pub mod PlaceLaws

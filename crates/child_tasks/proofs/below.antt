@@ -1,2 +1,0 @@
--- What crates above name of the crates below.
-pub mod own_steps

@@ -1,5 +1,0 @@
-use Rattle.std.proofs.Common.{◌≡◌, replicate, None}
-use Rattle.child_tasks.proofs.first.none_out.Given as goal
-
-abbrev pub invariant-loop : goal.invariant-loop
-invariant-loop l = l.tasks_out ≡ replicate l.counter None

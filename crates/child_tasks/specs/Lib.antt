@@ -1,5 +1,0 @@
-pub mod Forks
-pub mod ChildEnds
-pub mod Joins
-pub mod NoTask
-pub mod below

@@ -1,7 +1,0 @@
-use Rattle.std.proofs.Common.{◌≡◌, ℕ, take}
-use Rattle.std.specs.Option.{option_or}
-use Rattle.chunk_pieces.specs.Level.{level_of, piece_in}
-use Rattle.chunk_pieces.proofs.layer.Layer.add_all.Given as goal
-
-abbrev pub invariant-loop-chunk : goal.invariant-loop-chunk
-invariant-loop-chunk l = (n : ℕ) → piece_in l.self n ≡ option_or (piece_in l.fn.self n) (piece_in (level_of (take l.chunk-index l.chunks)) n)

@@ -1,6 +1,0 @@
-use Rattle.std.proofs.Common.{take}
-use Rattle.chunk_pieces.specs.PiecesValue.{numbers_of, NotesChanges}
-use Rattle.chunk_pieces.proofs.pieces.Pieces.note_changes.Given as goal
-
-abbrev pub invariant-loop-chunk : goal.invariant-loop-chunk
-invariant-loop-chunk l = NotesChanges l.fn.self l.self (numbers_of (take l.chunk-index l.chunks))

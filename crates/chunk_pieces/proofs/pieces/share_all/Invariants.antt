@@ -1,6 +1,0 @@
-use Rattle.std.proofs.Common.{◌≡◌, ◌++◌, map, take}
-use Rattle.std.specs.Arc.{arc_value}
-use Rattle.chunk_pieces.proofs.pieces.share_all.Given as goal
-
-abbrev pub invariant-loop-layer : goal.invariant-loop-layer
-invariant-loop-layer l = map arc_value l.layers.items ≡ map arc_value l.fn.layers.items ++ map arc_value (take l.layer-index l.more)

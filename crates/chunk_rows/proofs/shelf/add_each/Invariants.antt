@@ -1,8 +1,0 @@
-use Rattle.std.proofs.Common.{◌≡◌, ℕ, None, cond, take}
-use Rattle.std.specs.Option.{option_or}
-use Rattle.chunk_pieces.specs.PiecesValue.{is_among}
-use Rattle.chunk_rows.specs.View.{level_of, piece_in}
-use Rattle.chunk_rows.proofs.shelf.add_each.Given as goal
-
-abbrev pub invariant-loop-number : goal.invariant-loop-number
-invariant-loop-number l = (n : ℕ) → piece_in l.layer n ≡ option_or (piece_in l.fn.layer n) (cond (is_among (take l.number-index l.numbers) n) (piece_in (level_of l.chunks) n) None)

@@ -1,6 +1,0 @@
-use Rattle.std.proofs.Common.{◌≡◌, ◌++◌, map, take}
-use Rattle.std.specs.Arc.{arc_value}
-use Rattle.chunk_rows.proofs.view.push_levels.Given as goal
-
-abbrev pub invariant-loop-level : goal.invariant-loop-level
-invariant-loop-level l = map arc_value l.levels.items ≡ map arc_value l.fn.levels.items ++ map arc_value (take l.level-index l.more)

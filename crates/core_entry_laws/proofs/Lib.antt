@@ -1,4 +1,0 @@
-pub mod parts
-pub mod notes
-pub mod whole
-pub mod below

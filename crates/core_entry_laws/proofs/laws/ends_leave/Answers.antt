@@ -1,5 +1,0 @@
-use Rattle.core_entry_laws.proofs.parts.WorkersPast as proved
-use Rattle.core_entry_laws.proofs.laws.ends_leave.Goals as goal
-
-pub returns : goal.returns
-returns c = proved.ends_leave

@@ -1,6 +1,0 @@
-pub mod Now
-pub mod First
-pub mod EntryLaws
-pub mod WorkerLaws
-pub mod CopyLaws
-pub mod below

@@ -1,0 +1,39 @@
+// The part of a task that a worker takes.
+
+ghost use Rattle.std.specs.Prelude.{◌≡◌, None};
+ghost use Rattle.refinement.specs.below.task_frames.{FramesValue};
+ghost use Rattle.core_invariant.specs.Fits.{taken_part, IsAtWork};
+
+use refinement::Private;
+use task_slots::{ParkedTask, Work};
+
+/// The part of a task that no worker held.
+pub fn opened(rest: ParkedTask, task: u32, leaf_limit: u64, field_limit: u32) -> Private
+    requires { IsAtWork rest.work }
+    ensures part { (s : FramesValue) → rest.work ≡ Work.Calls s → result ≡ taken_part task leaf_limit field_limit rest s }
+    ensures task { result.task ≡ task }
+    ensures fresh { result.fresh ≡ 0 }
+    ensures heap { result.heap ≡ rest.heap }
+    ensures idle { result.begun ≡ None }
+{
+    let ParkedTask {
+        work,
+        heap,
+        view,
+        allocations,
+    } = rest;
+    let Work::Calls(frames) = work else {
+        unreachable!()
+    };
+    Private {
+        task,
+        frames,
+        heap,
+        view,
+        allocations,
+        leaf_limit,
+        field_limit,
+        fresh: 0,
+        begun: None,
+    }
+}

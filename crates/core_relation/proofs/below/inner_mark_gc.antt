@@ -1,9 +1,0 @@
--- What crates above name of `inner_mark_gc`.
-pub use Rattle.inner_mark_gc.proofs.Addresses.{has_in, in_has}
-pub use Rattle.inner_mark_gc.proofs.Finding.{found_few}
-pub use Rattle.inner_mark_gc.proofs.Giving.{given_both, given_one, unit_sum}
-pub use Rattle.inner_mark_gc.proofs.Kept.{all_marked_is_done}
-pub use Rattle.inner_mark_gc.proofs.Sweeping.{size_swept}
-pub use Rattle.inner_mark_gc.proofs.Kept as Kept
-pub use Rattle.inner_mark_gc.proofs.marking.Marking.TheSendSync as MarkingSendSync
-pub use Rattle.inner_mark_gc.proofs.room.MarkingRoom.TheSendSync as MarkingRoomSendSync

@@ -1,3 +1,0 @@
--- What crates above name of `remembered_set`.
-pub use Rattle.remembered_set.proofs.LiftLemmas.{lifted_are_there, source_in}
-pub use Rattle.remembered_set.proofs.Noting.{same_self}

@@ -1,2 +1,0 @@
--- What crates above name of `run_trace`.
-pub use Rattle.run_trace.proofs.settings.Settings.TheSendSync as SettingsSendSync

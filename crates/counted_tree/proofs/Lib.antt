@@ -1,4 +1,0 @@
-mod BegunCollections
-pub mod EntryCounted
-mod PartWords
-pub mod below

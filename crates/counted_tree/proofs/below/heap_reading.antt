@@ -1,4 +1,0 @@
--- What crates above name of `heap_reading`.
-pub use Rattle.heap_reading.proofs.IdleTasks.{done_idles}
-pub use Rattle.heap_reading.proofs.KeptNames.{handed_held}
-pub use Rattle.heap_reading.proofs.TreeNow.{same_machine}

@@ -1,2 +1,0 @@
--- What crates above name of `hh_model`.
-pub use Rattle.heap_reading.proofs.below.hh_model.{run_is_fork_join_state, start_is_fork_join_state, step_is_fork_join_state, steps_count}

@@ -1,2 +1,0 @@
--- What crates above name of `leaf_collections`.
-pub use Rattle.shared_tree.proofs.below.leaf_collections.{begin_answer, chunk_answer, end_free, put_off_answer, without_fresh}

@@ -1,2 +1,0 @@
--- What crates above name of `ledger_step_laws`.
-pub use Rattle.heap_reading.proofs.below.ledger_step_laws.{heap_then, legal_knows, rested_knows, rested_worker, split_leaves, with_at, with_off}

@@ -1,3 +1,0 @@
--- What crates above name of `shared_tree`.
-pub use Rattle.shared_tree.proofs.HandedOn.{for_memory, handed_on}
-pub use Rattle.shared_tree.proofs.Joints.{before_same, fit_by, then_same}

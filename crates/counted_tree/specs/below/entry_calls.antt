@@ -1,5 +1,0 @@
--- What crates above name of `entry_calls`.
-pub use Rattle.entry_calls.specs.Ends.{end_cause}
-pub use Rattle.entry_calls.specs.Ran.{LeavesBy, LeavesPart, LentTo, RanTo}
-pub use Rattle.entry_calls.specs.declared.answers.Ran.TheVariants.{Done, Ended, Forked, Over}
-pub use Rattle.entry_calls.specs.declared.answers.Ran.{Ran}

@@ -1,2 +1,0 @@
--- What crates above name of `hh_lang`.
-pub use Rattle.heap_reading.specs.below.hh_lang.{ProgramText}

@@ -1,2 +1,0 @@
--- What crates above name of `hh_model`.
-pub use Rattle.heap_reading.specs.below.hh_model.{Counted, Done, End, Ended, Entangled, IsForkJoinState, Joined, Name, Running, State, Status, Strand, Task, Trapped, Waiting, asked, can_step, is_left, is_running, is_waiting, joined, row_of, step}

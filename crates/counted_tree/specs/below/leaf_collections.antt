@@ -1,2 +1,0 @@
--- What crates above name of `leaf_collections`.
-pub use Rattle.shared_tree.specs.below.leaf_collections.{FitsCopied, end_entry, ended}

@@ -1,2 +1,0 @@
--- What crates above name of `task_machine`.
-pub use Rattle.heap_reading.specs.below.task_machine.{Begun, Due, FitsSome, KeepsAccounts, KeepsRest, NeedChunk, Paused, Pauses, PausesBy, Private, Runs, Shared, Spent, is_part_due, is_part_in_need, lacks_place, steps, the_row, unended}

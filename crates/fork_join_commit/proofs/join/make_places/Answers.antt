@@ -1,0 +1,6 @@
+use Rattle.fork_join_commit.proofs.Common.{refl, rest_at}
+use Rattle.fork_join_commit.proofs.JoinPlaces.{same_itself}
+use Rattle.fork_join_commit.proofs.join.make_places.Goals as goal
+
+pub returns-in_err-chunks-clause-same : goal.returns-in_err-chunks-clause-same
+returns-in_err-chunks-clause-same c = same_itself (rest_at c.args.task_slots.now.rests c.args.parent) (rest_at c.args.task_slots.now.rests c.args.parent) refl

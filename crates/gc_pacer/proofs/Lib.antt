@@ -1,0 +1,5 @@
+mod Noted
+mod MarkNotes
+mod Idle
+pub mod Sent
+mod Common

@@ -1,0 +1,22 @@
+use Rattle.gc_pacer.proofs.Common.{Ok, refl, sym, subst, ◌∙◌, EntryValue, PutOff, SharedValue, Fits, PutsOff, handed_on, Pays, KeepsPaces}
+use Rattle.gc_pacer.proofs.Noted.{other_then}
+use Rattle.gc_pacer.proofs.calls.PacedEntryCalls.put_off.Goals as goal
+
+pub put_off-requires-clause-fits : goal.put_off-requires-clause-fits
+put_off-requires-clause-fits c = subst (λ (z : SharedValue). Fits z c.args.worker c.args.part.now) (sym (c.get_mut-shared.ensures.value ∙ c.self.view_is)) c.requires.fits
+
+pub returns : goal.returns
+returns c = subst (λ (z : SharedValue). PutsOff z c.put_off.new.self c.args.worker c.args.part.now c.put_off.new.part (Ok tt)) (c.get_mut-shared.ensures.value ∙ c.self.view_is) c.in_ok-put_off.ensures
+
+pub returns-in_err-put_off : goal.returns-in_err-put_off
+returns-in_err-put_off c =
+    handed_on (λ (z : SharedValue). PutsOff z c.put_off.new.self c.args.worker c.args.part.now c.put_off.new.part) c.get_mut-shared.result.now c.args.self.now (c.get_mut-shared.ensures.value ∙ c.self.view_is) c.from_residual.result c.in_err-put_off.field-0.0 c.from_residual.ensures.1 c.in_err-put_off.ensures
+
+pub invariant_of-self-2 : goal.invariant_of-self-2
+invariant_of-self-2 c =
+    let e : EntryValue = record { worker = c.args.worker; kind = PutOff c.args.part.now.task } in
+    other_then c.get_mut-shared.result.now c.put_off.new.self e c.self.inside.paces c.note_other.new.paces c.stands.ensures (subst (λ (z : SharedValue). KeepsPaces z c.self.inside.paces) (sym c.get_mut-shared.ensures.value) c.self.invariant) c.in_ok-put_off.ensures.enters (sym c.in_ok-put_off.ensures.refused)
+    (subst (λ (z : SharedValue). Pays z e) (sym (c.get_mut-shared.ensures.value ∙ c.self.view_is)) c.requires.pays) (λ x. refl) c.note_other.ensures
+
+pub invariant_of-self : goal.invariant_of-self
+invariant_of-self c = subst (λ (z : SharedValue). KeepsPaces z c.self.inside.paces) (sym (c.in_err-put_off.ensures.same ∙ c.get_mut-shared.ensures.value)) c.self.invariant

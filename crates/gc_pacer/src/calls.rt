@@ -1,0 +1,196 @@
+// The calls that make entries: each gives what its worker owes, and is recorded.
+
+ghost use Rattle.std.specs.Prelude.{◌≡◌};
+ghost use Rattle.run_statistics.specs.below.core_invariant.{refused, IsCaused};
+
+use crate::noting::{idle_paces, note_mark, note_other, note_ran, reserve_mark};
+use crate::owing::owed;
+use crate::paced::{Paced, put_apart};
+use entry_calls::{EntryCalls, Leaving, Lent, NotEnded, Ran};
+use run_statistics::{
+    Addr, Counted, Kind, Moved, NotEntered, NotRan, Owed, Private, Program, Refused, RunEnd,
+    Settings, Shared, ToChunks,
+};
+use std::alloc::{AllocError, Global};
+
+// Why the entry that begins a marking isn't made, if there is no memory to record it.
+fn no_place(shared: &Shared, worker: u32, t: u32) -> NotEntered
+    ensures { IsCaused result (refused shared.now (record { worker = worker; kind = Kind.Mark t })) }
+{
+    match shared.mark_refused(worker, t) {
+        Some(cause) => NotEntered::Refuses(cause),
+        None => NotEntered::NoMemory,
+    }
+}
+
+// The left child that a step has made, or 0.
+fn left_in(ran: &Ran) -> u32 {
+    match ran {
+        Ran::Forked { left, .. } => *left,
+        _ => 0,
+    }
+}
+
+impl EntryCalls for Paced {
+    ghost value = { λ p. p };
+
+    fn new(alloc: Global, program: &Program, settings: Settings) -> Result<Paced, AllocError> {
+        let shared = Counted::new(alloc, program, settings)?;
+        let paces = idle_paces(alloc, settings.workers())?;
+        let apart = put_apart(alloc, shared)?;
+        Ok(Paced {
+            shared: apart,
+            paces,
+        })
+    }
+
+    fn reserve(&mut self) -> Result<(), AllocError> {
+        self.shared.get_mut().reserve()
+    }
+
+    fn halt(&mut self) {
+        self.shared.get_mut().halt();
+    }
+
+    fn took(&mut self, worker: u32, t: u32) -> Result<Private, Refused> {
+        let shared = self.shared.get_mut();
+        shared.stands();
+        let part = shared.took(worker, t)?;
+        note_other(&mut self.paces, worker);
+        Ok(part)
+    }
+
+    fn ran_private(&mut self, worker: u32, part: &mut Private) -> Result<(), Refused> {
+        let shared = self.shared.get_mut();
+        shared.stands();
+        let task = part.task;
+        shared.ran_private(worker, part)?;
+        note_ran(shared.shared(), &mut self.paces, worker, task, 0);
+        Ok(())
+    }
+
+    fn ran_lent(&mut self, worker: u32, part: &mut Private) -> Result<Lent, NotEntered> {
+        let shared = self.shared.get_mut();
+        shared.stands();
+        let task = part.task;
+        let lent = shared.ran_lent(worker, part)?;
+        match lent {
+            Lent::Leaves(_) => Ok(lent),
+            _ => {
+                note_ran(shared.shared(), &mut self.paces, worker, task, 0);
+                Ok(lent)
+            }
+        }
+    }
+
+    fn ran_leaving(&mut self, worker: u32, part: Private, leaving: Leaving) -> Result<Ran, NotRan> {
+        let shared = self.shared.get_mut();
+        shared.stands();
+        let task = part.task;
+        let ran = shared.ran_leaving(worker, part, leaving)?;
+        let left = left_in(&ran);
+        note_ran(shared.shared(), &mut self.paces, worker, task, left);
+        Ok(ran)
+    }
+
+    fn fuel(&mut self, worker: u32) -> Result<(), Refused> {
+        let shared = self.shared.get_mut();
+        shared.stands();
+        shared.fuel(worker)
+    }
+
+    fn chunk(&mut self, worker: u32, part: &mut Private) -> Result<(), NotEntered> {
+        let shared = self.shared.get_mut();
+        shared.stands();
+        shared.chunk(worker, part)?;
+        note_other(&mut self.paces, worker);
+        Ok(())
+    }
+
+    fn leaf_begin(
+        &mut self,
+        worker: u32,
+        part: &mut Private,
+    ) -> Result<(Vec<Addr>, ToChunks), NotEntered> {
+        let shared = self.shared.get_mut();
+        shared.stands();
+        let begun = shared.leaf_begin(worker, part)?;
+        note_other(&mut self.paces, worker);
+        Ok(begun)
+    }
+
+    fn leaf_end(&mut self, worker: u32, part: &mut Private, moved: Moved) -> Result<(), NotEnded> {
+        let shared = self.shared.get_mut();
+        shared.stands();
+        shared.leaf_end(worker, part, moved)?;
+        note_other(&mut self.paces, worker);
+        Ok(())
+    }
+
+    fn put_off(&mut self, worker: u32, part: &mut Private) -> Result<(), Refused> {
+        let shared = self.shared.get_mut();
+        shared.stands();
+        shared.put_off(worker, part)?;
+        note_other(&mut self.paces, worker);
+        Ok(())
+    }
+
+    fn mark(&mut self, worker: u32, t: u32) -> Result<(), NotEntered> {
+        let shared = self.shared.get_mut();
+        shared.stands();
+        if reserve_mark(&mut self.paces, worker).is_err() {
+            return Err(no_place(shared.shared(), worker, t));
+        }
+        shared.mark(worker, t)?;
+        note_mark(shared.shared(), &mut self.paces, worker, t);
+        Ok(())
+    }
+
+    fn mark_objects(&mut self, worker: u32, t: u32, n: u32) -> Result<u32, Refused> {
+        let shared = self.shared.get_mut();
+        shared.stands();
+        let count = shared.mark_objects(worker, t, n)?;
+        note_other(&mut self.paces, worker);
+        Ok(count)
+    }
+
+    fn sweep(&mut self, worker: u32, t: u32, given: u32) -> Result<(), Refused> {
+        let shared = self.shared.get_mut();
+        shared.stands();
+        shared.sweep(worker, t, given)?;
+        note_other(&mut self.paces, worker);
+        Ok(())
+    }
+
+    fn owed(&self, worker: u32) -> Owed {
+        owed(self.shared(), self.paces.at(worker as usize))
+    }
+
+    fn refused_first(&self, worker: u32) -> Option<Refused> {
+        self.shared().refused_first(worker)
+    }
+
+    fn pool_enough(&self, part: &Private) -> bool {
+        self.shared().pool_enough(part)
+    }
+
+    fn would_give(&self, t: u32) -> u32 {
+        self.shared().would_give(t)
+    }
+
+    fn ended(&self) -> Option<RunEnd> {
+        self.shared().ended()
+    }
+
+    fn halted(&self) -> bool {
+        self.shared().halted()
+    }
+
+    fn entries(&self) -> u64 {
+        self.shared().journal().len() as u64
+    }
+
+    fn stands(&self) {
+        self.shared.get().stands();
+    }
+}

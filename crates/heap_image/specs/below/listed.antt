@@ -1,2 +1,0 @@
--- Re-exports from `listed` for the crates above.
-pub use Rattle.listed.specs.Members.{In}

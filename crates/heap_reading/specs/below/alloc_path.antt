@@ -1,2 +1,0 @@
--- What crates above name of `alloc_path`.
-pub use Rattle.shared_value.specs.below.alloc_path.{LeafHeapValue, counted, place_for, room_of}

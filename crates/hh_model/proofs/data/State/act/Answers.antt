@@ -1,6 +1,0 @@
-use Rattle.std.proofs.Common.{sym, subst}
-use Rattle.hh_model.specs.PathLaw.{PathIsPrecedenceIn}
-use Rattle.hh_model.proofs.data.State.act.Goals as goal
-
-pub read_reference-requires-clause-path : goal.read_reference-requires-clause-path
-read_reference-requires-clause-path c = subst PathIsPrecedenceIn (sym (c.calculate.ensures.stays c.if-calculate.false)) c.requires.sound.path

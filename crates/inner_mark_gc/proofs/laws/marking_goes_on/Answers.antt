@@ -1,5 +1,0 @@
-use Rattle.inner_mark_gc.proofs.GoingOn.{marking_goes_on}
-use Rattle.inner_mark_gc.proofs.laws.marking_goes_on.Goals as goal
-
-pub returns : goal.returns
-returns c = marking_goes_on

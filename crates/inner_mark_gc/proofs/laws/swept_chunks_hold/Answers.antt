@@ -1,5 +1,0 @@
-use Rattle.inner_mark_gc.proofs.Kept as kept
-use Rattle.inner_mark_gc.proofs.laws.swept_chunks_hold.Goals as goal
-
-pub returns : goal.returns
-returns c = kept.swept_chunks_hold

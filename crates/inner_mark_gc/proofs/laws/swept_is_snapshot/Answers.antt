@@ -1,5 +1,0 @@
-use Rattle.inner_mark_gc.proofs.Kept as kept
-use Rattle.inner_mark_gc.proofs.laws.swept_is_snapshot.Goals as goal
-
-pub returns : goal.returns
-returns c = kept.swept_is_snapshot

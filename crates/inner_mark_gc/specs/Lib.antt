@@ -1,4 +1,0 @@
-pub mod Snapshot
-pub mod MarkingValue
-pub mod Swept
-pub mod Laws

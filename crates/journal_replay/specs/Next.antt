@@ -1,0 +1,16 @@
+-- What comes next after a part's private steps.
+use Rattle.std.specs.Prelude.{◌+◌, ℕ}
+use Rattle.run_statistics.specs.below.task_machine.{Private, Paused, Shared, Due, NeedChunk, Spent, Pauses}
+use Rattle.run_statistics.specs.below.core_invariant.{SharedValue}
+use Rattle.run_statistics.specs.below.step_commit.{machine_after}
+
+-- what comes next of the part's task, by the machine after its fresh steps
+abbrev pub IsNext : SharedValue → Private → Paused → Type 0
+IsNext w p why = Pauses w.program p (machine_after w p) why
+
+-- how many steps fit in one entry: the private ones, and one more that isn't private
+abbrev pub standing_by : Private → Paused → ℕ
+standing_by p Shared = p.fresh + 1
+standing_by p Due = p.fresh
+standing_by p NeedChunk = p.fresh
+standing_by p Spent = p.fresh

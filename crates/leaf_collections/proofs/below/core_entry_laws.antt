@@ -1,2 +1,0 @@
--- What crates above name of `core_entry_laws`.
-pub use Rattle.shared_value.proofs.below.core_entry_laws.{NamedOnce}

@@ -1,9 +1,0 @@
-use Rattle.std.proofs.Common.{◌<◌, length, arith}
-use Rattle.leaf_copy_gc.proofs.LastChunk as last
-use Rattle.leaf_copy_gc.proofs.copying.room_left.Goals as goal
-
-pub returns : goal.returns
-returns c =
-    let some : 0 < length c.args.laid.now = omega arith in
-    let room = last.read_room c.args.laid.now c.index-laid-count.result some c.index-laid-count.is in
-    omega arith

@@ -1,7 +1,0 @@
-use Rattle.std.proofs.Common.{◌≡◌, ◌++◌, take, drop, map}
-use Rattle.task_frames.specs.FramesValue.{frames_of}
-use Rattle.leaf_copy_gc.specs.Redirected.{followed_ref, led_frame}
-use Rattle.leaf_copy_gc.proofs.redirect.follow_frames.Given as goal
-
-abbrev pub invariant-loop-frame : goal.invariant-loop-frame
-invariant-loop-frame l = frames_of l.frames ≡ map (led_frame (followed_ref l.heap.chunks)) (take l.frame (frames_of l.fn.frames)) ++ drop l.frame (frames_of l.fn.frames)

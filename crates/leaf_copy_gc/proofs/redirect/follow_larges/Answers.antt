@@ -1,7 +1,0 @@
-use Rattle.std.proofs.Common.{ap, sym}
-use Rattle.leaf_copy_gc.specs.Survivors.{with_chunks}
-use Rattle.leaf_copy_gc.proofs.NoLarge.{none_led}
-use Rattle.leaf_copy_gc.proofs.redirect.follow_larges.Goals as goal
-
-pub returns-then-has_small_alone : goal.returns-then-has_small_alone
-returns-then-has_small_alone c = ap (with_chunks c.args.heap.now) (sym (none_led c.args.heap.now.chunks c.args.found.now (c.has_small_alone.ensures c.if-has_small_alone.true) c.requires))

@@ -1,0 +1,6 @@
+pub mod HeapLemmas
+pub mod PlacedLaws
+pub mod Settled
+pub mod Near
+pub mod Counting
+mod Common

@@ -1,0 +1,6 @@
+pub mod LeafHeapValue
+pub mod Counted
+pub mod Units
+pub mod FieldLaws
+pub mod PlaceLaws
+mod Common

@@ -1,4 +1,0 @@
-pub mod Lends
-pub mod RoomyValue
-pub mod Members
-pub mod Options

@@ -1,0 +1,5 @@
+pub mod Joined
+pub mod Texts
+pub mod Along
+pub mod Parts
+mod Common

@@ -1,0 +1,8 @@
+use Rattle.log_json.proofs.Common.{◌∙◌, name_of}
+use Rattle.log_json.proofs.Along.{pieces_next}
+use Rattle.log_json.proofs.races.add_locations.Goals as goal
+
+pub loop-location-preserved : goal.loop-location-preserved
+loop-location-preserved c =
+    pieces_next (name_of c.args.names.now) c.args.race c.loop-location.location c.args.race.end c.loop-location.text.items c.add_location.new.text.items c.loop-location-test.true c.in_ok-add_location.ensures
+    ∙ c.loop-location.invariant

@@ -1,0 +1,11 @@
+// The report of a log as a JSON object.
+#![tactic(auto)]
+
+mod cost;
+mod line;
+mod races;
+mod report;
+mod uses;
+mod value;
+
+pub use report::report_json;

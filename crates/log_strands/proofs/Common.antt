@@ -1,0 +1,24 @@
+-- The names of lower crates and of the specifications that these proofs use. Declares nothing.
+pub use Rattle.fork_graph.specs.Graph.{strand}
+pub use Rattle.fork_graph.specs.declared.graph.GraphStrand.{GraphStrand}
+pub use Rattle.log_form.specs.Events.{event}
+pub use Rattle.log_pieces.specs.Claims.{is_that}
+pub use Rattle.log_pieces.specs.Pieces.{text_at, acts_in, acts_of_piece, events_in, events_of_pieces}
+pub use Rattle.log_pieces.specs.declared.piece.LogPiece.{LogPiece}
+pub use Rattle.log_strands.specs.Places.{is_known, StandsAt, IsPlaceOf}
+pub use Rattle.log_strands.specs.Table.{Knows, place_told, noted_if}
+pub use Rattle.log_strands.specs.declared.places.PlaceTable.{PlaceTable}
+pub use Rattle.log_tasks.proofs.Puts.{and_left, and_right, number_same}
+pub use Rattle.log_tasks.specs.Numbers.{log_strand}
+pub use Rattle.log_tasks.specs.declared.tasks.LogTasks.{LogTasks}
+pub use Rattle.plain_vec.proofs.Members.{got_front, got_within}
+pub use Rattle.plain_vec.proofs.Places.{got_last, got_more}
+pub use Rattle.std.proofs.Common.{◌≡◌, ◌<◌, ◌≤◌, ◌+◌, ℕ, List, length, get_or, take, ap, slice_range, arith, ◌==◌, ◌++◌, ◌∷◌, ◌∙◌, ◌⊎◌, inl, inr, zero, suc, Bool, true, false, [], refl, sym, subst, Option, Some, None, slice_get}
+pub use Rattle.std.proofs.lemmas.Bool.Decides.{nat_tests}
+pub use Rattle.std.proofs.lemmas.List.{length-map, take_more, take_all, length-take-le, length_push}
+pub use Rattle.std.proofs.lemmas.List.Concat.{length-flat_map}
+pub use Rattle.std.proofs.lemmas.List.Sums.{sum_by_more_le}
+pub use Rattle.std.proofs.lemmas.Option.{get_or_from_slice_get}
+pub use Rattle.std.specs.List.{sum_by}
+pub use Rattle.std.specs.Option.{option_copied}
+pub use Rattle.std.specs.Prelude.{if◌then◌else◌}

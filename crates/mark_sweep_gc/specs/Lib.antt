@@ -1,0 +1,5 @@
+pub mod Snapshot
+pub mod MarkingValue
+pub mod Swept
+pub mod Laws
+mod Common

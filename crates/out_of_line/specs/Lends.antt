@@ -1,8 +1,0 @@
--- What a value behind a pointer ends as, where a `&mut` to it is returned.
-use Rattle.std.specs.Borrow.{Lends, Fml, RattleType, MutBor}
-use Rattle.out_of_line.specs.contracts.apart.Apart.{the_row}
-
-module _ (T : RattleType) (s : MutBor T.Denot) where
-  -- once the borrow r ends, the value is the last one written through r
-  abbrev pub lends_whole : MutBor T.Denot → Fml
-  lends_whole r = Lends (the_row T) T s r (λ x. x)

@@ -1,2 +1,0 @@
--- What crates above name of `heap_tree`.
-pub use Rattle.shared_value.proofs.below.heap_tree.{all, states_change}

@@ -1,2 +1,0 @@
--- What crates above name of `hh_model`.
-pub use Rattle.shared_value.proofs.below.hh_model.{at_in, grown_at, in_registers, named_from_in, names_run, path_le, place_within, seen, step_taken, waits_is}

@@ -1,2 +1,0 @@
--- What crates above name of `listed`.
-pub use Rattle.shared_value.proofs.below.listed.{all_from, any_from_in, contains_from_in, got_back, got_front, got_none, got_other, got_past, got_same, got_set, got_some, got_within, in_append_cases, in_append_left, in_append_right, in_from_contains, in_map, map_in, none_some, same_truth}

@@ -1,2 +1,0 @@
--- What crates above name of `chunk_pool`.
-pub use Rattle.shared_value.specs.below.chunk_pool.{PoolValue, Slot, owner_of, slot_at}

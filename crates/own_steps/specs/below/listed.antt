@@ -1,2 +1,0 @@
--- What crates above name of `listed`.
-pub use Rattle.shared_value.specs.below.listed.{RoomyValue, option_is}

@@ -1,2 +1,0 @@
--- What crates above name of `task_frames`.
-pub use Rattle.shared_value.specs.below.task_frames.{Frame, FramesValue, int_of, ref_of, with_int, with_next, with_reference}

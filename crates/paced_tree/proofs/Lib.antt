@@ -1,4 +1,0 @@
-mod Noted
-mod MarkNotes
-mod Idle
-pub mod Sent

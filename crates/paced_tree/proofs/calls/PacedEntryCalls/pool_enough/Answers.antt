@@ -1,6 +1,0 @@
-use Rattle.std.proofs.Common.{sym, subst}
-use Rattle.counted_tree.specs.below.shared_value.{Fits, SharedValue}
-use Rattle.paced_tree.proofs.calls.PacedEntryCalls.pool_enough.Goals as goal
-
-pub pool_enough-requires-clause-out : goal.pool_enough-requires-clause-out
-pool_enough-requires-clause-out c = (c.requires.out.0, subst (λ (z : SharedValue). Fits z c.requires.out.0 c.args.part.now) (sym c.shared.ensures) c.requires.out.1)

@@ -1,0 +1,4 @@
+pub mod Lends
+pub mod ReservedVecValue
+pub mod Members
+pub mod Options

@@ -1,7 +1,0 @@
-use Rattle.std.proofs.Common.{ap, ◌∙◌}
-use Rattle.program_reader.specs.Names.{place_of}
-use Rattle.program_reader.proofs.Tables.{found_place}
-use Rattle.program_reader.proofs.names.Table.find.Goals as goal
-
-pub returns : goal.returns
-returns c = c.get_index_of.ensures.index ∙ found_place c.args.name.now c.self.inside.numbers.entries ∙ ap (λ es. place_of es c.args.name.now) c.self.view_is

@@ -1,8 +1,0 @@
-use Rattle.std.proofs.Common.{◌≡◌, not, drop}
-use Rattle.std.specs.List.{find}
-use Rattle.race_cells.proofs.stack.Stack.lowest_unordered.Given as goal
-
-abbrev pub invariant-loop-entry : goal.invariant-loop-entry
-invariant-loop-entry g l =
-    find (λ u. not ((g.S.Strands.order l.strands).before u.strand l.strand)) (drop l.entry-index l.entry-items)
-    ≡ find (λ u. not ((g.S.Strands.order l.strands).before u.strand l.strand)) l.entry-items

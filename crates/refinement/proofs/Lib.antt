@@ -1,0 +1,5 @@
+pub mod objects
+pub mod changes
+pub mod notes
+pub mod below
+mod Common

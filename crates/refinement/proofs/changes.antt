@@ -1,0 +1,21 @@
+-- What a memory stands for after each kind of change: steps, forks, joins, stores, collections, sweeps.
+pub mod Alone
+pub mod Sweep
+pub mod Collect
+pub mod Join
+pub mod Release
+pub mod Fork
+pub mod UpdateOneTask
+pub mod Write
+pub mod Own
+pub mod Renew
+pub mod Target
+pub mod Store
+pub mod Lifts
+pub mod Takes
+pub mod Same
+pub mod Steady
+pub mod Numbers
+pub mod Finish
+pub mod Shown
+pub mod Giving

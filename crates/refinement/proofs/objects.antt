@@ -1,0 +1,7 @@
+-- The objects of chunks, read and mapped, and their layout.
+pub mod Carry
+pub mod Members
+pub mod LaidOut
+pub mod Mapped
+pub mod Merged
+pub mod Untouched

@@ -1,0 +1,20 @@
+pub mod Memory
+pub mod Layout
+pub mod ReadsReference
+pub mod Stands
+pub mod LeafCollectionBegins
+pub mod Marking
+pub mod Since
+pub mod Fits
+pub mod Changes
+pub mod Frames
+pub mod Whole
+pub mod Copies
+pub mod Worker
+pub mod EntryMakes
+pub mod Marks
+pub mod Counts
+pub mod RanCounts
+pub mod Laws
+pub mod below
+mod Common

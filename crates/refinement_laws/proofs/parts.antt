@@ -1,0 +1,25 @@
+-- The parts that workers hold still fit, whoever makes an entry.
+pub mod Assemble
+pub mod Frame
+pub mod Parts
+pub mod Along
+pub mod Beside
+pub mod Pair
+pub mod Ends
+pub mod Others
+pub mod Alike
+pub mod All
+pub mod Handed
+pub mod StepsPreserveParts
+pub mod Copies
+pub mod Leave
+pub mod NonMovingEntries
+pub mod Goes
+pub mod Sets
+pub mod Workers
+pub mod QuietEntries
+pub mod WorkersPast
+pub mod RanFits
+pub mod TookFits
+pub mod Statements
+pub mod OwnFits

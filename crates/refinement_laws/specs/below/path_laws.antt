@@ -1,0 +1,2 @@
+-- Re-exports from `path_laws` for the crates above.
+pub use Rattle.path_laws.specs.Paths.{AreOwners, ArePaths, IsWalkOfJoined, IsWalkUp}

@@ -1,0 +1,6 @@
+pub mod Writing
+pub mod Acts
+pub mod Sites
+pub mod Lines
+pub mod Log
+mod Common

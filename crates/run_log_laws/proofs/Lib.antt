@@ -1,0 +1,5 @@
+mod Turns
+mod Walks
+mod Rows
+mod Runs
+mod Common

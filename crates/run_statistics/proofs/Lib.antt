@@ -1,0 +1,5 @@
+mod BegunCollections
+pub mod EntryCounted
+mod PartWords
+pub mod below
+mod Common

@@ -1,0 +1,4 @@
+-- Re-exports from `heap_reading` for the crates above.
+pub use Rattle.heap_reading.proofs.IdleTasks.{done_idles}
+pub use Rattle.heap_reading.proofs.KeptNames.{handed_held}
+pub use Rattle.heap_reading.proofs.TreeNow.{same_machine}

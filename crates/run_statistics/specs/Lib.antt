@@ -1,0 +1,2 @@
+pub mod JournalCounts
+pub mod below

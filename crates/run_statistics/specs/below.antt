@@ -1,0 +1,26 @@
+-- Re-exports from lower crates for the crates above.
+pub mod leaf_heap
+pub mod fork_join_commit
+pub mod chunk_pool
+pub mod refinement
+pub mod entry_calls
+pub mod heap_marking
+pub mod heap_tree
+pub mod hh_lang
+pub mod hh_model
+pub mod mark_sweep_gc
+pub mod leaf_collections
+pub mod copying_gc
+pub mod ledger_step_laws
+pub mod plain_vec
+pub mod object_layout
+pub mod step_commit
+pub mod remembered_set
+pub mod run_ledger
+pub mod run_trace
+pub mod shared_tree
+pub mod core_invariant
+pub mod task_frames
+pub mod task_slots
+pub mod task_machine
+pub mod write_barrier

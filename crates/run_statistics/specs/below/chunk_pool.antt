@@ -1,0 +1,2 @@
+-- Re-exports from `chunk_pool` for the crates above.
+pub use Rattle.heap_reading.specs.below.chunk_pool.{units_in_use}

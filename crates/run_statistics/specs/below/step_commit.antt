@@ -1,0 +1,2 @@
+-- Re-exports from `step_commit` for the crates above.
+pub use Rattle.shared_tree.specs.below.step_commit.{FinishesAlone, GoesAlone, HaltsAlone, IsShared, alone_entry, machine_after}

@@ -1,2 +1,0 @@
--- What crates above name of `hh_lang`.
-pub use Rattle.core_relation.specs.below.hh_lang.{Calc, Call, Cas, Cnti, Cntr, Freeze, Geti, Getr, Instr, IsProgram, Jmp, Jz, Line, Mov, Movr, Newm, Nil, Operator, Out, Pack, Par, ProgramText, Puti, Putr, Ret, Same, Set, line_at}

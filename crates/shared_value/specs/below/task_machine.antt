@@ -1,3 +1,0 @@
--- What crates above name of `task_machine`.
-pub use Rattle.core_relation.specs.below.task_machine.{AreAt, AreReserved, Begun, Due, FitsNow, FitsSome, FrameStands, FramesStand, IsAt, IsCounted, IsLastLarge, IsLastSmall, IsSafe, IsShaped, KeepsAccounts, KeepsRest, NeedChunk, Paused, Pauses, PausesBy, Places, Private, Ran, RanBy, Runs, Shared, Spent, account_after, account_by, birth_of, blank, is_fork, is_par, is_part_due, is_part_in_need, lacks_place, large_names, name_of, named_by, names_in, outline_after, outline_by, outline_of, outline_of_cell, outline_of_chunk, small_lists, steps, the_row, unended}
-pub use Rattle.core_relation.specs.below.task_machine.PrivateContracts as PrivateContracts

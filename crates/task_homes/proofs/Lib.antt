@@ -1,4 +1,0 @@
-mod Contents
-mod Led
-mod Places
-pub mod below

@@ -1,4 +1,0 @@
--- What crates above name of the crates below.
-pub mod chunk_pool
-pub mod out_of_line
-pub mod write_barrier

@@ -1,3 +1,0 @@
-pub mod HomesValue
-pub mod RestingHeaps
-pub mod below

@@ -1,3 +1,0 @@
--- What crates above name of the crates below.
-pub mod chunk_pool
-pub mod write_barrier

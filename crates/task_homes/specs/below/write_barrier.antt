@@ -1,4 +1,0 @@
--- What crates above name of `write_barrier`.
-pub use Rattle.write_barrier.specs.Forms.{bare}
-pub use Rattle.write_barrier.specs.Stored.{Content, IsOwned, content_after, content_at, content_of, heap_of, is_down, noted_in, with_source}
-pub use Rattle.write_barrier.specs.declared.sets.SetOf.{SetOf}

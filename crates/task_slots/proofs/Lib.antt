@@ -1,0 +1,5 @@
+mod Contents
+mod Led
+mod Places
+pub mod below
+mod Common

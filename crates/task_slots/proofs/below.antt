@@ -1,0 +1,4 @@
+-- Re-exports from lower crates for the crates above.
+pub mod chunk_pool
+pub mod boxed
+pub mod write_barrier

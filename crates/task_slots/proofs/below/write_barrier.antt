@@ -1,0 +1,2 @@
+-- Re-exports from `write_barrier` for the crates above.
+pub use Rattle.write_barrier.proofs.sets.SetOf.TheSendSync as SetOfSendSync

@@ -1,0 +1,19 @@
+use Rattle.task_slots.proofs.Common.{rules, ◌<◌, ◌≡◌, Some, length, slice_get, refl, ap, ◌∙◌, vec_capacity, got_item}
+use Rattle.task_slots.proofs.Places.{there_within, marking_now, marking_put}
+use Rattle.task_slots.proofs.slots.TaskSlots.put_marking.Goals as goal
+
+pub returns-clause-task_slots : goal.returns-clause-task_slots
+returns-clause-task_slots c =
+    let lt : c.args.t < length c.self.inside.list.items = there_within c.self.inside.list.items _ c.args.self.now c.self.view_is c.args.t c.requires.there in
+    let there0 : slice_get c.self.inside.list.items c.args.t ≡ Some c.index_mut.result.now = got_item c.self.inside.list.items c.args.t c.index_mut.result.now lt (search rules) in
+    let here : c.index_mut.result.now ≡ Some c.get_mut.result.now = search rules in
+    let there : slice_get c.self.inside.list.items c.args.t ≡ Some (Some c.get_mut.result.now) = there0 ∙ ap Some here in
+    marking_put c.self.inside.list.items (vec_capacity c.self.inside.list) c.args.t (Some c.get_mut.result.now) (Some (record c.get_mut.result.now { marking = Some c.args.marking })) there c.args.self.now c.self.view_is refl refl refl
+
+pub returns-clause-marking : goal.returns-clause-marking
+returns-clause-marking c =
+    let lt : c.args.t < length c.self.inside.list.items = there_within c.self.inside.list.items _ c.args.self.now c.self.view_is c.args.t c.requires.there in
+    let there0 : slice_get c.self.inside.list.items c.args.t ≡ Some c.index_mut.result.now = got_item c.self.inside.list.items c.args.t c.index_mut.result.now lt (search rules) in
+    let here : c.index_mut.result.now ≡ Some c.get_mut.result.now = search rules in
+    let there : slice_get c.self.inside.list.items c.args.t ≡ Some (Some c.get_mut.result.now) = there0 ∙ ap Some here in
+    marking_now c.self.inside.list.items (vec_capacity c.self.inside.list) c.args.t (Some c.get_mut.result.now) (Some (record c.get_mut.result.now { marking = Some c.args.marking })) there c.args.self.now c.self.view_is

@@ -1,0 +1,3 @@
+pub mod TaskSlotsValue
+pub mod RestingHeaps
+pub mod below

@@ -1,0 +1,3 @@
+-- Re-exports from lower crates for the crates above.
+pub mod chunk_pool
+pub mod write_barrier

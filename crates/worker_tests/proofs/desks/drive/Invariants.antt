@@ -1,9 +1,0 @@
-use Rattle.worker_run.specs.below.turn_lock.{view, identity}
-use Rattle.worker_run.specs.Desks.{IsDesk}
-use Rattle.worker_run.specs.below.turn_entries.{GoesWith}
-use Rattle.worker_tests.proofs.desks.drive.Given as goal
-
-abbrev pub invariant-loop-entry : goal.invariant-loop-entry
-invariant-loop-entry g l =
-    IsDesk (identity l.shop.turn.now) l.shop.program.now l.first × IsDesk (identity l.shop.turn.now) l.shop.program.now l.second × GoesWith l.shop.program.now l.first.worker (view l.first.seat).part l.to_first
-    × GoesWith l.shop.program.now l.second.worker (view l.second.seat).part l.to_second

@@ -1,8 +1,0 @@
-use Rattle.world_core.proofs.HoldingCauses.{chunk_apart}
-use Rattle.world_core.proofs.Making.{apart_made}
-use Rattle.world_core.proofs.apply_chunk.apply_chunk.Goals as goal
-
-pub returns-in-Err : goal.returns-in-Err
-returns-in-Err c =
-    apart_made c.args.shared.now c.args.worker _ c.args.holding c.in-Err.apart.holding c.in-Err.apart.cause c.made.result c.made.ensures c.in-Err.ensures.back c.requires.holds
-    (chunk_apart c.args.shared.now c.args.worker c.stands.ensures c.requires.first c.args.t c.args.holding c.in-Err.apart.cause c.requires.holds c.in-Err.ensures.cause)

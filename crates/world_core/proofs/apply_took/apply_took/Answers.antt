@@ -1,7 +1,0 @@
-use Rattle.std.proofs.Common.{ap, sym, ◌∙◌}
-use Rattle.counted_tree.specs.below.shared_value.{cause_of}
-use Rattle.world_core.proofs.Making.{refuses_for}
-use Rattle.world_core.proofs.apply_took.apply_took.Goals as goal
-
-pub returns-in-Err : goal.returns-in-Err
-returns-in-Err c = refuses_for c.args.shared.now c.took.new.self c.args.worker _ c.in-Err.cause c.args.holding c.in-Err.ensures.same (sym c.took.ensures.refused ∙ ap cause_of c.in-Err.is) c.requires.holds

@@ -1,2 +1,0 @@
--- What crates above name of `counted_tree`.
-pub use Rattle.counted_tree.specs.Counts.{totals_of}

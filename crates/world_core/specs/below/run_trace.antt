@@ -1,2 +1,0 @@
--- What crates above name of `run_trace`.
-pub use Rattle.counted_tree.specs.below.run_trace.{SettingsValue}
