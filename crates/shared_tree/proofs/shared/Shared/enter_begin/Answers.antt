@@ -56,81 +56,70 @@ entry_so : (j : ReservedVecValue EntryValue) (k t u : ℕ) → t ≡ u → (x : 
     → j' ≡ record { items = j.items ++ record { worker = k; kind = Begin u } ∷ []; room = j.room - 1 }
 entry_so j k t u same x j' is made = journal_by j j' x (record { worker = k; kind = Begin u }) (is ∙ ap (λ n. record { worker = k; kind = Begin n }) same) made
 
+-- The value afterwards: it is a shared value, the parts of others fit it, and so does this one, whose collection has begun.
+module _ (c : goal.After-push_reserved) where
+  abbrev w : SharedValue
+  w = the_view c.self.inside
+
+  abbrev p : Private
+  p = c.args.part.now
+
+  abbrev k : ℕ
+  k = c.args.worker
+
+  abbrev q : Private
+  q = c.begin_with.new.part
+
+  abbrev news : List ChunkValue
+  news = c.in_ok-to.to.chunks.items
+
+  abbrev with : ReservedVecValue EntryValue → SharedValue
+  with j = record w { pool = c.begin_with.new.pool; journal = j }
+
+  abbrev left : ReservedVecValue EntryValue
+  left = record { items = []; room = w.journal.room - 1 }
+
+  F : Fits w k p
+  F = subst (λ (z : SharedValue). Fits z k p) (sym c.self.view_is) c.requires.fits
+
+  free : refused w (record { worker = k; kind = Begin p.task }) ≡ None
+  free = subst (λ (z : SharedValue). refused z (record { worker = k; kind = Begin p.task }) ≡ None) (sym c.self.view_is) c.requires.free
+
+  count : c.chunks_for-count.result ≡ take_by (small_words p.heap.chunks)
+  count = begin_count w k p c.self.invariant F c.requires.fresh free _ (counts _ _ p c.chunks_for-count.ensures.take c.small_words.ensures)
+
+  roots : c.deref.result.now ≡ roots_of w p
+  roots = c.deref.ensures.value ∙ (c.in_ok-roots.ensures ∙ ap (λ (z : SharedValue). roots_of z p) (sym c.self.view_is))
+
+  journal : c.push_reserved.new.self ≡ record { items = w.journal.items ++ record { worker = k; kind = Begin p.task } ∷ []; room = w.journal.room - 1 }
+  journal = entry_so w.journal k c.args.task p.task c.requires.task c.new.result c.push_reserved.new.self c.new.ensures c.push_reserved.ensures
+
+  world : IsSharedValue (with c.push_reserved.new.self)
+  world =
+      subst (λ (j : ReservedVecValue EntryValue). IsSharedValue (with j)) (sym journal)
+      (begins_world w k p c.self.invariant F c.requires.fresh free c.begin_with.new.pool news [] p.task _ refl count refl c.in_ok-to.ensures.taken c.deref.result.now roots (map number_of news) refl left)
+
+  apart : OthersFit w (with c.push_reserved.new.self) k
+  apart =
+      subst (λ (j : ReservedVecValue EntryValue). OthersFit w (with j) k) (sym journal)
+      (begins_apart w k p c.self.invariant F c.requires.fresh free c.begin_with.new.pool news [] p.task _ refl count refl c.in_ok-to.ensures.taken c.deref.result.now roots (map number_of news) refl left)
+
+  fits : Fits (with c.push_reserved.new.self) k (record p { heap = with_places p.heap q.heap.slots q.heap.spare; begun = Some (record { roots = c.deref.result.now; news = map number_of news }) })
+  fits =
+      subst (λ (j : ReservedVecValue EntryValue). Fits (with j) k (record p { heap = with_places p.heap q.heap.slots q.heap.spare; begun = Some (record { roots = c.deref.result.now; news = map number_of news }) })) (sym journal)
+      (begins_fit w k p c.self.invariant F c.requires.fresh free c.begin_with.new.pool news [] p.task _ refl count refl c.in_ok-to.ensures.taken c.deref.result.now roots (map number_of news) refl left q.heap.slots q.heap.spare)
+
+  begun : HasBegun p q c.deref.result.now c.in_ok-to.to
+  begun = begins_with w k p c.self.invariant F c.requires.fresh free c.begin_with.new.pool news [] p.task _ refl count refl c.in_ok-to.ensures.taken c.deref.result.now roots (map number_of news) refl left q c.in_ok-to.to refl c.in_ok-to.ensures.begun c.in_ok-to.ensures.reserved
+
 pub invariant_of-self-2 : goal.invariant_of-self-2
-invariant_of-self-2 c =
-    let w : SharedValue = the_view c.self.inside in
-    let p : Private = c.args.part.now in
-    let k : ℕ = c.args.worker in
-    let e : EntryValue = record { worker = k; kind = Begin p.task } in
-    let same : w ≡ c.args.self.now = c.self.view_is in
-    let F : Fits w k p = subst (λ (z : SharedValue). Fits z k p) (sym same) c.requires.fits in
-    let free : refused w e ≡ None = subst (λ (z : SharedValue). refused z e ≡ None) (sym same) c.requires.free in
-    let n : ℕ = c.chunks_for-count.result in
-    let few = counts n c.small_words.result p c.chunks_for-count.ensures.take c.small_words.ensures in
-    let count : n ≡ take_by (small_words p.heap.chunks) = begin_count w k p c.self.invariant F c.requires.fresh free n few in
-    let roots : c.deref.result.now ≡ roots_of w p = c.deref.ensures.value ∙ (c.in_ok-roots.ensures ∙ ap (λ (z : SharedValue). roots_of z p) (sym same)) in
-    let pool : PoolValue = c.begin_with.new.pool in
-    let news : List ChunkValue = c.in_ok-to.to.chunks.items in
-    let journal : c.push_reserved.new.self ≡ record { items = w.journal.items ++ e ∷ []; room = w.journal.room - 1 } = entry_so w.journal k c.args.task p.task c.requires.task c.new.result c.push_reserved.new.self c.new.ensures c.push_reserved.ensures in
-    subst (λ (j : ReservedVecValue EntryValue). IsSharedValue (record w { pool = pool; journal = j })) (sym journal)
-    (begins_world w k p c.self.invariant F c.requires.fresh free pool news [] p.task n refl count refl c.in_ok-to.ensures.taken c.deref.result.now roots (map number_of news) refl (record { items = []; room = w.journal.room - 1 }))
+invariant_of-self-2 c = world c
 
 pub returns-clause-others : goal.returns-clause-others
-returns-clause-others c =
-    let w : SharedValue = the_view c.self.inside in
-    let p : Private = c.args.part.now in
-    let k : ℕ = c.args.worker in
-    let e : EntryValue = record { worker = k; kind = Begin p.task } in
-    let same : w ≡ c.args.self.now = c.self.view_is in
-    let F : Fits w k p = subst (λ (z : SharedValue). Fits z k p) (sym same) c.requires.fits in
-    let free : refused w e ≡ None = subst (λ (z : SharedValue). refused z e ≡ None) (sym same) c.requires.free in
-    let n : ℕ = c.chunks_for-count.result in
-    let few = counts n c.small_words.result p c.chunks_for-count.ensures.take c.small_words.ensures in
-    let count : n ≡ take_by (small_words p.heap.chunks) = begin_count w k p c.self.invariant F c.requires.fresh free n few in
-    let roots : c.deref.result.now ≡ roots_of w p = c.deref.ensures.value ∙ (c.in_ok-roots.ensures ∙ ap (λ (z : SharedValue). roots_of z p) (sym same)) in
-    let pool : PoolValue = c.begin_with.new.pool in
-    let news : List ChunkValue = c.in_ok-to.to.chunks.items in
-    let journal : c.push_reserved.new.self ≡ record { items = w.journal.items ++ e ∷ []; room = w.journal.room - 1 } = entry_so w.journal k c.args.task p.task c.requires.task c.new.result c.push_reserved.new.self c.new.ensures c.push_reserved.ensures in
-    subst (λ (z : SharedValue). OthersFit z (record w { pool = pool; journal = c.push_reserved.new.self }) k) same
-    (subst (λ (j : ReservedVecValue EntryValue). OthersFit w (record w { pool = pool; journal = j }) k) (sym journal)
-    (begins_apart w k p c.self.invariant F c.requires.fresh free pool news [] p.task n refl count refl c.in_ok-to.ensures.taken c.deref.result.now roots (map number_of news) refl (record { items = []; room = w.journal.room - 1 })))
+returns-clause-others c = subst (λ (z : SharedValue). OthersFit z (with c c.push_reserved.new.self) c.args.worker) c.self.view_is (apart c)
 
 pub returns-clause-fits : goal.returns-clause-fits
-returns-clause-fits c =
-    let w : SharedValue = the_view c.self.inside in
-    let p : Private = c.args.part.now in
-    let k : ℕ = c.args.worker in
-    let e : EntryValue = record { worker = k; kind = Begin p.task } in
-    let same : w ≡ c.args.self.now = c.self.view_is in
-    let F : Fits w k p = subst (λ (z : SharedValue). Fits z k p) (sym same) c.requires.fits in
-    let free : refused w e ≡ None = subst (λ (z : SharedValue). refused z e ≡ None) (sym same) c.requires.free in
-    let n : ℕ = c.chunks_for-count.result in
-    let few = counts n c.small_words.result p c.chunks_for-count.ensures.take c.small_words.ensures in
-    let count : n ≡ take_by (small_words p.heap.chunks) = begin_count w k p c.self.invariant F c.requires.fresh free n few in
-    let roots : c.deref.result.now ≡ roots_of w p = c.deref.ensures.value ∙ (c.in_ok-roots.ensures ∙ ap (λ (z : SharedValue). roots_of z p) (sym same)) in
-    let pool : PoolValue = c.begin_with.new.pool in
-    let news : List ChunkValue = c.in_ok-to.to.chunks.items in
-    let journal : c.push_reserved.new.self ≡ record { items = w.journal.items ++ e ∷ []; room = w.journal.room - 1 } = entry_so w.journal k c.args.task p.task c.requires.task c.new.result c.push_reserved.new.self c.new.ensures c.push_reserved.ensures in
-    let q : Private = c.begin_with.new.part in
-    subst (λ (x : Private). Fits (record w { pool = pool; journal = c.push_reserved.new.self }) k x) (sym c.in_ok-to.ensures.begun)
-    (subst (λ (j : ReservedVecValue EntryValue). Fits (record w { pool = pool; journal = j }) k (record p { heap = with_places p.heap q.heap.slots q.heap.spare; begun = Some (record { roots = c.deref.result.now; news = map number_of news }) })) (sym journal)
-    (begins_fit w k p c.self.invariant F c.requires.fresh free pool news [] p.task n refl count refl c.in_ok-to.ensures.taken c.deref.result.now roots (map number_of news) refl (record { items = []; room = w.journal.room - 1 }) q.heap.slots q.heap.spare))
+returns-clause-fits c = subst (λ (x : Private). Fits (with c c.push_reserved.new.self) c.args.worker x) (sym c.in_ok-to.ensures.begun) (fits c)
 
 pub returns-clause-begun : goal.returns-clause-begun
-returns-clause-begun c =
-    let w : SharedValue = the_view c.self.inside in
-    let p : Private = c.args.part.now in
-    let k : ℕ = c.args.worker in
-    let e : EntryValue = record { worker = k; kind = Begin p.task } in
-    let same : w ≡ c.args.self.now = c.self.view_is in
-    let F : Fits w k p = subst (λ (z : SharedValue). Fits z k p) (sym same) c.requires.fits in
-    let free : refused w e ≡ None = subst (λ (z : SharedValue). refused z e ≡ None) (sym same) c.requires.free in
-    let n : ℕ = c.chunks_for-count.result in
-    let few = counts n c.small_words.result p c.chunks_for-count.ensures.take c.small_words.ensures in
-    let count : n ≡ take_by (small_words p.heap.chunks) = begin_count w k p c.self.invariant F c.requires.fresh free n few in
-    let roots : c.deref.result.now ≡ roots_of w p = c.deref.ensures.value ∙ (c.in_ok-roots.ensures ∙ ap (λ (z : SharedValue). roots_of z p) (sym same)) in
-    let pool : PoolValue = c.begin_with.new.pool in
-    let news : List ChunkValue = c.in_ok-to.to.chunks.items in
-    let q : Private = c.begin_with.new.part in
-    subst (λ rs. HasBegun p q rs c.in_ok-to.to) c.deref.ensures.value
-    (begins_with w k p c.self.invariant F c.requires.fresh free pool news [] p.task n refl count refl c.in_ok-to.ensures.taken c.deref.result.now roots (map number_of news) refl (record { items = []; room = w.journal.room - 1 }) q c.in_ok-to.to refl c.in_ok-to.ensures.begun c.in_ok-to.ensures.reserved)
+returns-clause-begun c = subst (λ rs. HasBegun c.args.part.now c.begin_with.new.part rs c.in_ok-to.to) c.deref.ensures.value (begun c)

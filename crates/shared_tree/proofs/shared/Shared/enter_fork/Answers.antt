@@ -57,57 +57,58 @@ fork_task_slots-marked-requires-clause-next c =
     let asks = asks_fork c.self.view_is c.self.invariant c.requires.fits c.requires.forks c.requires.free in
     next_small (asked_alone asks)
 
+-- The value afterwards: it is a shared value, and the fork entered it.
+module _ (c : goal.After-drop-self-inside-3) where
+  abbrev w : SharedValue
+  w = the_view c.self.inside
+
+  abbrev p : Private
+  p = c.args.part
+
+  abbrev k : ℕ
+  k = c.args.worker
+
+  abbrev n : TaskSlotsValue
+  n = c.fork_task_slots-marked.new.task_slots
+
+  abbrev one : Child
+  one = c.in-Ok-grown.first
+
+  abbrev two : Child
+  two = c.in-Ok-grown.second
+
+  abbrev with : ℕ → ReservedVecValue EntryValue → SharedValue
+  with m j = record w { sets = n.sets; marks = n.marks; steps = m; tree = c.grow-grown.new.tree; rests = n.rests; tasks_out = c.set.new.self; journal = j }
+
+  asks : AsksFork w k p
+  asks = asks_fork c.self.view_is c.self.invariant c.requires.fits c.requires.forks c.requires.free
+
+  both : IsSharedValue (with c.enter_alone.new.steps c.enter_alone.new.journal) × ForksOn w (with c.enter_alone.new.steps c.enter_alone.new.journal) k p one.task two.task
+  both =
+      let B : (n : ℕ) × ForksTo w p c.args.left c.args.right n = subst (λ (z : SharedValue). (n : ℕ) × ForksTo z p c.args.left c.args.right n) (sym c.self.view_is) c.requires.by in
+      let low : depth_of w.tree p.task < 1000 = subst (λ (z : SharedValue). depth_of z.tree p.task < 1000) (sym c.self.view_is) c.requires.shallow in
+      let g : TaskSlotsValue = c.grow-grown.new.task_slots in
+      let grown : g ≡ record c.self.inside.heaps.task_slots { blocks = g.blocks; room = g.room } = c.in-Ok-grown.ensures.task_slots in
+      let made : p.task < length w.rests = slot_there (asked_alone asks) in
+      let first : one ≡ part_child p (length w.rests) c.args.left one.heap.slots one.heap.spare = c.in-Ok-grown.ensures.left_child ∙ ap (λ n. part_child p n c.args.left one.heap.slots one.heap.spare) (sym asks.I.made) in
+      let second : two ≡ part_child p (length w.rests + 1) c.args.right two.heap.slots two.heap.spare = c.in-Ok-grown.ensures.right_child ∙ ap (λ n. part_child p (n + 1) c.args.right two.heap.slots two.heap.spare) (sym asks.I.made) in
+      let rests : n.rests ≡ slice_set w.rests p.task (Some (waiting_rest p)) ++ Some (begun_rest one) ∷ (Some (begun_rest two) ∷ []) =
+      c.fork_task_slots-marked.ensures.rests ∙ ap (λ (z : TaskSlotsValue). slice_set z.rests p.task (Some (waiting_rest p)) ++ Some (begun_rest one) ∷ (Some (begun_rest two) ∷ [])) grown in
+      let marks : n.marks ≡ slice_set w.marks p.task None ++ None ∷ (None ∷ []) = c.fork_task_slots-marked.ensures.marks ∙ ap (λ (z : TaskSlotsValue). slice_set z.marks p.task None ++ None ∷ (None ∷ [])) grown in
+      let H : RestsFork w.rests n.rests p c.args.left c.args.right = rests_fork_by w.rests n.rests p c.args.left c.args.right one two made first second rests in
+      let N : SetsFork w.sets n.sets p.task = subst (λ (z : TaskSlotsValue). SetsFork z.sets n.sets p.task) grown c.fork_task_slots-marked.ensures.sets in
+      let j : ReservedVecValue EntryValue = record { items = []; room = w.journal.room - 1 } in
+      let v : SharedValue = record w { steps = w.steps + (p.fresh + 1); sets = n.sets; marks = n.marks } in
+      let same = four_changed v (forked w.tree p.task) _ n.rests n.rests (slice_set w.tasks_out k None) _ (entered w k p) _ c.in-Ok-grown.ensures.tree refl c.set.ensures refl in
+      let ends = alone_forks asks c.args.left c.args.right B.0 B.1 low n.rests n.sets H N n.marks marks j one.task two.task (ap (λ (z : Child). z.task) c.in-Ok-grown.ensures.left_child) (ap (λ (z : Child). z.task) c.in-Ok-grown.ensures.right_child) in
+      along w k p _ _ c.enter_alone.ensures.steps c.enter_alone.ensures.journal (λ m j. IsSharedValue (with m j) × ForksOn w (with m j) k p one.task two.task)
+      (subst (λ (z : SharedValue). IsSharedValue z × ForksOn w z k p one.task two.task) (sym same) (alone_world asks c.args.left c.args.right B.0 B.1 low n.rests n.sets H N n.marks marks j, ends))
+
 pub invariant_of-self-2 : goal.invariant_of-self-2
-invariant_of-self-2 c =
-    let w : SharedValue = the_view c.self.inside in
-    let p : Private = c.args.part in
-    let k : ℕ = c.args.worker in
-    let asks : AsksFork w k p = asks_fork c.self.view_is c.self.invariant c.requires.fits c.requires.forks c.requires.free in
-    let B : (n : ℕ) × ForksTo w p c.args.left c.args.right n = subst (λ (z : SharedValue). (n : ℕ) × ForksTo z p c.args.left c.args.right n) (sym c.self.view_is) c.requires.by in
-    let low : depth_of w.tree p.task < 1000 = subst (λ (z : SharedValue). depth_of z.tree p.task < 1000) (sym c.self.view_is) c.requires.shallow in
-    let g : TaskSlotsValue = c.grow-grown.new.task_slots in
-    let n : TaskSlotsValue = c.fork_task_slots-marked.new.task_slots in
-    let grown : g ≡ record c.self.inside.heaps.task_slots { blocks = g.blocks; room = g.room } = c.in-Ok-grown.ensures.task_slots in
-    let made : p.task < length w.rests = slot_there (asked_alone asks) in
-    let first : c.in-Ok-grown.first ≡ part_child p (length w.rests) c.args.left c.in-Ok-grown.first.heap.slots c.in-Ok-grown.first.heap.spare = c.in-Ok-grown.ensures.left_child ∙ ap (λ n. part_child p n c.args.left c.in-Ok-grown.first.heap.slots c.in-Ok-grown.first.heap.spare) (sym asks.I.made) in
-    let second : c.in-Ok-grown.second ≡ part_child p (length w.rests + 1) c.args.right c.in-Ok-grown.second.heap.slots c.in-Ok-grown.second.heap.spare = c.in-Ok-grown.ensures.right_child ∙ ap (λ n. part_child p (n + 1) c.args.right c.in-Ok-grown.second.heap.slots c.in-Ok-grown.second.heap.spare) (sym asks.I.made) in
-    let rests : n.rests ≡ slice_set w.rests p.task (Some (waiting_rest p)) ++ Some (begun_rest c.in-Ok-grown.first) ∷ (Some (begun_rest c.in-Ok-grown.second) ∷ []) =
-    c.fork_task_slots-marked.ensures.rests ∙ ap (λ (z : TaskSlotsValue). slice_set z.rests p.task (Some (waiting_rest p)) ++ Some (begun_rest c.in-Ok-grown.first) ∷ (Some (begun_rest c.in-Ok-grown.second) ∷ [])) grown in
-    let marks : n.marks ≡ slice_set w.marks p.task None ++ None ∷ (None ∷ []) = c.fork_task_slots-marked.ensures.marks ∙ ap (λ (z : TaskSlotsValue). slice_set z.marks p.task None ++ None ∷ (None ∷ [])) grown in
-    let H : RestsFork w.rests n.rests p c.args.left c.args.right = rests_fork_by w.rests n.rests p c.args.left c.args.right c.in-Ok-grown.first c.in-Ok-grown.second made first second rests in
-    let N : SetsFork w.sets n.sets p.task = subst (λ (z : TaskSlotsValue). SetsFork z.sets n.sets p.task) grown c.fork_task_slots-marked.ensures.sets in
-    let j : ReservedVecValue EntryValue = record { items = []; room = w.journal.room - 1 } in
-    let v : SharedValue = record w { steps = w.steps + (p.fresh + 1); sets = n.sets; marks = n.marks } in
-    along w k p _ _ c.enter_alone.ensures.steps c.enter_alone.ensures.journal (λ m j. IsSharedValue (record v { steps = m; tree = c.grow-grown.new.tree; rests = n.rests; tasks_out = c.set.new.self; journal = j }))
-    (subst IsSharedValue (sym (four_changed v (forked w.tree p.task) _ n.rests n.rests (slice_set w.tasks_out k None) _ (entered w k p) _ c.in-Ok-grown.ensures.tree refl c.set.ensures refl))
-    (alone_world asks c.args.left c.args.right B.0 B.1 low n.rests n.sets H N n.marks marks j))
+invariant_of-self-2 c = (both c).0
 
 pub returns-clause-answered : goal.returns-clause-answered
-returns-clause-answered c =
-    let w : SharedValue = the_view c.self.inside in
-    let p : Private = c.args.part in
-    let k : ℕ = c.args.worker in
-    let asks : AsksFork w k p = asks_fork c.self.view_is c.self.invariant c.requires.fits c.requires.forks c.requires.free in
-    let B : (n : ℕ) × ForksTo w p c.args.left c.args.right n = subst (λ (z : SharedValue). (n : ℕ) × ForksTo z p c.args.left c.args.right n) (sym c.self.view_is) c.requires.by in
-    let low : depth_of w.tree p.task < 1000 = subst (λ (z : SharedValue). depth_of z.tree p.task < 1000) (sym c.self.view_is) c.requires.shallow in
-    let g : TaskSlotsValue = c.grow-grown.new.task_slots in
-    let n : TaskSlotsValue = c.fork_task_slots-marked.new.task_slots in
-    let grown : g ≡ record c.self.inside.heaps.task_slots { blocks = g.blocks; room = g.room } = c.in-Ok-grown.ensures.task_slots in
-    let made : p.task < length w.rests = slot_there (asked_alone asks) in
-    let first : c.in-Ok-grown.first ≡ part_child p (length w.rests) c.args.left c.in-Ok-grown.first.heap.slots c.in-Ok-grown.first.heap.spare = c.in-Ok-grown.ensures.left_child ∙ ap (λ n. part_child p n c.args.left c.in-Ok-grown.first.heap.slots c.in-Ok-grown.first.heap.spare) (sym asks.I.made) in
-    let second : c.in-Ok-grown.second ≡ part_child p (length w.rests + 1) c.args.right c.in-Ok-grown.second.heap.slots c.in-Ok-grown.second.heap.spare = c.in-Ok-grown.ensures.right_child ∙ ap (λ n. part_child p (n + 1) c.args.right c.in-Ok-grown.second.heap.slots c.in-Ok-grown.second.heap.spare) (sym asks.I.made) in
-    let rests : n.rests ≡ slice_set w.rests p.task (Some (waiting_rest p)) ++ Some (begun_rest c.in-Ok-grown.first) ∷ (Some (begun_rest c.in-Ok-grown.second) ∷ []) =
-    c.fork_task_slots-marked.ensures.rests ∙ ap (λ (z : TaskSlotsValue). slice_set z.rests p.task (Some (waiting_rest p)) ++ Some (begun_rest c.in-Ok-grown.first) ∷ (Some (begun_rest c.in-Ok-grown.second) ∷ [])) grown in
-    let marks : n.marks ≡ slice_set w.marks p.task None ++ None ∷ (None ∷ []) = c.fork_task_slots-marked.ensures.marks ∙ ap (λ (z : TaskSlotsValue). slice_set z.marks p.task None ++ None ∷ (None ∷ [])) grown in
-    let H : RestsFork w.rests n.rests p c.args.left c.args.right = rests_fork_by w.rests n.rests p c.args.left c.args.right c.in-Ok-grown.first c.in-Ok-grown.second made first second rests in
-    let N : SetsFork w.sets n.sets p.task = subst (λ (z : TaskSlotsValue). SetsFork z.sets n.sets p.task) grown c.fork_task_slots-marked.ensures.sets in
-    let j : ReservedVecValue EntryValue = record { items = []; room = w.journal.room - 1 } in
-    let v : SharedValue = record w { steps = w.steps + (p.fresh + 1); sets = n.sets; marks = n.marks } in
-    subst (λ (z : SharedValue). ForksOn z (record v { steps = c.enter_alone.new.steps; tree = c.grow-grown.new.tree; rests = n.rests; tasks_out = c.set.new.self; journal = c.enter_alone.new.journal }) k p c.in-Ok-grown.first.task c.in-Ok-grown.second.task) c.self.view_is
-    (along w k p _ _ c.enter_alone.ensures.steps c.enter_alone.ensures.journal (λ m j. ForksOn w (record v { steps = m; tree = c.grow-grown.new.tree; rests = n.rests; tasks_out = c.set.new.self; journal = j }) k p c.in-Ok-grown.first.task c.in-Ok-grown.second.task)
-    (subst (λ (z : SharedValue). ForksOn w z k p c.in-Ok-grown.first.task c.in-Ok-grown.second.task) (sym (four_changed v (forked w.tree p.task) _ n.rests n.rests (slice_set w.tasks_out k None) _ (entered w k p) _ c.in-Ok-grown.ensures.tree refl c.set.ensures refl))
-    (alone_forks asks c.args.left c.args.right B.0 B.1 low n.rests n.sets H N n.marks marks j c.in-Ok-grown.first.task c.in-Ok-grown.second.task
-    (ap (λ (z : Child). z.task) c.in-Ok-grown.ensures.left_child) (ap (λ (z : Child). z.task) c.in-Ok-grown.ensures.right_child))))
+returns-clause-answered c = subst (λ (z : SharedValue). ForksOn z (with c c.enter_alone.new.steps c.enter_alone.new.journal) c.args.worker c.args.part (one c).task (two c).task) c.self.view_is (both c).1
 
 -- the same value, by what a failed call left
 unchanged_by : (w : SharedValue) (n : List TaskNode) (h g : TaskSlotsValue) → h.rests ≡ w.rests → h.sets ≡ w.sets → h.marks ≡ w.marks → n ≡ w.tree → g ≡ record h { blocks = g.blocks; room = g.room } → record w { tree = n; rests = g.rests; sets = g.sets; marks = g.marks } ≡ w

@@ -2,6 +2,7 @@ use Rattle.shared_tree.proofs.Common.{◌≡◌, ◌<◌, ℕ, ◌+◌, ◌-◌,
 use Rattle.fork_join_commit.proofs.JoinEntries as entry
 use Rattle.shared_tree.proofs.StepsEntered.{along, entered}
 use Rattle.shared_tree.proofs.shared.Shared.enter_join.Goals as goal
+use Rattle.shared_tree.proofs.shared.Shared.enter_join.Goals.{After-in_order-children, After-put_set}
 
 pub sibling_of-other-requires-clause-child : goal.sibling_of-other-requires-clause-child
 sibling_of-other-requires-clause-child c =
@@ -59,98 +60,61 @@ take_rest-above-requires c =
 pub take_set-requires : goal.take_set-requires
 take_set-requires c = record { block = c.take_rest-above.ensures.block }
 
+-- What is known before the children join: the asks of an end, and that all that the calls took is that of the children
+-- and of their parent.
+module _ (c : After-in_order-children) where
+  abbrev w : SharedValue
+  w = the_view c.self.inside
+
+  abbrev p : Private
+  p = c.args.part
+
+  asks : AsksEnd w c.args.worker p
+  asks = asks_end c.self.view_is c.self.invariant c.requires.fits c.requires.ends c.requires.free
+
+  ended : state_of w.tree (sibling p.task) ≡ Some Ended
+  ended = subst (λ (z : SharedValue). state_of z.tree (sibling p.task) ≡ Some Ended) (sym c.self.view_is) c.requires.ended
+
+  par : parent_of w.tree p.task ≡ Some c.args.parent
+  par = subst (λ (z : SharedValue). parent_of z.tree p.task ≡ Some c.args.parent) (sym c.self.view_is) c.requires.parent
+
+  taken : Taken w p c.args.parent c.sibling_of-other.result c.self.inside.heaps.task_slots c.leave.new.self c.leave-2.new.self c.take_rest-above.new.self c.take_set.new.self
+      c.leave.result c.leave-2.result c.take_rest-above.result c.take_set.result c.into_parts-noted.result.0 c.own_child-own.result c.other_child-beside.result c.in_order-children.result.0 c.in_order-children.result.1
+  taken = record {
+    rests_are = refl;
+    sets_are = refl;
+    marks_are = refl;
+    task_slots = record {
+      own_set = c.leave.ensures.set;
+      own_left = c.leave.ensures.task_slots;
+      beside_rest = c.leave-2.ensures.rest;
+      beside_set = c.leave-2.ensures.set;
+      beside_left = c.leave-2.ensures.task_slots;
+      above_is = c.take_rest-above.ensures.rest;
+      rest_taken = c.take_rest-above.ensures.task_slots;
+      set_is = c.take_set.ensures.set;
+      set_taken = c.take_set.ensures.task_slots;
+    };
+    notes_are = c.into_parts-noted.ensures.remembered;
+    own_is = c.own_child-own.ensures;
+    other_is = c.other_child-beside.ensures;
+    left_is = c.in_order-children.ensures.left;
+    right_is = c.in_order-children.ensures.right;
+  }
+
+  places : HasPlaces w p c.args.parent
+  places = subst (λ (z : SharedValue). HasPlaces z p c.args.parent) (sym c.self.view_is) c.requires.places
+
 pub join_children-rest-requires-clause-work : goal.join_children-rest-requires-clause-work
 join_children-rest-requires-clause-work c =
-    let w : SharedValue = the_view c.self.inside in
-    let p : Private = c.args.part in
-    let asks = asks_end c.self.view_is c.self.invariant c.requires.fits c.requires.ends c.requires.free in
-    let ended : state_of w.tree (sibling p.task) ≡ Some Ended = subst (λ (z : SharedValue). state_of z.tree (sibling p.task) ≡ Some Ended) (sym c.self.view_is) c.requires.ended in
-    let par : parent_of w.tree p.task ≡ Some c.args.parent = subst (λ (z : SharedValue). parent_of z.tree p.task ≡ Some c.args.parent) (sym c.self.view_is) c.requires.parent in
-    let places : HasPlaces w p c.args.parent = subst (λ (z : SharedValue). HasPlaces z p c.args.parent) (sym c.self.view_is) c.requires.places in
-    let o : c.sibling_of-other.result ≡ sibling p.task = c.sibling_of-other.ensures in
-    let h : TaskSlotsValue = c.self.inside.heaps.task_slots in
-    let h1 : TaskSlotsValue = c.leave.new.self in
-    let h2 : TaskSlotsValue = c.leave-2.new.self in
-    let h3 : TaskSlotsValue = c.take_rest-above.new.self in
-    let h4 : TaskSlotsValue = c.take_set.new.self in
-    let slot : TaskSlot = c.leave.result in
-    let beside : TaskSlot = c.leave-2.result in
-    let above : ParkedTask = c.take_rest-above.result in
-    let set : SetOf = c.take_set.result in
-    let notes : RememberedValue = c.into_parts-noted.result.0 in
-    let own : EndedChild = c.own_child-own.result in
-    let oth : EndedChild = c.other_child-beside.result in
-    let left : EndedChild = c.in_order-children.result.0 in
-    let right : EndedChild = c.in_order-children.result.1 in
-    let T : Taken w p c.args.parent c.sibling_of-other.result h h1 h2 h3 h4 slot beside above set notes own oth left right = record {
-      rests_are = refl;
-      sets_are = refl;
-      marks_are = refl;
-      task_slots = record {
-        own_set = c.leave.ensures.set;
-        own_left = c.leave.ensures.task_slots;
-        beside_rest = c.leave-2.ensures.rest;
-        beside_set = c.leave-2.ensures.set;
-        beside_left = c.leave-2.ensures.task_slots;
-        above_is = c.take_rest-above.ensures.rest;
-        rest_taken = c.take_rest-above.ensures.task_slots;
-        set_is = c.take_set.ensures.set;
-        set_taken = c.take_set.ensures.task_slots;
-      };
-      notes_are = c.into_parts-noted.ensures.remembered;
-      own_is = c.own_child-own.ensures;
-      other_is = c.other_child-beside.ensures;
-      left_is = c.in_order-children.ensures.left;
-      right_is = c.in_order-children.ensures.right;
-    } in
-    (can_join asks ended c.args.parent c.sibling_of-other.result par o h h1 h2 h3 h4 slot beside above set notes own oth left right T places).0
+    let b = (goal.at.join_children-rest-requires-clause-work c).After-in_order-children in
+    (can_join (asks b) (ended b) c.args.parent c.sibling_of-other.result (par b) c.sibling_of-other.ensures _ _ _ _ _ _ _ _ _ _ _ _ _ _ (taken b) (places b)).0
 
 pub join_children-rest-requires-clause-can : goal.join_children-rest-requires-clause-can
 join_children-rest-requires-clause-can c =
-    let w : SharedValue = the_view c.self.inside in
-    let p : Private = c.args.part in
-    let asks = asks_end c.self.view_is c.self.invariant c.requires.fits c.requires.ends c.requires.free in
-    let ended : state_of w.tree (sibling p.task) ≡ Some Ended = subst (λ (z : SharedValue). state_of z.tree (sibling p.task) ≡ Some Ended) (sym c.self.view_is) c.requires.ended in
-    let par : parent_of w.tree p.task ≡ Some c.args.parent = subst (λ (z : SharedValue). parent_of z.tree p.task ≡ Some c.args.parent) (sym c.self.view_is) c.requires.parent in
-    let places : HasPlaces w p c.args.parent = subst (λ (z : SharedValue). HasPlaces z p c.args.parent) (sym c.self.view_is) c.requires.places in
-    let o : c.sibling_of-other.result ≡ sibling p.task = c.sibling_of-other.ensures in
-    let h : TaskSlotsValue = c.self.inside.heaps.task_slots in
-    let h1 : TaskSlotsValue = c.leave.new.self in
-    let h2 : TaskSlotsValue = c.leave-2.new.self in
-    let h3 : TaskSlotsValue = c.take_rest-above.new.self in
-    let h4 : TaskSlotsValue = c.take_set.new.self in
-    let slot : TaskSlot = c.leave.result in
-    let beside : TaskSlot = c.leave-2.result in
-    let above : ParkedTask = c.take_rest-above.result in
-    let set : SetOf = c.take_set.result in
-    let notes : RememberedValue = c.into_parts-noted.result.0 in
-    let own : EndedChild = c.own_child-own.result in
-    let oth : EndedChild = c.other_child-beside.result in
-    let left : EndedChild = c.in_order-children.result.0 in
-    let right : EndedChild = c.in_order-children.result.1 in
-    let T : Taken w p c.args.parent c.sibling_of-other.result h h1 h2 h3 h4 slot beside above set notes own oth left right = record {
-      rests_are = refl;
-      sets_are = refl;
-      marks_are = refl;
-      task_slots = record {
-        own_set = c.leave.ensures.set;
-        own_left = c.leave.ensures.task_slots;
-        beside_rest = c.leave-2.ensures.rest;
-        beside_set = c.leave-2.ensures.set;
-        beside_left = c.leave-2.ensures.task_slots;
-        above_is = c.take_rest-above.ensures.rest;
-        rest_taken = c.take_rest-above.ensures.task_slots;
-        set_is = c.take_set.ensures.set;
-        set_taken = c.take_set.ensures.task_slots;
-      };
-      notes_are = c.into_parts-noted.ensures.remembered;
-      own_is = c.own_child-own.ensures;
-      other_is = c.other_child-beside.ensures;
-      left_is = c.in_order-children.ensures.left;
-      right_is = c.in_order-children.ensures.right;
-    } in
-    subst (λ (ns : List TaskNode). CanJoin ns w.pool (parent_side c.args.parent above notes) left right) (sym c.set_state.ensures)
-    (can_join asks ended c.args.parent c.sibling_of-other.result par o h h1 h2 h3 h4 slot beside above set notes own oth left right T places).1
+    let b = (goal.at.join_children-rest-requires-clause-can c).After-in_order-children in
+    subst (λ (ns : List TaskNode). CanJoin ns (the_view c.self.inside).pool (parent_side c.args.parent c.take_rest-above.result c.into_parts-noted.result.0) c.in_order-children.result.0 c.in_order-children.result.1) (sym c.set_state.ensures)
+    (can_join (asks b) (ended b) c.args.parent c.sibling_of-other.result (par b) c.sibling_of-other.ensures _ _ _ _ _ _ _ _ _ _ _ _ _ _ (taken b) (places b)).1
 
 pub remembering-set-requires : goal.remembering-set-requires
 remembering-set-requires c =
@@ -163,135 +127,58 @@ pub put_set-requires : goal.put_set-requires
 put_set-requires c =
     record { block = ap (λ (z : TaskSlotsValue). slice_get z.blocks c.args.parent) c.put_rest.ensures ∙ (ap (λ (z : TaskSlotsValue). slice_get z.blocks c.args.parent) c.take_set.ensures.task_slots ∙ c.take_rest-above.ensures.block) }
 
+-- The value afterwards, by what is put back: it is a shared value, and the end of a child entered it.
+module _ (c : After-put_set) where
+  abbrev v : SharedValue
+  v = the_view c.self.inside
+
+  abbrev k : ℕ
+  k = c.args.worker
+
+  abbrev part : Private
+  part = c.args.part
+
+  abbrev left : EndedChild
+  left = c.in_order-children.result.0
+
+  abbrev right : EndedChild
+  right = c.in_order-children.result.1
+
+  abbrev pool : PoolValue
+  pool = c.join_children-rest.new.pool
+
+  abbrev h6 : TaskSlotsValue
+  h6 = c.put_set.new.self
+
+  put : Put v c.args.parent c.take_set.new.self c.put_rest.new.self h6 c.into_parts-noted.result.0 c.take_rest-above.result left right pool c.join_children-rest.result.0 c.join_children-rest.result.1 c.remembering-set.result
+  put = record {
+    pool_is = c.join_children-rest.ensures.pool;
+    side = c.join_children-rest.ensures.side;
+    rest_is = c.join_children-rest.ensures.rest;
+    task_slots = record { rest_put = c.put_rest.ensures; set_put = c.put_set.ensures };
+    put_is = c.remembering-set.ensures;
+  }
+
+  -- the value but for its steps and its journal
+  abbrev with : ℕ → ReservedVecValue EntryValue → SharedValue
+  with n j = record v { pool = pool; sets = h6.sets; marks = h6.marks; steps = n; tree = c.join_children-rest.new.tree; rests = h6.rests; tasks_out = c.set.new.self; journal = j }
+
+  both : IsSharedValue (with c.enter_alone.new.steps c.enter_alone.new.journal) × EndsChild v (with c.enter_alone.new.steps c.enter_alone.new.journal) k part (Some c.args.parent)
+  both =
+      let b = (goal.at.invariant_of-self c).After-in_order-children in
+      let j : ReservedVecValue EntryValue = record { items = []; room = v.journal.room - 1 } in
+      let ends = both_made (asks b) (ended b) c.args.parent c.sibling_of-other.result (par b) c.sibling_of-other.ensures _ _ _ _ _ _ _ _ _ _ _ _ _ _ pool c.join_children-rest.result.0 c.join_children-rest.result.1 c.put_rest.new.self h6 c.remembering-set.result j (taken b) put in
+      let now : SharedValue = record v { pool = pool; sets = h6.sets; marks = h6.marks; steps = v.steps + (part.fresh + 1) } in
+      let tree : c.join_children-rest.new.tree ≡ joined_nodes (with_state v.tree part.task Ended) c.args.parent left.side.task right.side.task = c.join_children-rest.ensures.tree ∙ ap (λ ns. joined_nodes ns c.args.parent left.side.task right.side.task) c.set_state.ensures in
+      let same = four_changed now (joined_nodes (with_state v.tree part.task Ended) c.args.parent left.side.task right.side.task) c.join_children-rest.new.tree h6.rests h6.rests (slice_set v.tasks_out k None) c.set.new.self (entered v k part) _ tree refl c.set.ensures refl in
+      along v k part _ _ c.enter_alone.ensures.steps c.enter_alone.ensures.journal (λ n j. IsSharedValue (with n j) × EndsChild v (with n j) k part (Some c.args.parent))
+      (subst (λ (z : SharedValue). IsSharedValue z × EndsChild v z k part (Some c.args.parent)) (sym same) ends)
+
 pub invariant_of-self : goal.invariant_of-self
-invariant_of-self c =
-    let w : SharedValue = the_view c.self.inside in
-    let p : Private = c.args.part in
-    let k : ℕ = c.args.worker in
-    let asks : AsksEnd w k p = asks_end c.self.view_is c.self.invariant c.requires.fits c.requires.ends c.requires.free in
-    let ended : state_of w.tree (sibling p.task) ≡ Some Ended = subst (λ (z : SharedValue). state_of z.tree (sibling p.task) ≡ Some Ended) (sym c.self.view_is) c.requires.ended in
-    let par : parent_of w.tree p.task ≡ Some c.args.parent = subst (λ (z : SharedValue). parent_of z.tree p.task ≡ Some c.args.parent) (sym c.self.view_is) c.requires.parent in
-    let o : c.sibling_of-other.result ≡ sibling p.task = c.sibling_of-other.ensures in
-    let h : TaskSlotsValue = c.self.inside.heaps.task_slots in
-    let h1 : TaskSlotsValue = c.leave.new.self in
-    let h2 : TaskSlotsValue = c.leave-2.new.self in
-    let h3 : TaskSlotsValue = c.take_rest-above.new.self in
-    let h4 : TaskSlotsValue = c.take_set.new.self in
-    let slot : TaskSlot = c.leave.result in
-    let beside : TaskSlot = c.leave-2.result in
-    let above : ParkedTask = c.take_rest-above.result in
-    let set : SetOf = c.take_set.result in
-    let notes : RememberedValue = c.into_parts-noted.result.0 in
-    let own : EndedChild = c.own_child-own.result in
-    let oth : EndedChild = c.other_child-beside.result in
-    let left : EndedChild = c.in_order-children.result.0 in
-    let right : EndedChild = c.in_order-children.result.1 in
-    let T : Taken w p c.args.parent c.sibling_of-other.result h h1 h2 h3 h4 slot beside above set notes own oth left right = record {
-      rests_are = refl;
-      sets_are = refl;
-      marks_are = refl;
-      task_slots = record {
-        own_set = c.leave.ensures.set;
-        own_left = c.leave.ensures.task_slots;
-        beside_rest = c.leave-2.ensures.rest;
-        beside_set = c.leave-2.ensures.set;
-        beside_left = c.leave-2.ensures.task_slots;
-        above_is = c.take_rest-above.ensures.rest;
-        rest_taken = c.take_rest-above.ensures.task_slots;
-        set_is = c.take_set.ensures.set;
-        set_taken = c.take_set.ensures.task_slots;
-      };
-      notes_are = c.into_parts-noted.ensures.remembered;
-      own_is = c.own_child-own.ensures;
-      other_is = c.other_child-beside.ensures;
-      left_is = c.in_order-children.ensures.left;
-      right_is = c.in_order-children.ensures.right;
-    } in
-    let rest : ParkedTask = c.join_children-rest.result.0 in
-    let noted : RememberedValue = c.join_children-rest.result.1 in
-    let pool : PoolValue = c.join_children-rest.new.pool in
-    let put : SetOf = c.remembering-set.result in
-    let h5 : TaskSlotsValue = c.put_rest.new.self in
-    let h6 : TaskSlotsValue = c.put_set.new.self in
-    let P : Put w c.args.parent h4 h5 h6 notes above left right pool rest noted put = record {
-      pool_is = c.join_children-rest.ensures.pool;
-      side = c.join_children-rest.ensures.side;
-      rest_is = c.join_children-rest.ensures.rest;
-      task_slots = record { rest_put = c.put_rest.ensures; set_put = c.put_set.ensures };
-      put_is = c.remembering-set.ensures;
-    } in
-    let j : ReservedVecValue EntryValue = record { items = []; room = w.journal.room - 1 } in
-    let both = both_made asks ended c.args.parent c.sibling_of-other.result par o h h1 h2 h3 h4 slot beside above set notes own oth left right pool rest noted h5 h6 put j T P in
-    let v : SharedValue = record w { pool = pool; sets = h6.sets; marks = h6.marks; steps = w.steps + (p.fresh + 1) } in
-    let tree : c.join_children-rest.new.tree ≡ joined_nodes (with_state w.tree p.task Ended) c.args.parent left.side.task right.side.task = c.join_children-rest.ensures.tree ∙ ap (λ ns. joined_nodes ns c.args.parent left.side.task right.side.task) c.set_state.ensures in
-    let same = four_changed v (joined_nodes (with_state w.tree p.task Ended) c.args.parent left.side.task right.side.task) c.join_children-rest.new.tree h6.rests h6.rests (slice_set w.tasks_out k None) c.set.new.self (entered w k p) _ tree refl c.set.ensures refl in
-    along w k p _ _ c.enter_alone.ensures.steps c.enter_alone.ensures.journal (λ n j. IsSharedValue (record v { steps = n; tree = c.join_children-rest.new.tree; rests = h6.rests; tasks_out = c.set.new.self; journal = j })) (subst IsSharedValue (sym same) both.0)
+invariant_of-self c = (both c).0
 
 pub returns-clause-joined : goal.returns-clause-joined
-returns-clause-joined c =
-    let w : SharedValue = the_view c.self.inside in
-    let p : Private = c.args.part in
-    let k : ℕ = c.args.worker in
-    let asks : AsksEnd w k p = asks_end c.self.view_is c.self.invariant c.requires.fits c.requires.ends c.requires.free in
-    let ended : state_of w.tree (sibling p.task) ≡ Some Ended = subst (λ (z : SharedValue). state_of z.tree (sibling p.task) ≡ Some Ended) (sym c.self.view_is) c.requires.ended in
-    let par : parent_of w.tree p.task ≡ Some c.args.parent = subst (λ (z : SharedValue). parent_of z.tree p.task ≡ Some c.args.parent) (sym c.self.view_is) c.requires.parent in
-    let o : c.sibling_of-other.result ≡ sibling p.task = c.sibling_of-other.ensures in
-    let h : TaskSlotsValue = c.self.inside.heaps.task_slots in
-    let h1 : TaskSlotsValue = c.leave.new.self in
-    let h2 : TaskSlotsValue = c.leave-2.new.self in
-    let h3 : TaskSlotsValue = c.take_rest-above.new.self in
-    let h4 : TaskSlotsValue = c.take_set.new.self in
-    let slot : TaskSlot = c.leave.result in
-    let beside : TaskSlot = c.leave-2.result in
-    let above : ParkedTask = c.take_rest-above.result in
-    let set : SetOf = c.take_set.result in
-    let notes : RememberedValue = c.into_parts-noted.result.0 in
-    let own : EndedChild = c.own_child-own.result in
-    let oth : EndedChild = c.other_child-beside.result in
-    let left : EndedChild = c.in_order-children.result.0 in
-    let right : EndedChild = c.in_order-children.result.1 in
-    let T : Taken w p c.args.parent c.sibling_of-other.result h h1 h2 h3 h4 slot beside above set notes own oth left right = record {
-      rests_are = refl;
-      sets_are = refl;
-      marks_are = refl;
-      task_slots = record {
-        own_set = c.leave.ensures.set;
-        own_left = c.leave.ensures.task_slots;
-        beside_rest = c.leave-2.ensures.rest;
-        beside_set = c.leave-2.ensures.set;
-        beside_left = c.leave-2.ensures.task_slots;
-        above_is = c.take_rest-above.ensures.rest;
-        rest_taken = c.take_rest-above.ensures.task_slots;
-        set_is = c.take_set.ensures.set;
-        set_taken = c.take_set.ensures.task_slots;
-      };
-      notes_are = c.into_parts-noted.ensures.remembered;
-      own_is = c.own_child-own.ensures;
-      other_is = c.other_child-beside.ensures;
-      left_is = c.in_order-children.ensures.left;
-      right_is = c.in_order-children.ensures.right;
-    } in
-    let rest : ParkedTask = c.join_children-rest.result.0 in
-    let noted : RememberedValue = c.join_children-rest.result.1 in
-    let pool : PoolValue = c.join_children-rest.new.pool in
-    let put : SetOf = c.remembering-set.result in
-    let h5 : TaskSlotsValue = c.put_rest.new.self in
-    let h6 : TaskSlotsValue = c.put_set.new.self in
-    let P : Put w c.args.parent h4 h5 h6 notes above left right pool rest noted put = record {
-      pool_is = c.join_children-rest.ensures.pool;
-      side = c.join_children-rest.ensures.side;
-      rest_is = c.join_children-rest.ensures.rest;
-      task_slots = record { rest_put = c.put_rest.ensures; set_put = c.put_set.ensures };
-      put_is = c.remembering-set.ensures;
-    } in
-    let j : ReservedVecValue EntryValue = record { items = []; room = w.journal.room - 1 } in
-    let both = both_made asks ended c.args.parent c.sibling_of-other.result par o h h1 h2 h3 h4 slot beside above set notes own oth left right pool rest noted h5 h6 put j T P in
-    let v : SharedValue = record w { pool = pool; sets = h6.sets; marks = h6.marks; steps = w.steps + (p.fresh + 1) } in
-    let tree : c.join_children-rest.new.tree ≡ joined_nodes (with_state w.tree p.task Ended) c.args.parent left.side.task right.side.task = c.join_children-rest.ensures.tree ∙ ap (λ ns. joined_nodes ns c.args.parent left.side.task right.side.task) c.set_state.ensures in
-    let same = four_changed v (joined_nodes (with_state w.tree p.task Ended) c.args.parent left.side.task right.side.task) c.join_children-rest.new.tree h6.rests h6.rests (slice_set w.tasks_out k None) c.set.new.self (entered w k p) _ tree refl c.set.ensures refl in
-    subst (λ (z : SharedValue). EndsChild z (record v { steps = c.enter_alone.new.steps; tree = c.join_children-rest.new.tree; rests = h6.rests; tasks_out = c.set.new.self; journal = c.enter_alone.new.journal }) k p (Some c.args.parent)) c.self.view_is
-    (along w k p _ _ c.enter_alone.ensures.steps c.enter_alone.ensures.journal (λ n j. EndsChild w (record v { steps = n; tree = c.join_children-rest.new.tree; rests = h6.rests; tasks_out = c.set.new.self; journal = j }) k p (Some c.args.parent))
-    (subst (λ (z : SharedValue). EndsChild w z k p (Some c.args.parent)) (sym same) both.1))
+returns-clause-joined c = subst (λ (z : SharedValue). EndsChild z (with c c.enter_alone.new.steps c.enter_alone.new.journal) c.args.worker c.args.part (Some c.args.parent)) c.self.view_is (both c).1
 
 pub returns-clause-task_out : goal.returns-clause-task_out
 returns-clause-task_out c = c.set.ensures ∙ ap (λ (z : SharedValue). slice_set z.tasks_out c.args.worker None) c.self.view_is
