@@ -1,5 +1,5 @@
 -- A task is released.
-use Rattle.ledger_step_laws.proofs.Common.{◌≡◌, ℕ, Some, length, slice_get, ◌⊎◌, inl, inr, refl, ap, sym, subst, ◌∙◌, Option, None, cases_eq, Name, Heap, Ledger, heap_of, or_fresh, let_go, with_heap_at, SoundLedger, renewed, MachineState, IsStored, Closed, heap_machine, heap_view, ChangesHeap, Rests, rested, Knows}
+use Rattle.ledger_step_laws.proofs.Common.{◌≡◌, ℕ, List, slice_set, Some, length, slice_get, ◌⊎◌, inl, inr, refl, ap, sym, subst, ◌∙◌, Option, None, cases_eq, Name, Heap, Ledger, heap_of, or_fresh, let_go, with_heap_at, SoundLedger, renewed, MachineState, IsStored, Closed, heap_machine, heap_view, ChangesHeap, Rests, rested, Knows}
 use Rattle.ledger_step_laws.proofs.Ahead.{heap_then, with_at, with_off}
 
 pub name_cases : (m n : Name) → (m ≡ n) ⊎ (m ≡ n → ⊥)
@@ -43,3 +43,18 @@ rested_knows l t K = record {
   stored = subst (λ (m : MachineState). Closed m.tasks m.store (IsStored m)) (sym (heap_machine l t let_go)) K.stored;
   rows = subst (λ (m : MachineState). length m.store ≡ length m.tasks) (sym (heap_machine l t let_go)) K.rows;
 }
+
+-- the accounts of heaps with a task released
+abbrev rest_by : List Heap → ℕ → Option Heap → List Heap
+rest_by hs t None = hs
+rest_by hs t (Some h) = slice_set hs t (let_go h)
+
+rest_is : (l : Ledger) (t : ℕ) → (rested l t).heaps ≡ rest_by l.heaps t (slice_get l.heaps t)
+rest_is l t = rest_is_by_cases (slice_get l.heaps t)
+  where
+    rest_is_by_cases : (o : Option Heap) → (with_heap_at l t let_go o).heaps ≡ rest_by l.heaps t o
+    rest_is_by_cases None = refl
+    rest_is_by_cases (Some h) = refl
+
+pub rest_heaps : (l l' : Ledger) (t : ℕ) → l'.heaps ≡ l.heaps → (rested l' t).heaps ≡ (rested l t).heaps
+rest_heaps l l' t e = rest_is l' t ∙ (ap (λ hs. rest_by hs t (slice_get hs t)) e ∙ sym (rest_is l t))

@@ -5,9 +5,8 @@ pub use Rattle.ledger_step_laws.proofs.Along.{alike_steps, steps_end, steps_know
 pub use Rattle.ledger_step_laws.proofs.Entries.{end_changes, same_tasks, sweep_changes, took_takes, within_rested}
 pub use Rattle.ledger_step_laws.proofs.Kin.{private_kin, steps_kin}
 pub use Rattle.ledger_step_laws.proofs.Known.{legal_knows}
-pub use Rattle.ledger_step_laws.proofs.LastStepCases.{rest_heaps}
 pub use Rattle.ledger_step_laws.proofs.Private.{GoesOn, private_on}
-pub use Rattle.ledger_step_laws.proofs.Rested.{rested_changes, rested_knows, rested_sound, rested_view, rested_worker}
+pub use Rattle.ledger_step_laws.proofs.Rested.{rest_heaps, rested_changes, rested_knows, rested_sound, rested_view, rested_worker}
 pub use Rattle.ledger_step_laws.proofs.Root.{root_alone}
 pub use Rattle.ledger_step_laws.proofs.Split.{entry_runs, legal_alive, legal_idle, split_leaves, steps_go, steps_worker, worker_step}
 pub use Rattle.ledger_step_laws.proofs.Tree.{leaf_alone}
