@@ -1,5 +1,5 @@
 -- While the first task runs no other does.
-use Rattle.ledger_step_laws.proofs.Common.{◌≡◌, ℕ, true, Some, None, List, slice_get, ap, sym, subst, ◌∙◌, Task, is_running, OneRoot, one_root, Ledger, SoundLedger}
+use Rattle.ledger_step_laws.proofs.Common.{◌≡◌, ℕ, true, Some, None, slice_get, ap, sym, ◌∙◌, Task, is_running, OneRoot, one_root, Ledger, SoundLedger}
 
 -- while the root runs no other task does
 pub root_alone : (l : Ledger) → SoundLedger l → OneRoot l.machine.tasks → (t u : ℕ) (x y : Task) → slice_get l.machine.tasks t ≡ Some x → is_running (Some x) ≡ true → x.parent ≡ None → slice_get l.machine.tasks u ≡ Some y → is_running (Some y) ≡ true → u ≡ t

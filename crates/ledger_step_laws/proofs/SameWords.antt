@@ -1,5 +1,5 @@
 -- The heap after a collection depends on no more of the machine than the words of what its task owns.
-use Rattle.ledger_step_laws.proofs.Common.{◌≡◌, ℕ, ◌+◌, ◌-◌, Bool, true, false, cond, nat_le, None, List, [], ◌∷◌, ◌++◌, inl, inr, refl, ap, ap₂, sym, subst, ◌∙◌, flat_map, fold, In, Name, MachineState, words_at, words_sum, chunk_words, room_behind}
+use Rattle.ledger_step_laws.proofs.Common.{◌≡◌, ℕ, ◌+◌, ◌-◌, List, [], ◌∷◌, ◌++◌, inl, inr, refl, ap, subst, ◌∙◌, fold, In, Name, MachineState, words_at, words_sum, chunk_words, room_behind}
 
 module _ (m m' : MachineState) where
   abbrev Same : List Name → Type 0

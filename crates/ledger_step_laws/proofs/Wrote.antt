@@ -1,5 +1,5 @@
 -- A write of another task's object is a store of a reference or of a number.
-use Rattle.ledger_step_laws.proofs.Common.{◌≡◌, ℕ, pos, true, Some, None, slice_get, length, inl, inr, ap, sym, subst, ◌∙◌, option_flatten, cases_eq, got_same, Putr, Puti, Cas, Line, ProgramText, Task, MachineState, place_in, int_in, ref_in, same_name, is_waiting, runs, waits, waiting_stops, place_within, Ledger, heap_of, or_fresh, let_go, touched, heap_machine, Rests, rested, WritesOne, StoresOne, StoresNumber, IdleRest, TaskIsAt, Wrote, WritesOther}
+use Rattle.ledger_step_laws.proofs.Common.{◌≡◌, ℕ, pos, true, Some, None, slice_get, length, inl, inr, ap, sym, subst, ◌∙◌, option_flatten, cases_eq, got_same, Putr, Puti, Cas, Line, ProgramText, Task, MachineState, place_in, int_in, ref_in, same_name, is_waiting, waiting_stops, place_within, Ledger, heap_of, or_fresh, let_go, touched, heap_machine, Rests, rested, WritesOne, StoresOne, StoresNumber, IdleRest, TaskIsAt, Wrote, WritesOther}
 use Rattle.ledger_step_laws.proofs.Ahead.{with_off}
 use Rattle.ledger_step_laws.proofs.Rested.{rested_worker}
 

@@ -1,7 +1,6 @@
 -- The laws of steps.
 use Rattle.ledger_step_laws.specs.Common.{task_steps, ProgramText, SettingsValue, Task, is_running, can_step, Ledger, collecting}
-use Rattle.std.specs.Prelude.{◌≡◌, ◌⊎◌, ℕ, suc, ℤ, pos, true, false, Option, Some, None, List, slice_get, ◌+◌, ◌<◌, ◌++◌, ◌∷◌, [], slice_set, length}
-use Rattle.std.specs.Option.{option_flatten}
+use Rattle.std.specs.Prelude.{◌≡◌, ◌⊎◌, ℕ, true, false, Some, slice_get}
 use Rattle.ledger_step_laws.specs.Accounts.{ArePrivate, AlikeFor, Knows}
 
 abbrev pub PrivateStepsAreAlike : Type 0
