@@ -1,4 +1,4 @@
-// Plans executed at once: for each instruction the most frequent plan is tested first.
+// Plans executed at once.
 
 ghost use Rattle.std.specs.Prelude.{◌≡◌, ◌<◌, ◌+◌, ◌^◌};
 ghost use Rattle.task_machine.specs.Plan.{planned};
@@ -65,49 +65,10 @@ impl Private {
         self.take(plan)
     }
 
-    // Executes the plan of an instruction that mostly sets a number register.
+    // Executes the plan of an instruction: those that `go` mostly has at once. It is inlined for each instruction, where
+    // only the arms of that instruction's plans are left.
     #[inline(always)]
-    fn take_int(&mut self, plan: Plan, instr: &Instr) -> StepResult
-        requires next { self.old.frames.top.next + 1 < 2 ^ 32 }
-        requires fresh { self.old.fresh + 1 < 2 ^ 32 }
-        requires few { self.old.allocations + 1 < 2 ^ 32 }
-        requires safe { IsSafe self.old }
-        requires limit { self.old.field_limit < 2 ^ 20 }
-        requires same { plan ≡ planned self.old instr.now }
-        ensures { ComesOf self.old plan self.new result }
-    {
-        match plan {
-            Plan::SetInt(target, value) => {
-                self.set_int(target, value);
-                StepResult::Taken
-            }
-            _ => self.go_slowly(instr),
-        }
-    }
-
-    // Executes the plan of an instruction that mostly sets a reference register.
-    #[inline(always)]
-    fn take_reference(&mut self, plan: Plan, instr: &Instr) -> StepResult
-        requires next { self.old.frames.top.next + 1 < 2 ^ 32 }
-        requires fresh { self.old.fresh + 1 < 2 ^ 32 }
-        requires few { self.old.allocations + 1 < 2 ^ 32 }
-        requires safe { IsSafe self.old }
-        requires limit { self.old.field_limit < 2 ^ 20 }
-        requires same { plan ≡ planned self.old instr.now }
-        ensures { ComesOf self.old plan self.new result }
-    {
-        match plan {
-            Plan::SetReference(target, value) => {
-                self.set_reference(target, value);
-                StepResult::Taken
-            }
-            _ => self.go_slowly(instr),
-        }
-    }
-
-    // Executes the plan of an instruction that mostly writes a field.
-    #[inline(always)]
-    fn take_write(&mut self, plan: Plan, instr: &Instr) -> StepResult
+    fn take_quickly(&mut self, plan: Plan, instr: &Instr) -> StepResult
         requires next { self.old.frames.top.next + 1 < 2 ^ 32 }
         requires fresh { self.old.fresh + 1 < 2 ^ 32 }
         requires few { self.old.allocations + 1 < 2 ^ 32 }
@@ -118,37 +79,14 @@ impl Private {
         ensures { ComesOf self.old plan self.new result }
     {
         match plan {
-            Plan::WriteInt(own, at, value) => {
-                self.write_int(own, at, value);
-                StepResult::Taken
-            }
-            Plan::WriteReference(own, at, value) => {
-                self.write_reference(own, at, value);
-                StepResult::Taken
-            }
-            _ => self.go_slowly(instr),
+            Plan::SetInt(target, value) => self.set_int(target, value),
+            Plan::SetReference(target, value) => self.set_reference(target, value),
+            Plan::WriteInt(own, at, value) => self.write_int(own, at, value),
+            Plan::WriteReference(own, at, value) => self.write_reference(own, at, value),
+            Plan::New(target, refs, ints) => self.make_new(target, refs, ints),
+            _ => return self.go_slowly(instr),
         }
-    }
-
-    // Executes the plan of an instruction that mostly makes an object.
-    #[inline(always)]
-    fn take_new(&mut self, plan: Plan, instr: &Instr) -> StepResult
-        requires next { self.old.frames.top.next + 1 < 2 ^ 32 }
-        requires fresh { self.old.fresh + 1 < 2 ^ 32 }
-        requires few { self.old.allocations + 1 < 2 ^ 32 }
-        requires safe { IsSafe self.old }
-        requires limit { self.old.field_limit < 2 ^ 20 }
-        requires same { plan ≡ planned self.old instr.now }
-        requires ready { IsReady self.old plan }
-        ensures { ComesOf self.old plan self.new result }
-    {
-        match plan {
-            Plan::New(target, refs, ints) => {
-                self.make_new(target, refs, ints);
-                StepResult::Taken
-            }
-            _ => self.go_slowly(instr),
-        }
+        StepResult::Taken
     }
 
     /// Takes the step of an instruction, or returns why there is none: mostly it works on an object, since calculations
@@ -167,23 +105,23 @@ impl Private {
         match instr {
             Instr::Newm(target, refs, ints) => {
                 let plan = self.decide_newm(*target, *refs, *ints);
-                self.take_new(plan, instr)
+                self.take_quickly(plan, instr)
             }
             Instr::Getr(target, object, index) => {
                 let plan = self.decide_getr(*target, *object, *index);
-                self.take_reference(plan, instr)
+                self.take_quickly(plan, instr)
             }
             Instr::Geti(target, object, index) => {
                 let plan = self.decide_geti(*target, *object, *index);
-                self.take_int(plan, instr)
+                self.take_quickly(plan, instr)
             }
             Instr::Putr(object, index, value) => {
                 let plan = self.decide_putr(*object, *index, *value);
-                self.take_write(plan, instr)
+                self.take_quickly(plan, instr)
             }
             Instr::Puti(object, index, value) => {
                 let plan = self.decide_puti(*object, *index, *value);
-                self.take_write(plan, instr)
+                self.take_quickly(plan, instr)
             }
             _ => self.go_slowly(instr),
         }
