@@ -77,7 +77,7 @@ pub use Rattle.task_machine.specs.Outline.{blank, outline_after, outline_by, out
 pub use Rattle.task_machine.specs.Place.{Places, NamesAddress, birth_of, ObjectStands, name_of, FrameStands, FramesStand, AreAt}
 pub use Rattle.task_machine.specs.Plan.{planned, allocating, made_at, new_object, or_shared, packed_object, planned_other, taken, with_top, counts_ints, counts_refs, own_or_shown, reads_int, reads_ref, shown_of, own_in, moved, with_result_of, popped_to, spot_at, with_own, written, popped, with_seen}
 pub use Rattle.task_machine.specs.Ready.{FitsSome, IsSafe, IsWide, IsReady}
-pub use Rattle.task_machine.specs.Run.{Runs, StillFits, IsStepPlan, KeepsRest, next_plan, planned_line, IsCall, IsCallLine, IsCallPlan, StandsAtCall, PausesBy, Ran, Pauses, is_due_after, is_in_need_after, ComesOf}
+pub use Rattle.task_machine.specs.Run.{Runs, RunsPrivately, StillFits, IsStepPlan, KeepsRest, next_plan, planned_line, IsCall, IsCallLine, IsCallPlan, StandsAtCall, PausesBy, Ran, Pauses, is_due_after, is_in_need_after, ComesOf}
 pub use Rattle.task_machine.specs.Steps.{lacks_place, Agrees, TakesStep, Stops, is_part_due, is_part_in_need}
 pub use Rattle.task_machine.specs.declared.part.Begun.{Begun}
 pub use Rattle.task_machine.specs.declared.part.Paused.{Paused}

@@ -1,9 +1,9 @@
 -- A run in progress: the steps left of its budget.
-use Rattle.task_machine.proofs.Common.{◌≡◌, ℕ, ◌+◌, ◌-◌, ◌<◌, ◌≤◌, ◌^◌, Option, Some, None, refl, ap, sym, subst, ◌∙◌, arith, inl, inr, cases_lt, Line, IsProgram, ProgramText, line_at, Private, Plan, Leads, planned, taken, with_top, FitsSome, IsReady, IsSafe, IsWide, IsCallPlan, IsStepPlan, KeepsRest, Runs, StandsAtCall, planned_line}
+use Rattle.task_machine.proofs.Common.{◌≡◌, ℕ, ◌+◌, ◌-◌, ◌<◌, ◌≤◌, ◌^◌, Option, Some, None, refl, ap, sym, subst, ◌∙◌, arith, inl, inr, cases_lt, Line, IsProgram, ProgramText, line_at, Private, Plan, Leads, planned, taken, with_top, FitsSome, IsReady, IsSafe, IsWide, IsCallPlan, IsStepPlan, KeepsRest, Runs, StandsAtCall, planned_line, RunsPrivately}
 use Rattle.task_machine.proofs.Agreement.{line_agrees, some_line, some_next, some_safe}
 use Rattle.task_machine.proofs.Calculated.{calculated, rest_calculated}
 use Rattle.task_machine.proofs.CallPlans.{call_stands}
-use Rattle.task_machine.proofs.Ends.{AgreesAll, IsRunTo, few_made, fresh_is, is_step, limit_is, rest_more, run_to, runs_more, runs_none, still_fits}
+use Rattle.task_machine.proofs.Ends.{AgreesAll, few_made, fresh_is, is_step, limit_is, rest_more, run_to, runs_more, runs_none, still_fits}
 
 -- the steps used of the budget led from the old part to this one
 pub record IsOnItsWay (p : ProgramText) (old : Private) (budget left : ℕ) (now : Private) : Type 0 where
@@ -45,7 +45,7 @@ module _ (p : ProgramText) (old : Private) (budget left : ℕ) (now : Private) (
   pub limit_there : now.field_limit ≡ old.field_limit
   limit_there = limit_is p old (budget - left) now O.fits O.runs
 
-  pub to_here : IsRunTo p old budget now
+  pub to_here : RunsPrivately p old budget now
   to_here = run_to p old (budget - left) now O.fits O.runs budget (omega arith) O.rest
 
   pub safe_there : IsSafe now

@@ -12,7 +12,7 @@ returns g c =
     let new = c.run_local.new.part in
     let few = c.requires.may.2.few in
     let n = new.fresh - c.args.part.now.fresh in
-    let most : c.args.part.now.fresh + n ≤ private_limit = (let a = c.run_local.ensures.within in let b = c.run_local.ensures.more in omega (arith, a, b, few)) in
+    let most : c.args.part.now.fresh + n ≤ private_limit = (let a = c.run_local.ensures.ran.within in let b = c.run_local.ensures.ran.more in omega (arith, a, b, few)) in
     subst (λ (q : Private). HasGrown c.args.program.now c.args.worker c.args.part.now q c.in_ok-why.why) (sym c.settle_before_fork.ensures)
-    (grows c.args.program.now c.args.worker c.args.part.now c.requires.may new n c.run_local.ensures.runs c.run_local.ensures.accounts c.run_local.ensures.rest most c.in_ok-why.why c.in_ok-why.ensures.paused
+    (grows c.args.program.now c.args.worker c.args.part.now c.requires.may new n c.run_local.ensures.ran.runs c.run_local.ensures.ran.accounts c.run_local.ensures.ran.rest most c.in_ok-why.why c.in_ok-why.ensures.paused
     (λ is. (let e = c.in_ok-why.ensures.spent is in omega (arith, e, few))))
